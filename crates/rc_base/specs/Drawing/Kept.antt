@@ -1,0 +1,36 @@
+-- Which triangles are kept, and how they are turned.
+use Rattle.std.specs.Prelude.{ℕ, List, [], ◌∷◌, Bool, not, ◌&&◌, ◌||◌, ◌==◌, if◌then◌else◌, Option, Some, None, ℤ, pos, int_lt}
+use Rattle.std.specs.Ordering.{int_eq}
+use Rattle.rc_base.specs.Drawing.Window.{window_of, is_placed}
+use Rattle.rc_base.specs.Drawing.Cover.{area_of}
+use Rattle.rc_base.specs.declared.state.State.{State}
+use Rattle.rc_base.specs.declared.state.Vertex.{Vertex}
+use Rattle.rc_base.specs.declared.window.WindowVertex.{WindowVertex}
+
+abbrev pub three : WindowVertex → WindowVertex → WindowVertex → List WindowVertex
+three a b c = a ∷ b ∷ c ∷ []
+
+-- a triangle of that signed area is front-facing: its corners run counterclockwise (0), or clockwise
+abbrev pub is_front : State → ℤ → Bool
+is_front s area = if s.front_face == 0 then int_lt (pos 0) area else int_lt area (pos 0)
+
+-- culling is on, and names the facing: FRONT (0), BACK (1), or both (2)
+abbrev pub is_culled : State → ℤ → Bool
+is_culled s area = s.cull_on && (s.cull_face == 2 || (if s.cull_face == 0 then is_front s area else not (is_front s area)))
+
+-- a triangle of that signed area has an area and isn't culled
+unfoldable pub is_shown : State → ℤ → Bool
+is_shown s area = not (int_eq area (pos 0)) && not (is_culled s area)
+
+-- corners 1 and 2 change places where they run clockwise, so that the area is above 0
+unfoldable pub oriented : WindowVertex → WindowVertex → WindowVertex → List WindowVertex
+oriented a b c = if int_lt (area_of (three a b c)) (pos 0) then three a c b else three a b c
+
+-- A triangle isn't dropped: each corner stands before the eye and within the bounds, and it has an area and isn't culled.
+unfoldable pub is_kept : State → Vertex → Vertex → Vertex → Bool
+is_kept s a b c =
+    is_placed s a && (is_placed s b && (is_placed s c && is_shown s (area_of (three (window_of s a) (window_of s b) (window_of s c)))))
+
+-- the corners of a kept triangle in window coordinates, counterclockwise
+unfoldable pub kept_of : State → Vertex → Vertex → Vertex → Option (List WindowVertex)
+kept_of s a b c = if is_kept s a b c then Some (oriented (window_of s a) (window_of s b) (window_of s c)) else None

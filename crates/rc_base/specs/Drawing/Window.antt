@@ -1,0 +1,39 @@
+-- From a vertex to the window, over exact whole numbers.
+use Rattle.std.specs.Prelude.{List, Bool, ◌&&◌, ◌^◌, ℤ, pos, ◌+ℤ◌, ◌-ℤ◌, ◌*ℤ◌, int_lt}
+use Rattle.rc_base.specs.Numbers.{floor_quotient, is_within, entry, transformed}
+use Rattle.rc_base.specs.declared.state.State.{State}
+use Rattle.rc_base.specs.declared.state.Vertex.{Vertex}
+use Rattle.rc_base.specs.declared.window.WindowVertex.{WindowVertex}
+
+-- clip coordinates x, y, z, w: the position by the modelview and then by the projection matrix
+unfoldable pub clip_of : State → Vertex → List ℤ
+clip_of s v = transformed s.projection.m (transformed s.modelview.m v.pos)
+
+-- a window coordinate in sixteenths of a pixel, from a clip coordinate, for w above 0
+unfoldable pub axis_of : ℤ → ℤ → ℤ → ℤ → ℤ
+axis_of origin size x w = pos 16 *ℤ origin +ℤ floor_quotient ((x +ℤ w) *ℤ size *ℤ pos 16) (pos 2 *ℤ w)
+
+-- a depth: 0 at the near end of the depth range's clip coordinate and 16777215 at its far end, where the range is 0 to 1
+unfoldable pub depth_of : ℤ → ℤ → ℤ → ℤ → ℤ
+depth_of near far z w = floor_quotient (((far -ℤ near) *ℤ z +ℤ (near +ℤ far) *ℤ w) *ℤ pos 16777215) (pos 131072 *ℤ w)
+
+-- the vertex in window coordinates, where the clip coordinate w is above 0
+unfoldable pub window_of : State → Vertex → WindowVertex
+window_of s v =
+    let clip = clip_of s v in
+    record {
+      x = axis_of (entry s.viewport 0) (entry s.viewport 2) (entry clip 0) (entry clip 3);
+      y = axis_of (entry s.viewport 1) (entry s.viewport 3) (entry clip 1) (entry clip 3);
+      z = depth_of (entry s.depth_range 0) (entry s.depth_range 1) (entry clip 2) (entry clip 3);
+      color = v.color;
+      s = v.s;
+      t = v.t;
+    }
+
+-- the bounds of window coordinates, as a test
+abbrev pub is_in_bounds : WindowVertex → Bool
+is_in_bounds v = is_within (2 ^ 20) v.x && (is_within (2 ^ 20) v.y && is_within (2 ^ 30) v.z)
+
+-- the vertex stands before the eye and within the bounds
+unfoldable pub is_placed : State → Vertex → Bool
+is_placed s v = int_lt (pos 0) (entry (clip_of s v) 3) && is_in_bounds (window_of s v)

@@ -1,0 +1,4 @@
+pub mod Causes
+pub mod Transfer
+pub mod Numbers
+pub mod Drawing

@@ -1,0 +1,63 @@
+//! A scene: its declaration and its clients' streams, and what can be wrong with one that is read.
+use crate::command::Commands;
+use crate::items::Items;
+
+/// One list of commands for each client, clients rising.
+pub type Streams = Items<Commands>;
+
+/// Width and height of each shared texture.
+pub type Sizes = Items<[u16; 2]>;
+
+/// How many clients meet at each barrier.
+pub type Counts = Items<u8>;
+
+/// The units that each semaphore has at first.
+pub type Units = Items<u16>;
+
+/// What a scene declares: the window in pixels, and what its clients share. Shared textures, barriers and semaphores are named from 1,
+/// in the order in which they stand here.
+#[derive(Clone, Debug, PartialEq, Drop)]
+pub struct Decl {
+    pub version: u8,
+    pub width: u16,
+    pub height: u16,
+    pub shared: Sizes,
+    pub barriers: Counts,
+    pub semaphores: Units,
+}
+
+/// A scene: its declaration and the stream of each client.
+#[derive(Clone, Debug, PartialEq, Drop)]
+pub struct Scene {
+    pub decl: Decl,
+    pub streams: Streams,
+}
+
+/// A quantity outside its range: its number in the table of limits (`docs/scene-format.md`) and its value.
+#[derive(Clone, Copy, Debug, PartialEq, Eq)]
+pub struct Limit {
+    pub what: u8,
+    pub value: u64,
+}
+
+/// Why bytes spell no scene.
+#[derive(Clone, Copy, Debug, PartialEq, Eq)]
+pub enum SceneKind {
+    BadMagic,
+    BadCount,
+    UnknownOpcode,
+    Truncated,
+    Trailing,
+}
+
+/// Why a line of a text spells no part of a scene.
+#[derive(Clone, Copy, Debug, PartialEq, Eq)]
+pub enum TextKind {
+    NotText,
+    UnknownWord,
+    OutOfPlace,
+    WrongCount,
+    BadNumber,
+    BadHex,
+    NoScene,
+}

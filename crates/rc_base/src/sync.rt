@@ -1,0 +1,61 @@
+//! Names of commands, operations of synchronisation, and the journal's entries.
+use crate::items::Items;
+
+/// Command `place`, from 0, of client `client`.
+#[derive(Clone, Copy, Debug, PartialEq, Eq)]
+pub struct Name {
+    pub client: u8,
+    pub place: u32,
+}
+
+/// Names in the sequence in which they are carried out.
+pub type Order = Items<Name>;
+
+/// An operation that a client waits for.
+#[derive(Clone, Copy, Debug, PartialEq, Eq)]
+pub enum SyncOp {
+    Barrier(u8),
+    SemP(u8),
+    SemV(u8),
+    Swap,
+}
+
+/// An operation at its place in its client's stream.
+#[derive(Clone, Copy, Debug, PartialEq, Eq)]
+pub struct WaitAt {
+    pub place: u32,
+    pub op: SyncOp,
+}
+
+/// A client's operations, at rising places.
+pub type SyncOps = Items<WaitAt>;
+
+/// An entry of the journal. `members` has bit c for client c.
+#[derive(Clone, Copy, Debug, PartialEq, Eq)]
+pub enum Entry {
+    Meet { barrier: u8, members: u8 },
+    Swap,
+    Give { semaphore: u8, client: u8 },
+    Take { semaphore: u8, client: u8 },
+}
+
+/// The entries that were granted, in the order of granting.
+pub type Journal = Items<Entry>;
+
+/// A client's accepted operations, and the number of commands in its stream.
+#[derive(Clone, Debug, PartialEq, Drop)]
+pub struct SyncRow {
+    pub ops: SyncOps,
+    pub length: u32,
+}
+
+/// One row for each client.
+pub type SyncRows = Items<SyncRow>;
+
+/// What a scene says of synchronisation: its clients' operations, each barrier's count and each semaphore's first units.
+#[derive(Clone, Debug, PartialEq, Drop)]
+pub struct SyncLists {
+    pub clients: SyncRows,
+    pub counts: Items<u8>,
+    pub units: Items<u16>,
+}

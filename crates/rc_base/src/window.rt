@@ -1,0 +1,58 @@
+//! The window: pixels, rectangles, spans, and vertices in window coordinates.
+use crate::command::Rgba;
+
+/// The pixels with x0 <= x < x1 and y0 <= y < y1.
+#[derive(Clone, Copy, Debug, PartialEq, Eq)]
+pub struct Rect {
+    pub x0: i32,
+    pub y0: i32,
+    pub x1: i32,
+    pub y1: i32,
+}
+
+/// What the buffer holds at one place: a colour, and a depth from 0 to 16777215.
+#[derive(Clone, Copy, Debug, PartialEq, Eq)]
+pub struct Pixel {
+    pub color: Rgba,
+    pub depth: u32,
+}
+
+/// A vertex in window coordinates: x and y in sixteenths of a pixel from the lower left corner, z from 0 to 16777215 inside the depth
+/// range. The texture coordinate is 16.16 fixed point.
+#[derive(Clone, Copy, Debug, PartialEq, Eq)]
+pub struct WindowVertex {
+    pub x: i32,
+    pub y: i32,
+    pub z: i32,
+    pub color: Rgba,
+    pub s: i32,
+    pub t: i32,
+}
+
+/// What a triangle brings to a pixel that it covers.
+#[derive(Clone, Copy, Debug, PartialEq, Eq)]
+pub struct Fragment {
+    pub x: i32,
+    pub y: i32,
+    pub color: Rgba,
+    pub depth: i32,
+    pub s: i32,
+    pub t: i32,
+}
+
+/// The pixels x0 <= x < x1 of row y.
+#[derive(Clone, Copy, Debug, PartialEq, Eq)]
+pub struct Span {
+    pub y: i32,
+    pub x0: i32,
+    pub x1: i32,
+}
+
+/// How a window is cut into tiles: columns from the left, rows from the bottom. Tile `row * columns + column` is one server's.
+#[derive(Clone, Copy, Debug, PartialEq, Eq)]
+pub struct Layout {
+    pub width: u16,
+    pub height: u16,
+    pub columns: u8,
+    pub rows: u8,
+}
