@@ -4,3 +4,6 @@ pub mod Window
 pub mod Kept
 pub mod Cover
 pub mod Fragment
+pub mod Texel
+pub mod PixelStep
+pub mod Touch

@@ -4,4 +4,10 @@ pub mod Numbers
 pub mod Commands
 pub mod Spelling
 pub mod Limits
+pub mod Context
+pub mod Faults
+pub mod Textures
+pub mod Issue
 pub mod Drawing
+pub mod Serial
+pub mod Pictures

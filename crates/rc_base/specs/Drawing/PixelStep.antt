@@ -1,0 +1,153 @@
+-- What a command does to one pixel.
+use Rattle.std.specs.Prelude.{ℕ, ◌+◌, ◌-◌, ◌*◌, ◌/◌, ◌%◌, ◌==◌, ◌&&◌, ◌||◌, not, nat_lt, nat_le, min, Bool, true, false, List, [], ◌∷◌, length, fold, Option, Some, None, if◌then◌else◌, ℤ, pos, ◌*ℤ◌, slice_index, slice_index_or}
+use Rattle.std.specs.Option.{option_map_or}
+use lib.ListN.{get_or}
+use Rattle.rc_base.specs.Numbers.{floor_quotient, is_between}
+use Rattle.rc_base.specs.Commands.{Picture}
+use Rattle.rc_base.specs.Context.{ClientContext, rgba}
+use Rattle.rc_base.specs.Drawing.Triangles.{triangles_of}
+use Rattle.rc_base.specs.Drawing.Kept.{kept_of}
+use Rattle.rc_base.specs.Drawing.Cover.{covers, is_in_scissor}
+use Rattle.rc_base.specs.Drawing.Fragment.{fragment_of, natural}
+use Rattle.rc_base.specs.Drawing.Texel.{SharedTexels, sampled_picture, texel_of}
+use Rattle.rc_base.specs.declared.command.Rgba.{Rgba}
+use Rattle.rc_base.specs.declared.state.State.{State}
+use Rattle.rc_base.specs.declared.state.Vertex.{Vertex}
+use Rattle.rc_base.specs.declared.state.Block.{Block}
+use Rattle.rc_base.specs.declared.state.Effect.{Effect}
+use Rattle.rc_base.specs.declared.state.Effect.TheVariants as eff
+use Rattle.rc_base.specs.declared.window.Pixel.{Pixel}
+use Rattle.rc_base.specs.declared.window.Fragment.{Fragment}
+use Rattle.rc_base.specs.declared.window.WindowVertex.{WindowVertex}
+
+-- the product of two channels, as parts of 255, rounded
+abbrev pub prod : ℕ → ℕ → ℕ
+prod a b = (a * b + 127) / 255
+
+-- ---- fragment stages, in their order
+
+-- the texture environment: MODULATE (0), or REPLACE
+unfoldable pub textured : State → Rgba → Rgba → Rgba
+textured s c t =
+    if slice_index s.tex_mode 0 == 0 then rgba (prod c.r t.r) (prod c.g t.g) (prod c.b t.b) (prod c.a t.a) else t
+
+-- a comparison function of alpha and depth tests, by its code
+abbrev pub compares : ℕ → ℕ → ℕ → Bool
+compares function a b =
+    if function == 0 then false
+    else if function == 1 then nat_lt a b
+    else if function == 2 then a == b
+    else if function == 3 then nat_le a b
+    else if function == 4 then nat_lt b a
+    else if function == 5 then not (a == b)
+    else if function == 6 then nat_le b a
+    else true
+
+abbrev pub passes_alpha : State → ℕ → Bool
+passes_alpha s alpha = not s.alpha_on || compares (slice_index s.alpha 0) alpha (slice_index s.alpha 1)
+
+abbrev pub passes_depth : State → ℕ → ℕ → Bool
+passes_depth s depth stored = not s.depth_on || compares s.depth_func depth stored
+
+-- a blend factor for one channel, of the source's and the stored channel and alpha
+abbrev pub factor : ℕ → ℕ → ℕ → ℕ → ℕ → ℕ
+factor code source stored source_alpha stored_alpha =
+    if code == 0 then 0
+    else if code == 1 then 255
+    else if code == 2 then source
+    else if code == 3 then 255 - source
+    else if code == 4 then stored
+    else if code == 5 then 255 - stored
+    else if code == 6 then source_alpha
+    else if code == 7 then 255 - source_alpha
+    else if code == 8 then stored_alpha
+    else 255 - stored_alpha
+
+-- one channel of a fragment, blended with the stored one by the source's and the destination's factor
+abbrev pub blended : State → ℕ → ℕ → ℕ → ℕ → ℕ
+blended s source stored source_alpha stored_alpha =
+    min 255
+    (prod source (factor (slice_index s.blend 0) source stored source_alpha stored_alpha)
+    + prod stored (factor (slice_index s.blend 1) source stored source_alpha stored_alpha))
+
+-- a channel of a fragment's colour as it is to be stored
+abbrev pub mixed : State → Rgba → Rgba → ℕ → ℕ → ℕ
+mixed s c old source stored = if s.blend_on then blended s source stored c.a old.a else source
+
+-- the channel is written where its flag of the colour mask is on
+abbrev pub masked : State → ℕ → ℕ → ℕ → ℕ
+masked s channel written stored = if slice_index_or s.color_mask channel false then written else stored
+
+abbrev pub written : State → Rgba → Rgba → Rgba
+written s c old = rgba
+    (masked s 0 (mixed s c old c.r old.r) old.r)
+    (masked s 1 (mixed s c old c.g old.g) old.g)
+    (masked s 2 (mixed s c old c.b old.b) old.b)
+    (masked s 3 (mixed s c old c.a old.a) old.a)
+
+-- A pixel after a fragment of that colour and depth: alpha test, depth test, blending, colour mask. The depth is stored where the depth test
+-- is on and the depth mask too.
+unfoldable pub shaded : State → Rgba → ℕ → Pixel → Pixel
+shaded s c depth old =
+    if passes_alpha s c.a && passes_depth s depth old.depth
+    then record { color = written s c old.color; depth = if s.depth_on && s.depth_mask then depth else old.depth }
+    else old
+
+-- a fragment's colour after the texture stage
+abbrev pub fragment_color : State → Option Picture → Fragment → Rgba
+fragment_color s None f = f.color
+fragment_color s (Some p) f = textured s f.color (texel_of s p f)
+
+-- a pixel after a fragment, which is discarded where its depth lies outside the buffer's range
+abbrev pub fragment_step : State → Option Picture → Fragment → Pixel → Pixel
+fragment_step s picture f old =
+    if is_between (pos 0) (pos 16777215) f.depth then shaded s (fragment_color s picture f) (natural f.depth) old else old
+
+-- ---- commands
+
+-- the vertex at an index of a block
+abbrev pub vertex_at : List Vertex → ℕ → Vertex
+vertex_at vs i = get_or vs i (record { pos = []; color = rgba 0 0 0 0; s = pos 0; t = pos 0 })
+
+-- the corners of a triangle of a block, where it is kept
+abbrev pub kept_triangle : State → List Vertex → List ℕ → Option (List WindowVertex)
+kept_triangle s vs t = kept_of s (vertex_at vs (slice_index t 0)) (vertex_at vs (slice_index t 1)) (vertex_at vs (slice_index t 2))
+
+-- a pixel after a triangle: its fragment goes through the stages where the triangle is kept and covers the pixel
+abbrev pub triangle_step : State → Option Picture → List Vertex → ℤ → ℤ → Pixel → List ℕ → Pixel
+triangle_step s picture vs x y old t =
+    option_map_or (λ v. if covers s v x y then fragment_step s picture (fragment_of v x y) old else old) (kept_triangle s vs t) old
+
+-- a pixel after a block: its triangles are drawn one after the other
+unfoldable pub block_step : State → Option Picture → Block → ℤ → ℤ → Pixel → Pixel
+block_step s picture block x y old =
+    fold (triangle_step s picture block.vertices x y) old (triangles_of block.mode (length block.vertices))
+
+-- the clear depth as it is stored
+abbrev pub cleared_depth : State → ℕ
+cleared_depth s = natural (floor_quotient (s.clear_depth *ℤ pos 16777215) (pos 65536))
+
+-- a colour after a Clear
+abbrev pub cleared_color : State → Rgba → Rgba
+cleared_color s old = rgba
+    (masked s 0 s.clear_color.r old.r)
+    (masked s 1 s.clear_color.g old.g)
+    (masked s 2 s.clear_color.b old.b)
+    (masked s 3 s.clear_color.a old.a)
+
+-- a pixel in a cleared area: colour by bit 0 of the mask, depth by bit 1. Tests, blending and the viewport play no part.
+unfoldable pub cleared : State → ℕ → Pixel → Pixel
+cleared s mask old = record {
+  color = if mask % 2 == 1 then cleared_color s old.color else old.color;
+  depth = if mask / 2 % 2 == 1 && s.depth_mask then cleared_depth s else old.depth;
+}
+
+-- a pixel after a Clear
+abbrev pub clear_step : State → ℕ → ℤ → ℤ → Pixel → Pixel
+clear_step s mask x y old = if is_in_scissor s x y then cleared s mask old else old
+
+-- a pixel of the window after what a command does, from the context before it and the shared textures
+abbrev pub effect_step : ClientContext → Effect → SharedTexels → ℤ → ℤ → Pixel → Pixel
+effect_step x (eff.Block block) shared px py old = block_step x.state (sampled_picture x shared) block px py old
+effect_step x (eff.Clear mask) shared px py old = clear_step x.state mask px py old
+effect_step x _ shared px py old = old

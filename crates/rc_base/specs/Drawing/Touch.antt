@@ -1,0 +1,34 @@
+-- Which pixels a command touches, and which shared textures it samples and writes, whatever later tests say.
+use Rattle.std.specs.Prelude.{ℕ, ◌==◌, ◌&&◌, nat_lt, Bool, true, false, List, length, ℤ}
+use Rattle.std.specs.List.{list_any}
+use Rattle.std.specs.Option.{option_map_or}
+use Rattle.rc_base.specs.Context.{ClientContext}
+use Rattle.rc_base.specs.Drawing.Triangles.{triangles_of}
+use Rattle.rc_base.specs.Drawing.Cover.{covers, is_in_scissor}
+use Rattle.rc_base.specs.Drawing.PixelStep.{kept_triangle}
+use Rattle.rc_base.specs.Drawing.Texel.{samples_shared}
+use Rattle.rc_base.specs.declared.state.State.{State}
+use Rattle.rc_base.specs.declared.state.Block.{Block}
+use Rattle.rc_base.specs.declared.state.Effect.{Effect}
+use Rattle.rc_base.specs.declared.state.Effect.TheVariants as eff
+
+-- a kept triangle of the block covers the pixel
+abbrev pub block_touches : State → Block → ℤ → ℤ → Bool
+block_touches s block x y =
+    list_any (λ t. option_map_or (λ v. covers s v x y) (kept_triangle s block.vertices t) false) (triangles_of block.mode (length block.vertices))
+
+-- what a command does touches the pixel of the window: by the cover of a block, or the area of a Clear
+unfoldable pub touches : ClientContext → Effect → ℤ → ℤ → Bool
+touches x (eff.Block block) px py = block_touches x.state block px py
+touches x (eff.Clear mask) px py = is_in_scissor x.state px py
+touches x _ px py = false
+
+-- a block may sample the shared texture of this name; it does where its touched set isn't empty
+abbrev pub may_sample : ClientContext → Effect → ℕ → Bool
+may_sample x (eff.Block block) name = samples_shared x name
+may_sample x _ name = false
+
+-- an accepted SharedImage with both sides above 0 writes the texture of its name
+abbrev pub writes_shared : Effect → ℕ → Bool
+writes_shared (eff.Shared part) name = part.name == name && (nat_lt 0 part.w && nat_lt 0 part.h)
+writes_shared _ name = false
