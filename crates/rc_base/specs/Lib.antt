@@ -11,3 +11,6 @@ pub mod Issue
 pub mod Drawing
 pub mod Serial
 pub mod Pictures
+pub mod Elements
+pub mod Tiles
+pub mod Parcels
