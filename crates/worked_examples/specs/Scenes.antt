@@ -1,0 +1,137 @@
+-- The scenes of the examples.
+use Rattle.std.specs.Prelude.{ℕ, ℤ, List, [], ◌∷◌, ◌++◌, pos, negsuc, replicate, ◌*◌, true}
+use Rattle.rc_base.specs.declared.command.Command.{Command}
+use Rattle.rc_base.specs.declared.command.Mat4.{Mat4}
+use Rattle.rc_base.specs.declared.state.ElementSet.{ElementSet}
+use Rattle.rc_base.specs.declared.state.ElementValue.TheVariants as val
+use Rattle.rc_base.specs.declared.command.Command.TheVariants as cmd
+use Rattle.rc_base.specs.declared.scene.Decl.{Decl}
+use Rattle.rc_base.specs.declared.scene.Scene.{Scene}
+use Rattle.rc_base.specs.declared.sync.Name.{Name}
+use Rattle.rc_base.specs.declared.window.Layout.{Layout}
+use Rattle.rc_base.specs.Context.{rgba}
+use Rattle.rc_base.specs.Serial.{names_below}
+
+-- a scene that declares nothing but its window
+abbrev pub scene_of : ℕ → ℕ → List (List Command) → Scene
+scene_of width height streams = record {
+  decl = record { version = 1; width = width; height = height; shared = []; barriers = []; semaphores = [] };
+  streams = streams;
+}
+
+abbrev pub layout_of : ℕ → ℕ → ℕ → ℕ → Layout
+layout_of width height columns rows = record { width = width; height = height; columns = columns; rows = rows }
+
+-- the position x, y, 0, w
+abbrev pub at : ℤ → ℤ → ℤ → Command
+at x y w = cmd.Vertex (x ∷ y ∷ pos 0 ∷ w ∷ [])
+
+abbrev pub one : ℤ
+one = pos 65536
+
+-- -1 in 16.16 fixed point
+abbrev pub minus_one : ℤ
+minus_one = negsuc 65535
+
+-- a triangle that covers the whole window, whatever its size
+abbrev pub full : List Command
+full = cmd.Begin 0 ∷ at minus_one minus_one one ∷ at (pos 196608) minus_one one ∷ at minus_one (pos 196608) one ∷ cmd.End ∷ []
+
+-- ClearColor 255 0 0 255; Clear 1; Swap
+abbrev pub red_clear : Scene
+red_clear = scene_of 2 2 ((cmd.ClearColor (rgba 255 0 0 255) ∷ cmd.Clear 1 ∷ cmd.Swap ∷ []) ∷ [])
+
+-- a triangle of half the window, whose slanted edge runs through two centres
+abbrev pub half_triangle : Scene
+half_triangle = scene_of 2 2 ((cmd.Color (rgba 0 255 0 255) ∷ cmd.Begin 0 ∷ at minus_one minus_one one ∷ at one minus_one one ∷ at minus_one one one ∷ cmd.End ∷ cmd.Swap ∷ []) ∷ [])
+
+-- the same without its third vertex
+abbrev pub two_vertices : Scene
+two_vertices = scene_of 2 2 ((cmd.Color (rgba 0 255 0 255) ∷ cmd.Begin 0 ∷ at minus_one minus_one one ∷ at one minus_one one ∷ cmd.End ∷ cmd.Swap ∷ []) ∷ [])
+
+-- a strip of two triangles over the whole window, added to what is there
+abbrev pub added_strip : Scene
+added_strip = scene_of 4 4 ((cmd.Enable 3 ∷ cmd.BlendFunc 1 1 ∷ cmd.Color (rgba 100 100 100 100) ∷ cmd.Begin 1
+    ∷ at minus_one minus_one one ∷ at one minus_one one ∷ at minus_one one one ∷ at one one one ∷ cmd.End ∷ cmd.Swap ∷ []) ∷ [])
+
+-- one corner stands in the eye
+abbrev pub corner_in_eye : Scene
+corner_in_eye = scene_of 1 1 ((cmd.Begin 0 ∷ at minus_one minus_one one ∷ at (pos 196608) minus_one one ∷ at minus_one (pos 196608) (pos 0) ∷ cmd.End ∷ cmd.Swap ∷ []) ∷ [])
+
+-- red, then green behind LESS, then blue behind LEQUAL, all of one depth, a frame each
+abbrev pub three_depths : Scene
+three_depths = scene_of 1 1 (
+    (cmd.Enable 2 ∷ cmd.Color (rgba 255 0 0 255) ∷ [] ++ full ++ cmd.Swap ∷ cmd.Color (rgba 0 255 0 255) ∷ [] ++ full
+    ++ cmd.Swap ∷ cmd.DepthFunc 3 ∷ cmd.Color (rgba 0 0 255 255) ∷ [] ++ full ++ cmd.Swap ∷ []) ∷ [])
+
+-- a texture of a red and a green texel, at coordinate -1 / 65536
+abbrev pub textured_with : List Command → Scene
+textured_with before = scene_of 1 1 (
+    (cmd.TexImage 1 2 1 (255 ∷ 0 ∷ 0 ∷ 255 ∷ 0 ∷ 255 ∷ 0 ∷ 255 ∷ []) ∷ cmd.Enable 5 ∷ cmd.TexEnv 1 ∷ cmd.TexCoord (negsuc 0) (pos 0) ∷ []
+    ++ before ++ full ++ cmd.Swap ∷ []) ∷ [])
+
+-- Enable SCISSOR; Scissor 3 1 2 2; ClearColor 0 255 0 255; Clear 1; Swap
+abbrev pub scissored_clear : Scene
+scissored_clear = scene_of 5 3 ((cmd.Enable 0 ∷ cmd.Scissor (pos 3 ∷ pos 1 ∷ pos 2 ∷ pos 2 ∷ []) ∷ cmd.ClearColor (rgba 0 255 0 255) ∷ cmd.Clear 1 ∷ cmd.Swap ∷ []) ∷ [])
+
+-- two clients, each blends a half transparent triangle over the window
+abbrev pub half_transparent : ℕ → ℕ → List Command
+half_transparent red blue = cmd.Enable 3 ∷ cmd.BlendFunc 6 7 ∷ cmd.Color (rgba red 0 blue 128) ∷ [] ++ full ++ cmd.Swap ∷ []
+
+abbrev pub two_blended : Scene
+two_blended = scene_of 1 1 (half_transparent 255 0 ∷ half_transparent 0 255 ∷ [])
+
+-- the names of a client's first nine commands
+abbrev pub all_of : ℕ → List Name
+all_of client = names_below client 9
+
+abbrev pub first_client_first : List Name
+first_client_first = all_of 0 ++ all_of 1
+
+abbrev pub second_client_first : List Name
+second_client_first = all_of 1 ++ all_of 0
+
+-- one tile's share is told less than the other's: the second draw sets and sets back, the third is scissored to the left tile
+abbrev pub lazy_state : Scene
+lazy_state = scene_of 2 1 (
+    (full ++ cmd.Enable 3 ∷ cmd.Disable 3 ∷ [] ++ full ++ cmd.Enable 0 ∷ cmd.Scissor (pos 0 ∷ pos 0 ∷ pos 1 ∷ pos 1 ∷ []) ∷ [] ++ full
+    ++ cmd.Disable 0 ∷ [] ++ full ++ cmd.Swap ∷ []) ∷ [])
+
+-- a private texture that is told when a draw samples it
+abbrev pub lazy_texture : Scene
+lazy_texture = scene_of 1 1 ((cmd.TexImage 1 1 1 (0 ∷ 255 ∷ 0 ∷ 255 ∷ []) ∷ cmd.Clear 1 ∷ cmd.Enable 5 ∷ [] ++ full ++ full ++ cmd.Swap ∷ []) ∷ [])
+
+-- a blue triangle over nine tiles, none of whose vertices lies in most of them
+abbrev pub full_blue : Scene
+full_blue = scene_of 6 6 ((cmd.Color (rgba 0 0 255 255) ∷ [] ++ full ++ cmd.Swap ∷ []) ∷ [])
+
+-- a Barrier inside a block, of two clients
+abbrev pub barrier_in_block : Scene
+barrier_in_block = record {
+  decl = record { version = 1; width = 1; height = 1; shared = []; barriers = 2 ∷ []; semaphores = [] };
+  streams = (cmd.Begin 0 ∷ at minus_one minus_one one ∷ cmd.Barrier 1 ∷ at (pos 196608) minus_one one ∷ at minus_one (pos 196608) one ∷ cmd.End ∷ cmd.Swap ∷ [])
+      ∷ (cmd.Swap ∷ []) ∷ [];
+}
+
+-- one client that does nothing but these
+abbrev pub only : List Command → Scene
+only commands = scene_of 1 1 (commands ∷ [])
+
+-- ---- matrices, images and parts of the examples
+
+-- entry 0 is as large as it can be, and all others are 0
+abbrev pub wide : Mat4
+wide = record { m = pos 2147483647 ∷ replicate 15 (pos 0) }
+
+abbrev pub image : ℕ → ℕ → ℕ → Command
+image name w h = cmd.TexImage name w h (replicate (4 * (w * h)) 0)
+
+abbrev pub part : ℕ → ℕ → ℕ → ℕ → ℕ → Command
+part name x y w h = cmd.TexPart (record { name = name; x = x; y = y; w = w; h = h; texels = replicate (4 * (w * h)) 255 })
+
+-- what the scissored clear sets
+abbrev pub scissor_sets : List ElementSet
+scissor_sets =
+    record { element = 4; value = val.Flag true }
+    ∷ record { element = 5; value = val.Area (pos 3 ∷ pos 1 ∷ pos 2 ∷ pos 2 ∷ []) }
+    ∷ record { element = 17; value = val.Color (rgba 0 255 0 255) } ∷ []

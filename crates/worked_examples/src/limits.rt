@@ -1,0 +1,14 @@
+//! Quantities outside their ranges.
+ghost use Rattle.std.specs.Prelude.{◌≡◌, [], ◌∷◌, replicate};
+ghost use Rattle.rc_base.specs.Limits.{limit_of};
+ghost use Rattle.worked_examples.specs.Scenes.{scene_of};
+ghost use Rattle.rc_base.specs.declared.command.Command.TheVariants as cmd;
+
+/// The first quantity outside its range is named, by the numbers of the table of limits.
+pub fn quantities_are_judged_by_their_numbers()
+    ensures width { limit_of (scene_of 0 0 ([] ∷ [])) ≡ Some (record { what = 2; value = 0 }) }
+    ensures clients { limit_of (scene_of 1 1 []) ≡ Some (record { what = 4; value = 0 }) }
+    ensures pixels { limit_of (scene_of 2048 2048 (replicate 9 cmd.Swap ∷ [])) ≡ Some (record { what = 13; value = 37748736 }) }
+    ensures fits { limit_of (scene_of 2048 2048 (replicate 8 cmd.Swap ∷ [])) ≡ None }
+    ensures least { limit_of (scene_of 2048 2048 (replicate 9 cmd.Swap ∷ [] ∷ [])) ≡ None }
+{}
