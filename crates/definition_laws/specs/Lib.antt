@@ -1,2 +1,3 @@
 pub mod Contexts
+pub mod Blocks
 pub mod Tiles
