@@ -5,7 +5,6 @@ use Rattle.rc_base.specs.declared.command.Mat4.{Mat4}
 use Rattle.rc_base.specs.declared.state.ElementSet.{ElementSet}
 use Rattle.rc_base.specs.declared.state.ElementValue.TheVariants as val
 use Rattle.rc_base.specs.declared.command.Command.TheVariants as cmd
-use Rattle.rc_base.specs.declared.scene.Decl.{Decl}
 use Rattle.rc_base.specs.declared.scene.Scene.{Scene}
 use Rattle.rc_base.specs.declared.sync.Name.{Name}
 use Rattle.rc_base.specs.declared.window.Layout.{Layout}
@@ -135,3 +134,9 @@ scissor_sets =
     record { element = 4; value = val.Flag true }
     ∷ record { element = 5; value = val.Area (pos 3 ∷ pos 1 ∷ pos 2 ∷ pos 2 ∷ []) }
     ∷ record { element = 17; value = val.Color (rgba 0 255 0 255) } ∷ []
+
+-- the bytes of the red clear
+abbrev pub red_clear_bytes : List ℕ
+red_clear_bytes =
+    0x52 ∷ 0x43 ∷ 0x53 ∷ 0x31 ∷ 0x02 ∷ 0x00 ∷ 0x02 ∷ 0x00 ∷ 0x01 ∷ 0x00 ∷ 0x00 ∷ 0x00 ∷ 0x0a ∷ 0x00 ∷ 0x00 ∷ 0x00
+    ∷ 0x03 ∷ 0x00 ∷ 0x16 ∷ 0x18 ∷ 0x24 ∷ 0xff ∷ 0x00 ∷ 0x00 ∷ 0xff ∷ 0x01 ∷ []

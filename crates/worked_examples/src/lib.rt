@@ -5,4 +5,5 @@
 pub mod drawing;
 pub mod faults;
 pub mod limits;
+pub mod spelling;
 pub mod tiles;
