@@ -7,3 +7,4 @@ pub mod Fragment
 pub mod Texel
 pub mod PixelStep
 pub mod Touch
+pub mod SharedEdge

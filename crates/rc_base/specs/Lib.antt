@@ -1,4 +1,7 @@
 pub mod Causes
+pub mod InMemory
+pub mod Items
+pub mod Standard
 pub mod Transfer
 pub mod Numbers
 pub mod Commands
@@ -8,7 +11,14 @@ pub mod Context
 pub mod Faults
 pub mod Textures
 pub mod Issue
+pub mod Text
 pub mod Drawing
+pub mod Lists
+pub mod Sync
+pub mod Journal
+pub mod Grant
+pub mod Order
+pub mod Footprints
 pub mod Serial
 pub mod Pictures
 pub mod Elements

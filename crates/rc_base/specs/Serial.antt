@@ -5,6 +5,7 @@ use Rattle.rc_base.specs.Context.{ClientContext, rgba}
 use Rattle.rc_base.specs.Textures.{with_part}
 use Rattle.rc_base.specs.Issue.{context_after, effect_at}
 use Rattle.rc_base.specs.Drawing.Texel.{SharedTexels, shared_picture}
+use Rattle.rc_base.specs.Drawing.Touch.{writes_shared}
 use Rattle.rc_base.specs.Drawing.PixelStep.{effect_step}
 use Rattle.rc_base.specs.declared.scene.Scene.{Scene}
 use Rattle.rc_base.specs.declared.state.Effect.{Effect}
@@ -26,10 +27,10 @@ blank_textures scene name =
     let sides = unwrap_or (slice_get scene.decl.shared (name - 1)) [] in
     replicate (4 * (slice_index sides 0 * slice_index sides 1)) 0
 
--- the shared textures after what a command does
+-- the shared textures after what a command does: a part without texels writes nothing
 abbrev pub stored : ClientContext → Effect → SharedTexels → SharedTexels
 stored x (eff.Shared part) shared name =
-    if name == part.name then (with_part (shared_picture x shared name) part).texels else shared name
+    if writes_shared (eff.Shared part) name then (with_part (shared_picture x shared name) part).texels else shared name
 stored x _ shared name = shared name
 
 -- the shared textures after a named command

@@ -1,7 +1,7 @@
 -- How bytes spell a scene: relations on whole lists of bytes and of commands.
-use Rattle.std.specs.Prelude.{◌≡◌, ℕ, ℤ, ◌+◌, ◌*◌, ◌<◌, ◌≤◌, ◌^◌, List, [], ◌∷◌, ◌++◌, length, map}
-use Rattle.std.specs.List.{flat_map, AllByRecursion}
-use Rattle.std.specs.Int.{w16, w32, to_le_bytes, cast_unsigned}
+use Rattle.std.specs.Prelude.{◌≡◌, ℕ, ℤ, ◌+◌, ◌*◌, ◌<◌, ◌≤◌, ◌^◌, List, [], ◌∷◌, ◌++◌, length, map, take, drop}
+use Rattle.std.specs.List.{flat_map, range_with_len, AllByRecursion}
+use Rattle.std.specs.Int.{w16, w32, to_le_bytes, cast_unsigned, div_ceil}
 use Rattle.rc_base.specs.declared.command.Command.{Command}
 use Rattle.rc_base.specs.declared.scene.Decl.{Decl}
 use Rattle.rc_base.specs.declared.scene.Scene.{Scene}
@@ -60,6 +60,17 @@ pub record SpellsStream (bytes : List ℕ) (commands : List Command) : Type 0 wh
   pub each : AllByRecursion IsPacket packets
   pub parts : bytes ≡ flat_map packet packets
   pub whole : commands ≡ flat_map (λ p. p) packets
+
+-- the commands of a packet, where each packet before it has 1,024
+abbrev pub packet_commands : List Command → ℕ → List Command
+packet_commands commands i = take 1024 (drop (1024 * i) commands)
+
+abbrev pub packet_count : List Command → ℕ
+packet_count commands = div_ceil (length commands) 1024
+
+-- packets of 1,024 commands, the last one shorter, and none for an empty list
+unfoldable pub encoded : List Command → List ℕ
+encoded commands = flat_map (λ i. packet (packet_commands commands i)) (range_with_len 0 (packet_count commands))
 
 -- ---- scenes
 

@@ -1,18 +1,16 @@
--- What reading a whole source and writing a whole text do.
-use Rattle.std.specs.Prelude.{◌≡◌, ℕ, ◌+◌, ◌^◌, ◌≤◌, List, length, take, Result, Ok, Err}
-use Rattle.std.specs.Io.KnownBytes.{Appends}
-use Rattle.std.specs.declared.option.Option.{Option}
+-- What it is to read a whole source.
+use Rattle.std.specs.Prelude.{◌≡◌, ℕ, ◌+◌, ◌≤◌, List, length, Result, Ok, Err}
 use Rattle.rc_base.specs.declared.transfer.ReadAllFault.{ReadAllFault}
 use Rattle.rc_base.specs.declared.transfer.ReadAllFault.TheVariants.{ReadFault, TooLong, OutOfMemory}
-use Rattle.rc_base.specs.Causes.{Rose}
 
--- the most bytes that are taken of a source
+-- the most bytes that a source may give
 abbrev pub byte_limit : ℕ
 byte_limit = 33554432
 
--- The bytes that a whole source gave, by the answer.
-abbrev pub Given : Result (List ℕ) ReadAllFault → List ℕ → Type 0
-Given (Ok v) bytes = (v ≡ bytes) × (length bytes ≤ 33554432)
-Given (Err ReadFault) bytes = length bytes ≤ 33554432
-Given (Err (TooLong seen)) bytes = (seen ≡ 33554433) × (length bytes ≡ 33554433)
-Given (Err OutOfMemory) bytes = length bytes ≤ 33554433
+-- The bytes that were taken of a source fit the answer: they are the answer itself and within the limit, or they are within the limit when
+-- the source fails, or they are one byte more than the limit, which is known only by taking that byte.
+abbrev pub IsAnswerFor : List ℕ → Result (List ℕ) ReadAllFault → Type 0
+IsAnswerFor bytes (Ok read) = (read ≡ bytes) × (length bytes ≤ byte_limit)
+IsAnswerFor bytes (Err ReadFault) = length bytes ≤ byte_limit
+IsAnswerFor bytes (Err (TooLong seen)) = (seen ≡ byte_limit + 1) × (length bytes ≡ byte_limit + 1)
+IsAnswerFor bytes (Err OutOfMemory) = length bytes ≤ byte_limit + 1

@@ -1,5 +1,5 @@
 //! A list of values, which contracts see as the list itself.
-ghost use Rattle.std.specs.Prelude.{◌≡◌, ◌+◌, ◌<◌, List, [], ◌∷◌, ◌++◌, length, is_ok, IfOk, OnOk, OnErr, IfErr, if◌then◌else◌};
+ghost use Rattle.std.specs.Prelude.{◌≡◌, ◌==◌, [], ◌∷◌, ◌++◌, length, is_ok, IsOk, IfOk, IfErr, if◌then◌else◌};
 
 use std::alloc::{AllocError, AllocFailed, Global};
 use std::marker::Model;
@@ -19,6 +19,9 @@ impl<T> Model for Items<T> {
 }
 
 impl<T> Items<T> {
+    ghost use Rattle.std.specs.Borrow.{sem};
+    ghost use Rattle.rc_base.specs.Items.{lends_items};
+
     /// An empty list, which takes no memory.
     pub fn new(alloc: Global) -> Items<T>
         ensures { result ≡ [] }
@@ -26,6 +29,23 @@ impl<T> Items<T> {
         Items {
             items: Vec::new(alloc),
         }
+    }
+
+    /// An empty list with room for this many values.
+    pub fn with_capacity(alloc: Global, capacity: usize) -> Result<Items<T>, AllocError>
+        ensures empty { IfOk result (λ v. v ≡ []) }
+        ensures succeeds { capacity ≡ 0 → IsOk result }
+    {
+        Ok(Items {
+            items: Vec::with_capacity(alloc, capacity)?,
+        })
+    }
+
+    /// Makes room for this many values more. The list is the same, whatever comes of it.
+    pub fn reserve(&mut self, additional: usize) -> Result<(), AllocError>
+        ensures { self.new ≡ self.old }
+    {
+        self.items.reserve(additional)
     }
 
     /// The elements of a `Vec`.
@@ -43,16 +63,33 @@ impl<T> Items<T> {
         items
     }
 
+    /// The values in order, to read.
     pub fn as_slice(&self) -> &[T]
         ensures { result.now ≡ self.now }
     {
         self.items.as_slice()
     }
 
+    /// The values in order, to write over.
+    pub fn as_mut_slice(&mut self) -> &mut [T]
+        ensures* writes_back { sem 𝓛 (lends_items T.row self.entry result) }
+        ensures value { result.now ≡ self.old }
+    {
+        self.items.as_mut_slice()
+    }
+
+    /// How many values the list has.
     pub fn len(&self) -> usize
         ensures { result ≡ length self.now }
     {
         self.items.len()
+    }
+
+    /// Whether the list has no value.
+    pub fn is_empty(&self) -> bool
+        ensures { result ≡ (length self.now == 0) }
+    {
+        self.items.is_empty()
     }
 
     /// Adds a value at the end. Where there is no memory for it the list is unchanged and the value comes back.
@@ -63,11 +100,11 @@ impl<T> Items<T> {
         self.items.push(value)
     }
 
-    /// Moves all values of another list to the end.
+    /// Moves all values of another list to the end. Where there is no memory for them the list is unchanged, and they are dropped.
     pub fn append(&mut self, mut other: Items<T>) -> Result<(), AllocError>
     where
         T: Drop,
-        ensures { OnOk result (self.new ≡ self.old ++ other) }
+        ensures { self.new ≡ (if is_ok result then self.old ++ other else self.old) }
     {
         self.items.append(&mut other.items)
     }

@@ -15,6 +15,7 @@ pub mod scene;
 pub mod standard;
 pub mod state;
 pub mod sync;
+pub mod text;
 pub mod transfer;
 pub mod triangle;
 pub mod window;

@@ -1,7 +1,7 @@
 //! Want of memory.
 use std::alloc::{AllocError, AllocFailed};
 
-/// There was no memory for a value. It is an answer of its own in each error type, and leaves what was lent as it was.
+/// There was no memory for a value. What was lent for writing is then as it was before the call, unless the call says otherwise.
 #[derive(Clone, Copy, Debug, PartialEq, Eq)]
 pub struct OutOfMemory;
 

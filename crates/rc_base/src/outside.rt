@@ -1,22 +1,35 @@
-//! The ends of the program: where bytes come from and where they go.
-ghost use Rattle.std.specs.Prelude.{◌<◌, ◌≤◌, ℕ, List, length, Option, IfOk};
+//! The ends of the program: a source, where bytes come from, and a sink, where bytes go.
+//!
+//! Each end counts its own failures. A call fails only where that count rose in it, so that a program can't blame an end that did nothing wrong;
+//! a count that stands at 2^64 - 1 is taken to rise at each failure.
+ghost use Rattle.std.specs.Prelude.{◌≡◌, ◌<◌, ◌≤◌, ℕ, List, length, Option, IfOk};
 ghost use Rattle.std.specs.Io.{ReadsAtMost};
 ghost use Rattle.std.specs.Io.KnownBytes.{ReadConsumes, WriteAppends};
-ghost use Rattle.rc_base.specs.Causes.{HasCause};
+ghost use Rattle.rc_base.specs.Causes.{risen, HasCause};
 
-/// A call on the outside that failed, for no reason that is told.
+/// The answer of a source or a sink that failed, for no reason that is told. Its count of faults rose.
 #[derive(Clone, Copy, Debug, PartialEq, Eq)]
 pub struct Failed;
+
+// Counts one failure more.
+pub(crate) fn fail(faults: &mut u64) -> Failed
+    ensures counted { faults.new ≡ risen faults.old }
+    ensures later { faults.old ≤ faults.new }
+{
+    *faults = faults.saturating_add(1);
+    Failed
+}
 
 /// Where bytes come from.
 pub trait Source {
     /// The bytes that are still to come, where the source tells them.
     ghost left: { Self → Option (List ℕ) };
 
-    /// How often the source has failed. It never falls.
+    /// How often the source has failed.
     ghost faults: { Self → ℕ };
 
-    /// Takes some bytes from the front, none only at the end.
+    /// Takes bytes from the front of those left and puts them at the front of `into`: as many as the answer says, at most what `into` has room
+    /// for, and none only at the end. After a failure all bytes that were left are still to come.
     fn take(&mut self, into: &mut [u8]) -> Result<usize, Failed>
         requires { 0 < length into.old }
         ensures bound { ReadsAtMost result into.new }
@@ -29,10 +42,11 @@ pub trait Sink {
     /// The bytes that the sink holds, where it tells them.
     ghost held: { Self → Option (List ℕ) };
 
-    /// How often the sink has failed. It never falls.
+    /// How often the sink has failed.
     ghost faults: { Self → ℕ };
 
-    /// Takes one byte or more from the front of the piece.
+    /// Takes bytes from the front of the piece, one or more of them, and puts them behind those held. After a failure the sink holds what it
+    /// held before.
     fn put(&mut self, piece: &[u8]) -> Result<usize, Failed>
         requires { 0 < length piece.now }
         ensures bound { IfOk result (λ n. (0 < n) × (n ≤ length piece.now)) }
