@@ -5,5 +5,6 @@
 pub mod drawing;
 pub mod faults;
 pub mod limits;
+pub mod reports;
 pub mod spelling;
 pub mod tiles;

@@ -1,0 +1,10 @@
+//! Records of runs, and the orders that they record.
+//!
+//! A run keeps the journal of synchronisation and, for each tile, a log of what the tile carried out in which sequence. `specs/` says when such a
+//! record is right and which order of all commands a log records. The laws above these definitions, and above those of journals and orders in
+//! `rc_base`, stand in `laws`.
+#![tactic(auto)]
+
+pub mod examples;
+pub mod laws;
+pub mod record;
