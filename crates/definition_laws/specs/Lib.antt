@@ -1,3 +1,4 @@
 pub mod Contexts
 pub mod Blocks
+pub mod Boxes
 pub mod Tiles

@@ -1,0 +1,2 @@
+mod Facing
+mod Triples

@@ -1,0 +1,9 @@
+use Rattle.std.proofs.Common.{length}
+use Rattle.geometry.proofs.Triples.{rest_whole, indices_below}
+use Rattle.geometry.proofs.primitives.triangles.Goals as goal
+
+pub returns-clause-rest : goal.returns-clause-rest
+returns-clause-rest c = rest_whole c.args.block.now
+
+pub returns-clause-indices : goal.returns-clause-indices
+returns-clause-indices c = indices_below c.args.block.now.mode (length c.args.block.now.vertices)

@@ -1,0 +1,13 @@
+//! From a block of vertices to triangles of the window: which vertices make a triangle, and where its corners lie.
+//!
+//! The definitions are those of `rc_base::specs::Drawing`. Stands on `rc_base`'s types and `fixed_math`. No call takes memory.
+#![tactic(auto)]
+
+mod place;
+mod primitives;
+#[cfg(test)]
+mod tests;
+mod window;
+
+pub use primitives::{TriangleIter, triangles};
+pub use window::to_window;

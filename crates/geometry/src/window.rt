@@ -1,0 +1,104 @@
+//! From three vertices to a triangle of the window.
+ghost use Rattle.std.specs.Prelude.{◌≡◌, ◌^◌, pos, true, false, neg_ℤ, ◌<ℤ◌, Option, Some, None, MatchOption};
+ghost use Rattle.rc_base.specs.Numbers.{Within};
+ghost use Rattle.rc_base.specs.Drawing.Cover.{area_of, IsInBounds};
+ghost use Rattle.rc_base.specs.Drawing.Kept.{three, is_culled, is_shown, oriented, is_kept, kept_of};
+ghost use Rattle.rc_base.specs.Drawing.Window.{window_of};
+ghost use Rattle.geometry.specs.Place.{vertex_at};
+
+use crate::place::place;
+use fixed_math::edge;
+use rc_base::state::{State, Vertex};
+use rc_base::triangle::WindowTriangle;
+use rc_base::window::WindowVertex;
+
+fn culled(state: &State, area: i64) -> bool
+    ensures { result ≡ is_culled state.now area }
+{
+    let front = if state.front_face == 0 {
+        area > 0
+    } else {
+        area < 0
+    };
+    state.cull_on && (state.cull_face == 2 || (if state.cull_face == 0 { front } else { !front }))
+}
+
+fn make(a: WindowVertex, b: WindowVertex, c: WindowVertex, area: i64) -> WindowTriangle
+    requires a { IsInBounds a }
+    requires b { IsInBounds b }
+    requires c { IsInBounds c }
+    requires area { area ≡ area_of (three a b c) }
+    requires positive { pos 0 <ℤ area }
+    ensures { result.v ≡ three a b c }
+{
+    WindowTriangle { v: [a, b, c], area }
+}
+
+fn signed_area(a: &WindowVertex, b: &WindowVertex, c: &WindowVertex) -> i64
+    requires a { IsInBounds a.now }
+    requires b { IsInBounds b.now }
+    requires c { IsInBounds c.now }
+    ensures value { result ≡ area_of (three a.now b.now c.now) }
+    ensures small { Within (2 ^ 44) result }
+{
+    edge(a, b, i64::from(c.x), i64::from(c.y))
+}
+
+fn opposite(area: i64) -> i64
+    requires { Within (2 ^ 44) area }
+    ensures { result ≡ neg_ℤ area }
+{
+    -area
+}
+
+fn assemble(
+    state: &State,
+    a: WindowVertex,
+    b: WindowVertex,
+    c: WindowVertex,
+) -> Option<WindowTriangle>
+    requires a { IsInBounds a }
+    requires b { IsInBounds b }
+    requires c { IsInBounds c }
+    ensures { MatchOption result
+        (is_shown state.now (area_of (three a b c)) ≡ false)
+        (λ t. (is_shown state.now (area_of (three a b c)) ≡ true) × (t.v ≡ oriented a b c)) }
+{
+    let area = signed_area(&a, &b, &c);
+    if area == 0 {
+        return None;
+    }
+    if culled(state, area) {
+        return None;
+    }
+    if area < 0 {
+        Some(make(a, c, b, opposite(area)))
+    } else {
+        Some(make(a, b, c, area))
+    }
+}
+
+// The oriented triangle, where it has an area and isn't culled.
+#[tactic(auto, unfolding(rc_base::specs::Drawing::Kept::is_kept))]
+fn kept(state: &State, corners: &[Vertex; 3]) -> Option<WindowTriangle>
+    ensures { MatchOption result
+        (is_kept state.now (vertex_at corners.now 0) (vertex_at corners.now 1) (vertex_at corners.now 2) ≡ false)
+        (λ t. (is_kept state.now (vertex_at corners.now 0) (vertex_at corners.now 1) (vertex_at corners.now 2) ≡ true)
+        × (t.v ≡ oriented (window_of state.now (vertex_at corners.now 0)) (window_of state.now (vertex_at corners.now 1)) (window_of state.now (vertex_at corners.now 2)))) }
+{
+    let a = place(state, &corners[0])?;
+    let b = place(state, &corners[1])?;
+    let c = place(state, &corners[2])?;
+    assemble(state, a, b, c)
+}
+
+/// The triangle of three vertices in window coordinates, its corners counterclockwise: `None` where a corner does not stand before the eye
+/// or lies outside the bounds of window coordinates (2^20 sixteenths of a pixel, and 2^30 in depth), where it has no area, and where it is
+/// culled. Any state will do.
+pub fn to_window(state: &State, corners: &[Vertex; 3]) -> Option<WindowTriangle>
+    ensures { MatchOption result
+        (kept_of state.now (vertex_at corners.now 0) (vertex_at corners.now 1) (vertex_at corners.now 2) ≡ None)
+        (λ t. kept_of state.now (vertex_at corners.now 0) (vertex_at corners.now 1) (vertex_at corners.now 2) ≡ Some t.v) }
+{
+    kept(state, corners)
+}

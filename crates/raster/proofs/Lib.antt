@@ -1,0 +1,7 @@
+mod Convex
+mod Shared
+mod SpanLemmas
+mod Average
+mod Box
+mod Parts
+mod Fragments

@@ -1,0 +1,5 @@
+pub mod Spans
+pub mod Weights
+pub mod Between
+pub mod Clamped
+pub mod Blend

@@ -1,0 +1,145 @@
+//! The weights of the corners at a pixel, and means by them.
+ghost use Rattle.std.specs.Prelude.{◌≡◌, ◌^◌, pos, true, ◌+ℤ◌, ◌*ℤ◌, ◌≤ℤ◌, ◌<ℤ◌};
+ghost use Rattle.rc_base.specs.Numbers.{Within, floor_quotient};
+ghost use Rattle.rc_base.specs.Drawing.Cover.{is_inside, centre, area_of};
+ghost use Rattle.rc_base.specs.Drawing.Fragment.{weight, weighted_sum};
+ghost use Rattle.raster.specs.Weights.{AreWeights};
+
+use fixed_math::{centre_of, edge, floor_div};
+use rc_base::triangle::WindowTriangle;
+
+// The weights of the three corners at a point inside a triangle; their sum is twice its area.
+#[derive(Clone, Copy)]
+pub(crate) struct Weights {
+    pub(crate) first: i64,
+    pub(crate) second: i64,
+    pub(crate) third: i64,
+    pub(crate) area: i64,
+    ghost weights: { AreWeights first second third area },
+    ghost some: { pos 0 <ℤ area },
+    ghost small: { area ≤ℤ pos (2 ^ 44) },
+}
+
+pub(crate) fn weights_at(tri: &WindowTriangle, x: i32, y: i32) -> Weights
+    requires { is_inside tri.now.v x y ≡ true }
+    ensures first { result.first ≡ weight tri.now.v 0 (centre x) (centre y) }
+    ensures second { result.second ≡ weight tri.now.v 1 (centre x) (centre y) }
+    ensures third { result.third ≡ weight tri.now.v 2 (centre x) (centre y) }
+    ensures area { result.area ≡ area_of tri.now.v }
+{
+    let px = centre_of(x);
+    let py = centre_of(y);
+    let first = edge(&tri.v[1], &tri.v[2], px, py);
+    let second = edge(&tri.v[2], &tri.v[0], px, py);
+    let third = edge(&tri.v[0], &tri.v[1], px, py);
+    Weights {
+        first,
+        second,
+        third,
+        area: tri.area,
+    }
+}
+
+fn part(e: i64, a: i32) -> i128
+    requires { Within (2 ^ 44) e }
+    ensures value { result ≡ e *ℤ a }
+    ensures small { Within (2 ^ 75) result }
+{
+    i128::from(e) * i128::from(a)
+}
+
+fn add3(a: i128, b: i128, c: i128) -> i128
+    requires a { Within (2 ^ 75) a }
+    requires b { Within (2 ^ 75) b }
+    requires c { Within (2 ^ 75) c }
+    ensures { result ≡ a +ℤ b +ℤ c }
+{
+    a + b + c
+}
+
+// The mean of any three values.
+fn wide_mean(w: &Weights, a: i32, b: i32, c: i32) -> i32
+    ensures { result ≡ floor_quotient (weighted_sum w.now.first w.now.second w.now.third a b c) w.now.area }
+{
+    let sum = add3(part(w.first, a), part(w.second, b), part(w.third, c));
+    let quotient = floor_div(sum, i128::from(w.area));
+    quotient as i32
+}
+
+fn short_part(e: i64, a: i32) -> i64
+    requires { Within (2 ^ 29) e }
+    ensures value { result ≡ e *ℤ a }
+    ensures small { Within (2 ^ 60) result }
+{
+    e * i64::from(a)
+}
+
+fn byte_part(e: i64, a: u8) -> i64
+    requires { Within (2 ^ 44) e }
+    ensures value { result ≡ e *ℤ pos a }
+    ensures small { Within (2 ^ 60) result }
+{
+    e * i64::from(a)
+}
+
+fn short_add3(a: i64, b: i64, c: i64) -> i64
+    requires a { Within (2 ^ 60) a }
+    requires b { Within (2 ^ 60) b }
+    requires c { Within (2 ^ 60) c }
+    ensures { result ≡ a +ℤ b +ℤ c }
+{
+    a + b + c
+}
+
+fn short_floor(n: i64, d: i64) -> i64
+    requires { pos 0 <ℤ d }
+    ensures { result ≡ floor_quotient n d }
+{
+    n.div_euclid(d)
+}
+
+// The mean where the area is small: 64 bits hold the sum.
+fn short_mean(w: &Weights, a: i32, b: i32, c: i32) -> i32
+    requires { w.now.area ≤ℤ pos (2 ^ 29) }
+    ensures { result ≡ floor_quotient (weighted_sum w.now.first w.now.second w.now.third a b c) w.now.area }
+{
+    let sum = short_add3(
+        short_part(w.first, a),
+        short_part(w.second, b),
+        short_part(w.third, c),
+    );
+    let quotient = short_floor(sum, w.area);
+    quotient as i32
+}
+
+/// The mean of the corners' values by weight, rounded down: it lies between the least and the greatest.
+pub(crate) fn mean(w: &Weights, a: i32, b: i32, c: i32) -> i32
+    ensures { result ≡ floor_quotient (weighted_sum w.now.first w.now.second w.now.third a b c) w.now.area }
+{
+    if w.area <= 536870912 {
+        short_mean(w, a, b, c)
+    } else {
+        wide_mean(w, a, b, c)
+    }
+}
+
+// A number of a byte.
+fn byte_of(q: i64) -> u8
+    requires low { pos 0 ≤ℤ q }
+    requires high { q ≤ℤ pos 255 }
+    ensures { pos result ≡ q }
+{
+    q as u8
+}
+
+/// The mean of the corners' channels by weight, rounded down.
+pub(crate) fn channel_mean(w: &Weights, a: u8, b: u8, c: u8) -> u8
+    ensures { pos result ≡ floor_quotient (weighted_sum w.now.first w.now.second w.now.third (pos a) (pos b) (pos c)) w.now.area }
+{
+    let sum = short_add3(
+        byte_part(w.first, a),
+        byte_part(w.second, b),
+        byte_part(w.third, c),
+    );
+    byte_of(short_floor(sum, w.area))
+}

@@ -1,0 +1,127 @@
+//! The covered pixels of a rectangle, a span a row.
+ghost use Rattle.std.specs.Prelude.{◌≡◌, ℤ, pos, ◌+ℤ◌, ◌≤ℤ◌, ◌<ℤ◌, true, false, MatchOption};
+ghost use Rattle.rc_base.specs.Drawing.Cover.{is_inside};
+ghost use Rattle.raster.specs.Spans.{IsEmptyRow, IsRowSpan, AreEmptyRows, IsNextSpan, GivesSpan};
+ghost use Rattle.raster.specs.Clamped.{HoldsCover};
+ghost use Rattle.std.specs.Iterator.{at_most};
+ghost use Rattle.std.specs.Int.{int_gap};
+
+use crate::bounds::part_of;
+use crate::cover::covers;
+use rc_base::triangle::WindowTriangle;
+use rc_base::window::{Rect, Span};
+
+// The first covered pixel of the row from `x0` on, or `x1`.
+fn first_covered(tri: &WindowTriangle, y: i32, x0: i32, x1: i32) -> i32
+    requires { x0 ≤ℤ x1 }
+    ensures low { x0 ≤ℤ result }
+    ensures high { result ≤ℤ x1 }
+    ensures before { IsEmptyRow tri.now.v y x0 result }
+    ensures found { result <ℤ x1 → is_inside tri.now.v result y ≡ true }
+{
+    let mut x = x0;
+    'columns: while x < x1 && !covers(tri, x, y) {
+        x += 1;
+    }
+    x
+}
+
+// One past the covered pixels that stand together from `x0` on.
+fn run_end(tri: &WindowTriangle, y: i32, x0: i32, x1: i32) -> i32
+    requires { x0 ≤ℤ x1 }
+    ensures low { x0 ≤ℤ result }
+    ensures high { result ≤ℤ x1 }
+    ensures run { (x : ℤ) → x0 ≤ℤ x → x <ℤ result → is_inside tri.now.v x y ≡ true }
+    ensures ended { result <ℤ x1 → is_inside tri.now.v result y ≡ false }
+{
+    let mut x = x0;
+    'columns: while x < x1 && covers(tri, x, y) {
+        x += 1;
+    }
+    x
+}
+
+// The covered pixels of a row from `x0` to below `x1`.
+fn row_span(tri: &WindowTriangle, y: i32, x0: i32, x1: i32) -> Option<Span>
+    ensures { MatchOption result
+        (IsEmptyRow tri.now.v y x0 x1)
+        (λ s. IsRowSpan tri.now.v y x0 x1 s) }
+{
+    if x1 <= x0 {
+        return None;
+    }
+    let start = first_covered(tri, y, x0, x1);
+    if start >= x1 {
+        return None;
+    }
+    let end = run_end(tri, y, start, x1);
+    Some(Span {
+        y,
+        x0: start,
+        x1: end,
+    })
+}
+
+// The covered pixels of a row of the rectangle, which all stand in its part.
+fn span_in(tri: &WindowTriangle, rect: Rect, part: Rect, y: i32) -> Option<Span>
+    requires { HoldsCover tri.now.v rect part }
+    ensures { MatchOption result
+        (IsEmptyRow tri.now.v y rect.x0 rect.x1)
+        (λ s. IsRowSpan tri.now.v y rect.x0 rect.x1 s) }
+{
+    row_span(tri, y, part.x0, part.x1)
+}
+
+// The span of the first row from `from` on that has a covered pixel.
+fn next_span(tri: &WindowTriangle, rect: Rect, part: Rect, from: i32) -> Option<Span>
+    requires { HoldsCover tri.now.v rect part }
+    ensures { MatchOption result
+        (AreEmptyRows tri.now.v rect from rect.y1)
+        (λ s. IsNextSpan tri.now.v rect from s) }
+{
+    let mut y = from.max(part.y0);
+    'rows: while y < part.y1 {
+        match span_in(tri, rect, part, y) {
+            Some(span) => return Some(span),
+            None => y += 1,
+        }
+    }
+    None
+}
+
+/// The spans of a triangle inside a rectangle, row by row upward, from row `y` on.
+#[derive(Drop)]
+pub struct SpanIter<'a> {
+    pub tri: &'a WindowTriangle,
+    pub rect: Rect,
+    pub y: i32,
+}
+
+impl Iterator for SpanIter<'_> {
+    type Item = Span;
+
+    ghost next_gives = { λ s r t. GivesSpan s.tri.now.v s.rect s.y r t.y × (t.tri ≡ s.tri) × (t.rect ≡ s.rect) };
+
+    ghost remaining = { λ s. at_most (int_gap s.y s.rect.y1) };
+
+    fn next(&mut self) -> Option<Span> {
+        let _last = self.rect.y1;
+        let span = next_span(self.tri, self.rect, part_of(self.tri, self.rect), self.y)?;
+        self.y = span.y + 1;
+        Some(span)
+    }
+}
+
+/// For each row of the rectangle, rising, the span of exactly the pixels that the triangle covers in it; empty rows are left out. It looks
+/// only at rows and columns between the triangle's corners.
+pub fn spans(tri: &WindowTriangle, rect: Rect) -> SpanIter<'_>
+    ensures triangle { result.tri.now ≡ tri.now }
+    ensures rect { result.rect ≡ rect }
+    ensures row { result.y ≡ rect.y0 }
+{
+    SpanIter {
+        tri,
+        rect,
+        y: rect.y0,
+    }
+}
