@@ -1,0 +1,11 @@
+pub mod Codec
+pub mod Numbers
+pub mod Loop
+pub mod Values
+pub mod Opcodes
+pub mod Packets
+pub mod Stream
+pub mod Only
+pub mod Chunks
+pub mod Typed
+pub mod Lengths

@@ -1,0 +1,5 @@
+use Rattle.cmd_pack.proofs.Chunks.{encoded_spells}
+use Rattle.cmd_pack.proofs.laws.encoded_is_read.Goals as goal
+
+pub returns : goal.returns
+returns c = record { law = encoded_spells }

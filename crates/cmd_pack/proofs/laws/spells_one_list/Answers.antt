@@ -1,0 +1,5 @@
+use Rattle.cmd_pack.proofs.Only.{one_spelling}
+use Rattle.cmd_pack.proofs.laws.spells_one_list.Goals as goal
+
+pub returns : goal.returns
+returns c = record { law = one_spelling }

@@ -1,0 +1,56 @@
+-- Laws on the spelling of streams and on the table of commands.
+use Rattle.std.specs.Prelude.{◌≡◌, ℕ, ◌+◌, ◌*◌, List, [], ◌∷◌, length}
+use Rattle.std.specs.List.{AllByRecursion}
+use Rattle.rc_base.specs.declared.command.Command.{Command}
+use Rattle.rc_base.specs.declared.command.Opcode.{Opcode}
+use Rattle.rc_base.specs.Commands.{Kind, Value, Fields, IsCommand, row_of, opcode_of, kinds_of, fields_of}
+use Rattle.rc_base.specs.Commands.Kind.{Byte, Half, Word, Code, Bytes, Words, Image}
+use Rattle.rc_base.specs.Spelling.{payload, encoded, SpellsStream}
+
+-- What is encoded spells the commands, so it is read again.
+abbrev pub EncodedIsRead : Type 0
+EncodedIsRead = (commands : List Command) → AllByRecursion IsCommand commands → SpellsStream (encoded commands) commands
+
+-- No bytes spell two lists.
+abbrev pub SpellsOneList : Type 0
+SpellsOneList = (bytes : List ℕ) (one other : List Command) → SpellsStream bytes one → SpellsStream bytes other → one ≡ other
+
+-- the bytes of a field, without those of texels
+abbrev pub fixed_bytes : Kind → ℕ
+fixed_bytes Byte = 1
+fixed_bytes Half = 2
+fixed_bytes Word = 4
+fixed_bytes (Code count) = 1
+fixed_bytes (Bytes count) = count
+fixed_bytes (Words count) = 4 * count
+fixed_bytes Image = 4
+
+abbrev pub fixed_length : List Kind → ℕ
+fixed_length [] = 0
+fixed_length (k ∷ ks) = fixed_bytes k + fixed_length ks
+
+-- four bytes for each texel
+abbrev pub texel_bytes : (k : Kind) → Value k → ℕ
+texel_bytes Image p = 4 * (p.w * p.h)
+texel_bytes Byte n = 0
+texel_bytes Half n = 0
+texel_bytes Word z = 0
+texel_bytes (Code count) n = 0
+texel_bytes (Bytes count) ns = 0
+texel_bytes (Words count) zs = 0
+
+abbrev pub texel_length : (ks : List Kind) → Fields ks → ℕ
+texel_length [] x = 0
+texel_length (k ∷ ks) x = texel_bytes k x.0 + texel_length ks x.1
+
+-- A payload is as long as its row says, and longer by the texels of its picture.
+abbrev pub PayloadLength : Type 0
+PayloadLength = (c : Command) → IsCommand c → length (payload c) ≡ fixed_length (kinds_of (opcode_of c)) + texel_length (kinds_of (opcode_of c)) (fields_of c)
+
+-- No two opcodes share a number.
+abbrev pub OneNumber : Type 0
+OneNumber = (one other : Opcode) → (row_of one).number ≡ (row_of other).number → one ≡ other
+
+-- No two opcodes share a name.
+abbrev pub OneName : Type 0
+OneName = (one other : Opcode) → (row_of one).name ≡ (row_of other).name → one ≡ other

@@ -1,0 +1,5 @@
+pub mod Reading
+pub mod Packets
+pub mod Faults
+pub mod Texels
+pub mod Laws

@@ -1,0 +1,68 @@
+//! Why bytes are no packets.
+ghost use Rattle.std.specs.Prelude.{◌≡◌};
+ghost use Rattle.cmd_pack.specs.declared.fault.ReadError.TheVariants.{Memory};
+ghost use Rattle.cmd_pack.specs.declared.fault.PackFault.TheVariants.{OutOfMemory};
+
+use std::alloc::{AllocError, AllocFailed};
+
+/// What is wrong with the bytes at hand. A place is told by how many bytes stand from there on, so that a reader of a part needs no offset.
+#[derive(Clone, Copy, Debug, PartialEq, Eq)]
+pub enum Form {
+    /// A packet's count is 0 or more than 1,024.
+    BadCount { left: usize },
+    /// A byte in an opcode's place stands for no command.
+    UnknownOpcode { left: usize },
+    /// The bytes end too early.
+    Truncated,
+}
+
+/// Why a field was not read.
+#[derive(Clone, Copy, Debug, PartialEq, Eq)]
+pub enum ReadError {
+    Memory,
+    Form(Form),
+}
+
+/// Why bytes spell no list of commands, with the place in bytes from the start: of the count's first byte, of the opcode's byte, or of the end.
+#[derive(Clone, Copy, Debug, PartialEq, Eq)]
+pub enum PackFault {
+    /// A packet's count is 0 or more than 1,024.
+    BadCount { at: usize },
+    /// A byte in an opcode's place stands for no command.
+    UnknownOpcode { at: usize },
+    /// The bytes end within a packet.
+    Truncated { at: usize },
+    OutOfMemory,
+}
+
+impl From<AllocError> for PackFault {
+    ghost from_gives = { λ _ e. e ≡ OutOfMemory };
+
+    fn from(_: AllocError) -> PackFault {
+        PackFault::OutOfMemory
+    }
+}
+
+impl<T: Drop> From<AllocFailed<T>> for PackFault {
+    ghost from_gives = { λ _ e. e ≡ OutOfMemory };
+
+    fn from(_: AllocFailed<T>) -> PackFault {
+        PackFault::OutOfMemory
+    }
+}
+
+impl From<AllocError> for ReadError {
+    ghost from_gives = { λ _ e. e ≡ Memory };
+
+    fn from(_: AllocError) -> ReadError {
+        ReadError::Memory
+    }
+}
+
+impl<T: Drop> From<AllocFailed<T>> for ReadError {
+    ghost from_gives = { λ _ e. e ≡ Memory };
+
+    fn from(_: AllocFailed<T>) -> ReadError {
+        ReadError::Memory
+    }
+}

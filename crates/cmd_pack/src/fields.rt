@@ -1,0 +1,75 @@
+//! Readers of single fields: each takes what it needs from the front and gives the bytes behind it. Numbers have their low byte first.
+ghost use Rattle.std.specs.Prelude.{◌≡◌};
+ghost use Rattle.std.specs.Int.{w16, w32};
+ghost use Rattle.cmd_pack.specs.Reading.{Gives, byte_at, number_at, word_at, words_at, run_at};
+
+use crate::fault::{Form, ReadError};
+
+/// A number of 8 bits.
+pub fn read_byte(bytes: &[u8]) -> Result<(u8, &[u8]), ReadError>
+    ensures { Gives (λ x. (x.0, x.1.now)) result (byte_at bytes.now) }
+{
+    match bytes {
+        [] => Err(ReadError::Form(Form::Truncated)),
+        [first, rest @ ..] => Ok((*first, rest)),
+    }
+}
+
+/// A number of 16 bits.
+pub fn read_half(bytes: &[u8]) -> Result<(u16, &[u8]), ReadError>
+    ensures { Gives (λ x. (x.0, x.1.now)) result (number_at w16 bytes.now) }
+{
+    if bytes.len() < 2 {
+        return Err(ReadError::Form(Form::Truncated));
+    }
+    let (front, rest) = bytes.split_at(2);
+    Ok((u16::from_le_bytes([front[0], front[1]]), rest))
+}
+
+/// A number of 32 bits.
+pub fn read_long(bytes: &[u8]) -> Result<(u32, &[u8]), ReadError>
+    ensures { Gives (λ x. (x.0, x.1.now)) result (number_at w32 bytes.now) }
+{
+    if bytes.len() < 4 {
+        return Err(ReadError::Form(Form::Truncated));
+    }
+    let (front, rest) = bytes.split_at(4);
+    let number = u32::from_le_bytes([front[0], front[1], front[2], front[3]]);
+    Ok((number, rest))
+}
+
+/// A signed number of 32 bits, in two's complement.
+pub fn read_word(bytes: &[u8]) -> Result<(i32, &[u8]), ReadError>
+    ensures { Gives (λ x. (x.0, x.1.now)) result (word_at bytes.now) }
+{
+    if bytes.len() < 4 {
+        return Err(ReadError::Form(Form::Truncated));
+    }
+    let (front, rest) = bytes.split_at(4);
+    let number = i32::from_le_bytes([front[0], front[1], front[2], front[3]]);
+    Ok((number, rest))
+}
+
+/// So many signed numbers of 32 bits.
+pub fn read_words<const N: usize>(bytes: &[u8]) -> Result<([i32; N], &[u8]), ReadError>
+    ensures { Gives (λ x. (x.0, x.1.now)) result (words_at N bytes.now) }
+{
+    let mut words = [0; N];
+    let mut rest = bytes;
+    for i in 0..N {
+        let (word, after) = read_word(rest)?;
+        words[i] = word;
+        rest = after;
+    }
+    Ok((words, rest))
+}
+
+/// So many bytes, as they stand.
+pub fn take_bytes(count: usize, bytes: &[u8]) -> Result<(&[u8], &[u8]), ReadError>
+    ensures { Gives (λ x. (x.0.now, x.1.now)) result (run_at count bytes.now) }
+{
+    if bytes.len() < count {
+        return Err(ReadError::Form(Form::Truncated));
+    }
+    Ok(bytes.split_at(count))
+}
