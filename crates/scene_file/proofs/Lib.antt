@@ -1,0 +1,10 @@
+pub mod Sums
+pub mod Parts
+pub mod Loop
+pub mod Letters
+pub mod Headers
+pub mod Stages
+pub mod Only
+pub mod Once
+pub mod Whole
+pub mod Pieces

@@ -1,0 +1,18 @@
+use Rattle.cmd_pack.proofs.Only.{one_fault}
+use Rattle.scene_file.proofs.Whole.{only_scene, only_limit, only_malformed}
+use Rattle.scene_file.proofs.reading.read_scene.Goals as goal
+
+pub returns-clause-only : goal.returns-clause-only
+returns-clause-only c =
+    let e = c.read_judged.ensures in
+    only_scene c.args.bytes.now c.read_judged.result (record { found = e.found; malformed = e.malformed; limit = e.limit })
+
+pub returns-clause-malformed_only : goal.returns-clause-malformed_only
+returns-clause-malformed_only c =
+    let e = c.read_judged.ensures in
+    only_malformed one_fault c.args.bytes.now c.read_judged.result (record { found = e.found; malformed = e.malformed; limit = e.limit })
+
+pub returns-clause-limit_only : goal.returns-clause-limit_only
+returns-clause-limit_only c =
+    let e = c.read_judged.ensures in
+    only_limit c.args.bytes.now c.read_judged.result (record { found = e.found; malformed = e.malformed; limit = e.limit })

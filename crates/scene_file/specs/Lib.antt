@@ -1,0 +1,5 @@
+pub mod Judging
+pub mod Reading
+pub mod Faults
+pub mod Written
+pub mod Laws

@@ -1,0 +1,31 @@
+-- The bytes that are written of a scene.
+use Rattle.std.specs.Prelude.{◌≡◌, ℕ, ◌<◌, ◌^◌, List, ◌++◌, length, map, None}
+use Rattle.std.specs.List.{flat_map, AllByRecursion}
+use Rattle.rc_base.specs.declared.command.Command.{Command}
+use Rattle.rc_base.specs.declared.scene.Scene.{Scene}
+use Rattle.rc_base.specs.Limits.{limit_of}
+use Rattle.rc_base.specs.Spelling.{header, stream_text, encoded, SpellsStream}
+use Rattle.cmd_pack.specs.Texels.{IsWhole}
+
+-- the header, and then each stream's packets behind their length
+abbrev pub written : Scene → List ℕ
+written s = header s.decl (length s.streams) ++ flat_map stream_text (map encoded s.streams)
+
+-- each picture of a stream has four bytes for each texel
+abbrev pub AreWhole : List Command → Type 0
+AreWhole commands = AllByRecursion IsWhole commands
+
+-- the packets of a stream are so few that their length is a number of 32 bits
+abbrev pub IsShort : List Command → Type 0
+IsShort commands = length (encoded commands) < 2 ^ 32
+
+-- a stream's packets spell it
+abbrev pub IsEncoded : List Command → Type 0
+IsEncoded commands = SpellsStream (encoded commands) commands
+
+-- a scene that can be written
+pub record IsWritable (s : Scene) : Type 0 where
+  pub version : s.decl.version ≡ 1
+  pub within : limit_of s ≡ None
+  pub texels : AllByRecursion AreWhole s.streams
+  pub short : AllByRecursion IsShort s.streams

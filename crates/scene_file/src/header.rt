@@ -1,0 +1,111 @@
+//! The header of a scene.
+ghost use Rattle.std.specs.Prelude.{◌≡◌, ◌++◌, IfOk, IfErr};
+ghost use Rattle.cmd_pack.specs.Reading.{Gives};
+ghost use Rattle.rc_base.specs.Spelling.{magic};
+ghost use Rattle.scene_file.specs.Reading.{half_at, size_at, times_at, head_at};
+ghost use Rattle.scene_file.specs.Faults.{LettersFailBy};
+
+use crate::fault::Broken;
+use cmd_pack::fault::ReadError;
+use cmd_pack::fields::{read_byte, read_half, take_bytes};
+use rc_base::scene::{Counts, Decl, SceneKind, Sizes, Units};
+use std::alloc::Global;
+
+/// What the header says.
+#[derive(Debug, Drop)]
+pub struct Head {
+    pub decl: Decl,
+    pub clients: u8,
+}
+
+/// The letters RCS1, with which a scene begins.
+pub const MAGIC: [u8; 4] = [0x52, 0x43, 0x53, 0x31];
+
+/// What stands behind these letters.
+pub fn read_letters<'a>(letters: &[u8], bytes: &'a [u8]) -> Result<&'a [u8], Broken>
+    ensures found { IfOk result (λ rest. bytes.now ≡ letters.now ++ rest.now) }
+    ensures fails { IfErr result (LettersFailBy letters.now bytes.now) }
+{
+    let mut rest = bytes;
+    for letter in letters {
+        match rest {
+            [] => {
+                return Err(Broken::Form {
+                    kind: SceneKind::Truncated,
+                    left: 0,
+                });
+            }
+            [first, after @ ..] => {
+                if *first != *letter {
+                    return Err(Broken::Form {
+                        kind: SceneKind::BadMagic,
+                        left: rest.len(),
+                    });
+                }
+                rest = after;
+            }
+        }
+    }
+    Ok(rest)
+}
+
+#[tactic(auto, unfolding(crate::specs::Reading::size_at))]
+fn read_size(bytes: &[u8]) -> Result<([u16; 2], &[u8]), ReadError>
+    ensures { Gives (λ x. (x.0, x.1.now)) result (size_at bytes.now) }
+{
+    let (width, rest) = read_half(bytes)?;
+    let (height, rest) = read_half(rest)?;
+    Ok(([width, height], rest))
+}
+
+fn read_sizes(alloc: Global, count: u8, bytes: &[u8]) -> Result<(Sizes, &[u8]), ReadError>
+    ensures { Gives (λ x. (x.0, x.1.now)) result (times_at size_at count bytes.now) }
+{
+    let mut sizes = Sizes::new(alloc);
+    let mut rest = bytes;
+    for _ in 0..count {
+        let (size, after) = read_size(rest)?;
+        sizes.push(size)?;
+        rest = after;
+    }
+    Ok((sizes, rest))
+}
+
+fn read_units(alloc: Global, count: u8, bytes: &[u8]) -> Result<(Units, &[u8]), ReadError>
+    ensures { Gives (λ x. (x.0, x.1.now)) result (times_at half_at count bytes.now) }
+{
+    let mut units = Units::new(alloc);
+    let mut rest = bytes;
+    for _ in 0..count {
+        let (unit, after) = read_half(rest)?;
+        units.push(unit)?;
+        rest = after;
+    }
+    Ok((units, rest))
+}
+
+/// What the header says behind its letters, and the bytes behind the header.
+#[tactic(auto, unfolding(crate::specs::Reading::head_at))]
+pub fn read_head(alloc: Global, bytes: &[u8]) -> Result<(Head, &[u8]), ReadError>
+    ensures { Gives (λ x. (x.0, x.1.now)) result (head_at bytes.now) }
+{
+    let (width, rest) = read_half(bytes)?;
+    let (height, rest) = read_half(rest)?;
+    let (clients, rest) = read_byte(rest)?;
+    let (shared, rest) = read_byte(rest)?;
+    let (barriers, rest) = read_byte(rest)?;
+    let (semaphores, rest) = read_byte(rest)?;
+    let (shared, rest) = read_sizes(alloc, shared, rest)?;
+    let (barriers, rest) = take_bytes(barriers as usize, rest)?;
+    let barriers = Counts::from_slice(alloc, barriers)?;
+    let (semaphores, rest) = read_units(alloc, semaphores, rest)?;
+    let decl = Decl {
+        version: 1,
+        width,
+        height,
+        shared,
+        barriers,
+        semaphores,
+    };
+    Ok((Head { decl, clients }, rest))
+}

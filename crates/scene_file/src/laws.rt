@@ -1,0 +1,22 @@
+//! Laws on the spelling of scenes, each the contract of a function that does nothing.
+ghost use Rattle.scene_file.specs.Laws.{ScenesAreOne, FaultsSpellNoScene, SceneFaultsAreOne, WrittenIsRead};
+
+/// No bytes spell two scenes.
+pub fn bytes_spell_one_scene()
+    ensures { ScenesAreOne }
+{}
+
+/// Bytes that have a fault spell no scene.
+pub fn faults_spell_no_scene()
+    ensures { FaultsSpellNoScene }
+{}
+
+/// No bytes have two faults, nor one at two places.
+pub fn bytes_have_one_fault()
+    ensures { SceneFaultsAreOne }
+{}
+
+/// What is written of a scene is read again as that scene.
+pub fn written_is_read()
+    ensures { WrittenIsRead }
+{}

@@ -1,0 +1,20 @@
+//! Scenes as bytes.
+//!
+//! `read_scene` gives the scene that bytes spell, `write_scene` the bytes of a scene, and `check_limits` the first quantity of a scene
+//! that is outside its range.
+#![tactic(auto)]
+
+pub mod fault;
+mod header;
+pub mod laws;
+mod limits;
+mod reading;
+mod writing;
+
+pub use fault::SceneFault;
+pub use limits::check_limits;
+pub use reading::read_scene;
+pub use writing::write_scene;
+
+#[cfg(test)]
+mod tests;
