@@ -1,0 +1,12 @@
+pub mod Cuts
+pub mod Ranges
+pub mod Numbers
+pub mod Search
+pub mod Drafts
+pub mod Statements
+pub mod Steps
+pub mod Telling
+pub mod Rising
+pub mod Whole
+pub mod Printing
+pub mod Reprinted

@@ -1,0 +1,30 @@
+-- Numbers in their ranges.
+use Rattle.std.proofs.Common.{◌≡◌, ℕ, suc, true, List, [], ◌∷◌, length, ap, refl, subst, ℤ, Option, Some, None}
+use Rattle.std.specs.Option.{option_and_then}
+use Rattle.std.proofs.lemmas.Option.{cond_some}
+use Rattle.rc_base.specs.declared.text.NumberRange.{NumberRange}
+use Rattle.rc_base.specs.Text.Read.{is_in, if_in, number_of, reads_as, with_first, numbers_of}
+use Rattle.scene_text.specs.Reading.{AreIn}
+
+pub length_in : (rs : List NumberRange) (zs : List ℤ) → AreIn rs zs → length zs ≡ length rs
+length_in [] [] h = refl
+length_in [] (z ∷ zs) h = absurd h
+length_in (r ∷ rs) [] h = absurd h
+length_in (r ∷ rs) (z ∷ zs) h = ap suc (length_in rs zs h.1)
+
+read_in : (r : NumberRange) (o : Option ℤ) (z : ℤ) → option_and_then (if_in r) o ≡ Some z → is_in r z ≡ true
+read_in r None z h = absurd (cc)
+read_in r (Some y) z h = let e = cond_some (is_in r y) y z h in subst (λ x. is_in r x ≡ true) e.1 e.0
+
+first_in : (r : NumberRange) (rs : List NumberRange) (o : Option ℤ) (p : Option (List ℤ)) (zs : List ℤ) → with_first o p ≡ Some zs
+    → ((z : ℤ) → o ≡ Some z → is_in r z ≡ true) → ((ys : List ℤ) → p ≡ Some ys → AreIn rs ys) → AreIn (r ∷ rs) zs
+first_in r rs None p zs h one rest = absurd (cc)
+first_in r rs (Some z) None zs h one rest = absurd (cc)
+first_in r rs (Some z) (Some ys) zs h one rest = let e : z ∷ ys ≡ zs = cc in subst (AreIn (r ∷ rs)) e (one z refl, rest ys refl)
+
+-- numbers that are read lie in their ranges
+pub numbers_in : (rs : List NumberRange) (ws : List (List ℕ)) (zs : List ℤ) → numbers_of rs ws ≡ Some zs → AreIn rs zs
+numbers_in [] [] zs h = let e : [] ≡ zs = cc in subst (AreIn []) e tt
+numbers_in [] (w ∷ ws) zs h = absurd (cc)
+numbers_in (r ∷ rs) [] zs h = absurd (cc)
+numbers_in (r ∷ rs) (w ∷ ws) zs h = first_in r rs (reads_as r w) (numbers_of rs ws) zs h (λ z e. read_in r (number_of w) z e) (λ ys e. numbers_in rs ws ys e)

@@ -1,0 +1,5 @@
+use Rattle.scene_text.proofs.Drafts.{adds_barrier}
+use Rattle.scene_text.proofs.draft.add_barrier.Goals as goal
+
+pub returns : goal.returns
+returns c = rw c.in_ok-push.ensures.items (adds_barrier c.args.draft.now c.args.count c.requires.draft c.requires.place.0 c.requires.place.1)

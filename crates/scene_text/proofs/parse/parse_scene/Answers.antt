@@ -1,0 +1,11 @@
+use Rattle.scene_text.proofs.Whole.{only, told, limited}
+use Rattle.scene_text.proofs.parse.parse_scene.Goals as goal
+
+pub returns-clause-only : goal.returns-clause-only
+returns-clause-only c = only c.args.text.now c.parse_within.result c.parse_within.ensures.found c.parse_within.ensures.fails
+
+pub returns-clause-told : goal.returns-clause-told
+returns-clause-told c = told c.args.text.now c.parse_within.result c.parse_within.ensures.found c.parse_within.ensures.fails
+
+pub returns-clause-limited : goal.returns-clause-limited
+returns-clause-limited c = limited c.args.text.now c.parse_within.result c.parse_within.ensures.found c.parse_within.ensures.fails

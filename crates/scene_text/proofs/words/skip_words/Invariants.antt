@@ -1,0 +1,6 @@
+use Rattle.std.proofs.Common.{◌≡◌, drop}
+use Rattle.rc_base.specs.Text.Read.{words_of}
+use Rattle.scene_text.proofs.words.skip_words.Given as goal
+
+abbrev pub invariant-loop-skipped : goal.invariant-loop-skipped
+invariant-loop-skipped l = words_of l.rest ≡ drop l.skipped (words_of l.line)

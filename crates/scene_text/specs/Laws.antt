@@ -1,0 +1,21 @@
+-- Laws on texts that spell scenes.
+use Rattle.std.specs.Prelude.{◌≡◌, ℕ, List, None}
+use Rattle.rc_base.specs.declared.scene.Scene.{Scene}
+use Rattle.std.specs.List.{AllByRecursion}
+use Rattle.rc_base.specs.Commands.{IsCommand}
+use Rattle.rc_base.specs.Spelling.{IsDecl}
+use Rattle.rc_base.specs.Text.Printed.{printed}
+use Rattle.rc_base.specs.Text.Read.{SpellsText}
+use Rattle.rc_base.specs.Text.Faults.{text_fault}
+
+-- no text spells two scenes
+abbrev pub OneScene : Type 0
+OneScene = (text : List ℕ) (s t : Scene) → SpellsText text s → SpellsText text t → s ≡ t
+
+-- a text that spells a scene has no faulty line
+abbrev pub NoFault : Type 0
+NoFault = (text : List ℕ) (s : Scene) → SpellsText text s → text_fault text ≡ None
+
+-- the printed text of a scene whose fields are in their ranges spells that scene
+abbrev pub PrintedSpells : Type 0
+PrintedSpells = (s : Scene) → IsDecl s.decl → AllByRecursion (AllByRecursion IsCommand) s.streams → SpellsText (printed s) s

@@ -1,0 +1,21 @@
+-- Numbers in their ranges, and lists that are read from the front.
+use Rattle.std.specs.Prelude.{◌≡◌, true, List, [], ◌∷◌, ◌++◌, ℕ, ℤ, Option, Some, None}
+use Rattle.rc_base.specs.declared.text.NumberRange.{NumberRange}
+use Rattle.rc_base.specs.Text.Read.{is_in, reads_as}
+
+-- each number is in the range at its place
+abbrev pub AreIn : List NumberRange → List ℤ → Type 0
+AreIn [] [] = Unit {0}
+AreIn [] (z ∷ zs) = ⊥
+AreIn (r ∷ rs) [] = ⊥
+AreIn (r ∷ rs) (z ∷ zs) = (is_in r z ≡ true) × AreIn rs zs
+
+-- the number of the first word, in its range
+abbrev pub first_number : NumberRange → List (List ℕ) → Option ℤ
+first_number r [] = None
+first_number r (w ∷ ws) = reads_as r w
+
+-- with a list before what is read
+abbrev pub with_front : {A : Type 0} → List A → Option (List A) → Option (List A)
+with_front front None = None
+with_front front (Some xs) = Some (front ++ xs)

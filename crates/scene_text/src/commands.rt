@@ -1,0 +1,237 @@
+//! A command from the numbers and the texels of its line.
+ghost use Rattle.std.specs.Prelude.{◌≡◌, ◌∷◌, [], ℕ, pos, map, length, true, false};
+ghost use Rattle.rc_base.specs.Numbers.{entry};
+ghost use Rattle.rc_base.specs.Text.Statements.{statement, command_statement, ranges_of, has_picture};
+ghost use Rattle.rc_base.specs.Text.Read.{is_in};
+ghost use Rattle.scene_text.specs.Reading.{AreIn};
+
+use rc_base::command::{Command, Mat4, Opcode, Part, Rgba, Texels};
+use rc_base::text::{LineName, NumberRange};
+
+/// Number i, which a byte holds.
+pub(crate) fn byte_at(numbers: &[i32], i: usize) -> u8
+    ensures { is_in NumberRange.Byte (entry numbers.now i) ≡ true → pos result ≡ entry numbers.now i }
+{
+    let number = word_at(numbers, i);
+    if 0 <= number && number <= 255 {
+        number as u8
+    } else {
+        0
+    }
+}
+
+/// Number i, which 16 bits hold.
+pub(crate) fn half_at(numbers: &[i32], i: usize) -> u16
+    ensures { is_in NumberRange.Half (entry numbers.now i) ≡ true → pos result ≡ entry numbers.now i }
+{
+    let number = word_at(numbers, i);
+    if 0 <= number && number <= 65535 {
+        number as u16
+    } else {
+        0
+    }
+}
+
+/// Number i, or 0 where there are fewer.
+pub(crate) fn word_at(numbers: &[i32], i: usize) -> i32
+    ensures { result ≡ entry numbers.now i }
+{
+    if i < numbers.len() { numbers[i] } else { 0 }
+}
+
+/// Version, width and height of a window.
+pub(crate) fn window_of(numbers: &[i32]) -> (u8, u16, u16)
+    requires { AreIn (NumberRange.Version ∷ NumberRange.Half ∷ NumberRange.Half ∷ []) numbers.now }
+    ensures { pos result.0 ∷ pos result.1 ∷ pos result.2 ∷ [] ≡ numbers.now }
+{
+    (1, half_at(numbers, 1), half_at(numbers, 2))
+}
+
+/// Width and height of a shared texture.
+pub(crate) fn size_of(numbers: &[i32]) -> [u16; 2]
+    requires { AreIn (NumberRange.Half ∷ NumberRange.Half ∷ []) numbers.now }
+    ensures { map pos result ≡ numbers.now }
+{
+    [half_at(numbers, 0), half_at(numbers, 1)]
+}
+
+/// How many meet at a barrier.
+pub(crate) fn count_of(numbers: &[i32]) -> u8
+    requires { AreIn (NumberRange.Byte ∷ []) numbers.now }
+    ensures { pos result ∷ [] ≡ numbers.now }
+{
+    byte_at(numbers, 0)
+}
+
+/// The units of a semaphore.
+pub(crate) fn units_of(numbers: &[i32]) -> u16
+    requires { AreIn (NumberRange.Half ∷ []) numbers.now }
+    ensures { pos result ∷ [] ≡ numbers.now }
+{
+    half_at(numbers, 0)
+}
+
+fn color_of(numbers: &[i32]) -> Rgba
+    requires { AreIn (NumberRange.Byte ∷ NumberRange.Byte ∷ NumberRange.Byte ∷ NumberRange.Byte ∷ []) numbers.now }
+    ensures { pos result.r ∷ pos result.g ∷ pos result.b ∷ pos result.a ∷ [] ≡ numbers.now }
+{
+    Rgba {
+        r: byte_at(numbers, 0),
+        g: byte_at(numbers, 1),
+        b: byte_at(numbers, 2),
+        a: byte_at(numbers, 3),
+    }
+}
+
+fn flags_of(numbers: &[i32]) -> [u8; 4]
+    requires { AreIn (NumberRange.Byte ∷ NumberRange.Byte ∷ NumberRange.Byte ∷ NumberRange.Byte ∷ []) numbers.now }
+    ensures { map pos result ≡ numbers.now }
+{
+    [
+        byte_at(numbers, 0),
+        byte_at(numbers, 1),
+        byte_at(numbers, 2),
+        byte_at(numbers, 3),
+    ]
+}
+
+fn area_of(numbers: &[i32]) -> [i32; 4]
+    requires { length numbers.now ≡ 4 }
+    ensures { result ≡ numbers.now }
+{
+    [
+        word_at(numbers, 0),
+        word_at(numbers, 1),
+        word_at(numbers, 2),
+        word_at(numbers, 3),
+    ]
+}
+
+fn matrix_of(numbers: &[i32]) -> Mat4
+    requires { length numbers.now ≡ 16 }
+    ensures { result.m ≡ numbers.now }
+{
+    let mut m = [0; 16];
+    m.copy_from_slice(numbers);
+    Mat4 { m }
+}
+
+fn part_of(numbers: &[i32], texels: Texels) -> Part
+    requires { AreIn (NumberRange.Byte ∷ NumberRange.Half ∷ NumberRange.Half ∷ NumberRange.Half ∷ NumberRange.Half ∷ []) numbers.now }
+    ensures numbers { pos result.name ∷ pos result.x ∷ pos result.y ∷ pos result.w ∷ pos result.h ∷ [] ≡ numbers.now }
+    ensures texels { result.texels ≡ texels }
+{
+    Part {
+        name: byte_at(numbers, 0),
+        x: half_at(numbers, 1),
+        y: half_at(numbers, 2),
+        w: half_at(numbers, 3),
+        h: half_at(numbers, 4),
+        texels,
+    }
+}
+
+/// The command of an opcode with these numbers and texels.
+pub(crate) fn command_of(opcode: Opcode, numbers: &[i32], texels: Texels) -> Command
+    requires numbers { AreIn (ranges_of (LineName.Command opcode)) numbers.now }
+    requires texels { has_picture (LineName.Command opcode) ≡ false → texels ≡ [] }
+    ensures { command_statement result ≡ statement (LineName.Command opcode) numbers.now texels }
+{
+    match opcode {
+        Opcode::Begin => Command::Begin {
+            mode: byte_at(numbers, 0),
+        },
+        Opcode::End => Command::End,
+        Opcode::Vertex => Command::Vertex {
+            pos: area_of(numbers),
+        },
+        Opcode::Color => Command::Color(color_of(numbers)),
+        Opcode::TexCoord => Command::TexCoord {
+            s: word_at(numbers, 0),
+            t: word_at(numbers, 1),
+        },
+        Opcode::Enable => Command::Enable {
+            capability: byte_at(numbers, 0),
+        },
+        Opcode::Disable => Command::Disable {
+            capability: byte_at(numbers, 0),
+        },
+        Opcode::MatrixMode => Command::MatrixMode {
+            mode: byte_at(numbers, 0),
+        },
+        Opcode::LoadIdentity => Command::LoadIdentity,
+        Opcode::LoadMatrix => Command::LoadMatrix(matrix_of(numbers)),
+        Opcode::MultMatrix => Command::MultMatrix(matrix_of(numbers)),
+        Opcode::PushMatrix => Command::PushMatrix,
+        Opcode::PopMatrix => Command::PopMatrix,
+        Opcode::Viewport => Command::Viewport {
+            area: area_of(numbers),
+        },
+        Opcode::DepthRange => Command::DepthRange {
+            near: word_at(numbers, 0),
+            far: word_at(numbers, 1),
+        },
+        Opcode::Scissor => Command::Scissor {
+            area: area_of(numbers),
+        },
+        Opcode::AlphaFunc => Command::AlphaFunc {
+            function: byte_at(numbers, 0),
+            reference: byte_at(numbers, 1),
+        },
+        Opcode::DepthFunc => Command::DepthFunc {
+            function: byte_at(numbers, 0),
+        },
+        Opcode::DepthMask => Command::DepthMask {
+            flag: byte_at(numbers, 0),
+        },
+        Opcode::BlendFunc => Command::BlendFunc {
+            source: byte_at(numbers, 0),
+            destination: byte_at(numbers, 1),
+        },
+        Opcode::ColorMask => Command::ColorMask {
+            flags: flags_of(numbers),
+        },
+        Opcode::ClearColor => Command::ClearColor(color_of(numbers)),
+        Opcode::ClearDepth => Command::ClearDepth {
+            depth: word_at(numbers, 0),
+        },
+        Opcode::Clear => Command::Clear {
+            mask: byte_at(numbers, 0),
+        },
+        Opcode::CullFace => Command::CullFace {
+            face: byte_at(numbers, 0),
+        },
+        Opcode::FrontFace => Command::FrontFace {
+            direction: byte_at(numbers, 0),
+        },
+        Opcode::BindTexture => Command::BindTexture {
+            kind: byte_at(numbers, 0),
+            name: byte_at(numbers, 1),
+        },
+        Opcode::TexEnv => Command::TexEnv {
+            environment: byte_at(numbers, 0),
+        },
+        Opcode::TexWrap => Command::TexWrap {
+            s: byte_at(numbers, 0),
+            t: byte_at(numbers, 1),
+        },
+        Opcode::TexImage => Command::TexImage {
+            name: byte_at(numbers, 0),
+            w: half_at(numbers, 1),
+            h: half_at(numbers, 2),
+            texels,
+        },
+        Opcode::TexPart => Command::TexPart(part_of(numbers, texels)),
+        Opcode::SharedImage => Command::SharedImage(part_of(numbers, texels)),
+        Opcode::Barrier => Command::Barrier {
+            name: byte_at(numbers, 0),
+        },
+        Opcode::SemP => Command::SemP {
+            name: byte_at(numbers, 0),
+        },
+        Opcode::SemV => Command::SemV {
+            name: byte_at(numbers, 0),
+        },
+        Opcode::Swap => Command::Swap,
+    }
+}

@@ -1,0 +1,27 @@
+//! The text of a scene: what a person writes and reads.
+//!
+//! `print_scene` writes the one text that `printed` names, and `parse_scene` reads every text that spells a scene (`SpellsText`). The
+//! definitions stand in rc_base, and the table of the commands is the one that the packets are read by.
+#![tactic(auto)]
+
+mod arguments;
+mod commands;
+mod digits;
+mod draft;
+mod hex;
+mod laws;
+mod lines;
+mod names;
+mod numerals;
+mod parse;
+mod print;
+mod words;
+
+pub use laws::{
+    printed_texts_spell_their_scene, spelled_texts_have_no_fault, texts_spell_one_scene,
+};
+pub use parse::{TextSceneFault, parse_scene};
+pub use print::print_scene;
+
+#[cfg(test)]
+mod tests;
