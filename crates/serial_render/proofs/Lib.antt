@@ -1,0 +1,7 @@
+pub mod Rows
+pub mod Places
+pub mod Issued
+pub mod Standing
+pub mod Grid
+pub mod Blocks
+pub mod Vertices
