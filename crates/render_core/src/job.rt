@@ -1,0 +1,41 @@
+//! The jobs, and the words that name them.
+ghost use Rattle.std.specs.Prelude.{◌≡◌, ◌∷◌, [], ◌↔◌, IsTrue, MatchOption, map, string_bytes};
+ghost use Rattle.render_core.specs.Jobs.{IsJob};
+ghost use Rattle.render_core.specs.declared.job.Job.{Job as AnyJob};
+
+/// What the program is asked to do.
+#[derive(Clone, Copy, Debug, PartialEq, Eq)]
+pub enum Job {
+    /// Scene bytes to the frames of the scene, as images.
+    Render,
+    /// The text of a scene to its bytes.
+    Pack,
+    /// The bytes of a scene to its text.
+    Unpack,
+}
+
+// Whether the words are this word alone.
+fn is_word(words: &[String], name: &str) -> bool
+    ensures { IsTrue result ↔ (map string_bytes words.now ≡ name.now ∷ []) }
+{
+    match words {
+        [word] => word.as_str() == name,
+        _ => false,
+    }
+}
+
+/// The job that the words name: each by one word alone.
+pub fn job_of(words: &[String]) -> Option<Job>
+    ensures { MatchOption result ((job : AnyJob) → IsJob words.now job → ⊥) (IsJob words.now) }
+{
+    if is_word(words, "render") {
+        return Some(Job::Render);
+    }
+    if is_word(words, "pack") {
+        return Some(Job::Pack);
+    }
+    if is_word(words, "unpack") {
+        return Some(Job::Unpack);
+    }
+    None
+}

@@ -1,0 +1,206 @@
+use super::*;
+use rc_base::gate::OpenGate;
+use rc_base::in_memory::{MemSink, MemSource};
+use std::alloc::{AllocError, Global};
+use std::test::Fail;
+
+// A window of 2 by 2: `ClearColor 255 0 0 255; Clear 1; Swap`.
+const RED_CLEAR: [u8; 26] = [
+    0x52, 0x43, 0x53, 0x31, 2, 0, 2, 0, 1, 0, 0, 0, 10, 0, 0, 0, 3, 0, 0x16, 0x18, 0x24, 255, 0, 0,
+    255, 1,
+];
+
+// The same without Swap.
+const CLEAR_ALONE: [u8; 25] = [
+    0x52, 0x43, 0x53, 0x31, 2, 0, 2, 0, 1, 0, 0, 0, 9, 0, 0, 0, 2, 0, 0x16, 0x18, 255, 0, 0, 255, 1,
+];
+
+// The frame of the red clear.
+const RED_FRAME: &[u8] = b"P6\n2 2\n255\n\xff\0\0\xff\0\0\xff\0\0\xff\0\0";
+
+const RED_CLEAR_TEXT: &[u8] = b"scene 1 2 2\nclient\nClearColor 255 0 0 255\nClear 1\nSwap\n";
+
+fn words(alloc: Global, words: &[&str]) -> Result<Vec<String>, AllocError> {
+    let mut all = Vec::new(alloc);
+    for word in words {
+        all.push(String::from_str(alloc, *word)?)?;
+    }
+    Ok(all)
+}
+
+// What a run answers, and what its image and its notes then hold. `fails` are the puts of the image that fail.
+fn run_on(
+    alloc: Global,
+    job: &[&str],
+    input: &[u8],
+    fails: &[u64],
+) -> Result<(u8, MemSink, MemSink), Fail> {
+    let mut source = MemSource::new(alloc, input, 7, &[])?;
+    let mut image = MemSink::new(alloc, 4, fails)?;
+    let mut notes = MemSink::new(alloc, 64, &[])?;
+    let words = words(alloc, job)?;
+    let finish = run(
+        alloc,
+        words.as_slice(),
+        &mut source,
+        &mut image,
+        &mut notes,
+        &OpenGate,
+    );
+    Ok((finish.status, image, notes))
+}
+
+#[test]
+fn jobs_write_what_is_due(rt: HostRuntime) -> Result<(), Fail> {
+    let rows = [
+        ("render", RED_CLEAR.as_slice(), RED_FRAME),
+        ("render", CLEAR_ALONE.as_slice(), b"".as_slice()),
+        ("pack", RED_CLEAR_TEXT, RED_CLEAR.as_slice()),
+        ("unpack", RED_CLEAR.as_slice(), RED_CLEAR_TEXT),
+    ];
+    for (job, input, due) in rows {
+        let (status, image, notes) = run_on(rt.alloc(), &[job], input, &[])?;
+        assert_eq!(rt; status, 0);
+        assert_eq!(rt; image.bytes(), due);
+        assert_eq!(rt; notes.bytes(), b"".as_slice());
+    }
+    Ok(())
+}
+
+#[test]
+fn other_words_are_usage(rt: HostRuntime) -> Result<(), Fail> {
+    let rows: [&[&str]; 5] = [
+        &[],
+        &["draw"],
+        &["render", "-h"],
+        &["render", "render"],
+        &["Render"],
+    ];
+    for row in rows {
+        let (status, image, notes) = run_on(rt.alloc(), row, &RED_CLEAR, &[])?;
+        assert_eq!(rt; status, 1);
+        assert_eq!(rt; image.bytes(), b"".as_slice());
+        assert_eq!(rt; notes.bytes(), b"rc: usage\n".as_slice());
+    }
+    Ok(())
+}
+
+#[test]
+fn refusals_tell_kind_and_place(rt: HostRuntime) -> Result<(), Fail> {
+    let mut trailing = Vec::from_slice(rt.alloc(), &RED_CLEAR)?;
+    trailing.push(0)?;
+    let rows = [
+        (
+            "render",
+            &RED_CLEAR[..25],
+            3,
+            "rc: malformed Truncated at 25\n",
+        ),
+        (
+            "render",
+            trailing.as_slice(),
+            3,
+            "rc: malformed Trailing at 26\n",
+        ),
+        (
+            "unpack",
+            b"RCT1".as_slice(),
+            3,
+            "rc: malformed BadMagic at 2\n",
+        ),
+        (
+            "pack",
+            b"scene 1 2 2\nclient\nClera 1\n".as_slice(),
+            3,
+            "rc: malformed UnknownWord at 3\n",
+        ),
+        (
+            "pack",
+            b"scene 1 0 2\n".as_slice(),
+            4,
+            "rc: limit width 0\n",
+        ),
+        (
+            "unpack",
+            b"RCS1\x00\x08\x01\x08\0\0\0\0".as_slice(),
+            4,
+            "rc: limit height 2049\n",
+        ),
+        (
+            "render",
+            b"RCS1\x01\0\x01\0\x02\0\0\0\0\0\0\0\0\0\0\0".as_slice(),
+            10,
+            "rc: not built\n",
+        ),
+    ];
+    for (job, input, due, line) in rows {
+        let (status, image, notes) = run_on(rt.alloc(), &[job], input, &[])?;
+        assert_eq!(rt; status, due);
+        assert_eq!(rt; image.bytes(), b"".as_slice());
+        assert_eq!(rt; notes.bytes(), line.as_bytes());
+    }
+    Ok(())
+}
+
+#[test]
+fn a_failing_image_keeps_eight_bytes(rt: HostRuntime) -> Result<(), Fail> {
+    let (status, image, notes) = run_on(rt.alloc(), &["render"], &RED_CLEAR, &[3])?;
+    assert_eq!(rt; status, 6);
+    assert_eq!(rt; image.bytes(), b"P6\n2 2\n2".as_slice());
+    assert_eq!(rt;
+        notes.bytes(),
+        b"rc: image fault after 8 bytes\n".as_slice()
+    );
+    Ok(())
+}
+
+#[test]
+fn a_failing_source_is_a_read_fault(rt: HostRuntime) -> Result<(), Fail> {
+    let mut source = MemSource::new(rt.alloc(), &RED_CLEAR, 7, &[1])?;
+    let mut image = MemSink::new(rt.alloc(), 4, &[])?;
+    let mut notes = MemSink::new(rt.alloc(), 64, &[])?;
+    let words = words(rt.alloc(), &["render"])?;
+    let finish = run(
+        rt.alloc(),
+        words.as_slice(),
+        &mut source,
+        &mut image,
+        &mut notes,
+        &OpenGate,
+    );
+    assert_eq!(rt; finish.status, 2);
+    assert_eq!(rt; image.bytes(), b"".as_slice());
+    assert_eq!(rt; notes.bytes(), b"rc: read fault\n".as_slice());
+    Ok(())
+}
+
+#[test]
+fn failing_notes_change_no_status(rt: HostRuntime) -> Result<(), Fail> {
+    let mut source = MemSource::new(rt.alloc(), &RED_CLEAR, 7, &[])?;
+    let mut image = MemSink::new(rt.alloc(), 4, &[])?;
+    let mut notes = MemSink::new(rt.alloc(), 4, &[2])?;
+    let words = words(rt.alloc(), &["draw"])?;
+    let finish = run(
+        rt.alloc(),
+        words.as_slice(),
+        &mut source,
+        &mut image,
+        &mut notes,
+        &OpenGate,
+    );
+    assert_eq!(rt; finish.status, 1);
+    assert_eq!(rt; notes.bytes(), b"rc: ".as_slice());
+    Ok(())
+}
+
+#[test]
+fn cut_scenes_are_truncated(rt: HostRuntime) -> Result<(), Fail> {
+    for cut in 0..26 {
+        let line = format!(in rt.alloc(); "rc: malformed Truncated at {cut}\n")?;
+        let (status, image, notes) = run_on(rt.alloc(), &["render"], &RED_CLEAR[..cut], &[])?;
+        assert_eq!(rt; status, 3);
+        assert_eq!(rt; image.bytes(), b"".as_slice());
+        assert_eq!(rt; notes.bytes(), line.as_bytes());
+    }
+    Ok(())
+}
