@@ -1,5 +1,5 @@
 -- The covered pixels of kept triangles lie between their corners.
-use Rattle.std.proofs.Common.{◌≡◌, ℕ, ℤ, pos, neg_ℤ, ◌<ℤ◌, ◌≤ℤ◌, ◌-ℤ◌, Bool, true, false, ◌&&◌, not, List, [], ◌∷◌, ◌++◌, Some, None, refl, sym, ap, subst, ◌∙◌, arith, inl, inr}
+use Rattle.std.proofs.Common.{◌≡◌, ℕ, ℤ, pos, neg_ℤ, ◌<ℤ◌, ◌≤ℤ◌, ◌-ℤ◌, Bool, true, false, ◌&&◌, not, List, [], ◌∷◌, ◌++◌, Some, None, refl, sym, ap, subst, arith, inl, inr}
 use Rattle.std.specs.Prelude.{if◌then◌else◌, ◌||◌, ◌⊎◌, int_le, length, slice_index}
 use Rattle.std.specs.declared.option.Option.{Option}
 use Rattle.std.specs.Option.{option_map_or}
@@ -11,7 +11,7 @@ use Rattle.std.proofs.lemmas.Bool.Decides.{Decides-int_eq}
 use Rattle.std.proofs.Math.IntN.{*ℤ_comm}
 use borrow.Author.Differences.{same_in, same_out, sum_is_lem, neg_is}
 use Rattle.fixed_math.proofs.Signs.{both, below_is, not_below_is}
-use Rattle.raster.specs.Between.{least, greatest, IsBetween, CoverLiesInBounds}
+use Rattle.raster.specs.Between.{IsBetween, CoverLiesInBounds}
 use Rattle.rc_base.specs.Drawing.Cover.{area_of, is_inside, covers, centre, is_in_area, is_in_scissor}
 use Rattle.rc_base.specs.Drawing.Kept.{three, is_culled, is_shown, oriented, is_kept, kept_of}
 use Rattle.rc_base.specs.Drawing.Window.{window_of, is_placed}

@@ -1,4 +1,5 @@
 pub mod Contexts
 pub mod Blocks
 pub mod Boxes
+pub mod Texts
 pub mod Tiles

@@ -3,4 +3,5 @@
 #![tactic(auto)]
 
 pub mod contexts;
+pub mod texts;
 pub mod tiles;
