@@ -1,5 +1,4 @@
 pub mod Contexts
 pub mod Blocks
 pub mod Boxes
-pub mod Texts
 pub mod Tiles

@@ -3,5 +3,4 @@
 #![tactic(auto)]
 
 pub mod contexts;
-pub mod texts;
 pub mod tiles;

@@ -10,3 +10,4 @@ pub mod Rising
 pub mod Whole
 pub mod Printing
 pub mod Reprinted
+pub mod Pictures

@@ -2,6 +2,7 @@
 use Rattle.std.specs.Prelude.{◌≡◌, ℕ, List, None}
 use Rattle.rc_base.specs.declared.scene.Scene.{Scene}
 use Rattle.std.specs.List.{AllByRecursion}
+use Rattle.cmd_pack.specs.Texels.{IsWhole}
 use Rattle.rc_base.specs.Commands.{IsCommand}
 use Rattle.rc_base.specs.Spelling.{IsDecl}
 use Rattle.rc_base.specs.Text.Printed.{printed}
@@ -19,3 +20,7 @@ NoFault = (text : List ℕ) (s : Scene) → SpellsText text s → text_fault tex
 -- the printed text of a scene whose fields are in their ranges spells that scene
 abbrev pub PrintedSpells : Type 0
 PrintedSpells = (s : Scene) → IsDecl s.decl → AllByRecursion (AllByRecursion IsCommand) s.streams → SpellsText (printed s) s
+
+-- a text that spells a scene says that it is of version 1, and has four bytes for each texel of its pictures
+abbrev pub WholePictures : Type 0
+WholePictures = (text : List ℕ) (s : Scene) → SpellsText text s → (s.decl.version ≡ 1) × AllByRecursion (AllByRecursion IsWhole) s.streams

@@ -23,6 +23,7 @@ use Rattle.rc_base.specs.Commands.{Kind, Fields, kinds_of, opcode_of, fields_of}
 use Rattle.rc_base.specs.Commands.Kind.{Byte, Half, Word, Code, Bytes, Words, Image}
 use Rattle.rc_base.specs.Numbers.{is_between}
 use Rattle.rc_base.specs.Text.Statements.{Statement, statement, ranges_of, is_picture, field_numbers, field_texels, command_statement, window_statement, decl_statements, client_statements, scene_statements}
+use Rattle.scene_text.proofs.Statements.{says_name}
 use Rattle.rc_base.specs.Text.Read.{SpellsText, words_say, words_say_under, arguments_say, with_numbers, with_texels, with_first, or_fault, texels_of, hex_bytes, hex_pair, hex_value, area_of, is_counted, is_rest_count, name_of, number_of, numbers_of, is_in, if_in, reads_as, spoken}
 
 which : (b : Bool) → (b ≡ true) ⊎ (b ≡ false)
@@ -71,11 +72,6 @@ no_area area e =
       | inl t ↦ eqb-true area 0 t
       | inr f ↦ let no' = rw f at e in absurd cc
     ]
-
-texels_name : (name : LineName) (numbers : List ℤ) (o : Option (List ℕ)) (s : Statement)
-    → or_fault kind.BadHex (option_map (statement name numbers) o) ≡ Ok s → s.name ≡ name
-texels_name name numbers None s e = absurd cc
-texels_name name numbers (Some us) s e = let same : statement name numbers us ≡ s = cc in sym (ap (λ (x : Statement). x.name) same)
 
 -- what stands behind the numbers are the texels, as many as the numbers want
 picture : (name : LineName) (rest : List (List ℕ)) (numbers zs : List ℤ) (ts : List ℕ)
@@ -134,19 +130,6 @@ counted : (name : LineName) (b : Bool) (o : Option (List ℤ)) (rest : List (Lis
     → cond b (with_numbers name rest o) (Err kind.WrongCount) ≡ Ok s → (b ≡ true) × (with_numbers name rest o ≡ Ok s)
 counted name false o rest s e = absurd cc
 counted name true o rest s e = (refl, e)
-
--- a line says something of its own name
-name_said : (name : LineName) (rest : List (List ℕ)) (numbers : Option (List ℤ)) (s : Statement) → with_numbers name rest numbers ≡ Ok s → s.name ≡ name
-name_said name rest None s e = absurd cc
-name_said name [] (Some zs) s e = let same : statement name zs [] ≡ s = cc in sym (ap (λ (x : Statement). x.name) same)
-name_said name (w ∷ ws) (Some zs) s e = texels_name name zs (texels_of (area_of zs) w) s e
-
-says_name : (name : LineName) (ws : List (List ℕ)) (s : Statement) → arguments_say name ws ≡ Ok s → s.name ≡ name
-unfolding arguments_say
-says_name name ws s e =
-    let numbers = numbers_of (ranges_of name) (take (length (ranges_of name)) ws) in
-    let rest = drop (length (ranges_of name)) ws in
-    name_said name rest numbers s (counted name (is_counted name ws) numbers rest s e).1
 
 both_parts : (a b : Bool) → (a && b) ≡ true → (a ≡ true) × (b ≡ true)
 both_parts true b e = (refl, e)

@@ -1,0 +1,5 @@
+use Rattle.scene_text.proofs.Pictures.{whole_pictures}
+use Rattle.scene_text.proofs.laws.texts_spell_whole_pictures.Goals as goal
+
+pub returns : goal.returns
+returns c = whole_pictures
