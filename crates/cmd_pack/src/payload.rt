@@ -6,6 +6,7 @@ ghost use Rattle.cmd_pack.specs.Packets.{value_at, fields_at, four_bytes, part_k
 
 use crate::fault::ReadError;
 use crate::fields::{read_byte, read_half, read_word, read_words, take_bytes};
+use rc_base::boxed::Boxed;
 use rc_base::command::{Command, Mat4, Opcode, Part, Rgba, Texels};
 use rc_base::items::Items;
 use std::alloc::Global;
@@ -101,11 +102,11 @@ pub fn read_command(
         Opcode::LoadIdentity => Ok((Command::LoadIdentity, bytes)),
         Opcode::LoadMatrix => {
             let (m, rest) = read_words(bytes)?;
-            Ok((Command::LoadMatrix(Mat4 { m }), rest))
+            Ok((Command::LoadMatrix(Boxed::new(alloc, Mat4 { m })?), rest))
         }
         Opcode::MultMatrix => {
             let (m, rest) = read_words(bytes)?;
-            Ok((Command::MultMatrix(Mat4 { m }), rest))
+            Ok((Command::MultMatrix(Boxed::new(alloc, Mat4 { m })?), rest))
         }
         Opcode::PushMatrix => Ok((Command::PushMatrix, bytes)),
         Opcode::PopMatrix => Ok((Command::PopMatrix, bytes)),
@@ -193,15 +194,16 @@ pub fn read_command(
         Opcode::TexImage => {
             let (name, rest) = read_byte(bytes)?;
             let (w, h, texels, rest) = read_picture(alloc, rest)?;
+            let texels = Boxed::new(alloc, texels)?;
             Ok((Command::TexImage { name, w, h, texels }, rest))
         }
         Opcode::TexPart => {
             let (part, rest) = read_part(alloc, bytes)?;
-            Ok((Command::TexPart(part), rest))
+            Ok((Command::TexPart(Boxed::new(alloc, part)?), rest))
         }
         Opcode::SharedImage => {
             let (part, rest) = read_part(alloc, bytes)?;
-            Ok((Command::SharedImage(part), rest))
+            Ok((Command::SharedImage(Boxed::new(alloc, part)?), rest))
         }
         Opcode::Barrier => {
             let (name, rest) = read_byte(bytes)?;

@@ -57,6 +57,7 @@ fn read_payloads<'a>(
 ) -> Result<&'a [u8], ReadError>
     ensures { Gives (λ rest. (commands.new, rest.now)) result (with_front commands.old (payloads_at names.now bytes.now)) }
 {
+    commands.reserve(names.len())?;
     let mut rest = bytes;
     for name in names {
         let (command, after) = read_command(alloc, *name, rest)?;

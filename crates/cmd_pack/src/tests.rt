@@ -3,6 +3,7 @@ use crate::fault::PackFault;
 use crate::opcode::{opcode_byte, opcode_from, opcode_of};
 use crate::reading::decode;
 use crate::writing::encode;
+use rc_base::boxed::Boxed;
 use rc_base::command::{Command, Commands, Mat4, Opcode, Part, Rgba, Texels};
 use rc_base::out_of_memory::OutOfMemory;
 use std::alloc::Global;
@@ -49,7 +50,7 @@ fn matrix() -> Mat4 {
     }
 }
 
-fn add_drawing(commands: &mut Commands) -> Result<(), OutOfMemory> {
+fn add_drawing(alloc: Global, commands: &mut Commands) -> Result<(), OutOfMemory> {
     commands.push(Command::Begin { mode: 2 })?;
     commands.push(Command::End)?;
     commands.push(Command::Vertex {
@@ -69,8 +70,8 @@ fn add_drawing(commands: &mut Commands) -> Result<(), OutOfMemory> {
     commands.push(Command::Disable { capability: 0 })?;
     commands.push(Command::MatrixMode { mode: 1 })?;
     commands.push(Command::LoadIdentity)?;
-    commands.push(Command::LoadMatrix(matrix()))?;
-    commands.push(Command::MultMatrix(matrix()))?;
+    commands.push(Command::LoadMatrix(Boxed::new(alloc, matrix())?))?;
+    commands.push(Command::MultMatrix(Boxed::new(alloc, matrix())?))?;
     commands.push(Command::PushMatrix)?;
     commands.push(Command::PopMatrix)?;
     Ok(())
@@ -120,26 +121,28 @@ fn add_textures(alloc: Global, commands: &mut Commands) -> Result<(), OutOfMemor
         name: 2,
         w: 1,
         h: 2,
-        texels: image,
+        texels: Boxed::new(alloc, image)?,
     })?;
     let texel = Texels::from_slice(alloc, &[20, 21, 22, 23])?;
-    commands.push(Command::TexPart(Part {
+    let part = Part {
         name: 3,
         x: 1,
         y: 258,
         w: 1,
         h: 1,
         texels: texel,
-    }))?;
+    };
+    commands.push(Command::TexPart(Boxed::new(alloc, part)?))?;
     let none = Texels::new(alloc);
-    commands.push(Command::SharedImage(Part {
+    let part = Part {
         name: 0,
         x: 0,
         y: 0,
         w: 2,
         h: 0,
         texels: none,
-    }))?;
+    };
+    commands.push(Command::SharedImage(Boxed::new(alloc, part)?))?;
     Ok(())
 }
 
@@ -153,7 +156,7 @@ fn add_waits(commands: &mut Commands) -> Result<(), OutOfMemory> {
 
 fn every_command(alloc: Global) -> Result<Commands, OutOfMemory> {
     let mut commands = Commands::new(alloc);
-    add_drawing(&mut commands)?;
+    add_drawing(alloc, &mut commands)?;
     add_state(&mut commands)?;
     add_textures(alloc, &mut commands)?;
     add_waits(&mut commands)?;

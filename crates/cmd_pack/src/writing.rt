@@ -83,8 +83,8 @@ fn write_fields(out: &mut Bytes, command: &Command) -> Result<(), OutOfMemory>
         Command::Disable { capability } => write_bytes(out, &[*capability]),
         Command::MatrixMode { mode } => write_bytes(out, &[*mode]),
         Command::LoadIdentity => Ok(()),
-        Command::LoadMatrix(matrix) => write_words(out, &matrix.m),
-        Command::MultMatrix(matrix) => write_words(out, &matrix.m),
+        Command::LoadMatrix(matrix) => write_words(out, &matrix.as_ref().m),
+        Command::MultMatrix(matrix) => write_words(out, &matrix.as_ref().m),
         Command::PushMatrix => Ok(()),
         Command::PopMatrix => Ok(()),
         Command::Viewport { area } => write_words(out, area),
@@ -111,10 +111,10 @@ fn write_fields(out: &mut Bytes, command: &Command) -> Result<(), OutOfMemory>
         Command::TexWrap { s, t } => write_bytes(out, &[*s, *t]),
         Command::TexImage { name, w, h, texels } => {
             write_bytes(out, &[*name])?;
-            write_picture(out, *w, *h, texels)
+            write_picture(out, *w, *h, texels.as_ref())
         }
-        Command::TexPart(part) => write_part(out, part),
-        Command::SharedImage(part) => write_part(out, part),
+        Command::TexPart(part) => write_part(out, part.as_ref()),
+        Command::SharedImage(part) => write_part(out, part.as_ref()),
         Command::Barrier { name } => write_bytes(out, &[*name]),
         Command::SemP { name } => write_bytes(out, &[*name]),
         Command::SemV { name } => write_bytes(out, &[*name]),

@@ -1,6 +1,6 @@
 -- The table of the commands: each one's opcode, its name in a text, and the kinds of its fields. Both formats of a scene and the rule on
 -- argument codes are read off it.
-use Rattle.std.specs.Prelude.{ℕ, ℤ, zero, suc, ◌^◌, ◌*◌, ◌<◌, ◌≡◌, ◌&&◌, nat_lt, Bool, true, List, [], ◌∷◌, length, codes, slice_index, FitsSigned}
+use Rattle.std.specs.Prelude.{ℕ, ℤ, ◌^◌, ◌*◌, ◌<◌, ◌≡◌, ◌&&◌, nat_lt, Bool, true, List, [], ◌∷◌, length, codes, slice_index, FitsSigned}
 use Rattle.std.specs.List.{AllByRecursion}
 use Rattle.std.specs.Int.{w32}
 use Rattle.rc_base.specs.declared.command.Command.{Command}

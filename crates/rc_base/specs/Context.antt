@@ -1,5 +1,5 @@
 -- A client's whole context: what its commands have set.
-use Rattle.std.specs.Prelude.{ℕ, Bool, true, false, List, [], ◌∷◌, replicate, length, Option, Some, None, ℤ, pos}
+use Rattle.std.specs.Prelude.{ℕ, true, false, List, [], ◌∷◌, replicate, length, Option, None, ℤ, pos}
 use Rattle.rc_base.specs.declared.command.Mat4.{Mat4}
 use Rattle.rc_base.specs.declared.command.Rgba.{Rgba}
 use Rattle.rc_base.specs.declared.state.Block.{Block}

@@ -1,5 +1,5 @@
 -- The rules that a command can break, in the order in which they are tried, by OpenGL's names of the faults.
-use Rattle.std.specs.Prelude.{ℕ, ◌+◌, ◌-◌, ◌||◌, ◌&&◌, Bool, true, false, not, nat_lt, nat_le, int_le, ◌==◌, List, [], ◌∷◌, length, Option, Some, None, is_some, ℤ, pos, negsuc, if◌then◌else◌, slice_get, slice_index, unwrap_or}
+use Rattle.std.specs.Prelude.{ℕ, ◌+◌, ◌-◌, ◌&&◌, Bool, true, false, nat_lt, nat_le, int_le, ◌==◌, List, [], ◌∷◌, length, Option, Some, None, is_some, ℤ, pos, negsuc, if◌then◌else◌, slice_get, slice_index, unwrap_or}
 use Rattle.std.specs.Option.{option_map_or}
 use Rattle.rc_base.specs.Numbers.{entry, is_between, product_fits}
 use Rattle.rc_base.specs.Commands.{Picture, has_codes}

@@ -1,5 +1,5 @@
 -- What a command makes of its client's context, what it does beyond it, and the contexts along a stream.
-use Rattle.std.specs.Prelude.{ℕ, zero, suc, ◌+◌, ◌-◌, Bool, true, false, nat_lt, ◌==◌, List, [], ◌∷◌, ◌++◌, length, Option, Some, None, is_none, ℤ, pos, map, if◌then◌else◌, unwrap_or, slice_get, slice_set, slice_index, slice_index_or, take}
+use Rattle.std.specs.Prelude.{ℕ, zero, suc, ◌+◌, ◌-◌, Bool, true, false, nat_lt, ◌==◌, List, [], ◌∷◌, ◌++◌, length, Option, Some, None, ℤ, pos, map, if◌then◌else◌, slice_get, slice_set, slice_index, slice_index_or, take}
 use Rattle.std.specs.Int.{int_min, int_max}
 use Rattle.std.specs.Option.{option_map_or, option_and_then}
 use lib.ListN.{get_or}
@@ -9,9 +9,6 @@ use Rattle.rc_base.specs.Textures.{with_part}
 use Rattle.rc_base.specs.Context.{ClientContext, identity, default_context}
 use Rattle.rc_base.specs.Faults.{fault_of, top, below, image_of}
 use Rattle.rc_base.specs.declared.command.Mat4.{Mat4}
-use Rattle.rc_base.specs.declared.command.Rgba.{Rgba}
-use Rattle.rc_base.specs.declared.command.Part.{Part}
-use Rattle.rc_base.specs.declared.state.Vertex.{Vertex}
 use Rattle.rc_base.specs.declared.state.Block.{Block}
 use Rattle.rc_base.specs.declared.state.State.{State}
 use Rattle.rc_base.specs.declared.state.Fault.{Fault}

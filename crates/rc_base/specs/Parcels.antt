@@ -1,6 +1,6 @@
 -- What a client sends to a tile: its blocks and Clears whose box meets the tile, each with the elements that changed since the tile was
 -- last told (lazy state), and its writes of shared textures and operations of synchronisation.
-use Rattle.std.specs.Prelude.{ℕ, zero, suc, ◌+◌, ◌-◌, ◌==◌, ◌&&◌, ◌||◌, not, nat_eq, nat_lt, map, Bool, true, false, List, [], ◌∷◌, ◌++◌, length, fold, sum, Option, Some, None, is_some, if◌then◌else◌, slice_get, slice_index, slice_index_or}
+use Rattle.std.specs.Prelude.{ℕ, zero, suc, ◌+◌, ◌-◌, ◌==◌, ◌&&◌, ◌||◌, not, nat_eq, nat_lt, map, Bool, true, false, List, [], ◌∷◌, ◌++◌, length, fold, sum, Option, Some, None, is_some, if◌then◌else◌, slice_index, slice_index_or}
 use Rattle.std.specs.List.{flat_map, range_with_len, list_any}
 use Rattle.std.specs.Option.{option_map_or}
 use Rattle.rc_base.specs.Commands.{Picture}

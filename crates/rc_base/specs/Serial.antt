@@ -1,6 +1,6 @@
 -- One serial renderer: what the commands of an order, carried out one after the other, leave of a pixel. There are no tiles and no
 -- parcels in it.
-use Rattle.std.specs.Prelude.{ℕ, zero, suc, ◌+◌, ◌-◌, ◌*◌, ◌==◌, nat_lt, Bool, true, false, List, [], ◌∷◌, ◌++◌, fold, replicate, slice_index, slice_get, unwrap_or, if◌then◌else◌, ℤ, pos}
+use Rattle.std.specs.Prelude.{ℕ, zero, suc, ◌+◌, ◌-◌, ◌*◌, nat_lt, Bool, true, false, List, [], ◌∷◌, ◌++◌, fold, replicate, slice_index, slice_get, unwrap_or, if◌then◌else◌, ℤ}
 use Rattle.rc_base.specs.Context.{ClientContext, rgba}
 use Rattle.rc_base.specs.Textures.{with_part}
 use Rattle.rc_base.specs.Issue.{context_after, effect_at}

@@ -1,11 +1,11 @@
 -- How bytes spell a scene: relations on whole lists of bytes and of commands.
-use Rattle.std.specs.Prelude.{◌≡◌, ℕ, ℤ, ◌+◌, ◌*◌, ◌<◌, ◌≤◌, ◌^◌, List, [], ◌∷◌, ◌++◌, length, map, take, drop}
+use Rattle.std.specs.Prelude.{◌≡◌, ℕ, ℤ, ◌*◌, ◌<◌, ◌≤◌, ◌^◌, List, [], ◌∷◌, ◌++◌, length, map, take, drop}
 use Rattle.std.specs.List.{flat_map, range_with_len, AllByRecursion}
 use Rattle.std.specs.Int.{w16, w32, to_le_bytes, cast_unsigned, div_ceil}
 use Rattle.rc_base.specs.declared.command.Command.{Command}
 use Rattle.rc_base.specs.declared.scene.Decl.{Decl}
 use Rattle.rc_base.specs.declared.scene.Scene.{Scene}
-use Rattle.rc_base.specs.Commands.{Kind, Value, Fields, Picture, IsCommand, opcode_of, row_of, kinds_of, fields_of}
+use Rattle.rc_base.specs.Commands.{Kind, Value, Fields, IsCommand, opcode_of, row_of, kinds_of, fields_of}
 use Rattle.rc_base.specs.Commands.Kind.{Byte, Half, Word, Code, Bytes, Words, Image}
 
 -- ---- fields, the low byte first

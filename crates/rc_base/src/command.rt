@@ -1,4 +1,5 @@
 //! The commands of a stream: an integer profile of OpenGL 1.x, with barriers, semaphores and swaps in the stream.
+use crate::boxed::Boxed;
 use crate::items::Items;
 
 /// Bytes of a file or a text.
@@ -68,8 +69,8 @@ pub enum Command {
         mode: u8,
     },
     LoadIdentity,
-    LoadMatrix(Mat4),
-    MultMatrix(Mat4),
+    LoadMatrix(Boxed<Mat4>),
+    MultMatrix(Boxed<Mat4>),
     PushMatrix,
     PopMatrix,
     /// Sets the viewport x, y, w, h in pixels.
@@ -132,12 +133,12 @@ pub enum Command {
         name: u8,
         w: u16,
         h: u16,
-        texels: Texels,
+        texels: Boxed<Texels>,
     },
     /// Writes a part of a private texture's image.
-    TexPart(Part),
+    TexPart(Boxed<Part>),
     /// Writes a part of a texture that all clients share.
-    SharedImage(Part),
+    SharedImage(Boxed<Part>),
     /// Waits for the other clients of a barrier.
     Barrier {
         name: u8,

@@ -4,6 +4,7 @@
 //! client's context and to a pixel, and what the frames of an order of commands are. This crate stands on nothing.
 #![tactic(auto)]
 
+pub mod boxed;
 pub mod command;
 pub mod gate;
 pub mod image;

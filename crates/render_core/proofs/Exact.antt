@@ -1,13 +1,11 @@
 -- Each cause has its status.
-use Rattle.std.proofs.Common.{◌≡◌, ℕ, ◌+◌, ◌<◌, ◌≤◌, ◌⊎◌, inl, inr, List, [], ◌∷◌, ◌++◌, length, map, None, Some, refl, sym, ap, subst, ◌∙◌, length-append, arith}
-use Rattle.std.specs.Prelude.{String, string_bytes, slice_index, slice_index_or}
+use Rattle.std.proofs.Common.{◌≡◌, ℕ, ◌<◌, ◌≤◌, inl, inr, List, [], ◌∷◌, ◌++◌, length, None, Some, refl, sym, ap, subst, ◌∙◌, length-append, arith}
+use Rattle.std.specs.Prelude.{String, slice_index, slice_index_or}
 use Rattle.std.specs.Global.{Global}
 use Rattle.std.specs.declared.option.Option.{Option}
 use Rattle.std.proofs.lemmas.List.{append-nil}
 use Rattle.std.proofs.lemmas.Option.{none-some}
-use Rattle.std.specs.Io.KnownBytes.{Consumes, IsAtEnd}
 use Rattle.rc_base.specs.Causes.{Rose}
-use Rattle.rc_base.specs.Limits.{limit_of}
 use Rattle.rc_base.specs.Spelling.{SpellsScene}
 use Rattle.rc_base.specs.Transfer.{byte_limit}
 use Rattle.rc_base.specs.declared.scene.Scene.{Scene}
@@ -19,7 +17,7 @@ use Rattle.render_core.specs.declared.refusal.Refusal.TheVariants.{Usage, ReadFa
 use Rattle.render_core.specs.Jobs.{job_word, IsJob, Spells, IsOfForm, IsInput}
 use Rattle.render_core.specs.Lines.{status_of, line_of}
 use Rattle.render_core.specs.Answers.{TookInput, IsNotBuilt, Noted, Refused, Ends, SpellsNone, IsOutside, IsUndrawn}
-use Rattle.render_core.specs.Steps.{RefusesJob, RefusesRun, IsOnly, IsDone, IsCarriedOut}
+use Rattle.render_core.specs.Steps.{RefusesJob, RefusesRun, IsDone, IsCarriedOut}
 
 -- ---- the words name one job
 

@@ -3,7 +3,7 @@ use Rattle.std.proofs.Common.{◌≡◌, ℕ, ◌+◌, ◌<◌, ◌≤◌, ◌�
 use Rattle.std.specs.Prelude.{IsTrue, ◌↔◌, OnOk, IfErr}
 use Rattle.std.specs.declared.result.Result.{Result}
 use Rattle.std.specs.declared.option.Option.{Option}
-use Rattle.std.specs.Io.KnownBytes.{Consumes, Appends, IsAtEnd}
+use Rattle.std.specs.Io.KnownBytes.{Appends}
 use Rattle.rc_base.specs.Causes.{Rose}
 use Rattle.rc_base.specs.Issue.{stream_of}
 use Rattle.rc_base.specs.Limits.{limit_of}
@@ -21,9 +21,9 @@ use Rattle.render_core.specs.declared.job.Job.{Job}
 use Rattle.render_core.specs.declared.job.Job.TheVariants.{Render, Pack, Unpack}
 use Rattle.render_core.specs.declared.refusal.Refusal.{Refusal}
 use Rattle.render_core.specs.declared.refusal.Refusal.TheVariants.{Usage, ReadFault, MalformedScene, MalformedText, PastLimit, ImageFault, OutOfMemory, NotBuilt}
-use Rattle.render_core.specs.Jobs.{Spells, IsInput, IsOfForm, frames, due}
-use Rattle.render_core.specs.Lines.{line_of, limit_line}
-use Rattle.render_core.specs.Answers.{TookInput, IsMalformed, IsTooLong, HasLimit, IsPastLimit, IsNotBuilt, IsCutOff, Carried, PartlyCarried}
+use Rattle.render_core.specs.Jobs.{SpellsAgain, frames, due}
+use Rattle.render_core.specs.Lines.{line_of}
+use Rattle.render_core.specs.Answers.{TookInput, IsCutOff, PartlyCarried}
 use Rattle.render_core.specs.Steps.{RefusesReading, RefusesScene, RefusesText, RefusesInput, RefusesWriting, RefusesJob, IsOnly, MadeOf, IsCarriedOut, Spares}
 
 -- ---- a scene that is not read
@@ -136,7 +136,14 @@ writing_memory job left left' held held' kf kf' input text took made r h e =
 pub carried_out : (job : Job) (left left' held held' : Option (List ℕ)) (input text : List ℕ) → TookInput left left' input → MadeOf job input text
     → Appends held held' text → IsCarriedOut job left left' held held'
 carried_out job left left' held held' input text took made given = record {
-  carried = record { input = input; took = took; scene = made.scene; is_input = made.is_input; given = subst (Appends held held') made.due_is given };
+  carried = record {
+    input = input;
+    took = took;
+    scene = made.scene;
+    is_input = made.is_input;
+    given = subst (Appends held held') made.due_is given;
+    again = subst (λ (t : List ℕ). SpellsAgain job t made.scene) made.due_is made.again;
+  };
   only = made.only;
 }
 
@@ -163,26 +170,29 @@ render_made input scene drawn images short spelled within only test drawn_is are
   is_input = record { short = short; spelled = spelled; within = within; form = test.0 drawn_is };
   only = read_by_render input (Some scene) only;
   due_is = due_frames scene images are;
+  again = tt;
 }
 
 pub pack_made : (input : List ℕ) (scene : Scene) (bytes : List ℕ) → length input ≤ byte_limit → SpellsText input scene → limit_of scene ≡ None
-    → IsOnly Pack input (Some scene) → bytes ≡ written scene → MadeOf Pack input bytes
+    → IsOnly Pack input (Some scene) → bytes ≡ written scene → SpellsScene bytes scene → MadeOf Pack input bytes
 unfolding due
-pack_made input scene bytes short spelled within only e = record {
+pack_made input scene bytes short spelled within only e again = record {
   scene = scene;
   is_input = record { short = short; spelled = spelled; within = within; form = tt };
   only = only;
   due_is = e;
+  again = again;
 }
 
 pub unpack_made : (input : List ℕ) (scene : Scene) (text : List ℕ) → length input ≤ byte_limit → SpellsScene input scene → limit_of scene ≡ None
-    → IsOnly Unpack input (Some scene) → text ≡ printed scene → MadeOf Unpack input text
+    → IsOnly Unpack input (Some scene) → text ≡ printed scene → SpellsText text scene → MadeOf Unpack input text
 unfolding due
-unpack_made input scene text short spelled within only e = record {
+unpack_made input scene text short spelled within only e again = record {
   scene = scene;
   is_input = record { short = short; spelled = spelled; within = within; form = tt };
   only = only;
   due_is = e;
+  again = again;
 }
 
 -- ---- the whole of a job

@@ -1,15 +1,13 @@
 -- A refusal that is told as itself, or as want of memory.
-use Rattle.std.proofs.Common.{◌≡◌, ℕ, ◌+◌, ◌<◌, ◌≤◌, ◌⊎◌, inl, inr, List, length, take, refl, sym, ap, subst, ◌∙◌, arith}
+use Rattle.std.proofs.Common.{◌≡◌, ℕ, ◌⊎◌, inl, inr, List, sym, ap, subst, ◌∙◌, arith}
 use Rattle.std.specs.Prelude.{String}
 use Rattle.std.specs.Global.{Global}
 use Rattle.std.specs.declared.option.Option.{Option}
-use Rattle.render_core.specs.declared.job.Job.{Job}
 use Rattle.render_core.specs.declared.refusal.Refusal.{Refusal}
 use Rattle.render_core.specs.declared.refusal.Refusal.TheVariants.{Usage, ReadFault, MalformedScene, MalformedText, PastLimit, ImageFault, OutOfMemory, NotBuilt}
-use Rattle.render_core.specs.Jobs.{IsJob}
 use Rattle.render_core.specs.Lines.{status_of}
-use Rattle.render_core.specs.Answers.{PartlyCarried, PartlyDone}
-use Rattle.render_core.specs.Steps.{RefusesJob, RefusesRun, Spares, HasNumbers, IsToldAs}
+use Rattle.render_core.specs.Answers.{PartlyDone}
+use Rattle.render_core.specs.Steps.{RefusesRun, Spares, HasNumbers, IsToldAs}
 
 pub memory_is_no_usage : (r : Refusal) → r ≡ OutOfMemory → r ≡ Usage → ⊥
 memory_is_no_usage r memory usage = let e : 7 ≡ 1 = sym (ap status_of memory) ∙ ap status_of usage in omega (arith, e)

@@ -1,5 +1,5 @@
 -- What each status of a run says of the words, of the bytes of the source, and of what the image and the notes were given.
-use Rattle.std.specs.Prelude.{◌≡◌, ℕ, ◌+◌, ◌<◌, ◌≤◌, ◌⊎◌, List, [], ◌∷◌, length, take, Option, Some, None}
+use Rattle.std.specs.Prelude.{◌≡◌, ℕ, ◌+◌, ◌<◌, ◌≤◌, ◌⊎◌, List, length, take, Option, Some, None}
 use Rattle.std.specs.declared.string.String.{String}
 use Rattle.std.specs.Global.{Global}
 use Rattle.std.specs.Io.KnownBytes.{Consumes, Appends, IsAtEnd}
@@ -16,7 +16,7 @@ use Rattle.scene_file.specs.Faults.{FailsAsScene}
 use Rattle.serial_render.specs.Form.{IsDrawn}
 use Rattle.render_core.specs.declared.job.Job.{Job}
 use Rattle.render_core.specs.declared.job.Job.TheVariants.{Render, Pack, Unpack}
-use Rattle.render_core.specs.Jobs.{IsJob, Spells, IsInput, due}
+use Rattle.render_core.specs.Jobs.{IsJob, Spells, SpellsAgain, IsInput, due}
 use Rattle.render_core.specs.declared.refusal.Refusal.{Refusal}
 use Rattle.render_core.specs.Lines.{status_of, malformed_line, scene_kind_name, text_kind_name, limit_line, image_fault_line, not_built_line}
 
@@ -106,13 +106,14 @@ pub record Refused
   pub because : holds job input line
   pub noted : Noted noted_before noted_after faults_before faults_after line
 
--- the input was taken and is carried out, and the image was given what is due
+-- the input was taken and is carried out, and the image was given what is due, which spells the scene again where it isn't drawn
 pub record Carried (job : Job) (left_before left_after held_before held_after : Option (List ℕ)) : Type 0 where
   pub input : List ℕ
   pub took : TookInput left_before left_after input
   pub scene : Scene
   pub is_input : IsInput job input scene
   pub given : Appends held_before held_after (due job scene)
+  pub again : SpellsAgain job (due job scene) scene
 
 -- the same with a front of what is due, which may be the whole
 pub record PartlyCarried (job : Job) (left_before left_after held_before held_after : Option (List ℕ)) : Type 0 where

@@ -32,6 +32,12 @@ Spells Render input scene = SpellsScene input scene
 Spells Pack input scene = SpellsText input scene
 Spells Unpack input scene = SpellsScene input scene
 
+-- what is written of a packed or an unpacked scene spells that scene again, in the other form
+abbrev pub SpellsAgain : Job → List ℕ → Scene → Type 0
+SpellsAgain Render frames scene = Unit {0}
+SpellsAgain Pack bytes scene = SpellsScene bytes scene
+SpellsAgain Unpack text scene = SpellsText text scene
+
 -- what is drawn so far is only for rendering
 abbrev pub IsOfForm : Job → Scene → Type 0
 IsOfForm Render scene = IsDrawn scene

@@ -1,7 +1,6 @@
 -- Why a run is refused, with its status and its line in the notes.
-use Rattle.std.specs.Prelude.{◌≡◌, ℕ, ◌-◌, ◌==◌, List, [], ◌∷◌, ◌++◌, codes, slice_index_or, if◌then◌else◌}
+use Rattle.std.specs.Prelude.{ℕ, List, [], ◌∷◌, ◌++◌, codes, slice_index_or}
 use Rattle.std.specs.Fmt.{decimal}
-use Rattle.rc_base.specs.declared.scene.Limit.{Limit}
 use Rattle.rc_base.specs.declared.scene.SceneKind.{SceneKind}
 use Rattle.rc_base.specs.declared.scene.SceneKind.TheVariants as scene_kind
 use Rattle.rc_base.specs.declared.scene.TextKind.{TextKind}

@@ -1,5 +1,5 @@
 -- What each step of a job leaves where it refuses: the parts of which the answers of a run are made.
-use Rattle.std.specs.Prelude.{◌≡◌, ℕ, ◌+◌, ◌<◌, ◌≤◌, ◌⊎◌, List, length, take, Option, Some, None}
+use Rattle.std.specs.Prelude.{◌≡◌, ℕ, ◌<◌, ◌≤◌, ◌⊎◌, List, length, take, Option, Some, None}
 use Rattle.std.specs.declared.string.String.{String}
 use Rattle.std.specs.Global.{Global}
 use Rattle.std.specs.Io.KnownBytes.{Appends}
@@ -16,9 +16,9 @@ use Rattle.render_core.specs.declared.job.Job.{Job}
 use Rattle.render_core.specs.declared.job.Job.TheVariants.{Pack, Unpack}
 use Rattle.render_core.specs.declared.refusal.Refusal.{Refusal}
 use Rattle.render_core.specs.declared.refusal.Refusal.TheVariants.{Usage, ReadFault, MalformedScene, MalformedText, PastLimit, ImageFault, OutOfMemory, NotBuilt}
-use Rattle.render_core.specs.Jobs.{IsJob, Spells, IsInput, due}
+use Rattle.render_core.specs.Jobs.{IsJob, Spells, SpellsAgain, IsInput, due}
 use Rattle.render_core.specs.Lines.{line_of}
-use Rattle.render_core.specs.Answers.{TookInput, IsMalformed, IsTooLong, HasLimit, IsPastLimit, IsNotBuilt, IsCutOff, Carried, PartlyCarried}
+use Rattle.render_core.specs.Answers.{TookInput, IsMalformed, IsTooLong, HasLimit, IsPastLimit, IsNotBuilt, IsCutOff, Carried}
 
 -- ---- reading
 
@@ -82,6 +82,7 @@ pub record MadeOf (job : Job) (input text : List ℕ) : Type 0 where
   pub is_input : IsInput job input scene
   pub only : IsOnly job input (Some scene)
   pub due_is : text ≡ due job scene
+  pub again : SpellsAgain job text scene
 
 -- ---- writing
 

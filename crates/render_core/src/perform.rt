@@ -1,11 +1,14 @@
 //! The jobs, step by step: reading, the scene, what is due for it, writing.
 ghost use Rattle.std.specs.Prelude.{◌≡◌, ◌≤◌, ◌⊎◌, ℕ, length, Err, IfOk, IfErr, OnOk, Some, None};
 ghost use Rattle.std.specs.Io.KnownBytes.{Appends};
+ghost use Rattle.std.specs.List.{AllByRecursion};
+ghost use Rattle.rc_base.specs.Commands.{IsCommand};
 ghost use Rattle.rc_base.specs.Limits.{limit_of};
 ghost use Rattle.rc_base.specs.Pictures.{p6_texts};
-ghost use Rattle.rc_base.specs.Spelling.{SpellsScene};
+ghost use Rattle.rc_base.specs.Spelling.{IsDecl, SpellsScene};
 ghost use Rattle.rc_base.specs.Text.Read.{SpellsText};
 ghost use Rattle.rc_base.specs.Transfer.{byte_limit};
+ghost use Rattle.scene_file.specs.Written.{AreWhole};
 ghost use Rattle.render_core.specs.Answers.{TookInput, Carried, PartlyCarried};
 ghost use Rattle.render_core.specs.Steps.{RefusesReading, RefusesScene, RefusesText, RefusesInput, RefusesWriting, RefusesJob, IsOnly, MadeOf, Spares, IsCarriedOut};
 ghost use Rattle.render_core.specs.declared.job.Job.TheVariants.{Render as ToRender, Pack as ToPack, Unpack as ToUnpack};
@@ -47,13 +50,15 @@ fn read_input<S: Source>(alloc: Global, source: &mut S) -> Result<Bytes, Refusal
     }
 }
 
-fn scene_of(alloc: Global, input: &[u8]) -> Result<Scene, Refusal>
-    ensures spelled { IfOk result (SpellsScene input.now) }
+// The scene that the bytes spell. They are let go once it stands.
+fn scene_of(alloc: Global, input: Bytes) -> Result<Scene, Refusal>
+    ensures spelled { IfOk result (SpellsScene input) }
     ensures within { IfOk result (λ scene. limit_of scene ≡ None) }
-    ensures only { IfOk result (λ scene. IsOnly ToUnpack input.now (Some scene)) }
-    ensures refused { IfErr result (RefusesScene input.now) }
+    ensures fields { IfOk result (λ scene. IsDecl scene.decl × AllByRecursion (AllByRecursion IsCommand) scene.streams) }
+    ensures only { IfOk result (λ scene. IsOnly ToUnpack input (Some scene)) }
+    ensures refused { IfErr result (RefusesScene input) }
 {
-    match read_scene(alloc, input) {
+    match read_scene(alloc, input.as_slice()) {
         Ok(scene) => Ok(scene),
         Err(SceneFault::Malformed { kind, at }) => Err(Refusal::MalformedScene { kind, at }),
         Err(SceneFault::Limit { what, value }) => Err(Refusal::PastLimit(Limit { what, value })),
@@ -61,13 +66,15 @@ fn scene_of(alloc: Global, input: &[u8]) -> Result<Scene, Refusal>
     }
 }
 
-fn scene_of_text(alloc: Global, input: &[u8]) -> Result<Scene, Refusal>
-    ensures spelled { IfOk result (SpellsText input.now) }
+// The scene that the text spells. It is let go once the scene stands.
+fn scene_of_text(alloc: Global, input: Bytes) -> Result<Scene, Refusal>
+    ensures spelled { IfOk result (SpellsText input) }
     ensures within { IfOk result (λ scene. limit_of scene ≡ None) }
-    ensures only { IfOk result (λ scene. IsOnly ToPack input.now (Some scene)) }
-    ensures refused { IfErr result (RefusesText input.now) }
+    ensures whole { IfOk result (λ scene. (scene.decl.version ≡ 1) × AllByRecursion AreWhole scene.streams) }
+    ensures only { IfOk result (λ scene. IsOnly ToPack input (Some scene)) }
+    ensures refused { IfErr result (RefusesText input) }
 {
-    match parse_scene(alloc, input) {
+    match parse_scene(alloc, input.as_slice()) {
         Ok(scene) => Ok(scene),
         Err(TextSceneFault::Text { line, kind }) => Err(Refusal::MalformedText { kind, line }),
         Err(TextSceneFault::Limit { what, value }) => Err(Refusal::PastLimit(Limit {
@@ -84,7 +91,7 @@ fn draw(alloc: Global, input: Bytes) -> Result<Frames, Refusal>
     ensures drawn { IfOk result (λ frames. MadeOf ToRender input (p6_texts frames)) }
     ensures refused { IfErr result (RefusesInput ToRender input) }
 {
-    let scene = match scene_of(alloc, input.as_slice()) {
+    let scene = match scene_of(alloc, input) {
         Ok(scene) => scene,
         Err(refusal) => return Err(refusal),
     };
@@ -103,7 +110,7 @@ fn pack(alloc: Global, input: Bytes) -> Result<Bytes, Refusal>
     ensures packed { IfOk result (MadeOf ToPack input) }
     ensures refused { IfErr result (RefusesInput ToPack input) }
 {
-    let scene = match scene_of_text(alloc, input.as_slice()) {
+    let scene = match scene_of_text(alloc, input) {
         Ok(scene) => scene,
         Err(refusal) => return Err(refusal),
     };
@@ -119,7 +126,7 @@ fn unpack(alloc: Global, input: Bytes) -> Result<Bytes, Refusal>
     ensures printed { IfOk result (MadeOf ToUnpack input) }
     ensures refused { IfErr result (RefusesInput ToUnpack input) }
 {
-    let scene = match scene_of(alloc, input.as_slice()) {
+    let scene = match scene_of(alloc, input) {
         Ok(scene) => scene,
         Err(refusal) => return Err(refusal),
     };

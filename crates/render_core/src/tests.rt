@@ -1,3 +1,7 @@
+//! Runs on sources and sinks in memory.
+mod formats;
+mod hostile;
+
 use super::*;
 use rc_base::gate::OpenGate;
 use rc_base::in_memory::{MemSink, MemSource};

@@ -1,23 +1,25 @@
 -- Writing one thing after the other.
-use Rattle.std.proofs.Common.{◌≡◌, ℕ, zero, suc, get_or, ◌*◌, ◌≤◌, ◌<◌, ◌^◌, true, false, Bool, cond, List, [], ◌∷◌, ◌++◌, length, map, drop, Option, Some, None, Result, Ok, Err, refl, sym, ap, subst, ◌∙◌, append_assoc, arith}
-use Rattle.std.specs.Prelude.{OnOk, sum_by}
+use Rattle.std.proofs.Common.{◌≡◌, ℕ, zero, suc, get_or, ◌*◌, ◌≤◌, ◌<◌, List, [], ◌∷◌, ◌++◌, length, map, drop, Option, Some, None, Result, Ok, Err, refl, sym, ap, subst, ◌∙◌, append_assoc, arith}
+use Rattle.std.specs.Prelude.{OnOk, IfOk, sum_by}
 use Rattle.std.specs.List.{flat_map, AllByRecursion}
 use Rattle.std.proofs.lemmas.List.Concat.{flat_map-cons}
 use Rattle.std.proofs.lemmas.List.{append-nil, drop_all}
 use Rattle.std.proofs.lemmas.Bool.Decides.{nat_tests}
 use Rattle.rc_base.specs.declared.command.Command.{Command}
-use Rattle.rc_base.specs.Commands.{Kind, Fields, Value, IsCommand, IsValue, AreValues, opcode_of, kinds_of, fields_of}
-use Rattle.rc_base.specs.Commands.Kind.{Byte, Half, Word, Code, Bytes, Words, Image}
+use Rattle.rc_base.specs.Commands.{IsCommand}
 use Rattle.rc_base.specs.declared.scene.Decl.{Decl}
 use Rattle.rc_base.specs.declared.scene.Limit.{Limit}
 use Rattle.rc_base.specs.declared.scene.Scene.{Scene}
 use Rattle.rc_base.specs.Limits.{Quantity, first_outside, commands_in, frames_of, barrier_count, side, texels_of, limit_of}
-use Rattle.rc_base.specs.Spelling.{half, size, magic, header, stream_text, encoded, IsCount, IsSide, IsSize, IsDecl, IsPacket, SpellsStream, SpellStreams, SpellsScene}
-use Rattle.cmd_pack.specs.Texels.{HasTexels, HaveTexels, IsWhole}
-use Rattle.cmd_pack.proofs.Chunks.{encoded_spells}
-use Rattle.scene_file.specs.Written.{written, AreWhole, IsShort, IsEncoded, IsWritable}
-use Rattle.scene_file.specs.Judging.{or_else, window_part, stream_part, judge_parts}
+use Rattle.rc_base.specs.Spelling.{half, size, magic, header, stream_text, encoded, IsCount, IsSide, IsSize, IsDecl, IsPacket, SpellStreams, SpellsScene}
+use Rattle.cmd_pack.proofs.Chunks.{all_both, encoded_spells}
+use Rattle.scene_file.specs.Written.{written, IsShort, IsEncoded, IsWritable}
+use Rattle.scene_file.specs.Judging.{or_else, window_part, stream_part}
 use Rattle.scene_file.proofs.Parts.{outside_append, limit_parts, window_within}
+
+pub if_ok_map : {A E : Type 0} {P Q : A → Type 0} (r : Result A E) → ((x : A) → P x → Q x) → IfOk r P → IfOk r Q
+if_ok_map (Ok x) f h = f x h
+if_ok_map (Err e) f h = tt
 
 pub on_ok_map : {A E P Q : Type 0} (r : Result A E) → (P → Q) → OnOk r P → OnOk r Q
 on_ok_map (Ok x) f h = f h
@@ -149,7 +151,7 @@ loop_done s bytes i is fits le parts each =
     let encodes = all_from IsEncoded s.streams [] (λ k lt. each k (omega arith)) in
     subst (λ (l : List ℕ). SpellsScene l s) (sym same) (scene_written s is fits encodes)
 
--- ---- a scene that was read, or whose fields are in their ranges
+-- ---- a scene whose fields are in their ranges
 
 all_encoded : (css : List (List Command)) → AllByRecursion (AllByRecursion IsCommand) css → AllByRecursion IsEncoded css
 all_encoded [] h = tt
@@ -158,37 +160,16 @@ all_encoded (cs ∷ css) h = (encoded_spells cs h.0, all_encoded css h.1)
 pub written_read : (s : Scene) → IsWritable s → IsDecl s.decl → AllByRecursion (AllByRecursion IsCommand) s.streams → SpellsScene (written s) s
 written_read s is decl commands = scene_written s is (decl.shared, decl.semaphores) (all_encoded s.streams commands)
 
-value_whole : (k : Kind) (v : Value k) → IsValue k v → HasTexels k v
-value_whole Byte v h = tt
-value_whole Half v h = tt
-value_whole Word v h = tt
-value_whole (Code count) v h = tt
-value_whole (Bytes count) v h = tt
-value_whole (Words count) v h = tt
-value_whole Image v h = h.2
+packets_typed : (ps : List (List Command)) → AllByRecursion IsPacket ps → AllByRecursion IsCommand (flat_map (λ p. p) ps)
+packets_typed [] h = tt
+packets_typed (p ∷ ps) h = subst (AllByRecursion IsCommand) (sym (flat_map-cons (λ (l : List Command). l) p ps)) (all_both IsCommand p (flat_map (λ l. l) ps) h.0.each (packets_typed ps h.1))
 
-values_whole : (ks : List Kind) (x : Fields ks) → AreValues ks x → HaveTexels ks x
-values_whole [] x h = tt
-values_whole (k ∷ ks) x h = (value_whole k x.0 h.0, values_whole ks x.1 h.1)
+streams_typed : (ts : List (List ℕ)) (css : List (List Command)) → SpellStreams ts css → AllByRecursion (AllByRecursion IsCommand) css
+streams_typed [] [] h = tt
+streams_typed [] (cs ∷ css) h = absurd h
+streams_typed (t ∷ ts) [] h = absurd h
+streams_typed (t ∷ ts) (cs ∷ css) h = (subst (AllByRecursion IsCommand) (sym h.0.whole) (packets_typed h.0.packets h.0.each), streams_typed ts css h.2)
 
-packet_whole : (cs : List Command) → AllByRecursion IsCommand cs → AllByRecursion IsWhole cs
-packet_whole [] h = tt
-packet_whole (c ∷ cs) h = (values_whole (kinds_of (opcode_of c)) (fields_of c) h.0, packet_whole cs h.1)
-
-all_both : (cs ds : List Command) → AllByRecursion IsWhole cs → AllByRecursion IsWhole ds → AllByRecursion IsWhole (cs ++ ds)
-all_both [] ds h k = k
-all_both (c ∷ cs) ds h k = (h.0, all_both cs ds h.1 k)
-
-packets_whole : (ps : List (List Command)) → AllByRecursion IsPacket ps → AllByRecursion IsWhole (flat_map (λ p. p) ps)
-packets_whole [] h = tt
-packets_whole (p ∷ ps) h = subst (AllByRecursion IsWhole) (sym (flat_map-cons (λ (l : List Command). l) p ps)) (all_both p (flat_map (λ l. l) ps) (packet_whole p h.0.each) (packets_whole ps h.1))
-
-streams_whole : (ts : List (List ℕ)) (css : List (List Command)) → SpellStreams ts css → AllByRecursion AreWhole css
-streams_whole [] [] h = tt
-streams_whole [] (cs ∷ css) h = absurd h
-streams_whole (t ∷ ts) [] h = absurd h
-streams_whole (t ∷ ts) (cs ∷ css) h = (subst (AllByRecursion IsWhole) (sym h.0.whole) (packets_whole h.0.packets h.0.each), streams_whole ts css h.2)
-
--- a scene that was read can be written, where its packets are few enough
-pub read_writable : (bytes : List ℕ) (s : Scene) → SpellsScene bytes s → limit_of s ≡ None → AllByRecursion IsShort s.streams → IsWritable s
-read_writable bytes s sp within short = record { version = sp.decl.version; within = within; texels = streams_whole sp.texts s.streams sp.each; short = short }
+-- the fields of a scene that was read are in their ranges
+pub read_typed : (bytes : List ℕ) (s : Scene) → SpellsScene bytes s → IsDecl s.decl × AllByRecursion (AllByRecursion IsCommand) s.streams
+read_typed bytes s sp = (sp.decl, streams_typed sp.texts s.streams sp.each)

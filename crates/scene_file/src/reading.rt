@@ -1,6 +1,8 @@
 //! Reading a scene.
 ghost use Rattle.std.specs.Prelude.{◌≡◌, ◌==◌, ◌⊎◌, ◌++◌, ◌<◌, ◌^◌, ℕ, List, length, IfOk, IfErr, MatchResult, Ok, Err, Some, None};
-ghost use Rattle.rc_base.specs.Spelling.{stream_text, SpellsStream, SpellsScene};
+ghost use Rattle.std.specs.List.{AllByRecursion};
+ghost use Rattle.rc_base.specs.Commands.{IsCommand};
+ghost use Rattle.rc_base.specs.Spelling.{stream_text, IsDecl, SpellsStream, SpellsScene};
 ghost use Rattle.rc_base.specs.Limits.{limit_of};
 ghost use Rattle.rc_base.specs.declared.scene.Scene.{Scene as AnyScene};
 ghost use Rattle.rc_base.specs.declared.scene.SceneKind.{SceneKind as AnyKind};
@@ -92,6 +94,8 @@ fn read_judged(alloc: Global, bytes: &[u8]) -> Result<Scene, SceneFault>
 pub fn read_scene(alloc: Global, bytes: &[u8]) -> Result<Scene, SceneFault>
     // What is read is spelled so, and within the limits.
     ensures found { IfOk result (λ s. SpellsScene bytes.now s × (limit_of s ≡ None)) }
+    // Its fields are in their ranges.
+    ensures fields { IfOk result (λ s. IsDecl s.decl × AllByRecursion (AllByRecursion IsCommand) s.streams) }
     // What is spelled so and within the limits is read, unless memory runs out.
     ensures only { (s : AnyScene) → SpellsScene bytes.now s → limit_of s ≡ None → (result ≡ Ok s) ⊎ (result ≡ Err SceneFault.OutOfMemory) }
     // Malformed bytes have this fault first from the left, at this place.

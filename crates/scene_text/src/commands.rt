@@ -1,12 +1,15 @@
 //! A command from the numbers and the texels of its line.
-ghost use Rattle.std.specs.Prelude.{◌≡◌, ◌∷◌, [], ℕ, pos, map, length, true, false};
+ghost use Rattle.std.specs.Prelude.{◌≡◌, ◌∷◌, [], ℕ, pos, map, length, true, false, IfOk};
 ghost use Rattle.rc_base.specs.Numbers.{entry};
 ghost use Rattle.rc_base.specs.Text.Statements.{statement, command_statement, ranges_of, has_picture};
 ghost use Rattle.rc_base.specs.Text.Read.{is_in};
 ghost use Rattle.scene_text.specs.Reading.{AreIn};
 
+use rc_base::boxed::Boxed;
 use rc_base::command::{Command, Mat4, Opcode, Part, Rgba, Texels};
+use rc_base::out_of_memory::OutOfMemory;
 use rc_base::text::{LineName, NumberRange};
+use std::alloc::Global;
 
 /// Number i, which a byte holds.
 pub(crate) fn byte_at(numbers: &[i32], i: usize) -> u8
@@ -132,106 +135,114 @@ fn part_of(numbers: &[i32], texels: Texels) -> Part
 }
 
 /// The command of an opcode with these numbers and texels.
-pub(crate) fn command_of(opcode: Opcode, numbers: &[i32], texels: Texels) -> Command
+pub(crate) fn command_of(
+    alloc: Global,
+    opcode: Opcode,
+    numbers: &[i32],
+    texels: Texels,
+) -> Result<Command, OutOfMemory>
     requires numbers { AreIn (ranges_of (LineName.Command opcode)) numbers.now }
     requires texels { has_picture (LineName.Command opcode) ≡ false → texels ≡ [] }
-    ensures { command_statement result ≡ statement (LineName.Command opcode) numbers.now texels }
+    ensures { IfOk result (λ c. command_statement c ≡ statement (LineName.Command opcode) numbers.now texels) }
 {
     match opcode {
-        Opcode::Begin => Command::Begin {
+        Opcode::Begin => Ok(Command::Begin {
             mode: byte_at(numbers, 0),
-        },
-        Opcode::End => Command::End,
-        Opcode::Vertex => Command::Vertex {
+        }),
+        Opcode::End => Ok(Command::End),
+        Opcode::Vertex => Ok(Command::Vertex {
             pos: area_of(numbers),
-        },
-        Opcode::Color => Command::Color(color_of(numbers)),
-        Opcode::TexCoord => Command::TexCoord {
+        }),
+        Opcode::Color => Ok(Command::Color(color_of(numbers))),
+        Opcode::TexCoord => Ok(Command::TexCoord {
             s: word_at(numbers, 0),
             t: word_at(numbers, 1),
-        },
-        Opcode::Enable => Command::Enable {
+        }),
+        Opcode::Enable => Ok(Command::Enable {
             capability: byte_at(numbers, 0),
-        },
-        Opcode::Disable => Command::Disable {
+        }),
+        Opcode::Disable => Ok(Command::Disable {
             capability: byte_at(numbers, 0),
-        },
-        Opcode::MatrixMode => Command::MatrixMode {
+        }),
+        Opcode::MatrixMode => Ok(Command::MatrixMode {
             mode: byte_at(numbers, 0),
-        },
-        Opcode::LoadIdentity => Command::LoadIdentity,
-        Opcode::LoadMatrix => Command::LoadMatrix(matrix_of(numbers)),
-        Opcode::MultMatrix => Command::MultMatrix(matrix_of(numbers)),
-        Opcode::PushMatrix => Command::PushMatrix,
-        Opcode::PopMatrix => Command::PopMatrix,
-        Opcode::Viewport => Command::Viewport {
+        }),
+        Opcode::LoadIdentity => Ok(Command::LoadIdentity),
+        Opcode::LoadMatrix => Ok(Command::LoadMatrix(Boxed::new(alloc, matrix_of(numbers))?)),
+        Opcode::MultMatrix => Ok(Command::MultMatrix(Boxed::new(alloc, matrix_of(numbers))?)),
+        Opcode::PushMatrix => Ok(Command::PushMatrix),
+        Opcode::PopMatrix => Ok(Command::PopMatrix),
+        Opcode::Viewport => Ok(Command::Viewport {
             area: area_of(numbers),
-        },
-        Opcode::DepthRange => Command::DepthRange {
+        }),
+        Opcode::DepthRange => Ok(Command::DepthRange {
             near: word_at(numbers, 0),
             far: word_at(numbers, 1),
-        },
-        Opcode::Scissor => Command::Scissor {
+        }),
+        Opcode::Scissor => Ok(Command::Scissor {
             area: area_of(numbers),
-        },
-        Opcode::AlphaFunc => Command::AlphaFunc {
+        }),
+        Opcode::AlphaFunc => Ok(Command::AlphaFunc {
             function: byte_at(numbers, 0),
             reference: byte_at(numbers, 1),
-        },
-        Opcode::DepthFunc => Command::DepthFunc {
+        }),
+        Opcode::DepthFunc => Ok(Command::DepthFunc {
             function: byte_at(numbers, 0),
-        },
-        Opcode::DepthMask => Command::DepthMask {
+        }),
+        Opcode::DepthMask => Ok(Command::DepthMask {
             flag: byte_at(numbers, 0),
-        },
-        Opcode::BlendFunc => Command::BlendFunc {
+        }),
+        Opcode::BlendFunc => Ok(Command::BlendFunc {
             source: byte_at(numbers, 0),
             destination: byte_at(numbers, 1),
-        },
-        Opcode::ColorMask => Command::ColorMask {
+        }),
+        Opcode::ColorMask => Ok(Command::ColorMask {
             flags: flags_of(numbers),
-        },
-        Opcode::ClearColor => Command::ClearColor(color_of(numbers)),
-        Opcode::ClearDepth => Command::ClearDepth {
+        }),
+        Opcode::ClearColor => Ok(Command::ClearColor(color_of(numbers))),
+        Opcode::ClearDepth => Ok(Command::ClearDepth {
             depth: word_at(numbers, 0),
-        },
-        Opcode::Clear => Command::Clear {
+        }),
+        Opcode::Clear => Ok(Command::Clear {
             mask: byte_at(numbers, 0),
-        },
-        Opcode::CullFace => Command::CullFace {
+        }),
+        Opcode::CullFace => Ok(Command::CullFace {
             face: byte_at(numbers, 0),
-        },
-        Opcode::FrontFace => Command::FrontFace {
+        }),
+        Opcode::FrontFace => Ok(Command::FrontFace {
             direction: byte_at(numbers, 0),
-        },
-        Opcode::BindTexture => Command::BindTexture {
+        }),
+        Opcode::BindTexture => Ok(Command::BindTexture {
             kind: byte_at(numbers, 0),
             name: byte_at(numbers, 1),
-        },
-        Opcode::TexEnv => Command::TexEnv {
+        }),
+        Opcode::TexEnv => Ok(Command::TexEnv {
             environment: byte_at(numbers, 0),
-        },
-        Opcode::TexWrap => Command::TexWrap {
+        }),
+        Opcode::TexWrap => Ok(Command::TexWrap {
             s: byte_at(numbers, 0),
             t: byte_at(numbers, 1),
-        },
-        Opcode::TexImage => Command::TexImage {
+        }),
+        Opcode::TexImage => Ok(Command::TexImage {
             name: byte_at(numbers, 0),
             w: half_at(numbers, 1),
             h: half_at(numbers, 2),
-            texels,
-        },
-        Opcode::TexPart => Command::TexPart(part_of(numbers, texels)),
-        Opcode::SharedImage => Command::SharedImage(part_of(numbers, texels)),
-        Opcode::Barrier => Command::Barrier {
+            texels: Boxed::new(alloc, texels)?,
+        }),
+        Opcode::TexPart => Ok(Command::TexPart(Boxed::new(alloc, part_of(numbers, texels))?)),
+        Opcode::SharedImage => Ok(Command::SharedImage(Boxed::new(
+            alloc,
+            part_of(numbers, texels),
+        )?)),
+        Opcode::Barrier => Ok(Command::Barrier {
             name: byte_at(numbers, 0),
-        },
-        Opcode::SemP => Command::SemP {
+        }),
+        Opcode::SemP => Ok(Command::SemP {
             name: byte_at(numbers, 0),
-        },
-        Opcode::SemV => Command::SemV {
+        }),
+        Opcode::SemV => Ok(Command::SemV {
             name: byte_at(numbers, 0),
-        },
-        Opcode::Swap => Command::Swap,
+        }),
+        Opcode::Swap => Ok(Command::Swap),
     }
 }

@@ -135,7 +135,9 @@ pub(crate) fn add_line(
         LineName::Barrier => add_barrier(draft, count_of(numbers)),
         LineName::Semaphore => add_semaphore(draft, units_of(numbers)),
         LineName::Client => open_client(alloc, draft),
-        LineName::Command(opcode) => add_command(draft, command_of(opcode, numbers, texels)),
+        LineName::Command(opcode) => {
+            add_command(draft, command_of(alloc, opcode, numbers, texels)?)
+        }
     }
 }
 

@@ -3,9 +3,11 @@ ghost use Rattle.std.specs.Prelude.{◌≡◌, ◌⊎◌, ℕ, Some, None, Ok, E
 ghost use Rattle.rc_base.specs.declared.scene.Limit.{Limit as AnyLimit};
 ghost use Rattle.rc_base.specs.declared.scene.Scene.{Scene as AnyScene};
 ghost use Rattle.rc_base.specs.declared.scene.TextKind.{TextKind as AnyKind};
+ghost use Rattle.std.specs.List.{AllByRecursion};
 ghost use Rattle.rc_base.specs.Limits.{limit_of};
 ghost use Rattle.rc_base.specs.Text.Read.{SpellsText, words_of, has_no_word};
 ghost use Rattle.rc_base.specs.Text.Faults.{may_stand, text_fault};
+ghost use Rattle.scene_file.specs.Written.{AreWhole};
 ghost use Rattle.scene_text.specs.Drafts.{IsDraft, ReadsNamed, ReadsWords, ReadsLine, ReadsText, IsTextFault, line_fault_of};
 
 use crate::arguments::read_arguments;
@@ -181,6 +183,8 @@ fn parse_within(alloc: Global, text: &[u8]) -> Result<Scene, TextSceneFault>
 /// from 1, and one whose scene is too large the first quantity that is.
 pub fn parse_scene(alloc: Global, text: &[u8]) -> Result<Scene, TextSceneFault>
     ensures found { IfOk result (λ s. SpellsText text.now s × (limit_of s ≡ None)) }
+    // It can be written as bytes that spell it.
+    ensures whole { IfOk result (λ s. (s.decl.version ≡ 1) × AllByRecursion AreWhole s.streams) }
     ensures fails { IfErr result (IsTextFault text.now) }
     ensures only { (s : AnyScene) → SpellsText text.now s → limit_of s ≡ None → (result ≡ Ok s) ⊎ (result ≡ Err TextSceneFault.OutOfMemory) }
     ensures told { (line : ℕ) (k : AnyKind) → text_fault text.now ≡ Some (line, k) → (result ≡ Err (TextSceneFault.Text line k)) ⊎ (result ≡ Err TextSceneFault.OutOfMemory) }

@@ -1,5 +1,5 @@
 -- Which triangles are kept, and how they are turned.
-use Rattle.std.specs.Prelude.{ℕ, List, [], ◌∷◌, Bool, not, ◌&&◌, ◌||◌, ◌==◌, if◌then◌else◌, Option, Some, None, ℤ, pos, int_lt}
+use Rattle.std.specs.Prelude.{List, [], ◌∷◌, Bool, not, ◌&&◌, ◌||◌, ◌==◌, if◌then◌else◌, Option, Some, None, ℤ, pos, int_lt}
 use Rattle.std.specs.Ordering.{int_eq}
 use Rattle.rc_base.specs.Drawing.Window.{window_of, is_placed}
 use Rattle.rc_base.specs.Drawing.Cover.{area_of}

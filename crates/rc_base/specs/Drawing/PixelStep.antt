@@ -1,5 +1,5 @@
 -- What a command does to one pixel.
-use Rattle.std.specs.Prelude.{ℕ, ◌+◌, ◌-◌, ◌*◌, ◌/◌, ◌%◌, ◌==◌, ◌&&◌, ◌||◌, not, nat_lt, nat_le, min, Bool, true, false, List, [], ◌∷◌, length, fold, Option, Some, None, if◌then◌else◌, ℤ, pos, ◌*ℤ◌, slice_index, slice_index_or}
+use Rattle.std.specs.Prelude.{ℕ, ◌+◌, ◌-◌, ◌*◌, ◌/◌, ◌%◌, ◌==◌, ◌&&◌, ◌||◌, not, nat_lt, nat_le, min, Bool, true, false, List, [], length, fold, Option, Some, None, if◌then◌else◌, ℤ, pos, ◌*ℤ◌, slice_index, slice_index_or}
 use Rattle.std.specs.Option.{option_map_or}
 use lib.ListN.{get_or}
 use Rattle.rc_base.specs.Numbers.{floor_quotient, is_between}

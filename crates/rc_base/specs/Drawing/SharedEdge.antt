@@ -1,5 +1,5 @@
 -- The law that a pixel on a common edge of two triangles belongs to exactly one of them.
-use Rattle.std.specs.Prelude.{◌≡◌, ◌≢◌, ℕ, zero, suc, ◌<◌, List, Bool, true, false, not, ◌&&◌, Option, Some, ℤ, pos, ◌<ℤ◌}
+use Rattle.std.specs.Prelude.{◌≡◌, ◌≢◌, ℕ, zero, suc, ◌<◌, List, true, false, not, ◌&&◌, Some, ℤ, pos, ◌<ℤ◌}
 use Rattle.rc_base.specs.Drawing.Cover.{edge_value, is_inside, centre, corner, is_in_area, is_in_scissor, covers}
 use Rattle.rc_base.specs.Drawing.Kept.{kept_of}
 use Rattle.rc_base.specs.declared.state.State.{State}

@@ -1,5 +1,5 @@
 -- Which texture a draw samples, and the texel of a fragment.
-use Rattle.std.specs.Prelude.{ℕ, ◌-◌, ◌*◌, ◌==◌, ◌&&◌, Bool, List, Option, Some, None, if◌then◌else◌, ℤ, pos, ◌*ℤ◌, slice_index}
+use Rattle.std.specs.Prelude.{ℕ, ◌-◌, ◌==◌, ◌&&◌, Bool, List, Option, Some, None, if◌then◌else◌, ℤ, pos, ◌*ℤ◌, slice_index}
 use Rattle.std.specs.Int.{int_min, int_max, int_rem_euclid}
 use Rattle.rc_base.specs.Numbers.{floor_quotient}
 use Rattle.rc_base.specs.Commands.{Picture}

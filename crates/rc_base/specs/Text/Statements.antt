@@ -1,8 +1,7 @@
 -- What the lines of a text say: a name, numbers, and the texels of a picture.
-use Rattle.std.specs.Prelude.{ℕ, ℤ, pos, ◌==◌, Bool, true, false, List, [], ◌∷◌, ◌++◌, map, codes, replicate}
+use Rattle.std.specs.Prelude.{ℕ, ℤ, pos, Bool, true, false, List, [], ◌∷◌, ◌++◌, map, codes, replicate}
 use Rattle.std.specs.List.{flat_map}
 use Rattle.rc_base.specs.declared.command.Command.{Command}
-use Rattle.rc_base.specs.declared.command.Opcode.{Opcode}
 use Rattle.rc_base.specs.declared.scene.Decl.{Decl}
 use Rattle.rc_base.specs.declared.scene.Scene.{Scene}
 use Rattle.rc_base.specs.declared.text.LineName.{LineName}

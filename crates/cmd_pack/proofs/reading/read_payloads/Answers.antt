@@ -6,7 +6,7 @@ use Rattle.cmd_pack.proofs.reading.read_payloads.Goals as goal
 
 pub returns-in_err-command : goal.returns-in_err-command
 returns-in_err-command c =
-    let p = err_from_is_err_and c.from_residual.result c.from_residual.ensures.1 in
+    let p = err_from_is_err_and c.from_residual-in_err-command.result c.from_residual-in_err-command.ensures.1 in
     let total = with_front c.args.commands.now (payloads_at c.args.names.now c.args.bytes.now) in
     rw (p.1, p.2) (payloads_end c.in_err-command.field-0.0 c.loop-name.commands c.args.names.now c.loop-name.name-index _ c.loop-name.rest.now total c.loop-name-test.true c.in_err-command.ensures c.loop-name.invariant)
 

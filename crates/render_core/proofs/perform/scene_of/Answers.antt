@@ -22,7 +22,8 @@ of_limit l = fault.Limit l.what l.value
 pub returns-in-Err-Malformed-clause-refused : goal.returns-in-Err-Malformed-clause-refused
 returns-in-Err-Malformed-clause-refused c =
     let is : c.read_scene.result ≡ Err (fault.Malformed c.in-Err-Malformed.kind c.in-Err-Malformed.at) = c.in-Err-Malformed.is ∙ ap Err c.in-Err-Malformed.field-0-is in
-    let one_is : number_of number c.read_scene.result ≡ 1 = ap (number_of number) is in (
-      subst (λ (r : Result Scene SceneFault). IfErr r (IsMalformed c.args.input.now)) is c.read_scene.ensures.malformed,
-      read_none number of_limit fault.OutOfMemory refl (λ l. refl) Unpack c.args.input.now c.read_scene.result c.read_scene.ensures.only c.read_scene.ensures.limit_only one_is,
+    let one_is : number_of number c.read_scene.result ≡ 1 = ap (number_of number) is in
+    rw (← c.as_slice.ensures) (
+      subst (λ (r : Result Scene SceneFault). IfErr r (IsMalformed c.as_slice.result.now)) is c.read_scene.ensures.malformed,
+      read_none number of_limit fault.OutOfMemory refl (λ l. refl) Unpack c.as_slice.result.now c.read_scene.result c.read_scene.ensures.only c.read_scene.ensures.limit_only one_is,
     )

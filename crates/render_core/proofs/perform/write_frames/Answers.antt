@@ -1,7 +1,7 @@
-use Rattle.std.proofs.Common.{◌≡◌, ◌++◌, ◌+◌, ◌<◌, ◌≤◌, get_or, List, ℕ, length, take, ap, subst, sym, ◌∙◌}
+use Rattle.std.proofs.Common.{◌≡◌, ◌+◌, ◌<◌, get_or, List, ℕ, length, take, ap, subst, ◌∙◌}
 use Rattle.std.specs.Io.KnownBytes.{Appends}
 use Rattle.rc_base.proofs.Known.{Appends-then}
-use Rattle.rc_base.specs.Pictures.{p6_text, p6_texts}
+use Rattle.rc_base.specs.Pictures.{p6_text}
 use Rattle.render_core.proofs.Prefixes.{before, before_most, front_is, part_is, part_below}
 use Rattle.render_core.proofs.Refusals.{rose_later}
 use Rattle.render_core.proofs.perform.write_frames.Goals as goal

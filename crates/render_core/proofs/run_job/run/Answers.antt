@@ -1,5 +1,4 @@
-use Rattle.std.proofs.Common.{◌≡◌, ◌∙◌, subst, sym}
-use Rattle.render_core.specs.Answers.{Ends}
+use Rattle.std.proofs.Common.{◌∙◌, sym}
 use Rattle.render_core.proofs.Exact.{complete, every_malformed, every_limit, every_not_built, not_built_told}
 use Rattle.render_core.proofs.run_job.run.Goals as goal
 

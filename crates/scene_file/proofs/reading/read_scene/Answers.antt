@@ -1,5 +1,6 @@
 use Rattle.cmd_pack.proofs.Only.{one_fault}
 use Rattle.scene_file.proofs.Whole.{only_scene, only_limit, only_malformed}
+use Rattle.scene_file.proofs.Pieces.{read_typed, if_ok_map}
 use Rattle.scene_file.proofs.reading.read_scene.Goals as goal
 
 pub returns-clause-only : goal.returns-clause-only
@@ -16,3 +17,6 @@ pub returns-clause-limit_only : goal.returns-clause-limit_only
 returns-clause-limit_only c =
     let e = c.read_judged.ensures in
     only_limit c.args.bytes.now c.read_judged.result (record { found = e.found; malformed = e.malformed; limit = e.limit })
+
+pub returns-clause-fields : goal.returns-clause-fields
+returns-clause-fields c = if_ok_map c.read_judged.result (λ s h. read_typed c.args.bytes.now s h.0) c.read_judged.ensures.found

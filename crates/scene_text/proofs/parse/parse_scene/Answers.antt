@@ -1,5 +1,10 @@
+use Rattle.scene_file.proofs.Pieces.{if_ok_map}
+use Rattle.scene_text.proofs.Pictures.{whole_pictures}
 use Rattle.scene_text.proofs.Whole.{only, told, limited}
 use Rattle.scene_text.proofs.parse.parse_scene.Goals as goal
+
+pub returns-clause-whole : goal.returns-clause-whole
+returns-clause-whole c = if_ok_map c.parse_within.result (λ s h. whole_pictures c.args.text.now s h.0) c.parse_within.ensures.found
 
 pub returns-clause-only : goal.returns-clause-only
 returns-clause-only c = only c.args.text.now c.parse_within.result c.parse_within.ensures.found c.parse_within.ensures.fails

@@ -24,10 +24,10 @@ pub returns-in-MatrixMode : goal.returns-in-MatrixMode
 returns-in-MatrixMode c = rw (c.in-MatrixMode.is) (c.print_small-in-MatrixMode.ensures)
 
 pub returns-in-LoadMatrix : goal.returns-in-LoadMatrix
-returns-in-LoadMatrix c = rw (c.in-LoadMatrix.is, append-nil) (c.print_opcode-in-LoadMatrix.ensures)
+returns-in-LoadMatrix c = rw (c.in-LoadMatrix.is, append-nil, ← c.as_ref.ensures) (c.print_opcode-in-LoadMatrix.ensures)
 
 pub returns-in-MultMatrix : goal.returns-in-MultMatrix
-returns-in-MultMatrix c = rw (c.in-MultMatrix.is, append-nil) (c.print_opcode-in-MultMatrix.ensures)
+returns-in-MultMatrix c = rw (c.in-MultMatrix.is, append-nil, ← c.as_ref-in-MultMatrix.ensures) (c.print_opcode-in-MultMatrix.ensures)
 
 pub returns-in-Viewport : goal.returns-in-Viewport
 returns-in-Viewport c = rw (c.in-Viewport.is, append-nil) (c.print_opcode-in-Viewport.ensures)
@@ -78,13 +78,13 @@ pub returns-in-TexWrap : goal.returns-in-TexWrap
 returns-in-TexWrap c = rw (c.in-TexWrap.is) (c.print_pair-in-TexWrap.ensures)
 
 pub returns-in-TexImage : goal.returns-in-TexImage
-returns-in-TexImage c = rw (c.in-TexImage.is, append-nil c.in-TexImage.texels) (c.print_image.ensures)
+returns-in-TexImage c = rw (c.in-TexImage.is, append-nil c.in-TexImage.texels, ← c.as_ref-in-TexImage.ensures) (c.print_image.ensures)
 
 pub returns-in-TexPart : goal.returns-in-TexPart
-returns-in-TexPart c = rw (c.in-TexPart.is, append-nil c.in-TexPart.part.texels) (c.print_part.ensures)
+returns-in-TexPart c = rw (c.in-TexPart.is, append-nil c.in-TexPart.part.texels, ← c.as_ref-in-TexPart.ensures) (c.print_part.ensures)
 
 pub returns-in-SharedImage : goal.returns-in-SharedImage
-returns-in-SharedImage c = rw (c.in-SharedImage.is, append-nil c.in-SharedImage.part.texels) (c.print_part-in-SharedImage.ensures)
+returns-in-SharedImage c = rw (c.in-SharedImage.is, append-nil c.in-SharedImage.part.texels, ← c.as_ref-in-SharedImage.ensures) (c.print_part-in-SharedImage.ensures)
 
 pub returns-in-Barrier : goal.returns-in-Barrier
 returns-in-Barrier c = rw (c.in-Barrier.is) (c.print_small-in-Barrier.ensures)

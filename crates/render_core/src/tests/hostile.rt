@@ -1,0 +1,169 @@
+//! Inputs made to be hard: of just the most bytes and of one more, of lengths and pictures that are announced and missing, of endless lines.
+use super::{RED_CLEAR, words};
+use crate::{Finish, run};
+use rc_base::gate::OpenGate;
+use rc_base::in_memory::{MemSink, QuietSource};
+use std::alloc::{AllocError, Global};
+use std::test::Fail;
+
+// So many bytes of one value.
+fn filled(alloc: Global, len: usize, byte: u8) -> Result<Vec<u8>, AllocError> {
+    let mut bytes = Vec::new(alloc);
+    bytes.resize(len, byte)?;
+    Ok(bytes)
+}
+
+// A text, and then a word so many times.
+fn repeated(alloc: Global, front: &[u8], word: &[u8], times: usize) -> Result<Vec<u8>, AllocError> {
+    let mut text = Vec::from_slice(alloc, front)?;
+    for _ in 0..times {
+        text.extend_from_slice(word)?;
+    }
+    Ok(text)
+}
+
+// A run of the job that ends with this status and notes this line, and whose image stays empty.
+fn refuses(
+    rt: &HostRuntime,
+    job: &str,
+    input: &[u8],
+    status: u8,
+    line: &str,
+) -> Result<bool, Fail> {
+    let mut source = QuietSource::new(rt.alloc(), input, 1048576)?;
+    let mut image = MemSink::new(rt.alloc(), 64, &[])?;
+    let mut notes = MemSink::new(rt.alloc(), 64, &[])?;
+    let words = words(rt.alloc(), &[job])?;
+    let finish = run(
+        rt.alloc(),
+        words.as_slice(),
+        &mut source,
+        &mut image,
+        &mut notes,
+        &OpenGate,
+    );
+    Ok(finish == Finish { status } && image.bytes().is_empty() && notes.bytes() == line.as_bytes())
+}
+
+#[test]
+fn inputs_end_at_the_limit(rt: HostRuntime) -> Result<(), Fail> {
+    let past = "rc: limit scene bytes 33554433\n";
+    let zeros = filled(rt.alloc(), 33554433, 0)?;
+    for job in ["render", "pack", "unpack"] {
+        assert!(rt; refuses(&rt, job, zeros.as_slice(), 4, past)?);
+    }
+    let zeros = filled(rt.alloc(), 33554432, 0)?;
+    let zeros = zeros.as_slice();
+    assert!(rt; refuses(&rt, "render", zeros, 3, "rc: malformed BadMagic at 0\n")?);
+    assert!(rt; refuses(&rt, "unpack", zeros, 3, "rc: malformed BadMagic at 0\n")?);
+    assert!(rt; refuses(&rt, "pack", zeros, 3, "rc: malformed NotText at 1\n")?);
+    Ok(())
+}
+
+#[test]
+fn a_text_of_spaces_has_no_scene(rt: HostRuntime) -> Result<(), Fail> {
+    let spaces = filled(rt.alloc(), 33554432, b' ')?;
+    assert!(rt;
+        refuses(
+            &rt,
+            "pack",
+            spaces.as_slice(),
+            3,
+            "rc: malformed NoScene at 1\n"
+        )?
+    );
+    Ok(())
+}
+
+#[test]
+fn what_is_announced_has_to_come(rt: HostRuntime) -> Result<(), Fail> {
+    let mut long = RED_CLEAR;
+    for place in 12..16 {
+        long[place] = 0xff;
+    }
+    assert!(rt; refuses(&rt, "render", &long, 3, "rc: malformed Truncated at 26\n")?);
+    // One stream of 8 bytes: a packet of one TexImage, with a picture of 65535 by 65535 and not one texel.
+    let picture =
+        b"RCS1\x01\x00\x01\x00\x01\x00\x00\x00\x08\x00\x00\x00\x01\x00\x1e\x01\xff\xff\xff\xff";
+    assert!(rt; refuses(&rt, "unpack", picture, 3, "rc: malformed Truncated at 24\n")?);
+    // The same, and its first texel behind the stream's end.
+    let behind =
+        b"RCS1\x01\x00\x01\x00\x01\x00\x00\x00\x08\x00\x00\x00\x01\x00\x1e\x01\xff\xff\xff\xff\x00\x00\x00\x00";
+    assert!(rt; refuses(&rt, "unpack", behind, 3, "rc: malformed Truncated at 24\n")?);
+    let text = b"scene 1 1 1\nclient\nTexImage 1 65535 65535\n";
+    assert!(rt; refuses(&rt, "pack", text, 3, "rc: malformed WrongCount at 3\n")?);
+    let text = b"scene 1 1 1\nclient\nTexImage 1 65535 65535 00000000\n";
+    assert!(rt; refuses(&rt, "pack", text, 3, "rc: malformed BadHex at 3\n")?);
+    Ok(())
+}
+
+#[test]
+fn lines_of_a_million_words_are_told(rt: HostRuntime) -> Result<(), Fail> {
+    let words = repeated(rt.alloc(), b"scene 1 1 1\nclient\nClear", b" 1", 1000000)?;
+    assert!(rt;
+        refuses(
+            &rt,
+            "pack",
+            words.as_slice(),
+            3,
+            "rc: malformed WrongCount at 3\n"
+        )?
+    );
+    let words = repeated(rt.alloc(), b"scene 1 1 1\nclient\n", b"Swap ", 1000000)?;
+    assert!(rt;
+        refuses(
+            &rt,
+            "pack",
+            words.as_slice(),
+            3,
+            "rc: malformed WrongCount at 3\n"
+        )?
+    );
+    let words = repeated(rt.alloc(), b"", b"a ", 1000000)?;
+    assert!(rt;
+        refuses(
+            &rt,
+            "pack",
+            words.as_slice(),
+            3,
+            "rc: malformed UnknownWord at 1\n"
+        )?
+    );
+    let lines = repeated(rt.alloc(), b"", b"#\n", 1000000)?;
+    assert!(rt;
+        refuses(
+            &rt,
+            "pack",
+            lines.as_slice(),
+            3,
+            "rc: malformed NoScene at 1\n"
+        )?
+    );
+    Ok(())
+}
+
+#[test]
+fn nine_frames_of_the_largest_window_are_too_many(rt: HostRuntime) -> Result<(), Fail> {
+    let front = b"scene 1 2048 2048\nclient\n";
+    let nine = repeated(rt.alloc(), front, b"Swap\n", 9)?;
+    assert!(rt;
+        refuses(
+            &rt,
+            "pack",
+            nine.as_slice(),
+            4,
+            "rc: limit pixels 37748736\n"
+        )?
+    );
+    let nine =
+        b"RCS1\x00\x08\x00\x08\x01\x00\x00\x00\x0b\x00\x00\x00\x09\x00\x24\x24\x24\x24\x24\x24\x24\x24\x24";
+    assert!(rt; refuses(&rt, "render", nine, 4, "rc: limit pixels 37748736\n")?);
+    let eight =
+        b"RCS1\x00\x08\x00\x08\x01\x00\x00\x00\x0a\x00\x00\x00\x08\x00\x24\x24\x24\x24\x24\x24\x24\x24";
+    let text = repeated(rt.alloc(), front, b"Swap\n", 8)?;
+    let (status, image, notes) = super::run_on(rt.alloc(), &["unpack"], eight, &[])?;
+    assert_eq!(rt; status, 0);
+    assert_eq!(rt; image.bytes(), text.as_slice());
+    assert_eq!(rt; notes.bytes(), b"".as_slice());
+    Ok(())
+}
