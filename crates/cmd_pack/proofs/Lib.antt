@@ -9,3 +9,5 @@ pub mod Only
 pub mod Chunks
 pub mod Typed
 pub mod Lengths
+pub mod Parts
+pub mod PartsRead

@@ -7,7 +7,9 @@ use Rattle.cmd_pack.specs.declared.fault.ReadError.TheVariants as errors
 use Rattle.rc_base.specs.declared.command.Opcode.{Opcode}
 use Rattle.rc_base.specs.declared.command.Command.{Command}
 use Rattle.cmd_pack.specs.Packets.{name_at, names_at, command_at, payloads_at}
-use Rattle.cmd_pack.specs.Reading.{◌>>=◌, Fails, with_front, convert, cons, word_at, words_at}
+use Rattle.rc_base.specs.declared.text.NumberRange.{NumberRange}
+use Rattle.cmd_pack.specs.Parts.{ranged_at, numbers_at}
+use Rattle.cmd_pack.specs.Reading.{◌>>=◌, Fails, with_front, convert, cons}
 
 pub regroup : {A : Type 0} (front : List A) (a : A) (read : Result (List A × List ℕ) Form) → with_front front (read >>= λ x. Ok (a ∷ x.0, x.1)) ≡ with_front (front ++ a ∷ []) read
 regroup {A} front a (Ok x) = ap (λ (l : List A). Ok (l, x.1)) (simp append_assoc)
@@ -17,43 +19,38 @@ pub front_none : {A : Type 0} (read : Result (List A × List ℕ) Form) → with
 front_none (Ok x) = refl
 front_none (Err f) = refl
 
--- ---- words
+-- ---- numbers
 
 abbrev paired : ℤ → List ℤ × List ℕ → Result ((ℤ × List ℤ) × List ℕ) Form
 paired a y = Ok ((a, y.0), y.1)
 
-regroup_words : (front : List ℤ) (a : ℤ) (read : Result (List ℤ × List ℕ) Form)
+regroup_numbers : (front : List ℤ) (a : ℤ) (read : Result (List ℤ × List ℕ) Form)
     → with_front front (convert cons (λ _. read >>= λ y. paired a y) []) ≡ with_front (front ++ a ∷ []) read
-regroup_words front a (Ok x) = ap (λ (l : List ℤ). Ok (l, x.1)) (simp append_assoc)
-regroup_words front a (Err f) = refl
+regroup_numbers front a (Ok x) = ap (λ (l : List ℤ). Ok (l, x.1)) (simp append_assoc)
+regroup_numbers front a (Err f) = refl
 
-pub words_first : (count : ℕ) (bytes : List ℕ) → with_front [] (words_at (count - 0) bytes) ≡ words_at count bytes
-words_first count bytes =
-    let all : count - 0 ≡ count = omega arith in
-    rw all (front_none (words_at count bytes))
-
-pub words_go_on : (front : List ℤ) (count i : ℕ) (bytes : List ℕ) (z : ℤ) (after : List ℕ) (total : Result (List ℤ × List ℕ) Form) → i < count → word_at bytes ≡ Ok (z, after)
-    → with_front front (words_at (count - i) bytes) ≡ total → with_front (front ++ z ∷ []) (words_at (count - (i + 1)) after) ≡ total
-unfolding words_at
-words_go_on front count i bytes z after total lt h so_far =
-    let k : count - i ≡ suc (count - (i + 1)) = omega arith in
-    let one : with_front front (words_at (count - i) bytes) ≡ with_front (front ++ z ∷ []) (words_at (count - (i + 1)) after) = rw (k, h) (regroup_words front z (words_at (count - (i + 1)) after)) in
+pub numbers_go_on : (front : List ℤ) (ranges : List NumberRange) (i : ℕ) (d : NumberRange) (bytes : List ℕ) (z : ℤ) (after : List ℕ) (total : Result (List ℤ × List ℕ) Form) → i < length ranges
+    → ranged_at (get_or ranges i d) bytes ≡ Ok (z, after)
+    → with_front front (numbers_at (drop i ranges) bytes) ≡ total → with_front (front ++ z ∷ []) (numbers_at (drop (i + 1) ranges) after) ≡ total
+unfolding numbers_at
+numbers_go_on front ranges i d bytes z after total lt h so_far =
+    let one : with_front front (numbers_at (drop i ranges) bytes) ≡ with_front (front ++ z ∷ []) (numbers_at (drop (i + 1) ranges) after) = rw (drop_more ranges i d lt, h) (regroup_numbers front z (numbers_at (drop (i + 1) ranges) after)) in
     sym one ∙ so_far
 
-pub words_end : (e : ReadError) (front : List ℤ) (count i : ℕ) (bytes : List ℕ) (total : Result (List ℤ × List ℕ) Form) → i < count → Fails e (word_at bytes)
-    → with_front front (words_at (count - i) bytes) ≡ total → Fails e total
-unfolding words_at
-words_end errors.Memory front count i bytes total lt h so_far = tt
-words_end (errors.Form f) front count i bytes total lt h so_far =
-    let k : count - i ≡ suc (count - (i + 1)) = omega arith in
-    let one : with_front front (words_at (count - i) bytes) ≡ Err f = rw (k, h) refl in
+pub numbers_end : (e : ReadError) (front : List ℤ) (ranges : List NumberRange) (i : ℕ) (d : NumberRange) (bytes : List ℕ) (total : Result (List ℤ × List ℕ) Form) → i < length ranges
+    → Fails e (ranged_at (get_or ranges i d) bytes)
+    → with_front front (numbers_at (drop i ranges) bytes) ≡ total → Fails e total
+unfolding numbers_at
+numbers_end errors.Memory front ranges i d bytes total lt h so_far = tt
+numbers_end (errors.Form f) front ranges i d bytes total lt h so_far =
+    let one : with_front front (numbers_at (drop i ranges) bytes) ≡ Err f = rw (drop_more ranges i d lt, h) refl in
     sym so_far ∙ one
 
-pub words_done : (front : List ℤ) (count i : ℕ) (bytes : List ℕ) (total : Result (List ℤ × List ℕ) Form) → count ≤ i → with_front front (words_at (count - i) bytes) ≡ total → total ≡ Ok (front, bytes)
-unfolding words_at
-words_done front count i bytes total le so_far =
-    let k : count - i ≡ 0 = omega arith in
-    let one : with_front front (words_at (count - i) bytes) ≡ Ok (front, bytes) = rw k (ap (λ (l : List ℤ). Ok (l, bytes)) (append-nil front)) in
+pub numbers_done : (front : List ℤ) (ranges : List NumberRange) (i : ℕ) (bytes : List ℕ) (total : Result (List ℤ × List ℕ) Form) → length ranges ≤ i
+    → with_front front (numbers_at (drop i ranges) bytes) ≡ total → total ≡ Ok (front, bytes)
+unfolding numbers_at
+numbers_done front ranges i bytes total le so_far =
+    let one : with_front front (numbers_at (drop i ranges) bytes) ≡ Ok (front, bytes) = rw (drop_all i ranges le) (ap (λ (l : List ℤ). Ok (l, bytes)) (append-nil front)) in
     sym so_far ∙ one
 
 -- ---- names

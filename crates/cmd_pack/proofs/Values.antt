@@ -1,18 +1,18 @@
 -- The codecs of fields, and of the payload of each command.
-use Rattle.std.proofs.Common.{◌≡◌, ℕ, ℤ, zero, suc, ◌*◌, ◌^◌, List, [], ◌∷◌, ◌++◌, length, Ok, refl, ap, subst, arith}
+use Rattle.std.proofs.Common.{◌≡◌, ℕ, ℤ, zero, suc, ◌*◌, ◌^◌, List, [], ◌∷◌, ◌++◌, length, Ok, refl, ap, subst, ◌∙◌, arith}
 use Rattle.std.specs.Int.{w16, w32}
 use Rattle.std.specs.Prelude.{FitsSigned}
 use Rattle.std.specs.List.{AllByRecursion, flat_map}
 use Rattle.std.proofs.lemmas.List.Concat.{flat_map-cons}
 use Rattle.rc_base.specs.declared.command.Command.{Command}
-use Rattle.rc_base.specs.declared.command.Command.TheVariants as cmd
 use Rattle.rc_base.specs.declared.command.Opcode.{Opcode}
-use Rattle.rc_base.specs.declared.command.Opcode.TheVariants as op
-use Rattle.rc_base.specs.Commands.{Kind, Fields, IsValue, AreValues, IsCommand, opcode_of, kinds_of, fields_of}
+use Rattle.rc_base.specs.Commands.{Kind, IsValue, AreValues, IsCommand, opcode_of, kinds_of, fields_of}
 use Rattle.rc_base.specs.Commands.Kind.{Byte, Half, Word, Code, Bytes, Words, Image}
 use Rattle.rc_base.specs.Spelling.{word, value_bytes, field_bytes, payload}
+use Rattle.command_table.specs.Making.{command_from}
+use Rattle.command_table.proofs.Rows.{facts, again}
 use Rattle.cmd_pack.specs.Reading.{words_at, cons}
-use Rattle.cmd_pack.specs.Packets.{value_at, picture_of, fields_at, made, command_at}
+use Rattle.cmd_pack.specs.Packets.{value_at, picture_of, fields_at, command_at}
 use Rattle.cmd_pack.proofs.Codec.{Maker, Codec, sized_codec, convert_codec, convert_maker, convert_again}
 use Rattle.cmd_pack.proofs.Numbers.{byte_codec, number_codec, wide16, word_codec, run_codec}
 
@@ -96,90 +96,14 @@ fields_codec (k ∷ ks) = sized_codec (value_codec k) (λ _ _. fields_codec ks)
 abbrev pub IsOf : Opcode → Command → Type 0
 IsOf o c = IsCommand c × (opcode_of c ≡ o)
 
--- a command that is made of its fields
-abbrev Remade : (o : Opcode) → (Fields (kinds_of o) → Command) → Type 0
-Remade o make = (x : Fields (kinds_of o)) → AreValues (kinds_of o) x → (payload (make x) ≡ field_bytes (kinds_of o) x) × IsOf o (make x)
-
-made_maker : (o : Opcode) (make : Fields (kinds_of o) → Command) → Remade o make → Maker (made o make) payload (IsOf o)
-made_maker o make same = convert_maker make payload (IsOf o) (fields_codec (kinds_of o)).maker same
-
-made_again : (o : Opcode) (make : Fields (kinds_of o) → Command) (x : Fields (kinds_of o)) (rest : List ℕ) → AreValues (kinds_of o) x → made o make (field_bytes (kinds_of o) x ++ rest) ≡ Ok (make x, rest)
-made_again o make x rest fits = convert_again make (fields_codec (kinds_of o)) x rest fits
-
 pub payload_maker : (o : Opcode) → Maker (command_at o) payload (IsOf o)
 unfolding command_at
-payload_maker op.Begin = made_maker op.Begin _ (λ x fits. (refl, (fits, refl)))
-payload_maker op.End = made_maker op.End _ (λ x fits. (refl, (fits, refl)))
-payload_maker op.Vertex = made_maker op.Vertex _ (λ x fits. (refl, (fits, refl)))
-payload_maker op.Color = made_maker op.Color _ (λ x fits. (refl, (fits, refl)))
-payload_maker op.TexCoord = made_maker op.TexCoord _ (λ x fits. (refl, (fits, refl)))
-payload_maker op.Enable = made_maker op.Enable _ (λ x fits. (refl, (fits, refl)))
-payload_maker op.Disable = made_maker op.Disable _ (λ x fits. (refl, (fits, refl)))
-payload_maker op.MatrixMode = made_maker op.MatrixMode _ (λ x fits. (refl, (fits, refl)))
-payload_maker op.LoadIdentity = made_maker op.LoadIdentity _ (λ x fits. (refl, (fits, refl)))
-payload_maker op.LoadMatrix = made_maker op.LoadMatrix _ (λ x fits. (refl, (fits, refl)))
-payload_maker op.MultMatrix = made_maker op.MultMatrix _ (λ x fits. (refl, (fits, refl)))
-payload_maker op.PushMatrix = made_maker op.PushMatrix _ (λ x fits. (refl, (fits, refl)))
-payload_maker op.PopMatrix = made_maker op.PopMatrix _ (λ x fits. (refl, (fits, refl)))
-payload_maker op.Viewport = made_maker op.Viewport _ (λ x fits. (refl, (fits, refl)))
-payload_maker op.DepthRange = made_maker op.DepthRange _ (λ x fits. (refl, (fits, refl)))
-payload_maker op.Scissor = made_maker op.Scissor _ (λ x fits. (refl, (fits, refl)))
-payload_maker op.AlphaFunc = made_maker op.AlphaFunc _ (λ x fits. (refl, (fits, refl)))
-payload_maker op.DepthFunc = made_maker op.DepthFunc _ (λ x fits. (refl, (fits, refl)))
-payload_maker op.DepthMask = made_maker op.DepthMask _ (λ x fits. (refl, (fits, refl)))
-payload_maker op.BlendFunc = made_maker op.BlendFunc _ (λ x fits. (refl, (fits, refl)))
-payload_maker op.ColorMask = made_maker op.ColorMask _ (λ x fits. (refl, (fits, refl)))
-payload_maker op.ClearColor = made_maker op.ClearColor _ (λ x fits. (refl, (fits, refl)))
-payload_maker op.ClearDepth = made_maker op.ClearDepth _ (λ x fits. (refl, (fits, refl)))
-payload_maker op.Clear = made_maker op.Clear _ (λ x fits. (refl, (fits, refl)))
-payload_maker op.CullFace = made_maker op.CullFace _ (λ x fits. (refl, (fits, refl)))
-payload_maker op.FrontFace = made_maker op.FrontFace _ (λ x fits. (refl, (fits, refl)))
-payload_maker op.BindTexture = made_maker op.BindTexture _ (λ x fits. (refl, (fits, refl)))
-payload_maker op.TexEnv = made_maker op.TexEnv _ (λ x fits. (refl, (fits, refl)))
-payload_maker op.TexWrap = made_maker op.TexWrap _ (λ x fits. (refl, (fits, refl)))
-payload_maker op.TexImage = made_maker op.TexImage _ (λ x fits. (refl, (fits, refl)))
-payload_maker op.TexPart = made_maker op.TexPart _ (λ x fits. (refl, (fits, refl)))
-payload_maker op.SharedImage = made_maker op.SharedImage _ (λ x fits. (refl, (fits, refl)))
-payload_maker op.Barrier = made_maker op.Barrier _ (λ x fits. (refl, (fits, refl)))
-payload_maker op.SemP = made_maker op.SemP _ (λ x fits. (refl, (fits, refl)))
-payload_maker op.SemV = made_maker op.SemV _ (λ x fits. (refl, (fits, refl)))
-payload_maker op.Swap = made_maker op.Swap _ (λ x fits. (refl, (fits, refl)))
+payload_maker o =
+    convert_maker (command_from o) payload (IsOf o) (fields_codec (kinds_of o)).maker
+    (λ x fits. ((facts o).bytes x, ((facts o).in_range x fits, (facts o).opcode x)))
 
 pub payload_again : (c : Command) (rest : List ℕ) → IsCommand c → command_at (opcode_of c) (payload c ++ rest) ≡ Ok (c, rest)
 unfolding command_at
-payload_again (cmd.Begin a) rest fits = made_again op.Begin _ (fields_of (cmd.Begin a)) rest fits
-payload_again cmd.End rest fits = made_again op.End _ (fields_of cmd.End) rest fits
-payload_again (cmd.Vertex a) rest fits = made_again op.Vertex _ (fields_of (cmd.Vertex a)) rest fits
-payload_again (cmd.Color a) rest fits = made_again op.Color _ (fields_of (cmd.Color a)) rest fits
-payload_again (cmd.TexCoord a b) rest fits = made_again op.TexCoord _ (fields_of (cmd.TexCoord a b)) rest fits
-payload_again (cmd.Enable a) rest fits = made_again op.Enable _ (fields_of (cmd.Enable a)) rest fits
-payload_again (cmd.Disable a) rest fits = made_again op.Disable _ (fields_of (cmd.Disable a)) rest fits
-payload_again (cmd.MatrixMode a) rest fits = made_again op.MatrixMode _ (fields_of (cmd.MatrixMode a)) rest fits
-payload_again cmd.LoadIdentity rest fits = made_again op.LoadIdentity _ (fields_of cmd.LoadIdentity) rest fits
-payload_again (cmd.LoadMatrix a) rest fits = made_again op.LoadMatrix _ (fields_of (cmd.LoadMatrix a)) rest fits
-payload_again (cmd.MultMatrix a) rest fits = made_again op.MultMatrix _ (fields_of (cmd.MultMatrix a)) rest fits
-payload_again cmd.PushMatrix rest fits = made_again op.PushMatrix _ (fields_of cmd.PushMatrix) rest fits
-payload_again cmd.PopMatrix rest fits = made_again op.PopMatrix _ (fields_of cmd.PopMatrix) rest fits
-payload_again (cmd.Viewport a) rest fits = made_again op.Viewport _ (fields_of (cmd.Viewport a)) rest fits
-payload_again (cmd.DepthRange a b) rest fits = made_again op.DepthRange _ (fields_of (cmd.DepthRange a b)) rest fits
-payload_again (cmd.Scissor a) rest fits = made_again op.Scissor _ (fields_of (cmd.Scissor a)) rest fits
-payload_again (cmd.AlphaFunc a b) rest fits = made_again op.AlphaFunc _ (fields_of (cmd.AlphaFunc a b)) rest fits
-payload_again (cmd.DepthFunc a) rest fits = made_again op.DepthFunc _ (fields_of (cmd.DepthFunc a)) rest fits
-payload_again (cmd.DepthMask a) rest fits = made_again op.DepthMask _ (fields_of (cmd.DepthMask a)) rest fits
-payload_again (cmd.BlendFunc a b) rest fits = made_again op.BlendFunc _ (fields_of (cmd.BlendFunc a b)) rest fits
-payload_again (cmd.ColorMask a) rest fits = made_again op.ColorMask _ (fields_of (cmd.ColorMask a)) rest fits
-payload_again (cmd.ClearColor a) rest fits = made_again op.ClearColor _ (fields_of (cmd.ClearColor a)) rest fits
-payload_again (cmd.ClearDepth a) rest fits = made_again op.ClearDepth _ (fields_of (cmd.ClearDepth a)) rest fits
-payload_again (cmd.Clear a) rest fits = made_again op.Clear _ (fields_of (cmd.Clear a)) rest fits
-payload_again (cmd.CullFace a) rest fits = made_again op.CullFace _ (fields_of (cmd.CullFace a)) rest fits
-payload_again (cmd.FrontFace a) rest fits = made_again op.FrontFace _ (fields_of (cmd.FrontFace a)) rest fits
-payload_again (cmd.BindTexture a b) rest fits = made_again op.BindTexture _ (fields_of (cmd.BindTexture a b)) rest fits
-payload_again (cmd.TexEnv a) rest fits = made_again op.TexEnv _ (fields_of (cmd.TexEnv a)) rest fits
-payload_again (cmd.TexWrap a b) rest fits = made_again op.TexWrap _ (fields_of (cmd.TexWrap a b)) rest fits
-payload_again (cmd.TexImage name w h texels) rest fits = made_again op.TexImage _ (fields_of (cmd.TexImage name w h texels)) rest fits
-payload_again (cmd.TexPart a) rest fits = made_again op.TexPart _ (fields_of (cmd.TexPart a)) rest fits
-payload_again (cmd.SharedImage a) rest fits = made_again op.SharedImage _ (fields_of (cmd.SharedImage a)) rest fits
-payload_again (cmd.Barrier a) rest fits = made_again op.Barrier _ (fields_of (cmd.Barrier a)) rest fits
-payload_again (cmd.SemP a) rest fits = made_again op.SemP _ (fields_of (cmd.SemP a)) rest fits
-payload_again (cmd.SemV a) rest fits = made_again op.SemV _ (fields_of (cmd.SemV a)) rest fits
-payload_again cmd.Swap rest fits = made_again op.Swap _ (fields_of cmd.Swap) rest fits
+payload_again c rest fits =
+    let o = opcode_of c in
+    convert_again (command_from o) (fields_codec (kinds_of o)) (fields_of c) rest fits ∙ ap (λ d. Ok (d, rest)) (again c)

@@ -1,5 +1,6 @@
 pub mod Reading
 pub mod Packets
 pub mod Faults
+pub mod Parts
 pub mod Texels
 pub mod Laws

@@ -1,15 +1,12 @@
 -- Reading packets from the left, with the first fault that is met. A fault's place is told by how many bytes stand from there on.
 use Rattle.std.specs.Prelude.{◌≡◌, ℕ, zero, suc, ◌*◌, List, [], ◌∷◌, ◌++◌, length, Option, Some, None, Result, Ok, Err, nat_lt, ◌==◌, ◌||◌, if◌then◌else◌}
 use Rattle.std.specs.Int.{w16}
-use Rattle.rc_base.specs.declared.command.Rgba.{Rgba}
-use Rattle.rc_base.specs.declared.command.Part.{Part}
 use Rattle.rc_base.specs.declared.command.Command.{Command}
-use Rattle.rc_base.specs.declared.command.Command.TheVariants as cmd
 use Rattle.rc_base.specs.declared.command.Opcode.{Opcode}
-use Rattle.rc_base.specs.declared.command.Opcode.TheVariants as op
 use Rattle.rc_base.specs.Commands.{Kind, Value, Fields, Picture, row_of, kinds_of, opcodes}
 use Rattle.rc_base.specs.Commands.Kind.{Byte, Half, Word, Code, Bytes, Words, Image}
 use Rattle.rc_base.specs.Spelling.{packet, IsPacket}
+use Rattle.command_table.specs.Making.{command_from}
 use Rattle.cmd_pack.specs.declared.fault.Form.{Form}
 use Rattle.cmd_pack.specs.declared.fault.Form.TheVariants.{BadCount, UnknownOpcode}
 use Rattle.cmd_pack.specs.Reading.{◌>>=◌, sized, both, convert, byte_at, number_at, word_at, words_at, run_at}
@@ -34,59 +31,9 @@ fields_at (k ∷ ks) bytes = both (value_at k) (fields_at ks) bytes
 
 -- ---- commands
 
-abbrev pub four_bytes : List Kind
-four_bytes = Byte ∷ Byte ∷ Byte ∷ Byte ∷ []
-
-abbrev pub color_of : Fields four_bytes → Rgba
-color_of x = record { r = x.0; g = x.1.0; b = x.1.1.0; a = x.1.1.1.0 }
-
-abbrev pub part_kinds : List Kind
-part_kinds = Byte ∷ Half ∷ Half ∷ Image ∷ []
-
-abbrev pub part_of : Fields part_kinds → Part
-part_of x = record { name = x.0; x = x.1.0; y = x.1.1.0; w = x.1.1.1.0.w; h = x.1.1.1.0.h; texels = x.1.1.1.0.texels }
-
 -- the command that is made of the fields in an opcode's row
-abbrev pub made : (o : Opcode) → (Fields (kinds_of o) → Command) → List ℕ → Result (Command × List ℕ) Form
-made o make = convert make (fields_at (kinds_of o))
-
 unfoldable pub command_at : Opcode → List ℕ → Result (Command × List ℕ) Form
-command_at op.Begin = made op.Begin (λ x. cmd.Begin x.0)
-command_at op.End = made op.End (λ x. cmd.End)
-command_at op.Vertex = made op.Vertex (λ x. cmd.Vertex x.0)
-command_at op.Color = made op.Color (λ x. cmd.Color (color_of x))
-command_at op.TexCoord = made op.TexCoord (λ x. cmd.TexCoord x.0 x.1.0)
-command_at op.Enable = made op.Enable (λ x. cmd.Enable x.0)
-command_at op.Disable = made op.Disable (λ x. cmd.Disable x.0)
-command_at op.MatrixMode = made op.MatrixMode (λ x. cmd.MatrixMode x.0)
-command_at op.LoadIdentity = made op.LoadIdentity (λ x. cmd.LoadIdentity)
-command_at op.LoadMatrix = made op.LoadMatrix (λ x. cmd.LoadMatrix (record { m = x.0 }))
-command_at op.MultMatrix = made op.MultMatrix (λ x. cmd.MultMatrix (record { m = x.0 }))
-command_at op.PushMatrix = made op.PushMatrix (λ x. cmd.PushMatrix)
-command_at op.PopMatrix = made op.PopMatrix (λ x. cmd.PopMatrix)
-command_at op.Viewport = made op.Viewport (λ x. cmd.Viewport x.0)
-command_at op.DepthRange = made op.DepthRange (λ x. cmd.DepthRange x.0 x.1.0)
-command_at op.Scissor = made op.Scissor (λ x. cmd.Scissor x.0)
-command_at op.AlphaFunc = made op.AlphaFunc (λ x. cmd.AlphaFunc x.0 x.1.0)
-command_at op.DepthFunc = made op.DepthFunc (λ x. cmd.DepthFunc x.0)
-command_at op.DepthMask = made op.DepthMask (λ x. cmd.DepthMask x.0)
-command_at op.BlendFunc = made op.BlendFunc (λ x. cmd.BlendFunc x.0 x.1.0)
-command_at op.ColorMask = made op.ColorMask (λ x. cmd.ColorMask x.0)
-command_at op.ClearColor = made op.ClearColor (λ x. cmd.ClearColor (color_of x))
-command_at op.ClearDepth = made op.ClearDepth (λ x. cmd.ClearDepth x.0)
-command_at op.Clear = made op.Clear (λ x. cmd.Clear x.0)
-command_at op.CullFace = made op.CullFace (λ x. cmd.CullFace x.0)
-command_at op.FrontFace = made op.FrontFace (λ x. cmd.FrontFace x.0)
-command_at op.BindTexture = made op.BindTexture (λ x. cmd.BindTexture x.0 x.1.0)
-command_at op.TexEnv = made op.TexEnv (λ x. cmd.TexEnv x.0)
-command_at op.TexWrap = made op.TexWrap (λ x. cmd.TexWrap x.0 x.1.0)
-command_at op.TexImage = made op.TexImage (λ x. cmd.TexImage x.0 x.1.0.w x.1.0.h x.1.0.texels)
-command_at op.TexPart = made op.TexPart (λ x. cmd.TexPart (part_of x))
-command_at op.SharedImage = made op.SharedImage (λ x. cmd.SharedImage (part_of x))
-command_at op.Barrier = made op.Barrier (λ x. cmd.Barrier x.0)
-command_at op.SemP = made op.SemP (λ x. cmd.SemP x.0)
-command_at op.SemV = made op.SemV (λ x. cmd.SemV x.0)
-command_at op.Swap = made op.Swap (λ x. cmd.Swap)
+command_at o = convert (command_from o) (fields_at (kinds_of o))
 
 unfoldable pub payloads_at : List Opcode → List ℕ → Result (List Command × List ℕ) Form
 payloads_at [] bytes = Ok ([], bytes)

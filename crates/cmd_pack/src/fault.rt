@@ -1,8 +1,9 @@
 //! Why bytes are no packets.
 ghost use Rattle.std.specs.Prelude.{◌≡◌};
 ghost use Rattle.cmd_pack.specs.declared.fault.ReadError.TheVariants.{Memory};
-ghost use Rattle.cmd_pack.specs.declared.fault.PackFault.TheVariants.{OutOfMemory};
+ghost use Rattle.cmd_pack.specs.declared.fault.PackFault.TheVariants as fault;
 
+use rc_base::out_of_memory::OutOfMemory;
 use std::alloc::{AllocError, AllocFailed};
 
 /// What is wrong with the bytes at hand. A place is told by how many bytes stand from there on, so that a reader of a part needs no offset.
@@ -36,7 +37,7 @@ pub enum PackFault {
 }
 
 impl From<AllocError> for PackFault {
-    ghost from_gives = { λ _ e. e ≡ OutOfMemory };
+    ghost from_gives = { λ _ e. e ≡ fault.OutOfMemory };
 
     fn from(_: AllocError) -> PackFault {
         PackFault::OutOfMemory
@@ -44,7 +45,7 @@ impl From<AllocError> for PackFault {
 }
 
 impl<T: Drop> From<AllocFailed<T>> for PackFault {
-    ghost from_gives = { λ _ e. e ≡ OutOfMemory };
+    ghost from_gives = { λ _ e. e ≡ fault.OutOfMemory };
 
     fn from(_: AllocFailed<T>) -> PackFault {
         PackFault::OutOfMemory
@@ -63,6 +64,14 @@ impl<T: Drop> From<AllocFailed<T>> for ReadError {
     ghost from_gives = { λ _ e. e ≡ Memory };
 
     fn from(_: AllocFailed<T>) -> ReadError {
+        ReadError::Memory
+    }
+}
+
+impl From<OutOfMemory> for ReadError {
+    ghost from_gives = { λ _ e. e ≡ Memory };
+
+    fn from(_: OutOfMemory) -> ReadError {
         ReadError::Memory
     }
 }

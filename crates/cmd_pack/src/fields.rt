@@ -1,7 +1,7 @@
 //! Readers of single fields: each takes what it needs from the front and gives the bytes behind it. Numbers have their low byte first.
 ghost use Rattle.std.specs.Prelude.{◌≡◌};
 ghost use Rattle.std.specs.Int.{w16, w32};
-ghost use Rattle.cmd_pack.specs.Reading.{Gives, byte_at, number_at, word_at, words_at, run_at};
+ghost use Rattle.cmd_pack.specs.Reading.{Gives, byte_at, number_at, word_at, run_at};
 
 use crate::fault::{Form, ReadError};
 
@@ -48,20 +48,6 @@ pub fn read_word(bytes: &[u8]) -> Result<(i32, &[u8]), ReadError>
     let (front, rest) = bytes.split_at(4);
     let number = i32::from_le_bytes([front[0], front[1], front[2], front[3]]);
     Ok((number, rest))
-}
-
-/// So many signed numbers of 32 bits.
-pub fn read_words<const N: usize>(bytes: &[u8]) -> Result<([i32; N], &[u8]), ReadError>
-    ensures { Gives (λ x. (x.0, x.1.now)) result (words_at N bytes.now) }
-{
-    let mut words = [0; N];
-    let mut rest = bytes;
-    for i in 0..N {
-        let (word, after) = read_word(rest)?;
-        words[i] = word;
-        rest = after;
-    }
-    Ok((words, rest))
 }
 
 /// So many bytes, as they stand.

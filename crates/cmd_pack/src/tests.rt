@@ -1,8 +1,9 @@
 //! Streams by hand: every command byte for byte, packets of 1,024, and the first fault of bytes that spell nothing.
 use crate::fault::PackFault;
-use crate::opcode::{opcode_byte, opcode_from, opcode_of};
+use crate::opcode::{opcode_byte, opcode_from};
 use crate::reading::decode;
 use crate::writing::encode;
+use command_table::opcode_of;
 use rc_base::boxed::Boxed;
 use rc_base::command::{Command, Commands, Mat4, Opcode, Part, Rgba, Texels};
 use rc_base::out_of_memory::OutOfMemory;

@@ -1,16 +1,20 @@
 //! The writer of streams: packets of 1,024 commands.
-ghost use Rattle.std.specs.Prelude.{◌≡◌, ◌<◌, ◌≤◌, ◌++◌, ◌∷◌, [], length, map, IfOk, OnOk, FitsSigned};
+ghost use Rattle.std.specs.Prelude.{◌≡◌, ◌≤◌, ◌++◌, length, map, true, IfOk, OnOk};
 ghost use Rattle.std.specs.List.{flat_map, AllByRecursion};
-ghost use Rattle.std.specs.Int.{w32};
-ghost use Rattle.rc_base.specs.Commands.{IsCommand, IsValue, AreValues, AreBytes};
-ghost use Rattle.rc_base.specs.Commands.Kind.{Image};
-ghost use Rattle.rc_base.specs.Spelling.{half, word, value_bytes, field_bytes, payload, opcode_byte, packet, IsPacket, encoded, SpellsStream};
-ghost use Rattle.cmd_pack.specs.Packets.{four_bytes, part_kinds};
-ghost use Rattle.cmd_pack.specs.Texels.{AreTyped, HasType, IsWhole, Writes};
+ghost use Rattle.rc_base.specs.Commands.{AreBytes};
+ghost use Rattle.rc_base.specs.Numbers.{entry};
+ghost use Rattle.rc_base.specs.Spelling.{half, payload, opcode_byte, packet, encoded, SpellsStream};
+ghost use Rattle.rc_base.specs.Text.Read.{is_in};
+ghost use Rattle.command_table.specs.Ranges.{AreIn};
+ghost use Rattle.cmd_pack.specs.Parts.{number_bytes, numbers_bytes};
+ghost use Rattle.cmd_pack.specs.Texels.{HasType, IsWhole};
 
-use crate::opcode::{opcode_byte, opcode_of};
-use rc_base::command::{Bytes, Command, Commands, Part, Rgba, Texels};
+use crate::opcode::opcode_byte;
+use command_table::making::{byte_at, half_at, word_at};
+use command_table::{opcode_of, parts_of, ranges_of};
+use rc_base::command::{Bytes, Command, Commands};
 use rc_base::out_of_memory::OutOfMemory;
+use rc_base::text::NumberRange;
 use std::alloc::Global;
 
 fn write_bytes(out: &mut Bytes, bytes: &[u8]) -> Result<(), OutOfMemory>
@@ -26,108 +30,46 @@ fn write_half(out: &mut Bytes, number: u16) -> Result<(), OutOfMemory>
     write_bytes(out, &number.to_le_bytes())
 }
 
-fn write_word(out: &mut Bytes, number: i32) -> Result<(), OutOfMemory>
-    ensures added { OnOk result (out.new ≡ out.old ++ word number) }
-    ensures typed { OnOk result (FitsSigned w32 number) }
+// Adds number i as the bytes of its range.
+fn write_number(
+    out: &mut Bytes,
+    range: NumberRange,
+    numbers: &[i32],
+    i: usize,
+) -> Result<(), OutOfMemory>
+    ensures { is_in range (entry numbers.now i) ≡ true → OnOk result (out.new ≡ out.old ++ number_bytes range (entry numbers.now i)) }
 {
-    write_bytes(out, &number.to_le_bytes())
+    match range {
+        NumberRange::Version => write_bytes(out, &[1]),
+        NumberRange::Byte => write_bytes(out, &[byte_at(numbers, i)]),
+        NumberRange::Half => write_half(out, half_at(numbers, i)),
+        NumberRange::Word => write_bytes(out, &word_at(numbers, i).to_le_bytes()),
+    }
 }
 
-fn write_words(out: &mut Bytes, words: &[i32]) -> Result<(), OutOfMemory>
-    ensures added { OnOk result (out.new ≡ out.old ++ flat_map word words.now) }
-    ensures typed { OnOk result (AllByRecursion (FitsSigned w32) words.now) }
+fn write_numbers(
+    out: &mut Bytes,
+    ranges: &[NumberRange],
+    numbers: &[i32],
+) -> Result<(), OutOfMemory>
+    requires { AreIn ranges.now numbers.now }
+    ensures { OnOk result (out.new ≡ out.old ++ numbers_bytes ranges.now numbers.now) }
 {
-    for number in words {
-        write_word(out, *number)?;
+    for i in 0..ranges.len() {
+        write_number(out, ranges[i], numbers, i)?;
     }
     Ok(())
 }
 
-fn write_color(out: &mut Bytes, color: Rgba) -> Result<(), OutOfMemory>
-    ensures added { OnOk result (out.new ≡ out.old ++ field_bytes four_bytes (color.r, (color.g, (color.b, (color.a, tt))))) }
-    ensures typed { OnOk result (AreTyped four_bytes (color.r, (color.g, (color.b, (color.a, tt))))) }
-{
-    write_bytes(out, &[color.r, color.g, color.b, color.a])
-}
-
-fn write_picture(out: &mut Bytes, w: u16, h: u16, texels: &Texels) -> Result<(), OutOfMemory>
-    ensures added { OnOk result (out.new ≡ out.old ++ value_bytes Image (record { w = w; h = h; texels = texels.now })) }
-    ensures typed { OnOk result (AreBytes texels.now) }
-{
-    write_half(out, w)?;
-    write_half(out, h)?;
-    write_bytes(out, texels.as_slice())
-}
-
-fn write_part(out: &mut Bytes, part: &Part) -> Result<(), OutOfMemory>
-    ensures added { OnOk result (out.new ≡ out.old ++ field_bytes part_kinds (part.now.name, (part.now.x, (part.now.y, (record { w = part.now.w; h = part.now.h; texels = part.now.texels }, tt))))) }
-    ensures typed { OnOk result (AreTyped part_kinds (part.now.name, (part.now.x, (part.now.y, (record { w = part.now.w; h = part.now.h; texels = part.now.texels }, tt))))) }
-{
-    write_bytes(out, &[part.name])?;
-    write_half(out, part.x)?;
-    write_half(out, part.y)?;
-    write_picture(out, part.w, part.h, &part.texels)
-}
-
-#[tactic(auto, unfolding(crate::specs::Texels::at_known))]
-fn write_fields(out: &mut Bytes, command: &Command) -> Result<(), OutOfMemory>
-    ensures writes { OnOk result (Writes command.now out.old out.new) }
-{
-    match command {
-        Command::Begin { mode } => write_bytes(out, &[*mode]),
-        Command::End => Ok(()),
-        Command::Vertex { pos } => write_words(out, pos),
-        Command::Color(color) => write_color(out, *color),
-        Command::TexCoord { s, t } => write_words(out, &[*s, *t]),
-        Command::Enable { capability } => write_bytes(out, &[*capability]),
-        Command::Disable { capability } => write_bytes(out, &[*capability]),
-        Command::MatrixMode { mode } => write_bytes(out, &[*mode]),
-        Command::LoadIdentity => Ok(()),
-        Command::LoadMatrix(matrix) => write_words(out, &matrix.as_ref().m),
-        Command::MultMatrix(matrix) => write_words(out, &matrix.as_ref().m),
-        Command::PushMatrix => Ok(()),
-        Command::PopMatrix => Ok(()),
-        Command::Viewport { area } => write_words(out, area),
-        Command::DepthRange { near, far } => write_words(out, &[*near, *far]),
-        Command::Scissor { area } => write_words(out, area),
-        Command::AlphaFunc {
-            function,
-            reference,
-        } => write_bytes(out, &[*function, *reference]),
-        Command::DepthFunc { function } => write_bytes(out, &[*function]),
-        Command::DepthMask { flag } => write_bytes(out, &[*flag]),
-        Command::BlendFunc {
-            source,
-            destination,
-        } => write_bytes(out, &[*source, *destination]),
-        Command::ColorMask { flags } => write_bytes(out, flags),
-        Command::ClearColor(color) => write_color(out, *color),
-        Command::ClearDepth { depth } => write_words(out, &[*depth]),
-        Command::Clear { mask } => write_bytes(out, &[*mask]),
-        Command::CullFace { face } => write_bytes(out, &[*face]),
-        Command::FrontFace { direction } => write_bytes(out, &[*direction]),
-        Command::BindTexture { kind, name } => write_bytes(out, &[*kind, *name]),
-        Command::TexEnv { environment } => write_bytes(out, &[*environment]),
-        Command::TexWrap { s, t } => write_bytes(out, &[*s, *t]),
-        Command::TexImage { name, w, h, texels } => {
-            write_bytes(out, &[*name])?;
-            write_picture(out, *w, *h, texels.as_ref())
-        }
-        Command::TexPart(part) => write_part(out, part.as_ref()),
-        Command::SharedImage(part) => write_part(out, part.as_ref()),
-        Command::Barrier { name } => write_bytes(out, &[*name]),
-        Command::SemP { name } => write_bytes(out, &[*name]),
-        Command::SemV { name } => write_bytes(out, &[*name]),
-        Command::Swap => Ok(()),
-    }
-}
-
-/// Adds the payload of a command, whose fields have their types.
+/// Adds the payload of a command: its numbers, and the texels of its picture.
 fn write_payload(out: &mut Bytes, command: &Command) -> Result<(), OutOfMemory>
     ensures added { OnOk result (out.new ≡ out.old ++ payload command.now) }
     ensures typed { OnOk result (HasType command.now) }
 {
-    write_fields(out, command)
+    let mut numbers = [0; 16];
+    let (count, texels) = parts_of(command, &mut numbers);
+    write_numbers(out, ranges_of(opcode_of(command)), &numbers[..count])?;
+    write_bytes(out, texels)
 }
 
 fn write_opcodes(out: &mut Bytes, commands: &[Command]) -> Result<(), OutOfMemory>

@@ -1,16 +1,10 @@
 -- Numbers in their ranges.
-use Rattle.std.proofs.Common.{◌≡◌, ℕ, suc, true, List, [], ◌∷◌, length, ap, refl, subst, ℤ, Option, Some, None}
+use Rattle.std.proofs.Common.{◌≡◌, ℕ, true, List, [], ◌∷◌, refl, subst, ℤ, Option, Some, None}
 use Rattle.std.specs.Option.{option_and_then}
 use Rattle.std.proofs.lemmas.Option.{cond_some}
 use Rattle.rc_base.specs.declared.text.NumberRange.{NumberRange}
 use Rattle.rc_base.specs.Text.Read.{is_in, if_in, number_of, reads_as, with_first, numbers_of}
-use Rattle.scene_text.specs.Reading.{AreIn}
-
-pub length_in : (rs : List NumberRange) (zs : List ℤ) → AreIn rs zs → length zs ≡ length rs
-length_in [] [] h = refl
-length_in [] (z ∷ zs) h = absurd h
-length_in (r ∷ rs) [] h = absurd h
-length_in (r ∷ rs) (z ∷ zs) h = ap suc (length_in rs zs h.1)
+use Rattle.command_table.specs.Ranges.{AreIn}
 
 read_in : (r : NumberRange) (o : Option ℤ) (z : ℤ) → option_and_then (if_in r) o ≡ Some z → is_in r z ≡ true
 read_in r None z h = absurd (cc)

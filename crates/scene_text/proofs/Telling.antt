@@ -4,12 +4,12 @@ use Rattle.std.specs.List.{flat_map}
 use Rattle.rc_base.specs.declared.command.Command.{Command}
 use Rattle.rc_base.specs.declared.command.Command.TheVariants as cmd
 use Rattle.rc_base.specs.declared.command.Opcode.{Opcode}
-use Rattle.rc_base.specs.declared.command.Opcode.TheVariants as op
 use Rattle.rc_base.specs.declared.scene.Scene.{Scene}
 use Rattle.rc_base.specs.declared.scene.TextKind.{TextKind}
 use Rattle.rc_base.specs.declared.text.LineName.{LineName}
 use Rattle.rc_base.specs.declared.text.LineName.TheVariants as line
 use Rattle.rc_base.specs.Numbers.{entry}
+use Rattle.command_table.proofs.Rows.{command_said, command_again}
 use Rattle.rc_base.specs.Commands.{opcode_of}
 use Rattle.rc_base.specs.Text.Read.{SpellsText}
 use Rattle.rc_base.specs.Text.Statements.{Statement, statement, command_statement, window_statement, shared_statement, barrier_statement, semaphore_statement, client_statements, scene_statements}
@@ -26,90 +26,13 @@ naturals_of : (ns : List ℕ) → naturals (map pos ns) ≡ ns
 naturals_of [] = refl
 naturals_of (n ∷ ns) = ap (λ l. n ∷ l) (naturals_of ns)
 
--- the command of an opcode, numbers and texels
-abbrev command_from : Opcode → List ℤ → List ℕ → Command
-command_from op.Begin zs ts = cmd.Begin (natural zs 0)
-command_from op.End zs ts = cmd.End
-command_from op.Vertex zs ts = cmd.Vertex zs
-command_from op.Color zs ts = cmd.Color (record { r = natural zs 0; g = natural zs 1; b = natural zs 2; a = natural zs 3 })
-command_from op.TexCoord zs ts = cmd.TexCoord (entry zs 0) (entry zs 1)
-command_from op.Enable zs ts = cmd.Enable (natural zs 0)
-command_from op.Disable zs ts = cmd.Disable (natural zs 0)
-command_from op.MatrixMode zs ts = cmd.MatrixMode (natural zs 0)
-command_from op.LoadIdentity zs ts = cmd.LoadIdentity
-command_from op.LoadMatrix zs ts = cmd.LoadMatrix (record { m = zs })
-command_from op.MultMatrix zs ts = cmd.MultMatrix (record { m = zs })
-command_from op.PushMatrix zs ts = cmd.PushMatrix
-command_from op.PopMatrix zs ts = cmd.PopMatrix
-command_from op.Viewport zs ts = cmd.Viewport zs
-command_from op.DepthRange zs ts = cmd.DepthRange (entry zs 0) (entry zs 1)
-command_from op.Scissor zs ts = cmd.Scissor zs
-command_from op.AlphaFunc zs ts = cmd.AlphaFunc (natural zs 0) (natural zs 1)
-command_from op.DepthFunc zs ts = cmd.DepthFunc (natural zs 0)
-command_from op.DepthMask zs ts = cmd.DepthMask (natural zs 0)
-command_from op.BlendFunc zs ts = cmd.BlendFunc (natural zs 0) (natural zs 1)
-command_from op.ColorMask zs ts = cmd.ColorMask (naturals zs)
-command_from op.ClearColor zs ts = cmd.ClearColor (record { r = natural zs 0; g = natural zs 1; b = natural zs 2; a = natural zs 3 })
-command_from op.ClearDepth zs ts = cmd.ClearDepth (entry zs 0)
-command_from op.Clear zs ts = cmd.Clear (natural zs 0)
-command_from op.CullFace zs ts = cmd.CullFace (natural zs 0)
-command_from op.FrontFace zs ts = cmd.FrontFace (natural zs 0)
-command_from op.BindTexture zs ts = cmd.BindTexture (natural zs 0) (natural zs 1)
-command_from op.TexEnv zs ts = cmd.TexEnv (natural zs 0)
-command_from op.TexWrap zs ts = cmd.TexWrap (natural zs 0) (natural zs 1)
-command_from op.TexImage zs ts = cmd.TexImage (natural zs 0) (natural zs 1) (natural zs 2) ts
-command_from op.TexPart zs ts = cmd.TexPart (record { name = natural zs 0; x = natural zs 1; y = natural zs 2; w = natural zs 3; h = natural zs 4; texels = ts })
-command_from op.SharedImage zs ts = cmd.SharedImage (record { name = natural zs 0; x = natural zs 1; y = natural zs 2; w = natural zs 3; h = natural zs 4; texels = ts })
-command_from op.Barrier zs ts = cmd.Barrier (natural zs 0)
-command_from op.SemP zs ts = cmd.SemP (natural zs 0)
-command_from op.SemV zs ts = cmd.SemV (natural zs 0)
-command_from op.Swap zs ts = cmd.Swap
-
-abbrev command_said : Statement → LineName → Command
-command_said s (line.Command o) = command_from o s.numbers s.texels
-command_said s line.Scene = cmd.Swap
-command_said s line.Shared = cmd.Swap
-command_said s line.Barrier = cmd.Swap
-command_said s line.Semaphore = cmd.Swap
-command_said s line.Client = cmd.Swap
-
-command_again : (c : Command) → command_said (command_statement c) (line.Command (opcode_of c)) ≡ c
-command_again (cmd.Begin a) = refl
-command_again cmd.End = refl
-command_again (cmd.Vertex a) = ap cmd.Vertex (append-nil a)
-command_again (cmd.Color c) = refl
-command_again (cmd.TexCoord a b) = refl
-command_again (cmd.Enable a) = refl
-command_again (cmd.Disable a) = refl
-command_again (cmd.MatrixMode a) = refl
-command_again cmd.LoadIdentity = refl
-command_again (cmd.LoadMatrix a) = ap (λ l. cmd.LoadMatrix (record { m = l })) (append-nil a.m)
-command_again (cmd.MultMatrix a) = ap (λ l. cmd.MultMatrix (record { m = l })) (append-nil a.m)
-command_again cmd.PushMatrix = refl
-command_again cmd.PopMatrix = refl
-command_again (cmd.Viewport a) = ap cmd.Viewport (append-nil a)
-command_again (cmd.DepthRange a b) = refl
-command_again (cmd.Scissor a) = ap cmd.Scissor (append-nil a)
-command_again (cmd.AlphaFunc a b) = refl
-command_again (cmd.DepthFunc a) = refl
-command_again (cmd.DepthMask a) = refl
-command_again (cmd.BlendFunc a b) = refl
-command_again (cmd.ColorMask a) = ap (λ l. cmd.ColorMask (naturals l)) (append-nil (map pos a)) ∙ ap cmd.ColorMask (naturals_of a)
-command_again (cmd.ClearColor c) = refl
-command_again (cmd.ClearDepth a) = refl
-command_again (cmd.Clear a) = refl
-command_again (cmd.CullFace a) = refl
-command_again (cmd.FrontFace a) = refl
-command_again (cmd.BindTexture a b) = refl
-command_again (cmd.TexEnv a) = refl
-command_again (cmd.TexWrap a b) = refl
-command_again (cmd.TexImage a w h ts) = ap (cmd.TexImage a w h) (append-nil ts)
-command_again (cmd.TexPart p) = ap (λ l. cmd.TexPart (record p { texels = l })) (append-nil p.texels)
-command_again (cmd.SharedImage p) = ap (λ l. cmd.SharedImage (record p { texels = l })) (append-nil p.texels)
-command_again (cmd.Barrier a) = refl
-command_again (cmd.SemP a) = refl
-command_again (cmd.SemV a) = refl
-command_again cmd.Swap = refl
+abbrev said : Statement → LineName → Command
+said s (line.Command o) = command_said o s.numbers s.texels
+said s line.Scene = cmd.Swap
+said s line.Shared = cmd.Swap
+said s line.Barrier = cmd.Swap
+said s line.Semaphore = cmd.Swap
+said s line.Client = cmd.Swap
 
 -- ---- streams: the commands before the next client, and the further clients
 
@@ -119,7 +42,7 @@ record Streams : Type 0 where
 
 abbrev next_said : Statement → LineName → Streams → Streams
 next_said s line.Client r = record { current = []; closed = r.current ∷ r.closed }
-next_said s (line.Command o) r = record { current = command_said s (line.Command o) ∷ r.current; closed = r.closed }
+next_said s (line.Command o) r = record { current = said s (line.Command o) ∷ r.current; closed = r.closed }
 next_said s line.Scene r = r
 next_said s line.Shared r = r
 next_said s line.Barrier r = r

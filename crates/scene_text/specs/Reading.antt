@@ -1,14 +1,7 @@
--- Numbers in their ranges, and lists that are read from the front.
-use Rattle.std.specs.Prelude.{◌≡◌, true, List, [], ◌∷◌, ◌++◌, ℕ, ℤ, Option, Some, None}
+-- Numbers and lists that are read from the front.
+use Rattle.std.specs.Prelude.{List, [], ◌∷◌, ◌++◌, ℕ, ℤ, Option, Some, None}
 use Rattle.rc_base.specs.declared.text.NumberRange.{NumberRange}
-use Rattle.rc_base.specs.Text.Read.{is_in, reads_as}
-
--- each number is in the range at its place
-abbrev pub AreIn : List NumberRange → List ℤ → Type 0
-AreIn [] [] = Unit {0}
-AreIn [] (z ∷ zs) = ⊥
-AreIn (r ∷ rs) [] = ⊥
-AreIn (r ∷ rs) (z ∷ zs) = (is_in r z ≡ true) × AreIn rs zs
+use Rattle.rc_base.specs.Text.Read.{reads_as}
 
 -- the number of the first word, in its range
 abbrev pub first_number : NumberRange → List (List ℕ) → Option ℤ

@@ -4,16 +4,16 @@ ghost use Rattle.rc_base.specs.Text.Statements.{ranges_of, has_picture};
 ghost use Rattle.rc_base.specs.Text.Read.{is_counted, is_rest_count, area_of, words_of, numbers_of, with_texels, arguments_say};
 ghost use Rattle.rc_base.specs.Text.Faults.{may_stand};
 ghost use Rattle.rc_base.specs.declared.text.LineName.{LineName as AnyLineName};
-ghost use Rattle.scene_text.specs.Reading.{AreIn};
+ghost use Rattle.command_table.specs.Ranges.{AreIn};
 ghost use Rattle.scene_text.specs.Drafts.{IsDraft, Reads, TexelsRead};
 
-use crate::commands::word_at;
 use crate::draft::{Draft, add_line};
 use crate::hex::texels_of;
 use crate::names::{has_picture, ranges_of};
 use crate::numerals::read_numbers;
 use crate::parse::LineFault;
 use crate::words::{count_words, next_word, skip_words};
+use command_table::making::word_at;
 use rc_base::command::Texels;
 use rc_base::out_of_memory::OutOfMemory;
 use rc_base::scene::TextKind;

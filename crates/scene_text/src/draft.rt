@@ -2,10 +2,11 @@
 ghost use Rattle.std.specs.Prelude.{◌≡◌, ◌∷◌, [], ◌++◌, ◌≤◌, pos, false, true, OnOk, IfOk};
 ghost use Rattle.rc_base.specs.Text.Statements.{statement, shared_statement, barrier_statement, semaphore_statement, command_statement, ranges_of, has_picture, scene_statements};
 ghost use Rattle.rc_base.specs.Text.Faults.{may_stand};
-ghost use Rattle.scene_text.specs.Reading.{AreIn};
+ghost use Rattle.command_table.specs.Ranges.{AreIn};
 ghost use Rattle.scene_text.specs.Drafts.{IsDraft, Adds, said};
 
-use crate::commands::{command_of, count_of, size_of, units_of, window_of};
+use crate::declared::{count_of, size_of, units_of, window_of};
+use command_table::command_of;
 use rc_base::command::{Command, Commands, Texels};
 use rc_base::out_of_memory::OutOfMemory;
 use rc_base::scene::{Counts, Decl, Scene, Sizes, Streams, Units};

@@ -65,126 +65,6 @@ pub(crate) fn word_of(name: LineName) -> &'static [u8]
     }
 }
 
-/// The ranges of a command's numbers.
-fn command_ranges(opcode: Opcode) -> &'static [NumberRange]
-    ensures { result.now ≡ ranges_of (LineName.Command opcode) }
-{
-    match opcode {
-        Opcode::Begin => &[NumberRange::Byte],
-        Opcode::End => &[],
-        Opcode::Vertex => &[
-            NumberRange::Word,
-            NumberRange::Word,
-            NumberRange::Word,
-            NumberRange::Word,
-        ],
-        Opcode::Color => &[
-            NumberRange::Byte,
-            NumberRange::Byte,
-            NumberRange::Byte,
-            NumberRange::Byte,
-        ],
-        Opcode::TexCoord => &[NumberRange::Word, NumberRange::Word],
-        Opcode::Enable => &[NumberRange::Byte],
-        Opcode::Disable => &[NumberRange::Byte],
-        Opcode::MatrixMode => &[NumberRange::Byte],
-        Opcode::LoadIdentity => &[],
-        Opcode::LoadMatrix => &[
-            NumberRange::Word,
-            NumberRange::Word,
-            NumberRange::Word,
-            NumberRange::Word,
-            NumberRange::Word,
-            NumberRange::Word,
-            NumberRange::Word,
-            NumberRange::Word,
-            NumberRange::Word,
-            NumberRange::Word,
-            NumberRange::Word,
-            NumberRange::Word,
-            NumberRange::Word,
-            NumberRange::Word,
-            NumberRange::Word,
-            NumberRange::Word,
-        ],
-        Opcode::MultMatrix => &[
-            NumberRange::Word,
-            NumberRange::Word,
-            NumberRange::Word,
-            NumberRange::Word,
-            NumberRange::Word,
-            NumberRange::Word,
-            NumberRange::Word,
-            NumberRange::Word,
-            NumberRange::Word,
-            NumberRange::Word,
-            NumberRange::Word,
-            NumberRange::Word,
-            NumberRange::Word,
-            NumberRange::Word,
-            NumberRange::Word,
-            NumberRange::Word,
-        ],
-        Opcode::PushMatrix => &[],
-        Opcode::PopMatrix => &[],
-        Opcode::Viewport => &[
-            NumberRange::Word,
-            NumberRange::Word,
-            NumberRange::Word,
-            NumberRange::Word,
-        ],
-        Opcode::DepthRange => &[NumberRange::Word, NumberRange::Word],
-        Opcode::Scissor => &[
-            NumberRange::Word,
-            NumberRange::Word,
-            NumberRange::Word,
-            NumberRange::Word,
-        ],
-        Opcode::AlphaFunc => &[NumberRange::Byte, NumberRange::Byte],
-        Opcode::DepthFunc => &[NumberRange::Byte],
-        Opcode::DepthMask => &[NumberRange::Byte],
-        Opcode::BlendFunc => &[NumberRange::Byte, NumberRange::Byte],
-        Opcode::ColorMask => &[
-            NumberRange::Byte,
-            NumberRange::Byte,
-            NumberRange::Byte,
-            NumberRange::Byte,
-        ],
-        Opcode::ClearColor => &[
-            NumberRange::Byte,
-            NumberRange::Byte,
-            NumberRange::Byte,
-            NumberRange::Byte,
-        ],
-        Opcode::ClearDepth => &[NumberRange::Word],
-        Opcode::Clear => &[NumberRange::Byte],
-        Opcode::CullFace => &[NumberRange::Byte],
-        Opcode::FrontFace => &[NumberRange::Byte],
-        Opcode::BindTexture => &[NumberRange::Byte, NumberRange::Byte],
-        Opcode::TexEnv => &[NumberRange::Byte],
-        Opcode::TexWrap => &[NumberRange::Byte, NumberRange::Byte],
-        Opcode::TexImage => &[NumberRange::Byte, NumberRange::Half, NumberRange::Half],
-        Opcode::TexPart => &[
-            NumberRange::Byte,
-            NumberRange::Half,
-            NumberRange::Half,
-            NumberRange::Half,
-            NumberRange::Half,
-        ],
-        Opcode::SharedImage => &[
-            NumberRange::Byte,
-            NumberRange::Half,
-            NumberRange::Half,
-            NumberRange::Half,
-            NumberRange::Half,
-        ],
-        Opcode::Barrier => &[NumberRange::Byte],
-        Opcode::SemP => &[NumberRange::Byte],
-        Opcode::SemV => &[NumberRange::Byte],
-        Opcode::Swap => &[],
-    }
-}
-
 /// The ranges of a line's numbers, of which there are at most 16.
 pub(crate) fn ranges_of(name: LineName) -> &'static [NumberRange]
     ensures { result.now ≡ ranges_of name }
@@ -195,7 +75,7 @@ pub(crate) fn ranges_of(name: LineName) -> &'static [NumberRange]
         LineName::Barrier => &[NumberRange::Byte],
         LineName::Semaphore => &[NumberRange::Half],
         LineName::Client => &[],
-        LineName::Command(opcode) => command_ranges(opcode),
+        LineName::Command(opcode) => command_table::ranges_of(opcode),
     }
 }
 
@@ -204,51 +84,8 @@ pub(crate) fn has_picture(name: LineName) -> bool
     ensures { result ≡ has_picture name }
 {
     match name {
-        LineName::Command(opcode) => is_picture(opcode),
+        LineName::Command(opcode) => command_table::has_picture(opcode),
         _ => false,
-    }
-}
-
-fn is_picture(opcode: Opcode) -> bool
-    ensures { result ≡ has_picture (LineName.Command opcode) }
-{
-    match opcode {
-        Opcode::Begin => false,
-        Opcode::End => false,
-        Opcode::Vertex => false,
-        Opcode::Color => false,
-        Opcode::TexCoord => false,
-        Opcode::Enable => false,
-        Opcode::Disable => false,
-        Opcode::MatrixMode => false,
-        Opcode::LoadIdentity => false,
-        Opcode::LoadMatrix => false,
-        Opcode::MultMatrix => false,
-        Opcode::PushMatrix => false,
-        Opcode::PopMatrix => false,
-        Opcode::Viewport => false,
-        Opcode::DepthRange => false,
-        Opcode::Scissor => false,
-        Opcode::AlphaFunc => false,
-        Opcode::DepthFunc => false,
-        Opcode::DepthMask => false,
-        Opcode::BlendFunc => false,
-        Opcode::ColorMask => false,
-        Opcode::ClearColor => false,
-        Opcode::ClearDepth => false,
-        Opcode::Clear => false,
-        Opcode::CullFace => false,
-        Opcode::FrontFace => false,
-        Opcode::BindTexture => false,
-        Opcode::TexEnv => false,
-        Opcode::TexWrap => false,
-        Opcode::TexImage => true,
-        Opcode::TexPart => true,
-        Opcode::SharedImage => true,
-        Opcode::Barrier => false,
-        Opcode::SemP => false,
-        Opcode::SemV => false,
-        Opcode::Swap => false,
     }
 }
 

@@ -1,5 +1,5 @@
 use Rattle.std.proofs.Common.{length, take, subst}
-use Rattle.scene_text.specs.Reading.{AreIn}
+use Rattle.command_table.specs.Ranges.{AreIn}
 use Rattle.scene_text.proofs.Ranges.{numbers_in}
 use Rattle.scene_text.proofs.arguments.read_arguments.Goals as goal
 

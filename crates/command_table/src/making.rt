@@ -1,9 +1,9 @@
-//! A command from the numbers and the texels of its line.
-ghost use Rattle.std.specs.Prelude.{◌≡◌, ◌∷◌, [], ℕ, pos, map, length, true, false, IfOk};
+//! A command from the numbers and the texels that it has.
+ghost use Rattle.std.specs.Prelude.{◌≡◌, ◌∷◌, [], pos, map, length, true, false, IfOk};
 ghost use Rattle.rc_base.specs.Numbers.{entry};
 ghost use Rattle.rc_base.specs.Text.Statements.{statement, command_statement, ranges_of, has_picture};
 ghost use Rattle.rc_base.specs.Text.Read.{is_in};
-ghost use Rattle.scene_text.specs.Reading.{AreIn};
+ghost use Rattle.command_table.specs.Ranges.{AreIn};
 
 use rc_base::boxed::Boxed;
 use rc_base::command::{Command, Mat4, Opcode, Part, Rgba, Texels};
@@ -12,7 +12,7 @@ use rc_base::text::{LineName, NumberRange};
 use std::alloc::Global;
 
 /// Number i, which a byte holds.
-pub(crate) fn byte_at(numbers: &[i32], i: usize) -> u8
+pub fn byte_at(numbers: &[i32], i: usize) -> u8
     ensures { is_in NumberRange.Byte (entry numbers.now i) ≡ true → pos result ≡ entry numbers.now i }
 {
     let number = word_at(numbers, i);
@@ -24,7 +24,7 @@ pub(crate) fn byte_at(numbers: &[i32], i: usize) -> u8
 }
 
 /// Number i, which 16 bits hold.
-pub(crate) fn half_at(numbers: &[i32], i: usize) -> u16
+pub fn half_at(numbers: &[i32], i: usize) -> u16
     ensures { is_in NumberRange.Half (entry numbers.now i) ≡ true → pos result ≡ entry numbers.now i }
 {
     let number = word_at(numbers, i);
@@ -36,42 +36,10 @@ pub(crate) fn half_at(numbers: &[i32], i: usize) -> u16
 }
 
 /// Number i, or 0 where there are fewer.
-pub(crate) fn word_at(numbers: &[i32], i: usize) -> i32
+pub fn word_at(numbers: &[i32], i: usize) -> i32
     ensures { result ≡ entry numbers.now i }
 {
     if i < numbers.len() { numbers[i] } else { 0 }
-}
-
-/// Version, width and height of a window.
-pub(crate) fn window_of(numbers: &[i32]) -> (u8, u16, u16)
-    requires { AreIn (NumberRange.Version ∷ NumberRange.Half ∷ NumberRange.Half ∷ []) numbers.now }
-    ensures { pos result.0 ∷ pos result.1 ∷ pos result.2 ∷ [] ≡ numbers.now }
-{
-    (1, half_at(numbers, 1), half_at(numbers, 2))
-}
-
-/// Width and height of a shared texture.
-pub(crate) fn size_of(numbers: &[i32]) -> [u16; 2]
-    requires { AreIn (NumberRange.Half ∷ NumberRange.Half ∷ []) numbers.now }
-    ensures { map pos result ≡ numbers.now }
-{
-    [half_at(numbers, 0), half_at(numbers, 1)]
-}
-
-/// How many meet at a barrier.
-pub(crate) fn count_of(numbers: &[i32]) -> u8
-    requires { AreIn (NumberRange.Byte ∷ []) numbers.now }
-    ensures { pos result ∷ [] ≡ numbers.now }
-{
-    byte_at(numbers, 0)
-}
-
-/// The units of a semaphore.
-pub(crate) fn units_of(numbers: &[i32]) -> u16
-    requires { AreIn (NumberRange.Half ∷ []) numbers.now }
-    ensures { pos result ∷ [] ≡ numbers.now }
-{
-    half_at(numbers, 0)
 }
 
 fn color_of(numbers: &[i32]) -> Rgba
@@ -135,7 +103,7 @@ fn part_of(numbers: &[i32], texels: Texels) -> Part
 }
 
 /// The command of an opcode with these numbers and texels.
-pub(crate) fn command_of(
+pub fn command_of(
     alloc: Global,
     opcode: Opcode,
     numbers: &[i32],

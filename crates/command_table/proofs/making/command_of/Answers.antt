@@ -1,8 +1,8 @@
 use Rattle.rc_base.specs.declared.command.Opcode.TheVariants as op
 use Rattle.rc_base.specs.declared.text.LineName.TheVariants as line
 use Rattle.rc_base.specs.Text.Statements.{ranges_of}
-use Rattle.scene_text.proofs.Ranges.{length_in}
-use Rattle.scene_text.proofs.commands.command_of.Goals as goal
+use Rattle.command_table.proofs.InRange.{length_in}
+use Rattle.command_table.proofs.making.command_of.Goals as goal
 
 pub matrix_of-requires : goal.matrix_of-requires
 matrix_of-requires c = length_in (ranges_of (line.Command op.LoadMatrix)) c.args.numbers.now (rw c.in-LoadMatrix.is at c.requires.numbers)

@@ -1,0 +1,49 @@
+-- Numbers in their ranges.
+use Rattle.std.proofs.Common.{◌≡◌, ℕ, suc, ◌+◌, ◌<◌, ◌&&◌, Bool, true, List, [], ◌∷◌, ◌++◌, length, get_or, map, take, replicate, set, ap, refl, sym, to_z, of_z, ◌∙◌, arith, ℤ, pos, negsuc, FitsSigned, w32}
+use Rattle.std.proofs.lemmas.Int.{to_z-of_z}
+use Rattle.std.proofs.lemmas.List.{take_more, take_more_set}
+use Rattle.std.proofs.lemmas.Bool.{le-leb}
+use Rattle.rc_base.specs.declared.text.NumberRange.{NumberRange}
+use Rattle.rc_base.specs.declared.text.NumberRange.TheVariants as range
+use Rattle.rc_base.specs.Text.Read.{is_in}
+use Rattle.command_table.specs.Ranges.{AreIn}
+
+both : {a b : Bool} → a ≡ true → b ≡ true → a && b ≡ true
+both {a = a} {b = b} p q = ap (λ x. x && b) p ∙ q
+
+pub byte_in : (n : ℕ) → n < 256 → is_in range.Byte (pos n) ≡ true
+byte_in n h = both (le-leb 0 n (omega arith)) (le-leb n 255 (omega arith))
+
+pub half_in : (n : ℕ) → n < 65536 → is_in range.Half (pos n) ≡ true
+half_in n h = both (le-leb 0 n (omega arith)) (le-leb n 65535 (omega arith))
+
+pub word_in : (z : ℤ) → FitsSigned w32 z → is_in range.Word z ≡ true
+word_in (pos n) h = le-leb n 2147483647 (omega (arith, h.sfits))
+word_in (negsuc n) h = both (le-leb n 2147483647 (omega (arith, h.sfits))) refl
+
+pub bytes_in : (ns : List ℕ) → ((i : ℕ) → get_or ns i 0 < 256) → AreIn (replicate (length ns) range.Byte) (map pos ns)
+bytes_in [] h = tt
+bytes_in (n ∷ ns) h = (byte_in n (h 0), bytes_in ns (λ i. h (suc i)))
+
+-- one more number of a range stands behind the others
+in_more : (r : NumberRange) (zs : List ℤ) (z : ℤ) → AreIn (replicate (length zs) r) zs → is_in r z ≡ true → AreIn (replicate (length (zs ++ z ∷ [])) r) (zs ++ z ∷ [])
+in_more r [] z h k = (k, tt)
+in_more r (y ∷ ys) z h k = (h.0, in_more r ys z h.1 k)
+
+pub words_more : (zs : List ℤ) (i : ℕ) → i < length zs → FitsSigned w32 (get_or zs i (pos 0)) → AreIn (replicate (length (take i zs)) range.Word) (take i zs)
+    → AreIn (replicate (length (take (i + 1) zs)) range.Word) (take (i + 1) zs)
+words_more zs i less fits h =
+    rw (take_more zs i (pos 0) less) (in_more range.Word (take i zs) (get_or zs i (pos 0)) h (word_in (get_or zs i (pos 0)) fits))
+
+-- what is put behind the numbers before it
+pub put_more : (room zs : List ℤ) (i : ℕ) (z : ℤ) → i < length room → i < length zs → FitsSigned w32 z → z ≡ get_or zs i (pos 0) → take i room ≡ take i zs
+    → take (i + 1) (set room i (to_z w32 (of_z w32 z))) ≡ take (i + 1) zs
+put_more room zs i z inside less fits is e =
+    rw (to_z-of_z w32 z fits)
+    (take_more_set room i z inside ∙ (λ j. e j ++ is j ∷ []) ∙ sym (take_more zs i (pos 0) less))
+
+pub length_in : (rs : List NumberRange) (zs : List ℤ) → AreIn rs zs → length zs ≡ length rs
+length_in [] [] h = refl
+length_in [] (z ∷ zs) h = absurd h
+length_in (r ∷ rs) [] h = absurd h
+length_in (r ∷ rs) (z ∷ zs) h = ap suc (length_in rs zs h.1)

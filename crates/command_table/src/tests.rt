@@ -1,0 +1,78 @@
+//! Commands made of their parts, and the parts of commands.
+ghost use Rattle.std.specs.Prelude.{◌≡◌, [], false};
+ghost use Rattle.rc_base.specs.Text.Statements.{ranges_of, has_picture};
+ghost use Rattle.rc_base.specs.declared.text.LineName.TheVariants.{Command as CommandLine};
+ghost use Rattle.command_table.specs.Ranges.{AreIn};
+
+use crate::{command_of, has_picture, opcode_of, parts_of, ranges_of};
+use rc_base::command::{Command, Opcode, Texels};
+use rc_base::out_of_memory::OutOfMemory;
+use rc_base::text::NumberRange;
+use std::alloc::Global;
+use std::test::Fail;
+
+// Whether the command of these parts has this opcode and these parts again.
+fn comes_back(
+    alloc: Global,
+    opcode: Opcode,
+    numbers: &[i32],
+    texels: &[u8],
+) -> Result<bool, OutOfMemory>
+    requires numbers { AreIn (ranges_of (CommandLine opcode)) numbers.now }
+    requires texels { has_picture (CommandLine opcode) ≡ false → texels.now ≡ [] }
+{
+    let command = command_of(alloc, opcode, numbers, Texels::from_slice(alloc, texels)?)?;
+    let mut room = [0; 16];
+    let (count, found) = parts_of(&command, &mut room);
+    Ok(opcode_of(&command) == opcode && &room[..count] == numbers && found == texels)
+}
+
+#[test]
+fn commands_have_the_parts_that_they_are_made_of(rt: HostRuntime) -> Result<(), Fail> {
+    let alloc = rt.alloc();
+    assert!(rt; comes_back(alloc, Opcode::Swap, &[], &[])?);
+    assert!(rt; comes_back(alloc, Opcode::Viewport, &[-1, 2, 640, 480], &[])?);
+    assert!(rt; comes_back(alloc, Opcode::ColorMask, &[0, 1, 2, 255], &[])?);
+    assert!(rt; comes_back(alloc, Opcode::ClearDepth, &[-2147483648], &[])?);
+    assert!(rt;
+        comes_back(
+            alloc,
+            Opcode::TexImage,
+            &[255, 1, 2],
+            &[1, 2, 3, 4, 5, 6, 7, 8]
+        )?
+    );
+    assert!(rt; comes_back(alloc, Opcode::TexPart, &[1, 65535, 3, 1, 1], &[1, 2, 3, 4])?);
+    assert!(rt;
+        comes_back(
+            alloc,
+            Opcode::MultMatrix,
+            &[1, -2, 3, 4, 5, 6, 7, 8, 9, 10, 11, 12, 13, 14, 15, 16],
+            &[],
+        )?
+    );
+    Ok(())
+}
+
+#[test]
+fn a_viewport_is_x_y_width_and_height(rt: HostRuntime) -> Result<(), Fail> {
+    let made = command_of(
+        rt.alloc(),
+        Opcode::Viewport,
+        &[1, 2, 3, 4],
+        Texels::new(rt.alloc()),
+    )?;
+    assert!(rt; made == Command::Viewport { area: [1, 2, 3, 4] });
+    Ok(())
+}
+
+#[test]
+fn rows_have_their_ranges(rt: HostRuntime) {
+    assert!(rt; ranges_of(Opcode::End).is_empty());
+    assert!(rt;
+        ranges_of(Opcode::TexImage)
+            == [NumberRange::Byte, NumberRange::Half, NumberRange::Half].as_slice()
+    );
+    assert!(rt; ranges_of(Opcode::LoadMatrix).len() == 16);
+    assert!(rt; has_picture(Opcode::SharedImage) && !has_picture(Opcode::BindTexture));
+}
