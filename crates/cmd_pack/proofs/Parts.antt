@@ -1,9 +1,8 @@
 -- The bytes of a command's parts are its payload.
-use Rattle.std.proofs.Common.{◌≡◌, ℕ, ℤ, zero, suc, ◌+◌, ◌<◌, ◌&&◌, Bool, true, false, leb, List, [], ◌∷◌, ◌++◌, length, get_or, map, take, replicate, Ok, Err, pos, negsuc, refl, sym, ap, subst, ◌∙◌, append-nil, append_assoc, arith, w32, FitsSigned}
+use Rattle.std.proofs.Common.{◌≡◌, ℕ, ℤ, zero, suc, ◌+◌, ◌<◌, true, List, [], ◌∷◌, ◌++◌, length, get_or, map, take, replicate, Ok, Err, pos, refl, sym, ap, subst, ◌∙◌, append-nil, append_assoc, arith, w32, FitsSigned}
 use Rattle.std.specs.List.{flat_map, AllByRecursion}
 use Rattle.std.specs.Prelude.{OnOk}
 use Rattle.std.specs.declared.result.Result.{Result}
-use Rattle.std.proofs.lemmas.Bool.{leb-true}
 use Rattle.std.proofs.lemmas.List.Concat.{flat_map-cons}
 use Rattle.rc_base.specs.declared.command.Command.{Command}
 use Rattle.rc_base.specs.declared.text.LineName.TheVariants as line
@@ -16,6 +15,7 @@ use Rattle.rc_base.specs.Spelling.{half, word, value_bytes, field_bytes, payload
 use Rattle.rc_base.specs.Text.Read.{is_in}
 use Rattle.rc_base.specs.Text.Statements.{kind_ranges, ranges_of, value_numbers, value_texels, field_numbers, field_texels, command_statement}
 use Rattle.command_table.specs.Ranges.{AreIn}
+use Rattle.command_table.proofs.InRange.{byte_typed, half_typed, word_typed}
 use Rattle.command_table.proofs.Rows.{leads_singly, facts}
 use Rattle.cmd_pack.specs.Parts.{number_bytes, numbers_bytes}
 use Rattle.cmd_pack.specs.Texels.{IsTyped, AreTyped, HasType}
@@ -47,20 +47,6 @@ number_in (r ∷ rs) (z ∷ zs) zero d h less = h.0
 number_in (r ∷ rs) (z ∷ zs) (suc i) d h less = number_in rs zs i d h.1 (omega (arith, less))
 
 -- ---- numbers in their ranges have their types
-
-both_parts : (a b : Bool) → a && b ≡ true → (a ≡ true) × (b ≡ true)
-both_parts true b e = (refl, e)
-both_parts false b e = absurd cc
-
-byte_typed : (n : ℕ) → is_in range.Byte (pos n) ≡ true → n < 256
-byte_typed n e = let h = leb-true n 255 (both_parts (leb 0 n) (leb n 255) e).1 in omega (arith, h)
-
-half_typed : (n : ℕ) → is_in range.Half (pos n) ≡ true → n < 65536
-half_typed n e = let h = leb-true n 65535 (both_parts (leb 0 n) (leb n 65535) e).1 in omega (arith, h)
-
-word_typed : (z : ℤ) → is_in range.Word z ≡ true → FitsSigned w32 z
-word_typed (pos n) e = let h = leb-true n 2147483647 e in record { sfits = omega (arith, h) }
-word_typed (negsuc n) e = let h = leb-true n 2147483647 (both_parts (leb n 2147483647) true e).0 in record { sfits = omega (arith, h) }
 
 one_more : (n : ℕ) (ns : List ℕ) → n < 256 → AreBytes ns → AreBytes (n ∷ ns)
 one_more n ns h k zero = h

@@ -1,15 +1,21 @@
 -- Numbers in their ranges.
-use Rattle.std.proofs.Common.{◌≡◌, ℕ, suc, ◌+◌, ◌<◌, ◌&&◌, Bool, true, List, [], ◌∷◌, ◌++◌, length, get_or, map, take, replicate, set, ap, refl, sym, to_z, of_z, ◌∙◌, arith, ℤ, pos, negsuc, FitsSigned, w32}
+use Rattle.std.proofs.Common.{◌≡◌, ℕ, suc, ◌+◌, ◌<◌, ◌&&◌, Bool, true, List, [], ◌∷◌, ◌++◌, length, get_or, map, take, replicate, set, ap, refl, sym, to_z, of_z, ◌∙◌, arith, ℤ, pos, negsuc, FitsSigned, w32, leb, false}
 use Rattle.std.proofs.lemmas.Int.{to_z-of_z}
 use Rattle.std.proofs.lemmas.List.{take_more, take_more_set}
-use Rattle.std.proofs.lemmas.Bool.{le-leb}
+use Rattle.std.proofs.lemmas.Bool.{le-leb, leb-true}
 use Rattle.rc_base.specs.declared.text.NumberRange.{NumberRange}
 use Rattle.rc_base.specs.declared.text.NumberRange.TheVariants as range
 use Rattle.rc_base.specs.Text.Read.{is_in}
 use Rattle.command_table.specs.Ranges.{AreIn}
 
-both : {a b : Bool} → a ≡ true → b ≡ true → a && b ≡ true
+pub both : {a b : Bool} → a ≡ true → b ≡ true → a && b ≡ true
 both {a = a} {b = b} p q = ap (λ x. x && b) p ∙ q
+
+pub both_parts : (a b : Bool) → a && b ≡ true → (a ≡ true) × (b ≡ true)
+both_parts true b e = (refl, e)
+both_parts false b e = absurd cc
+
+-- ---- a number of a type is in the range of that type
 
 pub byte_in : (n : ℕ) → n < 256 → is_in range.Byte (pos n) ≡ true
 byte_in n h = both (le-leb 0 n (omega arith)) (le-leb n 255 (omega arith))
@@ -20,6 +26,20 @@ half_in n h = both (le-leb 0 n (omega arith)) (le-leb n 65535 (omega arith))
 pub word_in : (z : ℤ) → FitsSigned w32 z → is_in range.Word z ≡ true
 word_in (pos n) h = le-leb n 2147483647 (omega (arith, h.sfits))
 word_in (negsuc n) h = both (le-leb n 2147483647 (omega (arith, h.sfits))) refl
+
+-- ---- and a number in the range has the type
+
+pub byte_typed : (n : ℕ) → is_in range.Byte (pos n) ≡ true → n < 256
+byte_typed n e = let h = leb-true n 255 (both_parts (leb 0 n) (leb n 255) e).1 in omega (arith, h)
+
+pub half_typed : (n : ℕ) → is_in range.Half (pos n) ≡ true → n < 65536
+half_typed n e = let h = leb-true n 65535 (both_parts (leb 0 n) (leb n 65535) e).1 in omega (arith, h)
+
+pub word_typed : (z : ℤ) → is_in range.Word z ≡ true → FitsSigned w32 z
+word_typed (pos n) e = let h = leb-true n 2147483647 e in record { sfits = omega (arith, h) }
+word_typed (negsuc n) e = let h = leb-true n 2147483647 (both_parts (leb n 2147483647) true e).0 in record { sfits = omega (arith, h) }
+
+-- ---- lists of numbers
 
 pub bytes_in : (ns : List ℕ) → ((i : ℕ) → get_or ns i 0 < 256) → AreIn (replicate (length ns) range.Byte) (map pos ns)
 bytes_in [] h = tt

@@ -9,6 +9,7 @@ use Rattle.std.specs.List.{flat_map, list_all, AllByRecursion}
 use Rattle.std.specs.Option.{option_map, option_and_then}
 use Rattle.std.specs.Str.Lines.{lines}
 use Rattle.cmd_pack.specs.Texels.{HaveTexels, IsWhole}
+use Rattle.command_table.proofs.InRange.{both_parts}
 use Rattle.rc_base.specs.declared.command.Command.{Command}
 use Rattle.rc_base.specs.declared.command.Opcode.{Opcode}
 use Rattle.rc_base.specs.declared.command.Opcode.TheVariants as op
@@ -130,10 +131,6 @@ counted : (name : LineName) (b : Bool) (o : Option (List ℤ)) (rest : List (Lis
     → cond b (with_numbers name rest o) (Err kind.WrongCount) ≡ Ok s → (b ≡ true) × (with_numbers name rest o ≡ Ok s)
 counted name false o rest s e = absurd cc
 counted name true o rest s e = (refl, e)
-
-both_parts : (a b : Bool) → (a && b) ≡ true → (a ≡ true) × (b ≡ true)
-both_parts true b e = (refl, e)
-both_parts false b e = absurd cc
 
 -- the words behind the numbers are as many as width and height want
 behind : (sides : Option (List ℤ)) (k m n : ℕ) → m ≡ k + n → (leb k m && is_rest_count sides (m - k)) ≡ true → is_rest_count sides n ≡ true

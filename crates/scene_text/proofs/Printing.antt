@@ -22,10 +22,8 @@ use Rattle.rc_base.specs.Commands.{Kind, Value, Fields, AreBytes, IsValue, AreVa
 use Rattle.rc_base.specs.Commands.Kind.{Byte, Half, Word, Code, Bytes, Words, Image}
 use Rattle.rc_base.specs.Text.Statements.{Statement, statement, word_of, ranges_of, kind_ranges, has_picture, value_numbers, value_texels, field_numbers, field_texels, command_statement}
 use Rattle.rc_base.specs.Text.Printed.{hex_digit, hex_byte, texel_words, argument_words}
+use Rattle.command_table.proofs.InRange.{both, byte_in, half_in, word_in}
 use Rattle.rc_base.specs.Text.Read.{magnitude_of, is_negative, negative, number_of, is_in, if_in, with_first, numbers_of, hex_value, hex_pair, hex_bytes, area_of, texels_of, or_fault, with_texels, with_numbers, is_rest_count, is_counted, arguments_say, name_of}
-
-pub both : {a b : Bool} → a ≡ true → b ≡ true → a && b ≡ true
-both {a = a} {b = b} p q = ap (λ x. x && b) p ∙ q
 
 -- ---- numbers
 
@@ -58,17 +56,20 @@ abbrev pub Ready : NumberRange → ℤ → Type 0
 Ready r z = (is_in r z ≡ true) × (unsigned_abs z < 10000000000)
 
 pub ready_byte : (n : ℕ) → n < 256 → Ready range.Byte (pos n)
-ready_byte n h = (both (le-leb 0 n (omega arith)) (le-leb n 255 (omega arith)), omega arith)
+ready_byte n h = (byte_in n h, omega arith)
 
 pub ready_half : (n : ℕ) → n < 2 ^ 16 → Ready range.Half (pos n)
-ready_half n h = (both (le-leb 0 n (omega arith)) (le-leb n 65535 (omega arith)), omega arith)
+ready_half n h = (half_in n h, omega arith)
 
 pub ready_version : (n : ℕ) → n ≡ 1 → Ready range.Version (pos n)
 ready_version n e = (both (le-leb 1 n (omega arith)) (le-leb n 1 (omega arith)), omega arith)
 
 ready_word : (z : ℤ) → FitsSigned w32 z → Ready range.Word z
-ready_word (pos n) h = (le-leb n 2147483647 (omega (arith, h.sfits)), omega (arith, h.sfits))
-ready_word (negsuc n) h = (both (le-leb n 2147483647 (omega (arith, h.sfits))) refl, omega (arith, h.sfits))
+ready_word z h = (word_in z h, small z h)
+  where
+    small : (z : ℤ) → FitsSigned w32 z → unsigned_abs z < 10000000000
+    small (pos n) h = omega (arith, h.sfits)
+    small (negsuc n) h = omega (arith, h.sfits)
 
 abbrev pub AllReady : List NumberRange → List ℤ → Type 0
 AllReady [] [] = Unit {0}

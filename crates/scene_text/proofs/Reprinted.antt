@@ -8,6 +8,7 @@ use Rattle.std.proofs.lemmas.Fmt.{decimal_nonempty, decimal_is_IsNumeral}
 use Rattle.std.proofs.lemmas.Str.Parse.{digit_from_value}
 use Rattle.std.proofs.lemmas.Bool.{le-leb, lt-ltb, leb-true, ltb-true, ne_eqb, or_from}
 use Rattle.std.proofs.lemmas.List.Splits.{slice_split-cons_no, length-slice_split}
+use Rattle.command_table.proofs.InRange.{both}
 use Rattle.rc_base.specs.declared.command.Command.{Command}
 use Rattle.rc_base.specs.declared.command.Opcode.TheVariants as op
 use Rattle.rc_base.specs.declared.scene.Decl.{Decl}
@@ -20,7 +21,7 @@ use Rattle.rc_base.specs.Spelling.{IsDecl, IsSize, IsSide, IsCount}
 use Rattle.rc_base.specs.Text.Statements.{Statement, word_of, ranges_of, window_statement, shared_statement, barrier_statement, semaphore_statement, command_statement, client_statements, decl_statements, scene_statements}
 use Rattle.rc_base.specs.Text.Printed.{hex_digit, hex_byte, texel_words, argument_words, after_space, printed_line, printed}
 use Rattle.rc_base.specs.Text.Read.{is_text_byte, is_text, is_space, is_word, words_of, is_comment, has_no_word, is_skipped, words_say, words_say_under, arguments_say, spoken, SpellsText}
-use Rattle.scene_text.proofs.Printing.{AllReady, both, name_back, command_says, command_ready, command_bytes, plain_says, ready_byte, ready_half, ready_version}
+use Rattle.scene_text.proofs.Printing.{AllReady, name_back, command_says, command_ready, command_bytes, plain_says, ready_byte, ready_half, ready_version}
 
 -- ---- bytes of words and of lines
 
