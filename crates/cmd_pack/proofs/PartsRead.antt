@@ -1,5 +1,5 @@
 -- Reading the parts of a command is reading its fields.
-use Rattle.std.proofs.Common.{◌≡◌, ℕ, ℤ, zero, suc, ◌*◌, ◌^◌, ◌≤◌, ◌-◌, Bool, true, false, cond, ltb, List, [], ◌∷◌, ◌++◌, length, map, take, drop, replicate, Result, Ok, Err, pos, unsigned_abs, refl, sym, ap, subst, ◌∙◌, append-nil, arith}
+use Rattle.std.proofs.Common.{◌≡◌, ℕ, ℤ, zero, suc, ◌*◌, ◌^◌, ◌≤◌, ◌-◌, Bool, true, false, cond, ltb, List, [], ◌∷◌, ◌++◌, length, map, take, drop, replicate, Result, Ok, Err, pos, unsigned_abs, refl, sym, ap, subst, ◌∙◌, append-nil, arith, negsuc}
 use Rattle.std.specs.Int.{w16}
 use Rattle.std.specs.List.{flat_map}
 use Rattle.std.proofs.lemmas.Bool.{lt-ltb, ltb-true, ltb-false}
@@ -11,11 +11,12 @@ use Rattle.rc_base.specs.declared.text.NumberRange.TheVariants as range
 use Rattle.rc_base.specs.Numbers.{entry}
 use Rattle.rc_base.specs.Commands.{Kind, Fields, AreBytes, kinds_of}
 use Rattle.rc_base.specs.Commands.Kind.{Byte, Half, Word, Code, Bytes, Words, Image}
-use Rattle.rc_base.specs.Text.Read.{is_in}
+use Rattle.rc_base.specs.Text.Read.{is_in, area_of}
+use Rattle.std.proofs.Math.Nat.{mul-le-mul_right}
 use Rattle.rc_base.specs.Text.Statements.{statement, kind_ranges, ranges_of, has_picture, ends_in_picture, field_numbers, field_texels, command_statement}
 use Rattle.command_table.specs.Making.{command_from}
 use Rattle.command_table.specs.Ranges.{AreIn}
-use Rattle.command_table.proofs.InRange.{byte_in, half_in, word_in, length_in}
+use Rattle.command_table.proofs.InRange.{byte_in, half_in, word_in, half_typed, length_in}
 use Rattle.command_table.proofs.Rows.{leads_singly, facts, same_statement}
 use Rattle.cmd_pack.specs.declared.fault.Form.{Form}
 use Rattle.cmd_pack.specs.declared.fault.Form.TheVariants.{Truncated}
@@ -401,8 +402,19 @@ sides_in (Bytes count ∷ (l ∷ ks)) e p zs h = absurd cc
 sides_in (Words count ∷ (l ∷ ks)) e p zs h = absurd cc
 sides_in (Image ∷ (l ∷ ks)) e p zs h = absurd cc
 
-pub picture_sides : (o : Opcode) → has_picture (line.Command o) ≡ true → (zs : List ℤ) → AreIn (ranges_of (line.Command o)) zs → AreSides zs (length zs - 2) (length zs - 1)
-picture_sides o p zs h = sides_in (kinds_of o) (facts o).leads p zs h
+half_abs : (z : ℤ) → is_in range.Half z ≡ true → unsigned_abs z ≤ 65535
+half_abs (pos n) e = let h = half_typed n e in omega (arith, h)
+half_abs (negsuc n) e = absurd cc
+
+-- width times height of a picture
+pub picture_area : (o : Opcode) → has_picture (line.Command o) ≡ true → (zs : List ℤ) → AreIn (ranges_of (line.Command o)) zs → area_of zs ≤ 4294836225
+picture_area o p zs h =
+    let are = sides_in (kinds_of o) (facts o).leads p zs h in
+    let w = unsigned_abs (entry zs (length zs - 2)) in
+    let v = unsigned_abs (entry zs (length zs - 1)) in
+    let left : w * v ≤ 65535 * v = mul-le-mul_right v (half_abs (entry zs (length zs - 2)) are.0) in
+    let right : 65535 * v ≤ 4294836225 = omega (arith, half_abs (entry zs (length zs - 1)) are.1) in
+    omega (arith, left, right)
 
 -- ---- the command
 

@@ -11,7 +11,7 @@ use Rattle.rc_base.specs.declared.command.Command.{Command}
 use Rattle.cmd_pack.specs.declared.fault.Form.TheVariants.{BadCount, UnknownOpcode, Truncated}
 use Rattle.cmd_pack.specs.declared.fault.ReadError.{ReadError}
 use Rattle.cmd_pack.specs.declared.fault.ReadError.TheVariants as errors
-use Rattle.rc_base.specs.Spelling.{half, opcode_byte, payload, packet, IsPacket, SpellsStream}
+use Rattle.rc_base.specs.Spelling.{half, opcode_byte, payload, packet, IsPacket}
 use Rattle.cmd_pack.specs.Faults.{FailsBy, FailsAsStream, placed}
 use Rattle.cmd_pack.specs.Reading.{Fails, Gives, with_front}
 use Rattle.cmd_pack.specs.Packets.{packet_at, Takes}
@@ -82,23 +82,12 @@ front_more bytes cs new rest after front t =
       whole = t.added ∙ ap (λ (l : List Command). l ++ p) front.whole ∙ sym (flat_more (λ (l : List Command). l) front.packets p);
     }
 
-pub front_done : (bytes : List ℕ) (cs : List Command) (rest : List ℕ) → Front bytes cs rest → rest ≡ [] → SpellsStream bytes cs
-front_done bytes cs rest front none = record {
-  packets = front.packets;
-  each = front.each;
-  parts = front.parts ∙ ap (λ (l : List ℕ). flat_map packet front.packets ++ l) none ∙ append-nil (flat_map packet front.packets);
-  whole = front.whole;
-}
-
 -- a packet takes some bytes
 pub packet_some : (rest : List ℕ) (p : List Command) (after : List ℕ) → rest ≡ packet p ++ after → length after < length rest
 packet_some rest p after parts =
     let inner = map opcode_byte p ++ flat_map payload p in
     let grouped : rest ≡ half (length p) ++ (inner ++ after) = parts ∙ append_assoc (half (length p)) inner after in
     omega (arith, ap length grouped, length-append inner after)
-
-pub takes_some : (rest after : List ℕ) (old new : List Command) → Takes rest after old new → length after < length rest
-takes_some rest after old new t = packet_some rest t.commands after t.parts
 
 pub front_fails : (bytes : List ℕ) (cs : List Command) (rest : List ℕ) (e : ReadError) → Front bytes cs rest → 0 < length rest → FailsBy rest e → FailsAsStream bytes (placed e (length bytes))
 front_fails bytes cs rest errors.Memory front some h = tt

@@ -1,4 +1,5 @@
--- The bytes of a command's parts: of its numbers, each by its range, and then of the texels of its picture.
+-- The bytes of a command's parts: of its numbers, each by its range, and then of the texels of its picture. No command has a version among its
+-- numbers: what is said of that range is never used.
 use Rattle.std.specs.Prelude.{ℕ, ℤ, pos, Bool, ◌*◌, List, [], ◌∷◌, ◌++◌, unsigned_abs, Result, Ok, if◌then◌else◌}
 use Rattle.std.specs.Int.{w16}
 use Rattle.rc_base.specs.declared.text.NumberRange.{NumberRange}

@@ -9,9 +9,8 @@ ghost use Rattle.cmd_pack.specs.Packets.{command_at};
 
 use crate::fault::ReadError;
 use crate::fields::{read_byte, read_half, read_word, take_bytes};
-use command_table::making::half_at;
 use command_table::parts::Numbers;
-use command_table::{command_of, has_picture, ranges_of};
+use command_table::{area_of, command_of, has_picture, ranges_of};
 use rc_base::command::{Command, Opcode};
 use rc_base::items::Items;
 use rc_base::text::NumberRange;
@@ -57,9 +56,7 @@ fn count_texels(opcode: Opcode, numbers: &[i32]) -> usize
     ensures { result ≡ texel_count (has_picture (CommandLine opcode)) numbers.now }
 {
     if has_picture(opcode) {
-        let w = half_at(numbers, numbers.len().saturating_sub(2));
-        let h = half_at(numbers, numbers.len().saturating_sub(1));
-        4 * (w as usize * h as usize)
+        4 * area_of(numbers) as usize
     } else {
         0
     }

@@ -13,7 +13,7 @@ pub mod ranges;
 pub use making::command_of;
 pub use opcode::opcode_of;
 pub use parts::parts_of;
-pub use ranges::{has_picture, ranges_of};
+pub use ranges::{area_of, has_picture, ranges_of};
 
 #[cfg(test)]
 mod tests;

@@ -66,7 +66,7 @@ fn flags_of(numbers: &[i32]) -> [u8; 4]
     ]
 }
 
-fn area_of(numbers: &[i32]) -> [i32; 4]
+fn four_words(numbers: &[i32]) -> [i32; 4]
     requires { length numbers.now ≡ 4 }
     ensures { result ≡ numbers.now }
 {
@@ -119,7 +119,7 @@ pub fn command_of(
         }),
         Opcode::End => Ok(Command::End),
         Opcode::Vertex => Ok(Command::Vertex {
-            pos: area_of(numbers),
+            pos: four_words(numbers),
         }),
         Opcode::Color => Ok(Command::Color(color_of(numbers))),
         Opcode::TexCoord => Ok(Command::TexCoord {
@@ -141,14 +141,14 @@ pub fn command_of(
         Opcode::PushMatrix => Ok(Command::PushMatrix),
         Opcode::PopMatrix => Ok(Command::PopMatrix),
         Opcode::Viewport => Ok(Command::Viewport {
-            area: area_of(numbers),
+            area: four_words(numbers),
         }),
         Opcode::DepthRange => Ok(Command::DepthRange {
             near: word_at(numbers, 0),
             far: word_at(numbers, 1),
         }),
         Opcode::Scissor => Ok(Command::Scissor {
-            area: area_of(numbers),
+            area: four_words(numbers),
         }),
         Opcode::AlphaFunc => Ok(Command::AlphaFunc {
             function: byte_at(numbers, 0),

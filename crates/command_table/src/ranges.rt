@@ -1,7 +1,9 @@
 //! What the numbers of a command may be, and which commands have a picture.
 ghost use Rattle.std.specs.Prelude.{◌≡◌};
+ghost use Rattle.rc_base.specs.Text.Read.{area_of};
 ghost use Rattle.rc_base.specs.Text.Statements.{ranges_of, has_picture};
 
+use crate::making::word_at;
 use rc_base::command::Opcode;
 use rc_base::text::{LineName, NumberRange};
 
@@ -167,4 +169,13 @@ pub fn has_picture(opcode: Opcode) -> bool
         Opcode::SemV => false,
         Opcode::Swap => false,
     }
+}
+
+/// Width times height of a picture: the last two of its command's numbers.
+pub fn area_of(numbers: &[i32]) -> u64
+    ensures { result ≡ area_of numbers.now }
+{
+    let w = word_at(numbers, numbers.len().saturating_sub(2)).unsigned_abs();
+    let h = word_at(numbers, numbers.len().saturating_sub(1)).unsigned_abs();
+    u64::from(w) * u64::from(h)
 }

@@ -4,7 +4,7 @@ ghost use Rattle.rc_base.specs.Text.Statements.{ranges_of, has_picture};
 ghost use Rattle.rc_base.specs.declared.text.LineName.TheVariants.{Command as CommandLine};
 ghost use Rattle.command_table.specs.Ranges.{AreIn};
 
-use crate::{command_of, has_picture, opcode_of, parts_of, ranges_of};
+use crate::{area_of, command_of, has_picture, opcode_of, parts_of, ranges_of};
 use rc_base::command::{Command, Opcode, Texels};
 use rc_base::out_of_memory::OutOfMemory;
 use rc_base::text::NumberRange;
@@ -74,5 +74,6 @@ fn rows_have_their_ranges(rt: HostRuntime) {
             == [NumberRange::Byte, NumberRange::Half, NumberRange::Half].as_slice()
     );
     assert!(rt; ranges_of(Opcode::LoadMatrix).len() == 16);
+    assert!(rt; area_of(&[1, 7, 3]) == 21 && area_of(&[0, 9]) == 0);
     assert!(rt; has_picture(Opcode::SharedImage) && !has_picture(Opcode::BindTexture));
 }

@@ -17,7 +17,7 @@ use Rattle.render_core.specs.declared.refusal.Refusal.TheVariants.{Usage, ReadFa
 use Rattle.render_core.specs.Jobs.{job_word, IsJob, Spells, IsOfForm, IsInput}
 use Rattle.render_core.specs.Lines.{status_of, line_of}
 use Rattle.render_core.specs.Answers.{TookInput, IsNotBuilt, Noted, Refused, Ends, SpellsNone, IsOutside, IsUndrawn}
-use Rattle.render_core.specs.Steps.{RefusesJob, RefusesRun, IsDone, IsCarriedOut}
+use Rattle.render_core.specs.Steps.{RefusesJob, RefusesRun}
 
 -- ---- the words name one job
 
@@ -145,23 +145,6 @@ module _ (words : List (String Global)) (left left' held held' : Option (List �
   pub every_limit : IsOutside job input → (Rose sf sf' → ⊥) → (r : Refusal) → RefusesRun words left left' held held' sf sf' kf kf' r → Ends (status_of r) 4
   every_limit is calm r h = limits is calm r (own_job r h)
 
-  own_done : IsDone words left left' held held' → IsCarriedOut job left left' held held'
-  own_done h = subst (λ (j : Job). IsCarriedOut j left left' held held') (same_job words h.0 job h.1 is_job) h.2
-
-  -- what is past a limit is not done
-  pub limit_undone : IsOutside job input → IsDone words left left' held held' → ⊥
-  limit_undone (inl long) h = let own = own_done h in took_long left left' input own.carried.input left_is long own.carried.took own.carried.is_input.short
-  limit_undone (inr is) h =
-      let own = own_done h in
-      let spelled = subst (λ (l : List ℕ). Spells job l is.scene) (sym (took_whole left left' input own.carried.input left_is is.short own.carried.took)) is.spelled in
-      none-some own.carried.scene (sym (own.only.outside is.scene is.limit spelled is.first))
-
-  -- what spells nothing is not done
-  pub malformed_undone : SpellsNone job input → IsDone words left left' held held' → ⊥
-  malformed_undone is h =
-      let own = own_done h in
-      is.unspelled own.carried.scene (subst (λ (l : List ℕ). Spells job l own.carried.scene) (took_whole left left' input own.carried.input left_is is.short own.carried.took) own.carried.is_input.spelled)
-
 -- a scene that is not drawn so far
 module _ (words : List (String Global)) (left left' held held' : Option (List ℕ)) (sf sf' kf kf' : ℕ) (input : List ℕ) (scene : Scene)
     (is_job : IsJob words Render) (left_is : left ≡ Some input) (is : IsUndrawn input scene) (calm : Rose sf sf' → ⊥) where
@@ -188,13 +171,6 @@ module _ (words : List (String Global)) (left left' held held' : Option (List �
 
   pub every_not_built : (r : Refusal) → RefusesRun words left left' held held' sf sf' kf kf' r → Ends (status_of r) 10
   every_not_built r h = not_built r (own_job words left left' held held' sf sf' kf kf' Render input is_job left_is r h)
-
-  -- what is not drawn so far is not done
-  pub undrawn_undone : IsDone words left left' held held' → ⊥
-  undrawn_undone h =
-      let own = own_done words left left' held held' sf sf' kf kf' Render input is_job left_is h in
-      let same = same_some own.carried.scene scene (own.only.within scene (taken_spells own.carried.input own.carried.took) is.within) in
-      is.undrawn (subst IsDrawn same own.carried.is_input.form)
 
 -- the line of what is not drawn so far
 pub not_built_told : (words : List (String Global)) (left left' held held' noted noted' : Option (List ℕ)) (sf sf' kf kf' nf nf' : ℕ) (r : Refusal)

@@ -1,8 +1,8 @@
 -- Fronts of texts that stand one after the other.
-use Rattle.std.proofs.Common.{◌≡◌, ℕ, ◌+◌, ◌<◌, ◌≤◌, List, [], ◌∷◌, ◌++◌, length, take, drop, get_or, sym, ap, ◌∙◌, take-append-drop, length-append, arith}
+use Rattle.std.proofs.Common.{◌≡◌, ℕ, ◌+◌, ◌<◌, ◌≤◌, List, ◌++◌, length, take, drop, get_or, sym, ap, ◌∙◌, take-append-drop, length-append, arith}
 use Rattle.std.specs.List.{flat_map}
 use Rattle.std.proofs.Math.Seq.{take-append-add, take-append_seam}
-use Rattle.std.proofs.lemmas.List.{take-append-le, drop_more, take_more, append-nil}
+use Rattle.std.proofs.lemmas.List.{take-append-le, drop_more}
 use Rattle.std.proofs.lemmas.Grind.{flat_map-append}
 use Rattle.std.proofs.lemmas.List.Concat.{flat_map-cons}
 use Rattle.rc_base.specs.declared.image.Image.{Image}
@@ -23,9 +23,6 @@ module _ (f : Image → List ℕ) (xs : List Image) (i : ℕ) where
       let rest : flat_map f (drop i xs) ≡ f x ++ flat_map f (drop (i + 1) xs) = ap (flat_map f) (drop_more xs i d lt) ∙ flat_map-cons f x (drop (i + 1) xs) in
       sym (ap (take (length before + n)) whole ∙ take-append-add before (flat_map f (drop i xs)) n
       ∙ ap (λ (l : List ℕ). before ++ take n l) rest ∙ ap (λ (l : List ℕ). before ++ l) (take-append-le n (f x) (flat_map f (drop (i + 1) xs)) (omega (arith, le))))
-
-  pub more_is : (d : Image) → i < length xs → before ++ f (get_or xs i d) ≡ flat_map f (take (i + 1) xs)
-  more_is d lt = sym (ap (flat_map f) (take_more xs i d lt) ∙ flat_map-append f (take i xs) (get_or xs i d ∷ []) ∙ ap (λ (l : List ℕ). before ++ l) (flat_map-cons f (get_or xs i d) [] ∙ append-nil (f (get_or xs i d))))
 
   pub before_most : length before ≤ length (flat_map f xs)
   before_most = let e = ap length whole ∙ length-append before (flat_map f (drop i xs)) in omega (arith, e)

@@ -1,5 +1,5 @@
 -- What a reader's answer says of all scenes that the input spells.
-use Rattle.std.proofs.Common.{◌≡◌, ℕ, ◌⊎◌, inl, inr, List, None, Some, Ok, Err, refl, sym, ap, ◌∙◌, arith}
+use Rattle.std.proofs.Common.{◌≡◌, ℕ, ◌⊎◌, inl, inr, List, None, Some, Ok, Err, refl, ap, ◌∙◌, arith}
 use Rattle.std.specs.declared.option.Option.{Option}
 use Rattle.std.specs.declared.result.Result.{Result}
 use Rattle.rc_base.specs.Limits.{limit_of}
@@ -7,11 +7,6 @@ use Rattle.rc_base.specs.declared.scene.Limit.{Limit}
 use Rattle.rc_base.specs.declared.scene.Scene.{Scene}
 use Rattle.render_core.specs.declared.job.Job.{Job}
 use Rattle.render_core.specs.Jobs.{Spells}
-use Rattle.render_core.specs.Steps.{IsOnly}
-
-abbrev pub found_of : {F : Type 0} → Result Scene F → Option Scene
-found_of (Ok scene) = Some scene
-found_of (Err fault) = None
 
 -- a number for each kind of answer
 abbrev pub number_of : {F : Type 0} → (F → ℕ) → Result Scene F → ℕ
@@ -22,25 +17,6 @@ module _ {F : Type 0} (number : F → ℕ) (of_limit : Limit → F) (memory : F)
     (job : Job) (input : List ℕ) (r : Result Scene F)
     (only : (s : Scene) → Spells job input s → limit_of s ≡ None → (r ≡ Ok s) ⊎ (r ≡ Err memory))
     (limit_only : (s : Scene) (l : Limit) → Spells job input s → limit_of s ≡ Some l → (r ≡ Err (of_limit l)) ⊎ (r ≡ Err memory)) where
-  pub read_found : (s : Scene) → r ≡ Ok s → IsOnly job input (Some s)
-  read_found s found = record { within = λ t spelled is. within t (only t spelled is); outside = λ t l spelled is. outside t l (limit_only t l spelled is) } where
-    zero_is : number_of number r ≡ 0
-    zero_is = ap (number_of number) found
-
-    within : (t : Scene) → (r ≡ Ok t) ⊎ (r ≡ Err memory) → Some s ≡ Some t
-    within t (inl e) = sym (ap found_of found) ∙ ap found_of e
-    within t (inr e) = let three : number_of number r ≡ 3 = ap (number_of number) e ∙ memory_is in absurd (omega (arith, zero_is, three))
-
-    outside : (t : Scene) (l : Limit) → (r ≡ Err (of_limit l)) ⊎ (r ≡ Err memory) → Some s ≡ None
-    outside t l (inl e) = let two : number_of number r ≡ 2 = ap (number_of number) e ∙ limit_is l in absurd (omega (arith, zero_is, two))
-    outside t l (inr e) = let three : number_of number r ≡ 3 = ap (number_of number) e ∙ memory_is in absurd (omega (arith, zero_is, three))
-
-  pub read_past : number_of number r ≡ 2 → IsOnly job input None
-  read_past two_is = record { within = λ t spelled is. within t (only t spelled is); outside = λ t l spelled is. refl } where
-    within : (t : Scene) → (r ≡ Ok t) ⊎ (r ≡ Err memory) → None ≡ Some t
-    within t (inl e) = let zeroed : number_of number r ≡ 0 = ap (number_of number) e in absurd (omega (arith, two_is, zeroed))
-    within t (inr e) = let three : number_of number r ≡ 3 = ap (number_of number) e ∙ memory_is in absurd (omega (arith, two_is, three))
-
   pub read_none : number_of number r ≡ 1 → (s : Scene) → Spells job input s → ⊥
   read_none one_is s spelled = go (limit_of s) refl where
     go : (o : Option Limit) → limit_of s ≡ o → ⊥

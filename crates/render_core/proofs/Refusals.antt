@@ -1,5 +1,5 @@
 -- From what the steps of a job leave to what the job leaves.
-use Rattle.std.proofs.Common.{◌≡◌, ℕ, ◌+◌, ◌<◌, ◌≤◌, ◌⊎◌, inl, inr, Bool, true, false, List, length, take, None, Some, Ok, Err, refl, sym, ap, subst, ◌∙◌, arith}
+use Rattle.std.proofs.Common.{◌≡◌, ℕ, ◌<◌, ◌≤◌, Bool, true, false, List, length, take, None, Some, Ok, Err, refl, sym, ap, subst, ◌∙◌, arith}
 use Rattle.std.specs.Prelude.{IsTrue, ◌↔◌, OnOk, IfErr}
 use Rattle.std.specs.declared.result.Result.{Result}
 use Rattle.std.specs.declared.option.Option.{Option}
@@ -23,8 +23,8 @@ use Rattle.render_core.specs.declared.refusal.Refusal.{Refusal}
 use Rattle.render_core.specs.declared.refusal.Refusal.TheVariants.{Usage, ReadFault, MalformedScene, MalformedText, PastLimit, ImageFault, OutOfMemory, NotBuilt}
 use Rattle.render_core.specs.Jobs.{SpellsAgain, frames, due}
 use Rattle.render_core.specs.Lines.{line_of}
-use Rattle.render_core.specs.Answers.{TookInput, IsCutOff, PartlyCarried}
-use Rattle.render_core.specs.Steps.{RefusesReading, RefusesScene, RefusesText, RefusesInput, RefusesWriting, RefusesJob, IsOnly, MadeOf, IsCarriedOut, Spares}
+use Rattle.render_core.specs.Answers.{TookInput, IsCutOff}
+use Rattle.render_core.specs.Steps.{RefusesScene, RefusesText, RefusesInput, RefusesWriting, RefusesJob, IsOnly, MadeOf, IsCarriedOut}
 
 -- ---- a scene that is not read
 
@@ -65,28 +65,6 @@ pack_refused input NotBuilt short h = absurd h
 -- ---- what a job leaves where a step refuses
 
 module _ (job : Job) (left left' held held' : Option (List ℕ)) (sf sf' kf kf' : ℕ) where
-  pub reading_refused : (r : Refusal) → RefusesReading left left' sf sf' r → RefusesJob job left left' held held' sf sf' kf kf' r
-  reading_refused Usage h = absurd h
-  reading_refused ReadFault h = h
-  reading_refused (MalformedScene kind at) h = absurd h
-  reading_refused (MalformedText kind line) h = absurd h
-  reading_refused (PastLimit limit) h = (h.0, h.1, inl h.2, λ short. absurd (too_short h.0 short h.2.long)) where
-    too_short : (input : List ℕ) → length input ≤ byte_limit → length input ≡ byte_limit + 1 → ⊥
-    too_short input short long = omega (arith, short, long)
-  reading_refused (ImageFault done) h = absurd h
-  reading_refused OutOfMemory h = tt
-  reading_refused NotBuilt h = absurd h
-
-  pub input_refused : (input : List ℕ) → TookInput left left' input → (r : Refusal) → RefusesInput job input r → RefusesJob job left left' held held' sf sf' kf kf' r
-  input_refused input took Usage h = absurd h
-  input_refused input took ReadFault h = absurd h
-  input_refused input took (MalformedScene kind at) h = (input, took, h)
-  input_refused input took (MalformedText kind line) h = (input, took, h)
-  input_refused input took (PastLimit limit) h = (input, took, inr h.0, λ short. h.1)
-  input_refused input took (ImageFault done) h = absurd h
-  input_refused input took OutOfMemory h = tt
-  input_refused input took NotBuilt h = (input, took, h)
-
   pub writing_refused : (input text : List ℕ) → TookInput left left' input → MadeOf job input text → (r : Refusal)
       → RefusesWriting held held' kf kf' text r → RefusesJob job left left' held held' sf sf' kf kf' r
   writing_refused input text took made Usage h = absurd h
@@ -108,30 +86,6 @@ module _ (job : Job) (left left' held held' : Option (List ℕ)) (sf sf' kf kf' 
   writing_refused input text took made NotBuilt h = absurd h
 
 -- ---- the image where a step refuses
-
-pub writing_spares : (held held' : Option (List ℕ)) (kf kf' : ℕ) (text : List ℕ) (r : Refusal) → RefusesWriting held held' kf kf' text r → Spares r → ⊥
-writing_spares held held' kf kf' text Usage h s = h
-writing_spares held held' kf kf' text ReadFault h s = h
-writing_spares held held' kf kf' text (MalformedScene kind at) h s = h
-writing_spares held held' kf kf' text (MalformedText kind line) h s = h
-writing_spares held held' kf kf' text (PastLimit limit) h s = h
-writing_spares held held' kf kf' text (ImageFault done) h s = s
-writing_spares held held' kf kf' text OutOfMemory h s = s
-writing_spares held held' kf kf' text NotBuilt h s = h
-
-pub writing_memory : (job : Job) (left left' held held' : Option (List ℕ)) (kf kf' : ℕ) (input text : List ℕ) → TookInput left left' input → MadeOf job input text
-    → (r : Refusal) → RefusesWriting held held' kf kf' text r → r ≡ OutOfMemory → PartlyCarried job left left' held held'
-writing_memory job left left' held held' kf kf' input text took made r h e =
-    let out = subst (λ (x : Refusal). RefusesWriting held held' kf kf' text x) e h in
-    record {
-      input = input;
-      took = took;
-      scene = made.scene;
-      is_input = made.is_input;
-      done = out.0;
-      part = subst (λ (t : List ℕ). out.0 ≤ length t) made.due_is out.1;
-      given = subst (λ (t : List ℕ). Appends held held' (take out.0 t)) made.due_is out.2;
-    }
 
 pub carried_out : (job : Job) (left left' held held' : Option (List ℕ)) (input text : List ℕ) → TookInput left left' input → MadeOf job input text
     → Appends held held' text → IsCarriedOut job left left' held held'
@@ -213,18 +167,6 @@ module _ (job : Job) (left left' held held' : Option (List ℕ)) (sf sf' kf kf' 
     err : (r : Result (Unit {0}) Refusal) → IfErr r (RefusesWriting held held' kf kf' shown) → IfErr r (RefusesJob job left left' held held' sf sf' kf kf')
     err (Ok u) h = tt
     err (Err e) h = writing_refused job left left' held held' sf sf' kf kf' input shown took made_shown e h
-
-  pub job_untouched : (P : Type 0) → IfErr r (RefusesWriting held held' kf kf' shown) → IfErr r (λ e. Spares e → P)
-  job_untouched P part = err r part where
-    err : (r : Result (Unit {0}) Refusal) → IfErr r (RefusesWriting held held' kf kf' shown) → IfErr r (λ e. Spares e → P)
-    err (Ok u) h = tt
-    err (Err e) h = λ s. absurd (writing_spares held held' kf kf' shown e h s)
-
-  pub job_memory : (P : Type 0) → IfErr r (RefusesWriting held held' kf kf' shown) → IfErr r (λ e. e ≡ OutOfMemory → P ⊎ PartlyCarried job left left' held held')
-  job_memory P part = err r part where
-    err : (r : Result (Unit {0}) Refusal) → IfErr r (RefusesWriting held held' kf kf' shown) → IfErr r (λ e. e ≡ OutOfMemory → P ⊎ PartlyCarried job left left' held held')
-    err (Ok u) h = tt
-    err (Err e) h = λ is. inr (writing_memory job left left' held held' kf kf' input shown took made_shown e h is)
 
 -- a count that rose in a later part of a call rose in the call
 pub rose_later : (a b c : ℕ) → a ≤ b → Rose b c → Rose a c

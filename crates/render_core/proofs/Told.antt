@@ -1,39 +1,16 @@
 -- A refusal that is told as itself, or as want of memory.
-use Rattle.std.proofs.Common.{◌≡◌, ℕ, ◌⊎◌, inl, inr, List, sym, ap, subst, ◌∙◌, arith}
+use Rattle.std.proofs.Common.{◌≡◌, ℕ, ◌⊎◌, inl, inr, List, sym, subst, ◌∙◌, arith}
 use Rattle.std.specs.Prelude.{String}
 use Rattle.std.specs.Global.{Global}
 use Rattle.std.specs.declared.option.Option.{Option}
 use Rattle.render_core.specs.declared.refusal.Refusal.{Refusal}
 use Rattle.render_core.specs.declared.refusal.Refusal.TheVariants.{Usage, ReadFault, MalformedScene, MalformedText, PastLimit, ImageFault, OutOfMemory, NotBuilt}
-use Rattle.render_core.specs.Lines.{status_of}
 use Rattle.render_core.specs.Answers.{PartlyDone}
 use Rattle.render_core.specs.Steps.{RefusesRun, Spares, HasNumbers, IsToldAs}
-
-pub memory_is_no_usage : (r : Refusal) → r ≡ OutOfMemory → r ≡ Usage → ⊥
-memory_is_no_usage r memory usage = let e : 7 ≡ 1 = sym (ap status_of memory) ∙ ap status_of usage in omega (arith, e)
 
 module _ (words : List (String Global)) (left left' held held' : Option (List ℕ)) (sf sf' kf kf' : ℕ) (r told : Refusal) (told_as : IsToldAs r told) where
   numbered : (e : r ≡ Usage) → HasNumbers r → ⊥
   numbered e n = subst HasNumbers e n
-
-  pub told_refuses : RefusesRun words left left' held held' sf sf' kf kf' r → RefusesRun words left left' held held' sf sf' kf kf' told
-  told_refuses h = go told_as h where
-    go : IsToldAs r told → RefusesRun words left left' held held' sf sf' kf kf' r → RefusesRun words left left' held held' sf sf' kf kf' told
-    go (inl e) h = subst (RefusesRun words left left' held held' sf sf' kf kf') (sym e) h
-    go (inr is) (inl usage) = absurd (numbered usage.0 is.1)
-    go (inr is) (inr h) = subst (RefusesRun words left left' held held' sf sf' kf kf') (sym is.0) (inr (h.0, h.1, tt))
-
-  pub told_spares : (P : Type 0) → (Spares r → P) → Spares told → P
-  told_spares P f = go told_as where
-    go : IsToldAs r told → Spares told → P
-    go (inl e) s = f (subst Spares e s)
-    go (inr is) s = absurd (subst Spares is.0 s)
-
-  pub told_usage : (P : Type 0) → (r ≡ Usage → P) → told ≡ Usage → P
-  told_usage P f = go told_as where
-    go : IsToldAs r told → told ≡ Usage → P
-    go (inl e) u = f (sym e ∙ u)
-    go (inr is) u = absurd (memory_is_no_usage told is.0 u)
 
   spared : (P : Type 0) (x : Refusal) → HasNumbers x → (Spares x → P) → RefusesRun words left left' held held' sf sf' kf kf' x → P ⊎ PartlyDone words left left' held held'
   spared P Usage n f h = absurd n

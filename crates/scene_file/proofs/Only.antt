@@ -19,7 +19,7 @@ use Rattle.cmd_pack.proofs.Numbers.{number_codec, wide32}
 use Rattle.cmd_pack.proofs.Only.{one_spelling, fails_is_none}
 use Rattle.scene_file.specs.declared.header.Head.{Head}
 use Rattle.scene_file.specs.Reading.{head_at}
-use Rattle.scene_file.specs.Faults.{Differs, IsPartOf, IsCutHeader, IsCutText, HasFront, HasStreamFault, FailsAsText, FailsInStreams, FailsAsScene}
+use Rattle.scene_file.specs.Faults.{Differs, IsCutHeader, IsCutText, HasFront, HasStreamFault, FailsAsText, FailsInStreams, FailsAsScene}
 use Rattle.scene_file.proofs.Headers.{head_text, head_codec}
 
 -- ---- what stands at the front
@@ -56,9 +56,6 @@ same_header d e n m x y same p few q few2 =
     (ap (λ (v : Head × List ℕ). v.0.decl) pair, ap (λ (v : Head × List ℕ). v.0.clients) pair, ap (λ (v : Head × List ℕ). v.1) pair)
 
 -- ---- streams
-
-no_text : (t x : List ℕ) → [] ≡ stream_text t ++ x → ⊥
-no_text t x e = absurd (omega (arith, ap length e, length-append (stream_text t) x, length-append (long (length t)) t))
 
 texts_cons : (t : List ℕ) (ts : List (List ℕ)) (x : List ℕ) → flat_map stream_text (t ∷ ts) ++ x ≡ stream_text t ++ (flat_map stream_text ts ++ x)
 texts_cons t ts x = ap (λ (l : List ℕ). l ++ x) (flat_map-cons stream_text t ts) ∙ append_assoc (stream_text t) (flat_map stream_text ts) x
@@ -124,10 +121,6 @@ front_left bytes rest others f s sp =
     let whole : bytes ≡ header s.decl m ++ (flat_map stream_text sp.texts ++ []) = sp.parts ∙ ap (λ (l : List ℕ). header s.decl m ++ l) (sym (append-nil (flat_map stream_text sp.texts))) in
     let same = same_header f.decl s.decl n m (flat_map stream_text f.texts ++ rest) (flat_map stream_text sp.texts ++ []) (sym f.parts ∙ whole) f.is_decl f.few sp.decl sp.few in
     strip f.texts sp.texts f.streams s.streams rest [] others f.each sp.each same.1 same.2
-
-cut_none : (whole bytes rest : List ℕ) → IsPartOf whole bytes → bytes ++ [] ≡ whole ++ rest → ⊥
-cut_none whole bytes rest cut e =
-    absurd (omega (arith, ap length e, length-append bytes [], length-append whole rest, ap length cut.parts, length-append bytes cut.more, cut.some))
 
 pub cut_header_none : (bytes : List ℕ) → IsCutHeader bytes → (d : Decl) (n : ℕ) (x : List ℕ) → IsDecl d → n < 256 → bytes ≡ header d n ++ x → ⊥
 cut_header_none bytes cut d n x is few parts =

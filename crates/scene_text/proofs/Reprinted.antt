@@ -41,10 +41,6 @@ letter_bounds b h = let p = parts_of (nat_le 33 b) (nat_le b 126) h in (leb-true
 abbrev IsPrinted : List ℕ → Type 0
 IsPrinted w = (0 < length w) × (list_all is_letter w ≡ true)
 
-letters_append : (v w : List ℕ) → list_all is_letter v ≡ true → list_all is_letter w ≡ true → list_all is_letter (v ++ w) ≡ true
-letters_append [] w h k = k
-letters_append (b ∷ v) w h k = let p = parts_of (is_letter b) (list_all is_letter v) h in both p.0 (letters_append v w p.1 k)
-
 digits_print : (ds : List ℕ) → AllDigits 10 ds → list_all is_letter ds ≡ true
 digits_print [] h = refl
 digits_print (d ∷ ds) h = let r = digit_from_value d h.0 in both (letter d (omega (arith, r.0)) (omega (arith, r.1))) (digits_print ds h.1)

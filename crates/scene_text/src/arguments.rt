@@ -13,21 +13,12 @@ use crate::names::{has_picture, ranges_of};
 use crate::numerals::read_numbers;
 use crate::parse::LineFault;
 use crate::words::{count_words, next_word, skip_words};
-use command_table::making::word_at;
+use command_table::area_of;
 use rc_base::command::Texels;
 use rc_base::out_of_memory::OutOfMemory;
 use rc_base::scene::TextKind;
 use rc_base::text::{LineName, NumberRange};
 use std::alloc::Global;
-
-/// Width times height: the last two numbers.
-fn area_of(numbers: &[i32]) -> u64
-    ensures { result ≡ area_of numbers.now }
-{
-    let w = word_at(numbers, numbers.len().saturating_sub(2)).unsigned_abs();
-    let h = word_at(numbers, numbers.len().saturating_sub(1)).unsigned_abs();
-    u64::from(w) * u64::from(h)
-}
 
 /// So many words after the numbers are right.
 fn is_rest_count(sides: &[u8], rest: usize) -> bool
