@@ -1,6 +1,6 @@
 #!/bin/sh
 # Prints how long the built program takes to read, draw and write, as ratios of one run. Build it first:
-#     cd crates/render_cli && rt run < stdin > /dev/null
+#     cd crates/render_cli && rt run -- render < ../../examples/red.rcs > /dev/null
 set -eu
 here=$(cd "$(dirname "$0")" && pwd)
 program=${1:-$here/../crates/render_cli/out/render_cli}

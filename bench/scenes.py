@@ -3,8 +3,8 @@
 
     scenes.py strips CLIENTS [noswap] [nodraw] > scene.rcs
         1024 by 768, 20 frames. With one client four strips of 5,002 vertices a frame; with more, one strip for each client, a colour before each
-        vertex, and a barrier of all clients before each swap. `noswap` leaves the swaps out, so nothing is written; `nodraw` gives each block a
-        mode that is refused, so nothing is drawn.
+        vertex, and a barrier of all clients before each swap. `noswap` leaves the swaps out, so nothing is written; `nodraw` puts all vertices at
+        one place, so no triangle has an area and nothing is drawn.
     scenes.py clears SIDE COUNT > scene.rcs
         SIDE by SIDE, COUNT clears and swaps.
     scenes.py small TRIANGLES > scene.rcs
@@ -45,14 +45,14 @@ def scene(width, height, streams, barriers=()):
     return out
 
 
-def strip(rng, y, mode, colors):
+def strip(rng, y, draw, colors):
     """A zigzag from the left to the right edge, 5,002 vertices."""
-    commands = [begin(mode)]
+    commands = [begin(1)]
     for i in range(5002):
         if colors:
             commands.append(color(rng))
         x = -65536 + (131072 * i) // 5001
-        commands.append(vertex(x, y + (i % 2) * 12000 + rng.randrange(2000)))
+        commands.append(vertex(x, y + (i % 2) * 12000 + rng.randrange(2000)) if draw else vertex(0, 0))
     commands.append((END, b""))
     return commands
 
@@ -66,7 +66,7 @@ def strips(clients, swap, draw):
             rows = range(4) if clients == 1 else [c]
             for row in rows:
                 y = -60000 + (row * 28000 + frame * 900) % 110000
-                commands += strip(rng, y, 1 if draw else 3, clients > 1)
+                commands += strip(rng, y, draw, clients > 1)
             if clients > 1:
                 commands.append((BARRIER, b"\x01"))
             if swap:

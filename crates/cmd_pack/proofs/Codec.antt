@@ -5,7 +5,7 @@ use Rattle.std.proofs.lemmas.Bool.{cases_lt}
 use Rattle.std.proofs.lemmas.List.{get_or-take, get_or_past}
 use Rattle.cmd_pack.specs.declared.fault.Form.{Form}
 use Rattle.cmd_pack.specs.declared.fault.Form.TheVariants.{Truncated}
-use Rattle.rc_base.specs.Commands.{AreBytes}
+use Rattle.rc_base.specs.Formats.Commands.{AreBytes}
 use Rattle.cmd_pack.specs.Reading.{◌>>=◌, sized, convert}
 
 pub AreBytes-take : (n : ℕ) (bytes : List ℕ) → AreBytes bytes → AreBytes (take n bytes)

@@ -3,8 +3,8 @@ use Rattle.std.specs.Prelude.{◌≡◌, ℕ, ◌+◌, ◌-◌, ◌<◌, ◌≤�
 use Rattle.std.specs.List.{flat_map, AllByRecursion}
 use Rattle.rc_base.specs.declared.command.Command.{Command}
 use Rattle.rc_base.specs.declared.command.Opcode.{Opcode}
-use Rattle.rc_base.specs.Commands.{row_of}
-use Rattle.rc_base.specs.Spelling.{half, packet, IsPacket, SpellsStream}
+use Rattle.rc_base.specs.Formats.Commands.{AreBytes, table_row}
+use Rattle.rc_base.specs.Formats.Spelling.{half, packet, IsPacket, SpellsStream}
 use Rattle.cmd_pack.specs.declared.fault.Form.{Form}
 use Rattle.cmd_pack.specs.declared.fault.Form.TheVariants.{BadCount, UnknownOpcode, Truncated}
 use Rattle.cmd_pack.specs.declared.fault.ReadError.{ReadError}
@@ -14,7 +14,7 @@ use Rattle.cmd_pack.specs.declared.fault.PackFault.TheVariants as faults
 
 -- a byte that stands for a command
 abbrev pub IsOpcode : ℕ → Type 0
-IsOpcode b = (o : Opcode) × ((row_of o).number ≡ b)
+IsOpcode b = (o : Opcode) × ((table_row o).number ≡ b)
 
 -- a count that no packet has
 pub record HasBadCount (bytes : List ℕ) : Type 0 where
@@ -71,11 +71,11 @@ FailsAsStream bytes (faults.Truncated at) = (rest : List ℕ) × Behind bytes re
 FailsAsStream bytes faults.OutOfMemory = Unit {0}
 
 -- the fault with its place, in bytes of which there are so many
-abbrev pub placed : ReadError → ℕ → PackFault
-placed errors.Memory len = faults.OutOfMemory
-placed (errors.Form (BadCount left)) len = faults.BadCount (len - left)
-placed (errors.Form (UnknownOpcode left)) len = faults.UnknownOpcode (len - left)
-placed (errors.Form Truncated) len = faults.Truncated len
+abbrev pub pack_fault : ReadError → ℕ → PackFault
+pack_fault errors.Memory len = faults.OutOfMemory
+pack_fault (errors.Form (BadCount left)) len = faults.BadCount (len - left)
+pack_fault (errors.Form (UnknownOpcode left)) len = faults.UnknownOpcode (len - left)
+pack_fault (errors.Form Truncated) len = faults.Truncated len
 
 -- a fault of the bytes
 abbrev pub IsFault : PackFault → Type 0
@@ -93,3 +93,9 @@ FaultsSpellNothing = (bytes : List ℕ) (fault : PackFault) (commands : List Com
 -- bytes have one fault at most
 abbrev pub FaultsAreOne : Type 0
 FaultsAreOne = (bytes : List ℕ) (one other : PackFault) → FailsAsStream bytes one → FailsAsStream bytes other → IsFault one → IsFault other → one ≡ other
+
+-- bytes spell a list, or they have a fault
+abbrev pub SpellsOrFails : Type 0
+SpellsOrFails =
+    (bytes : List ℕ) → AreBytes bytes
+    → ((commands : List Command) × SpellsStream bytes commands) ⊎ ((fault : PackFault) × IsFault fault × FailsAsStream bytes fault)

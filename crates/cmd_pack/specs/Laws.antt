@@ -1,11 +1,10 @@
--- Laws on the spelling of streams and on the table of commands.
+-- Laws on the spelling of streams.
 use Rattle.std.specs.Prelude.{◌≡◌, ℕ, ◌+◌, ◌*◌, List, [], ◌∷◌, length}
 use Rattle.std.specs.List.{AllByRecursion}
 use Rattle.rc_base.specs.declared.command.Command.{Command}
-use Rattle.rc_base.specs.declared.command.Opcode.{Opcode}
-use Rattle.rc_base.specs.Commands.{Kind, Value, Fields, IsCommand, row_of, opcode_of, kinds_of, fields_of}
-use Rattle.rc_base.specs.Commands.Kind.{Byte, Half, Word, Code, Bytes, Words, Image}
-use Rattle.rc_base.specs.Spelling.{payload, encoded, SpellsStream}
+use Rattle.rc_base.specs.Formats.Commands.{Kind, Value, Fields, IsCommand, opcode_of, kinds_of, fields_of}
+use Rattle.rc_base.specs.Formats.Commands.Kind.{Byte, Half, Word, Code, Bytes, Words, Image}
+use Rattle.rc_base.specs.Formats.Spelling.{payload, encoded, SpellsStream}
 
 -- What is encoded spells the commands, so it is read again.
 abbrev pub EncodedIsRead : Type 0
@@ -46,11 +45,3 @@ texel_length (k ∷ ks) x = texel_bytes k x.0 + texel_length ks x.1
 -- A payload is as long as its row says, and longer by the texels of its picture.
 abbrev pub PayloadLength : Type 0
 PayloadLength = (c : Command) → IsCommand c → length (payload c) ≡ fixed_length (kinds_of (opcode_of c)) + texel_length (kinds_of (opcode_of c)) (fields_of c)
-
--- No two opcodes share a number.
-abbrev pub OneNumber : Type 0
-OneNumber = (one other : Opcode) → (row_of one).number ≡ (row_of other).number → one ≡ other
-
--- No two opcodes share a name.
-abbrev pub OneName : Type 0
-OneName = (one other : Opcode) → (row_of one).name ≡ (row_of other).name → one ≡ other

@@ -1,93 +1,115 @@
 -- Reading packets from the left, with the first fault that is met. A fault's place is told by how many bytes stand from there on.
-use Rattle.std.specs.Prelude.{◌≡◌, ℕ, zero, suc, ◌*◌, List, [], ◌∷◌, ◌++◌, length, Option, Some, None, Result, Ok, Err, nat_lt, ◌==◌, ◌||◌, if◌then◌else◌}
+use Rattle.std.specs.Prelude.{◌≡◌, ℕ, zero, suc, ◌*◌, ◌≤◌, Bool, true, false, List, [], ◌∷◌, ◌++◌, length, Option, Some, None, Result, Ok, Err, nat_lt, nat_le, ◌==◌, ◌||◌, if◌then◌else◌}
 use Rattle.std.specs.Int.{w16}
 use Rattle.rc_base.specs.declared.command.Command.{Command}
 use Rattle.rc_base.specs.declared.command.Opcode.{Opcode}
-use Rattle.rc_base.specs.Commands.{Kind, Value, Fields, Picture, row_of, kinds_of, opcodes}
-use Rattle.rc_base.specs.Commands.Kind.{Byte, Half, Word, Code, Bytes, Words, Image}
-use Rattle.rc_base.specs.Spelling.{packet, IsPacket}
+use Rattle.rc_base.specs.Pictures.{Picture}
+use Rattle.rc_base.specs.Formats.Commands.{Kind, Value, Fields, kinds_of}
+use Rattle.rc_base.specs.Formats.Commands.Kind.{Byte, Half, Word, Code, Bytes, Words, Image}
+use Rattle.rc_base.specs.Formats.Spelling.{packet, IsPacket, SpellsStream}
 use Rattle.command_table.specs.Making.{command_from}
+use Rattle.command_table.specs.Opcodes.{opcode_of_byte}
+use Rattle.cmd_pack.specs.declared.fault.ReadError.{ReadError}
+use Rattle.cmd_pack.specs.declared.reading.Decoded.{Decoded}
 use Rattle.cmd_pack.specs.declared.fault.Form.{Form}
 use Rattle.cmd_pack.specs.declared.fault.Form.TheVariants.{BadCount, UnknownOpcode}
-use Rattle.cmd_pack.specs.Reading.{◌>>=◌, sized, both, convert, byte_at, number_at, word_at, words_at, run_at}
+use Rattle.cmd_pack.specs.Reading.{◌>>=◌, Fails, sized, both, convert, read_byte, read_unsigned, read_word, read_words, take_bytes}
 
 -- ---- fields
 
-abbrev pub picture_of : (ℕ × ℕ) × List ℕ → Picture
-picture_of x = record { w = x.0.0; h = x.0.1; texels = x.1 }
+abbrev pub make_picture : (ℕ × ℕ) × List ℕ → Picture
+make_picture x = record { w = x.0.0; h = x.0.1; texels = x.1 }
 
-unfoldable pub value_at : (k : Kind) → List ℕ → Result (Value k × List ℕ) Form
-value_at Byte = byte_at
-value_at Half = number_at w16
-value_at Word = word_at
-value_at (Code count) = byte_at
-value_at (Bytes count) = run_at count
-value_at (Words count) = words_at count
-value_at Image = convert picture_of (sized (both (number_at w16) (number_at w16)) (λ s. run_at (4 * (s.0 * s.1))))
+unfoldable pub read_value : (k : Kind) → List ℕ → Result (Value k × List ℕ) Form
+read_value Byte = read_byte
+read_value Half = read_unsigned w16
+read_value Word = read_word
+read_value (Code count) = read_byte
+read_value (Bytes count) = take_bytes count
+read_value (Words count) = read_words count
+read_value Image = convert make_picture (sized (both (read_unsigned w16) (read_unsigned w16)) (λ s. take_bytes (4 * (s.0 * s.1))))
 
-unfoldable pub fields_at : (ks : List Kind) → List ℕ → Result (Fields ks × List ℕ) Form
-fields_at [] bytes = Ok (tt, bytes)
-fields_at (k ∷ ks) bytes = both (value_at k) (fields_at ks) bytes
+unfoldable pub read_fields : (ks : List Kind) → List ℕ → Result (Fields ks × List ℕ) Form
+read_fields [] bytes = Ok (tt, bytes)
+read_fields (k ∷ ks) bytes = both (read_value k) (read_fields ks) bytes
 
 -- ---- commands
 
 -- the command that is made of the fields in an opcode's row
-unfoldable pub command_at : Opcode → List ℕ → Result (Command × List ℕ) Form
-command_at o = convert (command_from o) (fields_at (kinds_of o))
+unfoldable pub read_command : Opcode → List ℕ → Result (Command × List ℕ) Form
+read_command o = convert (command_from o) (read_fields (kinds_of o))
 
-unfoldable pub payloads_at : List Opcode → List ℕ → Result (List Command × List ℕ) Form
-payloads_at [] bytes = Ok ([], bytes)
-payloads_at (o ∷ os) bytes = do
-  first ← command_at o bytes
-  others ← payloads_at os first.1
+unfoldable pub read_payloads : List Opcode → List ℕ → Result (List Command × List ℕ) Form
+read_payloads [] bytes = Ok ([], bytes)
+read_payloads (o ∷ os) bytes = do
+  first ← read_command o bytes
+  others ← read_payloads os first.1
   Ok (first.0 ∷ others.0, others.1)
 
 -- ---- opcodes
-
-abbrev pub number_of : Opcode → ℕ
-number_of o = (row_of o).number
-
-abbrev pub named_in : List Opcode → ℕ → Option Opcode
-named_in [] b = None
-named_in (o ∷ os) b = if b == number_of o then Some o else named_in os b
-
--- the opcode that a byte stands for
-abbrev pub named : ℕ → Option Opcode
-named b = named_in opcodes b
 
 abbrev pub known : Option Opcode → ℕ → Result Opcode Form
 known None left = Err (UnknownOpcode left)
 known (Some o) left = Ok o
 
-unfoldable pub name_at : List ℕ → Result (Opcode × List ℕ) Form
-name_at bytes = do
-  b ← byte_at bytes
-  o ← known (named b.0) (length bytes)
+unfoldable pub read_opcode : List ℕ → Result (Opcode × List ℕ) Form
+read_opcode bytes = do
+  b ← read_byte bytes
+  o ← known (opcode_of_byte b.0) (length bytes)
   Ok (o, b.1)
 
-unfoldable pub names_at : ℕ → List ℕ → Result (List Opcode × List ℕ) Form
-names_at zero bytes = Ok ([], bytes)
-names_at (suc n) bytes = do
-  first ← name_at bytes
-  others ← names_at n first.1
+unfoldable pub read_opcodes : ℕ → List ℕ → Result (List Opcode × List ℕ) Form
+read_opcodes zero bytes = Ok ([], bytes)
+read_opcodes (suc n) bytes = do
+  first ← read_opcode bytes
+  others ← read_opcodes n first.1
   Ok (first.0 ∷ others.0, others.1)
 
 -- ---- packets
 
-unfoldable pub count_at : List ℕ → Result (ℕ × List ℕ) Form
-count_at bytes = do
-  n ← number_at w16 bytes
+unfoldable pub read_count : List ℕ → Result (ℕ × List ℕ) Form
+read_count bytes = do
+  n ← read_unsigned w16 bytes
   if (n.0 == 0) || nat_lt 1024 n.0 then Err (BadCount (length bytes)) else Ok n
 
-unfoldable pub packet_at : List ℕ → Result (List Command × List ℕ) Form
-packet_at bytes = do
-  count ← count_at bytes
-  names ← names_at count.0 count.1
-  payloads_at names.0 names.1
+unfoldable pub read_packet : List ℕ → Result (List Command × List ℕ) Form
+read_packet bytes = do
+  count ← read_count bytes
+  names ← read_opcodes count.0 count.1
+  read_payloads names.0 names.1
 
--- a packet was taken from the front of the bytes, and its commands were added
-pub record Takes (bytes rest : List ℕ) (old new : List Command) : Type 0 where
+-- ---- what is kept of packets
+
+-- what stands behind the commands before: all that were read, or none
+abbrev pub kept : Bool → List Command → List Command → List Command
+kept true old read = old ++ read
+kept false old read = old
+
+-- Commands were read, and kept or not; or a function failed as reading does, or for want of memory.
+abbrev pub Keeps : {X : Type 0} → (X → List ℕ) → Bool → List Command → List Command → Result X ReadError → Result (List Command × List ℕ) Form → Type 0
+Keeps rest keep old new (Ok x) read = (commands : List Command) × (read ≡ Ok (commands, rest x)) × (new ≡ kept keep old commands)
+Keeps rest keep old new (Err e) read = Fails e read
+
+-- The commands of a packet were read and counted, and kept where there was room for so many; or a function failed as reading does, or for want
+-- of memory.
+abbrev pub AddsPacket : {X : Type 0} → (X → ℕ × List ℕ) → ℕ → List Command → List Command → Result X ReadError → Result (List Command × List ℕ) Form → Type 0
+AddsPacket view room old new (Ok x) read =
+    (commands : List Command) × (read ≡ Ok (commands, (view x).1)) × ((view x).0 ≡ length commands) × (new ≡ kept (nat_le (view x).0 room) old commands)
+AddsPacket view room old new (Err e) read = Fails e read
+
+-- A packet of so many commands was taken from the front of the bytes. They were added where there was room for so many.
+pub record Takes (bytes rest : List ℕ) (room count : ℕ) (old new : List Command) : Type 0 where
   pub commands : List Command
   pub is_packet : IsPacket commands
   pub parts : bytes ≡ packet commands ++ rest
-  pub added : new ≡ old ++ commands
+  pub counted : count ≡ length commands
+  pub added : new ≡ kept (nat_le count room) old commands
+
+-- The bytes of a stream spell commands, which were counted, and stored where there was room for them.
+pub record Decodes (bytes : List ℕ) (room : ℕ) (x : Decoded) : Type 0 where
+  pub all : List Command
+  pub spells : SpellsStream bytes all
+  pub counted : x.count ≡ length all
+  pub stored : x.count ≤ room → x.commands ≡ all
+  pub few : length x.commands ≤ room
+  pub short : x.count ≤ length bytes

@@ -21,6 +21,11 @@ abbrev pub Gives : {X Y : Type 0} → (X → Y) → Result X ReadError → Resul
 Gives view (Ok x) read = read ≡ Ok (view x)
 Gives view (Err e) read = Fails e read
 
+-- What a function that takes no memory returned, seen by view, is what reading gives.
+abbrev pub Reads : {X Y : Type 0} → (X → Y) → Result X Form → Result Y Form → Type 0
+Reads view (Ok x) read = read ≡ Ok (view x)
+Reads view (Err f) read = read ≡ Err f
+
 -- ---- readers put together: a value and the bytes after it
 
 -- one thing, and then another that may depend on it
@@ -40,27 +45,27 @@ with_front front read = read >>= λ x. Ok (front ++ x.0, x.1)
 
 -- ---- fields
 
-abbrev pub byte_at : List ℕ → Result (ℕ × List ℕ) Form
-byte_at [] = Err Truncated
-byte_at (b ∷ rest) = Ok (b, rest)
+abbrev pub read_byte : List ℕ → Result (ℕ × List ℕ) Form
+read_byte [] = Err Truncated
+read_byte (b ∷ rest) = Ok (b, rest)
 
 -- the low byte first
-abbrev pub number_at : Width → List ℕ → Result (ℕ × List ℕ) Form
-number_at w bytes = if nat_lt (length bytes) (byte_len w) then Err Truncated else Ok (from_le_bytes w (take (byte_len w) bytes), drop (byte_len w) bytes)
+abbrev pub read_unsigned : Width → List ℕ → Result (ℕ × List ℕ) Form
+read_unsigned w bytes = if nat_lt (length bytes) (byte_len w) then Err Truncated else Ok (from_le_bytes w (take (byte_len w) bytes), drop (byte_len w) bytes)
 
 -- two's complement
-abbrev pub word_at : List ℕ → Result (ℤ × List ℕ) Form
-word_at bytes = do
-  n ← number_at w32 bytes
+abbrev pub read_word : List ℕ → Result (ℤ × List ℕ) Form
+read_word bytes = do
+  n ← read_unsigned w32 bytes
   Ok (cast_signed w32 n.0, n.1)
 
-abbrev pub cons : ℤ × List ℤ → List ℤ
+abbrev pub cons : {A : Type 0} → A × List A → List A
 cons x = x.0 ∷ x.1
 
-unfoldable pub words_at : ℕ → List ℕ → Result (List ℤ × List ℕ) Form
-words_at zero bytes = Ok ([], bytes)
-words_at (suc n) bytes = convert cons (both word_at (words_at n)) bytes
+unfoldable pub read_words : ℕ → List ℕ → Result (List ℤ × List ℕ) Form
+read_words zero bytes = Ok ([], bytes)
+read_words (suc n) bytes = convert cons (both read_word (read_words n)) bytes
 
 -- so many bytes as they stand
-abbrev pub run_at : ℕ → List ℕ → Result (List ℕ × List ℕ) Form
-run_at count bytes = if nat_lt (length bytes) count then Err Truncated else Ok (take count bytes, drop count bytes)
+abbrev pub take_bytes : ℕ → List ℕ → Result (List ℕ × List ℕ) Form
+take_bytes count bytes = if nat_lt (length bytes) count then Err Truncated else Ok (take count bytes, drop count bytes)

@@ -3,8 +3,8 @@ use Rattle.std.specs.List.{AllByRecursion}
 use Rattle.std.specs.Int.{w32}
 use Rattle.std.specs.Prelude.{◌≡◌, ◌*◌, ◌^◌, ◌<◌, FitsSigned, List, [], ◌∷◌, length}
 use Rattle.rc_base.specs.declared.command.Command.{Command}
-use Rattle.rc_base.specs.Commands.{Kind, Value, Fields, AreBytes, opcode_of, kinds_of, fields_of}
-use Rattle.rc_base.specs.Commands.Kind.{Byte, Half, Word, Code, Bytes, Words, Image}
+use Rattle.rc_base.specs.Formats.Commands.{Kind, Value, Fields, AreBytes, opcode_of, kinds_of, fields_of}
+use Rattle.rc_base.specs.Formats.Commands.Kind.{Byte, Half, Word, Code, Bytes, Words, Image}
 
 -- four bytes for each texel of a picture
 abbrev pub HasTexels : (k : Kind) → Value k → Type 0

@@ -1,6 +1,6 @@
 //! Laws on the definitions, in the words of the format. Each function does nothing: its contract is the law.
-ghost use Rattle.cmd_pack.specs.Laws.{EncodedIsRead, SpellsOneList, PayloadLength, OneNumber, OneName};
-ghost use Rattle.cmd_pack.specs.Faults.{FaultsSpellNothing, FaultsAreOne};
+ghost use Rattle.cmd_pack.specs.Laws.{EncodedIsRead, SpellsOneList, PayloadLength};
+ghost use Rattle.cmd_pack.specs.Faults.{FaultsSpellNothing, FaultsAreOne, SpellsOrFails};
 
 /// What is encoded is read again.
 pub fn encoded_is_read()
@@ -22,17 +22,12 @@ pub fn faults_are_one()
     ensures law { FaultsAreOne }
 {}
 
+/// Bytes spell a list, or they have a fault.
+pub fn bytes_spell_or_fail()
+    ensures law { SpellsOrFails }
+{}
+
 /// The length of a payload is that of its row, and four bytes more for each texel of its picture.
 pub fn payload_length()
     ensures law { PayloadLength }
-{}
-
-/// No two opcodes share a number.
-pub fn one_number()
-    ensures law { OneNumber }
-{}
-
-/// No two opcodes share a name.
-pub fn one_name()
-    ensures law { OneName }
 {}

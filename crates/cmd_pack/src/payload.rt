@@ -1,26 +1,24 @@
 //! The reader of payloads: the numbers of a command, each as its range says, and then the texels of its picture.
 ghost use Rattle.std.specs.Prelude.{◌≡◌, ◌≤◌, length, take};
-ghost use Rattle.rc_base.specs.Text.Statements.{ranges_of, has_picture};
-ghost use Rattle.rc_base.specs.declared.text.LineName.TheVariants.{Command as CommandLine};
+ghost use Rattle.rc_base.specs.Formats.Commands.{ranges_of, has_picture};
 ghost use Rattle.command_table.specs.Ranges.{AreIn};
-ghost use Rattle.cmd_pack.specs.Parts.{ranged_at, numbers_at, texel_count};
-ghost use Rattle.cmd_pack.specs.Reading.{Gives};
-ghost use Rattle.cmd_pack.specs.Packets.{command_at};
+ghost use Rattle.cmd_pack.specs.Parts.{read_number, read_numbers, read_parts, texel_count};
+ghost use Rattle.cmd_pack.specs.Reading.{Gives, Reads};
+ghost use Rattle.cmd_pack.specs.Packets.{read_command};
 
-use crate::fault::ReadError;
+use crate::fault::{Form, ReadError};
 use crate::fields::{read_byte, read_half, read_word, take_bytes};
 use command_table::parts::Numbers;
-use command_table::{area_of, command_of, has_picture, ranges_of};
-use rc_base::command::{Command, Opcode};
+use command_table::{command_of, has_picture, picture_area, ranges_of};
+use rc_base::command::{Command, NumberRange, Opcode};
 use rc_base::items::Items;
-use rc_base::text::NumberRange;
 use std::alloc::Global;
 
-fn read_number(range: NumberRange, bytes: &[u8]) -> Result<(i32, &[u8]), ReadError>
-    ensures { Gives (λ x. (x.0, x.1.now)) result (ranged_at range bytes.now) }
+fn read_number(range: NumberRange, bytes: &[u8]) -> Result<(i32, &[u8]), Form>
+    ensures { Reads (λ x. (x.0, x.1.now)) result (read_number range bytes.now) }
 {
     match range {
-        NumberRange::Version | NumberRange::Byte => {
+        NumberRange::Byte => {
             let (number, rest) = read_byte(bytes)?;
             Ok((i32::from(number), rest))
         }
@@ -37,9 +35,9 @@ fn read_numbers<'a>(
     ranges: &[NumberRange],
     room: &mut Numbers,
     bytes: &'a [u8],
-) -> Result<&'a [u8], ReadError>
+) -> Result<&'a [u8], Form>
     requires { length ranges.now ≤ 16 }
-    ensures { Gives (λ rest. (take (length ranges.now) room.new, rest.now)) result (numbers_at ranges.now bytes.now) }
+    ensures { Reads (λ rest. (take (length ranges.now) room.new, rest.now)) result (read_numbers ranges.now bytes.now) }
 {
     let mut rest = bytes;
     for i in 0..ranges.len() {
@@ -52,11 +50,11 @@ fn read_numbers<'a>(
 
 /// How many bytes the texels of a command take: four for each texel of its picture, whose sides are its last two numbers.
 fn count_texels(opcode: Opcode, numbers: &[i32]) -> usize
-    requires { AreIn (ranges_of (CommandLine opcode)) numbers.now }
-    ensures { result ≡ texel_count (has_picture (CommandLine opcode)) numbers.now }
+    requires { AreIn (ranges_of opcode) numbers.now }
+    ensures { result ≡ texel_count (has_picture opcode) numbers.now }
 {
     if has_picture(opcode) {
-        4 * area_of(numbers) as usize
+        4 * picture_area(numbers) as usize
     } else {
         0
     }
@@ -68,13 +66,13 @@ pub fn read_command(
     opcode: Opcode,
     bytes: &[u8],
 ) -> Result<(Command, &[u8]), ReadError>
-    ensures { Gives (λ x. (x.0, x.1.now)) result (command_at opcode bytes.now) }
+    ensures { Gives (λ x. (x.0, x.1.now)) result (read_command opcode bytes.now) }
 {
     let ranges = ranges_of(opcode);
     let mut room = [0; 16];
     let rest = read_numbers(ranges, &mut room, bytes)?;
     let numbers = &room[..ranges.len()];
     let (texels, rest) = take_bytes(count_texels(opcode, numbers), rest)?;
-    let command = command_of(alloc, opcode, numbers, Items::from_slice(alloc, texels)?)?;
+    let command = command_of(opcode, numbers, Items::from_slice(alloc, texels)?);
     Ok((command, rest))
 }

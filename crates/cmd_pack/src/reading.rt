@@ -1,99 +1,129 @@
 //! The reader of streams: packet by packet, with the first fault from the left.
 ghost use Rattle.std.specs.Prelude.{◌≡◌, List, IfOk, IfErr, Ok, Err, ◌⊎◌};
 ghost use Rattle.rc_base.specs.declared.command.Command.{Command as AnyCommand};
-ghost use Rattle.rc_base.specs.Spelling.{SpellsStream};
-ghost use Rattle.cmd_pack.specs.Reading.{Gives, with_front};
-ghost use Rattle.cmd_pack.specs.Packets.{name_at, names_at, count_at, payloads_at, packet_at, Takes};
-ghost use Rattle.cmd_pack.specs.Faults.{FailsBy, FailsAsStream, placed};
+ghost use Rattle.rc_base.specs.Formats.Spelling.{SpellsStream};
+ghost use Rattle.cmd_pack.specs.Reading.{Gives, Reads, with_front};
+ghost use Rattle.cmd_pack.specs.Packets.{read_opcode, read_opcodes, read_count, read_payloads, read_packet, Keeps, AddsPacket, Takes, Decodes};
+ghost use Rattle.cmd_pack.specs.Faults.{FailsBy, FailsAsStream, pack_fault};
 
 use crate::fault::{Form, PackFault, ReadError};
 use crate::fields::{read_byte, read_half};
-use crate::opcode::opcode_from;
 use crate::payload::read_command;
+use command_table::opcode_from;
 use rc_base::command::{Commands, Opcode};
 use std::alloc::Global;
 
-#[tactic(auto, unfolding(crate::specs::Packets::count_at))]
-fn read_count(bytes: &[u8]) -> Result<(u16, &[u8]), ReadError>
-    ensures { Gives (λ x. (x.0, x.1.now)) result (count_at bytes.now) }
+/// The commands of a stream, where there was room for them, and how many they are.
+#[derive(Debug, Drop)]
+pub struct Decoded {
+    /// All commands, where they are no more than there was room for, and else some of them.
+    pub commands: Commands,
+    pub count: usize,
+}
+
+#[tactic(auto, unfolding(crate::specs::Packets::read_count))]
+fn read_count(bytes: &[u8]) -> Result<(u16, &[u8]), Form>
+    ensures { Reads (λ x. (x.0, x.1.now)) result (read_count bytes.now) }
 {
     let (count, rest) = read_half(bytes)?;
     if count == 0 || count > 1024 {
-        return Err(ReadError::Form(Form::BadCount { left: bytes.len() }));
+        return Err(Form::BadCount { left: bytes.len() });
     }
     Ok((count, rest))
 }
 
-#[tactic(auto, unfolding(crate::specs::Packets::name_at))]
-fn read_name(bytes: &[u8]) -> Result<(Opcode, &[u8]), ReadError>
-    ensures { Gives (λ x. (x.0, x.1.now)) result (name_at bytes.now) }
+#[tactic(auto, unfolding(crate::specs::Packets::read_opcode))]
+fn read_opcode(bytes: &[u8]) -> Result<(Opcode, &[u8]), Form>
+    ensures { Reads (λ x. (x.0, x.1.now)) result (read_opcode bytes.now) }
 {
     let (byte, rest) = read_byte(bytes)?;
     match opcode_from(byte) {
         Some(opcode) => Ok((opcode, rest)),
-        None => Err(ReadError::Form(Form::UnknownOpcode { left: bytes.len() })),
+        None => Err(Form::UnknownOpcode { left: bytes.len() }),
     }
 }
 
-fn read_names(alloc: Global, count: u16, bytes: &[u8]) -> Result<(Vec<Opcode>, &[u8]), ReadError>
-    ensures { Gives (λ x. (x.0.items, x.1.now)) result (names_at count bytes.now) }
+fn read_opcodes(alloc: Global, count: u16, bytes: &[u8]) -> Result<(Vec<Opcode>, &[u8]), ReadError>
+    ensures { Gives (λ x. (x.0.items, x.1.now)) result (read_opcodes count bytes.now) }
 {
-    let mut names = Vec::with_capacity(alloc, count as usize)?;
+    let mut opcodes = Vec::with_capacity(alloc, count as usize)?;
     let mut rest = bytes;
     for _ in 0..count {
-        let (name, after) = read_name(rest)?;
-        names.push(name)?;
+        let (opcode, after) = read_opcode(rest)?;
+        opcodes.push(opcode)?;
         rest = after;
     }
-    Ok((names, rest))
+    Ok((opcodes, rest))
 }
 
 /// Adds the commands with these opcodes, whose payloads stand at the front.
 fn read_payloads<'a>(
     alloc: Global,
     commands: &mut Commands,
-    names: &[Opcode],
+    opcodes: &[Opcode],
     bytes: &'a [u8],
 ) -> Result<&'a [u8], ReadError>
-    ensures { Gives (λ rest. (commands.new, rest.now)) result (with_front commands.old (payloads_at names.now bytes.now)) }
+    ensures { Gives (λ rest. (commands.new, rest.now)) result (with_front commands.old (read_payloads opcodes.now bytes.now)) }
 {
-    commands.reserve(names.len())?;
+    commands.reserve(opcodes.len())?;
     let mut rest = bytes;
-    for name in names {
-        let (command, after) = read_command(alloc, *name, rest)?;
+    for opcode in opcodes {
+        let (command, after) = read_command(alloc, *opcode, rest)?;
         commands.push(command)?;
         rest = after;
     }
     Ok(rest)
 }
 
-#[tactic(auto, unfolding(crate::specs::Packets::packet_at))]
+/// The same, where the commands are kept or only looked at.
+fn keep_payloads<'a>(
+    alloc: Global,
+    commands: &mut Commands,
+    keep: bool,
+    opcodes: &[Opcode],
+    bytes: &'a [u8],
+) -> Result<&'a [u8], ReadError>
+    ensures { Keeps (λ rest. rest.now) keep commands.old commands.new result (read_payloads opcodes.now bytes.now) }
+{
+    if keep {
+        return read_payloads(alloc, commands, opcodes, bytes);
+    }
+    let mut dropped = Commands::new(alloc);
+    read_payloads(alloc, &mut dropped, opcodes, bytes)
+}
+
+/// How many commands the packet at the front has. They are added where they are no more than there is room for.
 fn add_packet<'a>(
     alloc: Global,
     commands: &mut Commands,
+    room: usize,
     bytes: &'a [u8],
-) -> Result<&'a [u8], ReadError>
-    ensures { Gives (λ rest. (commands.new, rest.now)) result (with_front commands.old (packet_at bytes.now)) }
+) -> Result<(usize, &'a [u8]), ReadError>
+    ensures { AddsPacket (λ x. (x.0, x.1.now)) room commands.old commands.new result (read_packet bytes.now) }
 {
     let (count, rest) = read_count(bytes)?;
-    let (names, rest) = read_names(alloc, count, rest)?;
-    read_payloads(alloc, commands, names.as_slice(), rest)
+    let (opcodes, rest) = read_opcodes(alloc, count, rest)?;
+    let count = count as usize;
+    let rest = keep_payloads(alloc, commands, count <= room, opcodes.as_slice(), rest)?;
+    Ok((count, rest))
 }
 
-/// Adds the commands of the packet at the front.
+/// The same, by what the packet is.
 fn read_packet<'a>(
     alloc: Global,
     commands: &mut Commands,
+    room: usize,
     bytes: &'a [u8],
-) -> Result<&'a [u8], ReadError>
-    ensures found { IfOk result (λ rest. Takes bytes.now rest.now commands.old commands.new) }
+) -> Result<(usize, &'a [u8]), ReadError>
+    ensures found { IfOk result (λ x. Takes bytes.now x.1.now room x.0 commands.old commands.new) }
     ensures fails { IfErr result (FailsBy bytes.now) }
 {
-    add_packet(alloc, commands, bytes)
+    add_packet(alloc, commands, room, bytes)
 }
 
-fn place(error: ReadError, len: usize) -> PackFault
-    ensures { result ≡ placed error len }
+/// The fault with its place, in bytes of which there are so many.
+fn fault_at(error: ReadError, len: usize) -> PackFault
+    ensures { result ≡ pack_fault error len }
 {
     match error {
         ReadError::Memory => PackFault::OutOfMemory,
@@ -107,19 +137,35 @@ fn place(error: ReadError, len: usize) -> PackFault
     }
 }
 
+/// The commands that the bytes of a stream spell, where they are no more than there is room for, and how many they are; or the first fault
+/// from the left with its place in the stream. Beyond the room no command is stored, so a stream that is too long takes no more memory.
+pub fn decode_within(alloc: Global, room: usize, bytes: &[u8]) -> Result<Decoded, PackFault>
+    ensures found { IfOk result (Decodes bytes.now room) }
+    ensures fails { IfErr result (FailsAsStream bytes.now) }
+{
+    let mut commands = Commands::new(alloc);
+    let mut count = 0;
+    let mut rest = bytes;
+    while !rest.is_empty() {
+        match read_packet(alloc, &mut commands, room.saturating_sub(count), rest) {
+            Ok((more, after)) => {
+                count += more;
+                rest = after;
+            }
+            Err(error) => return Err(fault_at(error, bytes.len())),
+        }
+    }
+    Ok(Decoded { commands, count })
+}
+
 fn read_stream(alloc: Global, bytes: &[u8]) -> Result<Commands, PackFault>
     ensures found { IfOk result (SpellsStream bytes.now) }
     ensures fails { IfErr result (FailsAsStream bytes.now) }
 {
-    let mut commands = Commands::new(alloc);
-    let mut rest = bytes;
-    while !rest.is_empty() {
-        match read_packet(alloc, &mut commands, rest) {
-            Ok(after) => rest = after,
-            Err(error) => return Err(place(error, bytes.len())),
-        }
+    match decode_within(alloc, usize::MAX, bytes) {
+        Ok(Decoded { commands, .. }) => Ok(commands),
+        Err(fault) => Err(fault),
     }
-    Ok(commands)
 }
 
 /// The commands that the bytes of a stream spell, or the first fault from the left with its place in the stream.

@@ -1,11 +1,8 @@
 //! Streams by hand: every command byte for byte, packets of 1,024, and the first fault of bytes that spell nothing.
 use crate::fault::PackFault;
-use crate::opcode::{opcode_byte, opcode_from};
-use crate::reading::decode;
+use crate::reading::{decode, decode_within};
 use crate::writing::encode;
-use command_table::opcode_of;
-use rc_base::boxed::Boxed;
-use rc_base::command::{Command, Commands, Mat4, Opcode, Part, Rgba, Texels};
+use rc_base::command::{Command, Commands, Mat4, Part, Rgba, Texels};
 use rc_base::out_of_memory::OutOfMemory;
 use std::alloc::Global;
 use std::test::Fail;
@@ -51,7 +48,7 @@ fn matrix() -> Mat4 {
     }
 }
 
-fn add_drawing(alloc: Global, commands: &mut Commands) -> Result<(), OutOfMemory> {
+fn add_drawing(commands: &mut Commands) -> Result<(), OutOfMemory> {
     commands.push(Command::Begin { mode: 2 })?;
     commands.push(Command::End)?;
     commands.push(Command::Vertex {
@@ -71,8 +68,8 @@ fn add_drawing(alloc: Global, commands: &mut Commands) -> Result<(), OutOfMemory
     commands.push(Command::Disable { capability: 0 })?;
     commands.push(Command::MatrixMode { mode: 1 })?;
     commands.push(Command::LoadIdentity)?;
-    commands.push(Command::LoadMatrix(Boxed::new(alloc, matrix())?))?;
-    commands.push(Command::MultMatrix(Boxed::new(alloc, matrix())?))?;
+    commands.push(Command::LoadMatrix(matrix()))?;
+    commands.push(Command::MultMatrix(matrix()))?;
     commands.push(Command::PushMatrix)?;
     commands.push(Command::PopMatrix)?;
     Ok(())
@@ -122,7 +119,7 @@ fn add_textures(alloc: Global, commands: &mut Commands) -> Result<(), OutOfMemor
         name: 2,
         w: 1,
         h: 2,
-        texels: Boxed::new(alloc, image)?,
+        texels: image,
     })?;
     let texel = Texels::from_slice(alloc, &[20, 21, 22, 23])?;
     let part = Part {
@@ -133,7 +130,7 @@ fn add_textures(alloc: Global, commands: &mut Commands) -> Result<(), OutOfMemor
         h: 1,
         texels: texel,
     };
-    commands.push(Command::TexPart(Boxed::new(alloc, part)?))?;
+    commands.push(Command::TexPart(part))?;
     let none = Texels::new(alloc);
     let part = Part {
         name: 0,
@@ -143,7 +140,7 @@ fn add_textures(alloc: Global, commands: &mut Commands) -> Result<(), OutOfMemor
         h: 0,
         texels: none,
     };
-    commands.push(Command::SharedImage(Boxed::new(alloc, part)?))?;
+    commands.push(Command::SharedImage(part))?;
     Ok(())
 }
 
@@ -157,7 +154,7 @@ fn add_waits(commands: &mut Commands) -> Result<(), OutOfMemory> {
 
 fn every_command(alloc: Global) -> Result<Commands, OutOfMemory> {
     let mut commands = Commands::new(alloc);
-    add_drawing(alloc, &mut commands)?;
+    add_drawing(&mut commands)?;
     add_state(&mut commands)?;
     add_textures(alloc, &mut commands)?;
     add_waits(&mut commands)?;
@@ -213,10 +210,23 @@ fn the_first_fault_is_told(rt: HostRuntime) -> Result<(), Fail> {
 }
 
 #[test]
-fn opcodes_have_their_bytes(rt: HostRuntime) -> Result<(), Fail> {
-    assert_eq!(rt; opcode_of(&Command::Swap), Opcode::Swap);
-    assert_eq!(rt; opcode_byte(Opcode::Swap), 0x24);
-    assert_eq!(rt; opcode_from(0x24), Some(Opcode::Swap));
-    assert_eq!(rt; opcode_from(0x25), None);
+fn what_has_no_room_is_counted(rt: HostRuntime) -> Result<(), Fail> {
+    let mut bytes = Vec::from_slice(rt.alloc(), EVERY_COMMAND)?;
+    bytes.extend_from_slice(EVERY_COMMAND)?;
+    let rooms = [(0, 0), (35, 0), (36, 36), (71, 36), (72, 72)];
+    for (room, stored) in rooms {
+        match decode_within(rt.alloc(), room, bytes.as_slice()) {
+            Ok(decoded) => {
+                assert_eq!(rt; decoded.count, 72);
+                assert_eq!(rt; decoded.commands.len(), stored);
+            }
+            Err(_) => assert!(rt; false),
+        }
+    }
+    bytes.push(1)?;
+    match decode_within(rt.alloc(), 0, bytes.as_slice()) {
+        Ok(_) => assert!(rt; false),
+        Err(fault) => assert!(rt; fault == PackFault::Truncated { at: bytes.len() }),
+    }
     Ok(())
 }

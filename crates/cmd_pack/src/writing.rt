@@ -1,20 +1,17 @@
 //! The writer of streams: packets of 1,024 commands.
-ghost use Rattle.std.specs.Prelude.{◌≡◌, ◌≤◌, ◌++◌, length, map, true, IfOk, OnOk};
+ghost use Rattle.std.specs.Prelude.{◌≡◌, ◌<◌, ◌≤◌, ◌++◌, length, map, true, IfOk, OnOk};
 ghost use Rattle.std.specs.List.{flat_map, AllByRecursion};
-ghost use Rattle.rc_base.specs.Commands.{AreBytes};
+ghost use Rattle.rc_base.specs.Formats.Commands.{AreBytes, is_in_range};
 ghost use Rattle.rc_base.specs.Numbers.{entry};
-ghost use Rattle.rc_base.specs.Spelling.{half, payload, opcode_byte, packet, encoded, SpellsStream};
-ghost use Rattle.rc_base.specs.Text.Read.{is_in};
+ghost use Rattle.rc_base.specs.Formats.Spelling.{half, payload, opcode_byte, packet, encoded, SpellsStream};
 ghost use Rattle.command_table.specs.Ranges.{AreIn};
 ghost use Rattle.cmd_pack.specs.Parts.{number_bytes, numbers_bytes};
 ghost use Rattle.cmd_pack.specs.Texels.{HasType, IsWhole};
 
-use crate::opcode::opcode_byte;
-use command_table::making::{byte_at, half_at, word_at};
-use command_table::{opcode_of, parts_of, ranges_of};
-use rc_base::command::{Bytes, Command, Commands};
+use command_table::making::{byte_at, half_at};
+use command_table::{opcode_byte, opcode_of, parts_of, ranges_of};
+use rc_base::command::{Bytes, Command, Commands, NumberRange};
 use rc_base::out_of_memory::OutOfMemory;
-use rc_base::text::NumberRange;
 use std::alloc::Global;
 
 fn write_bytes(out: &mut Bytes, bytes: &[u8]) -> Result<(), OutOfMemory>
@@ -37,13 +34,14 @@ fn write_number(
     numbers: &[i32],
     i: usize,
 ) -> Result<(), OutOfMemory>
-    ensures { is_in range (entry numbers.now i) ≡ true → OnOk result (out.new ≡ out.old ++ number_bytes range (entry numbers.now i)) }
+    requires inside { i < length numbers.now }
+    requires range { is_in_range range (entry numbers.now i) ≡ true }
+    ensures { OnOk result (out.new ≡ out.old ++ number_bytes range (entry numbers.now i)) }
 {
     match range {
-        NumberRange::Version => write_bytes(out, &[1]),
         NumberRange::Byte => write_bytes(out, &[byte_at(numbers, i)]),
         NumberRange::Half => write_half(out, half_at(numbers, i)),
-        NumberRange::Word => write_bytes(out, &word_at(numbers, i).to_le_bytes()),
+        NumberRange::Word => write_bytes(out, &numbers[i].to_le_bytes()),
     }
 }
 
@@ -66,9 +64,9 @@ fn write_payload(out: &mut Bytes, command: &Command) -> Result<(), OutOfMemory>
     ensures added { OnOk result (out.new ≡ out.old ++ payload command.now) }
     ensures typed { OnOk result (HasType command.now) }
 {
-    let mut numbers = [0; 16];
-    let (count, texels) = parts_of(command, &mut numbers);
-    write_numbers(out, ranges_of(opcode_of(command)), &numbers[..count])?;
+    let mut room = [0; 16];
+    let (numbers, texels) = parts_of(command, &mut room);
+    write_numbers(out, ranges_of(opcode_of(command)), numbers)?;
     write_bytes(out, texels)
 }
 

@@ -1,3 +1,5 @@
-pub mod InRange
-pub mod Known
-pub mod Rows
+pub mod NumbersInRange
+pub mod ByOpcode
+pub mod FieldsAndParts
+pub mod PartsMakeCommands
+pub mod Search

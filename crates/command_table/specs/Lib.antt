@@ -1,3 +1,5 @@
 pub mod Ranges
 pub mod Making
-pub mod Known
+pub mod ByOpcode
+pub mod Opcodes
+pub mod Laws

@@ -6,8 +6,8 @@ use Rattle.rc_base.specs.declared.command.Opcode.{Opcode}
 use Rattle.rc_base.specs.declared.command.Opcode.TheVariants as op
 use Rattle.rc_base.specs.declared.command.Part.{Part}
 use Rattle.rc_base.specs.declared.command.Rgba.{Rgba}
-use Rattle.rc_base.specs.Commands.{Fields, kinds_of}
-use Rattle.rc_base.specs.Commands.Kind.{Byte, Half, Image}
+use Rattle.rc_base.specs.Formats.Commands.{Fields, kinds_of}
+use Rattle.rc_base.specs.Formats.Commands.Kind.{Byte, Half, Image}
 
 abbrev color_from : Fields (Byte ∷ Byte ∷ Byte ∷ Byte ∷ []) → Rgba
 color_from x = record { r = x.0; g = x.1.0; b = x.1.1.0; a = x.1.1.1.0 }

@@ -1,22 +1,25 @@
 -- Numbers in their ranges, and the parts of a command.
 use Rattle.std.specs.Prelude.{◌≡◌, ◌≤◌, true, List, [], ◌∷◌, take, ℕ, ℤ}
 use Rattle.rc_base.specs.declared.command.Command.{Command}
-use Rattle.rc_base.specs.declared.text.LineName.TheVariants as line
-use Rattle.rc_base.specs.declared.text.NumberRange.{NumberRange}
-use Rattle.rc_base.specs.Commands.{opcode_of}
-use Rattle.rc_base.specs.Text.Read.{is_in}
-use Rattle.rc_base.specs.Text.Statements.{ranges_of, command_statement}
+use Rattle.rc_base.specs.declared.command.NumberRange.{NumberRange}
+use Rattle.rc_base.specs.Formats.Commands.{opcode_of, ranges_of, is_in_range, parts_of}
 
 -- each number is in the range at its place
 abbrev pub AreIn : List NumberRange → List ℤ → Type 0
 AreIn [] [] = Unit {0}
 AreIn [] (z ∷ zs) = ⊥
 AreIn (r ∷ rs) [] = ⊥
-AreIn (r ∷ rs) (z ∷ zs) = (is_in r z ≡ true) × AreIn rs zs
+AreIn (r ∷ rs) (z ∷ zs) = (is_in_range r z ≡ true) × AreIn rs zs
 
--- so many numbers, and these texels, are those of a command, and each number is in its range
-pub record ArePartsOf (c : Command) (numbers : List ℤ) (count : ℕ) (texels : List ℕ) : Type 0 where
+-- the numbers and the texels are those of a command, and each number is in its range
+pub record ArePartsOf (c : Command) (numbers : List ℤ) (texels : List ℕ) : Type 0 where
+  pub numbers_are : numbers ≡ (parts_of c).numbers
+  pub texels_are : texels ≡ (parts_of c).texels
+  pub in_range : AreIn (ranges_of (opcode_of c)) numbers
+
+-- so many numbers at the front, and the texels, are those of a command
+pub record FrontHasPartsOf (c : Command) (room : List ℤ) (count : ℕ) (texels : List ℕ) : Type 0 where
   pub most : count ≤ 16
-  pub numbers_are : take count numbers ≡ (command_statement c).numbers
-  pub texels_are : texels ≡ (command_statement c).texels
-  pub in_range : AreIn (ranges_of (line.Command (opcode_of c))) (take count numbers)
+  pub numbers_are : take count room ≡ (parts_of c).numbers
+  pub texels_are : texels ≡ (parts_of c).texels
+  pub in_range : AreIn (ranges_of (opcode_of c)) (take count room)

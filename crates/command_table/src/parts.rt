@@ -1,25 +1,24 @@
 //! The numbers and the texels of a command.
 ghost use Rattle.std.specs.Prelude.{◌≡◌, ◌≤◌, ◌∷◌, [], pos, map, length, take, replicate, true};
-ghost use Rattle.rc_base.specs.Text.Read.{is_in};
-ghost use Rattle.command_table.specs.Ranges.{AreIn, ArePartsOf};
-ghost use Rattle.command_table.specs.Known.{GivesParts};
+ghost use Rattle.rc_base.specs.Formats.Commands.{is_in_range};
+ghost use Rattle.command_table.specs.Ranges.{AreIn, ArePartsOf, FrontHasPartsOf};
+ghost use Rattle.command_table.specs.ByOpcode.{when_known};
 
-use rc_base::command::{Command, Part, Rgba};
-use rc_base::text::NumberRange;
+use rc_base::command::{Command, NumberRange, Part, Rgba};
 
 /// Room for the numbers of a command.
 pub type Numbers = [i32; 16];
 
 fn byte(number: u8) -> i32
     ensures value { result ≡ pos number }
-    ensures in_range { is_in NumberRange.Byte (pos number) ≡ true }
+    ensures in_range { is_in_range NumberRange.Byte (pos number) ≡ true }
 {
     i32::from(number)
 }
 
 fn half(number: u16) -> i32
     ensures value { result ≡ pos number }
-    ensures in_range { is_in NumberRange.Half (pos number) ≡ true }
+    ensures in_range { is_in_range NumberRange.Half (pos number) ≡ true }
 {
     i32::from(number)
 }
@@ -83,9 +82,10 @@ fn put_part(room: &mut Numbers, part: &Part) -> usize
     put_words(room, &[byte(*name), half(*x), half(*y), half(*w), half(*h)])
 }
 
-#[tactic(auto, unfolding(crate::specs::Known::at_known))]
+// Puts the numbers of a command to the front of the room. Gives how many they are, and the texels.
+#[tactic(auto, unfolding(crate::specs::ByOpcode::when_known))]
 fn put_parts<'a>(command: &'a Command, room: &mut Numbers) -> (usize, &'a [u8])
-    ensures { GivesParts command.now room.new result.0 result.1.now }
+    ensures { when_known (λ c. FrontHasPartsOf c room.new result.0 result.1.now) command.now }
 {
     match command {
         Command::Begin { mode } => (put_bytes(room, &[*mode]), &[]),
@@ -97,8 +97,8 @@ fn put_parts<'a>(command: &'a Command, room: &mut Numbers) -> (usize, &'a [u8])
         Command::Disable { capability } => (put_bytes(room, &[*capability]), &[]),
         Command::MatrixMode { mode } => (put_bytes(room, &[*mode]), &[]),
         Command::LoadIdentity => (0, &[]),
-        Command::LoadMatrix(matrix) => (put_words(room, &matrix.as_ref().m), &[]),
-        Command::MultMatrix(matrix) => (put_words(room, &matrix.as_ref().m), &[]),
+        Command::LoadMatrix(matrix) => (put_words(room, &matrix.m), &[]),
+        Command::MultMatrix(matrix) => (put_words(room, &matrix.m), &[]),
         Command::PushMatrix => (0, &[]),
         Command::PopMatrix => (0, &[]),
         Command::Viewport { area } => (put_words(room, area), &[]),
@@ -125,16 +125,10 @@ fn put_parts<'a>(command: &'a Command, room: &mut Numbers) -> (usize, &'a [u8])
         Command::TexWrap { s, t } => (put_bytes(room, &[*s, *t]), &[]),
         Command::TexImage { name, w, h, texels } => (
             put_image(room, *name, *w, *h),
-            texels.as_ref().as_slice(),
+            texels.as_slice(),
         ),
-        Command::TexPart(part) => (
-            put_part(room, part.as_ref()),
-            part.as_ref().texels.as_slice(),
-        ),
-        Command::SharedImage(part) => (
-            put_part(room, part.as_ref()),
-            part.as_ref().texels.as_slice(),
-        ),
+        Command::TexPart(part) => (put_part(room, part), part.texels.as_slice()),
+        Command::SharedImage(part) => (put_part(room, part), part.texels.as_slice()),
         Command::Barrier { name } => (put_bytes(room, &[*name]), &[]),
         Command::SemP { name } => (put_bytes(room, &[*name]), &[]),
         Command::SemV { name } => (put_bytes(room, &[*name]), &[]),
@@ -142,10 +136,10 @@ fn put_parts<'a>(command: &'a Command, room: &mut Numbers) -> (usize, &'a [u8])
     }
 }
 
-/// Puts the numbers of a command to the front of the room. Gives how many they are, and the texels, which a command without a picture
-/// has none of.
-pub fn parts_of<'a>(command: &'a Command, room: &mut Numbers) -> (usize, &'a [u8])
-    ensures { ArePartsOf command.now room.new result.0 result.1.now }
+/// The numbers of a command, for which the room is used, and its texels, which a command without a picture has none of.
+pub fn parts_of<'a, 'r>(command: &'a Command, room: &'r mut Numbers) -> (&'r [i32], &'a [u8])
+    ensures { ArePartsOf command.now result.0.now result.1.now }
 {
-    put_parts(command, room)
+    let (count, texels) = put_parts(command, room);
+    (&room[..count], texels)
 }

@@ -1,13 +1,14 @@
 //! Commands made of their parts, and the parts of commands.
 ghost use Rattle.std.specs.Prelude.{◌≡◌, [], false};
-ghost use Rattle.rc_base.specs.Text.Statements.{ranges_of, has_picture};
-ghost use Rattle.rc_base.specs.declared.text.LineName.TheVariants.{Command as CommandLine};
+ghost use Rattle.rc_base.specs.Formats.Commands.{ranges_of, has_picture};
 ghost use Rattle.command_table.specs.Ranges.{AreIn};
 
-use crate::{area_of, command_of, has_picture, opcode_of, parts_of, ranges_of};
-use rc_base::command::{Command, Opcode, Texels};
+use crate::{
+    command_of, has_picture, name_of, opcode_byte, opcode_from, opcode_named, opcode_of, parts_of,
+    picture_area, ranges_of,
+};
+use rc_base::command::{Command, NumberRange, Opcode, Texels};
 use rc_base::out_of_memory::OutOfMemory;
-use rc_base::text::NumberRange;
 use std::alloc::Global;
 use std::test::Fail;
 
@@ -18,13 +19,13 @@ fn comes_back(
     numbers: &[i32],
     texels: &[u8],
 ) -> Result<bool, OutOfMemory>
-    requires numbers { AreIn (ranges_of (CommandLine opcode)) numbers.now }
-    requires texels { has_picture (CommandLine opcode) ≡ false → texels.now ≡ [] }
+    requires numbers { AreIn (ranges_of opcode) numbers.now }
+    requires texels { has_picture opcode ≡ false → texels.now ≡ [] }
 {
-    let command = command_of(alloc, opcode, numbers, Texels::from_slice(alloc, texels)?)?;
+    let command = command_of(opcode, numbers, Texels::from_slice(alloc, texels)?);
     let mut room = [0; 16];
-    let (count, found) = parts_of(&command, &mut room);
-    Ok(opcode_of(&command) == opcode && &room[..count] == numbers && found == texels)
+    let (found, found_texels) = parts_of(&command, &mut room);
+    Ok(opcode_of(&command) == opcode && found == numbers && found_texels == texels)
 }
 
 #[test]
@@ -56,12 +57,7 @@ fn commands_have_the_parts_that_they_are_made_of(rt: HostRuntime) -> Result<(), 
 
 #[test]
 fn a_viewport_is_x_y_width_and_height(rt: HostRuntime) -> Result<(), Fail> {
-    let made = command_of(
-        rt.alloc(),
-        Opcode::Viewport,
-        &[1, 2, 3, 4],
-        Texels::new(rt.alloc()),
-    )?;
+    let made = command_of(Opcode::Viewport, &[1, 2, 3, 4], Texels::new(rt.alloc()));
     assert!(rt; made == Command::Viewport { area: [1, 2, 3, 4] });
     Ok(())
 }
@@ -74,6 +70,18 @@ fn rows_have_their_ranges(rt: HostRuntime) {
             == [NumberRange::Byte, NumberRange::Half, NumberRange::Half].as_slice()
     );
     assert!(rt; ranges_of(Opcode::LoadMatrix).len() == 16);
-    assert!(rt; area_of(&[1, 7, 3]) == 21 && area_of(&[0, 9]) == 0);
+    assert!(rt; picture_area(&[1, 7, 3]) == 21 && picture_area(&[0, 9]) == 0);
     assert!(rt; has_picture(Opcode::SharedImage) && !has_picture(Opcode::BindTexture));
+}
+
+#[test]
+fn opcodes_have_their_bytes_and_names(rt: HostRuntime) {
+    assert!(rt; opcode_of(&Command::Swap) == Opcode::Swap && opcode_byte(Opcode::Swap) == 0x24);
+    assert!(rt;
+        opcode_from(0x01) == Some(Opcode::Begin) && opcode_from(0x24) == Some(Opcode::Swap)
+    );
+    assert!(rt; opcode_from(0) == None && opcode_from(0x25) == None && opcode_from(255) == None);
+    assert!(rt; name_of(Opcode::SemP) == b"SemP".as_slice());
+    assert!(rt; opcode_named(b"ClearColor") == Some(Opcode::ClearColor));
+    assert!(rt; opcode_named(b"clearcolor") == None && opcode_named(b"") == None);
 }

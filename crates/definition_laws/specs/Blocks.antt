@@ -1,11 +1,12 @@
 -- The block that an `End` draws, told by the commands before it.
 use Rattle.std.specs.Prelude.{◌≡◌, ℕ, zero, suc, ◌+◌, ◌<◌, List, [], ◌∷◌, ◌++◌, Option, Some, None, is_none, if◌then◌else◌}
-use Rattle.rc_base.specs.Context.{ClientContext}
-use Rattle.rc_base.specs.Faults.{fault_of}
-use Rattle.rc_base.specs.Issue.{context_after, command_at}
+use Rattle.rc_base.specs.Contexts.Context.{ClientContext}
+use Rattle.rc_base.specs.Contexts.Faults.{fault_of}
+use Rattle.rc_base.specs.Contexts.Issue.{context_after, command_at, effect_at}
 use Rattle.rc_base.specs.declared.command.Command.{Command}
 use Rattle.rc_base.specs.declared.command.Command.TheVariants as cmd
 use Rattle.rc_base.specs.declared.state.Block.{Block}
+use Rattle.rc_base.specs.declared.state.Effect.TheVariants as eff
 use Rattle.rc_base.specs.declared.state.Vertex.{Vertex}
 use Rattle.rc_base.specs.declared.scene.Scene.{Scene}
 
@@ -43,3 +44,9 @@ abbrev pub OpenBlocksAreOfTheirCommands : Type 0
 OpenBlocksAreOfTheirCommands =
     (scene : Scene) (client place : ℕ) (block : Block) → (context_after scene client place).block ≡ Some block
     → IsBlockBefore scene client place block
+
+-- an accepted End draws such a block
+abbrev pub DrawnBlocksAreOfTheirCommands : Type 0
+DrawnBlocksAreOfTheirCommands =
+    (scene : Scene) (client place : ℕ) → IsAccepted scene client place cmd.End
+    → (block : Block) × (effect_at scene client place ≡ eff.Block block) × IsBlockBefore scene client place block

@@ -1,8 +1,8 @@
 -- What refused commands leave.
 use Rattle.std.specs.Prelude.{◌≡◌, ℕ, [], ◌∷◌, ◌++◌, Some}
-use Rattle.rc_base.specs.Context.{ClientContext}
-use Rattle.rc_base.specs.Faults.{fault_of}
-use Rattle.rc_base.specs.Issue.{issued, effect_of}
+use Rattle.rc_base.specs.Contexts.Context.{ClientContext}
+use Rattle.rc_base.specs.Contexts.Faults.{fault_of}
+use Rattle.rc_base.specs.Contexts.Issue.{issued, effect_of}
 use Rattle.rc_base.specs.declared.command.Command.{Command}
 use Rattle.rc_base.specs.declared.state.Fault.{Fault}
 use Rattle.rc_base.specs.declared.state.Effect.TheVariants as eff

@@ -1,6 +1,6 @@
 -- How tiles cut the window.
 use Rattle.std.specs.Prelude.{◌≡◌, ℕ, ◌*◌, ◌<◌, true}
-use Rattle.rc_base.specs.Tiles.{tile_pixels}
+use Rattle.rc_base.specs.Cluster.Tiles.{tile_pixels}
 use Rattle.rc_base.specs.declared.window.Layout.{Layout}
 
 -- the tile is one of the layout's and has the pixel

@@ -1,5 +1,5 @@
 //! Laws of tiles and boxes.
-ghost use Rattle.definition_laws.specs.Boxes.{TouchedPixelsLieInTheBox};
+ghost use Rattle.definition_laws.specs.Boxes.{TouchedPixelsLieInTheBox, TouchedTilesMeetTheBox};
 ghost use Rattle.definition_laws.specs.Tiles.{EachPixelHasOneTile};
 
 use raster::cover_lies_in_bounds;
@@ -9,9 +9,10 @@ pub fn each_pixel_has_one_tile()
     ensures { EachPixelHasOneTile }
 {}
 
-/// Every pixel that a command touches lies in its box, so a tile that the box misses loses nothing.
+/// Every pixel that a command touches lies in its box, and the tile that has the pixel meets the box: a tile that the box misses loses nothing.
 pub fn touched_pixels_lie_in_the_box()
-    ensures { TouchedPixelsLieInTheBox }
+    ensures pixels { TouchedPixelsLieInTheBox }
+    ensures tiles { TouchedTilesMeetTheBox }
 {
     cover_lies_in_bounds();
 }

@@ -5,8 +5,8 @@ use Rattle.std.specs.Int.{Width, int_div_euclid, int_gap}
 use borrow.Author.Differences.{up, down, same_in, same_out, le_out, lt_out, at_most_in, below_in, sum_is_lem, neg_is, product_is}
 use mir.Val.{hbits}
 use lib.IntN.{*ℤ_comm}
-use mir.Syntax.{w32, w128}
-use Rattle.rc_base.specs.Numbers.{Within}
+use mir.Syntax.{w32}
+use Rattle.rc_base.specs.Numbers.{Within, floor_quotient, fixed_one}
 use Rattle.fixed_math.specs.Bounds.{AllWithin}
 
 -- the quotient q that rounds down has k * q ≤ a < k * q + k
@@ -87,9 +87,6 @@ term_within a b f h =
     let p = product_bound a b (2 ^ 31) (2 ^ 64) (abs_from_fits w32 a f) (abs_from_within b (2 ^ 64) h.0 h.1) in
     (within_low (a *ℤ b) (2 ^ 95) p, within_high (a *ℤ b) (2 ^ 95) p)
 
-pub fits_within : (z : ℤ) (m : ℕ) → Within m z → m < 2 ^ 127 → FitsSigned w128 z
-fits_within z m h k = let a = h.0 in let b = h.1 in omega (arith, ints)
-
 pub product_within : (a b : ℤ) (m n : ℕ) → Within m a → Within n b → Within (m * n) (a *ℤ b)
 product_within a b m n h k =
     let p = product_bound a b m n (abs_from_within a m h.0 h.1) (abs_from_within b n k.0 k.1) in
@@ -156,15 +153,15 @@ fits_from_ends w z h k = omega (arith, ints)
 add4_within : (a b c d : ℤ) (n : ℕ) → Within n a → Within n b → Within n c → Within n d → Within (4 * n) (a +ℤ b +ℤ c +ℤ d)
 add4_within a b c d n h i j k = let p = h.0 in let q = h.1 in let r = i.0 in let s = i.1 in let t = j.0 in let u = j.1 in let v = k.0 in let w = k.1 in (omega (arith, ints), omega (arith, ints))
 
--- the floor of a sixty-five thousandth
-pub shrunk_within : (z : ℤ) (n : ℕ) → Within (2 ^ 33 * n) z → Within (2 ^ 17 * n) (int_div_euclid z (pos 65536))
+-- the quotient by one of 16.16 fixed point
+pub shrunk_within : (z : ℤ) (n : ℕ) → Within (2 ^ 33 * n) z → Within (2 ^ 17 * n) (floor_quotient z (pos fixed_one))
 shrunk_within z n h =
     let l = h.0 in let u = h.1 in (
-      floor_from_low z (pos 65536) (neg_ℤ (pos (2 ^ 17 * n))) (omega (arith, ints)) (omega (arith, ints)),
-      floor_to_high z (pos 65536) (pos (2 ^ 17 * n)) (omega (arith, ints)) (omega (arith, ints)),
+      floor_from_low z (pos fixed_one) (neg_ℤ (pos (2 ^ 17 * n))) (omega (arith, ints)) (omega (arith, ints)),
+      floor_to_high z (pos fixed_one) (pos (2 ^ 17 * n)) (omega (arith, ints)) (omega (arith, ints)),
     )
 
-pub row_within : (a b c d : ℤ) (n : ℕ) → Within (2 ^ 31 * n) a → Within (2 ^ 31 * n) b → Within (2 ^ 31 * n) c → Within (2 ^ 31 * n) d → Within (2 ^ 17 * n) (int_div_euclid (a +ℤ b +ℤ c +ℤ d) (pos 65536))
+pub row_within : (a b c d : ℤ) (n : ℕ) → Within (2 ^ 31 * n) a → Within (2 ^ 31 * n) b → Within (2 ^ 31 * n) c → Within (2 ^ 31 * n) d → Within (2 ^ 17 * n) (floor_quotient (a +ℤ b +ℤ c +ℤ d) (pos fixed_one))
 row_within a b c d n h i j k =
     let s = add4_within a b c d (2 ^ 31 * n) h i j k in
     let e : 4 * (2 ^ 31 * n) ≡ 2 ^ 33 * n = omega arith in

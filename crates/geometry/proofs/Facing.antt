@@ -1,15 +1,16 @@
 -- Tests of bounds, and which way a triangle faces.
-use Rattle.std.proofs.Common.{◌≡◌, ℕ, ◌<◌, ◌^◌, ℤ, pos, neg_ℤ, ◌<ℤ◌, ◌≤ℤ◌, Bool, true, false, ◌&&◌, arith, FitsSigned, w32, refl, ap, not, int_eq, ◌-ℤ◌, Option, Some, None, MatchOption}
+use Rattle.std.proofs.Common.{◌≡◌, ℕ, ◌<◌, ◌^◌, ℤ, pos, neg_ℤ, ◌<ℤ◌, ◌≤ℤ◌, true, false, ◌&&◌, arith, FitsSigned, w32, ap, not, int_eq, ◌-ℤ◌, Option, Some, None, MatchOption}
 use Rattle.std.specs.Prelude.{if◌then◌else◌}
 use Rattle.std.proofs.lemmas.Int.{ints}
 use Rattle.std.proofs.Math.IntN.{*ℤ_comm}
+use Rattle.std.proofs.lemmas.Bool.{and_parts, and_from, and_right, not_from_true, not_from_false}
 use Rattle.std.proofs.lemmas.Bool.Decides.{Decides-int_eq}
 use borrow.Author.Differences.{same_in, same_out, sum_is_lem, neg_is}
 use Rattle.rc_base.specs.Numbers.{Within, entry, is_within}
-use Rattle.rc_base.specs.Drawing.Cover.{area_of, IsInBounds}
-use Rattle.rc_base.specs.Drawing.Window.{clip_of, window_of, is_in_bounds, is_placed}
+use Rattle.rc_base.specs.Drawing.Cover.{triangle_area, IsInBounds}
+use Rattle.rc_base.specs.Drawing.Window.{clip_of, window_of, is_in_bounds, is_placed, place_bound, depth_bound}
 use Rattle.rc_base.specs.Drawing.Kept.{three, is_culled, is_shown, oriented, is_kept, kept_of}
-use Rattle.fixed_math.proofs.Signs.{both, above_is, below_is, not_below_is, off}
+use Rattle.fixed_math.proofs.Signs.{above_is, below_is, not_below_is, off}
 use Rattle.rc_base.specs.declared.state.State.{State}
 use Rattle.rc_base.specs.declared.state.Vertex.{Vertex}
 use Rattle.rc_base.specs.declared.window.WindowVertex.{WindowVertex}
@@ -22,34 +23,27 @@ pub placed_is : (s : State) (v : Vertex) → pos 0 <ℤ entry (clip_of s v) 3 �
 unfolding is_placed
 placed_is s v h = ap (λ t. t && is_in_bounds (window_of s v)) (above_is (entry (clip_of s v) 3) h)
 
-no_right : (a b : Bool) → b ≡ true → (a && not b) ≡ false
-no_right true b e = rw e refl
-no_right false b e = refl
-
 pub not_shown_flat : (s : State) (a : ℤ) → a ≡ pos 0 → is_shown s a ≡ false
 unfolding is_shown
 not_shown_flat s a e = ap (λ t. not t && not (is_culled s a)) ((Decides-int_eq a (pos 0)).1 e)
 
 pub not_shown_culled : (s : State) (a : ℤ) → is_culled s a ≡ true → is_shown s a ≡ false
 unfolding is_shown
-not_shown_culled s a e = no_right (not (int_eq a (pos 0))) (is_culled s a) e
-
-both_not : (a b : Bool) → a ≡ false → b ≡ false → (not a && not b) ≡ true
-both_not a b h k = rw (h, k) refl
+not_shown_culled s a e = and_right (not (int_eq a (pos 0))) (not (is_culled s a)) (not_from_true (is_culled s a) e)
 
 pub shown : (s : State) (a : ℤ) → (a ≡ pos 0 → ⊥) → is_culled s a ≡ false → is_shown s a ≡ true
 unfolding is_shown
-shown s a n e = both_not (int_eq a (pos 0)) (is_culled s a) (off a n) e
+shown s a n e = and_from (not (int_eq a (pos 0))) (not (is_culled s a)) (not_from_false (int_eq a (pos 0)) (off a n)) (not_from_false (is_culled s a) e)
 
-pub turned_round : (a b c : WindowVertex) → area_of (three a b c) <ℤ pos 0 → oriented a b c ≡ three a c b
+pub turned_round : (a b c : WindowVertex) → triangle_area (three a b c) <ℤ pos 0 → oriented a b c ≡ three a c b
 unfolding oriented
-turned_round a b c h = ap (λ t. if t then three a c b else three a b c) (below_is (area_of (three a b c)) h)
+turned_round a b c h = ap (λ t. if t then three a c b else three a b c) (below_is (triangle_area (three a b c)) h)
 
-pub left_as_is : (a b c : WindowVertex) → pos 0 ≤ℤ area_of (three a b c) → oriented a b c ≡ three a b c
+pub left_as_is : (a b c : WindowVertex) → pos 0 ≤ℤ triangle_area (three a b c) → oriented a b c ≡ three a b c
 unfolding oriented
-left_as_is a b c h = ap (λ t. if t then three a c b else three a b c) (not_below_is (area_of (three a b c)) h)
+left_as_is a b c h = ap (λ t. if t then three a c b else three a b c) (not_below_is (triangle_area (three a b c)) h)
 
-pub area_turned : (a b c : WindowVertex) → area_of (three a c b) ≡ neg_ℤ (area_of (three a b c))
+pub area_turned : (a b c : WindowVertex) → triangle_area (three a c b) ≡ neg_ℤ (triangle_area (three a b c))
 area_turned a b c =
     let e = *ℤ_comm (b.x -ℤ a.x) (c.y -ℤ a.y) in
     let f = *ℤ_comm (b.y -ℤ a.y) (c.x -ℤ a.x) in
@@ -57,9 +51,9 @@ area_turned a b c =
 
 pub vertex_bounds : (v : WindowVertex) → is_in_bounds v ≡ true → IsInBounds v
 vertex_bounds v e =
-    let p = both _ _ e in
-    let q = both _ _ p.1 in
-    (bounds (2 ^ 20) v.x p.0, bounds (2 ^ 20) v.y q.0, bounds (2 ^ 30) v.z q.1)
+    let p = and_parts _ _ e in
+    let q = and_parts _ _ p.1 in
+    (bounds place_bound v.x p.0, bounds place_bound v.y q.0, bounds depth_bound v.z q.1)
   where
     bounds : (n : ℕ) (z : ℤ) → is_within n z ≡ true → Within n z
     bounds n z e = (grind (arith, ints), grind (arith, ints))

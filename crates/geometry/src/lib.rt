@@ -3,10 +3,10 @@
 //! The definitions are those of `rc_base::specs::Drawing`. Stands on `rc_base`'s types and `fixed_math`. No call takes memory.
 #![tactic(auto)]
 
-mod place;
 mod primitives;
 #[cfg(test)]
 mod tests;
+mod vertex;
 mod window;
 
 pub use primitives::{TriangleIter, triangles};

@@ -1,12 +1,11 @@
 //! From three vertices to a triangle of the window.
 ghost use Rattle.std.specs.Prelude.{◌≡◌, ◌^◌, pos, true, false, neg_ℤ, ◌<ℤ◌, Option, Some, None, MatchOption};
 ghost use Rattle.rc_base.specs.Numbers.{Within};
-ghost use Rattle.rc_base.specs.Drawing.Cover.{area_of, IsInBounds};
-ghost use Rattle.rc_base.specs.Drawing.Kept.{three, is_culled, is_shown, oriented, is_kept, kept_of};
+ghost use Rattle.rc_base.specs.Drawing.Cover.{triangle_area, IsInBounds};
+ghost use Rattle.rc_base.specs.Drawing.Kept.{three, is_culled, is_shown, oriented, is_kept, kept_of, vertex_at};
 ghost use Rattle.rc_base.specs.Drawing.Window.{window_of};
-ghost use Rattle.geometry.specs.Place.{vertex_at};
 
-use crate::place::place;
+use crate::vertex::window_vertex;
 use fixed_math::edge;
 use rc_base::state::{State, Vertex};
 use rc_base::triangle::WindowTriangle;
@@ -27,7 +26,7 @@ fn make(a: WindowVertex, b: WindowVertex, c: WindowVertex, area: i64) -> WindowT
     requires a { IsInBounds a }
     requires b { IsInBounds b }
     requires c { IsInBounds c }
-    requires area { area ≡ area_of (three a b c) }
+    requires area { area ≡ triangle_area (three a b c) }
     requires positive { pos 0 <ℤ area }
     ensures { result.v ≡ three a b c }
 {
@@ -38,7 +37,7 @@ fn signed_area(a: &WindowVertex, b: &WindowVertex, c: &WindowVertex) -> i64
     requires a { IsInBounds a.now }
     requires b { IsInBounds b.now }
     requires c { IsInBounds c.now }
-    ensures value { result ≡ area_of (three a.now b.now c.now) }
+    ensures value { result ≡ triangle_area (three a.now b.now c.now) }
     ensures small { Within (2 ^ 44) result }
 {
     edge(a, b, i64::from(c.x), i64::from(c.y))
@@ -61,8 +60,8 @@ fn assemble(
     requires b { IsInBounds b }
     requires c { IsInBounds c }
     ensures { MatchOption result
-        (is_shown state.now (area_of (three a b c)) ≡ false)
-        (λ t. (is_shown state.now (area_of (three a b c)) ≡ true) × (t.v ≡ oriented a b c)) }
+        (is_shown state.now (triangle_area (three a b c)) ≡ false)
+        (λ t. (is_shown state.now (triangle_area (three a b c)) ≡ true) × (t.v ≡ oriented a b c)) }
 {
     let area = signed_area(&a, &b, &c);
     if area == 0 {
@@ -86,9 +85,9 @@ fn kept(state: &State, corners: &[Vertex; 3]) -> Option<WindowTriangle>
         (λ t. (is_kept state.now (vertex_at corners.now 0) (vertex_at corners.now 1) (vertex_at corners.now 2) ≡ true)
         × (t.v ≡ oriented (window_of state.now (vertex_at corners.now 0)) (window_of state.now (vertex_at corners.now 1)) (window_of state.now (vertex_at corners.now 2)))) }
 {
-    let a = place(state, &corners[0])?;
-    let b = place(state, &corners[1])?;
-    let c = place(state, &corners[2])?;
+    let a = window_vertex(state, &corners[0])?;
+    let b = window_vertex(state, &corners[1])?;
+    let c = window_vertex(state, &corners[2])?;
     assemble(state, a, b, c)
 }
 

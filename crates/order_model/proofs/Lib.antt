@@ -1,23 +1,30 @@
-mod Cases
-mod Members
-mod Sequence
-mod Runs
-mod Steps
-mod Apart
-mod Commute
-mod Same
-mod Checks
-mod Journals
-mod Spread
-mod Recorded
-mod Granted
-mod DefaultJournal
-mod Additions
-mod Default
-mod Logged
-mod Prefixes
-mod OneClient
-mod SceneLists
-mod Instances
-mod Local
-mod Frames
+pub mod StandsInLists
+mod RisingNumbers
+mod CommutingNames
+mod MemberCounts
+pub mod ClientsBeyond
+mod PrefixesAreLegal
+pub mod GrantsAreExact
+mod DefaultJournalIsMaximal
+mod MaximalJournalsAgree
+mod JournalsSwapAlike
+pub mod MoreOperations
+pub mod BooksStayLegal
+pub mod RunsOfNames
+pub mod PermittedAsRuns
+mod OrdersBySteps
+mod SpreadIsRun
+mod AddedNames
+mod StepsArePermitted
+mod DefaultOrderIsPermitted
+mod OneClientHasOneOrder
+mod RecordedOrdersArePermitted
+mod SceneListsAreWellFormed
+mod SceneJobsAreSent
+mod LogsLeaveJobs
+mod GatheringIsLawful
+mod OneFoldOfTextures
+mod CommandsAreLocal
+mod OrderedScenesDrawAlike
+mod OrderedScenesHaveOneFrame
+mod RunsShowOneImage

@@ -1,8 +1,8 @@
 -- What an order draws, whatever the commands do.
-use Rattle.std.specs.Prelude.{◌≡◌, ℕ, Bool, true, false, cond, List, [], ◌∷◌, pos}
-use Rattle.rc_base.specs.Order.{Footprint}
-use Rattle.rc_base.specs.Footprints.{is_in_window, footprint_of}
-use Rattle.rc_base.specs.Serial.{pixel_step, textures_step}
+use Rattle.std.specs.Prelude.{◌≡◌, ℕ, Bool, true, false, cond, List, pos}
+use Rattle.rc_base.specs.Orders.Order.{Footprint}
+use Rattle.rc_base.specs.Orders.Footprints.{is_in_window, footprint_of}
+use Rattle.rc_base.specs.Drawing.Serial.{canvas_after, pixel_step, textures_step}
 use Rattle.rc_base.specs.declared.scene.Scene.{Scene}
 use Rattle.rc_base.specs.declared.sync.Name.{Name}
 use Rattle.rc_base.specs.declared.window.Pixel.{Pixel}
@@ -22,11 +22,11 @@ pub record IsLocal {P X T : Type 0} (d : Drawing P X T) : Type 0 where
   pub unwritten : (n : Name) (tex : ℕ → T) (t : ℕ) → d.uses.writes n t ≡ false → d.stored n tex t ≡ tex t
   pub own : (n : Name) (tex tex' : ℕ → T) (t : ℕ) → tex t ≡ tex' t → d.stored n tex t ≡ d.stored n tex' t
 
--- A pixel after an order, from the textures and the pixel as they are before it. Names that aren't shown leave the pixel as it is, and still
--- write their textures: a frame shows the names below its swaps.
+-- A pixel after an order, from the textures and the pixel as they are before it: by the serial renderer's fold. Names that aren't shown leave the
+-- pixel as it is, and still write their textures: a frame shows the names below its swaps.
 abbrev pub pixel_after : {P X T : Type 0} → Drawing P X T → (Name → Bool) → P → List Name → (ℕ → T) → X → X
-pixel_after d shown p [] tex x = x
-pixel_after d shown p (n ∷ ns) tex x = pixel_after d shown p ns (d.stored n tex) (cond (shown n) (d.drawn n p x tex) x)
+pixel_after d shown p order tex x =
+    (canvas_after (λ tex n. d.stored n tex) (λ n tex x. d.drawn n p x tex) shown (record { shared = tex; pixel = x }) order).pixel
 
 -- ---- the serial renderer as such a drawing
 

@@ -1,19 +1,27 @@
 -- Laws above the definitions of journals, orders and logs.
-use Rattle.std.specs.Prelude.{◌≡◌, ℕ, ◌<◌, ◌≤◌, Bool, List, [], ◌++◌, length, ◌↔◌, Some, None, slice_get, pos}
-use Rattle.rc_base.specs.Sync.{IsWellFormed, clients_of, declared, sync_lists_of}
-use Rattle.rc_base.specs.Journal.{SyncState, IsLawful, IsOver, IsLegal, IsMaximal, waiting_of, reach_of}
-use Rattle.rc_base.specs.Grant.{grant}
-use Rattle.rc_base.specs.Order.{IsPermitted, IsOrdered, default_journal, default_order}
-use Rattle.rc_base.specs.Serial.{names_below, frame_pixel}
-use Rattle.rc_base.specs.Footprints.{IsOrderedScene}
+use Rattle.std.specs.Prelude.{◌≡◌, ℕ, ◌<◌, ◌≤◌, Bool, List, [], ◌++◌, length, ◌↔◌, Some, None, slice_get, ℤ, pos}
+use Rattle.rc_base.specs.Lists.{at_name}
+use Rattle.rc_base.specs.Formats.Netpbm.{p6_texts}
+use Rattle.rc_base.specs.Drawing.Images.{frame_images}
+use Rattle.rc_base.specs.Drawing.Serial.{painted, textures_after, frame_pixel}
+use Rattle.rc_base.specs.Orders.Book.{Book, BookEvent, opened, standing, book_after_all, AreEvents, IsLegalBook}
+use Rattle.rc_base.specs.Orders.Footprints.{IsOrderedScene}
+use Rattle.rc_base.specs.Orders.Grant.{grant}
+use Rattle.rc_base.specs.Orders.Journal.{SyncState, IsLawful, NothingIsLawful, IsLegal, IsMaximal, waiting_of, reach_of}
+use Rattle.rc_base.specs.Orders.Order.{IsPermitted, IsOrdered, names_from, default_journal, default_order}
+use Rattle.rc_base.specs.Orders.Sync.{IsWellFormed, client_count, sync_lists_of}
+use Rattle.rc_base.specs.Cluster.Tiles.{tile_count}
 use Rattle.rc_base.specs.declared.scene.Scene.{Scene}
 use Rattle.rc_base.specs.declared.sync.Entry.{Entry}
 use Rattle.rc_base.specs.declared.sync.Name.{Name}
 use Rattle.rc_base.specs.declared.sync.SyncLists.{SyncLists}
+use Rattle.rc_base.specs.declared.window.Layout.{Layout}
 use Rattle.rc_base.specs.declared.window.Pixel.{Pixel}
+use Rattle.order_model.specs.Commuting.{Drawing, IsLocal, pixel_after}
 use Rattle.order_model.specs.Full.{IsFull}
 use Rattle.order_model.specs.Log.{Job, AreSent, Replays, IsComplete, IsLawfulRecord, recorded_order}
-use Rattle.order_model.specs.Commuting.{Drawing, IsLocal, pixel_after}
+use Rattle.order_model.specs.Report.{tile_order, frame_count, image_text_of}
+use Rattle.order_model.specs.Sent.{jobs_of, IsRecordOf}
 use Rattle.order_model.specs.declared.record.LogEntry.{LogEntry}
 use Rattle.order_model.specs.declared.record.Record.{Record}
 
@@ -22,7 +30,7 @@ use Rattle.order_model.specs.declared.record.Record.{Record}
 -- a scene has a client, and each of its barriers counts one client or more: so it is within the limits
 abbrev pub SceneListsAreWellFormed : Type 0
 SceneListsAreWellFormed =
-    (scene : Scene) → 0 < length scene.streams → ((barrier count : ℕ) → declared scene.decl.barriers barrier ≡ Some count → 0 < count)
+    (scene : Scene) → 0 < length scene.streams → ((barrier count : ℕ) → at_name scene.decl.barriers barrier ≡ Some count → 0 < count)
     → IsWellFormed (sync_lists_of scene)
 
 -- ---- journals
@@ -32,13 +40,13 @@ PrefixesAreLegal = (syncs : SyncLists) (journal more : List Entry) → IsLegal s
 
 -- no client beyond the last one has operations
 abbrev pub AreOfClients : SyncLists → SyncState → Type 0
-AreOfClients syncs s = (client : ℕ) → clients_of syncs ≤ client → s.rest client ≡ []
+AreOfClients syncs s = (client : ℕ) → client_count syncs ≤ client → s.rest client ≡ []
 
 abbrev pub GrantsAreLawful : Type 0
 GrantsAreLawful = (syncs : SyncLists) (s : SyncState) (e : Entry) → grant syncs s ≡ Some e → IsLawful syncs s e
 
 abbrev pub NothingIsGrantedExactlyWhenOver : Type 0
-NothingIsGrantedExactlyWhenOver = (syncs : SyncLists) (s : SyncState) → AreOfClients syncs s → (grant syncs s ≡ None) ↔ IsOver syncs s
+NothingIsGrantedExactlyWhenOver = (syncs : SyncLists) (s : SyncState) → AreOfClients syncs s → (grant syncs s ≡ None) ↔ NothingIsLawful syncs s
 
 abbrev pub DefaultJournalIsMaximal : Type 0
 DefaultJournalIsMaximal = (syncs : SyncLists) → IsWellFormed syncs → IsMaximal syncs (default_journal syncs)
@@ -60,6 +68,18 @@ MaximalJournalsPermitAlike =
     (syncs : SyncLists) → IsWellFormed syncs → IsFull syncs → (journal other : List Entry) → IsMaximal syncs journal → IsMaximal syncs other
     → (order : List Name) → IsPermitted syncs journal order ↔ IsPermitted syncs other order
 
+-- ---- books
+
+-- what happens to a legal book leaves it legal: a new one is, so it is legal ever after
+abbrev pub BooksStayLegal : Type 0
+BooksStayLegal = (syncs : SyncLists) (b : Book) (events : List BookEvent) → IsLegalBook syncs b → IsLegalBook syncs (book_after_all syncs b events)
+
+-- a book of clients' operations grants nothing exactly where no entry is lawful by what arrived, and so it does after lawful events
+abbrev pub BooksGrantWhatIsLawful : Type 0
+BooksGrantWhatIsLawful =
+    (syncs : SyncLists) (b : Book) (events : List BookEvent) → AreOfClients syncs (opened syncs b) → AreEvents syncs b events
+    → (grant syncs (standing syncs (book_after_all syncs b events)) ≡ None) ↔ NothingIsLawful syncs (standing syncs (book_after_all syncs b events))
+
 -- ---- orders
 
 abbrev pub DefaultOrdersArePermitted : Type 0
@@ -69,8 +89,8 @@ DefaultOrdersArePermitted =
 -- one client's names have one permitted order: those below its reach, rising
 abbrev pub OneClientHasOneOrder : Type 0
 OneClientHasOneOrder =
-    (syncs : SyncLists) (journal : List Entry) (order : List Name) → IsWellFormed syncs → clients_of syncs ≡ 1 → IsLegal syncs journal
-    → IsPermitted syncs journal order ↔ (order ≡ names_below 0 (reach_of syncs journal 0))
+    (syncs : SyncLists) (journal : List Entry) (order : List Name) → IsWellFormed syncs → client_count syncs ≡ 1 → IsLegal syncs journal
+    → IsPermitted syncs journal order ↔ (order ≡ names_from 0 0 (reach_of syncs journal 0))
 
 abbrev pub RecordedOrdersArePermitted : Type 0
 RecordedOrdersArePermitted =
@@ -79,9 +99,13 @@ RecordedOrdersArePermitted =
 
 abbrev pub LawfulRecordsArePermitted : Type 0
 LawfulRecordsArePermitted =
-    (syncs : SyncLists) (tiles : ℕ) (jobs : ℕ → ℕ → List Job) (kept : Record) → IsWellFormed syncs → ((tile : ℕ) → AreSent syncs (jobs tile))
+    (syncs : SyncLists) (tiles : ℕ) (jobs : ℕ → ℕ → List Job) (kept : Record) → IsWellFormed syncs → ((tile : ℕ) → AreSent syncs (λ client. jobs client tile))
     → IsLawfulRecord syncs tiles jobs kept → (tile : ℕ) (log : List LogEntry) → slice_get kept.logs tile ≡ Some log
     → IsPermitted syncs kept.journal (recorded_order kept.syncs kept.journal log)
+
+-- the shared textures that an order leaves depend neither on the names that are shown nor on the pixel
+abbrev pub CanvasTexturesAreTextures : Type 0
+CanvasTexturesAreTextures = (scene : Scene) (shown : Name → Bool) (x y : ℤ) (order : List Name) → (painted scene shown x y order).shared ≡ textures_after scene order
 
 -- in an ordered scene all orders that the journal permits leave the same pixels, whatever the commands do and whichever of them are shown
 abbrev pub OrderedScenesDrawAlike : Type 0
@@ -102,7 +126,38 @@ OrderedScenesHaveOneFrame =
 abbrev pub LawfulRecordsShowOneImage : Type 0
 LawfulRecordsShowOneImage =
     (scene : Scene) (tiles : ℕ) (jobs : ℕ → ℕ → List Job) (kept : Record) → IsWellFormed (sync_lists_of scene)
-    → ((tile : ℕ) → AreSent (sync_lists_of scene) (jobs tile)) → IsLawfulRecord (sync_lists_of scene) tiles jobs kept → IsOrderedScene scene kept.journal
+    → ((tile : ℕ) → AreSent (sync_lists_of scene) (λ client. jobs client tile)) → IsLawfulRecord (sync_lists_of scene) tiles jobs kept → IsOrderedScene scene kept.journal
     → (tile : ℕ) (log : List LogEntry) → slice_get kept.logs tile ≡ Some log → (order : List Name) → IsPermitted (sync_lists_of scene) kept.journal order
     → (k x y : ℕ) → x < scene.decl.width → y < scene.decl.height
     → frame_pixel scene (recorded_order kept.syncs kept.journal log) k (pos x) (pos y) ≡ frame_pixel scene order k (pos x) (pos y)
+
+-- what each tile gets of a scene rises, and has exactly the scene's operations
+abbrev pub SceneJobsAreSent : Type 0
+SceneJobsAreSent = (scene : Scene) (l : Layout) (tile : ℕ) → AreSent (sync_lists_of scene) (λ client. jobs_of scene l client tile)
+
+-- the order that a tile of a lawful record of a scene records is permitted
+abbrev pub RecordsOfScenesArePermitted : Type 0
+RecordsOfScenesArePermitted =
+    (scene : Scene) (l : Layout) (kept : Record) → IsWellFormed (sync_lists_of scene) → IsRecordOf scene l kept
+    → (tile : ℕ) → tile < tile_count l → IsPermitted (sync_lists_of scene) kept.journal (tile_order kept tile)
+
+-- maximal journals of full scenes have as many Swaps
+abbrev pub MaximalJournalsSwapAlike : Type 0
+MaximalJournalsSwapAlike =
+    (syncs : SyncLists) → IsWellFormed syncs → IsFull syncs → (journal other : List Entry) → IsMaximal syncs journal → IsMaximal syncs other
+    → frame_count journal ≡ frame_count other
+
+-- the image text of a run of an ordered scene is that of the frames of any permitted order
+abbrev pub OrderedRunsShowOneImage : Type 0
+OrderedRunsShowOneImage =
+    (scene : Scene) (l : Layout) (kept : Record) → IsWellFormed (sync_lists_of scene) → 0 < tile_count l → IsRecordOf scene l kept → IsOrderedScene scene kept.journal
+    → (order : List Name) → IsPermitted (sync_lists_of scene) kept.journal order
+    → image_text_of scene l kept ≡ p6_texts (frame_images scene order (frame_count kept.journal))
+
+-- and of a full one that of the default order, whatever the tiles and the journal
+abbrev pub FullOrderedRunsShowTheDefaultImage : Type 0
+FullOrderedRunsShowTheDefaultImage =
+    (scene : Scene) (l : Layout) (kept : Record) → IsWellFormed (sync_lists_of scene) → 0 < tile_count l → IsFull (sync_lists_of scene) → IsRecordOf scene l kept
+    → IsOrderedScene scene kept.journal
+    → image_text_of scene l kept
+    ≡ (let journal = default_journal (sync_lists_of scene) in p6_texts (frame_images scene (default_order (sync_lists_of scene) journal) (frame_count journal)))

@@ -2,6 +2,8 @@ pub mod Log
 pub mod Full
 pub mod Commuting
 pub mod Laws
-pub mod Examples
 pub mod Sent
 pub mod Report
+pub mod Standing
+pub mod Board
+pub mod Gathering

@@ -1,8 +1,9 @@
 -- A tile's log of what it carried out: when it is right, and the order that it records.
-use Rattle.std.specs.Prelude.{◌≡◌, ℕ, ◌+◌, ◌<◌, ◌≤◌, ◌==◌, Bool, true, cond, List, [], ◌∷◌, drop, length, map, Option, Some, None, slice_get, is_some}
-use Rattle.rc_base.specs.Sync.{clients_of, ops_of, length_of}
-use Rattle.rc_base.specs.Journal.{SyncState, start, after, IsMaximal, waiting_of, reach_of}
-use Rattle.rc_base.specs.Order.{Placed, entries_of, added, all_added, performed}
+use Rattle.std.specs.Prelude.{◌≡◌, ℕ, ◌+◌, ◌==◌, Bool, true, cond, List, [], ◌∷◌, drop, length, map, Option, Some, None, slice_get, is_some}
+use Rattle.rc_base.specs.Lists.{AreRising}
+use Rattle.rc_base.specs.Orders.Sync.{client_count, ops_of, length_of, places_of}
+use Rattle.rc_base.specs.Orders.Journal.{SyncState, start, after, IsMaximal, waiting_of, reach_of}
+use Rattle.rc_base.specs.Orders.Order.{PlacedEntry, entries_of, added, all_added, performed}
 use Rattle.rc_base.specs.declared.sync.Entry.{Entry}
 use Rattle.rc_base.specs.declared.sync.Name.{Name}
 use Rattle.rc_base.specs.declared.sync.SyncLists.{SyncLists}
@@ -28,15 +29,10 @@ waits_in [] = []
 waits_in (Work place ∷ jobs) = waits_in jobs
 waits_in (Wait place ∷ jobs) = place ∷ waits_in jobs
 
--- at rising places, from a place on, below the end of the stream
-abbrev pub AreJobs : ℕ → List Job → ℕ → Type 0
-AreJobs from [] end = from ≤ end
-AreJobs from (j ∷ jobs) end = (from ≤ job_place j) × (job_place j < end) × AreJobs (job_place j + 1) jobs end
-
 -- the jobs of each client rise in their places, and all operations of the client are among them
 pub record AreSent (syncs : SyncLists) (jobs : ℕ → List Job) : Type 0 where
-  pub rising : (client : ℕ) → AreJobs 0 (jobs client) (length_of syncs client)
-  pub all : (client : ℕ) → waits_in (jobs client) ≡ map (λ w. w.place) (ops_of syncs client)
+  pub rising : (client : ℕ) → AreRising 0 (map job_place (jobs client)) (length_of syncs client)
+  pub all : (client : ℕ) → waits_in (jobs client) ≡ places_of (ops_of syncs client)
 
 -- ---- when a log is right
 
@@ -50,7 +46,7 @@ without done jobs client = cond (done client) (drop 1 (jobs client)) (jobs clien
 
 -- Each line is by the jobs and the entries that are left: a Took takes its client's next job, which is work of its place; a Performed carries out
 -- the next entry, where the next job of each member is its operation in it.
-abbrev pub ReplaysFrom : (ℕ → List Job) → List Placed → List LogEntry → Type 0
+abbrev pub ReplaysFrom : (ℕ → List Job) → List PlacedEntry → List LogEntry → Type 0
 ReplaysFrom jobs ms [] = Unit {0}
 ReplaysFrom jobs ms (Took client place ∷ log) = IsNext (jobs client) (Work place) × ReplaysFrom (without (λ c. c == client) jobs) ms log
 ReplaysFrom jobs [] (Performed ∷ log) = ⊥
@@ -61,13 +57,13 @@ abbrev pub Replays : SyncLists → List Entry → (ℕ → List Job) → List Lo
 Replays syncs journal jobs log = ReplaysFrom jobs (entries_of syncs journal) log
 
 -- the jobs that a log leaves, and the entries
-abbrev pub jobs_after : (ℕ → List Job) → List Placed → List LogEntry → ℕ → List Job
+abbrev pub jobs_after : (ℕ → List Job) → List PlacedEntry → List LogEntry → ℕ → List Job
 jobs_after jobs ms [] = jobs
 jobs_after jobs ms (Took client place ∷ log) = jobs_after (without (λ c. c == client) jobs) ms log
 jobs_after jobs [] (Performed ∷ log) = jobs_after jobs [] log
 jobs_after jobs (m ∷ ms) (Performed ∷ log) = jobs_after (without (λ c. is_some (m.at c)) jobs) ms log
 
-abbrev pub entries_after : List Placed → List LogEntry → List Placed
+abbrev pub entries_after : List PlacedEntry → List LogEntry → List PlacedEntry
 entries_after ms [] = ms
 entries_after ms (Took client place ∷ log) = entries_after ms log
 entries_after ms (Performed ∷ log) = entries_after (drop 1 ms) log
@@ -93,15 +89,15 @@ logged syncs s (e ∷ es) (Performed ∷ log) order = logged syncs (after syncs 
 
 -- and at the end each client, rising, adds its rest below its reach
 abbrev pub recorded_order : SyncLists → List Entry → List LogEntry → List Name
-recorded_order syncs journal log = all_added (λ c. true) (reach_of syncs journal) (clients_of syncs) (logged syncs (start syncs) journal log [])
+recorded_order syncs journal log = all_added (λ c. true) (reach_of syncs journal) (client_count syncs) (logged syncs (start syncs) journal log [])
 
 -- ---- the record of a run
 
--- For a scene's lists and what each tile gets of each client: the lists are the scene's, the journal is maximal, and there is one log for each
+-- For a scene's lists and what each client gives to each tile: the lists are the scene's, the journal is maximal, and there is one log for each
 -- tile, which replays and is complete.
 pub record IsLawfulRecord (syncs : SyncLists) (tiles : ℕ) (jobs : ℕ → ℕ → List Job) (kept : Record) : Type 0 where
   pub lists : kept.syncs ≡ syncs
   pub maximal : IsMaximal syncs kept.journal
   pub count : length kept.logs ≡ tiles
-  pub replays : (tile : ℕ) (log : List LogEntry) → slice_get kept.logs tile ≡ Some log → Replays syncs kept.journal (jobs tile) log
-  pub complete : (tile : ℕ) (log : List LogEntry) → slice_get kept.logs tile ≡ Some log → IsComplete syncs kept.journal (jobs tile) log
+  pub replays : (tile : ℕ) (log : List LogEntry) → slice_get kept.logs tile ≡ Some log → Replays syncs kept.journal (λ client. jobs client tile) log
+  pub complete : (tile : ℕ) (log : List LogEntry) → slice_get kept.logs tile ≡ Some log → IsComplete syncs kept.journal (λ client. jobs client tile) log

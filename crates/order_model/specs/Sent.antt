@@ -1,8 +1,9 @@
--- What each tile gets of each client of a scene, and the lawful records of a scene.
-use Rattle.std.specs.Prelude.{ℕ, ◌*◌, List, [], ◌∷◌}
+-- What each client of a scene gives to each tile, and the lawful records of a scene.
+use Rattle.std.specs.Prelude.{ℕ, List, [], ◌∷◌}
 use Rattle.std.specs.List.{flat_map}
-use Rattle.rc_base.specs.Sync.{sync_lists_of}
-use Rattle.rc_base.specs.Parcels.{parcels_of}
+use Rattle.rc_base.specs.Orders.Sync.{sync_lists_of}
+use Rattle.rc_base.specs.Cluster.Tiles.{tile_count}
+use Rattle.rc_base.specs.Cluster.Parcels.{parcels_of}
 use Rattle.rc_base.specs.declared.scene.Scene.{Scene}
 use Rattle.rc_base.specs.declared.window.Layout.{Layout}
 use Rattle.rc_base.specs.declared.state.Act.{Act}
@@ -23,13 +24,10 @@ job_by act.End place = []
 abbrev pub job_of : Parcel → List Job
 job_of p = job_by p.act p.place
 
--- what a tile gets of a client: the client's parcels to it
+-- what a client gives to a tile: its parcels there
 unfoldable pub jobs_of : Scene → Layout → ℕ → ℕ → List Job
-jobs_of scene l tile client = flat_map job_of (parcels_of scene l client tile)
-
-abbrev pub tiles_of : Layout → ℕ
-tiles_of l = l.columns * l.rows
+jobs_of scene l client tile = flat_map job_of (parcels_of scene l client tile)
 
 -- the record of a run of the scene on the tiles of the layout
 abbrev pub IsRecordOf : Scene → Layout → Record → Type 0
-IsRecordOf scene l kept = IsLawfulRecord (sync_lists_of scene) (tiles_of l) (jobs_of scene l) kept
+IsRecordOf scene l kept = IsLawfulRecord (sync_lists_of scene) (tile_count l) (jobs_of scene l) kept

@@ -1,5 +1,6 @@
 //! Laws of journals, orders and logs. Each function's contract is a law, and its body is empty: there is nothing to compute.
-ghost use Rattle.order_model.specs.Laws.{SceneListsAreWellFormed, PrefixesAreLegal, GrantsAreLawful, NothingIsGrantedExactlyWhenOver, DefaultJournalIsMaximal, MaximalJournalsWaitAlike, MaximalJournalsReachAlike, MaximalJournalsPermitAlike, DefaultOrdersArePermitted, OneClientHasOneOrder, RecordedOrdersArePermitted, LawfulRecordsArePermitted, OrderedScenesDrawAlike, OrderedScenesHaveOneFrame, LawfulRecordsShowOneImage};
+ghost use Rattle.order_model.specs.Gathering.{GatheringIsLawful};
+ghost use Rattle.order_model.specs.Laws.{SceneListsAreWellFormed, PrefixesAreLegal, GrantsAreLawful, NothingIsGrantedExactlyWhenOver, DefaultJournalIsMaximal, MaximalJournalsWaitAlike, MaximalJournalsReachAlike, MaximalJournalsPermitAlike, DefaultOrdersArePermitted, OneClientHasOneOrder, RecordedOrdersArePermitted, LawfulRecordsArePermitted, OrderedScenesDrawAlike, OrderedScenesHaveOneFrame, LawfulRecordsShowOneImage, SceneJobsAreSent, RecordsOfScenesArePermitted, MaximalJournalsSwapAlike, CanvasTexturesAreTextures, BooksStayLegal, BooksGrantWhatIsLawful, OrderedRunsShowOneImage, FullOrderedRunsShowTheDefaultImage};
 
 /// The operations of a scene rise within their streams.
 pub fn scene_lists_are_well_formed()
@@ -15,6 +16,12 @@ pub fn prefixes_are_legal()
 pub fn grants_are_exact()
     ensures lawful { GrantsAreLawful }
     ensures none { NothingIsGrantedExactlyWhenOver }
+{}
+
+/// A book stays legal along arrivals, ends and grants, and it grants nothing exactly where no entry is lawful by what arrived.
+pub fn books_stay_legal()
+    ensures legal { BooksStayLegal }
+    ensures grants { BooksGrantWhatIsLawful }
 {}
 
 /// The default journal is legal, and no entry is lawful after it.
@@ -46,9 +53,32 @@ pub fn recorded_orders_are_permitted()
     ensures record { LawfulRecordsArePermitted }
 {}
 
+/// The shared textures that an order leaves are one fold of their own, whatever is shown and whichever pixel is looked at.
+pub fn canvas_textures_are_textures()
+    ensures { CanvasTexturesAreTextures }
+{}
+
 /// Where every two conflicting commands stand in one sequence, every permitted order draws the same: only names that commute change places.
 pub fn ordered_scenes_draw_alike()
     ensures any { OrderedScenesDrawAlike }
     ensures frames { OrderedScenesHaveOneFrame }
     ensures record { LawfulRecordsShowOneImage }
+{}
+
+/// Lawful records of scenes record permitted orders.
+pub fn records_of_scenes()
+    ensures jobs { SceneJobsAreSent }
+    ensures orders { RecordsOfScenesArePermitted }
+{}
+
+/// Where a legal book is over, and each tile is under way for its journal and done, the journal and the tiles' logs make a lawful record.
+pub fn gathering_is_lawful()
+    ensures { GatheringIsLawful }
+{}
+
+/// Runs of an ordered scene show the frames of every permitted order; those of a full one, the frames of the default order.
+pub fn runs_show_one_image()
+    ensures swaps { MaximalJournalsSwapAlike }
+    ensures permitted { OrderedRunsShowOneImage }
+    ensures default { FullOrderedRunsShowTheDefaultImage }
 {}

@@ -5,6 +5,5 @@
 //! `rc_base`, stand in `laws`.
 #![tactic(auto)]
 
-pub mod examples;
 pub mod laws;
 pub mod record;

@@ -3,7 +3,7 @@ use Rattle.std.proofs.Common.{◌≡◌, ℕ, ◌<◌, ℤ, pos, ◌≤ℤ◌, �
 use Rattle.std.proofs.lemmas.Int.{ints, int_min_is, int_max_is}
 use Rattle.std.specs.Int.{int_min, int_max}
 use Rattle.rc_base.specs.Numbers.{Within, floor_quotient}
-use Rattle.rc_base.specs.Drawing.Cover.{centre, corner, area_of}
+use Rattle.rc_base.specs.Drawing.Cover.{centre, corner, triangle_area}
 use Rattle.rc_base.specs.Drawing.Fragment.{weight, weighted_sum, interpolated, channel_at}
 use Rattle.raster.specs.Blend.{mean_color}
 use Rattle.raster.specs.Weights.{AreWeights}
@@ -12,13 +12,13 @@ use Rattle.rc_base.specs.declared.window.WindowVertex.{WindowVertex}
 use Rattle.rc_base.specs.declared.command.Rgba.{Rgba}
 
 pub mean_is : (v : List WindowVertex) (x y : ℤ) (attribute : WindowVertex → ℤ) (e0 e1 e2 area : ℤ)
-    → e0 ≡ weight v 0 (centre x) (centre y) → e1 ≡ weight v 1 (centre x) (centre y) → e2 ≡ weight v 2 (centre x) (centre y) → area ≡ area_of v
+    → e0 ≡ weight v 0 (centre x) (centre y) → e1 ≡ weight v 1 (centre x) (centre y) → e2 ≡ weight v 2 (centre x) (centre y) → area ≡ triangle_area v
     → floor_quotient (weighted_sum e0 e1 e2 (attribute (corner v 0)) (attribute (corner v 1)) (attribute (corner v 2))) area ≡ interpolated v x y attribute
 unfolding interpolated
 mean_is v x y attribute e0 e1 e2 area h0 h1 h2 k = λ i. floor_quotient (weighted_sum (h0 i) (h1 i) (h2 i) (attribute (corner v 0)) (attribute (corner v 1)) (attribute (corner v 2))) (k i)
 
 pub color_is : (v : List WindowVertex) (x y : ℤ) (e0 e1 e2 area : ℤ)
-    → e0 ≡ weight v 0 (centre x) (centre y) → e1 ≡ weight v 1 (centre x) (centre y) → e2 ≡ weight v 2 (centre x) (centre y) → area ≡ area_of v
+    → e0 ≡ weight v 0 (centre x) (centre y) → e1 ≡ weight v 1 (centre x) (centre y) → e2 ≡ weight v 2 (centre x) (centre y) → area ≡ triangle_area v
     → mean_color e0 e1 e2 area (corner v 0).color (corner v 1).color (corner v 2).color
     ≡ record { r = channel_at v x y (λ (c : Rgba). c.r); g = channel_at v x y (λ (c : Rgba). c.g); b = channel_at v x y (λ (c : Rgba). c.b); a = channel_at v x y (λ (c : Rgba). c.a) }
 unfolding interpolated mean_color

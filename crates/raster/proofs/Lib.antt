@@ -1,7 +1,7 @@
-mod Convex
-mod Shared
-mod SpanLemmas
+mod SharedEdges
+mod RowsToSpan
 mod Average
-mod Box
-mod Parts
+mod CoverInBounds
+mod PartHoldsCover
 mod Fragments
+mod KeptColumns

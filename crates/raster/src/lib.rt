@@ -4,6 +4,7 @@
 #![tactic(auto)]
 
 mod bounds;
+mod columns;
 mod cover;
 mod fragment;
 mod law;

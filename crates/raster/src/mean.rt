@@ -1,12 +1,15 @@
 //! The weights of the corners at a pixel, and means by them.
 ghost use Rattle.std.specs.Prelude.{◌≡◌, ◌^◌, pos, true, ◌+ℤ◌, ◌*ℤ◌, ◌≤ℤ◌, ◌<ℤ◌};
 ghost use Rattle.rc_base.specs.Numbers.{Within, floor_quotient};
-ghost use Rattle.rc_base.specs.Drawing.Cover.{is_inside, centre, area_of};
+ghost use Rattle.rc_base.specs.Drawing.Cover.{is_inside, centre, triangle_area};
 ghost use Rattle.rc_base.specs.Drawing.Fragment.{weight, weighted_sum};
-ghost use Rattle.raster.specs.Weights.{AreWeights};
+ghost use Rattle.raster.specs.Weights.{AreWeights, narrow_area};
 
 use fixed_math::{centre_of, edge, floor_div};
 use rc_base::triangle::WindowTriangle;
+
+// Up to this area 64 bits hold the sum of a mean.
+const NARROW_AREA: i64 = 536_870_912;
 
 // The weights of the three corners at a point inside a triangle; their sum is twice its area.
 #[derive(Clone, Copy)]
@@ -25,7 +28,7 @@ pub(crate) fn weights_at(tri: &WindowTriangle, x: i32, y: i32) -> Weights
     ensures first { result.first ≡ weight tri.now.v 0 (centre x) (centre y) }
     ensures second { result.second ≡ weight tri.now.v 1 (centre x) (centre y) }
     ensures third { result.third ≡ weight tri.now.v 2 (centre x) (centre y) }
-    ensures area { result.area ≡ area_of tri.now.v }
+    ensures area { result.area ≡ triangle_area tri.now.v }
 {
     let px = centre_of(x);
     let py = centre_of(y);
@@ -67,7 +70,7 @@ fn wide_mean(w: &Weights, a: i32, b: i32, c: i32) -> i32
 }
 
 fn short_part(e: i64, a: i32) -> i64
-    requires { Within (2 ^ 29) e }
+    requires { Within narrow_area e }
     ensures value { result ≡ e *ℤ a }
     ensures small { Within (2 ^ 60) result }
 {
@@ -91,7 +94,7 @@ fn short_add3(a: i64, b: i64, c: i64) -> i64
     a + b + c
 }
 
-fn short_floor(n: i64, d: i64) -> i64
+pub(crate) fn short_floor(n: i64, d: i64) -> i64
     requires { pos 0 <ℤ d }
     ensures { result ≡ floor_quotient n d }
 {
@@ -100,7 +103,7 @@ fn short_floor(n: i64, d: i64) -> i64
 
 // The mean where the area is small: 64 bits hold the sum.
 fn short_mean(w: &Weights, a: i32, b: i32, c: i32) -> i32
-    requires { w.now.area ≤ℤ pos (2 ^ 29) }
+    requires { w.now.area ≤ℤ pos narrow_area }
     ensures { result ≡ floor_quotient (weighted_sum w.now.first w.now.second w.now.third a b c) w.now.area }
 {
     let sum = short_add3(
@@ -116,7 +119,7 @@ fn short_mean(w: &Weights, a: i32, b: i32, c: i32) -> i32
 pub(crate) fn mean(w: &Weights, a: i32, b: i32, c: i32) -> i32
     ensures { result ≡ floor_quotient (weighted_sum w.now.first w.now.second w.now.third a b c) w.now.area }
 {
-    if w.area <= 536870912 {
+    if w.area <= NARROW_AREA {
         short_mean(w, a, b, c)
     } else {
         wide_mean(w, a, b, c)

@@ -1,45 +1,14 @@
 //! The covered pixels of a rectangle, a span a row.
-ghost use Rattle.std.specs.Prelude.{◌≡◌, ℤ, pos, ◌+ℤ◌, ◌≤ℤ◌, ◌<ℤ◌, true, false, MatchOption};
-ghost use Rattle.rc_base.specs.Drawing.Cover.{is_inside};
+ghost use Rattle.std.specs.Prelude.{◌≡◌, MatchOption};
 ghost use Rattle.raster.specs.Spans.{IsEmptyRow, IsRowSpan, AreEmptyRows, IsNextSpan, GivesSpan};
 ghost use Rattle.raster.specs.Clamped.{HoldsCover};
 ghost use Rattle.std.specs.Iterator.{at_most};
 ghost use Rattle.std.specs.Int.{int_gap};
 
-use crate::bounds::part_of;
-use crate::cover::covers;
+use crate::bounds::covering_part;
+use crate::columns::{Columns, kept_columns};
 use rc_base::triangle::WindowTriangle;
 use rc_base::window::{Rect, Span};
-
-// The first covered pixel of the row from `x0` on, or `x1`.
-fn first_covered(tri: &WindowTriangle, y: i32, x0: i32, x1: i32) -> i32
-    requires { x0 ≤ℤ x1 }
-    ensures low { x0 ≤ℤ result }
-    ensures high { result ≤ℤ x1 }
-    ensures before { IsEmptyRow tri.now.v y x0 result }
-    ensures found { result <ℤ x1 → is_inside tri.now.v result y ≡ true }
-{
-    let mut x = x0;
-    'columns: while x < x1 && !covers(tri, x, y) {
-        x += 1;
-    }
-    x
-}
-
-// One past the covered pixels that stand together from `x0` on.
-fn run_end(tri: &WindowTriangle, y: i32, x0: i32, x1: i32) -> i32
-    requires { x0 ≤ℤ x1 }
-    ensures low { x0 ≤ℤ result }
-    ensures high { result ≤ℤ x1 }
-    ensures run { (x : ℤ) → x0 ≤ℤ x → x <ℤ result → is_inside tri.now.v x y ≡ true }
-    ensures ended { result <ℤ x1 → is_inside tri.now.v result y ≡ false }
-{
-    let mut x = x0;
-    'columns: while x < x1 && covers(tri, x, y) {
-        x += 1;
-    }
-    x
-}
 
 // The covered pixels of a row from `x0` to below `x1`.
 fn row_span(tri: &WindowTriangle, y: i32, x0: i32, x1: i32) -> Option<Span>
@@ -50,15 +19,16 @@ fn row_span(tri: &WindowTriangle, y: i32, x0: i32, x1: i32) -> Option<Span>
     if x1 <= x0 {
         return None;
     }
-    let start = first_covered(tri, y, x0, x1);
-    if start >= x1 {
+    let first = kept_columns(&tri.v[0], &tri.v[1], y, Columns { x0, x1 });
+    let second = kept_columns(&tri.v[1], &tri.v[2], y, first);
+    let third = kept_columns(&tri.v[2], &tri.v[0], y, second);
+    if third.x1 <= third.x0 {
         return None;
     }
-    let end = run_end(tri, y, start, x1);
     Some(Span {
         y,
-        x0: start,
-        x1: end,
+        x0: third.x0,
+        x1: third.x1,
     })
 }
 
@@ -106,7 +76,12 @@ impl Iterator for SpanIter<'_> {
 
     fn next(&mut self) -> Option<Span> {
         let _last = self.rect.y1;
-        let span = next_span(self.tri, self.rect, part_of(self.tri, self.rect), self.y)?;
+        let span = next_span(
+            self.tri,
+            self.rect,
+            covering_part(self.tri, self.rect),
+            self.y,
+        )?;
         self.y = span.y + 1;
         Some(span)
     }

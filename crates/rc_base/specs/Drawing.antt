@@ -1,4 +1,4 @@
--- What a command draws: from a block's vertices to the pixel.
+-- What commands draw: from a block's vertices to the pixel, and from an order of commands to the image of a frame.
 pub mod Triangles
 pub mod Window
 pub mod Kept
@@ -7,4 +7,5 @@ pub mod Fragment
 pub mod Texel
 pub mod PixelStep
 pub mod Touch
-pub mod SharedEdge
+pub mod Serial
+pub mod Images

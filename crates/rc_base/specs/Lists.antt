@@ -1,5 +1,5 @@
--- Membership and sequence in a list.
-use Rattle.std.specs.Prelude.{◌≡◌, List, [], ◌∷◌, ◌⊎◌}
+-- Membership and sequence in a list, elements that are named from 1, and numbers that rise.
+use Rattle.std.specs.Prelude.{◌≡◌, ℕ, zero, suc, ◌+◌, ◌<◌, ◌≤◌, List, [], ◌∷◌, ◌⊎◌, Option, None, slice_get, slice_set}
 
 -- x is an element
 abbrev pub IsIn : {A : Type 0} → A → List A → Type 0
@@ -15,3 +15,18 @@ Stands a b (x ∷ xs) = ((x ≡ a) × IsIn b xs) ⊎ Stands a b xs
 abbrev pub NoRepeat : {A : Type 0} → List A → Type 0
 NoRepeat [] = Unit {0}
 NoRepeat (x ∷ xs) = (IsIn x xs → ⊥) × NoRepeat xs
+
+-- the element of a name, where elements are named from 1 in their order
+abbrev pub at_name : {A : Type 0} → List A → ℕ → Option A
+at_name xs zero = None
+at_name xs (suc n) = slice_get xs n
+
+-- the list with another element of that name
+abbrev pub with_name : {A : Type 0} → List A → ℕ → A → List A
+with_name xs zero x = xs
+with_name xs (suc n) x = slice_set xs n x
+
+-- numbers that rise, from a number on, below an end
+abbrev pub AreRising : ℕ → List ℕ → ℕ → Type 0
+AreRising from [] end = from ≤ end
+AreRising from (n ∷ ns) end = (from ≤ n) × (n < end) × AreRising (n + 1) ns end

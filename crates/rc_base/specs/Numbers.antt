@@ -1,11 +1,16 @@
 -- Exact whole numbers and 16.16 fixed point: floors, bounds, and 4 by 4 matrices by columns.
-use Rattle.std.specs.Prelude.{ℕ, ◌+◌, ◌*◌, List, [], ◌∷◌, ◌++◌, Bool, ◌&&◌, int_le, ℤ, pos, neg_ℤ, ◌+ℤ◌, ◌*ℤ◌, ◌≤ℤ◌}
+use Rattle.std.specs.Prelude.{ℕ, ◌+◌, ◌*◌, List, [], ◌∷◌, ◌++◌, Bool, ◌&&◌, int_le, ℤ, pos, negsuc, neg_ℤ, ◌+ℤ◌, ◌*ℤ◌, ◌≤ℤ◌}
 use Rattle.std.specs.Int.{int_div_euclid}
 use lib.ListN.{get_or}
 
 -- the greatest whole number that is at most n / d, for d above 0
 abbrev pub floor_quotient : ℤ → ℤ → ℤ
 floor_quotient n d = int_div_euclid n d
+
+-- a number that isn't below 0
+abbrev pub natural : ℤ → ℕ
+natural (pos n) = n
+natural (negsuc n) = 0
 
 -- from -bound to bound
 abbrev pub Within : ℕ → ℤ → Type 0
@@ -23,7 +28,13 @@ is_between low high z = int_le low z && int_le z high
 abbrev pub entry : List ℤ → ℕ → ℤ
 entry xs i = get_or xs i (pos 0)
 
--- ---- 16.16 matrices, by columns: row r, column c is entry 4 * c + r
+-- ---- 16.16 fixed point
+
+-- one
+abbrev pub fixed_one : ℕ
+fixed_one = 65536
+
+-- ---- matrices, by columns: row r, column c is entry 4 * c + r
 
 -- row r of the matrix times a vector, before the division by 65536
 abbrev pub row_sum : List ℤ → List ℤ → ℕ → ℤ
@@ -31,12 +42,12 @@ row_sum m v r =
     entry m r *ℤ entry v 0 +ℤ entry m (4 + r) *ℤ entry v 1 +ℤ entry m (8 + r) *ℤ entry v 2 +ℤ entry m (12 + r) *ℤ entry v 3
 
 -- row r of the product of a matrix and a vector
-abbrev pub row_of : List ℤ → List ℤ → ℕ → ℤ
-row_of m v r = floor_quotient (row_sum m v r) (pos 65536)
+abbrev pub row_product : List ℤ → List ℤ → ℕ → ℤ
+row_product m v r = floor_quotient (row_sum m v r) (pos fixed_one)
 
 -- the product of a matrix and a vector
 abbrev pub transformed : List ℤ → List ℤ → List ℤ
-transformed m v = row_of m v 0 ∷ row_of m v 1 ∷ row_of m v 2 ∷ row_of m v 3 ∷ []
+transformed m v = row_product m v 0 ∷ row_product m v 1 ∷ row_product m v 2 ∷ row_product m v 3 ∷ []
 
 -- column c of a matrix
 abbrev pub column : List ℤ → ℕ → List ℤ

@@ -1,45 +1,31 @@
--- Images of frames, and the text of an image by Netpbm's P6.
-use Rattle.std.specs.Prelude.{ℕ, zero, suc, ◌-◌, List, [], ◌∷◌, ◌++◌, codes, ℤ, pos}
+-- Pictures: the texels of a rectangle, and writing a part of one.
+use Rattle.std.specs.Prelude.{ℕ, ◌+◌, ◌-◌, ◌*◌, ◌/◌, ◌%◌, ◌&&◌, Bool, nat_le, nat_lt, List, take, drop, if◌then◌else◌}
 use Rattle.std.specs.List.{flat_map, range_with_len}
-use Rattle.std.specs.Fmt.{decimal}
-use Rattle.rc_base.specs.Serial.{frame_pixel}
-use Rattle.rc_base.specs.declared.scene.Decl.{Decl}
-use Rattle.rc_base.specs.declared.scene.Scene.{Scene}
-use Rattle.rc_base.specs.declared.sync.Name.{Name}
-use Rattle.rc_base.specs.declared.window.Pixel.{Pixel}
-use Rattle.rc_base.specs.declared.image.Image.{Image}
+use Rattle.rc_base.specs.declared.command.Part.{Part}
 
--- what each pixel of the window holds, by x and y, from the lower left corner
-abbrev pub Pixels : Type 0
-Pixels = ℤ → ℤ → Pixel
+-- r, g, b, a of each texel, row by row; row 0 is at t = 0
+pub record Picture : Type 0 where
+  pub w : ℕ
+  pub h : ℕ
+  pub texels : List ℕ
 
-abbrev pub rgb_of : Pixel → List ℕ
-rgb_of p = p.color.r ∷ p.color.g ∷ p.color.b ∷ []
+-- the four bytes of the texel at a column and a row
+abbrev pub texel_at : Picture → ℕ → ℕ → List ℕ
+texel_at p column row = take 4 (drop (4 * (row * p.w + column)) p.texels)
 
--- the bytes of a row, from the left
-unfoldable pub row_bytes : Pixels → ℕ → ℕ → List ℕ
-row_bytes pixels width y = flat_map (λ x. rgb_of (pixels (pos x) (pos y))) (range_with_len 0 width)
+abbrev pub picture_of : Part → Picture
+picture_of part = record { w = part.w; h = part.h; texels = part.texels }
 
--- the bytes of a picture, its rows from the top
-unfoldable pub rgb_bytes : Pixels → ℕ → ℕ → List ℕ
-rgb_bytes pixels width height = flat_map (λ row. row_bytes pixels width (height - 1 - row)) (range_with_len 0 height)
+-- the texel lies in the part
+abbrev pub is_in_part : Part → ℕ → ℕ → Bool
+is_in_part part column row =
+    (nat_le part.x column && nat_lt column (part.x + part.w)) && (nat_le part.y row && nat_lt row (part.y + part.h))
 
-abbrev pub image_from : Decl → Pixels → Image
-image_from d pixels = record { width = d.width; height = d.height; rgb = rgb_bytes pixels d.width d.height }
+-- the texel after the part was written: that of the part where it lies there, else the old one
+abbrev pub written_texel : Picture → Part → ℕ → ℕ → List ℕ
+written_texel p part column row =
+    if is_in_part part column row then texel_at (picture_of part) (column - part.x) (row - part.y) else texel_at p column row
 
--- frame k of an order
-abbrev pub frame_of : Scene → List Name → ℕ → Image
-frame_of scene order k = image_from scene.decl (frame_pixel scene order k)
-
--- frames 1 to n of an order
-abbrev pub frames_of : Scene → List Name → ℕ → List Image
-frames_of scene order zero = []
-frames_of scene order (suc n) = frames_of scene order n ++ frame_of scene order (suc n) ∷ []
-
--- The text of an image by Netpbm's P6: the letters, width and height, the greatest value of a channel, and r, g, b of each pixel
-abbrev pub p6_text : Image → List ℕ
-p6_text m = codes "P6\n" ++ decimal m.width ++ codes " " ++ decimal m.height ++ codes "\n255\n" ++ m.rgb
-
--- the texts of several images, one after the other
-abbrev pub p6_texts : List Image → List ℕ
-p6_texts images = flat_map p6_text images
+-- the picture after the part was written: each texel, row by row
+unfoldable pub with_part : Picture → Part → Picture
+with_part p part = record p { texels = flat_map (λ k. written_texel p part (k % p.w) (k / p.w)) (range_with_len 0 (p.w * p.h)) }

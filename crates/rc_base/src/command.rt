@@ -1,5 +1,4 @@
 //! The commands of a stream: an integer profile of OpenGL 1.x, with barriers, semaphores and swaps in the stream.
-use crate::boxed::Boxed;
 use crate::items::Items;
 
 /// Bytes of a file or a text.
@@ -69,8 +68,8 @@ pub enum Command {
         mode: u8,
     },
     LoadIdentity,
-    LoadMatrix(Boxed<Mat4>),
-    MultMatrix(Boxed<Mat4>),
+    LoadMatrix(Mat4),
+    MultMatrix(Mat4),
     PushMatrix,
     PopMatrix,
     /// Sets the viewport x, y, w, h in pixels.
@@ -133,12 +132,12 @@ pub enum Command {
         name: u8,
         w: u16,
         h: u16,
-        texels: Boxed<Texels>,
+        texels: Texels,
     },
     /// Writes a part of a private texture's image.
-    TexPart(Boxed<Part>),
+    TexPart(Part),
     /// Writes a part of a texture that all clients share.
-    SharedImage(Boxed<Part>),
+    SharedImage(Part),
     /// Waits for the other clients of a barrier.
     Barrier {
         name: u8,
@@ -194,4 +193,15 @@ pub enum Opcode {
     SemP = 34,
     SemV = 35,
     Swap = 36,
+}
+
+/// The range of a number of a command.
+#[derive(Clone, Copy, Debug, PartialEq, Eq)]
+pub enum NumberRange {
+    /// 8 bits.
+    Byte,
+    /// 16 bits.
+    Half,
+    /// 32 bits with a sign.
+    Word,
 }

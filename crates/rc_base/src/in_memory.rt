@@ -4,8 +4,8 @@
 ghost use Rattle.std.specs.Prelude.{◌≡◌, ◌<◌, ◌≤◌, ◌++◌, [], Ok, IsTrue, IsErr, IfOk, OnOk, OnErr, is_err, length, min, take, drop, Some, None};
 ghost use Rattle.std.specs.Io.{ReadsAtMost};
 ghost use Rattle.std.specs.Io.KnownBytes.{ReadConsumes, WriteAppends};
-ghost use Rattle.rc_base.specs.Causes.{risen, HasCause};
-ghost use Rattle.rc_base.specs.InMemory.{is_failing, taken_count, take_answer, source_after, quiet_after, sink_after};
+ghost use Rattle.rc_base.specs.Outside.Causes.{risen, HasCause};
+ghost use Rattle.rc_base.specs.Outside.InMemory.{is_failing, taken_count, take_answer, source_after, quiet_after, sink_after};
 
 use crate::items::Items;
 use crate::out_of_memory::OutOfMemory;
@@ -34,7 +34,7 @@ pub struct QuietSource {
 
 impl Model for QuietSource {
     ghost use Rattle.std.specs.Prelude.{◌≤◌, ◌<◌, length, drop};
-    ghost use Rattle.rc_base.specs.InMemory.{QuietSourceModel};
+    ghost use Rattle.rc_base.specs.Outside.InMemory.{QuietSourceModel};
 
     ghost Value = { QuietSourceModel };
 
@@ -147,7 +147,7 @@ pub struct MemSource {
 }
 
 impl Model for MemSource {
-    ghost use Rattle.rc_base.specs.InMemory.{MemSourceModel};
+    ghost use Rattle.rc_base.specs.Outside.InMemory.{MemSourceModel};
 
     ghost Value = { MemSourceModel };
 
@@ -202,7 +202,7 @@ pub struct MemSink {
 
 impl Model for MemSink {
     ghost use Rattle.std.specs.Prelude.{◌<◌};
-    ghost use Rattle.rc_base.specs.InMemory.{MemSinkModel};
+    ghost use Rattle.rc_base.specs.Outside.InMemory.{MemSinkModel};
 
     ghost Value = { MemSinkModel };
 

@@ -31,7 +31,8 @@ impl<T> Items<T> {
         }
     }
 
-    /// An empty list with room for this many values.
+    /// An empty list. The room that is asked for only saves growth: contracts see a list's values and not its room. What must not run out of
+    /// room holds a `Vec` or a `VecDeque`, whose capacity contracts name, and makes the list of it.
     pub fn with_capacity(alloc: Global, capacity: usize) -> Result<Items<T>, AllocError>
         ensures empty { IfOk result (λ v. v ≡ []) }
         ensures succeeds { capacity ≡ 0 → IsOk result }
@@ -41,7 +42,7 @@ impl<T> Items<T> {
         })
     }
 
-    /// Makes room for this many values more. The list is the same, whatever comes of it.
+    /// Asks for room for this many values more, as `with_capacity` does. The list is the same, whatever comes of it.
     pub fn reserve(&mut self, additional: usize) -> Result<(), AllocError>
         ensures { self.new ≡ self.old }
     {

@@ -5,7 +5,7 @@
 ghost use Rattle.std.specs.Prelude.{◌≡◌, ◌<◌, ◌≤◌, IfOk, length, is_ok, if◌then◌else◌};
 ghost use Rattle.std.specs.Io.{ReadsAtMost};
 ghost use Rattle.std.specs.Io.KnownBytes.{ReadConsumes, WriteAppends};
-ghost use Rattle.rc_base.specs.Causes.{risen, HasCause};
+ghost use Rattle.rc_base.specs.Outside.Causes.{risen, HasCause};
 
 use crate::outside::{Failed, Sink, Source, fail};
 use std::io::{Read, Write};
@@ -19,7 +19,7 @@ pub struct StdSource<R: Read> {
 }
 
 impl<R: Read> Model for StdSource<R> {
-    ghost use Rattle.rc_base.specs.Standard.{StdSourceModel};
+    ghost use Rattle.rc_base.specs.Outside.Standard.{StdSourceModel};
 
     ghost Value = { StdSourceModel };
 
@@ -62,7 +62,7 @@ pub struct StdSink<W: Write> {
 }
 
 impl<W: Write> Model for StdSink<W> {
-    ghost use Rattle.rc_base.specs.Standard.{StdSinkModel};
+    ghost use Rattle.rc_base.specs.Outside.Standard.{StdSinkModel};
 
     ghost Value = { StdSinkModel };
 

@@ -42,6 +42,26 @@ pub enum Entry {
 /// The entries that were granted, in the order of granting.
 pub type Journal = Items<Entry>;
 
+/// What the manager tells a tile: the journal's next entry, or that there is no more.
+#[derive(Clone, Copy, Debug, PartialEq, Eq)]
+pub enum Grant {
+    Entry(Entry),
+    NoMore,
+}
+
+/// What a client asks of the manager: an operation at its place, or that it has ended.
+#[derive(Clone, Copy, Debug, PartialEq, Eq)]
+pub enum Request {
+    Op { place: u32, op: SyncOp },
+    End,
+}
+
+/// For each client the operation that it waits at, if it waits. Clients that don't exist wait for nothing.
+#[derive(Clone, Copy, Debug, PartialEq, Eq)]
+pub struct Waiting {
+    pub at: [Option<WaitAt>; 8],
+}
+
 /// A client's accepted operations, and the number of commands in its stream.
 #[derive(Clone, Debug, PartialEq, Drop)]
 pub struct SyncRow {

@@ -1,4 +1,4 @@
-//! The words of a scene's text: what a line is about, and what its numbers may be.
+//! The words of a scene's text: what a line is about.
 use crate::command::Opcode;
 
 /// What the first word of a line names: a part of the declaration, the begin of a client's stream, or a command.
@@ -14,17 +14,4 @@ pub enum LineName {
     Semaphore,
     Client,
     Command(Opcode),
-}
-
-/// The range of a number in a text.
-#[derive(Clone, Copy, Debug, PartialEq, Eq)]
-pub enum NumberRange {
-    /// The version of the format, which is 1.
-    Version,
-    /// 8 bits.
-    Byte,
-    /// 16 bits.
-    Half,
-    /// 32 bits with a sign.
-    Word,
 }

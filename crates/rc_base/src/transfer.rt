@@ -1,23 +1,27 @@
 //! Reading a source to its end, and writing a whole text to a sink.
-ghost use Rattle.std.specs.Prelude.{◌≡◌, ◌<◌, ◌≤◌, ℕ, List, length, take, IfErr, OnOk, IsErrOf};
+ghost use Rattle.std.specs.Prelude.{◌≡◌, ◌<◌, ◌≤◌, ℕ, List, length, take, IfErr, OnOk};
 ghost use Rattle.std.specs.Io.KnownBytes.{Consumes, Appends, IsAtEnd};
-ghost use Rattle.rc_base.specs.Causes.{Rose, HasCause};
-ghost use Rattle.rc_base.specs.Transfer.{IsAnswerFor};
-ghost use Rattle.rc_base.specs.declared.transfer.ReadAllFault.TheVariants.{ReadFault, OutOfMemory as NoMemory};
+ghost use Rattle.rc_base.specs.Outside.Causes.{HasCause};
+ghost use Rattle.rc_base.specs.Outside.Transfer.{IsAnswerFor, IsCountFor};
+ghost use Rattle.rc_base.specs.declared.transfer.ReadAllFault.TheVariants.{OutOfMemory as NoMemory};
 
 use crate::command::Bytes;
 use crate::items::Items;
 use crate::outside::{Failed, Sink, Source};
 use std::alloc::{AllocError, Global};
+use thiserror::Error;
 
 /// Why a source was not read to its end.
-#[derive(Clone, Copy, Debug, PartialEq, Eq)]
+#[derive(Clone, Copy, Debug, PartialEq, Eq, Error)]
 pub enum ReadAllFault {
     /// The source failed.
+    #[error("read fault")]
     ReadFault,
     /// The source gave more bytes than `BYTE_LIMIT`. `seen` of them were taken, the limit and one more.
+    #[error("more than {limit} bytes", limit = BYTE_LIMIT)]
     TooLong { seen: usize },
     /// There was no memory for the bytes.
+    #[error("out of memory")]
     OutOfMemory,
 }
 
@@ -30,7 +34,8 @@ impl From<AllocError> for ReadAllFault {
 }
 
 /// The sink failed when the first `done` bytes of the text had gone out.
-#[derive(Clone, Copy, Debug, PartialEq, Eq)]
+#[derive(Clone, Copy, Debug, PartialEq, Eq, Error)]
+#[error("write fault after {done} bytes")]
 pub struct WriteFault {
     pub done: usize,
 }
@@ -42,12 +47,12 @@ pub const BYTE_LIMIT: usize = 33_554_432;
 const CHUNK: usize = 4096;
 
 /// Reads a source to its end, if that comes within the limit. Nothing is taken but the bytes of the answer and, of a source that is too long,
-/// one byte more than the limit.
+/// one byte more than the limit. A take that fails is the last one.
 pub fn read_all<S: Source>(alloc: Global, source: &mut S) -> Result<Bytes, ReadAllFault>
     ensures taken { (bytes : List ℕ) × Consumes (S.left source.old) (S.left source.new) bytes × IsAnswerFor bytes result }
     ensures end { OnOk result (IsAtEnd (S.left source.new)) }
     ensures later { S.faults source.old ≤ S.faults source.new }
-    ensures read_fault { IsErrOf result ReadFault → Rose (S.faults source.old) (S.faults source.new) }
+    ensures cause { IsCountFor (S.faults source.old) (S.faults source.new) result }
 {
     let mut bytes = Items::new(alloc);
     let mut buffer = [0u8; CHUNK];
@@ -62,7 +67,8 @@ pub fn read_all<S: Source>(alloc: Global, source: &mut S) -> Result<Bytes, ReadA
     Err(ReadAllFault::TooLong { seen: bytes.len() })
 }
 
-/// Writes a whole text. Each put is offered all that is left of it, until all went out or the sink failed. It takes no memory of its own.
+/// Writes a whole text. Each put is offered all that is left of it, until all went out or the sink failed; a put that fails is the last one. It
+/// takes no memory of its own.
 pub fn write_all<K: Sink>(sink: &mut K, bytes: &[u8]) -> Result<(), WriteFault>
     ensures whole { OnOk result (Appends (K.held sink.old) (K.held sink.new) bytes.now) }
     ensures part { IfErr result (λ e. (e.done < length bytes.now) × Appends (K.held sink.old) (K.held sink.new) (take e.done bytes.now)) }
@@ -97,6 +103,35 @@ mod tests {
     }
 
     #[test]
+    fn nothing_is_taken_after_the_end(rt: HostRuntime) -> Result<(), Fail> {
+        let mut source = MemSource::new(rt.alloc(), b"abc", 4, &[3])?;
+        let read = read_all(rt.alloc(), &mut source)?;
+        assert_eq!(rt; read.as_slice(), b"abc".as_slice());
+        Ok(())
+    }
+
+    #[test]
+    fn a_text_is_one_put_where_the_sink_takes_it_whole(rt: HostRuntime) -> Result<(), Fail> {
+        let mut sink = MemSink::new(rt.alloc(), 64, &[2])?;
+        assert_eq!(rt; write_all(&mut sink, b"rc: usage\n"), Ok(()));
+        assert_eq!(rt; write_all(&mut sink, b"rc: "), Err(WriteFault { done: 0 }));
+        assert_eq!(rt; sink.bytes(), b"rc: usage\n".as_slice());
+        Ok(())
+    }
+
+    #[test]
+    fn a_fault_at_the_first_take_leaves_all_bytes(rt: HostRuntime) -> Result<(), Fail> {
+        let mut source = MemSource::new(rt.alloc(), b"abc", 4, &[1])?;
+        assert_eq!(rt;
+            read_all(rt.alloc(), &mut source),
+            Err(ReadAllFault::ReadFault)
+        );
+        let rest = read_all(rt.alloc(), &mut source)?;
+        assert_eq!(rt; rest.as_slice(), b"abc".as_slice());
+        Ok(())
+    }
+
+    #[test]
     fn a_fault_leaves_the_bytes_behind_it(rt: HostRuntime) -> Result<(), Fail> {
         let mut source = MemSource::new(rt.alloc(), b"abcdefg", 2, &[3])?;
         assert_eq!(rt;
@@ -118,6 +153,15 @@ mod tests {
         assert_eq!(rt; sink.bytes(), b"P6\n1 1\n2".as_slice());
         assert_eq!(rt; write_all(&mut sink, b"55\nrgb"), Ok(()));
         assert_eq!(rt; sink.bytes(), b"P6\n1 1\n255\nrgb".as_slice());
+        Ok(())
+    }
+
+    #[test]
+    fn faults_are_shown(rt: HostRuntime) -> Result<(), Fail> {
+        let write = format!(in rt.alloc(); "{}", WriteFault { done: 8 })?;
+        assert_eq!(rt; write.as_str(), "write fault after 8 bytes");
+        let long = format!(in rt.alloc(); "{}", ReadAllFault::TooLong { seen: 33_554_433 })?;
+        assert_eq!(rt; long.as_str(), "more than 33554432 bytes");
         Ok(())
     }
 }

@@ -1,6 +1,6 @@
 //! A triangle in window coordinates, always within its bounds and with its area above 0.
 ghost use Rattle.std.specs.Prelude.{◌≡◌, pos, ◌<ℤ◌};
-ghost use Rattle.rc_base.specs.Drawing.Cover.{area_of, AreInBounds};
+ghost use Rattle.rc_base.specs.Drawing.Cover.{triangle_area, AreInBounds};
 
 use crate::window::WindowVertex;
 
@@ -11,6 +11,6 @@ pub struct WindowTriangle {
     pub v: [WindowVertex; 3],
     pub area: i64,
     pub ghost bounded: { AreInBounds v },
-    pub ghost area_is: { area ≡ area_of v },
+    pub ghost area_is: { area ≡ triangle_area v },
     pub ghost positive: { pos 0 <ℤ area },
 }

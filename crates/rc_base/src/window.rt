@@ -1,5 +1,6 @@
 //! The window: pixels, rectangles, spans, and vertices in window coordinates.
 use crate::command::Rgba;
+use crate::items::Items;
 
 /// The pixels with x0 <= x < x1 and y0 <= y < y1.
 #[derive(Clone, Copy, Debug, PartialEq, Eq)]
@@ -16,6 +17,9 @@ pub struct Pixel {
     pub color: Rgba,
     pub depth: u32,
 }
+
+/// Pixels, row by row.
+pub type Pixels = Items<Pixel>;
 
 /// A vertex in window coordinates: x and y in sixteenths of a pixel from the lower left corner, z from 0 to 16777215 inside the depth
 /// range. The texture coordinate is 16.16 fixed point.

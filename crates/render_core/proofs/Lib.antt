@@ -1,6 +1,6 @@
-pub mod Words
+pub mod OneWord
 pub mod Prefixes
-pub mod Refusals
-pub mod Told
-pub mod Exact
-pub mod Read
+pub mod Judging
+pub mod FewCommands
+pub mod Making
+pub mod Exactness

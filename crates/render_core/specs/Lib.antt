@@ -1,4 +1,5 @@
 pub mod Jobs
 pub mod Lines
-pub mod Answers
-pub mod Steps
+pub mod Findings
+pub mod Outcomes
+pub mod Refusals

@@ -1,32 +1,74 @@
-//! Why a run is refused, and the line that tells it.
+//! Why a job is refused: the refusals of its steps, with their statuses and the lines that tell them.
 ghost use Rattle.std.specs.Prelude.{◌≡◌, IfOk, string_bytes};
-ghost use Rattle.render_core.specs.Lines.{scene_kind_name, text_kind_name, limit_name, status_of, malformed_line, limit_line, image_fault_line};
+ghost use Rattle.rc_base.specs.Formats.Limits.{limit_name};
+ghost use Rattle.render_core.specs.Lines.{scene_kind_name, text_kind_name, malformed_line, limit_line, image_fault_line};
+ghost use Rattle.render_core.specs.Refusals.{reading_status, reading_line, input_status, input_line, image_status, image_line, refusal_status, refusal_line};
+ghost use Rattle.render_core.specs.declared.refusal.Refusal.TheVariants.{Reading as OfReading, Input as OfInput, Image as OfImage};
 
 use rc_base::scene::{Limit, SceneKind, TextKind};
+use rc_base::transfer::ReadAllFault;
 use std::alloc::{AllocError, Global};
 
-/// Why a run is refused.
+/// Why an input is not carried out.
 #[derive(Clone, Copy, Debug, PartialEq, Eq)]
-pub enum Refusal {
-    /// The words name no job.
-    Usage,
-    /// The source failed.
-    ReadFault,
+pub enum InputRefusal {
     /// The bytes spell no scene: the first fault stands at this byte, from 0.
     MalformedScene { kind: SceneKind, at: usize },
     /// The text spells no scene: the first fault stands in this line, from 1.
     MalformedText { kind: TextKind, line: usize },
-    /// A quantity is outside its range.
+    /// A quantity of the scene is outside its range.
     PastLimit(Limit),
-    /// The image failed when it had taken so many bytes.
-    ImageFault { done: u128 },
-    /// There was no memory.
-    OutOfMemory,
     /// The scene has something that is not drawn so far.
     NotBuilt,
+    /// There was no memory.
+    OutOfMemory,
 }
 
-pub(crate) fn scene_kind_name(kind: SceneKind) -> &'static str
+/// Why the image was not written whole.
+#[derive(Clone, Copy, Debug, PartialEq, Eq)]
+pub enum ImageRefusal {
+    /// The image failed when it had taken so many bytes.
+    Fault { done: u128 },
+    /// There was no memory for the text of a frame.
+    OutOfMemory,
+}
+
+/// Why a job is refused, by the step that refuses it.
+#[derive(Clone, Copy, Debug, PartialEq, Eq)]
+pub enum Refusal {
+    /// The source was not read to its end.
+    Reading(ReadAllFault),
+    /// The input is not carried out.
+    Input(InputRefusal),
+    /// The image was not written whole.
+    Image(ImageRefusal),
+}
+
+impl From<ReadAllFault> for Refusal {
+    ghost from_gives = { λ fault refusal. refusal ≡ OfReading fault };
+
+    fn from(fault: ReadAllFault) -> Refusal {
+        Refusal::Reading(fault)
+    }
+}
+
+impl From<InputRefusal> for Refusal {
+    ghost from_gives = { λ inner refusal. refusal ≡ OfInput inner };
+
+    fn from(inner: InputRefusal) -> Refusal {
+        Refusal::Input(inner)
+    }
+}
+
+impl From<ImageRefusal> for Refusal {
+    ghost from_gives = { λ inner refusal. refusal ≡ OfImage inner };
+
+    fn from(inner: ImageRefusal) -> Refusal {
+        Refusal::Image(inner)
+    }
+}
+
+fn scene_kind_name(kind: SceneKind) -> &'static str
     ensures { result.now ≡ scene_kind_name kind }
 {
     match kind {
@@ -38,7 +80,7 @@ pub(crate) fn scene_kind_name(kind: SceneKind) -> &'static str
     }
 }
 
-pub(crate) fn text_kind_name(kind: TextKind) -> &'static str
+fn text_kind_name(kind: TextKind) -> &'static str
     ensures { result.now ≡ text_kind_name kind }
 {
     match kind {
@@ -69,46 +111,106 @@ fn limit_name(what: u8) -> &'static str
         11 => "commands",
         12 => "frames",
         13 => "pixels",
+        14 => "tile columns",
+        15 => "tile rows",
+        16 => "tiles",
+        17 => "depth",
+        18 => "size",
         _ => "",
     }
 }
 
-impl Refusal {
-    /// The status with which the run ends.
-    pub fn status(&self) -> u8
-        ensures { result ≡ status_of self.now }
-    {
-        match self {
-            Refusal::Usage => 1,
-            Refusal::ReadFault => 2,
-            Refusal::MalformedScene { .. } | Refusal::MalformedText { .. } => 3,
-            Refusal::PastLimit(_) => 4,
-            Refusal::ImageFault { .. } => 6,
-            Refusal::OutOfMemory => 7,
-            Refusal::NotBuilt => 10,
-        }
-    }
-}
-
 #[tactic(auto, unfolding(crate::specs::Lines::malformed_line))]
-pub(crate) fn malformed_line(alloc: Global, kind: &str, at: usize) -> Result<String, AllocError>
+fn malformed_line(alloc: Global, kind: &str, at: usize) -> Result<String, AllocError>
     ensures { IfOk result (λ line. string_bytes line ≡ malformed_line kind.now at) }
 {
     format!(in alloc; "rc: malformed {kind} at {at}\n")
 }
 
 #[tactic(auto, unfolding(crate::specs::Lines::limit_line))]
-pub(crate) fn limit_line(alloc: Global, limit: Limit) -> Result<String, AllocError>
-    ensures { IfOk result (λ line. string_bytes line ≡ limit_line limit.what limit.value) }
+fn limit_line(alloc: Global, what: u8, value: u64) -> Result<String, AllocError>
+    ensures { IfOk result (λ line. string_bytes line ≡ limit_line what value) }
 {
-    let name = limit_name(limit.what);
-    let value = limit.value;
+    let name = limit_name(what);
     format!(in alloc; "rc: limit {name} {value}\n")
 }
 
 #[tactic(auto, unfolding(crate::specs::Lines::image_fault_line))]
-pub(crate) fn image_fault_line(alloc: Global, done: u128) -> Result<String, AllocError>
+fn image_fault_line(alloc: Global, done: u128) -> Result<String, AllocError>
     ensures { IfOk result (λ line. string_bytes line ≡ image_fault_line done) }
 {
     format!(in alloc; "rc: image fault after {done} bytes\n")
+}
+
+#[tactic(auto, unfolding(crate::specs::Lines::read_fault_line, crate::specs::Lines::memory_line))]
+fn reading_line(alloc: Global, fault: ReadAllFault) -> Result<String, AllocError>
+    ensures { IfOk result (λ line. string_bytes line ≡ reading_line fault) }
+{
+    match fault {
+        ReadAllFault::ReadFault => String::from_str(alloc, "rc: read fault\n"),
+        ReadAllFault::TooLong { seen } => limit_line(alloc, 1, seen as u64),
+        ReadAllFault::OutOfMemory => String::from_str(alloc, OUT_OF_MEMORY),
+    }
+}
+
+#[tactic(auto, unfolding(crate::specs::Lines::not_built_line, crate::specs::Lines::memory_line))]
+fn input_line(alloc: Global, refusal: InputRefusal) -> Result<String, AllocError>
+    ensures { IfOk result (λ line. string_bytes line ≡ input_line refusal) }
+{
+    match refusal {
+        InputRefusal::MalformedScene { kind, at } => {
+            malformed_line(alloc, scene_kind_name(kind), at)
+        }
+        InputRefusal::MalformedText { kind, line } => {
+            malformed_line(alloc, text_kind_name(kind), line)
+        }
+        InputRefusal::PastLimit(Limit { what, value }) => limit_line(alloc, what, value),
+        InputRefusal::NotBuilt => String::from_str(alloc, "rc: not built\n"),
+        InputRefusal::OutOfMemory => String::from_str(alloc, OUT_OF_MEMORY),
+    }
+}
+
+#[tactic(auto, unfolding(crate::specs::Lines::memory_line))]
+fn image_line(alloc: Global, refusal: ImageRefusal) -> Result<String, AllocError>
+    ensures { IfOk result (λ line. string_bytes line ≡ image_line refusal) }
+{
+    match refusal {
+        ImageRefusal::Fault { done } => image_fault_line(alloc, done),
+        ImageRefusal::OutOfMemory => String::from_str(alloc, OUT_OF_MEMORY),
+    }
+}
+
+/// The line of want of memory.
+pub(crate) const OUT_OF_MEMORY: &str = "rc: out of memory\n";
+
+impl Refusal {
+    /// The status with which the run ends.
+    pub fn status(&self) -> u8
+        ensures { result ≡ refusal_status self.now }
+    {
+        match self {
+            Refusal::Reading(ReadAllFault::ReadFault) => 2,
+            Refusal::Input(
+                InputRefusal::MalformedScene { .. } | InputRefusal::MalformedText { .. },
+            ) => 3,
+            Refusal::Reading(ReadAllFault::TooLong { .. })
+            | Refusal::Input(InputRefusal::PastLimit(_)) => 4,
+            Refusal::Image(ImageRefusal::Fault { .. }) => 6,
+            Refusal::Reading(ReadAllFault::OutOfMemory)
+            | Refusal::Input(InputRefusal::OutOfMemory)
+            | Refusal::Image(ImageRefusal::OutOfMemory) => 7,
+            Refusal::Input(InputRefusal::NotBuilt) => 10,
+        }
+    }
+
+    /// The line that tells it in the notes.
+    pub fn line(&self, alloc: Global) -> Result<String, AllocError>
+        ensures { IfOk result (λ line. string_bytes line ≡ refusal_line self.now) }
+    {
+        match *self {
+            Refusal::Reading(fault) => reading_line(alloc, fault),
+            Refusal::Input(refusal) => input_line(alloc, refusal),
+            Refusal::Image(refusal) => image_line(alloc, refusal),
+        }
+    }
 }

@@ -1,32 +1,29 @@
-//! The top call.
-ghost use Rattle.std.specs.Prelude.{◌≡◌, ◌≢◌, ◌≤◌, ◌⊎◌, ◌↔◌, ℕ, List, length, Err, IfErr, OnOk, Some, None, string_bytes, IfOk, MatchOption};
+//! The top call: the words, the steps of the job that they name, and the notes.
+ghost use Rattle.std.specs.Prelude.{◌≡◌, ◌≢◌, ◌<◌, ◌≤◌, ◌⊎◌, ◌↔◌, ℕ, List, [], length, take, Some, OnOk, OnErr, IfOk, IfErr};
 ghost use Rattle.std.specs.Io.KnownBytes.{Appends};
-ghost use Rattle.rc_base.specs.Causes.{Rose};
-ghost use Rattle.rc_base.specs.Limits.{limit_of};
-ghost use Rattle.rc_base.specs.Transfer.{byte_limit};
-ghost use Rattle.rc_base.specs.declared.scene.Scene.{Scene as AnyScene};
+ghost use Rattle.rc_base.specs.Outside.Causes.{Rose};
 ghost use Rattle.render_core.specs.declared.job.Job.{Job as AnyJob};
-ghost use Rattle.render_core.specs.declared.job.Job.TheVariants.{Render as ToRender};
-ghost use Rattle.render_core.specs.Jobs.{IsJob, Spells, IsInput};
-ghost use Rattle.render_core.specs.Lines.{line_of, usage_line, read_fault_line, memory_line, not_built_line};
-ghost use Rattle.render_core.specs.Answers.{IsMalformed, IsPastLimit, IsNotBuilt, IsCutOff, Noted, Refused, Done, PartlyDone, IsStatus, Ends, SpellsNone, IsOutside, IsUndrawn};
-ghost use Rattle.render_core.specs.Steps.{RefusesRun, IsDone, HasNumbers, Spares, IsToldAs};
+ghost use Rattle.render_core.specs.Jobs.{IsJob};
+ghost use Rattle.render_core.specs.Lines.{usage_line};
+ghost use Rattle.render_core.specs.Findings.{Finding, IsFinding, finding_status};
+ghost use Rattle.render_core.specs.Outcomes.{ForJob, Noted, Carried, Done, NotesFailed, PartlyCarried, Cause, Refused, Ends};
+ghost use Rattle.render_core.specs.Refusals.{refusal_status, refusal_line, IsTold};
 
+use crate::input::due_for;
 use crate::job::{Job, job_of};
-use crate::perform::{perform_pack, perform_render, perform_unpack};
-use crate::refusal::{
-    Refusal, image_fault_line, limit_line, malformed_line, scene_kind_name, text_kind_name,
-};
+use crate::refusal::{OUT_OF_MEMORY, Refusal};
+use crate::writing::write_due;
+use rc_base::command::Bytes;
 use rc_base::gate::Gate;
 use rc_base::outside::{Sink, Source};
-use rc_base::transfer::write_all;
-use std::alloc::{AllocError, Global};
+use rc_base::transfer::{WriteFault, read_all, write_all};
+use std::alloc::Global;
 
 /// How a run ended.
 #[derive(Clone, Copy, Debug, PartialEq, Eq)]
 pub struct Finish {
     /// 0: the job is done. 1: the words are no job. 2: the source failed. 3: the source's bytes spell no scene. 4: a quantity is past its limit.
-    /// 6: the image failed. 7: there was no memory. 10: the scene has something that is not drawn so far.
+    /// 6: the image failed. 7: there was no memory. 8: the job is done, but the notes failed. 10: the scene has something that is not drawn so far.
     pub status: u8,
 }
 
@@ -38,110 +35,65 @@ fn note<N: Sink>(notes: &mut N, line: &str)
     let _ = write_all(notes, line.as_bytes());
 }
 
-// The line of a refusal that has numbers.
-fn made_line(alloc: Global, refusal: Refusal) -> Result<String, AllocError>
-    requires { HasNumbers refusal }
-    ensures { IfOk result (λ line. string_bytes line ≡ line_of refusal) }
-{
-    match refusal {
-        Refusal::MalformedScene { kind, at } => malformed_line(alloc, scene_kind_name(kind), at),
-        Refusal::MalformedText { kind, line } => malformed_line(alloc, text_kind_name(kind), line),
-        Refusal::PastLimit(limit) => limit_line(alloc, limit),
-        Refusal::ImageFault { done } => image_fault_line(alloc, done),
-        _ => String::from_str(alloc, ""),
-    }
-}
-
-// The line of a refusal that has none.
-#[tactic(auto, unfolding(crate::specs::Lines::usage_line, crate::specs::Lines::read_fault_line, crate::specs::Lines::memory_line, crate::specs::Lines::not_built_line))]
-fn fixed_line(refusal: &Refusal) -> Option<&'static str>
-    ensures { MatchOption result (HasNumbers refusal.now) (λ line. line.now ≡ line_of refusal.now) }
-{
-    match refusal {
-        Refusal::Usage => Some("rc: usage\n"),
-        Refusal::ReadFault => Some("rc: read fault\n"),
-        Refusal::OutOfMemory => Some("rc: out of memory\n"),
-        Refusal::NotBuilt => Some("rc: not built\n"),
-        _ => None,
-    }
-}
-
-// Notes a refusal. Where there is no memory for its line, that is noted in its place, and answered.
+// Notes a refusal, and gives the status of the run. Where there is no memory for its line, that is noted in its place.
 #[tactic(auto, unfolding(crate::specs::Lines::memory_line))]
-fn note_refusal<N: Sink>(alloc: Global, notes: &mut N, refusal: Refusal) -> Refusal
-    ensures told { IsToldAs refusal result }
-    ensures noted { Noted (N.held notes.old) (N.held notes.new) (N.faults notes.old) (N.faults notes.new) (line_of result) }
+fn note_refusal<N: Sink>(alloc: Global, notes: &mut N, refusal: Refusal) -> u8
+    ensures told { IsTold (N.held notes.old) (N.held notes.new) (N.faults notes.old) (N.faults notes.new) refusal result }
     ensures later { N.faults notes.old ≤ N.faults notes.new }
 {
-    if let Some(line) = fixed_line(&refusal) {
-        note(notes, line);
-        return refusal;
-    }
-    match made_line(alloc, refusal) {
+    match refusal.line(alloc) {
         Ok(line) => {
             note(notes, line.as_str());
-            refusal
+            refusal.status()
         }
         Err(_) => {
-            note(notes, "rc: out of memory\n");
-            Refusal::OutOfMemory
+            note(notes, OUT_OF_MEMORY);
+            7
         }
     }
 }
 
-// Carries out the job that the words name.
-fn perform<S: Source, K: Sink>(
-    alloc: Global,
-    words: &[String],
-    source: &mut S,
-    image: &mut K,
-) -> Result<(), Refusal>
-    ensures done { OnOk result (IsDone words.now (S.left source.old) (S.left source.new) (K.held image.old) (K.held image.new)) }
-    ensures refused { IfErr result (RefusesRun words.now (S.left source.old) (S.left source.new) (K.held image.old) (K.held image.new) (S.faults source.old) (S.faults source.new) (K.faults image.old) (K.faults image.new)) }
-    ensures unread { IfErr result (λ refusal. refusal ≡ Refusal.Usage → source.new ≡ source.old) }
-    ensures untouched { IfErr result (λ refusal. Spares refusal → image.new ≡ image.old) }
-    ensures memory { IfErr result (λ refusal. refusal ≡ Refusal.OutOfMemory → (image.new ≡ image.old) ⊎ PartlyDone words.now (S.left source.old) (S.left source.new) (K.held image.old) (K.held image.new)) }
-    ensures later_source { S.faults source.old ≤ S.faults source.new }
-    ensures later_image { K.faults image.old ≤ K.faults image.new }
+// Writes what is due to the notes behind a job that is carried out. Where that is nothing they are not called.
+fn report<N: Sink>(notes: &mut N, lines: &[u8]) -> Result<(), WriteFault>
+    ensures told { OnOk result (Appends (N.held notes.old) (N.held notes.new) lines.now) }
+    ensures quiet { OnOk result (N.faults notes.new ≡ N.faults notes.old) }
+    ensures part { IfErr result (λ fault. Rose (N.faults notes.old) (N.faults notes.new) × (fault.done < length lines.now) × Appends (N.held notes.old) (N.held notes.new) (take fault.done lines.now)) }
+    ensures untouched { lines.now ≡ [] → notes.new ≡ notes.old }
+    ensures later { N.faults notes.old ≤ N.faults notes.new }
 {
-    match job_of(words) {
-        Some(Job::Render) => perform_render(alloc, source, image),
-        Some(Job::Pack) => perform_pack(alloc, source, image),
-        Some(Job::Unpack) => perform_unpack(alloc, source, image),
-        None => Err(Refusal::Usage),
+    if lines.is_empty() {
+        return Ok(());
     }
+    write_all(notes, lines)
 }
 
-// Carries out the job that the words name, and notes why it is refused.
-fn perform_noted<S: Source, K: Sink, N: Sink>(
+// Carries out a job: its input, what is due for it, the image. The answer is what is due to the notes.
+fn perform<S: Source, K: Sink>(
     alloc: Global,
-    words: &[String],
+    job: Job,
     source: &mut S,
     image: &mut K,
-    notes: &mut N,
-) -> Result<(), Refusal>
-    ensures done { OnOk result (IsDone words.now (S.left source.old) (S.left source.new) (K.held image.old) (K.held image.new)) }
-    ensures silent { OnOk result (notes.new ≡ notes.old) }
-    ensures refused { IfErr result (RefusesRun words.now (S.left source.old) (S.left source.new) (K.held image.old) (K.held image.new) (S.faults source.old) (S.faults source.new) (K.faults image.old) (K.faults image.new)) }
-    ensures noted { IfErr result (λ refusal. Noted (N.held notes.old) (N.held notes.new) (N.faults notes.old) (N.faults notes.new) (line_of refusal)) }
-    ensures unread { IfErr result (λ refusal. refusal ≡ Refusal.Usage → source.new ≡ source.old) }
-    ensures untouched { IfErr result (λ refusal. Spares refusal → image.new ≡ image.old) }
-    ensures memory { IfErr result (λ refusal. refusal ≡ Refusal.OutOfMemory → (image.new ≡ image.old) ⊎ PartlyDone words.now (S.left source.old) (S.left source.new) (K.held image.old) (K.held image.new)) }
+) -> Result<Bytes, Refusal>
+    ensures done { IfOk result (Carried job (S.left source.old) (S.left source.new) (K.held image.old) (K.held image.new)) }
+    ensures quiet { OnOk result ((S.faults source.new ≡ S.faults source.old) × (K.faults image.new ≡ K.faults image.old)) }
+    ensures refused { IfErr result (λ refusal. Cause job (S.left source.old) (S.left source.new) (K.held image.old) (K.held image.new) (S.faults source.old) (S.faults source.new) (K.faults image.old) (K.faults image.new) (refusal_status refusal) (refusal_line refusal)) }
+    ensures untouched { IfErr result (λ refusal. refusal_status refusal ≢ 6 → refusal_status refusal ≢ 7 → image.new ≡ image.old) }
+    ensures part { OnErr result ((image.new ≡ image.old) ⊎ PartlyCarried job (S.left source.old) (S.left source.new) (K.held image.old) (K.held image.new)) }
     ensures later_source { S.faults source.old ≤ S.faults source.new }
     ensures later_image { K.faults image.old ≤ K.faults image.new }
-    ensures later_notes { N.faults notes.old ≤ N.faults notes.new }
 {
-    match perform(alloc, words, source, image) {
-        Ok(()) => Ok(()),
-        Err(refusal) => Err(note_refusal(alloc, notes, refusal)),
-    }
+    let input = read_all(alloc, source)?;
+    let due = due_for(alloc, job, input)?;
+    write_due(alloc, image, &due.image)?;
+    Ok(due.notes)
 }
 
 /// Carries out the job that the words name, which are one of `render`, `pack` and `unpack` alone.
 ///
 /// `render` reads scene bytes and writes a Netpbm P6 image for each frame, `pack` reads the text of a scene and writes its bytes, `unpack` reads bytes and
-/// writes the text. What is refused is told in one line in the notes, which else stay as they are; a fault of the notes changes no status. The
-/// gate is not passed.
+/// writes the text. Behind its image, `render` notes a line for each command that was refused. A job that is refused is told in one line in the
+/// notes, which else stay as they are. A fault of the notes changes the status of a job that is done, and no other. The gate is not passed.
+#[tactic(auto, unfolding(crate::specs::Lines::usage_line))]
 pub fn run<S: Source, K: Sink, N: Sink, G: Gate>(
     alloc: Global,
     words: &[String],
@@ -150,38 +102,44 @@ pub fn run<S: Source, K: Sink, N: Sink, G: Gate>(
     notes: &mut N,
     _gate: &G,
 ) -> Finish
-    ensures statuses { IsStatus result.status }
-    ensures done { result.status ≡ 0 → Done words.now (S.left source.old) (S.left source.new) (K.held image.old) (K.held image.new) }
-    ensures silent { result.status ≡ 0 → notes.new ≡ notes.old }
+    // The words are no job.
     ensures usage { (result.status ≡ 1) ↔ ((job : AnyJob) → IsJob words.now job → ⊥) }
     ensures usage_line { result.status ≡ 1 → Noted (N.held notes.old) (N.held notes.new) (N.faults notes.old) (N.faults notes.new) usage_line }
     ensures unread { result.status ≡ 1 → source.new ≡ source.old }
-    ensures read_fault { result.status ≡ 2 → Rose (S.faults source.old) (S.faults source.new) }
-    ensures read_fault_line { result.status ≡ 2 → Noted (N.held notes.old) (N.held notes.new) (N.faults notes.old) (N.faults notes.new) read_fault_line }
-    ensures malformed { result.status ≡ 3 → Refused IsMalformed words.now (S.left source.old) (S.left source.new) (N.held notes.old) (N.held notes.new) (N.faults notes.old) (N.faults notes.new) }
-    ensures limit { result.status ≡ 4 → Refused IsPastLimit words.now (S.left source.old) (S.left source.new) (N.held notes.old) (N.held notes.new) (N.faults notes.old) (N.faults notes.new) }
-    ensures image_fault { result.status ≡ 6 → Rose (K.faults image.old) (K.faults image.new) }
-    ensures cut_off { result.status ≡ 6 → Refused (IsCutOff (K.held image.old) (K.held image.new)) words.now (S.left source.old) (S.left source.new) (N.held notes.old) (N.held notes.new) (N.faults notes.old) (N.faults notes.new) }
-    ensures memory { result.status ≡ 7 → (image.new ≡ image.old) ⊎ PartlyDone words.now (S.left source.old) (S.left source.new) (K.held image.old) (K.held image.new) }
-    ensures memory_line { result.status ≡ 7 → Noted (N.held notes.old) (N.held notes.new) (N.faults notes.old) (N.faults notes.new) memory_line }
-    ensures not_built { result.status ≡ 10 → Refused IsNotBuilt words.now (S.left source.old) (S.left source.new) (N.held notes.old) (N.held notes.new) (N.faults notes.old) (N.faults notes.new) }
-    ensures untouched { result.status ≢ 0 → result.status ≢ 6 → result.status ≢ 7 → image.new ≡ image.old }
-    ensures complete { (job : AnyJob) (input : List ℕ) (scene : AnyScene) → IsJob words.now job → S.left source.old ≡ Some input → IsInput job input scene
-        → (Rose (S.faults source.old) (S.faults source.new) → ⊥) → (Rose (K.faults image.old) (K.faults image.new) → ⊥) → Ends result.status 0 }
-    ensures every_malformed { (job : AnyJob) (input : List ℕ) → IsJob words.now job → S.left source.old ≡ Some input → SpellsNone job input
-        → (Rose (S.faults source.old) (S.faults source.new) → ⊥) → Ends result.status 3 }
-    ensures every_limit { (job : AnyJob) (input : List ℕ) → IsJob words.now job → S.left source.old ≡ Some input → IsOutside job input
-        → (Rose (S.faults source.old) (S.faults source.new) → ⊥) → Ends result.status 4 }
-    ensures every_not_built { (input : List ℕ) (scene : AnyScene) → IsJob words.now ToRender → S.left source.old ≡ Some input → IsUndrawn input scene
-        → (Rose (S.faults source.old) (S.faults source.new) → ⊥) → Ends result.status 10 }
+    // The job is done: what is due to image and notes was written. Notes to which nothing is due stay as they are.
+    ensures done { result.status ≡ 0 → ForJob words.now (λ job. Done job (S.left source.old) (S.left source.new) (K.held image.old) (K.held image.new) (N.held notes.old) (N.held notes.new)) }
+    ensures silent { result.status ≡ 0 → (notes.new ≡ notes.old) ⊎ ForJob words.now (λ job. (lines : List ℕ) × (0 < length lines) × Carried job (S.left source.old) (S.left source.new) (K.held image.old) (K.held image.new) lines) }
+    // The job is done but for its notes, which failed when the image was whole.
+    ensures notes_failed { result.status ≡ 8 → ForJob words.now (λ job. NotesFailed job (S.left source.old) (S.left source.new) (K.held image.old) (K.held image.new) (N.held notes.old) (N.held notes.new) (N.faults notes.old) (N.faults notes.new)) }
+    // No call of source and image was refused then; with status 0 none of the notes either.
+    ensures quiet { (result.status ≡ 0) ⊎ (result.status ≡ 8) → (S.faults source.new ≡ S.faults source.old) × (K.faults image.new ≡ K.faults image.old) }
+    ensures quiet_notes { result.status ≡ 0 → N.faults notes.new ≡ N.faults notes.old }
+    // The job is refused, for this cause, and its line is noted.
+    ensures refused { result.status ≢ 0 → result.status ≢ 1 → result.status ≢ 8 → ForJob words.now (λ job. Refused job (S.left source.old) (S.left source.new) (K.held image.old) (K.held image.new) (S.faults source.old) (S.faults source.new) (K.faults image.old) (K.faults image.new) (N.held notes.old) (N.held notes.new) (N.faults notes.old) (N.faults notes.new) result.status) }
+    // The image is untouched, save where the job is done, or where it failed or there was no memory: then it was given a front of what is due.
+    ensures untouched { result.status ≢ 0 → result.status ≢ 6 → result.status ≢ 7 → result.status ≢ 8 → image.new ≡ image.old }
+    ensures memory { result.status ≡ 7 → (image.new ≡ image.old) ⊎ ForJob words.now (λ job. PartlyCarried job (S.left source.old) (S.left source.new) (K.held image.old) (K.held image.new)) }
+    // What the source holds decides the status, where neither it nor an image that is due anything fails, and there is memory. Failing notes make 8 of 0.
+    ensures exact { (job : AnyJob) (input : List ℕ) (finding : Finding) → IsJob words.now job → S.left source.old ≡ Some input → IsFinding job input finding
+        → (Rose (S.faults source.old) (S.faults source.new) → ⊥) → (finding_status finding ≡ 0 → Rose (K.faults image.old) (K.faults image.new) → ⊥)
+        → Ends (N.faults notes.old) (N.faults notes.new) result.status (finding_status finding) }
     ensures later_source { S.faults source.old ≤ S.faults source.new }
     ensures later_image { K.faults image.old ≤ K.faults image.new }
     ensures later_notes { N.faults notes.old ≤ N.faults notes.new }
 {
-    match perform_noted(alloc, words, source, image, notes) {
-        Ok(()) => Finish { status: 0 },
+    let Some(job) = job_of(words) else {
+        note(notes, "rc: usage\n");
+        return Finish { status: 1 };
+    };
+    match perform(alloc, job, source, image) {
+        Ok(lines) => Finish {
+            status: match report(notes, lines.as_slice()) {
+                Ok(()) => 0,
+                Err(_) => 8,
+            },
+        },
         Err(refusal) => Finish {
-            status: refusal.status(),
+            status: note_refusal(alloc, notes, refusal),
         },
     }
 }

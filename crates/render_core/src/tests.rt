@@ -5,6 +5,7 @@ mod hostile;
 use super::*;
 use rc_base::gate::OpenGate;
 use rc_base::in_memory::{MemSink, MemSource};
+use rc_base::transfer::read_all;
 use std::alloc::{AllocError, Global};
 use std::test::Fail;
 
@@ -19,6 +20,19 @@ const CLEAR_ALONE: [u8; 25] = [
     0x52, 0x43, 0x53, 0x31, 2, 0, 2, 0, 1, 0, 0, 0, 9, 0, 0, 0, 2, 0, 0x16, 0x18, 255, 0, 0, 255, 1,
 ];
 
+// A window of 1 by 1: `Begin 0; Clear 1; End; Swap`. Nothing is cleared while a block is open.
+const CLEAR_IN_BLOCK: [u8; 24] = [
+    0x52, 0x43, 0x53, 0x31, 1, 0, 1, 0, 1, 0, 0, 0, 8, 0, 0, 0, 4, 0, 1, 0x18, 2, 0x24, 0, 1,
+];
+
+// A window of 1 by 1: `End; Begin 3; Swap`.
+const END_THEN_MODE_3: [u8; 22] = [
+    0x52, 0x43, 0x53, 0x31, 1, 0, 1, 0, 1, 0, 0, 0, 6, 0, 0, 0, 3, 0, 2, 1, 0x24, 3,
+];
+
+// One black pixel.
+const BLACK_PIXEL: &[u8] = b"P6\n1 1\n255\n\0\0\0";
+
 // The frame of the red clear.
 const RED_FRAME: &[u8] = b"P6\n2 2\n255\n\xff\0\0\xff\0\0\xff\0\0\xff\0\0";
 
@@ -32,6 +46,26 @@ fn words(alloc: Global, words: &[&str]) -> Result<Vec<String>, AllocError> {
     Ok(all)
 }
 
+// What a run on these ends answers, and what its notes then hold.
+fn run_between(
+    alloc: Global,
+    job: &[&str],
+    source: &mut MemSource,
+    image: &mut MemSink,
+) -> Result<(u8, MemSink), Fail> {
+    let mut notes = MemSink::new(alloc, 64, &[])?;
+    let words = words(alloc, job)?;
+    let finish = run(
+        alloc,
+        words.as_slice(),
+        source,
+        image,
+        &mut notes,
+        &OpenGate,
+    );
+    Ok((finish.status, notes))
+}
+
 // What a run answers, and what its image and its notes then hold. `fails` are the puts of the image that fail.
 fn run_on(
     alloc: Global,
@@ -41,17 +75,8 @@ fn run_on(
 ) -> Result<(u8, MemSink, MemSink), Fail> {
     let mut source = MemSource::new(alloc, input, 7, &[])?;
     let mut image = MemSink::new(alloc, 4, fails)?;
-    let mut notes = MemSink::new(alloc, 64, &[])?;
-    let words = words(alloc, job)?;
-    let finish = run(
-        alloc,
-        words.as_slice(),
-        &mut source,
-        &mut image,
-        &mut notes,
-        &OpenGate,
-    );
-    Ok((finish.status, image, notes))
+    let (status, notes) = run_between(alloc, job, &mut source, &mut image)?;
+    Ok((status, image, notes))
 }
 
 #[test]
@@ -159,27 +184,93 @@ fn a_failing_image_keeps_eight_bytes(rt: HostRuntime) -> Result<(), Fail> {
 }
 
 #[test]
-fn a_failing_source_is_a_read_fault(rt: HostRuntime) -> Result<(), Fail> {
-    let mut source = MemSource::new(rt.alloc(), &RED_CLEAR, 7, &[1])?;
-    let mut image = MemSink::new(rt.alloc(), 4, &[])?;
-    let mut notes = MemSink::new(rt.alloc(), 64, &[])?;
-    let words = words(rt.alloc(), &["render"])?;
-    let finish = run(
-        rt.alloc(),
-        words.as_slice(),
-        &mut source,
-        &mut image,
-        &mut notes,
-        &OpenGate,
-    );
-    assert_eq!(rt; finish.status, 2);
-    assert_eq!(rt; image.bytes(), b"".as_slice());
-    assert_eq!(rt; notes.bytes(), b"rc: read fault\n".as_slice());
+fn a_text_is_offered_once(rt: HostRuntime) -> Result<(), Fail> {
+    let rows = [
+        ("render", RED_CLEAR.as_slice(), RED_FRAME),
+        ("pack", RED_CLEAR_TEXT, RED_CLEAR.as_slice()),
+        ("unpack", RED_CLEAR.as_slice(), RED_CLEAR_TEXT),
+    ];
+    for (job, input, due) in rows {
+        let mut source = MemSource::new(rt.alloc(), input, 7, &[])?;
+        let mut image = MemSink::new(rt.alloc(), 64, &[2])?;
+        let (status, _) = run_between(rt.alloc(), &[job], &mut source, &mut image)?;
+        assert_eq!(rt; status, 0);
+        assert_eq!(rt; image.bytes(), due);
+    }
     Ok(())
 }
 
 #[test]
-fn failing_notes_change_no_status(rt: HostRuntime) -> Result<(), Fail> {
+fn a_failing_source_keeps_its_bytes(rt: HostRuntime) -> Result<(), Fail> {
+    for job in ["render", "pack", "unpack"] {
+        let mut source = MemSource::new(rt.alloc(), &RED_CLEAR, 7, &[1])?;
+        let mut image = MemSink::new(rt.alloc(), 4, &[])?;
+        let (status, notes) = run_between(rt.alloc(), &[job], &mut source, &mut image)?;
+        assert_eq!(rt; status, 2);
+        assert_eq!(rt; image.bytes(), b"".as_slice());
+        assert_eq!(rt; notes.bytes(), b"rc: read fault\n".as_slice());
+        let rest = read_all(rt.alloc(), &mut source)?;
+        assert_eq!(rt; rest.as_slice(), RED_CLEAR.as_slice());
+    }
+    Ok(())
+}
+
+#[test]
+fn refused_commands_are_noted(rt: HostRuntime) -> Result<(), Fail> {
+    let rows = [
+        (
+            CLEAR_IN_BLOCK.as_slice(),
+            "client 0 fault INVALID_OPERATION at 1\n",
+        ),
+        (
+            END_THEN_MODE_3.as_slice(),
+            "client 0 fault INVALID_OPERATION at 0\nclient 0 fault INVALID_ENUM at 1\n",
+        ),
+    ];
+    for (input, lines) in rows {
+        let (status, image, notes) = run_on(rt.alloc(), &["render"], input, &[])?;
+        assert_eq!(rt; status, 0);
+        assert_eq!(rt; image.bytes(), BLACK_PIXEL);
+        assert_eq!(rt; notes.bytes(), lines.as_bytes());
+    }
+    Ok(())
+}
+
+#[test]
+fn failing_notes_leave_the_image_whole(rt: HostRuntime) -> Result<(), Fail> {
+    let rows = [
+        (CLEAR_IN_BLOCK.as_slice(), 1, 8, BLACK_PIXEL, b"".as_slice()),
+        (
+            CLEAR_IN_BLOCK.as_slice(),
+            2,
+            8,
+            BLACK_PIXEL,
+            b"client 0".as_slice(),
+        ),
+        (RED_CLEAR.as_slice(), 1, 0, RED_FRAME, b"".as_slice()),
+    ];
+    for (input, fails, due, frame, noted) in rows {
+        let mut source = MemSource::new(rt.alloc(), input, 7, &[])?;
+        let mut image = MemSink::new(rt.alloc(), 4, &[])?;
+        let mut notes = MemSink::new(rt.alloc(), 8, &[fails])?;
+        let words = words(rt.alloc(), &["render"])?;
+        let finish = run(
+            rt.alloc(),
+            words.as_slice(),
+            &mut source,
+            &mut image,
+            &mut notes,
+            &OpenGate,
+        );
+        assert_eq!(rt; finish.status, due);
+        assert_eq!(rt; image.bytes(), frame);
+        assert_eq!(rt; notes.bytes(), noted);
+    }
+    Ok(())
+}
+
+#[test]
+fn failing_notes_change_no_refusal(rt: HostRuntime) -> Result<(), Fail> {
     let mut source = MemSource::new(rt.alloc(), &RED_CLEAR, 7, &[])?;
     let mut image = MemSink::new(rt.alloc(), 4, &[])?;
     let mut notes = MemSink::new(rt.alloc(), 4, &[2])?;

@@ -1,6 +1,6 @@
 //! Images as Netpbm P6.
 ghost use Rattle.std.specs.Prelude.{◌≡◌, IfOk};
-ghost use Rattle.rc_base.specs.Pictures.{p6_text};
+ghost use Rattle.rc_base.specs.Formats.Netpbm.{p6_text};
 
 use rc_base::command::Bytes;
 use rc_base::image::Image;

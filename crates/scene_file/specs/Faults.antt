@@ -1,13 +1,13 @@
 -- What is wrong with bytes that spell no scene, and at which place: the first fault from the left.
-use Rattle.std.specs.Prelude.{◌≡◌, ℕ, suc, ◌+◌, ◌<◌, ◌^◌, ◌⊎◌, List, ◌∷◌, ◌++◌, length, Some}
+use Rattle.std.specs.Prelude.{◌≡◌, ℕ, suc, ◌+◌, ◌<◌, ◌^◌, ◌⊎◌, List, ◌∷◌, ◌++◌, length, Some, None, Result, Ok, Err}
 use Rattle.std.specs.List.{flat_map}
 use Rattle.rc_base.specs.declared.command.Command.{Command}
 use Rattle.rc_base.specs.declared.scene.Decl.{Decl}
 use Rattle.rc_base.specs.declared.scene.Scene.{Scene}
 use Rattle.rc_base.specs.declared.scene.SceneKind.{SceneKind}
 use Rattle.rc_base.specs.declared.scene.SceneKind.TheVariants.{BadMagic, BadCount, UnknownOpcode, Truncated, Trailing}
-use Rattle.rc_base.specs.Spelling.{magic, header, IsDecl, stream_text, SpellStreams, SpellsStream, SpellsScene}
-use Rattle.rc_base.specs.Limits.{limit_of}
+use Rattle.rc_base.specs.Formats.Spelling.{magic, header, IsDecl, stream_text, SpellStreams, SpellsStream, SpellsScene}
+use Rattle.rc_base.specs.Formats.Limits.{limit_of}
 use Rattle.cmd_pack.specs.declared.fault.PackFault.{PackFault}
 use Rattle.cmd_pack.specs.declared.fault.PackFault.TheVariants as faults
 use Rattle.cmd_pack.specs.Faults.{FailsAsStream}
@@ -108,16 +108,17 @@ FailsAsScene bytes Truncated at = (IsCutHeader bytes × (at ≡ length bytes)) �
 FailsAsScene bytes Trailing at = HasTrailing bytes at
 
 -- where a reader says that the bytes are malformed, they are, and so
-abbrev pub IsMalformed : List ℕ → SceneFault → Type 0
-IsMalformed bytes (scene_faults.Malformed kind at) = FailsAsScene bytes kind at
-IsMalformed bytes (scene_faults.Limit what value) = Unit {0}
-IsMalformed bytes scene_faults.OutOfMemory = Unit {0}
+abbrev pub TellsForm : List ℕ → SceneFault → Type 0
+TellsForm bytes (scene_faults.Malformed kind at) = FailsAsScene bytes kind at
+TellsForm bytes (scene_faults.Limit what value) = Unit {0}
+TellsForm bytes scene_faults.OutOfMemory = Unit {0}
 
--- the first quantity of a scene outside its range
-abbrev pub IsLimitOf : Scene → SceneFault → Type 0
-IsLimitOf s (scene_faults.Malformed kind at) = ⊥
-IsLimitOf s (scene_faults.Limit what value) = limit_of s ≡ Some (record { what = what; value = value })
-IsLimitOf s scene_faults.OutOfMemory = ⊥
+-- the scene itself, where its quantities are within their ranges, or the first one that is not
+abbrev pub IsJudged : Scene → Result Scene SceneFault → Type 0
+IsJudged s (Ok x) = (x ≡ s) × (limit_of s ≡ None)
+IsJudged s (Err (scene_faults.Malformed kind at)) = ⊥
+IsJudged s (Err (scene_faults.Limit what value)) = limit_of s ≡ Some (record { what = what; value = value })
+IsJudged s (Err scene_faults.OutOfMemory) = ⊥
 
 -- where a reader says that a quantity is outside its range, a scene is spelled in which it is
 abbrev pub IsBeyond : List ℕ → SceneFault → Type 0

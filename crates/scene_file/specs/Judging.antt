@@ -5,7 +5,7 @@ use Rattle.rc_base.specs.declared.command.Command.{Command}
 use Rattle.rc_base.specs.declared.scene.Decl.{Decl}
 use Rattle.rc_base.specs.declared.scene.Limit.{Limit}
 use Rattle.rc_base.specs.declared.scene.Scene.{Scene}
-use Rattle.rc_base.specs.Limits.{Quantity, first_outside, texels_of, side, barrier_count, commands_in, frames_of}
+use Rattle.rc_base.specs.Formats.Limits.{Quantity, first_outside, size_area, side, barrier_count, least_swaps}
 
 -- the quantity that was found outside its range
 abbrev pub judged : Result (Unit {0}) Limit → Option Limit
@@ -17,22 +17,32 @@ window_part d clients =
     record { what = 2; value = d.width; least = 1; most = 2048 } ∷ record { what = 3; value = d.height; least = 1; most = 2048 }
     ∷ record { what = 4; value = clients; least = 1; most = 8 } ∷ record { what = 5; value = length d.shared; least = 0; most = 16 } ∷ []
 
-abbrev pub stream_part : Decl → List (List Command) → List Quantity
-stream_part d streams =
-    record { what = 10; value = length d.semaphores; least = 0; most = 64 } ∷ record { what = 11; value = commands_in streams; least = 0; most = 1048576 }
-    ∷ record { what = 12; value = frames_of streams; least = 0; most = 1048576 }
-    ∷ record { what = 13; value = frames_of streams * (d.width * d.height); least = 0; most = 33554432 } ∷ []
-
 -- what the first part found, or else what the second did
 abbrev pub or_else : Option Limit → Option Limit → Option Limit
 or_else None later = later
 or_else (Some l) later = Some l
 
--- the parts in the order of the table
-abbrev pub judge_parts : Scene → Option Limit
-judge_parts s =
-    or_else (first_outside (window_part s.decl (length s.streams)))
-    (or_else (first_outside (map side (flat_map (λ size. size) s.decl.shared)))
-    (or_else (first_outside (record { what = 7; value = sum_by texels_of s.decl.shared; least = 0; most = 1048576 } ∷ []))
-    (or_else (first_outside (record { what = 8; value = length s.decl.barriers; least = 0; most = 64 } ∷ []))
-    (or_else (first_outside (map barrier_count s.decl.barriers)) (first_outside (stream_part s.decl s.streams))))))
+abbrev pub one : ℕ → ℕ → ℕ → List Quantity
+one what value most = record { what = what; value = value; least = 0; most = most } ∷ []
+
+abbrev pub judge_counts : Decl → Option Limit
+judge_counts d =
+    or_else (first_outside (map side (flat_map (λ size. size) d.shared)))
+    (or_else (first_outside (one 7 (sum_by size_area d.shared) 1048576))
+    (or_else (first_outside (one 8 (length d.barriers) 64))
+    (or_else (first_outside (map barrier_count d.barriers)) (first_outside (one 10 (length d.semaphores) 64)))))
+
+-- what is judged before the commands
+abbrev pub judge_decl : Decl → ℕ → Option Limit
+judge_decl d clients = or_else (first_outside (window_part d clients)) (judge_counts d)
+
+-- the commands, so many in all, and the frames
+abbrev pub stream_part : Decl → List (List Command) → ℕ → List Quantity
+stream_part d streams commands =
+    record { what = 11; value = commands; least = 0; most = 1048576 }
+    ∷ record { what = 12; value = least_swaps streams; least = 0; most = 1048576 }
+    ∷ record { what = 13; value = least_swaps streams * (d.width * d.height); least = 0; most = 33554432 } ∷ []
+
+-- the parts in the order of the table, where there are so many commands
+abbrev pub judge_parts : Scene → ℕ → Option Limit
+judge_parts s commands = or_else (judge_decl s.decl (length s.streams)) (first_outside (stream_part s.decl s.streams commands))

@@ -1,10 +1,10 @@
 -- Laws on the spelling of scenes.
-use Rattle.std.specs.Prelude.{◌≡◌, ℕ, List}
+use Rattle.std.specs.Prelude.{◌≡◌, ◌⊎◌, ℕ, List}
 use Rattle.std.specs.List.{AllByRecursion}
 use Rattle.rc_base.specs.declared.scene.Scene.{Scene}
 use Rattle.rc_base.specs.declared.scene.SceneKind.{SceneKind}
-use Rattle.rc_base.specs.Commands.{IsCommand}
-use Rattle.rc_base.specs.Spelling.{IsDecl, SpellsScene}
+use Rattle.rc_base.specs.Formats.Commands.{AreBytes, IsCommand}
+use Rattle.rc_base.specs.Formats.Spelling.{IsDecl, SpellsScene}
 use Rattle.scene_file.specs.Faults.{FailsAsScene}
 use Rattle.scene_file.specs.Written.{written, IsWritable}
 
@@ -20,6 +20,11 @@ FaultsSpellNoScene = (bytes : List ℕ) (kind : SceneKind) (at : ℕ) (scene : S
 abbrev pub SceneFaultsAreOne : Type 0
 SceneFaultsAreOne =
     (bytes : List ℕ) (kind other : SceneKind) (at place : ℕ) → FailsAsScene bytes kind at → FailsAsScene bytes other place → (kind ≡ other) × (at ≡ place)
+
+-- bytes spell a scene, or they have a fault
+abbrev pub ScenesOrFaults : Type 0
+ScenesOrFaults =
+    (bytes : List ℕ) → AreBytes bytes → ((scene : Scene) × SpellsScene bytes scene) ⊎ ((kind : SceneKind) × (at : ℕ) × FailsAsScene bytes kind at)
 
 -- What is written of a scene whose fields are in their ranges spells it, so it is read again.
 abbrev pub WrittenIsRead : Type 0

@@ -3,3 +3,4 @@ pub mod Reading
 pub mod Faults
 pub mod Written
 pub mod Laws
+pub mod Counting

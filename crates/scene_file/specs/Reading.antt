@@ -8,30 +8,27 @@ use Rattle.cmd_pack.specs.declared.fault.ReadError.{ReadError}
 use Rattle.cmd_pack.specs.declared.fault.ReadError.TheVariants as errors
 use Rattle.cmd_pack.specs.declared.fault.PackFault.{PackFault}
 use Rattle.cmd_pack.specs.declared.fault.PackFault.TheVariants as faults
-use Rattle.cmd_pack.specs.Reading.{byte_at, number_at, run_at, sized, both, convert}
+use Rattle.cmd_pack.specs.Reading.{cons, read_byte, read_unsigned, take_bytes, sized, both, convert}
 use Rattle.scene_file.specs.declared.header.Head.{Head}
 use Rattle.scene_file.specs.declared.fault.Broken.{Broken}
 use Rattle.scene_file.specs.declared.fault.Broken.TheVariants as broken
 use Rattle.scene_file.specs.declared.fault.SceneFault.{SceneFault}
 use Rattle.scene_file.specs.declared.fault.SceneFault.TheVariants as scene_faults
 
-abbrev pub half_at : List ℕ → Result (ℕ × List ℕ) Form
-half_at = number_at w16
-
-abbrev pub cons : {A : Type 0} → A × List A → List A
-cons x = x.0 ∷ x.1
+abbrev pub read_half : List ℕ → Result (ℕ × List ℕ) Form
+read_half = read_unsigned w16
 
 -- so many things of one kind
-unfoldable pub times_at : {A : Type 0} → (List ℕ → Result (A × List ℕ) Form) → ℕ → List ℕ → Result (List A × List ℕ) Form
-times_at p zero bytes = Ok ([], bytes)
-times_at p (suc n) bytes = convert cons (both p (times_at p n)) bytes
+unfoldable pub read_times : {A : Type 0} → (List ℕ → Result (A × List ℕ) Form) → ℕ → List ℕ → Result (List A × List ℕ) Form
+read_times p zero bytes = Ok ([], bytes)
+read_times p (suc n) bytes = convert cons (both p (read_times p n)) bytes
 
 abbrev pub make_size : ℕ × ℕ → List ℕ
 make_size x = x.0 ∷ x.1 ∷ []
 
 -- width and height of a shared texture
-unfoldable pub size_at : List ℕ → Result (List ℕ × List ℕ) Form
-size_at = convert make_size (both half_at half_at)
+unfoldable pub read_size : List ℕ → Result (List ℕ × List ℕ) Form
+read_size = convert make_size (both read_half read_half)
 
 -- width, height, and how many clients, shared textures, barriers and semaphores there are
 abbrev pub Front : Type 0
@@ -44,27 +41,30 @@ make_head x = record {
 }
 
 -- what stands between the magic and the streams
-unfoldable pub head_at : List ℕ → Result (Head × List ℕ) Form
-head_at =
+unfoldable pub read_head : List ℕ → Result (Head × List ℕ) Form
+read_head =
     convert make_head
-    (sized (both half_at (both half_at (both byte_at (both byte_at (both byte_at byte_at)))))
-    (λ x. both (times_at size_at x.1.1.1.0) (both (run_at x.1.1.1.1.0) (times_at half_at x.1.1.1.1.1))))
+    (sized (both read_half (both read_half (both read_byte (both read_byte (both read_byte read_byte)))))
+    (λ x. both (read_times read_size x.1.1.1.0) (both (take_bytes x.1.1.1.1.0) (read_times read_half x.1.1.1.1.1))))
 
 abbrev pub second : {A B : Type 0} → A × B → B
 second x = x.1
 
 -- a stream's length, and then the stream
-unfoldable pub text_at : List ℕ → Result (List ℕ × List ℕ) Form
-text_at = convert second (sized (number_at w32) run_at)
+unfoldable pub read_text : List ℕ → Result (List ℕ × List ℕ) Form
+read_text = convert second (sized (read_unsigned w32) take_bytes)
 
 -- ---- faults on their way up
 
 -- a fault of a field of the header or of a stream's length
+abbrev pub form_fault : Form → Broken
+form_fault (forms.BadCount left) = broken.Form kinds.BadCount left
+form_fault (forms.UnknownOpcode left) = broken.Form kinds.UnknownOpcode left
+form_fault forms.Truncated = broken.Form kinds.Truncated 0
+
 abbrev pub field_fault : ReadError → Broken
 field_fault errors.Memory = broken.Memory
-field_fault (errors.Form (forms.BadCount left)) = broken.Form kinds.BadCount left
-field_fault (errors.Form (forms.UnknownOpcode left)) = broken.Form kinds.UnknownOpcode left
-field_fault (errors.Form forms.Truncated) = broken.Form kinds.Truncated 0
+field_fault (errors.Form f) = form_fault f
 
 -- A fault inside a stream. So many bytes stand from the stream's length on.
 abbrev pub stream_fault : PackFault → ℕ → Broken
@@ -74,6 +74,6 @@ stream_fault (faults.UnknownOpcode at) size = broken.Form kinds.UnknownOpcode (s
 stream_fault (faults.Truncated at) size = broken.Form kinds.Truncated (size - 4 - at)
 
 -- the fault with its place, in bytes of which there are so many
-abbrev pub placed : Broken → ℕ → SceneFault
-placed broken.Memory size = scene_faults.OutOfMemory
-placed (broken.Form kind left) size = scene_faults.Malformed kind (size - left)
+abbrev pub scene_fault : Broken → ℕ → SceneFault
+scene_fault broken.Memory size = scene_faults.OutOfMemory
+scene_fault (broken.Form kind left) size = scene_faults.Malformed kind (size - left)

@@ -3,8 +3,8 @@ use Rattle.std.specs.Prelude.{◌≡◌, ℕ, ◌<◌, ◌^◌, List, ◌++◌, 
 use Rattle.std.specs.List.{flat_map, AllByRecursion}
 use Rattle.rc_base.specs.declared.command.Command.{Command}
 use Rattle.rc_base.specs.declared.scene.Scene.{Scene}
-use Rattle.rc_base.specs.Limits.{limit_of}
-use Rattle.rc_base.specs.Spelling.{header, stream_text, encoded, SpellsStream}
+use Rattle.rc_base.specs.Formats.Limits.{limit_of}
+use Rattle.rc_base.specs.Formats.Spelling.{header, stream_text, encoded, SpellsStream}
 use Rattle.cmd_pack.specs.Texels.{IsWhole}
 
 -- the header, and then each stream's packets behind their length

@@ -2,11 +2,12 @@
 ghost use Rattle.std.specs.Prelude.{◌≡◌};
 ghost use Rattle.scene_file.specs.declared.fault.Broken.TheVariants.{Memory};
 ghost use Rattle.scene_file.specs.declared.fault.SceneFault.TheVariants.{OutOfMemory};
-ghost use Rattle.scene_file.specs.Reading.{field_fault, stream_fault, placed};
+ghost use Rattle.scene_file.specs.Reading.{form_fault, field_fault, stream_fault, scene_fault};
 
 use cmd_pack::fault::{Form, PackFault, ReadError};
 use rc_base::scene::SceneKind;
 use std::alloc::AllocFailed;
+use thiserror::Error;
 
 /// What is wrong with the bytes of a scene. A place is told by how many bytes stand from there on.
 #[derive(Clone, Copy, Debug, PartialEq, Eq)]
@@ -16,15 +17,31 @@ pub enum Broken {
 }
 
 /// Why no scene was read.
-#[derive(Clone, Copy, Debug, PartialEq, Eq)]
+#[derive(Clone, Copy, Debug, PartialEq, Eq, Error)]
 pub enum SceneFault {
     /// The bytes spell no scene. The first fault from the left stands at this byte, counted from 0.
+    #[error("malformed {kind:?} at byte {at}")]
     Malformed { kind: SceneKind, at: usize },
     /// A scene is spelled, and a quantity of it is outside its range: its number in the table of limits (`docs/scene-format.md`) and its
     /// value.
+    #[error("quantity {what} is {value}")]
     Limit { what: u8, value: u64 },
     /// There was no memory for the scene.
+    #[error("out of memory")]
     OutOfMemory,
+}
+
+impl From<Form> for Broken {
+    ghost from_gives = { λ f b. b ≡ form_fault f };
+
+    fn from(form: Form) -> Broken {
+        let (kind, left) = match form {
+            Form::BadCount { left } => (SceneKind::BadCount, left),
+            Form::UnknownOpcode { left } => (SceneKind::UnknownOpcode, left),
+            Form::Truncated => (SceneKind::Truncated, 0),
+        };
+        Broken::Form { kind, left }
+    }
 }
 
 impl From<ReadError> for Broken {
@@ -33,18 +50,7 @@ impl From<ReadError> for Broken {
     fn from(error: ReadError) -> Broken {
         match error {
             ReadError::Memory => Broken::Memory,
-            ReadError::Form(Form::BadCount { left }) => Broken::Form {
-                kind: SceneKind::BadCount,
-                left,
-            },
-            ReadError::Form(Form::UnknownOpcode { left }) => Broken::Form {
-                kind: SceneKind::UnknownOpcode,
-                left,
-            },
-            ReadError::Form(Form::Truncated) => Broken::Form {
-                kind: SceneKind::Truncated,
-                left: 0,
-            },
+            ReadError::Form(form) => Broken::from(form),
         }
     }
 }
@@ -75,8 +81,8 @@ pub fn in_stream(fault: PackFault, size: usize) -> Broken
 }
 
 /// The fault with its place, in bytes of which there are so many.
-pub fn place(broken: Broken, size: usize) -> SceneFault
-    ensures { result ≡ placed broken size }
+pub fn fault_at(broken: Broken, size: usize) -> SceneFault
+    ensures { result ≡ scene_fault broken size }
 {
     match broken {
         Broken::Memory => SceneFault::OutOfMemory,

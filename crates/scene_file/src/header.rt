@@ -1,12 +1,12 @@
 //! The header of a scene.
 ghost use Rattle.std.specs.Prelude.{◌≡◌, ◌++◌, IfOk, IfErr};
-ghost use Rattle.cmd_pack.specs.Reading.{Gives};
-ghost use Rattle.rc_base.specs.Spelling.{magic};
-ghost use Rattle.scene_file.specs.Reading.{half_at, size_at, times_at, head_at};
+ghost use Rattle.cmd_pack.specs.Reading.{Gives, Reads};
+ghost use Rattle.rc_base.specs.Formats.Spelling.{magic};
+ghost use Rattle.scene_file.specs.Reading.{read_half, read_size, read_times, read_head};
 ghost use Rattle.scene_file.specs.Faults.{LettersFailBy};
 
 use crate::fault::Broken;
-use cmd_pack::fault::ReadError;
+use cmd_pack::fault::{Form, ReadError};
 use cmd_pack::fields::{read_byte, read_half, take_bytes};
 use rc_base::scene::{Counts, Decl, SceneKind, Sizes, Units};
 use std::alloc::Global;
@@ -49,9 +49,9 @@ pub fn read_letters<'a>(letters: &[u8], bytes: &'a [u8]) -> Result<&'a [u8], Bro
     Ok(rest)
 }
 
-#[tactic(auto, unfolding(crate::specs::Reading::size_at))]
-fn read_size(bytes: &[u8]) -> Result<([u16; 2], &[u8]), ReadError>
-    ensures { Gives (λ x. (x.0, x.1.now)) result (size_at bytes.now) }
+#[tactic(auto, unfolding(crate::specs::Reading::read_size))]
+fn read_size(bytes: &[u8]) -> Result<([u16; 2], &[u8]), Form>
+    ensures { Reads (λ x. (x.0, x.1.now)) result (read_size bytes.now) }
 {
     let (width, rest) = read_half(bytes)?;
     let (height, rest) = read_half(rest)?;
@@ -59,7 +59,7 @@ fn read_size(bytes: &[u8]) -> Result<([u16; 2], &[u8]), ReadError>
 }
 
 fn read_sizes(alloc: Global, count: u8, bytes: &[u8]) -> Result<(Sizes, &[u8]), ReadError>
-    ensures { Gives (λ x. (x.0, x.1.now)) result (times_at size_at count bytes.now) }
+    ensures { Gives (λ x. (x.0, x.1.now)) result (read_times read_size count bytes.now) }
 {
     let mut sizes = Sizes::new(alloc);
     let mut rest = bytes;
@@ -72,7 +72,7 @@ fn read_sizes(alloc: Global, count: u8, bytes: &[u8]) -> Result<(Sizes, &[u8]), 
 }
 
 fn read_units(alloc: Global, count: u8, bytes: &[u8]) -> Result<(Units, &[u8]), ReadError>
-    ensures { Gives (λ x. (x.0, x.1.now)) result (times_at half_at count bytes.now) }
+    ensures { Gives (λ x. (x.0, x.1.now)) result (read_times read_half count bytes.now) }
 {
     let mut units = Units::new(alloc);
     let mut rest = bytes;
@@ -85,9 +85,9 @@ fn read_units(alloc: Global, count: u8, bytes: &[u8]) -> Result<(Units, &[u8]), 
 }
 
 /// What the header says behind its letters, and the bytes behind the header.
-#[tactic(auto, unfolding(crate::specs::Reading::head_at))]
+#[tactic(auto, unfolding(crate::specs::Reading::read_head))]
 pub fn read_head(alloc: Global, bytes: &[u8]) -> Result<(Head, &[u8]), ReadError>
-    ensures { Gives (λ x. (x.0, x.1.now)) result (head_at bytes.now) }
+    ensures { Gives (λ x. (x.0, x.1.now)) result (read_head bytes.now) }
 {
     let (width, rest) = read_half(bytes)?;
     let (height, rest) = read_half(rest)?;

@@ -1,5 +1,5 @@
 //! Laws on the spelling of scenes, each the contract of a function that does nothing.
-ghost use Rattle.scene_file.specs.Laws.{ScenesAreOne, FaultsSpellNoScene, SceneFaultsAreOne, WrittenIsRead};
+ghost use Rattle.scene_file.specs.Laws.{ScenesAreOne, FaultsSpellNoScene, SceneFaultsAreOne, ScenesOrFaults, WrittenIsRead};
 
 /// No bytes spell two scenes.
 pub fn bytes_spell_one_scene()
@@ -14,6 +14,11 @@ pub fn faults_spell_no_scene()
 /// No bytes have two faults, nor one at two places.
 pub fn bytes_have_one_fault()
     ensures { SceneFaultsAreOne }
+{}
+
+/// Bytes spell a scene, or they have a fault.
+pub fn bytes_spell_or_fail()
+    ensures { ScenesOrFaults }
 {}
 
 /// What is written of a scene is read again as that scene.

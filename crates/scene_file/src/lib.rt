@@ -12,7 +12,7 @@ mod reading;
 mod writing;
 
 pub use fault::SceneFault;
-pub use limits::check_limits;
+pub use limits::{check_limits, clients_beyond, commands_beyond};
 pub use reading::read_scene;
 pub use writing::write_scene;
 

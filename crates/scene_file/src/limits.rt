@@ -1,11 +1,15 @@
 //! The limits of a scene, in the order of their table.
-ghost use Rattle.std.specs.Prelude.{◌≡◌, ◌≤◌, ◌*◌, ◌∷◌, ◌++◌, [], map, length, sum_by, MatchResult, Some, None};
+ghost use Rattle.rc_base.specs.declared.scene.Scene.{Scene as AnyScene};
+ghost use Rattle.std.specs.Prelude.{◌≡◌, ◌<◌, ◌≤◌, ◌*◌, ◌∷◌, ◌++◌, [], map, length, sum_by, MatchResult, OnOk, Some, None};
 ghost use Rattle.std.specs.List.{flat_map};
-ghost use Rattle.rc_base.specs.Limits.{first_outside, limit_of, texels_of, side, barrier_count, is_swap, swaps_in, frames_of, commands_in};
-ghost use Rattle.scene_file.specs.Judging.{judged, window_part, stream_part, judge_parts};
+ghost use Rattle.rc_base.specs.Formats.Limits.{first_outside, limit_of, size_area, side, barrier_count, is_swap_command, swaps_in, least_swaps, commands_in};
+ghost use Rattle.scene_file.specs.Judging.{judged, window_part, judge_counts, judge_decl, stream_part, judge_parts};
 
 use rc_base::command::{Command, Commands};
 use rc_base::scene::{Decl, Limit, Scene};
+
+/// The greatest number of commands in all streams.
+pub(crate) const MOST_COMMANDS: u64 = 1_048_576;
 
 fn judge(what: u8, value: u64, least: u64, most: u64) -> Result<(), Limit>
     ensures { judged result ≡ first_outside (record { what = what; value = value; least = least; most = most } ∷ []) }
@@ -47,7 +51,7 @@ fn judge_barriers(counts: &[u8]) -> Result<(), Limit>
 
 fn sum_texels(sizes: &[[u16; 2]]) -> u64
     requires { length sizes.now ≤ 16 }
-    ensures { result ≡ sum_by texels_of sizes.now }
+    ensures { result ≡ sum_by size_area sizes.now }
 {
     let mut sum = 0;
     for size in sizes {
@@ -57,7 +61,7 @@ fn sum_texels(sizes: &[[u16; 2]]) -> u64
 }
 
 fn is_swap(command: &Command) -> bool
-    ensures { result ≡ is_swap command.now }
+    ensures { result ≡ is_swap_command command.now }
 {
     matches!(command, Command::Swap)
 }
@@ -80,7 +84,7 @@ fn sum_commands(streams: &[Commands]) -> u64
 }
 
 fn count_frames(streams: &[Commands]) -> usize
-    ensures { result ≡ frames_of streams.now }
+    ensures { result ≡ least_swaps streams.now }
 {
     match streams {
         [] => 0,
@@ -94,14 +98,34 @@ fn count_frames(streams: &[Commands]) -> usize
     }
 }
 
-fn judge_streams(decl: &Decl, streams: &[Commands]) -> Result<(), Limit>
+fn judge_counts(decl: &Decl) -> Result<(), Limit>
+    requires { length decl.now.shared ≤ 16 }
+    ensures { judged result ≡ judge_counts decl.now }
+{
+    let sizes = decl.shared.as_slice();
+    judge_sides(sizes)?;
+    judge(7, sum_texels(sizes), 0, 1_048_576)?;
+    judge(8, decl.barriers.len() as u64, 0, 64)?;
+    judge_barriers(decl.barriers.as_slice())?;
+    judge(10, decl.semaphores.len() as u64, 0, 64)
+}
+
+/// What is judged before the commands.
+fn judge_decl(decl: &Decl, clients: usize) -> Result<(), Limit>
+    ensures judged { judged result ≡ judge_decl decl.now clients }
+    ensures within { OnOk result ((decl.now.width ≤ 2048) × (decl.now.height ≤ 2048) × (clients ≤ 8)) }
+{
+    judge_window(decl, clients)?;
+    judge_counts(decl)
+}
+
+/// The commands, so many in all, and the frames.
+fn judge_streams(decl: &Decl, streams: &[Commands], commands: u64) -> Result<(), Limit>
     requires width { decl.now.width ≤ 2048 }
     requires height { decl.now.height ≤ 2048 }
-    requires clients { length streams.now ≤ 8 }
-    ensures { judged result ≡ first_outside (stream_part decl.now streams.now) }
+    ensures { judged result ≡ first_outside (stream_part decl.now streams.now commands) }
 {
-    judge(10, decl.semaphores.len() as u64, 0, 64)?;
-    judge(11, sum_commands(streams), 0, 1_048_576)?;
+    judge(11, commands, 0, MOST_COMMANDS)?;
     let frames = count_frames(streams) as u64;
     judge(12, frames, 0, 1_048_576)?;
     judge(
@@ -112,18 +136,20 @@ fn judge_streams(decl: &Decl, streams: &[Commands]) -> Result<(), Limit>
     )
 }
 
-fn judge_scene(scene: &Scene) -> Result<(), Limit>
-    ensures { judged result ≡ judge_parts scene.now }
+/// The first quantity outside its range of a scene that has so many commands, of which these are stored.
+pub(crate) fn check_counted(scene: &Scene, commands: u64) -> Result<(), Limit>
+    ensures { judged result ≡ judge_parts scene.now commands }
 {
-    let decl = &scene.decl;
+    judge_decl(&scene.decl, scene.streams.len())?;
+    judge_streams(&scene.decl, scene.streams.as_slice(), commands)
+}
+
+fn judge_scene(scene: &Scene) -> Result<(), Limit>
+    ensures { judged result ≡ judge_parts scene.now (commands_in scene.now.streams) }
+{
     let streams = scene.streams.as_slice();
-    judge_window(decl, streams.len())?;
-    let sizes = decl.shared.as_slice();
-    judge_sides(sizes)?;
-    judge(7, sum_texels(sizes), 0, 1_048_576)?;
-    judge(8, decl.barriers.len() as u64, 0, 64)?;
-    judge_barriers(decl.barriers.as_slice())?;
-    judge_streams(decl, streams)
+    judge_decl(&scene.decl, streams.len())?;
+    judge_streams(&scene.decl, streams, sum_commands(streams))
 }
 
 /// The first quantity of a scene outside its range, by the numbers of the table of limits (`docs/scene-format.md`). It takes no memory.
@@ -131,4 +157,32 @@ pub fn check_limits(scene: &Scene) -> Result<(), Limit>
     ensures { MatchResult result (λ _. limit_of scene.now ≡ None) (λ l. limit_of scene.now ≡ Some l) }
 {
     judge_scene(scene)
+}
+
+/// The first quantity outside its range of a scene with this declaration and too many clients, whatever their commands are.
+pub fn clients_beyond(decl: &Decl, clients: usize) -> Limit
+    requires { 8 < clients }
+    ensures { (s : AnyScene) → s.decl ≡ decl.now → length s.streams ≡ clients → limit_of s ≡ Some result }
+{
+    match judge_decl(decl, clients) {
+        Err(limit) => limit,
+        Ok(()) => Limit {
+            what: 4,
+            value: clients as u64,
+        },
+    }
+}
+
+/// The first quantity outside its range of a scene with this declaration and too many commands, whatever they are.
+pub fn commands_beyond(decl: &Decl, clients: usize, commands: u64) -> Limit
+    requires { 1048576 < commands }
+    ensures { (s : AnyScene) → s.decl ≡ decl.now → length s.streams ≡ clients → commands_in s.streams ≡ commands → limit_of s ≡ Some result }
+{
+    match judge_decl(decl, clients) {
+        Err(limit) => limit,
+        Ok(()) => Limit {
+            what: 11,
+            value: commands,
+        },
+    }
 }

@@ -1,42 +1,57 @@
 //! Reading a scene.
-ghost use Rattle.std.specs.Prelude.{◌≡◌, ◌==◌, ◌⊎◌, ◌++◌, ◌<◌, ◌^◌, ℕ, List, length, IfOk, IfErr, MatchResult, Ok, Err, Some, None};
+ghost use Rattle.std.specs.Prelude.{◌≡◌, ◌-◌, ◌==◌, ◌⊎◌, ◌++◌, ◌<◌, ◌^◌, ℕ, List, length, IfOk, IfErr, MatchResult, Ok, Err, Some, None};
 ghost use Rattle.std.specs.List.{AllByRecursion};
-ghost use Rattle.rc_base.specs.Commands.{IsCommand};
-ghost use Rattle.rc_base.specs.Spelling.{stream_text, IsDecl, SpellsStream, SpellsScene};
-ghost use Rattle.rc_base.specs.Limits.{limit_of};
+ghost use Rattle.rc_base.specs.Formats.Commands.{IsCommand};
+ghost use Rattle.rc_base.specs.Formats.Spelling.{stream_text, IsDecl, SpellsStream, SpellsScene};
+ghost use Rattle.rc_base.specs.Formats.Limits.{limit_of};
 ghost use Rattle.rc_base.specs.declared.scene.Scene.{Scene as AnyScene};
 ghost use Rattle.rc_base.specs.declared.scene.SceneKind.{SceneKind as AnyKind};
 ghost use Rattle.rc_base.specs.declared.scene.Limit.{Limit as AnyLimit};
-ghost use Rattle.cmd_pack.specs.Reading.{Gives};
-ghost use Rattle.scene_file.specs.Reading.{text_at};
-ghost use Rattle.scene_file.specs.Faults.{IsFirstText, TextFailsBy, SceneFailsBy, FailsAsScene, IsMalformed, IsBeyond, IsLimitOf};
+ghost use Rattle.cmd_pack.specs.Reading.{Reads};
+ghost use Rattle.scene_file.specs.Reading.{read_text};
+ghost use Rattle.scene_file.specs.Faults.{TextFailsBy, SceneFailsBy, FailsAsScene, TellsForm, IsBeyond, IsJudged};
+ghost use Rattle.scene_file.specs.Counting.{DecodesFirst, Counts, SpellsCounted};
 
-use crate::fault::{Broken, SceneFault, in_stream, place};
+use crate::fault::{Broken, SceneFault, fault_at, in_stream};
 use crate::header::{Head, MAGIC, read_head, read_letters};
-use crate::limits::check_limits;
-use cmd_pack::decode;
-use cmd_pack::fault::ReadError;
+use crate::limits::check_counted;
+use cmd_pack::decode_within;
+use cmd_pack::fault::Form;
 use cmd_pack::fields::{read_long, take_bytes};
-use rc_base::command::Commands;
+use cmd_pack::reading::Decoded;
 use rc_base::scene::{Limit, Scene, SceneKind, Streams};
 use std::alloc::Global;
 
-#[tactic(auto, unfolding(crate::specs::Reading::text_at))]
-fn read_text(bytes: &[u8]) -> Result<(&[u8], &[u8]), ReadError>
-    ensures { Gives (λ x. (x.0.now, x.1.now)) result (text_at bytes.now) }
+/// A scene as far as it is stored, and how many commands its streams have.
+#[derive(Debug, Drop)]
+pub(crate) struct Counted {
+    pub(crate) scene: Scene,
+    pub(crate) commands: usize,
+}
+
+/// How many commands more may be stored.
+fn room_behind(commands: usize) -> usize
+    ensures { result ≡ 1048576 - commands }
+{
+    1_048_576_usize.saturating_sub(commands)
+}
+
+#[tactic(auto, unfolding(crate::specs::Reading::read_text))]
+fn read_text(bytes: &[u8]) -> Result<(&[u8], &[u8]), Form>
+    ensures { Reads (λ x. (x.0.now, x.1.now)) result (read_text bytes.now) }
 {
     let (length, rest) = read_long(bytes)?;
     take_bytes(length as usize, rest)
 }
 
-/// The stream at the front, and the bytes behind it.
-fn read_stream(alloc: Global, bytes: &[u8]) -> Result<(Commands, &[u8]), Broken>
-    ensures found { IfOk result (λ x. IsFirstText bytes.now x.0 x.1.now) }
+/// The stream at the front, stored where there is room for its commands, and the bytes behind it.
+fn read_stream(alloc: Global, room: usize, bytes: &[u8]) -> Result<(Decoded, &[u8]), Broken>
+    ensures found { IfOk result (λ x. DecodesFirst bytes.now room x.0 x.1.now) }
     ensures fails { IfErr result (TextFailsBy bytes.now) }
 {
     let (text, after) = read_text(bytes)?;
-    match decode(alloc, text) {
-        Ok(commands) => Ok((commands, after)),
+    match decode_within(alloc, room, text) {
+        Ok(decoded) => Ok((decoded, after)),
         Err(fault) => Err(in_stream(fault, bytes.len())),
     }
 }
@@ -47,18 +62,21 @@ fn is_end(rest: &[u8]) -> bool
     rest.is_empty()
 }
 
-/// The scene that the bytes spell, whatever its quantities.
-fn read_spelled(alloc: Global, bytes: &[u8]) -> Result<Scene, Broken>
-    ensures found { IfOk result (SpellsScene bytes.now) }
+/// The scene that the bytes spell, whatever its quantities. Its commands are counted, and stored where they are no more than a scene may have.
+fn read_spelled(alloc: Global, bytes: &[u8]) -> Result<Counted, Broken>
+    ensures found { IfOk result (SpellsCounted bytes.now) }
     ensures fails { IfErr result (SceneFailsBy bytes.now) }
 {
     let body = read_letters(&MAGIC, bytes)?;
     let (Head { decl, clients }, body) = read_head(alloc, body)?;
     let mut streams = Streams::new(alloc);
+    let mut commands = 0;
     let mut rest = body;
     for _ in 0..clients {
-        let (commands, after) = read_stream(alloc, rest)?;
-        streams.push(commands)?;
+        let room = room_behind(commands);
+        let (decoded, after) = read_stream(alloc, room, rest)?;
+        streams.push(decoded.commands)?;
+        commands += decoded.count;
         rest = after;
     }
     if !is_end(rest) {
@@ -67,26 +85,27 @@ fn read_spelled(alloc: Global, bytes: &[u8]) -> Result<Scene, Broken>
             left: rest.len(),
         });
     }
-    Ok(Scene { decl, streams })
+    let scene = Scene { decl, streams };
+    Ok(Counted { scene, commands })
 }
 
-fn within_limits(scene: Scene) -> Result<Scene, SceneFault>
-    ensures { MatchResult result (λ s. (s ≡ scene) × (limit_of scene ≡ None)) (IsLimitOf scene) }
+fn within_limits(counted: Counted) -> Result<Scene, SceneFault>
+    ensures { (s : AnyScene) → Counts counted s → IsJudged s result }
 {
-    match check_limits(&scene) {
-        Ok(()) => Ok(scene),
+    match check_counted(&counted.scene, counted.commands as u64) {
+        Ok(()) => Ok(counted.scene),
         Err(Limit { what, value }) => Err(SceneFault::Limit { what, value }),
     }
 }
 
 fn read_judged(alloc: Global, bytes: &[u8]) -> Result<Scene, SceneFault>
     ensures found { IfOk result (λ s. SpellsScene bytes.now s × (limit_of s ≡ None)) }
-    ensures malformed { IfErr result (IsMalformed bytes.now) }
+    ensures malformed { IfErr result (TellsForm bytes.now) }
     ensures limit { IfErr result (IsBeyond bytes.now) }
 {
     match read_spelled(alloc, bytes) {
-        Ok(scene) => within_limits(scene),
-        Err(broken) => Err(place(broken, bytes.len())),
+        Ok(counted) => within_limits(counted),
+        Err(broken) => Err(fault_at(broken, bytes.len())),
     }
 }
 
@@ -99,7 +118,7 @@ pub fn read_scene(alloc: Global, bytes: &[u8]) -> Result<Scene, SceneFault>
     // What is spelled so and within the limits is read, unless memory runs out.
     ensures only { (s : AnyScene) → SpellsScene bytes.now s → limit_of s ≡ None → (result ≡ Ok s) ⊎ (result ≡ Err SceneFault.OutOfMemory) }
     // Malformed bytes have this fault first from the left, at this place.
-    ensures malformed { IfErr result (IsMalformed bytes.now) }
+    ensures malformed { IfErr result (TellsForm bytes.now) }
     // Such bytes are answered so, unless memory runs out.
     ensures malformed_only { (kind : AnyKind) → (at : ℕ) → FailsAsScene bytes.now kind at → (result ≡ Err (SceneFault.Malformed kind at)) ⊎ (result ≡ Err SceneFault.OutOfMemory) }
     // The scene that is spelled has this quantity outside its range, the first in the order of the table.

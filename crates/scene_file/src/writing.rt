@@ -1,8 +1,8 @@
 //! Writing a scene.
 ghost use Rattle.std.specs.Prelude.{◌≡◌, ◌≤◌, ◌<◌, ◌++◌, ◌^◌, [], ◌∷◌, length, IfOk, OnOk, None};
-ghost use Rattle.rc_base.specs.Limits.{limit_of};
+ghost use Rattle.rc_base.specs.Formats.Limits.{limit_of};
 ghost use Rattle.std.specs.List.{flat_map, AllByRecursion};
-ghost use Rattle.rc_base.specs.Spelling.{half, long, size, header, stream_text, encoded, IsSide, IsSize, SpellsScene};
+ghost use Rattle.rc_base.specs.Formats.Spelling.{half, long, size, header, stream_text, encoded, IsSide, IsSize, SpellsScene};
 ghost use Rattle.scene_file.specs.Written.{written, AreWhole, IsShort, IsEncoded};
 
 use crate::header::MAGIC;

@@ -5,10 +5,10 @@ use Rattle.std.specs.Str.Lines.{lines}
 use Rattle.rc_base.specs.declared.scene.Scene.{Scene}
 use Rattle.rc_base.specs.declared.scene.TextKind.{TextKind}
 use Rattle.rc_base.specs.declared.text.LineName.{LineName}
-use Rattle.rc_base.specs.Limits.{limit_of}
-use Rattle.rc_base.specs.Text.Statements.{Statement, statement, decl_statements, client_statements}
-use Rattle.rc_base.specs.Text.Read.{is_text, is_skipped, words_of, words_say, with_texels, arguments_say, spoken, SpellsText}
-use Rattle.rc_base.specs.Text.Faults.{rank_of, rank_after, rank_after_words, fault_of_line, fault_of_words, fault_under, first_fault, text_fault}
+use Rattle.rc_base.specs.Formats.Limits.{limit_of}
+use Rattle.rc_base.specs.Formats.Text.Statements.{Statement, statement, decl_statements, client_statements}
+use Rattle.rc_base.specs.Formats.Text.Read.{is_text, is_skipped, words_of, words_say, with_texels, arguments_say, spoken, SpellsText}
+use Rattle.rc_base.specs.Formats.Text.Faults.{rank_of, rank_after, rank_after_words, fault_of_line, fault_of_words, fault_under, first_fault, text_fault}
 use Rattle.scene_text.specs.declared.draft.Draft.{Draft}
 use Rattle.scene_text.specs.declared.parse.LineFault.{LineFault}
 use Rattle.scene_text.specs.declared.parse.LineFault.TheVariants as fault
@@ -78,13 +78,6 @@ abbrev pub ReadsLine : Draft → Draft → Result (Unit {0}) LineFault → List 
 ReadsLine old new (Ok x) line = Passes old new line
 ReadsLine old new (Err (fault.Text k)) line = fault_of_line old.rank line ≡ Some k
 ReadsLine old new (Err fault.OutOfMemory) line = Unit {0}
-
--- a text is read, or its fault is told, unless there was no memory
-abbrev pub ReadsText : List ℕ → Result Scene TextSceneFault → Type 0
-ReadsText text (Ok s) = SpellsText text s
-ReadsText text (Err (text_fault_of.Text line k)) = text_fault text ≡ Some (line, k)
-ReadsText text (Err (text_fault_of.Limit what value)) = ⊥
-ReadsText text (Err text_fault_of.OutOfMemory) = Unit {0}
 
 -- where the fault of a line stands
 abbrev pub line_fault_of : ℕ → LineFault → TextSceneFault

@@ -3,11 +3,11 @@ use Rattle.std.specs.Prelude.{◌≡◌, ℕ, List, None}
 use Rattle.rc_base.specs.declared.scene.Scene.{Scene}
 use Rattle.std.specs.List.{AllByRecursion}
 use Rattle.cmd_pack.specs.Texels.{IsWhole}
-use Rattle.rc_base.specs.Commands.{IsCommand}
-use Rattle.rc_base.specs.Spelling.{IsDecl}
-use Rattle.rc_base.specs.Text.Printed.{printed}
-use Rattle.rc_base.specs.Text.Read.{SpellsText}
-use Rattle.rc_base.specs.Text.Faults.{text_fault}
+use Rattle.rc_base.specs.Formats.Commands.{IsCommand}
+use Rattle.rc_base.specs.Formats.Spelling.{IsDecl}
+use Rattle.rc_base.specs.Formats.Text.Printed.{printed}
+use Rattle.rc_base.specs.Formats.Text.Read.{SpellsText}
+use Rattle.rc_base.specs.Formats.Text.Faults.{text_fault}
 
 -- no text spells two scenes
 abbrev pub OneScene : Type 0
@@ -16,6 +16,10 @@ OneScene = (text : List ℕ) (s t : Scene) → SpellsText text s → SpellsText 
 -- a text that spells a scene has no faulty line
 abbrev pub NoFault : Type 0
 NoFault = (text : List ℕ) (s : Scene) → SpellsText text s → text_fault text ≡ None
+
+-- and a text without a faulty line spells a scene
+abbrev pub NoFaultSpells : Type 0
+NoFaultSpells = (text : List ℕ) → text_fault text ≡ None → (s : Scene) × SpellsText text s
 
 -- the printed text of a scene whose fields are in their ranges spells that scene
 abbrev pub PrintedSpells : Type 0

@@ -1,3 +1,4 @@
 pub mod Reading
 pub mod Drafts
 pub mod Laws
+pub mod Tally

@@ -1,23 +1,24 @@
 //! What a name and the words after it say.
 ghost use Rattle.std.specs.Prelude.{◌≡◌, ◌≤◌, ◌∷◌, [], length, take, true, false, IfOk};
-ghost use Rattle.rc_base.specs.Text.Statements.{ranges_of, has_picture};
-ghost use Rattle.rc_base.specs.Text.Read.{is_counted, is_rest_count, area_of, words_of, numbers_of, with_texels, arguments_say};
-ghost use Rattle.rc_base.specs.Text.Faults.{may_stand};
+ghost use Rattle.rc_base.specs.Formats.Commands.{picture_area};
+ghost use Rattle.rc_base.specs.Formats.Text.Statements.{line_ranges, line_has_picture};
+ghost use Rattle.rc_base.specs.Formats.Text.Read.{is_counted, is_rest_count, words_of, numbers_of, has_version, with_texels, arguments_say};
+ghost use Rattle.rc_base.specs.Formats.Text.Faults.{may_stand};
 ghost use Rattle.rc_base.specs.declared.text.LineName.{LineName as AnyLineName};
 ghost use Rattle.command_table.specs.Ranges.{AreIn};
 ghost use Rattle.scene_text.specs.Drafts.{IsDraft, Reads, TexelsRead};
 
 use crate::draft::{Draft, add_line};
-use crate::hex::texels_of;
-use crate::names::{has_picture, ranges_of};
+use crate::hex::spelled_texels;
+use crate::names::{line_has_picture, line_ranges};
 use crate::numerals::read_numbers;
 use crate::parse::LineFault;
 use crate::words::{count_words, next_word, skip_words};
-use command_table::area_of;
-use rc_base::command::Texels;
+use command_table::picture_area;
+use rc_base::command::{NumberRange, Texels};
 use rc_base::out_of_memory::OutOfMemory;
 use rc_base::scene::TextKind;
-use rc_base::text::{LineName, NumberRange};
+use rc_base::text::LineName;
 use std::alloc::Global;
 
 /// So many words after the numbers are right.
@@ -27,7 +28,7 @@ fn is_rest_count(sides: &[u8], rest: usize) -> bool
     let mut numbers = [0; 2];
     match read_numbers(&[NumberRange::Half, NumberRange::Half], sides, &mut numbers) {
         Some(_) => {
-            if area_of(&numbers) == 0 {
+            if picture_area(&numbers) == 0 {
                 rest == 0
             } else {
                 rest == 1
@@ -41,25 +42,41 @@ fn is_rest_count(sides: &[u8], rest: usize) -> bool
 fn is_counted(name: LineName, words: &[u8]) -> bool
     ensures { result ≡ is_counted name (words_of words.now) }
 {
-    let count = ranges_of(name).len();
+    let count = line_ranges(name).len();
     let length = count_words(words);
     if length < count {
         false
-    } else if has_picture(name) {
+    } else if line_has_picture(name) {
         is_rest_count(skip_words(words, count - 2), length - count)
     } else {
         length == count
     }
 }
 
-/// The texels in the words after the numbers.
+/// The version of a scene's line is the one of this format.
+fn has_version(name: LineName, numbers: &[i32]) -> bool
+    requires { AreIn (line_ranges name) numbers.now }
+    ensures { result ≡ has_version name numbers.now }
+{
+    match name {
+        LineName::Scene => 1 <= numbers[0] && numbers[0] <= 1,
+        LineName::Shared
+        | LineName::Barrier
+        | LineName::Semaphore
+        | LineName::Client
+        | LineName::Command(_) => true,
+    }
+}
+
+/// The texels in the words after the numbers, of which the last two are the sides of a picture where a word follows.
 fn read_texels(alloc: Global, numbers: &[i32], rest: &[u8]) -> Result<Texels, LineFault>
+    requires { (words_of rest.now ≡ [] → ⊥) → 2 ≤ length numbers.now }
     ensures read { (name : AnyLineName) → TexelsRead name (words_of rest.now) numbers.now result }
     ensures none { words_of rest.now ≡ [] → IfOk result (λ texels. texels ≡ []) }
 {
     match next_word(rest) {
         None => Ok(Texels::new(alloc)),
-        Some((word, _)) => match texels_of(alloc, area_of(numbers), word)? {
+        Some((word, _)) => match spelled_texels(alloc, picture_area(numbers), word)? {
             Some(texels) => Ok(texels),
             None => Err(LineFault::Text(TextKind::BadHex)),
         },
@@ -67,7 +84,7 @@ fn read_texels(alloc: Global, numbers: &[i32], rest: &[u8]) -> Result<Texels, Li
 }
 
 /// Reads what follows a name into the draft.
-#[tactic(auto, unfolding(rc_base::specs::Text::Read::arguments_say))]
+#[tactic(auto, unfolding(rc_base::specs::Formats::Text::Read::arguments_say))]
 pub(crate) fn read_arguments(
     alloc: Global,
     draft: &mut Draft,
@@ -81,11 +98,17 @@ pub(crate) fn read_arguments(
     if !is_counted(name, words) {
         return Err(LineFault::Text(TextKind::WrongCount));
     }
-    let ranges = ranges_of(name);
+    let ranges = line_ranges(name);
     let mut numbers = [0; 16];
     match read_numbers(ranges, words, &mut numbers) {
         None => Err(LineFault::Text(TextKind::BadNumber)),
-        Some(rest) => read_statement(alloc, draft, name, &numbers[..ranges.len()], rest),
+        Some(rest) => {
+            let numbers = &numbers[..ranges.len()];
+            if !has_version(name, numbers) {
+                return Err(LineFault::Text(TextKind::BadNumber));
+            }
+            read_statement(alloc, draft, name, numbers, rest)
+        }
     }
 }
 
@@ -99,8 +122,8 @@ fn read_statement(
 ) -> Result<(), LineFault>
     requires draft { IsDraft draft.old }
     requires place { may_stand draft.old.rank name ≡ true }
-    requires numbers { AreIn (ranges_of name) numbers.now }
-    requires rest { has_picture name ≡ false → words_of rest.now ≡ [] }
+    requires numbers { AreIn (line_ranges name) numbers.now }
+    requires rest { line_has_picture name ≡ false → words_of rest.now ≡ [] }
     ensures { Reads draft.old draft.new result (with_texels name (words_of rest.now) numbers.now) }
 {
     match read_texels(alloc, numbers, rest) {

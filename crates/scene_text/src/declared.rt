@@ -3,14 +3,18 @@ ghost use Rattle.std.specs.Prelude.{◌≡◌, ◌∷◌, [], pos, map};
 ghost use Rattle.command_table.specs.Ranges.{AreIn};
 
 use command_table::making::{byte_at, half_at};
-use rc_base::text::NumberRange;
+use rc_base::command::NumberRange;
 
 /// Version, width and height of a window.
 pub(crate) fn window_of(numbers: &[i32]) -> (u8, u16, u16)
-    requires { AreIn (NumberRange.Version ∷ NumberRange.Half ∷ NumberRange.Half ∷ []) numbers.now }
+    requires { AreIn (NumberRange.Byte ∷ NumberRange.Half ∷ NumberRange.Half ∷ []) numbers.now }
     ensures { pos result.0 ∷ pos result.1 ∷ pos result.2 ∷ [] ≡ numbers.now }
 {
-    (1, half_at(numbers, 1), half_at(numbers, 2))
+    (
+        byte_at(numbers, 0),
+        half_at(numbers, 1),
+        half_at(numbers, 2),
+    )
 }
 
 /// Width and height of a shared texture.

@@ -1,7 +1,7 @@
 //! What is read of a scene so far.
 ghost use Rattle.std.specs.Prelude.{◌≡◌, ◌∷◌, [], ◌++◌, ◌≤◌, pos, false, true, OnOk, IfOk};
-ghost use Rattle.rc_base.specs.Text.Statements.{statement, shared_statement, barrier_statement, semaphore_statement, command_statement, ranges_of, has_picture, scene_statements};
-ghost use Rattle.rc_base.specs.Text.Faults.{may_stand};
+ghost use Rattle.rc_base.specs.Formats.Text.Statements.{statement, shared_statement, barrier_statement, semaphore_statement, command_statement, line_ranges, line_has_picture, scene_statements};
+ghost use Rattle.rc_base.specs.Formats.Text.Faults.{may_stand};
 ghost use Rattle.command_table.specs.Ranges.{AreIn};
 ghost use Rattle.scene_text.specs.Drafts.{IsDraft, Adds, said};
 
@@ -46,6 +46,16 @@ pub(crate) fn empty_draft(alloc: Global) -> Draft
         streams: Streams::new(alloc),
         stream: Commands::new(alloc),
     }
+}
+
+/// A draft with a client, of which nothing is stored: it may be followed by what follows a client.
+pub(crate) fn attended_draft(alloc: Global) -> Draft
+    ensures draft { IsDraft result }
+    ensures rank { result.rank ≡ 5 }
+{
+    let mut draft = empty_draft(alloc);
+    draft.rank = 5;
+    draft
 }
 
 fn set_window(draft: &mut Draft, version: u8, width: u16, height: u16)
@@ -122,8 +132,8 @@ pub(crate) fn add_line(
 ) -> Result<(), OutOfMemory>
     requires draft { IsDraft draft.old }
     requires place { may_stand draft.old.rank name ≡ true }
-    requires numbers { AreIn (ranges_of name) numbers.now }
-    requires texels { has_picture name ≡ false → texels ≡ [] }
+    requires numbers { AreIn (line_ranges name) numbers.now }
+    requires texels { line_has_picture name ≡ false → texels ≡ [] }
     ensures { OnOk result (Adds draft.old draft.new (statement name numbers.now texels)) }
 {
     match name {
@@ -136,9 +146,7 @@ pub(crate) fn add_line(
         LineName::Barrier => add_barrier(draft, count_of(numbers)),
         LineName::Semaphore => add_semaphore(draft, units_of(numbers)),
         LineName::Client => open_client(alloc, draft),
-        LineName::Command(opcode) => {
-            add_command(draft, command_of(alloc, opcode, numbers, texels)?)
-        }
+        LineName::Command(opcode) => { add_command(draft, command_of(opcode, numbers, texels)) }
     }
 }
 

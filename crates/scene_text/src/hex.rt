@@ -1,6 +1,6 @@
 //! Texels of a line, two hexadecimal digits for each byte.
 ghost use Rattle.std.specs.Prelude.{◌≡◌, ◌*◌, ◌^◌, ◌<◌, ◌≤◌, length, IfOk, IfSome, Some, None, if◌then◌else◌};
-ghost use Rattle.rc_base.specs.Text.Read.{hex_value, hex_pair, hex_bytes, texels_of};
+ghost use Rattle.rc_base.specs.Formats.Text.Read.{hex_value, hex_pair, hex_bytes, spelled_texels};
 
 use rc_base::command::Texels;
 use rc_base::out_of_memory::OutOfMemory;
@@ -52,12 +52,12 @@ fn hex_bytes(alloc: Global, word: &[u8]) -> Result<Option<Texels>, OutOfMemory>
 }
 
 /// The texels of a picture of so many texels, in a word of 8 digits for each.
-pub(crate) fn texels_of(
+pub(crate) fn spelled_texels(
     alloc: Global,
     area: u64,
     word: &[u8],
 ) -> Result<Option<Texels>, OutOfMemory>
-    ensures { IfOk result (λ texels. texels ≡ texels_of area word.now) }
+    ensures { IfOk result (λ texels. texels ≡ spelled_texels area word.now) }
 {
     let length = word.len() as u64;
     if length / 8 == area && length % 8 == 0 {

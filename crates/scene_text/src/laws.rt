@@ -1,14 +1,15 @@
 //! Laws on texts that spell scenes.
-ghost use Rattle.scene_text.specs.Laws.{OneScene, NoFault, PrintedSpells, WholePictures};
+ghost use Rattle.scene_text.specs.Laws.{OneScene, NoFault, NoFaultSpells, PrintedSpells, WholePictures};
 
 /// No text spells two scenes.
 pub fn texts_spell_one_scene()
     ensures { OneScene }
 {}
 
-/// A text that spells a scene has no faulty line.
+/// A text spells a scene exactly where it has no faulty line.
 pub fn spelled_texts_have_no_fault()
-    ensures { NoFault }
+    ensures none { NoFault }
+    ensures only { NoFaultSpells }
 {}
 
 /// The printed text of a scene whose fields are in their ranges spells that scene.

@@ -15,6 +15,7 @@ mod names;
 mod numerals;
 mod parse;
 mod print;
+mod tally;
 mod words;
 
 pub use laws::{

@@ -1,7 +1,7 @@
 //! The lines of a text, one after the other, and the tests on a whole line.
 ghost use Rattle.std.specs.Prelude.{◌≡◌, ◌<◌, ◌∷◌, length};
 ghost use Rattle.std.specs.Str.Lines.{lines, strip_carriage_return};
-ghost use Rattle.rc_base.specs.Text.Read.{is_text, is_skipped, is_comment, has_no_word, words_of};
+ghost use Rattle.rc_base.specs.Formats.Text.Read.{is_text, is_skipped, is_comment, has_no_word, words_of};
 
 use crate::words::{find_byte, next_word};
 
@@ -17,7 +17,7 @@ fn without_return(line: &[u8]) -> &[u8]
 }
 
 /// The first line of a text and what follows it.
-#[tactic(auto, using(crate::proofs::Cuts::line_before, crate::proofs::Cuts::line_last))]
+#[tactic(auto, using(crate::proofs::CutLinesAndWords::line_before, crate::proofs::CutLinesAndWords::line_last))]
 pub(crate) fn first_line(text: &[u8]) -> (&[u8], &[u8])
     requires { 0 < length text.now }
     ensures first { lines text.now ≡ result.0.now ∷ lines result.1.now }

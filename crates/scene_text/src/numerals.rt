@@ -4,10 +4,11 @@ ghost use Rattle.std.specs.Int.{w32};
 ghost use Rattle.scene_text.specs.Reading.{first_number};
 ghost use Rattle.std.specs.Str.{all_ascii_digits};
 ghost use Rattle.std.specs.Str.Parse.{digits_value};
-ghost use Rattle.rc_base.specs.Text.Read.{magnitude_of, number_of, is_in, is_negative, reads_as, numbers_of, words_of};
+ghost use Rattle.rc_base.specs.Formats.Commands.{is_in_range};
+ghost use Rattle.rc_base.specs.Formats.Text.Read.{magnitude_of, spelled_number, is_negative, reads_as, numbers_of, words_of};
 
 use crate::words::next_word;
-use rc_base::text::NumberRange;
+use rc_base::command::NumberRange;
 
 fn all_digits(bytes: &[u8]) -> bool
     ensures { result ≡ all_ascii_digits bytes.now }
@@ -52,8 +53,8 @@ fn is_negative(word: &[u8]) -> bool
 }
 
 /// The number of a word: digits, behind a minus or not.
-fn number_of(word: &[u8]) -> Option<i64>
-    ensures { result ≡ number_of word.now }
+fn spelled_number(word: &[u8]) -> Option<i64>
+    ensures { result ≡ spelled_number word.now }
 {
     if is_negative(word) {
         match magnitude_of(&word[1..]) {
@@ -68,11 +69,10 @@ fn number_of(word: &[u8]) -> Option<i64>
     }
 }
 
-fn is_in(range: NumberRange, number: i64) -> bool
-    ensures { result ≡ is_in range number }
+fn is_in_range(range: NumberRange, number: i64) -> bool
+    ensures { result ≡ is_in_range range number }
 {
     match range {
-        NumberRange::Version => 1 <= number && number <= 1,
         NumberRange::Byte => 0 <= number && number <= 255,
         NumberRange::Half => 0 <= number && number <= 65535,
         NumberRange::Word => -2147483648 <= number && number <= 2147483647,
@@ -83,9 +83,9 @@ fn is_in(range: NumberRange, number: i64) -> bool
 fn reads_as(range: NumberRange, word: &[u8]) -> Option<i32>
     ensures { result ≡ reads_as range word.now }
 {
-    match number_of(word) {
+    match spelled_number(word) {
         Some(number) => {
-            if is_in(range, number) {
+            if is_in_range(range, number) {
                 Some(number as i32)
             } else {
                 None

@@ -4,30 +4,35 @@ ghost use Rattle.rc_base.specs.declared.scene.Limit.{Limit as AnyLimit};
 ghost use Rattle.rc_base.specs.declared.scene.Scene.{Scene as AnyScene};
 ghost use Rattle.rc_base.specs.declared.scene.TextKind.{TextKind as AnyKind};
 ghost use Rattle.std.specs.List.{AllByRecursion};
-ghost use Rattle.rc_base.specs.Limits.{limit_of};
-ghost use Rattle.rc_base.specs.Text.Read.{SpellsText, words_of, has_no_word};
-ghost use Rattle.rc_base.specs.Text.Faults.{may_stand, text_fault};
+ghost use Rattle.rc_base.specs.Formats.Limits.{limit_of};
+ghost use Rattle.rc_base.specs.Formats.Text.Read.{SpellsText, words_of, has_no_word};
+ghost use Rattle.rc_base.specs.Formats.Text.Faults.{may_stand, text_fault};
 ghost use Rattle.scene_file.specs.Written.{AreWhole};
-ghost use Rattle.scene_text.specs.Drafts.{IsDraft, ReadsNamed, ReadsWords, ReadsLine, ReadsText, IsTextFault, line_fault_of};
+ghost use Rattle.scene_text.specs.Drafts.{IsDraft, ReadsNamed, ReadsWords, ReadsLine, IsTextFault, line_fault_of};
 
 use crate::arguments::read_arguments;
 use crate::draft::{Draft, empty_draft, finish};
 use crate::lines::{first_line, is_skipped, is_text};
 use crate::names::name_of;
+use crate::tally::{is_over, judge_rest};
 use crate::words::next_word;
 use rc_base::out_of_memory::OutOfMemory;
 use rc_base::scene::{Scene, TextKind};
 use rc_base::text::LineName;
 use scene_file::check_limits;
 use std::alloc::Global;
+use thiserror::Error;
 
 /// Why a text gives no scene.
-#[derive(Clone, Copy, Debug, PartialEq, Eq)]
+#[derive(Clone, Copy, Debug, PartialEq, Eq, Error)]
 pub enum TextSceneFault {
     /// The first faulty line, counted from 1, and what is wrong with it.
+    #[error("malformed {kind:?} in line {line}")]
     Text { line: usize, kind: TextKind },
     /// The text spells a scene, and the quantity of this number is outside its range.
+    #[error("quantity {what} is {value}")]
     Limit { what: u8, value: u64 },
+    #[error("out of memory")]
     OutOfMemory,
 }
 
@@ -101,16 +106,13 @@ fn read_words(alloc: Global, draft: &mut Draft, line: &[u8]) -> Result<(), LineF
         None => Ok(()),
         Some((word, rest)) => match name_of(word) {
             None => Err(LineFault::Text(TextKind::UnknownWord)),
-            Some(name) => match read_named(alloc, draft, name, rest) {
-                Ok(()) => Ok(()),
-                Err(fault) => Err(fault),
-            },
+            Some(name) => read_named(alloc, draft, name, rest),
         },
     }
 }
 
-#[tactic(auto, unfolding(rc_base::specs::Text::Faults::fault_of_line, rc_base::specs::Text::Faults::rank_after))]
-fn read_line(alloc: Global, draft: &mut Draft, line: &[u8]) -> Result<(), LineFault>
+#[tactic(auto, unfolding(rc_base::specs::Formats::Text::Faults::fault_of_line, rc_base::specs::Formats::Text::Faults::rank_after))]
+pub(crate) fn read_line(alloc: Global, draft: &mut Draft, line: &[u8]) -> Result<(), LineFault>
     requires { IsDraft draft.old }
     ensures { ReadsLine draft.old draft.new result line.now }
 {
@@ -120,13 +122,10 @@ fn read_line(alloc: Global, draft: &mut Draft, line: &[u8]) -> Result<(), LineFa
     if is_skipped(line) {
         return Ok(());
     }
-    match read_words(alloc, draft, line) {
-        Ok(()) => Ok(()),
-        Err(fault) => Err(fault),
-    }
+    read_words(alloc, draft, line)
 }
 
-fn line_fault(fault: LineFault, line: usize) -> TextSceneFault
+pub(crate) fn line_fault(fault: LineFault, line: usize) -> TextSceneFault
     ensures { result ≡ line_fault_of line fault }
 {
     match fault {
@@ -135,9 +134,10 @@ fn line_fault(fault: LineFault, line: usize) -> TextSceneFault
     }
 }
 
-/// The scene that the lines of a text say, whatever its quantities.
+/// The scene that the lines of a text say. From a draft on that is too large, the lines are counted only, and the answer is a limit.
 fn read_lines(alloc: Global, text: &[u8]) -> Result<Scene, TextSceneFault>
-    ensures { ReadsText text.now result }
+    ensures found { IfOk result (SpellsText text.now) }
+    ensures fails { IfErr result (IsTextFault text.now) }
 {
     let mut draft = empty_draft(alloc);
     let mut rest = text;
@@ -150,6 +150,9 @@ fn read_lines(alloc: Global, text: &[u8]) -> Result<Scene, TextSceneFault>
             Err(fault) => return Err(line_fault(fault, line)),
         }
         rest = after;
+        if is_over(&draft) {
+            return Err(judge_rest(alloc, &draft, rest, line));
+        }
     }
     if draft.rank == 0 {
         return Err(TextSceneFault::Text {

@@ -1,11 +1,11 @@
 //! A scene's text, line by line.
 ghost use Rattle.std.specs.Prelude.{◌≡◌, ◌+◌, ◌<◌, List, [], ◌∷◌, ◌++◌, map, pos, OnOk, IfOk};
 ghost use Rattle.std.specs.List.{flat_map, AllByRecursion};
-ghost use Rattle.rc_base.specs.Commands.{IsCommand};
-ghost use Rattle.rc_base.specs.Spelling.{IsDecl};
-ghost use Rattle.rc_base.specs.Text.Read.{SpellsText};
-ghost use Rattle.rc_base.specs.Text.Statements.{statement, command_statement, client_statements, shared_statement, barrier_statement, semaphore_statement, decl_statements};
-ghost use Rattle.rc_base.specs.Text.Printed.{printed_line, printed};
+ghost use Rattle.rc_base.specs.Formats.Commands.{IsCommand};
+ghost use Rattle.rc_base.specs.Formats.Spelling.{IsDecl};
+ghost use Rattle.rc_base.specs.Formats.Text.Read.{SpellsText};
+ghost use Rattle.rc_base.specs.Formats.Text.Statements.{statement, command_statement, client_statements, shared_statement, barrier_statement, semaphore_statement, decl_statements};
+ghost use Rattle.rc_base.specs.Formats.Text.Printed.{printed_line, printed};
 
 use crate::digits::{print_numbers, print_texels};
 use crate::names::word_of;
@@ -16,7 +16,7 @@ use rc_base::scene::{Decl, Scene};
 use rc_base::text::LineName;
 use std::alloc::Global;
 
-#[tactic(auto, unfolding(rc_base::specs::Text::Printed::printed_line))]
+#[tactic(auto, unfolding(rc_base::specs::Formats::Text::Printed::printed_line))]
 fn print_line(
     text: &mut Bytes,
     name: LineName,
@@ -35,10 +35,10 @@ fn print_line(
 fn print_command(text: &mut Bytes, command: &Command) -> Result<(), OutOfMemory>
     ensures { OnOk result (text.new ≡ text.old ++ printed_line (command_statement command.now)) }
 {
-    let mut numbers = [0; 16];
-    let (count, texels) = parts_of(command, &mut numbers);
+    let mut room = [0; 16];
+    let (numbers, texels) = parts_of(command, &mut room);
     let name = LineName::Command(opcode_of(command));
-    print_line(text, name, &numbers[..count], texels)
+    print_line(text, name, numbers, texels)
 }
 
 fn print_client(text: &mut Bytes, commands: &Commands) -> Result<(), OutOfMemory>
@@ -116,7 +116,7 @@ fn print_streams(text: &mut Bytes, streams: &[Commands]) -> Result<(), OutOfMemo
     Ok(())
 }
 
-#[tactic(auto, unfolding(rc_base::specs::Text::Printed::printed))]
+#[tactic(auto, unfolding(rc_base::specs::Formats::Text::Printed::printed))]
 fn print_whole(alloc: Global, scene: &Scene) -> Result<Bytes, OutOfMemory>
     ensures { IfOk result (λ text. text ≡ printed scene.now) }
 {

@@ -80,6 +80,39 @@ fn a_text_needs_its_lines_in_order(rt: HostRuntime) {
     );
 }
 
+// Told from the counts, where nothing more is stored.
+#[test]
+fn too_many_clients_are_counted(rt: HostRuntime) {
+    let mut text = Vec::from_slice(rt.alloc(), b"scene 1 2 2\n").expect(&rt, "memory");
+    for _ in 0..11 {
+        text.extend_from_slice(b"client\nEnd\n")
+            .expect(&rt, "memory");
+    }
+    assert!(rt;
+        parse_scene(rt.alloc(), text.as_slice())
+            == Err(TextSceneFault::Limit { what: 4, value: 11 })
+    );
+    text.extend_from_slice(b"Clera 1\n").expect(&rt, "memory");
+    assert!(rt; fails_with(&rt, text.as_slice(), 24, TextKind::UnknownWord));
+}
+
+#[test]
+fn too_many_commands_are_counted(rt: HostRuntime) {
+    let mut text = Vec::from_slice(rt.alloc(), b"scene 1 2 2\nclient\n").expect(&rt, "memory");
+    for _ in 0..1_048_580 {
+        text.extend_from_slice(b"End\n").expect(&rt, "memory");
+    }
+    text.extend_from_slice(b"client\nSwap\n")
+        .expect(&rt, "memory");
+    assert!(rt;
+        parse_scene(rt.alloc(), text.as_slice())
+            == Err(TextSceneFault::Limit {
+                what: 11,
+                value: 1_048_581
+            })
+    );
+}
+
 #[test]
 fn every_command_is_parsed_and_printed(rt: HostRuntime) {
     let text = b"scene 1 640 480

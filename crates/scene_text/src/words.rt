@@ -1,6 +1,6 @@
 //! The words of a line, one after the other.
 ghost use Rattle.std.specs.Prelude.{◌≡◌, ℕ, ◌+◌, ◌-◌, ◌<◌, ◌≤◌, ◌∷◌, [], false, length, drop, slice_index, IfSome, MatchOption, position, ◌==◌};
-ghost use Rattle.rc_base.specs.Text.Read.{words_of, is_space};
+ghost use Rattle.rc_base.specs.Formats.Text.Read.{words_of, is_space};
 
 /// The first place of a byte.
 pub(crate) fn find_byte(bytes: &[u8], byte: u8) -> Option<usize>
@@ -23,7 +23,7 @@ fn skip_spaces(line: &[u8]) -> &[u8]
 }
 
 /// The first word and what follows it.
-#[tactic(auto, using(crate::proofs::Cuts::word_before, crate::proofs::Cuts::word_last))]
+#[tactic(auto, using(crate::proofs::CutLinesAndWords::word_before, crate::proofs::CutLinesAndWords::word_last))]
 pub(crate) fn next_word(line: &[u8]) -> Option<(&[u8], &[u8])>
     ensures words { MatchOption result (words_of line.now ≡ []) (λ x. words_of line.now ≡ x.0.now ∷ words_of x.1.now) }
     ensures shorter { IfSome result (λ x. length x.1.now < length line.now) }

@@ -1,7 +1,4 @@
-pub mod Rows
-pub mod Places
-pub mod Issued
-pub mod Standing
-pub mod Grid
-pub mod Blocks
-pub mod Vertices
+pub mod ImageBytes
+pub mod PixelIndex
+pub mod PlainStates
+pub mod FramesGoOn

@@ -1,0 +1,2 @@
+mod PermittedByTests
+mod WrittenLogs

@@ -1,2 +1,4 @@
 pub mod Scenes
+pub mod States
 pub mod Records
+pub mod Orders

@@ -8,8 +8,12 @@ use Rattle.rc_base.specs.declared.command.Command.TheVariants as cmd
 use Rattle.rc_base.specs.declared.scene.Scene.{Scene}
 use Rattle.rc_base.specs.declared.sync.Name.{Name}
 use Rattle.rc_base.specs.declared.window.Layout.{Layout}
-use Rattle.rc_base.specs.Context.{rgba}
-use Rattle.rc_base.specs.Serial.{names_below}
+use Rattle.rc_base.specs.Cluster.Looks.{tally_of}
+use Rattle.rc_base.specs.Cluster.Parcels.{parcels_of}
+use Rattle.rc_base.specs.Colors.{rgba}
+use Rattle.rc_base.specs.Numbers.{fixed_one}
+use Rattle.rc_base.specs.declared.cluster.Tally.{Tally}
+use Rattle.rc_base.specs.Orders.Order.{names_from}
 
 -- a scene that declares nothing but its window
 abbrev pub scene_of : ℕ → ℕ → List (List Command) → Scene
@@ -26,7 +30,7 @@ abbrev pub at : ℤ → ℤ → ℤ → Command
 at x y w = cmd.Vertex (x ∷ y ∷ pos 0 ∷ w ∷ [])
 
 abbrev pub one : ℤ
-one = pos 65536
+one = pos fixed_one
 
 -- -1 in 16.16 fixed point
 abbrev pub minus_one : ℤ
@@ -82,7 +86,7 @@ two_blended = scene_of 1 1 (half_transparent 255 0 ∷ half_transparent 0 255 �
 
 -- the names of a client's first nine commands
 abbrev pub all_of : ℕ → List Name
-all_of client = names_below client 9
+all_of client = names_from client 0 9
 
 abbrev pub first_client_first : List Name
 first_client_first = all_of 0 ++ all_of 1
@@ -128,6 +132,18 @@ image name w h = cmd.TexImage name w h (replicate (4 * (w * h)) 0)
 abbrev pub part : ℕ → ℕ → ℕ → ℕ → ℕ → Command
 part name x y w h = cmd.TexPart (record { name = name; x = x; y = y; w = w; h = h; texels = replicate (4 * (w * h)) 255 })
 
+-- one texel of a shared texture
+abbrev pub shared_texel : List ℕ → Command
+shared_texel texel = cmd.SharedImage (record { name = 1; x = 0; y = 0; w = 1; h = 1; texels = texel })
+
+-- a shared texture of one texel over red, as it is at first and green, a frame each
+abbrev pub shared_green : Scene
+shared_green = record {
+  decl = record { version = 1; width = 1; height = 1; shared = (1 ∷ 1 ∷ []) ∷ []; barriers = []; semaphores = [] };
+  streams = (cmd.TexEnv 1 ∷ cmd.Enable 5 ∷ cmd.BindTexture 1 1 ∷ cmd.ClearColor (rgba 255 0 0 255) ∷ cmd.Clear 1 ∷ [] ++ full
+      ++ cmd.Swap ∷ shared_texel (0 ∷ 255 ∷ 0 ∷ 255 ∷ []) ∷ [] ++ full ++ cmd.Swap ∷ []) ∷ [];
+}
+
 -- what the scissored clear sets
 abbrev pub scissor_sets : List ElementSet
 scissor_sets =
@@ -144,3 +160,8 @@ red_clear_bytes =
 -- client 0 does nothing, and client 1 swaps
 abbrev pub lone_swap : Scene
 lone_swap = scene_of 1 1 ([] ∷ (cmd.Swap ∷ []) ∷ [])
+
+-- ---- what client 0 sends to a tile, as numbers
+
+abbrev pub tile_tally : Scene → Layout → ℕ → Tally
+tile_tally scene l tile = tally_of scene l 0 tile (parcels_of scene l 0 tile)

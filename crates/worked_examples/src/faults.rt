@@ -1,6 +1,6 @@
 //! Which commands are refused, and why.
 ghost use Rattle.std.specs.Prelude.{◌≡◌, [], ◌∷◌, negsuc, pos, replicate};
-ghost use Rattle.rc_base.specs.Issue.{context_after, fault_at};
+ghost use Rattle.rc_base.specs.Contexts.Issue.{context_after, fault_at};
 ghost use Rattle.worked_examples.specs.Scenes.{at, image, one, only, part, wide};
 ghost use Rattle.rc_base.specs.declared.command.Command.TheVariants as cmd;
 ghost use Rattle.rc_base.specs.declared.state.Fault.TheVariants.{InvalidEnum, InvalidOperation, InvalidValue, StackOverflow, StackUnderflow};

@@ -4,7 +4,13 @@
 
 pub mod drawing;
 pub mod faults;
+pub mod fragments;
 pub mod limits;
+pub mod matrices;
+pub mod orders;
 pub mod reports;
 pub mod spelling;
+pub mod texts;
+pub mod textures;
 pub mod tiles;
+pub mod triangles;

@@ -1,6 +1,6 @@
 //! Quantities outside their ranges.
 ghost use Rattle.std.specs.Prelude.{◌≡◌, [], ◌∷◌, replicate};
-ghost use Rattle.rc_base.specs.Limits.{limit_of};
+ghost use Rattle.rc_base.specs.Formats.Limits.{limit_of};
 ghost use Rattle.worked_examples.specs.Scenes.{scene_of};
 ghost use Rattle.rc_base.specs.declared.command.Command.TheVariants as cmd;
 

@@ -1,9 +1,10 @@
 -- Which pixels a triangle covers, over exact whole numbers. Window coordinates are sixteenths of a pixel.
-use Rattle.std.specs.Prelude.{ℕ, ◌^◌, List, Bool, not, ◌&&◌, ◌||◌, ℤ, pos, ◌+ℤ◌, ◌-ℤ◌, ◌*ℤ◌, int_lt, int_le}
+use Rattle.std.specs.Prelude.{ℕ, List, Bool, not, ◌&&◌, ◌||◌, ℤ, pos, ◌+ℤ◌, ◌-ℤ◌, ◌*ℤ◌, int_lt, int_le}
 use Rattle.std.specs.Ordering.{int_eq}
 use Rattle.rc_base.specs.declared.window.WindowVertex.{WindowVertex}
 use Rattle.rc_base.specs.declared.state.State.{State}
 use Rattle.rc_base.specs.Numbers.{Within, entry}
+use Rattle.rc_base.specs.Drawing.Window.{place_bound, depth_bound}
 use lib.ListN.{get_or}
 
 -- of a point (px, py), for the edge from a to b: above 0 on its left, 0 on its line
@@ -34,8 +35,8 @@ abbrev pub corner : List WindowVertex → ℕ → WindowVertex
 corner v k = get_or v k no_vertex
 
 -- twice the signed area of a triangle: above 0 where its corners run counterclockwise
-abbrev pub area_of : List WindowVertex → ℤ
-area_of v = edge_value (corner v 0) (corner v 1) (corner v 2).x (corner v 2).y
+abbrev pub triangle_area : List WindowVertex → ℤ
+triangle_area v = edge_value (corner v 0) (corner v 1) (corner v 2).x (corner v 2).y
 
 -- the centre of pixel (x, y), anywhere in the plane, is inside the triangle
 unfoldable pub is_inside : List WindowVertex → ℤ → ℤ → Bool
@@ -44,9 +45,9 @@ is_inside v x y =
     && (is_within_edge (corner v 1) (corner v 2) (centre x) (centre y)
     && is_within_edge (corner v 2) (corner v 0) (centre x) (centre y))
 
--- the bounds of window coordinates
+-- a vertex lies within the bounds of window coordinates
 abbrev pub IsInBounds : WindowVertex → Type 0
-IsInBounds a = Within (2 ^ 20) a.x × Within (2 ^ 20) a.y × Within (2 ^ 30) a.z
+IsInBounds a = Within place_bound a.x × Within place_bound a.y × Within depth_bound a.z
 
 abbrev pub AreInBounds : List WindowVertex → Type 0
 AreInBounds v = IsInBounds (corner v 0) × IsInBounds (corner v 1) × IsInBounds (corner v 2)

@@ -1,7 +1,7 @@
 -- What a triangle brings to a pixel that it covers.
 use Rattle.std.specs.Prelude.{ℕ, zero, suc, List, ℤ, pos, ◌+ℤ◌, ◌*ℤ◌}
-use Rattle.rc_base.specs.Numbers.{floor_quotient}
-use Rattle.rc_base.specs.Drawing.Cover.{edge_value, corner, area_of, centre}
+use Rattle.rc_base.specs.Numbers.{floor_quotient, natural}
+use Rattle.rc_base.specs.Drawing.Cover.{edge_value, corner, triangle_area, centre}
 use Rattle.rc_base.specs.declared.command.Rgba.{Rgba}
 use Rattle.rc_base.specs.declared.window.WindowVertex.{WindowVertex}
 use Rattle.rc_base.specs.declared.window.Fragment.{Fragment}
@@ -21,12 +21,7 @@ interpolated v x y attribute =
     floor_quotient
     (weighted_sum (weight v 0 (centre x) (centre y)) (weight v 1 (centre x) (centre y)) (weight v 2 (centre x) (centre y))
     (attribute (corner v 0)) (attribute (corner v 1)) (attribute (corner v 2)))
-    (area_of v)
-
--- a number that isn't below 0
-abbrev pub natural : ℤ → ℕ
-natural (pos n) = n
-natural _ = 0
+    (triangle_area v)
 
 -- a colour channel at a pixel, where it is a mean of channels and so none below 0
 abbrev pub channel_at : List WindowVertex → ℤ → ℤ → (Rgba → ℕ) → ℕ

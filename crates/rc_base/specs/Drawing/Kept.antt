@@ -1,8 +1,10 @@
 -- Which triangles are kept, and how they are turned.
-use Rattle.std.specs.Prelude.{List, [], ◌∷◌, Bool, not, ◌&&◌, ◌||◌, ◌==◌, if◌then◌else◌, Option, Some, None, ℤ, pos, int_lt}
+use Rattle.std.specs.Prelude.{ℕ, slice_index, List, [], ◌∷◌, Bool, not, ◌&&◌, ◌||◌, ◌==◌, if◌then◌else◌, Option, Some, None, ℤ, pos, int_lt}
 use Rattle.std.specs.Ordering.{int_eq}
+use lib.ListN.{get_or}
+use Rattle.rc_base.specs.Colors.{rgba}
 use Rattle.rc_base.specs.Drawing.Window.{window_of, is_placed}
-use Rattle.rc_base.specs.Drawing.Cover.{area_of}
+use Rattle.rc_base.specs.Drawing.Cover.{triangle_area}
 use Rattle.rc_base.specs.declared.state.State.{State}
 use Rattle.rc_base.specs.declared.state.Vertex.{Vertex}
 use Rattle.rc_base.specs.declared.window.WindowVertex.{WindowVertex}
@@ -24,13 +26,21 @@ is_shown s area = not (int_eq area (pos 0)) && not (is_culled s area)
 
 -- corners 1 and 2 change places where they run clockwise, so that the area is above 0
 unfoldable pub oriented : WindowVertex → WindowVertex → WindowVertex → List WindowVertex
-oriented a b c = if int_lt (area_of (three a b c)) (pos 0) then three a c b else three a b c
+oriented a b c = if int_lt (triangle_area (three a b c)) (pos 0) then three a c b else three a b c
 
 -- A triangle isn't dropped: each corner stands before the eye and within the bounds, and it has an area and isn't culled.
 unfoldable pub is_kept : State → Vertex → Vertex → Vertex → Bool
 is_kept s a b c =
-    is_placed s a && (is_placed s b && (is_placed s c && is_shown s (area_of (three (window_of s a) (window_of s b) (window_of s c)))))
+    is_placed s a && (is_placed s b && (is_placed s c && is_shown s (triangle_area (three (window_of s a) (window_of s b) (window_of s c)))))
 
 -- the corners of a kept triangle in window coordinates, counterclockwise
 unfoldable pub kept_of : State → Vertex → Vertex → Vertex → Option (List WindowVertex)
 kept_of s a b c = if is_kept s a b c then Some (oriented (window_of s a) (window_of s b) (window_of s c)) else None
+
+-- the vertex at an index of a block
+abbrev pub vertex_at : List Vertex → ℕ → Vertex
+vertex_at vs i = get_or vs i (record { pos = []; color = rgba 0 0 0 0; s = pos 0; t = pos 0 })
+
+-- the corners of a triangle of a block, by the indices of its vertices, where it is kept
+abbrev pub kept_triangle : State → List Vertex → List ℕ → Option (List WindowVertex)
+kept_triangle s vs t = kept_of s (vertex_at vs (slice_index t 0)) (vertex_at vs (slice_index t 1)) (vertex_at vs (slice_index t 2))

@@ -1,15 +1,15 @@
 -- What a command does to one pixel.
-use Rattle.std.specs.Prelude.{ℕ, ◌+◌, ◌-◌, ◌*◌, ◌/◌, ◌%◌, ◌==◌, ◌&&◌, ◌||◌, not, nat_lt, nat_le, min, Bool, true, false, List, [], length, fold, Option, Some, None, if◌then◌else◌, ℤ, pos, ◌*ℤ◌, slice_index, slice_index_or}
+use Rattle.std.specs.Prelude.{ℕ, ◌+◌, ◌-◌, ◌/◌, ◌%◌, ◌==◌, ◌&&◌, ◌||◌, not, nat_lt, nat_le, min, Bool, true, false, List, length, fold, Option, Some, None, if◌then◌else◌, ℤ, pos, ◌*ℤ◌, slice_index, slice_index_or}
 use Rattle.std.specs.Option.{option_map_or}
-use lib.ListN.{get_or}
-use Rattle.rc_base.specs.Numbers.{floor_quotient, is_between}
-use Rattle.rc_base.specs.Commands.{Picture}
-use Rattle.rc_base.specs.Context.{ClientContext, rgba}
+use Rattle.rc_base.specs.Numbers.{fixed_one, floor_quotient, is_between, natural}
+use Rattle.rc_base.specs.Colors.{rgba, prod}
+use Rattle.rc_base.specs.Pictures.{Picture}
 use Rattle.rc_base.specs.Drawing.Triangles.{triangles_of}
-use Rattle.rc_base.specs.Drawing.Kept.{kept_of}
+use Rattle.rc_base.specs.Drawing.Window.{depth_most}
+use Rattle.rc_base.specs.Drawing.Kept.{kept_triangle}
 use Rattle.rc_base.specs.Drawing.Cover.{covers, is_in_scissor}
-use Rattle.rc_base.specs.Drawing.Fragment.{fragment_of, natural}
-use Rattle.rc_base.specs.Drawing.Texel.{SharedTexels, sampled_picture, texel_of}
+use Rattle.rc_base.specs.Drawing.Fragment.{fragment_of}
+use Rattle.rc_base.specs.Drawing.Texel.{sampled, texel_of, wrap_in_s, wrap_in_t}
 use Rattle.rc_base.specs.declared.command.Rgba.{Rgba}
 use Rattle.rc_base.specs.declared.state.State.{State}
 use Rattle.rc_base.specs.declared.state.Vertex.{Vertex}
@@ -18,11 +18,6 @@ use Rattle.rc_base.specs.declared.state.Effect.{Effect}
 use Rattle.rc_base.specs.declared.state.Effect.TheVariants as eff
 use Rattle.rc_base.specs.declared.window.Pixel.{Pixel}
 use Rattle.rc_base.specs.declared.window.Fragment.{Fragment}
-use Rattle.rc_base.specs.declared.window.WindowVertex.{WindowVertex}
-
--- the product of two channels, as parts of 255, rounded
-abbrev pub prod : ℕ → ℕ → ℕ
-prod a b = (a * b + 127) / 255
 
 -- ---- fragment stages, in their order
 
@@ -76,10 +71,10 @@ mixed s c old source stored = if s.blend_on then blended s source stored c.a old
 
 -- the channel is written where its flag of the colour mask is on
 abbrev pub masked : State → ℕ → ℕ → ℕ → ℕ
-masked s channel written stored = if slice_index_or s.color_mask channel false then written else stored
+masked s channel written_color stored = if slice_index_or s.color_mask channel false then written_color else stored
 
-abbrev pub written : State → Rgba → Rgba → Rgba
-written s c old = rgba
+abbrev pub written_color : State → Rgba → Rgba → Rgba
+written_color s c old = rgba
     (masked s 0 (mixed s c old c.r old.r) old.r)
     (masked s 1 (mixed s c old c.g old.g) old.g)
     (masked s 2 (mixed s c old c.b old.b) old.b)
@@ -90,28 +85,20 @@ written s c old = rgba
 unfoldable pub shaded : State → Rgba → ℕ → Pixel → Pixel
 shaded s c depth old =
     if passes_alpha s c.a && passes_depth s depth old.depth
-    then record { color = written s c old.color; depth = if s.depth_on && s.depth_mask then depth else old.depth }
+    then record { color = written_color s c old.color; depth = if s.depth_on && s.depth_mask then depth else old.depth }
     else old
 
 -- a fragment's colour after the texture stage
 abbrev pub fragment_color : State → Option Picture → Fragment → Rgba
 fragment_color s None f = f.color
-fragment_color s (Some p) f = textured s f.color (texel_of s p f)
+fragment_color s (Some p) f = textured s f.color (texel_of p f.s f.t (wrap_in_s s) (wrap_in_t s))
 
 -- a pixel after a fragment, which is discarded where its depth lies outside the buffer's range
 abbrev pub fragment_step : State → Option Picture → Fragment → Pixel → Pixel
 fragment_step s picture f old =
-    if is_between (pos 0) (pos 16777215) f.depth then shaded s (fragment_color s picture f) (natural f.depth) old else old
+    if is_between (pos 0) (pos depth_most) f.depth then shaded s (fragment_color s picture f) (natural f.depth) old else old
 
 -- ---- commands
-
--- the vertex at an index of a block
-abbrev pub vertex_at : List Vertex → ℕ → Vertex
-vertex_at vs i = get_or vs i (record { pos = []; color = rgba 0 0 0 0; s = pos 0; t = pos 0 })
-
--- the corners of a triangle of a block, where it is kept
-abbrev pub kept_triangle : State → List Vertex → List ℕ → Option (List WindowVertex)
-kept_triangle s vs t = kept_of s (vertex_at vs (slice_index t 0)) (vertex_at vs (slice_index t 1)) (vertex_at vs (slice_index t 2))
 
 -- a pixel after a triangle: its fragment goes through the stages where the triangle is kept and covers the pixel
 abbrev pub triangle_step : State → Option Picture → List Vertex → ℤ → ℤ → Pixel → List ℕ → Pixel
@@ -125,7 +112,7 @@ block_step s picture block x y old =
 
 -- the clear depth as it is stored
 abbrev pub cleared_depth : State → ℕ
-cleared_depth s = natural (floor_quotient (s.clear_depth *ℤ pos 16777215) (pos 65536))
+cleared_depth s = natural (floor_quotient (s.clear_depth *ℤ pos depth_most) (pos fixed_one))
 
 -- a colour after a Clear
 abbrev pub cleared_color : State → Rgba → Rgba
@@ -146,8 +133,11 @@ cleared s mask old = record {
 abbrev pub clear_step : State → ℕ → ℤ → ℤ → Pixel → Pixel
 clear_step s mask x y old = if is_in_scissor s x y then cleared s mask old else old
 
--- a pixel of the window after what a command does, from the context before it and the shared textures
-abbrev pub effect_step : ClientContext → Effect → SharedTexels → ℤ → ℤ → Pixel → Pixel
-effect_step x (eff.Block block) shared px py old = block_step x.state (sampled_picture x shared) block px py old
-effect_step x (eff.Clear mask) shared px py old = clear_step x.state mask px py old
-effect_step x _ shared px py old = old
+-- a pixel of the window after what a command does, by the state, the private images and the shared textures
+abbrev pub effect_step : State → (ℕ → Option Picture) → (ℕ → Picture) → Effect → ℤ → ℤ → Pixel → Pixel
+effect_step s privates shareds eff.Quiet x y old = old
+effect_step s privates shareds (eff.Refused fault) x y old = old
+effect_step s privates shareds (eff.Block block) x y old = block_step s (sampled s privates shareds) block x y old
+effect_step s privates shareds (eff.Clear mask) x y old = clear_step s mask x y old
+effect_step s privates shareds (eff.Shared part) x y old = old
+effect_step s privates shareds (eff.Sync op) x y old = old

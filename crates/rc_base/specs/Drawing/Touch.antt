@@ -2,10 +2,9 @@
 use Rattle.std.specs.Prelude.{ℕ, ◌==◌, ◌&&◌, nat_lt, Bool, false, length, ℤ}
 use Rattle.std.specs.List.{list_any}
 use Rattle.std.specs.Option.{option_map_or}
-use Rattle.rc_base.specs.Context.{ClientContext}
 use Rattle.rc_base.specs.Drawing.Triangles.{triangles_of}
+use Rattle.rc_base.specs.Drawing.Kept.{kept_triangle}
 use Rattle.rc_base.specs.Drawing.Cover.{covers, is_in_scissor}
-use Rattle.rc_base.specs.Drawing.PixelStep.{kept_triangle}
 use Rattle.rc_base.specs.Drawing.Texel.{samples_shared}
 use Rattle.rc_base.specs.declared.state.State.{State}
 use Rattle.rc_base.specs.declared.state.Block.{Block}
@@ -18,17 +17,28 @@ block_touches s block x y =
     list_any (λ t. option_map_or (λ v. covers s v x y) (kept_triangle s block.vertices t) false) (triangles_of block.mode (length block.vertices))
 
 -- what a command does touches the pixel of the window: by the cover of a block, or the area of a Clear
-unfoldable pub touches : ClientContext → Effect → ℤ → ℤ → Bool
-touches x (eff.Block block) px py = block_touches x.state block px py
-touches x (eff.Clear mask) px py = is_in_scissor x.state px py
-touches x _ px py = false
+unfoldable pub touches : State → Effect → ℤ → ℤ → Bool
+touches s eff.Quiet x y = false
+touches s (eff.Refused fault) x y = false
+touches s (eff.Block block) x y = block_touches s block x y
+touches s (eff.Clear mask) x y = is_in_scissor s x y
+touches s (eff.Shared part) x y = false
+touches s (eff.Sync op) x y = false
 
 -- a block may sample the shared texture of this name; it does where its touched set isn't empty
-abbrev pub may_sample : ClientContext → Effect → ℕ → Bool
-may_sample x (eff.Block block) name = samples_shared x name
-may_sample x _ name = false
+abbrev pub may_sample : State → Effect → ℕ → Bool
+may_sample s eff.Quiet name = false
+may_sample s (eff.Refused fault) name = false
+may_sample s (eff.Block block) name = samples_shared s name
+may_sample s (eff.Clear mask) name = false
+may_sample s (eff.Shared part) name = false
+may_sample s (eff.Sync op) name = false
 
 -- an accepted SharedImage with both sides above 0 writes the texture of its name
 abbrev pub writes_shared : Effect → ℕ → Bool
+writes_shared eff.Quiet name = false
+writes_shared (eff.Refused fault) name = false
+writes_shared (eff.Block block) name = false
+writes_shared (eff.Clear mask) name = false
 writes_shared (eff.Shared part) name = part.name == name && (nat_lt 0 part.w && nat_lt 0 part.h)
-writes_shared _ name = false
+writes_shared (eff.Sync op) name = false

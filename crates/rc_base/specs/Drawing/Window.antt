@@ -1,5 +1,5 @@
 -- From a vertex to the window, over exact whole numbers.
-use Rattle.std.specs.Prelude.{List, Bool, ◌&&◌, ◌^◌, ℤ, pos, ◌+ℤ◌, ◌-ℤ◌, ◌*ℤ◌, int_lt}
+use Rattle.std.specs.Prelude.{ℕ, List, Bool, ◌&&◌, ◌^◌, ℤ, pos, ◌+ℤ◌, ◌-ℤ◌, ◌*ℤ◌, int_lt}
 use Rattle.rc_base.specs.Numbers.{floor_quotient, is_within, entry, transformed}
 use Rattle.rc_base.specs.declared.state.State.{State}
 use Rattle.rc_base.specs.declared.state.Vertex.{Vertex}
@@ -13,9 +13,13 @@ clip_of s v = transformed s.projection.m (transformed s.modelview.m v.pos)
 unfoldable pub axis_of : ℤ → ℤ → ℤ → ℤ → ℤ
 axis_of origin size x w = pos 16 *ℤ origin +ℤ floor_quotient ((x +ℤ w) *ℤ size *ℤ pos 16) (pos 2 *ℤ w)
 
+-- the greatest depth that a buffer holds: 24 bits
+abbrev pub depth_most : ℕ
+depth_most = 16777215
+
 -- a depth: 0 at the near end of the depth range's clip coordinate and 16777215 at its far end, where the range is 0 to 1
 unfoldable pub depth_of : ℤ → ℤ → ℤ → ℤ → ℤ
-depth_of near far z w = floor_quotient (((far -ℤ near) *ℤ z +ℤ (near +ℤ far) *ℤ w) *ℤ pos 16777215) (pos 131072 *ℤ w)
+depth_of near far z w = floor_quotient (((far -ℤ near) *ℤ z +ℤ (near +ℤ far) *ℤ w) *ℤ pos depth_most) (pos 131072 *ℤ w)
 
 -- the vertex in window coordinates, where the clip coordinate w is above 0
 unfoldable pub window_of : State → Vertex → WindowVertex
@@ -30,9 +34,15 @@ window_of s v =
       t = v.t;
     }
 
--- the bounds of window coordinates, as a test
+-- the bounds of window coordinates: of places in sixteenths of a pixel, and of depths
+abbrev pub place_bound : ℕ
+place_bound = 2 ^ 20
+
+abbrev pub depth_bound : ℕ
+depth_bound = 2 ^ 30
+
 abbrev pub is_in_bounds : WindowVertex → Bool
-is_in_bounds v = is_within (2 ^ 20) v.x && (is_within (2 ^ 20) v.y && is_within (2 ^ 30) v.z)
+is_in_bounds v = is_within place_bound v.x && (is_within place_bound v.y && is_within depth_bound v.z)
 
 -- the vertex stands before the eye and within the bounds
 unfoldable pub is_placed : State → Vertex → Bool

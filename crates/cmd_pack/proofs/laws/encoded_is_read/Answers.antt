@@ -1,4 +1,4 @@
-use Rattle.cmd_pack.proofs.Chunks.{encoded_spells}
+use Rattle.cmd_pack.proofs.EncodedSpells.{encoded_spells}
 use Rattle.cmd_pack.proofs.laws.encoded_is_read.Goals as goal
 
 pub returns : goal.returns

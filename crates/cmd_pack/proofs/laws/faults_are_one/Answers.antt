@@ -1,4 +1,4 @@
-use Rattle.cmd_pack.proofs.Only.{one_fault}
+use Rattle.cmd_pack.proofs.OneSpelling.{one_fault}
 use Rattle.cmd_pack.proofs.laws.faults_are_one.Goals as goal
 
 pub returns : goal.returns

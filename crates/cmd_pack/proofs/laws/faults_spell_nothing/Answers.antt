@@ -1,4 +1,4 @@
-use Rattle.cmd_pack.proofs.Only.{fails_is_none}
+use Rattle.cmd_pack.proofs.OneSpelling.{fails_is_none}
 use Rattle.cmd_pack.proofs.laws.faults_spell_nothing.Goals as goal
 
 pub returns : goal.returns

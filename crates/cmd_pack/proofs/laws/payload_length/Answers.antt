@@ -1,4 +1,4 @@
-use Rattle.cmd_pack.proofs.Lengths.{length_of_payload}
+use Rattle.cmd_pack.proofs.PayloadLength.{length_of_payload}
 use Rattle.cmd_pack.proofs.laws.payload_length.Goals as goal
 
 pub returns : goal.returns

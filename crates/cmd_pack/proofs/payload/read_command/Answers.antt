@@ -1,47 +1,47 @@
 use Rattle.std.proofs.Common.{◌≡◌, List, length, take, Ok, subst, arith}
 use Rattle.std.proofs.lemmas.Result.{err_from_is_err_and}
-use Rattle.rc_base.specs.declared.text.LineName.TheVariants as line
-use Rattle.rc_base.specs.declared.text.NumberRange.{NumberRange}
-use Rattle.rc_base.specs.Text.Statements.{ranges_of}
-use Rattle.cmd_pack.specs.Parts.{numbers_at}
-use Rattle.cmd_pack.proofs.PartsRead.{ranges_fit, command_done, numbers_failed, texels_failed}
+use Rattle.rc_base.specs.declared.command.NumberRange.{NumberRange}
+use Rattle.rc_base.specs.Formats.Commands.{ranges_of}
+use Rattle.cmd_pack.specs.declared.fault.ReadError.TheVariants as errors
+use Rattle.cmd_pack.specs.Parts.{read_numbers}
+use Rattle.cmd_pack.proofs.PartsReadAsFields.{numbers_fit, command_done, numbers_failed, texels_failed}
 use Rattle.cmd_pack.proofs.payload.read_command.Goals as goal
 
 pub returns-in_err-rest : goal.returns-in_err-rest
 returns-in_err-rest c =
     let p = err_from_is_err_and c.from_residual.result c.from_residual.ensures.1 in
-    rw (p.1, p.2) (numbers_failed c.args.opcode c.args.bytes.now c.in_err-rest.field-0.0 (rw (← c.ranges_of-ranges.ensures) c.in_err-rest.ensures))
+    rw (p.1, p.2) (numbers_failed c.args.opcode c.args.bytes.now (errors.Form c.in_err-rest.field-0.0) (rw (← c.ranges_of-ranges.ensures) c.in_err-rest.ensures))
 
 pub count_texels-requires : goal.count_texels-requires
 count_texels-requires c =
     let o = c.args.opcode in
     let numbers = take (length c.ranges_of-ranges.result.now) c.read_numbers.new.room in
-    let read : numbers_at (ranges_of (line.Command o)) c.args.bytes.now ≡ Ok (numbers, c.in_ok-rest.rest.now) =
-    subst (λ (rs : List NumberRange). numbers_at rs c.args.bytes.now ≡ Ok (numbers, c.in_ok-rest.rest.now)) c.ranges_of-ranges.ensures c.in_ok-rest.ensures in
-    ranges_fit o c.args.bytes.now (λ i. omega (arith, c.type_inv.bytes i)) numbers c.in_ok-rest.rest.now read
+    let read : read_numbers (ranges_of o) c.args.bytes.now ≡ Ok (numbers, c.in_ok-rest.rest.now) =
+    subst (λ (rs : List NumberRange). read_numbers rs c.args.bytes.now ≡ Ok (numbers, c.in_ok-rest.rest.now)) c.ranges_of-ranges.ensures c.in_ok-rest.ensures in
+    numbers_fit (ranges_of o) c.args.bytes.now (λ i. omega (arith, c.type_inv.bytes i)) numbers c.in_ok-rest.rest.now read
 
 pub returns-in_err-texels : goal.returns-in_err-texels
 returns-in_err-texels c =
     let o = c.args.opcode in
     let numbers = take (length c.ranges_of-ranges.result.now) c.read_numbers.new.room in
-    let read : numbers_at (ranges_of (line.Command o)) c.args.bytes.now ≡ Ok (numbers, c.in_ok-rest.rest.now) =
-    subst (λ (rs : List NumberRange). numbers_at rs c.args.bytes.now ≡ Ok (numbers, c.in_ok-rest.rest.now)) c.ranges_of-ranges.ensures c.in_ok-rest.ensures in
+    let read : read_numbers (ranges_of o) c.args.bytes.now ≡ Ok (numbers, c.in_ok-rest.rest.now) =
+    subst (λ (rs : List NumberRange). read_numbers rs c.args.bytes.now ≡ Ok (numbers, c.in_ok-rest.rest.now)) c.ranges_of-ranges.ensures c.in_ok-rest.ensures in
     let p = err_from_is_err_and c.from_residual-in_err-texels.result c.from_residual-in_err-texels.ensures.1 in
-    rw (p.1, p.2) (texels_failed o c.args.bytes.now c.in_ok-rest.rest.now numbers c.in_err-texels.field-0.0 read (rw (← c.count_texels.ensures) c.in_err-texels.ensures))
+    rw (p.1, p.2) (texels_failed o c.args.bytes.now c.in_ok-rest.rest.now numbers (errors.Form c.in_err-texels.field-0.0) read (rw (← c.count_texels.ensures) c.in_err-texels.ensures))
 
-pub command_of-requires-clause-numbers : goal.command_of-requires-clause-numbers
-command_of-requires-clause-numbers c =
+pub command_of-command-requires-clause-numbers : goal.command_of-command-requires-clause-numbers
+command_of-command-requires-clause-numbers c =
     let o = c.args.opcode in
     let numbers = take (length c.ranges_of-ranges.result.now) c.read_numbers.new.room in
-    let read : numbers_at (ranges_of (line.Command o)) c.args.bytes.now ≡ Ok (numbers, c.in_ok-rest.rest.now) =
-    subst (λ (rs : List NumberRange). numbers_at rs c.args.bytes.now ≡ Ok (numbers, c.in_ok-rest.rest.now)) c.ranges_of-ranges.ensures c.in_ok-rest.ensures in
-    ranges_fit o c.args.bytes.now (λ i. omega (arith, c.type_inv.bytes i)) numbers c.in_ok-rest.rest.now read
+    let read : read_numbers (ranges_of o) c.args.bytes.now ≡ Ok (numbers, c.in_ok-rest.rest.now) =
+    subst (λ (rs : List NumberRange). read_numbers rs c.args.bytes.now ≡ Ok (numbers, c.in_ok-rest.rest.now)) c.ranges_of-ranges.ensures c.in_ok-rest.ensures in
+    numbers_fit (ranges_of o) c.args.bytes.now (λ i. omega (arith, c.type_inv.bytes i)) numbers c.in_ok-rest.rest.now read
 
 pub returns : goal.returns
 returns c =
     let o = c.args.opcode in
     let numbers = take (length c.ranges_of-ranges.result.now) c.read_numbers.new.room in
-    let read : numbers_at (ranges_of (line.Command o)) c.args.bytes.now ≡ Ok (numbers, c.in_ok-rest.rest.now) =
-    subst (λ (rs : List NumberRange). numbers_at rs c.args.bytes.now ≡ Ok (numbers, c.in_ok-rest.rest.now)) c.ranges_of-ranges.ensures c.in_ok-rest.ensures in
-    command_done o c.args.bytes.now c.in_ok-rest.rest.now c.in_ok-texels.rest.now numbers c.in_ok-texels.texels.now c.in_ok-command.command read
-    (rw (← c.count_texels.ensures) c.in_ok-texels.ensures) (rw (← c.in_ok-from_slice.ensures) c.in_ok-command.ensures)
+    let read : read_numbers (ranges_of o) c.args.bytes.now ≡ Ok (numbers, c.in_ok-rest.rest.now) =
+    subst (λ (rs : List NumberRange). read_numbers rs c.args.bytes.now ≡ Ok (numbers, c.in_ok-rest.rest.now)) c.ranges_of-ranges.ensures c.in_ok-rest.ensures in
+    command_done o c.args.bytes.now c.in_ok-rest.rest.now c.in_ok-texels.rest.now numbers c.in_ok-texels.texels.now c.command_of-command.result read
+    (rw (← c.count_texels.ensures) c.in_ok-texels.ensures) (rw (← c.in_ok-from_slice.ensures) c.command_of-command.ensures)

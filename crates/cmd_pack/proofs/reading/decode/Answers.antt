@@ -1,4 +1,4 @@
-use Rattle.cmd_pack.proofs.Only.{only_these}
+use Rattle.cmd_pack.proofs.OneSpelling.{only_these}
 use Rattle.cmd_pack.proofs.reading.decode.Goals as goal
 
 pub returns-clause-only : goal.returns-clause-only

@@ -2,10 +2,10 @@ use Rattle.std.proofs.Common.{◌≡◌, ◌≤◌, ◌++◌, ◌∙◌, ap, sub
 use Rattle.std.specs.Int.{div_ceil}
 use Rattle.std.specs.List.{AllByRecursion}
 use Rattle.rc_base.specs.declared.command.Command.{Command}
-use Rattle.rc_base.specs.Spelling.{packet, packet_count, encoded}
+use Rattle.rc_base.specs.Formats.Spelling.{packet, packet_count, encoded}
 use Rattle.cmd_pack.specs.Texels.{HasType}
-use Rattle.cmd_pack.proofs.Typed.{are_commands}
-use Rattle.cmd_pack.proofs.Chunks.{next_packet, next_rest, next_typed, all_typed, is_encoded, encoded_spells}
+use Rattle.cmd_pack.proofs.CommandsByType.{are_commands}
+use Rattle.cmd_pack.proofs.EncodedSpells.{next_packet, next_rest, next_typed, all_typed, is_encoded, encoded_spells}
 use Rattle.cmd_pack.proofs.writing.encode.Goals as goal
 
 pub loop-preserved : goal.loop-preserved

@@ -1,7 +1,7 @@
 use Rattle.std.proofs.Common.{◌≡◌, ◌*◌, take, drop}
 use Rattle.std.specs.List.{flat_map, range_with_len, AllByRecursion}
 use Rattle.cmd_pack.specs.Texels.{HasType}
-use Rattle.cmd_pack.proofs.Chunks.{packet_of}
+use Rattle.cmd_pack.proofs.EncodedSpells.{packet_of}
 use Rattle.cmd_pack.proofs.writing.encode.Given as goal
 
 abbrev pub invariant-loop : goal.invariant-loop

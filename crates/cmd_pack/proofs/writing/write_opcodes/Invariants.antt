@@ -1,5 +1,5 @@
 use Rattle.std.proofs.Common.{◌≡◌, ◌++◌, take, map}
-use Rattle.rc_base.specs.Spelling.{opcode_byte}
+use Rattle.rc_base.specs.Formats.Spelling.{opcode_byte}
 use Rattle.cmd_pack.proofs.writing.write_opcodes.Given as goal
 
 abbrev pub invariant-loop-command : goal.invariant-loop-command

@@ -1,8 +1,8 @@
 use Rattle.std.proofs.Common.{◌≡◌, ◌++◌, subst}
 use Rattle.rc_base.specs.declared.command.Command.{Command}
-use Rattle.rc_base.specs.Spelling.{payload}
+use Rattle.rc_base.specs.Formats.Spelling.{payload}
 use Rattle.cmd_pack.specs.Texels.{HasType}
-use Rattle.cmd_pack.proofs.Chunks.{all_grown, all_whole, grown, grown_whole}
+use Rattle.cmd_pack.proofs.EncodedSpells.{all_grown, all_whole, grown, grown_whole}
 use Rattle.cmd_pack.proofs.writing.write_payloads.Goals as goal
 
 pub loop-command-preserved : goal.loop-command-preserved

@@ -1,7 +1,7 @@
 use Rattle.std.proofs.Common.{◌≡◌, ◌++◌, take}
 use Rattle.std.specs.List.{flat_map, AllByRecursion}
 use Rattle.cmd_pack.specs.Texels.{HasType}
-use Rattle.rc_base.specs.Spelling.{payload}
+use Rattle.rc_base.specs.Formats.Spelling.{payload}
 use Rattle.cmd_pack.proofs.writing.write_payloads.Given as goal
 
 abbrev pub invariant-loop-command : goal.invariant-loop-command

@@ -1,5 +1,5 @@
 use Rattle.std.proofs.Common.{arith}
-use Rattle.command_table.proofs.InRange.{byte_in}
+use Rattle.command_table.proofs.NumbersInRange.{byte_in}
 use Rattle.command_table.proofs.parts.byte.Goals as goal
 
 pub returns-clause-in_range : goal.returns-clause-in_range

@@ -2,7 +2,7 @@ use Rattle.std.proofs.Common.{◌≡◌, ◌<◌, get_or, length, map, pos, sym,
 use Rattle.std.specs.Prelude.{FitsSigned}
 use Rattle.std.specs.Int.{w32}
 use Rattle.std.proofs.lemmas.List.{length-set, length-map, get_or-map}
-use Rattle.command_table.proofs.InRange.{put_more, bytes_in}
+use Rattle.command_table.proofs.NumbersInRange.{put_more, bytes_in}
 use Rattle.command_table.proofs.parts.put_bytes.Goals as goal
 
 pub loop-i-preserved : goal.loop-i-preserved

@@ -2,7 +2,7 @@ use Rattle.std.proofs.Common.{ℤ, ◌<◌, get_or, length, pos, refl, arith, �
 use Rattle.std.specs.Prelude.{FitsSigned}
 use Rattle.std.specs.Int.{w32}
 use Rattle.std.proofs.lemmas.List.{length-set}
-use Rattle.command_table.proofs.InRange.{put_more, words_more}
+use Rattle.command_table.proofs.NumbersInRange.{put_more, words_more}
 use Rattle.command_table.proofs.parts.put_words.Goals as goal
 
 pub loop-i-preserved : goal.loop-i-preserved

@@ -1,5 +1,5 @@
 use Rattle.std.proofs.Common.{◌≡◌, take, length, replicate}
-use Rattle.rc_base.specs.declared.text.NumberRange.TheVariants as range
+use Rattle.rc_base.specs.declared.command.NumberRange.TheVariants as range
 use Rattle.command_table.specs.Ranges.{AreIn}
 use Rattle.command_table.proofs.parts.put_words.Given as goal
 

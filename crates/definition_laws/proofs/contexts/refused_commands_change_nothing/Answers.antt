@@ -1,5 +1,5 @@
 use Rattle.std.proofs.Common.{refl}
-use Rattle.rc_base.specs.Issue.{issued, effect_of}
+use Rattle.rc_base.specs.Contexts.Issue.{issued, effect_of}
 use Rattle.definition_laws.proofs.contexts.refused_commands_change_nothing.Goals as goal
 
 pub returns : goal.returns

@@ -1,4 +1,4 @@
-use Rattle.definition_laws.proofs.Parts.{each_pixel}
+use Rattle.definition_laws.proofs.OneTile.{each_pixel}
 use Rattle.definition_laws.proofs.tiles.each_pixel_has_one_tile.Goals as goal
 
 pub returns : goal.returns

@@ -1,5 +1,5 @@
 use Rattle.std.proofs.Common.{◌≡◌, arith, to_z-of_z, to_z, of_z, pos, ◌+ℤ◌, FitsSigned, slice_index_or, rules}
-use Rattle.rc_base.specs.Numbers.{floor_quotient}
+use Rattle.rc_base.specs.Numbers.{fixed_one, floor_quotient}
 use mir.Syntax.{w128}
 use Rattle.fixed_math.proofs.Signed.{row_within}
 use Rattle.fixed_math.proofs.matrix.row.Goals as goal
@@ -18,5 +18,5 @@ returns-clause-small c = λ n h.
     let b = c.term-b.ensures.small n (rw (to_z-of_z g1) h.1) in
     let d = c.term-c.ensures.small n (rw (to_z-of_z g2) h.2) in
     let e = c.term-d.ensures.small n (rw (to_z-of_z g3) h.3) in
-    let q : to_z w128 (of_z w128 c.floor_div.result) ≡ floor_quotient (c.term-a.result +ℤ c.term-b.result +ℤ c.term-c.result +ℤ c.term-d.result) (pos 65536) = grind (arith, to_z-of_z) in
+    let q : to_z w128 (of_z w128 c.floor_div.result) ≡ floor_quotient (c.term-a.result +ℤ c.term-b.result +ℤ c.term-c.result +ℤ c.term-d.result) (pos fixed_one) = grind (arith, to_z-of_z) in
     rw q (row_within c.term-a.result c.term-b.result c.term-c.result c.term-d.result n a b d e)

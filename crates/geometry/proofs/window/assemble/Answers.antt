@@ -1,6 +1,6 @@
 use Rattle.std.proofs.Common.{◌≡◌, arith, to_z-of_z, true, false, sym, ◌∙◌, ap, subst, pos, w64, ℤ, FitsSigned, neg_ℤ, ◌<ℤ◌, ◌≤ℤ◌}
 use Rattle.std.proofs.lemmas.Int.{ints}
-use Rattle.rc_base.specs.Drawing.Cover.{area_of}
+use Rattle.rc_base.specs.Drawing.Cover.{triangle_area}
 use Rattle.rc_base.specs.Drawing.Kept.{three, is_culled}
 use Rattle.geometry.proofs.Facing.{not_shown_flat, not_shown_culled, shown, turned_round, left_as_is, area_turned}
 use Rattle.geometry.proofs.window.assemble.Goals as goal
@@ -25,9 +25,9 @@ pub returns-then-area-lt0 : goal.returns-then-area-lt0
 returns-then-area-lt0 c =
     let f : FitsSigned w64 c.signed_area-area.result = record { sfits = c.signed_area-area.type_inv } in
     let e = c.signed_area-area.ensures.value in
-    let low : area_of (three c.args.a c.args.b c.args.c) <ℤ pos 0 = subst (λ (z : ℤ). z <ℤ pos 0) e (omega (arith, ints)) in
-    let apart : area_of (three c.args.a c.args.b c.args.c) ≡ pos 0 → ⊥ = λ z. absurd (omega (arith, ints, low, z)) in
-    let k : is_culled c.args.state.now (area_of (three c.args.a c.args.b c.args.c)) ≡ false = subst (λ (z : ℤ). is_culled c.args.state.now z ≡ false) (to_z-of_z f ∙ e) (sym c.culled.ensures ∙ c.if-culled.false) in
+    let low : triangle_area (three c.args.a c.args.b c.args.c) <ℤ pos 0 = subst (λ (z : ℤ). z <ℤ pos 0) e (omega (arith, ints)) in
+    let apart : triangle_area (three c.args.a c.args.b c.args.c) ≡ pos 0 → ⊥ = λ z. absurd (omega (arith, ints, low, z)) in
+    let k : is_culled c.args.state.now (triangle_area (three c.args.a c.args.b c.args.c)) ≡ false = subst (λ (z : ℤ). is_culled c.args.state.now z ≡ false) (to_z-of_z f ∙ e) (sym c.culled.ensures ∙ c.if-culled.false) in
     (shown _ _ apart k, c.make.ensures ∙ sym (turned_round c.args.a c.args.b c.args.c low))
 
 pub returns-else-area-lt0 : goal.returns-else-area-lt0
@@ -35,10 +35,10 @@ returns-else-area-lt0 c =
     let f : FitsSigned w64 c.signed_area-area.result = record { sfits = c.signed_area-area.type_inv } in
     let e = c.signed_area-area.ensures.value in
     let nz = c.if-area-eq0.false in
-    let high : pos 0 <ℤ area_of (three c.args.a c.args.b c.args.c) = subst (λ (z : ℤ). pos 0 <ℤ z) e (omega (arith, ints)) in
-    let low : pos 0 ≤ℤ area_of (three c.args.a c.args.b c.args.c) = omega (arith, ints, high) in
-    let apart : area_of (three c.args.a c.args.b c.args.c) ≡ pos 0 → ⊥ = λ z. absurd (omega (arith, ints, high, z)) in
-    let k : is_culled c.args.state.now (area_of (three c.args.a c.args.b c.args.c)) ≡ false = subst (λ (z : ℤ). is_culled c.args.state.now z ≡ false) (to_z-of_z f ∙ e) (sym c.culled.ensures ∙ c.if-culled.false) in
+    let high : pos 0 <ℤ triangle_area (three c.args.a c.args.b c.args.c) = subst (λ (z : ℤ). pos 0 <ℤ z) e (omega (arith, ints)) in
+    let low : pos 0 ≤ℤ triangle_area (three c.args.a c.args.b c.args.c) = omega (arith, ints, high) in
+    let apart : triangle_area (three c.args.a c.args.b c.args.c) ≡ pos 0 → ⊥ = λ z. absurd (omega (arith, ints, high, z)) in
+    let k : is_culled c.args.state.now (triangle_area (three c.args.a c.args.b c.args.c)) ≡ false = subst (λ (z : ℤ). is_culled c.args.state.now z ≡ false) (to_z-of_z f ∙ e) (sym c.culled.ensures ∙ c.if-culled.false) in
     (shown _ _ apart k, c.make-else-area-lt0.ensures ∙ sym (left_as_is c.args.a c.args.b c.args.c low))
 
 pub make-requires-clause-positive : goal.make-requires-clause-positive

@@ -1,4 +1,4 @@
-use Rattle.geometry.specs.Place.{vertex_at}
+use Rattle.rc_base.specs.Drawing.Kept.{vertex_at}
 use Rattle.geometry.proofs.Facing.{kept_whole}
 use Rattle.geometry.proofs.window.to_window.Goals as goal
 

@@ -1,5 +1,5 @@
 use Rattle.order_model.proofs.laws.scene_lists_are_well_formed.Goals as goal
-use Rattle.order_model.proofs.SceneLists.{lists_well_formed}
+use Rattle.order_model.proofs.SceneListsAreWellFormed.{scene_lists_well_formed}
 
 pub returns : goal.returns
-returns c = lists_well_formed
+returns c = scene_lists_well_formed

@@ -1,4 +1,4 @@
-use Rattle.std.proofs.Common.{arith, subst, sym, take, drop}
+use Rattle.std.proofs.Common.{◌∙◌, arith, subst, sym, take, drop}
 use Rattle.std.proofs.Math.Seq.{take-add}
 use Rattle.std.proofs.lemmas.List.{take_rest}
 use Rattle.std.specs.Io.KnownBytes.{Appends}
@@ -15,5 +15,5 @@ loop-done-preserved g c =
     record {
       given = subst (Appends before after) (sym (take-add c.loop-done.done c.in-Ok.count bytes)) both;
       within = omega (arith, c.in-Ok.ensures.bound);
-      later = omega (arith, c.in-Ok.ensures.cause.later);
+      same = c.in-Ok.ensures.cause.passed ∙ c.loop-done.invariant.same;
     }

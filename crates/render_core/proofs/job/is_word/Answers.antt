@@ -1,5 +1,5 @@
 use Rattle.std.proofs.Common.{arith}
-use Rattle.render_core.proofs.Words.{one_word}
+use Rattle.render_core.proofs.OneWord.{one_word}
 use Rattle.render_core.proofs.job.is_word.Goals as goal
 
 pub returns-in-len1 : goal.returns-in-len1

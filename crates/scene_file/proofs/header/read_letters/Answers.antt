@@ -1,5 +1,5 @@
 use Rattle.std.proofs.Common.{refl}
-use Rattle.scene_file.proofs.Letters.{letters_cut, letters_differ}
+use Rattle.scene_file.proofs.LettersAtFront.{letters_cut, letters_differ}
 use Rattle.scene_file.proofs.header.read_letters.Goals as goal
 
 pub returns-in-empty-clause-fails : goal.returns-in-empty-clause-fails

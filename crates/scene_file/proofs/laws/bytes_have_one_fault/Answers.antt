@@ -1,5 +1,5 @@
-use Rattle.cmd_pack.proofs.Only.{one_fault}
-use Rattle.scene_file.proofs.Once.{fault_once}
+use Rattle.cmd_pack.proofs.OneSpelling.{one_fault}
+use Rattle.scene_file.proofs.OneFault.{fault_once}
 use Rattle.scene_file.proofs.laws.bytes_have_one_fault.Goals as goal
 
 pub returns : goal.returns

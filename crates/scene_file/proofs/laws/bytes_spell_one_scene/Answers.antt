@@ -1,4 +1,4 @@
-use Rattle.scene_file.proofs.Only.{same_scene}
+use Rattle.scene_file.proofs.OneScene.{same_scene}
 use Rattle.scene_file.proofs.laws.bytes_spell_one_scene.Goals as goal
 
 pub returns : goal.returns

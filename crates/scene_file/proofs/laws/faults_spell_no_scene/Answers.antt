@@ -1,4 +1,4 @@
-use Rattle.scene_file.proofs.Only.{scene_none}
+use Rattle.scene_file.proofs.OneScene.{scene_none}
 use Rattle.scene_file.proofs.laws.faults_spell_no_scene.Goals as goal
 
 pub returns : goal.returns

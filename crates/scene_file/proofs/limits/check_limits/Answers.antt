@@ -1,4 +1,4 @@
-use Rattle.scene_file.proofs.Parts.{judged_limit}
+use Rattle.scene_file.proofs.LimitsByParts.{judged_limit}
 use Rattle.scene_file.proofs.limits.check_limits.Goals as goal
 
 pub returns : goal.returns

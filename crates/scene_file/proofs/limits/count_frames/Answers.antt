@@ -1,4 +1,4 @@
-use Rattle.scene_file.proofs.Sums.{frames_start}
+use Rattle.scene_file.proofs.LeastSwaps.{frames_start}
 use Rattle.scene_file.proofs.limits.count_frames.Goals as goal
 
 pub loop-stream-init : goal.loop-stream-init

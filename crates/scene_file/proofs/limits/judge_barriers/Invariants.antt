@@ -1,5 +1,5 @@
 use Rattle.std.proofs.Common.{◌≡◌, drop, map}
-use Rattle.rc_base.specs.Limits.{first_outside, barrier_count}
+use Rattle.rc_base.specs.Formats.Limits.{first_outside, barrier_count}
 use Rattle.scene_file.proofs.limits.judge_barriers.Given as goal
 
 abbrev pub invariant-loop-count : goal.invariant-loop-count

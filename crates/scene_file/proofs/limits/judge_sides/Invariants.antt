@@ -1,6 +1,6 @@
 use Rattle.std.proofs.Common.{◌≡◌, drop, map}
 use Rattle.std.specs.List.{flat_map}
-use Rattle.rc_base.specs.Limits.{first_outside, side}
+use Rattle.rc_base.specs.Formats.Limits.{first_outside, side}
 use Rattle.scene_file.proofs.limits.judge_sides.Given as goal
 
 abbrev pub invariant-loop-size : goal.invariant-loop-size

@@ -1,5 +1,5 @@
 use Rattle.std.proofs.Common.{◌≡◌, ◌+◌, ◌*◌, ◌≤◌, drop}
-use Rattle.rc_base.specs.Limits.{commands_in}
+use Rattle.rc_base.specs.Formats.Limits.{commands_in}
 use Rattle.scene_file.proofs.limits.sum_commands.Given as goal
 
 abbrev pub invariant-loop-stream : goal.invariant-loop-stream

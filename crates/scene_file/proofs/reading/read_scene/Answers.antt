@@ -1,6 +1,6 @@
-use Rattle.cmd_pack.proofs.Only.{one_fault}
-use Rattle.scene_file.proofs.Whole.{only_scene, only_limit, only_malformed}
-use Rattle.scene_file.proofs.Pieces.{read_typed, if_ok_map}
+use Rattle.cmd_pack.proofs.OneSpelling.{one_fault}
+use Rattle.scene_file.proofs.AnswersForced.{only_scene, only_limit, only_malformed}
+use Rattle.scene_file.proofs.WrittenSpells.{read_typed, if_ok_map}
 use Rattle.scene_file.proofs.reading.read_scene.Goals as goal
 
 pub returns-clause-only : goal.returns-clause-only

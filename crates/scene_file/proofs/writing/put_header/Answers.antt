@@ -1,4 +1,4 @@
-use Rattle.scene_file.proofs.Pieces.{on_ok_map, header_put}
+use Rattle.scene_file.proofs.WrittenSpells.{on_ok_map, header_put}
 use Rattle.scene_file.proofs.writing.put_header.Goals as goal
 
 pub returns-clause-added : goal.returns-clause-added

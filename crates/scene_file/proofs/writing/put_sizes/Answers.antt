@@ -1,6 +1,6 @@
 use Rattle.std.proofs.Common.{arith, [], ◌∷◌}
-use Rattle.rc_base.specs.Spelling.{IsSize}
-use Rattle.scene_file.proofs.Pieces.{all_from}
+use Rattle.rc_base.specs.Formats.Spelling.{IsSize}
+use Rattle.scene_file.proofs.WrittenSpells.{all_from}
 use Rattle.scene_file.proofs.writing.put_sizes.Goals as goal
 
 pub returns-clause-fits : goal.returns-clause-fits

@@ -1,6 +1,6 @@
 use Rattle.std.proofs.Common.{◌≡◌, ◌++◌, ◌<◌, ℕ, [], ◌∷◌, drop, get_or}
 use Rattle.std.specs.List.{flat_map}
-use Rattle.rc_base.specs.Spelling.{size, IsSize}
+use Rattle.rc_base.specs.Formats.Spelling.{size, IsSize}
 use Rattle.scene_file.proofs.writing.put_sizes.Given as goal
 
 abbrev pub invariant-loop-size : goal.invariant-loop-size

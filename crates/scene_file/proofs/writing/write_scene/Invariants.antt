@@ -1,6 +1,6 @@
 use Rattle.std.proofs.Common.{◌≡◌, ◌++◌, ◌<◌, ℕ, [], drop, map, get_or}
 use Rattle.std.specs.List.{flat_map}
-use Rattle.rc_base.specs.Spelling.{stream_text, encoded}
+use Rattle.rc_base.specs.Formats.Spelling.{stream_text, encoded}
 use Rattle.scene_file.specs.Written.{written, AreWhole, IsShort, IsEncoded}
 use Rattle.scene_file.proofs.writing.write_scene.Given as goal
 

@@ -1,5 +1,5 @@
-use Rattle.rc_base.specs.Text.Read.{words_of}
-use Rattle.scene_text.proofs.Statements.{texels_told}
+use Rattle.rc_base.specs.Formats.Text.Read.{words_of}
+use Rattle.scene_text.proofs.WhatWordsSay.{texels_told}
 use Rattle.scene_text.proofs.arguments.read_statement.Goals as goal
 
 pub returns-in-Err : goal.returns-in-Err

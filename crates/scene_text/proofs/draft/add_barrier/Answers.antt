@@ -1,4 +1,4 @@
-use Rattle.scene_text.proofs.Drafts.{adds_barrier}
+use Rattle.scene_text.proofs.DraftsGrow.{adds_barrier}
 use Rattle.scene_text.proofs.draft.add_barrier.Goals as goal
 
 pub returns : goal.returns

@@ -1,4 +1,4 @@
-use Rattle.scene_text.proofs.Drafts.{adds_command}
+use Rattle.scene_text.proofs.DraftsGrow.{adds_command}
 use Rattle.scene_text.proofs.draft.add_command.Goals as goal
 
 pub returns : goal.returns

@@ -1,4 +1,4 @@
-use Rattle.scene_text.proofs.Drafts.{adds_semaphore}
+use Rattle.scene_text.proofs.DraftsGrow.{adds_semaphore}
 use Rattle.scene_text.proofs.draft.add_semaphore.Goals as goal
 
 pub returns : goal.returns

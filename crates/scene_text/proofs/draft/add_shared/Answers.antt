@@ -1,4 +1,4 @@
-use Rattle.scene_text.proofs.Drafts.{adds_shared}
+use Rattle.scene_text.proofs.DraftsGrow.{adds_shared}
 use Rattle.scene_text.proofs.draft.add_shared.Goals as goal
 
 pub returns : goal.returns

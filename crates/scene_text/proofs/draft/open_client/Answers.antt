@@ -1,5 +1,5 @@
 use Rattle.std.proofs.Common.{◌≡◌, arith}
-use Rattle.scene_text.proofs.Drafts.{adds_first_client, adds_client}
+use Rattle.scene_text.proofs.DraftsGrow.{adds_first_client, adds_client}
 use Rattle.scene_text.proofs.draft.open_client.Goals as goal
 
 pub returns-then-draft-lt5 : goal.returns-then-draft-lt5

@@ -1,4 +1,4 @@
-use Rattle.scene_text.proofs.Drafts.{adds_window}
+use Rattle.scene_text.proofs.DraftsGrow.{adds_window}
 use Rattle.scene_text.proofs.draft.set_window.Goals as goal
 
 pub returns : goal.returns

@@ -1,6 +1,6 @@
 use Rattle.std.proofs.Common.{◌≤◌, length, ◌∙◌, arith}
 use Rattle.std.proofs.lemmas.List.{take_rest}
-use Rattle.scene_text.proofs.Numbers.{front_pair}
+use Rattle.scene_text.proofs.NumbersInTurn.{front_pair}
 use Rattle.scene_text.proofs.hex.hex_bytes.Goals as goal
 
 pub loop-digits-preserved : goal.loop-digits-preserved

@@ -1,4 +1,4 @@
-use Rattle.scene_text.proofs.Telling.{one_scene}
+use Rattle.scene_text.proofs.OneScene.{one_scene}
 use Rattle.scene_text.proofs.laws.texts_spell_one_scene.Goals as goal
 
 pub returns : goal.returns

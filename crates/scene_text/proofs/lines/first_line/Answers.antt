@@ -1,6 +1,6 @@
 use Rattle.std.proofs.Common.{sym, ◌∙◌}
 use Rattle.std.proofs.lemmas.List.{take_rest}
-use Rattle.scene_text.proofs.Cuts.{line_before}
+use Rattle.scene_text.proofs.CutLinesAndWords.{line_before}
 use Rattle.scene_text.proofs.lines.first_line.Goals as goal
 
 pub returns-in-Some-clause-first : goal.returns-in-Some-clause-first

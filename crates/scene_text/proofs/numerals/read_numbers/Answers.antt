@@ -3,9 +3,9 @@ use Rattle.std.proofs.Math.ListN.{set}
 use Rattle.std.proofs.Math.Seq.{take-suc-set}
 use Rattle.std.proofs.Math.Facts.{to_z-of_z}
 use Rattle.std.proofs.lemmas.List.{drop-drop}
-use Rattle.rc_base.specs.Text.Read.{words_of, numbers_of}
-use Rattle.scene_text.specs.Reading.{with_front}
-use Rattle.scene_text.proofs.Numbers.{number_step, number_stop}
+use Rattle.rc_base.specs.Formats.Text.Read.{words_of, numbers_of}
+use Rattle.scene_text.specs.Reading.{behind_front}
+use Rattle.scene_text.proofs.NumbersInTurn.{number_step, number_stop}
 use Rattle.scene_text.proofs.numerals.read_numbers.Goals as goal
 
 pub returns-in-None : goal.returns-in-None
@@ -27,7 +27,7 @@ loop-i-preserved c =
     rw (add-one, same) (take-suc-set c.loop-i.numbers i z room) in
     record {
       words = e.1 ∙ ap (drop 1) c.loop-i.invariant.words ∙ drop-drop 1 i (words_of c.args.words.now);
-      read = (λ j. with_front (front j) (numbers_of (drop (i + 1) rs) (take (length rs - (i + 1)) (e.1 j))))
+      read = (λ j. behind_front (front j) (numbers_of (drop (i + 1) rs) (take (length rs - (i + 1)) (e.1 j))))
           ∙ number_step rs i _ (words_of c.loop-i.rest.now) (take i c.loop-i.numbers) z inside e.0
           ∙ c.loop-i.invariant.read;
     }

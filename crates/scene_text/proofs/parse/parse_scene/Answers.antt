@@ -1,6 +1,6 @@
-use Rattle.scene_file.proofs.Pieces.{if_ok_map}
-use Rattle.scene_text.proofs.Pictures.{whole_pictures}
-use Rattle.scene_text.proofs.Whole.{only, told, limited}
+use Rattle.scene_file.proofs.WrittenSpells.{if_ok_map}
+use Rattle.scene_text.proofs.WholePictures.{whole_pictures}
+use Rattle.scene_text.proofs.AnswersForced.{only, told, limited}
 use Rattle.scene_text.proofs.parse.parse_scene.Goals as goal
 
 pub returns-clause-whole : goal.returns-clause-whole

@@ -1,6 +1,6 @@
 use Rattle.std.proofs.Common.{sym, ◌∙◌}
-use Rattle.rc_base.specs.Text.Read.{words_of}
-use Rattle.scene_text.proofs.Steps.{named_ok}
+use Rattle.rc_base.specs.Formats.Text.Read.{words_of}
+use Rattle.scene_text.proofs.LinesInTurn.{named_ok}
 use Rattle.scene_text.proofs.parse.read_named.Goals as goal
 
 pub returns-in-Ok : goal.returns-in-Ok

@@ -1,4 +1,4 @@
-use Rattle.scene_text.proofs.Reprinted.{spells_printed}
+use Rattle.scene_text.proofs.PrintedSpells.{spells_printed}
 use Rattle.scene_text.proofs.print.print_scene.Goals as goal
 
 pub returns-clause-spells : goal.returns-clause-spells

@@ -1,6 +1,6 @@
 use Rattle.std.proofs.Common.{◌<◌, length, sym, ◌∙◌, arith}
 use Rattle.std.proofs.lemmas.List.{take_rest}
-use Rattle.scene_text.proofs.Cuts.{word_before}
+use Rattle.scene_text.proofs.CutLinesAndWords.{word_before}
 use Rattle.scene_text.proofs.words.next_word.Goals as goal
 
 pub returns-in-Some-clause-words : goal.returns-in-Some-clause-words

@@ -1,7 +1,7 @@
 use Rattle.std.proofs.Common.{◌∙◌, sym, ap, arith, drop}
 use Rattle.std.proofs.lemmas.List.{drop-drop}
-use Rattle.rc_base.specs.Text.Read.{words_of}
-use Rattle.scene_text.proofs.Search.{drop_end}
+use Rattle.rc_base.specs.Formats.Text.Read.{words_of}
+use Rattle.command_table.proofs.Search.{drop_end}
 use Rattle.scene_text.proofs.words.skip_words.Goals as goal
 
 pub returns-in-None : goal.returns-in-None

@@ -1,7 +1,7 @@
 use Rattle.std.proofs.Common.{[], ◌∷◌, refl, drop, arith, rules}
-use Rattle.rc_base.specs.Spelling.{IsPacket, SpellsStream, IsDecl}
+use Rattle.rc_base.specs.Formats.Spelling.{IsPacket, SpellsStream, IsDecl}
 use Rattle.rc_base.specs.declared.command.Command.TheVariants as cmd
-use Rattle.rc_base.specs.Context.{rgba}
+use Rattle.rc_base.specs.Colors.{rgba}
 use Rattle.worked_examples.specs.Scenes.{red_clear, red_clear_bytes}
 use Rattle.worked_examples.proofs.spelling.twenty_six_bytes_spell_the_red_clear.Goals as goal
 

@@ -1,0 +1,32 @@
+use Rattle.std.proofs.Common.{◌≡◌, Ok}
+use Rattle.std.proofs.lemmas.Result.{err_from_is_err_and}
+use Rattle.cmd_pack.specs.Packets.{read_opcodes}
+use Rattle.cmd_pack.proofs.PacketsKept.{count_failed, opcodes_failed, payloads_failed, packet_read, counted}
+use Rattle.cmd_pack.proofs.reading.add_packet.Goals as goal
+
+pub returns-in_err-count : goal.returns-in_err-count
+returns-in_err-count c =
+    let p = err_from_is_err_and c.from_residual.result c.from_residual.ensures.1 in
+    rw (p.1, p.2) (count_failed c.args.bytes.now c.in_err-count.field-0.0 c.in_err-count.ensures)
+
+pub returns-in_err-opcodes : goal.returns-in_err-opcodes
+returns-in_err-opcodes c =
+    let p = err_from_is_err_and c.from_residual-in_err-opcodes.result c.from_residual-in_err-opcodes.ensures.1 in
+    rw (p.1, p.2) (opcodes_failed c.args.bytes.now c.in_ok-count.count c.in_ok-count.rest.now c.in_err-opcodes.field-0.0 c.in_ok-count.ensures c.in_err-opcodes.ensures)
+
+pub returns-in_err-rest : goal.returns-in_err-rest
+returns-in_err-rest c =
+    let p = err_from_is_err_and c.from_residual-in_err-rest.result c.from_residual-in_err-rest.ensures.1 in
+    rw (p.1, p.2)
+    (payloads_failed c.args.bytes.now c.in_ok-count.count c.in_ok-count.rest.now c.as_slice.result.now c.in_ok-opcodes.rest.now c.in_err-rest.field-0.0 c.in_ok-count.ensures
+    (rw c.as_slice.ensures.value c.in_ok-opcodes.ensures) c.in_err-rest.ensures)
+
+pub returns : goal.returns
+returns c =
+    let h = c.in_ok-rest.ensures in
+    let opcodes : read_opcodes c.in_ok-count.count c.in_ok-count.rest.now ≡ Ok (c.as_slice.result.now, c.in_ok-opcodes.rest.now) = rw c.as_slice.ensures.value c.in_ok-opcodes.ensures in (
+      h.0,
+      packet_read c.args.bytes.now c.in_ok-count.count c.in_ok-count.rest.now c.as_slice.result.now c.in_ok-opcodes.rest.now h.0 c.in_ok-rest.rest.now c.in_ok-count.ensures opcodes h.1,
+      counted c.in_ok-count.count c.in_ok-count.rest.now c.as_slice.result.now c.in_ok-opcodes.rest.now h.0 c.in_ok-rest.rest.now opcodes h.1,
+      h.2,
+    )

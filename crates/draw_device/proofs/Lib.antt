@@ -1,0 +1,5 @@
+mod Clipping
+mod Runs
+mod SpansToPixels
+mod BlockPixels
+pub mod Places

@@ -1,0 +1,21 @@
+use Rattle.std.proofs.Common.{◌≡◌, ℕ, ◌+◌, ◌*◌, ◌<◌, length}
+use Rattle.std.specs.List.{All}
+use Rattle.geometry.specs.Items.{AreBelow, rest_from}
+use Rattle.draw_device.specs.Clips.{IsPartWhere, is_let_through}
+use Rattle.draw_device.specs.Pixels.{pixel_at}
+use Rattle.draw_device.specs.Shapes.{column_at, row_at, grid_rect, triangles_step, triangles_in}
+use Rattle.draw_device.proofs.grid.Grid.draw.Given as goal
+
+abbrev pub invariant-draws : goal.invariant-draws
+invariant-draws l =
+    record {
+      extent : l.self.extent ≡ l.fn.self.extent;
+      vertices : l.vertices ≡ l.fn.block.vertices;
+      part : IsPartWhere (grid_rect l.fn.self.extent) l.part (is_let_through l.state);
+      below : All (AreBelow (length l.fn.block.vertices)) (rest_from l.corners-iterator.block.now l.corners-iterator.given);
+      rest : (i j : ℕ) → i < l.fn.self.extent.width → j < l.fn.self.extent.height
+          → triangles_step l.state l.texture l.fn.block.vertices (rest_from l.corners-iterator.block.now l.corners-iterator.given)
+          (column_at l.fn.self.extent i) (row_at l.fn.self.extent j) (pixel_at l.self.pixels.items (j * l.fn.self.extent.width + i))
+          ≡ triangles_step l.state l.texture l.fn.block.vertices (triangles_in l.fn.block)
+          (column_at l.fn.self.extent i) (row_at l.fn.self.extent j) (pixel_at l.fn.self.pixels.items (j * l.fn.self.extent.width + i));
+    }

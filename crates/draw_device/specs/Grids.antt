@@ -1,0 +1,7 @@
+-- What contracts see of a device that is a grid.
+use Rattle.draw_device.specs.Devices.{DeviceView}
+use Rattle.draw_device.specs.Shapes.{grid_rect}
+use Rattle.draw_device.specs.declared.grid.Grid.{Grid}
+
+abbrev pub view_of : Grid → DeviceView
+view_of g = record { rect = grid_rect g.extent; pixels = g.pixels.items }

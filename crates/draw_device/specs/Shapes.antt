@@ -1,0 +1,90 @@
+-- What runs of pixels, spans, triangles and blocks leave of a grid of pixels: its lower left corner is the pixel (left, bottom) of the window.
+use Rattle.std.specs.Prelude.{◌≡◌, ℕ, ◌+◌, ◌*◌, ◌<◌, ◌≤◌, fold, length, List, Bool, true, ◌&&◌, if◌then◌else◌, Option, ℤ, pos, ◌≤ℤ◌, ◌<ℤ◌}
+use Rattle.std.specs.Ordering.{int_eq}
+use Rattle.rc_base.specs.Pictures.{Picture}
+use Rattle.rc_base.specs.Drawing.Cover.{is_inside, covers}
+use Rattle.rc_base.specs.Drawing.Fragment.{fragment_of}
+use Rattle.rc_base.specs.Drawing.Triangles.{triangles_of}
+use Rattle.rc_base.specs.Drawing.PixelStep.{fragment_step, triangle_step, cleared}
+use Rattle.draw_device.specs.declared.extent.Extent.{Extent}
+use Rattle.rc_base.specs.declared.state.Block.{Block}
+use Rattle.rc_base.specs.declared.state.State.{State}
+use Rattle.rc_base.specs.declared.state.Vertex.{Vertex}
+use Rattle.rc_base.specs.declared.window.Pixel.{Pixel}
+use Rattle.rc_base.specs.declared.window.Rect.{Rect}
+use Rattle.rc_base.specs.declared.window.Span.{Span}
+use Rattle.rc_base.specs.declared.window.WindowVertex.{WindowVertex}
+use Rattle.raster.specs.Spans.{in_span}
+use Rattle.draw_device.specs.Pixels.{pixel_at}
+
+-- the column and the row of the window of a grid's column and row
+abbrev pub column_at : Extent → ℕ → ℤ
+column_at g i = pos (g.left + i)
+
+abbrev pub row_at : Extent → ℕ → ℤ
+row_at g j = pos (g.bottom + j)
+
+abbrev pub grid_rect : Extent → Rect
+grid_rect g = record { x0 = pos g.left; y0 = pos g.bottom; x1 = pos (g.left + g.width); y1 = pos (g.bottom + g.height) }
+
+-- a pixel after a triangle that is kept
+unfoldable pub covered_step : State → Option Picture → List WindowVertex → ℤ → ℤ → Pixel → Pixel
+covered_step s picture v x y old = if covers s v x y then fragment_step s picture (fragment_of v x y) old else old
+
+-- a pixel that the triangle covers, after its fragment
+abbrev pub fragment_pixel : State → Option Picture → List WindowVertex → ℤ → ℤ → Pixel → Pixel
+fragment_pixel s picture v x y old = fragment_step s picture (fragment_of v x y) old
+
+-- a pixel that a Clear reaches
+abbrev pub cleared_pixel : State → ℕ → ℤ → ℤ → Pixel → Pixel
+cleared_pixel s mask x y old = cleared s mask old
+
+-- The columns from `from` to below `to` of a row took a step. The row begins at the index `start`, and its first pixel is (left, row) of the
+-- window.
+pub record IsRunStepped (step : ℤ → ℤ → Pixel → Pixel) (left row start from to : ℕ) (old new : List Pixel) : Type 0 where
+  pub size : length new ≡ length old
+  pub run : (k : ℕ) → from ≤ k → k < to → pixel_at new (start + k) ≡ step (pos (left + k)) (pos row) (pixel_at old (start + k))
+  pub before : (k : ℕ) → k < start + from → pixel_at new k ≡ pixel_at old k
+  pub after : (k : ℕ) → start + to ≤ k → pixel_at new k ≡ pixel_at old k
+
+-- the span has the pixel (x, y)
+abbrev pub span_has : Span → ℤ → ℤ → Bool
+span_has s x y = int_eq y s.y && in_span s x
+
+-- the span lies in the grid
+pub record IsSpanIn (g : Extent) (s : Span) : Type 0 where
+  pub low : row_at g 0 ≤ℤ s.y
+  pub high : s.y <ℤ row_at g g.height
+  pub left : column_at g 0 ≤ℤ s.x0
+  pub some : s.x0 <ℤ s.x1
+  pub right : s.x1 ≤ℤ column_at g g.width
+
+-- the triangle covers the span
+abbrev pub IsCovered : List WindowVertex → Span → Type 0
+IsCovered v s = (x : ℤ) → s.x0 ≤ℤ x → x <ℤ s.x1 → is_inside v x s.y ≡ true
+
+-- each pixel of the grid took a step
+pub record IsStepped (step : ℤ → ℤ → Pixel → Pixel) (g : Extent) (old new : List Pixel) : Type 0 where
+  pub each : (i j : ℕ) → i < g.width → j < g.height → pixel_at new (j * g.width + i) ≡ step (column_at g i) (row_at g j) (pixel_at old (j * g.width + i))
+
+-- the pixels of one span take a step, and no others
+abbrev pub span_step : (ℤ → ℤ → Pixel → Pixel) → Span → ℤ → ℤ → Pixel → Pixel
+span_step step span x y old = if span_has span x y then step x y old else old
+
+-- the rows of the window below y took a step, and the others are as before
+pub record IsSteppedBelow (step : ℤ → ℤ → Pixel → Pixel) (g : Extent) (old now : List Pixel) (y : ℤ) : Type 0 where
+  pub done : (i j : ℕ) → i < g.width → j < g.height → row_at g j <ℤ y
+      → pixel_at now (j * g.width + i) ≡ step (column_at g i) (row_at g j) (pixel_at old (j * g.width + i))
+  pub rest : (i j : ℕ) → i < g.width → j < g.height → y ≤ℤ row_at g j → pixel_at now (j * g.width + i) ≡ pixel_at old (j * g.width + i)
+
+-- a pixel after three vertices of a list, by their indices
+abbrev pub corners_step : State → Option Picture → List Vertex → List ℕ → ℤ → ℤ → Pixel → Pixel
+corners_step s picture vs t x y old = triangle_step s picture vs x y old t
+
+-- a pixel after triangles of a list's vertices, one after the other
+abbrev pub triangles_step : State → Option Picture → List Vertex → List (List ℕ) → ℤ → ℤ → Pixel → Pixel
+triangles_step s picture vs ts x y old = fold (triangle_step s picture vs x y) old ts
+
+-- the triangles of a block
+abbrev pub triangles_in : Block → List (List ℕ)
+triangles_in block = triangles_of block.mode (length block.vertices)

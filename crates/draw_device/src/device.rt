@@ -1,0 +1,144 @@
+//! The device.
+ghost use Rattle.std.specs.Prelude.{◌≡◌, ℕ, ℤ, pos, ◌+ℤ◌, ◌-ℤ◌, ◌≤ℤ◌, length, IfOk, true, None, Option};
+ghost use Rattle.rc_base.specs.Pictures.{Picture};
+ghost use Rattle.rc_base.specs.Cluster.Tiles.{is_in_rect};
+ghost use Rattle.rc_base.specs.Drawing.PixelStep.{effect_step};
+ghost use Rattle.rc_base.specs.Drawing.Serial.{blank_pixel};
+ghost use Rattle.rc_base.specs.declared.state.Effect.TheVariants as eff;
+ghost use Rattle.textures.specs.Images.{texture_image};
+ghost use Rattle.draw_device.specs.Conditions.{IsDrawable, IsClearable, sampled_of, shared_of};
+ghost use Rattle.draw_device.specs.Devices.{IsDeviceRect, EachTakes, rect_size, pixel_of};
+
+use crate::extent::Extent;
+use crate::grid::Grid;
+use rc_base::cluster::TilePart;
+use rc_base::out_of_memory::OutOfMemory;
+use rc_base::state::{Block, State};
+use rc_base::window::{Pixel, Pixels, Rect};
+use std::alloc::Global;
+use std::marker::Model;
+use textures::{PrivateSet, SharedSet, Texture};
+
+/// A colour and a depth for each pixel of a rectangle of the window.
+#[derive(Drop)]
+pub struct Device {
+    grid: Grid,
+}
+
+impl Model for Device {
+    ghost use Rattle.draw_device.specs.Devices.{DeviceView};
+    ghost use Rattle.draw_device.specs.Grids.{view_of};
+
+    ghost Value = { DeviceView };
+
+    ghost view = { λ a. view_of a.grid };
+}
+
+// The texture that a draw samples, or `none`, which has no image.
+fn sampled_texture<'a>(
+    state: &State,
+    privates: &'a PrivateSet,
+    shareds: &'a SharedSet,
+    none: &'a Texture,
+) -> &'a Texture
+    requires drawable { IsDrawable state.now privates.now shareds.now }
+    requires none { none.now ≡ None }
+    ensures { result.now ≡ sampled_of state.now privates.now shareds.now }
+{
+    if !state.texture_on {
+        return none;
+    }
+    let [kind, name] = state.binding;
+    if kind == 1 {
+        return shareds.get(name);
+    }
+    match privates.find(name) {
+        Some(texture) => texture,
+        None => none,
+    }
+}
+
+// The columns or rows from one number to another.
+fn side(low: i32, high: i32) -> u16
+    requires order { low ≤ℤ high }
+    requires most { (high -ℤ low) ≤ℤ pos 65535 }
+    ensures { high ≡ low +ℤ pos result }
+{
+    (high - low) as u16
+}
+
+impl Device {
+    /// The pixels of a rectangle: black and transparent, and as far as can be. The rectangle lies from 0 to 65535 in x and y.
+    pub fn new(alloc: Global, rect: Rect) -> Result<Device, OutOfMemory>
+        requires { IsDeviceRect rect }
+        ensures rect { IfOk result (λ d. d.rect ≡ rect) }
+        ensures blank { IfOk result (λ d. (x y : ℤ) → is_in_rect rect x y ≡ true → pixel_of d x y ≡ blank_pixel) }
+    {
+        let extent = Extent {
+            left: side(0, rect.x0),
+            bottom: side(0, rect.y0),
+            width: side(rect.x0, rect.x1),
+            height: side(rect.y0, rect.y1),
+        };
+        Ok(Device {
+            grid: Grid::new(alloc, extent)?,
+        })
+    }
+
+    /// The device's rectangle.
+    pub fn rect(&self) -> Rect
+        ensures { result ≡ self.now.rect }
+    {
+        self.grid.rect()
+    }
+
+    /// Draws the triangles of a block, one after the other: each pixel of the rectangle takes the step of the block.
+    pub fn draw(&mut self, state: &State, block: &Block, privates: &PrivateSet, shareds: &SharedSet)
+        requires { IsDrawable state.now privates.now shareds.now }
+        ensures rect { self.new.rect ≡ self.old.rect }
+        ensures drawn { EachTakes (effect_step state.now (texture_image privates.now) (shared_of shareds.now) (eff.Block block.now)) self.old self.new }
+    {
+        let none = Texture::empty();
+        let texture = sampled_texture(state, privates, shareds, &none);
+        self.grid.draw(state, texture, block);
+    }
+
+    /// Clears colour (bit 0 of the mask) and depth (bit 1) of each pixel of the rectangle that the scissor box lets through.
+    pub fn clear(&mut self, state: &State, mask: u8)
+        requires { IsClearable state.now }
+        ensures rect { self.new.rect ≡ self.old.rect }
+        ensures drawn { (privates : ℕ → Option Picture) (shareds : ℕ → Picture)
+            → EachTakes (effect_step state.now privates shareds (eff.Clear mask)) self.old self.new }
+    {
+        self.grid.clear(state, mask);
+    }
+
+    /// The pixel of the rectangle at a column and a row of the window.
+    #[tactic(auto, unfolding(crate::specs::Devices::pixel_of))]
+    pub fn pixel(&self, x: i32, y: i32) -> Pixel
+        requires { is_in_rect self.now.rect x y ≡ true }
+        ensures { result ≡ pixel_of self.now x y }
+    {
+        self.grid.pixel(x, y)
+    }
+
+    /// The pixels of the rectangle, row by row from the lowest, each row from the left.
+    pub fn pixels(&self) -> &[Pixel]
+        ensures value { result.now ≡ self.now.pixels }
+        ensures size { length result.now ≡ rect_size self.now.rect }
+    {
+        self.grid.pixels.as_slice()
+    }
+
+    /// A copy of the pixels, with these two numbers.
+    pub fn part(&self, alloc: Global, tile: u8, frame: u32) -> Result<TilePart, OutOfMemory>
+        ensures part { IfOk result (λ p. p ≡ record { tile = tile; frame = frame; pixels = self.now.pixels }) }
+        ensures size { IfOk result (λ p. length p.pixels ≡ rect_size self.now.rect) }
+    {
+        Ok(TilePart {
+            tile,
+            frame,
+            pixels: Pixels::from_slice(alloc, self.pixels())?,
+        })
+    }
+}

@@ -1,0 +1,214 @@
+//! A grid of pixels that stands in the window, and what spans, triangles and blocks make of it.
+ghost use Rattle.std.specs.Prelude.{◌≡◌, ℕ, ◌+◌, ◌*◌, ◌≤◌, length, replicate, pos, ◌≤ℤ◌, true, IfOk};
+ghost use Rattle.rc_base.specs.Cluster.Tiles.{is_in_rect};
+ghost use Rattle.rc_base.specs.Drawing.PixelStep.{clear_step};
+ghost use Rattle.rc_base.specs.Drawing.Serial.{blank_pixel};
+ghost use Rattle.geometry.specs.Items.{AreBelow};
+ghost use Rattle.textures.specs.Images.{HasTexelIfAny};
+ghost use Rattle.draw_device.specs.Clips.{IsPartWhere, is_let_through};
+ghost use Rattle.draw_device.specs.Shapes.{IsCovered, IsSpanIn, fragment_pixel, cleared_pixel, IsRunStepped, IsStepped, span_step, covered_step, corners_step, triangles_step, triangles_in, grid_rect};
+ghost use Rattle.draw_device.specs.Conditions.{IsClearable};
+ghost use Rattle.draw_device.specs.Devices.{pixel_index};
+ghost use Rattle.draw_device.specs.Pixels.{pixel_at};
+
+use crate::clip::{drawn_part, scissored};
+use crate::extent::Extent;
+use crate::shade::draw_run;
+use fragment_ops::clear_pixel;
+use geometry::{to_window, triangles};
+use raster::spans;
+use rc_base::command::Rgba;
+use rc_base::out_of_memory::OutOfMemory;
+use rc_base::state::{Block, State, Vertex};
+use rc_base::triangle::WindowTriangle;
+use rc_base::window::{Pixel, Rect, Span};
+use std::alloc::Global;
+use textures::Texture;
+
+/// Pixels, row by row from the lowest, each row from the left. `extent` says where they stand.
+#[derive(Drop)]
+pub struct Grid {
+    pub extent: Extent,
+    pub pixels: Vec<Pixel>,
+    pub ghost full: { length pixels.items ≡ extent.width * extent.height },
+    pub ghost right: { extent.left + extent.width ≤ 65535 },
+    pub ghost top: { extent.bottom + extent.height ≤ 65535 },
+}
+
+// How far a column or row lies from another.
+fn offset(a: i32, from: u16) -> u16
+    requires low { pos from ≤ℤ a }
+    requires high { a ≤ℤ pos 65535 }
+    ensures { a ≡ pos (from + result) }
+{
+    (a - i32::from(from)) as u16
+}
+
+// The index of a row's first pixel.
+fn row_start(width: u16, row: u16) -> usize
+    ensures { result ≡ row * width }
+{
+    row as usize * width as usize
+}
+
+// Clears the columns from `from` to below `to` of a row that begins at `start`.
+fn clear_run(pixels: &mut Vec<Pixel>, state: &State, mask: u8, start: usize, from: u16, to: u16)
+    requires clearable { IsClearable state.now }
+    requires order { from ≤ to }
+    requires room { start + to ≤ length pixels.old.items }
+    ensures { (left row : ℕ) → IsRunStepped (cleared_pixel state.now mask) left row start from to pixels.old.items pixels.new.items }
+{
+    for x in from..to {
+        let index = start + x as usize;
+        pixels[index] = clear_pixel(state, mask, pixels[index]);
+    }
+}
+
+impl Grid {
+    /// Blank pixels.
+    pub fn new(alloc: Global, extent: Extent) -> Result<Grid, OutOfMemory>
+        requires right { extent.left + extent.width ≤ 65535 }
+        requires top { extent.bottom + extent.height ≤ 65535 }
+        ensures extent { IfOk result (λ g. g.extent ≡ extent) }
+        ensures blank { IfOk result (λ g. g.pixels.items ≡ replicate (extent.width * extent.height) blank_pixel) }
+    {
+        let color = Rgba {
+            r: 0,
+            g: 0,
+            b: 0,
+            a: 0,
+        };
+        let mut pixels = Vec::new(alloc);
+        pixels.resize(
+            extent.width as usize * extent.height as usize,
+            Pixel {
+                color,
+                depth: 16_777_215,
+            },
+        )?;
+        Ok(Grid { extent, pixels })
+    }
+
+    /// The rectangle of the window that the grid has.
+    pub fn rect(&self) -> Rect
+        ensures { result ≡ grid_rect self.now.extent }
+    {
+        let left = i32::from(self.extent.left);
+        let bottom = i32::from(self.extent.bottom);
+        Rect {
+            x0: left,
+            y0: bottom,
+            x1: left + i32::from(self.extent.width),
+            y1: bottom + i32::from(self.extent.height),
+        }
+    }
+
+    // Draws the pixels of a span of a triangle.
+    fn draw_span(&mut self, state: &State, texture: &Texture, tri: &WindowTriangle, span: Span)
+        requires texel { HasTexelIfAny texture.now }
+        requires inside { IsSpanIn self.old.extent span }
+        requires covered { IsCovered tri.now.v span }
+        ensures extent { self.new.extent ≡ self.old.extent }
+        ensures drawn { IsStepped (span_step (fragment_pixel state.now texture.now tri.now.v) span) self.old.extent self.old.pixels.items self.new.pixels.items }
+    {
+        let _height = self.extent.height;
+        let row = offset(span.y, self.extent.bottom);
+        let from = offset(span.x0, self.extent.left);
+        let to = offset(span.x1, self.extent.left);
+        let start = row_start(self.extent.width, row);
+        let y = self.extent.bottom + row;
+        draw_run(
+            &mut self.pixels,
+            state,
+            texture,
+            tri,
+            self.extent.left,
+            y,
+            start,
+            from,
+            to,
+        );
+    }
+
+    // Draws a triangle in the part of the grid's rectangle that lets it through.
+    fn draw_triangle(&mut self, state: &State, texture: &Texture, part: Rect, tri: &WindowTriangle)
+        requires texel { HasTexelIfAny texture.now }
+        requires part { IsPartWhere (grid_rect self.old.extent) part (is_let_through state.now) }
+        ensures extent { self.new.extent ≡ self.old.extent }
+        ensures drawn { IsStepped (covered_step state.now texture.now tri.now.v) self.old.extent self.old.pixels.items self.new.pixels.items }
+    {
+        'rows: for span in spans(tri, part) {
+            self.draw_span(state, texture, tri, span);
+        }
+    }
+
+    // Draws the triangle of three vertices, where it is kept.
+    fn draw_corners(
+        &mut self,
+        state: &State,
+        texture: &Texture,
+        part: Rect,
+        vertices: &[Vertex],
+        corners: [usize; 3],
+    )
+        requires texel { HasTexelIfAny texture.now }
+        requires part { IsPartWhere (grid_rect self.old.extent) part (is_let_through state.now) }
+        requires corners { AreBelow (length vertices.now) corners }
+        ensures extent { self.new.extent ≡ self.old.extent }
+        ensures drawn { IsStepped (corners_step state.now texture.now vertices.now corners) self.old.extent self.old.pixels.items self.new.pixels.items }
+    {
+        let three = [
+            vertices[corners[0]],
+            vertices[corners[1]],
+            vertices[corners[2]],
+        ];
+        let Some(tri) = to_window(state, &three) else {
+            return;
+        };
+        self.draw_triangle(state, texture, part, &tri);
+    }
+
+    /// Draws the triangles of a block, one after the other, with the texture that the state samples.
+    pub fn draw(&mut self, state: &State, texture: &Texture, block: &Block)
+        requires { HasTexelIfAny texture.now }
+        ensures extent { self.new.extent ≡ self.old.extent }
+        ensures drawn { IsStepped (triangles_step state.now texture.now block.now.vertices (triangles_in block.now)) self.old.extent self.old.pixels.items self.new.pixels.items }
+    {
+        let part = drawn_part(state, self.rect());
+        let vertices = block.vertices.as_slice();
+        'draws: for corners in triangles(block) {
+            self.draw_corners(state, texture, part, vertices, corners);
+        }
+    }
+
+    /// Clears the pixels that the scissor box lets through.
+    pub fn clear(&mut self, state: &State, mask: u8)
+        requires { IsClearable state.now }
+        ensures extent { self.new.extent ≡ self.old.extent }
+        ensures drawn { IsStepped (clear_step state.now mask) self.old.extent self.old.pixels.items self.new.pixels.items }
+    {
+        let part = scissored(state, self.rect());
+        if part.x1 <= part.x0 || part.y1 <= part.y0 {
+            return;
+        }
+        let from = offset(part.x0, self.extent.left);
+        let to = offset(part.x1, self.extent.left);
+        let first = offset(part.y0, self.extent.bottom);
+        let last = offset(part.y1, self.extent.bottom);
+        for row in first..last {
+            let start = row_start(self.extent.width, row);
+            clear_run(&mut self.pixels, state, mask, start, from, to);
+        }
+    }
+
+    /// The pixel of a column and a row of the window.
+    pub fn pixel(&self, x: i32, y: i32) -> Pixel
+        requires { is_in_rect (grid_rect self.now.extent) x y ≡ true }
+        ensures { result ≡ pixel_at self.now.pixels.items (pixel_index (grid_rect self.now.extent) x y) }
+    {
+        let column = offset(x, self.extent.left);
+        let row = offset(y, self.extent.bottom);
+        let index = row_start(self.extent.width, row) + column as usize;
+        self.pixels[index]
+    }
+}

@@ -1,0 +1,15 @@
+//! The device: the pixels of one rectangle of the window, and what each draw and Clear makes of them.
+//!
+//! Each pixel of the rectangle takes exactly the step of `rc_base::specs::Drawing::PixelStep`, and nothing else is touched. The rectangle is
+//! the whole window for a serial renderer and a tile's part of it for a tile.
+#![tactic(auto)]
+
+mod clip;
+mod device;
+mod extent;
+mod grid;
+mod shade;
+#[cfg(test)]
+mod tests;
+
+pub use device::Device;

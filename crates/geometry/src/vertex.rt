@@ -1,0 +1,175 @@
+//! Where a vertex stands in the window.
+ghost use Rattle.std.specs.Prelude.{◌≡◌, ◌^◌, ◌<◌, pos, true, false, ◌+ℤ◌, ◌-ℤ◌, ◌*ℤ◌, ◌<ℤ◌, MatchOption};
+ghost use Rattle.rc_base.specs.Numbers.{Within, is_within};
+ghost use Rattle.rc_base.specs.Drawing.Cover.{IsInBounds};
+ghost use Rattle.rc_base.specs.Drawing.Window.{clip_of, axis_of, depth_of, window_of, is_in_bounds, is_placed, depth_most};
+ghost use Rattle.fixed_math.specs.Bounds.{AllWithin};
+ghost use Rattle.geometry.specs.Vertices.{vertex_with};
+
+use fixed_math::{apply, floor_div, widen};
+use rc_base::state::{State, Vertex};
+use rc_base::window::WindowVertex;
+
+// The bounds of window coordinates: of places in sixteenths of a pixel, and of depths.
+const PLACE_BOUND: u32 = 1_048_576;
+
+const DEPTH_BOUND: u32 = 1_073_741_824;
+
+// The greatest depth that a buffer holds.
+const DEPTH_MOST: i128 = 16_777_215;
+
+#[tactic(auto, unfolding(rc_base::specs::Drawing::Window::clip_of))]
+fn clip(state: &State, v: &Vertex) -> [i128; 4]
+    ensures value { result ≡ clip_of state.now v.now }
+    ensures small { AllWithin (2 ^ 65) result }
+{
+    let eye = apply(&state.modelview, widen(&v.pos));
+    apply(&state.projection, eye)
+}
+
+fn plus(x: i128, w: i128) -> i128
+    requires x { Within (2 ^ 65) x }
+    requires w { Within (2 ^ 65) w }
+    ensures value { result ≡ x +ℤ w }
+    ensures small { Within (2 ^ 66) result }
+{
+    x + w
+}
+
+fn scaled(sum: i128, size: i32) -> i128
+    requires { Within (2 ^ 66) sum }
+    ensures value { result ≡ sum *ℤ size *ℤ pos 16 }
+    ensures small { Within (2 ^ 101) result }
+{
+    sum * i128::from(size) * 16
+}
+
+fn double(w: i128) -> i128
+    requires small { Within (2 ^ 65) w }
+    ensures value { result ≡ pos 2 *ℤ w }
+{
+    2 * w
+}
+
+fn moved(origin: i32, q: i128) -> i128
+    requires { Within (2 ^ 101) q }
+    ensures value { result ≡ pos 16 *ℤ origin +ℤ q }
+{
+    16 * i128::from(origin) + q
+}
+
+#[tactic(auto, unfolding(rc_base::specs::Drawing::Window::axis_of))]
+fn axis(origin: i32, size: i32, x: i128, w: i128) -> i128
+    requires positive { pos 0 <ℤ w }
+    requires x { Within (2 ^ 65) x }
+    requires w { Within (2 ^ 65) w }
+    ensures { result ≡ axis_of origin size x w }
+{
+    let quotient = floor_div(scaled(plus(x, w), size), double(w));
+    moved(origin, quotient)
+}
+
+// A sum or difference of the ends of the depth range, times a clip coordinate.
+fn weighed(ends: i64, z: i128) -> i128
+    requires ends { Within (2 ^ 32) ends }
+    requires z { Within (2 ^ 65) z }
+    ensures value { result ≡ ends *ℤ z }
+    ensures small { Within (2 ^ 97) result }
+{
+    i128::from(ends) * z
+}
+
+fn between(near: i32, far: i32) -> i64
+    ensures value { result ≡ far -ℤ near }
+    ensures small { Within (2 ^ 32) result }
+{
+    i64::from(far) - i64::from(near)
+}
+
+fn together(near: i32, far: i32) -> i64
+    ensures value { result ≡ near +ℤ far }
+    ensures small { Within (2 ^ 32) result }
+{
+    i64::from(near) + i64::from(far)
+}
+
+fn deepened(a: i128, b: i128) -> i128
+    requires a { Within (2 ^ 97) a }
+    requires b { Within (2 ^ 97) b }
+    ensures { result ≡ (a +ℤ b) *ℤ pos depth_most }
+{
+    (a + b) * DEPTH_MOST
+}
+
+fn scale_of(w: i128) -> i128
+    requires small { Within (2 ^ 65) w }
+    requires positive { pos 0 <ℤ w }
+    ensures value { result ≡ pos 131072 *ℤ w }
+    ensures positive { pos 0 <ℤ result }
+{
+    131072 * w
+}
+
+#[tactic(auto, unfolding(rc_base::specs::Drawing::Window::depth_of))]
+fn depth(near: i32, far: i32, z: i128, w: i128) -> i128
+    requires positive { pos 0 <ℤ w }
+    requires z { Within (2 ^ 65) z }
+    requires w { Within (2 ^ 65) w }
+    ensures { result ≡ depth_of near far z w }
+{
+    let sum = deepened(
+        weighed(between(near, far), z),
+        weighed(together(near, far), w),
+    );
+    floor_div(sum, scale_of(w))
+}
+
+fn is_in(z: i128, bound: u32) -> bool
+    requires { bound < 2 ^ 31 }
+    ensures { result ≡ is_within bound z }
+{
+    let high = i128::from(bound);
+    -high <= z && z <= high
+}
+
+// The vertex with these coordinates, where they are in bounds; the rest of it is `v`'s.
+fn narrow(v: &Vertex, x: i128, y: i128, z: i128) -> Option<WindowVertex>
+    ensures { MatchOption result
+        (is_in_bounds (vertex_with v.now x y z) ≡ false)
+        (λ p. (is_in_bounds (vertex_with v.now x y z) ≡ true) × (p ≡ vertex_with v.now x y z) × IsInBounds p) }
+{
+    if !is_in(x, PLACE_BOUND) {
+        return None;
+    }
+    if !is_in(y, PLACE_BOUND) {
+        return None;
+    }
+    if !is_in(z, DEPTH_BOUND) {
+        return None;
+    }
+    Some(WindowVertex {
+        x: x as i32,
+        y: y as i32,
+        z: z as i32,
+        color: v.color,
+        s: v.s,
+        t: v.t,
+    })
+}
+
+/// The vertex in window coordinates, where it stands before the eye and within their bounds.
+#[tactic(auto, unfolding(rc_base::specs::Drawing::Window::is_placed, rc_base::specs::Drawing::Window::window_of))]
+pub(crate) fn window_vertex(state: &State, v: &Vertex) -> Option<WindowVertex>
+    ensures { MatchOption result
+        (is_placed state.now v.now ≡ false)
+        (λ p. (is_placed state.now v.now ≡ true) × (p ≡ window_of state.now v.now) × IsInBounds p) }
+{
+    let c = clip(state, v);
+    if c[3] <= 0 {
+        return None;
+    }
+    let x = axis(state.viewport[0], state.viewport[2], c[0], c[3]);
+    let y = axis(state.viewport[1], state.viewport[3], c[1], c[3]);
+    let z = depth(state.depth_range[0], state.depth_range[1], c[2], c[3]);
+    narrow(v, x, y, z)
+}

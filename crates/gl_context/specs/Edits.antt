@@ -1,0 +1,14 @@
+-- How the private images of a client and their edit numbers go on along its stream.
+use Rattle.std.specs.Prelude.{◌≡◌, ℕ, ◌+◌, ◌≤◌}
+use Rattle.rc_base.specs.Contexts.Context.{private_image, edit_of}
+use Rattle.rc_base.specs.Contexts.Issue.{context_after}
+use Rattle.rc_base.specs.declared.scene.Scene.{Scene}
+
+abbrev pub EditsNeverFall : Type 0
+EditsNeverFall = (scene : Scene) (client n more name : ℕ) → edit_of (context_after scene client n) name ≤ edit_of (context_after scene client (n + more)) name
+
+-- at any two places
+abbrev pub EqualEditsMeanEqualImages : Type 0
+EqualEditsMeanEqualImages =
+    (scene : Scene) (client a b name : ℕ) → edit_of (context_after scene client a) name ≡ edit_of (context_after scene client b) name
+    → private_image (context_after scene client a) name ≡ private_image (context_after scene client b) name

@@ -1,0 +1,6 @@
+pub mod Arguments
+pub mod Streams
+pub mod Valid
+pub mod Edits
+pub mod Stacks
+pub mod Elements

@@ -1,0 +1,17 @@
+//! What a client's commands make of its context, and which of them are refused.
+//!
+//! A context is that of `rc_base::specs::Contexts::Context`, each command does what `Contexts::Issue` says, and is refused by the rules of
+//! `Contexts::Faults`. This crate stands on fixed_math and textures.
+#![tactic(auto)]
+
+pub mod context;
+pub mod elements;
+pub mod laws;
+mod rules;
+mod stacks;
+mod state;
+#[cfg(test)]
+mod tests;
+
+pub use context::Context;
+pub use elements::marks;

@@ -1,9 +1,0 @@
-use Rattle.order_model.proofs.examples.a_shared_unit_is_listed.Goals as goal
-use Rattle.std.proofs.Common.{refl}
-use Rattle.rc_base.specs.Context.{default_state, default_context}
-use Rattle.rc_base.specs.Issue.{issued, effect_of, context_after, effect_at}
-use Rattle.rc_base.specs.Sync.{waits_below, sync_lists_of}
-
-pub returns : goal.returns
-unfolding default_state default_context issued effect_of context_after effect_at waits_below sync_lists_of
-returns c = refl

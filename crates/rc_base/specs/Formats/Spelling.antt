@@ -1,0 +1,130 @@
+-- How bytes spell a scene: relations on whole lists of bytes and of commands.
+use Rattle.std.specs.Prelude.{◌≡◌, ℕ, ℤ, ◌*◌, ◌<◌, ◌≤◌, ◌^◌, List, [], ◌∷◌, ◌++◌, length, map, take, drop}
+use Rattle.std.specs.List.{flat_map, range_with_len, AllByRecursion}
+use Rattle.std.specs.Int.{w16, w32, to_le_bytes, cast_unsigned, div_ceil}
+use Rattle.rc_base.specs.declared.command.Command.{Command}
+use Rattle.rc_base.specs.declared.scene.Decl.{Decl}
+use Rattle.rc_base.specs.declared.scene.Scene.{Scene}
+use Rattle.rc_base.specs.Formats.Commands.{Kind, Value, Fields, IsCommand, opcode_of, opcode_number, kinds_of, fields_of}
+use Rattle.rc_base.specs.Formats.Commands.Kind.{Byte, Half, Word, Code, Bytes, Words, Image}
+
+-- ---- fields, the low byte first
+
+abbrev pub half : ℕ → List ℕ
+half n = to_le_bytes w16 n
+
+abbrev pub long : ℕ → List ℕ
+long n = to_le_bytes w32 n
+
+-- two's complement
+abbrev pub word : ℤ → List ℕ
+word z = to_le_bytes w32 (cast_unsigned w32 z)
+
+-- the bytes of a field
+abbrev pub value_bytes : (k : Kind) → Value k → List ℕ
+value_bytes Byte n = n ∷ []
+value_bytes Half n = half n
+value_bytes Word z = word z
+value_bytes (Code count) n = n ∷ []
+value_bytes (Bytes count) ns = ns
+value_bytes (Words count) zs = flat_map word zs
+value_bytes Image p = half p.w ++ (half p.h ++ p.texels)
+
+abbrev pub field_bytes : (ks : List Kind) → Fields ks → List ℕ
+field_bytes [] x = []
+field_bytes (k ∷ ks) x = value_bytes k x.0 ++ field_bytes ks x.1
+
+-- ---- commands and packets
+
+-- the bytes of a command's fields
+abbrev pub payload : Command → List ℕ
+payload c = field_bytes (kinds_of (opcode_of c)) (fields_of c)
+
+-- the byte that stands for a command
+abbrev pub opcode_byte : Command → ℕ
+opcode_byte c = opcode_number (opcode_of c)
+
+-- a count, that many opcodes, and that many payloads in the same order
+abbrev pub packet : List Command → List ℕ
+packet commands = half (length commands) ++ (map opcode_byte commands ++ flat_map payload commands)
+
+-- commands that make one packet
+pub record IsPacket (commands : List Command) : Type 0 where
+  pub some : 1 ≤ length commands
+  pub most : length commands ≤ 1024
+  pub each : AllByRecursion IsCommand commands
+
+-- The bytes of a stream are packets one after the other, and these are their commands. A list of commands may be spelled in several ways.
+pub record SpellsStream (bytes : List ℕ) (commands : List Command) : Type 0 where
+  pub packets : List (List Command)
+  pub each : AllByRecursion IsPacket packets
+  pub parts : bytes ≡ flat_map packet packets
+  pub whole : commands ≡ flat_map (λ p. p) packets
+
+-- the commands of a packet, where each packet before it has 1,024
+abbrev pub packet_commands : List Command → ℕ → List Command
+packet_commands commands i = take 1024 (drop (1024 * i) commands)
+
+abbrev pub packet_count : List Command → ℕ
+packet_count commands = div_ceil (length commands) 1024
+
+-- packets of 1,024 commands, the last one shorter, and none for an empty list
+unfoldable pub encoded : List Command → List ℕ
+encoded commands = flat_map (λ i. packet (packet_commands commands i)) (range_with_len 0 (packet_count commands))
+
+-- ---- scenes
+
+-- the letters RCS1
+abbrev pub magic : List ℕ
+magic = 0x52 ∷ 0x43 ∷ 0x53 ∷ 0x31 ∷ []
+
+-- width and height of a shared texture
+abbrev pub size : List ℕ → List ℕ
+size sides = flat_map half sides
+
+-- the window, the number of streams, and what is declared
+abbrev pub header : Decl → ℕ → List ℕ
+header d clients =
+    magic ++ (half d.width ++ (half d.height
+    ++ ((clients ∷ length d.shared ∷ length d.barriers ∷ length d.semaphores ∷ [])
+    ++ (flat_map size d.shared ++ (d.barriers ++ flat_map half d.semaphores)))))
+
+abbrev pub IsSide : ℕ → Type 0
+IsSide n = n < 2 ^ 16
+
+abbrev pub IsSize : List ℕ → Type 0
+IsSize sides = (length sides ≡ 2) × AllByRecursion IsSide sides
+
+abbrev pub IsCount : ℕ → Type 0
+IsCount n = n < 256
+
+-- each field of a declaration is in its range
+pub record IsDecl (d : Decl) : Type 0 where
+  pub version : d.version ≡ 1
+  pub width : d.width < 2 ^ 16
+  pub height : d.height < 2 ^ 16
+  pub few_shared : length d.shared < 256
+  pub few_barriers : length d.barriers < 256
+  pub few_semaphores : length d.semaphores < 256
+  pub shared : AllByRecursion IsSize d.shared
+  pub barriers : AllByRecursion IsCount d.barriers
+  pub semaphores : AllByRecursion IsSide d.semaphores
+
+-- a stream's length and its bytes
+abbrev pub stream_text : List ℕ → List ℕ
+stream_text bytes = long (length bytes) ++ bytes
+
+-- each text spells the commands at its place
+abbrev pub SpellStreams : List (List ℕ) → List (List Command) → Type 0
+SpellStreams [] [] = Unit {0}
+SpellStreams [] (cs ∷ css) = ⊥
+SpellStreams (t ∷ ts) [] = ⊥
+SpellStreams (t ∷ ts) (cs ∷ css) = SpellsStream t cs × (length t < 2 ^ 32) × SpellStreams ts css
+
+-- The bytes are a header, and then each stream with its length. Nothing follows.
+pub record SpellsScene (bytes : List ℕ) (s : Scene) : Type 0 where
+  pub texts : List (List ℕ)
+  pub each : SpellStreams texts s.streams
+  pub few : length s.streams < 256
+  pub decl : IsDecl s.decl
+  pub parts : bytes ≡ header s.decl (length s.streams) ++ flat_map stream_text texts

@@ -1,0 +1,3 @@
+-- What the program is asked for, and the scenes and schedules that it makes itself.
+pub mod Words
+pub mod Generator

@@ -1,0 +1,82 @@
+-- What a job finds in its input: one of five cases, by which it is carried out or refused.
+use Rattle.std.specs.Prelude.{◌≡◌, ℕ, ◌+◌, ◌<◌, ◌≤◌, List, length, Some, None}
+use Rattle.rc_base.specs.Formats.Limits.{limit_of}
+use Rattle.rc_base.specs.Formats.Text.Faults.{text_fault}
+use Rattle.rc_base.specs.Outside.Transfer.{byte_limit}
+use Rattle.rc_base.specs.declared.scene.Limit.{Limit}
+use Rattle.rc_base.specs.declared.scene.Scene.{Scene}
+use Rattle.rc_base.specs.declared.scene.SceneKind.{SceneKind}
+use Rattle.rc_base.specs.declared.scene.TextKind.{TextKind}
+use Rattle.scene_file.specs.Faults.{FailsAsScene}
+use Rattle.render_core.specs.declared.job.Job.{Job}
+use Rattle.render_core.specs.declared.job.Job.TheVariants.{Render, Pack, Unpack}
+use Rattle.render_core.specs.Jobs.{Spells, IsOfForm, IsInput}
+use Rattle.render_core.specs.Lines.{scene_kind_name, text_kind_name, malformed_line, limit_line, not_built_line}
+
+pub data Finding : Type 0 where
+  -- more bytes than are read
+  Long : Finding
+  -- bytes that spell no scene
+  Malformed : Finding
+  -- a scene of which this is the first quantity outside its range
+  Outside : Limit → Finding
+  -- a scene within the limits that is not drawn so far
+  Undrawn : Finding
+  -- a scene that is carried out
+  Sound : Scene → Finding
+
+-- the input is this to the job
+abbrev pub IsFinding : Job → List ℕ → Finding → Type 0
+IsFinding job input Long = byte_limit < length input
+IsFinding job input Malformed = (length input ≤ byte_limit) × ((scene : Scene) → Spells job input scene → ⊥)
+IsFinding job input (Outside limit) =
+    (length input ≤ byte_limit) × ((scene : Scene) × Spells job input scene × (limit_of scene ≡ Some limit))
+IsFinding job input Undrawn =
+    (length input ≤ byte_limit) × ((scene : Scene) × Spells job input scene × (limit_of scene ≡ None) × (IsOfForm job scene → ⊥))
+IsFinding job input (Sound scene) = IsInput job input scene
+
+-- the status of a run that finds this
+abbrev pub finding_status : Finding → ℕ
+finding_status Long = 4
+finding_status Malformed = 3
+finding_status (Outside limit) = 4
+finding_status Undrawn = 10
+finding_status (Sound scene) = 0
+
+-- the input is this to the job, and nothing of another status
+pub record Finds (job : Job) (input : List ℕ) (finding : Finding) : Type 0 where
+  pub is : IsFinding job input finding
+  pub only : (other : Finding) → IsFinding job input other → finding_status other ≡ finding_status finding
+
+-- ---- the line that tells it
+
+-- the first fault of bytes, and its place
+abbrev pub TellsSceneFault : List ℕ → List ℕ → Type 0
+TellsSceneFault input line =
+    (kind : SceneKind) × (at : ℕ) × FailsAsScene input kind at × (line ≡ malformed_line (scene_kind_name kind) at)
+
+-- the first fault of a text, and its line
+abbrev pub TellsTextFault : List ℕ → List ℕ → Type 0
+TellsTextFault input line =
+    (kind : TextKind) × (at : ℕ) × (text_fault input ≡ Some (at, kind)) × (line ≡ malformed_line (text_kind_name kind) at)
+
+-- the first fault of an input
+abbrev pub TellsFault : Job → List ℕ → List ℕ → Type 0
+TellsFault Render input line = TellsSceneFault input line
+TellsFault Pack input line = TellsTextFault input line
+TellsFault Unpack input line = TellsSceneFault input line
+
+-- the line tells why the job refuses this; what is sound is not refused
+abbrev pub TellsFinding : Job → List ℕ → Finding → List ℕ → Type 0
+TellsFinding job input Long line = line ≡ limit_line 1 (byte_limit + 1)
+TellsFinding job input Malformed line = TellsFault job input line
+TellsFinding job input (Outside limit) line = line ≡ limit_line limit.what limit.value
+TellsFinding job input Undrawn line = line ≡ not_built_line
+TellsFinding job input (Sound scene) line = ⊥
+
+-- the job refuses the input with this status and this line
+pub record IsJudged (job : Job) (input : List ℕ) (status : ℕ) (line : List ℕ) : Type 0 where
+  pub finding : Finding
+  pub finds : Finds job input finding
+  pub status_is : status ≡ finding_status finding
+  pub told : TellsFinding job input finding line

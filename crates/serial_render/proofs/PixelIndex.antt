@@ -1,0 +1,42 @@
+-- Places in a window's list of pixels.
+use Rattle.std.proofs.Common.{◌≡◌, ℕ, ◌+◌, ◌*◌, ◌<◌, ◌≤◌, pos, ◌-ℤ◌, true, sym, ap, ◌∙◌, arith, mul-le-mul}
+use Rattle.std.proofs.lemmas.Int.{ints}
+use Rattle.rc_base.specs.Numbers.{natural}
+use Rattle.rc_base.specs.Cluster.Tiles.{is_in_rect}
+use Rattle.rc_base.specs.Drawing.Images.{Pixels}
+use Rattle.rc_base.specs.declared.window.Rect.{Rect}
+use Rattle.draw_device.specs.Pixels.{pixel_at}
+use Rattle.draw_device.specs.Devices.{DeviceView, pixel_index, pixel_of, rect_size}
+use Rattle.serial_render.specs.Cells.{Shows}
+use Rattle.serial_render.specs.Steps.{window_of, Holds}
+
+next_row : (w r j : ℕ) → r < j → r * w + w ≤ j * w
+next_row w r j h = let m : (r + 1) * w ≤ j * w = mul-le-mul (omega arith) (omega arith) in omega arith
+
+pub room : (w h r t : ℕ) → r < h → t ≤ w → r * w + t ≤ w * h
+room w h r t k l = let m = next_row w r h k in omega arith
+
+from_zero : (n : ℕ) → natural (pos n -ℤ pos 0) ≡ n
+from_zero n = grind (arith, ints)
+
+pub window_size : (w h : ℕ) → rect_size (window_of w h) ≡ w * h
+window_size w h = ap (λ (n : ℕ). n * natural (pos h -ℤ pos 0)) (from_zero w) ∙ ap (λ (n : ℕ). w * n) (from_zero h)
+
+index_is : (w h i j : ℕ) → pixel_index (window_of w h) (pos i) (pos j) ≡ j * w + i
+unfolding pixel_index
+index_is w h i j =
+    ap (λ (n : ℕ). n * natural (pos w -ℤ pos 0) + natural (pos i -ℤ pos 0)) (from_zero j)
+    ∙ ap (λ (n : ℕ). j * n + natural (pos i -ℤ pos 0)) (from_zero w)
+    ∙ ap (λ (n : ℕ). j * w + n) (from_zero i)
+
+in_window : (w h i j : ℕ) → i < w → j < h → is_in_rect (window_of w h) (pos i) (pos j) ≡ true
+in_window w h i j li lj = grind (arith, ints)
+
+pixel_is : (d : DeviceView) (w h i j : ℕ) → d.rect ≡ window_of w h → pixel_of d (pos i) (pos j) ≡ pixel_at d.pixels (j * w + i)
+unfolding pixel_of
+pixel_is d w h i j e = ap (λ (r : Rect). pixel_at d.pixels (pixel_index r (pos i) (pos j))) e ∙ ap (λ (k : ℕ). pixel_at d.pixels k) (index_is w h i j)
+
+-- what a window's device holds its list of pixels shows
+pub holds_shows : (d : DeviceView) (w h : ℕ) (picture : Pixels) → d.rect ≡ window_of w h → Holds d picture → Shows w h d.pixels picture
+holds_shows d w h picture e holds i j li lj =
+    sym (pixel_is d w h i j e) ∙ holds (pos i) (pos j) (ap (λ (r : Rect). is_in_rect r (pos i) (pos j)) e ∙ in_window w h i j li lj)

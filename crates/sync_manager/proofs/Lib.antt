@@ -1,0 +1,6 @@
+mod FirstAnswers
+mod FirstEntries
+mod WaitingOperations
+mod SoundBooks
+mod BookGrants
+mod PositiveCounts

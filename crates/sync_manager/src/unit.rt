@@ -1,0 +1,62 @@
+//! What an entry does to the waiting operations and to the units.
+ghost use Rattle.std.specs.Prelude.{◌≡◌, ◌≤◌, ◌<◌, ◌+◌, ◌^◌, ℕ, true, cond, length, slice_index_or, None, IfOk};
+ghost use Rattle.rc_base.specs.Orders.Journal.{is_member, units_after};
+ghost use Rattle.rc_base.specs.declared.sync.Entry.{Entry};
+ghost use Rattle.sync_manager.specs.Stored.{wait_at, units_at, IsUnitThere};
+
+use crate::search::has;
+use rc_base::sync::{Entry, WaitAt};
+use std::alloc::{AllocError, Global};
+
+/// The entry uses an operation of the client.
+fn is_member(clients: u8, entry: Entry, client: u8) -> bool
+    requires { client < 8 }
+    ensures { result ≡ is_member clients entry client }
+{
+    match entry {
+        Entry::Meet { members, .. } => has(members, client),
+        Entry::Swap => client < clients,
+        Entry::Give { client: other, .. } => client == other,
+        Entry::Take { client: other, .. } => client == other,
+    }
+}
+
+/// The members wait no more.
+pub fn release(waiting: &mut [Option<WaitAt>], clients: u8, entry: Entry)
+    requires { length waiting.old ≡ 8 }
+    ensures slots { length waiting.new ≡ length waiting.old }
+    ensures waiting { (c : ℕ) → wait_at waiting.new c ≡ cond (is_member clients entry c) None (wait_at waiting.old c) }
+{
+    for client in 0..8u8 {
+        if is_member(clients, entry, client) {
+            waiting[client as usize] = None;
+        }
+    }
+}
+
+/// A unit is given, or taken.
+pub fn move_unit(units: &mut Vec<u64>, entry: Entry)
+    requires there { IsUnitThere units.old.items entry }
+    requires bounded { (k : ℕ) → slice_index_or units.old.items k 0 + 1 < 2 ^ 64 }
+    ensures length { length units.new.items ≡ length units.old.items }
+    ensures units { (k : ℕ) → units_at units.new.items k ≡ units_after entry (units_at units.old.items) k }
+    ensures bounded { (k : ℕ) → slice_index_or units.new.items k 0 ≤ slice_index_or units.old.items k 0 + 1 }
+{
+    match entry {
+        Entry::Give { semaphore, .. } => units[semaphore as usize - 1] += 1,
+        Entry::Take { semaphore, .. } => units[semaphore as usize - 1] -= 1,
+        _ => {}
+    }
+}
+
+/// The same numbers.
+pub fn widened(alloc: Global, units: &[u16]) -> Result<Vec<u64>, AllocError>
+    ensures items { IfOk result (λ v. v.items ≡ units.now) }
+    ensures bounded { IfOk result (λ v. (k : ℕ) → slice_index_or v.items k 0 ≤ 65535) }
+{
+    let mut wide = Vec::new(alloc);
+    for n in units {
+        wide.push(u64::from(*n))?;
+    }
+    Ok(wide)
+}

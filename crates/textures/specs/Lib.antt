@@ -1,0 +1,4 @@
+pub mod Axis
+pub mod Images
+pub mod Views
+pub mod Stores

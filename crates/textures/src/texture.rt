@@ -1,0 +1,189 @@
+//! One texture.
+ghost use Rattle.std.specs.Prelude.{◌≡◌, ◌+◌, ◌*◌, ◌<◌, ◌≤◌, take, drop, IfOk, ◌∷◌, [], OnOk, OnErr, Some, None, length, is_some, MatchOption};
+ghost use Rattle.std.specs.Option.{option_map};
+ghost use Rattle.rc_base.specs.Pictures.{Picture, with_part};
+ghost use Rattle.rc_base.specs.Colors.{color_of};
+ghost use Rattle.rc_base.specs.Drawing.Texel.{texel_of};
+ghost use Rattle.textures.specs.Images.{IsWhole, LiesInside, HasTexel, IsNearestTexel, picture, part, blank_picture};
+ghost use Rattle.textures.specs.Views.{image_picture};
+
+use crate::axis::index_of;
+use crate::parts::write_part;
+use rc_base::command::{Rgba, Texels};
+use rc_base::out_of_memory::OutOfMemory;
+use std::alloc::Global;
+use std::marker::Model;
+
+// The sides of an image, and four bytes for each texel.
+#[derive(Drop)]
+struct Image {
+    w: u16,
+    h: u16,
+    texels: Texels,
+}
+
+// The colour of the four bytes from an index on.
+fn color_at(texels: &[u8], at: usize) -> Rgba
+    requires { at + 4 ≤ length texels.now }
+    ensures { result ≡ color_of (take 4 (drop at texels.now)) }
+{
+    Rgba {
+        r: texels[at],
+        g: texels[at + 1],
+        b: texels[at + 2],
+        a: texels[at + 3],
+    }
+}
+
+// The index of a texel's first byte.
+fn byte_index(w: u16, h: u16, column: u16, row: u16) -> usize
+    requires column { column < w }
+    requires row { row < h }
+    ensures value { result ≡ 4 * (row * w + column) }
+    ensures inside { result + 4 ≤ 4 * (w * h) }
+{
+    let _h = h;
+    4 * (usize::from(row) * usize::from(w) + usize::from(column))
+}
+
+// The nearest texel of an image at a coordinate.
+#[tactic(auto, unfolding(rc_base::specs::Drawing::Texel::texel_of))]
+fn nearest(image: &Image, s: i32, t: i32, wrap_s: u8, wrap_t: u8) -> Rgba
+    requires whole { IsWhole (image_picture image.now) }
+    requires width { 0 < image.now.w }
+    requires height { 0 < image.now.h }
+    ensures { result ≡ texel_of (image_picture image.now) s t wrap_s wrap_t }
+{
+    let column = index_of(wrap_s, image.w, s);
+    let row = index_of(wrap_t, image.h, t);
+    color_at(
+        image.texels.as_slice(),
+        byte_index(image.w, image.h, column, row),
+    )
+}
+
+/// A texture: r, g, b, a of each texel, row by row, where it has an image. Row 0 is at t = 0.
+#[derive(Drop)]
+pub struct Texture {
+    image: Option<Image>,
+}
+
+impl Model for Texture {
+    ghost use Rattle.std.specs.Prelude.{Option};
+    ghost use Rattle.std.specs.Option.{option_map};
+    ghost use Rattle.rc_base.specs.Pictures.{Picture};
+    ghost use Rattle.textures.specs.Images.{IsWholeIfAny};
+    ghost use Rattle.textures.specs.Views.{image_picture};
+
+    ghost Value = { Option Picture };
+
+    ghost view = { λ a. option_map image_picture a.image };
+
+    ghost invariant = { λ a. IsWholeIfAny (option_map image_picture a.image) };
+}
+
+impl Texture {
+    /// A texture without an image.
+    pub fn empty() -> Texture
+        ensures { result ≡ None }
+    {
+        Texture { image: None }
+    }
+
+    /// A texture with an image of these sides, width and height, whose bytes are all 0.
+    pub fn blank(alloc: Global, sides: [u16; 2]) -> Result<Texture, OutOfMemory>
+        ensures { IfOk result (λ t. t ≡ Some (blank_picture sides)) }
+    {
+        let [w, h] = sides;
+        let mut bytes = Vec::new(alloc);
+        bytes.resize(4 * (usize::from(w) * usize::from(h)), 0)?;
+        Ok(Texture {
+            image: Some(Image {
+                w,
+                h,
+                texels: Texels::from_vec(bytes),
+            }),
+        })
+    }
+
+    /// Gives the texture a copy of an image. Where there is no memory for it, the texture is unchanged.
+    pub fn set_image(
+        &mut self,
+        alloc: Global,
+        w: u16,
+        h: u16,
+        texels: &Texels,
+    ) -> Result<(), OutOfMemory>
+        requires whole { length texels.now ≡ 4 * (w * h) }
+        ensures ok { OnOk result (self.new ≡ Some (picture w h texels.now)) }
+        ensures err { OnErr result (self.new ≡ self.old) }
+    {
+        let texels = Texels::from_slice(alloc, texels.as_slice())?;
+        self.image = Some(Image { w, h, texels });
+        Ok(())
+    }
+
+    /// Writes a part of the image, without memory. The part's name has no bearing on it.
+    #[tactic(auto, unfolding(rc_base::specs::Pictures::with_part))]
+    pub fn set_part(&mut self, x: u16, y: u16, w: u16, h: u16, texels: &Texels)
+        requires whole { length texels.now ≡ 4 * (w * h) }
+        requires inside { LiesInside (part 0 x y w h texels.now) self.old }
+        ensures { self.new ≡ option_map (λ (p : Picture). with_part p (part 0 x y w h texels.now)) self.old }
+    {
+        if let Some(image) = &mut self.image {
+            write_part(
+                image.texels.as_mut_slice(),
+                [image.w, image.h],
+                x,
+                y,
+                w,
+                h,
+                texels.as_slice(),
+            );
+        }
+    }
+
+    /// Width and height, where the texture has an image.
+    pub fn sides(&self) -> Option<[u16; 2]>
+        ensures { result ≡ option_map (λ (p : Picture). p.w ∷ p.h ∷ []) self.now }
+    {
+        match &self.image {
+            Some(image) => Some([image.w, image.h]),
+            None => None,
+        }
+    }
+
+    /// The bytes of the image, where the texture has one.
+    pub fn texels(&self) -> Option<&[u8]>
+        ensures { MatchOption result (self.now ≡ None) (λ bytes. (p : Picture) × (self.now ≡ Some p) × (bytes.now ≡ p.texels)) }
+    {
+        match &self.image {
+            Some(image) => Some(image.texels.as_slice()),
+            None => None,
+        }
+    }
+
+    /// Whether the texture has an image.
+    pub fn has_image(&self) -> bool
+        ensures { result ≡ is_some self.now }
+    {
+        self.image.is_some()
+    }
+
+    /// The texel that is nearest to a texture coordinate in 16.16 fixed point. Along each side it wraps by REPEAT (0) or CLAMP (1). The texture
+    /// must have an image with a texel.
+    pub fn sample(&self, s: i32, t: i32, wrap_s: u8, wrap_t: u8) -> Rgba
+        requires { HasTexel self.now }
+        ensures { IsNearestTexel self.now s t wrap_s wrap_t result }
+    {
+        match &self.image {
+            Some(image) => nearest(image, s, t, wrap_s, wrap_t),
+            None => Rgba {
+                r: 0,
+                g: 0,
+                b: 0,
+                a: 0,
+            },
+        }
+    }
+}

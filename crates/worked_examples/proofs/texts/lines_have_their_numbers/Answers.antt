@@ -1,0 +1,8 @@
+use Rattle.std.proofs.Common.{refl}
+use Rattle.rc_base.specs.Formats.Text.Read.{name_of, arguments_say}
+use Rattle.rc_base.specs.Formats.Text.Faults.{fault_of_line, rank_after, text_fault}
+use Rattle.worked_examples.proofs.texts.lines_have_their_numbers.Goals as goal
+
+pub returns : goal.returns
+unfolding name_of arguments_say fault_of_line rank_after text_fault
+returns c = record { few = refl; version = refl; side = refl; minus = refl; leading_zero = refl; no_texels = refl }
