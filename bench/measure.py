@@ -1,18 +1,35 @@
-"""Runs the program on the scenes of bench/run.sh and prints seconds, memory, and the ratios of reading, drawing and writing."""
+"""Runs the program on the scenes of scenes.py and prints seconds, memory and ratios. run.sh calls it.
+
+What reading takes is measured on the same scene with a width of 0, which is refused after it was read; drawing is the scene without swaps less that,
+and writing what the swaps add. Mesa prints its own seconds of drawing.
+"""
 import os
-import resource
 import subprocess
 import sys
 import time
 
-program, work = sys.argv[1:]
+program, scenes, work = sys.argv[1:]
+mesa = os.path.join(work, "mesa")
+PIXELS = 1024 * 768
+
+
+def path(*words):
+    """The scene of these words, made once; the word `unread` stands for a width of 0."""
+    name = os.path.join(work, "-".join(words) + ".rcs")
+    if not os.path.exists(name):
+        made = subprocess.run([sys.executable, scenes, *[w for w in words if w != "unread"]], check=True, stdout=subprocess.PIPE).stdout
+        if "unread" in words:
+            made = made[:4] + b"\0\0" + made[6:]
+        with open(name, "wb") as file:
+            file.write(made)
+    return name
 
 
 def run(job, scene, output=os.devnull):
     """The best of three runs: seconds, and the most memory that the program held, in MB."""
     best = None
     for _ in range(3):
-        with open(os.path.join(work, scene), "rb") as source, open(output, "wb") as image:
+        with open(scene, "rb") as source, open(output, "wb") as image:
             start = time.perf_counter()
             child = subprocess.Popen([program, job], stdin=source, stdout=image, stderr=subprocess.DEVNULL)
             _, status, usage = os.wait4(child.pid, 0)
@@ -22,27 +39,68 @@ def run(job, scene, output=os.devnull):
     return best
 
 
-def show(name, result):
-    print(f"{name:<44} {result[0]:7.3f} s  {result[1]:7.1f} MB  status {result[2]}")
+def mesa_seconds(driver, scene):
+    """The best of three: seconds of drawing alone, or None without Mesa."""
+    if not os.path.exists(mesa):
+        return None
+    best = None
+    for _ in range(3):
+        with open(scene, "rb") as source:
+            environment = dict(os.environ, GALLIUM_DRIVER=driver)
+            told = subprocess.run([mesa], stdin=source, stdout=subprocess.DEVNULL, stderr=subprocess.PIPE, env=environment).stderr
+        seconds = float(told.split()[-1])
+        best = seconds if best is None else min(best, seconds)
+    return best
 
 
-read = run("render", "undrawn.rcs")
-drawn = run("render", "unwritten.rcs")
-whole = run("render", "all.rcs")
-show("20 frames of four strips, whole", whole)
-show("the same without swaps", drawn)
-show("the same without any area", read)
-reading, drawing, writing = read[0], max(drawn[0] - read[0], 0.0), max(whole[0] - drawn[0], 0.0)
-print(f"reading : drawing : writing = 1 : {drawing / reading:.1f} : {writing / reading:.1f}")
-show("2048 by 2048, 8 clears and 8 swaps", run("render", "clears.rcs"))
-show("100,000 small triangles in one frame", run("render", "small.rcs"))
-size = os.path.getsize(os.path.join(work, "four.rcs")) / 1e6
-four = run("render", "four.rcs")
-show(f"four clients, {size:.1f} MB, read and judged", four)
-print(f"memory : input = {four[1] / size:.1f} : 1")
-text = os.path.join(work, "four.txt")
-unpacked = run("unpack", "four.rcs", text)
-show("four clients, unpack", unpacked)
-packed = run("pack", "four.txt")
-show(f"four clients, pack of {os.path.getsize(text) / 1e6:.1f} MB of text", packed)
-print(f"reading bytes : printing text : parsing text = 1 : {unpacked[0] / four[0]:.1f} : {packed[0] / four[0]:.1f}")
+def parts(name):
+    """Seconds of reading, drawing and writing of a scene, and the whole run."""
+    read, drawn, whole = run("render", path(name, "unread")), run("render", path(name, "noswap")), run("render", path(name))
+    return read[0], max(drawn[0] - read[0], 1e-9), max(whole[0] - drawn[0], 0.0), whole
+
+
+def main():
+    print("scene        reading  drawing  writing   memory  status   drawing to softpipe  to llvmpipe")
+    drawing = {}
+    for name in ("usual", "fill", "plain", "smooth", "tested", "blended", "small", "state", "depth"):
+        read, draw, write, (_, memory, status) = parts(name)
+        drawing[name] = draw
+        peers = [mesa_seconds(driver, path(name, "noswap")) for driver in ("softpipe", "llvmpipe")]
+        ratios = ["        -" if peer is None else f"1 : {peer / draw:5.2f}" for peer in peers]
+        print(f"{name:<10} {read:8.3f} {draw:8.3f} {write:8.3f} {memory:6.1f} MB {status:6}   {ratios[0]:>19}  {ratios[1]:>11}", flush=True)
+
+    plain = drawing["plain"] / (100 * PIXELS)
+    print(f"\na covered pixel: plain {plain * 1e9:.2f} ns; to plain:", end="")
+    for name, windows in (("smooth", 100), ("tested", 100), ("blended", 100), ("fill", 40)):
+        print(f" {name} {drawing[name] / (windows * PIXELS) / plain:.1f}", end="")
+    triangle = drawing["small"] / 100_000
+    print(f"\na triangle: small {triangle * 1e9:.0f} ns; to small:", end="")
+    for name, count in (("usual", 400_000), ("state", 20_000), ("depth", 2_000)):
+        print(f" {name} {drawing[name] / count / triangle:.1f}", end="")
+    print()
+
+    def show(name, result):
+        print(f"{name:<48} {result[0]:7.3f} s  {result[1]:7.1f} MB  status {result[2]}", flush=True)
+
+    show("2048 by 2048, 8 clears and 8 swaps", run("render", path("clears")))
+    four = path("usual", "4")
+    size = os.path.getsize(four) / 1e6
+    read = run("render", path("usual", "4", "unread"))
+    show(f"four clients, {size:.1f} MB, read and judged", read)
+    print(f"memory : input = {read[1] / size:.1f} : 1")
+    text = os.path.join(work, "four.txt")
+    unpacked = run("unpack", four, text)
+    show("four clients, unpack", unpacked)
+    packed = run("pack", text)
+    show(f"four clients, pack of {os.path.getsize(text) / 1e6:.1f} MB of text", packed)
+    print(f"reading bytes : printing text : parsing text = 1 : {unpacked[0] / read[0]:.1f} : {packed[0] / read[0]:.1f}")
+    checked, serial = run("check", four), run("serial", four)
+    show("four clients, check", checked)
+    show("four clients, serial", serial)
+    print(f"contexts, book and order : the rest of serial but reading = 1 : {(serial[0] - checked[0]) / max(checked[0] - read[0], 1e-9):.1f}")
+    commands, unread = run("check", path("commands")), run("render", path("commands", "unread"))
+    show("1,048,576 commands, check", commands)
+    print(f"reading them : checking them = 1 : {(commands[0] - unread[0]) / unread[0]:.1f}")
+
+
+main()

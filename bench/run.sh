@@ -1,5 +1,6 @@
 #!/bin/sh
-# Prints how long the built program takes to read, draw and write, as ratios of one run. Build it first:
+# Prints how long the built program takes to read, draw and write the scenes of scenes.py, as ratios of one run, and where Mesa's off-screen OpenGL
+# is installed (Debian's libosmesa6-dev) how its two software renderers do on the same scenes. Build the program first:
 #     cd crates/render_cli && rt run -- render < ../../examples/red.rcs > /dev/null
 set -eu
 here=$(cd "$(dirname "$0")" && pwd)
@@ -7,11 +8,8 @@ program=${1:-$here/../crates/render_cli/out/render_cli}
 work=$(mktemp -d)
 trap 'rm -rf "$work"' EXIT
 
-python3 "$here/scenes.py" strips 1 > "$work/all.rcs"
-python3 "$here/scenes.py" strips 1 noswap > "$work/unwritten.rcs"
-python3 "$here/scenes.py" strips 1 noswap nodraw > "$work/undrawn.rcs"
-python3 "$here/scenes.py" clears 2048 8 > "$work/clears.rcs"
-python3 "$here/scenes.py" strips 4 > "$work/four.rcs"
-python3 "$here/scenes.py" small 100000 > "$work/small.rcs"
+if ! cc -O2 -o "$work/mesa" "$here/mesa.c" -lOSMesa -lm 2> /dev/null; then
+    echo "without Mesa: install libosmesa6-dev to compare" >&2
+fi
 
-exec python3 "$here/measure.py" "$program" "$work"
+exec python3 "$here/measure.py" "$program" "$here/scenes.py" "$work"

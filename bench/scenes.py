@@ -1,32 +1,61 @@
 #!/usr/bin/env python3
-"""Makes the scenes of the benchmarks.
+"""Makes the scenes of the benchmarks, in bytes.
 
-    scenes.py strips CLIENTS [noswap] [nodraw] > scene.rcs
-        1024 by 768, 20 frames. With one client four strips of 5,002 vertices a frame; with more, one strip for each client, a colour before each
-        vertex, and a barrier of all clients before each swap. `noswap` leaves the swaps out, so nothing is written; `nodraw` puts all vertices at
-        one place, so no triangle has an area and nothing is drawn.
-    scenes.py clears SIDE COUNT > scene.rcs
-        SIDE by SIDE, COUNT clears and swaps.
-    scenes.py small TRIANGLES > scene.rcs
-        1024 by 768, one frame of so many triangles of a few pixels each.
+    scenes.py NAME [WORD ..] > scene.rcs
+
+    usual [CLIENTS]     1024 by 768, 20 frames. With one client four strips of 5,002 vertices a frame, a colour before each vertex; with more, one
+                        such strip for each client, and a barrier of all clients before each swap.
+    fill                1024 by 768, 40 full windows, each a textured square of four colours that is blended over what stands (MODULATE, REPEAT).
+    plain               1024 by 768, 100 full windows of one colour: what a covered pixel costs.
+    smooth              the same with colours that are interpolated.
+    tested              the same with the depth test, each window nearer than the one before.
+    blended             the same, blended by SRC_ALPHA, ONE_MINUS_SRC_ALPHA.
+    small [TRIANGLES]   1024 by 768, one frame of 100,000 triangles of 8 by 8 pixels, a colour for each.
+    state               512 by 512, 20,000 small draws with state that changes between them.
+    depth               1024 by 768, 2,000 overlapping triangles of some 200 by 200 pixels with depth test, colours interpolated.
+    clears [SIDE] [N]   SIDE by SIDE (2,048), N (8) clears and swaps.
+    commands [N]        one client, N (1,048,576) commands in all: semaphore operations in pairs, the swap last.
+
+Words after these: `noswap` leaves the swaps out, so nothing is written; `nodraw` puts all vertices at one place, so nothing is covered.
 """
 import random
 import struct
 import sys
 
-BEGIN, END, VERTEX, COLOR, CLEAR_COLOR, CLEAR, BARRIER, SWAP = 1, 2, 3, 4, 0x16, 0x18, 0x21, 0x24
+BEGIN, END, VERTEX, COLOR, TEX_COORD, ENABLE, DISABLE = 1, 2, 3, 4, 5, 6, 7
+DEPTH_FUNC, BLEND_FUNC, CLEAR_COLOR, CLEAR = 0x12, 0x14, 0x16, 0x18
+TEX_ENV, TEX_IMAGE, BARRIER, SEM_P, SEM_V, SWAP = 0x1C, 0x1E, 0x21, 0x22, 0x23, 0x24
+TRIANGLES, STRIP = 0, 1
+DEPTH_TEST, BLEND, TEXTURE = 2, 3, 5
+SRC_ALPHA, ONE_MINUS_SRC_ALPHA = 6, 7
+ONE = 65536
+
+
+def byte_fields(opcode, *fields):
+    return opcode, bytes(fields)
 
 
 def begin(mode):
-    return BEGIN, struct.pack("<B", mode)
+    return byte_fields(BEGIN, mode)
 
 
-def vertex(x, y):
-    return VERTEX, struct.pack("<4i", x, y, 0, 65536)
+END_COMMAND = (END, b"")
 
 
-def color(rng):
-    return COLOR, struct.pack("<4B", rng.randrange(256), rng.randrange(256), rng.randrange(256), 255)
+def vertex(x, y, z=0):
+    return VERTEX, struct.pack("<4i", x, y, z, ONE)
+
+
+def color(r, g, b, a=255):
+    return byte_fields(COLOR, r, g, b, a)
+
+
+def tex_coord(s, t):
+    return TEX_COORD, struct.pack("<2i", s, t)
+
+
+def any_color(rng, a=255):
+    return color(rng.randrange(256), rng.randrange(256), rng.randrange(256), a)
 
 
 def stream(commands):
@@ -37,74 +66,185 @@ def stream(commands):
     return bytes(out)
 
 
-def scene(width, height, streams, barriers=()):
-    out = b"RCS1" + struct.pack("<HHBBBB", width, height, len(streams), 0, len(barriers), 0) + bytes(barriers)
+def scene(width, height, streams, barriers=(), semaphores=()):
+    out = b"RCS1" + struct.pack("<HHBBBB", width, height, len(streams), 0, len(barriers), len(semaphores))
+    out += bytes(barriers) + b"".join(struct.pack("<H", units) for units in semaphores)
     for commands in streams:
         data = stream(commands)
         out += struct.pack("<I", len(data)) + data
     return out
 
 
-def strip(rng, y, draw, colors):
+def one_client(width, height, commands, swap):
+    return scene(width, height, [commands + ([(SWAP, b"")] if swap else [])])
+
+
+class Corners:
+    """Makes vertices, or with `nodraw` vertices at one place."""
+
+    def __init__(self, draw):
+        self.draw = draw
+
+    def at(self, x, y, z=0):
+        return vertex(x, y, z) if self.draw else vertex(0, 0)
+
+
+def strip(rng, y, corners):
     """A zigzag from the left to the right edge, 5,002 vertices."""
-    commands = [begin(1)]
+    commands = [begin(STRIP)]
     for i in range(5002):
-        if colors:
-            commands.append(color(rng))
-        x = -65536 + (131072 * i) // 5001
-        commands.append(vertex(x, y + (i % 2) * 12000 + rng.randrange(2000)) if draw else vertex(0, 0))
-    commands.append((END, b""))
-    return commands
+        x = -ONE + (2 * ONE * i) // 5001
+        commands += [any_color(rng), corners.at(x, y + (i % 2) * 12000 + rng.randrange(2000))]
+    return commands + [END_COMMAND]
 
 
-def strips(clients, swap, draw):
+def usual(numbers, swap, corners):
+    clients = numbers[0] if numbers else 1
     streams = []
     for c in range(clients):
         rng = random.Random(c)
         commands = []
         for frame in range(20):
-            rows = range(4) if clients == 1 else [c]
-            for row in rows:
-                y = -60000 + (row * 28000 + frame * 900) % 110000
-                commands += strip(rng, y, draw, clients > 1)
+            for row in range(4) if clients == 1 else [c]:
+                commands += strip(rng, -60000 + (row * 28000 + frame * 900) % 110000, corners)
             if clients > 1:
-                commands.append((BARRIER, b"\x01"))
+                commands.append(byte_fields(BARRIER, 1))
             if swap:
                 commands.append((SWAP, b""))
         streams.append(commands)
     return scene(1024, 768, streams, [clients] if clients > 1 else [])
 
 
-def clears(side, count):
+def window(corners, colors, z=0, texture=False):
+    """A strip of two triangles over the whole window."""
+    commands = [begin(STRIP)]
+    places = [(-ONE, -ONE), (ONE, -ONE), (-ONE, ONE), (ONE, ONE)]
+    for i, (x, y) in enumerate(places):
+        commands.append(color(*colors[i % len(colors)]))
+        if texture:
+            commands.append(tex_coord(4 * x, 3 * y))
+        commands.append(corners.at(x, y, z))
+    return commands + [END_COMMAND]
+
+
+FOUR = [(255, 0, 0, 160), (0, 255, 0, 160), (0, 0, 255, 160), (255, 255, 255, 160)]
+
+
+def fill(numbers, swap, corners):
+    rng = random.Random(3)
+    texels = bytes(rng.randrange(256) for _ in range(4 * 64 * 64))
+    commands = [(TEX_IMAGE, struct.pack("<BHH", 1, 64, 64) + texels), byte_fields(ENABLE, TEXTURE)]
+    commands += [byte_fields(ENABLE, BLEND), byte_fields(BLEND_FUNC, SRC_ALPHA, ONE_MINUS_SRC_ALPHA)]
+    for _ in range(40):
+        commands += window(corners, FOUR, texture=True)
+    return one_client(1024, 768, commands, swap)
+
+
+def windows(setup, colors, nearer=False):
+    def make(numbers, swap, corners):
+        commands = list(setup)
+        for i in range(100):
+            commands += window(corners, colors, z=60000 - 1000 * i if nearer else 0)
+        return one_client(1024, 768, commands, swap)
+
+    return make
+
+
+def small(numbers, swap, corners):
+    count = numbers[0] if numbers else 100_000
+    rng = random.Random(7)
+    wide, high = 16 * ONE // 1024, 16 * ONE // 768
+    commands = []
+    for first in range(0, count, 5000):
+        commands.append(begin(TRIANGLES))
+        for _ in range(min(5000, count - first)):
+            x, y = rng.randrange(-ONE, ONE - wide), rng.randrange(-ONE, ONE - high)
+            commands += [any_color(rng), corners.at(x, y), corners.at(x + wide, y), corners.at(x, y + high)]
+        commands.append(END_COMMAND)
+    return one_client(1024, 768, commands, swap)
+
+
+# Which of depth test, blending and texturing are on; depth function; blend factors; environment.
+STATES = [
+    ((), 1, (1, 0), 0),
+    ((DEPTH_TEST,), 1, (1, 0), 0),
+    ((DEPTH_TEST,), 3, (1, 0), 0),
+    ((BLEND,), 1, (6, 7), 0),
+    ((BLEND,), 1, (1, 1), 0),
+    ((TEXTURE,), 1, (1, 0), 1),
+    ((TEXTURE,), 1, (1, 0), 0),
+    ((TEXTURE, BLEND), 1, (6, 7), 0),
+    ((TEXTURE, DEPTH_TEST), 3, (1, 0), 1),
+    ((DEPTH_TEST, BLEND), 3, (6, 7), 0),
+]
+
+
+def state(numbers, swap, corners):
+    rng = random.Random(11)
+    texels = bytes(rng.randrange(256) for _ in range(4 * 16 * 16))
+    commands = [(TEX_IMAGE, struct.pack("<BHH", 1, 16, 16) + texels)]
+    for _ in range(20_000):
+        on, function, factors, environment = rng.choice(STATES)
+        for capability in (DEPTH_TEST, BLEND, TEXTURE):
+            commands.append(byte_fields(ENABLE if capability in on else DISABLE, capability))
+        commands += [byte_fields(DEPTH_FUNC, function), byte_fields(BLEND_FUNC, *factors), byte_fields(TEX_ENV, environment)]
+        x, y = rng.randrange(-ONE, ONE - 4000), rng.randrange(-ONE, ONE - 4000)
+        commands.append(begin(TRIANGLES))
+        for dx, dy in ((0, 0), (4000, 0), (0, 4000)):
+            commands += [any_color(rng), tex_coord(16 * dx, 16 * dy), corners.at(x + dx, y + dy, rng.randrange(-ONE, ONE))]
+        commands.append(END_COMMAND)
+    return one_client(512, 512, commands, swap)
+
+
+def depth(numbers, swap, corners):
+    rng = random.Random(5)
+    commands = [byte_fields(ENABLE, DEPTH_TEST), begin(TRIANGLES)]
+    for _ in range(2000):
+        x, y = rng.randrange(-ONE, ONE), rng.randrange(-ONE, ONE)
+        for dx, dy in ((0, 0), (25600, 0), (0, 34133)):
+            commands += [any_color(rng), corners.at(x + dx, y + dy, rng.randrange(-ONE, ONE))]
+    return one_client(1024, 768, commands + [END_COMMAND], swap)
+
+
+def clears(numbers, swap, corners):
+    side, count = numbers if numbers else (2048, 8)
     commands = []
     for i in range(count):
-        commands += [(CLEAR_COLOR, struct.pack("<4B", i * 30 % 256, 40, 200, 255)), (CLEAR, b"\x03"), (SWAP, b"")]
+        commands += [byte_fields(CLEAR_COLOR, i * 30 % 256, 40, 200, 255), byte_fields(CLEAR, 3)]
+        if swap:
+            commands.append((SWAP, b""))
     return scene(side, side, [commands])
 
 
-def small(triangles):
-    rng = random.Random(7)
-    commands = []
-    for _ in range(triangles // 5000 + 1):
-        commands.append(begin(0))
-        for _ in range(min(5000, triangles)):
-            x, y = rng.randrange(-65536, 65000), rng.randrange(-65536, 65000)
-            commands += [vertex(x, y), vertex(x + 500, y), vertex(x, y + 500)]
-        commands.append((END, b""))
-    commands.append((SWAP, b""))
-    return scene(1024, 768, [commands])
+def commands_only(numbers, swap, corners):
+    count = numbers[0] if numbers else 1_048_576
+    pair = [byte_fields(SEM_V, 1), byte_fields(SEM_P, 1)]
+    commands = (pair * ((count + 1) // 2))[: count - 1]
+    return scene(1, 1, [commands + [(SWAP, b"")]], semaphores=[0])
+
+
+SCENES = {
+    "usual": usual,
+    "fill": fill,
+    "plain": windows([], [(40, 90, 200)]),
+    "smooth": windows([], FOUR),
+    "tested": windows([byte_fields(ENABLE, DEPTH_TEST)], FOUR, nearer=True),
+    "blended": windows([byte_fields(ENABLE, BLEND), byte_fields(BLEND_FUNC, SRC_ALPHA, ONE_MINUS_SRC_ALPHA)], FOUR),
+    "small": small,
+    "state": state,
+    "depth": depth,
+    "clears": clears,
+    "commands": commands_only,
+}
 
 
 def main():
     words = sys.argv[1:]
-    if words[:1] == ["strips"]:
-        data = strips(int(words[1]), "noswap" not in words, "nodraw" not in words)
-    elif words[:1] == ["clears"]:
-        data = clears(int(words[1]), int(words[2]))
-    elif words[:1] == ["small"]:
-        data = small(int(words[1]))
-    else:
+    options = {word for word in words if word in ("noswap", "nodraw")}
+    words = [word for word in words if word not in options]
+    if not words or words[0] not in SCENES or not all(word.isdigit() for word in words[1:]):
         sys.exit(__doc__)
+    data = SCENES[words[0]](list(map(int, words[1:])), "noswap" not in options, Corners("nodraw" not in options))
     sys.stdout.buffer.write(data)
 
 

@@ -4,6 +4,8 @@
     make.py sunset > sunset.txt
     make.py wheel > wheel.txt
     make.py orrery > orrery.txt
+    make.py lanterns > lanterns.txt
+    make.py courtyard > courtyard.txt
 
 A vertex's x and y go from -65536 at the left and bottom edge of the window to 65536 at the right and top edge: 16.16 fixed point.
 """
@@ -189,8 +191,191 @@ def orrery():
     return lines
 
 
+def shaded(color, light):
+    return tuple(min(255, round(c * light)) for c in color)
+
+
+def lamp_light(normal, place, lamp):
+    """How bright a surface is: some light from all sides, and the lamp's by the angle at which it falls and its distance."""
+    way = [l - p for l, p in zip(lamp, place)]
+    far = math.sqrt(sum(w * w for w in way))
+    facing = max(0.0, sum(n * w for n, w in zip(normal, way)) / far)
+    return 0.16 + 1.5 * facing / (1 + far * far)
+
+
+def globe(centre, radius, color, lamp, across):
+    """The front of a sphere: strips of triangles, each vertex lit by the lamp. Depth goes by z; x is narrowed for a wide window."""
+    rings, sides = 14, 20
+    lines = []
+
+    def corner(ring, side):
+        up, round_ = math.pi * (ring / rings - 0.5), math.pi * side / sides
+        normal = (-math.cos(up) * math.cos(round_), math.sin(up), -math.cos(up) * math.sin(round_))
+        place = [c + radius * n for c, n in zip(centre, normal)]
+        tone = shaded(color, lamp_light(normal, place, lamp))
+        x, y, z = place
+        return [f"Color {tone[0]} {tone[1]} {tone[2]} 255", f"Vertex {fixed(x * across)} {fixed(y)} {fixed(z)} {ONE}"]
+
+    for ring in range(rings):
+        lines.append(f"Begin {STRIP}")
+        for side in range(sides + 1):
+            lines += corner(ring, side) + corner(ring + 1, side)
+        lines.append("End")
+    return lines
+
+
+def glow(centre, radius, color, across):
+    """A light that is added to what stands: bright in the middle, nothing at the rim."""
+    x, y, z = centre
+    lines = [f"Begin {FAN}", f"Color {color[0]} {color[1]} {color[2]} 255", f"Vertex {fixed(x * across)} {fixed(y)} {fixed(z)} {ONE}", "Color 0 0 0 255"]
+    for i in range(33):
+        a = 2 * math.pi * i / 32
+        lines.append(f"Vertex {fixed((x + radius * math.cos(a)) * across)} {fixed(y + radius * math.sin(a))} {fixed(z)} {ONE}")
+    return lines + ["End"]
+
+
+def lanterns():
+    width, height = 640, 400
+    across = height / width
+    lamp = (0.1, 0.62, -0.45)
+    lines = [
+        "# Lanterns at night: spheres that run into one another and a floor that cuts them, by the depth test; light that is added, and a pane of",
+        "# glass that is blended over what stands behind it.",
+        "# Made by make.py. As bytes: render_cli pack < lanterns.txt > lanterns.rcs",
+        f"scene 1 {width} {height}",
+        "client",
+        "ClearColor 8 9 22 255",
+        "Clear 3",
+        "# the depth test, LESS: what is nearer stays",
+        "Enable 2",
+        "# the floor, from near below to far behind: it is lit in the middle",
+    ]
+    for near, far in ((-0.95, -0.45), (-0.45, 0.05), (0.05, 0.55), (0.55, 0.95)):
+        lines.append(f"Begin {STRIP}")
+        for i in range(17):
+            x = -1.7 + 3.4 * i / 16
+            for z in (near, far):
+                y = -1 + 0.8 * (z + 0.95) / 1.9
+                tone = shaded((120, 110, 140), lamp_light((0, 1, 0), (x, y, z), lamp))
+                lines += [f"Color {tone[0]} {tone[1]} {tone[2]} 255", f"Vertex {fixed(x * across)} {fixed(y)} {fixed(z)} {ONE}"]
+        lines.append("End")
+    lines.append("# three spheres, two of which run into one another")
+    for centre, radius, color in (
+        ((-0.55, -0.26, 0.05), 0.42, (220, 70, 60)),
+        ((0.02, -0.46, -0.15), 0.32, (70, 130, 235)),
+        ((0.85, -0.2, 0.25), 0.36, (90, 200, 110)),
+    ):
+        lines += globe(centre, radius, color, lamp, across)
+    lines += [
+        "# light is added (ONE, ONE); it is tested against depth and leaves none",
+        "Enable 3",
+        "BlendFunc 1 1",
+        "DepthMask 0",
+    ]
+    for centre, radius, color in (
+        (lamp, 0.75, (150, 110, 50)),
+        (lamp, 0.16, (255, 230, 170)),
+        ((-1.2, 0.35, 0.2), 0.4, (90, 40, 90)),
+        ((-1.2, 0.35, 0.2), 0.1, (255, 170, 220)),
+        ((1.25, 0.5, 0.6), 0.45, (30, 70, 110)),
+        ((1.25, 0.5, 0.6), 0.1, (170, 230, 255)),
+    ):
+        lines += glow(centre, radius, color, across)
+    lines += [
+        "# a pane of glass in front (SRC_ALPHA, ONE_MINUS_SRC_ALPHA): the nearest part of a sphere still stands before it",
+        "BlendFunc 6 7",
+        f"Begin {STRIP}",
+    ]
+    for x, y, alpha in ((0.4, -0.68, 150), (1.1, -0.68, 60), (0.4, 0.3, 90), (1.1, 0.3, 30)):
+        lines += [f"Color 150 220 230 {alpha}", f"Vertex {fixed(x * across)} {fixed(y)} {fixed(-0.05)} {ONE}"]
+    return lines + ["End", "Swap"]
+
+
+def texels(side, color_at):
+    """The hexadecimal digits of a square picture: its rows from t = 0."""
+    return "".join("%02x%02x%02x%02x" % color_at(x, y) for y in range(side) for x in range(side))
+
+
+def noise(x, y):
+    """A number from -1 to 1 that looks like chance."""
+    return (math.sin(12.9898 * x + 78.233 * y) * 43758.5453) % 2 - 1
+
+
+def brick(x, y):
+    shift = 0 if y // 4 % 2 == 0 else 4
+    if y % 4 == 0 or (x + shift) % 8 == 0:
+        return (150, 144, 136, 255)
+    n = round(14 * noise(x, y))
+    return (176 + n, 84 + n, 62 + n, 255)
+
+
+def paving(x, y):
+    n = round(10 * noise(3 * x, y))
+    if x % 8 == 0 or y % 8 == 0:
+        return (96 + n, 100 + n, 92 + n, 255)
+    tone = 172 if (x // 8 + y // 8) % 2 == 0 else 146
+    return (tone + n, tone + n, tone - 14 + n, 255)
+
+
+def lattice(x, y):
+    """Bars, and holes whose alpha is 0."""
+    bar = x % 8 < 2 or y % 8 < 2
+    return (66, 46, 30, 255) if bar else (0, 0, 0, 0)
+
+
+def crate(x, y):
+    edge = min(x, y, 15 - x, 15 - y)
+    n = round(12 * noise(x // 3, 5 * y))
+    if edge < 2 or abs(x - y) < 2:
+        return (150 + n, 104 + n, 56 + n, 255)
+    return (196 + n, 146 + n, 86 + n, 255)
+
+
+def picture(corners):
+    """A strip whose vertices have a place in the window, a place in the texture (1 is its side), and a brightness."""
+    lines = [f"Begin {STRIP}"]
+    for x, y, s, t, tone in corners:
+        lines += [f"Color {tone} {tone} {tone} 255", f"TexCoord {fixed(s)} {fixed(t)}", f"Vertex {fixed(x)} {fixed(y)} 0 {ONE}"]
+    return lines + ["End"]
+
+
+def courtyard():
+    lines = [
+        "# A courtyard: four private textures. Walls and floor repeat their picture and are darkened by the vertices' colours (MODULATE), the crates",
+        "# show theirs as it is (REPLACE), and through the lattice one sees the wall, since the alpha test drops what is transparent.",
+        "# Made by make.py. As bytes: render_cli pack < courtyard.txt > courtyard.rcs",
+        "scene 1 640 400",
+        "client",
+        "ClearColor 150 190 230 255",
+        "Clear 1",
+        "# the pictures: bricks, paving, a lattice, a crate",
+        "TexImage 1 16 16 " + texels(16, brick),
+        "TexImage 2 16 16 " + texels(16, paving),
+        "TexImage 3 16 16 " + texels(16, lattice),
+        "TexImage 4 16 16 " + texels(16, crate),
+        "Enable 5",
+        "# the wall behind: eight pictures wide, darker towards its corners",
+        "BindTexture 0 1",
+    ]
+    wall = [(-1, 70), (-0.5, 190), (0, 255), (0.5, 190), (1, 70)]
+    lines += picture([(x, y, 4 * x, 2.5 * y, tone) for x, tone in wall for y in (-0.35, 0.8)])
+    lines.append("# the floor: rows that grow towards the viewer")
+    lines.append("BindTexture 0 2")
+    rows = [(-0.35, 0, 1, 90), (-0.42, 1, 1.15, 130), (-0.52, 2, 1.35, 170), (-0.68, 3, 1.65, 215), (-1, 4, 2.2, 255)]
+    for (y, t, wide, tone), (below, under, wider, bright) in zip(rows, rows[1:]):
+        columns = [i / 4 - 1 for i in range(9)]
+        lines += picture([corner for c in columns for corner in ((c * wide, y, 3 * c, t, tone), (c * wider, below, 3 * c, under, bright))])
+    lines += ["# the lattice: alpha greater than 0 goes on", "BindTexture 0 3", "Enable 1", "AlphaFunc 4 0"]
+    lines += picture([(x, y, 3 * x, 2 * y, 255) for x in (-0.85, -0.3) for y in (-0.4, 0.62)])
+    lines += ["Disable 1", "# crates: the picture held to its sides (CLAMP), as it is", "BindTexture 0 4", "TexEnv 1", "TexWrap 1 1"]
+    for x, y, side in ((0.2, -0.72, 0.3), (0.53, -0.78, 0.34), (0.36, -0.24, 0.26)):
+        high = side * 640 / 400
+        lines += picture([(x + side * i, y + high * j, i, j, 255) for i in (0, 1) for j in (0, 1)])
+    return lines + ["Swap"]
+
+
 def main():
-    made = {"sunset": sunset, "wheel": wheel, "orrery": orrery}.get(sys.argv[1] if len(sys.argv) == 2 else "")
+    made = {"sunset": sunset, "wheel": wheel, "orrery": orrery, "lanterns": lanterns, "courtyard": courtyard}.get(sys.argv[1] if len(sys.argv) == 2 else "")
     if made is None:
         sys.exit(__doc__)
     print("\n".join(made()))
