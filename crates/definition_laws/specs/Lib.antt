@@ -1,4 +1,2 @@
 pub mod Contexts
 pub mod Blocks
-pub mod Boxes
-pub mod Tiles

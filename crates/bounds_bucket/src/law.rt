@@ -1,6 +1,6 @@
 //! Laws of tiles and boxes.
-ghost use Rattle.definition_laws.specs.Boxes.{TouchedPixelsLieInTheBox, TouchedTilesMeetTheBox};
-ghost use Rattle.definition_laws.specs.Tiles.{EachPixelHasOneTile};
+ghost use Rattle.bounds_bucket.specs.Boxes.{TouchedPixelsLieInTheBox, TouchedTilesMeetTheBox};
+ghost use Rattle.bounds_bucket.specs.Tiles.{EachPixelHasOneTile};
 
 use raster::cover_lies_in_bounds;
 

@@ -73,7 +73,7 @@ kept_by P s a b c v true h e each =
     subst P same (turned P s (window_of s a) (window_of s b) (window_of s c) shown.1 (each (window_of s a) (window_of s b) (window_of s c)) (each (window_of s a) (window_of s c) (window_of s b)))
 kept_by P s a b c v false h e each = absurd cc
 
-kept : (P : List WindowVertex → Type 0) (s : State) (a b c : Vertex) (v : List WindowVertex) → kept_of s a b c ≡ Some v
+pub kept : (P : List WindowVertex → Type 0) (s : State) (a b c : Vertex) (v : List WindowVertex) → kept_of s a b c ≡ Some v
     → ((p q r : WindowVertex) → pos 0 <ℤ triangle_area (three p q r) → P (three p q r)) → P v
 unfolding kept_of
 kept P s a b c v e each = kept_by P s a b c v (is_kept s a b c) refl e each

@@ -1,7 +1,10 @@
 -- How tiles cut the window.
-use Rattle.std.specs.Prelude.{◌≡◌, ℕ, ◌*◌, ◌<◌, true}
-use Rattle.rc_base.specs.Cluster.Tiles.{tile_pixels}
+use Rattle.std.specs.Prelude.{◌≡◌, ℕ, ◌*◌, ◌<◌, Bool, true, pos}
+use Rattle.std.specs.List.{list_any}
+use Rattle.rc_base.specs.Cluster.Tiles.{tile_pixels, interval_of}
 use Rattle.rc_base.specs.declared.window.Layout.{Layout}
+use Rattle.bounds_bucket.specs.declared.range.Range.{Range}
+use Rattle.bounds_bucket.specs.Ranges.{is_among}
 
 -- the tile is one of the layout's and has the pixel
 abbrev pub HasPixel : Layout → ℕ → ℕ → ℕ → Type 0
@@ -11,3 +14,7 @@ abbrev pub EachPixelHasOneTile : Type 0
 EachPixelHasOneTile =
     (l : Layout) (x y : ℕ) → 0 < l.columns → 0 < l.rows → x < l.width → y < l.height
     → (tile : ℕ) × HasPixel l tile x y × ((other : ℕ) → HasPixel l other x y → other ≡ tile)
+
+-- a part of a side has a number of the range
+abbrev pub part_meets : ℕ → ℕ → Range → ℕ → Bool
+part_meets side parts range j = list_any (λ p. is_among range (pos p)) (interval_of side parts j)

@@ -1,7 +1,7 @@
 use Rattle.std.specs.Prelude.{pos}
-use Rattle.definition_laws.proofs.TouchedInBox.{touched}
-use Rattle.definition_laws.proofs.BoxMeetsTile.{box_meets}
-use Rattle.definition_laws.proofs.tiles.touched_pixels_lie_in_the_box.Goals as goal
+use Rattle.bounds_bucket.proofs.TouchedInBox.{touched}
+use Rattle.bounds_bucket.proofs.BoxMeetsTile.{box_meets}
+use Rattle.bounds_bucket.proofs.law.touched_pixels_lie_in_the_box.Goals as goal
 
 pub returns-clause-pixels : goal.returns-clause-pixels
 returns-clause-pixels c = touched c.cover_lies_in_bounds.ensures

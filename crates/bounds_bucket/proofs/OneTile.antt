@@ -6,7 +6,7 @@ use Rattle.std.specs.Prelude.{nat_le, nat_lt}
 use Rattle.std.proofs.lemmas.Bool.{and_parts, cases_lt}
 use Rattle.rc_base.specs.Cluster.Tiles.{boundary_of, is_in_interval, tile_pixels, tile_column, tile_row}
 use Rattle.rc_base.specs.declared.window.Layout.{Layout}
-use Rattle.definition_laws.specs.Tiles.{HasPixel}
+use Rattle.bounds_bucket.specs.Tiles.{HasPixel}
 
 -- the last of some rising places that isn't above x
 pub last_below : (f : ℕ → ℕ) (x n : ℕ) → f 0 ≤ x → x < f n → (j : ℕ) × (j < n) × (f j ≤ x) × (x < f (j + 1))

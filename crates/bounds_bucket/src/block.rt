@@ -1,0 +1,100 @@
+//! What the kept triangles of a block span.
+ghost use Rattle.std.specs.Prelude.{◌≡◌, length, None, Some, ℤ};
+ghost use Rattle.std.specs.Int.{int_min, int_max};
+ghost use Rattle.rc_base.specs.Drawing.Cover.{corner};
+ghost use Rattle.rc_base.specs.Drawing.Kept.{kept_triangle};
+ghost use Rattle.rc_base.specs.Cluster.Tiles.{kept_corners};
+ghost use Rattle.geometry.specs.Items.{AreBelow};
+ghost use Rattle.bounds_bucket.specs.Extents.{AreEnds, AreEndsOfBoth, IsGrown, Spans, corners_of};
+
+use crate::extent::{Ends, Extent};
+use geometry::{to_window, triangles};
+use rc_base::state::{Block, State, Vertex};
+use rc_base::triangle::WindowTriangle;
+
+fn least_of(a: i32, b: i32, c: i32) -> i32
+    ensures { result ≡ int_min (int_min a b) c }
+{
+    a.min(b).min(c)
+}
+
+fn greatest_of(a: i32, b: i32, c: i32) -> i32
+    ensures { result ≡ int_max (int_max a b) c }
+{
+    a.max(b).max(c)
+}
+
+fn ends_of(a: i32, b: i32, c: i32) -> Ends
+    ensures { AreEnds result a b c }
+{
+    Ends {
+        least: least_of(a, b, c),
+        greatest: greatest_of(a, b, c),
+    }
+}
+
+fn both(a: Ends, b: Ends) -> Ends
+    ensures { AreEndsOfBoth a b result }
+{
+    Ends {
+        least: least_of(a.least, a.least, b.least),
+        greatest: greatest_of(a.greatest, a.greatest, b.greatest),
+    }
+}
+
+fn extent_of(tri: &WindowTriangle) -> Extent
+    ensures across { AreEnds result.across (corner tri.now.v 0).x (corner tri.now.v 1).x (corner tri.now.v 2).x }
+    ensures up { AreEnds result.up (corner tri.now.v 0).y (corner tri.now.v 1).y (corner tri.now.v 2).y }
+{
+    Extent {
+        across: ends_of(tri.v[0].x, tri.v[1].x, tri.v[2].x),
+        up: ends_of(tri.v[0].y, tri.v[1].y, tri.v[2].y),
+    }
+}
+
+fn joined(a: Extent, b: Extent) -> Extent
+    ensures across { AreEndsOfBoth a.across b.across result.across }
+    ensures up { AreEndsOfBoth a.up b.up result.up }
+{
+    Extent {
+        across: both(a.across, b.across),
+        up: both(a.up, b.up),
+    }
+}
+
+// Adds the corners of a triangle, where it is kept.
+fn grown(
+    extent: Option<Extent>,
+    state: &State,
+    vertices: &[Vertex],
+    corners: [usize; 3],
+) -> Option<Extent>
+    requires { AreBelow (length vertices.now) corners }
+    ensures { IsGrown (corners_of (kept_triangle state.now vertices.now corners)) extent result }
+{
+    let three = [
+        vertices[corners[0]],
+        vertices[corners[1]],
+        vertices[corners[2]],
+    ];
+    let Some(tri) = to_window(state, &three) else {
+        return extent;
+    };
+    let more = extent_of(&tri);
+    match extent {
+        None => Some(more),
+        Some(e) => Some(joined(e, more)),
+    }
+}
+
+/// What the corners of all kept triangles of a block span; none where it has no kept triangle.
+pub(crate) fn block_extent(state: &State, block: &Block) -> Option<Extent>
+    ensures { Spans (kept_corners state.now block.now) result }
+{
+    let vertices = block.vertices.as_slice();
+    let mut extent = None;
+    'block: for corners in triangles(block) {
+        extent = grown(extent, state, vertices, corners);
+    }
+    extent
+}
