@@ -1,0 +1,4 @@
+pub mod Pictures
+pub mod Rest
+pub mod Headers
+pub mod Faults

@@ -1,0 +1,15 @@
+//! Images as Netpbm P6: their texts, and the images that texts begin with.
+//!
+//! `image_text` writes an image, `read_ppm` reads the image at the front of some bytes. Both meet the definitions of `rc_base`'s formats. What is
+//! written is read again.
+#![tactic(auto)]
+
+mod header;
+mod reading;
+mod writing;
+
+pub use reading::{PpmFault, read_ppm};
+pub use writing::image_text;
+
+#[cfg(test)]
+mod tests;
