@@ -28,3 +28,4 @@ mod CommandsAreLocal
 mod OrderedScenesDrawAlike
 mod OrderedScenesHaveOneFrame
 mod RunsShowOneImage
+mod UsedOperations

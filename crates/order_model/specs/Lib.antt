@@ -7,3 +7,4 @@ pub mod Report
 pub mod Standing
 pub mod Board
 pub mod Gathering
+pub mod Counted

@@ -7,3 +7,6 @@
 
 pub mod laws;
 pub mod record;
+mod walk;
+
+pub use walk::reach;

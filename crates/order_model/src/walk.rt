@@ -1,0 +1,114 @@
+//! Walks along a journal, which count the operations that each client has used.
+ghost use Rattle.std.specs.Prelude.{◌≡◌, ◌+◌, ◌<◌, ◌≤◌, ◌^◌, ℕ, cond, length, slice_get, slice_index, option_map};
+ghost use Rattle.std.specs.Option.{option_map_or};
+ghost use Rattle.rc_base.specs.Orders.Journal.{is_member, reach_of};
+ghost use Rattle.rc_base.specs.Orders.Sync.{client_count, ops_of};
+ghost use Rattle.rc_base.specs.declared.sync.WaitAt.{WaitAt};
+ghost use Rattle.order_model.specs.Counted.{used_by, place_or_end};
+
+use crate::record::Record;
+use rc_base::sync::{Entry, SyncLists, SyncRow};
+
+/// How many clients there are.
+pub fn clients_of(syncs: &SyncLists) -> usize
+    ensures { result ≡ client_count syncs.now }
+{
+    syncs.clients.len()
+}
+
+/// The entry uses an operation of the client.
+pub fn is_member(entry: Entry, client: u8, clients: usize) -> bool
+    requires { client < 8 }
+    ensures { result ≡ is_member clients entry client }
+{
+    match entry {
+        Entry::Meet { members, .. } => (members >> client) & 1 == 1,
+        Entry::Swap => (client as usize) < clients,
+        Entry::Give { client: only, .. } => client == only,
+        Entry::Take { client: only, .. } => client == only,
+    }
+}
+
+/// How many entries use an operation of the client.
+fn used_by(journal: &[Entry], client: u8, clients: usize) -> usize
+    requires { client < 8 }
+    ensures { result ≡ used_by clients client journal.now }
+{
+    let mut n = 0;
+    for entry in journal {
+        if is_member(*entry, client, clients) {
+            n += 1;
+        }
+    }
+    n
+}
+
+/// Each member has used one operation more.
+pub fn advance(used: &mut [usize; 8], entry: Entry, clients: usize)
+    requires { (client : ℕ) → slice_index used.old client < 2 ^ 63 }
+    ensures { (client : ℕ) → client < 8 → slice_index used.new client ≡ cond (is_member clients entry client) (slice_index used.old client + 1) (slice_index used.old client) }
+{
+    for client in 0..8u8 {
+        if is_member(entry, client, clients) {
+            used[client as usize] += 1;
+        }
+    }
+}
+
+fn place_in(row: &SyncRow, number: usize) -> Option<u32>
+    ensures { result ≡ option_map (λ (w : WaitAt). w.place) (slice_get row.now.ops number) }
+{
+    match row.ops.as_slice().get(number) {
+        Some(wait) => Some(wait.place),
+        None => None,
+    }
+}
+
+/// The place of a client's operation of this number.
+pub fn place_of(syncs: &SyncLists, client: u8, number: usize) -> Option<u32>
+    ensures { result ≡ option_map (λ (w : WaitAt). w.place) (slice_get (ops_of syncs.now client) number) }
+{
+    match syncs.clients.as_slice().get(client as usize) {
+        Some(row) => place_in(row, number),
+        None => None,
+    }
+}
+
+fn place_or_length(row: &SyncRow, number: usize) -> u32
+    ensures { result ≡ option_map_or (λ (w : WaitAt). w.place) (slice_get row.now.ops number) row.now.length }
+{
+    match row.ops.as_slice().get(number) {
+        Some(wait) => wait.place,
+        None => row.length,
+    }
+}
+
+/// The place of a client's operation of this number, else the end of its stream.
+pub fn place_or_end(syncs: &SyncLists, client: u8, number: usize) -> u32
+    ensures { result ≡ place_or_end syncs.now client number }
+{
+    match syncs.clients.as_slice().get(client as usize) {
+        Some(row) => place_or_length(row, number),
+        None => 0,
+    }
+}
+
+/// The place of the client's first operation that the journal doesn't use, else the end of its stream.
+pub fn reach_in(journal: &[Entry], syncs: &SyncLists, client: u8) -> u32
+    requires { client < 8 }
+    ensures { result ≡ reach_of syncs.now journal.now client }
+{
+    place_or_end(syncs, client, used_by(journal, client, clients_of(syncs)))
+}
+
+/// Where a client of the run stops: the place of its first accepted operation of synchronisation that the journal doesn't use, else the number of
+/// commands in its stream. The commands below this place are carried out. A client that doesn't exist stops at 0.
+pub fn reach(kept: &Record, client: u8) -> u32
+    requires { client_count kept.now.syncs ≤ 8 }
+    ensures { result ≡ reach_of kept.now.syncs kept.now.journal client }
+{
+    if client >= 8 {
+        return 0;
+    }
+    reach_in(kept.journal.as_slice(), &kept.syncs, client)
+}
