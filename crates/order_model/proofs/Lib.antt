@@ -29,3 +29,5 @@ mod OrderedScenesDrawAlike
 mod OrderedScenesHaveOneFrame
 mod RunsShowOneImage
 mod UsedOperations
+mod CountedNames
+mod RecordedByCounts

@@ -7,6 +7,8 @@
 
 pub mod laws;
 pub mod record;
+mod recorded;
 mod walk;
 
+pub use recorded::tile_order;
 pub use walk::reach;
