@@ -4,3 +4,5 @@ mod WaitingOperations
 mod SoundBooks
 mod BookGrants
 mod PositiveCounts
+mod ManagerSteps
+mod FoundLanes

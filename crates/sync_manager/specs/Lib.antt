@@ -1,2 +1,4 @@
 pub mod Stored
 pub mod Books
+pub mod Progress
+pub mod Cores

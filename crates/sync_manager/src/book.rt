@@ -41,7 +41,8 @@ impl Book {
         requires clients { (0 < clients) × (clients ≤ 8) }
         requires barriers { length decl.now.barriers < 256 }
         requires counts { (barrier count : ℕ) → at_name decl.now.barriers barrier ≡ Some count → 0 < count }
-        ensures { IfOk result (λ kept. (syncs : SyncLists) → client_count syncs ≡ clients → syncs.counts ≡ decl.now.barriers → syncs.units ≡ decl.now.semaphores → IsBookOf syncs kept new_book) }
+        ensures clients { IfOk result (λ kept. clients_in kept ≡ clients) }
+        ensures book { IfOk result (λ kept. (syncs : SyncLists) → client_count syncs ≡ clients → syncs.counts ≡ decl.now.barriers → syncs.units ≡ decl.now.semaphores → IsBookOf syncs kept new_book) }
     {
         let counts = Items::from_slice(alloc, decl.barriers.as_slice())?;
         let units = widened(alloc, decl.semaphores.as_slice())?;
@@ -88,6 +89,7 @@ impl Book {
         requires free { waiting_at self.old client ≡ None }
         requires running { has_ended self.old client ≡ false }
         requires declared { names_declared self.old op ≡ true }
+        ensures clients { clients_in self.new ≡ clients_in self.old }
         ensures arrived { OnOk result ((syncs : SyncLists) (b : Arrivals) → IsBookOf syncs self.old b → IsBookOf syncs self.new (book_after syncs b (Arrives client record { place = place; op = op }))) }
         ensures unchanged { OnErr result ((syncs : SyncLists) (b : Arrivals) → IsBookOf syncs self.old b → IsBookOf syncs self.new b) }
     {
@@ -101,13 +103,14 @@ impl Book {
         requires client { client < clients_in self.old }
         requires free { waiting_at self.old client ≡ None }
         requires running { has_ended self.old client ≡ false }
-        ensures { (syncs : SyncLists) (b : Arrivals) → IsBookOf syncs self.old b → IsBookOf syncs self.new (book_after syncs b (Ends client)) }
+        ensures clients { clients_in self.new ≡ clients_in self.old }
+        ensures ended { (syncs : SyncLists) (b : Arrivals) → IsBookOf syncs self.old b → IsBookOf syncs self.new (book_after syncs b (Ends client)) }
     {
         self.ended[client as usize] = true;
     }
 
     /// The first lawful entry by what arrived.
-    fn next_entry(&self) -> Option<Entry>
+    pub(crate) fn next_entry(&self) -> Option<Entry>
         ensures { result ≡ grant_at self.now.counts self.now.units.items self.now.waiting self.now.clients }
     {
         grant_at(
@@ -119,9 +122,10 @@ impl Book {
     }
 
     /// Carries out the first lawful entry.
-    fn carry_out(&mut self, entry: Entry)
+    pub(crate) fn carry_out(&mut self, entry: Entry)
         requires { grant_at self.old.counts self.old.units.items self.old.waiting self.old.clients ≡ Some entry }
-        ensures { (syncs : SyncLists) (b : Arrivals) → IsBookOf syncs self.old b → IsBookOf syncs self.new (book_after syncs b Grants) }
+        ensures clients { clients_in self.new ≡ clients_in self.old }
+        ensures granted { (syncs : SyncLists) (b : Arrivals) → IsBookOf syncs self.old b → IsBookOf syncs self.new (book_after syncs b Grants) }
     {
         release(&mut self.waiting, self.clients, entry);
         move_unit(&mut self.units, entry);
@@ -132,6 +136,7 @@ impl Book {
     /// Meet of the lowest barrier where enough clients wait, else Swap where all do. Its members wait no more. None comes exactly where no entry is
     /// lawful by what arrived.
     pub fn grant(&mut self) -> Option<Entry>
+        ensures clients { clients_in self.new ≡ clients_in self.old }
         ensures entry { (syncs : SyncLists) (b : Arrivals) → IsBookOf syncs self.old b → result ≡ grant syncs (standing syncs b) }
         ensures none { (syncs : SyncLists) (b : Arrivals) → IsBookOf syncs self.old b → IsNone result ↔ NothingIsLawful syncs (standing syncs b) }
         ensures granted { (syncs : SyncLists) (b : Arrivals) → IsBookOf syncs self.old b → IsBookOf syncs self.new (book_after syncs b Grants) }
@@ -146,7 +151,7 @@ impl Book {
     }
 
     /// Each client waits or has ended.
-    fn all_wait(&self) -> bool
+    pub(crate) fn all_wait(&self) -> bool
         ensures { IsTrue result ↔ AllWaitOrEnded self.now }
     {
         for client in 0..self.clients {

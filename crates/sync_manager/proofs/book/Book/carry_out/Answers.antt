@@ -34,8 +34,8 @@ invariant_of-self c =
           (subst (λ k. IsSound s.clients s.counts moved later (vec_len s.entries + 1) k) (sym c.push_reserved.ensures.capacity) h);
     }
 
-pub returns : goal.returns
-returns c = λ syncs b h.
+pub returns-clause-granted : goal.returns-clause-granted
+returns-clause-granted c = λ syncs b h.
     let s = c.args.self.now in
     let e = c.args.entry in
     let g : grant syncs (standing syncs b) ≡ Some e = sym (granted syncs s b h) ∙ c.requires in

@@ -18,8 +18,8 @@ invariant_of-result c =
           (sound_new c.args.clients c.args.decl.now.barriers units cap c.requires.clients.0 c.requires.clients.1 c.requires.barriers c.requires.counts c.in_ok-units.ensures.bounded));
     }
 
-pub returns : goal.returns
-returns c = λ syncs clients of_counts of_units.
+pub returns-clause-book : goal.returns-clause-book
+returns-clause-book c = λ syncs clients of_counts of_units.
     let counts : c.in_ok-counts.counts ≡ syncs.counts = c.in_ok-counts.ensures ∙ c.as_slice.ensures ∙ sym of_counts in
     let units : c.in_ok-units.units.items ≡ syncs.units = c.in_ok-units.ensures.items ∙ c.as_slice-2.ensures ∙ sym of_units in
     record {

@@ -1,0 +1,21 @@
+use Rattle.std.proofs.Common.{refl, sym, ◌∙◌, subst}
+use Rattle.rc_base.specs.Orders.Book.{book_after}
+use Rattle.rc_base.specs.declared.sync.Request.TheVariants.{Op}
+use Rattle.sync_manager.specs.Books.{IsBookOf}
+use Rattle.sync_manager.proofs.ManagerSteps.{received_step, lost_step, declared_event, same_journal}
+use Rattle.sync_manager.proofs.manager.ManagerCore.arrive.Goals as goal
+
+pub returns-in-Ok-clause-step : goal.returns-in-Ok-clause-step
+returns-in-Ok-clause-step c =
+    let s = c.args.self.now in
+    let r = Op c.args.place c.args.op in
+    received_step s _ c.note_taken.new.self c.args.client r c.requires.client c.arrive.ensures.clients refl refl refl refl c.note_taken.ensures c.requires.wanted c.requires.task refl
+    (λ syncs a h. subst (λ e. IsBookOf syncs c.arrive.new.self (book_after syncs a e))
+    (sym (declared_event syncs c.args.client c.args.place c.args.op (sym (h.declared c.args.op) ∙ c.requires.declared))) (c.in-Ok.ensures.arrived syncs a h))
+    (λ syncs a. same_journal syncs c.args.client r a)
+
+pub returns-in-Err-clause-step : goal.returns-in-Err-clause-step
+returns-in-Err-clause-step c =
+    let s = c.args.self.now in
+    lost_step s _ c.note_taken-in-Err.new.self c.args.client c.args.place c.args.op c.requires.client c.arrive.ensures.clients refl refl refl refl refl c.note_taken-in-Err.ensures
+    c.requires.wanted c.requires.declared c.requires.task c.in-Err.ensures.unchanged
