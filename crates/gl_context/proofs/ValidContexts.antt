@@ -345,12 +345,12 @@ by_command decl x place None i h = h
 by_command decl x place (Some c) i h = by_fault decl x place c (fault_of x c) (i c refl) refl h
 
 -- a command of a scene whose commands are in their ranges
-command_of : (cs : List Command) (n : ℕ) (c : Command) → AllByRecursion IsCommand cs → slice_get cs n ≡ Some c → IsCommand c
+pub command_of : (cs : List Command) (n : ℕ) (c : Command) → AllByRecursion IsCommand cs → slice_get cs n ≡ Some c → IsCommand c
 command_of [] n c all e = absurd (cc)
 command_of (d ∷ cs) zero c all e = let same : d ≡ c = cc in subst IsCommand same all.0
 command_of (d ∷ cs) (suc n) c all e = command_of cs n c all.1 e
 
-stream_all : (css : List (List Command)) (client : ℕ) → AllByRecursion (AllByRecursion IsCommand) css → AllByRecursion IsCommand (slice_index_or css client [])
+pub stream_all : (css : List (List Command)) (client : ℕ) → AllByRecursion (AllByRecursion IsCommand) css → AllByRecursion IsCommand (slice_index_or css client [])
 stream_all [] client all = tt
 stream_all (cs ∷ css) zero all = all.0
 stream_all (cs ∷ css) (suc client) all = stream_all css client all.1

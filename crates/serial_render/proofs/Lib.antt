@@ -1,3 +1,5 @@
+pub mod IssuedCommands
+pub mod SurveyedStreams
 pub mod ImageBytes
 pub mod PixelIndex
 pub mod PlainStates

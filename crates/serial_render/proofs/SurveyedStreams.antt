@@ -1,0 +1,56 @@
+-- A client's operations one command after the other, and clients one after the other.
+use Rattle.std.proofs.Common.{◌≡◌, ℕ, zero, suc, ◌+◌, ◌≤◌, List, [], ◌∷◌, ◌++◌, length, refl, sym, ap, ◌∙◌, arith, inl, inr, add-one}
+use Rattle.std.specs.Prelude.{map, slice_index_or}
+use Rattle.std.specs.List.{range_with_len}
+use Rattle.std.proofs.lemmas.Bool.{cases_lt}
+use Rattle.std.proofs.lemmas.List.{get_or_past}
+use Rattle.std.proofs.lemmas.List.FromFn.{length-map-range_with_len, get_or-map-range_with_len}
+use Rattle.rc_base.specs.Contexts.Context.{default_context}
+use Rattle.rc_base.specs.Contexts.Issue.{context_after, effect_at, stream_of, faults_of}
+use Rattle.rc_base.specs.Orders.Sync.{wait_of, waits_below, sync_row_of, sync_lists_of}
+use Rattle.rc_base.specs.declared.scene.Scene.{Scene}
+use Rattle.rc_base.specs.declared.state.Effect.{Effect}
+use Rattle.rc_base.specs.declared.state.Fault.{Fault}
+use Rattle.rc_base.specs.declared.sync.SyncRow.{SyncRow}
+
+pub no_waits : (s : Scene) (client : ℕ) → [] ≡ waits_below s client 0
+unfolding waits_below
+no_waits s client = refl
+
+pub one_more_wait : (s : Scene) (client place : ℕ) (e : Effect) → e ≡ effect_at s client place
+    → waits_below s client place ++ wait_of place e ≡ waits_below s client (place + 1)
+unfolding waits_below
+one_more_wait s client place e is =
+    ap (λ (f : Effect). waits_below s client place ++ wait_of place f) is ∙ sym (ap (waits_below s client) (add-one place))
+
+-- one more number at the end
+pub map_more : {A : Type 0} (f : ℕ → A) (a n j : ℕ) → a + n ≡ j → map f (range_with_len a (n + 1)) ≡ map f (range_with_len a n) ++ f j ∷ []
+map_more f a n j e = ap (λ k. map f (range_with_len a k)) (add-one n) ∙ more f a n j e
+  where
+    more : {A : Type 0} (f : ℕ → A) (a n j : ℕ) → a + n ≡ j → map f (range_with_len a (suc n)) ≡ map f (range_with_len a n) ++ f j ∷ []
+    more f a zero j e = let same : a ≡ j = omega arith in ap (λ k. f k ∷ []) same
+    more f a (suc n) j e = ap (λ l. f a ∷ l) (more f (a + 1) n j (omega arith))
+
+pub lists_are : (s : Scene) (rows : List SyncRow) (counts units : List ℕ) → rows ≡ map (sync_row_of s) (range_with_len 0 (length s.streams))
+    → counts ≡ s.decl.barriers → units ≡ s.decl.semaphores → record { clients = rows; counts = counts; units = units } ≡ sync_lists_of s
+unfolding sync_lists_of
+lists_are s rows counts units a b c i = record { clients = a i; counts = b i; units = c i }
+
+-- a client that doesn't exist has no faults
+no_faults : (s : Scene) (client : ℕ) → length s.streams ≤ client → [] ≡ faults_of s client
+unfolding context_after default_context
+no_faults s client past =
+    let none : 0 ≡ length (stream_of s client) = sym (ap length (get_or_past s.streams client [] past)) in
+    ap (λ n. (context_after s client n).faults) none
+
+pub faults_are : (s : Scene) (lists : List (List (ℕ × Fault))) → lists ≡ map (faults_of s) (range_with_len 0 (length s.streams))
+    → (client : ℕ) → slice_index_or lists client [] ≡ faults_of s client
+faults_are s lists is client = ap (λ (l : List (List (ℕ × Fault))). slice_index_or l client []) is ∙ elim (cases_lt client (length s.streams)) [
+  | inl inside ↦ get_or-map-range_with_len (faults_of s) 0 (length s.streams) client client [] inside (omega arith)
+  | inr past ↦
+      get_or_past (map (faults_of s) (range_with_len 0 (length s.streams))) client [] (omega (arith, length-map-range_with_len (faults_of s) 0 (length s.streams), past))
+      ∙ no_faults s client past
+]
+
+pub faults_count : (s : Scene) (lists : List (List (ℕ × Fault))) → lists ≡ map (faults_of s) (range_with_len 0 (length s.streams)) → length lists ≡ length s.streams
+faults_count s lists is = ap length is ∙ length-map-range_with_len (faults_of s) 0 (length s.streams)

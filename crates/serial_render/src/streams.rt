@@ -1,0 +1,94 @@
+//! What a scene's streams say of synchronisation, and which of their commands are refused.
+ghost use Rattle.std.specs.Prelude.{◌≡◌, ℕ, ◌+◌, ◌<◌, ◌^◌, ◌++◌, ◌∷◌, [], length, slice_index_or, IfOk, OnOk};
+ghost use Rattle.std.specs.List.{AllByRecursion};
+ghost use Rattle.rc_base.specs.Formats.Commands.{IsCommand};
+ghost use Rattle.rc_base.specs.Contexts.Issue.{stream_of, faults_of};
+ghost use Rattle.rc_base.specs.Orders.Sync.{wait_of, sync_row_of, sync_lists_of};
+
+use crate::lists::Survey;
+use crate::replay::issue_at;
+use gl_context::Context;
+use rc_base::cluster::{FaultList, FaultLists};
+use rc_base::items::Items;
+use rc_base::out_of_memory::OutOfMemory;
+use rc_base::scene::Scene;
+use rc_base::state::Effect;
+use rc_base::sync::{SyncLists, SyncOps, SyncRow, SyncRows, WaitAt};
+use std::alloc::Global;
+
+// Adds the operation of synchronisation that a command gives.
+fn add_operation(ops: &mut SyncOps, place: u32, effect: &Effect) -> Result<(), OutOfMemory>
+    ensures { OnOk result (ops.new ≡ ops.old ++ wait_of place effect.now) }
+{
+    if let Effect::Sync(op) = effect {
+        ops.push(WaitAt { place, op: *op })?;
+    }
+    Ok(())
+}
+
+// How many commands a client's stream has.
+fn stream_length(scene: &Scene, client: usize) -> usize
+    requires { client < length scene.now.streams }
+    ensures { result ≡ length (stream_of scene.now client) }
+{
+    scene.streams.as_slice()[client].len()
+}
+
+// A client's operations of synchronisation, and its refused commands.
+fn survey_client(
+    alloc: Global,
+    scene: &Scene,
+    client: usize,
+) -> Result<(SyncRow, FaultList), OutOfMemory>
+    requires commands { AllByRecursion (AllByRecursion IsCommand) scene.now.streams }
+    requires few { (client : ℕ) → length (stream_of scene.now client) < 2 ^ 32 }
+    requires client { client < length scene.now.streams }
+    ensures row { IfOk result (λ p. p.0 ≡ sync_row_of scene.now client) }
+    ensures faults { IfOk result (λ p. p.1 ≡ faults_of scene.now client) }
+{
+    let mut context = Context::new(alloc, &scene.decl)?;
+    let mut ops = SyncOps::new(alloc);
+    let length = stream_length(scene, client);
+    for place in 0..length {
+        let effect = issue_at(&mut context, scene, client, place)?;
+        add_operation(&mut ops, place as u32, &effect)?;
+    }
+    let row = SyncRow {
+        ops,
+        length: length as u32,
+    };
+    Ok((row, context.into_faults()))
+}
+
+/// The accepted operations of synchronisation and the refused commands of a scene's whole streams. Each command is issued once.
+pub fn survey(alloc: Global, scene: &Scene) -> Result<Survey, OutOfMemory>
+    requires commands { AllByRecursion (AllByRecursion IsCommand) scene.now.streams }
+    requires few { (client : ℕ) → length (stream_of scene.now client) < 2 ^ 32 }
+    ensures syncs { IfOk result (λ s. s.syncs ≡ sync_lists_of scene.now) }
+    ensures clients { IfOk result (λ s. length s.faults ≡ length scene.now.streams) }
+    ensures faults { IfOk result (λ s. (client : ℕ) → slice_index_or s.faults client [] ≡ faults_of scene.now client) }
+{
+    let mut rows = SyncRows::new(alloc);
+    let mut faults = FaultLists::new(alloc);
+    for client in 0..scene.streams.len() {
+        let (row, refused) = survey_client(alloc, scene, client)?;
+        rows.push(row)?;
+        faults.push(refused)?;
+    }
+    let syncs = SyncLists {
+        clients: rows,
+        counts: Items::from_slice(alloc, scene.decl.barriers.as_slice())?,
+        units: Items::from_slice(alloc, scene.decl.semaphores.as_slice())?,
+    };
+    Ok(Survey { syncs, faults })
+}
+
+/// The accepted operations of synchronisation of a scene's whole streams, the barriers' counts and the semaphores' first units.
+pub fn sync_lists(alloc: Global, scene: &Scene) -> Result<SyncLists, OutOfMemory>
+    requires commands { AllByRecursion (AllByRecursion IsCommand) scene.now.streams }
+    requires few { (client : ℕ) → length (stream_of scene.now client) < 2 ^ 32 }
+    ensures { IfOk result (λ s. s ≡ sync_lists_of scene.now) }
+{
+    let Survey { syncs, .. } = survey(alloc, scene)?;
+    Ok(syncs)
+}
