@@ -5,3 +5,6 @@ mod CoverInBounds
 mod PartHoldsCover
 mod Fragments
 mod KeptColumns
+mod Near
+mod FineNear
+mod Affine

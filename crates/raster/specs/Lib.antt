@@ -5,3 +5,6 @@ pub mod Between
 pub mod Clamped
 pub mod Blend
 pub mod Columns
+pub mod Planes
+pub mod Reciprocal
+pub mod Colors

@@ -1,0 +1,45 @@
+-- The colour of a triangle over the pixels, and what its corners have in common.
+use Rattle.std.specs.Prelude.{◌≡◌, ℕ, List, ℤ, pos, Bool, ◌==◌, ◌&&◌}
+use Rattle.rc_base.specs.Numbers.{is_between}
+use Rattle.rc_base.specs.Drawing.Cover.{corner}
+use Rattle.rc_base.specs.Drawing.Window.{depth_most}
+use Rattle.rc_base.specs.declared.command.Rgba.{Rgba}
+use Rattle.rc_base.specs.declared.window.WindowVertex.{WindowVertex}
+use Rattle.rc_base.specs.declared.window.Fragment.{Fragment}
+use Rattle.raster.specs.declared.color.ColorPlane.{ColorPlane}
+use Rattle.raster.specs.declared.color.ColorRamp.{ColorRamp}
+use Rattle.raster.specs.Planes.{IsPlane, IsRamp}
+
+-- the colour of a triangle from pixel (x, y) on
+pub record IsColorPlane (v : List WindowVertex) (x y : ℤ) (p : ColorPlane) : Type 0 where
+  pub r : IsPlane v x y (λ (c : WindowVertex). pos c.color.r) p.r
+  pub g : IsPlane v x y (λ (c : WindowVertex). pos c.color.g) p.g
+  pub b : IsPlane v x y (λ (c : WindowVertex). pos c.color.b) p.b
+  pub a : IsPlane v x y (λ (c : WindowVertex). pos c.color.a) p.a
+
+-- the colour at pixel (x, y), after so many steps
+pub record IsColorRamp (v : List WindowVertex) (x y : ℤ) (k : ℕ) (p : ColorRamp) : Type 0 where
+  pub r : IsRamp v x y (λ (c : WindowVertex). pos c.color.r) k p.r
+  pub g : IsRamp v x y (λ (c : WindowVertex). pos c.color.g) k p.g
+  pub b : IsRamp v x y (λ (c : WindowVertex). pos c.color.b) k p.b
+  pub a : IsRamp v x y (λ (c : WindowVertex). pos c.color.a) k p.a
+
+abbrev pub HasColor : Rgba → Fragment → Type 0
+HasColor color f = color ≡ f.color
+
+-- three colours are one
+abbrev pub are_one : Rgba → Rgba → Rgba → Bool
+are_one a b c =
+    (a.r == b.r && b.r == c.r) && ((a.g == b.g && b.g == c.g) && ((a.b == b.b && b.b == c.b) && (a.a == b.a && b.a == c.a)))
+
+-- the corners have one colour
+abbrev pub has_one_color : List WindowVertex → Bool
+has_one_color v = are_one (corner v 0).color (corner v 1).color (corner v 2).color
+
+-- a depth in the buffer's range
+abbrev pub is_depth : ℤ → Bool
+is_depth z = is_between (pos 0) (pos depth_most) z
+
+-- each corner's depth lies in the buffer's range
+abbrev pub are_depths : List WindowVertex → Bool
+are_depths v = is_depth (corner v 0).z && (is_depth (corner v 1).z && is_depth (corner v 2).z)

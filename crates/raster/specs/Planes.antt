@@ -1,0 +1,108 @@
+-- An attribute of a triangle as a plane over the pixels: its sum by weight is affine in the pixel, and its mean is kept as a number of parts.
+use Rattle.std.specs.Prelude.{◌≡◌, ℕ, ◌*◌, ◌-◌, ◌^◌, List, ℤ, pos, neg_ℤ, ◌+ℤ◌, ◌-ℤ◌, ◌*ℤ◌, ◌≤ℤ◌}
+use Rattle.rc_base.specs.Drawing.Cover.{corner, triangle_area, centre}
+use Rattle.rc_base.specs.Drawing.Fragment.{weight, weighted_sum}
+use Rattle.rc_base.specs.declared.window.WindowVertex.{WindowVertex}
+use Rattle.raster.specs.declared.plane.Plane.{Plane}
+use Rattle.raster.specs.declared.plane.Ramp.{Ramp}
+use Rattle.raster.specs.declared.fine.FinePlane.{FinePlane}
+use Rattle.raster.specs.declared.fine.FineRamp.{FineRamp}
+use Rattle.raster.specs.declared.edges.Edges.{Edges}
+use Rattle.raster.specs.declared.stencil.Stencil.{Stencil}
+
+-- ---- sums by weight
+
+-- an attribute's sum of the corners by weight at the centre of a pixel: the mean there times the area
+unfoldable pub sum_at : List WindowVertex → ℤ → ℤ → (WindowVertex → ℤ) → ℤ
+sum_at v x y f =
+    weighted_sum (weight v 0 (centre x) (centre y)) (weight v 1 (centre x) (centre y)) (weight v 2 (centre x) (centre y))
+    (f (corner v 0)) (f (corner v 1)) (f (corner v 2))
+
+-- what the sum gains from a pixel to the next of its row, and to the one above it
+abbrev pub gain_across : List WindowVertex → ℤ → ℤ → (WindowVertex → ℤ) → ℤ
+gain_across v x y f = sum_at v (x +ℤ pos 1) y f -ℤ sum_at v x y f
+
+abbrev pub gain_up : List WindowVertex → ℤ → ℤ → (WindowVertex → ℤ) → ℤ
+gain_up v x y f = sum_at v x (y +ℤ pos 1) f -ℤ sum_at v x y f
+
+-- the values of an attribute at the corners
+abbrev pub AreCorners : List WindowVertex → (WindowVertex → ℤ) → ℤ → ℤ → ℤ → Type 0
+AreCorners v f a b c = (f (corner v 0) ≡ a) × (f (corner v 1) ≡ b) × (f (corner v 2) ≡ c)
+
+-- an attribute from `low` to `high` at each corner
+abbrev pub IsFromTo : ℤ → ℤ → ℤ → Type 0
+IsFromTo low high z = (low ≤ℤ z) × (z ≤ℤ high)
+
+abbrev pub AreFromTo : ℤ → ℤ → List WindowVertex → (WindowVertex → ℤ) → Type 0
+AreFromTo low high v f = IsFromTo low high (f (corner v 0)) × IsFromTo low high (f (corner v 1)) × IsFromTo low high (f (corner v 2))
+
+-- ---- what all attributes of a triangle share
+
+-- the weights at a point
+pub record AreEdges (v : List WindowVertex) (px py : ℤ) (e : Edges) : Type 0 where
+  pub first : e.first ≡ weight v 0 px py
+  pub second : e.second ≡ weight v 1 px py
+  pub third : e.third ≡ weight v 2 px py
+
+-- the area, and the weights at a pixel's centre, at the next one's and at the one's above it
+pub record IsStencil (v : List WindowVertex) (x y : ℤ) (s : Stencil) : Type 0 where
+  pub area : s.area ≡ triangle_area v
+  pub here : AreEdges v (centre x) (centre y) s.here
+  pub right : AreEdges v (centre (x +ℤ pos 1)) (centre y) s.right
+  pub above : AreEdges v (centre x) (centre (y +ℤ pos 1)) s.above
+
+-- ---- numbers of parts
+
+-- a number modulo 2^64, and modulo 2^128
+pub record IsResidue (whole : ℤ) (part : ℕ) : Type 0 where
+  pub turns : ℤ
+  pub is : whole ≡ pos part +ℤ pos (2 ^ 64) *ℤ turns
+
+pub record IsFineResidue (whole : ℤ) (part : ℕ) : Type 0 where
+  pub turns : ℤ
+  pub is : whole ≡ pos part +ℤ pos (2 ^ 128) *ℤ turns
+
+-- `part` is n / area in parts of 2^56, modulo 2^64, and too large by at most k times 2^44 parts of the area
+pub record IsNear (n area : ℤ) (k part : ℕ) : Type 0 where
+  pub whole : ℤ
+  pub low : (pos (2 ^ 56) *ℤ n) ≤ℤ (area *ℤ whole)
+  pub high : (area *ℤ whole) ≤ℤ (pos (2 ^ 56) *ℤ n +ℤ pos (2 ^ 44 * k))
+  pub residue : IsResidue whole part
+
+-- `part` is n / area in parts of 2^96, modulo 2^128, and too large by at most k times 2^83 parts of the area
+pub record IsClose (n area : ℤ) (k part : ℕ) : Type 0 where
+  pub whole : ℤ
+  pub low : (pos (2 ^ 96) *ℤ n) ≤ℤ (area *ℤ whole)
+  pub high : (area *ℤ whole) ≤ℤ (pos (2 ^ 96) *ℤ n +ℤ pos (2 ^ 83 * k))
+  pub residue : IsFineResidue whole part
+
+-- ---- attributes of a byte
+
+-- from pixel (x, y) on
+pub record IsPlane (v : List WindowVertex) (x y : ℤ) (f : WindowVertex → ℤ) (p : Plane) : Type 0 where
+  pub bytes : AreFromTo (pos 0) (pos 255) v f
+  pub at : IsNear (sum_at v x y f) (triangle_area v) 1 p.at
+  pub across : IsNear (gain_across v x y f) (triangle_area v) 1 p.across
+  pub up : IsNear (gain_up v x y f) (triangle_area v) 1 p.up
+
+-- at pixel (x, y), after so many steps
+pub record IsRamp (v : List WindowVertex) (x y : ℤ) (f : WindowVertex → ℤ) (k : ℕ) (r : Ramp) : Type 0 where
+  pub bytes : AreFromTo (pos 0) (pos 255) v f
+  pub at : IsNear (sum_at v x y f) (triangle_area v) k r.at
+  pub across : IsNear (gain_across v x y f) (triangle_area v) 1 r.across
+
+-- ---- attributes of 32 bits
+
+abbrev pub AreShort : List WindowVertex → (WindowVertex → ℤ) → Type 0
+AreShort v f = AreFromTo (neg_ℤ (pos (2 ^ 31))) (pos (2 ^ 31 - 1)) v f
+
+pub record IsFinePlane (v : List WindowVertex) (x y : ℤ) (f : WindowVertex → ℤ) (p : FinePlane) : Type 0 where
+  pub short : AreShort v f
+  pub at : IsClose (sum_at v x y f) (triangle_area v) 1 p.at
+  pub across : IsClose (gain_across v x y f) (triangle_area v) 1 p.across
+  pub up : IsClose (gain_up v x y f) (triangle_area v) 1 p.up
+
+pub record IsFineRamp (v : List WindowVertex) (x y : ℤ) (f : WindowVertex → ℤ) (k : ℕ) (r : FineRamp) : Type 0 where
+  pub short : AreShort v f
+  pub at : IsClose (sum_at v x y f) (triangle_area v) k r.at
+  pub across : IsClose (gain_across v x y f) (triangle_area v) 1 r.across

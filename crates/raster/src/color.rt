@@ -1,0 +1,121 @@
+//! The colour of a triangle over the pixels, channel by channel as a plane; and what its corners have in common.
+ghost use Rattle.std.specs.Prelude.{◌≡◌, ℕ, ◌+◌, ◌^◌, ◌<◌, ◌==◌, ◌&&◌, List, ℤ, pos, ◌+ℤ◌, ◌<ℤ◌, true, false, MatchOption};
+ghost use Rattle.rc_base.specs.Drawing.Cover.{triangle_area, is_inside};
+ghost use Rattle.rc_base.specs.Drawing.Fragment.{fragment_of};
+ghost use Rattle.rc_base.specs.declared.window.WindowVertex.{WindowVertex as AnyVertex};
+ghost use Rattle.raster.specs.Planes.{IsStencil};
+ghost use Rattle.raster.specs.Colors.{IsColorPlane, IsColorRamp, HasColor, are_one, has_one_color, is_depth, are_depths};
+
+use crate::plane::{Plane, Ramp, plane_of};
+use crate::stencil::Stencil;
+use rc_base::command::Rgba;
+use rc_base::triangle::WindowTriangle;
+
+/// The four channels over the pixels.
+#[derive(Clone, Copy)]
+pub struct ColorPlane {
+    r: Plane,
+    g: Plane,
+    b: Plane,
+    a: Plane,
+}
+
+/// The four channels at a pixel of a row.
+#[derive(Clone, Copy)]
+pub struct ColorRamp {
+    r: Ramp,
+    g: Ramp,
+    b: Ramp,
+    a: Ramp,
+}
+
+/// The colour of a triangle from the stencil's pixel on.
+pub fn color_plane(tri: &WindowTriangle, stencil: &Stencil) -> ColorPlane
+    ensures { (x y : ℤ) → IsStencil tri.now.v x y stencil.now → IsColorPlane tri.now.v x y result }
+{
+    let [a, b, c] = &tri.v;
+    ColorPlane {
+        r: plane_of(stencil, a.color.r, b.color.r, c.color.r),
+        g: plane_of(stencil, a.color.g, b.color.g, c.color.g),
+        b: plane_of(stencil, a.color.b, b.color.b, c.color.b),
+        a: plane_of(stencil, a.color.a, b.color.a, c.color.a),
+    }
+}
+
+impl ColorPlane {
+    /// The colour at the pixel `i` columns further and `j` rows up.
+    pub fn ramp(&self, i: u64, j: u64) -> ColorRamp
+        ensures { (v : List AnyVertex) (x y : ℤ) → IsColorPlane v x y self.now → IsColorRamp v (x +ℤ pos i) (y +ℤ pos j) (1 + i + j) result }
+    {
+        ColorRamp {
+            r: self.r.ramp(i, j),
+            g: self.g.ramp(i, j),
+            b: self.b.ramp(i, j),
+            a: self.a.ramp(i, j),
+        }
+    }
+}
+
+impl ColorRamp {
+    /// The colour of the fragment at the pixel, which the triangle covers, if fewer than 2^12 steps lead there from the plane's first pixel.
+    pub fn color(&self) -> Rgba
+        ensures { (v : List AnyVertex) (x y : ℤ) (k : ℕ) → IsColorRamp v x y k self.now → k < 2 ^ 12 → pos 0 <ℤ triangle_area v → is_inside v x y ≡ true → HasColor result (fragment_of v x y) }
+    {
+        Rgba {
+            r: self.r.mean(),
+            g: self.g.mean(),
+            b: self.b.mean(),
+            a: self.a.mean(),
+        }
+    }
+
+    /// Goes to the next pixel of the row.
+    pub fn advance(&mut self)
+        ensures { (v : List AnyVertex) (x y : ℤ) (k : ℕ) → IsColorRamp v x y k self.old → IsColorRamp v (x +ℤ pos 1) y (k + 1) self.new }
+    {
+        self.r.advance();
+        self.g.advance();
+        self.b.advance();
+        self.a.advance();
+    }
+}
+
+fn are_equal(a: u8, b: u8, c: u8) -> bool
+    ensures { result ≡ (a == b && b == c) }
+{
+    a == b && b == c
+}
+
+fn are_one(a: Rgba, b: Rgba, c: Rgba) -> bool
+    ensures { result ≡ are_one a b c }
+{
+    are_equal(a.r, b.r, c.r)
+        && (are_equal(a.g, b.g, c.g) && (are_equal(a.b, b.b, c.b) && are_equal(a.a, b.a, c.a)))
+}
+
+/// The one colour of all fragments of the triangle; none exactly where its corners have not one colour.
+pub fn flat_color(tri: &WindowTriangle) -> Option<Rgba>
+    ensures answer { MatchOption result (has_one_color tri.now.v ≡ false) (λ color. has_one_color tri.now.v ≡ true) }
+    ensures color { MatchOption result (has_one_color tri.now.v ≡ false)
+        (λ color. (x y : ℤ) → is_inside tri.now.v x y ≡ true → HasColor color (fragment_of tri.now.v x y)) }
+{
+    let [a, b, c] = &tri.v;
+    if !are_one(a.color, b.color, c.color) {
+        return None;
+    }
+    Some(a.color)
+}
+
+fn is_depth(z: i32) -> bool
+    ensures { result ≡ is_depth z }
+{
+    0 <= z && z <= 16_777_215
+}
+
+/// Whether each corner's depth lies in the buffer's range; then each fragment's does.
+pub fn has_depths(tri: &WindowTriangle) -> bool
+    ensures corners { result ≡ are_depths tri.now.v }
+    ensures fragments { result ≡ true → (x y : ℤ) → is_inside tri.now.v x y ≡ true → is_depth (fragment_of tri.now.v x y).depth ≡ true }
+{
+    is_depth(tri.v[0].z) && (is_depth(tri.v[1].z) && is_depth(tri.v[2].z))
+}

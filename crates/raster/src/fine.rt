@@ -1,0 +1,105 @@
+//! An attribute of 32 bits of a triangle as a plane over the pixels: its mean by weight, rounded down, at each pixel by one addition.
+//!
+//! The mean at a pixel is `n / area`, where `n` is affine in the pixel. It is kept as a number of 128 bits whose top 32 are the mean: in
+//! parts of 2^96, rounded up, modulo 2^128. Each step adds at most 2^83 / area parts of error, so below 2^12 steps no mean is changed by it.
+ghost use Rattle.std.specs.Prelude.{◌≡◌, ℕ, ◌^◌, ◌+◌, ◌*◌, ◌<◌, List, ℤ, pos, ◌+ℤ◌, ◌*ℤ◌, ◌≤ℤ◌, ◌<ℤ◌, true};
+ghost use Rattle.rc_base.specs.Numbers.{floor_quotient};
+ghost use Rattle.rc_base.specs.Drawing.Cover.{triangle_area, is_inside};
+ghost use Rattle.rc_base.specs.Drawing.Fragment.{interpolated};
+ghost use Rattle.rc_base.specs.declared.window.WindowVertex.{WindowVertex as AnyVertex};
+ghost use Rattle.raster.specs.Planes.{IsStencil, IsClose, IsFinePlane, IsFineRamp, AreCorners};
+
+use crate::edges::{gain, sum};
+use crate::parts::close;
+use crate::stencil::Stencil;
+use rc_base::triangle::WindowTriangle;
+
+/// An attribute over the pixels: at one pixel, and what it gains to the next of the row and to the one above.
+#[derive(Clone, Copy)]
+pub struct FinePlane {
+    at: u128,
+    across: u128,
+    up: u128,
+}
+
+/// An attribute at a pixel of a row, and what it gains to the next.
+#[derive(Clone, Copy)]
+pub struct FineRamp {
+    at: u128,
+    across: u128,
+}
+
+fn fine_plane_of(s: &Stencil, a: i32, b: i32, c: i32) -> FinePlane
+    ensures { (v : List AnyVertex) (x y : ℤ) (f : AnyVertex → ℤ) → IsStencil v x y s.now → AreCorners v f a b c → IsFinePlane v x y f result }
+{
+    let here = sum(&s.here, a, b, c);
+    let right = sum(&s.right, a, b, c);
+    let above = sum(&s.above, a, b, c);
+    FinePlane {
+        at: close(here, s),
+        across: close(gain(right, here), s),
+        up: close(gain(above, here), s),
+    }
+}
+
+fn fine_moved(at: u128, by: u128, times: u64) -> u128
+    ensures { (n area : ℤ) (m : ℤ) (k : ℕ) → IsClose n area k at → IsClose m area 1 by → IsClose (n +ℤ pos times *ℤ m) area (k + times) result }
+{
+    at.wrapping_add(u128::from(times).wrapping_mul(by))
+}
+
+// The top 32 bits as a signed number.
+fn top(at: u128) -> i32
+    ensures { (n area : ℤ) (k : ℕ) → IsClose n area k at → k < 2 ^ 12 → pos 0 <ℤ area → pos 0 ≤ℤ (floor_quotient n area +ℤ pos (2 ^ 31)) → floor_quotient n area <ℤ pos (2 ^ 31) → result ≡ floor_quotient n area }
+{
+    let biased = at.wrapping_add(170_141_183_460_469_231_731_687_303_715_884_105_728) >> 96;
+    (biased as i64 - 2_147_483_648) as i32
+}
+
+impl FinePlane {
+    /// The attribute at the pixel `i` columns further and `j` rows up.
+    pub fn ramp(&self, i: u64, j: u64) -> FineRamp
+        ensures { (v : List AnyVertex) (x y : ℤ) (f : AnyVertex → ℤ) → IsFinePlane v x y f self.now → IsFineRamp v (x +ℤ pos i) (y +ℤ pos j) f (1 + i + j) result }
+    {
+        FineRamp {
+            at: fine_moved(fine_moved(self.at, self.across, i), self.up, j),
+            across: self.across,
+        }
+    }
+}
+
+impl FineRamp {
+    /// The attribute of the fragment at the pixel, which the triangle covers, if fewer than 2^12 steps lead there from the plane's first
+    /// pixel.
+    pub fn mean(&self) -> i32
+        ensures { (v : List AnyVertex) (x y : ℤ) (f : AnyVertex → ℤ) (k : ℕ) → IsFineRamp v x y f k self.now → k < 2 ^ 12 → pos 0 <ℤ triangle_area v → is_inside v x y ≡ true → result ≡ interpolated v x y f }
+    {
+        top(self.at)
+    }
+
+    /// Goes to the next pixel of the row.
+    pub fn advance(&mut self)
+        ensures { (v : List AnyVertex) (x y : ℤ) (f : AnyVertex → ℤ) (k : ℕ) → IsFineRamp v x y f k self.old → IsFineRamp v (x +ℤ pos 1) y f (k + 1) self.new }
+    {
+        self.at = self.at.wrapping_add(self.across);
+    }
+}
+
+/// The depth of a triangle from the stencil's pixel on.
+pub fn depth_plane(tri: &WindowTriangle, stencil: &Stencil) -> FinePlane
+    ensures { (x y : ℤ) → IsStencil tri.now.v x y stencil.now → IsFinePlane tri.now.v x y (λ (c : AnyVertex). c.z) result }
+{
+    fine_plane_of(stencil, tri.v[0].z, tri.v[1].z, tri.v[2].z)
+}
+
+/// The texture coordinates s and t of a triangle from the stencil's pixel on.
+pub fn coordinate_planes(tri: &WindowTriangle, stencil: &Stencil) -> (FinePlane, FinePlane)
+    ensures s { (x y : ℤ) → IsStencil tri.now.v x y stencil.now → IsFinePlane tri.now.v x y (λ (c : AnyVertex). c.s) result.0 }
+    ensures t { (x y : ℤ) → IsStencil tri.now.v x y stencil.now → IsFinePlane tri.now.v x y (λ (c : AnyVertex). c.t) result.1 }
+{
+    let [a, b, c] = &tri.v;
+    (
+        fine_plane_of(stencil, a.s, b.s, c.s),
+        fine_plane_of(stencil, a.t, b.t, c.t),
+    )
+}

@@ -1,0 +1,81 @@
+//! A byte attribute of a triangle as a plane over the pixels: its mean by weight, rounded down, at each pixel by one addition.
+//!
+//! The mean at a pixel is `n / area`, where `n` is affine in the pixel. It is kept as a number of 64 bits whose top eight are the mean: in
+//! parts of 2^56, rounded up, modulo 2^64. Each step adds at most 2^44 / area parts of error, so below 2^12 steps no mean is changed by it.
+ghost use Rattle.std.specs.Prelude.{◌≡◌, ℕ, ◌^◌, ◌+◌, ◌*◌, ◌<◌, List, ℤ, pos, ◌+ℤ◌, ◌*ℤ◌, ◌<ℤ◌, true};
+ghost use Rattle.rc_base.specs.Drawing.Cover.{triangle_area, is_inside};
+ghost use Rattle.rc_base.specs.Drawing.Fragment.{interpolated};
+ghost use Rattle.rc_base.specs.declared.window.WindowVertex.{WindowVertex as AnyVertex};
+ghost use Rattle.raster.specs.Planes.{IsNear, IsPlane, IsRamp, IsStencil, AreCorners, AreFromTo};
+
+use crate::edges::{gain, sum};
+use crate::parts::near;
+use crate::stencil::Stencil;
+
+/// An attribute over the pixels: at one pixel, and what it gains to the next of the row and to the one above.
+#[derive(Clone, Copy)]
+pub struct Plane {
+    at: u64,
+    across: u64,
+    up: u64,
+}
+
+/// An attribute at a pixel of a row, and what it gains to the next.
+#[derive(Clone, Copy)]
+pub struct Ramp {
+    at: u64,
+    across: u64,
+}
+
+fn plane_by(s: &Stencil, a: i32, b: i32, c: i32) -> Plane
+    ensures { (v : List AnyVertex) (x y : ℤ) (f : AnyVertex → ℤ) → IsStencil v x y s.now → AreCorners v f a b c → AreFromTo (pos 0) (pos 255) v f → IsPlane v x y f result }
+{
+    let here = sum(&s.here, a, b, c);
+    let right = sum(&s.right, a, b, c);
+    let above = sum(&s.above, a, b, c);
+    Plane {
+        at: near(here, s),
+        across: near(gain(right, here), s),
+        up: near(gain(above, here), s),
+    }
+}
+
+pub(crate) fn plane_of(s: &Stencil, a: u8, b: u8, c: u8) -> Plane
+    ensures { (v : List AnyVertex) (x y : ℤ) (f : AnyVertex → ℤ) → IsStencil v x y s.now → AreCorners v f (pos a) (pos b) (pos c) → IsPlane v x y f result }
+{
+    plane_by(s, i32::from(a), i32::from(b), i32::from(c))
+}
+
+fn moved(at: u64, by: u64, times: u64) -> u64
+    ensures { (n area : ℤ) (m : ℤ) (k : ℕ) → IsNear n area k at → IsNear m area 1 by → IsNear (n +ℤ pos times *ℤ m) area (k + times) result }
+{
+    at.wrapping_add(times.wrapping_mul(by))
+}
+
+impl Plane {
+    /// The attribute at the pixel `i` columns further and `j` rows up.
+    pub(crate) fn ramp(&self, i: u64, j: u64) -> Ramp
+        ensures { (v : List AnyVertex) (x y : ℤ) (f : AnyVertex → ℤ) → IsPlane v x y f self.now → IsRamp v (x +ℤ pos i) (y +ℤ pos j) f (1 + i + j) result }
+    {
+        Ramp {
+            at: moved(moved(self.at, self.across, i), self.up, j),
+            across: self.across,
+        }
+    }
+}
+
+impl Ramp {
+    /// The mean at the pixel.
+    pub(crate) fn mean(&self) -> u8
+        ensures { (v : List AnyVertex) (x y : ℤ) (f : AnyVertex → ℤ) (k : ℕ) → IsRamp v x y f k self.now → k < 2 ^ 12 → pos 0 <ℤ triangle_area v → is_inside v x y ≡ true → pos result ≡ interpolated v x y f }
+    {
+        (self.at >> 56) as u8
+    }
+
+    /// Goes to the next pixel of the row.
+    pub(crate) fn advance(&mut self)
+        ensures { (v : List AnyVertex) (x y : ℤ) (f : AnyVertex → ℤ) (k : ℕ) → IsRamp v x y f k self.old → IsRamp v (x +ℤ pos 1) y f (k + 1) self.new }
+    {
+        self.at = self.at.wrapping_add(self.across);
+    }
+}
