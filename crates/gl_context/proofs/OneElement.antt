@@ -157,7 +157,7 @@ keeps_image x cmd.PopMatrix name other = by_same_textures x (carried_out x cmd.P
 keeps_image x c name other = (refl, refl)
 
 -- behind the scalar elements there are the images
-image_element_is : (x : ClientContext) (name : ℕ) → 0 < name → value_in x (image_element name) ≡ image_of_element x name
+pub image_element_is : (x : ClientContext) (name : ℕ) → 0 < name → value_in x (image_element name) ≡ image_of_element x name
 unfolding values_of
 image_element_is x name some =
     let e : image_element name + 1 - scalar_count ≡ name = omega (arith, some) in

@@ -1,0 +1,13 @@
+//! The differences of two states, and the switch from one client's state to another's.
+//!
+//! A state's elements, and when two values of one are the same, are those of `rc_base::specs::Contexts::Elements`. No call takes memory. This
+//! crate stands on rc_base.
+#![tactic(auto)]
+
+pub mod compare;
+pub mod states;
+#[cfg(test)]
+mod tests;
+
+pub use compare::is_same;
+pub use states::switch;

@@ -1,0 +1,91 @@
+-- What a tracker knows of the elements that a tile was told, and what a parcel adds to it.
+use Rattle.std.specs.Prelude.{◌≡◌, ℕ, ◌<◌, ◌≤◌, ◌==◌, ◌&&◌, Bool, List, [], ◌∷◌, ◌++◌, Option, Some, None, fold, is_some, length, replicate, slice_get, slice_index_or, unwrap_or, if◌then◌else◌}
+use Rattle.std.specs.List.{flat_map, range_with_len}
+use Rattle.std.specs.Option.{option_map_or}
+use Rattle.rc_base.specs.Lists.{at_name, with_name}
+use Rattle.rc_base.specs.Contexts.Context.{ClientContext, default_state, private_count, private_image, edit_of}
+use Rattle.rc_base.specs.Contexts.Elements.{values_of, scalar_count, image_element, image_value, no_image, same_value}
+use Rattle.rc_base.specs.Cluster.Parcels.{told_by}
+use Rattle.rc_base.specs.Drawing.Texel.{bound_kind, bound_name}
+use Rattle.rc_base.specs.declared.scene.Decl.{Decl}
+use Rattle.rc_base.specs.declared.state.State.{State}
+use Rattle.rc_base.specs.declared.state.ElementSet.{ElementSet}
+use Rattle.rc_base.specs.declared.state.ElementValue.{ElementValue}
+use Rattle.rc_base.specs.declared.state.ElementValue.TheVariants as val
+use Rattle.state_update.specs.declared.told.Told.{Told}
+
+-- ---- what a tracker knows
+
+-- a scalar element's value in a state, by its number
+abbrev pub scalar_value : State → ℕ → ElementValue
+scalar_value s e = slice_index_or (values_of s) e no_image
+
+-- the edit number of a private image that was told, by the texture's name from 1
+abbrev pub edit_told : Told → ℕ → ℕ
+edit_told t name = unwrap_or (at_name t.edits name) 0
+
+-- the value is an image with this edit number
+abbrev pub IsImageOf : ElementValue → ℕ → Type 0
+IsImageOf (val.Image k w h texels) edit = k ≡ edit
+IsImageOf v edit = ⊥
+
+-- what is kept of a tile agrees with these values, which the tile was told: each scalar element is the same, and each image has the edit number
+pub record Agrees (kept : Told) (values : ℕ → ElementValue) : Type 0 where
+  pub names : length kept.edits ≡ private_count
+  pub scalars : (e : ℕ) → e < scalar_count → values e ≡ scalar_value kept.state e
+  pub images : (name : ℕ) → 0 < name → name ≤ private_count → IsImageOf (values (image_element name)) (edit_told kept name)
+
+-- the tracker knows that the tile was told these values
+pub record Knows (tracker : List Told) (tile : ℕ) (values : ℕ → ElementValue) : Type 0 where
+  pub kept : Told
+  pub is : slice_get tracker tile ≡ Some kept
+  pub agrees : Agrees kept values
+
+-- the values that a tile was told after these sets
+abbrev pub after_sets : (ℕ → ElementValue) → List ElementSet → ℕ → ElementValue
+after_sets values sets e = fold (told_by e) (values e) sets
+
+-- ---- what a parcel examines
+
+-- where a private texture is bound, it is one that exists
+abbrev pub HasBoundTexture : ClientContext → Type 0
+HasBoundTexture x = bound_kind x.state ≡ 0 → (0 < bound_name x.state) × (bound_name x.state ≤ private_count)
+
+-- the private texture that a draw samples, where it has an image
+abbrev pub image_examined : ClientContext → Bool → Option ℕ
+image_examined x draws =
+    if ((draws && x.state.texture_on) && bound_kind x.state == 0) && is_some (private_image x (bound_name x.state))
+    then Some (bound_name x.state) else None
+
+abbrev pub IsPrivateName : Option ℕ → Type 0
+IsPrivateName None = Unit {0}
+IsPrivateName (Some name) = (0 < name) × (name ≤ private_count)
+
+-- its image with the edit number
+abbrev pub image_of : ClientContext → ℕ → ElementValue
+image_of x name = option_map_or (image_value (edit_of x name)) (private_image x name) no_image
+
+-- ---- the sets of a parcel, and what is kept of a tile after it
+
+abbrev pub scalar_set : State → State → ℕ → List ElementSet
+scalar_set told now e =
+    if same_value (scalar_value told e) (scalar_value now e) then [] else record { element = e; value = scalar_value now e } ∷ []
+
+abbrev pub image_set : Told → ClientContext → ℕ → List ElementSet
+image_set t x name =
+    if edit_told t name == edit_of x name then [] else record { element = image_element name; value = image_of x name } ∷ []
+
+abbrev pub image_sets : Told → ClientContext → Option ℕ → List ElementSet
+image_sets t x image = option_map_or (image_set t x) image []
+
+unfoldable pub sets_by : Told → ClientContext → Option ℕ → List ElementSet
+sets_by t x image = flat_map (scalar_set t.state x.state) (range_with_len 0 scalar_count) ++ image_sets t x image
+
+abbrev pub told_after : Told → ClientContext → Option ℕ → Told
+told_after t x image = record {
+  state = x.state;
+  edits = option_map_or (λ (name : ℕ). with_name t.edits name (edit_of x name)) image t.edits;
+}
+
+abbrev pub first_told : Decl → Told
+first_told d = record { state = default_state d; edits = replicate private_count 0 }
