@@ -1,0 +1,4 @@
+pub mod InTurn
+pub mod Fitting
+pub mod Whole
+pub mod Checked

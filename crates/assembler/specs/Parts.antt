@@ -1,0 +1,33 @@
+-- The parts of a frame, one for each tile, and the pixels that they have.
+use Rattle.std.specs.Prelude.{◌≡◌, ℕ, ◌+◌, ◌-◌, ◌*◌, true, List, length, Some, slice_get, ℤ, pos}
+use Rattle.rc_base.specs.Cluster.Tiles.{boundary_of, tile_column, tile_count, tile_pixels, tile_row}
+use Rattle.rc_base.specs.declared.cluster.TilePart.{TilePart}
+use Rattle.rc_base.specs.declared.window.Layout.{Layout}
+use Rattle.rc_base.specs.declared.window.Pixel.{Pixel}
+
+-- how many columns or rows of pixels part j of a side has
+abbrev pub part_size : ℕ → ℕ → ℕ → ℕ
+part_size side parts j = boundary_of side parts (j + 1) - boundary_of side parts j
+
+abbrev pub tile_width : Layout → ℕ → ℕ
+tile_width l tile = part_size l.width l.columns (tile_column l tile)
+
+abbrev pub tile_height : Layout → ℕ → ℕ
+tile_height l tile = part_size l.height l.rows (tile_row l tile)
+
+-- one part for each tile, in the order of the tiles, all of one frame, each with its tile's number of pixels
+pub record AreParts (l : Layout) (parts : List TilePart) : Type 0 where
+  pub frame : ℕ
+  pub count : length parts ≡ tile_count l
+  pub each : (tile : ℕ) (p : TilePart) → slice_get parts tile ≡ Some p → (p.tile ≡ tile) × (p.frame ≡ frame) × (length p.pixels ≡ tile_width l tile * tile_height l tile)
+
+-- where a pixel of the window stands in the part of its tile: rows from the bottom, in each row from the left
+abbrev pub place_in_part : Layout → ℕ → ℕ → ℕ → ℕ
+place_in_part l tile x y =
+    (y - boundary_of l.height l.rows (tile_row l tile)) * tile_width l tile + (x - boundary_of l.width l.columns (tile_column l tile))
+
+-- the parts have these pixels of the window, each in the part of its tile
+abbrev pub ShowPixels : Layout → List TilePart → (ℤ → ℤ → Pixel) → Type 0
+ShowPixels l parts pixels =
+    (tile x y : ℕ) (p : TilePart) → slice_get parts tile ≡ Some p → tile_pixels l tile x y ≡ true
+    → slice_get p.pixels (place_in_part l tile x y) ≡ Some (pixels (pos x) (pos y))
