@@ -31,3 +31,9 @@ mod RunsShowOneImage
 mod UsedOperations
 mod CountedNames
 mod RecordedByCounts
+mod SpotsOfNames
+mod RisingPlaces
+mod UnitsByWalks
+mod UnitsInTurn
+mod PartedPairs
+mod CheckedOrders

@@ -4,7 +4,7 @@ use Rattle.std.proofs.lemmas.Bool.{cases_lt}
 use Rattle.std.specs.List.{AllByRecursion, zip}
 use Rattle.rc_base.specs.Lists.{IsIn, Stands}
 use Rattle.rc_base.specs.Orders.Journal.{reach_of}
-use Rattle.rc_base.specs.Orders.Order.{givers, takers, entries_of, Precedes, IsPermitted}
+use Rattle.rc_base.specs.Orders.Order.{givers, takers, entries_of, handovers, Precedes, IsPermitted}
 use Rattle.rc_base.specs.Orders.Order.Precedes.{SameClient, HandedOver, Parted}
 use Rattle.rc_base.specs.Orders.Sync.{units_of}
 use Rattle.rc_base.specs.declared.sync.Entry.{Entry}
@@ -48,10 +48,9 @@ uncrossed_stands o at h a b m n i j p q before behind = elim (either_first a b o
   | inr s ↦ elim s [ inl k ↦ k | inr k ↦ absurd (h a b m n p q before behind k) ]
 ]
 
-pub run_permitted : (syncs : SyncLists) (js : List Entry) (o : List Name) → IsRun (reach_of syncs js) (λ c. 0) o
-    → ((sem : ℕ) → AreServed o (givers sem (entries_of syncs js)) (drop (units_of syncs sem) (takers sem (entries_of syncs js))))
-    → AllByRecursion (λ m. Uncrossed o m.at) (entries_of syncs js) → IsPermitted syncs js o
-run_permitted syncs js o run served apart = record {
+pub run_permits : (syncs : SyncLists) (js : List Entry) (o : List Name) → IsRun (reach_of syncs js) (λ c. 0) o
+    → ((sem : ℕ) (a b : Name) → IsIn (a, b) (handovers sem syncs js) → Stands a b o) → AllByRecursion (λ m. Uncrossed o m.at) (entries_of syncs js) → IsPermitted syncs js o
+run_permits syncs js o run handed apart = record {
   names = λ n. (let k = run_names (reach_of syncs js) (λ c. 0) o run n in (λ i. (k.0 i).1, λ lt. k.1 (omega arith, lt)));
   once = rising_once o rising;
   sequence = sequence;
@@ -62,9 +61,16 @@ run_permitted syncs js o run served apart = record {
 
     sequence : (a b : Name) → IsIn a o → IsIn b o → Precedes syncs js a b → Stands a b o
     sequence a b i j (SameClient c lt) = rising_stands o rising a b i j c lt
-    sequence a b i j (HandedOver sem h) = served_stands o (givers sem (entries_of syncs js)) (drop (units_of syncs sem) (takers sem (entries_of syncs js))) (served sem) a b h
+    sequence a b i j (HandedOver sem h) = handed sem a b h
     sequence a b i j (Parted m p q k is is' before behind) =
         uncrossed_stands o m.at (all_at (λ x. Uncrossed o x.at) m (entries_of syncs js) apart k) a b p q i j is is' before behind
+
+pub run_permitted : (syncs : SyncLists) (js : List Entry) (o : List Name) → IsRun (reach_of syncs js) (λ c. 0) o
+    → ((sem : ℕ) → AreServed o (givers sem (entries_of syncs js)) (drop (units_of syncs sem) (takers sem (entries_of syncs js))))
+    → AllByRecursion (λ m. Uncrossed o m.at) (entries_of syncs js) → IsPermitted syncs js o
+run_permitted syncs js o run served apart =
+    run_permits syncs js o run
+    (λ sem. served_stands o (givers sem (entries_of syncs js)) (drop (units_of syncs sem) (takers sem (entries_of syncs js))) (served sem)) apart
 
 -- ---- a permitted order is a run
 

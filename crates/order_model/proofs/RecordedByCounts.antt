@@ -18,11 +18,11 @@ use Rattle.order_model.proofs.UsedOperations.{stop_is_place, end_more, drop_at, 
 
 -- ---- counts of used operations
 
-used_most : (n c : ℕ) (js : List Entry) → used_by n c js ≤ length js
+pub used_most : (n c : ℕ) (js : List Entry) → used_by n c js ≤ length js
 used_most n c [] = omega arith
 used_most n c (e ∷ js) = elim (cases_Bool (is_member n e c)) [ inl t ↦ rw t (omega (arith, used_most n c js)) | inr f ↦ rw f (omega (arith, used_most n c js)) ]
 
-length_take : {A : Type 0} (k : ℕ) (xs : List A) → length (take k xs) ≤ k
+pub length_take : {A : Type 0} (k : ℕ) (xs : List A) → length (take k xs) ≤ k
 length_take zero xs = omega arith
 length_take (suc k) [] = omega arith
 length_take (suc k) (x ∷ xs) = omega (arith, length_take k xs)
@@ -69,7 +69,7 @@ nothing_performed syncs js k o le log =
     let none = drop_all js k le in
     ap (λ r. logged syncs s r log o) none ∙ sym (ap (λ r. logged syncs s r (Performed ∷ log) o) none)
 
-zeros : (n c : ℕ) → slice_index (replicate n 0) c ≡ 0
+pub zeros : (n c : ℕ) → slice_index (replicate n 0) c ≡ 0
 zeros n c = elim (cases_lt c n) [
   | inl lt ↦ get_or-replicate n c 0 0 lt
   | inr ge ↦ get_or_past (replicate n 0) c 0 (omega (arith, length-replicate {A = ℕ} n 0))

@@ -8,3 +8,4 @@ pub mod Standing
 pub mod Board
 pub mod Gathering
 pub mod Counted
+pub mod Checked

@@ -6,9 +6,14 @@
 #![tactic(auto)]
 
 pub mod laws;
+mod parted;
+mod permitted;
 pub mod record;
 mod recorded;
+mod spots;
+mod units;
 mod walk;
 
+pub use permitted::is_permitted;
 pub use recorded::tile_order;
 pub use walk::reach;
