@@ -16,7 +16,7 @@ use Rattle.order_model.specs.Report.{is_swap_entry}
 use Rattle.order_model.proofs.MaximalJournalsAgree.{end_agrees}
 
 -- one for a Swap, and their sum over operations
-abbrev swap_op : SyncOp → ℕ
+abbrev pub swap_op : SyncOp → ℕ
 swap_op op.Swap = 1
 swap_op (op.Barrier b) = 0
 swap_op (op.SemP k) = 0
@@ -27,10 +27,10 @@ swaps_in [] = 0
 swaps_in (w ∷ ws) = swap_op w.op + swaps_in ws
 
 -- the same of entries
-abbrev swap_entry : Entry → ℕ
+abbrev pub swap_entry : Entry → ℕ
 swap_entry e = swap_op (op_of e)
 
-abbrev swap_entries : List Entry → ℕ
+abbrev pub swap_entries : List Entry → ℕ
 swap_entries [] = 0
 swap_entries (e ∷ es) = swap_entry e + swap_entries es
 
@@ -66,7 +66,7 @@ counts_entry Swap n = refl
 counts_entry (Give k d) n = omega arith
 counts_entry (Take k d) n = omega arith
 
-swap_entries_counted : (js : List Entry) → swap_entries js ≡ count_by is_swap_entry js
+pub swap_entries_counted : (js : List Entry) → swap_entries js ≡ count_by is_swap_entry js
 swap_entries_counted = is_count_by swap_entries is_swap_entry refl (λ e es. counts_entry e (swap_entries es))
 
 -- every client of a legal journal has used one Swap for each of its Swaps

@@ -7,7 +7,7 @@ mod PrefixesAreLegal
 pub mod GrantsAreExact
 mod DefaultJournalIsMaximal
 mod MaximalJournalsAgree
-mod JournalsSwapAlike
+pub mod JournalsSwapAlike
 pub mod MoreOperations
 pub mod BooksStayLegal
 pub mod RunsOfNames
@@ -15,15 +15,15 @@ pub mod PermittedAsRuns
 mod OrdersBySteps
 mod SpreadIsRun
 mod AddedNames
-mod StepsArePermitted
+pub mod StepsArePermitted
 mod DefaultOrderIsPermitted
 mod OneClientHasOneOrder
 mod RecordedOrdersArePermitted
-mod SceneListsAreWellFormed
+pub mod SceneListsAreWellFormed
 mod SceneJobsAreSent
 mod LogsLeaveJobs
 mod GatheringIsLawful
-mod OneFoldOfTextures
+pub mod OneFoldOfTextures
 mod CommandsAreLocal
 mod OrderedScenesDrawAlike
 mod OrderedScenesHaveOneFrame

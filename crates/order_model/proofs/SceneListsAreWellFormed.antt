@@ -25,7 +25,7 @@ one_or_none n (effect.Block b) = inl refl
 one_or_none n (effect.Clear m) = inl refl
 one_or_none n (effect.Shared t) = inl refl
 
-rising_below : (scene : Scene) (client n : ℕ) → AreRising 0 (places_of (waits_below scene client n)) n
+pub rising_below : (scene : Scene) (client n : ℕ) → AreRising 0 (places_of (waits_below scene client n)) n
 unfolding waits_below
 rising_below scene client zero = omega arith
 rising_below scene client (suc n) =

@@ -30,7 +30,7 @@ passed_behind syncs s e cursor c le t = passed_is (is_member (client_count syncs
 
 -- ---- lists of operations in their places
 
-rising_first : (p : ℕ) (ws : List WaitAt) (n : ℕ) → AreRising p (places_of ws) n → p ≤ option_map_or (λ (w : WaitAt). w.place) (head_wait ws) n
+pub rising_first : (p : ℕ) (ws : List WaitAt) (n : ℕ) → AreRising p (places_of ws) n → p ≤ option_map_or (λ (w : WaitAt). w.place) (head_wait ws) n
 rising_first p [] n h = h
 rising_first p (w ∷ ws) n h = h.0
 

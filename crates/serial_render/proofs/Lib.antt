@@ -2,5 +2,10 @@ pub mod IssuedCommands
 pub mod SurveyedStreams
 pub mod ImageBytes
 pub mod PixelIndex
-pub mod PlainStates
-pub mod FramesGoOn
+pub mod PaintedOrders
+pub mod SwapsOfJournals
+pub mod ClearDepths
+pub mod DrawnCommands
+pub mod PlayedOrders
+pub mod OneClient
+pub mod PermittedOrders
