@@ -58,7 +58,7 @@ pub fn shade_pixel(state: &State, fragment: &Fragment, old: Pixel) -> Pixel
 }
 
 // The clear depth in the buffer's range.
-fn clear_depth(state: &State) -> u32
+pub(crate) fn clear_depth(state: &State) -> u32
     requires low { pos 0 ≤ℤ state.now.clear_depth }
     requires high { state.now.clear_depth ≤ℤ pos 65536 }
     ensures { result ≡ cleared_depth state.now }
