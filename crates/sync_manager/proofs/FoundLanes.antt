@@ -5,7 +5,8 @@ use Rattle.rc_base.specs.declared.sync.Request.{Request}
 use Rattle.rc_base.specs.declared.sync.SyncLists.{SyncLists}
 use Rattle.sync_manager.specs.Books.{clients_in, is_wanted}
 use Rattle.sync_manager.specs.Progress.{ManagerProgress, IsFoundEmpty, may_arrive}
-use Rattle.sync_manager.specs.Cores.{IsProgressOf, IsTaking}
+use Rattle.sync_manager.specs.Cores.{IsProgressOf}
+use Rattle.sync_manager.specs.Tasks.{IsTaking}
 use Rattle.sync_manager.specs.declared.deed.ManagerDeed.{ManagerDeed}
 use Rattle.sync_manager.specs.declared.deed.ManagerDeed.TheVariants.{FindsNoneLeft, Finishes}
 use Rattle.sync_manager.specs.declared.manager.ManagerCore.{ManagerCore}

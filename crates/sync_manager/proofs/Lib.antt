@@ -6,3 +6,4 @@ mod BookGrants
 mod PositiveCounts
 mod ManagerSteps
 mod FoundLanes
+mod RightManagers

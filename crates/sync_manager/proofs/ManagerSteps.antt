@@ -1,8 +1,8 @@
 -- What a step of the manager makes of what was done.
-use Rattle.std.proofs.Common.{◌≡◌, ℕ, ◌+◌, ◌-◌, ◌<◌, ◌≤◌, ◌==◌, ◌||◌, not, Bool, true, false, cond, [], ◌∷◌, length, Some, inl, inr, refl, sym, ap, ◌∙◌, subst, arith, eqb-true, eq-eqb, lt-ltb, ltb-true, length-append}
+use Rattle.std.proofs.Common.{true≢false, ◌≡◌, ℕ, ◌+◌, ◌-◌, ◌<◌, ◌≤◌, ◌==◌, ◌||◌, not, Bool, true, false, cond, [], ◌∷◌, length, Some, inl, inr, refl, sym, ap, ◌∙◌, subst, arith, eqb-true, eq-eqb, lt-ltb, ltb-true, length-append}
 use Rattle.std.proofs.lemmas.Bool.{cases_Bool, cases_lt, eqb-false}
 use Rattle.std.proofs.lemmas.Option.{slice_get_within}
-use Rattle.std.specs.Prelude.{nat_lt, slice_get, slice_index_or}
+use Rattle.std.specs.Prelude.{OnOk, OnErr, nat_lt, slice_get, slice_index_or}
 use Rattle.rc_base.specs.Orders.Book.{Book as Arrivals, standing, with_at, with_entry, book_after, is_declared, IsBookOver}
 use Rattle.rc_base.specs.Orders.Book.BookEvent.{Arrives, Ends}
 use Rattle.rc_base.specs.Orders.Grant.{grant}
@@ -15,9 +15,11 @@ use Rattle.rc_base.specs.declared.sync.Request.TheVariants as request
 use Rattle.rc_base.specs.declared.sync.SyncLists.{SyncLists}
 use Rattle.rc_base.specs.declared.sync.SyncOp.{SyncOp}
 use Rattle.sync_manager.specs.Books.{IsBookOf, AllWaitOrEnded, clients_in, journal_in, names_declared, is_wanted}
-use Rattle.sync_manager.specs.Progress.{ManagerProgress, AllDelivered, NoMoreComes, IsGrantDue, may_arrive, IsReceiving, IsDraining, is_end, event_of, IsNextDeed, with_taken}
-use Rattle.sync_manager.specs.Cores.{tiles_of, delivered_in, drained_in, IsProgressOf, AllSupplied, grant_in, NoMoreIn, IsDeliveryIn, IsReceivingIn, IsDrainingIn, IsEnding, IsNoted, IsManagerStep}
+use Rattle.sync_manager.specs.Progress.{ManagerProgress, AllDelivered, NoMoreComes, IsGrantDue, may_arrive, IsReceiving, IsDraining, is_end, event_of, IsNextDeed, answer_of, with_taken}
+use Rattle.sync_manager.specs.Cores.{is_short, tiles_of, delivered_in, drained_in, IsProgressOf, IsManagerStep}
+use Rattle.sync_manager.specs.Tasks.{AllSupplied, grant_in, NoMoreIn, IsDeliveryIn, IsReceivingIn, IsDrainingIn, IsEnding, IsNoted}
 use Rattle.sync_manager.specs.declared.book.Book.{Book}
+use Rattle.sync_manager.specs.declared.deed.ManagerDeed.{ManagerDeed}
 use Rattle.sync_manager.specs.declared.deed.ManagerDeed.TheVariants.{Delivers, FindsFull, Grants, Receives, Loses, FindsNoRequest, Drops, FindsNoneLeft, Finishes}
 use Rattle.sync_manager.specs.declared.manager.ManagerCore.{ManagerCore}
 use Rattle.sync_manager.proofs.BookGrants.{granted, none_granted, over_is, all_wait, waiting_is}
@@ -167,6 +169,8 @@ module _ (core : ManagerCore) (starts : core.start ≤ clients_in core.book) whe
   entry_step tile e due = record {
     clients = refl;
     tiles = refl;
+    short = refl;
+    ample = λ e. absurd (true≢false (sym e));
     first = λ syncs d h. grant_due syncs core d h tile (grant_item.Entry e) due;
     after = λ syncs d h. record {
       book = h.book;
@@ -186,6 +190,8 @@ module _ (core : ManagerCore) (starts : core.start ≤ clients_in core.book) whe
   no_more_step tile due = record {
     clients = refl;
     tiles = refl;
+    short = refl;
+    ample = λ e. absurd (true≢false (sym e));
     first = λ syncs d h. grant_due syncs core d h tile grant_item.NoMore due;
     after = λ syncs d h. record {
       book = h.book;
@@ -216,6 +222,8 @@ module _ (core : ManagerCore) (b : Book) (starts : core.start ≤ clients_in b) 
   granted_step e supplied ample is carried = record {
     clients = clients;
     tiles = refl;
+    short = refl;
+    ample = λ e. absurd (true≢false (sym e));
     first = λ syncs d h. granted_next syncs core d h e supplied ample is;
     after = λ syncs d h.
         let due : grant syncs (standing syncs d.book) ≡ Some e = sym (granted syncs core.book d.book h.book) ∙ is in
@@ -269,6 +277,8 @@ module _ (core mid later : ManagerCore) (client : ℕ) (r : Request) (low : clie
   received_step wanted t short arrives journal = record {
     clients = later_clients;
     tiles = later_tiles;
+    short = noted.short ∙ short;
+    ample = λ e. absurd (true≢false (sym e));
     first = λ syncs d h. received_next syncs core d h client r low wanted t;
     after = λ syncs d h. taken_after syncs d h (book_after syncs d.book (event_of syncs client r)) (arrives syncs d.book h.book) (journal syncs d.book) d.short (h.short ∙ sym (noted.short ∙ short));
   }
@@ -280,6 +290,8 @@ module _ (core mid later : ManagerCore) (client : ℕ) (r : Request) (low : clie
   dropped_step its t short same = record {
     clients = later_clients;
     tiles = later_tiles;
+    short = noted.short ∙ short;
+    ample = λ e. absurd (true≢false (sym e));
     first = λ syncs d h. dropped_next syncs core d h client r low its t;
     after = λ syncs d h. taken_after syncs d h d.book (same syncs d.book h.book) refl d.short (h.short ∙ sym (noted.short ∙ short));
   }
@@ -293,6 +305,8 @@ module _ (core mid later : ManagerCore) (client place : ℕ) (op : SyncOp) (low 
   lost_step clients tiles supplied told left short noted wanted declared t same = record {
     clients = ap clients_in noted.book ∙ clients;
     tiles = noted.tiles ∙ tiles;
+    short = noted.short ∙ short;
+    ample = λ e. t.ample;
     first = λ syncs d h. lost_next syncs core d h client place op low wanted declared t;
     after = λ syncs d h. taken_after core mid later client (request.Op place op) low clients tiles supplied told left noted syncs d h d.book (same syncs d.book h.book) refl true (sym (noted.short ∙ short));
   }
@@ -301,16 +315,16 @@ module _ (core mid later : ManagerCore) (client place : ℕ) (op : SyncOp) (low 
 
 module _ (core : ManagerCore) where
   pub full_step : (tile : ℕ) (g : Grant) → IsDeliveryIn core tile g → IsManagerStep core (FindsFull tile) core
-  full_step tile g due = record { clients = refl; tiles = refl; first = λ syncs d h. full_due syncs core d h tile g due; after = λ syncs d h. h }
+  full_step tile g due = record { clients = refl; tiles = refl; short = refl; ample = λ e. absurd (true≢false (sym e)); first = λ syncs d h. full_due syncs core d h tile g due; after = λ syncs d h. h }
 
   pub waiting_step : IsReceivingIn core → IsManagerStep core FindsNoRequest core
-  waiting_step t = record { clients = refl; tiles = refl; first = λ syncs d h. waiting_next syncs core d h t; after = λ syncs d h. h }
+  waiting_step t = record { clients = refl; tiles = refl; short = refl; ample = λ e. absurd (true≢false (sym e)); first = λ syncs d h. waiting_next syncs core d h t; after = λ syncs d h. h }
 
   pub none_left_step : (client : ℕ) → client < clients_in core.book → drained_in core client ≡ false → IsDrainingIn core → IsManagerStep core FindsNoneLeft core
-  none_left_step client low its t = record { clients = refl; tiles = refl; first = λ syncs d h. none_left_next syncs core d h client low its t; after = λ syncs d h. h }
+  none_left_step client low its t = record { clients = refl; tiles = refl; short = refl; ample = λ e. absurd (true≢false (sym e)); first = λ syncs d h. none_left_next syncs core d h client low its t; after = λ syncs d h. h }
 
   pub finished_step : ((client : ℕ) → client < clients_in core.book → drained_in core client ≡ true) → IsDrainingIn core → IsManagerStep core Finishes core
-  finished_step all t = record { clients = refl; tiles = refl; first = λ syncs d h. finished_next syncs core d h all t; after = λ syncs d h. h }
+  finished_step all t = record { clients = refl; tiles = refl; short = refl; ample = λ e. absurd (true≢false (sym e)); first = λ syncs d h. finished_next syncs core d h all t; after = λ syncs d h. h }
 
 -- ---- what a request does
 
@@ -324,3 +338,27 @@ ending_event syncs core a client request.End h unsaid = refl
 pub same_journal : (syncs : SyncLists) (client : ℕ) (r : Request) (a : Arrivals) → (book_after syncs a (event_of syncs client r)).journal ≡ a.journal
 same_journal syncs client (request.Op place op) a = elim (cases_Bool (is_declared syncs op)) [ inl t ↦ rw t refl | inr f ↦ rw f refl ]
 same_journal syncs client request.End a = refl
+
+-- ---- what the answer says of memory
+
+pub err_short : (core later : ManagerCore) (deed : ManagerDeed) → IsManagerStep core deed later → OnErr (answer_of deed) ((is_short core ≡ false) × (is_short later ≡ true))
+err_short core later (Delivers tile g) h = tt
+err_short core later (FindsFull tile) h = tt
+err_short core later (Grants e) h = tt
+err_short core later (Receives client r) h = tt
+err_short core later (Loses client place op) h = (h.ample refl, h.short)
+err_short core later FindsNoRequest h = tt
+err_short core later (Drops client r) h = tt
+err_short core later FindsNoneLeft h = tt
+err_short core later Finishes h = tt
+
+pub ok_short : (core later : ManagerCore) (deed : ManagerDeed) → IsManagerStep core deed later → OnOk (answer_of deed) (is_short later ≡ is_short core)
+ok_short core later (Delivers tile g) h = h.short
+ok_short core later (FindsFull tile) h = h.short
+ok_short core later (Grants e) h = h.short
+ok_short core later (Receives client r) h = h.short
+ok_short core later (Loses client place op) h = tt
+ok_short core later FindsNoRequest h = h.short
+ok_short core later (Drops client r) h = h.short
+ok_short core later FindsNoneLeft h = h.short
+ok_short core later Finishes h = h.short

@@ -149,6 +149,18 @@ answer_of (Drops client r) = Ok (moved.Drained client)
 answer_of FindsNoneLeft = Ok moved.BlockedRequest
 answer_of Finishes = Ok moved.Ended
 
+-- memory lacks in it
+abbrev pub is_loss : ManagerDeed → Bool
+is_loss (Delivers tile g) = false
+is_loss (FindsFull tile) = false
+is_loss (Grants e) = false
+is_loss (Receives client r) = false
+is_loss (Loses client place op) = true
+is_loss FindsNoRequest = false
+is_loss (Drops client r) = false
+is_loss FindsNoneLeft = false
+is_loss Finishes = false
+
 -- ---- its lanes
 
 -- what it takes of a client

@@ -6,6 +6,7 @@
 
 pub mod book;
 mod deed;
+pub mod laws;
 pub mod manager;
 mod search;
 #[cfg(test)]

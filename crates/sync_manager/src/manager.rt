@@ -30,14 +30,15 @@ pub struct ManagerCore {
 }
 
 impl ManagerCore {
-    ghost use Rattle.std.specs.Prelude.{◌≡◌, ◌⊎◌, ◌≤◌, ◌<◌, ℕ, true, false, not, length, slice_index_or, IfOk, IfSome, IfNone, IsTrue, ◌↔◌};
+    ghost use Rattle.std.specs.Prelude.{◌≡◌, ◌⊎◌, ◌≤◌, ◌<◌, ℕ, true, false, not, length, slice_index_or, IfOk, OnOk, OnErr, IfSome, IfNone, IsTrue, ◌↔◌};
     ghost use Rattle.rc_base.specs.Cluster.Lanes.{EachLane};
     ghost use Rattle.rc_base.specs.Lists.{at_name};
     ghost use Rattle.rc_base.specs.Orders.Sync.{client_count};
     ghost use Rattle.rc_base.specs.declared.sync.SyncLists.{SyncLists};
     ghost use Rattle.sync_manager.specs.Books.{clients_in, is_wanted, names_declared, IsBookOf};
     ghost use Rattle.sync_manager.specs.Progress.{ManagerProgress, new_progress, answer_of};
-    ghost use Rattle.sync_manager.specs.Cores.{clients_of, tiles_of, book_of, drained_in, is_short, IsProgressOf, AllSupplied, IsDeliveryIn, IsReceivingIn, IsDrainingIn, IsTask, IsEnding, IsNoted, IsTaking, IsManagerStep, AreTaken, AreFoundEmpty, AreSent, AreFoundFull, LeavesRequests, LeavesGrants};
+    ghost use Rattle.sync_manager.specs.Cores.{clients_of, tiles_of, book_of, drained_in, is_short, IsProgressOf, IsManagerStep, AreTaken, AreFoundEmpty, AreSent, AreFoundFull};
+    ghost use Rattle.sync_manager.specs.Tasks.{AllSupplied, IsDeliveryIn, IsReceivingIn, IsDrainingIn, IsTask, IsEnding, IsNoted, IsTaking, LeavesRequests, LeavesGrants};
     ghost use Rattle.sync_manager.specs.declared.deed.Task.TheVariants as task;
     ghost use Rattle.sync_manager.specs.declared.deed.ManagerDeed.{ManagerDeed};
     ghost use Rattle.sync_manager.specs.declared.deed.ManagerDeed.TheVariants as deed;
@@ -70,7 +71,7 @@ impl ManagerCore {
 
     /// The book.
     pub fn book(&self) -> &Book
-        ensures { (syncs : SyncLists) (d : ManagerProgress) → IsProgressOf syncs self.now d → IsBookOf syncs result.now d.book }
+        ensures { result.now ≡ book_of self.now }
     {
         &self.book
     }
@@ -356,9 +357,18 @@ impl ManagerCore {
     ) -> Result<ManagerMoved, OutOfMemory>
         requires clients { length requests.old ≡ clients_of self.old }
         requires tiles { length grants.old ≡ tiles_of self.old }
+        ensures clients { clients_of self.new ≡ clients_of self.old }
+        ensures tiles { tiles_of self.new ≡ tiles_of self.old }
         ensures request_lanes { EachLane (λ i a b. I.lane_of b ≡ I.lane_of a) requests.old requests.new }
         ensures grant_lanes { EachLane (λ i a b. O.lane_of b ≡ O.lane_of a) grants.old grants.new }
-        ensures step { (did : ManagerDeed) × (result ≡ answer_of did) × IsManagerStep self.old did self.new × AreTaken I.gave I.same did requests.old requests.new × AreFoundEmpty I.empty_seen I.bare self.old did requests.old requests.new × AreSent O.sent did grants.old grants.new × AreFoundFull O.full_seen O.full did grants.old grants.new }
+        ensures out_of_memory { OnErr result ((is_short self.old ≡ false) × (is_short self.new ≡ true)) }
+        ensures ample { OnOk result (is_short self.new ≡ is_short self.old) }
+        // the answer tells what it did: the first case that applies; it took and appended just that, and each lane that it found empty or full says so
+        ensures step { (did : ManagerDeed) × (result ≡ answer_of did) × IsManagerStep self.old did self.new
+            × AreTaken I.gave I.same did requests.old requests.new
+            × AreFoundEmpty I.empty_seen I.bare self.old did requests.old requests.new
+            × AreSent O.sent did grants.old grants.new
+            × AreFoundFull O.full_seen O.full did grants.old grants.new }
     {
         answer(self.act(requests, grants))
     }
