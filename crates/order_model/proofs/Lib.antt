@@ -37,3 +37,4 @@ mod UnitsByWalks
 mod UnitsInTurn
 mod PartedPairs
 mod CheckedOrders
+mod ListsByHand

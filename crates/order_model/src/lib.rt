@@ -11,6 +11,8 @@ mod permitted;
 pub mod record;
 mod recorded;
 mod spots;
+#[cfg(test)]
+mod tests;
 mod units;
 mod walk;
 
