@@ -1,5 +1,5 @@
 -- What the checker computes is what a permitted order is.
-use Rattle.std.proofs.Common.{◌≡◌, ℕ, ◌+◌, ◌-◌, ◌<◌, ◌==◌, ◌&&◌, Bool, true, false, List, [], ◌∷◌, ◌↔◌, drop, map, length, get_or, set, replicate, Option, Some, None, inl, inr, refl, sym, ap, ◌∙◌, subst, arith, eq-eqb, eqb-true, lt-ltb, ltb-true, true≢false}
+use Rattle.std.proofs.Common.{◌≡◌, ℕ, ◌+◌, ◌-◌, ◌<◌, ◌==◌, Bool, true, false, List, [], ◌∷◌, ◌↔◌, drop, map, length, get_or, set, replicate, Option, Some, None, inl, inr, refl, sym, ap, ◌∙◌, subst, arith, eq-eqb, eqb-true, lt-ltb, ltb-true, true≢false}
 use Rattle.std.specs.Prelude.{IsTrue, slice_index}
 use Rattle.std.specs.List.{AllByRecursion, zip}
 use Rattle.std.proofs.lemmas.Bool.{cases_lt, cases_Bool, eqb-false}
@@ -21,7 +21,7 @@ use Rattle.order_model.proofs.PermittedAsRuns.{Uncrossed, run_permits, rising_of
 use Rattle.order_model.proofs.RecordedByCounts.{zeros}
 use Rattle.order_model.proofs.RisingPlaces.{IsReached, all_reached}
 use Rattle.order_model.proofs.RunsOfNames.{bump, IsRun, Rising, run_names, run_rising}
-use Rattle.order_model.proofs.SpotsOfNames.{PartsAll, parts_uncrossed, uncrossed_parts}
+use Rattle.order_model.proofs.SpotsOfNames.{PartsAll, parts_uncrossed, uncrossed_parts, and_both, both_and}
 use Rattle.order_model.proofs.StandsInLists.{not_both, first_in, second_in}
 use Rattle.order_model.proofs.UnitsInTurn.{turn_stands, stands_turn, drop_map, in_drop, unit_reached}
 
@@ -32,14 +32,6 @@ bumped next c lt d = elim (cases_Bool (d == c)) [
   | inl t ↦ let e = eqb-true d c t in rw t (subst (λ k. get_or (set next c (get_or next c 0 + 1)) k 0 ≡ get_or next k 0 + 1) (sym e) (get_or-set_same next c (get_or next c 0 + 1) 0 lt))
   | inr f ↦ rw f (get_or-set_other next c d (get_or next c 0 + 1) 0 (eqb-false d c f))
 ]
-
-and_both : (a b : Bool) → (a && b) ≡ true → (a ≡ true) × (b ≡ true)
-and_both true b h = (refl, h)
-and_both false b h = absurd (true≢false (sym h))
-
-both_and : (a b : Bool) → a ≡ true → b ≡ true → (a && b) ≡ true
-both_and true b h k = k
-both_and false b h k = absurd (true≢false (sym h))
 
 runs_decides : (ends next : List ℕ) (o : List Name) → length next ≡ length ends → IsTrue (runs_to ends next o) ↔ IsRun (λ c. get_or ends c 0) (λ c. get_or next c 0) o
 runs_decides ends next [] len = (

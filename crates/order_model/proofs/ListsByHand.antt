@@ -7,8 +7,7 @@ use Rattle.rc_base.specs.Lists.{at_name, AreRising}
 use Rattle.rc_base.specs.Orders.Sync.{places_of}
 use Rattle.rc_base.specs.declared.sync.SyncRow.{SyncRow}
 use Rattle.rc_base.specs.declared.sync.WaitAt.{WaitAt}
-use Rattle.order_model.proofs.UnitsByWalks.{drop_all}
-use Rattle.order_model.proofs.UsedOperations.{drop_at}
+use Rattle.order_model.proofs.UsedOperations.{drop_at, drop_all}
 
 pub positive : (counts : List ℕ) (n : ℕ) → length counts ≤ n → ((k : ℕ) → k < n → k < length counts → 0 < get_or counts k 1) → (barrier count : ℕ) → at_name counts barrier ≡ Some count → 0 < count
 positive counts n all each zero count is = absurd cc

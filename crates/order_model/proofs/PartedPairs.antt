@@ -1,5 +1,5 @@
 -- Entries that part two clients' names, one after the other.
-use Rattle.std.proofs.Common.{◌≡◌, ℕ, ◌+◌, ◌<◌, ◌≤◌, ◌&&◌, Bool, true, false, cond, List, [], ◌∷◌, take, drop, length, get_or, inl, inr, refl, sym, ap, ◌∙◌, arith, true≢false}
+use Rattle.std.proofs.Common.{◌≡◌, ℕ, ◌+◌, ◌<◌, ◌≤◌, ◌&&◌, Bool, true, cond, List, [], ◌∷◌, take, drop, length, get_or, inl, inr, refl, sym, ap, ◌∙◌, arith}
 use Rattle.std.specs.List.{AllByRecursion}
 use Rattle.std.proofs.lemmas.Bool.{cases_Bool}
 use Rattle.rc_base.specs.Orders.Journal.{start, is_member, sync_state_after, after}
@@ -12,6 +12,7 @@ use Rattle.order_model.specs.Checked.{are_parted, all_part, place_by}
 use Rattle.order_model.specs.Counted.{used_by, place_or_end}
 use Rattle.order_model.proofs.RecordedByCounts.{used_most, length_take}
 use Rattle.order_model.proofs.RisingPlaces.{place_rises}
+use Rattle.order_model.proofs.SpotsOfNames.{and_both}
 use Rattle.order_model.proofs.UsedOperations.{entry_place, end_more, drop_at}
 
 pub used_below : (n c : ℕ) (js : List Entry) (k : ℕ) → used_by n c (take k js) ≤ k
@@ -43,10 +44,6 @@ part_turn syncs js order a b k e ua ub r lt is ha hb result =
     ∙ ap (λ t. r && all_part order a b (entries_from syncs t (drop (k + 1) js))) (sym (end_more syncs (start syncs) js k e lt is))
 
 -- ---- all entries and all clients
-
-and_both : (a b : Bool) → (a && b) ≡ true → (a ≡ true) × (b ≡ true)
-and_both true b h = (refl, h)
-and_both false b h = absurd (true≢false (sym h))
 
 abbrev pub PartsTwo : List Name → ℕ → ℕ → PlacedEntry → Type 0
 PartsTwo o a b m = are_parted o a (m.at a) b (m.at b) ≡ true

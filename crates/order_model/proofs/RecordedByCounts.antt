@@ -1,5 +1,5 @@
 -- A recorded order that is made with counts: one entry of the journal more.
-use Rattle.std.proofs.Common.{◌≡◌, ℕ, zero, suc, ◌+◌, ◌<◌, ◌≤◌, cond, List, [], ◌∷◌, take, drop, length, get_or, slice_index, replicate, inl, inr, refl, sym, ap, ◌∙◌, arith}
+use Rattle.std.proofs.Common.{◌≡◌, ℕ, zero, suc, ◌+◌, ◌<◌, ◌≤◌, cond, List, [], ◌∷◌, take, drop, length, get_or, slice_index, replicate, inl, inr, sym, ap, ◌∙◌, arith}
 use Rattle.std.proofs.lemmas.Bool.{cases_Bool, cases_lt}
 use Rattle.std.proofs.lemmas.List.{get_or_past}
 use Rattle.std.proofs.Math.ListN.{get_or-replicate, length-replicate}
@@ -14,7 +14,7 @@ use Rattle.order_model.specs.Log.{logged}
 use Rattle.order_model.specs.declared.record.LogEntry.{LogEntry}
 use Rattle.order_model.specs.declared.record.LogEntry.TheVariants.{Performed}
 use Rattle.order_model.proofs.CountedNames.{all_added_alike}
-use Rattle.order_model.proofs.UsedOperations.{stop_is_place, end_more, drop_at, used_more}
+use Rattle.order_model.proofs.UsedOperations.{stop_is_place, end_more, drop_at, used_more, drop_all}
 
 -- ---- counts of used operations
 
@@ -55,12 +55,6 @@ perform_step syncs js k e used o o' few lt is h made log =
     ap (λ t. logged syncs t (drop (k + 1) js) log o') (end_more syncs (start syncs) js k e lt is)
     ∙ ap (logged syncs (after syncs s e) (drop (k + 1) js) log) (made ∙ performed_by_counts syncs (take k js) e used o few h)
     ∙ sym (ap (λ r. logged syncs s r (Performed ∷ log) o) (drop_at js k e lt is))
-
-drop_all : {A : Type 0} (xs : List A) (k : ℕ) → length xs ≤ k → drop k xs ≡ []
-drop_all [] zero le = refl
-drop_all [] (suc k) le = refl
-drop_all (x ∷ xs) zero le = absurd (omega arith)
-drop_all (x ∷ xs) (suc k) le = drop_all xs k (omega arith)
 
 -- a journal of which all is read
 pub nothing_performed : (syncs : SyncLists) (js : List Entry) (k : ℕ) (o : List Name) → length js ≤ k → (log : List LogEntry) → logged_behind syncs js k log o ≡ logged_behind syncs js k (Performed ∷ log) o

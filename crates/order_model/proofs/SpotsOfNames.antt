@@ -8,11 +8,11 @@ use Rattle.order_model.proofs.PermittedAsRuns.{Uncrossed}
 use Rattle.order_model.proofs.RunsOfNames.{Rising}
 use Rattle.order_model.proofs.StandsInLists.{second_in, either_first}
 
-and_both : (a b : Bool) → (a && b) ≡ true → (a ≡ true) × (b ≡ true)
+pub and_both : (a b : Bool) → (a && b) ≡ true → (a ≡ true) × (b ≡ true)
 and_both true b h = (refl, h)
 and_both false b h = absurd (true≢false (sym h))
 
-both_and : (a b : Bool) → a ≡ true → b ≡ true → (a && b) ≡ true
+pub both_and : (a b : Bool) → a ≡ true → b ≡ true → (a && b) ≡ true
 both_and true b h k = k
 both_and false b h k = absurd (true≢false (sym h))
 

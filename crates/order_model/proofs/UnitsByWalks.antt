@@ -1,5 +1,5 @@
 -- A walk along a journal finds where the names stand that give a semaphore's units, or that take them.
-use Rattle.std.proofs.Common.{◌≡◌, ℕ, zero, suc, ◌+◌, ◌<◌, ◌≤◌, ◌==◌, Bool, true, false, cond, List, [], ◌∷◌, ◌++◌, take, drop, map, length, get_or, Option, Some, None, inl, inr, refl, sym, ap, ◌∙◌, arith, eq-eqb}
+use Rattle.std.proofs.Common.{◌≡◌, ℕ, ◌+◌, ◌<◌, ◌≤◌, ◌==◌, Bool, true, false, cond, List, [], ◌∷◌, ◌++◌, take, drop, map, length, get_or, Option, Some, None, inl, inr, refl, sym, ap, ◌∙◌, arith, eq-eqb}
 use Rattle.std.specs.Prelude.{slice_get, slice_index, option_map, option_to_list}
 use Rattle.std.proofs.lemmas.Bool.{cases_Bool, cases_lt}
 use Rattle.rc_base.specs.Orders.Journal.{start, sync_state_after, after, is_member}
@@ -15,7 +15,7 @@ use Rattle.order_model.specs.Counted.{used_by, place_or_end, AreUsed}
 use Rattle.order_model.proofs.ClientsBeyond.{ops_past}
 use Rattle.order_model.proofs.RisingPlaces.{place_rises}
 use Rattle.order_model.proofs.SpotsOfNames.{first_rises}
-use Rattle.order_model.proofs.UsedOperations.{entry_place, end_more, drop_at}
+use Rattle.order_model.proofs.UsedOperations.{entry_place, end_more, drop_at, drop_all}
 
 -- a client that doesn't exist has no next operation
 pub no_spot_past : (syncs : SyncLists) (order : List Name) (c k : ℕ) → client_count syncs ≤ 8 → 8 ≤ c
@@ -106,12 +106,6 @@ spots_more syncs js order used gives semaphore k e o few lt is h found =
     ∙ map_append order (unit_in gives semaphore e (entry_at syncs s e).at) (unit_names gives semaphore rest)
     ∙ ap (λ xs. xs ++ map (spot_of order) (unit_names gives semaphore rest)) (unit_spot_is syncs (take k js) order used gives semaphore e few h ∙ ap option_to_list (sym found))
     ∙ ap (λ t. option_to_list o ++ map (spot_of order) (unit_names gives semaphore (entries_from syncs t (drop (k + 1) js)))) (sym (end_more syncs (start syncs) js k e lt is))
-
-pub drop_all : {A : Type 0} (xs : List A) (k : ℕ) → length xs ≤ k → drop k xs ≡ []
-drop_all [] zero le = refl
-drop_all [] (suc k) le = refl
-drop_all (x ∷ xs) zero le = absurd (omega arith)
-drop_all (x ∷ xs) (suc k) le = drop_all xs k (omega arith)
 
 no_names : (gives : Bool) (semaphore : ℕ) → unit_names gives semaphore [] ≡ []
 no_names true semaphore = refl

@@ -1,5 +1,5 @@
 -- Spots of givers and takers, one pair after the other.
-use Rattle.std.proofs.Common.{◌≡◌, ℕ, zero, suc, ◌+◌, ◌<◌, ◌≤◌, ◌==◌, ◌&&◌, nat_lt, Bool, true, false, cond, List, [], ◌∷◌, ◌++◌, drop, map, length, Option, Some, None, inl, inr, refl, sym, ap, ◌∙◌, subst, arith, lt-ltb, ltb-true, true≢false}
+use Rattle.std.proofs.Common.{◌≡◌, ℕ, zero, suc, ◌+◌, ◌<◌, ◌≤◌, ◌==◌, nat_lt, Bool, true, false, cond, List, [], ◌∷◌, ◌++◌, drop, map, length, Option, Some, None, inl, inr, refl, sym, ap, ◌∙◌, subst, arith, lt-ltb, ltb-true}
 use Rattle.std.specs.Prelude.{option_to_list}
 use Rattle.std.specs.List.{AllByRecursion, zip}
 use Rattle.std.proofs.lemmas.Bool.{cases_Bool}
@@ -15,9 +15,10 @@ use Rattle.rc_base.specs.declared.sync.SyncLists.{SyncLists}
 use Rattle.order_model.specs.Checked.{spot_of, are_in_turn, unit_names, unit_client, unit_spots, takes_in, hands_over}
 use Rattle.order_model.proofs.RisingPlaces.{IsReached}
 use Rattle.order_model.proofs.RunsOfNames.{Rising}
-use Rattle.order_model.proofs.SpotsOfNames.{stands_less, less_stands}
+use Rattle.order_model.proofs.SpotsOfNames.{stands_less, less_stands, and_both}
 use Rattle.order_model.proofs.StandsInLists.{in_append}
-use Rattle.order_model.proofs.UnitsByWalks.{unit_in, unit_names_more, unit_in_is, name_by, drop_all}
+use Rattle.order_model.proofs.UnitsByWalks.{unit_in, unit_names_more, unit_in_is, name_by}
+use Rattle.order_model.proofs.UsedOperations.{drop_all}
 
 -- ---- walks over spots
 
@@ -30,10 +31,6 @@ turn_none [] ts e = refl
 turn_none (g ∷ gs) ts e = ap (are_in_turn (g ∷ gs)) e
 
 -- ---- of names
-
-and_both : (a b : Bool) → (a && b) ≡ true → (a ≡ true) × (b ≡ true)
-and_both true b h = (refl, h)
-and_both false b h = absurd (true≢false (sym h))
 
 pub turn_stands : (o gs ts : List Name) → Rising o → ((n : Name) → IsIn n gs → IsIn n o) → ((n : Name) → IsIn n ts → IsIn n o)
     → are_in_turn (map (spot_of o) gs) (map (spot_of o) ts) ≡ true → (a b : Name) → IsIn (a, b) (zip gs ts) → Stands a b o

@@ -2,8 +2,8 @@ use Rattle.std.proofs.Common.{arith, ap, length, slice_index}
 use Rattle.std.proofs.lemmas.List.{get_or_past}
 use Rattle.order_model.specs.Checked.{takes_in}
 use Rattle.order_model.proofs.RecordedByCounts.{zeros}
-use Rattle.order_model.proofs.UnitsByWalks.{drop_all}
 use Rattle.order_model.proofs.units.takes_of.Goals as goal
+use Rattle.order_model.proofs.UsedOperations.{drop_all}
 
 pub loop-entry-init : goal.loop-entry-init
 loop-entry-init c = record {
