@@ -1,5 +1,5 @@
 //! Walks along a journal, which count the operations that each client has used.
-ghost use Rattle.std.specs.Prelude.{◌≡◌, ◌+◌, ◌<◌, ◌≤◌, ◌^◌, ℕ, cond, length, slice_get, slice_index, option_map};
+ghost use Rattle.std.specs.Prelude.{◌≡◌, ◌+◌, ◌<◌, ◌≤◌, ◌^◌, ◌==◌, ℕ, cond, length, slice_get, slice_index, option_map};
 ghost use Rattle.std.specs.Option.{option_map_or};
 ghost use Rattle.rc_base.specs.Orders.Journal.{is_member, reach_of};
 ghost use Rattle.rc_base.specs.Orders.Sync.{client_count, ops_of};
@@ -43,8 +43,18 @@ fn used_by(journal: &[Entry], client: u8, clients: usize) -> usize
     n
 }
 
+/// The client has used one operation more.
+fn advance_one(used: &mut [usize; 8], client: u8)
+    requires { (other : ℕ) → slice_index used.old other < 2 ^ 63 }
+    ensures { (other : ℕ) → other < 8 → slice_index used.new other ≡ cond (other == client) (slice_index used.old other + 1) (slice_index used.old other) }
+{
+    if client < 8 {
+        used[client as usize] += 1;
+    }
+}
+
 /// Each member has used one operation more.
-pub fn advance(used: &mut [usize; 8], entry: Entry, clients: usize)
+fn advance_members(used: &mut [usize; 8], entry: Entry, clients: usize)
     requires { (client : ℕ) → slice_index used.old client < 2 ^ 63 }
     ensures { (client : ℕ) → client < 8 → slice_index used.new client ≡ cond (is_member clients entry client) (slice_index used.old client + 1) (slice_index used.old client) }
 {
@@ -52,6 +62,18 @@ pub fn advance(used: &mut [usize; 8], entry: Entry, clients: usize)
         if is_member(entry, client, clients) {
             used[client as usize] += 1;
         }
+    }
+}
+
+/// Each member has used one operation more.
+pub fn advance(used: &mut [usize; 8], entry: Entry, clients: usize)
+    requires { (client : ℕ) → slice_index used.old client < 2 ^ 63 }
+    ensures { (client : ℕ) → client < 8 → slice_index used.new client ≡ cond (is_member clients entry client) (slice_index used.old client + 1) (slice_index used.old client) }
+{
+    match entry {
+        Entry::Give { client, .. } => advance_one(used, client),
+        Entry::Take { client, .. } => advance_one(used, client),
+        _ => advance_members(used, entry, clients),
     }
 }
 
