@@ -1,6 +1,9 @@
 -- The parts of a frame, one for each tile, and the pixels that they have.
-use Rattle.std.specs.Prelude.{◌≡◌, ℕ, ◌+◌, ◌-◌, ◌*◌, true, List, length, Some, slice_get, ℤ, pos}
-use Rattle.rc_base.specs.Cluster.Tiles.{boundary_of, tile_column, tile_count, tile_pixels, tile_row}
+use Rattle.std.specs.Prelude.{◌≡◌, ℕ, ◌+◌, ◌-◌, ◌*◌, true, List, [], length, Some, slice_get, slice_index_or, ℤ, pos}
+use Rattle.std.specs.Option.{option_map_or}
+use Rattle.rc_base.specs.Numbers.{natural}
+use Rattle.rc_base.specs.Drawing.Serial.{blank_pixel}
+use Rattle.rc_base.specs.Cluster.Tiles.{boundary_of, tile_at, tile_column, tile_count, tile_pixels, tile_row}
 use Rattle.rc_base.specs.declared.cluster.TilePart.{TilePart}
 use Rattle.rc_base.specs.declared.window.Layout.{Layout}
 use Rattle.rc_base.specs.declared.window.Pixel.{Pixel}
@@ -31,3 +34,13 @@ abbrev pub ShowPixels : Layout → List TilePart → (ℤ → ℤ → Pixel) →
 ShowPixels l parts pixels =
     (tile x y : ℕ) (p : TilePart) → slice_get parts tile ≡ Some p → tile_pixels l tile x y ≡ true
     → slice_get p.pixels (place_in_part l tile x y) ≡ Some (pixels (pos x) (pos y))
+
+-- the pixels of a tile's part
+abbrev pub pixels_of : List TilePart → ℕ → List Pixel
+pixels_of parts tile = option_map_or (λ (p : TilePart). p.pixels) (slice_get parts tile) []
+
+-- what the parts show at a pixel of the window: that of the part of its tile
+abbrev pub shown : Layout → List TilePart → ℤ → ℤ → Pixel
+shown l parts x y =
+    let tile = tile_at l (natural x) (natural y) in
+    slice_index_or (pixels_of parts tile) (place_in_part l tile (natural x) (natural y)) blank_pixel

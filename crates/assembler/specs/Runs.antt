@@ -1,15 +1,10 @@
 -- The bytes of an image in runs: what each tile has of a line, the lines of a row of tiles, and the rows of tiles.
-use Rattle.std.specs.Prelude.{ℕ, ◌+◌, ◌-◌, ◌*◌, List, [], take, drop, slice_get}
+use Rattle.std.specs.Prelude.{ℕ, ◌+◌, ◌-◌, ◌*◌, List, take, drop}
 use Rattle.std.specs.List.{flat_map, range_with_len}
-use Rattle.std.specs.Option.{option_map_or}
 use Rattle.rc_base.specs.Drawing.Images.{rgb_of}
 use Rattle.rc_base.specs.declared.cluster.TilePart.{TilePart}
 use Rattle.rc_base.specs.declared.window.Layout.{Layout}
-use Rattle.rc_base.specs.declared.window.Pixel.{Pixel}
-use Rattle.assembler.specs.Parts.{part_size}
-
-abbrev pub pixels_of : List TilePart → ℕ → List Pixel
-pixels_of parts tile = option_map_or (λ (p : TilePart). p.pixels) (slice_get parts tile) []
+use Rattle.assembler.specs.Parts.{part_size, pixels_of}
 
 abbrev pub run_bytes : Layout → List TilePart → ℕ → ℕ → ℕ → List ℕ
 run_bytes l parts row line column =

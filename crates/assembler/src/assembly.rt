@@ -2,7 +2,7 @@
 ghost use Rattle.std.specs.Prelude.{◌≡◌, ◌<◌, IfOk, ℤ};
 ghost use Rattle.rc_base.specs.Drawing.Images.{rgb_bytes};
 ghost use Rattle.rc_base.specs.declared.window.Pixel.{Pixel};
-ghost use Rattle.assembler.specs.Parts.{AreParts, ShowPixels};
+ghost use Rattle.assembler.specs.Parts.{AreParts, ShowPixels, shown};
 
 use crate::rows::add_rows;
 use rc_base::cluster::TilePart;
@@ -20,6 +20,7 @@ pub fn assemble(alloc: Global, layout: &Layout, parts: &[TilePart]) -> Result<Im
     requires parts { AreParts layout.now parts.now }
     ensures width { IfOk result (λ m. m.width ≡ layout.now.width) }
     ensures height { IfOk result (λ m. m.height ≡ layout.now.height) }
+    ensures bytes { IfOk result (λ m. m.rgb ≡ rgb_bytes (shown layout.now parts.now) layout.now.width layout.now.height) }
     ensures pixels { (pixels : ℤ → ℤ → Pixel) → ShowPixels layout.now parts.now pixels → IfOk result (λ m. m.rgb ≡ rgb_bytes pixels layout.now.width layout.now.height) }
 {
     let Layout { width, height, .. } = *layout;
