@@ -1,5 +1,6 @@
 -- Elements in turn.
-use Rattle.std.proofs.Common.{◌≡◌, ℕ, zero, suc, ◌+◌, ◌<◌, ◌≤◌, List, [], ◌∷◌, ◌++◌, refl, ap, sym, ◌∙◌, arith}
+use Rattle.std.proofs.Common.{◌≡◌, ℕ, zero, suc, ◌+◌, ◌<◌, ◌≤◌, List, [], ◌∷◌, ◌++◌, refl, ap, sym, ◌∙◌, arith, inl, inr, subst}
+use Rattle.std.proofs.lemmas.Bool.{cases_lt}
 use Rattle.std.specs.List.{flat_map, range_with_len}
 use Rattle.std.proofs.lemmas.List.{flat_map_more}
 
@@ -25,3 +26,18 @@ same_in_turn f g a zero h = refl
 same_in_turn f g a (suc n) h =
     ap (λ l. l ++ flat_map f (range_with_len (a + 1) n)) (h a (omega arith) (omega arith))
     ∙ ap (λ l. g a ++ l) (same_in_turn f g (a + 1) n (λ k from to. h k (omega (arith, from)) (omega (arith, to))))
+
+-- two lists of which nothing comes are empty
+pub no_parts : {A : Type 0} (xs ys : List A) → xs ++ ys ≡ [] → (xs ≡ []) × (ys ≡ [])
+no_parts [] ys none = (refl, none)
+no_parts (x ∷ xs) ys none = absurd cc
+
+-- where all pieces give nothing, so does each
+pub nothing_in : {A : Type 0} (f : ℕ → List A) (a n k : ℕ) → flat_map f (range_with_len a n) ≡ [] → a ≤ k → k < a + n → f k ≡ []
+nothing_in f a zero k none low high = absurd (omega (arith, low, high))
+nothing_in f a (suc n) k none low high =
+    let both = no_parts (f a) (flat_map f (range_with_len (a + 1) n)) none in
+    elim (cases_lt a k) [
+      | inl less ↦ nothing_in f (a + 1) n k both.1 (omega (arith, less)) (omega (arith, high))
+      | inr more ↦ (let e : a ≡ k = omega (arith, low, more) in subst (λ (j : ℕ). f j ≡ []) e both.0)
+    ]

@@ -1,5 +1,5 @@
 //! The scalar elements of a state, by their numbers.
-ghost use Rattle.std.specs.Prelude.{◌≡◌, ◌<◌, ◌++◌, OnOk, slice_index_or};
+ghost use Rattle.std.specs.Prelude.{◌≡◌, ◌<◌, ◌++◌, OnOk, IsOk, [], slice_index_or};
 ghost use Rattle.std.specs.List.{flat_map, range_with_len};
 ghost use Rattle.rc_base.specs.Contexts.Elements.{scalar_count, values_of, no_image};
 ghost use Rattle.state_update.specs.Knowledge.{scalar_set, scalar_value};
@@ -42,7 +42,8 @@ fn value_at(state: &State, element: u8) -> ElementValue
 // Adds the element where the states differ in it.
 fn add_scalar(sets: &mut Sets, told: &State, now: &State, element: u8) -> Result<(), OutOfMemory>
     requires { element < scalar_count }
-    ensures { OnOk result (sets.new ≡ sets.old ++ scalar_set told.now now.now element) }
+    ensures added { OnOk result (sets.new ≡ sets.old ++ scalar_set told.now now.now element) }
+    ensures quiet { scalar_set told.now now.now element ≡ [] → IsOk result }
 {
     if is_same(told, now, element) {
         return Ok(());
@@ -55,7 +56,8 @@ fn add_scalar(sets: &mut Sets, told: &State, now: &State, element: u8) -> Result
 /// Adds the scalar elements in which the states differ, in the order of their numbers, with their values now.
 #[tactic(auto, using(crate::proofs::InTurn::added, std::proofs::lemmas::List::append_assoc))]
 pub fn add_scalars(sets: &mut Sets, told: &State, now: &State) -> Result<(), OutOfMemory>
-    ensures { OnOk result (sets.new ≡ sets.old ++ flat_map (scalar_set told.now now.now) (range_with_len 0 scalar_count)) }
+    ensures added { OnOk result (sets.new ≡ sets.old ++ flat_map (scalar_set told.now now.now) (range_with_len 0 scalar_count)) }
+    ensures quiet { flat_map (scalar_set told.now now.now) (range_with_len 0 scalar_count) ≡ [] → IsOk result }
 {
     for element in 0..22 {
         add_scalar(sets, told, now, element)?;

@@ -1,5 +1,5 @@
 //! What one tile was told.
-ghost use Rattle.std.specs.Prelude.{◌≡◌, ◌<◌, ◌≤◌, ◌++◌, IfOk, OnOk, replicate};
+ghost use Rattle.std.specs.Prelude.{◌≡◌, ◌<◌, ◌≤◌, ◌++◌, [], IfOk, IsOk, OnOk, replicate};
 ghost use Rattle.rc_base.specs.Contexts.Context.{default_state, private_count};
 ghost use Rattle.state_update.specs.Knowledge.{IsPrivateName, edit_told, first_told, image_sets, sets_by, told_after};
 
@@ -49,7 +49,8 @@ impl Told {
         image: Option<u8>,
     ) -> Result<(), OutOfMemory>
         requires { IsPrivateName image }
-        ensures { OnOk result (sets.new ≡ sets.old ++ image_sets self.now context.now image) }
+        ensures added { OnOk result (sets.new ≡ sets.old ++ image_sets self.now context.now image) }
+        ensures quiet { image_sets self.now context.now image ≡ [] → IsOk result }
     {
         let Some(name) = image else {
             return Ok(());
@@ -74,7 +75,8 @@ impl Told {
         image: Option<u8>,
     ) -> Result<Sets, OutOfMemory>
         requires { IsPrivateName image }
-        ensures { IfOk result (λ sets. sets ≡ sets_by self.now context.now image) }
+        ensures sets { IfOk result (λ sets. sets ≡ sets_by self.now context.now image) }
+        ensures quiet { sets_by self.now context.now image ≡ [] → IsOk result }
     {
         let mut sets = Sets::new(alloc);
         add_scalars(&mut sets, &self.state, context.state())?;

@@ -1,5 +1,5 @@
 //! What the tiles were last told by one client.
-ghost use Rattle.std.specs.Prelude.{◌≡◌, ◌≢◌, ◌<◌, ◌≤◌, ℕ, length, replicate, IfOk, OnOk, OnErr};
+ghost use Rattle.std.specs.Prelude.{◌≡◌, ◌≢◌, ◌<◌, ◌≤◌, ℕ, length, replicate, [], IfOk, IsOk, OnOk, OnErr};
 ghost use Rattle.rc_base.specs.Contexts.Elements.{default_value, element_count};
 ghost use Rattle.rc_base.specs.Cluster.Parcels.{sets_for};
 ghost use Rattle.rc_base.specs.declared.state.ElementValue.{ElementValue};
@@ -61,6 +61,7 @@ impl Tracker {
         ensures count { length self.new ≡ length self.old }
         ensures sets { (values : ℕ → ElementValue) → Knows self.old tile values → IfOk result (λ sets. sets ≡ sets_for values context.now draws) }
         ensures told { (values : ℕ → ElementValue) → Knows self.old tile values → OnOk result (Knows self.new tile (after_sets values (sets_for values context.now draws))) }
+        ensures quiet { (values : ℕ → ElementValue) → Knows self.old tile values → sets_for values context.now draws ≡ [] → IsOk result }
         ensures others { (other : ℕ) (values : ℕ → ElementValue) → other ≢ tile → Knows self.old other values → Knows self.new other values }
         ensures err { OnErr result (self.new ≡ self.old) }
     {
