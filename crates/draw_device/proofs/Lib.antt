@@ -3,3 +3,4 @@ mod Runs
 mod SpansToPixels
 mod BlockPixels
 pub mod Places
+mod Steps

@@ -4,3 +4,5 @@ pub mod Devices
 pub mod Clips
 pub mod Shapes
 pub mod Grids
+pub mod Loops
+pub mod Plans

@@ -7,14 +7,20 @@ ghost use Rattle.geometry.specs.Items.{AreBelow};
 ghost use Rattle.textures.specs.Images.{HasTexelIfAny};
 ghost use Rattle.draw_device.specs.Clips.{IsPartWhere, is_let_through};
 ghost use Rattle.draw_device.specs.Shapes.{IsCovered, IsSpanIn, fragment_pixel, cleared_pixel, IsRunStepped, IsStepped, span_step, covered_step, corners_step, triangles_step, triangles_in, grid_rect};
+ghost use Rattle.fragment_ops.specs.Clearings.{IsClearing, writes_pixel};
 ghost use Rattle.draw_device.specs.Conditions.{IsClearable};
+ghost use Rattle.draw_device.specs.Plans.{IsPlan, IsPaint};
 ghost use Rattle.draw_device.specs.Devices.{pixel_index};
 ghost use Rattle.draw_device.specs.Pixels.{pixel_at};
 
 use crate::clip::{drawn_part, scissored};
 use crate::extent::Extent;
-use crate::shade::draw_run;
-use fragment_ops::clear_pixel;
+use crate::paint::Paint;
+use crate::plan::Plan;
+use crate::prepare::{paint_of, plan_of};
+use crate::rows::draw_row;
+use crate::run::Run;
+use fragment_ops::{Clearing, clearing_of};
 use geometry::{to_window, triangles};
 use raster::spans;
 use rc_base::command::Rgba;
@@ -25,12 +31,15 @@ use rc_base::window::{Pixel, Rect, Span};
 use std::alloc::Global;
 use textures::Texture;
 
-/// Pixels, row by row from the lowest, each row from the left. `extent` says where they stand.
+/// Pixels, row by row from the lowest, each row from the left. `extent` says where they stand. `colors` is room for one row of fragments'
+/// colours.
 #[derive(Drop)]
 pub struct Grid {
     pub extent: Extent,
     pub pixels: Vec<Pixel>,
+    pub colors: Vec<Rgba>,
     pub ghost full: { length pixels.items ≡ extent.width * extent.height },
+    pub ghost room: { extent.width ≤ length colors.items },
     pub ghost right: { extent.left + extent.width ≤ 65535 },
     pub ghost top: { extent.bottom + extent.height ≤ 65535 },
 }
@@ -52,15 +61,71 @@ fn row_start(width: u16, row: u16) -> usize
 }
 
 // Clears the columns from `from` to below `to` of a row that begins at `start`.
-fn clear_run(pixels: &mut Vec<Pixel>, state: &State, mask: u8, start: usize, from: u16, to: u16)
-    requires clearable { IsClearable state.now }
+fn clear_run(
+    pixels: &mut Vec<Pixel>,
+    state: &State,
+    mask: u8,
+    clearing: &Clearing,
+    start: usize,
+    from: u16,
+    to: u16,
+)
+    requires clearing { IsClearing state.now mask clearing.now }
     requires order { from ≤ to }
     requires room { start + to ≤ length pixels.old.items }
     ensures { (left row : ℕ) → IsRunStepped (cleared_pixel state.now mask) left row start from to pixels.old.items pixels.new.items }
 {
+    let _what = mask;
+    let _state = state;
     for x in from..to {
         let index = start + x as usize;
-        pixels[index] = clear_pixel(state, mask, pixels[index]);
+        pixels[index] = clearing.clear(pixels[index]);
+    }
+}
+
+// The same where the Clear writes all of a pixel.
+fn fill_clear(
+    pixels: &mut Vec<Pixel>,
+    state: &State,
+    mask: u8,
+    clearing: &Clearing,
+    start: usize,
+    from: u16,
+    to: u16,
+)
+    requires clearing { IsClearing state.now mask clearing.now }
+    requires whole { writes_pixel clearing.now ≡ true }
+    requires order { from ≤ to }
+    requires room { start + to ≤ length pixels.old.items }
+    ensures { (left row : ℕ) → IsRunStepped (cleared_pixel state.now mask) left row start from to pixels.old.items pixels.new.items }
+{
+    let _what = mask;
+    let _state = state;
+    let cleared = clearing.pixel();
+    for x in from..to {
+        let index = start + x as usize;
+        pixels[index] = cleared;
+    }
+}
+
+fn clear_row(
+    pixels: &mut Vec<Pixel>,
+    state: &State,
+    mask: u8,
+    clearing: &Clearing,
+    start: usize,
+    from: u16,
+    to: u16,
+)
+    requires clearing { IsClearing state.now mask clearing.now }
+    requires order { from ≤ to }
+    requires room { start + to ≤ length pixels.old.items }
+    ensures { (left row : ℕ) → IsRunStepped (cleared_pixel state.now mask) left row start from to pixels.old.items pixels.new.items }
+{
+    if clearing.writes_pixel() {
+        fill_clear(pixels, state, mask, clearing, start, from, to);
+    } else {
+        clear_run(pixels, state, mask, clearing, start, from, to);
     }
 }
 
@@ -86,7 +151,13 @@ impl Grid {
                 depth: 16_777_215,
             },
         )?;
-        Ok(Grid { extent, pixels })
+        let mut colors = Vec::new(alloc);
+        colors.resize(extent.width as usize, color)?;
+        Ok(Grid {
+            extent,
+            pixels,
+            colors,
+        })
     }
 
     /// The rectangle of the window that the grid has.
@@ -104,7 +175,17 @@ impl Grid {
     }
 
     // Draws the pixels of a span of a triangle.
-    fn draw_span(&mut self, state: &State, texture: &Texture, tri: &WindowTriangle, span: Span)
+    fn draw_span(
+        &mut self,
+        state: &State,
+        texture: &Texture,
+        tri: &WindowTriangle,
+        plan: &Plan,
+        paint: &Paint,
+        span: Span,
+    )
+        requires plan { IsPlan state.now plan.now }
+        requires paint { IsPaint tri.now.v (pos self.old.extent.left) (pos self.old.extent.bottom) paint.now }
         requires texel { HasTexelIfAny texture.now }
         requires inside { IsSpanIn self.old.extent span }
         requires covered { IsCovered tri.now.v span }
@@ -112,33 +193,49 @@ impl Grid {
         ensures drawn { IsStepped (span_step (fragment_pixel state.now texture.now tri.now.v) span) self.old.extent self.old.pixels.items self.new.pixels.items }
     {
         let _height = self.extent.height;
-        let row = offset(span.y, self.extent.bottom);
+        let up = offset(span.y, self.extent.bottom);
         let from = offset(span.x0, self.extent.left);
         let to = offset(span.x1, self.extent.left);
-        let start = row_start(self.extent.width, row);
-        let y = self.extent.bottom + row;
-        draw_run(
-            &mut self.pixels,
-            state,
-            texture,
-            tri,
-            self.extent.left,
-            y,
+        let start = row_start(self.extent.width, up);
+        let run = Run {
+            left: self.extent.left,
+            bottom: self.extent.bottom,
+            row: self.extent.bottom + up,
+            up,
             start,
             from,
             to,
+        };
+        draw_row(
+            &mut self.pixels,
+            &mut self.colors,
+            state,
+            texture,
+            tri,
+            plan,
+            paint,
+            run,
         );
     }
 
     // Draws a triangle in the part of the grid's rectangle that lets it through.
-    fn draw_triangle(&mut self, state: &State, texture: &Texture, part: Rect, tri: &WindowTriangle)
+    fn draw_triangle(
+        &mut self,
+        state: &State,
+        texture: &Texture,
+        plan: &Plan,
+        part: Rect,
+        tri: &WindowTriangle,
+    )
+        requires plan { IsPlan state.now plan.now }
         requires texel { HasTexelIfAny texture.now }
         requires part { IsPartWhere (grid_rect self.old.extent) part (is_let_through state.now) }
         ensures extent { self.new.extent ≡ self.old.extent }
         ensures drawn { IsStepped (covered_step state.now texture.now tri.now.v) self.old.extent self.old.pixels.items self.new.pixels.items }
     {
+        let paint = paint_of(plan, tri, self.extent.left, self.extent.bottom);
         'rows: for span in spans(tri, part) {
-            self.draw_span(state, texture, tri, span);
+            self.draw_span(state, texture, tri, plan, &paint, span);
         }
     }
 
@@ -147,10 +244,12 @@ impl Grid {
         &mut self,
         state: &State,
         texture: &Texture,
+        plan: &Plan,
         part: Rect,
         vertices: &[Vertex],
         corners: [usize; 3],
     )
+        requires plan { IsPlan state.now plan.now }
         requires texel { HasTexelIfAny texture.now }
         requires part { IsPartWhere (grid_rect self.old.extent) part (is_let_through state.now) }
         requires corners { AreBelow (length vertices.now) corners }
@@ -165,7 +264,7 @@ impl Grid {
         let Some(tri) = to_window(state, &three) else {
             return;
         };
-        self.draw_triangle(state, texture, part, &tri);
+        self.draw_triangle(state, texture, plan, part, &tri);
     }
 
     /// Draws the triangles of a block, one after the other, with the texture that the state samples.
@@ -175,9 +274,10 @@ impl Grid {
         ensures drawn { IsStepped (triangles_step state.now texture.now block.now.vertices (triangles_in block.now)) self.old.extent self.old.pixels.items self.new.pixels.items }
     {
         let part = drawn_part(state, self.rect());
+        let plan = plan_of(state, texture);
         let vertices = block.vertices.as_slice();
         'draws: for corners in triangles(block) {
-            self.draw_corners(state, texture, part, vertices, corners);
+            self.draw_corners(state, texture, &plan, part, vertices, corners);
         }
     }
 
@@ -195,9 +295,10 @@ impl Grid {
         let to = offset(part.x1, self.extent.left);
         let first = offset(part.y0, self.extent.bottom);
         let last = offset(part.y1, self.extent.bottom);
+        let clearing = clearing_of(state, mask);
         for row in first..last {
             let start = row_start(self.extent.width, row);
-            clear_run(&mut self.pixels, state, mask, start, from, to);
+            clear_row(&mut self.pixels, state, mask, &clearing, start, from, to);
         }
     }
 

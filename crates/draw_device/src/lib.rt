@@ -5,10 +5,18 @@
 #![tactic(auto)]
 
 mod clip;
+mod colors;
 mod device;
 mod extent;
 mod grid;
+mod paint;
+mod pixels;
+mod plan;
+mod prepare;
+mod rows;
+mod run;
 mod shade;
+mod stepped;
 #[cfg(test)]
 mod tests;
 

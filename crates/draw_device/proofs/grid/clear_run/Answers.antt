@@ -8,7 +8,7 @@ loop-x-preserved c left row =
     let d = c.loop-x.invariant left row in
     let s = d.size in
     run_more (cleared_pixel c.args.state.now c.args.mask) left row c.args.start c.args.from c.loop-x.x _ _ _ c.index.result.now d (omega arith)
-    (omega arith) c.index.ensures c.clear_pixel.ensures
+    (omega arith) c.index.ensures (c.clear.ensures c.args.state.now c.args.mask c.requires.clearing)
 
 pub returns : goal.returns
 returns c left row =

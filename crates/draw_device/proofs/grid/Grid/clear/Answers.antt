@@ -36,7 +36,7 @@ loop-row-preserved c =
     let b = p.bounds in
     let i = c.loop-row.invariant in
     let old = c.loop-row.self.pixels.items in
-    let new = c.clear_run.new.pixels.items in
+    let new = c.clear_row.new.pixels.items in
     let span : Span = record { y = row_at g r; x0 = part.x0; x1 = part.x1 } in
     let low : part.y0 ≡ pos (g.bottom + c.offset-first.result) = omega (arith, ints) in
     let high : part.y1 ≡ pos (g.bottom + c.offset-last.result) = omega (arith, ints) in
@@ -45,7 +45,7 @@ loop-row-preserved c =
     let ordered : c.offset-from.result ≤ c.offset-to.result = omega (arith, ints) in
     let inside : c.offset-to.result ≤ g.width = omega (arith, ints) in
     let start : c.row_start-start.result ≡ r * g.width = c.row_start-start.ensures ∙ ap (λ (e : Extent). r * e.width) i.extent in
-    let run = subst (λ (n : ℕ). IsRunStepped f g.left (g.bottom + r) n c.offset-from.result c.offset-to.result old new) start (c.clear_run.ensures g.left (g.bottom + r)) in
+    let run = subst (λ (n : ℕ). IsRunStepped f g.left (g.bottom + r) n c.offset-from.result c.offset-to.result old new) start (c.clear_row.ensures g.left (g.bottom + r)) in
     record {
       extent = i.extent;
       drawn = stepped_more (clear_step s m) f g c.args.self.now.pixels.items old new (row_at g r) _ span i.drawn
@@ -75,7 +75,8 @@ returns-clause-drawn c =
 
 pub invariant_of-self : goal.invariant_of-self
 invariant_of-self c = record {
-  full = (c.clear_run.ensures 0 0).size ∙ c.loop-row.self.full;
+  full = (c.clear_row.ensures 0 0).size ∙ c.loop-row.self.full;
+  room = c.loop-row.self.room;
   right = c.loop-row.self.right;
   top = c.loop-row.self.top;
 }

@@ -5,12 +5,12 @@ use Rattle.draw_device.specs.Shapes.{IsRunStepped, fragment_pixel}
 use Rattle.draw_device.proofs.SpansToPixels.{span_drawn}
 use Rattle.draw_device.proofs.grid.Grid.draw_span.Goals as goal
 
-pub draw_run-requires-clause-covered : goal.draw_run-requires-clause-covered
-draw_run-requires-clause-covered c k low high =
+pub draw_row-requires-clause-covered : goal.draw_row-requires-clause-covered
+draw_row-requires-clause-covered c k low high =
     let v = c.args.tri.now.v in
     let left = c.args.self.now.extent.left in
     let bottom = c.args.self.now.extent.bottom in
-    let ey : c.args.span.y ≡ pos (bottom + c.offset-row.result) = omega (arith, ints) in
+    let ey : c.args.span.y ≡ pos (bottom + c.offset-up.result) = omega (arith, ints) in
     let at : c.args.span.x0 ≤ℤ pos (left + k) = omega (arith, ints) in
     let below : pos (left + k) <ℤ c.args.span.x1 = omega (arith, ints) in
     subst (λ (y : ℤ). is_inside v (pos (left + k)) y ≡ true) ey (c.requires.covered (pos (left + k)) at below)
@@ -20,10 +20,16 @@ returns-clause-drawn c =
     let s = c.args.span in
     let g = c.args.self.now.extent in
     let f = fragment_pixel c.args.state.now c.args.texture.now c.args.tri.now.v in
-    let ey : s.y ≡ pos (g.bottom + c.offset-row.result) = omega (arith, ints) in
+    let ey : s.y ≡ pos (g.bottom + c.offset-up.result) = omega (arith, ints) in
     let ea : s.x0 ≡ pos (g.left + c.offset-from.result) = omega (arith, ints) in
     let eb : s.x1 ≡ pos (g.left + c.offset-to.result) = omega (arith, ints) in
     let ab : c.offset-from.result ≤ c.offset-to.result = omega (arith, ints) in
     let bw : c.offset-to.result ≤ g.width = omega (arith, ints) in
-    let run = subst (λ (start : ℕ). IsRunStepped f g.left (g.bottom + c.offset-row.result) start c.offset-from.result c.offset-to.result c.args.self.now.pixels.items c.draw_run.new.pixels.items) c.row_start-start.ensures c.draw_run.ensures in
-    span_drawn f s g c.offset-row.result c.offset-from.result c.offset-to.result c.args.self.now.pixels.items c.draw_run.new.pixels.items ey ea eb ab bw run
+    let run = subst (λ (start : ℕ). IsRunStepped f g.left (g.bottom + c.offset-up.result) start c.offset-from.result c.offset-to.result c.args.self.now.pixels.items c.draw_row.new.pixels.items) c.row_start-start.ensures c.draw_row.ensures.drawn in
+    span_drawn f s g c.offset-up.result c.offset-from.result c.offset-to.result c.args.self.now.pixels.items c.draw_row.new.pixels.items ey ea eb ab bw run
+
+pub offset-to-requires-clause-low : goal.offset-to-requires-clause-low
+offset-to-requires-clause-low c =
+    let a = c.requires.inside.left in
+    let b = c.requires.inside.some in
+    omega (arith, ints)

@@ -1,5 +1,6 @@
-use Rattle.std.proofs.Common.{◌≡◌, ◌∙◌, ℤ, arith, ap, refl, sym, subst}
+use Rattle.std.proofs.Common.{◌≡◌, ◌∙◌, pos, ℤ, arith, ap, refl, sym, subst}
 use Rattle.std.proofs.lemmas.Int.{ints}
+use Rattle.draw_device.specs.Plans.{IsPaint}
 use Rattle.draw_device.specs.Shapes.{covered_step, fragment_pixel, span_step, IsSpanIn, IsStepped, IsSteppedBelow}
 use Rattle.draw_device.specs.declared.extent.Extent.{Extent}
 use Rattle.draw_device.proofs.SpansToPixels.{stepped_none, stepped_more, stepped_all, triangle_row, below_part, rest_empty, span_in, span_covered}
@@ -69,3 +70,8 @@ returns-clause-drawn c =
     let g = c.args.self.now.extent in
     stepped_all (covered_step s p v) g c.args.self.now.pixels.items c.rows.self.pixels.items _ i.drawn
     (rest_empty s p v g c.args.part c.requires.part _ n)
+
+pub draw_span-requires-clause-paint : goal.draw_span-requires-clause-paint
+draw_span-requires-clause-paint c =
+    let i = c.rows.invariant in
+    subst (λ (g : Extent). IsPaint c.args.tri.now.v (pos g.left) (pos g.bottom) c.paint_of-paint.result) (sym i.extent) c.paint_of-paint.ensures

@@ -1,0 +1,10 @@
+use Rattle.std.proofs.Common.{ℕ}
+use Rattle.rc_base.specs.declared.command.Rgba.{Rgba}
+use Rattle.draw_device.specs.Loops.{IsColorRun}
+use Rattle.draw_device.proofs.colors.fill_colors.Given as goal
+
+abbrev pub invariant-loop-x : goal.invariant-loop-x
+invariant-loop-x l =
+    record {
+      done : IsColorRun (λ (k : ℕ) (old : Rgba). l.fn.color) l.fn.run.from l.x l.fn.colors.items l.colors.items;
+    }

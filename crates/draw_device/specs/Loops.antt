@@ -1,0 +1,82 @@
+-- What the loops over a run of pixels take and leave.
+use Rattle.std.specs.Prelude.{◌≡◌, ℕ, ◌+◌, ◌^◌, ◌<◌, ◌≤◌, length, slice_index_or, List, Option, Some, None, ℤ, pos, true}
+use Rattle.rc_base.specs.Colors.{rgba}
+use Rattle.rc_base.specs.Pictures.{Picture}
+use Rattle.rc_base.specs.Drawing.Cover.{is_inside}
+use Rattle.rc_base.specs.Drawing.Fragment.{fragment_of}
+use Rattle.rc_base.specs.Drawing.PixelStep.{fragment_color, shaded}
+use Rattle.rc_base.specs.Drawing.Texel.{texel_of, wrap_in_s, wrap_in_t}
+use Rattle.rc_base.specs.declared.command.Rgba.{Rgba}
+use Rattle.rc_base.specs.declared.state.State.{State}
+use Rattle.rc_base.specs.declared.window.Fragment.{Fragment}
+use Rattle.rc_base.specs.declared.window.Pixel.{Pixel}
+use Rattle.rc_base.specs.declared.window.WindowVertex.{WindowVertex}
+use Rattle.raster.specs.Colors.{IsColorRamp, is_depth}
+use Rattle.raster.specs.Planes.{IsFineRamp}
+use Rattle.raster.specs.declared.color.ColorRamp.{ColorRamp}
+use Rattle.raster.specs.declared.fine.FineRamp.{FineRamp}
+use Rattle.draw_device.specs.Shapes.{fragment_pixel, IsRunStepped}
+use Rattle.draw_device.specs.declared.run.Run.{Run}
+
+-- the fragment at column k of the run's row
+abbrev pub run_fragment : List WindowVertex → Run → ℕ → Fragment
+run_fragment v r k = fragment_of v (pos (r.left + k)) (pos r.row)
+
+-- the columns are in order, and so few that no step of a plane is one too many
+pub record IsRun (r : Run) : Type 0 where
+  pub order : r.from ≤ r.to
+  pub few : r.to + r.up < 2 ^ 12
+  pub above : r.row ≡ r.bottom + r.up
+
+-- the triangle covers the run
+abbrev pub IsRunCovered : List WindowVertex → Run → Type 0
+IsRunCovered v r = (k : ℕ) → r.from ≤ k → k < r.to → is_inside v (pos (r.left + k)) (pos r.row) ≡ true
+
+-- the pixels of the run after the fragments of a triangle
+abbrev pub IsRunDrawn : State → Option Picture → List WindowVertex → Run → List Pixel → List Pixel → Type 0
+IsRunDrawn s picture v r old new = IsRunStepped (fragment_pixel s picture v) r.left r.row r.start r.from r.to old new
+
+-- ---- stepped values at column k of the run's row
+
+abbrev pub IsColorAt : List WindowVertex → Run → ℕ → ColorRamp → Type 0
+IsColorAt v r k ramp = IsColorRamp v (pos (r.left + k)) (pos r.row) (1 + k + r.up) ramp
+
+abbrev pub IsValueAt : List WindowVertex → Run → (WindowVertex → ℤ) → ℕ → FineRamp → Type 0
+IsValueAt v r f k ramp = IsFineRamp v (pos (r.left + k)) (pos r.row) f (1 + k + r.up) ramp
+
+abbrev pub IsDepthAt : List WindowVertex → Run → ℕ → FineRamp → Type 0
+IsDepthAt v r k ramp = IsValueAt v r (λ (c : WindowVertex). c.z) k ramp
+
+abbrev pub IsSAt : List WindowVertex → Run → ℕ → FineRamp → Type 0
+IsSAt v r k ramp = IsValueAt v r (λ (c : WindowVertex). c.s) k ramp
+
+abbrev pub IsTAt : List WindowVertex → Run → ℕ → FineRamp → Type 0
+IsTAt v r k ramp = IsValueAt v r (λ (c : WindowVertex). c.t) k ramp
+
+-- no fragment of the triangle has a depth outside the buffer's range
+abbrev pub HasDepths : List WindowVertex → Type 0
+HasDepths v = (x y : ℤ) → is_inside v x y ≡ true → is_depth (fragment_of v x y).depth ≡ true
+
+-- of a fragment its colour alone is stored
+abbrev pub StoresColor : State → Type 0
+StoresColor s = (color : Rgba) (depth : ℕ) (old : Pixel) → shaded s color depth old ≡ record { color = color; depth = old.depth }
+
+-- ---- a row of colours, one for each column of the grid
+
+abbrev pub color_at : List Rgba → ℕ → Rgba
+color_at colors k = slice_index_or colors k (rgba 0 0 0 0)
+
+-- the colours of columns `from` to below `to` took a step, and the others are as before
+pub record IsColorRun (step : ℕ → Rgba → Rgba) (from to : ℕ) (old new : List Rgba) : Type 0 where
+  pub size : length new ≡ length old
+  pub run : (k : ℕ) → from ≤ k → k < to → color_at new k ≡ step k (color_at old k)
+  pub rest : (k : ℕ) → to ≤ k → color_at new k ≡ color_at old k
+
+-- the colours are those of the triangle's fragments after the texture stage
+abbrev pub AreColors : State → Option Picture → List WindowVertex → Run → List Rgba → Type 0
+AreColors s picture v r colors = (k : ℕ) → r.from ≤ k → k < r.to → color_at colors k ≡ fragment_color s picture (run_fragment v r k)
+
+-- the texel of a fragment, where there is a picture
+abbrev pub texel_for : State → Option Picture → Fragment → Rgba
+texel_for s None f = rgba 0 0 0 0
+texel_for s (Some p) f = texel_of p f.s f.t (wrap_in_s s) (wrap_in_t s)

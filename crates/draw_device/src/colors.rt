@@ -1,0 +1,111 @@
+//! A row of fragments' colours after the texture stage.
+ghost use Rattle.std.specs.Prelude.{◌≡◌, ℕ, ◌≤◌, length, pos, true};
+ghost use Rattle.rc_base.specs.Drawing.PixelStep.{textured};
+ghost use Rattle.textures.specs.Images.{HasTexel};
+ghost use Rattle.draw_device.specs.Loops.{run_fragment, texel_for, IsRun, IsRunCovered, IsColorAt, IsSAt, IsTAt, IsColorRun};
+
+use crate::run::Run;
+use crate::stepped::{color_by, s_by, t_by};
+use fragment_ops::texture_color;
+use raster::{ColorRamp, FineRamp};
+use rc_base::command::Rgba;
+use rc_base::state::State;
+use rc_base::triangle::WindowTriangle;
+use textures::Texture;
+
+/// One colour.
+pub(crate) fn fill_colors(colors: &mut Vec<Rgba>, run: Run, color: Rgba)
+    requires run { IsRun run }
+    requires room { run.to ≤ length colors.old.items }
+    ensures { IsColorRun (λ k old. color) run.from run.to colors.old.items colors.new.items }
+{
+    for x in run.from..run.to {
+        colors[x as usize] = color;
+    }
+}
+
+/// The triangle's colours, by one addition a channel and pixel.
+pub(crate) fn step_colors(colors: &mut Vec<Rgba>, tri: &WindowTriangle, run: Run, first: ColorRamp)
+    requires run { IsRun run }
+    requires room { run.to ≤ length colors.old.items }
+    requires covered { IsRunCovered tri.now.v run }
+    requires ramp { IsColorAt tri.now.v run run.from first }
+    ensures { IsColorRun (λ k old. (run_fragment tri.now.v run k).color) run.from run.to colors.old.items colors.new.items }
+{
+    let mut ramp = first;
+    for x in run.from..run.to {
+        colors[x as usize] = color_by(&ramp, tri, run, x);
+        ramp.advance();
+    }
+}
+
+// The texel at a texture coordinate.
+fn texel(
+    texture: &Texture,
+    state: &State,
+    tri: &WindowTriangle,
+    run: Run,
+    x: u16,
+    s: i32,
+    t: i32,
+) -> Rgba
+    requires texel { HasTexel texture.now }
+    requires s { s ≡ (run_fragment tri.now.v run x).s }
+    requires t { t ≡ (run_fragment tri.now.v run x).t }
+    ensures { result ≡ texel_for state.now texture.now (run_fragment tri.now.v run x) }
+{
+    let _tri = tri;
+    let _place = (run.left, run.row, x);
+    texture.sample(s, t, state.tex_mode[1], state.tex_mode[2])
+}
+
+/// The texels of the triangle's fragments.
+pub(crate) fn texel_colors(
+    colors: &mut Vec<Rgba>,
+    state: &State,
+    texture: &Texture,
+    tri: &WindowTriangle,
+    run: Run,
+    first_s: FineRamp,
+    first_t: FineRamp,
+)
+    requires run { IsRun run }
+    requires room { run.to ≤ length colors.old.items }
+    requires texel { HasTexel texture.now }
+    requires covered { IsRunCovered tri.now.v run }
+    requires s_ramp { IsSAt tri.now.v run run.from first_s }
+    requires t_ramp { IsTAt tri.now.v run run.from first_t }
+    ensures { IsColorRun (λ k old. texel_for state.now texture.now (run_fragment tri.now.v run k)) run.from run.to colors.old.items colors.new.items }
+{
+    let mut ss = first_s;
+    let mut ts = first_t;
+    for x in run.from..run.to {
+        let s = s_by(&ss, tri, run, x);
+        let t = t_by(&ts, tri, run, x);
+        colors[x as usize] = texel(texture, state, tri, run, x, s, t);
+        ss.advance();
+        ts.advance();
+    }
+}
+
+/// The texture stage of texels and the triangle's colours.
+pub(crate) fn tint_colors(
+    colors: &mut Vec<Rgba>,
+    state: &State,
+    tri: &WindowTriangle,
+    run: Run,
+    first: ColorRamp,
+)
+    requires run { IsRun run }
+    requires room { run.to ≤ length colors.old.items }
+    requires covered { IsRunCovered tri.now.v run }
+    requires ramp { IsColorAt tri.now.v run run.from first }
+    ensures { IsColorRun (λ k old. textured state.now (run_fragment tri.now.v run k).color old) run.from run.to colors.old.items colors.new.items }
+{
+    let mut ramp = first;
+    for x in run.from..run.to {
+        let color = color_by(&ramp, tri, run, x);
+        colors[x as usize] = texture_color(state, color, colors[x as usize]);
+        ramp.advance();
+    }
+}

@@ -1,0 +1,260 @@
+//! Loops over the pixels of a run, one for each kind of state, all with one contract: each pixel takes its fragment's step.
+ghost use Rattle.std.specs.Prelude.{◌≡◌, ℕ, ◌+◌, ◌≤◌, length, pos, true, None, Option, ℤ};
+ghost use Rattle.rc_base.specs.Pictures.{Picture};
+ghost use Rattle.rc_base.specs.Drawing.Cover.{is_inside};
+ghost use Rattle.rc_base.specs.Drawing.PixelStep.{shaded, fragment_step, fragment_color};
+ghost use Rattle.rc_base.specs.declared.state.State.{State as AnyState};
+ghost use Rattle.rc_base.specs.declared.window.Fragment.{Fragment as AnyFragment};
+ghost use Rattle.raster.specs.Colors.{is_depth, HasColor};
+ghost use Rattle.fragment_ops.specs.Prepared.{IsPrepared};
+ghost use Rattle.fragment_ops.specs.Shortcuts.{tests_alone, blends_over, blends_sum};
+ghost use Rattle.rc_base.specs.Drawing.Fragment.{fragment_of};
+ghost use Rattle.draw_device.specs.Loops.{IsRun, IsRunCovered, IsRunDrawn, IsColorAt, IsDepthAt, HasDepths, StoresColor, AreColors};
+
+use crate::run::Run;
+use crate::stepped::{color_by, depth_by};
+use fragment_ops::{Stages, shade_pixel};
+use raster::{ColorRamp, FineRamp};
+use rc_base::command::Rgba;
+use rc_base::state::State;
+use rc_base::triangle::WindowTriangle;
+use rc_base::window::{Fragment, Pixel};
+use textures::Texture;
+
+/// One colour alone is stored.
+pub(crate) fn fill_run(
+    pixels: &mut Vec<Pixel>,
+    state: &State,
+    tri: &WindowTriangle,
+    run: Run,
+    color: Rgba,
+)
+    requires run { IsRun run }
+    requires room { run.start + run.to ≤ length pixels.old.items }
+    requires covered { IsRunCovered tri.now.v run }
+    requires depths { HasDepths tri.now.v }
+    requires kind { StoresColor state.now }
+    requires color { (x y : ℤ) → is_inside tri.now.v x y ≡ true → HasColor color (fragment_of tri.now.v x y) }
+    ensures { IsRunDrawn state.now None tri.now.v run pixels.old.items pixels.new.items }
+{
+    let _state = state;
+    let _tri = tri;
+    for x in run.from..run.to {
+        let place = run.start + x as usize;
+        pixels[place].color = color;
+    }
+}
+
+/// The triangle's colours alone are stored.
+pub(crate) fn step_run(
+    pixels: &mut Vec<Pixel>,
+    state: &State,
+    tri: &WindowTriangle,
+    run: Run,
+    first: ColorRamp,
+)
+    requires run { IsRun run }
+    requires room { run.start + run.to ≤ length pixels.old.items }
+    requires covered { IsRunCovered tri.now.v run }
+    requires depths { HasDepths tri.now.v }
+    requires kind { StoresColor state.now }
+    requires ramp { IsColorAt tri.now.v run run.from first }
+    ensures { IsRunDrawn state.now None tri.now.v run pixels.old.items pixels.new.items }
+{
+    let _state = state;
+    let mut ramp = first;
+    for x in run.from..run.to {
+        let place = run.start + x as usize;
+        pixels[place].color = color_by(&ramp, tri, run, x);
+        ramp.advance();
+    }
+}
+
+/// The row's colours alone are stored.
+pub(crate) fn store_run(
+    pixels: &mut Vec<Pixel>,
+    colors: &[Rgba],
+    state: &State,
+    texture: &Texture,
+    tri: &WindowTriangle,
+    run: Run,
+)
+    requires run { IsRun run }
+    requires room { run.start + run.to ≤ length pixels.old.items }
+    requires colors { run.to ≤ length colors.now }
+    requires colored { AreColors state.now texture.now tri.now.v run colors.now }
+    requires covered { IsRunCovered tri.now.v run }
+    requires depths { HasDepths tri.now.v }
+    requires kind { StoresColor state.now }
+    ensures { IsRunDrawn state.now texture.now tri.now.v run pixels.old.items pixels.new.items }
+{
+    let _state = state;
+    let _texture = texture;
+    let _tri = tri;
+    for x in run.from..run.to {
+        let place = run.start + x as usize;
+        pixels[place].color = colors[x as usize];
+    }
+}
+
+fn test_step(stages: &Stages, color: Rgba, depth: i32, old: Pixel) -> Pixel
+    requires { is_depth depth ≡ true }
+    ensures { (s : AnyState) (p : Option Picture) (f : AnyFragment) → IsPrepared s stages.now → tests_alone s ≡ true → color ≡ fragment_color s p f → depth ≡ f.depth → result ≡ fragment_step s p f old }
+{
+    stages.store(color, depth as u32, old)
+}
+
+/// The depth test is the one stage.
+pub(crate) fn test_run(
+    pixels: &mut Vec<Pixel>,
+    colors: &[Rgba],
+    state: &State,
+    texture: &Texture,
+    tri: &WindowTriangle,
+    stages: &Stages,
+    run: Run,
+    first: FineRamp,
+)
+    requires run { IsRun run }
+    requires room { run.start + run.to ≤ length pixels.old.items }
+    requires colors { run.to ≤ length colors.now }
+    requires colored { AreColors state.now texture.now tri.now.v run colors.now }
+    requires covered { IsRunCovered tri.now.v run }
+    requires depths { HasDepths tri.now.v }
+    requires kind { tests_alone state.now ≡ true }
+    requires stages { IsPrepared state.now stages.now }
+    requires ramp { IsDepthAt tri.now.v run run.from first }
+    ensures { IsRunDrawn state.now texture.now tri.now.v run pixels.old.items pixels.new.items }
+{
+    let _state = state;
+    let _texture = texture;
+    let mut ramp = first;
+    for x in run.from..run.to {
+        let place = run.start + x as usize;
+        let depth = depth_by(&ramp, tri, run, x);
+        pixels[place] = test_step(stages, colors[x as usize], depth, pixels[place]);
+        ramp.advance();
+    }
+}
+
+fn over_step(stages: &Stages, color: Rgba, depth: i32, old: Pixel) -> Pixel
+    requires { is_depth depth ≡ true }
+    ensures { (s : AnyState) (p : Option Picture) (f : AnyFragment) → IsPrepared s stages.now → blends_over s ≡ true → color ≡ fragment_color s p f → depth ≡ f.depth → result ≡ fragment_step s p f old }
+{
+    stages.store_over(color, depth as u32, old)
+}
+
+/// Depth test, and blending by SRC_ALPHA and ONE_MINUS_SRC_ALPHA.
+pub(crate) fn over_run(
+    pixels: &mut Vec<Pixel>,
+    colors: &[Rgba],
+    state: &State,
+    texture: &Texture,
+    tri: &WindowTriangle,
+    stages: &Stages,
+    run: Run,
+    first: FineRamp,
+)
+    requires run { IsRun run }
+    requires room { run.start + run.to ≤ length pixels.old.items }
+    requires colors { run.to ≤ length colors.now }
+    requires colored { AreColors state.now texture.now tri.now.v run colors.now }
+    requires covered { IsRunCovered tri.now.v run }
+    requires depths { HasDepths tri.now.v }
+    requires kind { blends_over state.now ≡ true }
+    requires stages { IsPrepared state.now stages.now }
+    requires ramp { IsDepthAt tri.now.v run run.from first }
+    ensures { IsRunDrawn state.now texture.now tri.now.v run pixels.old.items pixels.new.items }
+{
+    let _state = state;
+    let _texture = texture;
+    let mut ramp = first;
+    for x in run.from..run.to {
+        let place = run.start + x as usize;
+        let depth = depth_by(&ramp, tri, run, x);
+        pixels[place] = over_step(stages, colors[x as usize], depth, pixels[place]);
+        ramp.advance();
+    }
+}
+
+fn sum_step(stages: &Stages, color: Rgba, depth: i32, old: Pixel) -> Pixel
+    requires { is_depth depth ≡ true }
+    ensures { (s : AnyState) (p : Option Picture) (f : AnyFragment) → IsPrepared s stages.now → blends_sum s ≡ true → color ≡ fragment_color s p f → depth ≡ f.depth → result ≡ fragment_step s p f old }
+{
+    stages.store_sum(color, depth as u32, old)
+}
+
+/// Depth test, and blending by ONE and ONE.
+pub(crate) fn sum_run(
+    pixels: &mut Vec<Pixel>,
+    colors: &[Rgba],
+    state: &State,
+    texture: &Texture,
+    tri: &WindowTriangle,
+    stages: &Stages,
+    run: Run,
+    first: FineRamp,
+)
+    requires run { IsRun run }
+    requires room { run.start + run.to ≤ length pixels.old.items }
+    requires colors { run.to ≤ length colors.now }
+    requires colored { AreColors state.now texture.now tri.now.v run colors.now }
+    requires covered { IsRunCovered tri.now.v run }
+    requires depths { HasDepths tri.now.v }
+    requires kind { blends_sum state.now ≡ true }
+    requires stages { IsPrepared state.now stages.now }
+    requires ramp { IsDepthAt tri.now.v run run.from first }
+    ensures { IsRunDrawn state.now texture.now tri.now.v run pixels.old.items pixels.new.items }
+{
+    let _state = state;
+    let _texture = texture;
+    let mut ramp = first;
+    for x in run.from..run.to {
+        let place = run.start + x as usize;
+        let depth = depth_by(&ramp, tri, run, x);
+        pixels[place] = sum_step(stages, colors[x as usize], depth, pixels[place]);
+        ramp.advance();
+    }
+}
+
+fn any_step(state: &State, color: Rgba, depth: i32, old: Pixel) -> Pixel
+    ensures { (p : Option Picture) (f : AnyFragment) → color ≡ fragment_color state.now p f → depth ≡ f.depth → result ≡ fragment_step state.now p f old }
+{
+    let fragment = Fragment {
+        x: 0,
+        y: 0,
+        color,
+        depth,
+        s: 0,
+        t: 0,
+    };
+    shade_pixel(state, &fragment, old)
+}
+
+/// Any stages.
+pub(crate) fn any_run(
+    pixels: &mut Vec<Pixel>,
+    colors: &[Rgba],
+    state: &State,
+    texture: &Texture,
+    tri: &WindowTriangle,
+    run: Run,
+    first: FineRamp,
+)
+    requires run { IsRun run }
+    requires room { run.start + run.to ≤ length pixels.old.items }
+    requires colors { run.to ≤ length colors.now }
+    requires colored { AreColors state.now texture.now tri.now.v run colors.now }
+    requires covered { IsRunCovered tri.now.v run }
+    requires ramp { IsDepthAt tri.now.v run run.from first }
+    ensures { IsRunDrawn state.now texture.now tri.now.v run pixels.old.items pixels.new.items }
+{
+    let _texture = texture;
+    let mut ramp = first;
+    for x in run.from..run.to {
+        let place = run.start + x as usize;
+        let depth = depth_by(&ramp, tri, run, x);
+        pixels[place] = any_step(state, colors[x as usize], depth, pixels[place]);
+        ramp.advance();
+    }
+}
