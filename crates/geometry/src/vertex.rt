@@ -1,6 +1,6 @@
 //! Where a vertex stands in the window.
-ghost use Rattle.std.specs.Prelude.{◌≡◌, ◌^◌, ◌<◌, pos, true, false, ◌+ℤ◌, ◌-ℤ◌, ◌*ℤ◌, ◌<ℤ◌, MatchOption};
-ghost use Rattle.rc_base.specs.Numbers.{Within, is_within};
+ghost use Rattle.std.specs.Prelude.{◌≡◌, ◌^◌, ◌<◌, ◌-◌, ℕ, neg_ℤ, pos, true, false, ◌+ℤ◌, ◌-ℤ◌, ◌*ℤ◌, ◌<ℤ◌, MatchOption};
+ghost use Rattle.rc_base.specs.Numbers.{Within, is_within, is_between, floor_quotient};
 ghost use Rattle.rc_base.specs.Drawing.Cover.{IsInBounds};
 ghost use Rattle.rc_base.specs.Drawing.Window.{clip_of, axis_of, depth_of, window_of, is_in_bounds, is_placed, depth_most};
 ghost use Rattle.fixed_math.specs.Bounds.{AllWithin};
@@ -25,6 +25,42 @@ fn clip(state: &State, v: &Vertex) -> [i128; 4]
 {
     let eye = apply(&state.modelview, widen(&v.pos));
     apply(&state.projection, eye)
+}
+
+// A number of 64 bits.
+fn is_short(n: i128) -> bool
+    ensures { result ≡ is_between (neg_ℤ (pos (2 ^ 63))) (pos (2 ^ 63 - 1)) n }
+{
+    -9_223_372_036_854_775_808 <= n && n <= 9_223_372_036_854_775_807
+}
+
+fn shortened(n: i128) -> i64
+    requires { is_between (neg_ℤ (pos (2 ^ 63))) (pos (2 ^ 63 - 1)) n ≡ true }
+    ensures { result ≡ n }
+{
+    n as i64
+}
+
+fn short_quotient(n: i64, d: i64) -> i64
+    requires { pos 0 <ℤ d }
+    ensures { result ≡ floor_quotient n d }
+{
+    n.div_euclid(d)
+}
+
+// The quotient rounded down, by 64 bits where they hold both numbers.
+fn quotient(n: i128, d: i128) -> i128
+    requires { pos 0 <ℤ d }
+    ensures value { result ≡ floor_quotient n d }
+    ensures small { (b : ℕ) → Within b n → Within b result }
+{
+    if !is_short(n) {
+        return floor_div(n, d);
+    }
+    if !is_short(d) {
+        return floor_div(n, d);
+    }
+    i128::from(short_quotient(shortened(n), shortened(d)))
 }
 
 fn plus(x: i128, w: i128) -> i128
@@ -65,8 +101,8 @@ fn axis(origin: i32, size: i32, x: i128, w: i128) -> i128
     requires w { Within (2 ^ 65) w }
     ensures { result ≡ axis_of origin size x w }
 {
-    let quotient = floor_div(scaled(plus(x, w), size), double(w));
-    moved(origin, quotient)
+    let whole = quotient(scaled(plus(x, w), size), double(w));
+    moved(origin, whole)
 }
 
 // A sum or difference of the ends of the depth range, times a clip coordinate.
@@ -121,7 +157,7 @@ fn depth(near: i32, far: i32, z: i128, w: i128) -> i128
         weighed(between(near, far), z),
         weighed(together(near, far), w),
     );
-    floor_div(sum, scale_of(w))
+    quotient(sum, scale_of(w))
 }
 
 fn is_in(z: i128, bound: u32) -> bool
