@@ -10,11 +10,11 @@ use Rattle.order_model.proofs.SpreadIsRun.{passed_not, until, until_below, until
 abbrev pub Tracks : List Name → (ℕ → ℕ) → Type 0
 Tracks order cursor = (c : ℕ) → names_in c order ≡ cursor c
 
-names_append : (c : ℕ) (o o' : List Name) → names_in c (o ++ o') ≡ names_in c o + names_in c o'
+pub names_append : (c : ℕ) (o o' : List Name) → names_in c (o ++ o') ≡ names_in c o + names_in c o'
 names_append c [] o' = omega arith
 names_append c (n ∷ o) o' = omega (arith, names_append c o o')
 
-names_stretch : (d c p n : ℕ) → names_in d (names_from c p n) ≡ cond (d == c) n 0
+pub names_stretch : (d c p n : ℕ) → names_in d (names_from c p n) ≡ cond (d == c) n 0
 names_stretch d c p zero = elim (cases_Bool (d == c)) [ inl t ↦ rw t refl | inr f ↦ rw f refl ]
 names_stretch d c p (suc n) = elim (cases_Bool (d == c)) [
   | inl t ↦ let e = names_stretch d c (p + 1) n in let e' : names_in d (names_from c (p + 1) n) ≡ n = e ∙ ap (λ b. cond b n 0) t in rw t (omega arith)

@@ -19,7 +19,7 @@ legal_push syncs s [] e h p = (p, tt)
 legal_push syncs s (j ∷ js) e h p = (h.0, legal_push syncs (after syncs s j) js e h.1 p)
 
 -- an operation behind those of one client
-one_behind : (f : ℕ → List WaitAt) (client : ℕ) (w : WaitAt) (c : ℕ) → with_at f client (f client ++ w ∷ []) c ≡ f c ++ with_at (λ k. []) client (w ∷ []) c
+pub one_behind : (f : ℕ → List WaitAt) (client : ℕ) (w : WaitAt) (c : ℕ) → with_at f client (f client ++ w ∷ []) c ≡ f c ++ with_at (λ k. []) client (w ∷ []) c
 one_behind f client w c = elim (cases_Bool (c == client)) [
   | inl t ↦ rw t (subst (λ k. f k ++ w ∷ [] ≡ f c ++ w ∷ []) (eqb-true c client t) refl)
   | inr n ↦ rw n (sym (append-nil (f c)))

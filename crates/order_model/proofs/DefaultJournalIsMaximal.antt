@@ -41,7 +41,7 @@ left_less f g (suc n) c h lt less = elim (cases_lt c n) [
   | inr ge ↦ let e : c ≡ n = omega arith in omega (arith, left_least f g n h, subst (λ k. length (f k) < length (g k)) e less)
 ]
 
-uses_one : (syncs : SyncLists) (s : SyncState) → IsWellFormed syncs → AreOfClients syncs s → (e : Entry) → IsLawful syncs s e → operations_left (after syncs s e).rest (client_count syncs) < operations_left s.rest (client_count syncs)
+pub uses_one : (syncs : SyncLists) (s : SyncState) → IsWellFormed syncs → AreOfClients syncs s → (e : Entry) → IsLawful syncs s e → operations_left (after syncs s e).rest (client_count syncs) < operations_left s.rest (client_count syncs)
 uses_one syncs s well none e p =
     let m = some_member syncs s well.some well.counts e p in
     left_less (after syncs s e).rest s.rest (client_count syncs) m.0 (rest_least syncs s e) (member_within syncs s e none p m.0 m.1) (rest_less syncs s e m.0 p m.1)

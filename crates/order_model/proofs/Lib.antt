@@ -5,7 +5,7 @@ mod MemberCounts
 pub mod ClientsBeyond
 mod PrefixesAreLegal
 pub mod GrantsAreExact
-mod DefaultJournalIsMaximal
+pub mod DefaultJournalIsMaximal
 mod MaximalJournalsAgree
 pub mod JournalsSwapAlike
 pub mod MoreOperations
@@ -14,7 +14,7 @@ pub mod RunsOfNames
 pub mod PermittedAsRuns
 mod OrdersBySteps
 mod SpreadIsRun
-mod AddedNames
+pub mod AddedNames
 pub mod StepsArePermitted
 mod DefaultOrderIsPermitted
 mod OneClientHasOneOrder

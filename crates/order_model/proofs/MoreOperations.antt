@@ -23,7 +23,7 @@ waits : (ws : List WaitAt) (op : SyncOp) → option_map (λ (w : WaitAt). w.op) 
 waits [] op h = absurd cc
 waits (w ∷ ws) op h = refl
 
-head_append : (ws vs : List WaitAt) → is_some (head_wait ws) ≡ true → head_wait (ws ++ vs) ≡ head_wait ws
+pub head_append : (ws vs : List WaitAt) → is_some (head_wait ws) ≡ true → head_wait (ws ++ vs) ≡ head_wait ws
 head_append [] vs h = absurd (true≢false (sym h))
 head_append (w ∷ ws) vs h = refl
 
@@ -67,7 +67,7 @@ legal_more syncs s t extra (e ∷ js) h legal =
 abbrev pub IsSettled : SyncState → (ℕ → List WaitAt) → Type 0
 IsSettled s extra = (c : ℕ) → (is_some (head_wait (s.rest c)) ≡ true) ⊎ (extra c ≡ [])
 
-next_alike : (s t : SyncState) (extra : ℕ → List WaitAt) → IsFront s t extra → IsSettled s extra → (c : ℕ) → next t c ≡ next s c
+pub next_alike : (s t : SyncState) (extra : ℕ → List WaitAt) → IsFront s t extra → IsSettled s extra → (c : ℕ) → next t c ≡ next s c
 next_alike s t extra h settled c = ap (option_map (λ (w : WaitAt). w.op)) (elim (settled c) [
   | inl some ↦ ap head_wait (h.rest c) ∙ head_append (s.rest c) (extra c) some
   | inr none ↦ ap head_wait (h.rest c ∙ ap (λ x. s.rest c ++ x) none ∙ append-nil (s.rest c))

@@ -9,3 +9,8 @@ pub mod DrawnCommands
 pub mod PlayedOrders
 pub mod OneClient
 pub mod PermittedOrders
+pub mod AddedInTurn
+pub mod GrantedTurns
+pub mod TurnsOfClients
+pub mod DeclaredOperations
+pub mod LeftWaiting

@@ -51,7 +51,7 @@ until_less p (w ∷ ws) o h =
 
 -- ---- operations in their places
 
-abbrev Rises : List WaitAt → ℕ → Type 0
+abbrev pub Rises : List WaitAt → ℕ → Type 0
 Rises ws end = (from : ℕ) × AreRising from (places_of ws) end
 
 rises_dropped : (ws : List WaitAt) (end : ℕ) → Rises ws end → Rises (drop 1 ws) end
@@ -64,11 +64,11 @@ rises_after syncs s e c end h = elim (cases_Bool (is_member (client_count syncs)
   | inr f ↦ rw f h
 ]
 
-rises_end : (syncs : SyncLists) (s : SyncState) (js : List Entry) (c end : ℕ) → Rises (s.rest c) end → Rises ((end_of syncs s js).rest c) end
+pub rises_end : (syncs : SyncLists) (s : SyncState) (js : List Entry) (c end : ℕ) → Rises (s.rest c) end → Rises ((end_of syncs s js).rest c) end
 rises_end syncs s [] c end h = h
 rises_end syncs s (e ∷ js) c end h = rises_end syncs (after syncs s e) js c end (rises_after syncs s e c end h)
 
-first_within : (ws : List WaitAt) (end : ℕ) → Rises ws end → option_map_or (λ (w : WaitAt). w.place) (head_wait ws) end ≤ end
+pub first_within : (ws : List WaitAt) (end : ℕ) → Rises ws end → option_map_or (λ (w : WaitAt). w.place) (head_wait ws) end ≤ end
 first_within [] end h = omega arith
 first_within (w ∷ ws) end h = omega (arith, h.1.1)
 

@@ -1,0 +1,82 @@
+//! The default journal and the default order.
+ghost use Rattle.std.specs.Prelude.{◌≡◌, ℕ, ◌<◌, ◌≤◌, ◌^◌, ◌↔◌, length, Some, IfOk, IfSome, IsSome};
+ghost use Rattle.std.specs.List.{AllByRecursion};
+ghost use Rattle.rc_base.specs.Formats.Commands.{IsCommand};
+ghost use Rattle.rc_base.specs.Contexts.Issue.{stream_of};
+ghost use Rattle.rc_base.specs.Lists.{at_name};
+ghost use Rattle.rc_base.specs.Orders.Journal.{waiting_of};
+ghost use Rattle.rc_base.specs.Orders.Order.{default_journal, default_order as default_order_of};
+ghost use Rattle.rc_base.specs.Orders.Sync.{IsWellFormed, client_count, sync_lists_of};
+ghost use Rattle.sync_manager.specs.Stored.{wait_at};
+ghost use Rattle.serial_render.specs.Turns.{AreDeclared, IsSomeoneLeft};
+
+use crate::progress::Progress;
+use crate::streams::sync_lists;
+use rc_base::out_of_memory::OutOfMemory;
+use rc_base::scene::Scene;
+use rc_base::sync::{Journal, Order, SyncLists, Waiting};
+use std::alloc::Global;
+
+/// What comes of clients that take turns.
+#[derive(Drop)]
+pub struct Turns {
+    /// The entries that were granted.
+    pub journal: Journal,
+    /// The names in the sequence of issue and grant.
+    pub order: Order,
+    /// Where each client is left waiting, if one is.
+    pub waiting: Option<Waiting>,
+}
+
+/// Each client, rising, issues up to its next operation or to the end of its stream, and then the first lawful entry is granted, again and again
+/// until none is lawful. An operation's name stands at its grant.
+pub fn turns_of(alloc: Global, syncs: &SyncLists) -> Result<Turns, OutOfMemory>
+    requires well { IsWellFormed syncs.now }
+    requires clients { client_count syncs.now ≤ 8 }
+    requires barriers { length syncs.now.counts < 256 }
+    requires declared { AreDeclared syncs.now }
+    ensures journal { IfOk result (λ t. t.journal ≡ default_journal syncs.now) }
+    ensures order { IfOk result (λ t. t.order ≡ default_order_of syncs.now t.journal) }
+    ensures waiting { IfOk result (λ t. IsSome t.waiting ↔ IsSomeoneLeft syncs.now t.journal) }
+    ensures at { IfOk result (λ t. IfSome t.waiting (λ w. (client : ℕ) → wait_at w.at client ≡ waiting_of syncs.now t.journal client)) }
+{
+    let mut progress = Progress::new(alloc, syncs)?;
+    progress.advance(syncs)?;
+    loop {
+        if !progress.turn(syncs)? {
+            break;
+        }
+    }
+    let Progress { book, order, .. } = progress;
+    let waiting = book.stuck();
+    Ok(Turns {
+        journal: book.into_journal(),
+        order,
+        waiting,
+    })
+}
+
+/// The default journal and the default order of a scene, and where its clients are left waiting, if one is.
+pub fn default_order(
+    alloc: Global,
+    scene: &Scene,
+) -> Result<(Journal, Order, Option<Waiting>), OutOfMemory>
+    requires commands { AllByRecursion (AllByRecursion IsCommand) scene.now.streams }
+    requires few { (client : ℕ) → length (stream_of scene.now client) < 2 ^ 32 }
+    requires some { 0 < length scene.now.streams }
+    requires clients { length scene.now.streams ≤ 8 }
+    requires barriers { length scene.now.decl.barriers < 256 }
+    requires counts { (barrier count : ℕ) → at_name scene.now.decl.barriers barrier ≡ Some count → 0 < count }
+    ensures journal { IfOk result (λ t. t.0 ≡ default_journal (sync_lists_of scene.now)) }
+    ensures order { IfOk result (λ t. t.1 ≡ default_order_of (sync_lists_of scene.now) t.0) }
+    ensures waiting { IfOk result (λ t. IsSome t.2 ↔ IsSomeoneLeft (sync_lists_of scene.now) t.0) }
+    ensures at { IfOk result (λ t. IfSome t.2 (λ w. (client : ℕ) → wait_at w.at client ≡ waiting_of (sync_lists_of scene.now) t.0 client)) }
+{
+    let syncs = sync_lists(alloc, scene)?;
+    let Turns {
+        journal,
+        order,
+        waiting,
+    } = turns_of(alloc, &syncs)?;
+    Ok((journal, order, waiting))
+}
