@@ -45,7 +45,7 @@ no_triangle s picture vs x y (t ∷ ts) old h =
     let k = or_parts _ _ h in
     ap (λ p. fold (triangle_step s picture vs x y) p ts) (one_triangle s picture vs x y old t k.0) ∙ no_triangle s picture vs x y ts old k.1
 
-untouched_stays : (s : State) (privates : ℕ → Option Picture) (shareds : ℕ → Picture) (e : Effect) (px py : ℤ) (old : Pixel) → touches s e px py ≡ false
+pub untouched_stays : (s : State) (privates : ℕ → Option Picture) (shareds : ℕ → Picture) (e : Effect) (px py : ℤ) (old : Pixel) → touches s e px py ≡ false
     → effect_step s privates shareds e px py old ≡ old
 unfolding touches block_step
 untouched_stays s privates shareds (eff.Block block) px py old h =

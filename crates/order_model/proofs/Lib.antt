@@ -12,19 +12,19 @@ pub mod MoreOperations
 pub mod BooksStayLegal
 pub mod RunsOfNames
 pub mod PermittedAsRuns
-mod OrdersBySteps
+pub mod OrdersBySteps
 mod SpreadIsRun
 pub mod AddedNames
 pub mod StepsArePermitted
 mod DefaultOrderIsPermitted
 mod OneClientHasOneOrder
-mod RecordedOrdersArePermitted
+pub mod RecordedOrdersArePermitted
 pub mod SceneListsAreWellFormed
-mod SceneJobsAreSent
-mod LogsLeaveJobs
+pub mod SceneJobsAreSent
+pub mod LogsLeaveJobs
 mod GatheringIsLawful
 pub mod OneFoldOfTextures
-mod CommandsAreLocal
+pub mod CommandsAreLocal
 mod OrderedScenesDrawAlike
 mod OrderedScenesHaveOneFrame
 mod RunsShowOneImage

@@ -15,7 +15,7 @@ use Rattle.order_model.proofs.ClientsBeyond.{past_after, ops_past}
 use Rattle.order_model.proofs.OrdersBySteps.{moved, passed_by}
 use Rattle.order_model.proofs.RecordedOrdersArePermitted.{Reached, took_reaches, performed_reaches}
 
-drop_then : {A : Type 0} (k n : ℕ) (xs : List A) → drop k (drop n xs) ≡ drop (n + k) xs
+pub drop_then : {A : Type 0} (k n : ℕ) (xs : List A) → drop k (drop n xs) ≡ drop (n + k) xs
 drop_then k zero xs = let e : 0 + k ≡ k = omega arith in rw e refl
 drop_then zero (suc n) [] = let e : suc n + 0 ≡ suc n = omega arith in rw e refl
 drop_then (suc k) (suc n) [] = let e : suc n + suc k ≡ suc (n + suc k) = omega arith in rw e refl

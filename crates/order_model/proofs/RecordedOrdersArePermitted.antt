@@ -75,14 +75,14 @@ took_reaches syncs s cursor jobs c p h next =
       },
     )
 
-some_at : (syncs : SyncLists) (s : SyncState) (e : Entry) → IsLawful syncs s e → (c : ℕ) → is_member (client_count syncs) e c ≡ true → is_some ((entry_at syncs s e).at c) ≡ true
+pub some_at : (syncs : SyncLists) (s : SyncState) (e : Entry) → IsLawful syncs s e → (c : ℕ) → is_member (client_count syncs) e c ≡ true → is_some ((entry_at syncs s e).at c) ≡ true
 some_at syncs s e p c t = ap is_some (member_place syncs s e p c t)
 
-none_at : (syncs : SyncLists) (s : SyncState) (e : Entry) (c : ℕ) → is_member (client_count syncs) e c ≡ false → is_some ((entry_at syncs s e).at c) ≡ false
+pub none_at : (syncs : SyncLists) (s : SyncState) (e : Entry) (c : ℕ) → is_member (client_count syncs) e c ≡ false → is_some ((entry_at syncs s e).at c) ≡ false
 none_at syncs s e c f = rw f refl
 
 -- the jobs that are left, by who is a member
-jobs_without : (syncs : SyncLists) (s : SyncState) (e : Entry) → IsLawful syncs s e → (jobs : ℕ → List Job) (c : ℕ)
+pub jobs_without : (syncs : SyncLists) (s : SyncState) (e : Entry) → IsLawful syncs s e → (jobs : ℕ → List Job) (c : ℕ)
     → without (λ d. is_some ((entry_at syncs s e).at d)) jobs c ≡ cond (is_member (client_count syncs) e c) (drop 1 (jobs c)) (jobs c)
 jobs_without syncs s e p jobs c = elim (cases_Bool (is_member (client_count syncs) e c)) [
   | inl t ↦ ap (λ b. cond b (drop 1 (jobs c)) (jobs c)) (some_at syncs s e p c t ∙ sym t)

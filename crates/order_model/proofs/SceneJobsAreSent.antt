@@ -86,7 +86,7 @@ waits_agree scene l client tile (suc n) =
     ∙ ap (λ xs. places_of (waits_below scene client n) ++ xs) (same_waits n (flat_map job_of new) (wait_of n (effect_at scene client n)) (job_at scene l client tile n))
     ∙ sym (map-append (λ (w : WaitAt). w.place) (waits_below scene client n) (wait_of n (effect_at scene client n)))
 
-jobs_are : (scene : Scene) (l : Layout) (client tile : ℕ) → jobs_of scene l client tile ≡ flat_map job_of (parcels_before scene l client tile (length (stream_of scene client)))
+pub jobs_are : (scene : Scene) (l : Layout) (client tile : ℕ) → jobs_of scene l client tile ≡ flat_map job_of (parcels_before scene l client tile (length (stream_of scene client)))
 unfolding jobs_of parcels_of
 jobs_are scene l client tile =
     let n = length (stream_of scene client) in
@@ -101,7 +101,7 @@ length_is scene client = elim (cases_lt client (length scene.streams)) [
   | inr ge ↦ no_stream scene client ge ∙ sym (length_past (sync_lists_of scene) client (omega (arith, scene_client_count scene, ge)))
 ]
 
-ops_are : (scene : Scene) (client : ℕ) → ops_of (sync_lists_of scene) client ≡ waits_below scene client (length (stream_of scene client))
+pub ops_are : (scene : Scene) (client : ℕ) → ops_of (sync_lists_of scene) client ≡ waits_below scene client (length (stream_of scene client))
 unfolding waits_below
 ops_are scene client = elim (cases_lt client (length scene.streams)) [
   | inl lt ↦ ap (λ (r : SyncRow). r.ops) (scene_row scene client lt)

@@ -1,0 +1,34 @@
+-- Laws of tiles.
+use Rattle.std.specs.Prelude.{◌≡◌, ℕ, ◌<◌, true, List, length, None, pos}
+use Rattle.rc_base.specs.Contexts.Context.{default_state}
+use Rattle.rc_base.specs.Drawing.Serial.{blank_textures, blank_pixel}
+use Rattle.rc_base.specs.Cluster.Tiles.{tile_pixels}
+use Rattle.rc_base.specs.Orders.Journal.{IsLegal}
+use Rattle.rc_base.specs.Orders.Sync.{sync_lists_of}
+use Rattle.rc_base.specs.declared.scene.Scene.{Scene}
+use Rattle.rc_base.specs.declared.sync.Entry.{Entry}
+use Rattle.rc_base.specs.declared.window.Layout.{Layout}
+use Rattle.order_model.specs.Board.{Board, StandsFor}
+use Rattle.order_model.specs.Sent.{jobs_of}
+use Rattle.order_model.specs.Standing.{Progress, IsUnderWay, new_progress}
+use Rattle.tile_model.specs.Items.{Item, after_item, IsAwaited, IsItemOf}
+
+-- a tile that is under way stays so with every item that is awaited and that is the scene's and the journal's
+abbrev pub ItemsKeepProgress : Type 0
+ItemsKeepProgress =
+    (scene : Scene) (l : Layout) (tile : ℕ) (journal : List Entry) (item : Item) (p : Progress) → IsLegal (sync_lists_of scene) journal
+    → IsUnderWay (sync_lists_of scene) journal (λ client. jobs_of scene l client tile) p → IsAwaited p item → IsItemOf scene l tile journal p item
+    → IsUnderWay (sync_lists_of scene) journal (λ client. jobs_of scene l client tile) (after_item p item)
+
+-- a new board: the defaults of each client and no images, textures of zeros, and a blank buffer
+pub record IsNewBoard (scene : Scene) (l : Layout) (tile : ℕ) (b : Board) : Type 0 where
+  pub state : (client : ℕ) → (b.kept client).state ≡ default_state scene.decl
+  pub image : (client name : ℕ) → 0 < name → (b.kept client).image name ≡ None
+  pub shared : (name : ℕ) → b.shared name ≡ blank_textures scene name
+  pub pixel : (x y : ℕ) → tile_pixels l tile x y ≡ true → b.pixel (pos x) (pos y) ≡ blank_pixel
+
+-- a new tile stands for every scene and every journal
+abbrev pub NewTilesStand : Type 0
+NewTilesStand =
+    (scene : Scene) (l : Layout) (tile : ℕ) (journal : List Entry) (b : Board) → IsNewBoard scene l tile b
+    → StandsFor scene l tile journal (new_progress (length scene.streams)) b

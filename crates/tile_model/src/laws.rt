@@ -1,0 +1,12 @@
+//! Laws of tiles. Each function's contract is a law, and its body is empty: there is nothing to compute.
+ghost use Rattle.tile_model.specs.Laws.{ItemsKeepProgress, NewTilesStand};
+
+/// A new tile stands for every scene with its number of clients, and for every journal.
+pub fn new_tiles_stand()
+    ensures { NewTilesStand }
+{}
+
+/// A tile that is under way stays so with every item that is awaited, and that is the next one of its client or of the journal.
+pub fn items_keep_progress()
+    ensures { ItemsKeepProgress }
+{}
