@@ -6,3 +6,5 @@ mod EntriesComeDue
 mod ParcelsAreJobs
 mod ItemsKeepProgress
 mod NewTilesStand
+mod IdleNames
+mod JobsLeft

@@ -1,7 +1,12 @@
 -- Laws of tiles.
-use Rattle.std.specs.Prelude.{◌≡◌, ℕ, ◌<◌, true, List, length, None, pos}
+use Rattle.std.specs.Prelude.{◌≡◌, ℕ, ◌<◌, Bool, true, List, [], length, None, pos}
+use Rattle.std.specs.List.{AllByRecursion}
 use Rattle.rc_base.specs.Contexts.Context.{default_state}
-use Rattle.rc_base.specs.Drawing.Serial.{blank_textures, blank_pixel}
+use Rattle.rc_base.specs.Drawing.Serial.{Canvas, canvas_after, textures_step, pixel_step, blank_textures, blank_pixel}
+use Rattle.rc_base.specs.Drawing.Texel.{SharedTexels}
+use Rattle.rc_base.specs.Cluster.Parcels.{parcels_at, parcels_before}
+use Rattle.rc_base.specs.declared.sync.Name.{Name}
+use Rattle.rc_base.specs.declared.window.Pixel.{Pixel}
 use Rattle.rc_base.specs.Cluster.Tiles.{tile_pixels}
 use Rattle.rc_base.specs.Orders.Journal.{IsLegal}
 use Rattle.rc_base.specs.Orders.Sync.{sync_lists_of}
@@ -32,3 +37,15 @@ abbrev pub NewTilesStand : Type 0
 NewTilesStand =
     (scene : Scene) (l : Layout) (tile : ℕ) (journal : List Entry) (b : Board) → IsNewBoard scene l tile b
     → StandsFor scene l tile journal (new_progress (length scene.streams)) b
+
+-- the command of a name gives the tile no parcel
+abbrev pub GivesNothing : Scene → Layout → ℕ → Name → Type 0
+GivesNothing scene l tile n = parcels_at scene l n.client tile n.place (parcels_before scene l n.client tile n.place) ≡ []
+
+-- Names that give a tile no parcel leave each of its pixels, and all shared textures, as they were: at any pixel of the tile, whatever is shown, an
+-- order of such names leaves the canvas that it found.
+abbrev pub NamesWithoutParcelsChangeNothing : Type 0
+NamesWithoutParcelsChangeNothing =
+    (scene : Scene) (l : Layout) (tile : ℕ) (names : List Name) (shown : Name → Bool) (x y : ℕ) (canvas : Canvas SharedTexels Pixel)
+    → AllByRecursion (GivesNothing scene l tile) names → tile_pixels l tile x y ≡ true
+    → canvas_after (textures_step scene) (λ n shared old. pixel_step scene n shared (pos x) (pos y) old) shown canvas names ≡ canvas

@@ -1,5 +1,7 @@
 //! Laws of tiles. Each function's contract is a law, and its body is empty: there is nothing to compute.
-ghost use Rattle.tile_model.specs.Laws.{ItemsKeepProgress, NewTilesStand};
+ghost use Rattle.tile_model.specs.Laws.{ItemsKeepProgress, NamesWithoutParcelsChangeNothing, NewTilesStand};
+
+use definition_laws::tiles::touched_pixels_lie_in_the_box;
 
 /// A new tile stands for every scene with its number of clients, and for every journal.
 pub fn new_tiles_stand()
@@ -10,3 +12,10 @@ pub fn new_tiles_stand()
 pub fn items_keep_progress()
     ensures { ItemsKeepProgress }
 {}
+
+/// Names that give a tile no parcel leave each of its pixels, and all shared textures, as they were.
+pub fn names_without_parcels_change_nothing()
+    ensures { NamesWithoutParcelsChangeNothing }
+{
+    touched_pixels_lie_in_the_box();
+}
