@@ -209,7 +209,7 @@ keeps_last_set scene client a (suc n) e none =
     ∙ kept_by scene client (a + n) e (none (a + n) (omega arith) (omega arith))
     ∙ keeps_last_set scene client a n e (λ k from to. none k from (omega (arith, to)))
 
-no_images : (n name : ℕ) → unwrap_or (at_name (replicate {A = Option Picture} n None) name) None ≡ None
+pub no_images : (n name : ℕ) → unwrap_or (at_name (replicate {A = Option Picture} n None) name) None ≡ None
 no_images n zero = refl
 no_images zero (suc k) = refl
 no_images (suc n) (suc zero) = refl

@@ -8,3 +8,8 @@ mod ItemsKeepProgress
 mod NewTilesStand
 mod IdleNames
 mod JobsLeft
+mod ParcelsOfCommands
+mod EqualValues
+mod ToldValues
+mod ImagesTold
+mod LazyDrawsAlike

@@ -1,4 +1,5 @@
 //! Laws of tiles. Each function's contract is a law, and its body is empty: there is nothing to compute.
+ghost use Rattle.tile_model.specs.Lazy.{LazyStateDrawsAlike};
 ghost use Rattle.tile_model.specs.Laws.{ItemsKeepProgress, NamesWithoutParcelsChangeNothing, NewTilesStand};
 
 use definition_laws::tiles::touched_pixels_lie_in_the_box;
@@ -19,3 +20,9 @@ pub fn names_without_parcels_change_nothing()
 {
     touched_pixels_lie_in_the_box();
 }
+
+/// What a tile keeps of a client at a parcel that is work draws as the client's own context does: lazy state (Buck, Humphreys and Hanrahan) loses
+/// nothing.
+pub fn lazy_state_draws_alike()
+    ensures { LazyStateDrawsAlike }
+{}
