@@ -15,7 +15,7 @@ use Rattle.gl_context.proofs.OneMoreCommand.{goes_on_by}
 
 -- ---- an edit number is 0 exactly where there is no image
 
-abbrev IsEdited : ClientContext → ℕ → Type 0
+abbrev pub IsEdited : ClientContext → ℕ → Type 0
 IsEdited x name = ((edit_of x name ≡ 0) × (private_image x name ≡ None)) ⊎ ((0 < edit_of x name) × (p : Picture) × (private_image x name ≡ Some p))
 
 edited_on : (x y : ClientContext) (name : ℕ) → GoesOn x y name → IsEdited x name → IsEdited y name
@@ -27,7 +27,7 @@ none_first : (scene : Scene) (client name : ℕ) → private_image (context_afte
 unfolding context_after default_context
 none_first scene client name = no_images 64 name
 
-edited : (scene : Scene) (client n name : ℕ) → IsEdited (context_after scene client n) name
+pub edited : (scene : Scene) (client n name : ℕ) → IsEdited (context_after scene client n) name
 edited scene client zero name = inl (let le = at_most scene client 0 name in omega arith, none_first scene client name)
 edited scene client (suc n) name =
     let x = context_after scene client n in

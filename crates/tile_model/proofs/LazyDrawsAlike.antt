@@ -27,7 +27,7 @@ use Rattle.tile_model.specs.Lazy.{is_draw, is_drawing, is_work, DrawsAlike, IsIn
 use Rattle.tile_model.proofs.EqualValues.{same_is, scalar_value, value_is_scalar, state_is}
 use Rattle.tile_model.proofs.ImagesTold.{picture_of_value, same_value_images, none_before}
 use Rattle.tile_model.proofs.NextInLists.{next_is, take_more}
-use Rattle.tile_model.proofs.ParcelsOfCommands.{sets_by, command_makes, is_command_act, command_of}
+use Rattle.tile_model.proofs.ParcelsOfCommands.{sets_by, command_makes, command_of}
 use Rattle.tile_model.proofs.ToldValues.{examined_told, scalar_examined, sampled_examined, parcel_told, parcel_was_told, was_told}
 
 -- ---- what a parcel leaves told
@@ -120,13 +120,6 @@ pixel_by (act.Shared p) s t f g shareds x y old state picture = refl
 pixel_by (act.Sync op) s t f g shareds x y old state picture = refl
 pixel_by act.End s t f g shareds x y old state picture = refl
 
-work_is_command : (a : Act) → is_work a ≡ true → is_command_act a ≡ true
-work_is_command (act.Draw b) w = refl
-work_is_command (act.Clear m) w = refl
-work_is_command (act.Shared p) w = refl
-work_is_command (act.Sync op) w = refl
-work_is_command act.End w = w
-
 draw_is_drawing : (a : Act) → is_draw a ≡ true → is_drawing a ≡ true
 draw_is_drawing (act.Draw b) d = refl
 draw_is_drawing (act.Clear m) d = refl
@@ -142,7 +135,7 @@ lazy_draws scene l client tile count p k range is work kept =
     let h = valid scene range client p.place in
     let all = parcels_of scene l client tile in
     let earlier = parcels_before scene l client tile p.place in
-    let c = command_of scene l client tile count p is (work_is_command p.act work) in
+    let c = command_of scene l client tile count p is work in
     let made = command_makes scene l client tile p.place earlier p c.made in
     let next = next_is all count p is in
     let fed : take (count + 1) all ≡ earlier ++ p ∷ [] = take_more count all p next.0 next.1 ∙ ap (λ ps. ps ++ p ∷ []) c.before in

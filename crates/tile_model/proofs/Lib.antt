@@ -13,3 +13,8 @@ mod EqualValues
 mod ToldValues
 mod ImagesTold
 mod LazyDrawsAlike
+mod BoardsGoOn
+mod EntriesLeaveBoards
+mod StepsStand
+mod DepthsInRange
+mod ParcelsAreGivable

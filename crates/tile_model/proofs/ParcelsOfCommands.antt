@@ -1,5 +1,5 @@
 -- The command of a parcel, and the parcels before it.
-use Rattle.std.proofs.Common.{◌≡◌, ℕ, zero, suc, ◌≤◌, true, false, Bool, List, [], ◌∷◌, ◌++◌, ◌⊎◌, take, drop, length, Some, slice_get, inl, inr, refl, sym, ap, ◌∙◌, subst, arith, true≢false}
+use Rattle.std.proofs.Common.{◌≡◌, ℕ, zero, suc, ◌≤◌, true, false, List, [], ◌∷◌, ◌++◌, ◌⊎◌, take, drop, length, Some, slice_get, inl, inr, refl, sym, ap, ◌∙◌, subst, arith, true≢false}
 use Rattle.std.proofs.lemmas.Bool.{cases_Bool}
 use Rattle.rc_base.specs.Contexts.Context.{ClientContext}
 use Rattle.rc_base.specs.Contexts.Issue.{stream_of, context_after, effect_at}
@@ -13,6 +13,7 @@ use Rattle.rc_base.specs.declared.state.ElementSet.{ElementSet}
 use Rattle.rc_base.specs.declared.state.ElementValue.{ElementValue}
 use Rattle.rc_base.specs.declared.state.Parcel.{Parcel}
 use Rattle.rc_base.specs.declared.window.Layout.{Layout}
+use Rattle.tile_model.specs.Lazy.{is_work}
 use Rattle.tile_model.proofs.NextInLists.{next_is}
 use Rattle.tile_model.proofs.ParcelsAreJobs.{IsGiven, parcels_given}
 
@@ -113,23 +114,21 @@ of_command scene l client tile (suc n) count p rest e =
           }
     ]
 
--- a parcel that isn't End
-abbrev pub is_command_act : Act → Bool
-is_command_act (act.Draw block) = true
-is_command_act (act.Clear mask) = true
-is_command_act (act.Shared part) = true
-is_command_act (act.Sync op) = true
-is_command_act act.End = false
-
-pub command_of : (scene : Scene) (l : Layout) (client tile count : ℕ) (p : Parcel) → slice_get (parcels_of scene l client tile) count ≡ Some p → is_command_act p.act ≡ true
-    → IsOfCommand scene l client tile count (parcels_of scene l client tile) p
+pub of_command_or_end : (scene : Scene) (l : Layout) (client tile count : ℕ) (p : Parcel) → slice_get (parcels_of scene l client tile) count ≡ Some p
+    → IsOfCommand scene l client tile count (parcels_of scene l client tile) p ⊎ (end_parcel (length (stream_of scene client)) ≡ p)
 unfolding parcels_of
-command_of scene l client tile count p is command =
+of_command_or_end scene l client tile count p is =
     let n = length (stream_of scene client) in
     let next = next_is (parcels_of scene l client tile) count p is in
     elim (split (parcels_before scene l client tile n) (end_parcel n ∷ []) count p next.0 next.1 (omega arith)) [
-      | inl w ↦ let h = of_command scene l client tile n count p w.0 w.1 in record { before = w.2 ∙ h.before; made = h.made }
-      | inr w ↦
-          let same : end_parcel n ≡ p = let f = w.0 in cc in
-          absurd (true≢false (sym command ∙ ap (λ (q : Parcel). is_command_act q.act) (sym same)))
+      | inl w ↦ let h = of_command scene l client tile n count p w.0 w.1 in inl (record { before = w.2 ∙ h.before; made = h.made })
+      | inr w ↦ inr (let f = w.0 in cc)
     ]
+
+-- one that isn't End
+pub command_of : (scene : Scene) (l : Layout) (client tile count : ℕ) (p : Parcel) → slice_get (parcels_of scene l client tile) count ≡ Some p → is_work p.act ≡ true
+    → IsOfCommand scene l client tile count (parcels_of scene l client tile) p
+command_of scene l client tile count p is work = elim (of_command_or_end scene l client tile count p is) [
+  | inl c ↦ c
+  | inr same ↦ absurd (true≢false (sym work ∙ ap (λ (q : Parcel). is_work q.act) (sym same)))
+]

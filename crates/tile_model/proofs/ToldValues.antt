@@ -26,7 +26,7 @@ use Rattle.tile_model.proofs.ParcelsOfCommands.{sets_by, command_makes}
 
 -- ---- one parcel more
 
-told_more : (d : Decl) (ps : List Parcel) (p : Parcel) (e : ℕ) → told d (ps ++ p ∷ []) e ≡ fold (told_by e) (told d ps e) p.sets
+pub told_more : (d : Decl) (ps : List Parcel) (p : Parcel) (e : ℕ) → told d (ps ++ p ∷ []) e ≡ fold (told_by e) (told d ps e) p.sets
 unfolding told
 told_more d ps p e =
     ap (fold (told_by e) (default_value d e)) (flat_map-append (λ (q : Parcel). q.sets) ps (p ∷ []) ∙ ap (λ l. flat_map (λ (q : Parcel). q.sets) ps ++ l) (append-nil p.sets))

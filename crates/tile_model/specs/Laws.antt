@@ -1,10 +1,11 @@
 -- Laws of tiles.
-use Rattle.std.specs.Prelude.{◌≡◌, ℕ, ◌<◌, Bool, true, List, [], length, None, pos}
+use Rattle.std.specs.Prelude.{◌≡◌, ℕ, ◌<◌, Bool, true, List, [], length, None, Some, slice_get, pos}
 use Rattle.std.specs.List.{AllByRecursion}
 use Rattle.rc_base.specs.Contexts.Context.{default_state}
 use Rattle.rc_base.specs.Drawing.Serial.{Canvas, canvas_after, textures_step, pixel_step, blank_textures, blank_pixel}
 use Rattle.rc_base.specs.Drawing.Texel.{SharedTexels}
-use Rattle.rc_base.specs.Cluster.Parcels.{parcels_at, parcels_before}
+use Rattle.rc_base.specs.Cluster.Parcels.{parcels_at, parcels_before, parcels_of}
+use Rattle.rc_base.specs.declared.state.Parcel.{Parcel}
 use Rattle.rc_base.specs.declared.sync.Name.{Name}
 use Rattle.rc_base.specs.declared.window.Pixel.{Pixel}
 use Rattle.rc_base.specs.Cluster.Tiles.{tile_pixels}
@@ -16,6 +17,9 @@ use Rattle.rc_base.specs.declared.window.Layout.{Layout}
 use Rattle.order_model.specs.Board.{Board, StandsFor}
 use Rattle.order_model.specs.Sent.{jobs_of}
 use Rattle.order_model.specs.Standing.{Progress, IsUnderWay, new_progress}
+use Rattle.tile_model.specs.Carrying.{IsDrawn}
+use Rattle.tile_model.specs.Givable.{HasSides, is_givable}
+use Rattle.tile_model.specs.Lazy.{IsInRange}
 use Rattle.tile_model.specs.Items.{Item, after_item, IsAwaited, IsItemOf}
 
 -- a tile that is under way stays so with every item that is awaited and that is the scene's and the journal's
@@ -49,3 +53,17 @@ NamesWithoutParcelsChangeNothing =
     (scene : Scene) (l : Layout) (tile : ℕ) (names : List Name) (shown : Name → Bool) (x y : ℕ) (canvas : Canvas SharedTexels Pixel)
     → AllByRecursion (GivesNothing scene l tile) names → tile_pixels l tile x y ≡ true
     → canvas_after (textures_step scene) (λ n shared old. pixel_step scene n shared (pos x) (pos y) old) shown canvas names ≡ canvas
+
+-- every parcel of a scene whose commands are in their ranges, and whose shared textures have sides above 0, is givable
+abbrev pub ParcelsAreGivable : Type 0
+ParcelsAreGivable =
+    (scene : Scene) (l : Layout) (client tile count : ℕ) (parcel : Parcel) → IsInRange scene → HasSides scene.decl
+    → slice_get (parcels_of scene l client tile) count ≡ Some parcel → is_givable scene.decl parcel ≡ true
+
+-- A tile that stands for such a scene and a legal journal stands for them after every item that is awaited and that is theirs, where its board is what
+-- the item makes of it.
+abbrev pub StepsStand : Type 0
+StepsStand =
+    (scene : Scene) (l : Layout) (tile : ℕ) (journal : List Entry) (item : Item) (p : Progress) (before now : Board) → IsInRange scene → HasSides scene.decl
+    → IsLegal (sync_lists_of scene) journal → StandsFor scene l tile journal p before → IsAwaited p item → IsItemOf scene l tile journal p item
+    → IsDrawn scene.decl l tile p item before now → StandsFor scene l tile journal (after_item p item) now

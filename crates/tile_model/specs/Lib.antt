@@ -1,3 +1,5 @@
 pub mod Items
 pub mod Lazy
+pub mod Givable
+pub mod Carrying
 pub mod Laws

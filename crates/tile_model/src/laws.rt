@@ -1,6 +1,6 @@
 //! Laws of tiles. Each function's contract is a law, and its body is empty: there is nothing to compute.
 ghost use Rattle.tile_model.specs.Lazy.{LazyStateDrawsAlike};
-ghost use Rattle.tile_model.specs.Laws.{ItemsKeepProgress, NamesWithoutParcelsChangeNothing, NewTilesStand};
+ghost use Rattle.tile_model.specs.Laws.{ItemsKeepProgress, NamesWithoutParcelsChangeNothing, NewTilesStand, ParcelsAreGivable, StepsStand};
 
 use definition_laws::tiles::touched_pixels_lie_in_the_box;
 
@@ -26,3 +26,16 @@ pub fn names_without_parcels_change_nothing()
 pub fn lazy_state_draws_alike()
     ensures { LazyStateDrawsAlike }
 {}
+
+/// Every parcel of a scene is one that a scene can give: each of its values is one that its element can have, and a part of a shared texture lies
+/// inside it.
+pub fn parcels_are_givable()
+    ensures { ParcelsAreGivable }
+{}
+
+/// A tile that stands for a scene and a legal journal stands for them after every item that is awaited and theirs.
+pub fn steps_stand()
+    ensures { StepsStand }
+{
+    touched_pixels_lie_in_the_box();
+}
