@@ -18,3 +18,6 @@ mod EntriesLeaveBoards
 mod StepsStand
 mod DepthsInRange
 mod ParcelsAreGivable
+mod SwapsAlongLogs
+mod FramesStay
+mod SwapsShowFrames

@@ -1,5 +1,5 @@
 -- Every parcel of a scene is one that a scene can give.
-use Rattle.std.proofs.Common.{◌≡◌, ℕ, zero, suc, ◌+◌, ◌*◌, ◌<◌, ◌≤◌, ◌==◌, ◌&&◌, ◌||◌, ◌⊎◌, Bool, true, false, List, [], ◌∷◌, ◌++◌, length, Some, None, slice_get, inl, inr, refl, sym, ap, ◌∙◌, subst, arith, true≢false, eq-eqb, lt-ltb, le-leb, ltb-true, leb-true}
+use Rattle.std.proofs.Common.{◌≡◌, ℕ, zero, suc, ◌+◌, ◌*◌, ◌<◌, ◌≤◌, ◌==◌, ◌&&◌, ◌||◌, Bool, true, false, List, [], ◌∷◌, length, Some, None, slice_get, inl, inr, refl, sym, ap, ◌∙◌, subst, arith, true≢false, eq-eqb, lt-ltb, le-leb, ltb-true, leb-true}
 use Rattle.std.specs.Prelude.{if◌then◌else◌, nat_lt, nat_le, is_some, slice_index, slice_index_or}
 use Rattle.std.specs.declared.option.Option.{Option}
 use Rattle.std.specs.List.{flat_map, list_all, range_with_len}
@@ -32,6 +32,7 @@ use Rattle.rc_base.specs.declared.window.Layout.{Layout}
 use Rattle.gl_context.specs.Valid.{IsValidContext, IsPrivateImage}
 use Rattle.gl_context.proofs.Accepted.{accepted}
 use Rattle.gl_context.proofs.ValidContexts.{valid, command_of as is_in_range, stream_all}
+use Rattle.order_model.proofs.StandsInLists.{in_append}
 use Rattle.tile_model.specs.Givable.{is_value_of, is_binding, has_sides, is_shared_part, is_givable, is_givable_act, HasSides}
 use Rattle.tile_model.specs.Lazy.{IsInRange}
 use Rattle.tile_model.proofs.DepthsInRange.{HasDepths, depths_at}
@@ -138,11 +139,6 @@ sampled_right scene client n range false private true is o has e i = absurd i
 sampled_right scene client n range kind private false is o has e i = absurd i
 
 -- ---- sets
-
-in_append : (e : ℕ) (xs ys : List ℕ) → IsIn e (xs ++ ys) → IsIn e xs ⊎ IsIn e ys
-in_append e [] ys i = inr i
-in_append e (x ∷ xs) ys (inl same) = inl (inl same)
-in_append e (x ∷ xs) ys (inr i) = elim (in_append e xs ys i) [ inl a ↦ inl (inr a) | inr b ↦ inr b ]
 
 in_range : (a n e : ℕ) → IsIn e (range_with_len a n) → e < a + n
 in_range a zero e i = absurd i

@@ -21,6 +21,8 @@ use Rattle.rc_base.specs.declared.state.ElementValue.{ElementValue}
 use Rattle.rc_base.specs.declared.state.Parcel.{Parcel}
 use Rattle.rc_base.specs.declared.window.Layout.{Layout}
 use Rattle.gl_context.proofs.OneElement.{begins_with_defaults}
+use Rattle.order_model.proofs.StandsInLists.{in_left}
+use Rattle.tile_model.proofs.NextInLists.{in_right}
 use Rattle.tile_model.proofs.ParcelsAreJobs.{parcels_given}
 use Rattle.tile_model.proofs.ParcelsOfCommands.{sets_by, command_makes}
 
@@ -109,15 +111,6 @@ examined_told values x draws e i = elim (cases_Bool (same_value (values e) (valu
 in_range : (a n e : ℕ) → a ≤ e → e < a + n → IsIn e (range_with_len a n)
 in_range a zero e low high = absurd (omega arith)
 in_range a (suc n) e low high = dite (ℕ_discrete a e) (λ (same : a ≡ e). inl same) (λ (ne : a ≢ e). inr (in_range (a + 1) n e (omega arith) (omega arith)))
-
-in_left : (e : ℕ) (xs ys : List ℕ) → IsIn e xs → IsIn e (xs ++ ys)
-in_left e [] ys i = absurd i
-in_left e (x ∷ xs) ys (inl same) = inl same
-in_left e (x ∷ xs) ys (inr i) = inr (in_left e xs ys i)
-
-in_right : (e : ℕ) (xs ys : List ℕ) → IsIn e ys → IsIn e (xs ++ ys)
-in_right e [] ys i = i
-in_right e (x ∷ xs) ys i = inr (in_right e xs ys i)
 
 pub scalar_examined : (x : ClientContext) (draws : Bool) (e : ℕ) → e < scalar_count → IsIn e (examined x draws)
 scalar_examined x draws e low = in_left e (range_with_len 0 scalar_count) (if draws then sampled_images x else []) (in_range 0 scalar_count e (omega arith) (omega arith))

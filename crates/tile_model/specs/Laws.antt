@@ -1,26 +1,31 @@
 -- Laws of tiles.
-use Rattle.std.specs.Prelude.{◌≡◌, ℕ, ◌<◌, Bool, true, List, [], length, None, Some, slice_get, pos}
+use Rattle.std.specs.Prelude.{◌≡◌, ℕ, ◌+◌, ◌<◌, ◌∷◌, ◌++◌, Bool, true, List, [], length, None, Some, slice_get, pos}
 use Rattle.std.specs.List.{AllByRecursion}
 use Rattle.rc_base.specs.Contexts.Context.{default_state}
-use Rattle.rc_base.specs.Drawing.Serial.{Canvas, canvas_after, textures_step, pixel_step, blank_textures, blank_pixel}
+use Rattle.rc_base.specs.Drawing.Serial.{Canvas, frame_pixel, canvas_after, textures_step, pixel_step, blank_textures, blank_pixel}
 use Rattle.rc_base.specs.Drawing.Texel.{SharedTexels}
 use Rattle.rc_base.specs.Cluster.Parcels.{parcels_at, parcels_before, parcels_of}
 use Rattle.rc_base.specs.declared.state.Parcel.{Parcel}
 use Rattle.rc_base.specs.declared.sync.Name.{Name}
 use Rattle.rc_base.specs.declared.window.Pixel.{Pixel}
 use Rattle.rc_base.specs.Cluster.Tiles.{tile_pixels}
-use Rattle.rc_base.specs.Orders.Journal.{IsLegal}
+use Rattle.rc_base.specs.Orders.Journal.{IsLegal, start}
 use Rattle.rc_base.specs.Orders.Sync.{sync_lists_of}
 use Rattle.rc_base.specs.declared.scene.Scene.{Scene}
 use Rattle.rc_base.specs.declared.sync.Entry.{Entry}
 use Rattle.rc_base.specs.declared.window.Layout.{Layout}
+use Rattle.rc_base.specs.declared.sync.Entry.TheVariants.{Swap}
+use Rattle.order_model.specs.Log.{Replays, logged, recorded_order}
+use Rattle.order_model.specs.declared.record.LogEntry.{LogEntry}
+use Rattle.order_model.specs.declared.record.LogEntry.TheVariants.{Performed}
 use Rattle.order_model.specs.Board.{Board, StandsFor}
 use Rattle.order_model.specs.Sent.{jobs_of}
 use Rattle.order_model.specs.Standing.{Progress, IsUnderWay, new_progress}
 use Rattle.tile_model.specs.Carrying.{IsDrawn}
 use Rattle.tile_model.specs.Givable.{HasSides, is_givable}
 use Rattle.tile_model.specs.Lazy.{IsInRange}
-use Rattle.tile_model.specs.Items.{Item, after_item, IsAwaited, IsItemOf}
+use Rattle.tile_model.specs.Items.{Item, after_item, IsAwaited, IsItemOf, shown_frames}
+use Rattle.tile_model.specs.Items.Item.{Due}
 
 -- a tile that is under way stays so with every item that is awaited and that is the scene's and the journal's
 abbrev pub ItemsKeepProgress : Type 0
@@ -67,3 +72,21 @@ StepsStand =
     (scene : Scene) (l : Layout) (tile : ℕ) (journal : List Entry) (item : Item) (p : Progress) (before now : Board) → IsInRange scene → HasSides scene.decl
     → IsLegal (sync_lists_of scene) journal → StandsFor scene l tile journal p before → IsAwaited p item → IsItemOf scene l tile journal p item
     → IsDrawn scene.decl l tile p item before now → StandsFor scene l tile journal (after_item p item) now
+
+-- A tile that performs a Swap has on its board, at each of its pixels, the frame of that number, whatever its log goes on with: in the order of the names
+-- that the log then has added,
+abbrev pub SwapsShowAddedNames : Type 0
+SwapsShowAddedNames =
+    (scene : Scene) (l : Layout) (tile : ℕ) (journal : List Entry) (p : Progress) (b : Board) (more : List LogEntry) → IsLegal (sync_lists_of scene) journal
+    → StandsFor scene l tile journal p b → IsAwaited p (Due Swap) → Replays (sync_lists_of scene) journal (λ client. jobs_of scene l client tile) (p.log ++ Performed ∷ more)
+    → (x y : ℕ) → tile_pixels l tile x y ≡ true
+    → b.pixel (pos x) (pos y)
+    ≡ frame_pixel scene (logged (sync_lists_of scene) (start (sync_lists_of scene)) journal (p.log ++ Performed ∷ more) []) (shown_frames p + 1) (pos x) (pos y)
+
+-- and in the whole order that it records.
+abbrev pub SwapsShowFrames : Type 0
+SwapsShowFrames =
+    (scene : Scene) (l : Layout) (tile : ℕ) (journal : List Entry) (p : Progress) (b : Board) (more : List LogEntry) → IsLegal (sync_lists_of scene) journal
+    → StandsFor scene l tile journal p b → IsAwaited p (Due Swap) → Replays (sync_lists_of scene) journal (λ client. jobs_of scene l client tile) (p.log ++ Performed ∷ more)
+    → (x y : ℕ) → tile_pixels l tile x y ≡ true
+    → b.pixel (pos x) (pos y) ≡ frame_pixel scene (recorded_order (sync_lists_of scene) journal (p.log ++ Performed ∷ more)) (shown_frames p + 1) (pos x) (pos y)

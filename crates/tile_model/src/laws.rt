@@ -1,6 +1,6 @@
 //! Laws of tiles. Each function's contract is a law, and its body is empty: there is nothing to compute.
 ghost use Rattle.tile_model.specs.Lazy.{LazyStateDrawsAlike};
-ghost use Rattle.tile_model.specs.Laws.{ItemsKeepProgress, NamesWithoutParcelsChangeNothing, NewTilesStand, ParcelsAreGivable, StepsStand};
+ghost use Rattle.tile_model.specs.Laws.{ItemsKeepProgress, NamesWithoutParcelsChangeNothing, NewTilesStand, ParcelsAreGivable, StepsStand, SwapsShowAddedNames, SwapsShowFrames};
 
 use definition_laws::tiles::touched_pixels_lie_in_the_box;
 
@@ -36,6 +36,15 @@ pub fn parcels_are_givable()
 /// A tile that stands for a scene and a legal journal stands for them after every item that is awaited and theirs.
 pub fn steps_stand()
     ensures { StepsStand }
+{
+    touched_pixels_lie_in_the_box();
+}
+
+/// What a tile's board has when it performs a Swap is that frame, in the order of the names that its log has added then or later, and in the whole
+/// order that the log records.
+pub fn swaps_show_frames()
+    ensures added { SwapsShowAddedNames }
+    ensures recorded { SwapsShowFrames }
 {
     touched_pixels_lie_in_the_box();
 }
