@@ -2,15 +2,14 @@
 use Rattle.std.proofs.Common.{◌≡◌, ℕ, zero, suc, ◌+◌, ◌-◌, ◌<◌, ◌≤◌, ◌==◌, true, false, ◌⊎◌, inl, inr, refl, sym, ap, ◌∙◌, subst, arith, ne_eqb, eqb-true, Some, None}
 use Rattle.std.specs.declared.option.Option.{Option}
 use Rattle.std.specs.Option.{option_map_or}
-use Rattle.std.proofs.lemmas.List.{get_or_past}
 use Rattle.rc_base.specs.Pictures.{Picture}
 use Rattle.rc_base.specs.Contexts.Context.{ClientContext, default_context, private_image, edit_of}
-use Rattle.rc_base.specs.Contexts.Elements.{values_of, value_in, image_value, image_element, no_image, same_value, scalar_count}
+use Rattle.rc_base.specs.Contexts.Elements.{value_in, image_value, image_element, no_image, same_value}
 use Rattle.rc_base.specs.Contexts.Issue.{context_after, command_at, issued_next}
 use Rattle.rc_base.specs.declared.scene.Scene.{Scene}
 use Rattle.order_model.specs.Board.{picture_in}
 use Rattle.gl_context.proofs.ImagesGoOn.{GoesOn, next, has_textures, at_most, never_falls, same_images}
-use Rattle.gl_context.proofs.OneElement.{no_images}
+use Rattle.gl_context.proofs.OneElement.{image_element_is, no_images}
 use Rattle.gl_context.proofs.OneMoreCommand.{goes_on_by}
 
 -- ---- an edit number is 0 exactly where there is no image
@@ -36,12 +35,6 @@ edited scene client (suc n) name =
 
 -- ---- the value of an image
 
-pub image_is : (x : ClientContext) (name : ℕ) → 0 < name → value_in x (image_element name) ≡ option_map_or (image_value (edit_of x name)) (private_image x name) no_image
-unfolding values_of
-image_is x name low =
-    let same : image_element name + 1 - scalar_count ≡ name = omega arith in
-    get_or_past (values_of x.state) (image_element name) _ (omega arith) ∙ ap (λ k. option_map_or (image_value (edit_of x k)) (private_image x k) no_image) same
-
 picture_is : (edit : ℕ) (o : Option Picture) → ((edit ≡ 0) × (o ≡ None)) ⊎ ((0 < edit) × (p : Picture) × (o ≡ Some p)) → picture_in (option_map_or (image_value edit) o no_image) ≡ o
 picture_is edit None h = refl
 picture_is edit (Some p) (inl h) = absurd (let no = h.1 in cc)
@@ -51,7 +44,7 @@ picture_is edit (Some p) (inr h) = let some : (edit == 0) ≡ false = ne_eqb edi
 pub picture_of_value : (scene : Scene) (client n name : ℕ) → 0 < name → picture_in (value_in (context_after scene client n) (image_element name)) ≡ private_image (context_after scene client n) name
 picture_of_value scene client n name low =
     let x = context_after scene client n in
-    ap picture_in (image_is x name low) ∙ picture_is (edit_of x name) (private_image x name) (edited scene client n name)
+    ap picture_in (image_element_is x name low) ∙ picture_is (edit_of x name) (private_image x name) (edited scene client n name)
 
 edit_is : (edit edit' : ℕ) (o o' : Option Picture) → ((edit ≡ 0) × (o ≡ None)) ⊎ ((0 < edit) × (p : Picture) × (o ≡ Some p))
     → ((edit' ≡ 0) × (o' ≡ None)) ⊎ ((0 < edit') × (p : Picture) × (o' ≡ Some p))
@@ -74,8 +67,8 @@ same_value_images scene client i n name low t =
     let x = context_after scene client i in
     let y = context_after scene client n in
     same_images scene client i n name (edit_is (edit_of x name) (edit_of y name) (private_image x name) (private_image y name) (edited scene client i name) (edited scene client n name)
-    (subst (λ w. same_value w (option_map_or (image_value (edit_of y name)) (private_image y name) no_image) ≡ true) (image_is x name low)
-    (subst (λ w. same_value (value_in x (image_element name)) w ≡ true) (image_is y name low) t)))
+    (subst (λ w. same_value w (option_map_or (image_value (edit_of y name)) (private_image y name) no_image) ≡ true) (image_element_is x name low)
+    (subst (λ w. same_value (value_in x (image_element name)) w ≡ true) (image_element_is y name low) t)))
 
 -- where there is no image there was none before
 pub none_before : (scene : Scene) (client i n name : ℕ) → i ≤ n → private_image (context_after scene client n) name ≡ None → private_image (context_after scene client i) name ≡ None

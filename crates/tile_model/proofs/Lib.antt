@@ -21,3 +21,4 @@ mod ParcelsAreGivable
 mod SwapsAlongLogs
 mod FramesStay
 mod SwapsShowFrames
+mod LimitsGiveSides

@@ -28,7 +28,7 @@ pub no_default_image : (d : Decl) (name : ℕ) → 0 < name → default_value d 
 unfolding values_of
 no_default_image d name low = get_or_past (values_of (default_state d)) (image_element name) no_image (omega arith)
 
-pub new_stands : (scene : Scene) (l : Layout) (tile : ℕ) (js : List Entry) (b : Board) → IsNewBoard scene l tile b → StandsFor scene l tile js (new_progress (length scene.streams)) b
+pub new_stands : (scene : Scene) (l : Layout) (tile : ℕ) (js : List Entry) (b : Board) → IsNewBoard scene.decl l tile b → StandsFor scene l tile js (new_progress (length scene.streams)) b
 new_stands scene l tile js b h = record {
   progress = subst (λ n. IsUnderWay (sync_lists_of scene) js (λ client. jobs_of scene l client tile) (new_progress n)) (scene_client_count scene)
       (new_under_way (sync_lists_of scene) js (λ client. jobs_of scene l client tile));

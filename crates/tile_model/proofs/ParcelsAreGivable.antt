@@ -31,12 +31,13 @@ use Rattle.rc_base.specs.declared.state.Parcel.{Parcel}
 use Rattle.rc_base.specs.declared.window.Layout.{Layout}
 use Rattle.gl_context.specs.Valid.{IsValidContext, IsPrivateImage}
 use Rattle.gl_context.proofs.Accepted.{accepted}
+use Rattle.gl_context.proofs.OneElement.{image_element_is}
 use Rattle.gl_context.proofs.ValidContexts.{valid, command_of as is_in_range, stream_all}
 use Rattle.order_model.proofs.StandsInLists.{in_append}
 use Rattle.tile_model.specs.Givable.{is_value_of, is_binding, has_sides, is_shared_part, is_givable, is_givable_act, HasSides}
 use Rattle.tile_model.specs.Lazy.{IsInRange}
 use Rattle.tile_model.proofs.DepthsInRange.{HasDepths, depths_at}
-use Rattle.tile_model.proofs.ImagesTold.{image_is, edited}
+use Rattle.tile_model.proofs.ImagesTold.{edited}
 use Rattle.tile_model.proofs.ParcelsOfCommands.{sets_by, command_makes, of_command_or_end}
 
 -- ---- the values of a context
@@ -128,7 +129,7 @@ sampled_right scene client n range true private true is (Some p) has e (inl same
     let named : is_name name private_count ≡ true = rw private at h.bound in
     let both = and_parts (nat_lt 0 name) (nat_le name private_count) named in
     let low = ltb-true 0 name both.0 in
-    let value : value_in x (image_element name) ≡ image_value (edit_of x name) p = image_is x name low ∙ ap (λ o. option_map_or (image_value (edit_of x name)) o no_image) has in
+    let value : value_in x (image_element name) ≡ image_value (edit_of x name) p = image_element_is x name low ∙ ap (λ o. option_map_or (image_value (edit_of x name)) o no_image) has in
     let some : 0 < edit_of x name = elim (edited scene client n name) [ inl k ↦ absurd (let no : Some p ≡ None = sym has ∙ k.1 in cc) | inr k ↦ k.0 ] in
     subst (λ k. is_value_of scene.decl k (value_in x k) ≡ true) same
     (subst (λ v. is_value_of scene.decl (image_element name) v ≡ true) (sym value)

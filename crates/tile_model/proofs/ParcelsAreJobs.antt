@@ -1,5 +1,5 @@
 -- A parcel of a client and its job have one number; only End is no job.
-use Rattle.std.proofs.Common.{◌≡◌, ℕ, zero, suc, List, [], ◌∷◌, ◌++◌, ◌⊎◌, drop, length, Some, slice_get, inl, inr, refl, sym, ap, ◌∙◌, subst, Bool, true, false}
+use Rattle.std.proofs.Common.{arith, length-append, ◌+◌, ◌≤◌, ◌≡◌, ℕ, zero, suc, List, [], ◌∷◌, ◌++◌, ◌⊎◌, drop, length, Some, slice_get, inl, inr, refl, sym, ap, ◌∙◌, subst, Bool, true, false}
 use Rattle.std.specs.Prelude.{if◌then◌else◌}
 use Rattle.std.specs.List.{AllByRecursion, flat_map}
 use Rattle.rc_base.specs.Contexts.Context.{ClientContext}
@@ -101,3 +101,26 @@ unfolding parcels_of
 job_parcel scene l client tile k j n =
     let m = length (stream_of scene client) in
     of_job (parcels_before scene l client tile m) (all_one scene l client tile m) (end_parcel m) k j (subst (λ js. IsNext (drop k js) j) (jobs_are scene l client tile) n)
+
+-- ---- how many they are
+
+one_at_most : (qs : List Parcel) → IsGiven qs → length qs ≤ 1
+one_at_most qs (inl e) = omega (arith, ap length e)
+one_at_most qs (inr w) = omega (arith, ap length w.1)
+
+pub few_given : (scene : Scene) (l : Layout) (client tile n : ℕ) (earlier : List Parcel) → length (parcels_at scene l client tile n earlier) ≤ 1
+few_given scene l client tile n earlier = one_at_most (parcels_at scene l client tile n earlier) (parcels_given scene l client tile n earlier)
+
+few_before : (scene : Scene) (l : Layout) (client tile n : ℕ) → length (parcels_before scene l client tile n) ≤ n
+unfolding parcels_before
+few_before scene l client tile zero = omega arith
+few_before scene l client tile (suc n) =
+    let earlier = parcels_before scene l client tile n in
+    let new = parcels_at scene l client tile n earlier in
+    omega (arith, few_before scene l client tile n, few_given scene l client tile n earlier, length-append earlier new)
+
+pub parcels_few : (scene : Scene) (l : Layout) (client tile : ℕ) → length (parcels_of scene l client tile) ≤ length (stream_of scene client) + 1
+unfolding parcels_of
+parcels_few scene l client tile =
+    let n = length (stream_of scene client) in
+    omega (arith, few_before scene l client tile n, length-append (parcels_before scene l client tile n) (end_parcel n ∷ []))

@@ -15,7 +15,7 @@ use Rattle.rc_base.specs.declared.state.Parcel.{Parcel}
 use Rattle.rc_base.specs.declared.window.Layout.{Layout}
 use Rattle.tile_model.specs.Lazy.{is_work}
 use Rattle.tile_model.proofs.NextInLists.{next_is}
-use Rattle.tile_model.proofs.ParcelsAreJobs.{IsGiven, parcels_given}
+use Rattle.tile_model.proofs.ParcelsAreJobs.{few_given}
 
 -- ---- what a command makes
 
@@ -87,10 +87,6 @@ split (z ∷ xs) ys (suc k) x rest e few = elim (split xs ys k x rest e few) [
   | inr w ↦ inr (w.0, ap (λ l. z ∷ l) w.1)
 ]
 
-pub few_given : (qs : List Parcel) → IsGiven qs → length qs ≤ 1
-few_given qs (inl e) = omega (arith, ap length e)
-few_given qs (inr w) = omega (arith, ap length w.1)
-
 -- the parcels before it are those of the commands before its own
 pub record IsOfCommand (scene : Scene) (l : Layout) (client tile count : ℕ) (parcels : List Parcel) (p : Parcel) : Type 0 where
   pub before : take count parcels ≡ parcels_before scene l client tile p.place
@@ -104,7 +100,7 @@ of_command scene l client tile zero (suc count) p rest e = absurd cc
 of_command scene l client tile (suc n) count p rest e =
     let earlier = parcels_before scene l client tile n in
     let qs = parcels_at scene l client tile n earlier in
-    elim (split earlier qs count p rest e (few_given qs (parcels_given scene l client tile n earlier))) [
+    elim (split earlier qs count p rest e (few_given scene l client tile n earlier)) [
       | inl w ↦ let h = of_command scene l client tile n count p w.0 w.1 in record { before = w.2 ∙ h.before; made = h.made }
       | inr w ↦
           let at : n ≡ p.place = sym (command_makes scene l client tile n earlier p w.0).place in

@@ -1,7 +1,10 @@
 -- Laws of tiles.
-use Rattle.std.specs.Prelude.{◌≡◌, ℕ, ◌+◌, ◌<◌, ◌∷◌, ◌++◌, Bool, true, List, [], length, None, Some, slice_get, pos}
+use Rattle.std.specs.Prelude.{◌≡◌, ℕ, ◌+◌, ◌<◌, ◌≤◌, ◌∷◌, ◌++◌, Bool, true, List, [], length, None, Some, slice_get, pos}
 use Rattle.std.specs.List.{AllByRecursion}
+use Rattle.rc_base.specs.Formats.Limits.{limit_of}
+use Rattle.rc_base.specs.Formats.Spelling.{IsDecl}
 use Rattle.rc_base.specs.Contexts.Context.{default_state}
+use Rattle.rc_base.specs.Contexts.Issue.{stream_of}
 use Rattle.rc_base.specs.Drawing.Serial.{Canvas, frame_pixel, canvas_after, textures_step, pixel_step, blank_textures, blank_pixel}
 use Rattle.rc_base.specs.Drawing.Texel.{SharedTexels}
 use Rattle.rc_base.specs.Cluster.Parcels.{parcels_at, parcels_before, parcels_of}
@@ -11,6 +14,7 @@ use Rattle.rc_base.specs.declared.window.Pixel.{Pixel}
 use Rattle.rc_base.specs.Cluster.Tiles.{tile_pixels}
 use Rattle.rc_base.specs.Orders.Journal.{IsLegal, start}
 use Rattle.rc_base.specs.Orders.Sync.{sync_lists_of}
+use Rattle.rc_base.specs.declared.scene.Decl.{Decl}
 use Rattle.rc_base.specs.declared.scene.Scene.{Scene}
 use Rattle.rc_base.specs.declared.sync.Entry.{Entry}
 use Rattle.rc_base.specs.declared.window.Layout.{Layout}
@@ -35,16 +39,16 @@ ItemsKeepProgress =
     → IsUnderWay (sync_lists_of scene) journal (λ client. jobs_of scene l client tile) (after_item p item)
 
 -- a new board: the defaults of each client and no images, textures of zeros, and a blank buffer
-pub record IsNewBoard (scene : Scene) (l : Layout) (tile : ℕ) (b : Board) : Type 0 where
-  pub state : (client : ℕ) → (b.kept client).state ≡ default_state scene.decl
+pub record IsNewBoard (decl : Decl) (l : Layout) (tile : ℕ) (b : Board) : Type 0 where
+  pub state : (client : ℕ) → (b.kept client).state ≡ default_state decl
   pub image : (client name : ℕ) → 0 < name → (b.kept client).image name ≡ None
-  pub shared : (name : ℕ) → b.shared name ≡ blank_textures scene name
+  pub shared : (name : ℕ) → b.shared name ≡ blank_textures (record { decl = decl; streams = [] }) name
   pub pixel : (x y : ℕ) → tile_pixels l tile x y ≡ true → b.pixel (pos x) (pos y) ≡ blank_pixel
 
--- a new tile stands for every scene and every journal
+-- a new tile stands for every scene with its declaration and number of clients, and for every journal
 abbrev pub NewTilesStand : Type 0
 NewTilesStand =
-    (scene : Scene) (l : Layout) (tile : ℕ) (journal : List Entry) (b : Board) → IsNewBoard scene l tile b
+    (scene : Scene) (l : Layout) (tile : ℕ) (journal : List Entry) (b : Board) → IsNewBoard scene.decl l tile b
     → StandsFor scene l tile journal (new_progress (length scene.streams)) b
 
 -- the command of a name gives the tile no parcel
@@ -90,3 +94,11 @@ SwapsShowFrames =
     → StandsFor scene l tile journal p b → IsAwaited p (Due Swap) → Replays (sync_lists_of scene) journal (λ client. jobs_of scene l client tile) (p.log ++ Performed ∷ more)
     → (x y : ℕ) → tile_pixels l tile x y ≡ true
     → b.pixel (pos x) (pos y) ≡ frame_pixel scene (recorded_order (sync_lists_of scene) journal (p.log ++ Performed ∷ more)) (shown_frames p + 1) (pos x) (pos y)
+
+-- a client gives a tile at most one parcel for each of its commands, and End
+abbrev pub ParcelsAreFew : Type 0
+ParcelsAreFew = (scene : Scene) (l : Layout) (client tile : ℕ) → length (parcels_of scene l client tile) ≤ length (stream_of scene client) + 1
+
+-- the shared textures of a scene within the limits have sides above 0
+abbrev pub LimitsGiveSides : Type 0
+LimitsGiveSides = (scene : Scene) → IsDecl scene.decl → limit_of scene ≡ None → HasSides scene.decl

@@ -1,10 +1,10 @@
 //! Laws of tiles. Each function's contract is a law, and its body is empty: there is nothing to compute.
 ghost use Rattle.tile_model.specs.Lazy.{LazyStateDrawsAlike};
-ghost use Rattle.tile_model.specs.Laws.{ItemsKeepProgress, NamesWithoutParcelsChangeNothing, NewTilesStand, ParcelsAreGivable, StepsStand, SwapsShowAddedNames, SwapsShowFrames};
+ghost use Rattle.tile_model.specs.Laws.{ItemsKeepProgress, LimitsGiveSides, NamesWithoutParcelsChangeNothing, NewTilesStand, ParcelsAreFew, ParcelsAreGivable, StepsStand, SwapsShowAddedNames, SwapsShowFrames};
 
-use definition_laws::tiles::touched_pixels_lie_in_the_box;
+use bounds_bucket::touched_pixels_lie_in_the_box;
 
-/// A new tile stands for every scene with its number of clients, and for every journal.
+/// A new tile stands for every scene with its declaration and its number of clients, and for every journal.
 pub fn new_tiles_stand()
     ensures { NewTilesStand }
 {}
@@ -28,9 +28,11 @@ pub fn lazy_state_draws_alike()
 {}
 
 /// Every parcel of a scene is one that a scene can give: each of its values is one that its element can have, and a part of a shared texture lies
-/// inside it.
+/// inside it. A client gives a tile at most one parcel more than it has commands.
 pub fn parcels_are_givable()
-    ensures { ParcelsAreGivable }
+    ensures each { ParcelsAreGivable }
+    ensures sides { LimitsGiveSides }
+    ensures few { ParcelsAreFew }
 {}
 
 /// A tile that stands for a scene and a legal journal stands for them after every item that is awaited and theirs.
