@@ -23,11 +23,11 @@ use Rattle.order_model.proofs.OneFoldOfTextures.{canvas_textures}
 use Rattle.tile_model.specs.Carrying.{image_by, HasSets, IsCarriedOut}
 use Rattle.tile_model.specs.Items.{with_at}
 use Rattle.tile_model.specs.Lazy.{DrawsAlike, name_of}
-use Rattle.tile_model.proofs.IdleNames.{BoxesHold, paint, idle_paint, idle_textures, Stays, stays_names}
-use Rattle.tile_model.proofs.JobsLeft.{IsLeft, next_work}
+use Rattle.tile_model.proofs.IdleNamesChangeNothing.{BoxesHold, paint, idle_paint, idle_textures, Stays, stays_names}
+use Rattle.tile_model.proofs.JobsAreLeftBehindNames.{IsLeft, next_work}
 use Rattle.tile_model.proofs.NextInLists.{next_is, take_more}
 use Rattle.tile_model.proofs.ProgressGoesOn.{at_one, with_here, with_other}
-use Rattle.tile_model.proofs.ToldValues.{told_more}
+use Rattle.tile_model.proofs.ParcelsTellValues.{told_more}
 
 -- ---- what is kept
 

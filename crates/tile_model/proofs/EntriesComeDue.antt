@@ -20,7 +20,7 @@ use Rattle.order_model.proofs.OrdersBySteps.{moved, passed_by}
 use Rattle.order_model.proofs.RecordedOrdersArePermitted.{Reached, took_reaches, performed_reaches, some_at, none_at}
 use Rattle.tile_model.specs.Items.{IsAwaited, after_performed}
 use Rattle.tile_model.specs.Items.Item.{Due}
-use Rattle.tile_model.proofs.ClientProgress.{below_end, client_performed, client_later}
+use Rattle.tile_model.proofs.ClientsGoOn.{below_end, client_performed, client_later}
 use Rattle.tile_model.proofs.LogsGoOn.{GoesOn, performed_more, cursor_more, replays_more, comes_to}
 use Rattle.tile_model.proofs.NextInLists.{next_is, drop_front}
 use Rattle.tile_model.proofs.ProgressGoesOn.{client_is}

@@ -29,8 +29,8 @@ use Rattle.order_model.proofs.RecordedOrdersArePermitted.{some_at, none_at}
 use Rattle.order_model.proofs.StepsArePermitted.{member_place}
 use Rattle.tile_model.proofs.BoardsGoOn.{kept_same}
 use Rattle.tile_model.proofs.EntriesComeDue.{IsDue, plus_one, plus_none}
-use Rattle.tile_model.proofs.IdleNames.{BoxesHold, IsIdle, paint, idle_paint, idle_textures, Stays, stays_spread}
-use Rattle.tile_model.proofs.JobsLeft.{IsLeft, next_wait}
+use Rattle.tile_model.proofs.IdleNamesChangeNothing.{BoxesHold, IsIdle, paint, idle_paint, idle_textures, Stays, stays_spread}
+use Rattle.tile_model.proofs.JobsAreLeftBehindNames.{IsLeft, next_wait}
 use Rattle.tile_model.proofs.ParcelsAreJobs.{job_parcel}
 
 -- the names that a log has added

@@ -27,9 +27,9 @@ use Rattle.order_model.specs.declared.record.LogEntry.{LogEntry}
 use Rattle.order_model.specs.declared.record.LogEntry.TheVariants.{Took, Performed}
 use Rattle.order_model.proofs.AddedNames.{names_append}
 use Rattle.order_model.proofs.StandsInLists.{in_append}
-use Rattle.tile_model.proofs.IdleNames.{paint}
+use Rattle.tile_model.proofs.IdleNamesChangeNothing.{paint}
 use Rattle.tile_model.proofs.NextInLists.{in_right}
-use Rattle.tile_model.proofs.SwapsAlongLogs.{AreCounted, swaps_rise}
+use Rattle.tile_model.proofs.LogsCountSwaps.{AreCounted, swaps_rise}
 
 -- ---- a frame's names
 

@@ -15,7 +15,7 @@ use Rattle.order_model.specs.Standing.{Progress, IsUnderWay, performed_in, is_ov
 use Rattle.order_model.proofs.SceneJobsAreSent.{scene_jobs_are_sent}
 use Rattle.tile_model.specs.Items.{Item, after_act, after_item, after_parcel, after_work, after_wait, after_end, IsAwaited, IsItemOf}
 use Rattle.tile_model.specs.Items.Item.{Nothing, Due, Granted, NoMore, Sent}
-use Rattle.tile_model.proofs.ClientProgress.{below_end}
+use Rattle.tile_model.proofs.ClientsGoOn.{below_end}
 use Rattle.tile_model.proofs.EntriesComeDue.{performs}
 use Rattle.tile_model.proofs.ParcelsAreJobs.{parcel_at}
 use Rattle.tile_model.proofs.ProgressGoesOn.{works, waits, ends, drops, ends_late, learns, learns_end}

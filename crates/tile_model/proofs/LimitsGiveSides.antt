@@ -10,7 +10,7 @@ use Rattle.rc_base.specs.Formats.Spelling.{IsDecl, IsSize}
 use Rattle.rc_base.specs.Contexts.Context.{shared_sides}
 use Rattle.rc_base.specs.declared.scene.Scene.{Scene}
 use Rattle.order_model.proofs.StandsInLists.{in_left}
-use Rattle.tile_model.specs.Givable.{HasSides}
+use Rattle.tile_model.specs.Scenes.{HasSides}
 use Rattle.tile_model.proofs.NextInLists.{in_right}
 
 none_outside : (qs : List Quantity) → first_outside qs ≡ None → (q : Quantity) → IsIn q qs → is_outside q ≡ false

@@ -24,7 +24,7 @@ unfolding told
 told_first d e = refl
 
 -- no default is an image
-pub no_default_image : (d : Decl) (name : ℕ) → 0 < name → default_value d (image_element name) ≡ no_image
+no_default_image : (d : Decl) (name : ℕ) → 0 < name → default_value d (image_element name) ≡ no_image
 unfolding values_of
 no_default_image d name low = get_or_past (values_of (default_state d)) (image_element name) no_image (omega arith)
 

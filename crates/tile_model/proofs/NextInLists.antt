@@ -9,12 +9,6 @@ next_is [] (suc k) x e = absurd cc
 next_is (y ∷ xs) zero x e = (xs, let f : y ≡ x = cc in ap (λ z. z ∷ xs) f)
 next_is (y ∷ xs) (suc k) x e = next_is xs k x e
 
-pub next_drop : {A : Type 0} (xs : List A) (k : ℕ) (x : A) (rest : List A) → drop k xs ≡ x ∷ rest → slice_get xs k ≡ Some x
-next_drop [] zero x rest e = absurd cc
-next_drop [] (suc k) x rest e = absurd cc
-next_drop (y ∷ xs) zero x rest e = let f : y ≡ x = cc in ap (λ z. Some z) f
-next_drop (y ∷ xs) (suc k) x rest e = next_drop xs k x rest e
-
 -- in a longer list too
 pub drop_front : {A : Type 0} (k : ℕ) (xs ys : List A) (x : A) (rest : List A) → drop k xs ≡ x ∷ rest → drop k (xs ++ ys) ≡ x ∷ (rest ++ ys)
 drop_front zero xs ys x rest e = ap (λ l. l ++ ys) e

@@ -34,11 +34,12 @@ use Rattle.gl_context.proofs.Accepted.{accepted}
 use Rattle.gl_context.proofs.OneElement.{image_element_is}
 use Rattle.gl_context.proofs.ValidContexts.{valid, command_of as is_in_range, stream_all}
 use Rattle.order_model.proofs.StandsInLists.{in_append}
-use Rattle.tile_model.specs.Givable.{is_value_of, is_binding, has_sides, is_shared_part, is_givable, is_givable_act, HasSides}
-use Rattle.tile_model.specs.Lazy.{IsInRange}
-use Rattle.tile_model.proofs.DepthsInRange.{HasDepths, depths_at}
-use Rattle.tile_model.proofs.ImagesTold.{edited}
-use Rattle.tile_model.proofs.ParcelsOfCommands.{sets_by, command_makes, of_command_or_end}
+use Rattle.tile_model.specs.Scenes.{has_sides, HasSides}
+use Rattle.tile_model.specs.Givable.{is_value_of, is_binding, is_shared_part, is_givable, is_givable_act}
+use Rattle.tile_model.specs.Scenes.{IsInRange}
+use Rattle.tile_model.proofs.DepthsAreInRange.{HasDepths, depths_at}
+use Rattle.tile_model.proofs.ValuesTellImages.{edited}
+use Rattle.tile_model.proofs.ParcelsComeFromCommands.{sets_by, command_makes, of_command_or_end}
 
 -- ---- the values of a context
 

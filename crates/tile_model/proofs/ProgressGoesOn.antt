@@ -12,7 +12,7 @@ use Rattle.order_model.specs.declared.record.LogEntry.{LogEntry}
 use Rattle.order_model.specs.declared.record.LogEntry.TheVariants.{Took}
 use Rattle.order_model.proofs.LogsLeaveJobs.{jobs_left}
 use Rattle.tile_model.specs.Items.{with_at, after_work, after_wait, after_end, after_parcel, after_entry, after_no_more}
-use Rattle.tile_model.proofs.ClientProgress.{client_first, client_took, client_held, client_closed, client_dropped, client_closed_late, client_later}
+use Rattle.tile_model.proofs.ClientsGoOn.{client_first, client_took, client_held, client_closed, client_dropped, client_closed_late, client_later}
 use Rattle.tile_model.proofs.LogsGoOn.{performed_more, cursor_more, replays_more}
 
 -- a new tile

@@ -26,20 +26,21 @@ use Rattle.tile_model.specs.Carrying.{IsCarriedOut, IsDrawn}
 use Rattle.tile_model.specs.Givable.{is_givable}
 use Rattle.tile_model.specs.Items.{Item, with_at, after_act, after_item, IsAwaited, IsItemOf}
 use Rattle.tile_model.specs.Items.Item.{Nothing, Due, Granted, NoMore, Sent}
-use Rattle.tile_model.specs.Lazy.{is_work, IsInRange}
+use Rattle.tile_model.specs.Acts.{is_work}
+use Rattle.tile_model.specs.Scenes.{IsInRange}
 use Rattle.tile_model.proofs.BoardsGoOn.{board_works}
 use Rattle.tile_model.proofs.EntriesComeDue.{HasReached, reached_on, is_due}
 use Rattle.tile_model.proofs.EntriesLeaveBoards.{names_of, jobs_now, board_performs}
-use Rattle.tile_model.proofs.IdleNames.{BoxesHold}
+use Rattle.tile_model.proofs.IdleNamesChangeNothing.{BoxesHold}
 use Rattle.tile_model.proofs.ItemsKeepProgress.{IsOnItsWay, not_closed, the_job, item_comes}
-use Rattle.tile_model.proofs.JobsLeft.{IsLeft, left_first, left_on}
-use Rattle.tile_model.proofs.LazyDrawsAlike.{lazy_draws}
+use Rattle.tile_model.proofs.JobsAreLeftBehindNames.{IsLeft, left_first, left_on}
+use Rattle.tile_model.proofs.LazyStateDrawsAlike.{lazy_draws}
 use Rattle.tile_model.proofs.LogsGoOn.{GoesOn, logged_took, comes_to}
 use Rattle.tile_model.proofs.ParcelsAreJobs.{parcel_at}
 use Rattle.tile_model.proofs.ProgressGoesOn.{at_one, with_here, with_other, moved_here, moved_other}
 
 -- the jobs that a tile's log leaves are those behind the names that it added
-pub left_now : (scene : Scene) (l : Layout) (tile : ℕ) (js : List Entry) (p : Progress) → IsLegal (sync_lists_of scene) js → IsOnItsWay scene l tile js p
+left_now : (scene : Scene) (l : Layout) (tile : ℕ) (js : List Entry) (p : Progress) → IsLegal (sync_lists_of scene) js → IsOnItsWay scene l tile js p
     → IsLeft scene l tile (names_of scene js p.log) (jobs_now scene l tile js p.log)
 left_now scene l tile js p legal h =
     (comes_to (sync_lists_of scene) (λ s es jobs order. IsLeft scene l tile order jobs) (left_on scene l tile) js (λ client. jobs_of scene l client tile) p.log legal h.replays (left_first scene l tile)).holds

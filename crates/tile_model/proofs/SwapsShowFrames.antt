@@ -24,9 +24,9 @@ use Rattle.tile_model.specs.Items.Item.{Due}
 use Rattle.tile_model.proofs.EntriesComeDue.{is_due}
 use Rattle.tile_model.proofs.EntriesLeaveBoards.{IsDueAt, names_of, jobs_now, board_performs}
 use Rattle.tile_model.proofs.FramesStay.{IsShown, IsFurther, further_then, further_all, further_log, frame_is_painted, shown_names, frame_stays}
-use Rattle.tile_model.proofs.IdleNames.{BoxesHold}
+use Rattle.tile_model.proofs.IdleNamesChangeNothing.{BoxesHold}
 use Rattle.tile_model.proofs.LogsGoOn.{comes_to}
-use Rattle.tile_model.proofs.SwapsAlongLogs.{AreCounted, IsAlong, IsMemberDone, HasSwapped, along_on, along_first, all_counted, member_swaps, member_done, swaps_rise}
+use Rattle.tile_model.proofs.LogsCountSwaps.{AreCounted, IsAlong, IsMemberDone, HasSwapped, along_on, along_first, all_counted, member_swaps, member_done, swaps_rise}
 
 -- the Swaps that a tile performed are those of the journal's front
 frames_are : (scene : Scene) (l : Layout) (tile : ℕ) (js : List Entry) (p : Progress) (b : Board) → StandsFor scene l tile js p b → frame_count (take (performed_in p.log) js) ≡ shown_frames p

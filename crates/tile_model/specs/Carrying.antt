@@ -16,7 +16,7 @@ use Rattle.order_model.specs.Standing.{Progress}
 use Rattle.tile_model.specs.Givable.{is_givable}
 use Rattle.tile_model.specs.Items.{Item}
 use Rattle.tile_model.specs.Items.Item.{Nothing, Due, Granted, NoMore, Sent}
-use Rattle.tile_model.specs.Lazy.{is_work}
+use Rattle.tile_model.specs.Acts.{is_work}
 
 -- ---- sets
 

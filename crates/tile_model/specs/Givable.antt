@@ -1,5 +1,5 @@
 -- Which parcels a scene can give.
-use Rattle.std.specs.Prelude.{ℕ, ◌*◌, ◌==◌, ◌&&◌, ◌||◌, ◌≡◌, nat_eq, nat_lt, nat_le, Bool, true, List, [], ◌∷◌, length, slice_index, ℤ, pos, if◌then◌else◌}
+use Rattle.std.specs.Prelude.{ℕ, ◌*◌, ◌==◌, ◌&&◌, ◌||◌, nat_eq, nat_lt, nat_le, Bool, true, List, [], ◌∷◌, length, slice_index, ℤ, pos, if◌then◌else◌}
 use Rattle.std.specs.List.{list_any, list_all}
 use Rattle.rc_base.specs.Numbers.{entry, fixed_one, is_between}
 use Rattle.rc_base.specs.Formats.Commands.{has_codes}
@@ -15,16 +15,13 @@ use Rattle.rc_base.specs.declared.state.ElementSet.{ElementSet}
 use Rattle.rc_base.specs.declared.state.ElementValue.{ElementValue}
 use Rattle.rc_base.specs.declared.state.ElementValue.TheVariants as val
 use Rattle.rc_base.specs.declared.state.Parcel.{Parcel}
+use Rattle.tile_model.specs.Scenes.{has_sides}
 
 -- ---- sets
 
 -- a depth from 0 to one
 abbrev pub is_depth : ℤ → Bool
 is_depth z = is_between (pos 0) (pos fixed_one) z
-
--- the declared sides of a shared texture are above 0
-abbrev pub has_sides : Decl → ℕ → Bool
-has_sides d name = nat_lt 0 (slice_index (shared_sides d.shared name) 0) && nat_lt 0 (slice_index (shared_sides d.shared name) 1)
 
 -- a texture that can be bound: a private one, or a declared one with texels
 abbrev pub is_binding : Decl → ℕ → ℕ → Bool
@@ -75,9 +72,3 @@ is_givable_act d act.End = true
 -- each of its values is one that its element can have, and so is what it writes
 abbrev pub is_givable : Decl → Parcel → Bool
 is_givable d parcel = list_all (λ (set : ElementSet). is_value_of d set.element set.value) parcel.sets && is_givable_act d parcel.act
-
--- ---- scenes
-
--- the sides of each declared shared texture are above 0
-abbrev pub HasSides : Decl → Type 0
-HasSides d = (name : ℕ) → is_name name (length d.shared) ≡ true → has_sides d name ≡ true

@@ -26,8 +26,9 @@ use Rattle.order_model.specs.Board.{Board, StandsFor}
 use Rattle.order_model.specs.Sent.{jobs_of}
 use Rattle.order_model.specs.Standing.{Progress, IsUnderWay, new_progress}
 use Rattle.tile_model.specs.Carrying.{IsDrawn}
-use Rattle.tile_model.specs.Givable.{HasSides, is_givable}
-use Rattle.tile_model.specs.Lazy.{IsInRange}
+use Rattle.tile_model.specs.Scenes.{HasSides}
+use Rattle.tile_model.specs.Givable.{is_givable}
+use Rattle.tile_model.specs.Scenes.{IsInRange}
 use Rattle.tile_model.specs.Items.{Item, after_item, IsAwaited, IsItemOf, shown_frames}
 use Rattle.tile_model.specs.Items.Item.{Due}
 

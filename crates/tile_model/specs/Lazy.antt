@@ -1,8 +1,6 @@
 -- What lazy state is for: with what a tile keeps of a client, a parcel does what its command does in the client's own context.
-use Rattle.std.specs.Prelude.{◌≡◌, ℕ, Bool, true, false, ℤ, Some, slice_get, ◌+◌}
-use Rattle.std.specs.List.{AllByRecursion}
+use Rattle.std.specs.Prelude.{◌≡◌, ℕ, true, ℤ, Some, slice_get, ◌+◌}
 use Rattle.rc_base.specs.Pictures.{Picture}
-use Rattle.rc_base.specs.Formats.Commands.{IsCommand}
 use Rattle.rc_base.specs.Contexts.Context.{private_image}
 use Rattle.rc_base.specs.Contexts.Issue.{context_after}
 use Rattle.rc_base.specs.Drawing.PixelStep.{effect_step}
@@ -10,37 +8,13 @@ use Rattle.rc_base.specs.Drawing.Serial.{stored, pixel_step, textures_step}
 use Rattle.rc_base.specs.Drawing.Texel.{SharedTexels, shared_picture, sampled}
 use Rattle.rc_base.specs.Cluster.Parcels.{parcels_of, effect_by}
 use Rattle.rc_base.specs.declared.scene.Scene.{Scene}
-use Rattle.rc_base.specs.declared.state.Act.{Act}
-use Rattle.rc_base.specs.declared.state.Act.TheVariants as act
 use Rattle.rc_base.specs.declared.state.Parcel.{Parcel}
 use Rattle.rc_base.specs.declared.sync.Name.{Name}
 use Rattle.rc_base.specs.declared.window.Layout.{Layout}
 use Rattle.rc_base.specs.declared.window.Pixel.{Pixel}
 use Rattle.order_model.specs.Board.{Kept, IsKeptOf}
-
--- a parcel draws
-abbrev pub is_draw : Act → Bool
-is_draw (act.Draw block) = true
-is_draw (act.Clear mask) = false
-is_draw (act.Shared part) = false
-is_draw (act.Sync op) = false
-is_draw act.End = false
-
--- it draws or clears
-abbrev pub is_drawing : Act → Bool
-is_drawing (act.Draw block) = true
-is_drawing (act.Clear mask) = true
-is_drawing (act.Shared part) = false
-is_drawing (act.Sync op) = false
-is_drawing act.End = false
-
--- it is work: it draws, clears or writes a shared texture
-abbrev pub is_work : Act → Bool
-is_work (act.Draw block) = true
-is_work (act.Clear mask) = true
-is_work (act.Shared part) = true
-is_work (act.Sync op) = false
-is_work act.End = false
+use Rattle.tile_model.specs.Acts.{is_draw, is_drawing, is_work}
+use Rattle.tile_model.specs.Scenes.{IsInRange}
 
 -- the command of a client's parcel
 abbrev pub name_of : ℕ → Parcel → Name
@@ -56,10 +30,6 @@ pub record DrawsAlike (scene : Scene) (client : ℕ) (parcel : Parcel) (k : Kept
   pub pixel : (shared : SharedTexels) (x y : ℤ) (old : Pixel)
       → effect_step k.state k.image (shared_picture scene.decl.shared shared) (effect_by parcel.act) x y old ≡ pixel_step scene (name_of client parcel) shared x y old
   pub shared : (shared : SharedTexels) → stored scene.decl.shared (effect_by parcel.act) shared ≡ textures_step scene shared (name_of client parcel)
-
--- the fields of all commands are in their ranges
-abbrev pub IsInRange : Scene → Type 0
-IsInRange scene = AllByRecursion (AllByRecursion IsCommand) scene.streams
 
 -- What a tile keeps of a client after a parcel that is work, which is what the parcels up to that one told it, draws as the client's context does.
 abbrev pub LazyStateDrawsAlike : Type 0

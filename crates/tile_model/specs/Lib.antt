@@ -1,3 +1,5 @@
+pub mod Acts
+pub mod Scenes
 pub mod Items
 pub mod Lazy
 pub mod Givable

@@ -1,5 +1,5 @@
 use Rattle.tile_model.proofs.laws.lazy_state_draws_alike.Goals as goal
-use Rattle.tile_model.proofs.LazyDrawsAlike.{lazy_draws}
+use Rattle.tile_model.proofs.LazyStateDrawsAlike.{lazy_draws}
 
 pub returns : goal.returns
 returns c = lazy_draws

@@ -24,7 +24,7 @@ use Rattle.gl_context.proofs.OneElement.{begins_with_defaults}
 use Rattle.order_model.proofs.StandsInLists.{in_left}
 use Rattle.tile_model.proofs.NextInLists.{in_right}
 use Rattle.tile_model.proofs.ParcelsAreJobs.{parcels_given}
-use Rattle.tile_model.proofs.ParcelsOfCommands.{sets_by, command_makes}
+use Rattle.tile_model.proofs.ParcelsComeFromCommands.{sets_by, command_makes}
 
 -- ---- one parcel more
 

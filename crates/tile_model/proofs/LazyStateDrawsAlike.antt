@@ -23,12 +23,14 @@ use Rattle.rc_base.specs.declared.window.Pixel.{Pixel}
 use Rattle.order_model.specs.Board.{Kept, IsKeptOf, picture_in}
 use Rattle.gl_context.specs.Valid.{IsValidContext}
 use Rattle.gl_context.proofs.ValidContexts.{valid}
-use Rattle.tile_model.specs.Lazy.{is_draw, is_drawing, is_work, DrawsAlike, IsInRange}
-use Rattle.tile_model.proofs.EqualValues.{same_is, scalar_value, value_is_scalar, state_is}
-use Rattle.tile_model.proofs.ImagesTold.{picture_of_value, same_value_images, none_before}
+use Rattle.tile_model.specs.Acts.{is_draw, is_drawing, is_work}
+use Rattle.tile_model.specs.Scenes.{IsInRange}
+use Rattle.tile_model.specs.Lazy.{DrawsAlike}
+use Rattle.tile_model.proofs.SameValuesAreEqual.{same_is, scalar_value, value_is_scalar, state_is}
+use Rattle.tile_model.proofs.ValuesTellImages.{picture_of_value, same_value_images, none_before}
 use Rattle.tile_model.proofs.NextInLists.{next_is, take_more}
-use Rattle.tile_model.proofs.ParcelsOfCommands.{sets_by, command_makes, command_of}
-use Rattle.tile_model.proofs.ToldValues.{examined_told, scalar_examined, sampled_examined, parcel_told, parcel_was_told, was_told}
+use Rattle.tile_model.proofs.ParcelsComeFromCommands.{sets_by, command_makes, command_of}
+use Rattle.tile_model.proofs.ParcelsTellValues.{examined_told, scalar_examined, sampled_examined, parcel_told, parcel_was_told, was_told}
 
 -- ---- what a parcel leaves told
 

@@ -35,8 +35,8 @@ use Rattle.order_model.proofs.SceneListsAreWellFormed.{scene_client_count}
 use Rattle.order_model.proofs.StandsInLists.{in_append}
 use Rattle.order_model.proofs.StepsArePermitted.{member_place, performed_past}
 use Rattle.tile_model.proofs.EntriesComeDue.{HasReached, reached_on}
-use Rattle.tile_model.proofs.IdleNames.{works_on}
-use Rattle.tile_model.proofs.JobsLeft.{IsLeft, jobs_by, jobs_from, next_work, left_first, left_on}
+use Rattle.tile_model.proofs.IdleNamesChangeNothing.{works_on}
+use Rattle.tile_model.proofs.JobsAreLeftBehindNames.{IsLeft, jobs_by, jobs_from, next_work, left_first, left_on}
 use Rattle.tile_model.proofs.LogsGoOn.{GoesOn}
 
 -- ---- names of an order
@@ -79,16 +79,6 @@ all_counted m meant places (suc n) o le h = elim (cases_Bool (meant n)) [
 ]
 
 -- ---- accepted Swaps
-
--- a stretch of commands without one
-swaps_none : (scene : Scene) (c a n : ℕ) → ((k : ℕ) → a ≤ k → k < a + n → is_swap_effect (effect_at scene c k) ≡ false) → accepted_swaps scene c (a + n) ≡ accepted_swaps scene c a
-unfolding accepted_swaps
-swaps_none scene c a zero h = let e : a + 0 ≡ a = omega arith in ap (accepted_swaps scene c) e
-swaps_none scene c a (suc n) h =
-    let e : a + suc n ≡ suc (a + n) = omega arith in
-    let k = swaps_none scene c a n (λ k low high. h k low (omega arith)) in
-    let f = h (a + n) (omega arith) (omega arith) in
-    ap (accepted_swaps scene c) e ∙ ap (λ (b : Bool). accepted_swaps scene c (a + n) + (if b then 1 else 0)) f ∙ (let z : accepted_swaps scene c (a + n) + 0 ≡ accepted_swaps scene c a = omega arith in z)
 
 -- they never get fewer
 pub swaps_rise : (scene : Scene) (c a n : ℕ) → accepted_swaps scene c a ≤ accepted_swaps scene c (a + n)

@@ -84,7 +84,7 @@ pub idle_textures : (scene : Scene) (l : Layout) (tile : ℕ) (n : Name) (shared
 unfolding textures_step
 idle_textures scene l tile n shared idle = textures_stay l tile (context_after scene n.client n.place) (effect_at scene n.client n.place) scene.decl.shared shared idle
 
-pub idle_pixel : BoxesHold → (scene : Scene) (l : Layout) (tile : ℕ) (n : Name) (shared : SharedTexels) (x y : ℕ) (old : Pixel) → IsIdle scene l tile n → tile_pixels l tile x y ≡ true
+idle_pixel : BoxesHold → (scene : Scene) (l : Layout) (tile : ℕ) (n : Name) (shared : SharedTexels) (x y : ℕ) (old : Pixel) → IsIdle scene l tile n → tile_pixels l tile x y ≡ true
     → pixel_step scene n shared (pos x) (pos y) old ≡ old
 unfolding pixel_step
 idle_pixel box scene l tile n shared x y old idle has =

@@ -29,7 +29,7 @@ use Rattle.order_model.proofs.OrdersBySteps.{behind, passed_by, spread}
 use Rattle.order_model.proofs.RecordedOrdersArePermitted.{jobs_without}
 use Rattle.order_model.proofs.SceneJobsAreSent.{jobs_are}
 use Rattle.order_model.proofs.StepsArePermitted.{member_place, performed_past}
-use Rattle.tile_model.proofs.IdleNames.{works_on, IsIdle}
+use Rattle.tile_model.proofs.IdleNamesChangeNothing.{works_on, IsIdle}
 use Rattle.tile_model.proofs.LogsGoOn.{GoesOn}
 
 -- what one command gives a tile
@@ -78,7 +78,7 @@ before_is scene l client tile (suc n) =
     ∙ sym (from_push scene l client tile 0 n)
 
 -- all of them
-pub all_from : (scene : Scene) (l : Layout) (client tile : ℕ) → jobs_of scene l client tile ≡ jobs_from scene l client tile 0 (length (stream_of scene client))
+all_from : (scene : Scene) (l : Layout) (client tile : ℕ) → jobs_of scene l client tile ≡ jobs_from scene l client tile 0 (length (stream_of scene client))
 all_from scene l client tile = jobs_are scene l client tile ∙ before_is scene l client tile (length (stream_of scene client))
 
 -- ---- the first of them
@@ -127,7 +127,7 @@ first_later scene l client tile a n place rest here h = record {
   others = let g : a + 1 + n - (place + 1) ≡ a + suc n - (place + 1) = omega arith in h.others ∙ ap (jobs_from scene l client tile (place + 1)) g;
 }
 
-pub first_work : (scene : Scene) (l : Layout) (client tile a n place : ℕ) (rest : List Job) → jobs_from scene l client tile a n ≡ Work place ∷ rest → IsFirst scene l client tile a n place rest
+first_work : (scene : Scene) (l : Layout) (client tile a n place : ℕ) (rest : List Job) → jobs_from scene l client tile a n ≡ Work place ∷ rest → IsFirst scene l client tile a n place rest
 first_work scene l client tile a zero place rest e = absurd cc
 first_work scene l client tile a (suc n) place rest e = elim (gives_one scene l client tile a) [
   | GivesNone j idle ↦ first_later scene l client tile a n place rest idle (first_work scene l client tile (a + 1) n place rest (sym (ap (λ js. js ++ jobs_from scene l client tile (a + 1) n) j) ∙ e))
@@ -136,7 +136,7 @@ first_work scene l client tile a (suc n) place rest e = elim (gives_one scene l 
 ]
 
 -- of an operation: its own name is idle too
-pub first_wait : (scene : Scene) (l : Layout) (client tile a n place : ℕ) (rest : List Job) → jobs_from scene l client tile a n ≡ Wait place ∷ rest
+first_wait : (scene : Scene) (l : Layout) (client tile a n place : ℕ) (rest : List Job) → jobs_from scene l client tile a n ≡ Wait place ∷ rest
     → IsFirst scene l client tile a n place rest × IsIdle scene l tile (record { client = client; place = place })
 first_wait scene l client tile a zero place rest e = absurd cc
 first_wait scene l client tile a (suc n) place rest e = elim (gives_one scene l client tile a) [
@@ -178,7 +178,7 @@ left_behind scene l c tile place order j jobs rest e h =
     let g : names_in c order + (length (stream_of scene c) - names_in c order) - (place + 1) ≡ length (stream_of scene c) - (place + 1) = omega arith in
     ap (drop 1) e ∙ h.others ∙ ap (jobs_from scene l c tile (place + 1)) g ∙ ap (λ k. jobs_from scene l c tile k (length (stream_of scene c) - k)) (sym f)
 
-pub left_took : (scene : Scene) (l : Layout) (tile : ℕ) (order : List Name) (jobs : ℕ → List Job) (c place : ℕ) → IsLeft scene l tile order jobs → IsNext (jobs c) (Work place)
+left_took : (scene : Scene) (l : Layout) (tile : ℕ) (order : List Name) (jobs : ℕ → List Job) (c place : ℕ) → IsLeft scene l tile order jobs → IsNext (jobs c) (Work place)
     → IsLeft scene l tile (added c (place + 1) order) (without (λ d. d == c) jobs)
 left_took scene l tile order jobs c place h n d =
     let tracks = stretch_tracks c (place + 1) order (λ k. names_in k order) (λ k. refl) d in
@@ -195,7 +195,7 @@ left_took scene l tile order jobs c place h n d =
           rw f (h d ∙ ap (λ k. jobs_from scene l d tile k (length (stream_of scene d) - k)) (sym tracks'))
     ]
 
-pub left_performed : (scene : Scene) (l : Layout) (tile : ℕ) (order : List Name) (jobs : ℕ → List Job) (syncs : SyncLists) (s : SyncState) (e : Entry) → IsLeft scene l tile order jobs → AreOfClients syncs s → IsLawful syncs s e
+left_performed : (scene : Scene) (l : Layout) (tile : ℕ) (order : List Name) (jobs : ℕ → List Job) (syncs : SyncLists) (s : SyncState) (e : Entry) → IsLeft scene l tile order jobs → AreOfClients syncs s → IsLawful syncs s e
     → ((c place : ℕ) → (entry_at syncs s e).at c ≡ Some place → IsNext (jobs c) (Wait place))
     → IsLeft scene l tile (performed syncs s e order) (without (λ c. is_some ((entry_at syncs s e).at c)) jobs)
 left_performed scene l tile order jobs syncs s e h none lawful next d =

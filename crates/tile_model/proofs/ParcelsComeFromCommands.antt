@@ -13,7 +13,7 @@ use Rattle.rc_base.specs.declared.state.ElementSet.{ElementSet}
 use Rattle.rc_base.specs.declared.state.ElementValue.{ElementValue}
 use Rattle.rc_base.specs.declared.state.Parcel.{Parcel}
 use Rattle.rc_base.specs.declared.window.Layout.{Layout}
-use Rattle.tile_model.specs.Lazy.{is_work}
+use Rattle.tile_model.specs.Acts.{is_work}
 use Rattle.tile_model.proofs.NextInLists.{next_is}
 use Rattle.tile_model.proofs.ParcelsAreJobs.{few_given}
 
