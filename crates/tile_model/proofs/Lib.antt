@@ -22,3 +22,4 @@ mod LogsCountSwaps
 mod FramesStay
 mod SwapsShowFrames
 mod LimitsGiveSides
+mod LogsReplayOverWhatWasTaken

@@ -1,5 +1,5 @@
 -- Laws of tiles.
-use Rattle.std.specs.Prelude.{◌≡◌, ℕ, ◌+◌, ◌<◌, ◌≤◌, ◌∷◌, ◌++◌, Bool, true, List, [], length, None, Some, slice_get, pos}
+use Rattle.std.specs.Prelude.{◌≡◌, ℕ, ◌+◌, ◌<◌, ◌≤◌, ◌∷◌, ◌++◌, Bool, true, List, [], length, None, Some, slice_get, take, pos}
 use Rattle.std.specs.List.{AllByRecursion}
 use Rattle.rc_base.specs.Formats.Limits.{limit_of}
 use Rattle.rc_base.specs.Formats.Spelling.{IsDecl}
@@ -10,6 +10,7 @@ use Rattle.rc_base.specs.Drawing.Texel.{SharedTexels}
 use Rattle.rc_base.specs.Cluster.Parcels.{parcels_at, parcels_before, parcels_of}
 use Rattle.rc_base.specs.declared.state.Parcel.{Parcel}
 use Rattle.rc_base.specs.declared.sync.Name.{Name}
+use Rattle.rc_base.specs.declared.sync.SyncLists.{SyncLists}
 use Rattle.rc_base.specs.declared.window.Pixel.{Pixel}
 use Rattle.rc_base.specs.Cluster.Tiles.{tile_pixels}
 use Rattle.rc_base.specs.Orders.Journal.{IsLegal, start}
@@ -19,7 +20,7 @@ use Rattle.rc_base.specs.declared.scene.Scene.{Scene}
 use Rattle.rc_base.specs.declared.sync.Entry.{Entry}
 use Rattle.rc_base.specs.declared.window.Layout.{Layout}
 use Rattle.rc_base.specs.declared.sync.Entry.TheVariants.{Swap}
-use Rattle.order_model.specs.Log.{Replays, logged, recorded_order}
+use Rattle.order_model.specs.Log.{Job, Replays, logged, recorded_order}
 use Rattle.order_model.specs.declared.record.LogEntry.{LogEntry}
 use Rattle.order_model.specs.declared.record.LogEntry.TheVariants.{Performed}
 use Rattle.order_model.specs.Board.{Board, StandsFor}
@@ -103,3 +104,9 @@ ParcelsAreFew = (scene : Scene) (l : Layout) (client tile : ℕ) → length (par
 -- the shared textures of a scene within the limits have sides above 0
 abbrev pub LimitsGiveSides : Type 0
 LimitsGiveSides = (scene : Scene) → IsDecl scene.decl → limit_of scene ≡ None → HasSides scene.decl
+
+-- the log of a tile that is under way replays over the jobs that it took of each client and the entries that it learnt
+abbrev pub LogsReplayOverWhatWasTaken : Type 0
+LogsReplayOverWhatWasTaken =
+    (syncs : SyncLists) (journal : List Entry) (jobs : ℕ → List Job) (p : Progress) → IsUnderWay syncs journal jobs p
+    → Replays syncs p.learnt (λ client. take (p.taken client) (jobs client)) p.log

@@ -1,6 +1,6 @@
 //! Laws of tiles. Each function's contract is a law, and its body is empty: there is nothing to compute.
 ghost use Rattle.tile_model.specs.Lazy.{LazyStateDrawsAlike};
-ghost use Rattle.tile_model.specs.Laws.{ItemsKeepProgress, LimitsGiveSides, NamesWithoutParcelsChangeNothing, NewTilesStand, ParcelsAreFew, ParcelsAreGivable, StepsStand, SwapsShowAddedNames, SwapsShowFrames};
+ghost use Rattle.tile_model.specs.Laws.{ItemsKeepProgress, LimitsGiveSides, LogsReplayOverWhatWasTaken, NamesWithoutParcelsChangeNothing, NewTilesStand, ParcelsAreFew, ParcelsAreGivable, StepsStand, SwapsShowAddedNames, SwapsShowFrames};
 
 use bounds_bucket::touched_pixels_lie_in_the_box;
 
@@ -9,9 +9,11 @@ pub fn new_tiles_stand()
     ensures { NewTilesStand }
 {}
 
-/// A tile that is under way stays so with every item that is awaited, and that is the next one of its client or of the journal.
+/// A tile that is under way stays so with every item that is awaited, and that is the next one of its client or of the journal. Its log replays over
+/// what it took and learnt.
 pub fn items_keep_progress()
-    ensures { ItemsKeepProgress }
+    ensures items { ItemsKeepProgress }
+    ensures log { LogsReplayOverWhatWasTaken }
 {}
 
 /// Names that give a tile no parcel leave each of its pixels, and all shared textures, as they were.
