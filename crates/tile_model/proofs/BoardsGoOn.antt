@@ -20,7 +20,7 @@ use Rattle.order_model.specs.Board.{Kept, Board, IsKeptOf, IsBoardOf, picture_in
 use Rattle.order_model.specs.Log.{Job, IsNext}
 use Rattle.order_model.specs.Log.Job.{Work}
 use Rattle.order_model.proofs.OneFoldOfTextures.{canvas_textures}
-use Rattle.tile_model.specs.Carrying.{image_by, HasSets, IsCarriedOut}
+use Rattle.tile_model.specs.Boards.{image_by, HasSets, IsCarriedOut}
 use Rattle.tile_model.specs.Items.{with_at}
 use Rattle.tile_model.specs.Lazy.{DrawsAlike, name_of}
 use Rattle.tile_model.proofs.IdleNamesChangeNothing.{BoxesHold, paint, idle_paint, idle_textures, Stays, stays_names}

@@ -23,3 +23,4 @@ mod FramesStay
 mod SwapsShowFrames
 mod LimitsGiveSides
 mod LogsReplayOverWhatWasTaken
+mod EntriesHaveClients

@@ -22,7 +22,7 @@ use Rattle.order_model.specs.declared.record.LogEntry.{LogEntry}
 use Rattle.order_model.specs.declared.record.LogEntry.TheVariants.{Took, Performed}
 use Rattle.order_model.proofs.LogsLeaveJobs.{jobs_left}
 use Rattle.order_model.proofs.SceneJobsAreSent.{scene_jobs_are_sent}
-use Rattle.tile_model.specs.Carrying.{IsCarriedOut, IsDrawn}
+use Rattle.tile_model.specs.Boards.{IsCarriedOut, IsDrawn}
 use Rattle.tile_model.specs.Givable.{is_givable}
 use Rattle.tile_model.specs.Items.{Item, with_at, after_act, after_item, IsAwaited, IsItemOf}
 use Rattle.tile_model.specs.Items.Item.{Nothing, Due, Granted, NoMore, Sent}

@@ -1,5 +1,5 @@
 -- What a step of a tile does, and what it makes of the tile's progress.
-use Rattle.std.specs.Prelude.{◌≡◌, ℕ, ◌+◌, ◌<◌, ◌==◌, true, false, cond, List, [], ◌∷◌, ◌++◌, length, take, Some, slice_get}
+use Rattle.std.specs.Prelude.{Bool, ◌≡◌, ℕ, ◌+◌, ◌^◌, ◌<◌, ◌==◌, nat_lt, true, false, cond, List, [], ◌∷◌, ◌++◌, length, take, Some, slice_get}
 use Rattle.rc_base.specs.Cluster.Parcels.{parcels_of}
 use Rattle.rc_base.specs.Orders.Journal.{is_member}
 use Rattle.rc_base.specs.declared.scene.Scene.{Scene}
@@ -7,6 +7,7 @@ use Rattle.rc_base.specs.declared.state.Act.{Act}
 use Rattle.rc_base.specs.declared.state.Act.TheVariants as act
 use Rattle.rc_base.specs.declared.state.Parcel.{Parcel}
 use Rattle.rc_base.specs.declared.sync.Entry.{Entry}
+use Rattle.rc_base.specs.declared.sync.Entry.TheVariants.{Meet, Swap, Give, Take}
 use Rattle.rc_base.specs.declared.window.Layout.{Layout}
 use Rattle.order_model.specs.Report.{frame_count}
 use Rattle.order_model.specs.Standing.{Progress, performed_in, is_listening, is_asked}
@@ -86,6 +87,13 @@ IsItemOf scene l tile journal p (Due e) = Unit {0}
 IsItemOf scene l tile journal p (Granted e) = slice_get journal (length p.learnt) ≡ Some e
 IsItemOf scene l tile journal p NoMore = Unit {0}
 IsItemOf scene l tile journal p (Sent client parcel) = slice_get (parcels_of scene l client tile) (p.taken client) ≡ Some parcel
+
+-- all members of an entry are clients, of n
+abbrev pub has_clients : ℕ → Entry → Bool
+has_clients n (Meet barrier members) = nat_lt members (2 ^ n)
+has_clients n Swap = true
+has_clients n (Give semaphore client) = nat_lt client n
+has_clients n (Take semaphore client) = nat_lt client n
 
 -- ---- frames
 

@@ -3,5 +3,5 @@ pub mod Scenes
 pub mod Items
 pub mod Lazy
 pub mod Givable
-pub mod Carrying
+pub mod Boards
 pub mod Laws

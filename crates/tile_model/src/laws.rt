@@ -1,6 +1,6 @@
 //! Laws of tiles. Each function's contract is a law, and its body is empty: there is nothing to compute.
 ghost use Rattle.tile_model.specs.Lazy.{LazyStateDrawsAlike};
-ghost use Rattle.tile_model.specs.Laws.{ItemsKeepProgress, LimitsGiveSides, LogsReplayOverWhatWasTaken, NamesWithoutParcelsChangeNothing, NewTilesStand, ParcelsAreFew, ParcelsAreGivable, StepsStand, SwapsShowAddedNames, SwapsShowFrames};
+ghost use Rattle.tile_model.specs.Laws.{ItemsKeepProgress, LegalEntriesHaveClients, LimitsGiveSides, LogsReplayOverWhatWasTaken, MembersAreClients, NamesWithoutParcelsChangeNothing, NewTilesStand, ParcelsAreFew, ParcelsAreGivable, StepsStand, SwapsShowAddedNames, SwapsShowFrames};
 
 use bounds_bucket::touched_pixels_lie_in_the_box;
 
@@ -52,3 +52,9 @@ pub fn swaps_show_frames()
 {
     touched_pixels_lie_in_the_box();
 }
+
+/// The members of each entry of a legal journal are clients, and `has_clients` tells entries of which this holds.
+pub fn entries_have_clients()
+    ensures members { MembersAreClients }
+    ensures legal { LegalEntriesHaveClients }
+{}

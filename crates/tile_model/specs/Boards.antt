@@ -1,9 +1,10 @@
--- What a tile's board is after an item.
-use Rattle.std.specs.Prelude.{◌≡◌, ℕ, ◌<◌, ◌==◌, ◌&&◌, not, Bool, true, false, List, fold, Option, if◌then◌else◌, pos, slice_index_or}
+-- What a tile's board is at first, and after an item.
+use Rattle.std.specs.Prelude.{◌≡◌, ℕ, ◌<◌, ◌==◌, ◌&&◌, not, Bool, true, false, List, [], fold, Option, None, if◌then◌else◌, pos, slice_index_or}
 use Rattle.rc_base.specs.Pictures.{Picture}
 use Rattle.rc_base.specs.Contexts.Elements.{values_of, scalar_count, image_element, no_image}
 use Rattle.rc_base.specs.Drawing.PixelStep.{effect_step}
-use Rattle.rc_base.specs.Drawing.Serial.{stored}
+use Rattle.rc_base.specs.Contexts.Context.{default_state}
+use Rattle.rc_base.specs.Drawing.Serial.{stored, blank_textures, blank_pixel}
 use Rattle.rc_base.specs.Drawing.Texel.{shared_picture}
 use Rattle.rc_base.specs.Cluster.Parcels.{told_by, effect_by}
 use Rattle.rc_base.specs.Cluster.Tiles.{tile_pixels}
@@ -17,6 +18,15 @@ use Rattle.tile_model.specs.Givable.{is_givable}
 use Rattle.tile_model.specs.Items.{Item}
 use Rattle.tile_model.specs.Items.Item.{Nothing, Due, Granted, NoMore, Sent}
 use Rattle.tile_model.specs.Acts.{is_work}
+
+-- ---- a new board
+
+-- the defaults of each client and no images, textures of zeros, and a blank buffer
+pub record IsNewBoard (decl : Decl) (l : Layout) (tile : ℕ) (b : Board) : Type 0 where
+  pub state : (client : ℕ) → (b.kept client).state ≡ default_state decl
+  pub image : (client name : ℕ) → 0 < name → (b.kept client).image name ≡ None
+  pub shared : (name : ℕ) → b.shared name ≡ blank_textures (record { decl = decl; streams = [] }) name
+  pub pixel : (x y : ℕ) → tile_pixels l tile x y ≡ true → b.pixel (pos x) (pos y) ≡ blank_pixel
 
 -- ---- sets
 
