@@ -50,8 +50,8 @@ pub record IsCarriedOut (decl : Decl) (l : Layout) (client tile : ℕ) (parcel :
   pub shared : (name : ℕ) → now.shared name ≡ stored decl.shared (effect_by parcel.act) before.shared name
   pub pixel : (x y : ℕ) → tile_pixels l tile x y ≡ true
       → now.pixel (pos x) (pos y)
-      ≡ effect_step (now.kept client).state (now.kept client).image (shared_picture decl.shared before.shared) (effect_by parcel.act) (pos x) (pos y)
-      (before.pixel (pos x) (pos y))
+      ≡ effect_step (now.kept client).state (now.kept client).image (shared_picture decl.shared before.shared) (effect_by parcel.act)
+      (pos x) (pos y) (before.pixel (pos x) (pos y))
 
 -- the parcel is work of a client that isn't held, and one that a scene can give
 abbrev pub is_carried_out : Decl → Progress → ℕ → Parcel → Bool

@@ -45,11 +45,13 @@ is_value_of d e (val.Code code) =
     e == 7 && has_codes (cmd.CullFace code) || (e == 8 && has_codes (cmd.FrontFace code) || e == 12 && has_codes (cmd.DepthFunc code))
 is_value_of d e (val.Pair pair) =
     e == 10 && has_codes (cmd.AlphaFunc (slice_index pair 0) (slice_index pair 1))
-    || (e == 15 && has_codes (cmd.BlendFunc (slice_index pair 0) (slice_index pair 1)) || e == 20 && is_binding d (slice_index pair 0) (slice_index pair 1))
+    || (e == 15 && has_codes (cmd.BlendFunc (slice_index pair 0) (slice_index pair 1))
+    || e == 20 && is_binding d (slice_index pair 0) (slice_index pair 1))
 is_value_of d e (val.Mask mask) = e == 16
 is_value_of d e (val.Color color) = e == 17
 is_value_of d e (val.Depth depth) = e == 18 && is_depth depth
-is_value_of d e (val.Mode mode) = e == 21 && (has_codes (cmd.TexEnv (slice_index mode 0)) && has_codes (cmd.TexWrap (slice_index mode 1) (slice_index mode 2)))
+is_value_of d e (val.Mode mode) =
+    e == 21 && (has_codes (cmd.TexEnv (slice_index mode 0)) && has_codes (cmd.TexWrap (slice_index mode 1) (slice_index mode 2)))
 is_value_of d e (val.Image edit w h texels) = (nat_le scalar_count e && nat_lt e element_count) && is_image edit w h texels
 
 -- ---- acts

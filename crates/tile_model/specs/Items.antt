@@ -75,7 +75,8 @@ after_item p (Sent client parcel) = after_act p client parcel.act parcel.place
 -- performed, until no more comes; and parcels of clients that are neither held nor closed, once nothing will be performed any more of held ones too.
 abbrev pub IsAwaited : Progress → Item → Type 0
 IsAwaited p Nothing = Unit {0}
-IsAwaited p (Due e) = (slice_get p.learnt (performed_in p.log) ≡ Some e) × ((client : ℕ) → is_member p.count e client ≡ true → p.held client ≡ true)
+IsAwaited p (Due e) =
+    (slice_get p.learnt (performed_in p.log) ≡ Some e) × ((client : ℕ) → is_member p.count e client ≡ true → p.held client ≡ true)
 IsAwaited p (Granted e) = is_listening p ≡ true
 IsAwaited p NoMore = is_listening p ≡ true
 IsAwaited p (Sent client parcel) = (client < p.count) × (is_asked p client ≡ true)

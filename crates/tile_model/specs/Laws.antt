@@ -36,7 +36,8 @@ use Rattle.tile_model.specs.Items.Item.{Due}
 abbrev pub ItemsKeepProgress : Type 0
 ItemsKeepProgress =
     (scene : Scene) (l : Layout) (tile : ℕ) (journal : List Entry) (item : Item) (p : Progress) → IsLegal (sync_lists_of scene) journal
-    → IsUnderWay (sync_lists_of scene) journal (λ client. jobs_of scene l client tile) p → IsAwaited p item → IsItemOf scene l tile journal p item
+    → IsUnderWay (sync_lists_of scene) journal (λ client. jobs_of scene l client tile) p → IsAwaited p item
+    → IsItemOf scene l tile journal p item
     → IsUnderWay (sync_lists_of scene) journal (λ client. jobs_of scene l client tile) (after_item p item)
 
 -- the log of a tile that is under way replays over the jobs that it took of each client and the entries that it learnt
@@ -91,30 +92,32 @@ NewTilesStand =
     (scene : Scene) (l : Layout) (tile : ℕ) (journal : List Entry) (b : Board) → IsNewBoard scene.decl l tile b
     → StandsFor scene l tile journal (new_progress (length scene.streams)) b
 
--- A tile that stands for such a scene and a legal journal stands for them after every item that is awaited and that is theirs, where its board is what
--- the item makes of it.
+-- A tile that stands for such a scene and a legal journal stands for them after every item that is awaited and that is theirs, where its board
+-- is what the item makes of it.
 abbrev pub StepsStand : Type 0
 StepsStand =
-    (scene : Scene) (l : Layout) (tile : ℕ) (journal : List Entry) (item : Item) (p : Progress) (before now : Board) → IsInRange scene → HasSides scene.decl
-    → IsLegal (sync_lists_of scene) journal → StandsFor scene l tile journal p before → IsAwaited p item → IsItemOf scene l tile journal p item
+    (scene : Scene) (l : Layout) (tile : ℕ) (journal : List Entry) (item : Item) (p : Progress) (before now : Board) → IsInRange scene
+    → HasSides scene.decl → IsLegal (sync_lists_of scene) journal → StandsFor scene l tile journal p before
+    → IsAwaited p item → IsItemOf scene l tile journal p item
     → IsDrawn scene.decl l tile p item before now → StandsFor scene l tile journal (after_item p item) now
 
 -- ---- frames
 
--- A tile that performs a Swap has on its board, at each of its pixels, the frame of that number, whatever its log goes on with, in this order of the names
--- that the longer log comes to.
+-- A tile that performs a Swap has on its board, at each of its pixels, the frame of that number, whatever its log goes on with: in an order that
+-- the longer log comes to,
 abbrev pub ShowFrames : (SyncLists → List Entry → List LogEntry → List Name) → Type 0
 ShowFrames order =
-    (scene : Scene) (l : Layout) (tile : ℕ) (journal : List Entry) (p : Progress) (b : Board) (more : List LogEntry) → IsLegal (sync_lists_of scene) journal
-    → StandsFor scene l tile journal p b → IsAwaited p (Due Swap)
+    (scene : Scene) (l : Layout) (tile : ℕ) (journal : List Entry) (p : Progress) (b : Board) (more : List LogEntry)
+    → IsLegal (sync_lists_of scene) journal → StandsFor scene l tile journal p b → IsAwaited p (Due Swap)
     → Replays (sync_lists_of scene) journal (λ client. jobs_of scene l client tile) (p.log ++ Performed ∷ more)
     → (x y : ℕ) → tile_pixels l tile x y ≡ true
-    → b.pixel (pos x) (pos y) ≡ frame_pixel scene (order (sync_lists_of scene) journal (p.log ++ Performed ∷ more)) (shown_frames p + 1) (pos x) (pos y)
+    → b.pixel (pos x) (pos y)
+    ≡ frame_pixel scene (order (sync_lists_of scene) journal (p.log ++ Performed ∷ more)) (shown_frames p + 1) (pos x) (pos y)
 
--- the order of the names that it has added, with which it may go on
+-- that of the names that it has added by then
 abbrev pub SwapsShowAddedNames : Type 0
 SwapsShowAddedNames = ShowFrames (λ syncs journal log. logged syncs (start syncs) journal log [])
 
--- and the whole order that it records
+-- and the whole one that it records
 abbrev pub SwapsShowFrames : Type 0
 SwapsShowFrames = ShowFrames recorded_order

@@ -28,8 +28,10 @@ pub record DrawsAlike (scene : Scene) (client : ℕ) (parcel : Parcel) (k : Kept
       → sampled k.state k.image shareds
       ≡ (let context = context_after scene client parcel.place in sampled context.state (private_image context) shareds)
   pub pixel : (shared : SharedTexels) (x y : ℤ) (old : Pixel)
-      → effect_step k.state k.image (shared_picture scene.decl.shared shared) (effect_by parcel.act) x y old ≡ pixel_step scene (name_of client parcel) shared x y old
-  pub shared : (shared : SharedTexels) → stored scene.decl.shared (effect_by parcel.act) shared ≡ textures_step scene shared (name_of client parcel)
+      → effect_step k.state k.image (shared_picture scene.decl.shared shared) (effect_by parcel.act) x y old
+      ≡ pixel_step scene (name_of client parcel) shared x y old
+  pub shared : (shared : SharedTexels)
+      → stored scene.decl.shared (effect_by parcel.act) shared ≡ textures_step scene shared (name_of client parcel)
 
 -- What a tile keeps of a client after a parcel that is work, which is what the parcels up to that one told it, draws as the client's context does.
 abbrev pub LazyStateDrawsAlike : Type 0

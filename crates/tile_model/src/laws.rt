@@ -30,7 +30,8 @@ pub fn lazy_state_draws_alike()
 {}
 
 /// Every parcel of a scene is one that a scene can give: each of its values is one that its element can have, and a part of a shared texture lies
-/// inside it. A client gives a tile at most one parcel more than it has commands.
+/// inside it. What this asks of the declared textures holds of every scene within the limits. A client gives a tile at most one parcel more than
+/// it has commands.
 pub fn parcels_are_givable()
     ensures each { ParcelsAreGivable }
     ensures sides { LimitsGiveSides }
