@@ -1,0 +1,57 @@
+-- What is kept of a core is what its commands gave so far.
+use Rattle.std.proofs.Common.{◌≡◌, ◌∙◌, ℕ, zero, suc, ◌<◌, ◌≤◌, false, List, [], ◌∷◌, ◌++◌, length, refl, sym, ap, arith}
+use Rattle.std.specs.Prelude.{slice_index_or}
+use Rattle.rc_base.specs.Contexts.Context.{ClientContext}
+use Rattle.rc_base.specs.Contexts.Issue.{stream_of, context_after}
+use Rattle.rc_base.specs.Cluster.Sending.{Sending, ToManager, to_tiles}
+use Rattle.rc_base.specs.Cluster.Parcels.{end_parcel}
+use Rattle.rc_base.specs.declared.sync.Request.TheVariants as request
+use Rattle.rc_base.specs.declared.cluster.Tally.{Tally}
+use Rattle.rc_base.specs.declared.command.Command.{Command}
+use Rattle.rc_base.specs.declared.scene.Scene.{Scene}
+use Rattle.rc_base.specs.declared.window.Layout.{Layout}
+use Rattle.client_issue.specs.Sequence.{scene_of, left_of, items_of}
+use Rattle.client_issue.specs.Cores.{IsClient, IsClientOf, left_in, ends_from, no_tally, tally_of_tile}
+use Rattle.client_issue.specs.Kept.{IsKept}
+use Rattle.client_issue.specs.declared.client.ClientCore.{ClientCore}
+use Rattle.client_issue.specs.declared.client.ClientKept.{ClientKept}
+use Rattle.client_issue.proofs.Firsts.{same_waits, same_contexts, ends_are}
+
+right_nil : (xs ys : List Sending) → xs ++ ys ≡ [] → ys ≡ []
+right_nil [] ys h = h
+right_nil (x ∷ xs) ys h = absurd cc
+
+some_end : (l : Layout) (n k : ℕ) → ends_from l n k ≡ [] → 0 < k
+some_end l n zero h =
+    let last : (ToManager request.End ∷ []) ≡ [] = right_nil (to_tiles l (λ tile. end_parcel n ∷ [])) (ToManager request.End ∷ []) (sym (ends_are l n) ∙ h) in
+    absurd cc
+some_end l n (suc k) h = omega arith
+
+ends_gone : (core : ClientCore) → left_in core ≡ [] → 0 < core.ends
+unfolding left_in
+ends_gone core h =
+    some_end core.sender.layout (length core.sender.stream) core.ends
+    (right_nil (left_of core.sender) (ends_from core.sender.layout (length core.sender.stream) core.ends)
+    (right_nil (items_of core.ready) (left_of core.sender ++ ends_from core.sender.layout (length core.sender.stream) core.ends) h))
+
+tallies_kept : (core : ClientCore) (kept : ClientKept) (tile : ℕ) → kept.tallies ≡ core.tallies.items → slice_index_or kept.tallies tile no_tally ≡ tally_of_tile core tile
+unfolding tally_of_tile
+tallies_kept core kept tile e = ap (λ (ts : List Tally). slice_index_or ts tile no_tally) e
+
+pub kept_is : (core : ClientCore) (scene : Scene) (client : ℕ) (l : Layout) (kept : ClientKept) → IsClient core → IsClientOf core scene client l → core.short ≡ false
+    → kept.syncs.ops ≡ core.sender.ops → kept.syncs.length ≡ length core.sender.stream → kept.faults ≡ core.sender.context.faults → kept.tallies ≡ core.tallies.items
+    → IsKept core scene client kept
+kept_is core scene client l kept h whose going ops size faults tallies =
+    let sending = h.sending going in
+    let n = core.sender.issued in
+    let within = sending.issued in
+    let same : length core.sender.stream ≡ length (stream_of scene client) = ap (λ (cs : List Command). length cs) whose.stream in
+    record {
+      issued = n;
+      within = omega (arith, within, same);
+      ops = ops ∙ sending.ops ∙ same_waits (scene_of core.sender) scene 0 client whose.decl whose.stream n;
+      length_is = size ∙ same;
+      faults = faults ∙ ap (λ (x : ClientContext). x.faults) (sending.context ∙ same_contexts (scene_of core.sender) scene 0 client whose.decl whose.stream n);
+      tallies = λ tile. tallies_kept core kept tile tallies;
+      whole = λ none. (h.over going (ends_gone core none)).1 ∙ same;
+    }

@@ -1,0 +1,9 @@
+mod Giving
+mod Issuing
+mod ParcelGiven
+mod Requesting
+mod Ends
+mod Prepared
+mod Steps
+mod Firsts
+mod Keeping

@@ -1,0 +1,208 @@
+-- A client after it has given a parcel to a tile.
+use Rattle.std.proofs.Common.{◌≡◌, ◌≢◌, ◌∙◌, ℕ, zero, suc, ◌+◌, ◌-◌, ◌<◌, ◌≤◌, Bool, true, false, List, [], ◌∷◌, ◌++◌, length, Some, None, refl, sym, ap, subst, arith, inl, inr, append-nil, append_assoc, lt-ltb}
+use Rattle.std.specs.Prelude.{map, nat_lt, if◌then◌else◌, IfSome}
+use Rattle.std.specs.declared.option.Option.{Option}
+use Rattle.std.specs.Option.{option_map_or}
+use Rattle.std.proofs.lemmas.Bool.{cases_lt, le-ltb}
+use Rattle.rc_base.specs.Contexts.Context.{ClientContext}
+use Rattle.rc_base.specs.Contexts.Issue.{context_after, effect_at}
+use Rattle.rc_base.specs.Orders.Journal.{has}
+use Rattle.rc_base.specs.Cluster.Tiles.{tile_count}
+use Rattle.rc_base.specs.Cluster.Parcels.{told, parcels_at, parcels_before}
+use Rattle.rc_base.specs.Cluster.Sending.{Sending, ToTile}
+use Rattle.rc_base.specs.declared.scene.Scene.{Scene}
+use Rattle.rc_base.specs.declared.state.Act.{Act}
+use Rattle.rc_base.specs.declared.state.ElementSet.{ElementSet}
+use Rattle.rc_base.specs.declared.state.ElementValue.{ElementValue}
+use Rattle.rc_base.specs.declared.state.Parcel.{Parcel}
+use Rattle.rc_base.specs.declared.sync.WaitAt.{WaitAt}
+use Rattle.rc_base.specs.declared.window.Layout.{Layout}
+use Rattle.gl_context.specs.Streams.{StreamsGoOnByIssue}
+use Rattle.state_update.specs.Knowledge.{Knows, after_sets}
+use Rattle.state_update.specs.Streams.{ParcelsTellTheirSets}
+use Rattle.state_update.specs.declared.told.Told.{Told}
+use Rattle.client_issue.specs.Acts.{act_by, goes_to, asks_of, act_sets}
+use Rattle.client_issue.specs.Sequence.{scene_of, sent_to, sent_from_tile, sent_from, request_items, left_with, left_of, heard, IsPending, IsSendingWith, IsSending}
+use Rattle.client_issue.specs.declared.pending.Pending.{Pending}
+use Rattle.client_issue.specs.declared.sender.Sender.{Sender}
+use Rattle.client_issue.proofs.Giving.{tail_next, tail_end, skipped_to, nothing_sent, no_parcel, parcel_is, before_next, leaves_sets}
+use Rattle.client_issue.proofs.Issuing.{heard_less, heard_more}
+
+-- what the code did: a tile got these sets, and the next tile was found
+pub record IsGiven (s : Sender) (p : Pending) (tracker : List Told) (sets : List ElementSet) (next : ℕ) : Type 0 where
+  pub law : StreamsGoOnByIssue
+  pub follow : ParcelsTellTheirSets
+  pub sending : IsSendingWith s (Some p)
+  pub low : p.tile + 1 ≤ next
+  pub high : next ≤ s.count
+  pub none : (t : ℕ) → p.tile + 1 ≤ t → t < next → has p.tiles t ≡ false
+  pub count : length tracker ≡ length s.tracker
+  pub sets_are : (values : ℕ → ElementValue) → Knows s.tracker p.tile values → sets ≡ act_sets values s.context p.act
+  pub told_now : (values : ℕ → ElementValue) → Knows s.tracker p.tile values → Knows tracker p.tile (after_sets values (act_sets values s.context p.act))
+  pub others : (other : ℕ) (values : ℕ → ElementValue) → other ≢ p.tile → Knows s.tracker other values → Knows tracker other values
+
+abbrev earlier : Sender → Pending → ℕ → List Parcel
+earlier s p tile = parcels_before (scene_of s) s.layout 0 tile p.place
+
+abbrev values_of : Sender → Pending → ℕ → ElementValue
+values_of s p = told s.decl (earlier s p p.tile)
+
+abbrev pub parcel_by : Pending → List ElementSet → Parcel
+parcel_by p sets = record { place = p.place; sets = sets; act = p.act }
+
+in_count : (s : Sender) (p : Pending) → IsSendingWith s (Some p) → p.tile < s.count
+in_count s p h = let e = h.count in let t = h.pending.tile in omega (arith, e, t)
+
+knows_tile : (s : Sender) (p : Pending) → IsSendingWith s (Some p) → Knows s.tracker p.tile (values_of s p)
+knows_tile s p h =
+    subst (λ (n : ℕ). Knows s.tracker p.tile (told s.decl (parcels_before (scene_of s) s.layout 0 p.tile n))) (heard_more p s.issued p.tile (omega arith))
+    (h.known p.tile (in_count s p h))
+
+sets_given : (s : Sender) (p : Pending) (tracker : List Told) (sets : List ElementSet) (next : ℕ) → IsGiven s p tracker sets next
+    → sets ≡ act_sets (values_of s p) (context_after (scene_of s) 0 p.place) p.act
+sets_given s p tracker sets next h =
+    let pending = h.sending.pending in
+    h.sets_are (values_of s p) (knows_tile s p h.sending)
+    ∙ ap (λ (x : ClientContext). act_sets (values_of s p) x p.act) (h.sending.context ∙ ap (context_after (scene_of s) 0) pending.last)
+    ∙ (leaves_sets h.law (scene_of s) p.place p.act pending.asks).sets (values_of s p)
+
+parcel_given : (s : Sender) (p : Pending) (tracker : List Told) (sets : List ElementSet) (next : ℕ) → IsGiven s p tracker sets next
+    → parcels_at (scene_of s) s.layout 0 p.tile p.place (earlier s p p.tile) ≡ parcel_by p sets ∷ []
+parcel_given s p tracker sets next h =
+    let pending = h.sending.pending in
+    parcel_is (scene_of s) s.layout p.tile p.place p.act pending.asks (sym (pending.goes p.tile pending.tile) ∙ pending.met)
+    ∙ ap (λ (more : List ElementSet). parcel_by p more ∷ []) (sym (sets_given s p tracker sets next h))
+
+not_asked : (s : Sender) (p : Pending) (tracker : List Told) (sets : List ElementSet) (next : ℕ) → IsGiven s p tracker sets next
+    → (t : ℕ) → p.tile + 1 ≤ t → t < next → asks_of s.layout (context_after (scene_of s) 0 p.place).state (effect_at (scene_of s) 0 p.place) t ≡ false
+not_asked s p tracker sets next h t low high =
+    let pending = h.sending.pending in
+    let e = h.sending.count in
+    let within : t < tile_count s.layout = let m = h.high in omega (arith, high, m, e) in
+    ap (λ (o : Option Act). option_map_or (λ a. goes_to s.layout (context_after (scene_of s) 0 p.place).state a t) o false) pending.asks
+    ∙ sym (pending.goes t within) ∙ h.none t low high
+
+-- ---- what is left
+
+pub given_left : (s : Sender) (p : Pending) (tracker : List Told) (sets : List ElementSet) (next : ℕ) → IsGiven s p tracker sets next
+    → left_with s (Some p) ≡ ToTile p.tile (parcel_by p sets) ∷ (sent_from_tile (scene_of s) s.layout p.place next ++ (request_items s.request ++ sent_from (scene_of s) s.layout s.issued))
+unfolding left_with
+given_left s p tracker sets next h =
+    let scene = scene_of s in
+    let l = s.layout in
+    let e = h.sending.count in
+    let m = h.high in
+    let this : sent_to scene l p.place p.tile ≡ ToTile p.tile (parcel_by p sets) ∷ [] =
+        ap (λ (ps : List Parcel). map (λ (q : Parcel). ToTile p.tile q) ps) (parcel_given s p tracker sets next h) in
+    let rest : sent_from_tile scene l p.place (p.tile + 1) ≡ sent_from_tile scene l p.place next =
+        skipped_to scene l p.place (p.tile + 1) next h.low (omega (arith, e, m)) (λ t low high. nothing_sent scene l t p.place (not_asked s p tracker sets next h t low high)) in
+    ap (λ (items : List Sending). items ++ (request_items s.request ++ sent_from scene l s.issued))
+    (tail_next scene l p.place p.tile h.sending.pending.tile ∙ (λ i. this i ++ rest i))
+
+pub last_left : (s : Sender) (p : Pending) (next : ℕ) → IsSendingWith s (Some p) → next ≡ s.count → sent_from_tile (scene_of s) s.layout p.place next ≡ []
+last_left s p next h last = let e = h.count in tail_end (scene_of s) s.layout p.place next (omega (arith, last, e))
+
+-- ---- what is known
+
+known_told : (s : Sender) (p : Pending) (tracker : List Told) (sets : List ElementSet) (next : ℕ) → IsGiven s p tracker sets next
+    → Knows tracker p.tile (told s.decl (parcels_before (scene_of s) s.layout 0 p.tile s.issued))
+known_told s p tracker sets next h =
+    let pending = h.sending.pending in
+    let now = h.told_now (values_of s p) (knows_tile s p h.sending) in
+    let same = h.sets_are (values_of s p) (knows_tile s p h.sending) in
+    let told_sets : Knows tracker p.tile (after_sets (values_of s p) sets) = subst (λ (more : List ElementSet). Knows tracker p.tile (after_sets (values_of s p) more)) (sym same) now in
+    let after : Knows tracker p.tile (told s.decl (earlier s p p.tile ++ parcel_by p sets ∷ [])) = h.follow tracker p.tile s.decl (earlier s p p.tile) (parcel_by p sets) told_sets in
+    let all : parcels_before (scene_of s) s.layout 0 p.tile s.issued ≡ earlier s p p.tile ++ parcel_by p sets ∷ [] =
+        ap (parcels_before (scene_of s) s.layout 0 p.tile) pending.last ∙ before_next (scene_of s) s.layout p.tile p.place
+        ∙ ap (λ (ps : List Parcel). earlier s p p.tile ++ ps) (parcel_given s p tracker sets next h) in
+    subst (λ (ps : List Parcel). Knows tracker p.tile (told s.decl ps)) (sym all) after
+
+known_old : (s : Sender) (p : Pending) (tracker : List Told) (sets : List ElementSet) (next : ℕ) → IsGiven s p tracker sets next
+    → (tile n : ℕ) → tile < s.count → tile ≢ p.tile → heard (Some p) s.issued tile ≡ n → Knows tracker tile (told s.decl (parcels_before (scene_of s) s.layout 0 tile n))
+known_old s p tracker sets next h tile n lt ne e =
+    h.others tile (told s.decl (parcels_before (scene_of s) s.layout 0 tile n)) ne
+    (subst (λ (k : ℕ). Knows s.tracker tile (told s.decl (parcels_before (scene_of s) s.layout 0 tile k))) e (h.sending.known tile lt))
+
+known_between : (s : Sender) (p : Pending) (tracker : List Told) (sets : List ElementSet) (next : ℕ) → IsGiven s p tracker sets next
+    → (tile : ℕ) → tile < s.count → p.tile + 1 ≤ tile → tile < next → Knows tracker tile (told s.decl (parcels_before (scene_of s) s.layout 0 tile s.issued))
+known_between s p tracker sets next h tile lt low high =
+    let pending = h.sending.pending in
+    let scene = scene_of s in
+    let before = known_old s p tracker sets next h tile p.place lt (omega (arith, low)) (heard_more p s.issued tile (omega (arith, low))) in
+    let all : parcels_before scene s.layout 0 tile s.issued ≡ parcels_before scene s.layout 0 tile p.place =
+        ap (parcels_before scene s.layout 0 tile) pending.last ∙ before_next scene s.layout tile p.place
+        ∙ ap (λ (ps : List Parcel). parcels_before scene s.layout 0 tile p.place ++ ps) (no_parcel scene s.layout tile p.place (not_asked s p tracker sets next h tile low high))
+        ∙ append-nil (parcels_before scene s.layout 0 tile p.place) in
+    subst (λ (ps : List Parcel). Knows tracker tile (told s.decl ps)) (sym all) before
+
+known_below : (s : Sender) (p : Pending) (tracker : List Told) (sets : List ElementSet) (next : ℕ) → IsGiven s p tracker sets next
+    → (tile : ℕ) → tile < s.count → tile < next → Knows tracker tile (told s.decl (parcels_before (scene_of s) s.layout 0 tile s.issued))
+known_below s p tracker sets next h tile lt high =
+    elim (cases_lt tile p.tile) [
+      | inl less ↦ known_old s p tracker sets next h tile s.issued lt (omega (arith, less)) (heard_less p s.issued tile less)
+      | inr more ↦ elim (cases_lt p.tile tile) [
+        | inl past ↦ known_between s p tracker sets next h tile lt (omega (arith, past)) high
+        | inr same ↦
+            let e : p.tile ≡ tile = omega (arith, more, same) in
+            subst (λ (t : ℕ). Knows tracker t (told s.decl (parcels_before (scene_of s) s.layout 0 t s.issued))) e (known_told s p tracker sets next h)
+      ]
+    ]
+
+-- the last tile was given its parcel
+pub given_all : (s : Sender) (p : Pending) (tracker : List Told) (sets : List ElementSet) (next : ℕ) → IsGiven s p tracker sets next → next ≡ s.count
+    → IsSendingWith (record s { tracker = tracker; pending = None }) None
+given_all s p tracker sets next h last = record {
+  few = h.sending.few;
+  commands = h.sending.commands;
+  count = h.sending.count;
+  tiles = h.sending.tiles;
+  issued = h.sending.issued;
+  context = h.sending.context;
+  ops = h.sending.ops;
+  tracked = h.count ∙ h.sending.tracked;
+  known = λ tile lt. known_below s p tracker sets next h tile lt (omega (arith, lt, last));
+  pending = tt;
+}
+
+-- another tile is next
+pub given_one : (s : Sender) (p : Pending) (tracker : List Told) (sets : List ElementSet) (next : ℕ) → IsGiven s p tracker sets next
+    → next < s.count → has p.tiles next ≡ true
+    → (q : Pending) → q ≡ record p { tile = next } → IsSendingWith (record s { tracker = tracker; pending = Some q }) (Some q)
+given_one s p tracker sets next h less met q e = subst (λ (r : Pending). IsSendingWith (record s { tracker = tracker; pending = Some r }) (Some r)) (sym e) (record {
+  few = h.sending.few;
+  commands = h.sending.commands;
+  count = h.sending.count;
+  tiles = h.sending.tiles;
+  issued = h.sending.issued;
+  context = h.sending.context;
+  ops = h.sending.ops;
+  tracked = h.count ∙ h.sending.tracked;
+  known = λ tile lt. elim (cases_lt tile next) [
+    | inl below ↦
+        subst (λ (n : ℕ). Knows tracker tile (told s.decl (parcels_before (scene_of s) s.layout 0 tile n))) (sym (heard_less (record p { tile = next }) s.issued tile below))
+        (known_below s p tracker sets next h tile lt below)
+    | inr more ↦
+        let low = h.low in
+        subst (λ (n : ℕ). Knows tracker tile (told s.decl (parcels_before (scene_of s) s.layout 0 tile n))) (sym (heard_more (record p { tile = next }) s.issued tile more))
+        (known_old s p tracker sets next h tile p.place lt (omega (arith, low, more)) (heard_more p s.issued tile (omega (arith, low, more))))
+  ];
+  pending = record {
+    last = h.sending.pending.last;
+    asks = h.sending.pending.asks;
+    goes = h.sending.pending.goes;
+    tile = let c = h.sending.count in omega (arith, less, c);
+    met = met;
+  };
+})
+
+pub left_last : (s : Sender) (p : Pending) (tracker : List Told) (sets : List ElementSet) (next : ℕ) → IsGiven s p tracker sets next → next ≡ s.count
+    → left_with s (Some p) ≡ ToTile p.tile (parcel_by p sets) ∷ left_of (record s { tracker = tracker; pending = None })
+unfolding left_with
+left_last s p tracker sets next h last =
+    given_left s p tracker sets next h
+    ∙ ap (λ (items : List Sending). ToTile p.tile (parcel_by p sets) ∷ (items ++ (request_items s.request ++ sent_from (scene_of s) s.layout s.issued))) (last_left s p next h.sending last)
+
+pub left_more : (s : Sender) (p : Pending) (tracker : List Told) (sets : List ElementSet) (next : ℕ) → IsGiven s p tracker sets next
+    → left_with s (Some p) ≡ ToTile p.tile (parcel_by p sets) ∷ left_of (record s { tracker = tracker; pending = Some (record p { tile = next }) })
+unfolding left_with
+left_more s p tracker sets next h = given_left s p tracker sets next h

@@ -1,0 +1,73 @@
+use Rattle.std.proofs.Common.{◌≡◌, ◌∙◌, ◌<◌, ◌≤◌, ◌∷◌, ℕ, Some, None, ap, subst, sym, arith, refl}
+use Rattle.std.specs.declared.option.Option.{Option}
+use Rattle.rc_base.specs.Cluster.Sending.{ToTile}
+use Rattle.rc_base.specs.declared.state.Act.{Act}
+use Rattle.client_issue.specs.Sequence.{IsSendingWith, left_with, left_of}
+use Rattle.client_issue.specs.declared.pending.Pending.{Pending}
+use Rattle.client_issue.specs.declared.sender.Sender.{Sender}
+use Rattle.client_issue.proofs.ParcelGiven.{IsGiven, given_all, given_one, left_last, left_more, parcel_by}
+use Rattle.client_issue.proofs.sender.Sender.give_parcel.Goals as goal
+
+facts : (c : goal.Then-next-self) → IsGiven c.args.self.now c.args.pending c.sets_with.new.tracker c.in_ok-sets.sets c.next_tile-next.result
+facts c = record {
+  law = c.streams_go_on_by_issue.ensures.next;
+  follow = c.trackers_follow_parcels.ensures.next;
+  sending = c.requires.sending;
+  low = c.next_tile-next.ensures.low;
+  high = c.next_tile-next.ensures.high;
+  none = c.next_tile-next.ensures.none;
+  count = c.in_ok-sets.ensures.count;
+  sets_are = c.in_ok-sets.ensures.sets;
+  told_now = c.in_ok-sets.ensures.told;
+  others = c.in_ok-sets.ensures.others;
+}
+
+more_facts : (c : goal.Joined-self) → IsGiven c.args.self.now c.args.pending c.sets_with.new.tracker c.in_ok-sets.sets c.next_tile-next.result
+more_facts c = record {
+  law = c.streams_go_on_by_issue.ensures.next;
+  follow = c.trackers_follow_parcels.ensures.next;
+  sending = c.requires.sending;
+  low = c.next_tile-next.ensures.low;
+  high = c.next_tile-next.ensures.high;
+  none = c.next_tile-next.ensures.none;
+  count = c.in_ok-sets.ensures.count;
+  sets_are = c.in_ok-sets.ensures.sets;
+  told_now = c.in_ok-sets.ensures.told;
+  others = c.in_ok-sets.ensures.others;
+}
+
+pub returns-then-next-self-clause-sending : goal.returns-then-next-self-clause-sending
+returns-then-next-self-clause-sending c =
+    let s = c.args.self.now in
+    subst (λ (o : Option Pending). IsSendingWith (record s { tracker = c.sets_with.new.tracker; pending = o }) o) (sym c.requires.none)
+    (given_all s c.args.pending c.sets_with.new.tracker c.in_ok-sets.sets c.next_tile-next.result (facts c) c.if-next-self.true)
+
+pub returns-then-next-self-clause-left : goal.returns-then-next-self-clause-left
+returns-then-next-self-clause-left c =
+    let s = c.args.self.now in
+    let p = c.args.pending in
+    left_last s p c.sets_with.new.tracker c.in_ok-sets.sets c.next_tile-next.result (facts c) c.if-next-self.true
+    ∙ ap (λ (o : Option Pending). ToTile p.tile (parcel_by p c.in_ok-sets.sets) ∷ left_of (record s { tracker = c.sets_with.new.tracker; pending = o })) (sym c.requires.none)
+
+pub returns-clause-sending : goal.returns-clause-sending
+returns-clause-sending c =
+    let s = c.args.self.now in
+    let n = c.next_tile-next.result in
+    let e = c.if-next-self.false in
+    let h = c.next_tile-next.ensures.high in
+    let less : n < s.count = omega (arith, e, h) in
+    given_one s c.args.pending c.sets_with.new.tracker c.in_ok-sets.sets n (more_facts c) less (c.next_tile-next.ensures.found less) (record c.args.pending { tile = n }) refl
+
+pub returns-clause-left : goal.returns-clause-left
+returns-clause-left c =
+    let s = c.args.self.now in
+    let p = c.args.pending in
+    left_more s p c.sets_with.new.tracker c.in_ok-sets.sets c.next_tile-next.result (more_facts c)
+    ∙ ap (λ (a : Act). ToTile p.tile (record { place = p.place; sets = c.in_ok-sets.sets; act = a }) ∷ left_of (record s { tracker = c.sets_with.new.tracker; pending = Some (record p { tile = c.next_tile-next.result }) }))
+    (sym c.in_ok-copy.ensures)
+
+pub returns-then-next-self-clause-tile : goal.returns-then-next-self-clause-tile
+returns-then-next-self-clause-tile c = omega (arith, c.requires.sending.count, c.requires.sending.pending.tile)
+
+pub returns-clause-tile : goal.returns-clause-tile
+returns-clause-tile c = omega (arith, c.requires.sending.count, c.requires.sending.pending.tile)

@@ -1,0 +1,101 @@
+-- What a client that has issued some of its commands has still to give.
+use Rattle.std.specs.Prelude.{◌≡◌, ℕ, ◌+◌, ◌-◌, ◌<◌, ◌≤◌, ◌^◌, Bool, true, nat_lt, List, [], ◌∷◌, ◌++◌, length, map, Option, Some, None, IfSome, if◌then◌else◌}
+use Rattle.std.specs.List.{flat_map, range_with_len, AllByRecursion}
+use Rattle.std.specs.Option.{option_map_or}
+use Rattle.rc_base.specs.Formats.Commands.{IsCommand}
+use Rattle.rc_base.specs.Contexts.Issue.{stream_of, context_after, effect_at}
+use Rattle.rc_base.specs.Orders.Journal.{has}
+use Rattle.rc_base.specs.Orders.Sync.{waits_below}
+use Rattle.rc_base.specs.Cluster.Tiles.{tile_count}
+use Rattle.rc_base.specs.Cluster.Parcels.{told, parcels_at, parcels_before}
+use Rattle.rc_base.specs.Cluster.Sending.{Sending, ToTile, ToManager, sent_at, request_of}
+use Rattle.rc_base.specs.declared.command.Command.{Command}
+use Rattle.rc_base.specs.declared.scene.Decl.{Decl}
+use Rattle.rc_base.specs.declared.scene.Scene.{Scene}
+use Rattle.rc_base.specs.declared.sync.WaitAt.{WaitAt}
+use Rattle.rc_base.specs.declared.window.Layout.{Layout}
+use Rattle.state_update.specs.Knowledge.{Knows}
+use Rattle.client_issue.specs.Acts.{act_by, goes_to}
+use Rattle.client_issue.specs.declared.item.Item.{Item}
+use Rattle.client_issue.specs.declared.item.Item.TheVariants as item
+use Rattle.client_issue.specs.declared.pending.Pending.{Pending}
+use Rattle.client_issue.specs.declared.sender.Sender.{Sender}
+
+-- the scene of one client alone
+abbrev pub alone : Decl → List Command → Scene
+alone d stream = record { decl = d; streams = stream ∷ [] }
+
+abbrev pub scene_of : Sender → Scene
+scene_of s = alone s.decl s.stream
+
+-- what a command gives to a tile
+abbrev pub sent_to : Scene → Layout → ℕ → ℕ → List Sending
+sent_to scene l place tile = map (λ p. ToTile tile p) (parcels_at scene l 0 tile place (parcels_before scene l 0 tile place))
+
+-- to the tiles from `tile` on
+unfoldable pub sent_from_tile : Scene → Layout → ℕ → ℕ → List Sending
+sent_from_tile scene l place tile = flat_map (sent_to scene l place) (range_with_len tile (tile_count l - tile))
+
+-- of the commands from a place on
+unfoldable pub sent_from : Scene → Layout → ℕ → List Sending
+sent_from scene l place = flat_map (sent_at scene l 0) (range_with_len place (length (stream_of scene 0) - place))
+
+abbrev pub pending_items : Scene → Layout → Option Pending → List Sending
+pending_items scene l o = option_map_or (λ (p : Pending). sent_from_tile scene l p.place p.tile) o []
+
+abbrev pub request_items : Option WaitAt → List Sending
+request_items o = option_map_or (λ w. ToManager (request_of w) ∷ []) o []
+
+-- what is still to be given of the commands, where these parcels are pending
+unfoldable pub left_with : Sender → Option Pending → List Sending
+left_with s o = pending_items (scene_of s) s.layout o ++ (request_items s.request ++ sent_from (scene_of s) s.layout s.issued)
+
+abbrev pub left_of : Sender → List Sending
+left_of s = left_with s s.pending
+
+abbrev pub item_of : Item → Sending
+item_of (item.Parcel tile p) = ToTile tile p
+item_of (item.Request r) = ToManager r
+
+abbrev pub items_of : Option Item → List Sending
+items_of o = option_map_or (λ i. item_of i ∷ []) o []
+
+-- the item is for one of so many tiles, or for the manager
+abbrev pub IsForTile : ℕ → Item → Type 0
+IsForTile count (item.Parcel tile p) = tile < count
+IsForTile count (item.Request r) = Unit {0}
+
+-- how many commands' parcels a tile was given
+abbrev pub heard : Option Pending → ℕ → ℕ → ℕ
+heard o issued tile = option_map_or (λ (p : Pending). if nat_lt tile p.tile then issued else p.place) o issued
+
+-- Of the command issued last, the parcels from a tile on are pending.
+pub record IsPending (scene : Scene) (l : Layout) (issued : ℕ) (p : Pending) : Type 0 where
+  pub last : issued ≡ p.place + 1
+  pub asks : act_by (effect_at scene 0 p.place) ≡ Some p.act
+  pub goes : (t : ℕ) → t < tile_count l → has p.tiles t ≡ goes_to l (context_after scene 0 p.place).state p.act t
+  pub tile : p.tile < tile_count l
+  pub met : has p.tiles p.tile ≡ true
+
+-- What stays as it is: whose commands these are, and for which tiles.
+pub record IsSame (a b : Sender) : Type 0 where
+  pub decl : b.decl ≡ a.decl
+  pub stream : b.stream ≡ a.stream
+  pub layout : b.layout ≡ a.layout
+  pub count : b.count ≡ a.count
+
+-- A client that has issued some of its commands, of the last of which these parcels are pending, and knows what its tiles were told.
+pub record IsSendingWith (s : Sender) (o : Option Pending) : Type 0 where
+  pub few : length s.stream < 2 ^ 32
+  pub commands : AllByRecursion IsCommand s.stream
+  pub count : s.count ≡ tile_count s.layout
+  pub tiles : s.count ≤ 32
+  pub issued : s.issued ≤ length s.stream
+  pub context : s.context ≡ context_after (scene_of s) 0 s.issued
+  pub ops : s.ops ≡ waits_below (scene_of s) 0 s.issued
+  pub tracked : length s.tracker ≡ s.count
+  pub known : (tile : ℕ) → tile < s.count → Knows s.tracker tile (told s.decl (parcels_before (scene_of s) s.layout 0 tile (heard o s.issued tile)))
+  pub pending : IfSome o (IsPending (scene_of s) s.layout s.issued)
+
+abbrev pub IsSending : Sender → Type 0
+IsSending s = IsSendingWith s s.pending

@@ -1,0 +1,25 @@
+//! The client's core, and what is kept of it.
+use crate::item::Item;
+use crate::sender::Sender;
+use rc_base::cluster::{FaultList, Tallies, Tally};
+use rc_base::sync::SyncRow;
+use std::alloc::Global;
+
+/// A client: it issues its commands and sends what they give, one item a step.
+#[derive(Drop)]
+pub struct ClientCore {
+    pub(crate) alloc: Global,
+    pub(crate) sender: Sender,
+    pub(crate) ready: Option<Item>,
+    pub(crate) ends: u8,
+    pub(crate) short: bool,
+    pub(crate) tallies: Vec<Tally>,
+}
+
+/// What is kept of a client: its accepted operations, its faults, and one tally for each tile.
+#[derive(Debug, Drop)]
+pub struct ClientKept {
+    pub syncs: SyncRow,
+    pub faults: FaultList,
+    pub tallies: Tallies,
+}

@@ -1,0 +1,130 @@
+//! A client before its first command.
+ghost use Rattle.std.specs.Prelude.{◌≡◌, ℕ, ◌<◌, ◌≤◌, ◌^◌, length, replicate, IfOk, None, false, [], ◌∷◌};
+ghost use Rattle.std.specs.List.{AllByRecursion};
+ghost use Rattle.rc_base.specs.Formats.Commands.{IsCommand};
+ghost use Rattle.rc_base.specs.Contexts.Issue.{stream_of};
+ghost use Rattle.rc_base.specs.Cluster.Tiles.{tile_count};
+ghost use Rattle.rc_base.specs.Cluster.Sending.{sent_by};
+ghost use Rattle.client_issue.specs.Cores.{IsClient, IsClientOf, layout_of, left_in, short_of, no_tally, tally_of_tile};
+ghost use Rattle.client_issue.specs.Sequence.{IsSending, alone, left_of, sent_from};
+
+use crate::client::ClientCore;
+use crate::copies::{copy_of_decl, copy_of_stream};
+use crate::sender::Sender;
+use gl_context::Context;
+use gl_context::laws::streams_go_on_by_issue;
+use rc_base::cluster::Tally;
+use rc_base::command::{Command, Commands};
+use rc_base::out_of_memory::OutOfMemory;
+use rc_base::scene::{Decl, Scene};
+use rc_base::sync::SyncOps;
+use rc_base::window::Layout;
+use state_update::Tracker;
+use state_update::laws::trackers_follow_parcels;
+use std::alloc::Global;
+
+fn first_sender(alloc: Global, decl: &Decl, stream: Commands, layout: &Layout, count: u8) -> Result<Sender, OutOfMemory>
+    requires few { length stream < 2 ^ 32 }
+    requires commands { AllByRecursion IsCommand stream }
+    requires count { count ≡ tile_count layout.now }
+    requires tiles { count ≤ 32 }
+    ensures decl { IfOk result (λ s. s.decl ≡ decl.now) }
+    ensures stream { IfOk result (λ s. s.stream ≡ stream) }
+    ensures layout { IfOk result (λ s. s.layout ≡ layout.now) }
+    ensures count { IfOk result (λ s. s.count ≡ count) }
+    ensures sending { IfOk result IsSending }
+    ensures left { IfOk result (λ s. left_of s ≡ sent_from (alone decl.now stream) layout.now 0) }
+{
+    streams_go_on_by_issue();
+    trackers_follow_parcels();
+    let copy = copy_of_decl(alloc, decl)?;
+    let context = Context::new(alloc, decl)?;
+    let tracker = Tracker::new(alloc, decl, count)?;
+    Ok(Sender {
+        alloc,
+        decl: copy,
+        stream,
+        layout: *layout,
+        count,
+        context,
+        tracker,
+        issued: 0,
+        pending: None,
+        request: None,
+        ops: SyncOps::new(alloc),
+    })
+}
+
+fn no_tallies(alloc: Global, count: u8) -> Result<Vec<Tally>, OutOfMemory>
+    ensures { IfOk result (λ v. v.items ≡ replicate count no_tally) }
+{
+    let mut tallies = Vec::new(alloc);
+    let tally = Tally {
+        parcels: 0,
+        sets: 0,
+        looks: 0,
+    };
+    tallies.resize(usize::from(count), tally)?;
+    Ok(tallies)
+}
+
+fn count_of(layout: &Layout) -> u8
+    requires { tile_count layout.now ≤ 32 }
+    ensures { result ≡ tile_count layout.now }
+{
+    (u16::from(layout.columns) * u16::from(layout.rows)) as u8
+}
+
+fn commands_of(scene: &Scene, client: u8) -> &[Command]
+    requires { client < length scene.now.streams }
+    ensures { result.now ≡ stream_of scene.now client }
+{
+    scene.streams.as_slice()[usize::from(client)].as_slice()
+}
+
+impl ClientCore {
+    /// The core of a client of a scene, with a copy of its commands, before its first step. The layout has at most 32 tiles, the client's
+    /// stream fewer than 2^32 commands, and each of their fields is in its range, as in every scene that was read. End parcels take no memory.
+    pub fn new(alloc: Global, scene: &Scene, client: u8, layout: &Layout) -> Result<ClientCore, OutOfMemory>
+        requires client { client < length scene.now.streams }
+        requires few { length (stream_of scene.now client) < 2 ^ 32 }
+        requires commands { AllByRecursion IsCommand (stream_of scene.now client) }
+        requires tiles { tile_count layout.now ≤ 32 }
+        ensures client { IfOk result IsClient }
+        ensures whose { IfOk result (λ core. IsClientOf core scene.now client layout.now) }
+        ensures short { IfOk result (λ core. short_of core ≡ false) }
+        ensures left { IfOk result (λ core. left_in core ≡ sent_by scene.now layout.now client) }
+        ensures tallies { IfOk result (λ core. (tile : ℕ) → tally_of_tile core tile ≡ no_tally) }
+    {
+        let count = count_of(layout);
+        let commands = commands_of(scene, client);
+        let stream = copy_of_stream(alloc, commands)?;
+        let sender = first_sender(alloc, &scene.decl, stream, layout, count)?;
+        let tallies = no_tallies(alloc, count)?;
+        Ok(ClientCore {
+            alloc,
+            sender,
+            ready: None,
+            ends: 0,
+            short: false,
+            tallies,
+        })
+    }
+
+    /// How many parcels went to a tile so far, and how many elements they set.
+    #[tactic(auto, unfolding(crate::specs::Cores::tally_of_tile))]
+    pub fn tallies(&self, tile: u8) -> Tally
+        requires client { IsClient self.now }
+        requires tile { tile < tile_count (layout_of self.now) }
+        ensures { result ≡ tally_of_tile self.now tile }
+    {
+        self.tallies[usize::from(tile)]
+    }
+
+    /// Whether memory was wanting.
+    pub fn is_short(&self) -> bool
+        ensures { result ≡ short_of self.now }
+    {
+        self.short
+    }
+}

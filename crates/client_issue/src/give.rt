@@ -1,0 +1,139 @@
+//! The next parcel or request of the command that was issued last.
+ghost use Rattle.std.specs.Prelude.{◌≡◌, ◌≢◌, ℕ, ◌<◌, ◌≤◌, ◌++◌, ◌∷◌, [], length, IfOk, OnOk, IfNone, IfSome, None, Some};
+ghost use Rattle.rc_base.specs.Cluster.Sending.{ToTile, ToManager};
+ghost use Rattle.rc_base.specs.declared.state.ElementValue.{ElementValue};
+ghost use Rattle.state_update.specs.Knowledge.{HasBoundTexture, Knows, after_sets};
+ghost use Rattle.client_issue.specs.Acts.{act_sets};
+ghost use Rattle.client_issue.specs.Sequence.{IsForTile, IsSame, IsSending, IsSendingWith, left_of, left_with, item_of, items_of};
+
+use crate::acts::next_tile;
+use crate::copies::copy_of_act;
+use crate::item::Item;
+use crate::pending::Pending;
+use crate::sender::Sender;
+use gl_context::Context;
+use gl_context::laws::{contexts_of_streams_are_valid, streams_go_on_by_issue};
+use rc_base::out_of_memory::OutOfMemory;
+use rc_base::state::{Act, Parcel, Sets};
+use rc_base::sync::Request;
+use state_update::Tracker;
+use state_update::laws::{trackers_follow_parcels, valid_contexts_have_their_texture};
+use std::alloc::Global;
+
+// The sets that a tile gets with the act; it counts as told.
+fn sets_with(
+    alloc: Global,
+    tracker: &mut Tracker,
+    context: &Context,
+    tile: u8,
+    act: &Act,
+) -> Result<Sets, OutOfMemory>
+    requires tile { tile < length tracker.old }
+    requires bound { HasBoundTexture context.now }
+    ensures count { length tracker.new ≡ length tracker.old }
+    ensures sets { (values : ℕ → ElementValue) → Knows tracker.old tile values → IfOk result (λ sets. sets ≡ act_sets values context.now act.now) }
+    ensures told { (values : ℕ → ElementValue) → Knows tracker.old tile values → OnOk result (Knows tracker.new tile (after_sets values (act_sets values context.now act.now))) }
+    ensures others { (other : ℕ) (values : ℕ → ElementValue) → other ≢ tile → Knows tracker.old other values → Knows tracker.new other values }
+{
+    match act {
+        Act::Draw(_) => tracker.update(context, tile, true),
+        Act::Clear(_) => tracker.update(context, tile, false),
+        _ => Ok(Sets::new(alloc)),
+    }
+}
+
+impl Sender {
+    // The parcel for the next tile. The last tile gets the act itself, each other one a copy.
+    fn give_parcel(&mut self, pending: Pending) -> Result<Item, OutOfMemory>
+        requires none { self.old.pending ≡ None }
+        requires sending { IsSendingWith self.old (Some pending) }
+        ensures same { IsSame self.old self.new }
+        ensures sending { OnOk result (IsSending self.new) }
+        ensures left { IfOk result (λ i. left_with self.old (Some pending) ≡ item_of i ∷ left_of self.new) }
+        ensures tile { IfOk result (IsForTile self.old.count) }
+    {
+        contexts_of_streams_are_valid();
+        streams_go_on_by_issue();
+        valid_contexts_have_their_texture();
+        trackers_follow_parcels();
+        let tile = pending.tile;
+        let sets = sets_with(
+            self.alloc,
+            &mut self.tracker,
+            &self.context,
+            tile,
+            &pending.act,
+        )?;
+        let next = next_tile(pending.tiles, tile + 1, self.count);
+        let Pending {
+            place, act, tiles, ..
+        } = pending;
+        if next == self.count {
+            let parcel = Parcel { place, sets, act };
+            return Ok(Item::Parcel { tile, parcel });
+        }
+        let copy = copy_of_act(self.alloc, &act)?;
+        self.pending = Some(Pending {
+            place,
+            act,
+            tiles,
+            tile: next,
+        });
+        let parcel = Parcel {
+            place,
+            sets,
+            act: copy,
+        };
+        Ok(Item::Parcel { tile, parcel })
+    }
+
+    fn give_request(&mut self) -> Option<Item>
+        requires none { self.old.pending ≡ None }
+        requires sending { IsSending self.old }
+        requires over { self.old.request ≡ None → self.old.issued ≡ length self.old.stream }
+        ensures same { IsSame self.old self.new }
+        ensures sending { IsSending self.new }
+        ensures left { left_of self.old ≡ items_of result ++ left_of self.new }
+        ensures all { IfNone result ((left_of self.new ≡ []) × (self.new.issued ≡ length self.new.stream)) }
+        ensures tile { IfSome result (IsForTile self.old.count) }
+    {
+        let Some(wait) = self.request.take() else {
+            return None;
+        };
+        Some(Item::Request(Request::Op {
+            place: wait.place,
+            op: wait.op,
+        }))
+    }
+
+    // The next item of the command that was issued last, if any is left.
+    fn give(&mut self) -> Result<Option<Item>, OutOfMemory>
+        requires sending { IsSending self.old }
+        requires over { self.old.pending ≡ None → self.old.request ≡ None → self.old.issued ≡ length self.old.stream }
+        ensures same { IsSame self.old self.new }
+        ensures sending { OnOk result (IsSending self.new) }
+        ensures left { IfOk result (λ o. left_of self.old ≡ items_of o ++ left_of self.new) }
+        ensures all { IfOk result (λ o. IfNone o ((left_of self.new ≡ []) × (self.new.issued ≡ length self.new.stream))) }
+        ensures tile { IfOk result (λ o. IfSome o (IsForTile self.old.count)) }
+    {
+        match self.pending.take() {
+            Some(pending) => Ok(Some(self.give_parcel(pending)?)),
+            None => Ok(self.give_request()),
+        }
+    }
+
+    /// The next item of the sequence, while a command gives one.
+    pub(crate) fn next(&mut self) -> Result<Option<Item>, OutOfMemory>
+        requires { IsSending self.old }
+        ensures same { IsSame self.old self.new }
+        ensures sending { OnOk result (IsSending self.new) }
+        ensures left { IfOk result (λ o. left_of self.old ≡ items_of o ++ left_of self.new) }
+        ensures all { IfOk result (λ o. IfNone o ((left_of self.new ≡ []) × (self.new.issued ≡ length self.new.stream))) }
+        ensures tile { IfOk result (λ o. IfSome o (IsForTile self.old.count)) }
+    {
+        'issuing: while self.is_resting() && (self.issued as usize) < self.stream.len() {
+            self.issue_next()?;
+        }
+        self.give()
+    }
+}

@@ -1,0 +1,45 @@
+//! Parcels of a command that are still to be made.
+ghost use Rattle.std.specs.Prelude.{◌≡◌, ℕ, ◌<◌, ◌≤◌, MatchOption, false};
+ghost use Rattle.rc_base.specs.Cluster.Tiles.{tile_count};
+ghost use Rattle.client_issue.specs.Acts.{asks_of};
+ghost use Rattle.client_issue.specs.First.{IsFirst};
+
+use crate::acts::{act_of, next_tile, tiles_of};
+use rc_base::state::{Act, Effect, State};
+use rc_base::window::Layout;
+
+/// The command at `place` asks this of these tiles, of which `tile` is next.
+#[derive(Drop)]
+pub(crate) struct Pending {
+    pub place: u32,
+    pub act: Act,
+    pub tiles: u32,
+    pub tile: u8,
+}
+
+/// What an effect gives to tiles, if anything.
+pub(crate) fn pending_of(
+    layout: &Layout,
+    count: u8,
+    state: &State,
+    place: u32,
+    effect: Effect,
+) -> Option<Pending>
+    requires count { count ≡ tile_count layout.now }
+    requires few { count ≤ 32 }
+    ensures { MatchOption result ((t : ℕ) → t < count → asks_of layout.now state.now effect t ≡ false) (IsFirst layout.now state.now place effect) }
+{
+    let act = act_of(effect)?;
+    let tiles = tiles_of(layout, state, &act);
+    let tile = next_tile(tiles, 0, count);
+    if tile < count {
+        Some(Pending {
+            place,
+            act,
+            tiles,
+            tile,
+        })
+    } else {
+        None
+    }
+}

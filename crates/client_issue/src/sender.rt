@@ -1,0 +1,25 @@
+//! What the commands of a client give, one item at a time.
+use crate::pending::Pending;
+use gl_context::Context;
+use rc_base::command::Commands;
+use rc_base::scene::Decl;
+use rc_base::sync::{SyncOps, WaitAt};
+use rc_base::window::Layout;
+use state_update::Tracker;
+use std::alloc::Global;
+
+/// A client that issues its commands: the next is number `issued`, and of the one before it parcels and a request may be pending.
+#[derive(Drop)]
+pub(crate) struct Sender {
+    pub alloc: Global,
+    pub decl: Decl,
+    pub stream: Commands,
+    pub layout: Layout,
+    pub count: u8,
+    pub context: Context,
+    pub tracker: Tracker,
+    pub issued: u32,
+    pub pending: Option<Pending>,
+    pub request: Option<WaitAt>,
+    pub ops: SyncOps,
+}
