@@ -1,16 +1,14 @@
 -- A client before its first command, and the sequence of a client by its commands alone.
-use Rattle.std.proofs.Common.{◌≡◌, ◌∙◌, ℕ, zero, suc, ◌+◌, ◌-◌, ◌<◌, ◌≤◌, List, [], ◌∷◌, ◌++◌, length, get_or, Some, None, refl, sym, ap, subst, arith, append_assoc, append-nil}
+use Rattle.std.proofs.Common.{◌≡◌, ◌∙◌, ℕ, zero, suc, ◌+◌, ◌-◌, ◌≤◌, List, [], ◌∷◌, ◌++◌, length, get_or, None, refl, sym, ap, arith, append_assoc, append-nil}
 use Rattle.std.specs.Prelude.{map, replicate, slice_get}
-use Rattle.std.specs.List.{flat_map, range_with_len}
 use Rattle.rc_base.specs.Contexts.Context.{default_context}
 use Rattle.rc_base.specs.Contexts.Issue.{stream_of, context_after, effect_at, effect_of, issued_next}
 use Rattle.std.specs.Option.{option_map_or}
 use Rattle.rc_base.specs.declared.state.Effect.TheVariants as eff
 use Rattle.rc_base.specs.Orders.Sync.{waits_below, wait_of}
 use Rattle.rc_base.specs.Cluster.Tiles.{tile_count}
-use Rattle.rc_base.specs.Cluster.Parcels.{told, parcel_of, parcels_at, parcels_before, end_parcel}
-use Rattle.rc_base.specs.Cluster.Sending.{Sending, ToTile, ToManager, sent_at, sent_before, sent_last, sent_by, to_tiles, request_of}
-use Rattle.rc_base.specs.declared.cluster.Tally.{Tally}
+use Rattle.rc_base.specs.Cluster.Parcels.{told, parcel_of, parcels_before, end_parcel}
+use Rattle.rc_base.specs.Cluster.Sending.{Sending, ToManager, sent_at, sent_before, sent_by, to_tiles, request_of}
 use Rattle.rc_base.specs.declared.command.Command.{Command}
 use Rattle.rc_base.specs.declared.scene.Decl.{Decl}
 use Rattle.rc_base.specs.declared.scene.Scene.{Scene}
@@ -18,7 +16,7 @@ use Rattle.rc_base.specs.declared.sync.Request.TheVariants as request
 use Rattle.rc_base.specs.declared.sync.WaitAt.{WaitAt}
 use Rattle.rc_base.specs.declared.window.Layout.{Layout}
 use Rattle.client_issue.specs.Cores.{no_tally, ends_from}
-use Rattle.client_issue.specs.Sequence.{alone, scene_of, sent_from, left_with, left_of, pending_items, request_items}
+use Rattle.client_issue.specs.Sequence.{alone, sent_from, left_with, pending_items, request_items}
 use Rattle.client_issue.specs.declared.sender.Sender.{Sender}
 use Rattle.client_issue.proofs.Ends.{shown, items_from}
 use Rattle.client_issue.proofs.Giving.{commands_next, commands_end, one_more}

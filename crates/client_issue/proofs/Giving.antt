@@ -1,31 +1,26 @@
 -- How the sequence of a client's items goes on.
-use Rattle.std.proofs.Common.{◌≡◌, ◌≢◌, ◌∙◌, ℕ, zero, suc, ◌+◌, ◌-◌, ◌<◌, ◌≤◌, Bool, true, false, List, [], ◌∷◌, ◌++◌, length, Some, None, refl, sym, ap, subst, arith, inl, inr, append-nil, append_assoc, lt-ltb}
-use Rattle.std.specs.Prelude.{map, nat_lt, slice_get, if◌then◌else◌, MatchOption, OnOk}
+use Rattle.std.proofs.Common.{◌≡◌, ◌∙◌, ℕ, zero, suc, ◌+◌, ◌-◌, ◌<◌, ◌≤◌, Bool, true, false, List, [], ◌∷◌, ◌++◌, length, Some, None, refl, sym, ap, subst, arith}
+use Rattle.std.specs.Prelude.{map, if◌then◌else◌}
 use Rattle.std.specs.declared.option.Option.{Option}
 use Rattle.std.specs.Option.{option_map_or}
 use Rattle.std.specs.List.{flat_map, range_with_len}
-use Rattle.std.proofs.lemmas.Bool.{cases_lt, cases_Bool}
 use Rattle.rc_base.specs.Contexts.Context.{ClientContext}
 use Rattle.rc_base.specs.Contexts.Faults.{fault_of}
-use Rattle.rc_base.specs.Contexts.Issue.{stream_of, context_after, effect_at, command_at, issued, issued_next, carried_out, done_by, effect_of}
-use Rattle.rc_base.specs.Orders.Journal.{has}
+use Rattle.rc_base.specs.Contexts.Issue.{stream_of, context_after, effect_at, command_at, issued, carried_out, done_by, effect_of}
 use Rattle.rc_base.specs.Orders.Sync.{wait_of, waits_below}
-use Rattle.rc_base.specs.Cluster.Tiles.{tile_count, meets_tile}
+use Rattle.rc_base.specs.Cluster.Tiles.{tile_count}
 use Rattle.rc_base.specs.Cluster.Parcels.{told, parcel_of, parcels_at, parcels_before, sets_for}
 use Rattle.rc_base.specs.Cluster.Sending.{Sending, ToTile, ToManager, sent_at, request_of}
 use Rattle.rc_base.specs.declared.command.Command.{Command}
 use Rattle.rc_base.specs.declared.command.Command.TheVariants as cmd
 use Rattle.rc_base.specs.declared.scene.Scene.{Scene}
-use Rattle.rc_base.specs.declared.scene.Decl.{Decl}
 use Rattle.rc_base.specs.declared.state.Act.{Act}
 use Rattle.rc_base.specs.declared.state.Act.TheVariants as act
 use Rattle.rc_base.specs.declared.state.Effect.{Effect}
 use Rattle.rc_base.specs.declared.state.Effect.TheVariants as eff
-use Rattle.rc_base.specs.declared.state.ElementSet.{ElementSet}
 use Rattle.rc_base.specs.declared.state.ElementValue.{ElementValue}
 use Rattle.rc_base.specs.declared.state.Fault.{Fault}
 use Rattle.rc_base.specs.declared.state.Parcel.{Parcel}
-use Rattle.rc_base.specs.declared.state.State.{State}
 use Rattle.rc_base.specs.declared.sync.WaitAt.{WaitAt}
 use Rattle.rc_base.specs.declared.window.Layout.{Layout}
 use Rattle.gl_context.specs.Streams.{StreamsGoOnByIssue}

@@ -1,17 +1,16 @@
 -- A client after it has issued its next command.
-use Rattle.std.proofs.Common.{◌≡◌, ◌≢◌, ◌∙◌, ℕ, zero, suc, ◌+◌, ◌-◌, ◌<◌, ◌≤◌, Bool, true, false, List, [], ◌∷◌, ◌++◌, length, get_or, Some, None, refl, sym, ap, subst, arith, inl, inr, append-nil, append_assoc, lt-ltb}
-use Rattle.std.specs.Prelude.{map, nat_lt, slice_get, if◌then◌else◌, MatchOption, IfSome}
+use Rattle.std.proofs.Common.{◌≡◌, ◌∙◌, ℕ, ◌+◌, ◌<◌, ◌≤◌, false, List, [], ◌++◌, length, get_or, Some, None, refl, sym, ap, subst, arith, inl, inr, append-nil, append_assoc, lt-ltb}
+use Rattle.std.specs.Prelude.{slice_get, MatchOption, IfSome}
 use Rattle.std.specs.declared.option.Option.{Option}
 use Rattle.std.specs.Option.{option_map_or, option_to_list}
 use Rattle.std.proofs.lemmas.Bool.{cases_lt, le-ltb}
 use Rattle.std.proofs.lemmas.Option.{slice_get-get_or}
 use Rattle.rc_base.specs.Contexts.Context.{ClientContext}
 use Rattle.rc_base.specs.Contexts.Issue.{stream_of, context_after, effect_at, command_at, issued, effect_of}
-use Rattle.rc_base.specs.Orders.Journal.{has}
-use Rattle.rc_base.specs.Orders.Sync.{wait_of, waits_below}
+use Rattle.rc_base.specs.Orders.Sync.{wait_of}
 use Rattle.rc_base.specs.Cluster.Tiles.{tile_count}
-use Rattle.rc_base.specs.Cluster.Parcels.{told, parcels_at, parcels_before}
-use Rattle.rc_base.specs.Cluster.Sending.{Sending, sent_at}
+use Rattle.rc_base.specs.Cluster.Parcels.{told, parcels_before}
+use Rattle.rc_base.specs.Cluster.Sending.{Sending}
 use Rattle.rc_base.specs.declared.command.Command.{Command}
 use Rattle.rc_base.specs.declared.scene.Scene.{Scene}
 use Rattle.rc_base.specs.declared.state.Act.{Act}
@@ -26,10 +25,10 @@ use Rattle.state_update.specs.Knowledge.{Knows}
 use Rattle.client_issue.specs.Acts.{act_by, goes_to, asks_of}
 use Rattle.client_issue.specs.First.{IsFirst}
 use Rattle.client_issue.specs.Issued.{wait_in}
-use Rattle.client_issue.specs.Sequence.{scene_of, sent_from_tile, sent_from, request_items, pending_items, left_with, left_of, heard, IsPending, IsSendingWith, IsSending}
+use Rattle.client_issue.specs.Sequence.{scene_of, sent_from_tile, sent_from, request_items, pending_items, left_with, left_of, heard, IsPending, IsSendingWith}
 use Rattle.client_issue.specs.declared.pending.Pending.{Pending}
 use Rattle.client_issue.specs.declared.sender.Sender.{Sender}
-use Rattle.client_issue.proofs.Giving.{skipped_to, tail_end, commands_next, command_items, nothing_sent, no_parcel, before_next, waits_next, leaves_sets, LeavesSets}
+use Rattle.client_issue.proofs.Giving.{skipped_to, tail_end, commands_next, command_items, nothing_sent, no_parcel, before_next, waits_next, leaves_sets}
 
 -- what the code did
 pub record IsIssued (s : Sender) (c : Command) (x : ClientContext) (effect : Effect) (o : Option Pending) (ops : List WaitAt) : Type 0 where
@@ -78,7 +77,7 @@ not_asked s c x effect (Some p) ops h t lt =
     let first = h.pending in
     let count : t < tile_count s.layout = omega (arith, lt, first.tile) in
     let asks : asks_of s.layout x.state effect t ≡ false =
-        ap (λ (o : Option Act). option_map_or (λ a. goes_to s.layout x.state a t) o false) first.act_is ∙ sym (first.goes t count) ∙ first.before t lt in
+    ap (λ (o : Option Act). option_map_or (λ a. goes_to s.layout x.state a t) o false) first.act_is ∙ sym (first.goes t count) ∙ first.before t lt in
     asks_before h.law (scene_of s) s.layout s.issued t
     (subst (λ (e : Effect). asks_of s.layout (context_after (scene_of s) 0 (s.issued + 1)).state e t ≡ false) (next_effect s c x effect (Some p) ops h)
     (subst (λ (y : ClientContext). asks_of s.layout y.state effect t ≡ false) (next_context s c x effect (Some p) ops h) asks))

@@ -1,8 +1,8 @@
 -- What is kept of a core is what its commands gave so far.
-use Rattle.std.proofs.Common.{◌≡◌, ◌∙◌, ℕ, zero, suc, ◌<◌, ◌≤◌, false, List, [], ◌∷◌, ◌++◌, length, refl, sym, ap, arith}
+use Rattle.std.proofs.Common.{◌≡◌, ◌∙◌, ℕ, zero, suc, ◌<◌, false, List, [], ◌∷◌, ◌++◌, length, sym, ap, arith}
 use Rattle.std.specs.Prelude.{slice_index_or}
 use Rattle.rc_base.specs.Contexts.Context.{ClientContext}
-use Rattle.rc_base.specs.Contexts.Issue.{stream_of, context_after}
+use Rattle.rc_base.specs.Contexts.Issue.{stream_of}
 use Rattle.rc_base.specs.Cluster.Sending.{Sending, ToManager, to_tiles}
 use Rattle.rc_base.specs.Cluster.Parcels.{end_parcel}
 use Rattle.rc_base.specs.declared.sync.Request.TheVariants as request

@@ -1,28 +1,25 @@
 -- A client after it has given a parcel to a tile.
-use Rattle.std.proofs.Common.{◌≡◌, ◌≢◌, ◌∙◌, ℕ, zero, suc, ◌+◌, ◌-◌, ◌<◌, ◌≤◌, Bool, true, false, List, [], ◌∷◌, ◌++◌, length, Some, None, refl, sym, ap, subst, arith, inl, inr, append-nil, append_assoc, lt-ltb}
-use Rattle.std.specs.Prelude.{map, nat_lt, if◌then◌else◌, IfSome}
+use Rattle.std.proofs.Common.{◌≡◌, ◌≢◌, ◌∙◌, ℕ, ◌+◌, ◌<◌, ◌≤◌, true, false, List, [], ◌∷◌, ◌++◌, length, Some, None, sym, ap, subst, arith, inl, inr, append-nil}
+use Rattle.std.specs.Prelude.{map}
 use Rattle.std.specs.declared.option.Option.{Option}
 use Rattle.std.specs.Option.{option_map_or}
-use Rattle.std.proofs.lemmas.Bool.{cases_lt, le-ltb}
+use Rattle.std.proofs.lemmas.Bool.{cases_lt}
 use Rattle.rc_base.specs.Contexts.Context.{ClientContext}
 use Rattle.rc_base.specs.Contexts.Issue.{context_after, effect_at}
 use Rattle.rc_base.specs.Orders.Journal.{has}
 use Rattle.rc_base.specs.Cluster.Tiles.{tile_count}
 use Rattle.rc_base.specs.Cluster.Parcels.{told, parcels_at, parcels_before}
 use Rattle.rc_base.specs.Cluster.Sending.{Sending, ToTile}
-use Rattle.rc_base.specs.declared.scene.Scene.{Scene}
 use Rattle.rc_base.specs.declared.state.Act.{Act}
 use Rattle.rc_base.specs.declared.state.ElementSet.{ElementSet}
 use Rattle.rc_base.specs.declared.state.ElementValue.{ElementValue}
 use Rattle.rc_base.specs.declared.state.Parcel.{Parcel}
-use Rattle.rc_base.specs.declared.sync.WaitAt.{WaitAt}
-use Rattle.rc_base.specs.declared.window.Layout.{Layout}
 use Rattle.gl_context.specs.Streams.{StreamsGoOnByIssue}
 use Rattle.state_update.specs.Knowledge.{Knows, after_sets}
 use Rattle.state_update.specs.Streams.{ParcelsTellTheirSets}
 use Rattle.state_update.specs.declared.told.Told.{Told}
-use Rattle.client_issue.specs.Acts.{act_by, goes_to, asks_of, act_sets}
-use Rattle.client_issue.specs.Sequence.{scene_of, sent_to, sent_from_tile, sent_from, request_items, left_with, left_of, heard, IsPending, IsSendingWith, IsSending}
+use Rattle.client_issue.specs.Acts.{goes_to, asks_of, act_sets}
+use Rattle.client_issue.specs.Sequence.{scene_of, sent_to, sent_from_tile, sent_from, request_items, left_with, left_of, heard, IsSendingWith}
 use Rattle.client_issue.specs.declared.pending.Pending.{Pending}
 use Rattle.client_issue.specs.declared.sender.Sender.{Sender}
 use Rattle.client_issue.proofs.Giving.{tail_next, tail_end, skipped_to, nothing_sent, no_parcel, parcel_is, before_next, leaves_sets}
@@ -93,9 +90,9 @@ given_left s p tracker sets next h =
     let e = h.sending.count in
     let m = h.high in
     let this : sent_to scene l p.place p.tile ≡ ToTile p.tile (parcel_by p sets) ∷ [] =
-        ap (λ (ps : List Parcel). map (λ (q : Parcel). ToTile p.tile q) ps) (parcel_given s p tracker sets next h) in
+    ap (λ (ps : List Parcel). map (λ (q : Parcel). ToTile p.tile q) ps) (parcel_given s p tracker sets next h) in
     let rest : sent_from_tile scene l p.place (p.tile + 1) ≡ sent_from_tile scene l p.place next =
-        skipped_to scene l p.place (p.tile + 1) next h.low (omega (arith, e, m)) (λ t low high. nothing_sent scene l t p.place (not_asked s p tracker sets next h t low high)) in
+    skipped_to scene l p.place (p.tile + 1) next h.low (omega (arith, e, m)) (λ t low high. nothing_sent scene l t p.place (not_asked s p tracker sets next h t low high)) in
     ap (λ (items : List Sending). items ++ (request_items s.request ++ sent_from scene l s.issued))
     (tail_next scene l p.place p.tile h.sending.pending.tile ∙ (λ i. this i ++ rest i))
 
@@ -113,8 +110,8 @@ known_told s p tracker sets next h =
     let told_sets : Knows tracker p.tile (after_sets (values_of s p) sets) = subst (λ (more : List ElementSet). Knows tracker p.tile (after_sets (values_of s p) more)) (sym same) now in
     let after : Knows tracker p.tile (told s.decl (earlier s p p.tile ++ parcel_by p sets ∷ [])) = h.follow tracker p.tile s.decl (earlier s p p.tile) (parcel_by p sets) told_sets in
     let all : parcels_before (scene_of s) s.layout 0 p.tile s.issued ≡ earlier s p p.tile ++ parcel_by p sets ∷ [] =
-        ap (parcels_before (scene_of s) s.layout 0 p.tile) pending.last ∙ before_next (scene_of s) s.layout p.tile p.place
-        ∙ ap (λ (ps : List Parcel). earlier s p p.tile ++ ps) (parcel_given s p tracker sets next h) in
+    ap (parcels_before (scene_of s) s.layout 0 p.tile) pending.last ∙ before_next (scene_of s) s.layout p.tile p.place
+    ∙ ap (λ (ps : List Parcel). earlier s p p.tile ++ ps) (parcel_given s p tracker sets next h) in
     subst (λ (ps : List Parcel). Knows tracker p.tile (told s.decl ps)) (sym all) after
 
 known_old : (s : Sender) (p : Pending) (tracker : List Told) (sets : List ElementSet) (next : ℕ) → IsGiven s p tracker sets next
@@ -130,9 +127,9 @@ known_between s p tracker sets next h tile lt low high =
     let scene = scene_of s in
     let before = known_old s p tracker sets next h tile p.place lt (omega (arith, low)) (heard_more p s.issued tile (omega (arith, low))) in
     let all : parcels_before scene s.layout 0 tile s.issued ≡ parcels_before scene s.layout 0 tile p.place =
-        ap (parcels_before scene s.layout 0 tile) pending.last ∙ before_next scene s.layout tile p.place
-        ∙ ap (λ (ps : List Parcel). parcels_before scene s.layout 0 tile p.place ++ ps) (no_parcel scene s.layout tile p.place (not_asked s p tracker sets next h tile low high))
-        ∙ append-nil (parcels_before scene s.layout 0 tile p.place) in
+    ap (parcels_before scene s.layout 0 tile) pending.last ∙ before_next scene s.layout tile p.place
+    ∙ ap (λ (ps : List Parcel). parcels_before scene s.layout 0 tile p.place ++ ps) (no_parcel scene s.layout tile p.place (not_asked s p tracker sets next h tile low high))
+    ∙ append-nil (parcels_before scene s.layout 0 tile p.place) in
     subst (λ (ps : List Parcel). Knows tracker tile (told s.decl ps)) (sym all) before
 
 known_below : (s : Sender) (p : Pending) (tracker : List Told) (sets : List ElementSet) (next : ℕ) → IsGiven s p tracker sets next

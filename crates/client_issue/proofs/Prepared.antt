@@ -1,13 +1,10 @@
 -- A core whose next item is made ready.
-use Rattle.std.proofs.Common.{◌≡◌, ◌∙◌, ℕ, ◌+◌, ◌<◌, ◌≤◌, false, List, [], ◌∷◌, ◌++◌, length, Some, None, refl, sym, ap, subst, append_assoc, get_or}
+use Rattle.std.proofs.Common.{◌≡◌, ◌∙◌, ℕ, ◌+◌, ◌<◌, ◌≤◌, false, List, [], ◌∷◌, ◌++◌, length, Some, None, refl, sym, ap, subst, get_or}
 use Rattle.std.specs.Prelude.{IfSome, slice_set}
 use Rattle.std.proofs.lemmas.List.{get_or-set_same, get_or-set_other, get_or_default}
 use Rattle.rc_base.specs.declared.cluster.Tally.{Tally}
 use Rattle.rc_base.specs.declared.state.Parcel.{Parcel}
 use Rattle.std.specs.declared.option.Option.{Option}
-use Rattle.rc_base.specs.Cluster.Sending.{Sending}
-use Rattle.rc_base.specs.declared.command.Command.{Command}
-use Rattle.rc_base.specs.declared.window.Layout.{Layout}
 use Rattle.client_issue.specs.Sequence.{IsForTile, IsSame, left_of, item_of, items_of}
 use Rattle.client_issue.specs.Cores.{IsClient, IsTallied, AreSameTallies, no_tally, tally_of_tile, tally_after, left_in, ends_from}
 use Rattle.client_issue.specs.declared.client.ClientCore.{ClientCore}

@@ -1,7 +1,7 @@
 -- A client after it has given a request.
-use Rattle.std.proofs.Common.{◌≡◌, ◌∙◌, ℕ, ◌≤◌, List, [], ◌∷◌, ◌++◌, length, Some, None, refl, sym, ap, subst, arith}
+use Rattle.std.proofs.Common.{◌≡◌, ◌∙◌, [], ◌∷◌, ◌++◌, length, Some, None, refl, sym, ap, arith}
 use Rattle.std.specs.declared.option.Option.{Option}
-use Rattle.rc_base.specs.Cluster.Sending.{Sending, ToManager, request_of}
+use Rattle.rc_base.specs.Cluster.Sending.{ToManager, request_of}
 use Rattle.rc_base.specs.declared.sync.WaitAt.{WaitAt}
 use Rattle.client_issue.specs.Sequence.{scene_of, sent_from, pending_items, request_items, left_with, left_of, IsSendingWith}
 use Rattle.client_issue.specs.declared.pending.Pending.{Pending}

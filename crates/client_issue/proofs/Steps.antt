@@ -1,5 +1,5 @@
 -- A step is an append of the item that is ready, or was made so.
-use Rattle.std.proofs.Common.{◌≡◌, ◌∙◌, ℕ, false, true, List, [], ◌∷◌, ◌++◌, Some, None, refl, sym, ap, subst}
+use Rattle.std.proofs.Common.{◌≡◌, ◌∙◌, ℕ, true, List, [], Some, None, sym, ap, subst}
 use Rattle.std.specs.Prelude.{is_some, slice_index_or, ◌<◌}
 use Rattle.rc_base.specs.declared.cluster.Tally.{Tally}
 use Rattle.std.specs.declared.option.Option.{Option}
@@ -10,7 +10,7 @@ use Rattle.rc_base.specs.declared.state.Parcel.{Parcel}
 use Rattle.rc_base.specs.declared.sync.Request.{Request}
 use Rattle.rc_base.specs.declared.window.Layout.{Layout}
 use Rattle.client_issue.specs.Sequence.{IsSame}
-use Rattle.client_issue.specs.Cores.{left_in, layout_of, tally_of_tile, no_tally, tally_after, IsTallied, AreSameTallies}
+use Rattle.client_issue.specs.Cores.{left_in, layout_of, tally_of_tile, no_tally, tally_after}
 use Rattle.client_issue.specs.Moves.{OnAppended, OnRequested, OnBlockedTile, OnBlockedRequest, OnEnded, IsAppended, IsRequested, IsBlockedTile, IsBlockedRequest, HasEnded}
 use Rattle.client_issue.specs.declared.client.ClientCore.{ClientCore}
 use Rattle.client_issue.specs.declared.item.Item.{Item}

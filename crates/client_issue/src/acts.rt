@@ -34,7 +34,6 @@ fn window(layout: &Layout) -> Rect
     }
 }
 
-
 fn block_tiles(layout: &Layout, state: &State, block: &Block) -> u32
     requires { tile_count layout.now ≤ 32 }
     ensures { (t : ℕ) → t < tile_count layout.now → has result t ≡ meets_tile layout.now state.now (eff.Block block.now) t }

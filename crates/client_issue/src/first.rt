@@ -23,7 +23,13 @@ use state_update::Tracker;
 use state_update::laws::trackers_follow_parcels;
 use std::alloc::Global;
 
-fn first_sender(alloc: Global, decl: &Decl, stream: Commands, layout: &Layout, count: u8) -> Result<Sender, OutOfMemory>
+fn first_sender(
+    alloc: Global,
+    decl: &Decl,
+    stream: Commands,
+    layout: &Layout,
+    count: u8,
+) -> Result<Sender, OutOfMemory>
     requires few { length stream < 2 ^ 32 }
     requires commands { AllByRecursion IsCommand stream }
     requires count { count ≡ tile_count layout.now }
@@ -85,7 +91,12 @@ fn commands_of(scene: &Scene, client: u8) -> &[Command]
 impl ClientCore {
     /// The core of a client of a scene, with a copy of its commands, before its first step. The layout has at most 32 tiles, the client's
     /// stream fewer than 2^32 commands, and each of their fields is in its range, as in every scene that was read. End parcels take no memory.
-    pub fn new(alloc: Global, scene: &Scene, client: u8, layout: &Layout) -> Result<ClientCore, OutOfMemory>
+    pub fn new(
+        alloc: Global,
+        scene: &Scene,
+        client: u8,
+        layout: &Layout,
+    ) -> Result<ClientCore, OutOfMemory>
         requires client { client < length scene.now.streams }
         requires few { length (stream_of scene.now client) < 2 ^ 32 }
         requires commands { AllByRecursion IsCommand (stream_of scene.now client) }

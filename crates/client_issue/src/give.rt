@@ -66,7 +66,10 @@ impl Sender {
         )?;
         let next = next_tile(pending.tiles, tile + 1, self.count);
         let Pending {
-            place, act, tiles, ..
+            place,
+            act,
+            tiles,
+            ..
         } = pending;
         if next == self.count {
             let parcel = Parcel { place, sets, act };

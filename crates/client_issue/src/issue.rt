@@ -52,7 +52,9 @@ impl Sender {
         commands_have_texels();
         streams_go_on_by_issue();
         let place = self.issued;
-        let effect = self.context.issue(place, &self.stream.as_slice()[place as usize])?;
+        let effect = self
+            .context
+            .issue(place, &self.stream.as_slice()[place as usize])?;
         let wait = wait_of(place, &effect);
         add(&mut self.ops, wait)?;
         self.request = wait;

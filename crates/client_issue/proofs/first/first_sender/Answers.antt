@@ -1,4 +1,4 @@
-use Rattle.std.proofs.Common.{◌≡◌, ◌∙◌, ℕ, List, [], refl, ap, sym, subst, arith}
+use Rattle.std.proofs.Common.{◌∙◌, List, [], refl, ap, sym, subst, arith}
 use Rattle.rc_base.specs.Contexts.Context.{default_context}
 use Rattle.rc_base.specs.Cluster.Parcels.{told}
 use Rattle.rc_base.specs.declared.scene.Decl.{Decl}

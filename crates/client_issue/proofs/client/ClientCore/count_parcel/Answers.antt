@@ -1,4 +1,4 @@
-use Rattle.std.proofs.Common.{◌≡◌, ◌∙◌, ◌+◌, ◌<◌, ℕ, min, length, refl, sym, ap, arith}
+use Rattle.std.proofs.Common.{◌∙◌, ◌+◌, ℕ, min, refl, sym, ap, arith}
 use Rattle.rc_base.specs.Outside.Causes.{last_count}
 use Rattle.client_issue.proofs.Prepared.{tallied_by}
 use Rattle.client_issue.proofs.client.ClientCore.count_parcel.Goals as goal

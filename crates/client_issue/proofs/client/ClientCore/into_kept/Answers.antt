@@ -1,4 +1,3 @@
-use Rattle.std.proofs.Common.{refl, rules}
 use Rattle.client_issue.proofs.Keeping.{kept_is}
 use Rattle.client_issue.proofs.client.ClientCore.into_kept.Goals as goal
 

@@ -1,9 +1,6 @@
-use Rattle.std.proofs.Common.{◌≡◌, ◌∙◌, ◌+◌, ◌<◌, ◌≤◌, ◌∷◌, ℕ, List, length, ap, sym, arith, rules}
-use Rattle.rc_base.specs.Cluster.Tiles.{tile_count}
+use Rattle.std.proofs.Common.{◌∙◌, ◌+◌, ◌∷◌, length, sym, arith}
 use Rattle.rc_base.specs.Cluster.Sending.{ToTile}
 use Rattle.rc_base.specs.declared.state.Act.TheVariants as act
-use Rattle.rc_base.specs.declared.state.ElementSet.{ElementSet}
-use Rattle.rc_base.specs.declared.state.Parcel.{Parcel}
 use Rattle.client_issue.specs.Cores.{ends_from}
 use Rattle.client_issue.proofs.Ends.{ends_none, ends_last, ends_more}
 use Rattle.client_issue.proofs.client.ClientCore.next_end.Goals as goal

@@ -1,8 +1,8 @@
-use Rattle.std.proofs.Common.{◌≡◌, ◌∙◌, ℕ, false, None, []}
+use Rattle.std.proofs.Common.{◌≡◌, false, None}
 use Rattle.rc_base.specs.Outside.Causes.{Rose}
 use Rattle.client_issue.specs.Cores.{short_of}
 use Rattle.client_issue.specs.Moves.{IsAppended, IsRequested, IsBlockedTile, IsBlockedRequest, HasEnded}
-use Rattle.client_issue.proofs.Steps.{on_appended, on_requested, on_blocked_tile, on_blocked_request, on_ended, IsAlike, alike, appended_from, blocked_from, requested_from, blocked_request_from, ended_from}
+use Rattle.client_issue.proofs.Steps.{on_appended, on_requested, on_blocked_tile, on_blocked_request, on_ended, alike, appended_from, blocked_from, requested_from, blocked_request_from, ended_from}
 use Rattle.client_issue.proofs.client.ClientCore.step.Goals as goal
 
 pub returns-clause-appended : goal.returns-clause-appended
@@ -42,8 +42,11 @@ returns-clause-blocked_tile g c =
     × (c.send-2.new.requests ≡ c.args.requests.now))
     (λ k. short_of s ≡ false → IsBlockedTile g.P.Outlet.sent (λ a b. Rose (g.P.Outlet.full_seen a) (g.P.Outlet.full_seen b) × g.P.Outlet.full b) c.args.tiles.now c.send-2.new.tiles s u k
     × (c.send-2.new.requests ≡ c.args.requests.now))
-    (λ k h going. (blocked_from g.P.Outlet.sent (λ a b. Rose (g.P.Outlet.full_seen a) (g.P.Outlet.full_seen b) × g.P.Outlet.full b) c.args.tiles.now c.send-2.new.tiles s t u k
-    (alike s t (e.left going) e.same e.tallies) h.0, h.1))
+    (λ k h going. (
+      blocked_from g.P.Outlet.sent (λ a b. Rose (g.P.Outlet.full_seen a) (g.P.Outlet.full_seen b) × g.P.Outlet.full b) c.args.tiles.now c.send-2.new.tiles s t u k
+          (alike s t (e.left going) e.same e.tallies) h.0,
+      h.1,
+    ))
     c.send-2.ensures.blocked_tile
 
 pub returns-clause-blocked_request : goal.returns-clause-blocked_request

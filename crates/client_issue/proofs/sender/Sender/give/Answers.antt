@@ -1,4 +1,4 @@
-use Rattle.std.proofs.Common.{◌≡◌, ◌∙◌, ap, sym, subst, Some, None}
+use Rattle.std.proofs.Common.{◌∙◌, ap, sym, subst, Some}
 use Rattle.std.specs.declared.option.Option.{Option}
 use Rattle.client_issue.specs.Sequence.{IsSendingWith, left_with}
 use Rattle.client_issue.specs.declared.pending.Pending.{Pending}

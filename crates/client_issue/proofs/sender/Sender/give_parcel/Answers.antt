@@ -1,10 +1,9 @@
-use Rattle.std.proofs.Common.{◌≡◌, ◌∙◌, ◌<◌, ◌≤◌, ◌∷◌, ℕ, Some, None, ap, subst, sym, arith, refl}
+use Rattle.std.proofs.Common.{◌∙◌, ◌<◌, ◌∷◌, Some, ap, subst, sym, arith, refl}
 use Rattle.std.specs.declared.option.Option.{Option}
 use Rattle.rc_base.specs.Cluster.Sending.{ToTile}
 use Rattle.rc_base.specs.declared.state.Act.{Act}
-use Rattle.client_issue.specs.Sequence.{IsSendingWith, left_with, left_of}
+use Rattle.client_issue.specs.Sequence.{IsSendingWith, left_of}
 use Rattle.client_issue.specs.declared.pending.Pending.{Pending}
-use Rattle.client_issue.specs.declared.sender.Sender.{Sender}
 use Rattle.client_issue.proofs.ParcelGiven.{IsGiven, given_all, given_one, left_last, left_more, parcel_by}
 use Rattle.client_issue.proofs.sender.Sender.give_parcel.Goals as goal
 

@@ -1,18 +1,13 @@
-use Rattle.std.proofs.Common.{◌≡◌, ℕ, arith, false, ◌∙◌, ◌+◌, ap, subst, sym, Some, None, List, ◌<◌, length, ◌++◌, rules}
-use Rattle.std.specs.Prelude.{slice_get, MatchOption}
+use Rattle.std.proofs.Common.{◌≡◌, ℕ, arith, false, ◌∙◌, ◌+◌, ap, subst, sym, ◌<◌, length, ◌++◌}
+use Rattle.std.specs.Prelude.{MatchOption}
 use Rattle.std.specs.declared.option.Option.{Option}
 use Rattle.std.specs.Option.{option_to_list}
-use Rattle.std.proofs.lemmas.Option.{slice_get-get_or}
-use Rattle.rc_base.specs.Contexts.Issue.{command_at, issued, effect_of}
-use Rattle.rc_base.specs.declared.command.Command.{Command}
 use Rattle.rc_base.specs.declared.state.State.{State}
 use Rattle.rc_base.specs.declared.sync.WaitAt.{WaitAt}
 use Rattle.client_issue.specs.Acts.{asks_of}
 use Rattle.client_issue.specs.First.{IsFirst}
-use Rattle.client_issue.specs.Issued.{wait_in}
 use Rattle.client_issue.specs.Sequence.{scene_of, IsSendingWith, left_of}
 use Rattle.client_issue.specs.declared.pending.Pending.{Pending}
-use Rattle.client_issue.specs.declared.sender.Sender.{Sender}
 use Rattle.client_issue.proofs.Issuing.{IsIssued, command_is, issued_sending, issued_left}
 use Rattle.client_issue.proofs.sender.Sender.issue_next.Goals as goal
 

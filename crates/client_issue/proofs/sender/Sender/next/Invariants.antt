@@ -1,4 +1,4 @@
-use Rattle.std.proofs.Common.{◌≡◌, ◌-◌, ℕ, length}
+use Rattle.std.proofs.Common.{◌≡◌, ◌-◌, length}
 use Rattle.client_issue.specs.Sequence.{IsSame, IsSending, left_of}
 use Rattle.client_issue.proofs.sender.Sender.next.Given as goal
 
