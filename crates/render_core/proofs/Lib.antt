@@ -1,6 +1,8 @@
 pub mod OneWord
 pub mod Prefixes
+pub mod WithinLimits
 pub mod Judging
-pub mod FewCommands
-pub mod Making
-pub mod Exactness
+pub mod Endings
+pub mod ReportLines
+pub mod Dues
+pub mod Performing

@@ -8,9 +8,12 @@ use Rattle.rc_base.specs.declared.scene.Scene.{Scene}
 use Rattle.rc_base.specs.declared.scene.SceneKind.{SceneKind}
 use Rattle.rc_base.specs.declared.scene.TextKind.{TextKind}
 use Rattle.scene_file.specs.Faults.{FailsAsScene}
+use Rattle.render_core.specs.declared.due.Ending.{Ending}
+use Rattle.render_core.specs.declared.due.Ending.TheVariants.{Complete, Stuck}
+use Rattle.render_core.specs.declared.job.Form.{Form}
+use Rattle.render_core.specs.declared.job.Form.TheVariants.{Bytes, Text}
 use Rattle.render_core.specs.declared.job.Job.{Job}
-use Rattle.render_core.specs.declared.job.Job.TheVariants.{Render, Pack, Unpack}
-use Rattle.render_core.specs.Jobs.{Spells, IsOfForm, IsInput}
+use Rattle.render_core.specs.Jobs.{form_of, Spells, Outcome, IsOutcome}
 use Rattle.render_core.specs.Lines.{scene_kind_name, text_kind_name, malformed_line, limit_line, not_built_line}
 
 pub data Finding : Type 0 where
@@ -20,20 +23,29 @@ pub data Finding : Type 0 where
   Malformed : Finding
   -- a scene of which this is the first quantity outside its range
   Outside : Limit → Finding
-  -- a scene within the limits that is not drawn so far
+  -- a scene within the limits for which nothing is due so far
   Undrawn : Finding
-  -- a scene that is carried out
-  Sound : Scene → Finding
+  -- a scene within the limits for which this is due
+  Sound : Scene → Outcome → Finding
+
+-- an input within the limit of bytes spells a scene within the limits
+pub record IsInput (form : Form) (input : List ℕ) (scene : Scene) : Type 0 where
+  pub short : length input ≤ byte_limit
+  pub spelled : Spells form input scene
+  pub within : limit_of scene ≡ None
 
 -- the input is this to the job
 abbrev pub IsFinding : Job → List ℕ → Finding → Type 0
 IsFinding job input Long = byte_limit < length input
-IsFinding job input Malformed = (length input ≤ byte_limit) × ((scene : Scene) → Spells job input scene → ⊥)
-IsFinding job input (Outside limit) =
-    (length input ≤ byte_limit) × ((scene : Scene) × Spells job input scene × (limit_of scene ≡ Some limit))
-IsFinding job input Undrawn =
-    (length input ≤ byte_limit) × ((scene : Scene) × Spells job input scene × (limit_of scene ≡ None) × (IsOfForm job scene → ⊥))
-IsFinding job input (Sound scene) = IsInput job input scene
+IsFinding job input Malformed = (length input ≤ byte_limit) × ((scene : Scene) → Spells (form_of job) input scene → ⊥)
+IsFinding job input (Outside limit) = (length input ≤ byte_limit) × ((scene : Scene) × Spells (form_of job) input scene × (limit_of scene ≡ Some limit))
+IsFinding job input Undrawn = (scene : Scene) × IsInput (form_of job) input scene × ((o : Outcome) → IsOutcome job scene o → ⊥)
+IsFinding job input (Sound scene o) = IsInput (form_of job) input scene × IsOutcome job scene o
+
+-- the status of a run that comes to its end
+abbrev pub ending_status : Ending → ℕ
+ending_status Complete = 0
+ending_status Stuck = 5
 
 -- the status of a run that finds this
 abbrev pub finding_status : Finding → ℕ
@@ -41,7 +53,7 @@ finding_status Long = 4
 finding_status Malformed = 3
 finding_status (Outside limit) = 4
 finding_status Undrawn = 10
-finding_status (Sound scene) = 0
+finding_status (Sound scene o) = ending_status o.ending
 
 -- the input is this to the job, and nothing of another status
 pub record Finds (job : Job) (input : List ℕ) (finding : Finding) : Type 0 where
@@ -50,29 +62,18 @@ pub record Finds (job : Job) (input : List ℕ) (finding : Finding) : Type 0 whe
 
 -- ---- the line that tells it
 
--- the first fault of bytes, and its place
-abbrev pub TellsSceneFault : List ℕ → List ℕ → Type 0
-TellsSceneFault input line =
-    (kind : SceneKind) × (at : ℕ) × FailsAsScene input kind at × (line ≡ malformed_line (scene_kind_name kind) at)
-
--- the first fault of a text, and its line
-abbrev pub TellsTextFault : List ℕ → List ℕ → Type 0
-TellsTextFault input line =
-    (kind : TextKind) × (at : ℕ) × (text_fault input ≡ Some (at, kind)) × (line ≡ malformed_line (text_kind_name kind) at)
-
--- the first fault of an input
-abbrev pub TellsFault : Job → List ℕ → List ℕ → Type 0
-TellsFault Render input line = TellsSceneFault input line
-TellsFault Pack input line = TellsTextFault input line
-TellsFault Unpack input line = TellsSceneFault input line
+-- the first fault of bytes and its place, or of a text and its line
+abbrev pub TellsFault : Form → List ℕ → List ℕ → Type 0
+TellsFault Bytes input line = (kind : SceneKind) × (at : ℕ) × FailsAsScene input kind at × (line ≡ malformed_line (scene_kind_name kind) at)
+TellsFault Text input line = (kind : TextKind) × (at : ℕ) × (text_fault input ≡ Some (at, kind)) × (line ≡ malformed_line (text_kind_name kind) at)
 
 -- the line tells why the job refuses this; what is sound is not refused
 abbrev pub TellsFinding : Job → List ℕ → Finding → List ℕ → Type 0
 TellsFinding job input Long line = line ≡ limit_line 1 (byte_limit + 1)
-TellsFinding job input Malformed line = TellsFault job input line
+TellsFinding job input Malformed line = TellsFault (form_of job) input line
 TellsFinding job input (Outside limit) line = line ≡ limit_line limit.what limit.value
 TellsFinding job input Undrawn line = line ≡ not_built_line
-TellsFinding job input (Sound scene) line = ⊥
+TellsFinding job input (Sound scene o) line = ⊥
 
 -- the job refuses the input with this status and this line
 pub record IsJudged (job : Job) (input : List ℕ) (status : ℕ) (line : List ℕ) : Type 0 where

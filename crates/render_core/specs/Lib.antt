@@ -3,3 +3,4 @@ pub mod Lines
 pub mod Findings
 pub mod Outcomes
 pub mod Refusals
+pub mod Reports

@@ -1,5 +1,5 @@
 -- How a run may end: what each status says of the words, of the bytes of the source, and of what the image and the notes were given.
-use Rattle.std.specs.Prelude.{◌≡◌, ℕ, ◌+◌, ◌<◌, ◌≤◌, ◌⊎◌, List, length, take, Option}
+use Rattle.std.specs.Prelude.{◌≡◌, ◌≢◌, ℕ, ◌+◌, ◌<◌, ◌≤◌, ◌⊎◌, ◌↔◌, List, [], ◌++◌, length, take, Option, Some}
 use Rattle.std.specs.declared.string.String.{String}
 use Rattle.std.specs.Global.{Global}
 use Rattle.std.specs.Io.KnownBytes.{Consumes, Appends, IsAtEnd}
@@ -7,101 +7,157 @@ use Rattle.rc_base.specs.Outside.Causes.{Rose}
 use Rattle.rc_base.specs.Outside.Transfer.{byte_limit}
 use Rattle.rc_base.specs.declared.scene.Scene.{Scene}
 use Rattle.render_core.specs.declared.job.Job.{Job}
-use Rattle.render_core.specs.Jobs.{IsJob, SpellsAgain, due, due_notes}
-use Rattle.render_core.specs.Lines.{image_fault_line, read_fault_line, memory_line}
-use Rattle.render_core.specs.Findings.{Sound, Finds, IsJudged}
+use Rattle.render_core.specs.declared.due.Ending.TheVariants.{Complete, Stuck as IsStuckEnding}
+use Rattle.render_core.specs.Jobs.{IsJob, Outcome}
+use Rattle.render_core.specs.Lines.{image_fault_line, usage_line, read_fault_line, memory_line}
+use Rattle.render_core.specs.Findings.{Finding, IsFinding, Sound, Finds, IsJudged, finding_status}
 
--- the words are a job, of which this holds
+-- the words name a job, of which this holds
 abbrev pub ForJob : List (String Global) → (Job → Type 0) → Type 0
 ForJob words holds = (job : Job) × IsJob words job × holds job
 
--- The input was taken from the front of the source: all that it had, or of more than the limit one byte more than that.
-pub record TookInput (before after : Option (List ℕ)) (input : List ℕ) : Type 0 where
-  pub taken : Consumes before after input
-  pub most : length input ≤ byte_limit + 1
-  pub all : length input ≤ byte_limit → IsAtEnd after
+-- ---- the ends of the program
 
--- the notes were given the line, or the front of it where they failed
-abbrev pub Noted : Option (List ℕ) → Option (List ℕ) → ℕ → ℕ → List ℕ → Type 0
-Noted before after faults_before faults_after line =
-    Appends before after line ⊎ (Rose faults_before faults_after × ((n : ℕ) × (n < length line) × Appends before after (take n line)))
+-- An end before and after a run: the bytes that it tells, which are those that a source has left and those that a sink holds, and its count of
+-- faults.
+pub record Used : Type 0 where
+  pub before : Option (List ℕ)
+  pub after : Option (List ℕ)
+  pub faults_before : ℕ
+  pub faults_after : ℕ
+
+abbrev pub used : Option (List ℕ) → Option (List ℕ) → ℕ → ℕ → Used
+used before after faults_before faults_after = record { before = before; after = after; faults_before = faults_before; faults_after = faults_after }
+
+-- it failed
+abbrev pub Failed : Used → Type 0
+Failed e = Rose e.faults_before e.faults_after
+
+-- none of its calls was refused
+abbrev pub IsCalm : Used → Type 0
+IsCalm e = e.faults_after ≡ e.faults_before
+
+-- it was given these bytes
+abbrev pub Took : Used → List ℕ → Type 0
+Took e bytes = Appends e.before e.after bytes
+
+-- it was given the lines, or the front of them where it failed
+abbrev pub Noted : Used → List ℕ → Type 0
+Noted e lines = Took e lines ⊎ (Failed e × ((n : ℕ) × (n < length lines) × Took e (take n lines)))
+
+-- The input was taken from the front of the source: all that it had, or of more than the limit one byte more than that.
+pub record TookInput (source : Used) (input : List ℕ) : Type 0 where
+  pub taken : Consumes source.before source.after input
+  pub most : length input ≤ byte_limit + 1
+  pub all : length input ≤ byte_limit → IsAtEnd source.after
 
 -- ---- what a job left of its source and of its image
 
--- the input was taken and is carried out, the image was given what is due, which spells the scene again where it isn't drawn, and these lines are
--- due to the notes
-pub record Carried (job : Job) (left_before left_after held_before held_after : Option (List ℕ)) (lines : List ℕ) : Type 0 where
+-- the input was taken, and this is due for the scene that it spells
+pub record IsDue (job : Job) (source : Used) (o : Outcome) : Type 0 where
   pub input : List ℕ
-  pub took : TookInput left_before left_after input
+  pub took : TookInput source input
   pub scene : Scene
-  pub finds : Finds job input (Sound scene)
-  pub given : Appends held_before held_after (due job scene)
-  pub again : SpellsAgain job (due job scene) scene
-  pub lines_are : lines ≡ due_notes job scene
+  pub finds : Finds job input (Sound scene o)
+  pub calm : IsCalm source
 
--- the job is carried out, and the notes were given all their lines
-pub record Done (job : Job) (left_before left_after held_before held_after noted_before noted_after : Option (List ℕ)) : Type 0 where
+-- the image failed when it had taken so many bytes of what is due, which is told behind these lines
+pub record CutOff (image : Used) (o : Outcome) (front lines : List ℕ) : Type 0 where
+  pub failed : Failed image
+  pub done : ℕ
+  pub part : done < length o.image
+  pub given : Took image (take done o.image)
+  pub lines_are : lines ≡ front ++ image_fault_line done
+
+-- the image was given a front of what is due, which may be the whole
+pub record PartlyWritten (job : Job) (source image : Used) : Type 0 where
+  pub o : Outcome
+  pub due : IsDue job source o
+  pub done : ℕ
+  pub part : done ≤ length o.image
+  pub given : Took image (take done o.image)
+
+-- What is due was given to the image, and these lines are due to the notes. An image that fails keeps no report from the notes of a job that is
+-- stuck.
+pub data Sent (image : Used) (o : Outcome) (lines : List ℕ) : Type 0 where
+  Whole : Took image o.image → IsCalm image → lines ≡ o.notes → Sent image o lines
+  Front : o.ending ≢ Complete → CutOff image o o.notes lines → Sent image o lines
+
+-- ---- how a job ended
+
+-- it is carried out: the image was given what is due, and so were the notes
+pub record Done (job : Job) (source image notes : Used) : Type 0 where
+  pub o : Outcome
+  pub due : IsDue job source o
+  pub complete : o.ending ≡ Complete
+  pub given : Took image o.image
+  pub calm_image : IsCalm image
+  pub told : Took notes o.notes
+  pub calm_notes : IsCalm notes
+
+-- it is carried out but for its notes, which failed when the image was whole
+pub record NotesFailed (job : Job) (source image notes : Used) : Type 0 where
+  pub o : Outcome
+  pub due : IsDue job source o
+  pub complete : o.ending ≡ Complete
+  pub given : Took image o.image
+  pub calm_image : IsCalm image
+  pub failed : Failed notes
+  pub done : ℕ
+  pub part : done < length o.notes
+  pub told : Took notes (take done o.notes)
+
+-- a client of its scene waits for ever: the image was given what is due, or a front of it where it failed, and the notes the report
+pub record Stuck (job : Job) (source image notes : Used) : Type 0 where
+  pub o : Outcome
+  pub due : IsDue job source o
+  pub stuck : o.ending ≡ IsStuckEnding
   pub lines : List ℕ
-  pub carried : Carried job left_before left_after held_before held_after lines
-  pub told : Appends noted_before noted_after lines
-
--- the job is carried out, and the notes failed before they had taken all their lines
-pub record NotesFailed (job : Job) (left_before left_after held_before held_after noted_before noted_after : Option (List ℕ))
-    (faults_before faults_after : ℕ) : Type 0 where
-  pub lines : List ℕ
-  pub carried : Carried job left_before left_after held_before held_after lines
-  pub failed : Rose faults_before faults_after
-  pub done : ℕ
-  pub part : done < length lines
-  pub told : Appends noted_before noted_after (take done lines)
-
--- the input was taken and is carried out, and the image was given a front of what is due, which may be the whole
-pub record PartlyCarried (job : Job) (left_before left_after held_before held_after : Option (List ℕ)) : Type 0 where
-  pub input : List ℕ
-  pub took : TookInput left_before left_after input
-  pub scene : Scene
-  pub finds : Finds job input (Sound scene)
-  pub done : ℕ
-  pub part : done ≤ length (due job scene)
-  pub given : Appends held_before held_after (take done (due job scene))
-
--- the same with less than what is due, and the line says how many bytes of it
-pub record IsCutOff (job : Job) (left_before left_after held_before held_after : Option (List ℕ)) (line : List ℕ) : Type 0 where
-  pub input : List ℕ
-  pub took : TookInput left_before left_after input
-  pub scene : Scene
-  pub finds : Finds job input (Sound scene)
-  pub done : ℕ
-  pub part : done < length (due job scene)
-  pub given : Appends held_before held_after (take done (due job scene))
-  pub told : line ≡ image_fault_line done
+  pub sent : Sent image o lines
+  pub noted : Noted notes lines
 
 -- the input was taken and is refused
-pub record Judged (job : Job) (left_before left_after : Option (List ℕ)) (status : ℕ) (line : List ℕ) : Type 0 where
+pub record Judged (job : Job) (source : Used) (status : ℕ) (line : List ℕ) : Type 0 where
   pub input : List ℕ
-  pub took : TookInput left_before left_after input
+  pub took : TookInput source input
   pub judged : IsJudged job input status line
 
--- ---- why a job was refused
+-- it was refused with this status and this line
+pub data Cause (job : Job) (source image : Used) (status : ℕ) (line : List ℕ) : Type 0 where
+  -- the source failed
+  SourceFailed : status ≡ 2 → line ≡ read_fault_line → Failed source → Cause job source image status line
+  -- the input spells no scene, has or spells something outside the limits, or isn't drawn so far: 3, 4 or 10
+  InputRefused : Judged job source status line → Cause job source image status line
+  -- the image failed before it had taken all that is due
+  ImageFailed : status ≡ 6 → (o : Outcome) → IsDue job source o → o.ending ≡ Complete → CutOff image o [] line → Cause job source image status line
+  -- there was no memory
+  NoMemory : status ≡ 7 → line ≡ memory_line → Cause job source image status line
 
-module _ (job : Job) (left left' held held' : Option (List ℕ)) (source_faults source_faults' image_faults image_faults' : ℕ) where
-  -- a job was refused with this status and this line
-  pub data Cause (status : ℕ) (line : List ℕ) : Type 0 where
-    -- the source failed
-    SourceFailed : status ≡ 2 → line ≡ read_fault_line → Rose source_faults source_faults' → Cause status line
-    -- the input spells no scene, has or spells something outside the limits, or isn't drawn so far: 3, 4 or 10
-    InputRefused : Judged job left left' status line → Cause status line
-    -- the image failed before it had taken all that is due
-    ImageFailed : status ≡ 6 → Rose image_faults image_faults' → IsCutOff job left left' held held' line → Cause status line
-    -- there was no memory
-    NoMemory : status ≡ 7 → line ≡ memory_line → Cause status line
+-- it was refused with this status, and the notes were given the line of its cause
+pub record Refused (job : Job) (source image notes : Used) (status : ℕ) : Type 0 where
+  pub line : List ℕ
+  pub cause : Cause job source image status line
+  pub noted : Noted notes line
 
-  -- a job was refused with this status, and the notes were given the line of its cause
-  pub record Refused (noted noted' : Option (List ℕ)) (notes_faults notes_faults' : ℕ) (status : ℕ) : Type 0 where
-    pub line : List ℕ
-    pub cause : Cause status line
-    pub noted_line : Noted noted noted' notes_faults notes_faults' line
+-- ---- how a run ended
 
 -- the status that is due, or that of want of memory, or where nothing is refused and the notes failed, that of their fault
-abbrev pub Ends : (notes_faults notes_faults' : ℕ) → ℕ → ℕ → Type 0
-Ends notes_faults notes_faults' status due = (status ≡ due) ⊎ ((status ≡ 7) ⊎ ((due ≡ 0) × (status ≡ 8) × Rose notes_faults notes_faults'))
+abbrev pub EndsWith : Used → ℕ → ℕ → Type 0
+EndsWith notes status due = (status ≡ due) ⊎ ((status ≡ 7) ⊎ ((due ≡ 0) × (status ≡ 8) × Failed notes))
+
+-- what each status says, of every list of words
+pub record Ran (words : List (String Global)) (source image notes : Used) (status : ℕ) : Type 0 where
+  -- the words are no job
+  pub usage : (status ≡ 1) ↔ ((job : Job) → IsJob words job → ⊥)
+  pub usage_told : status ≡ 1 → Noted notes usage_line
+  -- the job is done; done but for its notes; or a client waits for ever
+  pub done : status ≡ 0 → ForJob words (λ job. Done job source image notes)
+  pub notes_failed : status ≡ 8 → ForJob words (λ job. NotesFailed job source image notes)
+  pub stuck : status ≡ 5 → ForJob words (λ job. Stuck job source image notes)
+  -- the job is refused, for this cause, and its line is noted
+  pub refused : status ≢ 0 → status ≢ 1 → status ≢ 5 → status ≢ 8 → ForJob words (λ job. Refused job source image notes status)
+  -- What the source holds decides the status, where neither it nor an image that is due to a job that is done fails, and there is memory.
+  pub exact : (job : Job) (input : List ℕ) (finding : Finding) → IsJob words job → source.before ≡ Some input → IsFinding job input finding
+      → (Failed source → ⊥) → (finding_status finding ≡ 0 → Failed image → ⊥) → EndsWith notes status (finding_status finding)
+  -- no count of faults falls
+  pub later : (source.faults_before ≤ source.faults_after) × (image.faults_before ≤ image.faults_after) × (notes.faults_before ≤ notes.faults_after)

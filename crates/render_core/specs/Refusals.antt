@@ -1,26 +1,36 @@
 -- What the steps of a job leave: the refusals of each with their statuses and their lines, and what is due.
-use Rattle.std.specs.Prelude.{◌≡◌, ℕ, ◌<◌, ◌≤◌, ◌⊎◌, List, length, take, Option, Some, None}
-use Rattle.std.specs.Io.KnownBytes.{Appends}
+use Rattle.std.specs.Prelude.{◌≡◌, ℕ, ◌<◌, ◌≤◌, ◌⊎◌, List, length, take, Some, None}
+use Rattle.std.specs.List.{AllByRecursion}
+use Rattle.rc_base.specs.Formats.Commands.{IsCommand}
 use Rattle.rc_base.specs.Formats.Limits.{limit_of}
 use Rattle.rc_base.specs.Formats.Netpbm.{p6_texts}
-use Rattle.rc_base.specs.Outside.Causes.{Rose}
+use Rattle.rc_base.specs.Formats.Spelling.{IsDecl}
 use Rattle.rc_base.specs.declared.transfer.ReadAllFault.{ReadAllFault}
 use Rattle.rc_base.specs.declared.transfer.ReadAllFault.TheVariants as reading
 use Rattle.rc_base.specs.declared.scene.Limit.{Limit}
 use Rattle.rc_base.specs.declared.scene.Scene.{Scene}
+use Rattle.ppm_out.specs.Pictures.{IsWhole}
+use Rattle.scene_file.specs.Written.{AreWhole}
 use Rattle.render_core.specs.declared.job.Job.{Job}
-use Rattle.render_core.specs.declared.input.DueImage.{DueImage}
-use Rattle.render_core.specs.declared.input.DueImage.TheVariants.{Frames, Text}
+use Rattle.render_core.specs.declared.job.Form.{Form}
+use Rattle.render_core.specs.declared.job.Form.TheVariants.{Bytes, Text}
+use Rattle.render_core.specs.declared.due.Due.{Due}
+use Rattle.render_core.specs.declared.due.DueImage.{DueImage}
+use Rattle.render_core.specs.declared.due.DueImage.TheVariants.{Frames, Written}
+use Rattle.render_core.specs.declared.due.DueRefusal.{DueRefusal}
+use Rattle.render_core.specs.declared.due.DueRefusal.TheVariants as undue
+use Rattle.render_core.specs.declared.due.Ending.TheVariants.{Complete, Stuck}
 use Rattle.render_core.specs.declared.refusal.InputRefusal.{InputRefusal}
 use Rattle.render_core.specs.declared.refusal.InputRefusal.TheVariants as judging
 use Rattle.render_core.specs.declared.refusal.ImageRefusal.{ImageRefusal}
 use Rattle.render_core.specs.declared.refusal.ImageRefusal.TheVariants as writing
 use Rattle.render_core.specs.declared.refusal.Refusal.{Refusal}
 use Rattle.render_core.specs.declared.refusal.Refusal.TheVariants.{Reading, Input, Image}
-use Rattle.render_core.specs.Jobs.{Spells, SpellsAgain, due, due_notes}
+use Rattle.render_core.specs.declared.writing.Told.{Told}
+use Rattle.render_core.specs.Jobs.{form_of, Spells, Outcome, IsOutcome}
 use Rattle.render_core.specs.Lines.{scene_kind_name, text_kind_name, malformed_line, limit_line, image_fault_line, read_fault_line, memory_line, not_built_line}
-use Rattle.render_core.specs.Findings.{Sound, Finds, IsJudged}
-use Rattle.render_core.specs.Outcomes.{Noted}
+use Rattle.render_core.specs.Findings.{IsJudged}
+use Rattle.render_core.specs.Outcomes.{Used, Failed, IsCalm, Took, Noted, Sent, IsDue}
 
 -- ---- statuses and lines
 
@@ -71,38 +81,81 @@ refusal_line (Image refusal) = image_line refusal
 -- ---- the input
 
 -- The input spells this scene, which is within the limits, and no other.
-pub record IsRead (job : Job) (input : List ℕ) (scene : Scene) : Type 0 where
-  pub spelled : Spells job input scene
+pub record IsRead (form : Form) (input : List ℕ) (scene : Scene) : Type 0 where
+  pub spelled : Spells form input scene
   pub within : limit_of scene ≡ None
-  pub only : (other : Scene) → Spells job input other → limit_of other ≡ None → other ≡ scene
-  pub inside : (other : Scene) (limit : Limit) → Spells job input other → limit_of other ≡ Some limit → ⊥
+  pub only : (other : Scene) → Spells form input other → limit_of other ≡ None → other ≡ scene
+  pub inside : (other : Scene) (limit : Limit) → Spells form input other → limit_of other ≡ Some limit → ⊥
 
--- the job refuses the input, or there was no memory
-abbrev pub IsRefused : Job → List ℕ → InputRefusal → Type 0
-IsRefused job input refusal = (refusal ≡ judging.OutOfMemory) ⊎ IsJudged job input (input_status refusal) (input_line refusal)
+-- what is known of a scene that was read: of bytes its fields are in their ranges, of a text its version is 1 and its pictures are whole
+abbrev pub IsWellRead : Form → Scene → Type 0
+IsWellRead Bytes scene = IsDecl scene.decl × AllByRecursion (AllByRecursion IsCommand) scene.streams
+IsWellRead Text scene = (scene.decl.version ≡ 1) × AllByRecursion AreWhole scene.streams
+
+-- every job of the form refuses the input, or there was no memory
+abbrev pub IsRefused : Form → List ℕ → InputRefusal → Type 0
+IsRefused form input refusal =
+    (refusal ≡ judging.OutOfMemory)
+    ⊎ ((job : Job) → form_of job ≡ form → IsJudged job input (input_status refusal) (input_line refusal))
+
+-- ---- what is due
 
 -- the bytes of what is due to the image
 abbrev pub due_text : DueImage → List ℕ
 due_text (Frames images) = p6_texts images
-due_text (Text bytes) = bytes
+due_text (Written bytes) = bytes
 
--- what was made of an input is what is due for its scene, to the image and to the notes
-pub record IsMadeOf (job : Job) (input text lines : List ℕ) : Type 0 where
-  pub scene : Scene
-  pub finds : Finds job input (Sound scene)
-  pub due_is : text ≡ due job scene
-  pub again : SpellsAgain job text scene
-  pub lines_are : lines ≡ due_notes job scene
+-- each frame can be written
+abbrev pub IsWritable : DueImage → Type 0
+IsWritable (Frames images) = AllByRecursion IsWhole images
+IsWritable (Written bytes) = Unit {0}
+
+-- what was made of a scene, as contracts see it
+abbrev pub outcome_of : Due → Outcome
+outcome_of due = record { image = due_text due.image; notes = due.notes; ending = due.ending }
+
+-- nothing is due for the scene so far, or there was no memory
+abbrev pub IsNoOutcome : Job → Scene → DueRefusal → Type 0
+IsNoOutcome job scene undue.NotBuilt = (o : Outcome) → IsOutcome job scene o → ⊥
+IsNoOutcome job scene undue.OutOfMemory = Unit {0}
+
+-- as a refusal of the input
+abbrev pub undue_refusal : DueRefusal → InputRefusal
+undue_refusal undue.NotBuilt = judging.NotBuilt
+undue_refusal undue.OutOfMemory = judging.OutOfMemory
 
 -- ---- writing
 
 -- the image was given a front of the text, and failed before its end or not at all
-abbrev pub IsPartWritten : (held held' : Option (List ℕ)) (faults faults' : ℕ) → List ℕ → ImageRefusal → Type 0
-IsPartWritten held held' faults faults' text (writing.Fault done) = Rose faults faults' × (done < length text) × Appends held held' (take done text)
-IsPartWritten held held' faults faults' text writing.OutOfMemory = (done : ℕ) × (done ≤ length text) × Appends held held' (take done text)
+abbrev pub IsPartWritten : Used → List ℕ → ImageRefusal → Type 0
+IsPartWritten image text (writing.Fault done) = Failed image × (done < length text) × Took image (take done text)
+IsPartWritten image text writing.OutOfMemory = (done : ℕ) × (done ≤ length text) × Took image (take done text)
+
+-- what is due was given to the image, and this is left to tell
+pub record IsSent (image : Used) (o : Outcome) (told : Told) : Type 0 where
+  pub sent : Sent image o told.lines
+  pub ending : told.ending ≡ o.ending
+
+-- the job is carried out but for what is left to tell
+pub record IsPerformed (job : Job) (source image : Used) (told : Told) : Type 0 where
+  pub o : Outcome
+  pub due : IsDue job source o
+  pub sent : IsSent image o told
+
+-- what is left to tell was told, or a front of it where the notes failed, which changes the status of a job that is done
+abbrev pub IsConcluded : Used → Told → ℕ → Type 0
+IsConcluded notes told status =
+    ((status ≡ 0) × (told.ending ≡ Complete) × Took notes told.lines × IsCalm notes)
+    ⊎ (((status ≡ 8) × (told.ending ≡ Complete) × Failed notes × ((n : ℕ) × (n < length told.lines) × Took notes (take n told.lines)))
+    ⊎ ((status ≡ 5) × (told.ending ≡ Stuck) × Noted notes told.lines))
+
+-- a job that is done is cut off by a fault of its image; no other is
+abbrev pub IsFatal : Outcome → ImageRefusal → Type 0
+IsFatal o (writing.Fault done) = o.ending ≡ Complete
+IsFatal o writing.OutOfMemory = Unit {0}
 
 -- A refusal is told: with its own status and line, or as want of memory where there was none for its line.
-pub record IsTold (noted noted' : Option (List ℕ)) (faults faults' : ℕ) (refusal : Refusal) (status : ℕ) : Type 0 where
+pub record IsRefusalTold (notes : Used) (refusal : Refusal) (status : ℕ) : Type 0 where
   pub line : List ℕ
-  pub noted_line : Noted noted noted' faults faults' line
+  pub noted : Noted notes line
   pub one_of : ((status ≡ refusal_status refusal) × (line ≡ refusal_line refusal)) ⊎ ((status ≡ 7) × (line ≡ memory_line))

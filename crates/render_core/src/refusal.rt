@@ -2,9 +2,10 @@
 ghost use Rattle.std.specs.Prelude.{◌≡◌, IfOk, string_bytes};
 ghost use Rattle.rc_base.specs.Formats.Limits.{limit_name};
 ghost use Rattle.render_core.specs.Lines.{scene_kind_name, text_kind_name, malformed_line, limit_line, image_fault_line};
-ghost use Rattle.render_core.specs.Refusals.{reading_status, reading_line, input_status, input_line, image_status, image_line, refusal_status, refusal_line};
+ghost use Rattle.render_core.specs.Refusals.{reading_status, reading_line, input_status, input_line, image_status, image_line, refusal_status, refusal_line, undue_refusal};
 ghost use Rattle.render_core.specs.declared.refusal.Refusal.TheVariants.{Reading as OfReading, Input as OfInput, Image as OfImage};
 
+use crate::due::DueRefusal;
 use rc_base::scene::{Limit, SceneKind, TextKind};
 use rc_base::transfer::ReadAllFault;
 use std::alloc::{AllocError, Global};
@@ -57,6 +58,17 @@ impl From<InputRefusal> for Refusal {
 
     fn from(inner: InputRefusal) -> Refusal {
         Refusal::Input(inner)
+    }
+}
+
+impl From<DueRefusal> for Refusal {
+    ghost from_gives = { λ inner refusal. refusal ≡ OfInput (undue_refusal inner) };
+
+    fn from(inner: DueRefusal) -> Refusal {
+        Refusal::Input(match inner {
+            DueRefusal::NotBuilt => InputRefusal::NotBuilt,
+            DueRefusal::OutOfMemory => InputRefusal::OutOfMemory,
+        })
     }
 }
 
@@ -136,7 +148,7 @@ fn limit_line(alloc: Global, what: u8, value: u64) -> Result<String, AllocError>
 }
 
 #[tactic(auto, unfolding(crate::specs::Lines::image_fault_line))]
-fn image_fault_line(alloc: Global, done: u128) -> Result<String, AllocError>
+pub(crate) fn image_fault_line(alloc: Global, done: u128) -> Result<String, AllocError>
     ensures { IfOk result (λ line. string_bytes line ≡ image_fault_line done) }
 {
     format!(in alloc; "rc: image fault after {done} bytes\n")

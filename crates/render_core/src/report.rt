@@ -1,10 +1,14 @@
-//! The lines of the notes that tell the refused commands.
-ghost use Rattle.std.specs.Prelude.{◌≡◌, IfOk, string_bytes};
+//! The lines of reports: refused commands, the numbers of entries and frames, and who is left waiting.
+ghost use Rattle.std.specs.Prelude.{◌≡◌, ◌≤◌, ◌++◌, [], length, IfOk, OnOk, string_bytes};
 ghost use Rattle.std.specs.List.{flat_map};
-ghost use Rattle.order_model.specs.Report.{fault_name as name_of_fault, fault_line as line_of_fault};
+ghost use Rattle.std.specs.Option.{option_map_or};
+ghost use Rattle.order_model.specs.Report.{fault_name as name_of_fault, fault_line as line_of_fault, frame_count as count_of_frames, count_lines as lines_of_counts, op_text as text_of_op, stuck_line as line_of_stuck};
+ghost use Rattle.render_core.specs.Reports.{lines_of_faults, lines_of_waiting, lines_of_stuck};
 
+use rc_base::cluster::FaultList;
 use rc_base::command::Bytes;
 use rc_base::state::Fault;
+use rc_base::sync::{Entry, SyncOp, WaitAt, Waiting};
 use std::alloc::{AllocError, Global};
 
 fn fault_name(fault: Fault) -> &'static str
@@ -32,7 +36,7 @@ fn fault_line(alloc: Global, client: u8, refused: &(u32, Fault)) -> Result<Strin
 const LINE_ROOM: usize = 44;
 
 /// The lines of a client's refused commands, in the order in which they are given.
-pub(crate) fn fault_lines(
+pub(crate) fn client_fault_lines(
     alloc: Global,
     client: u8,
     faults: &[(u32, Fault)],
@@ -44,5 +48,124 @@ pub(crate) fn fault_lines(
         let line = fault_line(alloc, client, refused)?;
         lines.extend_from_slice(line.as_bytes())?;
     }
+    Ok(lines)
+}
+
+// The lines of all clients' refused commands.
+fn fault_lines(alloc: Global, faults: &[FaultList]) -> Result<Bytes, AllocError>
+    requires { length faults.now ≤ 8 }
+    ensures { IfOk result (λ lines. lines ≡ lines_of_faults faults.now) }
+{
+    let mut lines = Bytes::new(alloc);
+    for client in 0..faults.len() {
+        lines.append(client_fault_lines(alloc, client as u8, faults[client].as_slice())?)?;
+    }
+    Ok(lines)
+}
+
+// The frames of a journal: its Swaps.
+fn frame_count(journal: &[Entry]) -> usize
+    ensures { result ≡ count_of_frames journal.now }
+{
+    journal
+        .iter()
+        .filter(|entry| matches!(entry, Entry::Swap))
+        .count()
+}
+
+// How many entries a journal has, and how many frames.
+fn count_lines(alloc: Global, journal: &[Entry]) -> Result<String, AllocError>
+    ensures { IfOk result (λ lines. string_bytes lines ≡ lines_of_counts journal.now) }
+{
+    let entries = journal.len();
+    let frames = frame_count(journal);
+    format!(in alloc; "journal {entries}\nframes {frames}\n")
+}
+
+// An operation of synchronisation, in words.
+fn op_text(alloc: Global, op: SyncOp) -> Result<String, AllocError>
+    ensures { IfOk result (λ text. string_bytes text ≡ text_of_op op) }
+{
+    match op {
+        SyncOp::Swap => String::from_str(alloc, "Swap"),
+        SyncOp::Barrier(n) => format!(in alloc; "Barrier {n}"),
+        SyncOp::SemP(n) => format!(in alloc; "SemP {n}"),
+        SyncOp::SemV(n) => format!(in alloc; "SemV {n}"),
+    }
+}
+
+// The line of a client that is left waiting.
+fn stuck_line(alloc: Global, client: u8, wait: WaitAt) -> Result<String, AllocError>
+    ensures { IfOk result (λ line. string_bytes line ≡ line_of_stuck client wait) }
+{
+    let place = wait.place;
+    let op = op_text(alloc, wait.op)?;
+    let op = op.as_str();
+    format!(in alloc; "stuck client {client} at {place} {op}\n")
+}
+
+// The line of a client, if it is left waiting.
+fn waiting_line(
+    alloc: Global,
+    lines: &mut Bytes,
+    client: u8,
+    wait: &Option<WaitAt>,
+) -> Result<(), AllocError>
+    ensures { OnOk result (lines.new ≡ lines.old ++ option_map_or (line_of_stuck client) wait.now []) }
+{
+    if let Some(wait) = wait {
+        let line = stuck_line(alloc, client, *wait)?;
+        lines.extend_from_slice(line.as_bytes())?;
+    }
+    Ok(())
+}
+
+// The lines of the first clients that are left waiting.
+fn waiting_lines(alloc: Global, at: &[Option<WaitAt>], clients: usize) -> Result<Bytes, AllocError>
+    requires some { clients ≤ length at.now }
+    requires few { length at.now ≤ 8 }
+    ensures { IfOk result (λ lines. lines ≡ lines_of_waiting at.now clients) }
+{
+    let mut lines = Bytes::new(alloc);
+    for client in 0..clients {
+        waiting_line(alloc, &mut lines, client as u8, &at[client])?;
+    }
+    Ok(lines)
+}
+
+// Who is left waiting, and the refusal behind it.
+fn stuck_lines(
+    alloc: Global,
+    waiting: &Option<Waiting>,
+    clients: usize,
+) -> Result<Bytes, AllocError>
+    requires { clients ≤ 8 }
+    ensures { IfOk result (λ lines. lines ≡ lines_of_stuck waiting.now clients) }
+{
+    match waiting {
+        Some(waiting) => {
+            let mut lines = waiting_lines(alloc, &waiting.at, clients)?;
+            lines.extend_from_slice(b"rc: stuck\n")?;
+            Ok(lines)
+        }
+        None => Ok(Bytes::new(alloc)),
+    }
+}
+
+/// The short report, by a journal: each client's refused commands, the numbers of entries and frames, and who is left waiting.
+pub(crate) fn short_report(
+    alloc: Global,
+    faults: &[FaultList],
+    journal: &[Entry],
+    waiting: &Option<Waiting>,
+) -> Result<Bytes, AllocError>
+    requires { length faults.now ≤ 8 }
+    ensures { IfOk result (λ lines. lines ≡ lines_of_faults faults.now ++ lines_of_counts journal.now ++ lines_of_stuck waiting.now (length faults.now)) }
+{
+    let mut lines = fault_lines(alloc, faults)?;
+    let counts = count_lines(alloc, journal)?;
+    let stuck = stuck_lines(alloc, waiting, faults.len())?;
+    lines.extend_from_slice(counts.as_bytes())?;
+    lines.append(stuck)?;
     Ok(lines)
 }

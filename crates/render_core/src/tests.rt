@@ -1,10 +1,12 @@
 //! Runs on sources and sinks in memory.
 mod formats;
 mod hostile;
+mod orders;
 
 use super::*;
 use rc_base::gate::OpenGate;
 use rc_base::in_memory::{MemSink, MemSource};
+use rc_base::outside::Source;
 use rc_base::transfer::read_all;
 use std::alloc::{AllocError, Global};
 use std::test::Fail;
@@ -46,6 +48,18 @@ fn words(alloc: Global, words: &[&str]) -> Result<Vec<String>, AllocError> {
     Ok(all)
 }
 
+// The status of a run on these ends. Its contract says nothing, so that a test is proved without that of `run`.
+fn status_on<S: Source>(
+    alloc: Global,
+    job: &[&str],
+    source: &mut S,
+    image: &mut MemSink,
+    notes: &mut MemSink,
+) -> Result<u8, AllocError> {
+    let words = words(alloc, job)?;
+    Ok(run(alloc, words.as_slice(), source, image, notes, &OpenGate).status)
+}
+
 // What a run on these ends answers, and what its notes then hold.
 fn run_between(
     alloc: Global,
@@ -54,16 +68,8 @@ fn run_between(
     image: &mut MemSink,
 ) -> Result<(u8, MemSink), Fail> {
     let mut notes = MemSink::new(alloc, 64, &[])?;
-    let words = words(alloc, job)?;
-    let finish = run(
-        alloc,
-        words.as_slice(),
-        source,
-        image,
-        &mut notes,
-        &OpenGate,
-    );
-    Ok((finish.status, notes))
+    let status = status_on(alloc, job, source, image, &mut notes)?;
+    Ok((status, notes))
 }
 
 // What a run answers, and what its image and its notes then hold. `fails` are the puts of the image that fail.
@@ -98,12 +104,13 @@ fn jobs_write_what_is_due(rt: HostRuntime) -> Result<(), Fail> {
 
 #[test]
 fn other_words_are_usage(rt: HostRuntime) -> Result<(), Fail> {
-    let rows: [&[&str]; 5] = [
+    let rows: [&[&str]; 6] = [
         &[],
         &["draw"],
         &["render", "-h"],
         &["render", "render"],
-        &["Render"],
+        &["serial", "check"],
+        &["Check"],
     ];
     for row in rows {
         let (status, image, notes) = run_on(rt.alloc(), row, &RED_CLEAR, &[])?;
@@ -253,16 +260,8 @@ fn failing_notes_leave_the_image_whole(rt: HostRuntime) -> Result<(), Fail> {
         let mut source = MemSource::new(rt.alloc(), input, 7, &[])?;
         let mut image = MemSink::new(rt.alloc(), 4, &[])?;
         let mut notes = MemSink::new(rt.alloc(), 8, &[fails])?;
-        let words = words(rt.alloc(), &["render"])?;
-        let finish = run(
-            rt.alloc(),
-            words.as_slice(),
-            &mut source,
-            &mut image,
-            &mut notes,
-            &OpenGate,
-        );
-        assert_eq!(rt; finish.status, due);
+        let status = status_on(rt.alloc(), &["render"], &mut source, &mut image, &mut notes)?;
+        assert_eq!(rt; status, due);
         assert_eq!(rt; image.bytes(), frame);
         assert_eq!(rt; notes.bytes(), noted);
     }
@@ -274,16 +273,8 @@ fn failing_notes_change_no_refusal(rt: HostRuntime) -> Result<(), Fail> {
     let mut source = MemSource::new(rt.alloc(), &RED_CLEAR, 7, &[])?;
     let mut image = MemSink::new(rt.alloc(), 4, &[])?;
     let mut notes = MemSink::new(rt.alloc(), 4, &[2])?;
-    let words = words(rt.alloc(), &["draw"])?;
-    let finish = run(
-        rt.alloc(),
-        words.as_slice(),
-        &mut source,
-        &mut image,
-        &mut notes,
-        &OpenGate,
-    );
-    assert_eq!(rt; finish.status, 1);
+    let status = status_on(rt.alloc(), &["draw"], &mut source, &mut image, &mut notes)?;
+    assert_eq!(rt; status, 1);
     assert_eq!(rt; notes.bytes(), b"rc: ".as_slice());
     Ok(())
 }

@@ -1,7 +1,5 @@
 //! Inputs made to be hard: of just the most bytes and of one more, of lengths and pictures that are announced and missing, of endless lines.
-use super::{RED_CLEAR, words};
-use crate::{Finish, run};
-use rc_base::gate::OpenGate;
+use super::{RED_CLEAR, status_on};
 use rc_base::in_memory::{MemSink, QuietSource};
 use std::alloc::{AllocError, Global};
 use std::test::Fail;
@@ -33,16 +31,8 @@ fn refuses(
     let mut source = QuietSource::new(rt.alloc(), input, 1048576)?;
     let mut image = MemSink::new(rt.alloc(), 64, &[])?;
     let mut notes = MemSink::new(rt.alloc(), 64, &[])?;
-    let words = words(rt.alloc(), &[job])?;
-    let finish = run(
-        rt.alloc(),
-        words.as_slice(),
-        &mut source,
-        &mut image,
-        &mut notes,
-        &OpenGate,
-    );
-    Ok(finish == Finish { status } && image.bytes().is_empty() && notes.bytes() == line.as_bytes())
+    let told = status_on(rt.alloc(), &[job], &mut source, &mut image, &mut notes)?;
+    Ok(told == status && image.bytes().is_empty() && notes.bytes() == line.as_bytes())
 }
 
 #[test]

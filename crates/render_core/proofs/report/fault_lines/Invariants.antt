@@ -1,7 +1,8 @@
-use Rattle.std.proofs.Common.{◌≡◌, take}
-use Rattle.std.specs.List.{flat_map}
+use Rattle.std.proofs.Common.{◌≡◌, []}
+use Rattle.std.specs.Prelude.{slice_index_or}
+use Rattle.std.specs.List.{flat_map, range_with_len}
 use Rattle.order_model.specs.Report.{fault_line}
 use Rattle.render_core.proofs.report.fault_lines.Given as goal
 
-abbrev pub invariant-loop-refused : goal.invariant-loop-refused
-invariant-loop-refused l = l.lines ≡ flat_map (fault_line l.client) (take l.refused-index l.faults)
+abbrev pub invariant-loop-client : goal.invariant-loop-client
+invariant-loop-client l = l.lines ≡ flat_map (λ client. flat_map (fault_line client) (slice_index_or l.faults client [])) (range_with_len 0 l.client)

@@ -1,0 +1,100 @@
+-- The lines of reports, client by client.
+use Rattle.std.proofs.Common.{◌≡◌, ℕ, zero, suc, ◌+◌, inl, inr, Bool, true, false, List, [], ◌∷◌, ◌++◌, length, Option, None, Some, refl, sym, ap, ◌∙◌, arith}
+use Rattle.std.specs.Prelude.{◌↔◌, ◌||◌, IsSome, is_some, slice_index_or, codes, if◌then◌else◌}
+use Rattle.std.specs.List.{flat_map, range_with_len, list_any}
+use Rattle.std.specs.Option.{option_map_or}
+use Rattle.std.proofs.lemmas.Bool.{cases_Bool}
+use Rattle.std.proofs.lemmas.Grind.{flat_map-append}
+use Rattle.std.proofs.lemmas.List.{append-nil}
+use Rattle.std.proofs.lemmas.List.FromFn.{length-map-range_with_len}
+use Rattle.rc_base.specs.Contexts.Issue.{faults_of}
+use Rattle.rc_base.specs.Orders.Journal.{waiting_of}
+use Rattle.rc_base.specs.Orders.Sync.{client_count, sync_lists_of, sync_row_of}
+use Rattle.rc_base.specs.declared.scene.Scene.{Scene}
+use Rattle.rc_base.specs.declared.state.Fault.{Fault}
+use Rattle.rc_base.specs.declared.sync.Entry.{Entry}
+use Rattle.rc_base.specs.declared.sync.WaitAt.{WaitAt}
+use Rattle.rc_base.specs.declared.sync.Waiting.{Waiting}
+use Rattle.order_model.specs.Report.{fault_line, client_faults, fault_lines, count_lines, stuck_line, client_stuck, stuck_lines, is_stuck, short_report_of}
+use Rattle.render_core.specs.declared.due.Ending.TheVariants.{Complete, Stuck}
+use Rattle.render_core.specs.Jobs.{journal_of, default_ending}
+use Rattle.render_core.specs.Reports.{lines_of_faults, lines_of_stuck, AreOf}
+
+range_more : (a n : ℕ) → range_with_len a (n + 1) ≡ range_with_len a n ++ (a + n) ∷ []
+range_more a zero = let e : a + 0 ≡ a = omega arith in rw e refl
+range_more a (suc n) =
+    let e : (a + 1) + n ≡ a + suc n = omega arith in
+    let k : suc n + 1 ≡ suc (n + 1) = omega arith in
+    rw k (ap (λ (l : List ℕ). a ∷ l) (range_more (a + 1) n ∙ ap (λ (k : ℕ). range_with_len (a + 1) n ++ k ∷ []) e))
+
+-- the lines of one client more
+pub lines_more : (f : ℕ → List ℕ) (n : ℕ) → flat_map f (range_with_len 0 (n + 1)) ≡ flat_map f (range_with_len 0 n) ++ f n
+lines_more f n =
+    let zero_on : 0 + n ≡ n = omega arith in
+    ap (flat_map f) (range_more 0 n) ∙ flat_map-append f (range_with_len 0 n) ((0 + n) ∷ [])
+    ∙ ap (λ (l : List ℕ). flat_map f (range_with_len 0 n) ++ l) (append-nil (f (0 + n)) ∙ ap f zero_on)
+
+same_lines : (f g : ℕ → List ℕ) → ((x : ℕ) → f x ≡ g x) → (xs : List ℕ) → flat_map f xs ≡ flat_map g xs
+same_lines f g same [] = refl
+same_lines f g same (x ∷ xs) = ap (λ (l : List ℕ). l ++ flat_map f xs) (same x) ∙ ap (λ (l : List ℕ). g x ++ l) (same_lines f g same xs)
+
+-- where nobody waits there is no line
+no_lines : (at : ℕ → Option WaitAt) (xs : List ℕ) → list_any (λ client. is_some (at client)) xs ≡ false
+    → flat_map (λ client. option_map_or (stuck_line client) (at client) []) xs ≡ []
+no_lines at [] none = refl
+no_lines at (x ∷ xs) none = go (at x) refl (λ rest. no_lines at xs rest) where
+  go : (o : Option WaitAt) → at x ≡ o
+      → (list_any (λ client. is_some (at client)) xs ≡ false → flat_map (λ client. option_map_or (stuck_line client) (at client) []) xs ≡ [])
+      → flat_map (λ client. option_map_or (stuck_line client) (at client) []) (x ∷ xs) ≡ []
+  go None e later = ap (λ (w : Option WaitAt). option_map_or (stuck_line x) w [] ++ flat_map (λ client. option_map_or (stuck_line client) (at client) []) xs) e
+      ∙ later (sym (ap (λ (w : Option WaitAt). is_some w || list_any (λ client. is_some (at client)) xs) e) ∙ none)
+  go (Some w) e later = let some : true ≡ false = sym (ap (λ (w : Option WaitAt). is_some w || list_any (λ client. is_some (at client)) xs) e) ∙ none in cc
+
+pub scene_clients : (scene : Scene) → client_count (sync_lists_of scene) ≡ length scene.streams
+unfolding sync_lists_of
+scene_clients scene = length-map-range_with_len (sync_row_of scene) 0 (length scene.streams)
+
+pub scene_counts : (scene : Scene) → (sync_lists_of scene).counts ≡ scene.decl.barriers
+unfolding sync_lists_of
+scene_counts scene = refl
+
+is_stuck_of : (scene : Scene) (journal : List Entry) (waiting : Option Waiting) → (IsSome waiting ↔ (is_stuck (sync_lists_of scene) journal ≡ true))
+    → is_some waiting ≡ is_stuck (sync_lists_of scene) journal
+is_stuck_of scene journal None h = elim (cases_Bool (is_stuck (sync_lists_of scene) journal)) [
+  | inl stuck ↦ (let some : false ≡ true = h.1 stuck in cc)
+  | inr free ↦ sym free
+]
+is_stuck_of scene journal (Some w) h = sym (h.0 refl)
+
+module _ (scene : Scene) (faults : List (List (ℕ × Fault))) (journal : List Entry) where
+  faults_told : length faults ≡ length scene.streams → ((client : ℕ) → slice_index_or faults client [] ≡ faults_of scene client) → lines_of_faults faults ≡ fault_lines scene
+  faults_told count each =
+      ap (λ (n : ℕ). flat_map (λ client. flat_map (fault_line client) (slice_index_or faults client [])) (range_with_len 0 n)) count
+      ∙ same_lines (λ client. flat_map (fault_line client) (slice_index_or faults client [])) (client_faults scene)
+      (λ client. ap (flat_map (fault_line client)) (each client)) (range_with_len 0 (length scene.streams))
+
+  stuck_told : (waiting : Option Waiting) → AreOf scene faults journal waiting → lines_of_stuck waiting (length faults) ≡ stuck_lines (sync_lists_of scene) journal
+  stuck_told None are =
+      let free : is_stuck (sync_lists_of scene) journal ≡ false = sym (is_stuck_of scene journal None are.stuck) in
+      let none = no_lines (waiting_of (sync_lists_of scene) journal) (range_with_len 0 (client_count (sync_lists_of scene))) free in
+      sym (ap (λ (b : Bool). flat_map (client_stuck (sync_lists_of scene) journal) (range_with_len 0 (client_count (sync_lists_of scene))) ++ (if b then codes "rc: stuck\n" else [])) free
+      ∙ ap (λ (l : List ℕ). l ++ []) none)
+  stuck_told (Some w) are =
+      let stuck : is_stuck (sync_lists_of scene) journal ≡ true = sym (is_stuck_of scene journal (Some w) are.stuck) in
+      let waits = same_lines (λ client. option_map_or (stuck_line client) (slice_index_or w.at client None) []) (client_stuck (sync_lists_of scene) journal)
+      (λ client. ap (λ (o : Option WaitAt). option_map_or (stuck_line client) o []) (are.waits client)) (range_with_len 0 (length faults)) in
+      let count : length faults ≡ client_count (sync_lists_of scene) = are.clients ∙ sym (scene_clients scene) in
+      ap (λ (l : List ℕ). l ++ codes "rc: stuck\n") (waits ∙ ap (λ (n : ℕ). flat_map (client_stuck (sync_lists_of scene) journal) (range_with_len 0 n)) count)
+      ∙ sym (ap (λ (b : Bool). flat_map (client_stuck (sync_lists_of scene) journal) (range_with_len 0 (client_count (sync_lists_of scene))) ++ (if b then codes "rc: stuck\n" else [])) stuck)
+
+  pub report_told : (waiting : Option Waiting) → AreOf scene faults journal waiting
+      → lines_of_faults faults ++ count_lines journal ++ lines_of_stuck waiting (length faults) ≡ short_report_of scene journal
+  unfolding short_report_of
+  report_told waiting are =
+      ap (λ (l : List ℕ). l ++ count_lines journal ++ lines_of_stuck waiting (length faults)) (faults_told are.clients are.faults_are)
+      ∙ ap (λ (l : List ℕ). fault_lines scene ++ count_lines journal ++ l) (stuck_told waiting are)
+
+pub ending_told : (scene : Scene) (waiting : Option Waiting) → (IsSome waiting ↔ (is_stuck (sync_lists_of scene) (journal_of scene) ≡ true))
+    → (if is_some waiting then Stuck else Complete) ≡ default_ending scene
+unfolding default_ending
+ending_told scene waiting h = ap (λ (b : Bool). if b then Stuck else Complete) (is_stuck_of scene (journal_of scene) waiting h)

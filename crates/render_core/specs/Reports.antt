@@ -1,0 +1,45 @@
+-- What a report is made of.
+use Rattle.std.specs.Prelude.{◌≡◌, ℕ, true, List, [], ◌++◌, length, ◌↔◌, Option, Some, None, IsSome, IfSome, slice_index_or, codes}
+use Rattle.std.specs.List.{flat_map, range_with_len}
+use Rattle.std.specs.Option.{option_map_or}
+use Rattle.rc_base.specs.Contexts.Issue.{faults_of}
+use Rattle.rc_base.specs.Orders.Journal.{IsLegal, waiting_of}
+use Rattle.rc_base.specs.Orders.Order.{IsPermitted, default_order}
+use Rattle.rc_base.specs.Orders.Sync.{sync_lists_of}
+use Rattle.rc_base.specs.declared.scene.Scene.{Scene}
+use Rattle.rc_base.specs.declared.state.Fault.{Fault}
+use Rattle.rc_base.specs.declared.sync.Entry.{Entry}
+use Rattle.rc_base.specs.declared.sync.WaitAt.{WaitAt}
+use Rattle.rc_base.specs.declared.sync.Waiting.{Waiting}
+use Rattle.order_model.specs.Report.{fault_line, stuck_line, is_stuck, short_report_of}
+use Rattle.render_core.specs.Jobs.{journal_of, default_ending}
+use Rattle.render_core.specs.declared.due.DefaultRun.{DefaultRun}
+
+-- the lines of refused commands, client by client
+abbrev pub lines_of_faults : List (List (ℕ × Fault)) → List ℕ
+lines_of_faults faults = flat_map (λ client. flat_map (fault_line client) (slice_index_or faults client [])) (range_with_len 0 (length faults))
+
+-- the lines of the first n clients that wait
+abbrev pub lines_of_waiting : List (Option WaitAt) → ℕ → List ℕ
+lines_of_waiting at n = flat_map (λ client. option_map_or (stuck_line client) (slice_index_or at client None) []) (range_with_len 0 n)
+
+-- who is left waiting, and the refusal behind it
+abbrev pub lines_of_stuck : Option Waiting → ℕ → List ℕ
+lines_of_stuck None n = []
+lines_of_stuck (Some w) n = lines_of_waiting w.at n ++ codes "rc: stuck\n"
+
+-- these are the scene's refused commands, and who is left waiting by the journal
+pub record AreOf (scene : Scene) (faults : List (List (ℕ × Fault))) (journal : List Entry) (waiting : Option Waiting) : Type 0 where
+  pub clients : length faults ≡ length scene.streams
+  pub faults_are : (client : ℕ) → slice_index_or faults client [] ≡ faults_of scene client
+  pub stuck : IsSome waiting ↔ (is_stuck (sync_lists_of scene) journal ≡ true)
+  pub waits : IfSome waiting (λ w. (client : ℕ) → slice_index_or w.at client None ≡ waiting_of (sync_lists_of scene) journal client)
+
+-- The default journal, its order, which it permits, the short report, and whether a client waits for ever.
+pub record IsDefault (scene : Scene) (run : DefaultRun) : Type 0 where
+  pub journal : run.journal ≡ journal_of scene
+  pub order : run.order ≡ default_order (sync_lists_of scene) (journal_of scene)
+  pub notes : run.notes ≡ short_report_of scene (journal_of scene)
+  pub ending : run.ending ≡ default_ending scene
+  pub legal : IsLegal (sync_lists_of scene) run.journal
+  pub permitted : IsPermitted (sync_lists_of scene) run.journal run.order

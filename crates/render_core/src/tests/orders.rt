@@ -1,0 +1,128 @@
+//! Scenes of several clients, by `serial` and `check`.
+use super::{BLACK_PIXEL, run_on, status_on};
+use rc_base::in_memory::{MemSink, MemSource};
+use std::alloc::Global;
+use std::test::Fail;
+
+// Two clients blend over both pixels, one after the other: what the first one gives the semaphore back, the second one takes.
+const BLENDED_IN_TURN: &[u8] = b"scene 1 2 1
+semaphore 1
+client
+Enable 3
+BlendFunc 6 7
+Color 255 0 0 128
+SemP 1
+Begin 0
+Vertex -65536 -65536 0 65536
+Vertex 196608 -65536 0 65536
+Vertex -65536 196608 0 65536
+End
+SemV 1
+Swap
+client
+Enable 3
+BlendFunc 6 7
+Color 0 0 255 128
+SemP 1
+Begin 0
+Vertex -65536 -65536 0 65536
+Vertex 196608 -65536 0 65536
+Vertex -65536 196608 0 65536
+End
+SemV 1
+Swap
+";
+
+// A client swaps, and the other one never does.
+const SWAP_ALONE: &[u8] = b"scene 1 1 1\nclient\nclient\nSwap\n";
+
+// A white frame, and then a unit that nobody gives.
+const NO_UNIT: &[u8] =
+    b"scene 1 1 1\nsemaphore 0\nclient\nClearColor 255 255 255 255\nClear 1\nSwap\nSemP 1\nSwap\n";
+
+// A barrier in an open block is refused, so nobody waits at it.
+const BARRIER_IN_BLOCK: &[u8] = b"scene 1 1 1
+barrier 2
+client
+Begin 0
+Vertex -65536 -65536 0 65536
+Barrier 1
+Vertex 196608 -65536 0 65536
+Vertex -65536 196608 0 65536
+End
+Swap
+client
+Swap
+";
+
+const NO_UNIT_REPORT: &str = "journal 1\nframes 1\nstuck client 0 at 3 SemP 1\nrc: stuck\n";
+
+// What a job answers to the scene of a text, and what its image and its notes then hold.
+fn run_on_text(
+    alloc: Global,
+    job: &str,
+    text: &[u8],
+    fails: &[u64],
+) -> Result<(u8, MemSink, MemSink), Fail> {
+    let (_, scene, _) = run_on(alloc, &["pack"], text, &[])?;
+    run_on(alloc, &[job], scene.bytes(), fails)
+}
+
+#[test]
+fn orders_are_drawn_and_reported(rt: HostRuntime) -> Result<(), Fail> {
+    let blended = b"P6\n2 1\n255\n\x40\0\x80\x40\0\x80".as_slice();
+    let white = b"P6\n1 1\n255\n\xff\xff\xff".as_slice();
+    let unswapped = "journal 0\nframes 0\nstuck client 1 at 0 Swap\nrc: stuck\n";
+    let refused = "client 0 fault INVALID_OPERATION at 2\njournal 1\nframes 1\n";
+    let rows = [
+        (
+            "serial",
+            BLENDED_IN_TURN,
+            0,
+            blended,
+            "journal 5\nframes 1\n",
+        ),
+        ("serial", SWAP_ALONE, 5, b"".as_slice(), unswapped),
+        ("serial", NO_UNIT, 5, white, NO_UNIT_REPORT),
+        ("check", NO_UNIT, 5, b"".as_slice(), NO_UNIT_REPORT),
+        ("check", BARRIER_IN_BLOCK, 0, b"".as_slice(), refused),
+    ];
+    for (job, text, due, frames, report) in rows {
+        let (status, image, notes) = run_on_text(rt.alloc(), job, text, &[])?;
+        assert_eq!(rt; status, due);
+        assert_eq!(rt; image.bytes(), frames);
+        assert_eq!(rt; notes.bytes(), report.as_bytes());
+    }
+    Ok(())
+}
+
+#[test]
+fn a_thousand_units_are_given(rt: HostRuntime) -> Result<(), Fail> {
+    let mut text = Vec::from_slice(rt.alloc(), b"scene 1 1 1\nsemaphore 0\nclient\n")?;
+    for _ in 0..1025 {
+        text.extend_from_slice(b"SemV 1\n")?;
+    }
+    text.extend_from_slice(b"Swap\n")?;
+    let (status, image, notes) = run_on_text(rt.alloc(), "serial", text.as_slice(), &[])?;
+    assert_eq!(rt; status, 0);
+    assert_eq!(rt; image.bytes(), BLACK_PIXEL);
+    assert_eq!(rt; notes.bytes(), b"journal 1026\nframes 1\n".as_slice());
+    Ok(())
+}
+
+#[test]
+fn a_stuck_run_stays_stuck_where_its_ends_fail(rt: HostRuntime) -> Result<(), Fail> {
+    let (status, image, notes) = run_on_text(rt.alloc(), "serial", NO_UNIT, &[3])?;
+    assert_eq!(rt; status, 5);
+    assert_eq!(rt; image.bytes(), b"P6\n1 1\n2".as_slice());
+    let told = format!(in rt.alloc(); "{NO_UNIT_REPORT}rc: image fault after 8 bytes\n")?;
+    assert_eq!(rt; notes.bytes(), told.as_bytes());
+    let (_, scene, _) = run_on(rt.alloc(), &["pack"], NO_UNIT, &[])?;
+    let mut source = MemSource::new(rt.alloc(), scene.bytes(), 7, &[])?;
+    let mut image = MemSink::new(rt.alloc(), 64, &[])?;
+    let mut notes = MemSink::new(rt.alloc(), 8, &[2])?;
+    let status = status_on(rt.alloc(), &["check"], &mut source, &mut image, &mut notes)?;
+    assert_eq!(rt; status, 5);
+    assert_eq!(rt; notes.bytes(), b"journal ".as_slice());
+    Ok(())
+}
