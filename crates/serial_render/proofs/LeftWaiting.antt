@@ -1,14 +1,20 @@
 -- When no entry is granted any more: who is left waiting.
-use Rattle.std.proofs.Common.{◌≡◌, ℕ, ◌<◌, true, false, Option, Some, None, ◌↔◌, sym, subst, ◌∙◌, inl, inr}
-use Rattle.std.specs.Prelude.{is_some, IfSome}
+use Rattle.std.proofs.Common.{◌≡◌, ℕ, ◌+◌, ◌<◌, true, false, Bool, List, Option, Some, None, ◌↔◌, sym, ap, subst, ◌∙◌, inl, inr, arith, true≢false}
+use Rattle.std.specs.Prelude.{is_some, IfSome, length}
+use Rattle.std.specs.List.{list_any, range_with_len}
+use Rattle.std.proofs.lemmas.Bool.{cases_lt}
+use Rattle.std.proofs.lemmas.List.Folds.{list_any_at, Any-from_list_any}
+use Rattle.std.proofs.lemmas.List.FromFn.{get_or-range_with_len, length-range_with_len}
 use Rattle.rc_base.specs.Orders.Book.{opened, standing, waiting_in, IsBookOver}
 use Rattle.rc_base.specs.Orders.Grant.{grant}
-use Rattle.rc_base.specs.Orders.Journal.{sync_state_after}
+use Rattle.rc_base.specs.Orders.Journal.{sync_state_after, start, head_wait, waiting_of}
+use Rattle.rc_base.specs.declared.sync.Entry.{Entry}
 use Rattle.rc_base.specs.Orders.Sync.{client_count}
 use Rattle.rc_base.specs.declared.sync.SyncLists.{SyncLists}
 use Rattle.rc_base.specs.declared.sync.WaitAt.{WaitAt}
-use Rattle.order_model.proofs.ClientsBeyond.{past_end}
+use Rattle.order_model.proofs.ClientsBeyond.{past_end, ops_past}
 use Rattle.order_model.proofs.GrantsAreExact.{grant_none}
+use Rattle.order_model.specs.Report.{is_stuck}
 use Rattle.sync_manager.specs.Books.{IsStuck, journal_in}
 use Rattle.serial_render.specs.Turns.{IsBetweenTurns, IsSomeoneLeft}
 use Rattle.serial_render.specs.declared.progress.Progress.{Progress}
@@ -37,3 +43,24 @@ left_is_stuck syncs p t none = (
 pub if_some_map : {A : Type 0} (o : Option A) (P Q : A → Type 0) → ((x : A) → P x → Q x) → IfSome o P → IfSome o Q
 if_some_map None P Q f h = tt
 if_some_map (Some x) P Q f h = f x h
+
+-- a client is left waiting exactly where the journal leaves the scene stuck
+pub left_means_stuck : (syncs : SyncLists) (journal : List Entry) → IsSomeoneLeft syncs journal ↔ (is_stuck syncs journal ≡ true)
+left_means_stuck syncs journal = (
+  there,
+  λ h. let k = Any-from_list_any waits (range_with_len 0 (client_count syncs)) h in record { client = k.1; waits = k.4 },
+)
+  where
+    waits : ℕ → Bool
+    waits client = is_some (waiting_of syncs journal client)
+
+    there : IsSomeoneLeft syncs journal → is_stuck syncs journal ≡ true
+    there left = elim (cases_lt left.client (client_count syncs)) [
+      | inl lt ↦
+          let e : 0 + left.client ≡ left.client = omega arith in
+          list_any_at waits (range_with_len 0 (client_count syncs)) left.client 0 (omega (arith, length-range_with_len 0 (client_count syncs), lt))
+          (ap waits (get_or-range_with_len 0 (client_count syncs) left.client 0 lt ∙ e) ∙ left.waits)
+      | inr le ↦
+          let gone : waits left.client ≡ false = ap (λ ws. is_some (head_wait ws)) (past_end syncs (start syncs) journal (ops_past syncs) left.client le) in
+          absurd (true≢false (sym left.waits ∙ gone))
+    ]

@@ -4,6 +4,7 @@ ghost use Rattle.std.specs.List.{AllByRecursion};
 ghost use Rattle.rc_base.specs.Formats.Commands.{IsCommand};
 ghost use Rattle.rc_base.specs.Contexts.Issue.{stream_of, faults_of};
 ghost use Rattle.rc_base.specs.Orders.Sync.{wait_of, sync_row_of, sync_lists_of};
+ghost use Rattle.serial_render.specs.Turns.{AreDeclared};
 
 use crate::lists::Survey;
 use crate::replay::issue_at;
@@ -67,6 +68,7 @@ pub fn survey(alloc: Global, scene: &Scene) -> Result<Survey, OutOfMemory>
     ensures syncs { IfOk result (λ s. s.syncs ≡ sync_lists_of scene.now) }
     ensures clients { IfOk result (λ s. length s.faults ≡ length scene.now.streams) }
     ensures faults { IfOk result (λ s. (client : ℕ) → slice_index_or s.faults client [] ≡ faults_of scene.now client) }
+    ensures declared { IfOk result (λ s. AreDeclared s.syncs) }
 {
     let mut rows = SyncRows::new(alloc);
     let mut faults = FaultLists::new(alloc);

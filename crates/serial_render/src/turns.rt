@@ -1,5 +1,5 @@
 //! The default journal and the default order.
-ghost use Rattle.std.specs.Prelude.{◌≡◌, ℕ, ◌<◌, ◌≤◌, ◌^◌, ◌↔◌, length, Some, IfOk, IfSome, IsSome};
+ghost use Rattle.std.specs.Prelude.{◌≡◌, ℕ, ◌<◌, ◌≤◌, ◌^◌, ◌↔◌, length, Some, true, IfOk, IfSome, IsSome};
 ghost use Rattle.std.specs.List.{AllByRecursion};
 ghost use Rattle.rc_base.specs.Formats.Commands.{IsCommand};
 ghost use Rattle.rc_base.specs.Contexts.Issue.{stream_of};
@@ -8,7 +8,8 @@ ghost use Rattle.rc_base.specs.Orders.Journal.{waiting_of};
 ghost use Rattle.rc_base.specs.Orders.Order.{default_journal, default_order as default_order_of};
 ghost use Rattle.rc_base.specs.Orders.Sync.{IsWellFormed, client_count, sync_lists_of};
 ghost use Rattle.sync_manager.specs.Stored.{wait_at};
-ghost use Rattle.serial_render.specs.Turns.{AreDeclared, IsSomeoneLeft};
+ghost use Rattle.order_model.specs.Report.{is_stuck};
+ghost use Rattle.serial_render.specs.Turns.{AreDeclared};
 
 use crate::progress::Progress;
 use crate::streams::sync_lists;
@@ -37,7 +38,7 @@ pub fn turns_of(alloc: Global, syncs: &SyncLists) -> Result<Turns, OutOfMemory>
     requires declared { AreDeclared syncs.now }
     ensures journal { IfOk result (λ t. t.journal ≡ default_journal syncs.now) }
     ensures order { IfOk result (λ t. t.order ≡ default_order_of syncs.now t.journal) }
-    ensures waiting { IfOk result (λ t. IsSome t.waiting ↔ IsSomeoneLeft syncs.now t.journal) }
+    ensures waiting { IfOk result (λ t. IsSome t.waiting ↔ (is_stuck syncs.now t.journal ≡ true)) }
     ensures at { IfOk result (λ t. IfSome t.waiting (λ w. (client : ℕ) → wait_at w.at client ≡ waiting_of syncs.now t.journal client)) }
 {
     let mut progress = Progress::new(alloc, syncs)?;
@@ -69,7 +70,7 @@ pub fn default_order(
     requires counts { (barrier count : ℕ) → at_name scene.now.decl.barriers barrier ≡ Some count → 0 < count }
     ensures journal { IfOk result (λ t. t.0 ≡ default_journal (sync_lists_of scene.now)) }
     ensures order { IfOk result (λ t. t.1 ≡ default_order_of (sync_lists_of scene.now) t.0) }
-    ensures waiting { IfOk result (λ t. IsSome t.2 ↔ IsSomeoneLeft (sync_lists_of scene.now) t.0) }
+    ensures waiting { IfOk result (λ t. IsSome t.2 ↔ (is_stuck (sync_lists_of scene.now) t.0 ≡ true)) }
     ensures at { IfOk result (λ t. IfSome t.2 (λ w. (client : ℕ) → wait_at w.at client ≡ waiting_of (sync_lists_of scene.now) t.0 client)) }
 {
     let syncs = sync_lists(alloc, scene)?;

@@ -11,8 +11,8 @@ use Rattle.render_core.proofs.due.default_of.Goals as goal
 pub survey-requires-clause-few : goal.survey-requires-clause-few
 survey-requires-clause-few c = few_commands c.args.scene.now c.requires.within
 
-pub turns_of-requires-clause-well_formed : goal.turns_of-requires-clause-well_formed
-turns_of-requires-clause-well_formed c =
+pub turns_of-requires-clause-well : goal.turns_of-requires-clause-well
+turns_of-requires-clause-well c =
     let scene = c.args.scene.now in
     subst IsWellFormed (sym c.in_ok-syncs.ensures.syncs) (c.scene_lists_are_well_formed.ensures scene (clients_within scene c.requires.within).0 (counts_some scene c.requires.within))
 
@@ -25,6 +25,9 @@ pub turns_of-requires-clause-barriers : goal.turns_of-requires-clause-barriers
 turns_of-requires-clause-barriers c =
     let count = ap (λ (s : SyncLists). length s.counts) c.in_ok-syncs.ensures.syncs ∙ ap length (scene_counts c.args.scene.now) in
     omega (arith, count, few_barriers c.args.scene.now c.requires.within)
+
+pub turns_of-requires-clause-declared : goal.turns_of-requires-clause-declared
+turns_of-requires-clause-declared c = c.in_ok-syncs.ensures.declared
 
 pub short_report-requires : goal.short_report-requires
 short_report-requires c =
@@ -44,4 +47,4 @@ returns-clause-default c =
     let notes : c.in_ok-notes.notes ≡ lines_of_faults faults ++ count_lines journal ++ lines_of_stuck waiting (length faults) = cc (c.in_ok-notes.ensures, c.as_slice.ensures, c.as_slice-2.ensures) in
     default_is scene (c.scene_lists_are_well_formed.ensures scene (clients_within scene c.requires.within).0 (counts_some scene c.requires.within))
     c.default_journal_is_maximal.ensures c.default_orders_are_permitted.ensures c.in_ok-syncs.field-0.syncs surveyed.syncs journal c.in_ok-journal.field-0.order waiting
-    turns.journal turns.order turns.stuck turns.waiting faults surveyed.clients surveyed.faults c.in_ok-notes.notes notes c.ending_of-ending.result c.ending_of-ending.ensures
+    turns.journal turns.order turns.waiting turns.at faults surveyed.clients surveyed.faults c.in_ok-notes.notes notes c.ending_of-ending.result c.ending_of-ending.ensures

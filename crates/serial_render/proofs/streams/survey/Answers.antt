@@ -5,7 +5,9 @@ use Rattle.rc_base.specs.Contexts.Issue.{faults_of}
 use Rattle.rc_base.specs.Orders.Sync.{sync_row_of}
 use Rattle.rc_base.specs.declared.state.Fault.{Fault}
 use Rattle.rc_base.specs.declared.sync.SyncRow.{SyncRow}
-use Rattle.std.proofs.Common.{sym}
+use Rattle.std.proofs.Common.{sym, subst}
+use Rattle.serial_render.specs.Turns.{AreDeclared}
+use Rattle.serial_render.proofs.DeclaredOperations.{scene_declared}
 use Rattle.serial_render.proofs.SurveyedStreams.{map_more, lists_are, faults_are, faults_count}
 use Rattle.serial_render.proofs.streams.survey.Goals as goal
 
@@ -45,3 +47,6 @@ returns-clause-faults c =
     let s = c.args.scene.now in
     let all : c.loop-client.client ≡ length s.streams = omega (arith, c.loop-client-test.false, c.loop-client.auto.client-end, c.len-client-end.ensures) in
     faults_are s c.loop-client.faults (c.loop-client.invariant.faults ∙ ap (λ (n : ℕ). map (faults_of s) (range_with_len 0 n)) all)
+
+pub returns-clause-declared : goal.returns-clause-declared
+returns-clause-declared c = subst AreDeclared (sym (returns-clause-syncs c)) (scene_declared c.args.scene.now c.requires.commands)

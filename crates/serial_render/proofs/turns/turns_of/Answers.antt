@@ -4,7 +4,7 @@ use Rattle.rc_base.specs.declared.sync.Waiting.{Waiting}
 use Rattle.sync_manager.specs.Stored.{wait_at}
 use Rattle.serial_render.specs.Turns.{IsSomeoneLeft}
 use Rattle.serial_render.proofs.GrantedTurns.{front_all}
-use Rattle.serial_render.proofs.LeftWaiting.{left_is_stuck, if_some_map}
+use Rattle.serial_render.proofs.LeftWaiting.{left_is_stuck, left_means_stuck, if_some_map}
 use Rattle.serial_render.proofs.TurnsOfClients.{between_first, waits_alike}
 use Rattle.serial_render.proofs.turns.turns_of.Goals as goal
 
@@ -24,9 +24,10 @@ returns-clause-waiting c =
     let s = c.args.syncs.now in
     let t = c.in_ok-turn.ensures.turns in
     let stuck = c.stuck-waiting.ensures.exact s t.way.book t.way.is_book in
-    let left = left_is_stuck s c.turn.new.self t (c.in_ok-turn.ensures.over c.if-not-branch.true) in (
-      λ h. subst (IsSomeoneLeft s) (sym c.into_journal.ensures) (left.0 (stuck.0 h)),
-      λ h. stuck.1 (left.1 (subst (IsSomeoneLeft s) c.into_journal.ensures h)),
+    let left = left_is_stuck s c.turn.new.self t (c.in_ok-turn.ensures.over c.if-not-branch.true) in
+    let told = left_means_stuck s c.into_journal.result in (
+      λ h. told.0 (subst (IsSomeoneLeft s) (sym c.into_journal.ensures) (left.0 (stuck.0 h))),
+      λ h. stuck.1 (left.1 (subst (IsSomeoneLeft s) c.into_journal.ensures (told.1 h))),
     )
 
 pub returns-clause-at : goal.returns-clause-at
