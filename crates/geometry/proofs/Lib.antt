@@ -1,2 +1,3 @@
 mod Facing
 mod Triples
+pub mod Identity

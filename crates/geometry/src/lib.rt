@@ -3,6 +3,7 @@
 //! The definitions are those of `rc_base::specs::Drawing`. Stands on `rc_base`'s types and `fixed_math`. No call takes memory.
 #![tactic(auto)]
 
+mod identities;
 mod primitives;
 #[cfg(test)]
 mod tests;

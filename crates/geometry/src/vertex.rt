@@ -1,12 +1,15 @@
 //! Where a vertex stands in the window.
-ghost use Rattle.std.specs.Prelude.{◌≡◌, ◌^◌, ◌<◌, ◌-◌, ℕ, neg_ℤ, pos, true, false, ◌+ℤ◌, ◌-ℤ◌, ◌*ℤ◌, ◌<ℤ◌, MatchOption};
-ghost use Rattle.rc_base.specs.Numbers.{Within, is_within, is_between, floor_quotient};
+ghost use Rattle.std.specs.Prelude.{◌≡◌, ◌^◌, ◌*◌, ◌<◌, ◌-◌, ℕ, neg_ℤ, pos, true, false, ◌+ℤ◌, ◌-ℤ◌, ◌*ℤ◌, ◌<ℤ◌, MatchOption};
+ghost use Rattle.rc_base.specs.Numbers.{Within, is_within, is_between, floor_quotient, transformed};
 ghost use Rattle.rc_base.specs.Drawing.Cover.{IsInBounds};
 ghost use Rattle.rc_base.specs.Drawing.Window.{clip_of, axis_of, depth_of, window_of, is_in_bounds, is_placed, depth_most};
 ghost use Rattle.fixed_math.specs.Bounds.{AllWithin};
+ghost use Rattle.geometry.specs.Placed.{FixesVectors, AreIdentities};
 ghost use Rattle.geometry.specs.Vertices.{vertex_with};
 
+use crate::identities::Identities;
 use fixed_math::{apply, floor_div, widen};
+use rc_base::command::Mat4;
 use rc_base::state::{State, Vertex};
 use rc_base::window::WindowVertex;
 
@@ -18,13 +21,24 @@ const DEPTH_BOUND: u32 = 1_073_741_824;
 // The greatest depth that a buffer holds.
 const DEPTH_MOST: i128 = 16_777_215;
 
+// The product, or the vector itself where the matrix is known to be the identity.
+fn product(is_identity: bool, m: &Mat4, v: [i128; 4]) -> [i128; 4]
+    requires identity { is_identity ≡ true → FixesVectors m.now.m }
+    requires bounded { AllWithin (2 ^ 64) v }
+    ensures value { result ≡ transformed m.now.m v }
+    ensures small { (n : ℕ) → AllWithin n v → AllWithin (2 ^ 17 * n) result }
+{
+    if is_identity { v } else { apply(m, v) }
+}
+
 #[tactic(auto, unfolding(rc_base::specs::Drawing::Window::clip_of))]
-fn clip(state: &State, v: &Vertex) -> [i128; 4]
+fn clip(state: &State, identities: Identities, v: &Vertex) -> [i128; 4]
+    requires { AreIdentities state.now identities }
     ensures value { result ≡ clip_of state.now v.now }
     ensures small { AllWithin (2 ^ 65) result }
 {
-    let eye = apply(&state.modelview, widen(&v.pos));
-    apply(&state.projection, eye)
+    let eye = product(identities.modelview, &state.modelview, widen(&v.pos));
+    product(identities.projection, &state.projection, eye)
 }
 
 // A number of 64 bits.
@@ -195,12 +209,17 @@ fn narrow(v: &Vertex, x: i128, y: i128, z: i128) -> Option<WindowVertex>
 
 /// The vertex in window coordinates, where it stands before the eye and within their bounds.
 #[tactic(auto, unfolding(rc_base::specs::Drawing::Window::is_placed, rc_base::specs::Drawing::Window::window_of))]
-pub(crate) fn window_vertex(state: &State, v: &Vertex) -> Option<WindowVertex>
+pub(crate) fn window_vertex(
+    state: &State,
+    identities: Identities,
+    v: &Vertex,
+) -> Option<WindowVertex>
+    requires { AreIdentities state.now identities }
     ensures { MatchOption result
         (is_placed state.now v.now ≡ false)
         (λ p. (is_placed state.now v.now ≡ true) × (p ≡ window_of state.now v.now) × IsInBounds p) }
 {
-    let c = clip(state, v);
+    let c = clip(state, identities, v);
     if c[3] <= 0 {
         return None;
     }

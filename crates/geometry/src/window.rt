@@ -5,6 +5,7 @@ ghost use Rattle.rc_base.specs.Drawing.Cover.{triangle_area, IsInBounds};
 ghost use Rattle.rc_base.specs.Drawing.Kept.{three, is_culled, is_shown, oriented, is_kept, kept_of, vertex_at};
 ghost use Rattle.rc_base.specs.Drawing.Window.{window_of};
 
+use crate::identities::identities_of;
 use crate::vertex::window_vertex;
 use fixed_math::edge;
 use rc_base::state::{State, Vertex};
@@ -85,9 +86,10 @@ fn kept(state: &State, corners: &[Vertex; 3]) -> Option<WindowTriangle>
         (λ t. (is_kept state.now (vertex_at corners.now 0) (vertex_at corners.now 1) (vertex_at corners.now 2) ≡ true)
         × (t.v ≡ oriented (window_of state.now (vertex_at corners.now 0)) (window_of state.now (vertex_at corners.now 1)) (window_of state.now (vertex_at corners.now 2)))) }
 {
-    let a = window_vertex(state, &corners[0])?;
-    let b = window_vertex(state, &corners[1])?;
-    let c = window_vertex(state, &corners[2])?;
+    let identities = identities_of(state);
+    let a = window_vertex(state, identities, &corners[0])?;
+    let b = window_vertex(state, identities, &corners[1])?;
+    let c = window_vertex(state, identities, &corners[2])?;
     assemble(state, a, b, c)
 }
 

@@ -2,8 +2,8 @@ use Rattle.std.proofs.Common.{◌^◌, arith}
 use Rattle.fixed_math.proofs.Signed.{all_within_more}
 use Rattle.geometry.proofs.vertex.clip.Goals as goal
 
-pub apply-requires : goal.apply-requires
-apply-requires c = all_within_more c.apply-eye.result (2 ^ 48) (2 ^ 64) (omega arith) (c.apply-eye.ensures.small (2 ^ 31) c.widen.ensures.small)
+pub product-requires-clause-bounded : goal.product-requires-clause-bounded
+product-requires-clause-bounded c = all_within_more c.product-eye.result (2 ^ 48) (2 ^ 64) (omega arith) (c.product-eye.ensures.small (2 ^ 31) c.widen.ensures.small)
 
 pub returns-clause-small : goal.returns-clause-small
-returns-clause-small c = c.apply.ensures.small (2 ^ 48) (c.apply-eye.ensures.small (2 ^ 31) c.widen.ensures.small)
+returns-clause-small c = c.product.ensures.small (2 ^ 48) (c.product-eye.ensures.small (2 ^ 31) c.widen.ensures.small)
