@@ -3,6 +3,7 @@
 //! The definitions are those of `rc_base::specs::Drawing`. Stands on `rc_base`'s types and `fixed_math`. No call takes memory.
 #![tactic(auto)]
 
+mod cache;
 mod identities;
 mod primitives;
 #[cfg(test)]
@@ -10,5 +11,6 @@ mod tests;
 mod vertex;
 mod window;
 
+pub use cache::VertexCache;
 pub use primitives::{TriangleIter, triangles};
 pub use window::to_window;

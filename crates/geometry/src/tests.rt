@@ -1,5 +1,5 @@
 //! Triangles of blocks, and vertices whose place in the window is known by hand.
-use crate::{to_window, triangles};
+use crate::{VertexCache, to_window, triangles};
 use rc_base::command::{Mat4, Rgba};
 use rc_base::items::Items;
 use rc_base::state::{Block, State, Vertex};
@@ -113,6 +113,30 @@ fn corners_stand_in_the_window(rt: HostRuntime) {
     assert!(rt; to_window(&s, &[a, b, at(0, 0, 0)]).is_none());
     assert!(rt; to_window(&state([0, 0, 2, 2], true), &[a, b, c]).is_none());
     assert!(rt; to_window(&state([0, 0, 2, 2], true), &[a, c, b]).is_some());
+}
+
+#[test]
+fn strips_share_their_corners(rt: HostRuntime) {
+    let one = 65536;
+    let vertices = [
+        at(-one, -one, one),
+        at(one, -one, one),
+        at(-one, one, one),
+        at(one, one, one),
+        at(0, 0, 0),
+    ];
+    let s = state([0, 0, 2, 2], false);
+    let mut cache = VertexCache::new(&s, &vertices);
+    let t = cache.triangle([0, 1, 2]).expect(&rt, "the first");
+    let (area, v) = (t.area, t.v);
+    assert_eq!(rt; area, 1024);
+    assert_eq!(rt; v[2].y, 32);
+    let t = cache.triangle([2, 1, 3]).expect(&rt, "the second");
+    let (area, v) = (t.area, t.v);
+    assert_eq!(rt; area, 1024);
+    assert_eq!(rt; v[0].y, 32);
+    assert_eq!(rt; v[2].x, 32);
+    assert!(rt; cache.triangle([2, 3, 4]).is_none());
 }
 
 #[test]

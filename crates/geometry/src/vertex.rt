@@ -4,7 +4,7 @@ ghost use Rattle.rc_base.specs.Numbers.{Within, is_within, is_between, floor_quo
 ghost use Rattle.rc_base.specs.Drawing.Cover.{IsInBounds};
 ghost use Rattle.rc_base.specs.Drawing.Window.{clip_of, axis_of, depth_of, window_of, is_in_bounds, is_placed, depth_most};
 ghost use Rattle.fixed_math.specs.Bounds.{AllWithin};
-ghost use Rattle.geometry.specs.Placed.{FixesVectors, AreIdentities};
+ghost use Rattle.geometry.specs.Placed.{FixesVectors, AreIdentities, IsPlace};
 ghost use Rattle.geometry.specs.Vertices.{vertex_with};
 
 use crate::identities::Identities;
@@ -215,9 +215,7 @@ pub(crate) fn window_vertex(
     v: &Vertex,
 ) -> Option<WindowVertex>
     requires { AreIdentities state.now identities }
-    ensures { MatchOption result
-        (is_placed state.now v.now ≡ false)
-        (λ p. (is_placed state.now v.now ≡ true) × (p ≡ window_of state.now v.now) × IsInBounds p) }
+    ensures { IsPlace state.now v.now result }
 {
     let c = clip(state, identities, v);
     if c[3] <= 0 {

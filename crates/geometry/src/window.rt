@@ -51,7 +51,7 @@ fn opposite(area: i64) -> i64
     -area
 }
 
-fn assemble(
+pub(crate) fn assemble(
     state: &State,
     a: WindowVertex,
     b: WindowVertex,

@@ -1,0 +1,135 @@
+//! The vertices of a block on their way to the window: a post-transform vertex cache, as graphics processors have it.
+ghost use Rattle.std.specs.Prelude.{◌≡◌, ◌<◌, ◌∷◌, [], length, true, false, None, Some, MatchOption};
+ghost use Rattle.std.proofs.Props.{props};
+ghost use Rattle.rc_base.specs.Drawing.Kept.{is_kept, oriented, kept_triangle, vertex_at};
+ghost use Rattle.rc_base.specs.Drawing.Window.{window_of};
+ghost use Rattle.geometry.specs.Items.{AreBelow};
+ghost use Rattle.geometry.specs.Placed.{AreIdentities, IsCorner, IsCached};
+
+use crate::identities::{Identities, identities_of};
+use crate::vertex::window_vertex;
+use crate::window::assemble;
+use rc_base::state::{State, Vertex};
+use rc_base::triangle::WindowTriangle;
+use rc_base::window::WindowVertex;
+
+/// A vertex by its index, and where it stands in the window, if it does.
+#[derive(Clone, Copy)]
+pub struct Corner {
+    pub index: usize,
+    pub at: Option<WindowVertex>,
+}
+
+/// Vertices that a state brings to the window. The corners of the triangle before are kept, so that a strip and a fan bring each of their
+/// vertices to the window once.
+#[derive(Drop)]
+pub struct VertexCache<'a> {
+    pub state: &'a State,
+    pub vertices: &'a [Vertex],
+    identities: Identities,
+    first: Corner,
+    second: Corner,
+    third: Corner,
+    ghost products: { AreIdentities state.now identities },
+    ghost first_cached: { IsCached state.now vertices.now first } by { Prim.hlevel props },
+    ghost second_cached: { IsCached state.now vertices.now second } by { Prim.hlevel props },
+    ghost third_cached: { IsCached state.now vertices.now third } by { Prim.hlevel props },
+}
+
+impl<'a> VertexCache<'a> {
+    /// No vertex is in the window yet.
+    pub fn new(state: &'a State, vertices: &'a [Vertex]) -> VertexCache<'a>
+        ensures state { result.state.now ≡ state.now }
+        ensures vertices { result.vertices.now ≡ vertices.now }
+    {
+        let none = Corner {
+            index: vertices.len(),
+            at: None,
+        };
+        VertexCache {
+            state,
+            vertices,
+            identities: identities_of(state),
+            first: none,
+            second: none,
+            third: none,
+        }
+    }
+
+    // Brings a vertex to the window.
+    fn placed(&self, index: usize) -> Corner
+        requires { index < length self.now.vertices.now }
+        ensures index { result.index ≡ index }
+        ensures at { IsCorner self.now.state.now self.now.vertices.now result }
+    {
+        Corner {
+            index,
+            at: window_vertex(self.state, self.identities, &self.vertices[index]),
+        }
+    }
+
+    // The vertex as it is kept, or brought to the window.
+    fn corner(&self, index: usize) -> Corner
+        requires { index < length self.now.vertices.now }
+        ensures index { result.index ≡ index }
+        ensures at { IsCorner self.now.state.now self.now.vertices.now result }
+    {
+        if self.third.index == index {
+            return self.third;
+        }
+        if self.second.index == index {
+            return self.second;
+        }
+        if self.first.index == index {
+            return self.first;
+        }
+        self.placed(index)
+    }
+
+    // The oriented triangle, where it has an area and isn't culled.
+    #[tactic(auto, unfolding(rc_base::specs::Drawing::Kept::is_kept))]
+    fn kept(&self, a: Corner, b: Corner, c: Corner) -> Option<WindowTriangle>
+        requires a { IsCorner self.now.state.now self.now.vertices.now a }
+        requires b { IsCorner self.now.state.now self.now.vertices.now b }
+        requires c { IsCorner self.now.state.now self.now.vertices.now c }
+        ensures { MatchOption result
+            (is_kept self.now.state.now (vertex_at self.now.vertices.now a.index) (vertex_at self.now.vertices.now b.index) (vertex_at self.now.vertices.now c.index) ≡ false)
+            (λ t. (is_kept self.now.state.now (vertex_at self.now.vertices.now a.index) (vertex_at self.now.vertices.now b.index) (vertex_at self.now.vertices.now c.index) ≡ true)
+            × (t.v ≡ oriented (window_of self.now.state.now (vertex_at self.now.vertices.now a.index)) (window_of self.now.state.now (vertex_at self.now.vertices.now b.index)) (window_of self.now.state.now (vertex_at self.now.vertices.now c.index)))) }
+    {
+        let first = a.at?;
+        let second = b.at?;
+        let third = c.at?;
+        assemble(self.state, first, second, third)
+    }
+
+    // The triangle of three corners.
+    fn assembled(&self, a: Corner, b: Corner, c: Corner) -> Option<WindowTriangle>
+        requires a { IsCorner self.now.state.now self.now.vertices.now a }
+        requires b { IsCorner self.now.state.now self.now.vertices.now b }
+        requires c { IsCorner self.now.state.now self.now.vertices.now c }
+        ensures { MatchOption result
+            (kept_triangle self.now.state.now self.now.vertices.now (a.index ∷ b.index ∷ c.index ∷ []) ≡ None)
+            (λ t. kept_triangle self.now.state.now self.now.vertices.now (a.index ∷ b.index ∷ c.index ∷ []) ≡ Some t.v) }
+    {
+        self.kept(a, b, c)
+    }
+
+    /// The triangle of three vertices in window coordinates, by their indices: as `to_window` gives it of the same vertices.
+    pub fn triangle(&mut self, corners: [usize; 3]) -> Option<WindowTriangle>
+        requires { AreBelow (length self.old.vertices.now) corners }
+        ensures state { self.new.state.now ≡ self.old.state.now }
+        ensures vertices { self.new.vertices.now ≡ self.old.vertices.now }
+        ensures triangle { MatchOption result
+            (kept_triangle self.old.state.now self.old.vertices.now corners ≡ None)
+            (λ t. kept_triangle self.old.state.now self.old.vertices.now corners ≡ Some t.v) }
+    {
+        let a = self.corner(corners[0]);
+        let b = self.corner(corners[1]);
+        let c = self.corner(corners[2]);
+        self.first = a;
+        self.second = b;
+        self.third = c;
+        self.assembled(a, b, c)
+    }
+}
