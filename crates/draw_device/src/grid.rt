@@ -21,11 +21,11 @@ use crate::prepare::{paint_of, plan_of};
 use crate::rows::draw_row;
 use crate::run::Run;
 use fragment_ops::{Clearing, clearing_of};
-use geometry::{to_window, triangles};
+use geometry::{VertexCache, triangles};
 use raster::spans;
 use rc_base::command::Rgba;
 use rc_base::out_of_memory::OutOfMemory;
-use rc_base::state::{Block, State, Vertex};
+use rc_base::state::{Block, State};
 use rc_base::triangle::WindowTriangle;
 use rc_base::window::{Pixel, Rect, Span};
 use std::alloc::Global;
@@ -246,22 +246,20 @@ impl Grid {
         texture: &Texture,
         plan: &Plan,
         part: Rect,
-        vertices: &[Vertex],
+        cache: &mut VertexCache<'_>,
         corners: [usize; 3],
     )
         requires plan { IsPlan state.now plan.now }
         requires texel { HasTexelIfAny texture.now }
         requires part { IsPartWhere (grid_rect self.old.extent) part (is_let_through state.now) }
-        requires corners { AreBelow (length vertices.now) corners }
+        requires state { cache.old.state.now ≡ state.now }
+        requires corners { AreBelow (length cache.old.vertices.now) corners }
+        ensures state { cache.new.state.now ≡ cache.old.state.now }
+        ensures vertices { cache.new.vertices.now ≡ cache.old.vertices.now }
         ensures extent { self.new.extent ≡ self.old.extent }
-        ensures drawn { IsStepped (corners_step state.now texture.now vertices.now corners) self.old.extent self.old.pixels.items self.new.pixels.items }
+        ensures drawn { IsStepped (corners_step state.now texture.now cache.old.vertices.now corners) self.old.extent self.old.pixels.items self.new.pixels.items }
     {
-        let three = [
-            vertices[corners[0]],
-            vertices[corners[1]],
-            vertices[corners[2]],
-        ];
-        let Some(tri) = to_window(state, &three) else {
+        let Some(tri) = cache.triangle(corners) else {
             return;
         };
         self.draw_triangle(state, texture, plan, part, &tri);
@@ -275,9 +273,9 @@ impl Grid {
     {
         let part = drawn_part(state, self.rect());
         let plan = plan_of(state, texture);
-        let vertices = block.vertices.as_slice();
+        let mut cache = VertexCache::new(state, block.vertices.as_slice());
         'draws: for corners in triangles(block) {
-            self.draw_corners(state, texture, &plan, part, vertices, corners);
+            self.draw_corners(state, texture, &plan, part, &mut cache, corners);
         }
     }
 

@@ -29,7 +29,8 @@ draws-preserved c =
     (subst (λ (vs : List Vertex). IsStepped (corners_step s p vs c.in-Some.corners) c.draws.self.extent old new) v.vertices c.draw_corners.ensures.drawn) in
     record {
       extent = c.draw_corners.ensures.extent ∙ v.extent;
-      vertices = v.vertices;
+      state = c.draw_corners.ensures.state ∙ v.state;
+      vertices = c.draw_corners.ensures.vertices ∙ v.vertices;
       part = v.part;
       below = all_rest (AreBelow (length block.vertices)) c.in-Some.corners _ _ e v.below;
       rest = λ i j li lj.

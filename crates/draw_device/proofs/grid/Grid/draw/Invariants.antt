@@ -10,7 +10,8 @@ abbrev pub invariant-draws : goal.invariant-draws
 invariant-draws l =
     record {
       extent : l.self.extent ≡ l.fn.self.extent;
-      vertices : l.vertices ≡ l.fn.block.vertices;
+      state : l.cache.state.now ≡ l.state;
+      vertices : l.cache.vertices.now ≡ l.fn.block.vertices;
       part : IsPartWhere (grid_rect l.fn.self.extent) l.part (is_let_through l.state);
       below : All (AreBelow (length l.fn.block.vertices)) (rest_from l.corners-iterator.block.now l.corners-iterator.given);
       rest : (i j : ℕ) → i < l.fn.self.extent.width → j < l.fn.self.extent.height
