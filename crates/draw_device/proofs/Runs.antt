@@ -28,3 +28,10 @@ run_more f left row start from x old now p q d h l e s =
 pub run_end : (f : ℤ → ℤ → Pixel → Pixel) (left row start from x to : ℕ) (old now : List Pixel)
     → x ≡ to → IsRunStepped f left row start from x old now → IsRunStepped f left row start from to old now
 run_end f left row start from x to old now e d = subst (λ (n : ℕ). IsRunStepped f left row start from n old now) e d
+
+-- the same of a pixel that is read where it stands
+pub run_next : (f : ℤ → ℤ → Pixel → Pixel) (left row start from x : ℕ) (old now : List Pixel) (p : Pixel)
+    → IsRunStepped f left row start from x old now → from ≤ x → start + x < length now
+    → p ≡ f (pos (left + x)) (pos row) (pixel_at now (start + x)) → IsRunStepped f left row start from (x + 1) old (set now (start + x) p)
+run_next f left row start from x old now p d h l s =
+    run_more f left row start from x old now p (pixel_at now (start + x)) d h l (get_or_default now (start + x) _ _ l) s

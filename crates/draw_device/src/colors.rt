@@ -14,10 +14,10 @@ use rc_base::triangle::WindowTriangle;
 use textures::Texture;
 
 /// One colour.
-pub(crate) fn fill_colors(colors: &mut Vec<Rgba>, run: Run, color: Rgba)
+pub(crate) fn fill_colors(colors: &mut [Rgba], run: Run, color: Rgba)
     requires run { IsRun run }
-    requires room { run.to ≤ length colors.old.items }
-    ensures { IsColorRun (λ k old. color) run.from run.to colors.old.items colors.new.items }
+    requires room { run.to ≤ length colors.old }
+    ensures { IsColorRun (λ k old. color) run.from run.to colors.old colors.new }
 {
     for x in run.from..run.to {
         colors[x as usize] = color;
@@ -25,12 +25,12 @@ pub(crate) fn fill_colors(colors: &mut Vec<Rgba>, run: Run, color: Rgba)
 }
 
 /// The triangle's colours, by one addition a channel and pixel.
-pub(crate) fn step_colors(colors: &mut Vec<Rgba>, tri: &WindowTriangle, run: Run, first: ColorRamp)
+pub(crate) fn step_colors(colors: &mut [Rgba], tri: &WindowTriangle, run: Run, first: ColorRamp)
     requires run { IsRun run }
-    requires room { run.to ≤ length colors.old.items }
+    requires room { run.to ≤ length colors.old }
     requires covered { IsRunCovered tri.now.v run }
     requires ramp { IsColorAt tri.now.v run run.from first }
-    ensures { IsColorRun (λ k old. (run_fragment tri.now.v run k).color) run.from run.to colors.old.items colors.new.items }
+    ensures { IsColorRun (λ k old. (run_fragment tri.now.v run k).color) run.from run.to colors.old colors.new }
 {
     let mut ramp = first;
     for x in run.from..run.to {
@@ -61,7 +61,7 @@ fn texel(
 
 /// The texels of the triangle's fragments.
 pub(crate) fn texel_colors(
-    colors: &mut Vec<Rgba>,
+    colors: &mut [Rgba],
     state: &State,
     texture: &Texture,
     tri: &WindowTriangle,
@@ -70,12 +70,12 @@ pub(crate) fn texel_colors(
     first_t: FineRamp,
 )
     requires run { IsRun run }
-    requires room { run.to ≤ length colors.old.items }
+    requires room { run.to ≤ length colors.old }
     requires texel { HasTexel texture.now }
     requires covered { IsRunCovered tri.now.v run }
     requires s_ramp { IsSAt tri.now.v run run.from first_s }
     requires t_ramp { IsTAt tri.now.v run run.from first_t }
-    ensures { IsColorRun (λ k old. texel_for state.now texture.now (run_fragment tri.now.v run k)) run.from run.to colors.old.items colors.new.items }
+    ensures { IsColorRun (λ k old. texel_for state.now texture.now (run_fragment tri.now.v run k)) run.from run.to colors.old colors.new }
 {
     let mut ss = first_s;
     let mut ts = first_t;
@@ -90,17 +90,17 @@ pub(crate) fn texel_colors(
 
 /// The texture stage of texels and the triangle's colours.
 pub(crate) fn tint_colors(
-    colors: &mut Vec<Rgba>,
+    colors: &mut [Rgba],
     state: &State,
     tri: &WindowTriangle,
     run: Run,
     first: ColorRamp,
 )
     requires run { IsRun run }
-    requires room { run.to ≤ length colors.old.items }
+    requires room { run.to ≤ length colors.old }
     requires covered { IsRunCovered tri.now.v run }
     requires ramp { IsColorAt tri.now.v run run.from first }
-    ensures { IsColorRun (λ k old. textured state.now (run_fragment tri.now.v run k).color old) run.from run.to colors.old.items colors.new.items }
+    ensures { IsColorRun (λ k old. textured state.now (run_fragment tri.now.v run k).color old) run.from run.to colors.old colors.new }
 {
     let mut ramp = first;
     for x in run.from..run.to {

@@ -207,8 +207,8 @@ impl Grid {
             to,
         };
         draw_row(
-            &mut self.pixels,
-            &mut self.colors,
+            self.pixels.as_mut_slice(),
+            self.colors.as_mut_slice(),
             state,
             texture,
             tri,

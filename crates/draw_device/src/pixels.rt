@@ -23,19 +23,19 @@ use textures::Texture;
 
 /// One colour alone is stored.
 pub(crate) fn fill_run(
-    pixels: &mut Vec<Pixel>,
+    pixels: &mut [Pixel],
     state: &State,
     tri: &WindowTriangle,
     run: Run,
     color: Rgba,
 )
     requires run { IsRun run }
-    requires room { run.start + run.to ≤ length pixels.old.items }
+    requires room { run.start + run.to ≤ length pixels.old }
     requires covered { IsRunCovered tri.now.v run }
     requires depths { HasDepths tri.now.v }
     requires kind { StoresColor state.now }
     requires color { (x y : ℤ) → is_inside tri.now.v x y ≡ true → HasColor color (fragment_of tri.now.v x y) }
-    ensures { IsRunDrawn state.now None tri.now.v run pixels.old.items pixels.new.items }
+    ensures { IsRunDrawn state.now None tri.now.v run pixels.old pixels.new }
 {
     let _state = state;
     let _tri = tri;
@@ -47,19 +47,19 @@ pub(crate) fn fill_run(
 
 /// The triangle's colours alone are stored.
 pub(crate) fn step_run(
-    pixels: &mut Vec<Pixel>,
+    pixels: &mut [Pixel],
     state: &State,
     tri: &WindowTriangle,
     run: Run,
     first: ColorRamp,
 )
     requires run { IsRun run }
-    requires room { run.start + run.to ≤ length pixels.old.items }
+    requires room { run.start + run.to ≤ length pixels.old }
     requires covered { IsRunCovered tri.now.v run }
     requires depths { HasDepths tri.now.v }
     requires kind { StoresColor state.now }
     requires ramp { IsColorAt tri.now.v run run.from first }
-    ensures { IsRunDrawn state.now None tri.now.v run pixels.old.items pixels.new.items }
+    ensures { IsRunDrawn state.now None tri.now.v run pixels.old pixels.new }
 {
     let _state = state;
     let mut ramp = first;
@@ -72,7 +72,7 @@ pub(crate) fn step_run(
 
 /// The row's colours alone are stored.
 pub(crate) fn store_run(
-    pixels: &mut Vec<Pixel>,
+    pixels: &mut [Pixel],
     colors: &[Rgba],
     state: &State,
     texture: &Texture,
@@ -80,13 +80,13 @@ pub(crate) fn store_run(
     run: Run,
 )
     requires run { IsRun run }
-    requires room { run.start + run.to ≤ length pixels.old.items }
+    requires room { run.start + run.to ≤ length pixels.old }
     requires colors { run.to ≤ length colors.now }
     requires colored { AreColors state.now texture.now tri.now.v run colors.now }
     requires covered { IsRunCovered tri.now.v run }
     requires depths { HasDepths tri.now.v }
     requires kind { StoresColor state.now }
-    ensures { IsRunDrawn state.now texture.now tri.now.v run pixels.old.items pixels.new.items }
+    ensures { IsRunDrawn state.now texture.now tri.now.v run pixels.old pixels.new }
 {
     let _state = state;
     let _texture = texture;
@@ -97,34 +97,34 @@ pub(crate) fn store_run(
     }
 }
 
-fn test_step(stages: &Stages, color: Rgba, depth: i32, old: Pixel) -> Pixel
+fn test_step(stages: Stages, color: Rgba, depth: i32, old: Pixel) -> Pixel
     requires { is_depth depth ≡ true }
-    ensures { (s : AnyState) (p : Option Picture) (f : AnyFragment) → IsPrepared s stages.now → tests_alone s ≡ true → color ≡ fragment_color s p f → depth ≡ f.depth → result ≡ fragment_step s p f old }
+    ensures { (s : AnyState) (p : Option Picture) (f : AnyFragment) → IsPrepared s stages → tests_alone s ≡ true → color ≡ fragment_color s p f → depth ≡ f.depth → result ≡ fragment_step s p f old }
 {
     stages.store(color, depth as u32, old)
 }
 
 /// The depth test is the one stage.
 pub(crate) fn test_run(
-    pixels: &mut Vec<Pixel>,
+    pixels: &mut [Pixel],
     colors: &[Rgba],
     state: &State,
     texture: &Texture,
     tri: &WindowTriangle,
-    stages: &Stages,
+    stages: Stages,
     run: Run,
     first: FineRamp,
 )
     requires run { IsRun run }
-    requires room { run.start + run.to ≤ length pixels.old.items }
+    requires room { run.start + run.to ≤ length pixels.old }
     requires colors { run.to ≤ length colors.now }
     requires colored { AreColors state.now texture.now tri.now.v run colors.now }
     requires covered { IsRunCovered tri.now.v run }
     requires depths { HasDepths tri.now.v }
     requires kind { tests_alone state.now ≡ true }
-    requires stages { IsPrepared state.now stages.now }
+    requires stages { IsPrepared state.now stages }
     requires ramp { IsDepthAt tri.now.v run run.from first }
-    ensures { IsRunDrawn state.now texture.now tri.now.v run pixels.old.items pixels.new.items }
+    ensures { IsRunDrawn state.now texture.now tri.now.v run pixels.old pixels.new }
 {
     let _state = state;
     let _texture = texture;
@@ -137,34 +137,34 @@ pub(crate) fn test_run(
     }
 }
 
-fn over_step(stages: &Stages, color: Rgba, depth: i32, old: Pixel) -> Pixel
+fn over_step(stages: Stages, color: Rgba, depth: i32, old: Pixel) -> Pixel
     requires { is_depth depth ≡ true }
-    ensures { (s : AnyState) (p : Option Picture) (f : AnyFragment) → IsPrepared s stages.now → blends_over s ≡ true → color ≡ fragment_color s p f → depth ≡ f.depth → result ≡ fragment_step s p f old }
+    ensures { (s : AnyState) (p : Option Picture) (f : AnyFragment) → IsPrepared s stages → blends_over s ≡ true → color ≡ fragment_color s p f → depth ≡ f.depth → result ≡ fragment_step s p f old }
 {
     stages.store_over(color, depth as u32, old)
 }
 
 /// Depth test, and blending by SRC_ALPHA and ONE_MINUS_SRC_ALPHA.
 pub(crate) fn over_run(
-    pixels: &mut Vec<Pixel>,
+    pixels: &mut [Pixel],
     colors: &[Rgba],
     state: &State,
     texture: &Texture,
     tri: &WindowTriangle,
-    stages: &Stages,
+    stages: Stages,
     run: Run,
     first: FineRamp,
 )
     requires run { IsRun run }
-    requires room { run.start + run.to ≤ length pixels.old.items }
+    requires room { run.start + run.to ≤ length pixels.old }
     requires colors { run.to ≤ length colors.now }
     requires colored { AreColors state.now texture.now tri.now.v run colors.now }
     requires covered { IsRunCovered tri.now.v run }
     requires depths { HasDepths tri.now.v }
     requires kind { blends_over state.now ≡ true }
-    requires stages { IsPrepared state.now stages.now }
+    requires stages { IsPrepared state.now stages }
     requires ramp { IsDepthAt tri.now.v run run.from first }
-    ensures { IsRunDrawn state.now texture.now tri.now.v run pixels.old.items pixels.new.items }
+    ensures { IsRunDrawn state.now texture.now tri.now.v run pixels.old pixels.new }
 {
     let _state = state;
     let _texture = texture;
@@ -177,34 +177,34 @@ pub(crate) fn over_run(
     }
 }
 
-fn sum_step(stages: &Stages, color: Rgba, depth: i32, old: Pixel) -> Pixel
+fn sum_step(stages: Stages, color: Rgba, depth: i32, old: Pixel) -> Pixel
     requires { is_depth depth ≡ true }
-    ensures { (s : AnyState) (p : Option Picture) (f : AnyFragment) → IsPrepared s stages.now → blends_sum s ≡ true → color ≡ fragment_color s p f → depth ≡ f.depth → result ≡ fragment_step s p f old }
+    ensures { (s : AnyState) (p : Option Picture) (f : AnyFragment) → IsPrepared s stages → blends_sum s ≡ true → color ≡ fragment_color s p f → depth ≡ f.depth → result ≡ fragment_step s p f old }
 {
     stages.store_sum(color, depth as u32, old)
 }
 
 /// Depth test, and blending by ONE and ONE.
 pub(crate) fn sum_run(
-    pixels: &mut Vec<Pixel>,
+    pixels: &mut [Pixel],
     colors: &[Rgba],
     state: &State,
     texture: &Texture,
     tri: &WindowTriangle,
-    stages: &Stages,
+    stages: Stages,
     run: Run,
     first: FineRamp,
 )
     requires run { IsRun run }
-    requires room { run.start + run.to ≤ length pixels.old.items }
+    requires room { run.start + run.to ≤ length pixels.old }
     requires colors { run.to ≤ length colors.now }
     requires colored { AreColors state.now texture.now tri.now.v run colors.now }
     requires covered { IsRunCovered tri.now.v run }
     requires depths { HasDepths tri.now.v }
     requires kind { blends_sum state.now ≡ true }
-    requires stages { IsPrepared state.now stages.now }
+    requires stages { IsPrepared state.now stages }
     requires ramp { IsDepthAt tri.now.v run run.from first }
-    ensures { IsRunDrawn state.now texture.now tri.now.v run pixels.old.items pixels.new.items }
+    ensures { IsRunDrawn state.now texture.now tri.now.v run pixels.old pixels.new }
 {
     let _state = state;
     let _texture = texture;
@@ -233,7 +233,7 @@ fn any_step(state: &State, color: Rgba, depth: i32, old: Pixel) -> Pixel
 
 /// Any stages.
 pub(crate) fn any_run(
-    pixels: &mut Vec<Pixel>,
+    pixels: &mut [Pixel],
     colors: &[Rgba],
     state: &State,
     texture: &Texture,
@@ -242,12 +242,12 @@ pub(crate) fn any_run(
     first: FineRamp,
 )
     requires run { IsRun run }
-    requires room { run.start + run.to ≤ length pixels.old.items }
+    requires room { run.start + run.to ≤ length pixels.old }
     requires colors { run.to ≤ length colors.now }
     requires colored { AreColors state.now texture.now tri.now.v run colors.now }
     requires covered { IsRunCovered tri.now.v run }
     requires ramp { IsDepthAt tri.now.v run run.from first }
-    ensures { IsRunDrawn state.now texture.now tri.now.v run pixels.old.items pixels.new.items }
+    ensures { IsRunDrawn state.now texture.now tri.now.v run pixels.old pixels.new }
 {
     let _texture = texture;
     let mut ramp = first;

@@ -39,7 +39,7 @@ fn value_ramp(plane: &FinePlane, run: Run) -> FineRamp
 
 // Of a triangle without a texture whose colours alone are stored: its row, or nothing.
 fn store_row(
-    pixels: &mut Vec<Pixel>,
+    pixels: &mut [Pixel],
     state: &State,
     tri: &WindowTriangle,
     plan: &Plan,
@@ -47,12 +47,12 @@ fn store_row(
     run: Run,
 ) -> bool
     requires run { IsRun run }
-    requires room { run.start + run.to ≤ length pixels.old.items }
+    requires room { run.start + run.to ≤ length pixels.old }
     requires covered { IsRunCovered tri.now.v run }
     requires plan { IsPlan state.now plan.now }
     requires paint { IsPaint tri.now.v (pos run.left) (pos run.bottom) paint.now }
-    ensures drawn { result ≡ true → IsRunDrawn state.now None tri.now.v run pixels.old.items pixels.new.items }
-    ensures kept { result ≡ false → pixels.new.items ≡ pixels.old.items }
+    ensures drawn { result ≡ true → IsRunDrawn state.now None tri.now.v run pixels.old pixels.new }
+    ensures kept { result ≡ false → pixels.new ≡ pixels.old }
 {
     if !plan.stores {
         return false;
@@ -73,18 +73,18 @@ fn store_row(
 
 // The colours of a row's fragments without a texture, or nothing.
 fn plain_colors(
-    colors: &mut Vec<Rgba>,
+    colors: &mut [Rgba],
     state: &State,
     tri: &WindowTriangle,
     paint: &Paint,
     run: Run,
 ) -> bool
     requires run { IsRun run }
-    requires room { run.to ≤ length colors.old.items }
+    requires room { run.to ≤ length colors.old }
     requires covered { IsRunCovered tri.now.v run }
     requires paint { IsPaint tri.now.v (pos run.left) (pos run.bottom) paint.now }
-    ensures size { length colors.new.items ≡ length colors.old.items }
-    ensures done { result ≡ true → AreColors state.now None tri.now.v run colors.new.items }
+    ensures size { length colors.new ≡ length colors.old }
+    ensures done { result ≡ true → AreColors state.now None tri.now.v run colors.new }
 {
     let _state = state;
     if let Some(color) = paint.flat {
@@ -100,7 +100,7 @@ fn plain_colors(
 
 // The texels of a row's fragments, or nothing.
 fn texel_row(
-    colors: &mut Vec<Rgba>,
+    colors: &mut [Rgba],
     state: &State,
     texture: &Texture,
     tri: &WindowTriangle,
@@ -108,12 +108,12 @@ fn texel_row(
     run: Run,
 ) -> bool
     requires run { IsRun run }
-    requires room { run.to ≤ length colors.old.items }
+    requires room { run.to ≤ length colors.old }
     requires texel { HasTexel texture.now }
     requires covered { IsRunCovered tri.now.v run }
     requires paint { IsPaint tri.now.v (pos run.left) (pos run.bottom) paint.now }
-    ensures size { length colors.new.items ≡ length colors.old.items }
-    ensures done { result ≡ true → IsColorRun (λ k old. texel_for state.now texture.now (run_fragment tri.now.v run k)) run.from run.to colors.old.items colors.new.items }
+    ensures size { length colors.new ≡ length colors.old }
+    ensures done { result ≡ true → IsColorRun (λ k old. texel_for state.now texture.now (run_fragment tri.now.v run k)) run.from run.to colors.old colors.new }
 {
     if let Some((ss, ts)) = &paint.coordinates {
         let s = value_ramp(ss, run);
@@ -126,18 +126,18 @@ fn texel_row(
 
 // The texture stage of a row's texels, or nothing.
 fn tint_row(
-    colors: &mut Vec<Rgba>,
+    colors: &mut [Rgba],
     state: &State,
     tri: &WindowTriangle,
     paint: &Paint,
     run: Run,
 ) -> bool
     requires run { IsRun run }
-    requires room { run.to ≤ length colors.old.items }
+    requires room { run.to ≤ length colors.old }
     requires covered { IsRunCovered tri.now.v run }
     requires paint { IsPaint tri.now.v (pos run.left) (pos run.bottom) paint.now }
-    ensures size { length colors.new.items ≡ length colors.old.items }
-    ensures done { result ≡ true → IsColorRun (λ k old. textured state.now (run_fragment tri.now.v run k).color old) run.from run.to colors.old.items colors.new.items }
+    ensures size { length colors.new ≡ length colors.old }
+    ensures done { result ≡ true → IsColorRun (λ k old. textured state.now (run_fragment tri.now.v run k).color old) run.from run.to colors.old colors.new }
 {
     if let Some(plane) = &paint.colors {
         tint_colors(colors, state, tri, run, color_ramp(plane, run));
@@ -148,7 +148,7 @@ fn tint_row(
 
 // The colours of a row's fragments after the texture stage, or nothing.
 fn pictured_colors(
-    colors: &mut Vec<Rgba>,
+    colors: &mut [Rgba],
     state: &State,
     texture: &Texture,
     tri: &WindowTriangle,
@@ -157,13 +157,13 @@ fn pictured_colors(
     run: Run,
 ) -> bool
     requires run { IsRun run }
-    requires room { run.to ≤ length colors.old.items }
+    requires room { run.to ≤ length colors.old }
     requires texel { HasTexel texture.now }
     requires covered { IsRunCovered tri.now.v run }
     requires plan { IsPlan state.now plan.now }
     requires paint { IsPaint tri.now.v (pos run.left) (pos run.bottom) paint.now }
-    ensures size { length colors.new.items ≡ length colors.old.items }
-    ensures done { result ≡ true → AreColors state.now texture.now tri.now.v run colors.new.items }
+    ensures size { length colors.new ≡ length colors.old }
+    ensures done { result ≡ true → AreColors state.now texture.now tri.now.v run colors.new }
 {
     if !texel_row(colors, state, texture, tri, paint, run) {
         return false;
@@ -176,7 +176,7 @@ fn pictured_colors(
 
 // A row of fragments with depths in the buffer's range, by its colours.
 fn ranged_row(
-    pixels: &mut Vec<Pixel>,
+    pixels: &mut [Pixel],
     colors: &[Rgba],
     state: &State,
     texture: &Texture,
@@ -186,21 +186,21 @@ fn ranged_row(
     ramp: FineRamp,
 )
     requires run { IsRun run }
-    requires room { run.start + run.to ≤ length pixels.old.items }
+    requires room { run.start + run.to ≤ length pixels.old }
     requires colors { run.to ≤ length colors.now }
     requires colored { AreColors state.now texture.now tri.now.v run colors.now }
     requires covered { IsRunCovered tri.now.v run }
     requires depths { HasDepths tri.now.v }
     requires plan { IsPlan state.now plan.now }
     requires ramp { IsDepthAt tri.now.v run run.from ramp }
-    ensures { IsRunDrawn state.now texture.now tri.now.v run pixels.old.items pixels.new.items }
+    ensures { IsRunDrawn state.now texture.now tri.now.v run pixels.old pixels.new }
 {
     if plan.tests {
-        test_run(pixels, colors, state, texture, tri, &plan.stages, run, ramp);
+        test_run(pixels, colors, state, texture, tri, plan.stages, run, ramp);
     } else if plan.over {
-        over_run(pixels, colors, state, texture, tri, &plan.stages, run, ramp);
+        over_run(pixels, colors, state, texture, tri, plan.stages, run, ramp);
     } else if plan.sum {
-        sum_run(pixels, colors, state, texture, tri, &plan.stages, run, ramp);
+        sum_run(pixels, colors, state, texture, tri, plan.stages, run, ramp);
     } else {
         any_run(pixels, colors, state, texture, tri, run, ramp);
     }
@@ -208,7 +208,7 @@ fn ranged_row(
 
 // A row of fragments by its colours, or nothing.
 fn colored_row(
-    pixels: &mut Vec<Pixel>,
+    pixels: &mut [Pixel],
     colors: &[Rgba],
     state: &State,
     texture: &Texture,
@@ -218,14 +218,14 @@ fn colored_row(
     run: Run,
 ) -> bool
     requires run { IsRun run }
-    requires room { run.start + run.to ≤ length pixels.old.items }
+    requires room { run.start + run.to ≤ length pixels.old }
     requires colors { run.to ≤ length colors.now }
     requires colored { AreColors state.now texture.now tri.now.v run colors.now }
     requires covered { IsRunCovered tri.now.v run }
     requires plan { IsPlan state.now plan.now }
     requires paint { IsPaint tri.now.v (pos run.left) (pos run.bottom) paint.now }
-    ensures drawn { result ≡ true → IsRunDrawn state.now texture.now tri.now.v run pixels.old.items pixels.new.items }
-    ensures kept { result ≡ false → pixels.new.items ≡ pixels.old.items }
+    ensures drawn { result ≡ true → IsRunDrawn state.now texture.now tri.now.v run pixels.old pixels.new }
+    ensures kept { result ≡ false → pixels.new ≡ pixels.old }
 {
     if plan.stores && paint.ranged {
         store_run(pixels, colors, state, texture, tri, run);
@@ -245,7 +245,7 @@ fn colored_row(
 
 // A row, pixel by pixel.
 fn plain_row(
-    pixels: &mut Vec<Pixel>,
+    pixels: &mut [Pixel],
     state: &State,
     texture: &Texture,
     tri: &WindowTriangle,
@@ -253,9 +253,9 @@ fn plain_row(
 )
     requires texel { HasTexelIfAny texture.now }
     requires order { run.from ≤ run.to }
-    requires room { run.start + run.to ≤ length pixels.old.items }
+    requires room { run.start + run.to ≤ length pixels.old }
     requires covered { IsRunCovered tri.now.v run }
-    ensures { IsRunDrawn state.now texture.now tri.now.v run pixels.old.items pixels.new.items }
+    ensures { IsRunDrawn state.now texture.now tri.now.v run pixels.old pixels.new }
 {
     draw_run(
         pixels, state, texture, tri, run.left, run.row, run.start, run.from, run.to,
@@ -264,8 +264,8 @@ fn plain_row(
 
 // A row of a triangle without a texture.
 fn untextured_row(
-    pixels: &mut Vec<Pixel>,
-    colors: &mut Vec<Rgba>,
+    pixels: &mut [Pixel],
+    colors: &mut [Rgba],
     state: &State,
     texture: &Texture,
     tri: &WindowTriangle,
@@ -274,14 +274,14 @@ fn untextured_row(
     run: Run,
 )
     requires run { IsRun run }
-    requires room { run.start + run.to ≤ length pixels.old.items }
-    requires colors { run.to ≤ length colors.old.items }
+    requires room { run.start + run.to ≤ length pixels.old }
+    requires colors { run.to ≤ length colors.old }
     requires none { texture.now ≡ None }
     requires covered { IsRunCovered tri.now.v run }
     requires plan { IsPlan state.now plan.now }
     requires paint { IsPaint tri.now.v (pos run.left) (pos run.bottom) paint.now }
-    ensures size { length colors.new.items ≡ length colors.old.items }
-    ensures drawn { IsRunDrawn state.now None tri.now.v run pixels.old.items pixels.new.items }
+    ensures size { length colors.new ≡ length colors.old }
+    ensures drawn { IsRunDrawn state.now None tri.now.v run pixels.old pixels.new }
 {
     if store_row(pixels, state, tri, plan, paint, run) {
         return;
@@ -289,7 +289,7 @@ fn untextured_row(
     if plain_colors(colors, state, tri, paint, run) {
         if colored_row(
             pixels,
-            colors.as_slice(),
+            colors,
             state,
             texture,
             tri,
@@ -305,8 +305,8 @@ fn untextured_row(
 
 // A row of a triangle with a texture.
 fn textured_row(
-    pixels: &mut Vec<Pixel>,
-    colors: &mut Vec<Rgba>,
+    pixels: &mut [Pixel],
+    colors: &mut [Rgba],
     state: &State,
     texture: &Texture,
     tri: &WindowTriangle,
@@ -315,20 +315,20 @@ fn textured_row(
     run: Run,
 )
     requires run { IsRun run }
-    requires room { run.start + run.to ≤ length pixels.old.items }
-    requires colors { run.to ≤ length colors.old.items }
+    requires room { run.start + run.to ≤ length pixels.old }
+    requires colors { run.to ≤ length colors.old }
     requires texel { HasTexel texture.now }
     requires any { HasTexelIfAny texture.now }
     requires covered { IsRunCovered tri.now.v run }
     requires plan { IsPlan state.now plan.now }
     requires paint { IsPaint tri.now.v (pos run.left) (pos run.bottom) paint.now }
-    ensures size { length colors.new.items ≡ length colors.old.items }
-    ensures drawn { IsRunDrawn state.now texture.now tri.now.v run pixels.old.items pixels.new.items }
+    ensures size { length colors.new ≡ length colors.old }
+    ensures drawn { IsRunDrawn state.now texture.now tri.now.v run pixels.old pixels.new }
 {
     if pictured_colors(colors, state, texture, tri, plan, paint, run) {
         if colored_row(
             pixels,
-            colors.as_slice(),
+            colors,
             state,
             texture,
             tri,
@@ -351,8 +351,8 @@ fn is_few(run: Run) -> bool
 
 /// A row of a triangle's pixels.
 pub(crate) fn draw_row(
-    pixels: &mut Vec<Pixel>,
-    colors: &mut Vec<Rgba>,
+    pixels: &mut [Pixel],
+    colors: &mut [Rgba],
     state: &State,
     texture: &Texture,
     tri: &WindowTriangle,
@@ -362,14 +362,14 @@ pub(crate) fn draw_row(
 )
     requires order { run.from ≤ run.to }
     requires above { run.row ≡ run.bottom + run.up }
-    requires room { run.start + run.to ≤ length pixels.old.items }
-    requires colors { run.to ≤ length colors.old.items }
+    requires room { run.start + run.to ≤ length pixels.old }
+    requires colors { run.to ≤ length colors.old }
     requires texel { HasTexelIfAny texture.now }
     requires covered { IsRunCovered tri.now.v run }
     requires plan { IsPlan state.now plan.now }
     requires paint { IsPaint tri.now.v (pos run.left) (pos run.bottom) paint.now }
-    ensures size { length colors.new.items ≡ length colors.old.items }
-    ensures drawn { IsRunDrawn state.now texture.now tri.now.v run pixels.old.items pixels.new.items }
+    ensures size { length colors.new ≡ length colors.old }
+    ensures drawn { IsRunDrawn state.now texture.now tri.now.v run pixels.old pixels.new }
 {
     if !is_few(run) {
         plain_row(pixels, state, texture, tri, run);

@@ -54,7 +54,7 @@ fn shade_at(
 
 /// Draws the covered columns from `from` to below `to` of a row that begins at `start` with the pixel (`left`, `row`) of the window.
 pub(crate) fn draw_run(
-    pixels: &mut Vec<Pixel>,
+    pixels: &mut [Pixel],
     state: &State,
     texture: &Texture,
     tri: &WindowTriangle,
@@ -66,9 +66,9 @@ pub(crate) fn draw_run(
 )
     requires texel { HasTexelIfAny texture.now }
     requires order { from ≤ to }
-    requires room { start + to ≤ length pixels.old.items }
+    requires room { start + to ≤ length pixels.old }
     requires covered { (k : ℕ) → from ≤ k → k < to → is_inside tri.now.v (pos (left + k)) (pos row) ≡ true }
-    ensures { IsRunStepped (fragment_pixel state.now texture.now tri.now.v) left row start from to pixels.old.items pixels.new.items }
+    ensures { IsRunStepped (fragment_pixel state.now texture.now tri.now.v) left row start from to pixels.old pixels.new }
 {
     for x in from..to {
         let index = start + x as usize;

@@ -6,6 +6,6 @@ use Rattle.draw_device.proofs.colors.step_colors.Given as goal
 abbrev pub invariant-loop-x : goal.invariant-loop-x
 invariant-loop-x l =
     record {
-      done : IsColorRun (λ (k : ℕ) (old : Rgba). (run_fragment l.tri.v l.fn.run k).color) l.fn.run.from l.x l.fn.colors.items l.colors.items;
+      done : IsColorRun (λ (k : ℕ) (old : Rgba). (run_fragment l.tri.v l.fn.run k).color) l.fn.run.from l.x l.fn.colors l.colors;
       ramp : IsColorAt l.tri.v l.fn.run l.x l.ramp;
     }

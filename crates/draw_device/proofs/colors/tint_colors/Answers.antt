@@ -2,7 +2,7 @@ use Rattle.std.proofs.Common.{ℕ, ◌+◌, ◌∙◌, pos, arith}
 use Rattle.rc_base.specs.Drawing.PixelStep.{textured}
 use Rattle.rc_base.specs.declared.command.Rgba.{Rgba}
 use Rattle.draw_device.specs.Loops.{run_fragment}
-use Rattle.draw_device.proofs.Steps.{color_before, color_more, color_end, color_moved}
+use Rattle.draw_device.proofs.Steps.{color_more, color_end, color_moved}
 use Rattle.draw_device.proofs.colors.tint_colors.Goals as goal
 
 pub loop-x-preserved : goal.loop-x-preserved
@@ -11,7 +11,7 @@ loop-x-preserved c =
     let d = c.loop-x.invariant.done in
     let s = d.size in
     let order = c.requires.run.order in
-    let was = color_before c.args.colors.now.items c.loop-x.colors.items c.loop-x.x c.index.result.now c.index.ensures (omega arith) (d.rest c.loop-x.x (omega arith)) in
+    let was = d.rest c.loop-x.x (omega arith) in
     record {
       done = color_more (λ (k : ℕ) (old : Rgba). textured c.args.state.now (run_fragment c.args.tri.now.v c.args.run k).color old) r.from c.loop-x.x _ _ _ d (omega arith) (omega arith) (c.texture_color.ensures ∙ (λ i. textured c.args.state.now (c.color_by-color.ensures i) (was i)));
       ramp = color_moved _ r.left c.loop-x.x r.row r.up _ (c.advance.ensures c.args.tri.now.v (pos (r.left + c.loop-x.x)) (pos r.row) (1 + c.loop-x.x + r.up) c.loop-x.invariant.ramp);

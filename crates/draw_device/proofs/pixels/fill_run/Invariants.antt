@@ -5,5 +5,5 @@ use Rattle.draw_device.proofs.pixels.fill_run.Given as goal
 abbrev pub invariant-loop-x : goal.invariant-loop-x
 invariant-loop-x l =
     record {
-      drawn : IsRunStepped (fragment_pixel l.state None l.tri.v) l.fn.run.left l.fn.run.row l.fn.run.start l.fn.run.from l.x l.fn.pixels.items l.pixels.items;
+      drawn : IsRunStepped (fragment_pixel l.state None l.tri.v) l.fn.run.left l.fn.run.row l.fn.run.start l.fn.run.from l.x l.fn.pixels l.pixels;
     }

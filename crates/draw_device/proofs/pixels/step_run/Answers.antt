@@ -1,7 +1,8 @@
 use Rattle.std.proofs.Common.{◌+◌, pos, arith, None}
+use Rattle.draw_device.specs.Pixels.{pixel_at}
 use Rattle.draw_device.specs.Shapes.{fragment_pixel}
 use Rattle.draw_device.specs.Loops.{run_fragment}
-use Rattle.draw_device.proofs.Runs.{run_more, run_end}
+use Rattle.draw_device.proofs.Runs.{run_next, run_end}
 use Rattle.draw_device.proofs.Steps.{alone_step, color_moved}
 use Rattle.draw_device.proofs.pixels.step_run.Goals as goal
 
@@ -15,10 +16,10 @@ loop-x-preserved c =
     let order = c.requires.run.order in
     let f = run_fragment v r x in
     let inside = c.requires.covered x (omega arith) (omega arith) in
-    let old = c.index_mut.result.now in
+    let old = pixel_at c.loop-x.pixels (r.start + x) in
     let e = alone_step c.args.state.now None f _ old c.requires.kind (c.requires.depths (pos (r.left + x)) (pos r.row) inside) c.color_by.ensures in
     record {
-      drawn = run_more (fragment_pixel c.args.state.now None v) r.left r.row r.start r.from x _ _ _ old d (omega arith) (omega arith) c.index_mut.ensures.value e;
+      drawn = run_next (fragment_pixel c.args.state.now None v) r.left r.row r.start r.from x _ _ _ d (omega arith) (omega arith) e;
       ramp = color_moved _ r.left x r.row r.up _ (c.advance.ensures v (pos (r.left + x)) (pos r.row) (1 + x + r.up) c.loop-x.invariant.ramp);
     }
 

@@ -2,7 +2,7 @@ use Rattle.std.proofs.Common.{◌+◌, ◌∙◌, pos, arith, to_z-of_z, FitsSig
 use Rattle.rc_base.specs.declared.window.WindowVertex.{WindowVertex}
 use Rattle.draw_device.specs.Shapes.{fragment_pixel}
 use Rattle.draw_device.specs.Loops.{run_fragment}
-use Rattle.draw_device.proofs.Runs.{run_more, run_end}
+use Rattle.draw_device.proofs.Runs.{run_next, run_end}
 use Rattle.draw_device.proofs.Steps.{value_moved}
 use Rattle.draw_device.proofs.pixels.sum_run.Goals as goal
 
@@ -20,7 +20,7 @@ loop-x-preserved c =
     let color = c.requires.colored x (omega arith) (omega arith) in
     let e = c.sum_step.ensures c.args.state.now c.args.texture.now f c.requires.stages c.requires.kind color (to_z-of_z fit ∙ c.depth_by-depth.ensures) in
     record {
-      drawn = run_more (fragment_pixel c.args.state.now c.args.texture.now v) r.left r.row r.start r.from x _ _ _ c.index.result.now d (omega arith) (omega arith) c.index.ensures e;
+      drawn = run_next (fragment_pixel c.args.state.now c.args.texture.now v) r.left r.row r.start r.from x _ _ _ d (omega arith) (omega arith) e;
       ramp = value_moved _ (λ (c : WindowVertex). c.z) r.left x r.row r.up _ (c.advance.ensures v (pos (r.left + x)) (pos r.row) _ (1 + x + r.up) c.loop-x.invariant.ramp);
     }
 

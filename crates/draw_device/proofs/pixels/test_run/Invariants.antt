@@ -5,6 +5,6 @@ use Rattle.draw_device.proofs.pixels.test_run.Given as goal
 abbrev pub invariant-loop-x : goal.invariant-loop-x
 invariant-loop-x l =
     record {
-      drawn : IsRunStepped (fragment_pixel l.state l.texture l.tri.v) l.fn.run.left l.fn.run.row l.fn.run.start l.fn.run.from l.x l.fn.pixels.items l.pixels.items;
+      drawn : IsRunStepped (fragment_pixel l.state l.texture l.tri.v) l.fn.run.left l.fn.run.row l.fn.run.start l.fn.run.from l.x l.fn.pixels l.pixels;
       ramp : IsDepthAt l.tri.v l.fn.run l.x l.ramp;
     }

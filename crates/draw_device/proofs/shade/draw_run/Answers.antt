@@ -1,6 +1,6 @@
 use Rattle.std.proofs.Common.{arith}
 use Rattle.draw_device.specs.Shapes.{fragment_pixel}
-use Rattle.draw_device.proofs.Runs.{run_more, run_end}
+use Rattle.draw_device.proofs.Runs.{run_next, run_end}
 use Rattle.draw_device.proofs.shade.draw_run.Goals as goal
 
 pub shade_at-requires-clause-inside : goal.shade_at-requires-clause-inside
@@ -10,8 +10,7 @@ pub loop-x-preserved : goal.loop-x-preserved
 loop-x-preserved c =
     let d = c.loop-x.invariant in
     let s = d.size in
-    run_more (fragment_pixel c.args.state.now c.args.texture.now c.args.tri.now.v) c.args.left c.args.row c.args.start c.args.from c.loop-x.x _ _ _
-    c.index.result.now d (omega arith) (omega arith) c.index.ensures c.shade_at.ensures
+    run_next (fragment_pixel c.args.state.now c.args.texture.now c.args.tri.now.v) c.args.left c.args.row c.args.start c.args.from c.loop-x.x _ _ _ d (omega arith) (omega arith) c.shade_at.ensures
 
 pub returns : goal.returns
 returns c =

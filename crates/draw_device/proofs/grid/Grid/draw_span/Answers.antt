@@ -1,7 +1,10 @@
-use Rattle.std.proofs.Common.{◌≡◌, ◌+◌, ℕ, ℤ, ◌≤◌, ◌<ℤ◌, ◌≤ℤ◌, pos, true, arith, subst}
+use Rattle.std.proofs.Common.{◌≡◌, ◌+◌, ◌∙◌, ℕ, ℤ, ◌≤◌, ◌<ℤ◌, ◌≤ℤ◌, pos, true, arith, subst, sym, List, ap, length}
 use Rattle.std.proofs.lemmas.Int.{ints}
+use Rattle.std.proofs.lemmas.List.{with_items_is}
+use Rattle.std.specs.Vec.{with_items}
 use Rattle.rc_base.specs.Drawing.Cover.{is_inside}
-use Rattle.draw_device.specs.Shapes.{IsRunStepped, fragment_pixel}
+use Rattle.rc_base.specs.declared.window.Pixel.{Pixel}
+use Rattle.draw_device.specs.Shapes.{IsRunStepped, IsStepped, span_step, fragment_pixel}
 use Rattle.draw_device.proofs.SpansToPixels.{span_drawn}
 use Rattle.draw_device.proofs.grid.Grid.draw_span.Goals as goal
 
@@ -25,8 +28,11 @@ returns-clause-drawn c =
     let eb : s.x1 ≡ pos (g.left + c.offset-to.result) = omega (arith, ints) in
     let ab : c.offset-from.result ≤ c.offset-to.result = omega (arith, ints) in
     let bw : c.offset-to.result ≤ g.width = omega (arith, ints) in
-    let run = subst (λ (start : ℕ). IsRunStepped f g.left (g.bottom + c.offset-up.result) start c.offset-from.result c.offset-to.result c.args.self.now.pixels.items c.draw_row.new.pixels.items) c.row_start-start.ensures c.draw_row.ensures.drawn in
-    span_drawn f s g c.offset-up.result c.offset-from.result c.offset-to.result c.args.self.now.pixels.items c.draw_row.new.pixels.items ey ea eb ab bw run
+    let drawn = rw c.as_mut_slice.ensures.value at c.draw_row.ensures.drawn in
+    let run = subst (λ (start : ℕ). IsRunStepped f g.left (g.bottom + c.offset-up.result) start c.offset-from.result c.offset-to.result c.args.self.now.pixels.items c.draw_row.new.pixels) c.row_start-start.ensures drawn in
+    let same = with_items_is c.args.self.now.pixels c.draw_row.new.pixels (drawn.size ∙ ap length (sym c.as_mut_slice.ensures.value) ∙ c.as_mut_slice.ensures.len) in
+    subst (λ (l : List Pixel). IsStepped (span_step f s) g c.args.self.now.pixels.items l) (sym same)
+    (span_drawn f s g c.offset-up.result c.offset-from.result c.offset-to.result c.args.self.now.pixels.items c.draw_row.new.pixels ey ea eb ab bw run)
 
 pub offset-to-requires-clause-low : goal.offset-to-requires-clause-low
 offset-to-requires-clause-low c =
