@@ -1,5 +1,5 @@
 -- What is settled once a block, and once a triangle.
-use Rattle.std.specs.Prelude.{◌≡◌, true, List, ℤ, IfSome}
+use Rattle.std.specs.Prelude.{◌≡◌, true, false, List, ℤ, IfSome}
 use Rattle.rc_base.specs.Drawing.Cover.{is_inside}
 use Rattle.rc_base.specs.Drawing.Fragment.{fragment_of}
 use Rattle.rc_base.specs.Drawing.PixelStep.{textured}
@@ -21,6 +21,7 @@ pub record IsPlan (s : State) (p : Plan) : Type 0 where
   pub tests : p.tests ≡ true → tests_alone s ≡ true
   pub over : p.over ≡ true → blends_over s ≡ true
   pub sum : p.sum ≡ true → blends_sum s ≡ true
+  pub untested : p.untested ≡ true → s.depth_on ≡ false
   pub replaces : p.replaces ≡ true → (color texel : Rgba) → textured s color texel ≡ texel
 
 -- what is prepared of a triangle's attributes holds, from pixel (x, y) on

@@ -1,5 +1,5 @@
 //! Loops over the pixels of a run, one for each kind of state, all with one contract: each pixel takes its fragment's step.
-ghost use Rattle.std.specs.Prelude.{◌≡◌, ℕ, ◌+◌, ◌≤◌, length, pos, true, None, Option, ℤ};
+ghost use Rattle.std.specs.Prelude.{◌≡◌, ℕ, ◌+◌, ◌≤◌, length, pos, true, false, None, Option, ℤ};
 ghost use Rattle.rc_base.specs.Pictures.{Picture};
 ghost use Rattle.rc_base.specs.Drawing.Cover.{is_inside};
 ghost use Rattle.rc_base.specs.Drawing.PixelStep.{shaded, fragment_step, fragment_color};
@@ -137,6 +137,69 @@ pub(crate) fn test_run(
     }
 }
 
+/// The depth test is the one stage, of one colour.
+pub(crate) fn test_flat(
+    pixels: &mut [Pixel],
+    state: &State,
+    tri: &WindowTriangle,
+    stages: Stages,
+    run: Run,
+    color: Rgba,
+    first: FineRamp,
+)
+    requires run { IsRun run }
+    requires room { run.start + run.to ≤ length pixels.old }
+    requires color { (x y : ℤ) → is_inside tri.now.v x y ≡ true → HasColor color (fragment_of tri.now.v x y) }
+    requires covered { IsRunCovered tri.now.v run }
+    requires depths { HasDepths tri.now.v }
+    requires kind { tests_alone state.now ≡ true }
+    requires stages { IsPrepared state.now stages }
+    requires ramp { IsDepthAt tri.now.v run run.from first }
+    ensures { IsRunDrawn state.now None tri.now.v run pixels.old pixels.new }
+{
+    let _state = state;
+    let mut ramp = first;
+    for x in run.from..run.to {
+        let place = run.start + x as usize;
+        let depth = depth_by(&ramp, tri, run, x);
+        pixels[place] = test_step(stages, color, depth, pixels[place]);
+        ramp.advance();
+    }
+}
+
+/// The depth test is the one stage, of the triangle's colours.
+pub(crate) fn test_steps(
+    pixels: &mut [Pixel],
+    state: &State,
+    tri: &WindowTriangle,
+    stages: Stages,
+    run: Run,
+    first_color: ColorRamp,
+    first: FineRamp,
+)
+    requires run { IsRun run }
+    requires room { run.start + run.to ≤ length pixels.old }
+    requires shades { IsColorAt tri.now.v run run.from first_color }
+    requires covered { IsRunCovered tri.now.v run }
+    requires depths { HasDepths tri.now.v }
+    requires kind { tests_alone state.now ≡ true }
+    requires stages { IsPrepared state.now stages }
+    requires ramp { IsDepthAt tri.now.v run run.from first }
+    ensures { IsRunDrawn state.now None tri.now.v run pixels.old pixels.new }
+{
+    let _state = state;
+    let mut shades = first_color;
+    let mut ramp = first;
+    for x in run.from..run.to {
+        let place = run.start + x as usize;
+        let color = color_by(&shades, tri, run, x);
+        let depth = depth_by(&ramp, tri, run, x);
+        pixels[place] = test_step(stages, color, depth, pixels[place]);
+        shades.advance();
+        ramp.advance();
+    }
+}
+
 fn over_step(stages: Stages, color: Rgba, depth: i32, old: Pixel) -> Pixel
     requires { is_depth depth ≡ true }
     ensures { (s : AnyState) (p : Option Picture) (f : AnyFragment) → IsPrepared s stages → blends_over s ≡ true → color ≡ fragment_color s p f → depth ≡ f.depth → result ≡ fragment_step s p f old }
@@ -177,6 +240,42 @@ pub(crate) fn over_run(
     }
 }
 
+fn lay_step(stages: Stages, color: Rgba, old: Pixel) -> Pixel
+    ensures { (s : AnyState) (p : Option Picture) (f : AnyFragment) → IsPrepared s stages → blends_over s ≡ true → s.depth_on ≡ false → is_depth f.depth ≡ true → color ≡ fragment_color s p f → result ≡ fragment_step s p f old }
+{
+    stages.store_over(color, 0, old)
+}
+
+/// Blending by SRC_ALPHA and ONE_MINUS_SRC_ALPHA, without a depth test.
+pub(crate) fn lay_run(
+    pixels: &mut [Pixel],
+    colors: &[Rgba],
+    state: &State,
+    texture: &Texture,
+    tri: &WindowTriangle,
+    stages: Stages,
+    run: Run,
+)
+    requires run { IsRun run }
+    requires room { run.start + run.to ≤ length pixels.old }
+    requires colors { run.to ≤ length colors.now }
+    requires colored { AreColors state.now texture.now tri.now.v run colors.now }
+    requires covered { IsRunCovered tri.now.v run }
+    requires depths { HasDepths tri.now.v }
+    requires kind { blends_over state.now ≡ true }
+    requires stages { IsPrepared state.now stages }
+    requires untested { state.now.depth_on ≡ false }
+    ensures { IsRunDrawn state.now texture.now tri.now.v run pixels.old pixels.new }
+{
+    let _state = state;
+    let _texture = texture;
+    let _tri = tri;
+    for x in run.from..run.to {
+        let place = run.start + x as usize;
+        pixels[place] = lay_step(stages, colors[x as usize], pixels[place]);
+    }
+}
+
 fn sum_step(stages: Stages, color: Rgba, depth: i32, old: Pixel) -> Pixel
     requires { is_depth depth ≡ true }
     ensures { (s : AnyState) (p : Option Picture) (f : AnyFragment) → IsPrepared s stages → blends_sum s ≡ true → color ≡ fragment_color s p f → depth ≡ f.depth → result ≡ fragment_step s p f old }
@@ -214,6 +313,42 @@ pub(crate) fn sum_run(
         let depth = depth_by(&ramp, tri, run, x);
         pixels[place] = sum_step(stages, colors[x as usize], depth, pixels[place]);
         ramp.advance();
+    }
+}
+
+fn add_step(stages: Stages, color: Rgba, old: Pixel) -> Pixel
+    ensures { (s : AnyState) (p : Option Picture) (f : AnyFragment) → IsPrepared s stages → blends_sum s ≡ true → s.depth_on ≡ false → is_depth f.depth ≡ true → color ≡ fragment_color s p f → result ≡ fragment_step s p f old }
+{
+    stages.store_sum(color, 0, old)
+}
+
+/// Blending by ONE and ONE, without a depth test.
+pub(crate) fn add_run(
+    pixels: &mut [Pixel],
+    colors: &[Rgba],
+    state: &State,
+    texture: &Texture,
+    tri: &WindowTriangle,
+    stages: Stages,
+    run: Run,
+)
+    requires run { IsRun run }
+    requires room { run.start + run.to ≤ length pixels.old }
+    requires colors { run.to ≤ length colors.now }
+    requires colored { AreColors state.now texture.now tri.now.v run colors.now }
+    requires covered { IsRunCovered tri.now.v run }
+    requires depths { HasDepths tri.now.v }
+    requires kind { blends_sum state.now ≡ true }
+    requires stages { IsPrepared state.now stages }
+    requires untested { state.now.depth_on ≡ false }
+    ensures { IsRunDrawn state.now texture.now tri.now.v run pixels.old pixels.new }
+{
+    let _state = state;
+    let _texture = texture;
+    let _tri = tri;
+    for x in run.from..run.to {
+        let place = run.start + x as usize;
+        pixels[place] = add_step(stages, colors[x as usize], pixels[place]);
     }
 }
 

@@ -1,5 +1,5 @@
 //! What is settled once a block, and once a triangle.
-ghost use Rattle.std.specs.Prelude.{◌≡◌, pos, ℤ, IfSome, true};
+ghost use Rattle.std.specs.Prelude.{◌≡◌, pos, ℤ, IfSome, true, false};
 ghost use Rattle.rc_base.specs.Drawing.Cover.{is_inside};
 ghost use Rattle.rc_base.specs.Drawing.Fragment.{fragment_of};
 ghost use Rattle.rc_base.specs.Drawing.PixelStep.{textured};
@@ -29,6 +29,13 @@ fn replaces(state: &State) -> bool
     state.tex_mode[0] != 0
 }
 
+// The depth test is off.
+fn is_untested(state: &State) -> bool
+    ensures { result ≡ true → state.now.depth_on ≡ false }
+{
+    !state.depth_on
+}
+
 /// What the state says of all fragments of a block.
 pub(crate) fn plan_of(state: &State, texture: &Texture) -> Plan
     ensures { IsPlan state.now result }
@@ -39,6 +46,7 @@ pub(crate) fn plan_of(state: &State, texture: &Texture) -> Plan
         tests: tests_alone(state),
         over: blends_over(state),
         sum: blends_sum(state),
+        untested: is_untested(state),
         textured: texture.has_image(),
         replaces: replaces(state),
     }
@@ -102,12 +110,14 @@ pub(crate) fn paint_of(plan: &Plan, tri: &WindowTriangle, left: u16, bottom: u16
         };
     }
     let stencil = stencil_at(tri, i32::from(left), i32::from(bottom));
+    let blended = plan.untested && (plan.over || plan.sum) && ranged;
+    let deep = !stored && !blended;
     let stepped = flat.is_none() && !(plan.textured && plan.replaces);
     Paint {
         ranged,
         flat,
         colors: colors_if(stepped, tri, &stencil),
-        depths: depths_if(!stored, tri, &stencil),
+        depths: depths_if(deep, tri, &stencil),
         coordinates: coordinates_if(plan.textured, tri, &stencil),
     }
 }

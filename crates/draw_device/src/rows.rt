@@ -10,7 +10,10 @@ ghost use Rattle.draw_device.specs.Plans.{IsPlan, IsPaint};
 
 use crate::colors::{fill_colors, step_colors, texel_colors, tint_colors};
 use crate::paint::Paint;
-use crate::pixels::{any_run, fill_run, over_run, step_run, store_run, sum_run, test_run};
+use crate::pixels::{
+    add_run, any_run, fill_run, lay_run, over_run, step_run, store_run, sum_run, test_flat, test_run,
+    test_steps,
+};
 use crate::plan::Plan;
 use crate::run::Run;
 use crate::shade::draw_run;
@@ -66,6 +69,45 @@ fn store_row(
     }
     if let Some(plane) = &paint.colors {
         step_run(pixels, state, tri, run, color_ramp(plane, run));
+        return true;
+    }
+    false
+}
+
+// Of a triangle without a texture whose one stage is the depth test: its row, or nothing.
+fn test_row(
+    pixels: &mut [Pixel],
+    state: &State,
+    tri: &WindowTriangle,
+    plan: &Plan,
+    paint: &Paint,
+    run: Run,
+) -> bool
+    requires run { IsRun run }
+    requires room { run.start + run.to ≤ length pixels.old }
+    requires covered { IsRunCovered tri.now.v run }
+    requires plan { IsPlan state.now plan.now }
+    requires paint { IsPaint tri.now.v (pos run.left) (pos run.bottom) paint.now }
+    ensures drawn { result ≡ true → IsRunDrawn state.now None tri.now.v run pixels.old pixels.new }
+    ensures kept { result ≡ false → pixels.new ≡ pixels.old }
+{
+    if !plan.tests {
+        return false;
+    }
+    if !paint.ranged {
+        return false;
+    }
+    let Some(depths) = &paint.depths else {
+        return false;
+    };
+    let ramp = value_ramp(depths, run);
+    if let Some(color) = paint.flat {
+        test_flat(pixels, state, tri, plan.stages, run, color, ramp);
+        return true;
+    }
+    if let Some(plane) = &paint.colors {
+        let shades = color_ramp(plane, run);
+        test_steps(pixels, state, tri, plan.stages, run, shades, ramp);
         return true;
     }
     false
@@ -206,6 +248,44 @@ fn ranged_row(
     }
 }
 
+// A row of fragments that blend without a depth test, by its colours, or nothing.
+fn blend_row(
+    pixels: &mut [Pixel],
+    colors: &[Rgba],
+    state: &State,
+    texture: &Texture,
+    tri: &WindowTriangle,
+    plan: &Plan,
+    paint: &Paint,
+    run: Run,
+) -> bool
+    requires run { IsRun run }
+    requires room { run.start + run.to ≤ length pixels.old }
+    requires colors { run.to ≤ length colors.now }
+    requires colored { AreColors state.now texture.now tri.now.v run colors.now }
+    requires covered { IsRunCovered tri.now.v run }
+    requires plan { IsPlan state.now plan.now }
+    requires paint { IsPaint tri.now.v (pos run.left) (pos run.bottom) paint.now }
+    ensures drawn { result ≡ true → IsRunDrawn state.now texture.now tri.now.v run pixels.old pixels.new }
+    ensures kept { result ≡ false → pixels.new ≡ pixels.old }
+{
+    if !plan.untested {
+        return false;
+    }
+    if !paint.ranged {
+        return false;
+    }
+    if plan.over {
+        lay_run(pixels, colors, state, texture, tri, plan.stages, run);
+        return true;
+    }
+    if plan.sum {
+        add_run(pixels, colors, state, texture, tri, plan.stages, run);
+        return true;
+    }
+    false
+}
+
 // A row of fragments by its colours, or nothing.
 fn colored_row(
     pixels: &mut [Pixel],
@@ -229,6 +309,9 @@ fn colored_row(
 {
     if plan.stores && paint.ranged {
         store_run(pixels, colors, state, texture, tri, run);
+        return true;
+    }
+    if blend_row(pixels, colors, state, texture, tri, plan, paint, run) {
         return true;
     }
     let Some(plane) = &paint.depths else {
@@ -284,6 +367,9 @@ fn untextured_row(
     ensures drawn { IsRunDrawn state.now None tri.now.v run pixels.old pixels.new }
 {
     if store_row(pixels, state, tri, plan, paint, run) {
+        return;
+    }
+    if test_row(pixels, state, tri, plan, paint, run) {
         return;
     }
     if plain_colors(colors, state, tri, paint, run) {
