@@ -2,6 +2,10 @@
 //!
 //! Each pixel of the rectangle takes exactly the step of `rc_base::specs::Drawing::PixelStep`, and nothing else is touched. The rectangle is
 //! the whole window for a serial renderer and a tile's part of it for a tile.
+//!
+//! A row of a triangle takes the loop of its state: colours stored alone (one colour, or stepped), the depth test alone (the same, or by a row
+//! of colours), blending by one of two pairs of factors with the depth test or without, or any stages. Textured rows, and those that blend,
+//! get their colours first, texels and then the texture environment. A row that no loop is made for is drawn fragment by fragment.
 #![tactic(auto)]
 
 mod clip;

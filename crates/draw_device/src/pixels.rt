@@ -97,6 +97,7 @@ pub(crate) fn store_run(
     }
 }
 
+#[inline(always)]
 fn test_step(stages: Stages, color: Rgba, depth: i32, old: Pixel) -> Pixel
     requires { is_depth depth ≡ true }
     ensures { (s : AnyState) (p : Option Picture) (f : AnyFragment) → IsPrepared s stages → tests_alone s ≡ true → color ≡ fragment_color s p f → depth ≡ f.depth → result ≡ fragment_step s p f old }
@@ -200,6 +201,7 @@ pub(crate) fn test_steps(
     }
 }
 
+#[inline(always)]
 fn over_step(stages: Stages, color: Rgba, depth: i32, old: Pixel) -> Pixel
     requires { is_depth depth ≡ true }
     ensures { (s : AnyState) (p : Option Picture) (f : AnyFragment) → IsPrepared s stages → blends_over s ≡ true → color ≡ fragment_color s p f → depth ≡ f.depth → result ≡ fragment_step s p f old }
@@ -240,6 +242,7 @@ pub(crate) fn over_run(
     }
 }
 
+#[inline(always)]
 fn lay_step(stages: Stages, color: Rgba, old: Pixel) -> Pixel
     ensures { (s : AnyState) (p : Option Picture) (f : AnyFragment) → IsPrepared s stages → blends_over s ≡ true → s.depth_on ≡ false → is_depth f.depth ≡ true → color ≡ fragment_color s p f → result ≡ fragment_step s p f old }
 {
@@ -276,6 +279,7 @@ pub(crate) fn lay_run(
     }
 }
 
+#[inline(always)]
 fn sum_step(stages: Stages, color: Rgba, depth: i32, old: Pixel) -> Pixel
     requires { is_depth depth ≡ true }
     ensures { (s : AnyState) (p : Option Picture) (f : AnyFragment) → IsPrepared s stages → blends_sum s ≡ true → color ≡ fragment_color s p f → depth ≡ f.depth → result ≡ fragment_step s p f old }
@@ -316,6 +320,7 @@ pub(crate) fn sum_run(
     }
 }
 
+#[inline(always)]
 fn add_step(stages: Stages, color: Rgba, old: Pixel) -> Pixel
     ensures { (s : AnyState) (p : Option Picture) (f : AnyFragment) → IsPrepared s stages → blends_sum s ≡ true → s.depth_on ≡ false → is_depth f.depth ≡ true → color ≡ fragment_color s p f → result ≡ fragment_step s p f old }
 {

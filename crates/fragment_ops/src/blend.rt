@@ -7,6 +7,7 @@ use rc_base::command::Rgba;
 use rc_base::state::State;
 
 /// The product of two channels, as parts of 255, rounded.
+#[inline(always)]
 pub fn product(a: u8, b: u8) -> u8
     ensures { result ≡ prod a b }
 {
@@ -32,6 +33,7 @@ fn factor_of(code: u8, source: u8, stored: u8, source_alpha: u8, stored_alpha: u
 }
 
 // The sum of two channels, held to 255.
+#[inline(always)]
 pub(crate) fn sum(a: u8, b: u8) -> u8
     ensures { result ≡ min 255 (a + b) }
 {

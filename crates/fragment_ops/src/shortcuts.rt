@@ -67,6 +67,7 @@ pub fn blends_sum(state: &State) -> bool
 }
 
 // A channel over the stored one.
+#[inline(always)]
 fn channel_over(source: u8, stored: u8, alpha: u8, rest: u8) -> u8
     ensures { rest ≡ 255 - alpha → result ≡ laid_over source stored alpha }
 {
@@ -74,6 +75,7 @@ fn channel_over(source: u8, stored: u8, alpha: u8, rest: u8) -> u8
 }
 
 // A colour over the stored one.
+#[inline(always)]
 #[tactic(auto, unfolding(crate::specs::Shortcuts::color_over))]
 fn laid_over(color: Rgba, old: Rgba) -> Rgba
     ensures { result ≡ color_over color old }
@@ -89,6 +91,7 @@ fn laid_over(color: Rgba, old: Rgba) -> Rgba
 }
 
 // A colour and the stored one together.
+#[inline(always)]
 #[tactic(auto, unfolding(crate::specs::Shortcuts::color_sum))]
 fn added(color: Rgba, old: Rgba) -> Rgba
     ensures { result ≡ color_sum color old }
@@ -103,6 +106,7 @@ fn added(color: Rgba, old: Rgba) -> Rgba
 
 impl Stages {
     // The pixel after a depth test.
+    #[inline(always)]
     #[tactic(auto, unfolding(crate::specs::Shortcuts::tested_pixel))]
     fn tested(&self, color: Rgba, depth: u32, old: Pixel) -> Pixel
         ensures { result ≡ tested_pixel self.now color depth old }
@@ -116,6 +120,7 @@ impl Stages {
     }
 
     /// A pixel after a fragment with a depth in the buffer's range, where no stage but the depth test is left.
+    #[inline(always)]
     pub fn store(&self, color: Rgba, depth: u32, old: Pixel) -> Pixel
         ensures { (s : AnyState) → IsPrepared s self.now → tests_alone s ≡ true → result ≡ shaded s color depth old }
     {
@@ -123,6 +128,7 @@ impl Stages {
     }
 
     /// The same with blending by SRC_ALPHA and ONE_MINUS_SRC_ALPHA.
+    #[inline(always)]
     pub fn store_over(&self, color: Rgba, depth: u32, old: Pixel) -> Pixel
         ensures { (s : AnyState) → IsPrepared s self.now → blends_over s ≡ true → result ≡ shaded s color depth old }
     {
@@ -130,6 +136,7 @@ impl Stages {
     }
 
     /// The same with blending by ONE and ONE.
+    #[inline(always)]
     pub fn store_sum(&self, color: Rgba, depth: u32, old: Pixel) -> Pixel
         ensures { (s : AnyState) → IsPrepared s self.now → blends_sum s ≡ true → result ≡ shaded s color depth old }
     {

@@ -152,6 +152,7 @@ pub fn stages_of(state: &State) -> Stages
 
 impl Test {
     /// Whether two numbers compare as the test wants.
+    #[inline(always)]
     #[tactic(auto, unfolding(crate::specs::Prepared::passes))]
     pub fn passes(&self, a: u32, b: u32) -> bool
         ensures { result ≡ passes self.now a b }
