@@ -7,3 +7,7 @@ mod Prepared
 mod Steps
 mod Firsts
 mod Keeping
+mod Split
+mod InTurn
+mod Rising
+mod Viewing

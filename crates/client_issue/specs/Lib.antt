@@ -5,3 +5,6 @@ pub mod Issued
 pub mod Cores
 pub mod Moves
 pub mod Kept
+pub mod Laws
+pub mod Turns
+pub mod Views

@@ -12,6 +12,7 @@ mod issue;
 mod item;
 mod kept;
 mod lanes;
+pub mod laws;
 mod pending;
 mod sender;
 mod step;
