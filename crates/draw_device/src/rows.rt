@@ -11,8 +11,8 @@ ghost use Rattle.draw_device.specs.Plans.{IsPlan, IsPaint};
 use crate::colors::{fill_colors, step_colors, texel_colors, tint_colors};
 use crate::paint::Paint;
 use crate::pixels::{
-    add_run, any_run, fill_run, lay_run, over_run, step_run, store_run, sum_run, test_flat, test_run,
-    test_steps,
+    add_run, any_run, fill_run, lay_run, over_run, step_run, store_run, sum_run, test_flat,
+    test_run, test_steps,
 };
 use crate::plan::Plan;
 use crate::run::Run;
@@ -327,13 +327,7 @@ fn colored_row(
 }
 
 // A row, pixel by pixel.
-fn plain_row(
-    pixels: &mut [Pixel],
-    state: &State,
-    texture: &Texture,
-    tri: &WindowTriangle,
-    run: Run,
-)
+fn plain_row(pixels: &mut [Pixel], state: &State, texture: &Texture, tri: &WindowTriangle, run: Run)
     requires texel { HasTexelIfAny texture.now }
     requires order { run.from ≤ run.to }
     requires room { run.start + run.to ≤ length pixels.old }
@@ -373,16 +367,7 @@ fn untextured_row(
         return;
     }
     if plain_colors(colors, state, tri, paint, run) {
-        if colored_row(
-            pixels,
-            colors,
-            state,
-            texture,
-            tri,
-            plan,
-            paint,
-            run,
-        ) {
+        if colored_row(pixels, colors, state, texture, tri, plan, paint, run) {
             return;
         }
     }
@@ -412,16 +397,7 @@ fn textured_row(
     ensures drawn { IsRunDrawn state.now texture.now tri.now.v run pixels.old pixels.new }
 {
     if pictured_colors(colors, state, texture, tri, plan, paint, run) {
-        if colored_row(
-            pixels,
-            colors,
-            state,
-            texture,
-            tri,
-            plan,
-            paint,
-            run,
-        ) {
+        if colored_row(pixels, colors, state, texture, tri, plan, paint, run) {
             return;
         }
     }

@@ -1,7 +1,6 @@
 use Rattle.std.proofs.Common.{◌≡◌, ◌+◌, ◌∙◌, ℕ, ℤ, ◌≤◌, ◌<ℤ◌, ◌≤ℤ◌, pos, true, arith, subst, sym, List, ap, length}
 use Rattle.std.proofs.lemmas.Int.{ints}
 use Rattle.std.proofs.lemmas.List.{with_items_is}
-use Rattle.std.specs.Vec.{with_items}
 use Rattle.rc_base.specs.Drawing.Cover.{is_inside}
 use Rattle.rc_base.specs.declared.window.Pixel.{Pixel}
 use Rattle.draw_device.specs.Shapes.{IsRunStepped, IsStepped, span_step, fragment_pixel}
