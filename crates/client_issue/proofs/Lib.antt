@@ -11,3 +11,4 @@ mod Split
 mod InTurn
 mod Rising
 mod Viewing
+mod Tested

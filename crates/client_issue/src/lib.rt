@@ -16,5 +16,7 @@ pub mod laws;
 mod pending;
 mod sender;
 mod step;
+#[cfg(test)]
+mod tests;
 
 pub use client::{ClientCore, ClientKept};
