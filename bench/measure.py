@@ -1,12 +1,12 @@
-"""Runs the program on the scenes of scenes.py and prints seconds, memory and ratios. run.sh calls it.
+"""Runs the program on the scenes of scenes.py and prints processor seconds, memory and ratios. run.sh calls it.
 
 What reading takes is measured on the same scene with a width of 0, which is refused after it was read; drawing is the scene without swaps less that,
-and writing what the swaps add. Mesa prints its own seconds of drawing.
+and writing what the swaps add. Mesa prints its own seconds of drawing, those of all its threads together. Processor seconds are user and system time, so that
+what else the machine does counts little.
 """
 import os
 import subprocess
 import sys
-import time
 
 program, scenes, work = sys.argv[1:]
 mesa = os.path.join(work, "mesa")
@@ -26,14 +26,13 @@ def path(*words):
 
 
 def run(job, scene, output=os.devnull):
-    """The best of three runs: seconds, and the most memory that the program held, in MB."""
+    """The best of three runs: processor seconds, and the most memory that the program held, in MB."""
     best = None
     for _ in range(3):
         with open(scene, "rb") as source, open(output, "wb") as image:
-            start = time.perf_counter()
             child = subprocess.Popen([program, job], stdin=source, stdout=image, stderr=subprocess.DEVNULL)
             _, status, usage = os.wait4(child.pid, 0)
-            seconds = time.perf_counter() - start
+            seconds = usage.ru_utime + usage.ru_stime
         if best is None or seconds < best[0]:
             best = (seconds, usage.ru_maxrss / 1024, os.waitstatus_to_exitcode(status))
     return best
