@@ -55,6 +55,79 @@ client
 Swap
 ";
 
+// One client writes a shared texture twice, the other one draws with it each time: one semaphore counts textures that are ready, one those that were
+// read.
+const PRODUCED_AND_CONSUMED: &[u8] = b"scene 1 2 1
+shared 1 1
+semaphore 0
+semaphore 0
+client
+SharedImage 1 0 0 1 1 ff0000ff
+SemV 1
+SemP 2
+SharedImage 1 0 0 1 1 00ff00ff
+SemV 1
+Swap
+client
+Enable 5
+BindTexture 1 1
+TexEnv 1
+Viewport 0 0 1 1
+SemP 1
+Begin 0
+Vertex -65536 -65536 0 65536
+Vertex 196608 -65536 0 65536
+Vertex -65536 196608 0 65536
+End
+SemV 2
+Viewport 1 0 1 1
+SemP 1
+Begin 0
+Vertex -65536 -65536 0 65536
+Vertex 196608 -65536 0 65536
+Vertex -65536 196608 0 65536
+End
+Swap
+";
+
+// Two philosophers who take the same fork first.
+const ONE_FORK_FIRST: &[u8] = b"scene 1 1 1
+semaphore 1
+semaphore 1
+client
+SemP 1
+SemP 2
+SemV 2
+SemV 1
+Swap
+client
+SemP 1
+SemP 2
+SemV 2
+SemV 1
+Swap
+";
+
+// Two philosophers who each hold a fork when they ask for the other one.
+const A_FORK_EACH: &[u8] = b"scene 1 1 1
+barrier 2
+semaphore 1
+semaphore 1
+client
+SemP 1
+Barrier 1
+SemP 2
+Swap
+client
+SemP 2
+Barrier 1
+SemP 1
+Swap
+";
+
+// Nobody swaps, and one client ends at once.
+const NO_SWAP: &[u8] = b"scene 1 1 1\nsemaphore 0\nclient\nclient\nClear 1\nSemV 1\n";
+
 const NO_UNIT_REPORT: &str = "journal 1\nframes 1\nstuck client 0 at 3 SemP 1\nrc: stuck\n";
 
 // What a job answers to the scene of a text, and what its image and its notes then hold.
@@ -73,6 +146,9 @@ fn orders_are_drawn_and_reported(rt: HostRuntime) -> Result<(), Fail> {
     let blended = b"P6\n2 1\n255\n\x40\0\x80\x40\0\x80".as_slice();
     let white = b"P6\n1 1\n255\n\xff\xff\xff".as_slice();
     let unswapped = "journal 0\nframes 0\nstuck client 1 at 0 Swap\nrc: stuck\n";
+    let handed_on = b"P6\n2 1\n255\n\xff\0\0\0\xff\0".as_slice();
+    let held =
+        "journal 3\nframes 0\nstuck client 0 at 2 SemP 2\nstuck client 1 at 2 SemP 1\nrc: stuck\n";
     let refused = "client 0 fault INVALID_OPERATION at 2\njournal 1\nframes 1\n";
     let rows = [
         (
@@ -86,6 +162,28 @@ fn orders_are_drawn_and_reported(rt: HostRuntime) -> Result<(), Fail> {
         ("serial", NO_UNIT, 5, white, NO_UNIT_REPORT),
         ("check", NO_UNIT, 5, b"".as_slice(), NO_UNIT_REPORT),
         ("check", BARRIER_IN_BLOCK, 0, b"".as_slice(), refused),
+        (
+            "serial",
+            PRODUCED_AND_CONSUMED,
+            0,
+            handed_on,
+            "journal 7\nframes 1\n",
+        ),
+        (
+            "serial",
+            ONE_FORK_FIRST,
+            0,
+            BLACK_PIXEL,
+            "journal 9\nframes 1\n",
+        ),
+        ("serial", A_FORK_EACH, 5, b"".as_slice(), held),
+        (
+            "serial",
+            NO_SWAP,
+            0,
+            b"".as_slice(),
+            "journal 1\nframes 0\n",
+        ),
     ];
     for (job, text, due, frames, report) in rows {
         let (status, image, notes) = run_on_text(rt.alloc(), job, text, &[])?;
