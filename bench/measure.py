@@ -3,6 +3,8 @@
 What reading takes is measured on the same scene with a width of 0, which is refused after it was read; drawing is the scene without swaps less that,
 and writing what the swaps add. Mesa prints its own seconds of drawing, those of all its threads together. Processor seconds are user and system time, so that
 what else the machine does counts little.
+
+Where the program sort_report is built (SORT_REPORT names another place), what issuing and sorting take is its run less the reading.
 """
 import os
 import subprocess
@@ -10,6 +12,8 @@ import sys
 
 program, scenes, work = sys.argv[1:]
 mesa = os.path.join(work, "mesa")
+here = os.path.dirname(os.path.abspath(__file__))
+sorter = os.environ.get("SORT_REPORT", os.path.join(here, "../crates/sort_report/out/sort_report"))
 PIXELS = 1024 * 768
 
 
@@ -26,11 +30,16 @@ def path(*words):
 
 
 def run(job, scene, output=os.devnull):
-    """The best of three runs: processor seconds, and the most memory that the program held, in MB."""
+    """The best of three runs of the program with this job."""
+    return best_of([program, job], scene, output)
+
+
+def best_of(command, scene, output=os.devnull):
+    """The best of three runs: processor seconds, the most memory that the program held, in MB, and its status."""
     best = None
     for _ in range(3):
         with open(scene, "rb") as source, open(output, "wb") as image:
-            child = subprocess.Popen([program, job], stdin=source, stdout=image, stderr=subprocess.DEVNULL)
+            child = subprocess.Popen(command, stdin=source, stdout=image, stderr=subprocess.DEVNULL)
             _, status, usage = os.wait4(child.pid, 0)
             seconds = usage.ru_utime + usage.ru_stime
         if best is None or seconds < best[0]:
@@ -100,6 +109,20 @@ def main():
     commands, unread = run("check", path("commands")), run("render", path("commands", "unread"))
     show("1,048,576 commands, check", commands)
     print(f"reading them : checking them = 1 : {(commands[0] - unread[0]) / unread[0]:.1f}")
+    if os.path.exists(sorter):
+        sort_ratios()
+
+
+def sort_ratios():
+    """Seconds to issue and sort one client's stream to the tiles, behind reading it."""
+    scene = path("usual")
+    read = run("render", path("usual", "unread"))[0]
+    print("reading : issuing and sorting = 1 :", end="")
+    for columns, rows in ((1, 1), (2, 2), (4, 4), (8, 4)):
+        seconds, _, status = best_of([sorter, str(columns), str(rows)], scene)
+        told = f"{(seconds - read) / read:.2f}" if status == 0 else f"status {status}"
+        print(f"  {columns}x{rows} {told}", end="", flush=True)
+    print()
 
 
 main()

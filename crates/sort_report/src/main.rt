@@ -1,0 +1,122 @@
+//! The program that issues and sorts the clients of a scene, one after the other, and tells what went to each tile: for benchmarks.
+//!
+//! Standard input is a scene in bytes, the two words are columns and rows of tiles. The lanes are emptied as they are appended to, so nothing is held
+//! up, and no tile carries anything out. Stands on `scene_file`, `bounds_bucket` and `client_issue`.
+#![tactic(auto)]
+
+mod sorting;
+
+ghost use Rattle.std.specs.Prelude.{◌≤◌, IfOk};
+ghost use Rattle.std.specs.List.{AllByRecursion};
+ghost use Rattle.rc_base.specs.Formats.Commands.{IsCommand};
+ghost use Rattle.rc_base.specs.Cluster.Tiles.{tile_count};
+
+use crate::sorting::{DEPTH, Sorting};
+use bounds_bucket::layout;
+use rc_base::cluster::Tally;
+use rc_base::out_of_memory::OutOfMemory;
+use rc_base::scene::{Limit, Scene};
+use rc_base::standard::StdSource;
+use rc_base::transfer::{ReadAllFault, read_all};
+use rc_base::window::Layout;
+use scene_file::{SceneFault, read_scene};
+use std::alloc::Global;
+use std::env;
+use std::process::ExitCode;
+use thiserror::Error;
+
+/// Why there is no report, in one line.
+#[derive(Clone, Copy, Debug, PartialEq, Eq, Error)]
+enum Refusal {
+    #[error("rc: usage")]
+    Usage,
+    #[error("rc: {0}")]
+    Reading(#[from] ReadAllFault),
+    #[error("rc: {0}")]
+    Scene(#[from] SceneFault),
+    #[error("rc: {0}")]
+    Memory(#[from] OutOfMemory),
+    #[error("rc: write fault")]
+    Output,
+}
+
+// The most clients of a scene.
+const MOST_CLIENTS: u8 = 8;
+
+// Columns and rows.
+fn words(rt: &HostRuntime) -> Option<(u64, u64)> {
+    let mut words = env::args(rt).ok()?.skip(1);
+    let columns = words.next()?.parse().ok()?;
+    let rows = words.next()?.parse().ok()?;
+    if words.next().is_some() {
+        return None;
+    }
+    Some((columns, rows))
+}
+
+// The window, cut into tiles.
+#[tactic(auto, using(crate::proofs::Layouts::few_tiles))]
+fn cut(width: u16, height: u16, columns: u64, rows: u64) -> Result<Layout, SceneFault>
+    ensures { IfOk result (λ l. tile_count l ≤ 32) }
+{
+    match layout(width, height, columns, rows, DEPTH as u64) {
+        Ok(layout) => Ok(layout),
+        Err(Limit { what, value }) => Err(SceneFault::Limit { what, value }),
+    }
+}
+
+// What the clients send to each tile.
+fn sums(alloc: Global, scene: &Scene, layout: &Layout) -> Result<Vec<Tally>, Refusal>
+    requires commands { AllByRecursion (AllByRecursion IsCommand) scene.now.streams }
+    requires tiles { tile_count layout.now ≤ 32 }
+{
+    let mut sums = Vec::new(alloc);
+    let none = Tally {
+        parcels: 0,
+        sets: 0,
+        looks: 0,
+    };
+    let count = usize::from(layout.columns) * usize::from(layout.rows);
+    sums.resize(count, none).map_err(OutOfMemory::from)?;
+    for client in 0..MOST_CLIENTS {
+        let Some(commands) = scene.streams.as_slice().get(usize::from(client)) else {
+            break;
+        };
+        // No scene that is read has so many.
+        if commands.len() > u32::MAX as usize {
+            let value = commands.len() as u64;
+            return Err(Refusal::Scene(SceneFault::Limit { what: 11, value }));
+        }
+        let mut sorting = Sorting::new(alloc, scene, client, layout)?;
+        sorting.send_all()?;
+        sorting.add_to(&mut sums);
+    }
+    Ok(sums)
+}
+
+fn report(rt: &HostRuntime) -> Result<(), Refusal> {
+    let alloc = rt.alloc();
+    let Some((columns, rows)) = words(rt) else {
+        return Err(Refusal::Usage);
+    };
+    let bytes = read_all(alloc, &mut StdSource::new(rt.stdin()))?;
+    let scene = read_scene(alloc, bytes.as_slice())?;
+    let layout = cut(scene.decl.width, scene.decl.height, columns, rows)?;
+    for (tile, sum) in sums(alloc, &scene, &layout)?.iter().enumerate() {
+        let Tally { parcels, sets, .. } = *sum;
+        if println!(rt; "tile {tile} parcels {parcels} sets {sets}").is_err() {
+            return Err(Refusal::Output);
+        }
+    }
+    Ok(())
+}
+
+fn main(rt: HostRuntime) -> ExitCode {
+    match report(&rt) {
+        Ok(()) => ExitCode::SUCCESS,
+        Err(refusal) => {
+            let _ = eprintln!(rt; "{refusal}");
+            ExitCode::FAILURE
+        }
+    }
+}
