@@ -146,9 +146,6 @@ fn orders_are_drawn_and_reported(rt: HostRuntime) -> Result<(), Fail> {
     let blended = b"P6\n2 1\n255\n\x40\0\x80\x40\0\x80".as_slice();
     let white = b"P6\n1 1\n255\n\xff\xff\xff".as_slice();
     let unswapped = "journal 0\nframes 0\nstuck client 1 at 0 Swap\nrc: stuck\n";
-    let handed_on = b"P6\n2 1\n255\n\xff\0\0\0\xff\0".as_slice();
-    let held =
-        "journal 3\nframes 0\nstuck client 0 at 2 SemP 2\nstuck client 1 at 2 SemP 1\nrc: stuck\n";
     let refused = "client 0 fault INVALID_OPERATION at 2\njournal 1\nframes 1\n";
     let rows = [
         (
@@ -162,6 +159,22 @@ fn orders_are_drawn_and_reported(rt: HostRuntime) -> Result<(), Fail> {
         ("serial", NO_UNIT, 5, white, NO_UNIT_REPORT),
         ("check", NO_UNIT, 5, b"".as_slice(), NO_UNIT_REPORT),
         ("check", BARRIER_IN_BLOCK, 0, b"".as_slice(), refused),
+    ];
+    for (job, text, due, frames, report) in rows {
+        let (status, image, notes) = run_on_text(rt.alloc(), job, text, &[])?;
+        assert_eq!(rt; status, due);
+        assert_eq!(rt; image.bytes(), frames);
+        assert_eq!(rt; notes.bytes(), report.as_bytes());
+    }
+    Ok(())
+}
+
+#[test]
+fn units_are_handed_on(rt: HostRuntime) -> Result<(), Fail> {
+    let handed_on = b"P6\n2 1\n255\n\xff\0\0\0\xff\0".as_slice();
+    let held =
+        "journal 3\nframes 0\nstuck client 0 at 2 SemP 2\nstuck client 1 at 2 SemP 1\nrc: stuck\n";
+    let rows = [
         (
             "serial",
             PRODUCED_AND_CONSUMED,
