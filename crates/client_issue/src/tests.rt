@@ -1,5 +1,5 @@
-//! A client on two tiles with lanes that hold one item, by hand.
-ghost use Rattle.std.specs.Prelude.{◌≡◌, ◌<◌, ◌^◌, length, IfOk, OnOk};
+//! A client on two tiles: by hand over lanes that hold one item, and over lanes that are emptied at random times.
+ghost use Rattle.std.specs.Prelude.{◌≡◌, ◌<◌, ◌≤◌, ◌^◌, length, IfOk, OnOk};
 ghost use Rattle.std.specs.List.{AllByRecursion};
 ghost use Rattle.rc_base.specs.Formats.Commands.{IsCommand};
 ghost use Rattle.rc_base.specs.Cluster.Tiles.{tile_count};
@@ -76,13 +76,14 @@ struct Run {
     requests: PlainLane<Request>,
 }
 
-// Two lanes that hold one parcel.
-fn two_lanes(alloc: Global) -> Result<Vec<PlainLane<Parcel>>, OutOfMemory>
+// Two lanes that hold at most `depth` parcels.
+fn two_lanes(alloc: Global, depth: usize) -> Result<Vec<PlainLane<Parcel>>, OutOfMemory>
+    requires depth { (1 ≤ depth) × (depth ≤ 16) }
     ensures { IfOk result (λ lanes. length lanes.items ≡ 2) }
 {
     let mut lanes = Vec::new(alloc);
-    lanes.push(PlainLane::new(alloc, 1)?)?;
-    lanes.push(PlainLane::new(alloc, 1)?)?;
+    lanes.push(PlainLane::new(alloc, depth)?)?;
+    lanes.push(PlainLane::new(alloc, depth)?)?;
     Ok(lanes)
 }
 
@@ -113,17 +114,18 @@ fn core_of(alloc: Global, stream: Commands) -> Result<ClientCore, OutOfMemory>
     ClientCore::new(alloc, &scene, 0, &layout)
 }
 
-fn run_of(alloc: Global) -> Result<Run, OutOfMemory>
+fn run_of(alloc: Global, stream: Commands, depth: usize) -> Result<Run, OutOfMemory>
+    requires commands { AllByRecursion IsCommand stream }
+    requires depth { (1 ≤ depth) × (depth ≤ 16) }
     ensures client { IfOk result (λ run. IsClient run.core) }
     ensures lanes { IfOk result (λ run. length run.tiles.items ≡ tile_count (layout_of run.core)) }
 {
-    let stream = draws(alloc)?;
     if stream.len() > 100 {
         return Err(OutOfMemory);
     }
     let core = core_of(alloc, stream)?;
-    let tiles = two_lanes(alloc)?;
-    let requests = PlainLane::new(alloc, 1)?;
+    let tiles = two_lanes(alloc, depth)?;
+    let requests = PlainLane::new(alloc, depth)?;
     Ok(Run {
         core,
         tiles,
@@ -252,7 +254,7 @@ fn full_lanes_hold_a_client_up(rt: HostRuntime) -> Result<(), Fail> {
         Event::Place(1, 26),
         Event::Asked(Request::End),
     ];
-    let mut run = run_of(rt.alloc())?;
+    let mut run = run_of(rt.alloc(), draws(rt.alloc())?, 1)?;
     assert_eq!(rt; play(&mut run, &events)?, 33);
     assert!(rt; !run.core.is_short());
     let left = Tally {
@@ -271,5 +273,114 @@ fn full_lanes_hold_a_client_up(rt: HostRuntime) -> Result<(), Fail> {
     assert_eq!(rt; kept.tallies.as_slice(), &[left, right][..]);
     assert_eq!(rt; kept.syncs.length, 26);
     assert!(rt; kept.faults.as_slice().is_empty());
+    Ok(())
+}
+
+// The draws, then a Clear, a draw and a second Swap: eight commands for each tile, and one more for the left.
+fn mixed(alloc: Global) -> Result<Commands, OutOfMemory>
+    ensures { IfOk result (AllByRecursion IsCommand) }
+{
+    let mut stream = draws(alloc)?;
+    push(&mut stream, Command::Clear { mask: 3 })?;
+    cover(&mut stream)?;
+    push(&mut stream, Command::Swap)?;
+    Ok(stream)
+}
+
+// What was taken from each lane, in order, and how many steps found a lane full.
+#[derive(Drop)]
+struct Taken {
+    left: Vec<Parcel>,
+    right: Vec<Parcel>,
+    requests: Vec<Request>,
+    blocked: u32,
+}
+
+// Takes an item from a lane, where it holds one.
+fn take<T: Drop>(lane: &mut PlainLane<T>, taken: &mut Vec<T>) -> Result<(), OutOfMemory> {
+    if let Some(item) = lane.pop() {
+        taken.push(item)?;
+    }
+    Ok(())
+}
+
+impl Taken {
+    fn count(&mut self, moved: ClientMoved) {
+        match moved {
+            ClientMoved::BlockedTile { .. } | ClientMoved::BlockedRequest => {
+                self.blocked = self.blocked.saturating_add(1);
+            }
+            _ => {}
+        }
+    }
+
+    // Bits 0, 1 and 2 of the draw say from which of the lanes an item is taken.
+    fn empty(&mut self, run: &mut Run, draw: u64) -> Result<(), OutOfMemory>
+        ensures core { run.new.core ≡ run.old.core }
+        ensures lanes { length run.new.tiles.items ≡ length run.old.tiles.items }
+    {
+        if draw % 2 == 1
+            && let Some(lane) = run.tiles.get_mut(0)
+        {
+            take(lane, &mut self.left)?;
+        }
+        if draw / 2 % 2 == 1
+            && let Some(lane) = run.tiles.get_mut(1)
+        {
+            take(lane, &mut self.right)?;
+        }
+        if draw / 4 % 2 == 1 {
+            take(&mut run.requests, &mut self.requests)?;
+        }
+        Ok(())
+    }
+
+    fn turn(&mut self, run: &mut Run, draw: u64) -> Result<(), OutOfMemory>
+        requires client { IsClient run.old.core }
+        requires lanes { length run.old.tiles.items ≡ tile_count (layout_of run.old.core) }
+        ensures client { IsClient run.new.core }
+        ensures lanes { length run.new.tiles.items ≡ tile_count (layout_of run.new.core) }
+    {
+        let moved = run.step()?;
+        self.count(moved);
+        self.empty(run, draw)
+    }
+}
+
+// What is taken from lanes of this depth in 100 steps, after each of which a linear congruential generator with a fixed seed draws the lanes.
+fn emptied(alloc: Global, depth: usize) -> Result<Taken, OutOfMemory>
+    requires depth { (1 ≤ depth) × (depth ≤ 16) }
+{
+    let mut run = run_of(alloc, mixed(alloc)?, depth)?;
+    let mut taken = Taken {
+        left: Vec::new(alloc),
+        right: Vec::new(alloc),
+        requests: Vec::new(alloc),
+        blocked: 0,
+    };
+    let mut state: u64 = 7;
+    for _ in 0..100 {
+        state = state
+            .wrapping_mul(6_364_136_223_846_793_005)
+            .wrapping_add(1_442_695_040_888_963_407);
+        taken.turn(&mut run, state >> 40)?;
+    }
+    Ok(taken)
+}
+
+#[test]
+fn lanes_of_depth_1_emptied_at_random_times_get_what_deep_lanes_get(
+    rt: HostRuntime,
+) -> Result<(), Fail> {
+    let deep = emptied(rt.alloc(), 16)?;
+    let shallow = emptied(rt.alloc(), 1)?;
+    assert_eq!(rt; deep.blocked, 0);
+    assert!(rt; shallow.blocked > 0);
+    assert_eq!(rt; deep.left.len(), 9);
+    assert_eq!(rt; deep.right.len(), 8);
+    assert_eq!(rt; deep.requests.len(), 3);
+    assert_eq!(rt; shallow.left, deep.left);
+    assert_eq!(rt; shallow.right, deep.right);
+    assert_eq!(rt; shallow.requests, deep.requests);
     Ok(())
 }
