@@ -85,6 +85,11 @@ abbrev pub kept : Bool → List Command → List Command → List Command
 kept true old read = old ++ read
 kept false old read = old
 
+-- A command was read and added behind those before; or a function failed as reading does, or for want of memory.
+abbrev pub AddsCommand : {X : Type 0} → (X → List ℕ) → List Command → List Command → Result X ReadError → Result (Command × List ℕ) Form → Type 0
+AddsCommand rest old new (Ok x) read = (command : Command) × (read ≡ Ok (command, rest x)) × (new ≡ old ++ command ∷ [])
+AddsCommand rest old new (Err e) read = Fails e read
+
 -- Commands were read, and kept or not; or a function failed as reading does, or for want of memory.
 abbrev pub Keeps : {X : Type 0} → (X → List ℕ) → Bool → List Command → List Command → Result X ReadError → Result (List Command × List ℕ) Form → Type 0
 Keeps rest keep old new (Ok x) read = (commands : List Command) × (read ≡ Ok (commands, rest x)) × (new ≡ kept keep old commands)

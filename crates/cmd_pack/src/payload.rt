@@ -3,14 +3,14 @@ ghost use Rattle.std.specs.Prelude.{◌≡◌, ◌≤◌, length, take};
 ghost use Rattle.rc_base.specs.Formats.Commands.{ranges_of, has_picture};
 ghost use Rattle.command_table.specs.Ranges.{AreIn};
 ghost use Rattle.cmd_pack.specs.Parts.{read_number, read_numbers, read_parts, texel_count};
-ghost use Rattle.cmd_pack.specs.Reading.{Gives, Reads};
-ghost use Rattle.cmd_pack.specs.Packets.{read_command};
+ghost use Rattle.cmd_pack.specs.Reading.{Gives, Reads, read_words};
+ghost use Rattle.cmd_pack.specs.Packets.{AddsCommand, read_command};
 
 use crate::fault::{Form, ReadError};
 use crate::fields::{read_byte, read_half, read_word, take_bytes};
 use command_table::parts::Numbers;
 use command_table::{command_of, has_picture, picture_area, ranges_of};
-use rc_base::command::{Command, NumberRange, Opcode};
+use rc_base::command::{Command, Commands, NumberRange, Opcode, Rgba};
 use rc_base::items::Items;
 use std::alloc::Global;
 
@@ -61,11 +61,7 @@ fn count_texels(opcode: Opcode, numbers: &[i32]) -> usize
 }
 
 /// The command of an opcode whose payload stands at the front, and the bytes behind it.
-pub fn read_command(
-    alloc: Global,
-    opcode: Opcode,
-    bytes: &[u8],
-) -> Result<(Command, &[u8]), ReadError>
+fn read_command(alloc: Global, opcode: Opcode, bytes: &[u8]) -> Result<(Command, &[u8]), ReadError>
     ensures { Gives (λ x. (x.0, x.1.now)) result (read_command opcode bytes.now) }
 {
     let ranges = ranges_of(opcode);
@@ -75,4 +71,79 @@ pub fn read_command(
     let (texels, rest) = take_bytes(count_texels(opcode, numbers), rest)?;
     let command = command_of(opcode, numbers, Items::from_slice(alloc, texels)?);
     Ok((command, rest))
+}
+
+#[tactic(auto, unfolding(crate::specs::Reading::read_words))]
+fn read_four_words(bytes: &[u8]) -> Result<([i32; 4], &[u8]), Form>
+    ensures { Reads (λ x. (x.0, x.1.now)) result (read_words 4 bytes.now) }
+{
+    let (x, rest) = read_word(bytes)?;
+    let (y, rest) = read_word(rest)?;
+    let (z, rest) = read_word(rest)?;
+    let (w, rest) = read_word(rest)?;
+    Ok(([x, y, z, w], rest))
+}
+
+#[tactic(auto, unfolding(crate::specs::Packets::read_command, crate::specs::Packets::read_fields, crate::specs::Packets::read_value))]
+fn read_vertex(bytes: &[u8]) -> Result<([i32; 4], &[u8]), Form>
+    ensures { Reads (λ x. (Command.Vertex x.0, x.1.now)) result (read_command Opcode.Vertex bytes.now) }
+{
+    read_four_words(bytes)
+}
+
+#[tactic(auto, unfolding(crate::specs::Packets::read_command, crate::specs::Packets::read_fields, crate::specs::Packets::read_value))]
+fn read_color(bytes: &[u8]) -> Result<(Rgba, &[u8]), Form>
+    ensures { Reads (λ x. (Command.Color x.0, x.1.now)) result (read_command Opcode.Color bytes.now) }
+{
+    let (r, rest) = read_byte(bytes)?;
+    let (g, rest) = read_byte(rest)?;
+    let (b, rest) = read_byte(rest)?;
+    let (a, rest) = read_byte(rest)?;
+    Ok((Rgba { r, g, b, a }, rest))
+}
+
+fn add_vertex<'a>(commands: &mut Commands, bytes: &'a [u8]) -> Result<&'a [u8], ReadError>
+    ensures { AddsCommand (λ rest. rest.now) commands.old commands.new result (read_command Opcode.Vertex bytes.now) }
+{
+    let (pos, rest) = read_vertex(bytes)?;
+    commands.push(Command::Vertex { pos })?;
+    Ok(rest)
+}
+
+fn add_color<'a>(commands: &mut Commands, bytes: &'a [u8]) -> Result<&'a [u8], ReadError>
+    ensures { AddsCommand (λ rest. rest.now) commands.old commands.new result (read_command Opcode.Color bytes.now) }
+{
+    let (color, rest) = read_color(bytes)?;
+    commands.push(Command::Color(color))?;
+    Ok(rest)
+}
+
+fn add_any<'a>(
+    alloc: Global,
+    commands: &mut Commands,
+    opcode: Opcode,
+    bytes: &'a [u8],
+) -> Result<&'a [u8], ReadError>
+    ensures { AddsCommand (λ rest. rest.now) commands.old commands.new result (read_command opcode bytes.now) }
+{
+    let (command, rest) = read_command(alloc, opcode, bytes)?;
+    commands.push(command)?;
+    Ok(rest)
+}
+
+/// Adds the command of an opcode whose payload stands at the front, and gives the bytes behind it. Vertices and colours, of which streams have most,
+/// are read without a table of ranges.
+pub fn add_command<'a>(
+    alloc: Global,
+    commands: &mut Commands,
+    opcode: Opcode,
+    bytes: &'a [u8],
+) -> Result<&'a [u8], ReadError>
+    ensures { AddsCommand (λ rest. rest.now) commands.old commands.new result (read_command opcode bytes.now) }
+{
+    match opcode {
+        Opcode::Vertex => add_vertex(commands, bytes),
+        Opcode::Color => add_color(commands, bytes),
+        _ => add_any(alloc, commands, opcode, bytes),
+    }
 }

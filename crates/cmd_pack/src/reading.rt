@@ -8,7 +8,7 @@ ghost use Rattle.cmd_pack.specs.Faults.{FailsBy, FailsAsStream, pack_fault};
 
 use crate::fault::{Form, PackFault, ReadError};
 use crate::fields::{read_byte, read_half};
-use crate::payload::read_command;
+use crate::payload::add_command;
 use command_table::opcode_from;
 use rc_base::command::{Commands, Opcode};
 use std::alloc::Global;
@@ -68,9 +68,7 @@ fn read_payloads<'a>(
     commands.reserve(opcodes.len())?;
     let mut rest = bytes;
     for opcode in opcodes {
-        let (command, after) = read_command(alloc, *opcode, rest)?;
-        commands.push(command)?;
-        rest = after;
+        rest = add_command(alloc, commands, *opcode, rest)?;
     }
     Ok(rest)
 }
