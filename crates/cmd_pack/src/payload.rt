@@ -102,6 +102,15 @@ fn read_color(bytes: &[u8]) -> Result<(Rgba, &[u8]), Form>
     Ok((Rgba { r, g, b, a }, rest))
 }
 
+#[tactic(auto, unfolding(crate::specs::Packets::read_command, crate::specs::Packets::read_fields, crate::specs::Packets::read_value))]
+fn read_tex_coord(bytes: &[u8]) -> Result<((i32, i32), &[u8]), Form>
+    ensures { Reads (λ x. (Command.TexCoord x.0.0 x.0.1, x.1.now)) result (read_command Opcode.TexCoord bytes.now) }
+{
+    let (s, rest) = read_word(bytes)?;
+    let (t, rest) = read_word(rest)?;
+    Ok(((s, t), rest))
+}
+
 fn add_vertex<'a>(commands: &mut Commands, bytes: &'a [u8]) -> Result<&'a [u8], ReadError>
     ensures { AddsCommand (λ rest. rest.now) commands.old commands.new result (read_command Opcode.Vertex bytes.now) }
 {
@@ -118,6 +127,14 @@ fn add_color<'a>(commands: &mut Commands, bytes: &'a [u8]) -> Result<&'a [u8], R
     Ok(rest)
 }
 
+fn add_tex_coord<'a>(commands: &mut Commands, bytes: &'a [u8]) -> Result<&'a [u8], ReadError>
+    ensures { AddsCommand (λ rest. rest.now) commands.old commands.new result (read_command Opcode.TexCoord bytes.now) }
+{
+    let ((s, t), rest) = read_tex_coord(bytes)?;
+    commands.push(Command::TexCoord { s, t })?;
+    Ok(rest)
+}
+
 fn add_any<'a>(
     alloc: Global,
     commands: &mut Commands,
@@ -131,8 +148,8 @@ fn add_any<'a>(
     Ok(rest)
 }
 
-/// Adds the command of an opcode whose payload stands at the front, and gives the bytes behind it. Vertices and colours, of which streams have most,
-/// are read without a table of ranges.
+/// Adds the command of an opcode whose payload stands at the front, and gives the bytes behind it. The commands that blocks are made of, which are
+/// most of a stream, are read without the table of ranges.
 pub fn add_command<'a>(
     alloc: Global,
     commands: &mut Commands,
@@ -144,6 +161,7 @@ pub fn add_command<'a>(
     match opcode {
         Opcode::Vertex => add_vertex(commands, bytes),
         Opcode::Color => add_color(commands, bytes),
+        Opcode::TexCoord => add_tex_coord(commands, bytes),
         _ => add_any(alloc, commands, opcode, bytes),
     }
 }

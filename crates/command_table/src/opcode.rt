@@ -46,6 +46,9 @@ pub const OPCODES: [Opcode; 36] = [
     Opcode::Swap,
 ];
 
+// The same, at one place in memory.
+static TABLE: [Opcode; 36] = OPCODES;
+
 /// The byte that stands for an opcode.
 pub fn opcode_byte(opcode: Opcode) -> u8
     ensures { result ≡ opcode_number opcode }
@@ -60,7 +63,7 @@ pub fn opcode_from(byte: u8) -> Option<Opcode>
     if byte == 0 || byte > 36 {
         return None;
     }
-    Some(OPCODES[byte as usize - 1])
+    Some(TABLE[byte as usize - 1])
 }
 
 /// The name of an opcode in a text.
