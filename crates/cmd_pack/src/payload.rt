@@ -3,7 +3,7 @@ ghost use Rattle.std.specs.Prelude.{◌≡◌, ◌≤◌, length, take};
 ghost use Rattle.rc_base.specs.Formats.Commands.{ranges_of, has_picture};
 ghost use Rattle.command_table.specs.Ranges.{AreIn};
 ghost use Rattle.cmd_pack.specs.Parts.{read_number, read_numbers, read_parts, texel_count};
-ghost use Rattle.cmd_pack.specs.Reading.{Gives, Reads, read_words};
+ghost use Rattle.cmd_pack.specs.Reading.{Reads, read_words};
 ghost use Rattle.cmd_pack.specs.Packets.{AddsCommand, read_command};
 
 use crate::fault::{Form, ReadError};
@@ -58,19 +58,6 @@ fn count_texels(opcode: Opcode, numbers: &[i32]) -> usize
     } else {
         0
     }
-}
-
-/// The command of an opcode whose payload stands at the front, and the bytes behind it.
-fn read_command(alloc: Global, opcode: Opcode, bytes: &[u8]) -> Result<(Command, &[u8]), ReadError>
-    ensures { Gives (λ x. (x.0, x.1.now)) result (read_command opcode bytes.now) }
-{
-    let ranges = ranges_of(opcode);
-    let mut room = [0; 16];
-    let rest = read_numbers(ranges, &mut room, bytes)?;
-    let numbers = &room[..ranges.len()];
-    let (texels, rest) = take_bytes(count_texels(opcode, numbers), rest)?;
-    let command = command_of(opcode, numbers, Items::from_slice(alloc, texels)?);
-    Ok((command, rest))
 }
 
 #[tactic(auto, unfolding(crate::specs::Reading::read_words))]
@@ -143,8 +130,13 @@ fn add_any<'a>(
 ) -> Result<&'a [u8], ReadError>
     ensures { AddsCommand (λ rest. rest.now) commands.old commands.new result (read_command opcode bytes.now) }
 {
-    let (command, rest) = read_command(alloc, opcode, bytes)?;
-    commands.push(command)?;
+    let ranges = ranges_of(opcode);
+    let mut room = [0; 16];
+    let rest = read_numbers(ranges, &mut room, bytes)?;
+    let numbers = &room[..ranges.len()];
+    let (texels, rest) = take_bytes(count_texels(opcode, numbers), rest)?;
+    let texels = Items::from_slice(alloc, texels)?;
+    commands.push(command_of(opcode, numbers, texels))?;
     Ok(rest)
 }
 

@@ -5,7 +5,7 @@ use Rattle.rc_base.specs.Formats.Commands.{ranges_of}
 use Rattle.cmd_pack.specs.declared.fault.ReadError.TheVariants as errors
 use Rattle.cmd_pack.specs.Parts.{read_numbers}
 use Rattle.cmd_pack.proofs.PartsReadAsFields.{numbers_fit, command_done, numbers_failed, texels_failed}
-use Rattle.cmd_pack.proofs.payload.read_command.Goals as goal
+use Rattle.cmd_pack.proofs.payload.add_any.Goals as goal
 
 pub returns-in_err-rest : goal.returns-in_err-rest
 returns-in_err-rest c =
@@ -29,8 +29,8 @@ returns-in_err-texels c =
     let p = err_from_is_err_and c.from_residual-in_err-texels.result c.from_residual-in_err-texels.ensures.1 in
     rw (p.1, p.2) (texels_failed o c.args.bytes.now c.in_ok-rest.rest.now numbers (errors.Form c.in_err-texels.field-0.0) read (rw (← c.count_texels.ensures) c.in_err-texels.ensures))
 
-pub command_of-command-requires-clause-numbers : goal.command_of-command-requires-clause-numbers
-command_of-command-requires-clause-numbers c =
+pub command_of-requires-clause-numbers : goal.command_of-requires-clause-numbers
+command_of-requires-clause-numbers c =
     let o = c.args.opcode in
     let numbers = take (length c.ranges_of-ranges.result.now) c.read_numbers.new.room in
     let read : read_numbers (ranges_of o) c.args.bytes.now ≡ Ok (numbers, c.in_ok-rest.rest.now) =
@@ -42,6 +42,9 @@ returns c =
     let o = c.args.opcode in
     let numbers = take (length c.ranges_of-ranges.result.now) c.read_numbers.new.room in
     let read : read_numbers (ranges_of o) c.args.bytes.now ≡ Ok (numbers, c.in_ok-rest.rest.now) =
-    subst (λ (rs : List NumberRange). read_numbers rs c.args.bytes.now ≡ Ok (numbers, c.in_ok-rest.rest.now)) c.ranges_of-ranges.ensures c.in_ok-rest.ensures in
-    command_done o c.args.bytes.now c.in_ok-rest.rest.now c.in_ok-texels.rest.now numbers c.in_ok-texels.texels.now c.command_of-command.result read
-    (rw (← c.count_texels.ensures) c.in_ok-texels.ensures) (rw (← c.in_ok-from_slice.ensures) c.command_of-command.ensures)
+    subst (λ (rs : List NumberRange). read_numbers rs c.args.bytes.now ≡ Ok (numbers, c.in_ok-rest.rest.now)) c.ranges_of-ranges.ensures c.in_ok-rest.ensures in (
+      c.command_of.result,
+      command_done o c.args.bytes.now c.in_ok-rest.rest.now c.in_ok-texels.rest.now numbers c.in_ok-texels.texels.now c.command_of.result read
+          (rw (← c.count_texels.ensures) c.in_ok-texels.ensures) (rw (← c.in_ok-texels-2.ensures) c.command_of.ensures),
+      c.in_ok-push.ensures.items,
+    )
