@@ -2,3 +2,4 @@ pub mod Axis
 pub mod Images
 pub mod Views
 pub mod Stores
+pub mod Samplers

@@ -21,7 +21,9 @@ fn scaled(part: u32, side: u16) -> u32
     part * u32::from(side)
 }
 
-fn repeat(coordinate: i32, side: u16) -> u16
+/// The column or row of a coordinate along a side that repeats, without a division.
+#[inline(always)]
+pub(crate) fn repeat(coordinate: i32, side: u16) -> u16
     requires { 0 < side }
     ensures value { result ≡ repeated side coordinate }
     ensures inside { result < side }

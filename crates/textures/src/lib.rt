@@ -8,12 +8,14 @@
 mod axis;
 pub mod laws;
 mod parts;
+mod sampler;
 pub mod sets;
 pub mod shared;
 #[cfg(test)]
 mod tests;
 pub mod texture;
 
+pub use sampler::Sampler;
 pub use sets::PrivateSet;
 pub use shared::SharedSet;
 pub use texture::Texture;

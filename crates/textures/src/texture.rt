@@ -2,13 +2,12 @@
 ghost use Rattle.std.specs.Prelude.{◌≡◌, ◌+◌, ◌*◌, ◌<◌, ◌≤◌, take, drop, IfOk, ◌∷◌, [], OnOk, OnErr, Some, None, length, is_some, MatchOption};
 ghost use Rattle.std.specs.Option.{option_map};
 ghost use Rattle.rc_base.specs.Pictures.{Picture, with_part};
-ghost use Rattle.rc_base.specs.Colors.{color_of};
-ghost use Rattle.rc_base.specs.Drawing.Texel.{texel_of};
 ghost use Rattle.textures.specs.Images.{IsWhole, LiesInside, HasTexel, IsNearestTexel, picture, part, blank_picture};
+ghost use Rattle.textures.specs.Samplers.{IsSampler};
 ghost use Rattle.textures.specs.Views.{image_picture};
 
-use crate::axis::index_of;
 use crate::parts::write_part;
+use crate::sampler::Sampler;
 use rc_base::command::{Rgba, Texels};
 use rc_base::out_of_memory::OutOfMemory;
 use std::alloc::Global;
@@ -22,44 +21,21 @@ struct Image {
     texels: Texels,
 }
 
-// The colour of the four bytes from an index on.
-fn color_at(texels: &[u8], at: usize) -> Rgba
-    requires { at + 4 ≤ length texels.now }
-    ensures { result ≡ color_of (take 4 (drop at texels.now)) }
+// The image for its texels, if it has one.
+fn sampler_of(image: &Image, wrap_s: u8, wrap_t: u8) -> Option<Sampler<'_>>
+    requires { IsWhole (image_picture image.now) }
+    ensures { MatchOption result (HasTexel (Some (image_picture image.now)) → ⊥) (λ k. IsSampler (Some (image_picture image.now)) wrap_s wrap_t k) }
 {
-    Rgba {
-        r: texels[at],
-        g: texels[at + 1],
-        b: texels[at + 2],
-        a: texels[at + 3],
+    if image.w == 0 || image.h == 0 {
+        return None;
     }
-}
-
-// The index of a texel's first byte.
-fn byte_index(w: u16, h: u16, column: u16, row: u16) -> usize
-    requires column { column < w }
-    requires row { row < h }
-    ensures value { result ≡ 4 * (row * w + column) }
-    ensures inside { result + 4 ≤ 4 * (w * h) }
-{
-    let _h = h;
-    4 * (usize::from(row) * usize::from(w) + usize::from(column))
-}
-
-// The nearest texel of an image at a coordinate.
-#[tactic(auto, unfolding(rc_base::specs::Drawing::Texel::texel_of))]
-fn nearest(image: &Image, s: i32, t: i32, wrap_s: u8, wrap_t: u8) -> Rgba
-    requires whole { IsWhole (image_picture image.now) }
-    requires width { 0 < image.now.w }
-    requires height { 0 < image.now.h }
-    ensures { result ≡ texel_of (image_picture image.now) s t wrap_s wrap_t }
-{
-    let column = index_of(wrap_s, image.w, s);
-    let row = index_of(wrap_t, image.h, t);
-    color_at(
-        image.texels.as_slice(),
-        byte_index(image.w, image.h, column, row),
-    )
+    Some(Sampler {
+        w: image.w,
+        h: image.h,
+        texels: image.texels.as_slice(),
+        wrap_s,
+        wrap_t,
+    })
 }
 
 /// A texture: r, g, b, a of each texel, row by row, where it has an image. Row 0 is at t = 0.
@@ -170,14 +146,25 @@ impl Texture {
         self.image.is_some()
     }
 
+    /// The image and two wraps, REPEAT (0) or CLAMP (1), for many texels: what `sample` gives of these wraps, the sampler's `nearest` gives. There is
+    /// one exactly where the texture has a texel.
+    pub fn sampler(&self, wrap_s: u8, wrap_t: u8) -> Option<Sampler<'_>>
+        ensures { MatchOption result (HasTexel self.now → ⊥) (λ k. IsSampler self.now wrap_s wrap_t k) }
+    {
+        match &self.image {
+            Some(image) => sampler_of(image, wrap_s, wrap_t),
+            None => None,
+        }
+    }
+
     /// The texel that is nearest to a texture coordinate in 16.16 fixed point. Along each side it wraps by REPEAT (0) or CLAMP (1). The texture
     /// must have an image with a texel.
     pub fn sample(&self, s: i32, t: i32, wrap_s: u8, wrap_t: u8) -> Rgba
         requires { HasTexel self.now }
         ensures { IsNearestTexel self.now s t wrap_s wrap_t result }
     {
-        match &self.image {
-            Some(image) => nearest(image, s, t, wrap_s, wrap_t),
+        match self.sampler(wrap_s, wrap_t) {
+            Some(sampler) => sampler.nearest(s, t),
             None => Rgba {
                 r: 0,
                 g: 0,
