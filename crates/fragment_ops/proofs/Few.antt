@@ -105,6 +105,46 @@ sum_is s g c depth old h p =
     (λ i. if p.depth depth old.depth i then record { color = color_sum c old.color; depth = if p.stores i then depth else old.depth } else old)
     ∙ rw (alpha, blend, red, green, blue, opacity, source, stored, whole c.r, whole c.g, whole c.b, whole c.a, whole old.color.r, whole old.color.g, whole old.color.b, whole old.color.a) refl
 
+-- what blending by two factors alone says of a state
+record IsBlendAlone (source stored : ℕ) (s : State) : Type 0 where
+  alpha : s.alpha_on ≡ false
+  blend : s.blend_on ≡ true
+  flags : (slice_index_or s.color_mask 0 false ≡ true) × (slice_index_or s.color_mask 1 false ≡ true) × (slice_index_or s.color_mask 2 false ≡ true) × (slice_index_or s.color_mask 3 false ≡ true)
+  first : slice_index s.blend 0 ≡ source
+  second : slice_index s.blend 1 ≡ stored
+
+blend_alone : (source stored : ℕ) (s : State) → blends_alone source stored s ≡ true → IsBlendAlone source stored s
+unfolding blends_alone
+blend_alone source stored s h =
+    let codes = slice_index s.blend 0 == source && slice_index s.blend 1 == stored in
+    let a = and_parts (not s.alpha_on) (s.blend_on && (writes_all s.color_mask && codes)) h in
+    let b = and_parts s.blend_on (writes_all s.color_mask && codes) a.1 in
+    let w = and_parts (writes_all s.color_mask) codes b.1 in
+    let d = and_parts (slice_index s.blend 0 == source) (slice_index s.blend 1 == stored) w.1 in
+    record {
+      alpha = off s.alpha_on a.0;
+      blend = b.0;
+      flags = flags_on s.color_mask w.0;
+      first = same (slice_index s.blend 0) source d.0;
+      second = same (slice_index s.blend 1) stored d.1;
+    }
+
+pub over_alone_is : (s : State) (c old : Rgba) (depth under : ℕ) → blends_alone 6 7 s ≡ true → s.depth_on ≡ false
+    → shaded s c depth (record { color = old; depth = under }) ≡ record { color = color_over c old; depth = under }
+unfolding color_over shaded
+over_alone_is s c old depth under h depths =
+    let e = blend_alone 6 7 s h in
+    let f = e.flags in
+    rw (depths, e.alpha, e.blend, f.0, f.1, f.2, f.3, e.first, e.second) refl
+
+pub sum_alone_is : (s : State) (c old : Rgba) (depth under : ℕ) → blends_alone 1 1 s ≡ true → s.depth_on ≡ false
+    → shaded s c depth (record { color = old; depth = under }) ≡ record { color = color_sum c old; depth = under }
+unfolding color_sum shaded
+sum_alone_is s c old depth under h depths =
+    let e = blend_alone 1 1 s h in
+    let f = e.flags in
+    rw (depths, e.alpha, e.blend, f.0, f.1, f.2, f.3, e.first, e.second, whole c.r, whole c.g, whole c.b, whole c.a, whole old.r, whole old.g, whole old.b, whole old.a) refl
+
 -- ---- Clear
 
 by_mask : (t r g b a : Bool) (c old : Rgba)

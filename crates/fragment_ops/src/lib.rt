@@ -17,5 +17,5 @@ pub use blend::product;
 pub use clear::Clearing;
 pub use clearing::clearing_of;
 pub use shade::{clear_pixel, shade_pixel, texture_color};
-pub use shortcuts::{blends_over, blends_sum, stores_alone, tests_alone};
+pub use shortcuts::{blend_over, blend_sum, blends_over, blends_sum, stores_alone, tests_alone};
 pub use stages::{Factor, Stages, Test, stages_of};

@@ -1,5 +1,5 @@
 //! States of which few stages stand between a fragment and the buffer, and the steps that are left.
-ghost use Rattle.std.specs.Prelude.{◌≡◌, ◌-◌, ℕ, true};
+ghost use Rattle.std.specs.Prelude.{◌≡◌, ◌-◌, ℕ, true, false};
 ghost use Rattle.rc_base.specs.Drawing.PixelStep.{shaded};
 ghost use Rattle.rc_base.specs.declared.command.Rgba.{Rgba as AnyColor};
 ghost use Rattle.rc_base.specs.declared.state.State.{State as AnyState};
@@ -102,6 +102,26 @@ fn added(color: Rgba, old: Rgba) -> Rgba
         b: sum(color.b, old.b),
         a: sum(color.a, old.a),
     }
+}
+
+/// A fragment's colour over the stored one, by SRC_ALPHA and ONE_MINUS_SRC_ALPHA: what is stored where this is the one stage that is left.
+#[inline(always)]
+#[tactic(auto, using(crate::proofs::Few::over_alone_is))]
+pub fn blend_over(color: Rgba, old: Rgba) -> Rgba
+    ensures value { result ≡ color_over color old }
+    ensures stored { (s : AnyState) (depth under : ℕ) → blends_over s ≡ true → s.depth_on ≡ false → shaded s color depth (record { color = old; depth = under }) ≡ record { color = result; depth = under } }
+{
+    laid_over(color, old)
+}
+
+/// A fragment's colour and the stored one together, by ONE and ONE: what is stored where this is the one stage that is left.
+#[inline(always)]
+#[tactic(auto, using(crate::proofs::Few::sum_alone_is))]
+pub fn blend_sum(color: Rgba, old: Rgba) -> Rgba
+    ensures value { result ≡ color_sum color old }
+    ensures stored { (s : AnyState) (depth under : ℕ) → blends_sum s ≡ true → s.depth_on ≡ false → shaded s color depth (record { color = old; depth = under }) ≡ record { color = result; depth = under } }
+{
+    added(color, old)
 }
 
 impl Stages {
