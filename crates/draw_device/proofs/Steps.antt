@@ -75,14 +75,10 @@ pub alone_step : (s : State) (p : Option Picture) (f : Fragment) (color : Rgba) 
     → record { color = color; depth = old.depth } ≡ fragment_step s p f old
 alone_step s p f color old h d c = sym (h color (natural f.depth) old) ∙ (λ i. shaded s (c i) (natural f.depth) old) ∙ sym (rw d refl)
 
--- where the depth test is off, no depth in range matters
-untested : (s : State) (color : Rgba) (m n : ℕ) (old : Pixel) → s.depth_on ≡ false → shaded s color m old ≡ shaded s color n old
-unfolding shaded
-untested s color m n old h = rw h refl
-
-pub untested_step : (s : State) (p : Option Picture) (f : Fragment) (color : Rgba) (n : ℕ) (old : Pixel) → s.depth_on ≡ false → is_depth f.depth ≡ true
-    → color ≡ fragment_color s p f → shaded s color n old ≡ fragment_step s p f old
-untested_step s p f color n old h d c = untested s color n (natural f.depth) old h ∙ (λ i. shaded s (c i) (natural f.depth) old) ∙ sym (rw d refl)
+-- what is stored of a fragment whose depth is in range
+pub blended_step : (s : State) (p : Option Picture) (f : Fragment) (color : Rgba) (now old : Pixel) → is_depth f.depth ≡ true → color ≡ fragment_color s p f
+    → shaded s color (natural f.depth) old ≡ now → now ≡ fragment_step s p f old
+blended_step s p f color now old d c h = sym h ∙ (λ i. shaded s (c i) (natural f.depth) old) ∙ sym (rw d refl)
 
 -- a colour of the row that hasn't had its step yet
 pub color_before : (old now : List Rgba) (x : ℕ) (q : Rgba) → q ≡ get_or now x q → x < length now → color_at now x ≡ color_at old x → q ≡ color_at old x

@@ -1,7 +1,8 @@
 //! A row of fragments' colours after the texture stage.
 ghost use Rattle.std.specs.Prelude.{◌≡◌, ℕ, ◌≤◌, length, pos, true};
 ghost use Rattle.rc_base.specs.Drawing.PixelStep.{textured};
-ghost use Rattle.textures.specs.Images.{HasTexel};
+ghost use Rattle.rc_base.specs.Drawing.Texel.{wrap_in_s, wrap_in_t};
+ghost use Rattle.textures.specs.Samplers.{IsSampler};
 ghost use Rattle.draw_device.specs.Loops.{run_fragment, texel_for, IsRun, IsRunCovered, IsColorAt, IsSAt, IsTAt, IsColorRun};
 
 use crate::run::Run;
@@ -11,7 +12,7 @@ use raster::{ColorRamp, FineRamp};
 use rc_base::command::Rgba;
 use rc_base::state::State;
 use rc_base::triangle::WindowTriangle;
-use textures::Texture;
+use textures::{Sampler, Texture};
 
 /// One colour.
 pub(crate) fn fill_colors(colors: &mut [Rgba], run: Run, color: Rgba)
@@ -40,23 +41,53 @@ pub(crate) fn step_colors(colors: &mut [Rgba], tri: &WindowTriangle, run: Run, f
 }
 
 // The texel at a texture coordinate.
+#[inline(always)]
 fn texel(
-    texture: &Texture,
+    sampler: Sampler<'_>,
     state: &State,
+    texture: &Texture,
     tri: &WindowTriangle,
     run: Run,
     x: u16,
     s: i32,
     t: i32,
 ) -> Rgba
-    requires texel { HasTexel texture.now }
+    requires sampler { IsSampler texture.now (wrap_in_s state.now) (wrap_in_t state.now) sampler }
     requires s { s ≡ (run_fragment tri.now.v run x).s }
     requires t { t ≡ (run_fragment tri.now.v run x).t }
     ensures { result ≡ texel_for state.now texture.now (run_fragment tri.now.v run x) }
 {
+    let _state = state;
+    let _texture = texture;
     let _tri = tri;
     let _place = (run.left, run.row, x);
-    texture.sample(s, t, state.tex_mode[1], state.tex_mode[2])
+    sampler.nearest(s, t)
+}
+
+// The same of an image that repeats along both sides.
+#[inline(always)]
+fn repeated_texel(
+    sampler: Sampler<'_>,
+    state: &State,
+    texture: &Texture,
+    tri: &WindowTriangle,
+    run: Run,
+    x: u16,
+    s: i32,
+    t: i32,
+) -> Rgba
+    requires sampler { IsSampler texture.now (wrap_in_s state.now) (wrap_in_t state.now) sampler }
+    requires across { sampler.wrap_s ≡ 0 }
+    requires up { sampler.wrap_t ≡ 0 }
+    requires s { s ≡ (run_fragment tri.now.v run x).s }
+    requires t { t ≡ (run_fragment tri.now.v run x).t }
+    ensures { result ≡ texel_for state.now texture.now (run_fragment tri.now.v run x) }
+{
+    let _state = state;
+    let _texture = texture;
+    let _tri = tri;
+    let _place = (run.left, run.row, x);
+    sampler.nearest_repeated(s, t)
 }
 
 /// The texels of the triangle's fragments.
@@ -64,6 +95,7 @@ pub(crate) fn texel_colors(
     colors: &mut [Rgba],
     state: &State,
     texture: &Texture,
+    sampler: Sampler<'_>,
     tri: &WindowTriangle,
     run: Run,
     first_s: FineRamp,
@@ -71,7 +103,7 @@ pub(crate) fn texel_colors(
 )
     requires run { IsRun run }
     requires room { run.to ≤ length colors.old }
-    requires texel { HasTexel texture.now }
+    requires sampler { IsSampler texture.now (wrap_in_s state.now) (wrap_in_t state.now) sampler }
     requires covered { IsRunCovered tri.now.v run }
     requires s_ramp { IsSAt tri.now.v run run.from first_s }
     requires t_ramp { IsTAt tri.now.v run run.from first_t }
@@ -82,7 +114,39 @@ pub(crate) fn texel_colors(
     for x in run.from..run.to {
         let s = s_by(&ss, tri, run, x);
         let t = t_by(&ts, tri, run, x);
-        colors[x as usize] = texel(texture, state, tri, run, x, s, t);
+        colors[x as usize] = texel(sampler, state, texture, tri, run, x, s, t);
+        ss.advance();
+        ts.advance();
+    }
+}
+
+/// The same of an image that repeats along both sides.
+pub(crate) fn repeat_colors(
+    colors: &mut [Rgba],
+    state: &State,
+    texture: &Texture,
+    sampler: Sampler<'_>,
+    tri: &WindowTriangle,
+    run: Run,
+    first_s: FineRamp,
+    first_t: FineRamp,
+)
+    requires run { IsRun run }
+    requires room { run.to ≤ length colors.old }
+    requires sampler { IsSampler texture.now (wrap_in_s state.now) (wrap_in_t state.now) sampler }
+    requires across { sampler.wrap_s ≡ 0 }
+    requires up { sampler.wrap_t ≡ 0 }
+    requires covered { IsRunCovered tri.now.v run }
+    requires s_ramp { IsSAt tri.now.v run run.from first_s }
+    requires t_ramp { IsTAt tri.now.v run run.from first_t }
+    ensures { IsColorRun (λ k old. texel_for state.now texture.now (run_fragment tri.now.v run k)) run.from run.to colors.old colors.new }
+{
+    let mut ss = first_s;
+    let mut ts = first_t;
+    for x in run.from..run.to {
+        let s = s_by(&ss, tri, run, x);
+        let t = t_by(&ts, tri, run, x);
+        colors[x as usize] = repeated_texel(sampler, state, texture, tri, run, x, s, t);
         ss.advance();
         ts.advance();
     }

@@ -13,7 +13,7 @@ ghost use Rattle.draw_device.specs.Loops.{IsRun, IsRunCovered, IsRunDrawn, IsCol
 
 use crate::run::Run;
 use crate::stepped::{color_by, depth_by};
-use fragment_ops::{Stages, shade_pixel};
+use fragment_ops::{Stages, blend_over, blend_sum, shade_pixel};
 use raster::{ColorRamp, FineRamp};
 use rc_base::command::Rgba;
 use rc_base::state::State;
@@ -243,10 +243,10 @@ pub(crate) fn over_run(
 }
 
 #[inline(always)]
-fn lay_step(stages: Stages, color: Rgba, old: Pixel) -> Pixel
-    ensures { (s : AnyState) (p : Option Picture) (f : AnyFragment) → IsPrepared s stages → blends_over s ≡ true → s.depth_on ≡ false → is_depth f.depth ≡ true → color ≡ fragment_color s p f → result ≡ fragment_step s p f old }
+fn lay_step(color: Rgba, old: Rgba) -> Rgba
+    ensures { (s : AnyState) (p : Option Picture) (f : AnyFragment) (under : ℕ) → blends_over s ≡ true → s.depth_on ≡ false → is_depth f.depth ≡ true → color ≡ fragment_color s p f → record { color = result; depth = under } ≡ fragment_step s p f (record { color = old; depth = under }) }
 {
-    stages.store_over(color, 0, old)
+    blend_over(color, old)
 }
 
 /// Blending by SRC_ALPHA and ONE_MINUS_SRC_ALPHA, without a depth test.
@@ -256,7 +256,6 @@ pub(crate) fn lay_run(
     state: &State,
     texture: &Texture,
     tri: &WindowTriangle,
-    stages: Stages,
     run: Run,
 )
     requires run { IsRun run }
@@ -266,7 +265,6 @@ pub(crate) fn lay_run(
     requires covered { IsRunCovered tri.now.v run }
     requires depths { HasDepths tri.now.v }
     requires kind { blends_over state.now ≡ true }
-    requires stages { IsPrepared state.now stages }
     requires untested { state.now.depth_on ≡ false }
     ensures { IsRunDrawn state.now texture.now tri.now.v run pixels.old pixels.new }
 {
@@ -275,7 +273,7 @@ pub(crate) fn lay_run(
     let _tri = tri;
     for x in run.from..run.to {
         let place = run.start + x as usize;
-        pixels[place] = lay_step(stages, colors[x as usize], pixels[place]);
+        pixels[place].color = lay_step(colors[x as usize], pixels[place].color);
     }
 }
 
@@ -321,10 +319,10 @@ pub(crate) fn sum_run(
 }
 
 #[inline(always)]
-fn add_step(stages: Stages, color: Rgba, old: Pixel) -> Pixel
-    ensures { (s : AnyState) (p : Option Picture) (f : AnyFragment) → IsPrepared s stages → blends_sum s ≡ true → s.depth_on ≡ false → is_depth f.depth ≡ true → color ≡ fragment_color s p f → result ≡ fragment_step s p f old }
+fn add_step(color: Rgba, old: Rgba) -> Rgba
+    ensures { (s : AnyState) (p : Option Picture) (f : AnyFragment) (under : ℕ) → blends_sum s ≡ true → s.depth_on ≡ false → is_depth f.depth ≡ true → color ≡ fragment_color s p f → record { color = result; depth = under } ≡ fragment_step s p f (record { color = old; depth = under }) }
 {
-    stages.store_sum(color, 0, old)
+    blend_sum(color, old)
 }
 
 /// Blending by ONE and ONE, without a depth test.
@@ -334,7 +332,6 @@ pub(crate) fn add_run(
     state: &State,
     texture: &Texture,
     tri: &WindowTriangle,
-    stages: Stages,
     run: Run,
 )
     requires run { IsRun run }
@@ -344,7 +341,6 @@ pub(crate) fn add_run(
     requires covered { IsRunCovered tri.now.v run }
     requires depths { HasDepths tri.now.v }
     requires kind { blends_sum state.now ≡ true }
-    requires stages { IsPrepared state.now stages }
     requires untested { state.now.depth_on ≡ false }
     ensures { IsRunDrawn state.now texture.now tri.now.v run pixels.old pixels.new }
 {
@@ -353,7 +349,7 @@ pub(crate) fn add_run(
     let _tri = tri;
     for x in run.from..run.to {
         let place = run.start + x as usize;
-        pixels[place] = add_step(stages, colors[x as usize], pixels[place]);
+        pixels[place].color = add_step(colors[x as usize], pixels[place].color);
     }
 }
 

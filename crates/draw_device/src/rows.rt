@@ -1,14 +1,16 @@
 //! Which loop a row of a triangle's pixels takes.
 ghost use Rattle.std.specs.Prelude.{◌≡◌, ◌+◌, ◌^◌, ◌≤◌, nat_lt, length, pos, ℤ, List, true, false, None};
 ghost use Rattle.rc_base.specs.Drawing.PixelStep.{textured};
+ghost use Rattle.rc_base.specs.Drawing.Texel.{wrap_in_s, wrap_in_t};
 ghost use Rattle.rc_base.specs.declared.window.WindowVertex.{WindowVertex as AnyVertex};
 ghost use Rattle.raster.specs.Colors.{IsColorPlane};
 ghost use Rattle.raster.specs.Planes.{IsFinePlane};
 ghost use Rattle.textures.specs.Images.{HasTexel, HasTexelIfAny};
+ghost use Rattle.textures.specs.Samplers.{IsSampler};
 ghost use Rattle.draw_device.specs.Loops.{run_fragment, texel_for, IsRun, IsRunCovered, IsRunDrawn, IsColorAt, IsDepthAt, IsValueAt, IsColorRun, HasDepths, AreColors};
 ghost use Rattle.draw_device.specs.Plans.{IsPlan, IsPaint};
 
-use crate::colors::{fill_colors, step_colors, texel_colors, tint_colors};
+use crate::colors::{fill_colors, repeat_colors, step_colors, texel_colors, tint_colors};
 use crate::paint::Paint;
 use crate::pixels::{
     add_run, any_run, fill_run, lay_run, over_run, step_run, store_run, sum_run, test_flat,
@@ -22,7 +24,7 @@ use rc_base::command::Rgba;
 use rc_base::state::State;
 use rc_base::triangle::WindowTriangle;
 use rc_base::window::Pixel;
-use textures::Texture;
+use textures::{Sampler, Texture};
 
 // The colours of a plane from the run's first column on.
 fn color_ramp(plane: &ColorPlane, run: Run) -> ColorRamp
@@ -145,25 +147,30 @@ fn texel_row(
     colors: &mut [Rgba],
     state: &State,
     texture: &Texture,
+    sampler: Sampler<'_>,
     tri: &WindowTriangle,
     paint: &Paint,
     run: Run,
 ) -> bool
     requires run { IsRun run }
     requires room { run.to ≤ length colors.old }
-    requires texel { HasTexel texture.now }
+    requires sampler { IsSampler texture.now (wrap_in_s state.now) (wrap_in_t state.now) sampler }
     requires covered { IsRunCovered tri.now.v run }
     requires paint { IsPaint tri.now.v (pos run.left) (pos run.bottom) paint.now }
     ensures size { length colors.new ≡ length colors.old }
     ensures done { result ≡ true → IsColorRun (λ k old. texel_for state.now texture.now (run_fragment tri.now.v run k)) run.from run.to colors.old colors.new }
 {
-    if let Some((ss, ts)) = &paint.coordinates {
-        let s = value_ramp(ss, run);
-        let t = value_ramp(ts, run);
-        texel_colors(colors, state, texture, tri, run, s, t);
-        return true;
+    let Some((ss, ts)) = &paint.coordinates else {
+        return false;
+    };
+    let s = value_ramp(ss, run);
+    let t = value_ramp(ts, run);
+    if sampler.wrap_s == 0 && sampler.wrap_t == 0 {
+        repeat_colors(colors, state, texture, sampler, tri, run, s, t);
+    } else {
+        texel_colors(colors, state, texture, sampler, tri, run, s, t);
     }
-    false
+    true
 }
 
 // The texture stage of a row's texels, or nothing.
@@ -193,6 +200,7 @@ fn pictured_colors(
     colors: &mut [Rgba],
     state: &State,
     texture: &Texture,
+    sampler: Sampler<'_>,
     tri: &WindowTriangle,
     plan: &Plan,
     paint: &Paint,
@@ -201,13 +209,14 @@ fn pictured_colors(
     requires run { IsRun run }
     requires room { run.to ≤ length colors.old }
     requires texel { HasTexel texture.now }
+    requires sampler { IsSampler texture.now (wrap_in_s state.now) (wrap_in_t state.now) sampler }
     requires covered { IsRunCovered tri.now.v run }
     requires plan { IsPlan state.now plan.now }
     requires paint { IsPaint tri.now.v (pos run.left) (pos run.bottom) paint.now }
     ensures size { length colors.new ≡ length colors.old }
     ensures done { result ≡ true → AreColors state.now texture.now tri.now.v run colors.new }
 {
-    if !texel_row(colors, state, texture, tri, paint, run) {
+    if !texel_row(colors, state, texture, sampler, tri, paint, run) {
         return false;
     }
     if plan.replaces {
@@ -276,11 +285,11 @@ fn blend_row(
         return false;
     }
     if plan.over {
-        lay_run(pixels, colors, state, texture, tri, plan.stages, run);
+        lay_run(pixels, colors, state, texture, tri, run);
         return true;
     }
     if plan.sum {
-        add_run(pixels, colors, state, texture, tri, plan.stages, run);
+        add_run(pixels, colors, state, texture, tri, run);
         return true;
     }
     false
@@ -396,7 +405,11 @@ fn textured_row(
     ensures size { length colors.new ≡ length colors.old }
     ensures drawn { IsRunDrawn state.now texture.now tri.now.v run pixels.old pixels.new }
 {
-    if pictured_colors(colors, state, texture, tri, plan, paint, run) {
+    let Some(sampler) = texture.sampler(state.tex_mode[1], state.tex_mode[2]) else {
+        plain_row(pixels, state, texture, tri, run);
+        return;
+    };
+    if pictured_colors(colors, state, texture, sampler, tri, plan, paint, run) {
         if colored_row(pixels, colors, state, texture, tri, plan, paint, run) {
             return;
         }

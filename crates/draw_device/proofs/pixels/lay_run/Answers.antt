@@ -1,4 +1,5 @@
 use Rattle.std.proofs.Common.{◌+◌, pos, arith}
+use Rattle.draw_device.specs.Pixels.{pixel_at}
 use Rattle.draw_device.specs.Shapes.{fragment_pixel}
 use Rattle.draw_device.specs.Loops.{run_fragment}
 use Rattle.draw_device.proofs.Runs.{run_next, run_end}
@@ -14,7 +15,8 @@ loop-x-preserved c =
     let order = c.requires.run.order in
     let f = run_fragment v r x in
     let inside = c.requires.covered x (omega arith) (omega arith) in
-    let e = c.lay_step.ensures c.args.state.now c.args.texture.now f c.requires.stages c.requires.kind c.requires.untested (c.requires.depths (pos (r.left + x)) (pos r.row) inside) (c.requires.colored x (omega arith) (omega arith)) in
+    let old = pixel_at c.loop-x.pixels (r.start + x) in
+    let e = c.lay_step.ensures c.args.state.now c.args.texture.now f old.depth c.requires.kind c.requires.untested (c.requires.depths (pos (r.left + x)) (pos r.row) inside) (c.requires.colored x (omega arith) (omega arith)) in
     record {
       drawn = run_next (fragment_pixel c.args.state.now c.args.texture.now v) r.left r.row r.start r.from x _ _ _ d (omega arith) (omega arith) e;
     }

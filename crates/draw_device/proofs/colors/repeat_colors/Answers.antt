@@ -1,0 +1,36 @@
+use Rattle.std.proofs.Common.{ℕ, ◌+◌, pos, arith}
+use Rattle.rc_base.specs.declared.command.Rgba.{Rgba}
+use Rattle.rc_base.specs.declared.window.WindowVertex.{WindowVertex}
+use Rattle.draw_device.specs.Loops.{run_fragment, texel_for}
+use Rattle.draw_device.proofs.Steps.{color_more, color_end, value_moved}
+use Rattle.draw_device.proofs.colors.repeat_colors.Goals as goal
+
+pub loop-x-preserved : goal.loop-x-preserved
+loop-x-preserved c =
+    let r = c.args.run in
+    let d = c.loop-x.invariant.done in
+    let s = d.size in
+    let order = c.requires.run.order in
+    record {
+      done = color_more (λ (k : ℕ) (old : Rgba). texel_for c.args.state.now c.args.texture.now (run_fragment c.args.tri.now.v c.args.run k)) r.from c.loop-x.x _ _ _ d (omega arith) (omega arith) (c.repeated_texel.ensures);
+      ss = value_moved _ (λ (c : WindowVertex). c.s) r.left c.loop-x.x r.row r.up _ (c.advance.ensures c.args.tri.now.v (pos (r.left + c.loop-x.x)) (pos r.row) _ (1 + c.loop-x.x + r.up) c.loop-x.invariant.ss);
+      ts = value_moved _ (λ (c : WindowVertex). c.t) r.left c.loop-x.x r.row r.up _ (c.advance-in-loop-x.ensures c.args.tri.now.v (pos (r.left + c.loop-x.x)) (pos r.row) _ (1 + c.loop-x.x + r.up) c.loop-x.invariant.ts);
+    }
+
+pub returns : goal.returns
+returns c =
+    let order = c.requires.run.order in
+    let e = c.loop-x.auto.x-end order in
+    color_end (λ (k : ℕ) (old : Rgba). texel_for c.args.state.now c.args.texture.now (run_fragment c.args.tri.now.v c.args.run k)) c.args.run.from _ c.args.run.to _ _ (omega arith) c.loop-x.invariant.done
+
+pub s_by-s-requires-clause-inside : goal.s_by-s-requires-clause-inside
+s_by-s-requires-clause-inside c = c.requires.covered c.loop-x.x (omega arith) (omega arith)
+
+pub s_by-s-requires-clause-few : goal.s_by-s-requires-clause-few
+s_by-s-requires-clause-few c = let few = c.requires.run.few in omega arith
+
+pub t_by-t-requires-clause-inside : goal.t_by-t-requires-clause-inside
+t_by-t-requires-clause-inside c = c.requires.covered c.loop-x.x (omega arith) (omega arith)
+
+pub t_by-t-requires-clause-few : goal.t_by-t-requires-clause-few
+t_by-t-requires-clause-few c = let few = c.requires.run.few in omega arith

@@ -1,0 +1,12 @@
+use Rattle.std.proofs.Common.{ℕ}
+use Rattle.rc_base.specs.declared.command.Rgba.{Rgba}
+use Rattle.draw_device.specs.Loops.{IsColorRun, run_fragment, texel_for, IsSAt, IsTAt}
+use Rattle.draw_device.proofs.colors.repeat_colors.Given as goal
+
+abbrev pub invariant-loop-x : goal.invariant-loop-x
+invariant-loop-x l =
+    record {
+      done : IsColorRun (λ (k : ℕ) (old : Rgba). texel_for l.state l.texture (run_fragment l.tri.v l.fn.run k)) l.fn.run.from l.x l.fn.colors l.colors;
+      ss : IsSAt l.tri.v l.fn.run l.x l.ss;
+      ts : IsTAt l.tri.v l.fn.run l.x l.ts;
+    }
