@@ -15,6 +15,7 @@ use rc_base::triangle::WindowTriangle;
 use textures::{Sampler, Texture};
 
 /// One colour.
+#[inline(never)]
 pub(crate) fn fill_colors(colors: &mut [Rgba], run: Run, color: Rgba)
     requires run { IsRun run }
     requires room { run.to ≤ length colors.old }
@@ -26,6 +27,7 @@ pub(crate) fn fill_colors(colors: &mut [Rgba], run: Run, color: Rgba)
 }
 
 /// The triangle's colours, by one addition a channel and pixel.
+#[inline(never)]
 pub(crate) fn step_colors(colors: &mut [Rgba], tri: &WindowTriangle, run: Run, first: ColorRamp)
     requires run { IsRun run }
     requires room { run.to ≤ length colors.old }
@@ -91,6 +93,7 @@ fn repeated_texel(
 }
 
 /// The texels of the triangle's fragments.
+#[inline(never)]
 pub(crate) fn texel_colors(
     colors: &mut [Rgba],
     state: &State,
@@ -121,6 +124,7 @@ pub(crate) fn texel_colors(
 }
 
 /// The same of an image that repeats along both sides.
+#[inline(never)]
 pub(crate) fn repeat_colors(
     colors: &mut [Rgba],
     state: &State,
@@ -153,6 +157,7 @@ pub(crate) fn repeat_colors(
 }
 
 /// The texture stage of texels and the triangle's colours.
+#[inline(never)]
 pub(crate) fn tint_colors(
     colors: &mut [Rgba],
     state: &State,

@@ -22,6 +22,7 @@ use rc_base::window::{Fragment, Pixel};
 use textures::Texture;
 
 /// One colour alone is stored.
+#[inline(never)]
 pub(crate) fn fill_run(
     pixels: &mut [Pixel],
     state: &State,
@@ -46,6 +47,7 @@ pub(crate) fn fill_run(
 }
 
 /// The triangle's colours alone are stored.
+#[inline(never)]
 pub(crate) fn step_run(
     pixels: &mut [Pixel],
     state: &State,
@@ -71,6 +73,7 @@ pub(crate) fn step_run(
 }
 
 /// The row's colours alone are stored.
+#[inline(never)]
 pub(crate) fn store_run(
     pixels: &mut [Pixel],
     colors: &[Rgba],
@@ -98,14 +101,21 @@ pub(crate) fn store_run(
 }
 
 #[inline(always)]
-fn test_step(stages: Stages, color: Rgba, depth: i32, old: Pixel) -> Pixel
+fn test_step(stages: Stages, color: Rgba, depth: i32, pixel: &mut Pixel)
     requires { is_depth depth ≡ true }
-    ensures { (s : AnyState) (p : Option Picture) (f : AnyFragment) → IsPrepared s stages → tests_alone s ≡ true → color ≡ fragment_color s p f → depth ≡ f.depth → result ≡ fragment_step s p f old }
+    ensures { (s : AnyState) (p : Option Picture) (f : AnyFragment) → IsPrepared s stages → tests_alone s ≡ true → color ≡ fragment_color s p f → depth ≡ f.depth → pixel.new ≡ fragment_step s p f pixel.old }
 {
-    stages.store(color, depth as u32, old)
+    let old = Pixel {
+        color: pixel.color,
+        depth: pixel.depth,
+    };
+    let new = stages.store(color, depth as u32, old);
+    pixel.color = new.color;
+    pixel.depth = new.depth;
 }
 
 /// The depth test is the one stage.
+#[inline(never)]
 pub(crate) fn test_run(
     pixels: &mut [Pixel],
     colors: &[Rgba],
@@ -133,12 +143,13 @@ pub(crate) fn test_run(
     for x in run.from..run.to {
         let place = run.start + x as usize;
         let depth = depth_by(&ramp, tri, run, x);
-        pixels[place] = test_step(stages, colors[x as usize], depth, pixels[place]);
+        test_step(stages, colors[x as usize], depth, &mut pixels[place]);
         ramp.advance();
     }
 }
 
 /// The depth test is the one stage, of one colour.
+#[inline(never)]
 pub(crate) fn test_flat(
     pixels: &mut [Pixel],
     state: &State,
@@ -163,12 +174,13 @@ pub(crate) fn test_flat(
     for x in run.from..run.to {
         let place = run.start + x as usize;
         let depth = depth_by(&ramp, tri, run, x);
-        pixels[place] = test_step(stages, color, depth, pixels[place]);
+        test_step(stages, color, depth, &mut pixels[place]);
         ramp.advance();
     }
 }
 
 /// The depth test is the one stage, of the triangle's colours.
+#[inline(never)]
 pub(crate) fn test_steps(
     pixels: &mut [Pixel],
     state: &State,
@@ -195,21 +207,28 @@ pub(crate) fn test_steps(
         let place = run.start + x as usize;
         let color = color_by(&shades, tri, run, x);
         let depth = depth_by(&ramp, tri, run, x);
-        pixels[place] = test_step(stages, color, depth, pixels[place]);
+        test_step(stages, color, depth, &mut pixels[place]);
         shades.advance();
         ramp.advance();
     }
 }
 
 #[inline(always)]
-fn over_step(stages: Stages, color: Rgba, depth: i32, old: Pixel) -> Pixel
+fn over_step(stages: Stages, color: Rgba, depth: i32, pixel: &mut Pixel)
     requires { is_depth depth ≡ true }
-    ensures { (s : AnyState) (p : Option Picture) (f : AnyFragment) → IsPrepared s stages → blends_over s ≡ true → color ≡ fragment_color s p f → depth ≡ f.depth → result ≡ fragment_step s p f old }
+    ensures { (s : AnyState) (p : Option Picture) (f : AnyFragment) → IsPrepared s stages → blends_over s ≡ true → color ≡ fragment_color s p f → depth ≡ f.depth → pixel.new ≡ fragment_step s p f pixel.old }
 {
-    stages.store_over(color, depth as u32, old)
+    let old = Pixel {
+        color: pixel.color,
+        depth: pixel.depth,
+    };
+    let new = stages.store_over(color, depth as u32, old);
+    pixel.color = new.color;
+    pixel.depth = new.depth;
 }
 
 /// Depth test, and blending by SRC_ALPHA and ONE_MINUS_SRC_ALPHA.
+#[inline(never)]
 pub(crate) fn over_run(
     pixels: &mut [Pixel],
     colors: &[Rgba],
@@ -237,7 +256,7 @@ pub(crate) fn over_run(
     for x in run.from..run.to {
         let place = run.start + x as usize;
         let depth = depth_by(&ramp, tri, run, x);
-        pixels[place] = over_step(stages, colors[x as usize], depth, pixels[place]);
+        over_step(stages, colors[x as usize], depth, &mut pixels[place]);
         ramp.advance();
     }
 }
@@ -250,6 +269,7 @@ fn lay_step(color: Rgba, old: Rgba) -> Rgba
 }
 
 /// Blending by SRC_ALPHA and ONE_MINUS_SRC_ALPHA, without a depth test.
+#[inline(never)]
 pub(crate) fn lay_run(
     pixels: &mut [Pixel],
     colors: &[Rgba],
@@ -278,14 +298,21 @@ pub(crate) fn lay_run(
 }
 
 #[inline(always)]
-fn sum_step(stages: Stages, color: Rgba, depth: i32, old: Pixel) -> Pixel
+fn sum_step(stages: Stages, color: Rgba, depth: i32, pixel: &mut Pixel)
     requires { is_depth depth ≡ true }
-    ensures { (s : AnyState) (p : Option Picture) (f : AnyFragment) → IsPrepared s stages → blends_sum s ≡ true → color ≡ fragment_color s p f → depth ≡ f.depth → result ≡ fragment_step s p f old }
+    ensures { (s : AnyState) (p : Option Picture) (f : AnyFragment) → IsPrepared s stages → blends_sum s ≡ true → color ≡ fragment_color s p f → depth ≡ f.depth → pixel.new ≡ fragment_step s p f pixel.old }
 {
-    stages.store_sum(color, depth as u32, old)
+    let old = Pixel {
+        color: pixel.color,
+        depth: pixel.depth,
+    };
+    let new = stages.store_sum(color, depth as u32, old);
+    pixel.color = new.color;
+    pixel.depth = new.depth;
 }
 
 /// Depth test, and blending by ONE and ONE.
+#[inline(never)]
 pub(crate) fn sum_run(
     pixels: &mut [Pixel],
     colors: &[Rgba],
@@ -313,7 +340,7 @@ pub(crate) fn sum_run(
     for x in run.from..run.to {
         let place = run.start + x as usize;
         let depth = depth_by(&ramp, tri, run, x);
-        pixels[place] = sum_step(stages, colors[x as usize], depth, pixels[place]);
+        sum_step(stages, colors[x as usize], depth, &mut pixels[place]);
         ramp.advance();
     }
 }
@@ -326,6 +353,7 @@ fn add_step(color: Rgba, old: Rgba) -> Rgba
 }
 
 /// Blending by ONE and ONE, without a depth test.
+#[inline(never)]
 pub(crate) fn add_run(
     pixels: &mut [Pixel],
     colors: &[Rgba],
@@ -368,6 +396,7 @@ fn any_step(state: &State, color: Rgba, depth: i32, old: Pixel) -> Pixel
 }
 
 /// Any stages.
+#[inline(never)]
 pub(crate) fn any_run(
     pixels: &mut [Pixel],
     colors: &[Rgba],
