@@ -1,6 +1,6 @@
 -- What the loops over a run of pixels take and leave.
 use Rattle.std.specs.Prelude.{◌≡◌, ℕ, ◌+◌, ◌^◌, ◌<◌, ◌≤◌, length, slice_index_or, List, Option, Some, None, ℤ, pos, true}
-use Rattle.rc_base.specs.Colors.{rgba}
+use Rattle.rc_base.specs.Colors.{rgba, prod}
 use Rattle.rc_base.specs.Pictures.{Picture}
 use Rattle.rc_base.specs.Drawing.Cover.{is_inside}
 use Rattle.rc_base.specs.Drawing.Fragment.{fragment_of}
@@ -75,6 +75,10 @@ pub record IsColorRun (step : ℕ → Rgba → Rgba) (from to : ℕ) (old new : 
 -- the colours are those of the triangle's fragments after the texture stage
 abbrev pub AreColors : State → Option Picture → List WindowVertex → Run → List Rgba → Type 0
 AreColors s picture v r colors = (k : ℕ) → r.from ≤ k → k < r.to → color_at colors k ≡ fragment_color s picture (run_fragment v r k)
+
+-- the products of two colours' channels
+abbrev pub modulated : Rgba → Rgba → Rgba
+modulated c t = rgba (prod c.r t.r) (prod c.g t.g) (prod c.b t.b) (prod c.a t.a)
 
 -- the texel of a fragment, where there is a picture
 abbrev pub texel_for : State → Option Picture → Fragment → Rgba

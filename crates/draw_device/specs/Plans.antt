@@ -10,7 +10,7 @@ use Rattle.raster.specs.Colors.{IsColorPlane, HasColor}
 use Rattle.raster.specs.Planes.{IsFinePlane}
 use Rattle.fragment_ops.specs.Prepared.{IsPrepared}
 use Rattle.fragment_ops.specs.Shortcuts.{tests_alone, blends_over, blends_sum}
-use Rattle.draw_device.specs.Loops.{StoresColor, HasDepths}
+use Rattle.draw_device.specs.Loops.{StoresColor, HasDepths, modulated}
 use Rattle.draw_device.specs.declared.plan.Plan.{Plan}
 use Rattle.draw_device.specs.declared.paint.Paint.{Paint}
 
@@ -23,6 +23,7 @@ pub record IsPlan (s : State) (p : Plan) : Type 0 where
   pub sum : p.sum ≡ true → blends_sum s ≡ true
   pub untested : p.untested ≡ true → s.depth_on ≡ false
   pub replaces : p.replaces ≡ true → (color texel : Rgba) → textured s color texel ≡ texel
+  pub modulates : p.replaces ≡ false → (color texel : Rgba) → textured s color texel ≡ modulated color texel
 
 -- what is prepared of a triangle's attributes holds, from pixel (x, y) on
 pub record IsPaint (v : List WindowVertex) (x y : ℤ) (p : Paint) : Type 0 where

@@ -2,12 +2,13 @@
 ghost use Rattle.std.specs.Prelude.{◌≡◌, ℕ, ◌≤◌, length, pos, true};
 ghost use Rattle.rc_base.specs.Drawing.PixelStep.{textured};
 ghost use Rattle.rc_base.specs.Drawing.Texel.{wrap_in_s, wrap_in_t};
+ghost use Rattle.rc_base.specs.declared.command.Rgba.{Rgba as AnyColor};
 ghost use Rattle.textures.specs.Samplers.{IsSampler};
-ghost use Rattle.draw_device.specs.Loops.{run_fragment, texel_for, IsRun, IsRunCovered, IsColorAt, IsSAt, IsTAt, IsColorRun};
+ghost use Rattle.draw_device.specs.Loops.{run_fragment, texel_for, modulated, IsRun, IsRunCovered, IsColorAt, IsSAt, IsTAt, IsColorRun};
 
 use crate::run::Run;
 use crate::stepped::{color_by, s_by, t_by};
-use fragment_ops::texture_color;
+use fragment_ops::product;
 use raster::{ColorRamp, FineRamp};
 use rc_base::command::Rgba;
 use rc_base::state::State;
@@ -156,7 +157,19 @@ pub(crate) fn repeat_colors(
     }
 }
 
-/// The texture stage of texels and the triangle's colours.
+#[inline(always)]
+fn modulate(color: Rgba, texel: Rgba) -> Rgba
+    ensures { result ≡ modulated color texel }
+{
+    Rgba {
+        r: product(color.r, texel.r),
+        g: product(color.g, texel.g),
+        b: product(color.b, texel.b),
+        a: product(color.a, texel.a),
+    }
+}
+
+/// The texture stage of texels and the triangle's colours, by MODULATE.
 #[inline(never)]
 pub(crate) fn tint_colors(
     colors: &mut [Rgba],
@@ -168,13 +181,15 @@ pub(crate) fn tint_colors(
     requires run { IsRun run }
     requires room { run.to ≤ length colors.old }
     requires covered { IsRunCovered tri.now.v run }
+    requires kind { (color texel : AnyColor) → textured state.now color texel ≡ modulated color texel }
     requires ramp { IsColorAt tri.now.v run run.from first }
     ensures { IsColorRun (λ k old. textured state.now (run_fragment tri.now.v run k).color old) run.from run.to colors.old colors.new }
 {
+    let _state = state;
     let mut ramp = first;
     for x in run.from..run.to {
         let color = color_by(&ramp, tri, run, x);
-        colors[x as usize] = texture_color(state, color, colors[x as usize]);
+        colors[x as usize] = modulate(color, colors[x as usize]);
         ramp.advance();
     }
 }

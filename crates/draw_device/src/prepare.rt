@@ -7,6 +7,7 @@ ghost use Rattle.rc_base.specs.declared.command.Rgba.{Rgba as AnyColor};
 ghost use Rattle.rc_base.specs.declared.window.WindowVertex.{WindowVertex as AnyVertex};
 ghost use Rattle.raster.specs.Colors.{IsColorPlane, HasColor};
 ghost use Rattle.raster.specs.Planes.{IsStencil, IsFinePlane};
+ghost use Rattle.draw_device.specs.Loops.{modulated};
 ghost use Rattle.draw_device.specs.Plans.{IsPlan, IsPaint};
 
 use crate::paint::Paint;
@@ -21,10 +22,11 @@ use rc_base::state::State;
 use rc_base::triangle::WindowTriangle;
 use textures::Texture;
 
-// The texture environment is REPLACE.
+// The texture environment is REPLACE, and not MODULATE.
 #[tactic(auto, unfolding(rc_base::specs::Drawing::PixelStep::textured))]
 fn replaces(state: &State) -> bool
-    ensures { result ≡ true → (color texel : AnyColor) → textured state.now color texel ≡ texel }
+    ensures replaced { result ≡ true → (color texel : AnyColor) → textured state.now color texel ≡ texel }
+    ensures modulated { result ≡ false → (color texel : AnyColor) → textured state.now color texel ≡ modulated color texel }
 {
     state.tex_mode[0] != 0
 }

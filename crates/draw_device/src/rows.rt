@@ -2,12 +2,13 @@
 ghost use Rattle.std.specs.Prelude.{◌≡◌, ◌+◌, ◌^◌, ◌≤◌, nat_lt, length, pos, ℤ, List, true, false, None};
 ghost use Rattle.rc_base.specs.Drawing.PixelStep.{textured};
 ghost use Rattle.rc_base.specs.Drawing.Texel.{wrap_in_s, wrap_in_t};
+ghost use Rattle.rc_base.specs.declared.command.Rgba.{Rgba as AnyColor};
 ghost use Rattle.rc_base.specs.declared.window.WindowVertex.{WindowVertex as AnyVertex};
 ghost use Rattle.raster.specs.Colors.{IsColorPlane};
 ghost use Rattle.raster.specs.Planes.{IsFinePlane};
 ghost use Rattle.textures.specs.Images.{HasTexel, HasTexelIfAny};
 ghost use Rattle.textures.specs.Samplers.{IsSampler};
-ghost use Rattle.draw_device.specs.Loops.{run_fragment, texel_for, IsRun, IsRunCovered, IsRunDrawn, IsColorAt, IsDepthAt, IsValueAt, IsColorRun, HasDepths, AreColors};
+ghost use Rattle.draw_device.specs.Loops.{run_fragment, texel_for, modulated, IsRun, IsRunCovered, IsRunDrawn, IsColorAt, IsDepthAt, IsValueAt, IsColorRun, HasDepths, AreColors};
 ghost use Rattle.draw_device.specs.Plans.{IsPlan, IsPaint};
 
 use crate::colors::{fill_colors, repeat_colors, step_colors, texel_colors, tint_colors};
@@ -183,6 +184,7 @@ fn tint_row(
 ) -> bool
     requires run { IsRun run }
     requires room { run.to ≤ length colors.old }
+    requires kind { (color texel : AnyColor) → textured state.now color texel ≡ modulated color texel }
     requires covered { IsRunCovered tri.now.v run }
     requires paint { IsPaint tri.now.v (pos run.left) (pos run.bottom) paint.now }
     ensures size { length colors.new ≡ length colors.old }

@@ -14,11 +14,11 @@ fn fraction(coordinate: i32) -> u32
     coordinate.rem_euclid(65_536) as u32
 }
 
-fn scaled(part: u32, side: u16) -> u32
+fn scaled(part: u32, side: u16) -> u64
     requires { part < 65536 }
     ensures { result ≡ part * side }
 {
-    part * u32::from(side)
+    u64::from(part) * u64::from(side)
 }
 
 /// The column or row of a coordinate along a side that repeats, without a division.

@@ -1,4 +1,4 @@
-use Rattle.std.proofs.Common.{ℕ, ◌+◌, ◌∙◌, pos, arith}
+use Rattle.std.proofs.Common.{ℕ, ◌+◌, ◌∙◌, pos, arith, sym}
 use Rattle.rc_base.specs.Drawing.PixelStep.{textured}
 use Rattle.rc_base.specs.declared.command.Rgba.{Rgba}
 use Rattle.draw_device.specs.Loops.{run_fragment}
@@ -13,7 +13,7 @@ loop-x-preserved c =
     let order = c.requires.run.order in
     let was = d.rest c.loop-x.x (omega arith) in
     record {
-      done = color_more (λ (k : ℕ) (old : Rgba). textured c.args.state.now (run_fragment c.args.tri.now.v c.args.run k).color old) r.from c.loop-x.x _ _ _ d (omega arith) (omega arith) (c.texture_color.ensures ∙ (λ i. textured c.args.state.now (c.color_by-color.ensures i) (was i)));
+      done = color_more (λ (k : ℕ) (old : Rgba). textured c.args.state.now (run_fragment c.args.tri.now.v c.args.run k).color old) r.from c.loop-x.x _ _ _ d (omega arith) (omega arith) (c.modulate.ensures ∙ sym (c.requires.kind _ _) ∙ (λ i. textured c.args.state.now (c.color_by-color.ensures i) (was i)));
       ramp = color_moved _ r.left c.loop-x.x r.row r.up _ (c.advance.ensures c.args.tri.now.v (pos (r.left + c.loop-x.x)) (pos r.row) (1 + c.loop-x.x + r.up) c.loop-x.invariant.ramp);
     }
 
