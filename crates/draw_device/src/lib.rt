@@ -8,6 +8,7 @@
 //! get their colours first, texels and then the texture environment. A row that no loop is made for is drawn fragment by fragment.
 #![tactic(auto)]
 
+mod blends;
 mod clip;
 mod colors;
 mod device;

@@ -214,7 +214,7 @@ pub(crate) fn test_steps(
 }
 
 #[inline(always)]
-fn over_step(stages: Stages, color: Rgba, depth: i32, pixel: &mut Pixel)
+pub(crate) fn over_step(stages: Stages, color: Rgba, depth: i32, pixel: &mut Pixel)
     requires { is_depth depth ≡ true }
     ensures { (s : AnyState) (p : Option Picture) (f : AnyFragment) → IsPrepared s stages → blends_over s ≡ true → color ≡ fragment_color s p f → depth ≡ f.depth → pixel.new ≡ fragment_step s p f pixel.old }
 {
@@ -262,7 +262,7 @@ pub(crate) fn over_run(
 }
 
 #[inline(always)]
-fn lay_step(color: Rgba, old: Rgba) -> Rgba
+pub(crate) fn lay_step(color: Rgba, old: Rgba) -> Rgba
     ensures { (s : AnyState) (p : Option Picture) (f : AnyFragment) (under : ℕ) → blends_over s ≡ true → s.depth_on ≡ false → is_depth f.depth ≡ true → color ≡ fragment_color s p f → record { color = result; depth = under } ≡ fragment_step s p f (record { color = old; depth = under }) }
 {
     blend_over(color, old)
@@ -298,7 +298,7 @@ pub(crate) fn lay_run(
 }
 
 #[inline(always)]
-fn sum_step(stages: Stages, color: Rgba, depth: i32, pixel: &mut Pixel)
+pub(crate) fn sum_step(stages: Stages, color: Rgba, depth: i32, pixel: &mut Pixel)
     requires { is_depth depth ≡ true }
     ensures { (s : AnyState) (p : Option Picture) (f : AnyFragment) → IsPrepared s stages → blends_sum s ≡ true → color ≡ fragment_color s p f → depth ≡ f.depth → pixel.new ≡ fragment_step s p f pixel.old }
 {

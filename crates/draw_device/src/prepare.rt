@@ -102,7 +102,9 @@ pub(crate) fn paint_of(plan: &Plan, tri: &WindowTriangle, left: u16, bottom: u16
     let ranged = has_depths(tri);
     let flat = flat_if(!plan.textured, tri);
     let stored = plan.stores && ranged;
-    if stored && flat.is_some() {
+    let blended = plan.untested && (plan.over || plan.sum) && ranged;
+    let shallow = stored || blended;
+    if shallow && flat.is_some() {
         return Paint {
             ranged,
             flat,
@@ -112,14 +114,12 @@ pub(crate) fn paint_of(plan: &Plan, tri: &WindowTriangle, left: u16, bottom: u16
         };
     }
     let stencil = stencil_at(tri, i32::from(left), i32::from(bottom));
-    let blended = plan.untested && (plan.over || plan.sum) && ranged;
-    let deep = !stored && !blended;
     let stepped = flat.is_none() && !(plan.textured && plan.replaces);
     Paint {
         ranged,
         flat,
         colors: colors_if(stepped, tri, &stencil),
-        depths: depths_if(deep, tri, &stencil),
+        depths: depths_if(!shallow, tri, &stencil),
         coordinates: coordinates_if(plan.textured, tri, &stencil),
     }
 }

@@ -11,6 +11,7 @@ ghost use Rattle.textures.specs.Samplers.{IsSampler};
 ghost use Rattle.draw_device.specs.Loops.{run_fragment, texel_for, modulated, IsRun, IsRunCovered, IsRunDrawn, IsColorAt, IsDepthAt, IsValueAt, IsColorRun, HasDepths, AreColors};
 ghost use Rattle.draw_device.specs.Plans.{IsPlan, IsPaint};
 
+use crate::blends::{lay_flat, over_flat, over_steps, sum_steps};
 use crate::colors::{fill_colors, repeat_colors, step_colors, texel_colors, tint_colors};
 use crate::paint::Paint;
 use crate::pixels::{
@@ -114,6 +115,113 @@ fn test_row(
         return true;
     }
     false
+}
+
+// Of a triangle of one colour that is blended without a depth test: its row, or nothing.
+fn lay_row(
+    pixels: &mut [Pixel],
+    state: &State,
+    tri: &WindowTriangle,
+    plan: &Plan,
+    paint: &Paint,
+    run: Run,
+) -> bool
+    requires run { IsRun run }
+    requires room { run.start + run.to ≤ length pixels.old }
+    requires covered { IsRunCovered tri.now.v run }
+    requires plan { IsPlan state.now plan.now }
+    requires paint { IsPaint tri.now.v (pos run.left) (pos run.bottom) paint.now }
+    ensures drawn { result ≡ true → IsRunDrawn state.now None tri.now.v run pixels.old pixels.new }
+    ensures kept { result ≡ false → pixels.new ≡ pixels.old }
+{
+    if !plan.untested {
+        return false;
+    }
+    if !paint.ranged {
+        return false;
+    }
+    if !plan.over {
+        return false;
+    }
+    let Some(color) = paint.flat else {
+        return false;
+    };
+    lay_flat(pixels, state, tri, run, color);
+    true
+}
+
+// Of a triangle without a texture whose stages are the depth test and blending by SRC_ALPHA and ONE_MINUS_SRC_ALPHA: its row, or nothing.
+fn over_row(
+    pixels: &mut [Pixel],
+    state: &State,
+    tri: &WindowTriangle,
+    plan: &Plan,
+    paint: &Paint,
+    run: Run,
+) -> bool
+    requires run { IsRun run }
+    requires room { run.start + run.to ≤ length pixels.old }
+    requires covered { IsRunCovered tri.now.v run }
+    requires plan { IsPlan state.now plan.now }
+    requires paint { IsPaint tri.now.v (pos run.left) (pos run.bottom) paint.now }
+    ensures drawn { result ≡ true → IsRunDrawn state.now None tri.now.v run pixels.old pixels.new }
+    ensures kept { result ≡ false → pixels.new ≡ pixels.old }
+{
+    if !plan.over {
+        return false;
+    }
+    if !paint.ranged {
+        return false;
+    }
+    let Some(depths) = &paint.depths else {
+        return false;
+    };
+    let ramp = value_ramp(depths, run);
+    if let Some(color) = paint.flat {
+        over_flat(pixels, state, tri, plan.stages, run, color, ramp);
+        return true;
+    }
+    if let Some(plane) = &paint.colors {
+        let shades = color_ramp(plane, run);
+        over_steps(pixels, state, tri, plan.stages, run, shades, ramp);
+        return true;
+    }
+    false
+}
+
+// The same with blending by ONE and ONE, of stepped colours.
+fn sum_row(
+    pixels: &mut [Pixel],
+    state: &State,
+    tri: &WindowTriangle,
+    plan: &Plan,
+    paint: &Paint,
+    run: Run,
+) -> bool
+    requires run { IsRun run }
+    requires room { run.start + run.to ≤ length pixels.old }
+    requires covered { IsRunCovered tri.now.v run }
+    requires plan { IsPlan state.now plan.now }
+    requires paint { IsPaint tri.now.v (pos run.left) (pos run.bottom) paint.now }
+    ensures drawn { result ≡ true → IsRunDrawn state.now None tri.now.v run pixels.old pixels.new }
+    ensures kept { result ≡ false → pixels.new ≡ pixels.old }
+{
+    if !plan.sum {
+        return false;
+    }
+    if !paint.ranged {
+        return false;
+    }
+    let Some(depths) = &paint.depths else {
+        return false;
+    };
+    let Some(plane) = &paint.colors else {
+        return false;
+    };
+    let ramp = value_ramp(depths, run);
+    let shades = color_ramp(plane, run);
+    sum_steps(pixels, state, tri, plan.stages, run, shades, ramp);
+    true
 }
 
 // The colours of a row's fragments without a texture, or nothing.
@@ -375,6 +483,15 @@ fn untextured_row(
         return;
     }
     if test_row(pixels, state, tri, plan, paint, run) {
+        return;
+    }
+    if lay_row(pixels, state, tri, plan, paint, run) {
+        return;
+    }
+    if over_row(pixels, state, tri, plan, paint, run) {
+        return;
+    }
+    if sum_row(pixels, state, tri, plan, paint, run) {
         return;
     }
     if plain_colors(colors, state, tri, paint, run) {
