@@ -1,17 +1,17 @@
-//! Loops over the pixels of a run that blend a triangle's one colour or its stepped colours as they come, without a row of colours.
+//! Loops over the pixels of a run that blend a triangle's one colour, without a row of colours.
 ghost use Rattle.std.specs.Prelude.{◌≡◌, ◌+◌, ◌≤◌, length, true, false, None, ℤ};
 ghost use Rattle.rc_base.specs.Drawing.Cover.{is_inside};
 ghost use Rattle.rc_base.specs.Drawing.Fragment.{fragment_of};
 ghost use Rattle.raster.specs.Colors.{HasColor};
 ghost use Rattle.fragment_ops.specs.Prepared.{IsPrepared};
-ghost use Rattle.fragment_ops.specs.Shortcuts.{blends_over, blends_sum};
-ghost use Rattle.draw_device.specs.Loops.{IsRun, IsRunCovered, IsRunDrawn, IsColorAt, IsDepthAt, HasDepths};
+ghost use Rattle.fragment_ops.specs.Shortcuts.{blends_over};
+ghost use Rattle.draw_device.specs.Loops.{IsRun, IsRunCovered, IsRunDrawn, IsDepthAt, HasDepths};
 
-use crate::pixels::{lay_step, over_step, sum_step};
+use crate::pixels::{lay_step, over_step};
 use crate::run::Run;
-use crate::stepped::{color_by, depth_by};
+use crate::stepped::depth_by;
 use fragment_ops::Stages;
-use raster::{ColorRamp, FineRamp};
+use raster::FineRamp;
 use rc_base::command::Rgba;
 use rc_base::state::State;
 use rc_base::triangle::WindowTriangle;
@@ -44,74 +44,6 @@ pub(crate) fn over_flat(
         let place = run.start + x as usize;
         let depth = depth_by(&ramp, tri, run, x);
         over_step(stages, color, depth, &mut pixels[place]);
-        ramp.advance();
-    }
-}
-
-/// Depth test, and blending by SRC_ALPHA and ONE_MINUS_SRC_ALPHA, of the triangle's colours.
-#[inline(never)]
-pub(crate) fn over_steps(
-    pixels: &mut [Pixel],
-    state: &State,
-    tri: &WindowTriangle,
-    stages: Stages,
-    run: Run,
-    first_color: ColorRamp,
-    first: FineRamp,
-)
-    requires run { IsRun run }
-    requires room { run.start + run.to ≤ length pixels.old }
-    requires shades { IsColorAt tri.now.v run run.from first_color }
-    requires covered { IsRunCovered tri.now.v run }
-    requires depths { HasDepths tri.now.v }
-    requires kind { blends_over state.now ≡ true }
-    requires stages { IsPrepared state.now stages }
-    requires ramp { IsDepthAt tri.now.v run run.from first }
-    ensures { IsRunDrawn state.now None tri.now.v run pixels.old pixels.new }
-{
-    let _state = state;
-    let mut shades = first_color;
-    let mut ramp = first;
-    for x in run.from..run.to {
-        let place = run.start + x as usize;
-        let color = color_by(&shades, tri, run, x);
-        let depth = depth_by(&ramp, tri, run, x);
-        over_step(stages, color, depth, &mut pixels[place]);
-        shades.advance();
-        ramp.advance();
-    }
-}
-
-/// Depth test, and blending by ONE and ONE, of the triangle's colours.
-#[inline(never)]
-pub(crate) fn sum_steps(
-    pixels: &mut [Pixel],
-    state: &State,
-    tri: &WindowTriangle,
-    stages: Stages,
-    run: Run,
-    first_color: ColorRamp,
-    first: FineRamp,
-)
-    requires run { IsRun run }
-    requires room { run.start + run.to ≤ length pixels.old }
-    requires shades { IsColorAt tri.now.v run run.from first_color }
-    requires covered { IsRunCovered tri.now.v run }
-    requires depths { HasDepths tri.now.v }
-    requires kind { blends_sum state.now ≡ true }
-    requires stages { IsPrepared state.now stages }
-    requires ramp { IsDepthAt tri.now.v run run.from first }
-    ensures { IsRunDrawn state.now None tri.now.v run pixels.old pixels.new }
-{
-    let _state = state;
-    let mut shades = first_color;
-    let mut ramp = first;
-    for x in run.from..run.to {
-        let place = run.start + x as usize;
-        let color = color_by(&shades, tri, run, x);
-        let depth = depth_by(&ramp, tri, run, x);
-        sum_step(stages, color, depth, &mut pixels[place]);
-        shades.advance();
         ramp.advance();
     }
 }

@@ -298,7 +298,7 @@ pub(crate) fn lay_run(
 }
 
 #[inline(always)]
-pub(crate) fn sum_step(stages: Stages, color: Rgba, depth: i32, pixel: &mut Pixel)
+fn sum_step(stages: Stages, color: Rgba, depth: i32, pixel: &mut Pixel)
     requires { is_depth depth ≡ true }
     ensures { (s : AnyState) (p : Option Picture) (f : AnyFragment) → IsPrepared s stages → blends_sum s ≡ true → color ≡ fragment_color s p f → depth ≡ f.depth → pixel.new ≡ fragment_step s p f pixel.old }
 {

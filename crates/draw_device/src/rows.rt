@@ -11,7 +11,7 @@ ghost use Rattle.textures.specs.Samplers.{IsSampler};
 ghost use Rattle.draw_device.specs.Loops.{run_fragment, texel_for, modulated, IsRun, IsRunCovered, IsRunDrawn, IsColorAt, IsDepthAt, IsValueAt, IsColorRun, HasDepths, AreColors};
 ghost use Rattle.draw_device.specs.Plans.{IsPlan, IsPaint};
 
-use crate::blends::{lay_flat, over_flat, over_steps, sum_steps};
+use crate::blends::{lay_flat, over_flat};
 use crate::colors::{fill_colors, repeat_colors, step_colors, texel_colors, tint_colors};
 use crate::paint::Paint;
 use crate::pixels::{
@@ -150,7 +150,7 @@ fn lay_row(
     true
 }
 
-// Of a triangle without a texture whose stages are the depth test and blending by SRC_ALPHA and ONE_MINUS_SRC_ALPHA: its row, or nothing.
+// Of a triangle of one colour that takes the depth test and is blended: its row, or nothing.
 fn over_row(
     pixels: &mut [Pixel],
     state: &State,
@@ -173,54 +173,21 @@ fn over_row(
     if !paint.ranged {
         return false;
     }
+    let Some(color) = paint.flat else {
+        return false;
+    };
     let Some(depths) = &paint.depths else {
         return false;
     };
-    let ramp = value_ramp(depths, run);
-    if let Some(color) = paint.flat {
-        over_flat(pixels, state, tri, plan.stages, run, color, ramp);
-        return true;
-    }
-    if let Some(plane) = &paint.colors {
-        let shades = color_ramp(plane, run);
-        over_steps(pixels, state, tri, plan.stages, run, shades, ramp);
-        return true;
-    }
-    false
-}
-
-// The same with blending by ONE and ONE, of stepped colours.
-fn sum_row(
-    pixels: &mut [Pixel],
-    state: &State,
-    tri: &WindowTriangle,
-    plan: &Plan,
-    paint: &Paint,
-    run: Run,
-) -> bool
-    requires run { IsRun run }
-    requires room { run.start + run.to ≤ length pixels.old }
-    requires covered { IsRunCovered tri.now.v run }
-    requires plan { IsPlan state.now plan.now }
-    requires paint { IsPaint tri.now.v (pos run.left) (pos run.bottom) paint.now }
-    ensures drawn { result ≡ true → IsRunDrawn state.now None tri.now.v run pixels.old pixels.new }
-    ensures kept { result ≡ false → pixels.new ≡ pixels.old }
-{
-    if !plan.sum {
-        return false;
-    }
-    if !paint.ranged {
-        return false;
-    }
-    let Some(depths) = &paint.depths else {
-        return false;
-    };
-    let Some(plane) = &paint.colors else {
-        return false;
-    };
-    let ramp = value_ramp(depths, run);
-    let shades = color_ramp(plane, run);
-    sum_steps(pixels, state, tri, plan.stages, run, shades, ramp);
+    over_flat(
+        pixels,
+        state,
+        tri,
+        plan.stages,
+        run,
+        color,
+        value_ramp(depths, run),
+    );
     true
 }
 
@@ -489,9 +456,6 @@ fn untextured_row(
         return;
     }
     if over_row(pixels, state, tri, plan, paint, run) {
-        return;
-    }
-    if sum_row(pixels, state, tri, plan, paint, run) {
         return;
     }
     if plain_colors(colors, state, tri, paint, run) {

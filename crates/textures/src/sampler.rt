@@ -38,10 +38,10 @@ fn byte_index(w: u16, h: u16, column: u16, row: u16) -> usize
 #[derive(Clone, Copy)]
 pub struct Sampler<'a> {
     pub w: u16,
-    pub h: u16,
-    pub texels: &'a [u8],
     pub wrap_s: u8,
+    pub h: u16,
     pub wrap_t: u8,
+    pub texels: &'a [u8],
     pub ghost whole: { length texels.now ≡ 4 * (w * h) },
     pub ghost width: { 0 < w },
     pub ghost height: { 0 < h },

@@ -31,10 +31,10 @@ fn sampler_of(image: &Image, wrap_s: u8, wrap_t: u8) -> Option<Sampler<'_>>
     }
     Some(Sampler {
         w: image.w,
-        h: image.h,
-        texels: image.texels.as_slice(),
         wrap_s,
+        h: image.h,
         wrap_t,
+        texels: image.texels.as_slice(),
     })
 }
 
