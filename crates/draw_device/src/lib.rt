@@ -4,8 +4,9 @@
 //! the whole window for a serial renderer and a tile's part of it for a tile.
 //!
 //! A row of a triangle takes the loop of its state: colours stored alone (one colour, or stepped), the depth test alone (the same, or by a row
-//! of colours), blending by one of two pairs of factors with the depth test or without, or any stages. Textured rows, and those that blend,
-//! get their colours first, texels and then the texture environment. A row that no loop is made for is drawn fragment by fragment.
+//! of colours), blending by one of two pairs of factors with the depth test or without (one colour, or by a row of colours), or any stages.
+//! Textured rows get their colours first, texels by a sampler and then, where the environment is MODULATE, their products with the triangle's.
+//! A row that no loop is made for is drawn fragment by fragment.
 #![tactic(auto)]
 
 mod blends;

@@ -1,5 +1,5 @@
 //! Many texels of one image.
-ghost use Rattle.std.specs.Prelude.{◌≡◌, ◌+◌, ◌*◌, ◌<◌, ◌≤◌, ◌==◌, ◌&&◌, Some, length, take, drop};
+ghost use Rattle.std.specs.Prelude.{◌≡◌, ◌+◌, ◌*◌, ◌<◌, ◌≤◌, Some, length, take, drop};
 ghost use Rattle.rc_base.specs.Colors.{color_of};
 ghost use Rattle.rc_base.specs.Drawing.Texel.{texel_of};
 ghost use Rattle.textures.specs.Images.{IsNearestTexel, picture};
@@ -48,13 +48,6 @@ pub struct Sampler<'a> {
 }
 
 impl<'a> Sampler<'a> {
-    /// Whether the image repeats along both sides.
-    pub fn repeats(&self) -> bool
-        ensures { result ≡ (self.now.wrap_s == 0 && self.now.wrap_t == 0) }
-    {
-        self.wrap_s == 0 && self.wrap_t == 0
-    }
-
     /// The texel that is nearest to a texture coordinate in 16.16 fixed point.
     #[inline(always)]
     #[tactic(auto, unfolding(rc_base::specs::Drawing::Texel::texel_of))]
