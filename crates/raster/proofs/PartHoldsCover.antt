@@ -24,6 +24,11 @@ rows_above_empty v rect part from y h skipped e j k l =
     by_lt_z j y (λ m. skipped j k m)
     (λ m x a b. false_from_ne_true (is_inside v x j) (λ t. let high = h.high x j l t in absurd (omega (arith, ints))))
 
+-- without columns there is nothing
+pub no_columns : (v : List WindowVertex) (rect part : Rect) (from : ℤ) → HoldsCover v rect part → part.x1 ≤ℤ part.x0 → AreEmptyRows v rect from rect.y1
+no_columns v rect part from h e j k l x m n =
+    false_from_ne_true (is_inside v x j) (λ t. let c = h.columns x j m n t in let a = c.0 in let b = c.1 in absurd (omega (arith, ints)))
+
 pub empty_part : (v : List WindowVertex) (rect part : Rect) (y : ℤ) → HoldsCover v rect part → IsEmptyRow v y part.x0 part.x1 → IsEmptyRow v y rect.x0 rect.x1
 empty_part v rect part y h e x k l =
     false_from_ne_true (is_inside v x y) (λ t. let c = h.columns x y k l t in let f = e x c.0 c.1 in absurd (cc))

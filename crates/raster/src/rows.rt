@@ -1,5 +1,5 @@
 //! The covered pixels of a rectangle, a span a row.
-ghost use Rattle.std.specs.Prelude.{◌≡◌, MatchOption};
+ghost use Rattle.std.specs.Prelude.{◌≡◌, ◌≤ℤ◌, MatchOption};
 ghost use Rattle.raster.specs.Spans.{IsEmptyRow, IsRowSpan, AreEmptyRows, IsNextSpan, GivesSpan};
 ghost use Rattle.raster.specs.Clamped.{HoldsCover};
 ghost use Rattle.std.specs.Iterator.{at_most};
@@ -12,13 +12,11 @@ use rc_base::window::{Rect, Span};
 
 // The covered pixels of a row from `x0` to below `x1`.
 fn row_span(tri: &WindowTriangle, y: i32, x0: i32, x1: i32) -> Option<Span>
+    requires { x0 ≤ℤ x1 }
     ensures { MatchOption result
         (IsEmptyRow tri.now.v y x0 x1)
         (λ s. IsRowSpan tri.now.v y x0 x1 s) }
 {
-    if x1 <= x0 {
-        return None;
-    }
     let first = kept_columns(&tri.v[0], &tri.v[1], y, Columns { x0, x1 });
     let second = kept_columns(&tri.v[1], &tri.v[2], y, first);
     let third = kept_columns(&tri.v[2], &tri.v[0], y, second);
@@ -34,7 +32,8 @@ fn row_span(tri: &WindowTriangle, y: i32, x0: i32, x1: i32) -> Option<Span>
 
 // The covered pixels of a row of the rectangle, which all stand in its part.
 fn span_in(tri: &WindowTriangle, rect: Rect, part: Rect, y: i32) -> Option<Span>
-    requires { HoldsCover tri.now.v rect part }
+    requires part { HoldsCover tri.now.v rect part }
+    requires order { part.x0 ≤ℤ part.x1 }
     ensures { MatchOption result
         (IsEmptyRow tri.now.v y rect.x0 rect.x1)
         (λ s. IsRowSpan tri.now.v y rect.x0 rect.x1 s) }
@@ -49,6 +48,9 @@ fn next_span(tri: &WindowTriangle, rect: Rect, part: Rect, from: i32) -> Option<
         (AreEmptyRows tri.now.v rect from rect.y1)
         (λ s. IsNextSpan tri.now.v rect from s) }
 {
+    if part.x1 <= part.x0 {
+        return None;
+    }
     let mut y = from.max(part.y0);
     'rows: while y < part.y1 {
         match span_in(tri, rect, part, y) {
@@ -65,6 +67,8 @@ pub struct SpanIter<'a> {
     pub tri: &'a WindowTriangle,
     pub rect: Rect,
     pub y: i32,
+    part: Rect,
+    ghost cover: { HoldsCover tri.now.v rect part },
 }
 
 impl Iterator for SpanIter<'_> {
@@ -76,12 +80,7 @@ impl Iterator for SpanIter<'_> {
 
     fn next(&mut self) -> Option<Span> {
         let _last = self.rect.y1;
-        let span = next_span(
-            self.tri,
-            self.rect,
-            covering_part(self.tri, self.rect),
-            self.y,
-        )?;
+        let span = next_span(self.tri, self.rect, self.part, self.y)?;
         self.y = span.y + 1;
         Some(span)
     }
@@ -98,5 +97,6 @@ pub fn spans(tri: &WindowTriangle, rect: Rect) -> SpanIter<'_>
         tri,
         rect,
         y: rect.y0,
+        part: covering_part(tri, rect),
     }
 }

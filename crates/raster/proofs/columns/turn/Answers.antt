@@ -1,7 +1,7 @@
 use Rattle.std.proofs.Common.{◌≡◌, rules, arith, to_z, of_z, to_z-of_z, w32, w64, FitsSigned}
 use Rattle.std.proofs.lemmas.Int.{ints}
 use Rattle.rc_base.specs.Numbers.{floor_quotient}
-use Rattle.raster.proofs.KeptColumns.{no_turn, turn_is}
+use Rattle.raster.proofs.KeptColumns.{no_turn, turn_at_end, turn_is}
 use Rattle.raster.proofs.columns.turn.Goals as goal
 
 pub returns-then-most-lt0 : goal.returns-then-most-lt0
@@ -15,3 +15,9 @@ returns c =
     let q : to_z w64 (of_z w64 c.short_floor.result) ≡ floor_quotient c.args.most c.args.step = grind (arith, to_z-of_z) in
     rw (to_z-of_z f) (turn_is c.args.most c.args.step c.args.c.x0 c.args.c.x1 c.clipped.result c.requires.step c.clipped.ensures.low c.clipped.ensures.high
     (rw q at c.clipped.ensures.inner) (rw q at c.clipped.ensures.outer))
+
+pub returns-then-reach-most : goal.returns-then-reach-most
+returns-then-reach-most c =
+    let f : FitsSigned w32 c.args.c.x1 = search rules in
+    let e = rw (to_z-of_z c.ranges.step) at c.reach.ensures in
+    rw (to_z-of_z f) (turn_at_end c.args.most c.args.step c.args.c.x0 c.args.c.x1 c.requires.step c.requires.order (omega (arith, ints, e)))
