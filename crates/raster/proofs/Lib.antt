@@ -5,6 +5,7 @@ mod CoverInBounds
 mod PartHoldsCover
 mod Fragments
 mod KeptColumns
+mod KeptRows
 mod Near
 mod FineNear
 mod Affine

@@ -1,5 +1,5 @@
 -- Rows one after the other, up to one that has a span.
-use Rattle.std.proofs.Common.{◌≡◌, ℤ, pos, ◌+ℤ◌, ◌≤ℤ◌, ◌<ℤ◌, false, arith, int_lt, int_le, List, sym, subst, ◌&&◌}
+use Rattle.std.proofs.Common.{◌≡◌, ℤ, pos, ◌+ℤ◌, ◌≤ℤ◌, ◌<ℤ◌, true, false, arith, int_lt, int_le, List, sym, subst, ◌&&◌}
 use Rattle.std.proofs.lemmas.Int.{ints, by_lt_z}
 use Rattle.raster.specs.Spans.{IsEmptyRow, IsRowSpan, AreEmptyRows, IsNextSpan}
 use Rattle.rc_base.specs.declared.window.WindowVertex.{WindowVertex}
@@ -11,6 +11,9 @@ between_low a b x h = grind (arith, ints)
 
 pub between_high : (a b x : ℤ) → b ≤ℤ x → (int_le a x && int_lt x b) ≡ false
 between_high a b x h = grind (arith, ints)
+
+pub between_in : (a b x : ℤ) → a ≤ℤ x → x <ℤ b → (int_le a x && int_lt x b) ≡ true
+between_in a b x h k = grind (arith, ints)
 
 -- the span of row y, where the rows before it are empty
 pub next_span_is : (v : List WindowVertex) (rect : Rect) (from y : ℤ) (s : Span) → from ≤ℤ y → y <ℤ rect.y1 → AreEmptyRows v rect from y → IsRowSpan v y rect.x0 rect.x1 s → IsNextSpan v rect from s

@@ -6,6 +6,7 @@
 
 mod bounds;
 mod color;
+mod column;
 mod columns;
 mod cover;
 mod edges;

@@ -1,12 +1,12 @@
 //! The covered pixels of a rectangle, a span a row.
-ghost use Rattle.std.specs.Prelude.{◌≡◌, ◌≤ℤ◌, MatchOption};
+ghost use Rattle.std.specs.Prelude.{◌≡◌, true, ◌≤ℤ◌, ◌<ℤ◌, MatchOption};
 ghost use Rattle.raster.specs.Spans.{IsEmptyRow, IsRowSpan, AreEmptyRows, IsNextSpan, GivesSpan};
-ghost use Rattle.raster.specs.Clamped.{HoldsCover};
+ghost use Rattle.raster.specs.Clamped.{HoldsCover, IsFull};
 ghost use Rattle.std.specs.Iterator.{at_most};
 ghost use Rattle.std.specs.Int.{int_gap};
 
-use crate::bounds::covering_part;
-use crate::columns::{Columns, kept_columns};
+use crate::column::{Cut, cut_of};
+use crate::columns::{Places, kept_columns};
 use rc_base::triangle::WindowTriangle;
 use rc_base::window::{Rect, Span};
 
@@ -17,7 +17,7 @@ fn row_span(tri: &WindowTriangle, y: i32, x0: i32, x1: i32) -> Option<Span>
         (IsEmptyRow tri.now.v y x0 x1)
         (λ s. IsRowSpan tri.now.v y x0 x1 s) }
 {
-    let first = kept_columns(&tri.v[0], &tri.v[1], y, Columns { x0, x1 });
+    let first = kept_columns(&tri.v[0], &tri.v[1], y, Places { x0, x1 });
     let second = kept_columns(&tri.v[1], &tri.v[2], y, first);
     let third = kept_columns(&tri.v[2], &tri.v[0], y, second);
     if third.x1 <= third.x0 {
@@ -30,30 +30,69 @@ fn row_span(tri: &WindowTriangle, y: i32, x0: i32, x1: i32) -> Option<Span>
     })
 }
 
+// The whole row of a part that is covered.
+fn full_span(tri: &WindowTriangle, part: Rect, y: i32) -> Option<Span>
+    requires full { IsFull tri.now.v part }
+    requires some { part.x0 <ℤ part.x1 }
+    requires low { part.y0 ≤ℤ y }
+    requires high { y <ℤ part.y1 }
+    ensures { MatchOption result
+        (IsEmptyRow tri.now.v y part.x0 part.x1)
+        (λ s. IsRowSpan tri.now.v y part.x0 part.x1 s) }
+{
+    let _triangle = tri;
+    Some(Span {
+        y,
+        x0: part.x0,
+        x1: part.x1,
+    })
+}
+
+// The covered pixels of a row of the part.
+fn span_of(tri: &WindowTriangle, cut: Cut, y: i32) -> Option<Span>
+    requires full { cut.is_full ≡ true → IsFull tri.now.v cut.part }
+    requires some { cut.part.x0 <ℤ cut.part.x1 }
+    requires low { cut.part.y0 ≤ℤ y }
+    requires high { y <ℤ cut.part.y1 }
+    ensures { MatchOption result
+        (IsEmptyRow tri.now.v y cut.part.x0 cut.part.x1)
+        (λ s. IsRowSpan tri.now.v y cut.part.x0 cut.part.x1 s) }
+{
+    if cut.is_full {
+        return full_span(tri, cut.part, y);
+    }
+    row_span(tri, y, cut.part.x0, cut.part.x1)
+}
+
 // The covered pixels of a row of the rectangle, which all stand in its part.
-fn span_in(tri: &WindowTriangle, rect: Rect, part: Rect, y: i32) -> Option<Span>
-    requires part { HoldsCover tri.now.v rect part }
-    requires order { part.x0 ≤ℤ part.x1 }
+fn span_in(tri: &WindowTriangle, rect: Rect, cut: Cut, y: i32) -> Option<Span>
+    requires part { HoldsCover tri.now.v rect cut.part }
+    requires full { cut.is_full ≡ true → IsFull tri.now.v cut.part }
+    requires some { cut.part.x0 <ℤ cut.part.x1 }
+    requires low { cut.part.y0 ≤ℤ y }
+    requires high { y <ℤ cut.part.y1 }
     ensures { MatchOption result
         (IsEmptyRow tri.now.v y rect.x0 rect.x1)
         (λ s. IsRowSpan tri.now.v y rect.x0 rect.x1 s) }
 {
-    row_span(tri, y, part.x0, part.x1)
+    let _columns = (rect.x0, rect.x1);
+    span_of(tri, cut, y)
 }
 
 // The span of the first row from `from` on that has a covered pixel.
-fn next_span(tri: &WindowTriangle, rect: Rect, part: Rect, from: i32) -> Option<Span>
-    requires { HoldsCover tri.now.v rect part }
+fn next_span(tri: &WindowTriangle, rect: Rect, cut: Cut, from: i32) -> Option<Span>
+    requires part { HoldsCover tri.now.v rect cut.part }
+    requires full { cut.is_full ≡ true → IsFull tri.now.v cut.part }
     ensures { MatchOption result
         (AreEmptyRows tri.now.v rect from rect.y1)
         (λ s. IsNextSpan tri.now.v rect from s) }
 {
-    if part.x1 <= part.x0 {
+    if cut.part.x1 <= cut.part.x0 {
         return None;
     }
-    let mut y = from.max(part.y0);
-    'rows: while y < part.y1 {
-        match span_in(tri, rect, part, y) {
+    let mut y = from.max(cut.part.y0);
+    'rows: while y < cut.part.y1 {
+        match span_in(tri, rect, cut, y) {
             Some(span) => return Some(span),
             None => y += 1,
         }
@@ -67,8 +106,9 @@ pub struct SpanIter<'a> {
     pub tri: &'a WindowTriangle,
     pub rect: Rect,
     pub y: i32,
-    part: Rect,
-    ghost cover: { HoldsCover tri.now.v rect part },
+    cut: Cut,
+    ghost cover: { HoldsCover tri.now.v rect cut.part },
+    ghost full: { cut.is_full ≡ true → IsFull tri.now.v cut.part },
 }
 
 impl Iterator for SpanIter<'_> {
@@ -80,7 +120,7 @@ impl Iterator for SpanIter<'_> {
 
     fn next(&mut self) -> Option<Span> {
         let _last = self.rect.y1;
-        let span = next_span(self.tri, self.rect, self.part, self.y)?;
+        let span = next_span(self.tri, self.rect, self.cut, self.y)?;
         self.y = span.y + 1;
         Some(span)
     }
@@ -97,6 +137,6 @@ pub fn spans(tri: &WindowTriangle, rect: Rect) -> SpanIter<'_>
         tri,
         rect,
         y: rect.y0,
-        part: covering_part(tri, rect),
+        cut: cut_of(tri, rect),
     }
 }

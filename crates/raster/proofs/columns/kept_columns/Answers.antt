@@ -41,3 +41,9 @@ returns c =
     let f : FitsSigned w32 c.args.c.x0 = search rules in
     let n = kept_none a b c.args.y c.args.c c.requires.order h (rw (e, c.keeps.ensures) at (sym c.passes_edge.ensures ∙ c.if-passes_edge.false)) in
     rw (to_z-of_z f) n
+
+pub rising-requires-clause-e : goal.rising-requires-clause-e
+rising-requires-clause-e c = let s = c.edge-e.ensures.small in let p = s.0 in let q = s.1 in (omega (arith, ints), omega (arith, ints))
+
+pub falling-requires-clause-e : goal.falling-requires-clause-e
+falling-requires-clause-e c = let s = c.edge-e.ensures.small in let p = s.0 in let q = s.1 in (omega (arith, ints), omega (arith, ints))
