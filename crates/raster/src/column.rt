@@ -7,7 +7,7 @@ ghost use Rattle.raster.specs.Columns.{AreKeptRows, strict_value};
 ghost use Rattle.raster.specs.Clamped.{HoldsCover, IsFull};
 
 use crate::bounds::covering_part;
-use crate::columns::{Places, falling, minus_1, negated, rising};
+use crate::columns::{Places, falling, minus_1, rising};
 use crate::cover::{keeps, passes_edge};
 use fixed_math::{centre_of, delta, edge};
 use rc_base::triangle::WindowTriangle;
@@ -62,7 +62,6 @@ fn column_of(tri: &WindowTriangle, rect: Rect, part: Rect) -> Cut
     ensures part { HoldsCover tri.now.v rect result.part }
     ensures full { IsFull tri.now.v result.part }
 {
-    let _rows = (rect.x0, rect.x1);
     let all = Places {
         x0: part.y0,
         x1: part.y1,

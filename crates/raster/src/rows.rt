@@ -40,7 +40,6 @@ fn full_span(tri: &WindowTriangle, part: Rect, y: i32) -> Option<Span>
         (IsEmptyRow tri.now.v y part.x0 part.x1)
         (λ s. IsRowSpan tri.now.v y part.x0 part.x1 s) }
 {
-    let _triangle = tri;
     Some(Span {
         y,
         x0: part.x0,
@@ -75,7 +74,6 @@ fn span_in(tri: &WindowTriangle, rect: Rect, cut: Cut, y: i32) -> Option<Span>
         (IsEmptyRow tri.now.v y rect.x0 rect.x1)
         (λ s. IsRowSpan tri.now.v y rect.x0 rect.x1 s) }
 {
-    let _columns = (rect.x0, rect.x1);
     span_of(tri, cut, y)
 }
 
