@@ -1,0 +1,39 @@
+-- Lanes that a step found empty, by the lanes that were asked.
+use Rattle.std.proofs.Common.{◌≡◌, ℕ, ◌<◌, Bool, true, List, length, ◌⊎◌, inl, inr, sym, ◌∙◌, subst, slice_index_or}
+use Rattle.rc_base.specs.Cluster.Lanes.{EachLane, IsAsked, IsEarlier}
+use Rattle.rc_base.specs.declared.state.Parcel.{Parcel}
+use Rattle.order_model.specs.Standing.{Progress}
+use Rattle.tile_server.specs.Cores.{clients_of, is_short, next_of, IsProgressOf}
+use Rattle.tile_server.specs.Deeds.{asks, IsFoundEmpty}
+use Rattle.tile_server.specs.Tasks.{asks_in, IsTaking}
+use Rattle.tile_server.specs.declared.deed.TileDeed.{TileDeed}
+use Rattle.tile_server.specs.declared.deed.TileDeed.TheVariants.{Rests, Finishes}
+use Rattle.tile_server.specs.declared.tile_core.TileCore.{TileCore}
+use Rattle.tile_server.proofs.TileSteps.{asks_is}
+
+module _ {I : Type 0} (R : I → I → Type 0) (before after : List I) (core : TileCore) (p : Progress) (h : IsProgressOf core p)
+    (lanes : length before ≡ clients_of core)
+    (asked : List Bool) (wanted : (i : ℕ) → i < clients_of core → slice_index_or asked i true ≡ asks_in core i) where
+  is_asked : (i : ℕ) → i < length before → asks (is_short core) p i ≡ true → IsAsked asked i
+  is_asked i lt t = wanted i (subst (λ n. i < n) lanes lt) ∙ asks_is core p h i ∙ t
+
+  -- a parcel of a client was taken
+  pub passed : (deed : TileDeed) (client : ℕ) (parcel : Parcel) → IsTaking deed client parcel
+      → EachLane (λ i a b. IsEarlier (next_of core) client i → IsAsked asked i → R a b) before after
+      → EachLane (λ i a b. IsFoundEmpty (is_short core) p (next_of core) deed i → R a b) before after
+  passed deed client parcel taking e = record {
+    count = e.count;
+    at = λ i x lt found. let f = taking.found (is_short core) p (next_of core) i found in e.at i x lt f.0 (is_asked i lt f.1);
+  }
+
+  -- no client has a parcel
+  pub bare : (deed : TileDeed) → (deed ≡ Rests) ⊎ (deed ≡ Finishes) → EachLane (λ i a b. IsAsked asked i → R a b) before after
+      → EachLane (λ i a b. IsFoundEmpty (is_short core) p (next_of core) deed i → R a b) before after
+  bare deed (inl is) e = subst (λ d. EachLane (λ i a b. IsFoundEmpty (is_short core) p (next_of core) d i → R a b) before after) (sym is) record {
+    count = e.count;
+    at = λ i x lt t. e.at i x lt (is_asked i lt t);
+  }
+  bare deed (inr is) e = subst (λ d. EachLane (λ i a b. IsFoundEmpty (is_short core) p (next_of core) d i → R a b) before after) (sym is) record {
+    count = e.count;
+    at = λ i x lt t. e.at i x lt (is_asked i lt t);
+  }

@@ -1,0 +1,9 @@
+mod MadeSets
+mod TileRects
+mod DrawnParcels
+mod NewCanvases
+mod LedgersGoOn
+mod FramesGoOn
+mod TileSteps
+mod FoundLanes
+mod CoresStand

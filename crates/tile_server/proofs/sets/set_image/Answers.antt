@@ -1,0 +1,30 @@
+use Rattle.std.proofs.Common.{◌≡◌, ◌-◌, Some, sym, subst, true}
+use Rattle.std.proofs.lemmas.Result.{on_ok_weaker}
+use Rattle.rc_base.specs.declared.state.ElementValue.{ElementValue}
+use Rattle.textures.specs.Images.{picture}
+use Rattle.tile_model.specs.Givable.{is_value_of}
+use Rattle.tile_server.specs.Kepts.{HasImage}
+use Rattle.tile_server.proofs.MadeSets.{image_set, no_image_set, same_count}
+use Rattle.tile_server.proofs.sets.set_image.Goals as goal
+
+pub returns-in-Image-clause-ok : goal.returns-in-Image-clause-ok
+returns-in-Image-clause-ok c =
+    let i = c.in-Image in
+    let element = c.args.element in
+    let is : is_value_of c.requires.value.decl element c.args.value.now ≡ true = c.requires.value.is in
+    on_ok_weaker c.set.result
+    (λ made. subst (λ (v : ElementValue). HasImage element v c.args.images.now c.set.new.self) (sym i.is)
+    (image_set c.requires.value.decl element i.edit i.w i.h i.texels c.args.images.now c.set.new.self
+    (subst (λ (v : ElementValue). is_value_of c.requires.value.decl element v ≡ true) i.is is) c.requires.count made))
+    c.set.ensures.ok
+
+pub returns-in-Image-clause-count : goal.returns-in-Image-clause-count
+returns-in-Image-clause-count c =
+    same_count c.set.result c.args.images.now c.set.new.self (c.args.element - 21) (Some (picture c.in-Image.w c.in-Image.h c.in-Image.texels)) c.requires.count c.set.ensures.ok c.set.ensures.err
+
+pub returns-in_default : goal.returns-in_default
+returns-in_default c = record {
+  count = c.requires.count;
+  ok = no_image_set c.requires.value.decl c.args.element c.args.value.now c.args.images.now c.requires.value.is c.in_default.not-Image;
+  err = tt;
+}

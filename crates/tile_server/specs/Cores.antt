@@ -1,0 +1,98 @@
+-- What a tile's core stands for, and what a step makes of it.
+use Rattle.std.specs.Prelude.{◌≡◌, ℕ, ◌+◌, ◌<◌, ◌^◌, Bool, true, false, cond, List, MatchOption}
+use Rattle.rc_base.specs.Cluster.Lanes.{EachLane}
+use Rattle.rc_base.specs.Outside.Causes.{Rose}
+use Rattle.rc_base.specs.declared.scene.Decl.{Decl}
+use Rattle.rc_base.specs.declared.state.Parcel.{Parcel}
+use Rattle.rc_base.specs.declared.sync.Grant.{Grant}
+use Rattle.rc_base.specs.declared.window.Layout.{Layout}
+use Rattle.order_model.specs.Board.{Board}
+use Rattle.order_model.specs.Standing.{Progress}
+use Rattle.tile_model.specs.Boards.{IsDrawn}
+use Rattle.tile_model.specs.Items.{shown_frames}
+use Rattle.tile_server.specs.Boards.{board_in, IsPartOf}
+use Rattle.tile_server.specs.Deeds.{item_of, is_loss, next_after, progress_after, IsNextDeed, IsFoundEmpty, IsUnheard, granted_of, taken_of}
+use Rattle.tile_server.specs.Ledgers.{IsLedgerOf}
+use Rattle.tile_server.specs.declared.deed.TileDeed.{TileDeed}
+use Rattle.tile_server.specs.declared.deed.TileDeed.TheVariants.{Shows}
+use Rattle.tile_server.specs.declared.tile_core.TileCore.{TileCore}
+
+-- the declaration of the scenes that it is for
+abbrev pub decl_of : TileCore → Decl
+decl_of core = core.canvas.decl
+
+abbrev pub layout_of : TileCore → Layout
+layout_of core = core.canvas.layout
+
+-- its tile's number
+abbrev pub tile_of : TileCore → ℕ
+tile_of core = core.canvas.tile
+
+-- how many clients it has
+abbrev pub clients_of : TileCore → ℕ
+clients_of core = core.ledger.clients
+
+-- what it keeps for drawing
+abbrev pub board_of : TileCore → Board
+board_of core = board_in core.canvas
+
+-- the client with which its rotation goes on
+abbrev pub next_of : TileCore → ℕ
+next_of core = core.next
+
+-- memory has lacked
+abbrev pub is_short : TileCore → Bool
+is_short core = core.short
+
+-- The core stands for how far the tile is. It numbers frames as long as their number has 32 bits.
+pub record IsProgressOf (core : TileCore) (p : Progress) : Type 0 where
+  pub ledger : IsLedgerOf core.short core.ledger p
+  pub frames : core.short ≡ false → shown_frames p < 2 ^ 32 → core.frames ≡ shown_frames p
+
+-- ---- a step
+
+-- it is of the same tile of the same cluster
+pub record IsSameCore (core later : TileCore) : Type 0 where
+  pub decl : decl_of later ≡ decl_of core
+  pub clients : clients_of later ≡ clients_of core
+  pub layout : layout_of later ≡ layout_of core
+  pub tile : tile_of later ≡ tile_of core
+
+-- the part that is shown has the board's pixels, and the number of its frame: one more than so many frames
+abbrev pub IsShown : Layout → ℕ → Progress → Board → TileDeed → Type 0
+IsShown l tile p b deed =
+    (part : _) → deed ≡ Shows part → shown_frames p + 1 < 2 ^ 32 → IsPartOf l tile (shown_frames p + 1) b part
+
+-- A step does this: the first case that applies. Then the core stands for how far the tile was and this, and its board is what the item makes of it.
+pub record IsTileStep (core : TileCore) (deed : TileDeed) (later : TileCore) : Type 0 where
+  pub same : IsSameCore core later
+  pub short : is_short later ≡ cond (is_loss deed) true (is_short core)
+  pub ample : is_loss deed ≡ true → is_short core ≡ false
+  pub rotation : next_of later ≡ next_after (next_of core) deed
+  pub first : (p : Progress) → IsProgressOf core p → IsNextDeed (is_short core) p deed
+  pub after : (p : Progress) → IsProgressOf core p → IsProgressOf later (progress_after (is_short later) p deed)
+  pub drawn : (p : Progress) → IsProgressOf core p → is_short later ≡ false
+      → IsDrawn (decl_of core) (layout_of core) (tile_of core) p (item_of deed) (board_of core) (board_of later)
+  pub shown : (p : Progress) → IsProgressOf core p → IsShown (layout_of core) (tile_of core) p (board_of core) deed
+
+module _ {I : Type 0} (gave : I → Parcel → I → Type 0) (same : I → I → Type 0) where
+  -- each client's lane gave what was taken of it, and no other lane gave anything
+  abbrev pub AreTaken : TileDeed → List I → List I → Type 0
+  AreTaken deed before after = EachLane (λ i a b. MatchOption (taken_of deed i) (same a b) (λ parcel. gave a parcel b)) before after
+
+module _ {I : Type 0} (empty_seen : I → ℕ) (bare : I → Type 0) where
+  -- each lane that the step found empty counted that
+  abbrev pub AreFoundEmpty : TileCore → TileDeed → List I → List I → Type 0
+  AreFoundEmpty core deed before after = (p : Progress) → IsProgressOf core p
+      → EachLane (λ i a b. IsFoundEmpty (is_short core) p (next_of core) deed i → Rose (empty_seen a) (empty_seen b) × bare b) before after
+
+module _ {J : Type 0} (gave : J → Grant → J → Type 0) (same : J → J → Type 0) where
+  -- the lane of grants gave what was taken of it
+  abbrev pub IsHeard : TileDeed → J → J → Type 0
+  IsHeard deed before after = MatchOption (granted_of deed) (same before after) (λ g. gave before g after)
+
+module _ {J : Type 0} (empty_seen : J → ℕ) (bare : J → Type 0) where
+  -- where the step found the lane of grants empty, that is counted
+  abbrev pub IsCountedUnheard : TileCore → TileDeed → J → J → Type 0
+  IsCountedUnheard core deed before after = (p : Progress) → IsProgressOf core p
+      → IsUnheard (is_short core) p deed → Rose (empty_seen before) (empty_seen after) × bare after

@@ -1,0 +1,78 @@
+//! What a new canvas is made of.
+ghost use Rattle.std.specs.Prelude.{◌≡◌, ◌<◌, ℕ, ℤ, true, pos, IfOk};
+ghost use Rattle.rc_base.specs.Cluster.Tiles.{is_in_rect, tile_count, tile_pixels};
+ghost use Rattle.rc_base.specs.Contexts.Context.{default_state};
+ghost use Rattle.rc_base.specs.Drawing.Serial.{blank_pixel};
+ghost use Rattle.draw_device.specs.Devices.{pixel_of};
+ghost use Rattle.tile_server.specs.Works.{AreNew, IsRectOf, LiesInWindow};
+
+use crate::kept::KeptClient;
+use bounds_bucket::tile_rect;
+use draw_device::Device;
+use gl_context::Context;
+use rc_base::out_of_memory::OutOfMemory;
+use rc_base::scene::{Counts, Decl, Sizes, Units};
+use rc_base::state::State;
+use rc_base::window::{Layout, Rect};
+use std::alloc::Global;
+use textures::PrivateSet;
+
+/// A copy of a declaration.
+pub(crate) fn decl_copy(alloc: Global, decl: &Decl) -> Result<Decl, OutOfMemory>
+    ensures { IfOk result (λ d. d ≡ decl.now) }
+{
+    Ok(Decl {
+        version: decl.version,
+        width: decl.width,
+        height: decl.height,
+        shared: Sizes::from_slice(alloc, decl.shared.as_slice())?,
+        barriers: Counts::from_slice(alloc, decl.barriers.as_slice())?,
+        semaphores: Units::from_slice(alloc, decl.semaphores.as_slice())?,
+    })
+}
+
+// The scalar elements before the first command, which are those of a new context.
+#[tactic(auto, unfolding(rc_base::specs::Contexts::Context::default_context))]
+fn default_state(alloc: Global, decl: &Decl) -> Result<State, OutOfMemory>
+    ensures { IfOk result (λ s. s ≡ default_state decl.now) }
+{
+    let context = Context::new(alloc, decl)?;
+    Ok(*context.state())
+}
+
+/// What is kept of clients that sent nothing yet.
+pub(crate) fn new_clients(
+    alloc: Global,
+    decl: &Decl,
+    count: u8,
+) -> Result<Vec<KeptClient>, OutOfMemory>
+    ensures { IfOk result (λ v. AreNew decl.now count v.items) }
+{
+    let state = default_state(alloc, decl)?;
+    let mut clients = Vec::new(alloc);
+    for _ in 0..count {
+        clients.push(KeptClient {
+            state,
+            images: PrivateSet::new(alloc)?,
+        })?;
+    }
+    Ok(clients)
+}
+
+// The blank pixels of a rectangle of a window of these sides.
+fn device_in(alloc: Global, width: u16, height: u16, rect: Rect) -> Result<Device, OutOfMemory>
+    requires { LiesInWindow width height rect }
+    ensures rect { IfOk result (λ d. d.rect ≡ rect) }
+    ensures blank { IfOk result (λ d. (x y : ℤ) → is_in_rect rect x y ≡ true → pixel_of d x y ≡ blank_pixel) }
+{
+    Device::new(alloc, rect)
+}
+
+/// The blank pixels of a tile.
+pub(crate) fn blank_device(alloc: Global, layout: &Layout, tile: u8) -> Result<Device, OutOfMemory>
+    requires { tile < tile_count layout.now }
+    ensures rect { IfOk result (λ d. IsRectOf layout.now tile d.rect) }
+    ensures blank { IfOk result (λ d. (x y : ℕ) → tile_pixels layout.now tile x y ≡ true → pixel_of d (pos x) (pos y) ≡ blank_pixel) }
+{
+    device_in(alloc, layout.width, layout.height, tile_rect(layout, tile))
+}

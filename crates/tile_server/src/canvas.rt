@@ -1,0 +1,100 @@
+//! A tile's pixels, and what it keeps to draw them.
+ghost use Rattle.textures.specs.Stores.{HasTexels};
+ghost use Rattle.tile_server.specs.Kepts.{AreFit};
+ghost use Rattle.tile_server.specs.Works.{IsRectOf, texels_in};
+
+use crate::blank::{blank_device, decl_copy, new_clients};
+use crate::givable::is_givable;
+use crate::kept::KeptClient;
+use crate::work::work;
+use draw_device::Device;
+use rc_base::cluster::TilePart;
+use rc_base::out_of_memory::OutOfMemory;
+use rc_base::scene::Decl;
+use rc_base::state::Parcel;
+use rc_base::window::Layout;
+use std::alloc::Global;
+use textures::SharedSet;
+use textures::laws::sets_have_stored_texels;
+
+/// The pixels of one tile, what the tile keeps of each client, and the shared textures.
+#[derive(Drop)]
+pub struct Canvas {
+    alloc: Global,
+    decl: Decl,
+    layout: Layout,
+    tile: u8,
+    kept: Vec<KeptClient>,
+    shared: SharedSet,
+    device: Device,
+    ghost place: { IsRectOf layout tile device.rect },
+    ghost whole: { HasTexels decl.shared (texels_in shared) shared },
+    ghost fit: { AreFit decl kept.items },
+}
+
+impl Canvas {
+    ghost use Rattle.std.specs.Prelude.{◌≡◌, ◌<◌, true, false, IfOk, OnOk};
+    ghost use Rattle.rc_base.specs.Cluster.Tiles.{tile_count};
+    ghost use Rattle.tile_model.specs.Acts.{is_work};
+    ghost use Rattle.tile_model.specs.Boards.{IsCarriedOut, IsNewBoard};
+    ghost use Rattle.tile_model.specs.Givable.{is_givable};
+    ghost use Rattle.tile_server.specs.Boards.{board_in, canvas_clients, IsPartOf, IsSameTile};
+
+    /// The canvas of a tile that was sent nothing yet.
+    pub fn new(
+        alloc: Global,
+        decl: &Decl,
+        clients: u8,
+        layout: &Layout,
+        tile: u8,
+    ) -> Result<Canvas, OutOfMemory>
+        requires { tile < tile_count layout.now }
+        ensures decl { IfOk result (λ c. c.decl ≡ decl.now) }
+        ensures clients { IfOk result (λ c. canvas_clients c ≡ clients) }
+        ensures layout { IfOk result (λ c. c.layout ≡ layout.now) }
+        ensures tile { IfOk result (λ c. c.tile ≡ tile) }
+        ensures blank { IfOk result (λ c. IsNewBoard decl.now layout.now tile (board_in c)) }
+    {
+        sets_have_stored_texels();
+        Ok(Canvas {
+            alloc,
+            decl: decl_copy(alloc, decl)?,
+            layout: *layout,
+            tile,
+            kept: new_clients(alloc, decl, clients)?,
+            shared: SharedSet::new(alloc, &decl.shared)?,
+            device: blank_device(alloc, layout, tile)?,
+        })
+    }
+
+    /// Makes the parcel's sets in what is kept of its client, and with that draws, clears or writes a shared texture. A parcel that no scene can
+    /// give changes nothing.
+    pub fn carry_out(&mut self, client: u8, parcel: &Parcel) -> Result<(), OutOfMemory>
+        requires client { client < canvas_clients self.old }
+        requires work { is_work parcel.now.act ≡ true }
+        ensures same { IsSameTile self.old self.new }
+        ensures done { OnOk result (is_givable self.old.decl parcel.now ≡ true → IsCarriedOut self.old.decl self.old.layout client self.old.tile parcel.now (board_in self.old) (board_in self.new)) }
+        ensures ignored { OnOk result (is_givable self.old.decl parcel.now ≡ false → board_in self.new ≡ board_in self.old) }
+    {
+        sets_have_stored_texels();
+        if !is_givable(&self.decl, parcel) {
+            return Ok(());
+        }
+        let client = usize::from(client);
+        self.kept[client].apply_all(parcel.sets.as_slice())?;
+        work(
+            &self.kept[client],
+            &parcel.act,
+            &mut self.device,
+            &mut self.shared,
+        );
+        Ok(())
+    }
+
+    /// A copy of the pixels, as the tile's part of a frame.
+    pub fn part(&self, frame: u32) -> Result<TilePart, OutOfMemory>
+        ensures { IfOk result (IsPartOf self.now.layout self.now.tile frame (board_in self.now)) }
+    {
+        self.device.part(self.alloc, self.tile, frame)
+    }
+}

@@ -1,0 +1,39 @@
+//! Laws of tiles' cores. Each function's contract is a law; there is nothing to compute.
+ghost use Rattle.order_model.specs.Gathering.{GatheringIsLawful};
+ghost use Rattle.tile_server.specs.Laws.{FinishedCoresAreDone, NewCoresStand, ShownPartsAreFrames, StepsKeepStanding};
+
+use order_model::laws as order_laws;
+use tile_model::laws::{new_tiles_stand, steps_stand, swaps_show_frames};
+
+/// A new core stands for every scene of its declaration and its number of clients, and for every journal.
+pub fn new_cores_stand()
+    ensures { NewCoresStand }
+{
+    new_tiles_stand();
+}
+
+/// A core that stands for a scene and a legal journal stands for them after each step in which memory doesn't lack and whose item is theirs.
+pub fn steps_keep_standing()
+    ensures { StepsKeepStanding }
+{
+    steps_stand();
+}
+
+/// What a core shows at a Swap is its part of that frame, in the order that its log records, whatever the log goes on with.
+pub fn shown_parts_are_frames()
+    ensures { ShownPartsAreFrames }
+{
+    swaps_show_frames();
+}
+
+/// A core that stands for a scene and a journal, has learnt all of the journal and finds nothing left to do is done.
+pub fn finished_cores_are_done()
+    ensures { FinishedCoresAreDone }
+{}
+
+/// Where a legal book is over, and each tile is under way for its journal and done, the journal and the tiles' logs make a lawful record.
+pub fn gathering_is_lawful()
+    ensures { GatheringIsLawful }
+{
+    order_laws::gathering_is_lawful();
+}

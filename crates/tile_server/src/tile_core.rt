@@ -1,0 +1,479 @@
+//! A tile's core: its steps.
+ghost use Rattle.std.specs.Prelude.{◌≡◌, ◌≤◌};
+ghost use Rattle.tile_server.specs.Boards.{canvas_clients};
+ghost use Rattle.tile_server.specs.Deeds.{is_end, is_wait};
+
+use crate::canvas::Canvas;
+use crate::deed::{TileDeed, answer};
+use crate::ledger::Ledger;
+use order_model::record::Log;
+use rc_base::cluster::{TileMoved, TilePart};
+use rc_base::lane::Inlet;
+use rc_base::out_of_memory::OutOfMemory;
+use rc_base::rotation::take_in_rotation;
+use rc_base::scene::Decl;
+use rc_base::state::{Act, Parcel};
+use rc_base::sync::{Entry, Grant};
+use rc_base::window::Layout;
+use std::alloc::Global;
+
+/// One tile of a cluster.
+#[derive(Drop)]
+pub struct TileCore {
+    ledger: Ledger,
+    canvas: Canvas,
+    next: u8,
+    frames: u32,
+    short: bool,
+    ghost few: { ledger.clients ≤ 8 },
+    ghost clients: { canvas_clients canvas ≡ ledger.clients },
+    ghost turn: { next ≤ ledger.clients },
+}
+
+impl TileCore {
+    ghost use Rattle.std.specs.Prelude.{◌≡◌, ◌≢◌, ◌⊎◌, ◌≤◌, ◌<◌, ℕ, true, false, None, length, slice_index_or, IfOk, OnOk, OnErr, IfSome, IfNone, IsTrue};
+    ghost use Rattle.rc_base.specs.Cluster.Lanes.{EachLane};
+    ghost use Rattle.rc_base.specs.Cluster.Tiles.{tile_count};
+    ghost use Rattle.order_model.specs.Standing.{Progress, new_progress};
+    ghost use Rattle.tile_model.specs.Acts.{is_work};
+    ghost use Rattle.tile_model.specs.Boards.{IsNewBoard};
+    ghost use Rattle.rc_base.specs.declared.sync.Entry.{Entry};
+    ghost use Rattle.rc_base.specs.declared.sync.Entry.TheVariants.{Swap};
+    ghost use Rattle.rc_base.specs.declared.sync.Grant.TheVariants as grant;
+    ghost use Rattle.tile_server.specs.Boards.{IsPartOf};
+    ghost use Rattle.tile_server.specs.Deeds.{answer_of, granted_of, is_end, is_wait};
+    ghost use Rattle.tile_server.specs.Ledgers.{held_in, IsSameLedger};
+    ghost use Rattle.tile_server.specs.Tasks.{asks_in, listens_in, next_frame, IsAlike, IsDueIn, IsFinishedIn, IsFreeIn, IsTaking, IsWorked, LeavesClients, LeavesGrants, MayTakeIn, NothingIsDueIn};
+    ghost use Rattle.tile_server.specs.declared.deed.TileDeed.TheVariants as deed;
+    ghost use Rattle.tile_server.specs.Cores.{board_of, clients_of, decl_of, is_short, layout_of, next_of, tile_of, IsProgressOf, IsSameCore, IsTileStep, AreTaken, AreFoundEmpty, IsHeard, IsCountedUnheard};
+    ghost use Rattle.tile_server.specs.declared.deed.TileDeed.{TileDeed};
+
+    /// The core of a tile that was sent nothing yet.
+    pub fn new(
+        alloc: Global,
+        decl: &Decl,
+        clients: u8,
+        layout: &Layout,
+        tile: u8,
+    ) -> Result<TileCore, OutOfMemory>
+        requires clients { clients ≤ 8 }
+        requires tile { tile < tile_count layout.now }
+        ensures decl { IfOk result (λ core. decl_of core ≡ decl.now) }
+        ensures clients { IfOk result (λ core. clients_of core ≡ clients) }
+        ensures layout { IfOk result (λ core. layout_of core ≡ layout.now) }
+        ensures tile { IfOk result (λ core. tile_of core ≡ tile) }
+        ensures rotation { IfOk result (λ core. next_of core ≡ 0) }
+        ensures ample { IfOk result (λ core. is_short core ≡ false) }
+        ensures progress { IfOk result (λ core. IsProgressOf core (new_progress clients)) }
+        ensures board { IfOk result (λ core. IsNewBoard decl.now layout.now tile (board_of core)) }
+    {
+        let canvas = Canvas::new(alloc, decl, clients, layout, tile)?;
+        Ok(TileCore {
+            ledger: Ledger::new(alloc, clients),
+            canvas,
+            next: 0,
+            frames: 0,
+            short: false,
+        })
+    }
+
+    /// The log, handed out.
+    pub fn into_log(self) -> Log
+        ensures { (p : Progress) → IsProgressOf self p → is_short self ≡ false → result ≡ p.log }
+    {
+        let TileCore { ledger, .. } = self;
+        ledger.into_log()
+    }
+
+    /// Whether memory has lacked in a step.
+    pub fn is_short(&self) -> bool
+        ensures { result ≡ is_short self.now }
+    {
+        self.short
+    }
+
+    // ---- what is next
+
+    /// The entry that is to be performed.
+    fn due(&self) -> Option<Entry>
+        ensures some { IfSome result (λ e. IsDueIn self.now e) }
+        ensures none { IfNone result (NothingIsDueIn self.now) }
+    {
+        if self.short {
+            return None;
+        }
+        self.ledger.due()
+    }
+
+    /// Whether grants are taken.
+    fn listens(&self) -> bool
+        ensures { result ≡ listens_in self.now }
+    {
+        if self.short {
+            return !self.ledger.saw_no_more();
+        }
+        self.ledger.is_listening()
+    }
+
+    /// Whether parcels of the client are taken.
+    fn asks(&self, client: u8) -> bool
+        requires { client < clients_of self.now }
+        ensures { result ≡ asks_in self.now client }
+    {
+        if self.short {
+            return !self.ledger.is_closed(client);
+        }
+        !self.ledger.is_closed(client) && (!self.ledger.is_held(client) || self.ledger.is_over())
+    }
+
+    /// The clients that parcels are taken of.
+    fn asked(&self) -> [bool; 8]
+        ensures { (client : ℕ) → client < clients_of self.now → slice_index_or result client true ≡ asks_in self.now client }
+    {
+        let mut asks = [false; 8];
+        for client in 0..self.ledger.clients() {
+            asks[client as usize] = self.asks(client);
+        }
+        asks
+    }
+
+    /// Whether nothing is left to do.
+    fn is_finished(&self) -> bool
+        ensures yes { IsTrue result → IsFinishedIn self.now }
+        ensures no { result ≡ false → IsFinishedIn self.now → ⊥ }
+    {
+        if !self.ledger.saw_no_more() {
+            return false;
+        }
+        if !self.short && !self.ledger.is_over() {
+            return false;
+        }
+        self.ledger.all_closed()
+    }
+
+    // ---- entries
+
+    /// The entry is performed.
+    fn perform_entry(&mut self, entry: Entry) -> TileDeed
+        requires due { IsDueIn self.old entry }
+        requires unshown { entry ≢ Swap }
+        ensures step { IsTileStep self.old result self.new }
+        ensures clients { LeavesClients result }
+        ensures grants { LeavesGrants result }
+    {
+        match self.ledger.perform(entry) {
+            Ok(()) => TileDeed::Performs(entry),
+            Err(OutOfMemory) => {
+                self.short = true;
+                TileDeed::Fails
+            }
+        }
+    }
+
+    /// A Swap is performed, which shows the part.
+    fn show_part(&mut self, part: TilePart) -> TileDeed
+        requires due { IsDueIn self.old Swap }
+        requires part { IsPartOf (layout_of self.old) (tile_of self.old) (next_frame self.old) (board_of self.old) part }
+        ensures step { IsTileStep self.old result self.new }
+        ensures clients { LeavesClients result }
+        ensures grants { LeavesGrants result }
+    {
+        match self.ledger.perform(Entry::Swap) {
+            Ok(()) => {
+                self.frames = self.frames.saturating_add(1);
+                TileDeed::Shows(part)
+            }
+            Err(OutOfMemory) => {
+                self.short = true;
+                TileDeed::Fails
+            }
+        }
+    }
+
+    /// A Swap is performed.
+    fn show(&mut self) -> TileDeed
+        requires { IsDueIn self.old Swap }
+        ensures step { IsTileStep self.old result self.new }
+        ensures clients { LeavesClients result }
+        ensures grants { LeavesGrants result }
+    {
+        match self.canvas.part(self.frames.saturating_add(1)) {
+            Ok(part) => self.show_part(part),
+            Err(OutOfMemory) => {
+                self.short = true;
+                TileDeed::Fails
+            }
+        }
+    }
+
+    fn perform(&mut self, entry: Entry) -> TileDeed
+        requires { IsDueIn self.old entry }
+        ensures step { IsTileStep self.old result self.new }
+        ensures clients { LeavesClients result }
+        ensures grants { LeavesGrants result }
+    {
+        match entry {
+            Entry::Swap => self.show(),
+            _ => self.perform_entry(entry),
+        }
+    }
+
+    // ---- grants
+
+    /// An entry is learnt; a short tile drops it.
+    fn learn_entry(&mut self, entry: Entry)
+        requires undue { NothingIsDueIn self.old }
+        requires listens { listens_in self.old ≡ true }
+        ensures { IsTileStep self.old (deed.Learns (grant.Entry entry)) self.new }
+    {
+        if !self.short {
+            self.ledger.learn(entry);
+        }
+    }
+
+    /// No more is granted.
+    fn learn_no_more(&mut self)
+        requires undue { NothingIsDueIn self.old }
+        requires listens { listens_in self.old ≡ true }
+        ensures { IsTileStep self.old (deed.Learns grant.NoMore) self.new }
+    {
+        self.ledger.learn_no_more();
+    }
+
+    fn learn(&mut self, grant: Grant)
+        requires undue { NothingIsDueIn self.old }
+        requires listens { listens_in self.old ≡ true }
+        ensures { IsTileStep self.old (deed.Learns grant) self.new }
+    {
+        match grant {
+            Grant::Entry(entry) => self.learn_entry(entry),
+            Grant::NoMore => self.learn_no_more(),
+        }
+    }
+
+    // ---- parcels
+
+    /// The work is carried out and logged.
+    fn work(&mut self, client: u8, parcel: &Parcel) -> Result<(), OutOfMemory>
+        requires client { client < clients_of self.old }
+        requires work { is_work parcel.now.act ≡ true }
+        ensures alike { IsAlike self.old self.new }
+        ensures worked { OnOk result (IsWorked self.old client parcel.now self.new) }
+        ensures ledger { OnErr result (IsSameLedger self.old.ledger self.new.ledger) }
+    {
+        self.canvas.carry_out(client, parcel)?;
+        self.ledger.log_work(client, parcel.place)
+    }
+
+    /// Work of the client is carried out, or lost where memory lacks.
+    fn take_work(&mut self, client: u8, parcel: Parcel) -> TileDeed
+        requires free { IsFreeIn self.old client }
+        requires work { is_work parcel.act ≡ true }
+        ensures step { IsTileStep self.old result self.new }
+        ensures taken { IsTaking result client parcel }
+    {
+        match self.work(client, &parcel) {
+            Ok(()) => {
+                self.next = client + 1;
+                TileDeed::Works { client, parcel }
+            }
+            Err(OutOfMemory) => {
+                self.short = true;
+                self.next = client + 1;
+                TileDeed::Loses { client, parcel }
+            }
+        }
+    }
+
+    /// The client is held at its operation.
+    fn hold(&mut self, client: u8, parcel: Parcel) -> TileDeed
+        requires free { IsFreeIn self.old client }
+        requires wait { is_wait parcel.act ≡ true }
+        ensures step { IsTileStep self.old result self.new }
+        ensures taken { IsTaking result client parcel }
+    {
+        self.ledger.hold(client);
+        self.next = client + 1;
+        TileDeed::Holds { client, parcel }
+    }
+
+    /// The client is closed.
+    fn close(&mut self, client: u8, parcel: Parcel) -> TileDeed
+        requires take { MayTakeIn self.old client }
+        requires end { is_end parcel.act ≡ true }
+        ensures step { IsTileStep self.old result self.new }
+        ensures taken { IsTaking result client parcel }
+    {
+        self.ledger.close(client);
+        self.next = client + 1;
+        TileDeed::Closes { client, parcel }
+    }
+
+    /// The parcel is dropped.
+    fn drop_parcel(&mut self, client: u8, parcel: Parcel) -> TileDeed
+        requires take { MayTakeIn self.old client }
+        requires dropped { (is_short self.old ≡ true) ⊎ (held_in self.old.ledger client ≡ true) }
+        requires more { is_end parcel.act ≡ false }
+        ensures step { IsTileStep self.old result self.new }
+        ensures taken { IsTaking result client parcel }
+    {
+        self.next = client + 1;
+        TileDeed::Drops { client, parcel }
+    }
+
+    /// A parcel of the client was taken.
+    fn receive(&mut self, client: u8, parcel: Parcel) -> TileDeed
+        requires { MayTakeIn self.old client }
+        ensures step { IsTileStep self.old result self.new }
+        ensures taken { IsTaking result client parcel }
+    {
+        if is_end(&parcel.act) {
+            return self.close(client, parcel);
+        }
+        if self.short {
+            return self.drop_parcel(client, parcel);
+        }
+        if self.ledger.is_held(client) {
+            return self.drop_parcel(client, parcel);
+        }
+        if is_wait(&parcel.act) {
+            return self.hold(client, parcel);
+        }
+        self.take_work(client, parcel)
+    }
+
+    /// No client has a parcel in its lane.
+    fn rest(&self) -> TileDeed
+        requires { NothingIsDueIn self.now }
+        ensures step { IsTileStep self.now result self.now }
+        ensures deed { (result ≡ deed.Rests) ⊎ (result ≡ deed.Finishes) }
+    {
+        if self.is_finished() {
+            TileDeed::Finishes
+        } else {
+            TileDeed::Rests
+        }
+    }
+
+    // ---- a step
+
+    /// Takes a parcel.
+    fn take<I: Inlet<Parcel>>(&mut self, clients: &mut [I]) -> TileDeed
+        requires lanes { length clients.old ≡ clients_of self.old }
+        requires undue { NothingIsDueIn self.old }
+        ensures step { IsTileStep self.old result self.new }
+        ensures lanes { EachLane (λ i a b. I.lane_of b ≡ I.lane_of a) clients.old clients.new }
+        ensures taken { AreTaken I.gave I.same result clients.old clients.new }
+        ensures empty { AreFoundEmpty I.empty_seen I.bare self.old result clients.old clients.new }
+        ensures grants { granted_of result ≡ None }
+    {
+        let asks = self.asked();
+        match take_in_rotation(clients, &asks, self.next as usize) {
+            Some((client, parcel)) => self.receive(client as u8, parcel),
+            None => self.rest(),
+        }
+    }
+
+    /// Takes a grant, and where none is there a parcel.
+    fn hear<I: Inlet<Parcel>, J: Inlet<Grant>>(
+        &mut self,
+        clients: &mut [I],
+        grants: &mut J,
+    ) -> TileDeed
+        requires lanes { length clients.old ≡ clients_of self.old }
+        requires undue { NothingIsDueIn self.old }
+        requires listens { listens_in self.old ≡ true }
+        ensures step { IsTileStep self.old result self.new }
+        ensures client_lanes { EachLane (λ i a b. I.lane_of b ≡ I.lane_of a) clients.old clients.new }
+        ensures grant_lane { J.lane_of grants.new ≡ J.lane_of grants.old }
+        ensures taken { AreTaken I.gave I.same result clients.old clients.new }
+        ensures empty { AreFoundEmpty I.empty_seen I.bare self.old result clients.old clients.new }
+        ensures heard { IsHeard J.gave J.same result grants.old grants.new }
+        ensures unheard { IsCountedUnheard J.empty_seen J.bare self.old result grants.old grants.new }
+    {
+        match grants.pop() {
+            Some(grant) => {
+                self.learn(grant);
+                TileDeed::Learns(grant)
+            }
+            None => self.take(clients),
+        }
+    }
+
+    fn act<I: Inlet<Parcel>, J: Inlet<Grant>>(
+        &mut self,
+        clients: &mut [I],
+        grants: &mut J,
+    ) -> TileDeed
+        requires { length clients.old ≡ clients_of self.old }
+        ensures step { IsTileStep self.old result self.new }
+        ensures client_lanes { EachLane (λ i a b. I.lane_of b ≡ I.lane_of a) clients.old clients.new }
+        ensures grant_lane { J.lane_of grants.new ≡ J.lane_of grants.old }
+        ensures taken { AreTaken I.gave I.same result clients.old clients.new }
+        ensures empty { AreFoundEmpty I.empty_seen I.bare self.old result clients.old clients.new }
+        ensures heard { IsHeard J.gave J.same result grants.old grants.new }
+        ensures unheard { IsCountedUnheard J.empty_seen J.bare self.old result grants.old grants.new }
+    {
+        match self.due() {
+            Some(entry) => self.perform(entry),
+            None => {
+                if self.listens() {
+                    self.hear(clients, grants)
+                } else {
+                    self.take(clients)
+                }
+            }
+        }
+    }
+
+    /// Does the first of these that applies.
+    ///
+    /// 1. An entry that is known is performed once each of its members is held. A Swap shows the pixels as the tile's part of the next frame.
+    /// 2. Where no entry is known, and no more may still come, a grant is taken.
+    /// 3. One parcel is taken of the clients that are neither held nor closed: of the first whose lane has one, in rotation after the last client
+    ///    that was taken from, at first from client 0. Work is carried out and logged, an operation holds its client, and End closes it. Once
+    ///    nothing will be performed any more, parcels are taken of held clients too, and dropped up to their End.
+    ///
+    /// Where memory lacks, a parcel that was taken is dropped and the tile becomes short: it takes and drops parcels up to each client's End, and
+    /// grants until no more comes.
+    pub fn step<I: Inlet<Parcel>, J: Inlet<Grant>>(
+        &mut self,
+        clients: &mut [I],
+        grants: &mut J,
+    ) -> Result<TileMoved, OutOfMemory>
+        requires { length clients.old ≡ clients_of self.old }
+        ensures same { IsSameCore self.old self.new }
+        ensures client_lanes { EachLane (λ i a b. I.lane_of b ≡ I.lane_of a) clients.old clients.new }
+        ensures grant_lane { J.lane_of grants.new ≡ J.lane_of grants.old }
+        ensures out_of_memory { OnErr result ((is_short self.old ≡ false) × (is_short self.new ≡ true)) }
+        ensures ample { OnOk result (is_short self.new ≡ is_short self.old) }
+        // the answer tells what it did: the first case that applies; it took just that, and each lane that it found empty says so
+        ensures step { (did : TileDeed) × (result ≡ answer_of did) × IsTileStep self.old did self.new
+            × AreTaken I.gave I.same did clients.old clients.new
+            × AreFoundEmpty I.empty_seen I.bare self.old did clients.old clients.new
+            × IsHeard J.gave J.same did grants.old grants.new
+            × IsCountedUnheard J.empty_seen J.bare self.old did grants.old grants.new }
+    {
+        answer(self.act(clients, grants))
+    }
+}
+
+/// The act is the client's last.
+fn is_end(act: &Act) -> bool
+    ensures { result ≡ is_end act.now }
+{
+    match act {
+        Act::End => true,
+        _ => false,
+    }
+}
+
+/// The act waits for an entry.
+fn is_wait(act: &Act) -> bool
+    ensures { result ≡ is_wait act.now }
+{
+    match act {
+        Act::Sync(_) => true,
+        _ => false,
+    }
+}
