@@ -1,0 +1,177 @@
+-- Laws of the stepped cluster: over every schedule, its worlds are sound, and where all have ended they make a lawful record.
+use Rattle.std.specs.Prelude.{◌≡◌, ℕ, ◌+◌, ◌<◌, min, true, List, ◌++◌, length, map, Some, slice_get, pos}
+use Rattle.std.specs.List.{AllByRecursion}
+use Rattle.rc_base.specs.Cluster.Parcels.{parcels_of, set_count}
+use Rattle.rc_base.specs.Cluster.Tiles.{tile_count, tile_pixels}
+use Rattle.rc_base.specs.Drawing.Images.{Pixels}
+use Rattle.rc_base.specs.Drawing.Serial.{frame_pixel}
+use Rattle.rc_base.specs.Orders.Book.{waiting_in}
+use Rattle.rc_base.specs.Orders.Journal.{IsLegal, waiting_of}
+use Rattle.rc_base.specs.Orders.Sync.{sync_lists_of}
+use Rattle.rc_base.specs.Outside.Causes.{last_count}
+use Rattle.rc_base.specs.declared.scene.Scene.{Scene}
+use Rattle.rc_base.specs.declared.state.Parcel.{Parcel}
+use Rattle.rc_base.specs.declared.window.Layout.{Layout}
+use Rattle.order_model.specs.Log.{Replays}
+use Rattle.order_model.specs.Report.{tile_order, frame_count}
+use Rattle.order_model.specs.Sent.{jobs_of, IsRecordOf}
+use Rattle.order_model.specs.declared.record.Record.{Record}
+use Rattle.tile_model.specs.Scenes.{IsInRange, HasSides}
+use Rattle.world_model.specs.Moves.{Move, IsMove, AreMoves, IsAtRest}
+use Rattle.world_model.specs.Runs.{AllHaveEnded, actor_of, round_of, IsSteppedRun, IsFinishedRun, StandsStill}
+use Rattle.world_model.specs.Sound.{tallied, IsSound}
+use Rattle.world_model.specs.World.{World, client_total, IsNewWorld}
+
+-- ---- the induction
+
+abbrev pub NewWorldsAreSound : Type 0
+NewWorldsAreSound = (scene : Scene) (l : Layout) (w : World) → IsNewWorld scene l w → IsSound scene l w
+
+-- a move of whichever actor, at whichever depth of the lanes, leaves a sound world sound
+abbrev pub MovesKeepWorldsSound : Type 0
+MovesKeepWorldsSound =
+    (scene : Scene) (l : Layout) (depth : ℕ) (w later : World) (move : Move) → IsInRange scene → HasSides scene.decl → IsSound scene l w
+    → IsMove scene l depth w move later → IsSound scene l later
+
+-- and so does every schedule
+abbrev pub SchedulesKeepWorldsSound : Type 0
+SchedulesKeepWorldsSound =
+    (scene : Scene) (l : Layout) (depth : ℕ) (w later : World) (moves : List Move) → IsInRange scene → HasSides scene.decl → IsSound scene l w
+    → AreMoves scene l depth w moves later → IsSound scene l later
+
+abbrev pub SteppedRunsAreSound : Type 0
+SteppedRunsAreSound =
+    (scene : Scene) (l : Layout) (depth : ℕ) (picks : List ℕ) (moves : List Move) (w : World) → IsInRange scene → HasSides scene.decl
+    → IsSteppedRun scene l depth picks moves w → IsSound scene l w
+
+-- a run goes on with the moves of more picks
+abbrev pub RunsGoOn : Type 0
+RunsGoOn =
+    (scene : Scene) (l : Layout) (depth : ℕ) (picks later : List ℕ) (moves more : List Move) (w v : World) → IsSteppedRun scene l depth picks moves w
+    → map (actor_of scene) more ≡ later → AreMoves scene l depth w more v → IsSteppedRun scene l depth (picks ++ later) (moves ++ more) v
+
+-- The worlds are alike: their lanes hold the same, and their actors are as far. What the tiles' boards are outside the tiles is left open.
+pub record AreAlike (scene : Scene) (l : Layout) (w v : World) : Type 0 where
+  pub left : (client : ℕ) → client < client_total scene → (v.clients client).left ≡ (w.clients client).left
+  pub manager : v.manager ≡ w.manager
+  pub progress : (tile : ℕ) → tile < tile_count l → (v.tiles tile).progress ≡ (w.tiles tile).progress
+  pub next : (tile : ℕ) → tile < tile_count l → (v.tiles tile).next ≡ (w.tiles tile).next
+  pub parcels : (client tile : ℕ) → client < client_total scene → tile < tile_count l → v.parcels client tile ≡ w.parcels client tile
+  pub requests : (client : ℕ) → client < client_total scene → v.requests client ≡ w.requests client
+  pub grants : (tile : ℕ) → tile < tile_count l → v.grants tile ≡ w.grants tile
+
+-- the picks alone determine what each actor answers, and so the lists, the journal and the logs
+abbrev pub OneScheduleHasOneRun : Type 0
+OneScheduleHasOneRun =
+    (scene : Scene) (l : Layout) (depth : ℕ) (picks : List ℕ) (moves others : List Move) (w v : World) → IsInRange scene → HasSides scene.decl
+    → IsSteppedRun scene l depth picks moves w → IsSteppedRun scene l depth picks others v → (others ≡ moves) × AreAlike scene l w v
+
+-- ---- of every sound world
+
+-- the manager's journal is legal, and the tiles' logs replay over it
+pub record HasLegalLogs (scene : Scene) (l : Layout) (w : World) : Type 0 where
+  pub legal : IsLegal (sync_lists_of scene) w.manager.book.journal
+  pub replays : (tile : ℕ) → tile < tile_count l
+      → Replays (sync_lists_of scene) w.manager.book.journal (λ client. jobs_of scene l client tile) (w.tiles tile).progress.log
+
+abbrev pub SoundWorldsHaveLegalLogs : Type 0
+SoundWorldsHaveLegalLogs = (scene : Scene) (l : Layout) (w : World) → IsSound scene l w → HasLegalLogs scene l w
+
+-- ---- moves that move nothing
+
+-- all lanes and actors are as they were
+pub record IsSameWorld (scene : Scene) (l : Layout) (w later : World) : Type 0 where
+  pub left : (client : ℕ) → client < client_total scene → (later.clients client).left ≡ (w.clients client).left
+  pub tallies : (client tile : ℕ) → client < client_total scene → (later.clients client).tallies tile ≡ (w.clients client).tallies tile
+  pub manager : later.manager ≡ w.manager
+  pub tiles : (tile : ℕ) → tile < tile_count l → later.tiles tile ≡ w.tiles tile
+  pub parcels : (client tile : ℕ) → client < client_total scene → tile < tile_count l → later.parcels client tile ≡ w.parcels client tile
+  pub requests : (client : ℕ) → client < client_total scene → later.requests client ≡ w.requests client
+  pub grants : (tile : ℕ) → tile < tile_count l → later.grants tile ≡ w.grants tile
+
+-- the move of an actor that is blocked or has ended changes nothing
+abbrev pub RestChangesNothing : Type 0
+RestChangesNothing =
+    (scene : Scene) (l : Layout) (depth : ℕ) (w later : World) (move : Move) → IsAtRest move → IsMove scene l depth w move later
+    → IsSameWorld scene l w later
+
+-- ---- where all have ended
+
+-- the record of a world: the scene's lists, the manager's journal and the tiles' logs
+pub record IsRecordIn (scene : Scene) (l : Layout) (w : World) (kept : Record) : Type 0 where
+  pub syncs : kept.syncs ≡ sync_lists_of scene
+  pub journal : kept.journal ≡ w.manager.book.journal
+  pub count : length kept.logs ≡ tile_count l
+  pub logs : (tile : ℕ) → tile < tile_count l → slice_get kept.logs tile ≡ Some (w.tiles tile).progress.log
+
+abbrev pub EndedWorldsAreLawful : Type 0
+EndedWorldsAreLawful =
+    (scene : Scene) (l : Layout) (w : World) (kept : Record) → IsInRange scene → IsSound scene l w → AllHaveEnded scene l w
+    → IsRecordIn scene l w kept → IsRecordOf scene l kept
+
+-- a tile's parts are one for each Swap of the record, and each is the tile's pixels of that frame in the order that the tile's log records
+pub record ShowsFrames (scene : Scene) (l : Layout) (kept : Record) (tile : ℕ) (parts : List Pixels) : Type 0 where
+  pub count : length parts ≡ frame_count kept.journal
+  pub pixels : (k : ℕ) (part : Pixels) → slice_get parts k ≡ Some part → (x y : ℕ) → tile_pixels l tile x y ≡ true
+      → part (pos x) (pos y) ≡ frame_pixel scene (tile_order kept tile) (k + 1) (pos x) (pos y)
+
+abbrev pub EndedWorldsShowFrames : Type 0
+EndedWorldsShowFrames =
+    (scene : Scene) (l : Layout) (w : World) (kept : Record) → IsSound scene l w → AllHaveEnded scene l w → IsRecordIn scene l w kept
+    → (tile : ℕ) → tile < tile_count l → ShowsFrames scene l kept tile (w.tiles tile).parts
+
+-- each client is left waiting in the book where the journal leaves it waiting
+abbrev pub EndedWorldsWaitAlike : Type 0
+EndedWorldsWaitAlike =
+    (scene : Scene) (l : Layout) (w : World) → IsInRange scene → IsSound scene l w → AllHaveEnded scene l w
+    → (client : ℕ) → waiting_in (sync_lists_of scene) w.manager.book client ≡ waiting_of (sync_lists_of scene) w.manager.book.journal client
+
+-- each tally is that of all parcels of the client to the tile, also of those beyond the place where it waits for ever
+abbrev pub EndedWorldsTallyAll : Type 0
+EndedWorldsTallyAll =
+    (scene : Scene) (l : Layout) (w : World) → IsSound scene l w → AllHaveEnded scene l w
+    → (client tile : ℕ) → client < client_total scene → tile < tile_count l
+    → (w.clients client).tallies tile ≡ tallied (parcels_of scene l client tile)
+
+-- ---- every schedule
+
+-- What the record of a world says where all have ended: it is lawful, the parts are the frames, and the clients wait and are tallied as the scene says.
+pub record IsWhole (scene : Scene) (l : Layout) (w : World) (kept : Record) : Type 0 where
+  pub lawful : IsRecordOf scene l kept
+  pub frames : (tile : ℕ) → tile < tile_count l → ShowsFrames scene l kept tile (w.tiles tile).parts
+  pub waiting : (client : ℕ) → waiting_in (sync_lists_of scene) w.manager.book client ≡ waiting_of (sync_lists_of scene) kept.journal client
+  pub tallies : (client tile : ℕ) → client < client_total scene → tile < tile_count l
+      → (w.clients client).tallies tile ≡ tallied (parcels_of scene l client tile)
+
+-- whatever the picks, the depth of the lanes and the layout
+abbrev pub FinishedRunsAreWhole : Type 0
+FinishedRunsAreWhole =
+    (scene : Scene) (l : Layout) (depth rounds : ℕ) (picks : List ℕ) (moves : List Move) (w : World) (kept : Record) → IsInRange scene → HasSides scene.decl
+    → IsFinishedRun scene l depth picks rounds moves w → IsRecordIn scene l w kept → IsWhole scene l w kept
+
+-- and the picks determine the run: how many rounds it takes, what each actor answers, and so the journal and the logs
+abbrev pub FinishedRunsAreOne : Type 0
+FinishedRunsAreOne =
+    (scene : Scene) (l : Layout) (depth rounds count : ℕ) (picks : List ℕ) (moves others : List Move) (w v : World) → IsInRange scene → HasSides scene.decl
+    → IsFinishedRun scene l depth picks rounds moves w → IsFinishedRun scene l depth picks count others v
+    → (count ≡ rounds) × (others ≡ moves) × AreAlike scene l w v
+
+-- ---- no standstill
+
+-- a whole round moves somebody until all have ended, for every depth above 0
+abbrev pub RoundsMoveSomebody : Type 0
+RoundsMoveSomebody =
+    (scene : Scene) (l : Layout) (depth : ℕ) (round : List Move) (w later : World) → 0 < depth → IsSound scene l w
+    → map (actor_of scene) round ≡ round_of scene l → AreMoves scene l depth w round later → AllByRecursion IsAtRest round → AllHaveEnded scene l later
+
+abbrev pub NoRunStandsStill : Type 0
+NoRunStandsStill =
+    (scene : Scene) (l : Layout) (depth rounds : ℕ) (picks : List ℕ) (moves last : List Move) (w : World) → IsInRange scene → HasSides scene.decl
+    → 0 < depth → StandsStill scene l depth picks rounds moves last w → ⊥
+
+-- ---- tallies
+
+-- a tally counts the parcels, and the elements that they set; a count stands still at its type's end
+abbrev pub TalliesCount : Type 0
+TalliesCount =
+    (parcels : List Parcel) → ((tallied parcels).parcels ≡ min (length parcels) last_count) × ((tallied parcels).sets ≡ min (set_count parcels) last_count)

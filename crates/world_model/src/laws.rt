@@ -1,0 +1,117 @@
+//! Laws of the stepped cluster. Each function's contract is a law, and its body calls the laws that it follows from: there is nothing to compute.
+ghost use Rattle.world_model.specs.Laws.{NewWorldsAreSound, MovesKeepWorldsSound, SchedulesKeepWorldsSound, SteppedRunsAreSound};
+ghost use Rattle.world_model.specs.Laws.{RunsGoOn, OneScheduleHasOneRun, SoundWorldsHaveLegalLogs, RestChangesNothing};
+ghost use Rattle.world_model.specs.Laws.{EndedWorldsAreLawful, EndedWorldsShowFrames, EndedWorldsWaitAlike, EndedWorldsTallyAll};
+ghost use Rattle.world_model.specs.Laws.{FinishedRunsAreWhole, FinishedRunsAreOne, RoundsMoveSomebody, NoRunStandsStill, TalliesCount};
+ghost use Rattle.world_model.specs.Views.{ClientAnswersAreMoves, ManagerAnswersAreMoves, TileAnswersAreMoves};
+ghost use Rattle.world_model.specs.Work.{MovesLeaveLess};
+
+use client_issue::laws::sends_are_parcels;
+use order_model::laws::{books_stay_legal, gathering_is_lawful, grants_are_exact};
+use sync_manager::laws::managers_are_right;
+use tile_model::laws::{entries_have_clients, new_tiles_stand, steps_stand, swaps_show_frames};
+
+/// Over every schedule the worlds are sound: a new world is, and each move leaves a sound world sound, and so do any moves one after the other.
+pub fn schedules_keep_worlds_sound()
+    ensures first { NewWorldsAreSound }
+    ensures next { MovesKeepWorldsSound }
+    ensures all { SchedulesKeepWorldsSound }
+    ensures runs { SteppedRunsAreSound }
+{
+    sends_are_parcels();
+    books_stay_legal();
+    managers_are_right();
+    new_tiles_stand();
+    steps_stand();
+    swaps_show_frames();
+}
+
+/// A stepped run goes on with the moves of more picks.
+pub fn runs_go_on()
+    ensures { RunsGoOn }
+{}
+
+/// The picks alone determine a run: what each actor answers, and so the lanes' lists, the journal and the logs.
+pub fn one_schedule_has_one_run()
+    ensures { OneScheduleHasOneRun }
+{
+    sends_are_parcels();
+    books_stay_legal();
+    grants_are_exact();
+    managers_are_right();
+    entries_have_clients();
+    new_tiles_stand();
+    steps_stand();
+    swaps_show_frames();
+}
+
+/// In a sound world the journal is legal, and each tile's log replays over it.
+pub fn sound_worlds_have_legal_logs()
+    ensures { SoundWorldsHaveLegalLogs }
+{}
+
+/// The move of an actor that is blocked or has ended leaves all actors and lanes as they were.
+pub fn rest_changes_nothing()
+    ensures { RestChangesNothing }
+{}
+
+/// In a sound world in which all have ended, the scene's lists, the journal and the tiles' logs are a lawful record.
+pub fn ended_worlds_are_lawful()
+    ensures { EndedWorldsAreLawful }
+{
+    gathering_is_lawful();
+}
+
+/// In such a world each tile has shown its pixels of each frame, in the order that its log records. The clients wait at the operations at which the
+/// journal leaves them waiting, and the tallies are those of all parcels.
+pub fn ended_worlds_are_whole()
+    ensures frames { EndedWorldsShowFrames }
+    ensures waiting { EndedWorldsWaitAlike }
+    ensures tallies { EndedWorldsTallyAll }
+{}
+
+/// Every schedule: picks, and behind them rounds until all have ended, whatever the depth of the lanes. The record is lawful, the parts are the frames
+/// in the orders that it records, and the picks determine it.
+pub fn finished_runs_are_whole()
+    ensures whole { FinishedRunsAreWhole }
+    ensures one { FinishedRunsAreOne }
+{
+    schedules_keep_worlds_sound();
+    ended_worlds_are_lawful();
+    ended_worlds_are_whole();
+    one_schedule_has_one_run();
+}
+
+/// Nothing stands still: a whole round moves somebody until all have ended, for lanes of every depth above 0. An operation's parcels go to all tiles
+/// before its request goes to the manager, so a tile that knows an entry has what it needs to perform it.
+pub fn rounds_move_somebody()
+    ensures round { RoundsMoveSomebody }
+    ensures run { NoRunStandsStill }
+{
+    sends_are_parcels();
+    entries_have_clients();
+    schedules_keep_worlds_sound();
+}
+
+/// Each move that isn't at rest leaves less to do.
+pub fn moves_leave_less()
+    ensures { MovesLeaveLess }
+{
+    books_stay_legal();
+    managers_are_right();
+    steps_stand();
+    swaps_show_frames();
+}
+
+/// A tally counts parcels, and the elements that they set.
+pub fn tallies_count()
+    ensures { TalliesCount }
+{}
+
+/// What the contract of a client's step says of a core that isn't short, what that of the manager's step says, and what is said of a tile's step, is
+/// over plain lanes the step of a move: of every world that the actor and its lanes show, to the one that they show afterwards.
+pub fn answers_are_moves()
+    ensures clients { ClientAnswersAreMoves }
+    ensures managers { ManagerAnswersAreMoves }
+    ensures tiles { TileAnswersAreMoves }
+{}
