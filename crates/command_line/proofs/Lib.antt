@@ -1,0 +1,10 @@
+pub mod Numbers
+pub mod FirstWords
+pub mod Due
+pub mod OneSetting
+pub mod Reading
+pub mod Lines
+pub mod ClapRows
+pub mod ClapWords
+pub mod ClapLine
+pub mod ValuesRead

@@ -1,0 +1,8 @@
+pub mod Values
+pub mod Begins
+pub mod Names
+pub mod Reads
+pub mod Lines
+pub mod Texts
+pub mod App
+pub mod Laws

@@ -1,0 +1,31 @@
+-- What a line is read as.
+use Rattle.std.specs.Prelude.{◌≡◌, ℕ, ◌<◌, ◌^◌, ◌++◌, List, Option, None, Some, codes}
+use Rattle.std.specs.Fmt.{decimal}
+use Rattle.rc_base.specs.Program.Words.{Setting, IsCommandLine, tiles_in, depth_in, order_in, seed_in, size_in}
+use Rattle.command_line.specs.declared.line.CommandLine.{CommandLine}
+use Rattle.command_line.specs.declared.values.Settings.{Settings}
+use Rattle.command_line.specs.Names.{name_of}
+
+-- the values are what the settings say, with the defaults
+pub record AreValues (values : Settings) (ss : List Setting) : Type 0 where
+  pub tiles : (values.columns, values.rows) ≡ tiles_in ss
+  pub depth : values.depth ≡ depth_in ss
+  pub order : values.order ≡ order_in ss
+  pub seed : values.seed ≡ seed_in ss
+  pub size : values.size ≡ size_in ss
+
+-- the words are a line of this job, and of settings that say these values
+pub record IsLineOf (words : List (List ℕ)) (c : CommandLine) : Type 0 where
+  pub settings : List Setting
+  pub line : IsCommandLine words (name_of c.job) settings
+  pub values : AreValues c.settings settings
+
+-- n is the number of the text, and the default where there is none
+pub record ReadsNumber (text : Option (List ℕ)) (default n : ℕ) : Type 0 where
+  pub none : text ≡ None → n ≡ default
+  pub some : (m : ℕ) → m < 2 ^ 64 → text ≡ Some (decimal m) → n ≡ m
+
+-- t are the numbers of the text, and 1 and 1 where there is none
+pub record ReadsTiles (text : Option (List ℕ)) (t : ℕ × ℕ) : Type 0 where
+  pub none : text ≡ None → t ≡ (1, 1)
+  pub some : (c r : ℕ) → c < 2 ^ 64 → r < 2 ^ 64 → text ≡ Some (decimal c ++ (codes "x" ++ decimal r)) → t ≡ (c, r)
