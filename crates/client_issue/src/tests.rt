@@ -1,4 +1,4 @@
-//! A client on two tiles: by hand over lanes that hold one item, and over lanes that are emptied at random times.
+//! A client on two tiles: by hand over lanes that hold one item, and over lanes that are emptied at random times; and on nine tiles.
 ghost use Rattle.std.specs.Prelude.{◌≡◌, ◌<◌, ◌≤◌, ◌^◌, length, IfOk, OnOk};
 ghost use Rattle.std.specs.List.{AllByRecursion};
 ghost use Rattle.rc_base.specs.Formats.Commands.{IsCommand};
@@ -76,46 +76,48 @@ struct Run {
     requests: PlainLane<Request>,
 }
 
-// Two lanes that hold at most `depth` parcels.
-fn two_lanes(alloc: Global, depth: usize) -> Result<Vec<PlainLane<Parcel>>, OutOfMemory>
+// So many lanes that hold at most `depth` parcels.
+fn lanes_of(alloc: Global, n: u8, depth: usize) -> Result<Vec<PlainLane<Parcel>>, OutOfMemory>
     requires depth { (1 ≤ depth) × (depth ≤ 16) }
-    ensures { IfOk result (λ lanes. length lanes.items ≡ 2) }
+    ensures { IfOk result (λ lanes. length lanes.items ≡ n) }
 {
     let mut lanes = Vec::new(alloc);
-    lanes.push(PlainLane::new(alloc, depth)?)?;
-    lanes.push(PlainLane::new(alloc, depth)?)?;
+    for i in 0..n {
+        lanes.push(PlainLane::new(alloc, depth)?)?;
+    }
     Ok(lanes)
 }
 
-// The only client of a window of 2 by 1 pixels, a tile each.
-fn core_of(alloc: Global, stream: Commands) -> Result<ClientCore, OutOfMemory>
+// The only client of the window of a layout.
+fn core_of(alloc: Global, stream: Commands, layout: &Layout) -> Result<ClientCore, OutOfMemory>
     requires few { length stream < 2 ^ 32 }
     requires commands { AllByRecursion IsCommand stream }
+    requires tiles { tile_count layout.now ≤ 32 }
     ensures client { IfOk result IsClient }
-    ensures tiles { IfOk result (λ core. tile_count (layout_of core) ≡ 2) }
+    ensures layout { IfOk result (λ core. layout_of core ≡ layout.now) }
 {
     let mut streams = Streams::new(alloc);
     streams.push(stream)?;
     let decl = Decl {
         version: 1,
-        width: 2,
-        height: 1,
+        width: layout.width,
+        height: layout.height,
         shared: Sizes::new(alloc),
         barriers: Counts::new(alloc),
         semaphores: Units::new(alloc),
     };
     let scene = Scene { decl, streams };
-    let layout = Layout {
-        width: 2,
-        height: 1,
-        columns: 2,
-        rows: 1,
-    };
-    ClientCore::new(alloc, &scene, 0, &layout)
+    ClientCore::new(alloc, &scene, 0, layout)
 }
 
-fn run_of(alloc: Global, stream: Commands, depth: usize) -> Result<Run, OutOfMemory>
+fn run_of(
+    alloc: Global,
+    stream: Commands,
+    layout: &Layout,
+    depth: usize,
+) -> Result<Run, OutOfMemory>
     requires commands { AllByRecursion IsCommand stream }
+    requires tiles { tile_count layout.now ≤ 32 }
     requires depth { (1 ≤ depth) × (depth ≤ 16) }
     ensures client { IfOk result (λ run. IsClient run.core) }
     ensures lanes { IfOk result (λ run. length run.tiles.items ≡ tile_count (layout_of run.core)) }
@@ -123,8 +125,8 @@ fn run_of(alloc: Global, stream: Commands, depth: usize) -> Result<Run, OutOfMem
     if stream.len() > 100 {
         return Err(OutOfMemory);
     }
-    let core = core_of(alloc, stream)?;
-    let tiles = two_lanes(alloc, depth)?;
+    let core = core_of(alloc, stream, layout)?;
+    let tiles = lanes_of(alloc, layout.columns * layout.rows, depth)?;
     let requests = PlainLane::new(alloc, depth)?;
     Ok(Run {
         core,
@@ -132,6 +134,22 @@ fn run_of(alloc: Global, stream: Commands, depth: usize) -> Result<Run, OutOfMem
         requests,
     })
 }
+
+// A window of 2 by 1 pixels, a tile each.
+const TWO: Layout = Layout {
+    width: 2,
+    height: 1,
+    columns: 2,
+    rows: 1,
+};
+
+// A window of 6 by 6 pixels in nine tiles.
+const NINE: Layout = Layout {
+    width: 6,
+    height: 6,
+    columns: 3,
+    rows: 3,
+};
 
 impl Run {
     fn step(&mut self) -> Result<ClientMoved, OutOfMemory>
@@ -254,7 +272,7 @@ fn full_lanes_hold_a_client_up(rt: HostRuntime) -> Result<(), Fail> {
         Event::Place(1, 26),
         Event::Asked(Request::End),
     ];
-    let mut run = run_of(rt.alloc(), draws(rt.alloc())?, 1)?;
+    let mut run = run_of(rt.alloc(), draws(rt.alloc())?, &TWO, 1)?;
     assert_eq!(rt; play(&mut run, &events)?, 33);
     assert!(rt; !run.core.is_short());
     let left = Tally {
@@ -351,7 +369,7 @@ impl Taken {
 fn emptied(alloc: Global, depth: usize) -> Result<Taken, OutOfMemory>
     requires depth { (1 ≤ depth) × (depth ≤ 16) }
 {
-    let mut run = run_of(alloc, mixed(alloc)?, depth)?;
+    let mut run = run_of(alloc, mixed(alloc)?, &TWO, depth)?;
     let mut taken = Taken {
         left: Vec::new(alloc),
         right: Vec::new(alloc),
@@ -382,5 +400,54 @@ fn lanes_of_depth_1_emptied_at_random_times_get_what_deep_lanes_get(
     assert_eq!(rt; shallow.left, deep.left);
     assert_eq!(rt; shallow.right, deep.right);
     assert_eq!(rt; shallow.requests, deep.requests);
+    Ok(())
+}
+
+// A triangle over the window, and a Swap.
+fn triangle(alloc: Global) -> Result<Commands, OutOfMemory>
+    ensures { IfOk result (AllByRecursion IsCommand) }
+{
+    let mut stream = Commands::new(alloc);
+    push(&mut stream, Command::Enable { capability: 3 })?;
+    cover(&mut stream)?;
+    push(&mut stream, Command::Swap)?;
+    Ok(stream)
+}
+
+// How many steps move an item, of at most so many.
+fn moves(run: &mut Run, most: usize) -> Result<usize, OutOfMemory>
+    requires client { IsClient run.old.core }
+    requires lanes { length run.old.tiles.items ≡ tile_count (layout_of run.old.core) }
+{
+    for i in 0..most {
+        if run.step()? == ClientMoved::Ended {
+            return Ok(i);
+        }
+    }
+    Ok(most)
+}
+
+// The tile was sent the parcels of places 5, 6 and 7 and no other.
+fn has_three(run: &mut Run, tile: usize) -> bool {
+    run.place(tile) == Some(5)
+        && run.place(tile) == Some(6)
+        && run.place(tile) == Some(7)
+        && run.place(tile).is_none()
+}
+
+#[test]
+fn a_triangle_over_the_window_goes_to_nine_tiles(rt: HostRuntime) -> Result<(), Fail> {
+    let mut run = run_of(rt.alloc(), triangle(rt.alloc())?, &NINE, 16)?;
+    assert_eq!(rt; moves(&mut run, 40)?, 29);
+    for tile in 0..9 {
+        assert!(rt; has_three(&mut run, tile));
+    }
+    let swap = Request::Op {
+        place: 6,
+        op: SyncOp::Swap,
+    };
+    assert_eq!(rt; run.requests.pop(), Some(swap));
+    assert_eq!(rt; run.requests.pop(), Some(Request::End));
+    assert_eq!(rt; run.requests.pop(), None);
     Ok(())
 }
