@@ -7,7 +7,6 @@ pub mod SwapsOfJournals
 pub mod ClearDepths
 pub mod DrawnCommands
 pub mod PlayedOrders
-pub mod OneClient
 pub mod PermittedOrders
 pub mod AddedInTurn
 pub mod GrantedTurns
