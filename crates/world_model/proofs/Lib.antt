@@ -27,3 +27,5 @@ mod TilesWaitForNobody
 mod NothingStandsStill
 mod RoundsMoveSomebody
 mod MovesLeaveLess
+mod EndedWorldsRest
+mod OneRecord

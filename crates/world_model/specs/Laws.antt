@@ -17,7 +17,7 @@ use Rattle.order_model.specs.Report.{tile_order, frame_count}
 use Rattle.order_model.specs.Sent.{jobs_of, IsRecordOf}
 use Rattle.order_model.specs.declared.record.Record.{Record}
 use Rattle.tile_model.specs.Scenes.{IsInRange, HasSides}
-use Rattle.world_model.specs.Moves.{Move, IsMove, AreMoves, IsAtRest}
+use Rattle.world_model.specs.Moves.{Move, IsMove, AreMoves, IsAtRest, IsLast}
 use Rattle.world_model.specs.Runs.{AllHaveEnded, actor_of, round_of, IsSteppedRun, IsFinishedRun, StandsStill}
 use Rattle.world_model.specs.Sound.{tallied, IsSound}
 use Rattle.world_model.specs.World.{World, client_total, IsNewWorld}
@@ -95,6 +95,24 @@ RestChangesNothing =
     (scene : Scene) (l : Layout) (depth : ℕ) (w later : World) (move : Move) → IsAtRest move → IsMove scene l depth w move later
     → IsSameWorld scene l w later
 
+-- and so do any moves that move nothing
+abbrev pub RestsChangeNothing : Type 0
+RestsChangeNothing =
+    (scene : Scene) (l : Layout) (depth : ℕ) (w later : World) (moves : List Move) → AllByRecursion IsAtRest moves → AreMoves scene l depth w moves later
+    → IsSameWorld scene l w later
+
+-- where all have ended, each actor's moves say so, and change nothing
+abbrev pub EndedWorldsRest : Type 0
+EndedWorldsRest =
+    (scene : Scene) (l : Layout) (depth : ℕ) (w later : World) (moves : List Move) → AllHaveEnded scene l w → AreMoves scene l depth w moves later
+    → AllByRecursion IsLast moves × IsSameWorld scene l w later
+
+-- and where each move of a round says so, all had ended before it
+abbrev pub LastRoundsTell : Type 0
+LastRoundsTell =
+    (scene : Scene) (l : Layout) (depth : ℕ) (w later : World) (moves : List Move) → map (actor_of scene) moves ≡ round_of scene l
+    → AreMoves scene l depth w moves later → AllByRecursion IsLast moves → AllHaveEnded scene l w
+
 -- ---- where all have ended
 
 -- the record of a world: the scene's lists, the manager's journal and the tiles' logs
@@ -155,6 +173,13 @@ FinishedRunsAreOne =
     (scene : Scene) (l : Layout) (depth rounds count : ℕ) (picks : List ℕ) (moves others : List Move) (w v : World) → IsInRange scene → HasSides scene.decl
     → IsFinishedRun scene l depth picks rounds moves w → IsFinishedRun scene l depth picks count others v
     → (count ≡ rounds) × (others ≡ moves) × AreAlike scene l w v
+
+-- so the picks determine the record
+abbrev pub FinishedRunsLeaveOneRecord : Type 0
+FinishedRunsLeaveOneRecord =
+    (scene : Scene) (l : Layout) (depth rounds count : ℕ) (picks : List ℕ) (moves others : List Move) (w v : World) (kept other : Record)
+    → IsInRange scene → HasSides scene.decl → IsFinishedRun scene l depth picks rounds moves w → IsFinishedRun scene l depth picks count others v
+    → IsRecordIn scene l w kept → IsRecordIn scene l v other → other ≡ kept
 
 -- ---- no standstill
 

@@ -161,3 +161,9 @@ IsAtRest (ClientMove client answer) =
 IsAtRest (ManagerMove answer) =
     ((tile : ℕ) × (answer ≡ manager_moved.BlockedGrant tile)) ⊎ ((answer ≡ manager_moved.BlockedRequest) ⊎ (answer ≡ manager_moved.Ended))
 IsAtRest (TileMove tile answer) = (answer ≡ Blocked) ⊎ (answer ≡ Ended)
+
+-- the actor has nothing left to do
+abbrev pub IsLast : Move → Type 0
+IsLast (ClientMove client answer) = answer ≡ client_moved.Ended
+IsLast (ManagerMove answer) = answer ≡ manager_moved.Ended
+IsLast (TileMove tile answer) = answer ≡ Ended

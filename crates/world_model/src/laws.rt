@@ -2,7 +2,8 @@
 ghost use Rattle.world_model.specs.Laws.{NewWorldsAreSound, MovesKeepWorldsSound, SchedulesKeepWorldsSound, SteppedRunsAreSound};
 ghost use Rattle.world_model.specs.Laws.{RunsGoOn, OneScheduleHasOneRun, SoundWorldsHaveLegalLogs, RestChangesNothing};
 ghost use Rattle.world_model.specs.Laws.{EndedWorldsAreLawful, EndedWorldsShowFrames, EndedWorldsWaitAlike, EndedWorldsTallyAll};
-ghost use Rattle.world_model.specs.Laws.{FinishedRunsAreWhole, FinishedRunsAreOne, RoundsMoveSomebody, NoRunStandsStill, TalliesCount};
+ghost use Rattle.world_model.specs.Laws.{FinishedRunsAreWhole, FinishedRunsAreOne, FinishedRunsLeaveOneRecord, RoundsMoveSomebody, NoRunStandsStill, TalliesCount};
+ghost use Rattle.world_model.specs.Laws.{RestsChangeNothing, EndedWorldsRest, LastRoundsTell};
 ghost use Rattle.world_model.specs.Views.{ClientAnswersAreMoves, ManagerAnswersAreMoves, TileAnswersAreMoves};
 ghost use Rattle.world_model.specs.Work.{MovesLeaveLess};
 
@@ -55,6 +56,16 @@ pub fn rest_changes_nothing()
     ensures { RestChangesNothing }
 {}
 
+/// Moves of actors that are blocked or have ended leave all as it was. All have ended exactly where each move of a round says so; no move moves
+/// anything then.
+pub fn ended_worlds_rest()
+    ensures still { RestsChangeNothing }
+    ensures ended { EndedWorldsRest }
+    ensures told { LastRoundsTell }
+{
+    managers_are_right();
+}
+
 /// In a sound world in which all have ended, the scene's lists, the journal and the tiles' logs are a lawful record.
 pub fn ended_worlds_are_lawful()
     ensures { EndedWorldsAreLawful }
@@ -80,6 +91,13 @@ pub fn finished_runs_are_whole()
     ended_worlds_are_lawful();
     ended_worlds_are_whole();
     one_schedule_has_one_run();
+}
+
+/// Runs of the same picks that are finished leave one record: the journal and each tile's log.
+pub fn finished_runs_leave_one_record()
+    ensures { FinishedRunsLeaveOneRecord }
+{
+    finished_runs_are_whole();
 }
 
 /// Nothing stands still: a whole round moves somebody until all have ended, for lanes of every depth above 0. An operation's parcels go to all tiles
