@@ -1,0 +1,136 @@
+-- A step of the manager's core over lanes that are seen as the model's is a move of the manager.
+use Rattle.std.proofs.Common.{◌≡◌, ℕ, ◌<◌, ◌==◌, Bool, true, false, cond, List, [], ◌∷◌, ◌++◌, length, Option, Some, None, Ok, refl, sym, ap, ◌∙◌, subst, arith}
+use Rattle.std.specs.Prelude.{MatchOption, slice_index_or, Vec}
+use Rattle.std.specs.Global.{Global}
+use Rattle.rc_base.specs.Cluster.Lanes.{EachLane}
+use Rattle.rc_base.specs.Cluster.PlainLanes.{held, depth_of}
+use Rattle.rc_base.specs.Cluster.Tiles.{tile_count}
+use Rattle.rc_base.specs.Orders.Sync.{sync_lists_of}
+use Rattle.rc_base.specs.Outside.Causes.{Rose}
+use Rattle.rc_base.specs.declared.cluster.ManagerMoved.{ManagerMoved}
+use Rattle.rc_base.specs.declared.plain_lane.PlainLane.{PlainLane}
+use Rattle.rc_base.specs.declared.scene.Scene.{Scene}
+use Rattle.rc_base.specs.declared.sync.Grant.{Grant}
+use Rattle.rc_base.specs.declared.sync.Request.{Request}
+use Rattle.rc_base.specs.declared.sync.SyncLists.{SyncLists}
+use Rattle.rc_base.specs.declared.window.Layout.{Layout}
+use Rattle.sync_manager.specs.Cores.{is_short, IsManagerStep, AreTaken, AreFoundEmpty, AreSent, AreFoundFull}
+use Rattle.sync_manager.specs.Progress.{ManagerProgress, answer_of, progress_after, taken_of, sent_to, IsFoundEmpty, IsFoundFull, IsNextDeed}
+use Rattle.sync_manager.specs.declared.deed.ManagerDeed.{ManagerDeed}
+use Rattle.sync_manager.specs.declared.deed.ManagerDeed.TheVariants.{Delivers, FindsFull, Grants, Receives, Loses, FindsNoRequest, Drops, FindsNoneLeft, Finishes}
+use Rattle.sync_manager.specs.declared.manager.ManagerCore.{ManagerCore}
+use Rattle.world_model.specs.Moves.{IsMove, IsManagerMove}
+use Rattle.world_model.specs.Moves.Move.{ManagerMove}
+use Rattle.world_model.specs.World.{client_total, LanesFit}
+use Rattle.world_model.specs.World.{World as Model}
+use Rattle.step_core.specs.Actors.{manager_said}
+use Rattle.step_core.specs.Worlds.{IsViewOf, IsManagerOf, AreLanesOf}
+use Rattle.step_core.specs.Steps.{IsStep}
+use Rattle.step_core.specs.declared.world.World.{World}
+use Rattle.step_core.proofs.Lanes.{rest_of, not_itself, lanes_give, lanes_gave, lanes_empty, lanes_gain, lanes_full, lanes_fit, rows_fit}
+use Rattle.step_core.proofs.Said.{manager_tells}
+use Rattle.step_core.proofs.Fits.{view_fits}
+
+off : {A : Type 0} (x : A) (b : Bool) → b ≡ false → cond b (Some x) None ≡ None
+off x b e = rw e refl
+
+-- where it finds a client's lane empty, it takes nothing of it
+none_there : (syncs : SyncLists) (d : ManagerProgress) (deed : ManagerDeed) (i : ℕ) → IsFoundEmpty syncs d deed i → taken_of deed i ≡ None
+none_there syncs d (Delivers tile g) i h = absurd h
+none_there syncs d (FindsFull tile) i h = absurd h
+none_there syncs d (Grants e) i h = absurd h
+none_there syncs d (Receives client r) i h = off r (i == client) (not_itself d.next client i h.0)
+none_there syncs d (Loses client place op) i h = off _ (i == client) (not_itself d.next client i h.0)
+none_there syncs d FindsNoRequest i h = refl
+none_there syncs d (Drops client r) i h = off r (i == client) (not_itself d.next client i h.0)
+none_there syncs d FindsNoneLeft i h = refl
+none_there syncs d Finishes i h = absurd h
+
+-- and where it finds a tile's lane full, it appends nothing
+none_sent : (deed : ManagerDeed) (i : ℕ) → IsFoundFull deed i → sent_to deed i ≡ []
+none_sent (Delivers tile g) i h = absurd h
+none_sent (FindsFull tile) i h = refl
+none_sent (Grants e) i h = absurd h
+none_sent (Receives client r) i h = absurd h
+none_sent (Loses client place op) i h = absurd h
+none_sent FindsNoRequest i h = absurd h
+none_sent (Drops client r) i h = absurd h
+none_sent FindsNoneLeft i h = absurd h
+none_sent Finishes i h = absurd h
+
+abbrev pub later_of : Scene → Model → ManagerDeed → Model
+later_of scene w deed = record w {
+  manager = progress_after (sync_lists_of scene) w.manager deed;
+  requests = λ client. rest_of (taken_of deed client) (w.requests client);
+  grants = λ tile. w.grants tile ++ sent_to deed tile;
+}
+
+-- what a step's contract says over plain lanes
+pub record IsCoreStep (core later : ManagerCore) (deed : ManagerDeed) (requests requests' : List (PlainLane Request))
+    (grants grants' : List (PlainLane Grant)) : Type 0 where
+  pub ample : is_short later ≡ is_short core
+  pub request_depths : EachLane (λ i x y. ◌≡◌ {A = List ℕ} (depth_of y ∷ []) (depth_of x ∷ [])) requests requests'
+  pub grant_depths : EachLane (λ i x y. ◌≡◌ {A = List ℕ} (depth_of y ∷ []) (depth_of x ∷ [])) grants grants'
+  pub step : IsManagerStep core deed later
+  pub taken : AreTaken (λ x r y. held x ≡ r ∷ held y) (λ x y. held y ≡ held x) deed requests requests'
+  pub empty : AreFoundEmpty (λ x. x.empty_seen) (λ x. held x ≡ []) core deed requests requests'
+  pub sent : AreSent held deed grants grants'
+  pub full : AreFoundFull (λ x. x.full_seen) (λ x. length (held x) ≡ depth_of x) deed grants grants'
+
+module _ (scene : Scene) (l : Layout) (depth : ℕ) (before : World) (w : Model) (deed : ManagerDeed) (core : ManagerCore)
+    (requests : Vec (PlainLane Request) Global) (grants : Vec (PlainLane Grant) Global) (v : IsViewOf scene l depth before w)
+    (s : IsCoreStep before.manager core deed before.requests.items requests.items before.grants.items grants.items) where
+  abbrev after : World
+  after = record before { manager = core; requests = requests; grants = grants }
+
+  view_after : IsViewOf scene l depth after (later_of scene w deed)
+  view_after = record {
+    clients = v.clients;
+    manager = record {
+      clients = s.step.clients ∙ v.manager.clients;
+      tiles = s.step.tiles ∙ v.manager.tiles;
+      ample = s.ample ∙ v.manager.ample;
+      progress = s.step.after (sync_lists_of scene) w.manager v.manager.progress;
+    };
+    tiles = v.tiles;
+    parcels = v.parcels;
+    row = v.row;
+    requests = lanes_give depth (client_total scene) w.requests before.requests.items requests.items v.requests s.request_depths (taken_of deed)
+        s.taken;
+    grants = lanes_gain depth (tile_count l) w.grants before.grants.items grants.items v.grants s.grant_depths (sent_to deed) s.sent;
+    parts = v.parts;
+  }
+
+  manager_moves : (m : ManagerMoved) → answer_of deed ≡ Ok m → IsManagerMove scene l depth w m (later_of scene w deed)
+  manager_moves m answered = record {
+    deed = deed;
+    answered = answered;
+    next = subst (λ n. IsNextDeed (sync_lists_of scene) n w.manager deed) v.manager.tiles
+        (s.step.first (sync_lists_of scene) w.manager v.manager.progress);
+    manager = refl;
+    taken = λ client low. lanes_gave depth (client_total scene) w.requests before.requests.items requests.items v.requests s.request_depths
+        (taken_of deed) s.taken client low;
+    empty = λ client low found. lanes_empty depth (client_total scene) w.requests before.requests.items requests.items v.requests s.request_depths
+        (taken_of deed) s.taken client low
+        (none_there (sync_lists_of scene) w.manager deed client found)
+        (λ d. ((s.empty (sync_lists_of scene) w.manager v.manager.progress).at client d (let e = v.requests.count in omega arith) found).1);
+    sent = λ tile lt. refl;
+    full = λ tile lt found. lanes_full depth (tile_count l) w.grants before.grants.items grants.items v.grants s.grant_depths (sent_to deed) s.sent
+        tile lt (none_sent deed tile found)
+        (λ d. (s.full.at tile d (let e = v.grants.count in omega arith) found).1);
+    only = record {
+      clients = λ client low. refl;
+      tiles = λ tile lt. refl;
+      parcels = λ client tile low lt. refl;
+    };
+  }
+
+  pub manager_steps : (m : ManagerMoved) → answer_of deed ≡ Ok m → IsStep scene l depth (client_total scene) w (manager_said m) after
+  manager_steps m answered = record {
+    move = ManagerMove m;
+    later = later_of scene w deed;
+    moved = record { step = manager_moves m answered; fit = view_fits scene l depth after (later_of scene w deed) view_after };
+    actor = refl;
+    view = view_after;
+    tells = manager_tells m;
+  }

@@ -1,0 +1,37 @@
+-- What an actor's answer comes to.
+use Rattle.rc_base.specs.declared.cluster.ClientMoved.{ClientMoved}
+use Rattle.rc_base.specs.declared.cluster.ClientMoved.TheVariants as client_moved
+use Rattle.rc_base.specs.declared.cluster.ManagerMoved.{ManagerMoved}
+use Rattle.rc_base.specs.declared.cluster.ManagerMoved.TheVariants as manager_moved
+use Rattle.world_model.specs.Tiles.{TileAnswer}
+use Rattle.world_model.specs.Tiles.TileAnswer.{Performed, Swapped, Learnt, Took, Held, Closed, Dropped, Blocked}
+use Rattle.world_model.specs.Tiles.TileAnswer.{Ended as NothingLeft}
+use Rattle.step_core.specs.declared.actor.Stepped.{Stepped}
+use Rattle.step_core.specs.declared.actor.Stepped.TheVariants.{Moved, Waits, Ended}
+
+abbrev pub client_said : ClientMoved → Stepped
+client_said (client_moved.Appended tile) = Moved
+client_said client_moved.Requested = Moved
+client_said (client_moved.BlockedTile tile) = Waits
+client_said client_moved.BlockedRequest = Waits
+client_said client_moved.Ended = Ended
+
+abbrev pub manager_said : ManagerMoved → Stepped
+manager_said (manager_moved.Delivered tile) = Moved
+manager_said (manager_moved.BlockedGrant tile) = Waits
+manager_said manager_moved.Granted = Moved
+manager_said (manager_moved.Arrived client) = Moved
+manager_said manager_moved.BlockedRequest = Waits
+manager_said (manager_moved.Drained client) = Moved
+manager_said manager_moved.Ended = Ended
+
+abbrev pub tile_said : TileAnswer → Stepped
+tile_said Performed = Moved
+tile_said Swapped = Moved
+tile_said Learnt = Moved
+tile_said (Took client) = Moved
+tile_said (Held client) = Moved
+tile_said (Closed client) = Moved
+tile_said (Dropped client) = Moved
+tile_said Blocked = Waits
+tile_said NothingLeft = Ended

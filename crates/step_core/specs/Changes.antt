@@ -1,0 +1,126 @@
+-- What a step makes of one core and of its lanes, among the others.
+use Rattle.std.specs.Prelude.{◌≡◌, ◌≢◌, ℕ, ◌<◌, ◌++◌, ◌∷◌, [], false, List, length, slice_index_or, Ok, Vec}
+use Rattle.std.specs.Global.{Global}
+use Rattle.rc_base.specs.Cluster.Lanes.{EachLane}
+use Rattle.rc_base.specs.Cluster.PlainLanes.{held, depth_of}
+use Rattle.rc_base.specs.declared.cluster.TileMoved.{TileMoved}
+use Rattle.rc_base.specs.declared.cluster.TileMoved.TheVariants as tile_moved
+use Rattle.rc_base.specs.declared.cluster.TilePart.{TilePart}
+use Rattle.rc_base.specs.declared.plain_lane.PlainLane.{PlainLane}
+use Rattle.rc_base.specs.declared.state.Parcel.{Parcel}
+use Rattle.rc_base.specs.declared.sync.Grant.{Grant}
+use Rattle.rc_base.specs.Outside.Causes.{Rose}
+use Rattle.rc_base.specs.declared.cluster.ClientMoved.{ClientMoved}
+use Rattle.rc_base.specs.declared.sync.Request.{Request}
+use Rattle.client_issue.specs.Cores as client
+use Rattle.client_issue.specs.Moves.{OnAppended, OnRequested, OnBlockedTile, OnBlockedRequest, OnEnded, IsAppended, IsRequested, IsBlockedTile, IsBlockedRequest, HasEnded}
+use Rattle.client_issue.specs.declared.client.ClientCore.{ClientCore}
+use Rattle.step_core.specs.Columns.{element}
+use Rattle.tile_server.specs.Cores.{is_short, IsTileStep, AreTaken, AreFoundEmpty, IsHeard, IsCountedUnheard}
+use Rattle.tile_server.specs.Deeds.{answer_of}
+use Rattle.tile_server.specs.declared.deed.TileDeed.{TileDeed}
+use Rattle.tile_server.specs.declared.tile_core.TileCore.{TileCore}
+
+-- x stood at this number, and y stands there now; all else is as it was
+pub record IsChanged {A : Type 0} (n : ℕ) (x y : A) (xs ys : List A) : Type 0 where
+  pub count : length ys ≡ length xs
+  pub was : (d : A) → slice_index_or xs n d ≡ x
+  pub is : (d : A) → slice_index_or ys n d ≡ y
+  pub others : (i : ℕ) (d : A) → i ≢ n → slice_index_or ys i d ≡ slice_index_or xs i d
+
+-- the lane holds as much as before at most
+abbrev pub IsSameDepth : {T : Type 0} → PlainLane T → PlainLane T → Type 0
+IsSameDepth x y = ◌≡◌ {A = List ℕ} (depth_of y ∷ []) (depth_of x ∷ [])
+
+-- a step of a tile's core over plain lanes
+pub record IsTileCoreStep (deed : TileDeed) (core core' : TileCore) (row row' : List (PlainLane Parcel)) (lane lane' : PlainLane Grant) : Type 0 where
+  pub ample : is_short core' ≡ is_short core
+  pub row_depths : EachLane (λ i x y. IsSameDepth x y) row row'
+  pub lane_depth : IsSameDepth lane lane'
+  pub step : IsTileStep core deed core'
+  pub taken : AreTaken (λ x r y. held x ≡ r ∷ held y) (λ x y. held y ≡ held x) deed row row'
+  pub empty : AreFoundEmpty (λ x. x.empty_seen) (λ x. held x ≡ []) core deed row row'
+  pub heard : IsHeard (λ x r y. held x ≡ r ∷ held y) (λ x y. held y ≡ held x) deed lane lane'
+  pub unheard : IsCountedUnheard (λ x. x.empty_seen) (λ x. held x ≡ []) core deed lane lane'
+
+-- a tile's core took a step, among the others
+pub record IsTileStepped (tile : ℕ) (m : TileMoved) (cores cores' : List TileCore) (rows rows' : List (Vec (PlainLane Parcel) Global))
+    (lanes lanes' : List (PlainLane Grant)) : Type 0 where
+  pub deed : TileDeed
+  pub answered : answer_of deed ≡ Ok m
+  pub core : TileCore
+  pub core' : TileCore
+  pub row : Vec (PlainLane Parcel) Global
+  pub row' : Vec (PlainLane Parcel) Global
+  pub lane : PlainLane Grant
+  pub lane' : PlainLane Grant
+  pub cores_changed : IsChanged tile core core' cores cores'
+  pub rows_changed : IsChanged tile row row' rows rows'
+  pub lanes_changed : IsChanged tile lane lane' lanes lanes'
+  pub step : IsTileCoreStep deed core core' row.items row'.items lane lane'
+
+-- a part that is shown is kept behind the others
+abbrev pub with_shown : TileMoved → List TilePart → List TilePart
+with_shown tile_moved.Performed parts = parts
+with_shown (tile_moved.Swapped part) parts = parts ++ part ∷ []
+with_shown tile_moved.Learnt parts = parts
+with_shown (tile_moved.Took client) parts = parts
+with_shown (tile_moved.Held client) parts = parts
+with_shown (tile_moved.Closed client) parts = parts
+with_shown (tile_moved.Dropped client) parts = parts
+with_shown tile_moved.Blocked parts = parts
+with_shown tile_moved.Ended parts = parts
+
+-- the tile's list of parts keeps what is shown; the other tiles' are as they were
+pub record ArePartsKept (tile : ℕ) (m : TileMoved) (lists lists' : List (Vec TilePart Global)) : Type 0 where
+  pub count : length lists' ≡ length lists
+  pub here : (d : Vec TilePart Global) → (slice_index_or lists' tile d).items ≡ with_shown m (slice_index_or lists tile d).items
+  pub others : (i : ℕ) (d : Vec TilePart Global) → i ≢ tile → slice_index_or lists' i d ≡ slice_index_or lists i d
+
+-- ---- a client
+
+-- a step of a client's core over plain lanes
+pub record IsClientCoreStep (m : ClientMoved) (core core' : ClientCore) (row row' : List (PlainLane Parcel)) (lane lane' : PlainLane Request) : Type
+    0 where
+  pub ample : client.short_of core' ≡ client.short_of core
+  pub sound : client.IsClient core'
+  pub same : client.IsSameCore core core'
+  pub row_depths : EachLane (λ i x y. IsSameDepth x y) row row'
+  pub lane_depth : IsSameDepth lane lane'
+  pub appended : OnAppended m (λ t. client.short_of core ≡ false → IsAppended held row row' core core' t × (lane' ≡ lane))
+  pub requested : OnRequested m (client.short_of core ≡ false → IsRequested (held lane) (held lane') core core' × (row' ≡ row))
+  pub blocked_tile : OnBlockedTile m (λ t. client.short_of core ≡ false
+      → IsBlockedTile held (λ x y. Rose x.full_seen y.full_seen × (length (held y) ≡ depth_of y)) row row' core core' t × (lane' ≡ lane))
+  pub blocked_request : OnBlockedRequest m (client.short_of core ≡ false
+      → IsBlockedRequest core core' × (held lane' ≡ held lane) × Rose lane.full_seen lane'.full_seen × (length (held lane') ≡ depth_of lane')
+          × (row' ≡ row))
+  pub ended : OnEnded m (client.short_of core ≡ false → HasEnded core core' × (row' ≡ row) × (lane' ≡ lane))
+
+-- a client's core took a step over a row of lanes, among the others
+pub record IsClientStepped (number : ℕ) (m : ClientMoved) (cores cores' : List ClientCore) (row row' : List (PlainLane Parcel))
+    (lanes lanes' : List (PlainLane Request)) : Type 0 where
+  pub core : ClientCore
+  pub core' : ClientCore
+  pub lane : PlainLane Request
+  pub lane' : PlainLane Request
+  pub cores_changed : IsChanged number core core' cores cores'
+  pub lanes_changed : IsChanged number lane lane' lanes lanes'
+  pub step : IsClientCoreStep m core core' row row' lane lane'
+
+-- a client's core took a step over its column of lanes
+pub record IsColumnStepped (number : ℕ) (m : ClientMoved) (cores cores' : List ClientCore) (rows rows' : List (Vec (PlainLane Parcel) Global))
+    (spare spare' : List (PlainLane Parcel))
+    (lanes lanes' : List (PlainLane Request)) : Type 0 where
+  pub row : List (PlainLane Parcel)
+  pub row' : List (PlainLane Parcel)
+  pub step : IsClientStepped number m cores cores' row row' lanes lanes'
+  pub spares : length spare' ≡ length spare
+  pub row_count : length row ≡ length rows
+  pub count : length rows' ≡ length rows
+  pub columns : (t : ℕ) (r : Vec (PlainLane Parcel) Global) → t < length rows
+      → length (slice_index_or rows' t r).items ≡ length (slice_index_or rows t r).items
+  pub got : (t : ℕ) (r : Vec (PlainLane Parcel) Global) (d : PlainLane Parcel) → t < length rows → slice_index_or row t d ≡ element rows t number r d
+  pub put : (t : ℕ) (r : Vec (PlainLane Parcel) Global) (d : PlainLane Parcel) → t < length rows
+      → element rows' t number r d ≡ slice_index_or row' t d
+  pub others : (t other : ℕ) (r : Vec (PlainLane Parcel) Global) (d : PlainLane Parcel) → t < length rows → other ≢ number
+      → element rows' t other r d ≡ element rows t other r d

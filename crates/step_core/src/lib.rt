@@ -1,0 +1,22 @@
+//! The cluster on one thread: its actors take single steps, in the sequence of a schedule, over lanes that are plain bounded lists.
+//!
+//! A world is seen as that of `world_model`: each step of an actor is one move of it. This crate stands on the cores of clients, manager and tiles.
+#![tactic(auto)]
+
+mod actor;
+mod clients;
+mod exchange;
+mod first;
+mod frames;
+mod gather;
+mod kept;
+mod round;
+mod rounds;
+mod schedule;
+mod steps;
+mod tiles;
+mod world;
+
+pub use rounds::{CoreRun, FinishFault, finish};
+pub use schedule::run_schedule;
+pub use world::World;

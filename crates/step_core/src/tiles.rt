@@ -1,0 +1,55 @@
+//! A step of one of the tiles.
+ghost use Rattle.std.specs.Prelude.{◌≡◌, ◌<◌, length, slice_index_or, IfOk, Vec};
+ghost use Rattle.std.specs.Global.{Global};
+ghost use Rattle.world_model.specs.Tiles.{without_pixels};
+ghost use Rattle.step_core.specs.Actors.{tile_said};
+ghost use Rattle.step_core.specs.Changes.{IsTileStepped, ArePartsKept};
+ghost use Rattle.rc_base.specs.declared.plain_lane.PlainLane.{PlainLane};
+ghost use Rattle.rc_base.specs.declared.state.Parcel.{Parcel};
+ghost use Rattle.tile_server.specs.Cores.{clients_of};
+ghost use Rattle.tile_server.specs.declared.tile_core.TileCore.{TileCore};
+
+use crate::actor::Stepped;
+use rc_base::cluster::{TileMoved, TilePart};
+use rc_base::out_of_memory::OutOfMemory;
+use rc_base::plain_lane::PlainLane;
+use rc_base::state::Parcel;
+use rc_base::sync::Grant;
+use tile_server::TileCore;
+
+/// A step of the tile's core over the tile's own lanes: one for each client, and that of its grants.
+pub(crate) fn step_of_tile(
+    cores: &mut [TileCore],
+    rows: &mut [Vec<PlainLane<Parcel>>],
+    lanes: &mut [PlainLane<Grant>],
+    tile: usize,
+) -> Result<TileMoved, OutOfMemory>
+    requires core { tile < length cores.old }
+    requires row { tile < length rows.old }
+    requires lane { tile < length lanes.old }
+    requires clients { (a : TileCore) (r : Vec (PlainLane Parcel) Global) → length (slice_index_or rows.old tile r).items ≡ clients_of (slice_index_or cores.old tile a) }
+    ensures { IfOk result (λ m. IsTileStepped tile m cores.old cores.new rows.old rows.new lanes.old lanes.new) }
+{
+    cores[tile].step(&mut rows[tile], &mut lanes[tile])
+}
+
+/// What a tile's answer comes to. A part that it shows goes behind the tile's others.
+pub(crate) fn keep_shown(
+    lists: &mut [Vec<TilePart>],
+    tile: usize,
+    moved: TileMoved,
+) -> Result<Stepped, OutOfMemory>
+    requires { tile < length lists.old }
+    ensures said { IfOk result (λ said. said ≡ tile_said (without_pixels moved)) }
+    ensures kept { IfOk result (λ said. ArePartsKept tile moved lists.old lists.new) }
+{
+    match moved {
+        TileMoved::Swapped(part) => {
+            lists[tile].push(part)?;
+            Ok(Stepped::Moved)
+        }
+        TileMoved::Blocked => Ok(Stepped::Waits),
+        TileMoved::Ended => Ok(Stepped::Ended),
+        _ => Ok(Stepped::Moved),
+    }
+}
