@@ -1,5 +1,5 @@
 -- One element of a list is written.
-use Rattle.std.proofs.Common.{◌≡◌, ◌≢◌, ℕ, ◌<◌, List, length, Some, Ok, Err, refl, sym, ap, ◌∙◌, subst, get_or-set_same, get_or-set_other, length-set}
+use Rattle.std.proofs.Common.{◌≡◌, ℕ, ◌<◌, List, length, Ok, Err, refl, sym, ◌∙◌, subst, get_or-set_same, get_or-set_other, length-set}
 use Rattle.std.specs.Prelude.{slice_index_or, slice_set, IfOk, Result, Vec}
 use Rattle.std.specs.Global.{Global}
 use Rattle.std.proofs.lemmas.Option.{slice_get-get_or}

@@ -1,11 +1,10 @@
 -- A step of a client's core over lanes that are seen as the model's is a move of the client.
-use Rattle.std.proofs.Common.{◌≡◌, ◌≢◌, ℕ, ◌+◌, ◌<◌, ◌==◌, Bool, true, false, cond, List, [], ◌∷◌, ◌++◌, length, inl, inr, refl, sym, ap, ◌∙◌, subst, arith, eqb-true, eq-eqb, true≢false}
+use Rattle.std.proofs.Common.{◌≡◌, ℕ, ◌<◌, List, [], ◌∷◌, ◌++◌, length, refl, sym, ap, ◌∙◌, subst, arith}
 use Rattle.std.specs.Prelude.{slice_index_or, Vec}
 use Rattle.std.specs.Global.{Global}
-use Rattle.std.proofs.lemmas.Bool.{cases_Bool}
 use Rattle.rc_base.specs.Cluster.Lanes.{EachLane}
 use Rattle.rc_base.specs.Cluster.PlainLanes.{held, depth_of}
-use Rattle.rc_base.specs.Cluster.Sending.{Sending, ToTile, ToManager}
+use Rattle.rc_base.specs.Cluster.Sending.{ToTile, ToManager}
 use Rattle.rc_base.specs.Cluster.Tiles.{tile_count}
 use Rattle.rc_base.specs.Outside.Causes.{Rose}
 use Rattle.rc_base.specs.declared.cluster.ClientMoved.{ClientMoved}
@@ -21,15 +20,15 @@ use Rattle.client_issue.specs.Cores as client_issue
 use Rattle.client_issue.specs.Moves as core_moves
 use Rattle.client_issue.specs.declared.client.ClientCore.{ClientCore}
 use Rattle.tile_model.specs.Items.{with_at}
-use Rattle.world_model.specs.Moves.{IsMove, IsClientMove, IsClientStep, IsAppended, IsRequested, IsIdle, IsBlockedTile, IsBlockedRequest}
+use Rattle.world_model.specs.Moves.{IsClientMove, IsClientStep, IsIdle}
 use Rattle.world_model.specs.Moves.Move.{ClientMove}
-use Rattle.world_model.specs.World.{Client, client_total, lanes_of}
+use Rattle.world_model.specs.World.{Client, client_total}
 use Rattle.world_model.specs.World.{World as Model}
 use Rattle.step_core.specs.Actors.{client_said}
 use Rattle.step_core.specs.Changes.{IsClientCoreStep, IsColumnStepped}
 use Rattle.step_core.specs.Columns.{element}
 use Rattle.step_core.specs.Steps.{IsStep}
-use Rattle.step_core.specs.Worlds.{IsClientOf, IsViewOf, IsLaneOf, AreLanesOf, AreRowsOf}
+use Rattle.step_core.specs.Worlds.{IsClientOf, IsViewOf, IsLaneOf, AreLanesOf}
 use Rattle.step_core.specs.declared.world.World.{World}
 use Rattle.step_core.proofs.Fits.{view_fits}
 use Rattle.step_core.proofs.Lanes.{at_one, with_here, with_other, first_of_some, lanes_with, lanes_one, lane_full, lane_so}

@@ -1,5 +1,5 @@
 -- Clients that a scene doesn't have wait for nothing, and nothing of theirs is refused; who is stuck.
-use Rattle.std.proofs.Common.{◌≡◌, ℕ, zero, suc, ◌+◌, ◌<◌, ◌≤◌, ◌==◌, Bool, true, false, cond, List, [], ◌∷◌, ◌++◌, length, Option, Some, None, inl, inr, refl, sym, ap, ◌∙◌, subst, arith, true≢false}
+use Rattle.std.proofs.Common.{◌≡◌, ℕ, ◌+◌, ◌<◌, ◌≤◌, Bool, true, false, cond, List, [], ◌∷◌, length, Option, None, inl, inr, refl, sym, ap, ◌∙◌, subst, arith, true≢false}
 use Rattle.std.proofs.lemmas.Bool.{cases_Bool, cases_lt}
 use Rattle.std.proofs.lemmas.List.FromFn.{length-map-range_with_len, length-range_with_len, get_or-range_with_len}
 use Rattle.std.proofs.lemmas.List.Folds.{list_any_at}
@@ -7,7 +7,7 @@ use Rattle.std.proofs.lemmas.List.{get_or_past}
 use Rattle.std.proofs.lemmas.Option.{slice_get_past}
 use Rattle.std.specs.List.{range_with_len, list_any}
 use Rattle.std.specs.Option.{unwrap_or}
-use Rattle.std.specs.Prelude.{◌||◌, drop, map, is_some, slice_get, slice_index_or}
+use Rattle.std.specs.Prelude.{◌||◌, drop, is_some, slice_index_or}
 use Rattle.rc_base.specs.Contexts.Context.{default_context}
 use Rattle.rc_base.specs.Contexts.Issue.{stream_of, context_after, faults_of}
 use Rattle.rc_base.specs.Orders.Journal.{SyncState, head_wait, is_member, start, after, end_of, waiting_of}

@@ -1,11 +1,11 @@
 -- A journal has no more Swaps than a client has commands.
-use Rattle.std.proofs.Common.{◌≡◌, ℕ, zero, suc, ◌+◌, ◌<◌, ◌≤◌, Bool, true, false, cond, List, [], ◌∷◌, ◌++◌, length, Option, Some, None, refl, sym, ap, ◌∙◌, subst, arith, length-append, lt-ltb}
+use Rattle.std.proofs.Common.{◌≡◌, ℕ, zero, suc, ◌+◌, ◌<◌, ◌≤◌, Bool, true, false, cond, List, [], ◌∷◌, length, Some, ap, ◌∙◌, arith, length-append, lt-ltb}
 use Rattle.std.proofs.lemmas.List.FromFn.{length-map-range_with_len, get_or-map-range_with_len}
 use Rattle.std.proofs.lemmas.List.Sums.{sum_by-cons}
 use Rattle.std.proofs.lemmas.Option.{slice_get-get_or}
 use Rattle.std.specs.List.{range_with_len}
 use Rattle.std.specs.Option.{unwrap_or}
-use Rattle.std.specs.Prelude.{drop, map, option_map, nat_lt, slice_get}
+use Rattle.std.specs.Prelude.{drop, map, option_map, nat_lt}
 use Rattle.rc_base.specs.Contexts.Issue.{stream_of, effect_at}
 use Rattle.rc_base.specs.Orders.Journal.{SyncState, head_wait, is_member, after, IsLegalFrom, IsLegal}
 use Rattle.rc_base.specs.Orders.Sync.{client_count, ops_of, waits_below, wait_of, sync_row_of, sync_lists_of}

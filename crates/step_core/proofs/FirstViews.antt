@@ -1,10 +1,9 @@
 -- A cluster whose cores have done nothing, and whose lanes are empty, is seen as a new world of the model.
-use Rattle.std.proofs.Common.{◌≡◌, ℕ, zero, ◌+◌, ◌<◌, Bool, true, false, List, [], ◌∷◌, length, refl, sym, ap, ◌∙◌, arith}
+use Rattle.std.proofs.Common.{◌≡◌, ℕ, ◌<◌, List, [], length, refl, sym, ap, arith}
 use Rattle.std.specs.Prelude.{slice_index_or, Vec}
 use Rattle.std.specs.Global.{Global}
 use Rattle.std.proofs.lemmas.List.FromFn.{length-map-range_with_len}
 use Rattle.rc_base.specs.Cluster.Tiles.{tile_count}
-use Rattle.rc_base.specs.Drawing.Images.{Pixels}
 use Rattle.rc_base.specs.Orders.Sync.{client_count, sync_lists_of, sync_row_of}
 use Rattle.rc_base.specs.declared.cluster.TilePart.{TilePart}
 use Rattle.rc_base.specs.declared.scene.Scene.{Scene}
@@ -20,7 +19,7 @@ use Rattle.world_model.specs.World.{client_total}
 use Rattle.world_model.specs.World.{World as Model}
 use Rattle.step_core.specs.NewWorlds.{IsNew}
 use Rattle.step_core.specs.Runnable.{IsLaidOut, IsNewTileCore, new_client}
-use Rattle.step_core.specs.Worlds.{AreClientsOf, AreLanesOf, AreRowsOf, ArePartsOf, IsTileOf, IsManagerOf}
+use Rattle.step_core.specs.Worlds.{AreClientsOf, AreLanesOf, AreRowsOf, ArePartsOf, IsTileOf}
 use Rattle.step_core.specs.declared.world.World.{World}
 use Rattle.step_core.proofs.Changes.{same_default}
 use Rattle.step_core.proofs.Lanes.{first_of_some}

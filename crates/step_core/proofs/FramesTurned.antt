@@ -1,5 +1,5 @@
 -- One frame more is taken of the tiles' parts.
-use Rattle.std.proofs.Common.{◌≡◌, ℕ, ◌+◌, ◌*◌, ◌-◌, ◌<◌, ◌≤◌, List, [], ◌∷◌, ◌++◌, length, take, drop, inl, inr, refl, sym, ap, ◌∙◌, subst, arith, append-nil}
+use Rattle.std.proofs.Common.{◌≡◌, ℕ, ◌+◌, ◌*◌, ◌<◌, List, [], ◌∷◌, ◌++◌, length, take, drop, inl, inr, refl, sym, ap, ◌∙◌, subst, arith, append-nil}
 use Rattle.std.proofs.Math.Seq.{drop-length, take-length}
 use Rattle.std.proofs.Math.Nat.{mul-le-mul_right}
 use Rattle.std.proofs.lemmas.Bool.{cases_lt}
@@ -8,7 +8,7 @@ use Rattle.std.specs.Prelude.{slice_index_or, Vec}
 use Rattle.std.specs.Global.{Global}
 use Rattle.std.specs.declared.collections.VecDeque.{VecDeque}
 use Rattle.rc_base.specs.declared.cluster.TilePart.{TilePart}
-use Rattle.step_core.specs.Frames.{AreEven, IsQueueOf, AreTakenBelow, AreInFrames, AreTurned}
+use Rattle.step_core.specs.Frames.{AreEven, IsQueueOf, AreTakenBelow, AreTurned}
 use Rattle.step_core.specs.Gathering.{ArePaired}
 
 -- all of a list is written over

@@ -1,56 +1,48 @@
 -- What is collected of a cluster in which all have ended is what its run leaves.
-use Rattle.std.proofs.Common.{◌≡◌, ℕ, ◌+◌, ◌*◌, ◌-◌, ◌^◌, ◌<◌, ◌≤◌, true, false, List, [], ◌∷◌, length, Option, Some, None, Ok, Err, inl, inr, refl, sym, ap, ◌∙◌, subst, arith, true≢false}
+use Rattle.std.proofs.Common.{◌≡◌, ℕ, ◌+◌, ◌*◌, ◌-◌, ◌^◌, ◌<◌, ◌≤◌, List, [], ◌∷◌, length, Option, Some, None, inl, inr, refl, sym, ap, ◌∙◌, subst, arith, true≢false}
 use Rattle.std.proofs.Math.Nat.{mul-le-mul_right}
 use Rattle.std.proofs.lemmas.Bool.{cases_lt}
 use Rattle.std.proofs.lemmas.List.{ext_get_or, get_or_past}
 use Rattle.std.proofs.lemmas.List.FromFn.{length-map-range_with_len, get_or-map-range_with_len}
 use Rattle.std.proofs.lemmas.Option.{slice_get-get_or, slice_get_within, get_or_from_slice_get}
 use Rattle.std.specs.List.{range_with_len}
-use Rattle.std.specs.Prelude.{◌↔◌, min, map, sum, is_some, IsSome, IfSome, pos, slice_get, slice_index_or, Vec, Result, IfOk}
-use Rattle.std.specs.Global.{Global}
+use Rattle.std.specs.Prelude.{map, sum, is_some, IfSome, slice_index_or}
 use Rattle.rc_base.specs.Cluster.Parcels.{parcels_of, set_count}
-use Rattle.rc_base.specs.Cluster.Tiles.{tile_count, tile_pixels}
-use Rattle.rc_base.specs.Contexts.Issue.{stream_of, faults_of}
-use Rattle.rc_base.specs.Drawing.Images.{Pixels}
+use Rattle.rc_base.specs.Cluster.Tiles.{tile_count}
 use Rattle.rc_base.specs.Orders.Book.{Book, IsBookOver, waiting_in}
 use Rattle.rc_base.specs.Orders.Journal.{waiting_of}
 use Rattle.rc_base.specs.Orders.Sync.{sync_row_of, sync_lists_of}
 use Rattle.rc_base.specs.Outside.Causes.{last_count}
 use Rattle.rc_base.specs.declared.cluster.Tally.{Tally}
-use Rattle.rc_base.specs.declared.cluster.TilePart.{TilePart}
 use Rattle.rc_base.specs.declared.scene.Decl.{Decl}
 use Rattle.rc_base.specs.declared.scene.Scene.{Scene}
 use Rattle.rc_base.specs.declared.state.Fault.{Fault}
-use Rattle.rc_base.specs.declared.state.Parcel.{Parcel}
 use Rattle.rc_base.specs.declared.sync.Entry.{Entry}
 use Rattle.rc_base.specs.declared.sync.SyncLists.{SyncLists}
 use Rattle.rc_base.specs.declared.sync.SyncRow.{SyncRow}
-use Rattle.rc_base.specs.declared.sync.WaitAt.{WaitAt}
 use Rattle.rc_base.specs.declared.sync.Waiting.{Waiting}
 use Rattle.rc_base.specs.declared.window.Layout.{Layout}
-use Rattle.client_issue.specs.Cores.{IsClient, no_tally, tally_of_tile}
+use Rattle.client_issue.specs.Cores.{no_tally, tally_of_tile}
 use Rattle.client_issue.specs.declared.client.ClientCore.{ClientCore}
-use Rattle.order_model.specs.Report.{frame_count, is_stuck, summed, tile_order}
+use Rattle.order_model.specs.Report.{frame_count, tile_order}
 use Rattle.order_model.specs.Sent.{IsRecordOf}
 use Rattle.order_model.specs.declared.record.LogEntry.{LogEntry}
 use Rattle.order_model.specs.declared.record.Record.{Record}
-use Rattle.sync_manager.specs.Books.{IsBookOf, IsStuck}
+use Rattle.sync_manager.specs.Books.{IsBookOf}
 use Rattle.sync_manager.specs.Cores.{book_of}
 use Rattle.sync_manager.specs.Progress.{NoMoreComes}
 use Rattle.sync_manager.specs.Stored.{wait_at}
 use Rattle.tile_server.specs.Laws.{IsFramePart}
-use Rattle.tile_server.specs.declared.tile_core.TileCore.{TileCore}
-use Rattle.world_model.specs.Laws.{SteppedRunsAreSound, EndedWorldsAreLawful, EndedWorldsShowFrames, EndedWorldsWaitAlike, EndedWorldsTallyAll, TalliesCount, IsRecordIn, ShowsFrames}
+use Rattle.world_model.specs.Laws.{SteppedRunsAreSound, EndedWorldsAreLawful, EndedWorldsShowFrames, EndedWorldsWaitAlike, EndedWorldsTallyAll, TalliesCount, IsRecordIn}
 use Rattle.world_model.specs.Sound.{IsSound, tallied}
 use Rattle.step_core.specs.Collected.{IsCollectable, IsCollected}
 use Rattle.step_core.specs.CoreRuns.{AreFrameParts, AreTallies, AreFaults, IsWaiting, IsCoreRun, IsGathered}
 use Rattle.step_core.specs.Frames.{AreEven}
 use Rattle.step_core.specs.Gathering.{HaveSent}
 use Rattle.step_core.specs.Rounds.{HasRun, IsAtEnd}
-use Rattle.step_core.specs.Worlds.{ArePartsOf}
 use Rattle.step_core.specs.declared.rounds.CoreRun.{CoreRun}
 use Rattle.step_core.specs.declared.world.World.{World}
-use Rattle.step_core.proofs.ClientsBeyond.{counted, stuck_by, someone_waits, none_refused}
+use Rattle.step_core.proofs.ClientsBeyond.{stuck_by, someone_waits, none_refused}
 use Rattle.step_core.proofs.FewParcels.{few_parcels}
 use Rattle.step_core.proofs.FewSwaps.{few_swaps}
 use Rattle.step_core.proofs.TalliesSum.{whole_sum}

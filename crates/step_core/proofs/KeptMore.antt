@@ -1,23 +1,22 @@
 -- What is kept of one client more.
-use Rattle.std.proofs.Common.{◌≡◌, ℕ, ◌+◌, ◌<◌, ◌≤◌, false, List, [], ◌∷◌, ◌++◌, length, refl, sym, ap, ◌∙◌, subst, arith, length-append}
+use Rattle.std.proofs.Common.{◌≡◌, ℕ, ◌+◌, ◌<◌, false, List, [], ◌∷◌, ◌++◌, length, sym, ap, ◌∙◌, subst, arith, length-append}
 use Rattle.std.proofs.Math.ListN.{get_or-append}
 use Rattle.std.proofs.Math.Seq.{get_or-append_seam}
 use Rattle.std.proofs.lemmas.List.Sums.{sum_by_push}
 use Rattle.std.specs.List.{sum_by}
 use Rattle.std.specs.Prelude.{min, slice_index_or}
-use Rattle.rc_base.specs.Contexts.Issue.{stream_of, context_after, faults_of}
-use Rattle.rc_base.specs.Orders.Sync.{waits_below, sync_row_of}
+use Rattle.rc_base.specs.Contexts.Issue.{stream_of, context_after}
+use Rattle.rc_base.specs.Orders.Sync.{waits_below}
 use Rattle.rc_base.specs.Outside.Causes.{last_count}
 use Rattle.rc_base.specs.declared.cluster.Tally.{Tally}
 use Rattle.rc_base.specs.declared.scene.Scene.{Scene}
-use Rattle.rc_base.specs.declared.sync.SyncRow.{SyncRow}
 use Rattle.rc_base.specs.declared.sync.WaitAt.{WaitAt}
 use Rattle.rc_base.specs.declared.window.Layout.{Layout}
 use Rattle.client_issue.specs.Cores.{IsClientOf, short_of, no_tally, tally_of_tile}
 use Rattle.client_issue.specs.Kept.{IsKept}
 use Rattle.client_issue.specs.declared.client.ClientCore.{ClientCore}
 use Rattle.client_issue.specs.declared.client.ClientKept.{ClientKept}
-use Rattle.step_core.specs.Gathering.{together, ArePaired, HasSent, HaveSent, IsRowOf, AreFaultsOf, AreAdded, IsSum, AreSums}
+use Rattle.step_core.specs.Gathering.{together, ArePaired, HasSent, HaveSent, IsRowOf, AreFaultsOf, AreAdded, AreSums}
 use Rattle.step_core.specs.Kept.{AreKept, HasAdded}
 use Rattle.step_core.specs.declared.kept.KeptLists.{KeptLists}
 use Rattle.step_core.proofs.Paired.{paired_more}

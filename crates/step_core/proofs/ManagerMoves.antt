@@ -1,12 +1,11 @@
 -- A step of the manager's core over lanes that are seen as the model's is a move of the manager.
-use Rattle.std.proofs.Common.{◌≡◌, ℕ, ◌<◌, ◌==◌, Bool, true, false, cond, List, [], ◌∷◌, ◌++◌, length, Option, Some, None, Ok, refl, sym, ap, ◌∙◌, subst, arith}
-use Rattle.std.specs.Prelude.{MatchOption, slice_index_or, Vec}
+use Rattle.std.proofs.Common.{◌≡◌, ℕ, ◌==◌, Bool, false, cond, List, [], ◌∷◌, ◌++◌, length, Some, None, Ok, refl, ◌∙◌, subst, arith}
+use Rattle.std.specs.Prelude.{Vec}
 use Rattle.std.specs.Global.{Global}
 use Rattle.rc_base.specs.Cluster.Lanes.{EachLane}
 use Rattle.rc_base.specs.Cluster.PlainLanes.{held, depth_of}
 use Rattle.rc_base.specs.Cluster.Tiles.{tile_count}
 use Rattle.rc_base.specs.Orders.Sync.{sync_lists_of}
-use Rattle.rc_base.specs.Outside.Causes.{Rose}
 use Rattle.rc_base.specs.declared.cluster.ManagerMoved.{ManagerMoved}
 use Rattle.rc_base.specs.declared.plain_lane.PlainLane.{PlainLane}
 use Rattle.rc_base.specs.declared.scene.Scene.{Scene}
@@ -19,15 +18,15 @@ use Rattle.sync_manager.specs.Progress.{ManagerProgress, answer_of, progress_aft
 use Rattle.sync_manager.specs.declared.deed.ManagerDeed.{ManagerDeed}
 use Rattle.sync_manager.specs.declared.deed.ManagerDeed.TheVariants.{Delivers, FindsFull, Grants, Receives, Loses, FindsNoRequest, Drops, FindsNoneLeft, Finishes}
 use Rattle.sync_manager.specs.declared.manager.ManagerCore.{ManagerCore}
-use Rattle.world_model.specs.Moves.{IsMove, IsManagerMove}
+use Rattle.world_model.specs.Moves.{IsManagerMove}
 use Rattle.world_model.specs.Moves.Move.{ManagerMove}
-use Rattle.world_model.specs.World.{client_total, LanesFit}
+use Rattle.world_model.specs.World.{client_total}
 use Rattle.world_model.specs.World.{World as Model}
 use Rattle.step_core.specs.Actors.{manager_said}
-use Rattle.step_core.specs.Worlds.{IsViewOf, IsManagerOf, AreLanesOf}
+use Rattle.step_core.specs.Worlds.{IsViewOf}
 use Rattle.step_core.specs.Steps.{IsStep}
 use Rattle.step_core.specs.declared.world.World.{World}
-use Rattle.step_core.proofs.Lanes.{rest_of, not_itself, lanes_give, lanes_gave, lanes_empty, lanes_gain, lanes_full, lanes_fit, rows_fit}
+use Rattle.step_core.proofs.Lanes.{rest_of, not_itself, lanes_give, lanes_gave, lanes_empty, lanes_gain, lanes_full}
 use Rattle.step_core.proofs.Said.{manager_tells}
 use Rattle.step_core.proofs.Fits.{view_fits}
 

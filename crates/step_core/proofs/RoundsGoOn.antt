@@ -1,5 +1,5 @@
 -- A round grows by one step after the other, and says whether somebody moved.
-use Rattle.std.proofs.Common.{◌≡◌, ℕ, ◌+◌, ◌<◌, List, [], ◌∷◌, ◌++◌, length, map, refl, sym, ap, ◌∙◌, subst, arith, inr, append-nil}
+use Rattle.std.proofs.Common.{◌≡◌, ℕ, ◌+◌, List, [], ◌∷◌, ◌++◌, length, map, refl, sym, ap, ◌∙◌, subst, arith, inr}
 use Rattle.std.proofs.lemmas.List.{map-append}
 use Rattle.std.proofs.lemmas.List.FromFn.{map-range_with_len_more}
 use Rattle.std.specs.List.{range_with_len, AllByRecursion}
@@ -13,7 +13,7 @@ use Rattle.world_model.specs.World.{client_total}
 use Rattle.world_model.specs.World.{World as Model}
 use Rattle.step_core.specs.Rounds.{round_with, IsRound, IsRoundOf, IsRoundBelow, Rounds}
 use Rattle.step_core.specs.Steps.{IsSaid, Steps}
-use Rattle.step_core.specs.Worlds.{IsViewOf, IsSeen}
+use Rattle.step_core.specs.Worlds.{IsSeen}
 use Rattle.step_core.specs.declared.actor.Stepped.{Stepped}
 use Rattle.step_core.specs.declared.actor.Stepped.TheVariants as stepped
 use Rattle.step_core.specs.declared.round.Round.{Round}

@@ -1,8 +1,7 @@
 -- How far rounds lead: while somebody moves they go on, and a round in which nobody does is the last, or one of a standstill.
-use Rattle.std.proofs.Common.{◌≡◌, ℕ, zero, suc, ◌+◌, ◌<◌, ◌≤◌, List, [], ◌∷◌, ◌++◌, length, map, inl, inr, refl, sym, ap, ◌∙◌, subst, arith, append_assoc, append-nil}
+use Rattle.std.proofs.Common.{◌≡◌, ℕ, suc, ◌+◌, List, ◌++◌, map, inl, inr, sym, ap, ◌∙◌, subst, arith, append_assoc, append-nil}
 use Rattle.std.proofs.lemmas.Bool.{cases_lt}
-use Rattle.std.specs.List.{AllByRecursion}
-use Rattle.std.specs.Prelude.{Some, slice_get}
+use Rattle.std.specs.Prelude.{Some}
 use Rattle.rc_base.specs.Cluster.Tiles.{tile_count}
 use Rattle.rc_base.specs.Orders.Sync.{sync_lists_of}
 use Rattle.rc_base.specs.declared.scene.Decl.{Decl}
@@ -12,15 +11,14 @@ use Rattle.order_model.specs.declared.record.Record.{Record}
 use Rattle.sync_manager.specs.Progress.{ManagerProgress, IsNextDeed}
 use Rattle.sync_manager.specs.declared.deed.ManagerDeed.TheVariants.{Finishes}
 use Rattle.world_model.specs.Laws.{AreAlike, IsRecordIn, IsSameWorld, RunsGoOn, OneScheduleHasOneRun, RestsChangeNothing, EndedWorldsRest, LastRoundsTell}
-use Rattle.world_model.specs.Moves.{Move, AreMoves, IsAtRest, IsLast}
-use Rattle.world_model.specs.Runs.{AllHaveEnded, actor_of, round_of, rounds_of, IsSteppedRun, IsFinishedRun, StandsStill}
+use Rattle.world_model.specs.Moves.{Move, AreMoves}
+use Rattle.world_model.specs.Runs.{AllHaveEnded, actor_of, round_of, rounds_of, IsSteppedRun}
 use Rattle.world_model.specs.Tiles.{Tile, HasEnded}
-use Rattle.world_model.specs.World.{client_total}
 use Rattle.world_model.specs.World.{World as Model}
 use Rattle.step_core.specs.CoreRuns.{IsFinish, IsGathered, IsStandstill}
-use Rattle.step_core.specs.Rounds.{IsReached, LeadsTo, IsRoundOf, Rounds, HasRun, IsAtEnd}
+use Rattle.step_core.specs.Rounds.{IsReached, LeadsTo, Rounds, HasRun, IsAtEnd}
 use Rattle.step_core.specs.Runs.{IsRunnable, IsRunOf, IsUnderWay}
-use Rattle.step_core.specs.Worlds.{IsViewOf, IsSeen}
+use Rattle.step_core.specs.Worlds.{IsSeen}
 use Rattle.step_core.specs.declared.round.Round.TheVariants.{Moved, Still, Ended}
 use Rattle.step_core.specs.declared.rounds.CoreRun.{CoreRun}
 use Rattle.step_core.specs.declared.rounds.FinishFault.TheVariants.{Standstill}

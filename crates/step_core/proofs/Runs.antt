@@ -4,7 +4,7 @@ use Rattle.std.specs.Prelude.{map}
 use Rattle.rc_base.specs.declared.scene.Scene.{Scene}
 use Rattle.rc_base.specs.declared.window.Layout.{Layout}
 use Rattle.world_model.specs.Moves.{Move, AreMoves, IsMove}
-use Rattle.world_model.specs.Runs.{actor_of, IsSteppedRun}
+use Rattle.world_model.specs.Runs.{actor_of}
 use Rattle.world_model.specs.World.{World as Model}
 use Rattle.step_core.specs.NewWorlds.{IsNew}
 use Rattle.step_core.specs.Runs.{IsRunOf}

@@ -1,6 +1,6 @@
 -- What a tile's core does in a step, as an item of the model's tile.
-use Rattle.std.proofs.Common.{◌≡◌, ◌≢◌, ◌⊎◌, ℕ, suc, ◌+◌, ◌<◌, ◌≤◌, ◌==◌, Bool, true, false, cond, not, ◌&&◌, List, [], ◌∷◌, ◌++◌, length, Option, Some, None, Ok, inl, inr, refl, sym, ap, ◌∙◌, subst, arith, eqb-true, length-append}
-use Rattle.std.specs.Prelude.{MatchOption, Result}
+use Rattle.std.proofs.Common.{◌≡◌, ◌≢◌, ◌⊎◌, ℕ, ◌+◌, ◌==◌, Bool, true, false, not, ◌&&◌, List, [], ◌∷◌, ◌++◌, length, None, Ok, inl, inr, refl, sym, ap, ◌∙◌, arith, eqb-true, length-append}
+use Rattle.std.specs.Prelude.{Result}
 use Rattle.std.proofs.lemmas.Bool.{cases_Bool}
 use Rattle.rc_base.specs.Drawing.Images.{Pixels}
 use Rattle.rc_base.specs.declared.cluster.TileMoved.{TileMoved}
@@ -9,16 +9,15 @@ use Rattle.rc_base.specs.declared.cluster.TilePart.{TilePart}
 use Rattle.rc_base.specs.declared.out_of_memory.OutOfMemory.{OutOfMemory}
 use Rattle.rc_base.specs.declared.state.Act.{Act}
 use Rattle.rc_base.specs.declared.state.Act.TheVariants as act
-use Rattle.rc_base.specs.declared.state.Parcel.{Parcel}
 use Rattle.rc_base.specs.declared.sync.Entry.{Entry}
 use Rattle.rc_base.specs.declared.sync.Entry.TheVariants.{Meet, Swap, Give, Take}
 use Rattle.rc_base.specs.declared.sync.Grant.TheVariants as grant
-use Rattle.order_model.specs.Standing.{Progress, performed_in, is_over, is_listening, is_asked}
+use Rattle.order_model.specs.Standing.{Progress, performed_in}
 use Rattle.tile_model.specs.Acts.{is_work}
-use Rattle.tile_model.specs.Items.{Item, after_act, after_item, has_clients, shown_frames, IsAwaited}
+use Rattle.tile_model.specs.Items.{Item, after_act, after_item, shown_frames, IsAwaited}
 use Rattle.tile_model.specs.Items.Item.{Nothing, Due, Granted, NoMore, Sent}
 use Rattle.step_core.proofs.ShownFrames.{after_swap, after_other, after_learnt, after_worked}
-use Rattle.tile_server.specs.Deeds.{item_of, answer_of, is_end, is_wait, taken_of, granted_of, next_after, progress_after, IsNextDeed, IsFinished, IsFoundEmpty, IsUnheard}
+use Rattle.tile_server.specs.Deeds.{item_of, answer_of, is_end, is_wait, taken_of, granted_of, next_after, IsNextDeed, IsFinished, IsFoundEmpty, IsUnheard}
 use Rattle.tile_server.specs.declared.deed.TileDeed.{TileDeed}
 use Rattle.tile_server.specs.declared.deed.TileDeed.TheVariants.{Performs, Shows, Fails, Learns, Works, Holds, Closes, Drops, Loses, Rests, Finishes}
 use Rattle.world_model.specs.Tiles as model

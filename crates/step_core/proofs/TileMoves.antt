@@ -1,11 +1,11 @@
 -- A step of a tile's core over lanes that are seen as the model's is a move of the tile.
-use Rattle.std.proofs.Common.{◌≡◌, ◌≢◌, ℕ, ◌+◌, ◌<◌, ◌^◌, ◌==◌, Bool, true, false, cond, List, [], ◌∷◌, ◌++◌, length, Option, Some, None, Ok, inl, inr, refl, sym, ap, ◌∙◌, subst, arith, length-append}
+use Rattle.std.proofs.Common.{◌≡◌, ℕ, ◌+◌, ◌<◌, ◌^◌, ◌==◌, Bool, false, cond, List, [], ◌∷◌, ◌++◌, length, Option, Some, None, Ok, inl, inr, refl, sym, ap, ◌∙◌, subst, arith, length-append}
 use Rattle.std.specs.Prelude.{MatchOption, slice_index_or, Vec}
 use Rattle.std.specs.Global.{Global}
 use Rattle.std.proofs.lemmas.Bool.{cases_lt}
 use Rattle.std.proofs.Math.ListN.{get_or-append}
 use Rattle.std.proofs.Math.Seq.{get_or-append_seam}
-use Rattle.rc_base.specs.Cluster.PlainLanes.{held, depth_of}
+use Rattle.rc_base.specs.Cluster.PlainLanes.{held}
 use Rattle.rc_base.specs.Cluster.Tiles.{tile_count}
 use Rattle.rc_base.specs.Drawing.Images.{Pixels}
 use Rattle.rc_base.specs.declared.cluster.TileMoved.{TileMoved}
@@ -26,18 +26,18 @@ use Rattle.tile_server.specs.Deeds.{item_of, answer_of, taken_of, granted_of, pr
 use Rattle.tile_server.specs.declared.deed.TileDeed.{TileDeed}
 use Rattle.tile_server.specs.declared.deed.TileDeed.TheVariants.{Performs, Shows, Fails, Learns, Works, Holds, Closes, Drops, Loses, Rests, Finishes}
 use Rattle.tile_server.specs.declared.tile_core.TileCore.{TileCore}
-use Rattle.world_model.specs.Moves.{IsMove, IsTileMove}
+use Rattle.world_model.specs.Moves.{IsTileMove}
 use Rattle.world_model.specs.Moves.Move.{TileMove}
-use Rattle.world_model.specs.Tiles.{Tile, parcel_taken, grant_taken, next_after, parts_after, without_pixels, IsTileStep, FindsNoGrant, FindsNoParcel}
+use Rattle.world_model.specs.Tiles.{Tile, next_after, parts_after, without_pixels, IsTileStep}
 use Rattle.world_model.specs.World.{client_total}
 use Rattle.world_model.specs.World.{World as Model}
 use Rattle.step_core.specs.Actors.{tile_said}
-use Rattle.step_core.specs.Changes.{IsChanged, IsTileStepped, IsTileCoreStep, ArePartsKept, with_shown}
-use Rattle.step_core.specs.Worlds.{IsViewOf, IsTileOf, IsPartOf, ArePartsOf, AreLanesOf, AreRowsOf, AreTilesOf, AreShown, IsLaneOf}
+use Rattle.step_core.specs.Changes.{IsTileStepped, ArePartsKept, with_shown}
+use Rattle.step_core.specs.Worlds.{IsViewOf, IsTileOf, IsPartOf, ArePartsOf, AreLanesOf, IsLaneOf}
 use Rattle.step_core.specs.Steps.{IsStep}
 use Rattle.step_core.specs.declared.world.World.{World}
 use Rattle.step_core.proofs.Fits.{view_fits}
-use Rattle.step_core.proofs.Lanes.{at_one, with_here, with_other, first_of_some, rest_of, rest_was, at_item, none_taken, not_itself, lanes_give, lanes_gave, lanes_empty, lanes_as, lanes_one, lane_gives}
+use Rattle.step_core.proofs.Lanes.{at_one, with_here, with_other, rest_of, rest_was, at_item, none_taken, not_itself, lanes_give, lanes_gave, lanes_empty, lanes_as, lanes_one, lane_gives}
 use Rattle.step_core.proofs.Said.{tile_tells}
 use Rattle.step_core.proofs.TileDeeds.{same_taken, same_granted, same_next, awaits, is_undue, finds_no_parcel, finds_no_grant, none_granted, answers, shows_or_not, shown_after}
 

@@ -1,5 +1,5 @@
 -- What is collected of a cluster's actors and lists, before anything is said of a scene.
-use Rattle.std.specs.Prelude.{◌≡◌, ℕ, ◌<◌, ◌↔◌, List, Option, IsSome, IfSome, length, slice_index_or}
+use Rattle.std.specs.Prelude.{◌≡◌, ℕ, ◌<◌, ◌↔◌, IsSome, IfSome, length, slice_index_or}
 use Rattle.rc_base.specs.Orders.Book.{Book, waiting_in}
 use Rattle.rc_base.specs.declared.scene.Decl.{Decl}
 use Rattle.rc_base.specs.declared.sync.SyncLists.{SyncLists}

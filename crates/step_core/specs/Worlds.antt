@@ -9,8 +9,6 @@ use Rattle.rc_base.specs.declared.cluster.TilePart.{TilePart}
 use Rattle.rc_base.specs.declared.plain_lane.PlainLane.{PlainLane}
 use Rattle.rc_base.specs.declared.scene.Scene.{Scene}
 use Rattle.rc_base.specs.declared.state.Parcel.{Parcel}
-use Rattle.rc_base.specs.declared.sync.Grant.{Grant}
-use Rattle.rc_base.specs.declared.sync.Request.{Request}
 use Rattle.rc_base.specs.declared.window.Layout.{Layout}
 use Rattle.draw_device.specs.Devices.{pixel_index, rect_size}
 use Rattle.client_issue.specs.Cores as client

@@ -4,7 +4,7 @@ use Rattle.std.proofs.lemmas.Bool.{and_parts}
 use Rattle.std.proofs.lemmas.List.{length-map}
 use Rattle.std.proofs.lemmas.List.FromFn.{length-range_with_len, get_or-range_with_len}
 use Rattle.std.proofs.lemmas.Option.{slice_get_within}
-use Rattle.std.specs.List.{AllByRecursion, range_with_len}
+use Rattle.std.specs.List.{AllByRecursion}
 use Rattle.std.specs.Prelude.{◌||◌, Ok, Result}
 use Rattle.rc_base.specs.Cluster.Sending.{Sending}
 use Rattle.rc_base.specs.Cluster.Tiles.{tile_count}
@@ -27,9 +27,9 @@ use Rattle.world_model.specs.Laws.{IsSameWorld, RestsChangeNothing, EndedWorldsR
 use Rattle.world_model.specs.Moves.{Move, IsAtRest, IsLast, IsClientStep, IsMove, AreMoves}
 use Rattle.world_model.specs.Moves.Move.{ClientMove, ManagerMove, TileMove}
 use Rattle.world_model.specs.Runs.{actor_of, round_of, AllHaveEnded}
-use Rattle.world_model.specs.Tiles.{TileAnswer, HasEnded, IsTileAnswer, answer_to_entry, answer_to_act}
-use Rattle.world_model.specs.Tiles.TileAnswer.{Learnt, Ended}
-use Rattle.world_model.specs.World.{World, Client, client_total}
+use Rattle.world_model.specs.Tiles.{TileAnswer, HasEnded, IsTileAnswer}
+use Rattle.world_model.specs.Tiles.TileAnswer.{Ended}
+use Rattle.world_model.specs.World.{World, client_total}
 use Rattle.world_model.proofs.RestChangesNothing.{rest_changes_nothing, no_item}
 
 module _ (scene : Scene) (l : Layout) where

@@ -12,10 +12,6 @@ mod WhatHasArrived
 mod EndedWorlds
 mod RestChangesNothing
 mod RunsGoOn
-mod LanesAreHeld
-mod ClientAnswersAreMoves
-mod ManagerAnswersAreMoves
-mod TileAnswersAreMoves
 mod ClientsDoOneThing
 mod ManagersDoOneThing
 mod TilesDoOneThing

@@ -1,5 +1,5 @@
 -- Finished runs of the same picks leave one record.
-use Rattle.std.proofs.Common.{◌≡◌, ℕ, ◌<◌, List, [], length, Some, slice_get, refl, sym, ap, ◌∙◌, subst, arith}
+use Rattle.std.proofs.Common.{◌≡◌, ◌<◌, List, [], sym, ap, ◌∙◌, arith}
 use Rattle.std.proofs.lemmas.List.{ext_get_or}
 use Rattle.std.proofs.lemmas.Option.{get_or_from_slice_get}
 use Rattle.rc_base.specs.Cluster.Tiles.{tile_count}

@@ -5,4 +5,3 @@ pub mod Runs
 pub mod Sound
 pub mod Work
 pub mod Laws
-pub mod Views

@@ -4,7 +4,6 @@ ghost use Rattle.world_model.specs.Laws.{RunsGoOn, OneScheduleHasOneRun, SoundWo
 ghost use Rattle.world_model.specs.Laws.{EndedWorldsAreLawful, EndedWorldsShowFrames, EndedWorldsWaitAlike, EndedWorldsTallyAll};
 ghost use Rattle.world_model.specs.Laws.{FinishedRunsAreWhole, FinishedRunsAreOne, FinishedRunsLeaveOneRecord, RoundsMoveSomebody, NoRunStandsStill, TalliesCount};
 ghost use Rattle.world_model.specs.Laws.{RestsChangeNothing, EndedWorldsRest, LastRoundsTell};
-ghost use Rattle.world_model.specs.Views.{ClientAnswersAreMoves, ManagerAnswersAreMoves, TileAnswersAreMoves};
 ghost use Rattle.world_model.specs.Work.{MovesLeaveLess};
 
 use client_issue::laws::sends_are_parcels;
@@ -124,12 +123,4 @@ pub fn moves_leave_less()
 /// A tally counts parcels, and the elements that they set.
 pub fn tallies_count()
     ensures { TalliesCount }
-{}
-
-/// What the contract of a client's step says of a core that isn't short, what that of the manager's step says, and what is said of a tile's step, is
-/// over plain lanes the step of a move: of every world that the actor and its lanes show, to the one that they show afterwards.
-pub fn answers_are_moves()
-    ensures clients { ClientAnswersAreMoves }
-    ensures managers { ManagerAnswersAreMoves }
-    ensures tiles { TileAnswersAreMoves }
 {}

@@ -1,4 +1,4 @@
-use Rattle.std.proofs.Common.{◌≡◌, ℕ, ◌∙◌, ap, sym, subst, arith, ◌<◌, length}
+use Rattle.std.proofs.Common.{ℕ, ◌∙◌, sym, subst, ◌<◌, length}
 use Rattle.step_core.proofs.Changes.{on_ok}
 use Rattle.step_core.proofs.clients.step_in_column.Goals as goal
 

@@ -1,4 +1,3 @@
-use Rattle.std.proofs.Common.{◌≡◌}
 use Rattle.std.specs.Prelude.{slice_index_or}
 use Rattle.step_core.proofs.Changes.{changed_at, on_ok}
 use Rattle.step_core.proofs.clients.step_of_client.Goals as goal

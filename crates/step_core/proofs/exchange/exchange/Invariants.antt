@@ -1,5 +1,5 @@
-use Rattle.std.proofs.Common.{length, ◌-◌, ◌≡◌, ◌≤◌}
-use Rattle.step_core.specs.Columns.{HasColumn, IsExchangedBelow}
+use Rattle.std.proofs.Common.{length, ◌-◌}
+use Rattle.step_core.specs.Columns.{IsExchangedBelow}
 use Rattle.step_core.proofs.exchange.exchange.Given as goal
 
 abbrev pub invariant-loop-row : goal.invariant-loop-row

@@ -1,4 +1,4 @@
-use Rattle.std.proofs.Common.{◌≡◌, [], sym, subst, arith, length}
+use Rattle.std.proofs.Common.{[], arith}
 use Rattle.rc_base.specs.Formats.Commands.{IsCommand}
 use Rattle.std.specs.List.{AllByRecursion}
 use Rattle.step_core.specs.Runnable.{new_client}

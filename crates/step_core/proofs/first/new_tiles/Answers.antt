@@ -1,4 +1,3 @@
-use Rattle.std.proofs.Common.{◌≡◌}
 use Rattle.step_core.specs.Runnable.{IsNewTileCore}
 use Rattle.step_core.proofs.Pushes.{count_more, each_more}
 use Rattle.step_core.proofs.first.new_tiles.Goals as goal

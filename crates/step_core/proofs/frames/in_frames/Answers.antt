@@ -1,4 +1,4 @@
-use Rattle.std.proofs.Common.{◌≡◌, ◌+◌, ◌<◌, ℕ, List, length, ap, sym, subst, arith}
+use Rattle.std.proofs.Common.{◌+◌, ◌<◌, ℕ, List, length, ap, sym, subst, arith}
 use Rattle.std.specs.Prelude.{slice_index_or}
 use Rattle.std.specs.Global.{Global}
 use Rattle.std.specs.declared.collections.VecDeque.{VecDeque}

@@ -1,4 +1,4 @@
-use Rattle.std.proofs.Common.{◌≡◌, ◌<◌, ℕ, List, length, ◌∙◌, sym, ap, subst, arith}
+use Rattle.std.proofs.Common.{◌≡◌, ◌<◌, ℕ, List, length, ◌∙◌, sym, subst, arith}
 use Rattle.std.specs.Prelude.{◌↔◌, IsSome, IfSome, Vec}
 use Rattle.std.specs.Global.{Global}
 use Rattle.rc_base.specs.Orders.Book.{Book as Arrivals, waiting_in}

@@ -1,6 +1,5 @@
 use Rattle.std.proofs.lemmas.Result.{IfOk-weaker}
-use Rattle.step_core.specs.CoreRuns.{IsGathered}
-use Rattle.step_core.proofs.Gathered.{GatherLaws, can_collect, is_gathered}
+use Rattle.step_core.proofs.Gathered.{can_collect, is_gathered}
 use Rattle.step_core.proofs.gather.gather.Goals as goal
 
 pub collect-requires : goal.collect-requires

@@ -1,4 +1,4 @@
-use Rattle.std.proofs.Common.{◌≡◌, ◌++◌, [], ◌∷◌, sym, subst}
+use Rattle.std.proofs.Common.{◌++◌, [], ◌∷◌, sym, subst}
 use Rattle.std.specs.Vec.Iter.{into_iter_items}
 use Rattle.step_core.specs.Gathering.{ArePaired, IsLogOf}
 use Rattle.step_core.proofs.Paired.{paired_more, goes_on}

@@ -1,6 +1,6 @@
 use Rattle.std.proofs.Common.{subst}
 use Rattle.step_core.specs.Rounds.{Rounds}
-use Rattle.step_core.proofs.RoundsReach.{RoundLaws, begins, leads_on, seen_under_way, stands_still, at_end, is_finish}
+use Rattle.step_core.proofs.RoundsReach.{begins, leads_on, seen_under_way, stands_still, at_end, is_finish}
 use Rattle.step_core.proofs.rounds.finish.Goals as goal
 
 pub loop-init : goal.loop-init

@@ -1,10 +1,10 @@
-use Rattle.std.proofs.Common.{◌≡◌, List, ap, sym, ◌∙◌, subst}
+use Rattle.std.proofs.Common.{List, sym, ◌∙◌, subst}
 use Rattle.std.specs.Prelude.{slice_index_or}
 use Rattle.std.specs.Vec.{with_items}
 use Rattle.rc_base.specs.declared.plain_lane.PlainLane.{PlainLane}
 use Rattle.rc_base.specs.declared.state.Parcel.{Parcel}
-use Rattle.step_core.specs.Changes.{IsTileStepped, IsTileCoreStep}
-use Rattle.step_core.proofs.Changes.{changed, changed_at, on_ok}
+use Rattle.step_core.specs.Changes.{IsTileCoreStep}
+use Rattle.step_core.proofs.Changes.{changed_at, on_ok}
 use Rattle.step_core.proofs.Lanes.{items_are}
 use Rattle.step_core.proofs.tiles.step_of_tile.Goals as goal
 

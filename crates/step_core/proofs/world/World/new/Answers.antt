@@ -1,4 +1,4 @@
-use Rattle.std.proofs.Common.{◌≡◌, [], ◌<◌, sym, subst, ◌∙◌, arith}
+use Rattle.std.proofs.Common.{[], ◌<◌, sym, subst, ◌∙◌}
 use Rattle.std.specs.Prelude.{slice_index_or}
 use Rattle.rc_base.specs.Cluster.Tiles.{tile_count}
 use Rattle.step_core.specs.Runnable.{IsNewTileCore}

@@ -1,4 +1,4 @@
-use Rattle.std.proofs.Common.{◌≡◌, ◌+◌, sym, subst, arith}
+use Rattle.std.proofs.Common.{◌+◌, sym, subst, arith}
 use Rattle.step_core.specs.Rounds.{IsRoundBelow}
 use Rattle.step_core.proofs.RoundsGoOn.{round_goes_on, still_seen, same_actors}
 use Rattle.step_core.proofs.world.World.round.Goals as goal

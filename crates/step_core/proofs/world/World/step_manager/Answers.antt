@@ -1,11 +1,8 @@
-use Rattle.std.proofs.Common.{◌≡◌, ℕ, List, sym, subst}
+use Rattle.std.proofs.Common.{List, sym, subst}
 use Rattle.std.specs.Vec.{with_items}
 use Rattle.rc_base.specs.declared.plain_lane.PlainLane.{PlainLane}
 use Rattle.rc_base.specs.declared.sync.Grant.{Grant}
 use Rattle.rc_base.specs.declared.sync.Request.{Request}
-use Rattle.step_core.specs.Actors.{manager_said}
-use Rattle.step_core.specs.Steps.{IsStep}
-use Rattle.step_core.specs.declared.actor.Stepped.{Stepped}
 use Rattle.step_core.proofs.ManagerMoves.{manager_steps, IsCoreStep}
 use Rattle.step_core.proofs.Lanes.{items_are}
 use Rattle.step_core.proofs.Said.{told}

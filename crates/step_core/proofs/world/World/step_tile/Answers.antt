@@ -3,7 +3,6 @@ use Rattle.std.specs.Vec.{with_items}
 use Rattle.world_model.specs.Tiles.{without_pixels}
 use Rattle.step_core.specs.Actors.{tile_said}
 use Rattle.step_core.specs.Changes.{ArePartsKept}
-use Rattle.step_core.specs.declared.actor.Stepped.{Stepped}
 use Rattle.step_core.proofs.Changes.{kept_at, on_ok, stepped_at}
 use Rattle.step_core.proofs.Lanes.{items_are}
 use Rattle.step_core.proofs.Said.{told}
