@@ -1,6 +1,6 @@
 """Runs the program on the scenes of scenes.py and prints processor seconds, memory and ratios. run.sh calls it.
 
-What reading takes is measured on the same scene with a width of 0, which is refused after it was read; drawing is the scene without swaps less that,
+Drawing is that of `serial`; what the stepped cluster takes is its `render` to that. What reading takes is measured on the same scene with a width of 0, which is refused after it was read; drawing is the scene without swaps less that,
 and writing what the swaps add. Mesa prints its own seconds of drawing, those of all its threads together. Processor seconds are user and system time, so that
 what else the machine does counts little.
 
@@ -29,9 +29,9 @@ def path(*words):
     return name
 
 
-def run(job, scene, output=os.devnull):
-    """The best of three runs of the program with this job."""
-    return best_of([program, job], scene, output)
+def run(words, scene, output=os.devnull):
+    """The best of three runs of the program with these words."""
+    return best_of([program, *words.split()], scene, output)
 
 
 def best_of(command, scene, output=os.devnull):
@@ -63,7 +63,7 @@ def mesa_seconds(driver, scene):
 
 def parts(name):
     """Seconds of reading, drawing and writing of a scene, and the whole run."""
-    read, drawn, whole = run("render", path(name, "unread")), run("render", path(name, "noswap")), run("render", path(name))
+    read, drawn, whole = run("serial", path(name, "unread")), run("serial", path(name, "noswap")), run("serial", path(name))
     return read[0], max(drawn[0] - read[0], 1e-9), max(whole[0] - drawn[0], 0.0), whole
 
 
@@ -90,7 +90,7 @@ def main():
     def show(name, result):
         print(f"{name:<48} {result[0]:7.3f} s  {result[1]:7.1f} MB  status {result[2]}", flush=True)
 
-    show("2048 by 2048, 8 clears and 8 swaps", run("render", path("clears")))
+    show("2048 by 2048, 8 clears and 8 swaps", run("serial", path("clears")))
     four = path("usual", "4")
     size = os.path.getsize(four) / 1e6
     read = run("render", path("usual", "4", "unread"))
@@ -109,8 +109,31 @@ def main():
     commands, unread = run("check", path("commands")), run("render", path("commands", "unread"))
     show("1,048,576 commands, check", commands)
     print(f"reading them : checking them = 1 : {(commands[0] - unread[0]) / unread[0]:.1f}")
+    cluster_ratios()
     if os.path.exists(sorter):
         sort_ratios()
+
+
+def told(words, scene):
+    """What all tiles were sent, by the report of a run: parcels and sets."""
+    with open(scene, "rb") as source:
+        notes = subprocess.run([program, *words.split()], stdin=source, stdout=subprocess.DEVNULL, stderr=subprocess.PIPE).stderr
+    lines = [line.split() for line in notes.decode().splitlines() if line.startswith("tile ")]
+    return sum(int(line[3]) for line in lines), sum(int(line[5]) for line in lines)
+
+
+def cluster_ratios():
+    """Seconds of the stepped cluster to those of the serial renderer, and what goes over its lanes."""
+    for name in (("usual",), ("usual", "4"), ("fill",), ("small",)):
+        scene = path(*name)
+        serial = run("serial", scene)[0]
+        print(f"serial : cluster on {' '.join(name)} = 1 :", end="")
+        for tiles in ("1x1", "2x2", "4x4", "8x4"):
+            seconds, _, status = run(f"render --tiles {tiles}", scene)
+            ratio = f"{seconds / serial:.2f}" if status == 0 else f"status {status}"
+            print(f"  {tiles} {ratio}", end="", flush=True)
+        parcels, sets = told("render --tiles 4x4", scene)
+        print(f"   (4x4: {parcels} parcels, {sets} sets, of {os.path.getsize(scene) / 1e6:.1f} MB)", flush=True)
 
 
 def sort_ratios():
