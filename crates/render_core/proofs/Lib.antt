@@ -1,6 +1,8 @@
-pub mod OneWord
 pub mod Prefixes
 pub mod WithinLimits
+pub mod Clustered
+pub mod OneOutcome
+pub mod KeptOrders
 pub mod Judging
 pub mod Endings
 pub mod ReportLines

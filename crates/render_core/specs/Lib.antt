@@ -4,3 +4,5 @@ pub mod Findings
 pub mod Outcomes
 pub mod Refusals
 pub mod Reports
+pub mod Clusters
+pub mod Laws
