@@ -8,3 +8,5 @@ pub mod Endings
 pub mod ReportLines
 pub mod Dues
 pub mod Performing
+pub mod FrameParts
+pub mod ClusterRuns

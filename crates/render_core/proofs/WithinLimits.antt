@@ -1,5 +1,5 @@
 -- What is known of a scene within the limits.
-use Rattle.std.proofs.Common.{◌≡◌, ℕ, zero, suc, ◌-◌, ◌*◌, ◌≤◌, ◌<◌, ◌^◌, inl, inr, Bool, true, false, List, [], ◌∷◌, ◌++◌, length, map, get_or, None, Some, refl, sym, ap, ◌∙◌, subst, arith, length-append, append_assoc}
+use Rattle.std.proofs.Common.{◌≡◌, ℕ, zero, suc, ◌+◌, ◌-◌, ◌*◌, ◌≤◌, ◌<◌, ◌^◌, inl, inr, Bool, true, false, List, [], ◌∷◌, ◌++◌, length, map, get_or, None, Some, refl, sym, ap, ◌∙◌, subst, arith, length-append, append_assoc}
 use Rattle.std.specs.Prelude.{pos, sum_by, slice_index, if◌then◌else◌}
 use Rattle.std.specs.List.{flat_map, range_with_len, AllByRecursion}
 use Rattle.std.specs.declared.option.Option.{Option}
@@ -175,6 +175,9 @@ module _ (scene : Scene) (within : limit_of scene ≡ None) where
   -- each client has few commands
   pub few_commands : (client : ℕ) → length (stream_of scene client) < 2 ^ 32
   few_commands client = omega (arith, commands_within, each_stream scene.streams client)
+
+  pub short_streams : (client : ℕ) → length (stream_of scene client) < 2 ^ 20 + 1
+  short_streams client = omega (arith, commands_within, each_stream scene.streams client)
 
   -- each barrier counts one client or more
   pub counts_some : (barrier count : ℕ) → at_name scene.decl.barriers barrier ≡ Some count → 0 < count

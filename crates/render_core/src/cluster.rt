@@ -1,21 +1,30 @@
 //! The stepped cluster's frames, report and record.
-ghost use Rattle.std.specs.Prelude.{◌≡◌, ◌≤◌, ◌+◌, ◌<◌, ℕ, None, Some, length, slice_index_or, IfOk, IfErr};
+ghost use Rattle.std.specs.Prelude.{◌≡◌, ◌≤◌, ◌+◌, ◌<◌, ℕ, None, length, slice_index_or, IfOk, IfErr};
 ghost use Rattle.rc_base.specs.Cluster.Tiles.{tile_count};
+ghost use Rattle.rc_base.specs.Drawing.Images.{Pixels};
 ghost use Rattle.rc_base.specs.Formats.Limits.{limit_of};
-ghost use Rattle.rc_base.specs.declared.scene.Scene.{Scene as AnyScene};
+ghost use Rattle.assembler.specs.Parts.{AreParts, ShowPixels};
 ghost use Rattle.render_core.specs.Clusters.{IsClusterRun, IsStandstill};
+ghost use Rattle.render_core.specs.Frames.{frame_parts, frame_total, window_image, window_images, AreFrames, ShowFrames};
 ghost use Rattle.render_core.specs.Refusals.{IsWellRead};
-ghost use Rattle.render_core.specs.declared.cluster.ClusterFault.TheVariants.{Standstill as StoodStill};
+ghost use Rattle.render_core.specs.declared.cluster.ClusterFault.TheVariants.{Standstill as StoodStill, OutOfMemory as NoMemory};
 ghost use Rattle.render_core.specs.declared.job.Form.TheVariants.{Bytes as OfBytes};
+ghost use Rattle.step_core.specs.declared.rounds.FinishFault.TheVariants.{OutOfMemory as Unfinished};
 
-use crate::due::Ending;
+use crate::due::{Ending, ending_of};
+use crate::report::cluster_report;
+use assembler::assemble;
+use bounds_bucket::each_pixel_has_one_tile;
 use order_model::record::Record;
+use rc_base::cluster::TilePart;
 use rc_base::command::Bytes;
-use rc_base::image::Frames;
+use rc_base::image::{Frames, Image};
 use rc_base::out_of_memory::OutOfMemory;
 use rc_base::scene::Scene;
 use rc_base::window::Layout;
-use std::alloc::Global;
+use std::alloc::{AllocError, Global};
+use step_core::{CoreRun, FinishFault, finish, run_schedule};
+use tile_model::laws::parcels_are_givable;
 
 /// What a run of the cluster gives.
 #[derive(Drop)]
@@ -33,6 +42,65 @@ pub(crate) enum ClusterFault {
     Standstill,
     /// There was no memory.
     OutOfMemory,
+}
+
+impl From<OutOfMemory> for ClusterFault {
+    ghost from_gives = { λ _ fault. fault ≡ NoMemory };
+
+    fn from(_: OutOfMemory) -> ClusterFault {
+        ClusterFault::OutOfMemory
+    }
+}
+
+impl From<AllocError> for ClusterFault {
+    ghost from_gives = { λ _ fault. fault ≡ NoMemory };
+
+    fn from(_: AllocError) -> ClusterFault {
+        ClusterFault::OutOfMemory
+    }
+}
+
+impl From<FinishFault> for ClusterFault {
+    ghost from_gives = { λ refusal fault. refusal ≡ Unfinished → fault ≡ NoMemory };
+
+    fn from(fault: FinishFault) -> ClusterFault {
+        match fault {
+            FinishFault::Standstill { .. } => ClusterFault::Standstill,
+            FinishFault::OutOfMemory => ClusterFault::OutOfMemory,
+        }
+    }
+}
+
+// The image of a frame, counted from 0.
+fn image_of(
+    alloc: Global,
+    layout: &Layout,
+    parts: &[TilePart],
+    frame: usize,
+) -> Result<Image, OutOfMemory>
+    requires some_tiles { 0 < tile_count layout.now }
+    requires frame { frame < frame_total layout.now parts.now }
+    requires parts { AreParts layout.now (frame_parts layout.now parts.now frame) }
+    ensures { IfOk result (λ image. (pixels : Pixels) → ShowPixels layout.now (frame_parts layout.now parts.now frame) pixels → image ≡ window_image layout.now pixels) }
+{
+    let tiles = usize::from(layout.columns) * usize::from(layout.rows);
+    let first = frame * tiles;
+    assemble(alloc, layout, &parts[first..first + tiles])
+}
+
+// The image of each frame, put together from the parts of its tiles: it has the pixels that they show.
+fn frames_of(alloc: Global, layout: &Layout, parts: &[TilePart]) -> Result<Frames, OutOfMemory>
+    requires some_tiles { 0 < tile_count layout.now }
+    requires parts { AreFrames layout.now parts.now }
+    ensures { IfOk result (λ frames. (pixels : ℕ → Pixels) → ShowFrames layout.now parts.now pixels → frames ≡ window_images layout.now pixels (frame_total layout.now parts.now)) }
+{
+    let tiles = usize::from(layout.columns) * usize::from(layout.rows);
+    let mut frames = Frames::new(alloc);
+    for frame in 0..parts.len() / tiles {
+        let image = image_of(alloc, layout, parts, frame)?;
+        frames.push(image)?;
+    }
+    Ok(frames)
 }
 
 /// Runs the scene on the tiles of a layout, over lanes that hold `depth` items: one step of each picked actor in turn, and then rounds of all actors to
@@ -57,5 +125,30 @@ pub(crate) fn run_cluster(
     ensures run { IfOk result (IsClusterRun scene.now layout.now depth picks.now orders) }
     ensures standstill { IfErr result (λ fault. fault ≡ StoodStill → IsStandstill scene.now layout.now depth picks.now) }
 {
-    Err(ClusterFault::OutOfMemory)
+    parcels_are_givable();
+    each_pixel_has_one_tile();
+    let world = run_schedule(alloc, scene, layout, depth, picks)?;
+    let CoreRun {
+        kept,
+        parts,
+        tallies,
+        waiting,
+        faults,
+    } = finish(alloc, &scene.decl, world)?;
+    let frames = frames_of(alloc, layout, parts.as_slice())?;
+    let notes = cluster_report(
+        alloc,
+        faults.as_slice(),
+        tallies.as_slice(),
+        &kept,
+        &waiting,
+        orders,
+    )?;
+    let ending = ending_of(&waiting);
+    Ok(ClusterRun {
+        frames,
+        notes,
+        ending,
+        kept,
+    })
 }

@@ -218,8 +218,8 @@ struct DefaultRun {
     ending: Ending,
 }
 
-// A client that waits makes a run stuck.
-fn ending_of(waiting: &Option<Waiting>) -> Ending
+/// A client that waits makes a run stuck.
+pub(crate) fn ending_of(waiting: &Option<Waiting>) -> Ending
     ensures { result ≡ (if is_some waiting.now then IsStuck else Whole) }
 {
     match waiting {
