@@ -1,6 +1,6 @@
 -- How a run ends, from what its steps leave.
 use Rattle.std.proofs.Common.{◌≡◌, ◌≢◌, ℕ, ◌<◌, ◌≤◌, ◌⊎◌, inl, inr, Bool, List, [], ◌∷◌, ◌++◌, length, map, take, None, Some, refl, sym, ap, subst, ◌∙◌, length-append, arith}
-use Rattle.std.specs.Prelude.{String, IfSome, string_bytes}
+use Rattle.std.specs.Prelude.{String, IfSome, MatchOption, string_bytes}
 use Rattle.std.specs.Global.{Global}
 use Rattle.std.specs.declared.option.Option.{Option}
 use Rattle.std.proofs.lemmas.Bool.{cases_lt}
@@ -58,6 +58,14 @@ pub same_job : OneReading → (words : List (String Global)) (a b : Job) → IsJ
 same_job one words a b is_a is_b =
     let same = one (map string_bytes words) (name_of a) (name_of b) is_a.0 is_b.0 is_a.1 is_b.1 in
     by_words a is_a.0 is_a.2 ∙ ap (λ (n : JobName). job_by n is_a.0) same.0 ∙ ap (job_by (name_of b)) same.1 ∙ sym (by_words b is_b.0 is_b.2)
+
+-- from what is read of the words
+pub named : (words : List (String Global)) (r : Option Job) (job : Job) → r ≡ Some job → MatchOption r ((j : Job) → IsJob words j → ⊥) (IsJob words) → IsJob words job
+named words r job is h = subst (λ (o : Option Job). MatchOption o ((j : Job) → IsJob words j → ⊥) (IsJob words)) is h
+
+pub unnamed : (words : List (String Global)) (r : Option Job) → r ≡ None → MatchOption r ((j : Job) → IsJob words j → ⊥) (IsJob words)
+    → (j : Job) → IsJob words j → ⊥
+unnamed words r is h = subst (λ (o : Option Job). MatchOption o ((j : Job) → IsJob words j → ⊥) (IsJob words)) is h
 
 -- ---- what is taken of a source that tells its bytes
 
@@ -290,7 +298,7 @@ module _ (words : List (String Global)) (source image notes : Used) where
           let sent = whole_of complete in
           record {
             usage = λ e. absurd (omega (arith, e));
-        usage_only = λ none. absurd (none job is);
+            usage_only = λ none. absurd (none job is);
             usage_told = λ e. absurd (omega (arith, e));
             done = λ e. absurd (omega (arith, e));
             notes_failed = λ e. (
@@ -311,7 +319,7 @@ module _ (words : List (String Global)) (source image notes : Used) where
             );
             stuck = λ e. absurd (omega (arith, e));
             no_memory = λ e. absurd (omega (arith, e));
-        refused = λ zero one five seven eight. absurd (eight refl);
+            refused = λ zero one five seven eight. absurd (eight refl);
             exact = λ other input finding is_other left_is found calm_source calm_image.
                 inr (inr (inl (exactly input finding other is_other left_is found ∙ ap ending_status complete, refl, failed)));
             later = later;

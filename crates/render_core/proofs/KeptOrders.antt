@@ -26,6 +26,7 @@ keeps_some : SceneListsAreWellFormed → RecordsOfScenesArePermitted → (cluste
 keeps_some formed permits cluster picks scene o within is = subst (λ (k : Option Record). IfSome k KeepsOrders) (sym is.kept) each where
   well : IsWellFormed (sync_lists_of scene)
   well = formed scene (clients_within scene within).0 (counts_some scene within)
+
   each : KeepsOrders is.record_kept
   each tile below =
       let count = is.lawful.count in

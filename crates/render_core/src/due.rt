@@ -19,10 +19,10 @@ use bounds_bucket::layout;
 use order_model::laws::{
     default_journal_is_maximal, default_orders_are_permitted, scene_lists_are_well_formed,
 };
+use order_model::record::Record;
 use rc_base::command::Bytes;
 use rc_base::image::Frames;
 use rc_base::out_of_memory::OutOfMemory;
-use order_model::record::Record;
 use rc_base::scene::{Limit, Scene};
 use rc_base::sync::{Journal, Order, Waiting};
 use rc_base::window::Layout;
@@ -188,12 +188,7 @@ fn render(alloc: Global, scene: &Scene, cluster: Cluster) -> Result<Due, DueRefu
 }
 
 // The cluster by a seed.
-fn simulate(
-    alloc: Global,
-    scene: &Scene,
-    seed: u64,
-    cluster: Cluster,
-) -> Result<Due, DueRefusal>
+fn simulate(alloc: Global, scene: &Scene, seed: u64, cluster: Cluster) -> Result<Due, DueRefusal>
     requires well { IsWellRead OfBytes scene.now }
     requires within { limit_of scene.now ≡ None }
     ensures outcome { IfOk result (λ due. IsOutcome (ToSimulate seed cluster) scene.now (outcome_of due)) }

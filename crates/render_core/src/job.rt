@@ -50,11 +50,8 @@ impl Job {
         ensures { result ≡ form_of self }
     {
         match self {
-            Job::Render(_)
-            | Job::Simulate { .. }
-            | Job::Serial
-            | Job::Check
-            | Job::Unpack => Form::Bytes,
+            Job::Render(_) | Job::Simulate { .. } | Job::Serial | Job::Check | Job::Unpack =>
+                Form::Bytes,
             Job::Pack => Form::Text,
         }
     }

@@ -9,9 +9,9 @@
 mod cluster;
 mod due;
 mod input;
-mod picks;
 pub mod job;
 pub mod laws;
+mod picks;
 pub mod refusal;
 mod report;
 mod run_job;

@@ -26,8 +26,10 @@ pub returns-in-Some : goal.returns-in-Some
 returns-in-Some c = go c.job_on.result c.job_on.ensures where
   words : List (List ℕ)
   words = map string_bytes c.args.words.now
+
   read : IsLineOf words c.in-Some.line
   read = subst (λ (r : Option CommandLine). IfSome r (IsLineOf words)) c.in-Some.is c.in_ok-line.ensures.some
+
   go : (r : Option Job)
       → MatchOption r (c.in-Some.line.job ≡ Gen) (λ job. (spelled_name c.in-Some.line.job ≡ name_of job) × ((ss : List Setting) → AreValues c.in-Some.line.settings ss → AsksFor ss job))
       → MatchOption r ((job : Job) → IsJob c.args.words.now job → ⊥) (IsJob c.args.words.now)

@@ -35,10 +35,11 @@ pub loop-init : goal.loop-init
 loop-init c = record { drawn = c.in_ok-picks.ensures.items; state = no_draw c.args.seed }
 
 pub loop-preserved : goal.loop-preserved
-loop-preserved c = record { 
-    drawn = c.in_ok-push.ensures.items ∙ one_more c.args.seed c.args.actors c.loop.counter (c.next_state-state.result / 2 ^ 40 % c.args.actors) c.loop.state c.loop.picks.items
-        c.loop.invariant.drawn c.loop.invariant.state (ap (λ (s : ℕ). s / 2 ^ 40 % c.args.actors) c.next_state-state.ensures);
-    state = c.next_state-state.ensures ∙ ap next_state c.loop.invariant.state ∙ sym (state_more c.args.seed c.loop.counter) }
+loop-preserved c = record {
+  drawn = c.in_ok-push.ensures.items ∙ one_more c.args.seed c.args.actors c.loop.counter (c.next_state-state.result / 2 ^ 40 % c.args.actors) c.loop.state c.loop.picks.items
+      c.loop.invariant.drawn c.loop.invariant.state (ap (λ (s : ℕ). s / 2 ^ 40 % c.args.actors) c.next_state-state.ensures);
+  state = c.next_state-state.ensures ∙ ap next_state c.loop.invariant.state ∙ sym (state_more c.args.seed c.loop.counter);
+}
 
 pub returns : goal.returns
 returns c =
