@@ -32,7 +32,7 @@ fn main(rt: HostRuntime) -> ExitCode {
     let mut source = StdSource::new(rt.stdin());
     let mut image = StdSink::new(rt.stdout());
     let mut notes = StdSink::new(rt.stderr());
-    let Finish { status } = run(
+    let Finish { status, .. } = run(
         alloc,
         words.as_slice(),
         &mut source,

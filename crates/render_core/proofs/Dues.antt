@@ -19,47 +19,31 @@ use Rattle.rc_base.specs.declared.sync.SyncLists.{SyncLists}
 use Rattle.rc_base.specs.declared.sync.Waiting.{Waiting}
 use Rattle.order_model.specs.Laws.{DefaultJournalIsMaximal, DefaultOrdersArePermitted}
 use Rattle.order_model.specs.Report.{fault_line, client_faults, fault_lines, count_lines, frame_count, is_stuck, short_report_of}
-use Rattle.serial_render.specs.Form.{IsDrawnForm}
 use Rattle.render_core.specs.declared.due.DefaultRun.{DefaultRun}
 use Rattle.render_core.specs.declared.due.Ending.{Ending}
 use Rattle.render_core.specs.declared.due.Ending.TheVariants.{Complete, Stuck}
-use Rattle.render_core.specs.declared.job.Job.TheVariants.{Render, Serial, Check}
-use Rattle.render_core.specs.Jobs.{IsOutcome, frames_of_one, default_frames, journal_of}
+use Rattle.render_core.specs.declared.job.Job.TheVariants.{Serial, Check}
+use Rattle.render_core.specs.Jobs.{IsOutcome, default_frames, journal_of}
 use Rattle.render_core.specs.Reports.{lines_of_faults, lines_of_stuck, AreOf, IsDefault}
 use Rattle.render_core.proofs.ReportLines.{report_told, ending_told}
 
--- the lines of a scene of one client are that client's
-lines_of_one : (scene : Scene) → length scene.streams ≡ 1 → fault_lines scene ≡ client_faults scene 0
-lines_of_one scene one = ap (λ (n : ℕ). flat_map (client_faults scene) (range_with_len 0 n)) one ∙ append-nil (client_faults scene 0)
-
-pub render_due : (scene : Scene) (images : List Image) (faults : List (ℕ × Fault)) (lines : List ℕ) → IsDrawnForm scene
-    → (let n = length (stream_of scene 0) in images ≡ frame_images scene (names_from 0 0 n) (accepted_swaps scene 0 n)) → faults ≡ faults_of scene 0
-    → lines ≡ flat_map (fault_line 0) faults → IsOutcome Render scene (record { image = p6_texts images; notes = lines; ending = Complete })
-unfolding IsOutcome frames_of_one
-render_due scene images faults lines drawn are refused told =
-    let notes : lines ≡ fault_lines scene = told ∙ ap (flat_map (fault_line 0)) refused ∙ sym (lines_of_one scene drawn.clients) in (
-      drawn,
-      ap (λ (xs : List Image). record { image = p6_texts xs; notes = lines; ending = Complete }) are
-          ∙ ap (λ (l : List ℕ). record { image = p6_texts (frame_images scene (names_from 0 0 (length (stream_of scene 0))) (accepted_swaps scene 0 (length (stream_of scene 0)))); notes = l; ending = Complete }) notes,
-    )
-
 module _ (scene : Scene) (run : DefaultRun) (is : IsDefault scene run) where
   pub serial_due : (images : List Image) → images ≡ frame_images scene run.order (frame_count run.journal)
-      → IsOutcome Serial scene (record { image = p6_texts images; notes = run.notes; ending = run.ending })
+      → IsOutcome Serial scene (record { image = p6_texts images; notes = run.notes; ending = run.ending; kept = None })
   unfolding IsOutcome default_frames
   serial_due images are =
       let frames : images ≡ frame_images scene (default_order (sync_lists_of scene) (journal_of scene)) (frame_count (journal_of scene)) =
       are ∙ ap (λ (o : List Name). frame_images scene o (frame_count run.journal)) is.order
       ∙ ap (λ (j : List Entry). frame_images scene (default_order (sync_lists_of scene) (journal_of scene)) (frame_count j)) is.journal in
-      ap (λ (xs : List Image). record { image = p6_texts xs; notes = run.notes; ending = run.ending }) frames
-      ∙ ap (λ (l : List ℕ). record { image = p6_texts (frame_images scene (default_order (sync_lists_of scene) (journal_of scene)) (frame_count (journal_of scene))); notes = l; ending = run.ending }) is.notes
-      ∙ ap (λ (e : Ending). record { image = p6_texts (frame_images scene (default_order (sync_lists_of scene) (journal_of scene)) (frame_count (journal_of scene))); notes = short_report_of scene (journal_of scene); ending = e }) is.ending
+      ap (λ (xs : List Image). record { image = p6_texts xs; notes = run.notes; ending = run.ending; kept = None }) frames
+      ∙ ap (λ (l : List ℕ). record { image = p6_texts (frame_images scene (default_order (sync_lists_of scene) (journal_of scene)) (frame_count (journal_of scene))); notes = l; ending = run.ending; kept = None }) is.notes
+      ∙ ap (λ (e : Ending). record { image = p6_texts (frame_images scene (default_order (sync_lists_of scene) (journal_of scene)) (frame_count (journal_of scene))); notes = short_report_of scene (journal_of scene); ending = e; kept = None }) is.ending
 
-  pub check_due : IsOutcome Check scene (record { image = []; notes = run.notes; ending = run.ending })
+  pub check_due : IsOutcome Check scene (record { image = []; notes = run.notes; ending = run.ending; kept = None })
   unfolding IsOutcome
   check_due =
-      ap (λ (l : List ℕ). record { image = []; notes = l; ending = run.ending }) is.notes
-      ∙ ap (λ (e : Ending). record { image = []; notes = short_report_of scene (journal_of scene); ending = e }) is.ending
+      ap (λ (l : List ℕ). record { image = []; notes = l; ending = run.ending; kept = None }) is.notes
+      ∙ ap (λ (e : Ending). record { image = []; notes = short_report_of scene (journal_of scene); ending = e; kept = None }) is.ending
 
 module _ (scene : Scene) (well : IsWellFormed (sync_lists_of scene)) (maximal : DefaultJournalIsMaximal) (permits : DefaultOrdersArePermitted) where
   module _ (syncs : SyncLists) (same : syncs ≡ sync_lists_of scene) (journal : List Entry) (order : List Name) (waiting : Option Waiting) where

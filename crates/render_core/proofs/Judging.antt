@@ -1,5 +1,6 @@
 -- From what a reader answers to what the job finds in its input.
 use Rattle.std.proofs.Common.{◌≡◌, ℕ, ◌≤◌, List, length, None, Some, refl, sym, ap, subst, arith, ◌∙◌}
+use Rattle.std.specs.Option.{option_or}
 use Rattle.std.specs.declared.option.Option.{Option}
 use Rattle.rc_base.specs.Formats.Limits.{limit_of}
 use Rattle.rc_base.specs.Outside.Transfer.{byte_limit}
@@ -7,23 +8,25 @@ use Rattle.rc_base.specs.declared.scene.Limit.{Limit}
 use Rattle.rc_base.specs.declared.scene.Scene.{Scene}
 use Rattle.render_core.specs.declared.job.Form.{Form}
 use Rattle.render_core.specs.declared.job.Job.{Job}
-use Rattle.render_core.specs.declared.job.Job.TheVariants.{Render, Serial, Check, Pack, Unpack}
-use Rattle.render_core.specs.Jobs.{form_of, Spells, Outcome, IsOutcome}
-use Rattle.render_core.specs.Lines.{limit_line, not_built_line}
-use Rattle.render_core.specs.Findings.{Finding, Long, Malformed, Outside, Undrawn, Sound, IsInput, IsFinding, finding_status, ending_status, Finds, TellsFault, IsJudged}
+use Rattle.render_core.specs.Jobs.{form_of, limit_for, word_limit, Spells, Outcome, IsOutcome}
+use Rattle.render_core.specs.Lines.{limit_line}
+use Rattle.render_core.specs.Findings.{Finding, Long, Malformed, Outside, Sound, IsInput, IsFinding, finding_status, ending_status, Finds, TellsFault, IsJudged}
 use Rattle.render_core.specs.Refusals.{IsRead}
 
--- what is due for a scene is one thing
-same_due : (o other x : Outcome) → o ≡ x → other ≡ x → other ≡ o
-same_due o other x e f = f ∙ sym e
+-- ---- limits: the scene's come first
 
-pub one_outcome : (job : Job) (scene : Scene) (o other : Outcome) → IsOutcome job scene o → IsOutcome job scene other → other ≡ o
-unfolding IsOutcome
-one_outcome Render scene o other h k = same_due o other _ h.1 k.1
-one_outcome Serial scene o other h k = same_due o other _ h k
-one_outcome Check scene o other h k = same_due o other _ h k
-one_outcome Pack scene o other h k = same_due o other _ h.0 k.0
-one_outcome Unpack scene o other h k = same_due o other _ h.0 k.0
+pub scene_first : (job : Job) (scene : Scene) (limit : Limit) → limit_of scene ≡ Some limit → limit_for job scene ≡ Some limit
+scene_first job scene limit e = ap (λ (l : Option Limit). option_or l (word_limit job scene)) e
+
+pub words_next : (job : Job) (scene : Scene) → limit_of scene ≡ None → limit_for job scene ≡ word_limit job scene
+words_next job scene e = ap (λ (l : Option Limit). option_or l (word_limit job scene)) e
+
+-- where no quantity is outside its range, none of the scene is
+pub scene_within : (job : Job) (scene : Scene) → limit_for job scene ≡ None → limit_of scene ≡ None
+scene_within job scene e = go (limit_of scene) refl e where
+  go : (l : Option Limit) → limit_of scene ≡ l → option_or l (word_limit job scene) ≡ None → limit_of scene ≡ None
+  go None is h = is
+  go (Some limit) is h = cc
 
 -- where no scene within the limits is spelled and none outside, none is
 pub unspelled : (form : Form) (input : List ℕ) → ((s : Scene) → Spells form input s → limit_of s ≡ None → ⊥)
@@ -40,40 +43,48 @@ module _ (job : Job) (input : List ℕ) (short : length input ≤ byte_limit) wh
     only Long h = absurd (omega (arith, h))
     only Malformed h = refl
     only (Outside limit) h = absurd (none h.1.0 h.1.1)
-    only Undrawn h = absurd (none h.0 h.1.spelled)
     only (Sound s o) h = absurd (none s h.0.spelled)
 
-  pub judged_outside : (scene : Scene) (limit : Limit) → Spells (form_of job) input scene → limit_of scene ≡ Some limit
-      → ((s : Scene) → Spells (form_of job) input s → limit_of s ≡ None → ⊥) → IsJudged job input 4 (limit_line limit.what limit.value)
-  judged_outside scene limit spelled first none =
+  -- the first limit of a scene that the input spells, where no scene within all limits is spelled
+  judged_past : (scene : Scene) (limit : Limit) → Spells (form_of job) input scene → limit_for job scene ≡ Some limit
+      → ((s : Scene) → Spells (form_of job) input s → limit_for job s ≡ None → ⊥) → IsJudged job input 4 (limit_line limit.what limit.value)
+  judged_past scene limit spelled first none =
       record { finding = Outside limit; finds = record { is = (short, (scene, spelled, first)); only = only }; status_is = refl; told = refl } where
         only : (other : Finding) → IsFinding job input other → finding_status other ≡ 4
         only Long h = refl
         only Malformed h = absurd (h.1 scene spelled)
         only (Outside other) h = refl
-        only Undrawn h = absurd (none h.0 h.1.spelled h.1.within)
         only (Sound s o) h = absurd (none s h.0.spelled h.0.within)
 
+  pub judged_outside : (scene : Scene) (limit : Limit) → Spells (form_of job) input scene → limit_of scene ≡ Some limit
+      → ((s : Scene) → Spells (form_of job) input s → limit_of s ≡ None → ⊥) → IsJudged job input 4 (limit_line limit.what limit.value)
+  judged_outside scene limit spelled first none =
+      judged_past scene limit spelled (scene_first job scene limit first) (λ s spells within. none s spells (scene_within job s within))
+
   module _ (scene : Scene) (read : IsRead (form_of job) input scene) where
-    is_input : IsInput (form_of job) input scene
-    is_input = record { short = short; spelled = read.spelled; within = read.within }
+    -- the words ask for what is outside its range in the scene's window
+    pub judged_by_words : (limit : Limit) → word_limit job scene ≡ Some limit → IsJudged job input 4 (limit_line limit.what limit.value)
+    judged_by_words limit first = judged_past scene limit read.spelled (words_next job scene read.within ∙ first) none where
+      none : (s : Scene) → Spells (form_of job) input s → limit_for job s ≡ None → ⊥
+      none s spelled within =
+          let same = read.only s spelled (scene_within job s within) in
+          let past : limit_for job s ≡ Some limit = ap (limit_for job) same ∙ words_next job scene read.within ∙ first in
+          cc
 
-    pub judged_undrawn : ((o : Outcome) → IsOutcome job scene o → ⊥) → IsJudged job input 10 not_built_line
-    judged_undrawn off =
-        record { finding = Undrawn; finds = record { is = (scene, is_input, off); only = only }; status_is = refl; told = refl } where
-          only : (other : Finding) → IsFinding job input other → finding_status other ≡ 10
-          only Long h = absurd (omega (arith, h))
-          only Malformed h = absurd (h.1 scene read.spelled)
-          only (Outside limit) h = absurd (read.inside h.1.0 limit h.1.1 h.1.2)
-          only Undrawn h = refl
-          only (Sound s o) h = absurd (off o (subst (λ (t : Scene). IsOutcome job t o) (read.only s h.0.spelled h.0.within) h.1))
+    pub is_input : word_limit job scene ≡ None → IsInput job input scene
+    is_input asked = record { short = short; spelled = read.spelled; within = words_next job scene read.within ∙ asked }
 
-    pub found_sound : (o : Outcome) → IsOutcome job scene o → Finds job input (Sound scene o)
-    found_sound o due = record { is = (is_input, due); only = only } where
+    pub found_sound : (o : Outcome) → word_limit job scene ≡ None → ((other : Outcome) → IsOutcome job scene other → other ≡ o) → IsOutcome job scene o
+        → Finds job input (Sound scene o)
+    found_sound o asked one due = record { is = (is_input asked, due); only = only } where
       only : (other : Finding) → IsFinding job input other → finding_status other ≡ ending_status o.ending
       only Long h = absurd (omega (arith, h))
       only Malformed h = absurd (h.1 scene read.spelled)
-      only (Outside limit) h = absurd (read.inside h.1.0 limit h.1.1 h.1.2)
-      only Undrawn h = absurd (h.2 o (subst (λ (t : Scene). IsOutcome job t o) (sym (read.only h.0 h.1.spelled h.1.within)) due))
+      only (Outside limit) h = absurd (outside h.1.0 h.1.1 h.1.2 (limit_of h.1.0) refl) where
+        outside : (s : Scene) → Spells (form_of job) input s → limit_for job s ≡ Some limit → (l : Option Limit) → limit_of s ≡ l → ⊥
+        outside s spelled first None e =
+            let none : limit_for job s ≡ None = ap (limit_for job) (read.only s spelled e) ∙ words_next job scene read.within ∙ asked in cc
+        outside s spelled first (Some l) e = read.inside s l spelled e
       only (Sound s other) h =
-          ap (λ (x : Outcome). ending_status x.ending) (one_outcome job scene o other due (subst (λ (t : Scene). IsOutcome job t other) (read.only s h.0.spelled h.0.within) h.1))
+          ap (λ (x : Outcome). ending_status x.ending)
+          (one other (subst (λ (t : Scene). IsOutcome job t other) (read.only s h.0.spelled (scene_within job s h.0.within)) h.1))

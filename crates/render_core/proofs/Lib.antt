@@ -1,8 +1,12 @@
-pub mod OneWord
 pub mod Prefixes
 pub mod WithinLimits
+pub mod Clustered
+pub mod OneOutcome
+pub mod KeptOrders
 pub mod Judging
 pub mod Endings
 pub mod ReportLines
 pub mod Dues
 pub mod Performing
+pub mod FrameParts
+pub mod ClusterRuns

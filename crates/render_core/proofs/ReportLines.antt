@@ -58,7 +58,7 @@ pub scene_counts : (scene : Scene) → (sync_lists_of scene).counts ≡ scene.de
 unfolding sync_lists_of
 scene_counts scene = refl
 
-is_stuck_of : (scene : Scene) (journal : List Entry) (waiting : Option Waiting) → (IsSome waiting ↔ (is_stuck (sync_lists_of scene) journal ≡ true))
+pub is_stuck_of : (scene : Scene) (journal : List Entry) (waiting : Option Waiting) → (IsSome waiting ↔ (is_stuck (sync_lists_of scene) journal ≡ true))
     → is_some waiting ≡ is_stuck (sync_lists_of scene) journal
 is_stuck_of scene journal None h = elim (cases_Bool (is_stuck (sync_lists_of scene) journal)) [
   | inl stuck ↦ (let some : false ≡ true = h.1 stuck in cc)
@@ -67,13 +67,13 @@ is_stuck_of scene journal None h = elim (cases_Bool (is_stuck (sync_lists_of sce
 is_stuck_of scene journal (Some w) h = sym (h.0 refl)
 
 module _ (scene : Scene) (faults : List (List (ℕ × Fault))) (journal : List Entry) where
-  faults_told : length faults ≡ length scene.streams → ((client : ℕ) → slice_index_or faults client [] ≡ faults_of scene client) → lines_of_faults faults ≡ fault_lines scene
+  pub faults_told : length faults ≡ length scene.streams → ((client : ℕ) → slice_index_or faults client [] ≡ faults_of scene client) → lines_of_faults faults ≡ fault_lines scene
   faults_told count each =
       ap (λ (n : ℕ). flat_map (λ client. flat_map (fault_line client) (slice_index_or faults client [])) (range_with_len 0 n)) count
       ∙ same_lines (λ client. flat_map (fault_line client) (slice_index_or faults client [])) (client_faults scene)
       (λ client. ap (flat_map (fault_line client)) (each client)) (range_with_len 0 (length scene.streams))
 
-  stuck_told : (waiting : Option Waiting) → AreOf scene faults journal waiting → lines_of_stuck waiting (length faults) ≡ stuck_lines (sync_lists_of scene) journal
+  pub stuck_told : (waiting : Option Waiting) → AreOf scene faults journal waiting → lines_of_stuck waiting (length faults) ≡ stuck_lines (sync_lists_of scene) journal
   stuck_told None are =
       let free : is_stuck (sync_lists_of scene) journal ≡ false = sym (is_stuck_of scene journal None are.stuck) in
       let none = no_lines (waiting_of (sync_lists_of scene) journal) (range_with_len 0 (client_count (sync_lists_of scene))) free in

@@ -1,5 +1,5 @@
 -- What is known of a scene within the limits.
-use Rattle.std.proofs.Common.{◌≡◌, ℕ, zero, suc, ◌-◌, ◌*◌, ◌≤◌, ◌<◌, ◌^◌, inl, inr, Bool, true, false, List, [], ◌∷◌, ◌++◌, length, map, get_or, None, Some, refl, sym, ap, ◌∙◌, subst, arith, length-append, append_assoc}
+use Rattle.std.proofs.Common.{◌≡◌, ℕ, zero, suc, ◌+◌, ◌-◌, ◌*◌, ◌≤◌, ◌<◌, ◌^◌, inl, inr, Bool, true, false, List, [], ◌∷◌, ◌++◌, length, map, get_or, None, Some, refl, sym, ap, ◌∙◌, subst, arith, length-append, append_assoc}
 use Rattle.std.specs.Prelude.{pos, sum_by, slice_index, if◌then◌else◌}
 use Rattle.std.specs.List.{flat_map, range_with_len, AllByRecursion}
 use Rattle.std.specs.declared.option.Option.{Option}
@@ -13,7 +13,7 @@ use Rattle.std.proofs.lemmas.Option.{slice_get_cases, unwrap_or-slice_get}
 use Rattle.rc_base.specs.Lists.{at_name}
 use Rattle.rc_base.specs.Contexts.Issue.{stream_of}
 use Rattle.rc_base.specs.Drawing.Serial.{frame_pixel}
-use Rattle.rc_base.specs.Drawing.Images.{Pixels, rgb_of, row_bytes, rgb_bytes, frame_image, frame_images}
+use Rattle.rc_base.specs.Drawing.Images.{Pixels, rgb_of, row_bytes, rgb_bytes, image_from, frame_images}
 use Rattle.rc_base.specs.Formats.Limits.{Quantity, is_outside, first_outside, size_area, side, barrier_count, least_swaps, commands_in, limit_of}
 use Rattle.rc_base.specs.Formats.Spelling.{IsSize}
 use Rattle.rc_base.specs.declared.command.Command.{Command}
@@ -29,14 +29,14 @@ passed : (outside : Bool) (limit : Limit) (later : Option Limit) → (if outside
 passed true limit later h = cc
 passed false limit later h = (refl, h)
 
-first_within : (q : Quantity) (qs : List Quantity) → first_outside (q ∷ qs) ≡ None → (is_outside q ≡ false) × (first_outside qs ≡ None)
+pub first_within : (q : Quantity) (qs : List Quantity) → first_outside (q ∷ qs) ≡ None → (is_outside q ≡ false) × (first_outside qs ≡ None)
 first_within q qs h = passed (is_outside q) (record { what = q.what; value = q.value }) (first_outside qs) h
 
 later_within : (qs rs : List Quantity) → first_outside (qs ++ rs) ≡ None → first_outside rs ≡ None
 later_within [] rs h = h
 later_within (q ∷ qs) rs h = later_within qs rs (first_within q (qs ++ rs) h).1
 
-in_range : (what value least most : ℕ) → is_outside (record { what = what; value = value; least = least; most = most }) ≡ false → (least ≤ value) × (value ≤ most)
+pub in_range : (what value least most : ℕ) → is_outside (record { what = what; value = value; least = least; most = most }) ≡ false → (least ≤ value) × (value ≤ most)
 in_range what value least most inside = grind (arith, nat_tests, inside)
 
 -- ---- the table from its commands on, and from before them
@@ -176,6 +176,9 @@ module _ (scene : Scene) (within : limit_of scene ≡ None) where
   pub few_commands : (client : ℕ) → length (stream_of scene client) < 2 ^ 32
   few_commands client = omega (arith, commands_within, each_stream scene.streams client)
 
+  pub short_streams : (client : ℕ) → length (stream_of scene client) < 2 ^ 20 + 1
+  short_streams client = omega (arith, commands_within, each_stream scene.streams client)
+
   -- each barrier counts one client or more
   pub counts_some : (barrier count : ℕ) → at_name scene.decl.barriers barrier ≡ Some count → 0 < count
   counts_some zero count e = cc
@@ -195,9 +198,11 @@ module _ (scene : Scene) (within : limit_of scene ≡ None) where
       let some = sizes_within scene.decl.shared (texels_on scene) from_sides all n (omega (arith, high)) in
       subst (λ (size : List ℕ). (0 < slice_index size 0) × (0 < slice_index size 1)) (sym (unwrap_or-slice_get scene.decl.shared n [])) some
 
-  -- its frames can be written
+  -- its frames can be written, whoever drew them
+  pub pictures_whole : (pixels : ℕ → Pixels) (ks : List ℕ) → AllByRecursion IsWhole (map (λ (k : ℕ). image_from scene.decl (pixels k)) ks)
+  pictures_whole pixels [] = tt
+  pictures_whole pixels (k ∷ ks) =
+      (record { width = width_within; height = height_within; pixels = pixels_whole (pixels k) scene.decl.width scene.decl.height }, pictures_whole pixels ks)
+
   pub frames_whole : (order : List Name) (n : ℕ) → AllByRecursion IsWhole (frame_images scene order n)
-  frames_whole order n = each (range_with_len 1 n) where
-    each : (ks : List ℕ) → AllByRecursion IsWhole (map (frame_image scene order) ks)
-    each [] = tt
-    each (k ∷ ks) = (record { width = width_within; height = height_within; pixels = pixels_whole (frame_pixel scene order k) scene.decl.width scene.decl.height }, each ks)
+  frames_whole order n = pictures_whole (frame_pixel scene order) (range_with_len 1 n)

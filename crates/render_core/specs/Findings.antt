@@ -1,6 +1,5 @@
--- What a job finds in its input: one of five cases, by which it is carried out or refused.
+-- What a job finds in its input: one of four cases, by which it is carried out or refused.
 use Rattle.std.specs.Prelude.{◌≡◌, ℕ, ◌+◌, ◌<◌, ◌≤◌, List, length, Some, None}
-use Rattle.rc_base.specs.Formats.Limits.{limit_of}
 use Rattle.rc_base.specs.Formats.Text.Faults.{text_fault}
 use Rattle.rc_base.specs.Outside.Transfer.{byte_limit}
 use Rattle.rc_base.specs.declared.scene.Limit.{Limit}
@@ -13,34 +12,31 @@ use Rattle.render_core.specs.declared.due.Ending.TheVariants.{Complete, Stuck}
 use Rattle.render_core.specs.declared.job.Form.{Form}
 use Rattle.render_core.specs.declared.job.Form.TheVariants.{Bytes, Text}
 use Rattle.render_core.specs.declared.job.Job.{Job}
-use Rattle.render_core.specs.Jobs.{form_of, Spells, Outcome, IsOutcome}
-use Rattle.render_core.specs.Lines.{scene_kind_name, text_kind_name, malformed_line, limit_line, not_built_line}
+use Rattle.render_core.specs.Jobs.{form_of, limit_for, Spells, Outcome, IsOutcome}
+use Rattle.render_core.specs.Lines.{scene_kind_name, text_kind_name, malformed_line, limit_line}
 
 pub data Finding : Type 0 where
   -- more bytes than are read
   Long : Finding
   -- bytes that spell no scene
   Malformed : Finding
-  -- a scene of which this is the first quantity outside its range
+  -- a scene, where this is the first quantity outside its range, of the scene's and then of the words'
   Outside : Limit → Finding
-  -- a scene within the limits for which nothing is due so far
-  Undrawn : Finding
   -- a scene within the limits for which this is due
   Sound : Scene → Outcome → Finding
 
--- an input within the limit of bytes spells a scene within the limits
-pub record IsInput (form : Form) (input : List ℕ) (scene : Scene) : Type 0 where
+-- an input within the limit of bytes spells a scene, and no quantity is outside its range
+pub record IsInput (job : Job) (input : List ℕ) (scene : Scene) : Type 0 where
   pub short : length input ≤ byte_limit
-  pub spelled : Spells form input scene
-  pub within : limit_of scene ≡ None
+  pub spelled : Spells (form_of job) input scene
+  pub within : limit_for job scene ≡ None
 
 -- the input is this to the job
 abbrev pub IsFinding : Job → List ℕ → Finding → Type 0
 IsFinding job input Long = byte_limit < length input
 IsFinding job input Malformed = (length input ≤ byte_limit) × ((scene : Scene) → Spells (form_of job) input scene → ⊥)
-IsFinding job input (Outside limit) = (length input ≤ byte_limit) × ((scene : Scene) × Spells (form_of job) input scene × (limit_of scene ≡ Some limit))
-IsFinding job input Undrawn = (scene : Scene) × IsInput (form_of job) input scene × ((o : Outcome) → IsOutcome job scene o → ⊥)
-IsFinding job input (Sound scene o) = IsInput (form_of job) input scene × IsOutcome job scene o
+IsFinding job input (Outside limit) = (length input ≤ byte_limit) × ((scene : Scene) × Spells (form_of job) input scene × (limit_for job scene ≡ Some limit))
+IsFinding job input (Sound scene o) = IsInput job input scene × IsOutcome job scene o
 
 -- the status of a run that comes to its end
 abbrev pub ending_status : Ending → ℕ
@@ -52,7 +48,6 @@ abbrev pub finding_status : Finding → ℕ
 finding_status Long = 4
 finding_status Malformed = 3
 finding_status (Outside limit) = 4
-finding_status Undrawn = 10
 finding_status (Sound scene o) = ending_status o.ending
 
 -- the input is this to the job, and nothing of another status
@@ -72,7 +67,6 @@ abbrev pub TellsFinding : Job → List ℕ → Finding → List ℕ → Type 0
 TellsFinding job input Long line = line ≡ limit_line 1 (byte_limit + 1)
 TellsFinding job input Malformed line = TellsFault (form_of job) input line
 TellsFinding job input (Outside limit) line = line ≡ limit_line limit.what limit.value
-TellsFinding job input Undrawn line = line ≡ not_built_line
 TellsFinding job input (Sound scene o) line = ⊥
 
 -- the job refuses the input with this status and this line

@@ -4,3 +4,6 @@ pub mod Findings
 pub mod Outcomes
 pub mod Refusals
 pub mod Reports
+pub mod Frames
+pub mod Clusters
+pub mod Laws

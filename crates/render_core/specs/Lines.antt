@@ -49,6 +49,6 @@ read_fault_line = codes "rc: read fault\n"
 unfoldable pub memory_line : List ℕ
 memory_line = codes "rc: out of memory\n"
 
--- the scene is not drawn so far
-unfoldable pub not_built_line : List ℕ
-not_built_line = codes "rc: not built\n"
+-- a round of the cluster moved nobody
+unfoldable pub standstill_line : List ℕ
+standstill_line = codes "rc: standstill\n"

@@ -1,5 +1,6 @@
 -- What the steps of a job leave: the refusals of each with their statuses and their lines, and what is due.
-use Rattle.std.specs.Prelude.{◌≡◌, ℕ, ◌<◌, ◌≤◌, ◌⊎◌, List, length, take, Some, None}
+use Rattle.std.specs.Prelude.{◌≡◌, ℕ, ◌<◌, ◌≤◌, ◌==◌, ◌⊎◌, List, length, take, Option, Some, None, if◌then◌else◌}
+use Rattle.order_model.specs.declared.record.Record.{Record}
 use Rattle.std.specs.List.{AllByRecursion}
 use Rattle.rc_base.specs.Formats.Commands.{IsCommand}
 use Rattle.rc_base.specs.Formats.Limits.{limit_of}
@@ -25,12 +26,12 @@ use Rattle.render_core.specs.declared.refusal.InputRefusal.TheVariants as judgin
 use Rattle.render_core.specs.declared.refusal.ImageRefusal.{ImageRefusal}
 use Rattle.render_core.specs.declared.refusal.ImageRefusal.TheVariants as writing
 use Rattle.render_core.specs.declared.refusal.Refusal.{Refusal}
-use Rattle.render_core.specs.declared.refusal.Refusal.TheVariants.{Reading, Input, Image}
+use Rattle.render_core.specs.declared.refusal.Refusal.TheVariants.{Reading, Input, Undue, Image}
 use Rattle.render_core.specs.declared.writing.Told.{Told}
-use Rattle.render_core.specs.Jobs.{form_of, Spells, Outcome, IsOutcome}
-use Rattle.render_core.specs.Lines.{scene_kind_name, text_kind_name, malformed_line, limit_line, image_fault_line, read_fault_line, memory_line, not_built_line}
+use Rattle.render_core.specs.Jobs.{form_of, word_limit, Spells, Outcome, IsOutcome}
+use Rattle.render_core.specs.Lines.{scene_kind_name, text_kind_name, malformed_line, limit_line, image_fault_line, read_fault_line, memory_line, standstill_line}
 use Rattle.render_core.specs.Findings.{IsJudged}
-use Rattle.render_core.specs.Outcomes.{Used, Failed, IsCalm, Took, Noted, Sent, IsDue}
+use Rattle.render_core.specs.Outcomes.{Used, Failed, IsCalm, Took, Noted, Sent, Stands, IsDue, Cause}
 
 -- ---- statuses and lines
 
@@ -48,14 +49,12 @@ abbrev pub input_status : InputRefusal → ℕ
 input_status (judging.MalformedScene kind at) = 3
 input_status (judging.MalformedText kind line) = 3
 input_status (judging.PastLimit limit) = 4
-input_status judging.NotBuilt = 10
 input_status judging.OutOfMemory = 7
 
 abbrev pub input_line : InputRefusal → List ℕ
 input_line (judging.MalformedScene kind at) = malformed_line (scene_kind_name kind) at
 input_line (judging.MalformedText kind line) = malformed_line (text_kind_name kind) line
 input_line (judging.PastLimit limit) = limit_line limit.what limit.value
-input_line judging.NotBuilt = not_built_line
 input_line judging.OutOfMemory = memory_line
 
 abbrev pub image_status : ImageRefusal → ℕ
@@ -66,16 +65,28 @@ abbrev pub image_line : ImageRefusal → List ℕ
 image_line (writing.Fault done) = image_fault_line done
 image_line writing.OutOfMemory = memory_line
 
+abbrev pub due_status : DueRefusal → ℕ
+due_status (undue.PastLimit limit) = 4
+due_status undue.Standstill = 9
+due_status undue.OutOfMemory = 7
+
+abbrev pub due_line : DueRefusal → List ℕ
+due_line (undue.PastLimit limit) = limit_line limit.what limit.value
+due_line undue.Standstill = standstill_line
+due_line undue.OutOfMemory = memory_line
+
 -- the status of a refusal
 abbrev pub refusal_status : Refusal → ℕ
 refusal_status (Reading fault) = reading_status fault
 refusal_status (Input refusal) = input_status refusal
+refusal_status (Undue refusal) = due_status refusal
 refusal_status (Image refusal) = image_status refusal
 
 -- the line of a refusal
 abbrev pub refusal_line : Refusal → List ℕ
 refusal_line (Reading fault) = reading_line fault
 refusal_line (Input refusal) = input_line refusal
+refusal_line (Undue refusal) = due_line refusal
 refusal_line (Image refusal) = image_line refusal
 
 -- ---- the input
@@ -112,17 +123,13 @@ IsWritable (Written bytes) = Unit {0}
 
 -- what was made of a scene, as contracts see it
 abbrev pub outcome_of : Due → Outcome
-outcome_of due = record { image = due_text due.image; notes = due.notes; ending = due.ending }
+outcome_of due = record { image = due_text due.image; notes = due.notes; ending = due.ending; kept = due.kept }
 
--- nothing is due for the scene so far, or there was no memory
+-- The words ask for what is outside its range in the scene's window, the cluster stood still, or there was no memory.
 abbrev pub IsNoOutcome : Job → Scene → DueRefusal → Type 0
-IsNoOutcome job scene undue.NotBuilt = (o : Outcome) → IsOutcome job scene o → ⊥
+IsNoOutcome job scene (undue.PastLimit limit) = word_limit job scene ≡ Some limit
+IsNoOutcome job scene undue.Standstill = (word_limit job scene ≡ None) × Stands job scene
 IsNoOutcome job scene undue.OutOfMemory = Unit {0}
-
--- as a refusal of the input
-abbrev pub undue_refusal : DueRefusal → InputRefusal
-undue_refusal undue.NotBuilt = judging.NotBuilt
-undue_refusal undue.OutOfMemory = judging.OutOfMemory
 
 -- ---- writing
 
@@ -135,6 +142,7 @@ IsPartWritten image text writing.OutOfMemory = (done : ℕ) × (done ≤ length 
 pub record IsSent (image : Used) (o : Outcome) (told : Told) : Type 0 where
   pub sent : Sent image o told.lines
   pub ending : told.ending ≡ o.ending
+  pub kept : told.kept ≡ o.kept
 
 -- the job is carried out but for what is left to tell
 pub record IsPerformed (job : Job) (source image : Used) (told : Told) : Type 0 where
@@ -154,8 +162,16 @@ abbrev pub IsFatal : Outcome → ImageRefusal → Type 0
 IsFatal o (writing.Fault done) = o.ending ≡ Complete
 IsFatal o writing.OutOfMemory = Unit {0}
 
+-- The refusal comes before the image: its cause is the source or what it holds, whatever was given to the image, and no record is kept with it.
+abbrev pub IsRefusedUnwritten : Job → Used → Refusal → Type 0
+IsRefusedUnwritten job source refusal = (image : Used) → Cause job source image (refusal_status refusal) (refusal_line refusal) None
+
 -- A refusal is told: with its own status and line, or as want of memory where there was none for its line.
 pub record IsRefusalTold (notes : Used) (refusal : Refusal) (status : ℕ) : Type 0 where
   pub line : List ℕ
   pub noted : Noted notes line
   pub one_of : ((status ≡ refusal_status refusal) × (line ≡ refusal_line refusal)) ⊎ ((status ≡ 7) × (line ≡ memory_line))
+
+-- the record that is kept with a refusal: with that of an image that failed
+abbrev pub kept_for : ℕ → Option Record → Option Record
+kept_for status kept = if status == 6 then kept else None

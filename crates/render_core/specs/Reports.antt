@@ -1,17 +1,21 @@
 -- What a report is made of.
-use Rattle.std.specs.Prelude.{◌≡◌, ℕ, true, List, [], ◌++◌, length, ◌↔◌, Option, Some, None, IsSome, IfSome, slice_index_or, codes}
+use Rattle.std.specs.Prelude.{◌≡◌, ℕ, Bool, true, List, [], ◌∷◌, ◌++◌, length, ◌↔◌, Option, Some, None, IsSome, IfSome, slice_index_or, codes, if◌then◌else◌}
 use Rattle.std.specs.List.{flat_map, range_with_len}
 use Rattle.std.specs.Option.{option_map_or}
+use Rattle.std.specs.Fmt.{decimal}
 use Rattle.rc_base.specs.Contexts.Issue.{faults_of}
 use Rattle.rc_base.specs.Orders.Journal.{IsLegal, waiting_of}
 use Rattle.rc_base.specs.Orders.Order.{IsPermitted, default_order}
 use Rattle.rc_base.specs.Orders.Sync.{sync_lists_of}
+use Rattle.rc_base.specs.declared.cluster.Tally.{Tally}
 use Rattle.rc_base.specs.declared.scene.Scene.{Scene}
 use Rattle.rc_base.specs.declared.state.Fault.{Fault}
 use Rattle.rc_base.specs.declared.sync.Entry.{Entry}
 use Rattle.rc_base.specs.declared.sync.WaitAt.{WaitAt}
 use Rattle.rc_base.specs.declared.sync.Waiting.{Waiting}
-use Rattle.order_model.specs.Report.{fault_line, stuck_line, is_stuck, short_report_of}
+use Rattle.client_issue.specs.Cores.{no_tally}
+use Rattle.order_model.specs.Report.{count_lines, fault_line, is_stuck, joined_line, order_line, short_report_of, stuck_line, tile_order}
+use Rattle.order_model.specs.declared.record.Record.{Record}
 use Rattle.render_core.specs.Jobs.{journal_of, default_ending}
 use Rattle.render_core.specs.declared.due.DefaultRun.{DefaultRun}
 
@@ -27,6 +31,24 @@ lines_of_waiting at n = flat_map (λ client. option_map_or (stuck_line client) (
 abbrev pub lines_of_stuck : Option Waiting → ℕ → List ℕ
 lines_of_stuck None n = []
 lines_of_stuck (Some w) n = lines_of_waiting w.at n ++ codes "rc: stuck\n"
+
+-- the line of a tile: how many parcels were sent to it, and how many sets
+abbrev pub line_of_tile : ℕ → Tally → List ℕ
+line_of_tile tile tally = joined_line (codes "tile " ∷ decimal tile ∷ codes " parcels " ∷ decimal tally.parcels ∷ codes " sets " ∷ decimal tally.sets ∷ [])
+
+-- the lines of what was sent, tile by tile
+abbrev pub lines_of_tiles : List Tally → List ℕ
+lines_of_tiles tallies = flat_map (λ tile. line_of_tile tile (slice_index_or tallies tile no_tally)) (range_with_len 0 (length tallies))
+
+-- the lines of the recorded orders, tile by tile
+abbrev pub lines_of_orders : Record → List ℕ
+lines_of_orders kept = flat_map (λ tile. flat_map (order_line tile) (tile_order kept tile)) (range_with_len 0 (length kept.logs))
+
+-- all lines of a run with tiles
+abbrev pub lines_of_run : List (List (ℕ × Fault)) → List Tally → Record → Option Waiting → Bool → List ℕ
+lines_of_run faults tallies kept waiting orders =
+    lines_of_faults faults ++ lines_of_tiles tallies ++ count_lines kept.journal ++ (if orders then lines_of_orders kept else [])
+    ++ lines_of_stuck waiting (length faults)
 
 -- these are the scene's refused commands, and who is left waiting by the journal
 pub record AreOf (scene : Scene) (faults : List (List (ℕ × Fault))) (journal : List Entry) (waiting : Option Waiting) : Type 0 where

@@ -1,27 +1,34 @@
 //! What is due for a scene, job by job.
-ghost use Rattle.std.specs.Prelude.{◌≡◌, [], None, is_some, IfOk, IfErr, if◌then◌else◌};
+ghost use Rattle.std.specs.Prelude.{◌≡◌, ℕ, ◌<◌, ◌⊎◌, [], length, slice_index_or, Some, None, is_some, IfOk, IfErr, MatchResult, if◌then◌else◌};
 ghost use Rattle.rc_base.specs.Formats.Limits.{limit_of};
-ghost use Rattle.render_core.specs.Jobs.{form_of, IsOutcome};
+ghost use Rattle.render_core.specs.Clusters.{IsStandstill};
+ghost use Rattle.render_core.specs.Jobs.{actors_for, cluster_limit, form_of, layout_for, word_limit, IsClusterOutcome, IsOutcome};
 ghost use Rattle.render_core.specs.Refusals.{IsWellRead, IsWritable, outcome_of, IsNoOutcome};
 ghost use Rattle.render_core.specs.Reports.{IsDefault};
 ghost use Rattle.render_core.specs.declared.job.Form.TheVariants.{Bytes as OfBytes, Text as OfText};
-ghost use Rattle.render_core.specs.declared.job.Job.TheVariants.{Render as ToRender, Serial as ToSerial, Check as ToCheck, Pack as ToPack, Unpack as ToUnpack};
+ghost use Rattle.render_core.specs.declared.job.Job.TheVariants.{Render as ToRender, Simulate as ToSimulate, Serial as ToSerial, Check as ToCheck, Pack as ToPack, Unpack as ToUnpack};
+ghost use Rattle.render_core.specs.declared.due.DueImage.TheVariants.{Frames as AsFrames};
 ghost use Rattle.render_core.specs.declared.due.Ending.TheVariants.{Complete as Whole, Stuck as IsStuck};
-ghost use Rattle.render_core.specs.declared.due.DueRefusal.TheVariants.{OutOfMemory as NoMemory};
+ghost use Rattle.render_core.specs.declared.due.DueRefusal.TheVariants.{OutOfMemory as NoMemory, Standstill as StandsStill};
 
-use crate::job::Job;
-use crate::report::{client_fault_lines, short_report};
+use crate::cluster::{ClusterFault, ClusterRun, run_cluster};
+use crate::job::{Cluster, Job};
+use crate::picks::{actor_count, picks_of};
+use crate::report::short_report;
+use bounds_bucket::layout;
 use order_model::laws::{
     default_journal_is_maximal, default_orders_are_permitted, scene_lists_are_well_formed,
 };
+use order_model::record::Record;
 use rc_base::command::Bytes;
 use rc_base::image::Frames;
 use rc_base::out_of_memory::OutOfMemory;
-use rc_base::scene::Scene;
+use rc_base::scene::{Limit, Scene};
 use rc_base::sync::{Journal, Order, Waiting};
+use rc_base::window::Layout;
 use scene_file::write_scene;
 use scene_text::print_scene;
-use serial_render::{Drawn, Survey, Turns, first_frames, is_drawn, render_order, survey, turns_of};
+use serial_render::{Survey, Turns, render_order, survey, turns_of};
 use std::alloc::{AllocError, Global};
 
 /// What is due to the image.
@@ -50,13 +57,17 @@ pub(crate) struct Due {
     /// To the notes, behind the image.
     pub(crate) notes: Bytes,
     pub(crate) ending: Ending,
+    /// The record of a cluster.
+    pub(crate) kept: Option<Record>,
 }
 
 /// Why nothing is due for a scene.
-#[derive(Clone, Copy)]
-pub(crate) enum DueRefusal {
-    /// The scene has something that is not drawn so far.
-    NotBuilt,
+#[derive(Clone, Copy, Debug, PartialEq, Eq)]
+pub enum DueRefusal {
+    /// The words ask for tiles or lanes that are outside their range in the scene's window.
+    PastLimit(Limit),
+    /// A whole round of the cluster moved nobody, though an actor hadn't ended.
+    Standstill,
     /// There was no memory.
     OutOfMemory,
 }
@@ -82,11 +93,13 @@ pub(crate) fn due_for(alloc: Global, job: Job, scene: &Scene) -> Result<Due, Due
     requires well { IsWellRead (form_of job) scene.now }
     requires within { limit_of scene.now ≡ None }
     ensures outcome { IfOk result (λ due. IsOutcome job scene.now (outcome_of due)) }
+    ensures within { IfOk result (λ due. word_limit job scene.now ≡ None) }
     ensures writable { IfOk result (λ due. IsWritable due.image) }
     ensures refused { IfErr result (IsNoOutcome job scene.now) }
 {
     match job {
-        Job::Render => render(alloc, scene),
+        Job::Render(cluster) => render(alloc, scene, cluster),
+        Job::Simulate { seed, cluster } => simulate(alloc, scene, seed, cluster),
         Job::Serial => serial(alloc, scene),
         Job::Check => check(alloc, scene),
         Job::Pack => pack(alloc, scene),
@@ -94,24 +107,101 @@ pub(crate) fn due_for(alloc: Global, job: Job, scene: &Scene) -> Result<Due, Due
     }
 }
 
-// The frames of the scene, and the lines of its refused commands.
-fn render(alloc: Global, scene: &Scene) -> Result<Due, DueRefusal>
-    requires well { IsWellRead OfBytes scene.now }
-    requires within { limit_of scene.now ≡ None }
-    ensures outcome { IfOk result (λ due. IsOutcome ToRender scene.now (outcome_of due)) }
-    ensures writable { IfOk result (λ due. IsWritable due.image) }
-    ensures refused { IfErr result (IsNoOutcome ToRender scene.now) }
+// What a run of the cluster gives.
+fn due_of(run: ClusterRun) -> Due
+    ensures { result ≡ record { image = AsFrames run.frames; notes = run.notes; ending = run.ending; kept = Some run.kept } }
 {
-    if !is_drawn(scene) {
-        return Err(DueRefusal::NotBuilt);
-    }
-    let Drawn { frames, faults } = first_frames(alloc, scene)?;
-    let notes = client_fault_lines(alloc, 0, faults.as_slice())?;
-    Ok(Due {
+    let ClusterRun {
+        frames,
+        notes,
+        ending,
+        kept,
+    } = run;
+    Due {
         image: DueImage::Frames(frames),
         notes,
-        ending: Ending::Complete,
-    })
+        ending,
+        kept: Some(kept),
+    }
+}
+
+// The frames, the report and the record of the cluster, whose first steps are these picks.
+fn cluster_due(
+    alloc: Global,
+    scene: &Scene,
+    layout: &Layout,
+    cluster: Cluster,
+    picks: &[u32],
+) -> Result<Due, DueRefusal>
+    requires well { IsWellRead OfBytes scene.now }
+    requires within { limit_of scene.now ≡ None }
+    requires asked { cluster_limit cluster scene.now ≡ None }
+    requires tiles { layout.now ≡ layout_for cluster scene.now }
+    requires picks { (i : ℕ) → i < length picks.now → slice_index_or picks.now i 0 < actors_for cluster scene.now }
+    ensures outcome { IfOk result (λ due. IsClusterOutcome cluster picks.now scene.now (outcome_of due)) }
+    ensures writable { IfOk result (λ due. IsWritable due.image) }
+    ensures refused { IfErr result (λ refusal. (refusal ≡ NoMemory) ⊎ ((refusal ≡ StandsStill) × IsStandstill scene.now (layout_for cluster scene.now) cluster.depth picks.now)) }
+{
+    match run_cluster(
+        alloc,
+        scene,
+        layout,
+        cluster.depth as usize,
+        picks,
+        cluster.orders,
+    ) {
+        Ok(run) => Ok(due_of(run)),
+        Err(ClusterFault::Standstill) => Err(DueRefusal::Standstill),
+        Err(ClusterFault::OutOfMemory) => Err(DueRefusal::OutOfMemory),
+    }
+}
+
+// The tiles of the scene's window, or the first quantity of the words that is outside its range.
+fn layout_of(scene: &Scene, cluster: Cluster) -> Result<Layout, Limit>
+    ensures { MatchResult result
+        (λ l. (cluster_limit cluster scene.now ≡ None) × (l ≡ layout_for cluster scene.now))
+        (λ limit. cluster_limit cluster scene.now ≡ Some limit) }
+{
+    layout(
+        scene.decl.width,
+        scene.decl.height,
+        cluster.columns,
+        cluster.rows,
+        cluster.depth,
+    )
+}
+
+// The cluster by rounds.
+fn render(alloc: Global, scene: &Scene, cluster: Cluster) -> Result<Due, DueRefusal>
+    requires well { IsWellRead OfBytes scene.now }
+    requires within { limit_of scene.now ≡ None }
+    ensures outcome { IfOk result (λ due. IsOutcome (ToRender cluster) scene.now (outcome_of due)) }
+    ensures within { IfOk result (λ due. word_limit (ToRender cluster) scene.now ≡ None) }
+    ensures writable { IfOk result (λ due. IsWritable due.image) }
+    ensures refused { IfErr result (IsNoOutcome (ToRender cluster) scene.now) }
+{
+    let layout = match layout_of(scene, cluster) {
+        Ok(layout) => layout,
+        Err(limit) => return Err(DueRefusal::PastLimit(limit)),
+    };
+    cluster_due(alloc, scene, &layout, cluster, &[])
+}
+
+// The cluster by a seed.
+fn simulate(alloc: Global, scene: &Scene, seed: u64, cluster: Cluster) -> Result<Due, DueRefusal>
+    requires well { IsWellRead OfBytes scene.now }
+    requires within { limit_of scene.now ≡ None }
+    ensures outcome { IfOk result (λ due. IsOutcome (ToSimulate seed cluster) scene.now (outcome_of due)) }
+    ensures within { IfOk result (λ due. word_limit (ToSimulate seed cluster) scene.now ≡ None) }
+    ensures writable { IfOk result (λ due. IsWritable due.image) }
+    ensures refused { IfErr result (IsNoOutcome (ToSimulate seed cluster) scene.now) }
+{
+    let layout = match layout_of(scene, cluster) {
+        Ok(layout) => layout,
+        Err(limit) => return Err(DueRefusal::PastLimit(limit)),
+    };
+    let picks = picks_of(alloc, seed, actor_count(scene, &layout))?;
+    cluster_due(alloc, scene, &layout, cluster, picks.as_slice())
 }
 
 // The default journal and order of a scene, and the short report by that journal.
@@ -123,8 +213,8 @@ struct DefaultRun {
     ending: Ending,
 }
 
-// A client that waits makes a run stuck.
-fn ending_of(waiting: &Option<Waiting>) -> Ending
+/// A client that waits makes a run stuck.
+pub(crate) fn ending_of(waiting: &Option<Waiting>) -> Ending
     ensures { result ≡ (if is_some waiting.now then IsStuck else Whole) }
 {
     match waiting {
@@ -178,6 +268,7 @@ fn serial(alloc: Global, scene: &Scene) -> Result<Due, DueRefusal>
         image: DueImage::Frames(frames),
         notes,
         ending,
+        kept: None,
     })
 }
 
@@ -194,18 +285,20 @@ fn check(alloc: Global, scene: &Scene) -> Result<Due, DueRefusal>
         image: DueImage::Written(Bytes::new(alloc)),
         notes,
         ending,
+        kept: None,
     })
 }
 
 // A text for the image, and nothing for the notes.
 fn text_alone(alloc: Global, text: Bytes) -> Due
-    ensures outcome { outcome_of result ≡ record { image = text; notes = []; ending = Whole } }
+    ensures outcome { outcome_of result ≡ record { image = text; notes = []; ending = Whole; kept = None } }
     ensures writable { IsWritable result.image }
 {
     Due {
         image: DueImage::Written(text),
         notes: Bytes::new(alloc),
         ending: Ending::Complete,
+        kept: None,
     }
 }
 

@@ -1,16 +1,35 @@
 //! The jobs, and the words that name them.
-ghost use Rattle.std.specs.Prelude.{◌≡◌, ◌∷◌, [], ◌↔◌, IsTrue, MatchOption, map, string_bytes};
-ghost use Rattle.render_core.specs.Jobs.{IsJob, form_of};
+ghost use Rattle.std.specs.Prelude.{◌≡◌, List, IfOk, MatchOption};
+ghost use Rattle.rc_base.specs.Program.Words.{Setting as Spelled};
+ghost use Rattle.command_line.specs.Lines.{AreValues};
+ghost use Rattle.command_line.specs.Names.{name_of as spelled_name};
+ghost use Rattle.command_line.specs.declared.job.JobName.TheVariants.{Gen};
+ghost use Rattle.render_core.specs.Jobs.{IsJob, AsksFor, form_of, name_of};
 ghost use Rattle.render_core.specs.declared.job.Job.{Job as AnyJob};
+
+use command_line::{CommandLine, JobName, Settings, command_line, lines_have_one_reading};
+use rc_base::out_of_memory::OutOfMemory;
+use std::alloc::Global;
+
+/// What a cluster is asked for: its columns and rows of tiles, how many items each lane holds, and whether the report tells the recorded orders.
+#[derive(Clone, Copy, Debug, PartialEq, Eq)]
+pub struct Cluster {
+    pub columns: u64,
+    pub rows: u64,
+    pub depth: u64,
+    pub orders: bool,
+}
 
 /// What the program is asked to do.
 #[derive(Clone, Copy, Debug, PartialEq, Eq)]
 pub enum Job {
-    /// Scene bytes to the frames of the scene, as images.
-    Render,
-    /// Scene bytes to the frames of the scene's default order, as images, and a report.
+    /// Scene bytes to the frames of a cluster whose actors step in rounds, as images, and a report.
+    Render(Cluster),
+    /// The same of a cluster whose first steps are drawn from a seed.
+    Simulate { seed: u64, cluster: Cluster },
+    /// Scene bytes to the frames of the scene's default order, as images, and a short report.
     Serial,
-    /// Scene bytes to the report alone.
+    /// Scene bytes to the short report alone.
     Check,
     /// The text of a scene to its bytes.
     Pack,
@@ -31,40 +50,50 @@ impl Job {
         ensures { result ≡ form_of self }
     {
         match self {
-            Job::Render | Job::Serial | Job::Check | Job::Unpack => Form::Bytes,
+            Job::Render(_) | Job::Simulate { .. } | Job::Serial | Job::Check | Job::Unpack =>
+                Form::Bytes,
             Job::Pack => Form::Text,
         }
     }
 }
 
-// Whether the words are this word alone.
-fn is_word(words: &[String], name: &str) -> bool
-    ensures { IsTrue result ↔ (map string_bytes words.now ≡ name.now ∷ []) }
+fn cluster_of(settings: Settings) -> Cluster
+    ensures { result ≡ record { columns = settings.columns; rows = settings.rows; depth = settings.depth; orders = settings.order } }
 {
-    match words {
-        [word] => word.as_str() == name,
-        _ => false,
+    Cluster {
+        columns: settings.columns,
+        rows: settings.rows,
+        depth: settings.depth,
+        orders: settings.order,
     }
 }
 
-/// The job that the words name: each by one word alone.
-pub fn job_of(words: &[String]) -> Option<Job>
-    ensures { MatchOption result ((job : AnyJob) → IsJob words.now job → ⊥) (IsJob words.now) }
+// The job of a line; scenes are not generated so far.
+fn job_on(line: CommandLine) -> Option<Job>
+    ensures { MatchOption result (line.job ≡ Gen)
+        (λ job. (spelled_name line.job ≡ name_of job) × ((ss : List Spelled) → AreValues line.settings ss → AsksFor ss job)) }
 {
-    if is_word(words, "render") {
-        return Some(Job::Render);
+    match line.job {
+        JobName::Render => Some(Job::Render(cluster_of(line.settings))),
+        JobName::Simulate => Some(Job::Simulate {
+            seed: line.settings.seed,
+            cluster: cluster_of(line.settings),
+        }),
+        JobName::Serial => Some(Job::Serial),
+        JobName::Check => Some(Job::Check),
+        JobName::Pack => Some(Job::Pack),
+        JobName::Unpack => Some(Job::Unpack),
+        JobName::Gen => None,
     }
-    if is_word(words, "serial") {
-        return Some(Job::Serial);
+}
+
+/// The job that the words ask for, by the definition of command lines.
+pub fn job_of(alloc: Global, words: &[String]) -> Result<Option<Job>, OutOfMemory>
+    ensures { IfOk result (λ r. MatchOption r ((job : AnyJob) → IsJob words.now job → ⊥) (IsJob words.now)) }
+{
+    lines_have_one_reading();
+    match command_line(alloc, words)? {
+        Some(line) => Ok(job_on(line)),
+        None => Ok(None),
     }
-    if is_word(words, "check") {
-        return Some(Job::Check);
-    }
-    if is_word(words, "pack") {
-        return Some(Job::Pack);
-    }
-    if is_word(words, "unpack") {
-        return Some(Job::Unpack);
-    }
-    None
 }

@@ -6,9 +6,12 @@
 //! serial renderer and on the texts of images.
 #![tactic(auto)]
 
+mod cluster;
 mod due;
 mod input;
 pub mod job;
+pub mod laws;
+mod picks;
 pub mod refusal;
 mod report;
 mod run_job;

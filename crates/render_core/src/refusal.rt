@@ -2,8 +2,8 @@
 ghost use Rattle.std.specs.Prelude.{◌≡◌, IfOk, string_bytes};
 ghost use Rattle.rc_base.specs.Formats.Limits.{limit_name};
 ghost use Rattle.render_core.specs.Lines.{scene_kind_name, text_kind_name, malformed_line, limit_line, image_fault_line};
-ghost use Rattle.render_core.specs.Refusals.{reading_status, reading_line, input_status, input_line, image_status, image_line, refusal_status, refusal_line, undue_refusal};
-ghost use Rattle.render_core.specs.declared.refusal.Refusal.TheVariants.{Reading as OfReading, Input as OfInput, Image as OfImage};
+ghost use Rattle.render_core.specs.Refusals.{reading_status, reading_line, input_status, input_line, image_status, image_line, due_line, refusal_status, refusal_line};
+ghost use Rattle.render_core.specs.declared.refusal.Refusal.TheVariants.{Reading as OfReading, Input as OfInput, Undue as OfUndue, Image as OfImage};
 
 use crate::due::DueRefusal;
 use rc_base::scene::{Limit, SceneKind, TextKind};
@@ -19,8 +19,6 @@ pub enum InputRefusal {
     MalformedText { kind: TextKind, line: usize },
     /// A quantity of the scene is outside its range.
     PastLimit(Limit),
-    /// The scene has something that is not drawn so far.
-    NotBuilt,
     /// There was no memory.
     OutOfMemory,
 }
@@ -41,6 +39,8 @@ pub enum Refusal {
     Reading(ReadAllFault),
     /// The input is not carried out.
     Input(InputRefusal),
+    /// Nothing is due for the scene.
+    Undue(DueRefusal),
     /// The image was not written whole.
     Image(ImageRefusal),
 }
@@ -62,13 +62,10 @@ impl From<InputRefusal> for Refusal {
 }
 
 impl From<DueRefusal> for Refusal {
-    ghost from_gives = { λ inner refusal. refusal ≡ OfInput (undue_refusal inner) };
+    ghost from_gives = { λ inner refusal. refusal ≡ OfUndue inner };
 
     fn from(inner: DueRefusal) -> Refusal {
-        Refusal::Input(match inner {
-            DueRefusal::NotBuilt => InputRefusal::NotBuilt,
-            DueRefusal::OutOfMemory => InputRefusal::OutOfMemory,
-        })
+        Refusal::Undue(inner)
     }
 }
 
@@ -165,7 +162,7 @@ fn reading_line(alloc: Global, fault: ReadAllFault) -> Result<String, AllocError
     }
 }
 
-#[tactic(auto, unfolding(crate::specs::Lines::not_built_line, crate::specs::Lines::memory_line))]
+#[tactic(auto, unfolding(crate::specs::Lines::memory_line))]
 fn input_line(alloc: Global, refusal: InputRefusal) -> Result<String, AllocError>
     ensures { IfOk result (λ line. string_bytes line ≡ input_line refusal) }
 {
@@ -177,8 +174,18 @@ fn input_line(alloc: Global, refusal: InputRefusal) -> Result<String, AllocError
             malformed_line(alloc, text_kind_name(kind), line)
         }
         InputRefusal::PastLimit(Limit { what, value }) => limit_line(alloc, what, value),
-        InputRefusal::NotBuilt => String::from_str(alloc, "rc: not built\n"),
         InputRefusal::OutOfMemory => String::from_str(alloc, OUT_OF_MEMORY),
+    }
+}
+
+#[tactic(auto, unfolding(crate::specs::Lines::standstill_line, crate::specs::Lines::memory_line))]
+fn due_line(alloc: Global, refusal: DueRefusal) -> Result<String, AllocError>
+    ensures { IfOk result (λ line. string_bytes line ≡ due_line refusal) }
+{
+    match refusal {
+        DueRefusal::PastLimit(Limit { what, value }) => limit_line(alloc, what, value),
+        DueRefusal::Standstill => String::from_str(alloc, "rc: standstill\n"),
+        DueRefusal::OutOfMemory => String::from_str(alloc, OUT_OF_MEMORY),
     }
 }
 
@@ -206,12 +213,14 @@ impl Refusal {
                 InputRefusal::MalformedScene { .. } | InputRefusal::MalformedText { .. },
             ) => 3,
             Refusal::Reading(ReadAllFault::TooLong { .. })
-            | Refusal::Input(InputRefusal::PastLimit(_)) => 4,
+            | Refusal::Input(InputRefusal::PastLimit(_))
+            | Refusal::Undue(DueRefusal::PastLimit(_)) => 4,
             Refusal::Image(ImageRefusal::Fault { .. }) => 6,
             Refusal::Reading(ReadAllFault::OutOfMemory)
             | Refusal::Input(InputRefusal::OutOfMemory)
+            | Refusal::Undue(DueRefusal::OutOfMemory)
             | Refusal::Image(ImageRefusal::OutOfMemory) => 7,
-            Refusal::Input(InputRefusal::NotBuilt) => 10,
+            Refusal::Undue(DueRefusal::Standstill) => 9,
         }
     }
 
@@ -222,6 +231,7 @@ impl Refusal {
         match *self {
             Refusal::Reading(fault) => reading_line(alloc, fault),
             Refusal::Input(refusal) => input_line(alloc, refusal),
+            Refusal::Undue(refusal) => due_line(alloc, refusal),
             Refusal::Image(refusal) => image_line(alloc, refusal),
         }
     }

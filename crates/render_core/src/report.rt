@@ -1,14 +1,18 @@
-//! The lines of reports: refused commands, the numbers of entries and frames, and who is left waiting.
-ghost use Rattle.std.specs.Prelude.{◌≡◌, ◌≤◌, ◌++◌, [], length, IfOk, OnOk, string_bytes};
+//! The lines of reports: refused commands, what was sent to tiles, the numbers of entries and frames, recorded orders, and who is left waiting.
+ghost use Rattle.std.specs.Prelude.{◌≡◌, ◌≤◌, ◌++◌, [], length, IfOk, OnOk, string_bytes, if◌then◌else◌};
 ghost use Rattle.std.specs.List.{flat_map};
 ghost use Rattle.std.specs.Option.{option_map_or};
-ghost use Rattle.order_model.specs.Report.{fault_name as name_of_fault, fault_line as line_of_fault, frame_count as count_of_frames, count_lines as lines_of_counts, op_text as text_of_op, stuck_line as line_of_stuck};
-ghost use Rattle.render_core.specs.Reports.{lines_of_faults, lines_of_waiting, lines_of_stuck};
+ghost use Rattle.rc_base.specs.Orders.Sync.{client_count};
+ghost use Rattle.order_model.specs.Report.{fault_name as name_of_fault, fault_line as line_of_fault, frame_count as count_of_frames, count_lines as lines_of_counts, op_text as text_of_op, order_line as line_of_order, stuck_line as line_of_stuck, tile_order as order_of_tile};
+ghost use Rattle.render_core.specs.Reports.{line_of_tile, lines_of_faults, lines_of_orders, lines_of_run, lines_of_stuck, lines_of_tiles, lines_of_waiting};
 
-use rc_base::cluster::FaultList;
+use order_model::record::Record;
+use order_model::tile_order;
+use rc_base::cluster::{FaultList, Tally};
 use rc_base::command::Bytes;
+use rc_base::out_of_memory::OutOfMemory;
 use rc_base::state::Fault;
-use rc_base::sync::{Entry, SyncOp, WaitAt, Waiting};
+use rc_base::sync::{Entry, Name, SyncOp, WaitAt, Waiting};
 use std::alloc::{AllocError, Global};
 
 fn fault_name(fault: Fault) -> &'static str
@@ -168,4 +172,110 @@ pub(crate) fn short_report(
     lines.extend_from_slice(counts.as_bytes())?;
     lines.append(stuck)?;
     Ok(lines)
+}
+
+// ---- clusters
+
+// The line of a tile: how many parcels were sent to it, and how many sets.
+fn tile_line(alloc: Global, tile: usize, tally: &Tally) -> Result<String, AllocError>
+    ensures { IfOk result (λ line. string_bytes line ≡ line_of_tile tile tally.now) }
+{
+    let parcels = tally.parcels;
+    let sets = tally.sets;
+    format!(in alloc; "tile {tile} parcels {parcels} sets {sets}\n")
+}
+
+// The lines of all tiles.
+fn tile_lines(alloc: Global, tallies: &[Tally]) -> Result<Bytes, AllocError>
+    ensures { IfOk result (λ lines. lines ≡ lines_of_tiles tallies.now) }
+{
+    let mut lines = Bytes::new(alloc);
+    for tile in 0..tallies.len() {
+        let line = tile_line(alloc, tile, &tallies[tile])?;
+        lines.extend_from_slice(line.as_bytes())?;
+    }
+    Ok(lines)
+}
+
+// The line of a command in the order of a tile.
+fn order_line(alloc: Global, tile: u8, name: &Name) -> Result<String, AllocError>
+    ensures { IfOk result (λ line. string_bytes line ≡ line_of_order tile name.now) }
+{
+    let client = name.client;
+    let place = name.place;
+    format!(in alloc; "order {tile} {client} {place}\n")
+}
+
+// The lines of an order of a tile.
+fn lines_of(alloc: Global, tile: u8, order: &[Name]) -> Result<Bytes, AllocError>
+    ensures { IfOk result (λ lines. lines ≡ flat_map (line_of_order tile) order.now) }
+{
+    let mut lines = Bytes::new(alloc);
+    for name in order {
+        let line = order_line(alloc, tile, name)?;
+        lines.extend_from_slice(line.as_bytes())?;
+    }
+    Ok(lines)
+}
+
+// The lines of the order that a tile's log records.
+fn recorded_lines(alloc: Global, kept: &Record, tile: u8) -> Result<Bytes, OutOfMemory>
+    requires { client_count kept.now.syncs ≤ 8 }
+    ensures { IfOk result (λ lines. lines ≡ flat_map (line_of_order tile) (order_of_tile kept.now tile)) }
+{
+    let order = tile_order(alloc, kept, tile)?;
+    Ok(lines_of(alloc, tile, order.as_slice())?)
+}
+
+// The lines of all recorded orders.
+fn order_lines(alloc: Global, kept: &Record) -> Result<Bytes, OutOfMemory>
+    requires clients { client_count kept.now.syncs ≤ 8 }
+    requires tiles { length kept.now.logs ≤ 32 }
+    ensures { IfOk result (λ lines. lines ≡ lines_of_orders kept.now) }
+{
+    let mut lines = Bytes::new(alloc);
+    for tile in 0..kept.logs.len() {
+        lines.append(recorded_lines(alloc, kept, tile as u8)?)?;
+    }
+    Ok(lines)
+}
+
+// The lines of all recorded orders, where they are asked for.
+fn asked_lines(alloc: Global, kept: &Record, orders: bool) -> Result<Bytes, OutOfMemory>
+    requires clients { client_count kept.now.syncs ≤ 8 }
+    requires tiles { length kept.now.logs ≤ 32 }
+    ensures { IfOk result (λ lines. lines ≡ (if orders then lines_of_orders kept.now else [])) }
+{
+    if orders {
+        order_lines(alloc, kept)
+    } else {
+        Ok(Bytes::new(alloc))
+    }
+}
+
+/// The report of a cluster's run: each client's refused commands, how much was sent to each tile, the numbers of entries and frames, where they are asked
+/// for the recorded orders, and who is left waiting.
+pub(crate) fn cluster_report(
+    alloc: Global,
+    faults: &[FaultList],
+    tallies: &[Tally],
+    kept: &Record,
+    waiting: &Option<Waiting>,
+    orders: bool,
+) -> Result<Bytes, OutOfMemory>
+    requires faults { length faults.now ≤ 8 }
+    requires clients { client_count kept.now.syncs ≤ 8 }
+    requires tiles { length kept.now.logs ≤ 32 }
+    ensures { IfOk result (λ lines. lines ≡ lines_of_run faults.now tallies.now kept.now waiting.now orders) }
+{
+    let mut report = fault_lines(alloc, faults)?;
+    let tiles = tile_lines(alloc, tallies)?;
+    let counts = count_lines(alloc, kept.journal.as_slice())?;
+    let recorded = asked_lines(alloc, kept, orders)?;
+    let stuck = stuck_lines(alloc, waiting, faults.len())?;
+    report.append(tiles)?;
+    report.extend_from_slice(counts.as_bytes())?;
+    report.append(recorded)?;
+    report.append(stuck)?;
+    Ok(report)
 }

@@ -1,26 +1,64 @@
 //! The top call: the words, the steps of the job that they name, and the notes.
-ghost use Rattle.std.specs.Prelude.{◌≡◌, ◌≢◌, ◌<◌, ◌≤◌, ◌⊎◌, [], length, take, OnOk, OnErr, IfOk, IfErr};
+ghost use Rattle.std.specs.Prelude.{◌≡◌, ◌≢◌, ◌<◌, ◌≤◌, ◌⊎◌, [], None, length, take, OnOk, OnErr, IfOk, IfErr, IfSome};
 ghost use Rattle.render_core.specs.Lines.{usage_line};
-ghost use Rattle.render_core.specs.Outcomes.{ForJob, used, Noted, Took, IsCalm, Failed, Done, PartlyWritten, Cause, Ran};
-ghost use Rattle.render_core.specs.Refusals.{refusal_status, refusal_line, IsRefusalTold, IsPerformed, IsConcluded};
+ghost use Rattle.render_core.specs.Outcomes.{ForJob, KeepsOrders, used, Noted, Took, IsCalm, Failed, IsDue, Done, PartlyWritten, Cause, Ran};
+ghost use Rattle.render_core.specs.Refusals.{kept_for, outcome_of, refusal_status, refusal_line, IsWritable, IsRefusedUnwritten, IsRefusalTold, IsPerformed, IsConcluded};
 
-use crate::due::{Ending, due_for};
+use crate::due::{Due, Ending, due_for};
 use crate::input::scene_of;
 use crate::job::{Job, job_of};
+use crate::laws::{kept_orders_are_permitted, one_outcome_is_due};
 use crate::refusal::{OUT_OF_MEMORY, Refusal};
-use crate::writing::{Told, deliver};
+use crate::writing::{Told, Undelivered, deliver};
+use command_line::lines_have_one_reading;
+use order_model::record::Record;
 use rc_base::gate::Gate;
+use rc_base::out_of_memory::OutOfMemory;
 use rc_base::outside::{Sink, Source};
 use rc_base::transfer::{WriteFault, read_all, write_all};
 use std::alloc::Global;
 
 /// How a run ended.
-#[derive(Clone, Copy, Debug, PartialEq, Eq)]
+#[derive(Debug, PartialEq, Drop)]
 pub struct Finish {
     /// 0: the job is done. 1: the words are no job. 2: the source failed. 3: the source's bytes spell no scene. 4: a quantity is past its limit.
-    /// 5: a client waits for ever. 6: the image failed. 7: there was no memory. 8: the job is done, but the notes failed. 10: the scene has
-    /// something that is not drawn so far.
+    /// 5: a client waits for ever. 6: the image failed. 7: there was no memory. 8: the job is done, but the notes failed. 9: the cluster stood still.
     pub status: u8,
+    /// The record of a cluster that came to its end: of `render` and `simulate` with the statuses 0, 5, 6 and 8.
+    pub kept: Option<Record>,
+}
+
+// Why a job is refused, and the record of the cluster whose frames weren't taken.
+#[derive(Drop)]
+struct Refused {
+    refusal: Refusal,
+    kept: Option<Record>,
+}
+
+fn without_record(refusal: Refusal) -> Refused
+    ensures refusal { result.refusal ≡ refusal }
+    ensures kept { result.kept ≡ None }
+{
+    Refused {
+        refusal,
+        kept: None,
+    }
+}
+
+// The job's scene, and what is due for it.
+fn due_of_input<S: Source>(alloc: Global, job: Job, source: &mut S) -> Result<Due, Refusal>
+    ensures due { IfOk result (λ due. IsDue job (used (S.left source.old) (S.left source.new) (S.faults source.old) (S.faults source.new)) (outcome_of due)) }
+    ensures writable { IfOk result (λ due. IsWritable due.image) }
+    ensures refused { IfErr result (IsRefusedUnwritten job (used (S.left source.old) (S.left source.new) (S.faults source.old) (S.faults source.new))) }
+    ensures later { S.faults source.old ≤ S.faults source.new }
+{
+    one_outcome_is_due();
+    let input = read_all(alloc, source)?;
+    let scene = scene_of(alloc, job.form(), input)?;
+    match due_for(alloc, job, &scene) {
+        Ok(due) => Ok(due),
+        Err(refusal) => Err(Refusal::Undue(refusal)),
+    }
 }
 
 // Writes a line, or as much of it as the notes take.
@@ -86,35 +124,43 @@ fn perform<S: Source, K: Sink>(
     job: Job,
     source: &mut S,
     image: &mut K,
-) -> Result<Told, Refusal>
+) -> Result<Told, Refused>
     ensures done { IfOk result (IsPerformed job (used (S.left source.old) (S.left source.new) (S.faults source.old) (S.faults source.new)) (used (K.held image.old) (K.held image.new) (K.faults image.old) (K.faults image.new))) }
-    ensures refused { IfErr result (λ refusal. Cause job (used (S.left source.old) (S.left source.new) (S.faults source.old) (S.faults source.new)) (used (K.held image.old) (K.held image.new) (K.faults image.old) (K.faults image.new)) (refusal_status refusal) (refusal_line refusal)) }
-    ensures untouched { IfErr result (λ refusal. refusal_status refusal ≢ 6 → refusal_status refusal ≢ 7 → image.new ≡ image.old) }
+    ensures refused { IfErr result (λ r. Cause job (used (S.left source.old) (S.left source.new) (S.faults source.old) (S.faults source.new)) (used (K.held image.old) (K.held image.new) (K.faults image.old) (K.faults image.new)) (refusal_status r.refusal) (refusal_line r.refusal) (kept_for (refusal_status r.refusal) r.kept)) }
+    ensures untouched { IfErr result (λ r. refusal_status r.refusal ≢ 6 → refusal_status r.refusal ≢ 7 → image.new ≡ image.old) }
     ensures part { OnErr result ((image.new ≡ image.old) ⊎ PartlyWritten job (used (S.left source.old) (S.left source.new) (S.faults source.old) (S.faults source.new)) (used (K.held image.old) (K.held image.new) (K.faults image.old) (K.faults image.new))) }
     ensures later_source { S.faults source.old ≤ S.faults source.new }
     ensures later_image { K.faults image.old ≤ K.faults image.new }
 {
-    let input = read_all(alloc, source)?;
-    let scene = scene_of(alloc, job.form(), input)?;
-    let due = match due_for(alloc, job, &scene) {
+    let due = match due_of_input(alloc, job, source) {
         Ok(due) => due,
-        Err(refusal) => return Err(Refusal::from(refusal)),
+        Err(refusal) => return Err(without_record(refusal)),
     };
     match deliver(alloc, image, due) {
         Ok(told) => Ok(told),
-        Err(refusal) => Err(Refusal::Image(refusal)),
+        Err(Undelivered { refusal, kept }) => Err(Refused {
+            refusal: Refusal::Image(refusal),
+            kept,
+        }),
     }
 }
 
-/// Carries out the job that the words name, which are one of `render`, `serial`, `check`, `pack` and `unpack` alone.
+// The record that is kept: with an image that failed, and with no other refusal.
+fn kept_for(status: u8, kept: Option<Record>) -> Option<Record>
+    ensures { result ≡ kept_for status kept }
+{
+    if status == 6 { kept } else { None }
+}
+
+/// Carries out the job that the words name.
 ///
-/// `render` reads scene bytes and writes a Netpbm P6 image for each frame; behind them it notes a line for each command that was refused. `serial`
-/// writes the frames of the scene's default order, and notes the short report by its default journal; `check` writes nothing, and notes the same.
-/// `pack` reads the text of a scene and writes its bytes, `unpack` reads bytes and writes the text; they note nothing. Where the default journal
-/// leaves a client waiting, `serial` and `check` are stuck: the report says who waits, and the status is 5. A job that is refused is told in one
-/// line in the notes, which else stay as they are. A fault of the notes changes the status of a job that is done, and no other. The gate is not
-/// passed.
-#[tactic(auto, unfolding(crate::specs::Lines::usage_line))]
+/// `render` and `simulate` read scene bytes and run the scene on a cluster of tiles, which is stepped in rounds, `simulate` after 4,096 steps that its
+/// seed draws. They write a Netpbm P6 image for each frame, and note the report. `serial` writes the frames of the scene's default order, and notes
+/// the short report by its default journal; `check` writes nothing, and notes the same. `pack` reads the text of a scene and writes its bytes,
+/// `unpack` reads bytes and writes the text; they note nothing. Where the journal leaves a client waiting the run is stuck: the report says who
+/// waits, and the status is 5. A job that is refused is told in one line in the notes, which else stay as they are. A fault of the notes changes the
+/// status of a job that is done, and no other. The gate is not passed.
+#[tactic(auto, unfolding(crate::specs::Lines::usage_line, crate::specs::Lines::memory_line))]
 pub fn run<S: Source, K: Sink, N: Sink, G: Gate>(
     alloc: Global,
     words: &[String],
@@ -123,26 +169,51 @@ pub fn run<S: Source, K: Sink, N: Sink, G: Gate>(
     notes: &mut N,
     _gate: &G,
 ) -> Finish
-    // What the status says of the words, the source's bytes, and what image and notes were given.
-    ensures ran { Ran words.now (used (S.left source.old) (S.left source.new) (S.faults source.old) (S.faults source.new)) (used (K.held image.old) (K.held image.new) (K.faults image.old) (K.faults image.new)) (used (N.held notes.old) (N.held notes.new) (N.faults notes.old) (N.faults notes.new)) result.status }
+    // What the status says of the words, the source's bytes, what image and notes were given, and the record that is kept.
+    ensures ran { Ran words.now (used (S.left source.old) (S.left source.new) (S.faults source.old) (S.faults source.new)) (used (K.held image.old) (K.held image.new) (K.faults image.old) (K.faults image.new)) (used (N.held notes.old) (N.held notes.new) (N.faults notes.old) (N.faults notes.new)) result.status result.kept }
+    // Each order that a kept record tells keeps each client's order, every barrier and every semaphore grant.
+    ensures permitted { IfSome result.kept KeepsOrders }
     // Where the words are no job nothing is read.
     ensures unread { result.status ≡ 1 → source.new ≡ source.old }
     // The image is untouched, save where the job is carried out, or where it failed or there was no memory: then it was given a front of what is due.
     ensures untouched { result.status ≢ 0 → result.status ≢ 5 → result.status ≢ 6 → result.status ≢ 7 → result.status ≢ 8 → image.new ≡ image.old }
     ensures memory { result.status ≡ 7 → (image.new ≡ image.old) ⊎ ForJob words.now (λ job. PartlyWritten job (used (S.left source.old) (S.left source.new) (S.faults source.old) (S.faults source.new)) (used (K.held image.old) (K.held image.new) (K.faults image.old) (K.faults image.new))) }
     // Notes to which nothing is due stay as they are.
-    ensures silent { result.status ≡ 0 → (notes.new ≡ notes.old) ⊎ ForJob words.now (λ job. (done : Done job (used (S.left source.old) (S.left source.new) (S.faults source.old) (S.faults source.new)) (used (K.held image.old) (K.held image.new) (K.faults image.old) (K.faults image.new)) (used (N.held notes.old) (N.held notes.new) (N.faults notes.old) (N.faults notes.new))) × (0 < length done.o.notes)) }
+    ensures silent { result.status ≡ 0 → (notes.new ≡ notes.old) ⊎ ForJob words.now (λ job. (done : Done job (used (S.left source.old) (S.left source.new) (S.faults source.old) (S.faults source.new)) (used (K.held image.old) (K.held image.new) (K.faults image.old) (K.faults image.new)) (used (N.held notes.old) (N.held notes.new) (N.faults notes.old) (N.faults notes.new)) result.kept) × (0 < length done.o.notes)) }
 {
-    let Some(job) = job_of(words) else {
-        note(notes, "rc: usage\n");
-        return Finish { status: 1 };
+    lines_have_one_reading();
+    kept_orders_are_permitted();
+    let job = match job_of(alloc, words) {
+        Ok(Some(job)) => job,
+        Ok(None) => {
+            note(notes, "rc: usage\n");
+            return Finish {
+                status: 1,
+                kept: None,
+            };
+        }
+        Err(OutOfMemory) => {
+            note(notes, OUT_OF_MEMORY);
+            return Finish {
+                status: 7,
+                kept: None,
+            };
+        }
     };
     match perform(alloc, job, source, image) {
-        Ok(told) => Finish {
-            status: conclude(notes, &told),
-        },
-        Err(refusal) => Finish {
-            status: note_refusal(alloc, notes, refusal),
-        },
+        Ok(told) => {
+            let status = conclude(notes, &told);
+            Finish {
+                status,
+                kept: told.kept,
+            }
+        }
+        Err(Refused { refusal, kept }) => {
+            let status = note_refusal(alloc, notes, refusal);
+            Finish {
+                status,
+                kept: kept_for(status, kept),
+            }
+        }
     }
 }

@@ -1,7 +1,9 @@
 //! Runs on sources and sinks in memory.
+mod clusters;
 mod formats;
 mod hostile;
 mod orders;
+mod seeds;
 
 use super::*;
 use rc_base::gate::OpenGate;
@@ -31,6 +33,9 @@ const CLEAR_IN_BLOCK: [u8; 24] = [
 const END_THEN_MODE_3: [u8; 22] = [
     0x52, 0x43, 0x53, 0x31, 1, 0, 1, 0, 1, 0, 0, 0, 6, 0, 0, 0, 3, 0, 2, 1, 0x24, 3,
 ];
+
+// A window of 1 by 1, and two clients that do nothing.
+const TWO_SILENT: &[u8] = b"RCS1\x01\0\x01\0\x02\0\0\0\0\0\0\0\0\0\0\0";
 
 // One black pixel.
 const BLACK_PIXEL: &[u8] = b"P6\n1 1\n255\n\0\0\0";
@@ -88,16 +93,32 @@ fn run_on(
 #[test]
 fn jobs_write_what_is_due(rt: HostRuntime) -> Result<(), Fail> {
     let rows = [
-        ("render", RED_CLEAR.as_slice(), RED_FRAME),
-        ("render", CLEAR_ALONE.as_slice(), b"".as_slice()),
-        ("pack", RED_CLEAR_TEXT, RED_CLEAR.as_slice()),
-        ("unpack", RED_CLEAR.as_slice(), RED_CLEAR_TEXT),
+        (
+            "render",
+            RED_CLEAR.as_slice(),
+            RED_FRAME,
+            "tile 0 parcels 3 sets 1\njournal 1\nframes 1\n",
+        ),
+        (
+            "render",
+            CLEAR_ALONE.as_slice(),
+            b"".as_slice(),
+            "tile 0 parcels 2 sets 1\njournal 0\nframes 0\n",
+        ),
+        (
+            "render",
+            TWO_SILENT,
+            b"".as_slice(),
+            "tile 0 parcels 2 sets 0\njournal 0\nframes 0\n",
+        ),
+        ("pack", RED_CLEAR_TEXT, RED_CLEAR.as_slice(), ""),
+        ("unpack", RED_CLEAR.as_slice(), RED_CLEAR_TEXT, ""),
     ];
-    for (job, input, due) in rows {
+    for (job, input, due, report) in rows {
         let (status, image, notes) = run_on(rt.alloc(), &[job], input, &[])?;
         assert_eq!(rt; status, 0);
         assert_eq!(rt; image.bytes(), due);
-        assert_eq!(rt; notes.bytes(), b"".as_slice());
+        assert_eq!(rt; notes.bytes(), report.as_bytes());
     }
     Ok(())
 }
@@ -109,7 +130,7 @@ fn other_words_are_usage(rt: HostRuntime) -> Result<(), Fail> {
         &["draw"],
         &["render", "-h"],
         &["render", "render"],
-        &["serial", "check"],
+        &["simulate"],
         &["Check"],
     ];
     for row in rows {
@@ -162,16 +183,30 @@ fn refusals_tell_kind_and_place(rt: HostRuntime) -> Result<(), Fail> {
             4,
             "rc: limit height 2049\n",
         ),
-        (
-            "render",
-            b"RCS1\x01\0\x01\0\x02\0\0\0\0\0\0\0\0\0\0\0".as_slice(),
-            10,
-            "rc: not built\n",
-        ),
     ];
     for (job, input, due, line) in rows {
         let (status, image, notes) = run_on(rt.alloc(), &[job], input, &[])?;
         assert_eq!(rt; status, due);
+        assert_eq!(rt; image.bytes(), b"".as_slice());
+        assert_eq!(rt; notes.bytes(), line.as_bytes());
+    }
+    Ok(())
+}
+
+// The window is 2 by 2, so that it has no more than two columns of tiles.
+#[test]
+fn words_past_their_limits_are_refused(rt: HostRuntime) -> Result<(), Fail> {
+    let rows: [(&[&str], &str); 3] = [
+        (&["render", "--tiles", "3x1"], "rc: limit tile columns 3\n"),
+        (&["render", "--tiles", "1x3"], "rc: limit tile rows 3\n"),
+        (
+            &["simulate", "--seed", "1", "--depth", "17"],
+            "rc: limit depth 17\n",
+        ),
+    ];
+    for (job, line) in rows {
+        let (status, image, notes) = run_on(rt.alloc(), job, &RED_CLEAR, &[])?;
+        assert_eq!(rt; status, 4);
         assert_eq!(rt; image.bytes(), b"".as_slice());
         assert_eq!(rt; notes.bytes(), line.as_bytes());
     }
@@ -227,11 +262,11 @@ fn refused_commands_are_noted(rt: HostRuntime) -> Result<(), Fail> {
     let rows = [
         (
             CLEAR_IN_BLOCK.as_slice(),
-            "client 0 fault INVALID_OPERATION at 1\n",
+            "client 0 fault INVALID_OPERATION at 1\ntile 0 parcels 2 sets 0\njournal 1\nframes 1\n",
         ),
         (
             END_THEN_MODE_3.as_slice(),
-            "client 0 fault INVALID_OPERATION at 0\nclient 0 fault INVALID_ENUM at 1\n",
+            "client 0 fault INVALID_OPERATION at 0\nclient 0 fault INVALID_ENUM at 1\ntile 0 parcels 2 sets 0\njournal 1\nframes 1\n",
         ),
     ];
     for (input, lines) in rows {
@@ -246,23 +281,38 @@ fn refused_commands_are_noted(rt: HostRuntime) -> Result<(), Fail> {
 #[test]
 fn failing_notes_leave_the_image_whole(rt: HostRuntime) -> Result<(), Fail> {
     let rows = [
-        (CLEAR_IN_BLOCK.as_slice(), 1, 8, BLACK_PIXEL, b"".as_slice()),
         (
+            "render",
+            CLEAR_IN_BLOCK.as_slice(),
+            1,
+            8,
+            BLACK_PIXEL,
+            b"".as_slice(),
+        ),
+        (
+            "render",
             CLEAR_IN_BLOCK.as_slice(),
             2,
             8,
             BLACK_PIXEL,
             b"client 0".as_slice(),
         ),
-        (RED_CLEAR.as_slice(), 1, 0, RED_FRAME, b"".as_slice()),
+        (
+            "unpack",
+            RED_CLEAR.as_slice(),
+            1,
+            0,
+            RED_CLEAR_TEXT,
+            b"".as_slice(),
+        ),
     ];
-    for (input, fails, due, frame, noted) in rows {
+    for (job, input, fails, due, given, noted) in rows {
         let mut source = MemSource::new(rt.alloc(), input, 7, &[])?;
         let mut image = MemSink::new(rt.alloc(), 4, &[])?;
         let mut notes = MemSink::new(rt.alloc(), 8, &[fails])?;
-        let status = status_on(rt.alloc(), &["render"], &mut source, &mut image, &mut notes)?;
+        let status = status_on(rt.alloc(), &[job], &mut source, &mut image, &mut notes)?;
         assert_eq!(rt; status, due);
-        assert_eq!(rt; image.bytes(), frame);
+        assert_eq!(rt; image.bytes(), given);
         assert_eq!(rt; notes.bytes(), noted);
     }
     Ok(())

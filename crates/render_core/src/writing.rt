@@ -9,6 +9,7 @@ ghost use Rattle.render_core.specs.Refusals.{IsPartWritten, IsWritable, IsSent, 
 
 use crate::due::{Due, DueImage, Ending};
 use crate::refusal::{ImageRefusal, image_fault_line};
+use order_model::record::Record;
 use ppm_out::image_text;
 use rc_base::command::Bytes;
 use rc_base::image::Image;
@@ -22,6 +23,15 @@ pub(crate) struct Told {
     /// To the notes.
     pub(crate) lines: Bytes,
     pub(crate) ending: Ending,
+    /// The record of a cluster.
+    pub(crate) kept: Option<Record>,
+}
+
+/// Why the image was not written whole, and the record of the cluster whose frames it was to be.
+#[derive(Drop)]
+pub(crate) struct Undelivered {
+    pub(crate) refusal: ImageRefusal,
+    pub(crate) kept: Option<Record>,
 }
 
 fn write_frames<K: Sink>(alloc: Global, image: &mut K, frames: &[Image]) -> Result<(), ImageRefusal>
@@ -88,33 +98,51 @@ fn with_fault(alloc: Global, mut lines: Bytes, done: u128) -> Result<Bytes, Allo
 
 /// Writes what is due to the image. The answer is what is left to tell. A fault of the image cuts off a job that would be done; to one that is stuck
 /// it adds a line.
-pub(crate) fn deliver<K: Sink>(alloc: Global, image: &mut K, due: Due) -> Result<Told, ImageRefusal>
+pub(crate) fn deliver<K: Sink>(alloc: Global, image: &mut K, due: Due) -> Result<Told, Undelivered>
     requires { IsWritable due.image }
     ensures sent { IfOk result (IsSent (used (K.held image.old) (K.held image.new) (K.faults image.old) (K.faults image.new)) (outcome_of due)) }
-    ensures part { IfErr result (IsPartWritten (used (K.held image.old) (K.held image.new) (K.faults image.old) (K.faults image.new)) (due_text due.image)) }
-    ensures fatal { IfErr result (IsFatal (outcome_of due)) }
+    ensures part { IfErr result (λ u. IsPartWritten (used (K.held image.old) (K.held image.new) (K.faults image.old) (K.faults image.new)) (due_text due.image) u.refusal) }
+    ensures fatal { IfErr result (λ u. IsFatal (outcome_of due) u.refusal) }
+    ensures kept { IfErr result (λ u. u.kept ≡ due.kept) }
     ensures later { K.faults image.old ≤ K.faults image.new }
 {
     let Due {
         image: text,
         notes,
         ending,
+        kept,
     } = due;
     let done = match write_due(alloc, image, &text) {
         Ok(()) => {
             return Ok(Told {
                 lines: notes,
                 ending,
+                kept,
             });
         }
         Err(ImageRefusal::Fault { done }) => done,
-        Err(ImageRefusal::OutOfMemory) => return Err(ImageRefusal::OutOfMemory),
+        Err(ImageRefusal::OutOfMemory) => {
+            return Err(Undelivered {
+                refusal: ImageRefusal::OutOfMemory,
+                kept,
+            });
+        }
     };
     match ending {
-        Ending::Complete => Err(ImageRefusal::Fault { done }),
+        Ending::Complete => Err(Undelivered {
+            refusal: ImageRefusal::Fault { done },
+            kept,
+        }),
         Ending::Stuck => match with_fault(alloc, notes, done) {
-            Ok(lines) => Ok(Told { lines, ending }),
-            Err(_) => Err(ImageRefusal::OutOfMemory),
+            Ok(lines) => Ok(Told {
+                lines,
+                ending,
+                kept,
+            }),
+            Err(_) => Err(Undelivered {
+                refusal: ImageRefusal::OutOfMemory,
+                kept,
+            }),
         },
     }
 }

@@ -5,7 +5,7 @@ use std::alloc::Global;
 use std::test::Fail;
 
 // Two clients blend over both pixels, one after the other: what the first one gives the semaphore back, the second one takes.
-const BLENDED_IN_TURN: &[u8] = b"scene 1 2 1
+pub(super) const BLENDED_IN_TURN: &[u8] = b"scene 1 2 1
 semaphore 1
 client
 Enable 3
@@ -57,7 +57,7 @@ Swap
 
 // One client writes a shared texture twice, the other one draws with it each time: one semaphore counts textures that are ready, one those that were
 // read.
-const PRODUCED_AND_CONSUMED: &[u8] = b"scene 1 2 1
+pub(super) const PRODUCED_AND_CONSUMED: &[u8] = b"scene 1 2 1
 shared 1 1
 semaphore 0
 semaphore 0
@@ -91,7 +91,7 @@ Swap
 ";
 
 // Two philosophers who take the same fork first.
-const ONE_FORK_FIRST: &[u8] = b"scene 1 1 1
+pub(super) const ONE_FORK_FIRST: &[u8] = b"scene 1 1 1
 semaphore 1
 semaphore 1
 client

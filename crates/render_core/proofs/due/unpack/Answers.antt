@@ -1,4 +1,4 @@
-use Rattle.std.proofs.Common.{◌∙◌, List, ℕ, [], ap, subst, sym}
+use Rattle.std.proofs.Common.{None, ◌∙◌, List, ℕ, [], ap, subst, sym}
 use Rattle.rc_base.specs.Formats.Text.Read.{SpellsText}
 use Rattle.render_core.specs.declared.due.Ending.TheVariants.{Complete}
 use Rattle.render_core.specs.Jobs.{Outcome, IsOutcome}
@@ -10,6 +10,6 @@ returns-clause-outcome c =
     let fields = c.requires.well in
     let is = c.text_alone.ensures.outcome in
     let image : Outcome → List ℕ = λ o. o.image in (
-      is ∙ ap (λ (l : List ℕ). record { image = l; notes = []; ending = Complete }) c.in_ok-text.ensures.text,
+      is ∙ ap (λ (l : List ℕ). record { image = l; notes = []; ending = Complete; kept = None }) c.in_ok-text.ensures.text,
       subst (λ (l : List ℕ). SpellsText l c.args.scene.now) (sym (ap image is)) (c.in_ok-text.ensures.spells fields.0 fields.1),
     )

@@ -1,57 +1,26 @@
-use Rattle.std.proofs.Common.{ℕ, ◌≤◌, List, length, inr, sym, subst}
-use Rattle.rc_base.specs.Outside.Transfer.{byte_limit}
-use Rattle.render_core.specs.declared.job.Form.{Form}
-use Rattle.render_core.specs.Outcomes.{used}
-use Rattle.render_core.specs.Refusals.{IsRead, outcome_of}
-use Rattle.render_core.proofs.Performing.{took_of, undue_cause, image_cause, partly_written, is_performed}
+use Rattle.std.proofs.Common.{◌≡◌, None, sym, ap, ◌∙◌, subst}
+use Rattle.std.specs.declared.option.Option.{Option}
+use Rattle.order_model.specs.declared.record.Record.{Record}
+use Rattle.render_core.specs.declared.refusal.ImageRefusal.{ImageRefusal}
+use Rattle.render_core.specs.declared.refusal.Refusal.{Refusal}
+use Rattle.render_core.specs.Outcomes.{used, Cause}
+use Rattle.render_core.specs.Refusals.{outcome_of, refusal_status, refusal_line, image_status, image_line, kept_for}
+use Rattle.render_core.proofs.Performing.{image_cause, kept_none}
 use Rattle.render_core.proofs.run_job.perform.Goals as goal
 
 pub returns-in-Err-clause-refused : goal.returns-in-Err-clause-refused
 returns-in-Err-clause-refused g c =
-    let source = used (g.S.Source.left c.args.source.now) (g.S.Source.left c.read_all.new.source) (g.S.Source.faults c.args.source.now) (g.S.Source.faults c.read_all.new.source) in
+    let source = used (g.S.Source.left c.args.source.now) (g.S.Source.left c.due_of_input.new.source) (g.S.Source.faults c.args.source.now) (g.S.Source.faults c.due_of_input.new.source) in
     let image = used (g.K.Sink.held c.args.image.now) (g.K.Sink.held c.args.image.now) (g.K.Sink.faults c.args.image.now) (g.K.Sink.faults c.args.image.now) in
-    let input = c.in_ok-input.input in
-    let scene = c.in_ok-scene.scene in
-    let taken = c.in_ok-input.ensures.taken in
-    let short = subst (λ (l : List ℕ). length l ≤ byte_limit) (sym taken.2.0) taken.2.1 in
-    let took = took_of source taken.0 input taken.1 taken.2.0 short c.in_ok-input.ensures.end in
-    let read = subst (λ (f : Form). IsRead f input scene) c.form.ensures c.in_ok-scene.ensures.read in
-    undue_cause c.args.job source image input took c.in_ok-input.ensures.cause short scene read c.in-Err.refusal c.in-Err.ensures.refused c.from.result c.from.ensures
+    let r = c.without_record.result.refusal in
+    let none : kept_for (refusal_status r) c.without_record.result.kept ≡ None = ap (kept_for (refusal_status r)) c.without_record.ensures.kept ∙ kept_none (refusal_status r) in
+    subst (λ (k : Option Record). Cause c.args.job source image (refusal_status r) (refusal_line r) k) (sym none)
+    (subst (λ (x : Refusal). Cause c.args.job source image (refusal_status x) (refusal_line x) None) (sym c.without_record.ensures.refusal) (c.in-Err.ensures.refused image))
 
-pub returns-in-Ok-deliver-clause-done : goal.returns-in-Ok-deliver-clause-done
-returns-in-Ok-deliver-clause-done g c =
-    let source = used (g.S.Source.left c.args.source.now) (g.S.Source.left c.read_all.new.source) (g.S.Source.faults c.args.source.now) (g.S.Source.faults c.read_all.new.source) in
+pub returns-in-Err-deliver-clause-refused : goal.returns-in-Err-deliver-clause-refused
+returns-in-Err-deliver-clause-refused g c =
+    let source = used (g.S.Source.left c.args.source.now) (g.S.Source.left c.due_of_input.new.source) (g.S.Source.faults c.args.source.now) (g.S.Source.faults c.due_of_input.new.source) in
     let image = used (g.K.Sink.held c.args.image.now) (g.K.Sink.held c.deliver.new.image) (g.K.Sink.faults c.args.image.now) (g.K.Sink.faults c.deliver.new.image) in
-    let input = c.in_ok-input.input in
-    let scene = c.in_ok-scene.scene in
-    let taken = c.in_ok-input.ensures.taken in
-    let short = subst (λ (l : List ℕ). length l ≤ byte_limit) (sym taken.2.0) taken.2.1 in
-    let took = took_of source taken.0 input taken.1 taken.2.0 short c.in_ok-input.ensures.end in
-    let read = subst (λ (f : Form). IsRead f input scene) c.form.ensures c.in_ok-scene.ensures.read in
-    is_performed c.args.job source image input took c.in_ok-input.ensures.cause short scene read (outcome_of c.in-Ok.due) c.in-Ok.ensures.outcome c.in-Ok-deliver.told c.in-Ok-deliver.ensures.sent
-
-pub returns-clause-refused : goal.returns-clause-refused
-returns-clause-refused g c =
-    let source = used (g.S.Source.left c.args.source.now) (g.S.Source.left c.read_all.new.source) (g.S.Source.faults c.args.source.now) (g.S.Source.faults c.read_all.new.source) in
-    let image = used (g.K.Sink.held c.args.image.now) (g.K.Sink.held c.deliver.new.image) (g.K.Sink.faults c.args.image.now) (g.K.Sink.faults c.deliver.new.image) in
-    let input = c.in_ok-input.input in
-    let scene = c.in_ok-scene.scene in
-    let taken = c.in_ok-input.ensures.taken in
-    let short = subst (λ (l : List ℕ). length l ≤ byte_limit) (sym taken.2.0) taken.2.1 in
-    let took = took_of source taken.0 input taken.1 taken.2.0 short c.in_ok-input.ensures.end in
-    let read = subst (λ (f : Form). IsRead f input scene) c.form.ensures c.in_ok-scene.ensures.read in
-    image_cause c.args.job source image input took c.in_ok-input.ensures.cause short scene read (outcome_of c.in-Ok.due) c.in-Ok.ensures.outcome c.in-Err-deliver.refusal c.in-Err-deliver.ensures.part
-    c.in-Err-deliver.ensures.fatal
-
-pub returns-clause-part : goal.returns-clause-part
-returns-clause-part g c =
-    let source = used (g.S.Source.left c.args.source.now) (g.S.Source.left c.read_all.new.source) (g.S.Source.faults c.args.source.now) (g.S.Source.faults c.read_all.new.source) in
-    let image = used (g.K.Sink.held c.args.image.now) (g.K.Sink.held c.deliver.new.image) (g.K.Sink.faults c.args.image.now) (g.K.Sink.faults c.deliver.new.image) in
-    let input = c.in_ok-input.input in
-    let scene = c.in_ok-scene.scene in
-    let taken = c.in_ok-input.ensures.taken in
-    let short = subst (λ (l : List ℕ). length l ≤ byte_limit) (sym taken.2.0) taken.2.1 in
-    let took = took_of source taken.0 input taken.1 taken.2.0 short c.in_ok-input.ensures.end in
-    let read = subst (λ (f : Form). IsRead f input scene) c.form.ensures c.in_ok-scene.ensures.read in
-    inr (partly_written c.args.job source image input took c.in_ok-input.ensures.cause short scene read (outcome_of c.in-Ok.due) c.in-Ok.ensures.outcome c.in-Err-deliver.refusal
-    c.in-Err-deliver.ensures.part)
+    let u = c.in-Err-deliver.field-0 in
+    subst (λ (k : Option Record). Cause c.args.job source image (image_status u.refusal) (image_line u.refusal) (kept_for (image_status u.refusal) k)) (sym c.in-Err-deliver.ensures.kept)
+    (image_cause c.args.job source image (outcome_of c.in-Ok.due) c.in-Ok.ensures.due u.refusal c.in-Err-deliver.ensures.part c.in-Err-deliver.ensures.fatal)

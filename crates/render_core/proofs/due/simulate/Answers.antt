@@ -1,0 +1,34 @@
+use Rattle.std.proofs.Common.{◌≡◌, ℕ, ◌+◌, ◌≤◌, ◌<◌, List, length, sym, ap, ◌∙◌, subst, arith}
+use Rattle.std.specs.Prelude.{IfOk, slice_index_or}
+use Rattle.rc_base.specs.Cluster.Tiles.{tile_count}
+use Rattle.rc_base.specs.Program.Generator.{picks_of}
+use Rattle.rc_base.specs.declared.window.Layout.{Layout}
+use Rattle.render_core.specs.Jobs.{actors_for, IsClusterOutcome, IsOutcome}
+use Rattle.render_core.specs.Refusals.{outcome_of}
+use Rattle.render_core.specs.declared.due.Due.{Due}
+use Rattle.render_core.proofs.WithinLimits.{clients_within}
+use Rattle.render_core.proofs.Clustered.{asked_within, picks_below}
+use Rattle.render_core.proofs.due.simulate.Goals as goal
+
+pub actor_count-requires-clause-clients : goal.actor_count-requires-clause-clients
+actor_count-requires-clause-clients c = (clients_within c.args.scene.now c.requires.within).1
+
+pub actor_count-requires-clause-tiles : goal.actor_count-requires-clause-tiles
+actor_count-requires-clause-tiles c =
+    subst (λ (l : Layout). tile_count l ≤ 32) (sym c.in-Ok.ensures.1) (asked_within c.args.cluster c.args.scene.now c.in-Ok.ensures.0).most_tiles
+
+pub cluster_due-requires-clause-picks : goal.cluster_due-requires-clause-picks
+cluster_due-requires-clause-picks c =
+    let scene = c.args.scene.now in
+    let actors : c.actor_count.result ≡ actors_for c.args.cluster scene = c.actor_count.ensures ∙ ap (λ (l : Layout). length scene.streams + 1 + tile_count l) c.in-Ok.ensures.1 in
+    let picks : c.as_slice.result.now ≡ picks_of c.args.seed (actors_for c.args.cluster scene) = c.as_slice.ensures.value ∙ c.in_ok-picks.ensures ∙ ap (picks_of c.args.seed) actors in
+    subst (λ (p : List ℕ). (i : ℕ) → i < length p → slice_index_or p i 0 < actors_for c.args.cluster scene) (sym picks)
+    (picks_below c.args.seed (actors_for c.args.cluster scene) (omega arith))
+
+pub returns-clause-outcome : goal.returns-clause-outcome
+unfolding IsOutcome
+returns-clause-outcome c =
+    let scene = c.args.scene.now in
+    let actors : c.actor_count.result ≡ actors_for c.args.cluster scene = c.actor_count.ensures ∙ ap (λ (l : Layout). length scene.streams + 1 + tile_count l) c.in-Ok.ensures.1 in
+    let picks : c.as_slice.result.now ≡ picks_of c.args.seed (actors_for c.args.cluster scene) = c.as_slice.ensures.value ∙ c.in_ok-picks.ensures ∙ ap (picks_of c.args.seed) actors in
+    subst (λ (p : List ℕ). IfOk c.cluster_due.result (λ due. IsClusterOutcome c.args.cluster p scene (outcome_of due))) picks c.cluster_due.ensures.outcome

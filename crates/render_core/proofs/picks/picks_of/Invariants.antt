@@ -1,0 +1,10 @@
+use Rattle.std.proofs.Common.{◌≡◌, ◌<◌, ◌≤◌, ◌+◌, ◌%◌, ◌^◌, length, map, ℕ}
+use Rattle.std.specs.List.{range_with_len}
+use Rattle.rc_base.specs.Program.Generator.{drawn_state, draw_of}
+use Rattle.render_core.proofs.picks.picks_of.Given as goal
+
+abbrev pub invariant-loop : goal.invariant-loop
+invariant-loop l = record {
+  drawn : l.picks.items ≡ map (λ (n : ℕ). draw_of l.fn.seed n % l.fn.actors) (range_with_len 0 l.counter);
+  state : l.state ≡ drawn_state l.fn.seed l.counter;
+}

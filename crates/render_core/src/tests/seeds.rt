@@ -1,0 +1,310 @@
+//! Ordered scenes on many schedules: each gives the picture of the serial renderer.
+ghost use Rattle.std.specs.Prelude.{◌≡◌, None};
+ghost use Rattle.rc_base.specs.Formats.Limits.{limit_of};
+ghost use Rattle.render_core.specs.Refusals.{IsWellRead};
+ghost use Rattle.render_core.specs.declared.job.Form.TheVariants.{Bytes as OfBytes};
+
+use super::clusters::{BARRIER_IN_BLOCK, LAZY_STATE, NO_UNIT};
+use super::orders::{BLENDED_IN_TURN, ONE_FORK_FIRST, PRODUCED_AND_CONSUMED};
+use super::{run_on, words};
+use crate::input::scene_of;
+use crate::job::Form;
+use crate::run_job::{Finish, run};
+use order_model::laws::scene_lists_are_well_formed;
+use order_model::record::Record;
+use order_model::{is_permitted, tile_order};
+use rc_base::command::Bytes;
+use rc_base::gate::OpenGate;
+use rc_base::in_memory::{MemSink, MemSource};
+use rc_base::scene::Scene;
+use serial_render::sync_lists;
+use std::alloc::Global;
+use std::test::Fail;
+
+// A client writes a shared texture, and behind a barrier another one draws its second texel over eight tiles by two.
+const SHARED_BEHIND_A_BARRIER: &[u8] = b"scene 1 8 2
+shared 2 1
+barrier 2
+client
+SharedImage 1 0 0 2 1 ff0000ff00ff00ff
+Barrier 1
+Swap
+client
+Barrier 1
+BindTexture 1 1
+Enable 5
+TexEnv 1
+TexCoord -1 0
+Begin 0
+Vertex -65536 -65536 0 65536
+Vertex 196608 -65536 0 65536
+Vertex -65536 196608 0 65536
+End
+Swap
+";
+
+// Two clients blend over both pixels, the second one behind a barrier.
+const BLENDED_BEHIND_A_BARRIER: &[u8] = b"scene 1 2 1
+barrier 2
+client
+Enable 3
+BlendFunc 6 7
+Color 255 0 0 128
+Begin 0
+Vertex -65536 -65536 0 65536
+Vertex 196608 -65536 0 65536
+Vertex -65536 196608 0 65536
+End
+Barrier 1
+Swap
+client
+Enable 3
+BlendFunc 6 7
+Color 0 0 255 128
+Barrier 1
+Begin 0
+Vertex -65536 -65536 0 65536
+Vertex 196608 -65536 0 65536
+Vertex -65536 196608 0 65536
+End
+Swap
+";
+
+// The same without the barrier: nothing orders the two.
+const BLENDED_AT_ONCE: &[u8] = b"scene 1 2 1
+client
+Enable 3
+BlendFunc 6 7
+Color 255 0 0 128
+Begin 0
+Vertex -65536 -65536 0 65536
+Vertex 196608 -65536 0 65536
+Vertex -65536 196608 0 65536
+End
+Swap
+client
+Enable 3
+BlendFunc 6 7
+Color 0 0 255 128
+Begin 0
+Vertex -65536 -65536 0 65536
+Vertex 196608 -65536 0 65536
+Vertex -65536 196608 0 65536
+End
+Swap
+";
+
+// Eight clients who each clear one column.
+const EIGHT_COLUMNS: &[u8] = b"scene 1 8 1
+client
+Enable 0
+Scissor 0 0 1 1
+ClearColor 16 0 0 255
+Clear 1
+Swap
+client
+Enable 0
+Scissor 1 0 1 1
+ClearColor 32 0 0 255
+Clear 1
+Swap
+client
+Enable 0
+Scissor 2 0 1 1
+ClearColor 48 0 0 255
+Clear 1
+Swap
+client
+Enable 0
+Scissor 3 0 1 1
+ClearColor 64 0 0 255
+Clear 1
+Swap
+client
+Enable 0
+Scissor 4 0 1 1
+ClearColor 80 0 0 255
+Clear 1
+Swap
+client
+Enable 0
+Scissor 5 0 1 1
+ClearColor 96 0 0 255
+Clear 1
+Swap
+client
+Enable 0
+Scissor 6 0 1 1
+ClearColor 112 0 0 255
+Clear 1
+Swap
+client
+Enable 0
+Scissor 7 0 1 1
+ClearColor 128 0 0 255
+Clear 1
+Swap
+";
+
+// A red window of 8 by 4.
+const RED_WINDOW: &[u8] = b"scene 1 8 4\nclient\nClearColor 255 0 0 255\nClear 1\nSwap\n";
+
+// A scene, and tiles and a depth to run it with.
+type Case = (&'static [u8], &'static str, &'static str);
+
+const CASES: [Case; 13] = [
+    (RED_WINDOW, "8x4", "16"),
+    (SHARED_BEHIND_A_BARRIER, "8x2", "1"),
+    (SHARED_BEHIND_A_BARRIER, "1x1", "16"),
+    (EIGHT_COLUMNS, "8x1", "1"),
+    (EIGHT_COLUMNS, "3x1", "2"),
+    (BLENDED_BEHIND_A_BARRIER, "2x1", "1"),
+    (BLENDED_BEHIND_A_BARRIER, "1x1", "3"),
+    (PRODUCED_AND_CONSUMED, "2x1", "1"),
+    (PRODUCED_AND_CONSUMED, "1x1", "8"),
+    (ONE_FORK_FIRST, "1x1", "1"),
+    (BARRIER_IN_BLOCK, "1x1", "1"),
+    (LAZY_STATE, "2x1", "1"),
+    (NO_UNIT, "1x1", "2"),
+];
+
+// The record that a run of the scene's bytes keeps.
+fn kept_on(alloc: Global, job: &[&str], bytes: &[u8]) -> Result<Option<Record>, Fail> {
+    let words = words(alloc, job)?;
+    let mut source = MemSource::new(alloc, bytes, 7, &[])?;
+    let mut image = MemSink::new(alloc, 64, &[])?;
+    let mut notes = MemSink::new(alloc, 64, &[])?;
+    let Finish { kept, .. } = run(
+        alloc,
+        words.as_slice(),
+        &mut source,
+        &mut image,
+        &mut notes,
+        &OpenGate,
+    );
+    Ok(kept)
+}
+
+// Status and image of a run of the scene's bytes.
+fn seen(alloc: Global, job: &[&str], bytes: &[u8]) -> Result<(u8, MemSink), Fail> {
+    let (status, image, _) = run_on(alloc, job, bytes, &[])?;
+    Ok((status, image))
+}
+
+// Whether the seed's schedule gives what the serial renderer gives.
+fn is_alike(
+    alloc: Global,
+    bytes: &[u8],
+    case: Case,
+    seed: u32,
+    serial: &(u8, MemSink),
+) -> Result<bool, Fail> {
+    let seed = format!(in alloc; "{seed}")?;
+    let (_, tiles, depth) = case;
+    let job = [
+        "simulate",
+        "--depth",
+        depth,
+        "--seed",
+        seed.as_str(),
+        "--tiles",
+        tiles,
+    ];
+    let (status, image) = seen(alloc, &job, bytes)?;
+    Ok(status == serial.0 && image.bytes() == serial.1.bytes())
+}
+
+// How many of twenty seeds give what the serial renderer gives.
+fn alike(alloc: Global, case: Case) -> Result<u32, Fail> {
+    let (_, scene, _) = run_on(alloc, &["pack"], case.0, &[])?;
+    let serial = seen(alloc, &["serial"], scene.bytes())?;
+    let mut count: u32 = 0;
+    for seed in 0..20u32 {
+        if is_alike(alloc, scene.bytes(), case, seed, &serial)? {
+            count = count.saturating_add(1);
+        }
+    }
+    Ok(count)
+}
+
+#[test]
+fn twenty_seeds_draw_what_the_serial_renderer_draws(rt: HostRuntime) -> Result<(), Fail> {
+    for case in CASES {
+        assert_eq!(rt; alike(rt.alloc(), case)?, 20);
+    }
+    Ok(())
+}
+
+// Whether the journal permits the order that each tile of the record tells.
+fn permits(alloc: Global, scene: &Scene, kept: &Record) -> Result<bool, Fail>
+    requires well { IsWellRead OfBytes scene.now }
+    requires within { limit_of scene.now ≡ None }
+{
+    scene_lists_are_well_formed();
+    let lists = sync_lists(alloc, scene)?;
+    if kept.syncs.clients.len() > 8 {
+        return Ok(false);
+    }
+    for tile in 0..kept.logs.len() {
+        let order = tile_order(alloc, kept, tile as u8)?;
+        if !is_permitted(&order, &kept.journal, &lists) {
+            return Ok(false);
+        }
+    }
+    Ok(kept.syncs == lists)
+}
+
+// Whether the record of a seed's run tells orders that its journal permits.
+fn keeps_orders(alloc: Global, bytes: &[u8], seed: u32) -> Result<bool, Fail> {
+    if bytes.len() > 1000 {
+        return Ok(false);
+    }
+    let Ok(scene) = scene_of(alloc, Form::Bytes, Bytes::from_slice(alloc, bytes)?) else {
+        return Ok(false);
+    };
+    let seed = format!(in alloc; "{seed}")?;
+    let job = [
+        "simulate",
+        "--depth",
+        "1",
+        "--seed",
+        seed.as_str(),
+        "--tiles",
+        "2x1",
+    ];
+    match kept_on(alloc, &job, bytes)? {
+        Some(kept) => permits(alloc, &scene, &kept),
+        None => Ok(false),
+    }
+}
+
+#[test]
+fn recorded_orders_are_permitted(rt: HostRuntime) -> Result<(), Fail> {
+    let (_, scene, _) = run_on(rt.alloc(), &["pack"], BLENDED_IN_TURN, &[])?;
+    for seed in 0..20u32 {
+        assert!(rt; keeps_orders(rt.alloc(), scene.bytes(), seed)?);
+    }
+    Ok(())
+}
+
+// How often a text stands in another one.
+fn times(text: &[u8], part: &[u8]) -> usize {
+    let mut count: usize = 0;
+    for i in 0..text.len() {
+        if text[i..].starts_with(part) {
+            count = count.saturating_add(1);
+        }
+    }
+    count
+}
+
+#[test]
+fn each_tile_tells_its_order(rt: HostRuntime) -> Result<(), Fail> {
+    let (_, scene, _) = run_on(rt.alloc(), &["pack"], BLENDED_AT_ONCE, &[])?;
+    let job = ["simulate", "--seed", "0", "--tiles", "2x1", "--order"];
+    let (status, _, notes) = run_on(rt.alloc(), &job, scene.bytes(), &[])?;
+    assert_eq!(rt; status, 0);
+    assert_eq!(rt; times(notes.bytes(), b"order 0 "), 18);
+    assert_eq!(rt; times(notes.bytes(), b"order 1 "), 18);
+    Ok(())
+}
