@@ -49,14 +49,14 @@ pub kept_at : (tile : ℕ) (m : TileMoved) (lists lists1 lists' lists1' : List (
     → ArePartsKept tile m lists lists' → ArePartsKept tile m lists1 lists1'
 kept_at tile m lists lists1 lists' lists1' a a' h =
     subst (λ (x : List (Vec TilePart Global)). ArePartsKept tile m x lists1') a
-        (subst (λ (x : List (Vec TilePart Global)). ArePartsKept tile m lists x) a' h)
+    (subst (λ (x : List (Vec TilePart Global)). ArePartsKept tile m lists x) a' h)
 
 pub column_at : (number : ℕ) (m : ClientMoved) (cores cores1 cores' cores1' : List ClientCore)
     (rows rows1 rows' rows1' : List (Vec (PlainLane Parcel) Global)) (spare spare1 spare' spare1' : List (PlainLane Parcel))
     (lanes lanes1 lanes' lanes1' : List (PlainLane Request)) → cores ≡ cores1 → cores' ≡ cores1' → rows ≡ rows1 → rows' ≡ rows1' → spare ≡ spare1
-        → spare' ≡ spare1' → lanes ≡ lanes1 → lanes' ≡ lanes1'
+    → spare' ≡ spare1' → lanes ≡ lanes1 → lanes' ≡ lanes1'
     → IsColumnStepped number m cores cores' rows rows' spare spare' lanes lanes'
-        → IsColumnStepped number m cores1 cores1' rows1 rows1' spare1 spare1' lanes1 lanes1'
+    → IsColumnStepped number m cores1 cores1' rows1 rows1' spare1 spare1' lanes1 lanes1'
 column_at number m cores cores1 cores' cores1' rows rows1 rows' rows1' spare spare1 spare' spare1' lanes lanes1 lanes' lanes1' a a' b b' c c' d d' h =
     subst (λ (x : List ClientCore). IsColumnStepped number m x cores1' rows1 rows1' spare1 spare1' lanes1 lanes1') a
     (subst (λ (x : List ClientCore). IsColumnStepped number m cores x rows1 rows1' spare1 spare1' lanes1 lanes1') a'

@@ -61,7 +61,7 @@ pub record IsOwn (depth tiles : ℕ) (core : ClientCore) (row : List (PlainLane 
 module _ (scene : Scene) (l : Layout) (depth number : ℕ) (w : Model) (core core' : ClientCore) (row row' : List (PlainLane Parcel))
     (lane lane' : PlainLane Request)
     (c : IsClientOf scene l number (w.clients number) core) (h : AreLanesOf depth (tile_count l) (w.parcels number) row)
-        (k : IsLaneOf depth (w.requests number) lane) where
+    (k : IsLaneOf depth (w.requests number) lane) where
   -- what an answer leaves of the client and its lanes is a step of the model
   record Does (m : ClientMoved) : Type 0 where
     pub own : Own
@@ -106,8 +106,12 @@ module _ (scene : Scene) (l : Layout) (depth number : ℕ) (w : Model) (core cor
     appends : (t : ℕ) → layout_of core ≡ l → core_moves.IsAppended held row row' core core' t × (lane' ≡ lane) → Does (moved.Appended t)
     appends t layout a =
         let p = a.0.parcel in
-        let own : Own = record { client = seen core'; parcels = with_at (w.parcels number) t (w.parcels number t ++ p ∷ []); requests = w.requests
-            number } in
+        let own : Own = record {
+          client = seen core';
+          parcels = with_at (w.parcels number) t (w.parcels number t ++ p ∷ []);
+          requests = w.requests
+              number;
+        } in
         record {
           own = own;
           is = record {
@@ -161,7 +165,7 @@ module _ (scene : Scene) (l : Layout) (depth number : ℕ) (w : Model) (core cor
     blocked_tile t layout a =
         let lt : t < tile_count l = subst (λ (x : Layout). t < tile_count x) layout a.0.tile in
         let rows : AreLanesOf depth (tile_count l) (w.parcels number) row' = lanes_with depth (tile_count l) (w.parcels number) row row' h s
-            (w.parcels number)
+        (w.parcels number)
         (at_one (λ i. (d : PlainLane Parcel) → i < tile_count l → held (slice_index_or row' i d) ≡ w.parcels number i) t
         (λ d lt. a.0.same.at t d (low t lt) refl ∙ (h.at t d lt).holds)
         (λ i ne d lt. ap held (a.0.others.at i d (low i lt) ne) ∙ (h.at i d lt).holds)) in
@@ -183,7 +187,7 @@ module _ (scene : Scene) (l : Layout) (depth number : ℕ) (w : Model) (core cor
         × (length (held lane') ≡ depth_of lane') × (row' ≡ row) → Does moved.BlockedRequest
     blocked_request a =
         let now : IsLaneOf depth (w.requests number) lane' = lane_so depth (w.requests number) (w.requests number) lane lane' k lane_depth
-            (a.1 ∙ k.holds) in
+        (a.1 ∙ k.holds) in
         record {
           own = record { client = seen core'; parcels = w.parcels number; requests = w.requests number };
           is = record { client = refl; parcels = same_row a.4; requests = now };
@@ -215,9 +219,9 @@ module _ (scene : Scene) (l : Layout) (depth number : ℕ) (w : Model) (core cor
 module _ (scene : Scene) (l : Layout) (depth number : ℕ) (before : World) (w : Model) (m : ClientMoved) (clients : Vec ClientCore Global)
     (parcels : Vec (Vec (PlainLane Parcel) Global) Global)
     (spare : Vec (PlainLane Parcel) Global) (requests : Vec (PlainLane Request) Global) (v : IsViewOf scene l depth before w)
-        (low : number < client_total scene)
+    (low : number < client_total scene)
     (s : IsColumnStepped number m before.clients.items clients.items before.parcels.items parcels.items before.row.items spare.items
-        before.requests.items requests.items) where
+    before.requests.items requests.items) where
   abbrev after : World
   after = record before { clients = clients; parcels = parcels; row = spare; requests = requests }
 
@@ -238,7 +242,7 @@ module _ (scene : Scene) (l : Layout) (depth number : ℕ) (before : World) (w :
     at = λ t d lt.
         let r = first_of_some before.parcels.items t (within t lt) in
         subst (λ (x : PlainLane Parcel). IsLaneOf depth (w.parcels number t) x) (sym (s.got t r d (within t lt)))
-            ((v.parcels.at t r lt).at number d low);
+        ((v.parcels.at t r lt).at number d low);
   }
 
   done : Does scene l depth number w s.step.core s.step.core' s.row s.row' s.step.lane s.step.lane' core_is row_is lane_is m
@@ -266,10 +270,10 @@ module _ (scene : Scene) (l : Layout) (depth number : ℕ) (before : World) (w :
       count = s.step.cores_changed.count ∙ v.clients.count;
       at = at_one (λ i. (d : ClientCore) → i < client_total scene → IsClientOf scene l i (later.clients i) (slice_index_or clients.items i d)) number
           (λ d lt. subst (λ (x : Client). IsClientOf scene l number x (slice_index_or clients.items number d))
-              (sym (with_here w.clients number done.own.client))
+          (sym (with_here w.clients number done.own.client))
           (subst (λ (x : ClientCore). IsClientOf scene l number done.own.client x) (sym (s.step.cores_changed.is d)) core_after))
           (λ i ne d lt. subst (λ (x : Client). IsClientOf scene l i x (slice_index_or clients.items i d))
-              (sym (with_other w.clients number done.own.client i ne))
+          (sym (with_other w.clients number done.own.client i ne))
           (subst (λ (x : ClientCore). IsClientOf scene l i (w.clients i) x) (sym (s.step.cores_changed.others i d ne)) (v.clients.at i d lt)));
     };
     manager = v.manager;
@@ -280,12 +284,12 @@ module _ (scene : Scene) (l : Layout) (depth number : ℕ) (before : World) (w :
         count = s.columns t r (within t lt) ∙ (v.parcels.at t r lt).count;
         at = at_one (λ i. (d : PlainLane Parcel) → i < client_total scene → IsLaneOf depth (later.parcels i t) (element parcels.items t i r d)) number
             (λ d low. subst (λ (x : List Parcel). IsLaneOf depth x (element parcels.items t number r d))
-                (sym (ap (λ (f : ℕ → List Parcel). f t) (with_here w.parcels number done.own.parcels)))
+            (sym (ap (λ (f : ℕ → List Parcel). f t) (with_here w.parcels number done.own.parcels)))
             (subst (λ (x : PlainLane Parcel). IsLaneOf depth (done.own.parcels t) x) (sym (s.put t r d (within t lt))) (done.is.parcels.at t d lt)))
             (λ i ne d low. subst (λ (x : List Parcel). IsLaneOf depth x (element parcels.items t i r d))
-                (sym (ap (λ (f : ℕ → List Parcel). f t) (with_other w.parcels number done.own.parcels i ne)))
+            (sym (ap (λ (f : ℕ → List Parcel). f t) (with_other w.parcels number done.own.parcels i ne)))
             (subst (λ (x : PlainLane Parcel). IsLaneOf depth (w.parcels i t) x) (sym (s.others t i r d (within t lt) ne))
-                ((v.parcels.at t r lt).at i d low)));
+            ((v.parcels.at t r lt).at i d low)));
       };
     };
     row = s.spares ∙ v.row;

@@ -47,7 +47,7 @@ module _ (syncs : SyncLists) (some : 0 < client_count syncs) where
       let in_it : nat_lt 0 (client_count syncs) ≡ true = lt-ltb 0 (client_count syncs) some in
       let c = used (s.rest 0) _ (h.0.next 0 in_it) in
       let d : length (cond (nat_lt 0 (client_count syncs)) (drop 1 (s.rest 0)) (s.rest 0)) ≡ length (drop 1 (s.rest 0)) =
-          ap (λ x. length (cond x (drop 1 (s.rest 0)) (s.rest 0))) in_it in
+      ap (λ x. length (cond x (drop 1 (s.rest 0)) (s.rest 0))) in_it in
       omega (arith, a, b, c, d)
   swaps_within (Give semaphore client ∷ es) s h =
       let e : Entry = Give semaphore client in

@@ -60,7 +60,7 @@ pub first_view : (scene : Scene) (l : Layout) (depth : ℕ) (world : World) → 
     → AreClientsOf scene l (new_client scene l) world.clients.items
     → manager.clients_of world.manager ≡ client_total scene → manager.tiles_of world.manager ≡ tile_count l
     → ((syncs : SyncLists) → client_count syncs ≡ client_total scene → syncs.counts ≡ scene.decl.barriers → syncs.units ≡ scene.decl.semaphores
-        → manager.IsProgressOf syncs world.manager new_progress)
+    → manager.IsProgressOf syncs world.manager new_progress)
     → length world.tiles.items ≡ tile_count l
     → ((i : ℕ) (d : TileCore) → i < tile_count l → IsNewTileCore scene.decl (client_total scene) l i (slice_index_or world.tiles.items i d))
     → AreRowsOf depth (client_total scene) (tile_count l) (λ client tile. []) world.parcels.items

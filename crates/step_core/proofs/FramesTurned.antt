@@ -51,7 +51,7 @@ module _ (lists : List (Vec TilePart Global)) where
       at = λ f t d x lt low. elim (cases_lt f n) [
         | inl less ↦
             let before : f * length lists + t < length parts =
-                (let c = h.done.count in let m = mul-le-mul_right {m = f + 1} {n = n} (length lists) (omega (arith, less)) in omega (arith, c, m, low)) in
+            (let c = h.done.count in let m = mul-le-mul_right {m = f + 1} {n = n} (length lists) (omega (arith, less)) in omega (arith, c, m, low)) in
             k.before (f * length lists + t) x before ∙ h.done.at f t d x less low
         | inr more ↦
             let same : n ≡ f = omega (arith, lt, more) in

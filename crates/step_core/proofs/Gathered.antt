@@ -90,9 +90,11 @@ module _ (laws : GatherLaws) (scene : Scene) (l : Layout) (world : World) (h : H
 
   even : AreEven (frame_count h.model.manager.book.journal) world.parts.items
   unfolding the_record
-  even = record { each = λ t d lt.
-      let low : t < tile_count l = (let a = h.view.parts.count in omega (arith, a, lt)) in
-      (h.view.parts.at t d low).count ∙ (laws.frames scene l h.model the_record sound h.ended is_record t low).count }
+  even = record {
+    each = λ t d lt.
+        let low : t < tile_count l = (let a = h.view.parts.count in omega (arith, a, lt)) in
+        (h.view.parts.at t d low).count ∙ (laws.frames scene l h.model the_record sound h.ended is_record t low).count;
+  }
 
   pub collectable : IsCollectable world
   collectable = record {
@@ -105,10 +107,12 @@ module _ (laws : GatherLaws) (scene : Scene) (l : Layout) (world : World) (h : H
   -- ---- what is collected
 
   have_sent : HaveSent scene l world.clients.items
-  have_sent = record { at = λ i d lt.
-      let low : i < length scene.streams = (let a = h.view.clients.count in omega (arith, a, lt)) in
-      let one = h.view.clients.at i d low in
-      record { whose = one.whose; ample = one.ample; all = one.left ∙ h.ended.clients i low } }
+  have_sent = record {
+    at = λ i d lt.
+        let low : i < length scene.streams = (let a = h.view.clients.count in omega (arith, a, lt)) in
+        let one = h.view.clients.at i d low in
+        record { whose = one.whose; ample = one.ample; all = one.left ∙ h.ended.clients i low };
+  }
 
   module _ (decl : Decl) (run : CoreRun) (same : decl ≡ scene.decl) (k : IsCollected decl world run) where
     rows_are : run.kept.syncs.clients ≡ map (sync_row_of scene) (range_with_len 0 (length scene.streams))
@@ -118,11 +122,11 @@ module _ (laws : GatherLaws) (scene : Scene) (l : Layout) (world : World) (h : H
         let m = k.kept.rows.count in
         let none : SyncRow = record { ops = []; length = 0 } in
         k.rows ∙ ext_get_or none k.lists.rows.items (map (sync_row_of scene) (range_with_len 0 (length scene.streams))) (omega (arith, all, n, m)) (λ i lt.
-            let here : i < length world.clients.items = omega (arith, m, lt) in
-            let low : i < length scene.streams = omega (arith, all, here) in
-            let d = some_of world.clients.items i here in
-            k.kept.rows.at i d none here scene l (have_sent.at i d here)
-            ∙ sym (get_or-map-range_with_len (sync_row_of scene) 0 (length scene.streams) i i none low (omega arith)))
+        let here : i < length world.clients.items = omega (arith, m, lt) in
+        let low : i < length scene.streams = omega (arith, all, here) in
+        let d = some_of world.clients.items i here in
+        k.kept.rows.at i d none here scene l (have_sent.at i d here)
+        ∙ sym (get_or-map-range_with_len (sync_row_of scene) 0 (length scene.streams) i i none low (omega arith)))
 
     syncs_are : run.kept.syncs ≡ sync_lists_of scene
     unfolding sync_lists_of
@@ -169,7 +173,7 @@ module _ (laws : GatherLaws) (scene : Scene) (l : Layout) (world : World) (h : H
         let n : frame_count h.model.manager.book.journal ≡ frame_count run.kept.journal = ap frame_count (sym journal_is) in
         let t : length world.parts.items ≡ tile_count l = h.view.parts.count in
         let count : length run.parts ≡ frame_count run.kept.journal * tile_count l =
-            f.count ∙ ap (λ x. x * length world.parts.items) n ∙ ap (λ x. frame_count run.kept.journal * x) t in
+        f.count ∙ ap (λ x. x * length world.parts.items) n ∙ ap (λ x. frame_count run.kept.journal * x) t in
         record {
           count = count;
           each = λ frame tile part low is.
@@ -182,9 +186,9 @@ module _ (laws : GatherLaws) (scene : Scene) (l : Layout) (world : World) (h : H
               let d = some_of world.parts.items tile here in
               let list = (slice_index_or world.parts.items tile d).items in
               let at : part ≡ slice_index_or list frame part =
-                  sym (get_or_from_slice_get run.parts (frame * tile_count l + tile) part part is)
-                  ∙ ap (λ x. slice_index_or run.parts (frame * x + tile) part) (sym t)
-                  ∙ f.at frame tile d part (omega (arith, n, less)) here in
+              sym (get_or_from_slice_get run.parts (frame * tile_count l + tile) part part is)
+              ∙ ap (λ x. slice_index_or run.parts (frame * x + tile) part) (sym t)
+              ∙ f.at frame tile d part (omega (arith, n, less)) here in
               let shown = laws.frames scene l h.model run.kept sound h.ended record_in tile low in
               let pixels = (h.model.tiles tile).parts in
               let inside : frame < length pixels = (let c = shown.count in omega (arith, c, less)) in
@@ -222,17 +226,17 @@ module _ (laws : GatherLaws) (scene : Scene) (l : Layout) (world : World) (h : H
               let one = k.kept.tallies.each scene l have_sent tile (omega (arith, t, low)) in
               ap (λ (ts : List Tally). (slice_index_or ts tile no_tally).parcels) k.tallies ∙ one.parcels
               ∙ whole_sum (λ (core : ClientCore). (tally_of_tile core tile).parcels) (λ client. length (parcels_of scene l client tile)) world.clients.items (2 ^ 20 + 1) last_count
-                  few_clients (omega arith)
-                  (λ i d lt. ap (λ (x : Tally). x.parcels) (parcels_held i tile d lt low) ∙ (laws.counts (parcels_of scene l i tile)).0)
-                  (λ i lt. let a = (few_parcels scene l i tile).0 in let b = h.runnable.short i in omega (arith, a, b))
+              few_clients (omega arith)
+              (λ i d lt. ap (λ (x : Tally). x.parcels) (parcels_held i tile d lt low) ∙ (laws.counts (parcels_of scene l i tile)).0)
+              (λ i lt. let a = (few_parcels scene l i tile).0 in let b = h.runnable.short i in omega (arith, a, b))
               ∙ ap (λ xs. sum xs) (same_range (λ client. length (parcels_of scene l client tile)));
           sets = λ tile low.
               let one = k.kept.tallies.each scene l have_sent tile (omega (arith, t, low)) in
               ap (λ (ts : List Tally). (slice_index_or ts tile no_tally).sets) k.tallies ∙ one.sets
               ∙ whole_sum (λ (core : ClientCore). (tally_of_tile core tile).sets) (λ client. set_count (parcels_of scene l client tile)) world.clients.items (23 * 2 ^ 20) last_count
-                  few_clients (omega arith)
-                  (λ i d lt. ap (λ (x : Tally). x.sets) (parcels_held i tile d lt low) ∙ (laws.counts (parcels_of scene l i tile)).1)
-                  (λ i lt. let a = (few_parcels scene l i tile).1 in let b = h.runnable.short i in omega (arith, a, b))
+              few_clients (omega arith)
+              (λ i d lt. ap (λ (x : Tally). x.sets) (parcels_held i tile d lt low) ∙ (laws.counts (parcels_of scene l i tile)).1)
+              (λ i lt. let a = (few_parcels scene l i tile).1 in let b = h.runnable.short i in omega (arith, a, b))
               ∙ ap (λ xs. sum xs) (same_range (λ client. set_count (parcels_of scene l client tile)));
         }
 
@@ -269,9 +273,11 @@ module _ (laws : GatherLaws) (scene : Scene) (l : Layout) (world : World) (h : H
     is_waiting =
         let told = k.stuck (sync_lists_of scene) h.model.manager.book h.view.manager.progress.book in
         record {
-          stuck = (λ some. let s = told.0 some in stuck_by (sync_lists_of scene) run.kept.journal s.client (sym (ap is_some (alike s.client)) ∙ s.waits),
-              λ is. let w = someone_waits (sync_lists_of scene) run.kept.journal is in
-              told.1 record { over = book_over; client = w.0; waits = ap is_some (alike w.0) ∙ w.1 });
+          stuck = (
+            λ some. let s = told.0 some in stuck_by (sync_lists_of scene) run.kept.journal s.client (sym (ap is_some (alike s.client)) ∙ s.waits),
+            λ is. let w = someone_waits (sync_lists_of scene) run.kept.journal is in
+                told.1 record { over = book_over; client = w.0; waits = ap is_some (alike w.0) ∙ w.1 },
+          );
           waits = at_each run.waiting k.waits;
         }
       where

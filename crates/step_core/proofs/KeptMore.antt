@@ -37,9 +37,11 @@ are_faults n core kept k scene l sent =
     one.faults ∙ ap (λ m. (context_after scene n m).faults) (one.whole sent.all)
 
 front_sent : (scene : Scene) (l : Layout) (cores : List ClientCore) (core : ClientCore) → HaveSent scene l (cores ++ core ∷ []) → HaveSent scene l cores
-front_sent scene l cores core h = record { at = λ i d lt.
-    let low : i < length (cores ++ core ∷ []) = (let n = length-append cores (core ∷ []) in omega (arith, lt, n)) in
-    subst (λ x. HasSent scene l i x) (get_or-append cores (core ∷ []) d i lt) (h.at i d low) }
+front_sent scene l cores core h = record {
+  at = λ i d lt.
+      let low : i < length (cores ++ core ∷ []) = (let n = length-append cores (core ∷ []) in omega (arith, lt, n)) in
+      subst (λ x. HasSent scene l i x) (get_or-append cores (core ∷ []) d i lt) (h.at i d low);
+}
 
 last_sent : (scene : Scene) (l : Layout) (cores : List ClientCore) (core : ClientCore) → HaveSent scene l (cores ++ core ∷ []) → HasSent scene l (length cores) core
 last_sent scene l cores core h =

@@ -27,8 +27,8 @@ paired_more R xs ys x y h k = record {
     | inr high ↦
         let same : length xs ≡ i = (let c = length-append xs (x ∷ []) in omega (arith, lt, high, c)) in
         let here : R (length xs) (slice_index_or (xs ++ x ∷ []) (length xs) d) (slice_index_or (ys ++ y ∷ []) (length xs) e) =
-            subst (λ a. R (length xs) a (slice_index_or (ys ++ y ∷ []) (length xs) e)) (sym (last xs x d))
-            (subst (λ b. R (length xs) x b) (sym (ap (λ n. slice_index_or (ys ++ y ∷ []) n e) (sym h.count) ∙ last ys y e)) k) in
+        subst (λ a. R (length xs) a (slice_index_or (ys ++ y ∷ []) (length xs) e)) (sym (last xs x d))
+        (subst (λ b. R (length xs) x b) (sym (ap (λ n. slice_index_or (ys ++ y ∷ []) n e) (sym h.count) ∙ last ys y e)) k) in
         subst (λ n. R n (slice_index_or (xs ++ x ∷ []) n d) (slice_index_or (ys ++ y ∷ []) n e)) same here
   ];
 }

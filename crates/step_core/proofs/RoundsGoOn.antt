@@ -99,18 +99,20 @@ round_begins before = record { each = λ scene l depth w view. record { moves = 
 
 pub round_goes_on : (n : ℕ) (before now after : World) (round : Round) (said : Stepped) → IsRoundBelow n before round now → Steps n now said after
     → IsRoundBelow (n + 1) before (round_with round said) after
-round_goes_on n before now after round said h step = record { each = λ scene l depth w view.
-    let a = h.each scene l depth w view in
-    let s = step scene l depth a.later a.view in
-    record {
-      moves = a.moves ++ s.move ∷ [];
-      later = s.later;
-      actors = map-append (actor_of scene) a.moves (s.move ∷ []) ∙ ap (λ xs. xs ++ actor_of scene s.move ∷ []) a.actors
-          ∙ ap (λ k. range_with_len 0 n ++ k ∷ []) s.actor ∙ sym (range_more n);
-      moved = moves_with scene l depth a.moves s.move w a.later s.later a.moved s.moved;
-      view = s.view;
-      tells = tells_more round said a.moves s.move a.tells s.tells;
-    } }
+round_goes_on n before now after round said h step = record {
+  each = λ scene l depth w view.
+      let a = h.each scene l depth w view in
+      let s = step scene l depth a.later a.view in
+      record {
+        moves = a.moves ++ s.move ∷ [];
+        later = s.later;
+        actors = map-append (actor_of scene) a.moves (s.move ∷ []) ∙ ap (λ xs. xs ++ actor_of scene s.move ∷ []) a.actors
+            ∙ ap (λ k. range_with_len 0 n ++ k ∷ []) s.actor ∙ sym (range_more n);
+        moved = moves_with scene l depth a.moves s.move w a.later s.later a.moved s.moved;
+        view = s.view;
+        tells = tells_more round said a.moves s.move a.tells s.tells;
+      };
+}
 
 -- ---- it goes on, and over all actors
 
@@ -133,5 +135,5 @@ pub all_actors : (before after : World) (round : Round) (n : ℕ) → n ≡ leng
     → IsRoundBelow n before round after → Rounds before round after
 all_actors before after round n e h scene l depth w view =
     let whole : n ≡ client_total scene + 1 + tile_count l =
-        (let c = view.clients.count in let t = view.tiles.count in omega (arith, e, c, t)) in
+    (let c = view.clients.count in let t = view.tiles.count in omega (arith, e, c, t)) in
     subst (λ k. IsRoundOf scene l depth k w round after) whole (h.each scene l depth w view)

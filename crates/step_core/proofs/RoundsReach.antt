@@ -107,17 +107,23 @@ module _ (laws : RoundLaws) (scene : Scene) (l : Layout) (depth : ℕ) (picks : 
     -- nobody moved, and somebody has something left to do
     pub stands_still : Rounds before Still after → IsStandstill scene l depth picks (Standstill after)
     stands_still round =
-        let r = round scene l depth h.model h.view in
-        (n, h.moves, r.moves, r.later, record {
-          before = h.model;
-          run = h.run;
-          actors = r.actors;
-          round = r.moved;
-          nobody = r.tells.0;
-          unended = λ done.
-              let same = laws.still scene l depth h.model r.later r.moves r.tells.0 r.moved in
-              r.tells.1 (laws.ended scene l depth h.model r.later r.moves (ended_before scene l h.model r.later same done) r.moved).0;
-        }, r.view)
+        let r = round scene l depth h.model h.view in (
+          n,
+          h.moves,
+          r.moves,
+          r.later,
+          record {
+            before = h.model;
+            run = h.run;
+            actors = r.actors;
+            round = r.moved;
+            nobody = r.tells.0;
+            unended = λ done.
+                let same = laws.still scene l depth h.model r.later r.moves r.tells.0 r.moved in
+                r.tells.1 (laws.ended scene l depth h.model r.later r.moves (ended_before scene l h.model r.later same done) r.moved).0;
+          },
+          r.view,
+        )
 
     -- nobody has anything left to do
     pub runs_out : Rounds before Ended after → HasRun scene l after
@@ -159,8 +165,10 @@ module _ (laws : RoundLaws) where
   begins world = record { each = λ scene l depth picks can run. reached_none laws scene l depth picks can world run }
 
   pub leads_on : (n : ℕ) (first before after : World) → LeadsTo n first before → Rounds before Moved after → LeadsTo (n + 1) first after
-  leads_on n first before after h round = record { each = λ scene l depth picks can run.
-      one_round_more laws scene l depth picks can n before after (h.each scene l depth picks can run) round }
+  leads_on n first before after h round = record {
+    each = λ scene l depth picks can run.
+        one_round_more laws scene l depth picks can n before after (h.each scene l depth picks can run) round;
+  }
 
   pub seen_under_way : (n : ℕ) (decl : Decl) (first now : World) → IsUnderWay decl first → LeadsTo n first now → IsSeen now
   seen_under_way n decl first now u h =

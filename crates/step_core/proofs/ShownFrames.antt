@@ -27,7 +27,7 @@ after_swap p next =
     let within = slice_get_within p.learnt (performed_in p.log) Swap next in
     ap (λ n. frame_count (take n p.learnt)) (performed_more p.log)
     ∙ count_by_more_yes is_swap_entry p.learnt (performed_in p.log) Swap within
-        (ap is_swap_entry (get_or_from_slice_get p.learnt (performed_in p.log) Swap Swap next))
+    (ap is_swap_entry (get_or_from_slice_get p.learnt (performed_in p.log) Swap Swap next))
 
 not_swap : (e : Entry) → e ≢ Swap → is_swap_entry e ≡ false
 not_swap (Meet _ _) other = refl

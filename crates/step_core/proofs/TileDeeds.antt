@@ -215,7 +215,7 @@ answers p Finishes m ok h = inl (answer_is moved.Ended m ok, record { over = h.1
 pub shows_or_not : (p : Progress) (deed : TileDeed) (m : TileMoved) (pixels : Pixels) (shown : List Pixels) (parts : List TilePart)
     → answer_of deed ≡ Ok m → IsNextDeed false p deed
     → ((part : TilePart) × (deed ≡ Shows part) × (parts_after (item_of deed) pixels shown ≡ shown ++ pixels ∷ [])
-        × (with_shown m parts ≡ parts ++ part ∷ []))
+    × (with_shown m parts ≡ parts ++ part ∷ []))
     ⊎ ((parts_after (item_of deed) pixels shown ≡ shown) × (with_shown m parts ≡ parts))
 shows_or_not p (Performs e) m pixels shown parts ok h = inr
     (unshown e h.1, ap (λ (x : TileMoved). with_shown x parts) (let same : m ≡ moved.Performed = cc in same))

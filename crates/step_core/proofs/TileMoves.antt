@@ -58,9 +58,9 @@ one_more l tile pixels shown parts part h is = record {
         let there : k ≡ length parts = here ∙ sym h.count in
         let few' : length shown + 1 < 2 ^ 32 = subst (λ n. n + 1 < 2 ^ 32) here few in
         let a : slice_index_or (shown ++ pixels ∷ []) k e ≡ pixels = ap (λ n. slice_index_or (shown ++ pixels ∷ []) n e) here
-            ∙ get_or-append_seam shown pixels [] e in
+        ∙ get_or-append_seam shown pixels [] e in
         let b : slice_index_or (parts ++ part ∷ []) k d ≡ part = ap (λ n. slice_index_or (parts ++ part ∷ []) n d) there
-            ∙ get_or-append_seam parts part [] d in
+        ∙ get_or-append_seam parts part [] d in
         subst (λ n. IsPartOf l tile (n + 1) (slice_index_or (shown ++ pixels ∷ []) k e) (slice_index_or (parts ++ part ∷ []) k d)) (sym here)
         (subst (λ (x : Pixels). IsPartOf l tile (length shown + 1) x (slice_index_or (parts ++ part ∷ []) k d)) (sym a)
         (subst (λ (x : TilePart). IsPartOf l tile (length shown + 1) pixels x) (sym b) (is few')))
@@ -74,13 +74,13 @@ parts_go_on : (l : Layout) (tile : ℕ) (p : Progress) (b : Board) (shown : List
 parts_go_on l tile p b shown parts parts' deed m ok next is count kept h = elim (shows_or_not p deed m b.pixel shown parts ok next) [
   | inl s ↦
       subst (λ (x : List Pixels). ArePartsOf l tile x parts') (sym s.2)
-          (subst (λ (x : List TilePart). ArePartsOf l tile (shown ++ b.pixel ∷ []) x) (sym (kept ∙ s.3))
+      (subst (λ (x : List TilePart). ArePartsOf l tile (shown ++ b.pixel ∷ []) x) (sym (kept ∙ s.3))
       (one_more l tile b.pixel shown parts s.0 h
       (subst (λ n. n + 1 < 2 ^ 32 → IsPartOf l tile (n + 1) b.pixel s.0) (sym count)
-          (λ few. shown_part l tile (shown_frames p + 1) b s.0 (is s.0 s.1 few)))))
+      (λ few. shown_part l tile (shown_frames p + 1) b s.0 (is s.0 s.1 few)))))
   | inr s ↦
       subst (λ (x : List Pixels). ArePartsOf l tile x parts') (sym s.0)
-          (subst (λ (x : List TilePart). ArePartsOf l tile shown x) (sym (kept ∙ s.1)) h)
+      (subst (λ (x : List TilePart). ArePartsOf l tile shown x) (sym (kept ∙ s.1)) h)
 ]
 
 -- ---- the tile and the world after it
@@ -132,7 +132,7 @@ shown_at l l' tile tile' p b b' deed e f g x =
 module _ (scene : Scene) (l : Layout) (depth tile : ℕ) (before : World) (w : Model) (m : TileMoved) (tiles : Vec TileCore Global)
     (parcels : Vec (Vec (PlainLane Parcel) Global) Global)
     (grants : Vec (PlainLane Grant) Global) (parts : Vec (Vec TilePart Global) Global) (v : IsViewOf scene l depth before w)
-        (low : tile < tile_count l)
+    (low : tile < tile_count l)
     (s : IsTileStepped tile m before.tiles.items tiles.items before.parcels.items parcels.items before.grants.items grants.items)
     (kept : ArePartsKept tile m before.parts.items parts.items) where
   abbrev after : World
@@ -182,7 +182,7 @@ module _ (scene : Scene) (l : Layout) (depth tile : ℕ) (before : World) (w : M
       → ArePartsOf l tile (parts_after (item_of s.deed) was.board.pixel was.parts) (slice_index_or parts.items tile d).items
   parts_after_it d =
       parts_go_on l tile was.progress was.board was.parts (slice_index_or before.parts.items tile d).items (slice_index_or parts.items tile d).items
-          s.deed m s.answered next_is
+      s.deed m s.answered next_is
       (shown_at _ _ _ _ was.progress _ _ s.deed core_is.layout core_is.number_of core_is.board (s.step.step.shown was.progress core_is.progress))
       core_is.shown (kept.here d) (v.parts.at tile d low)
 
@@ -194,10 +194,10 @@ module _ (scene : Scene) (l : Layout) (depth tile : ℕ) (before : World) (w : M
       count = s.cores_changed.count ∙ v.tiles.count;
       at = at_one (λ i. (d : TileCore) → i < tile_count l → IsTileOf scene l i (later.tiles i) (slice_index_or tiles.items i d)) tile
           (λ d lt. subst (λ (x : Tile). IsTileOf scene l tile x (slice_index_or tiles.items tile d))
-              (sym (with_here w.tiles tile (tile_after was s.deed s.core')))
+          (sym (with_here w.tiles tile (tile_after was s.deed s.core')))
           (subst (λ (x : TileCore). IsTileOf scene l tile (tile_after was s.deed s.core') x) (sym (s.cores_changed.is d)) core_after))
           (λ i ne d lt. subst (λ (x : Tile). IsTileOf scene l i x (slice_index_or tiles.items i d))
-              (sym (with_other w.tiles tile (tile_after was s.deed s.core') i ne))
+          (sym (with_other w.tiles tile (tile_after was s.deed s.core') i ne))
           (subst (λ (x : TileCore). IsTileOf scene l i (w.tiles i) x) (sym (s.cores_changed.others i d ne)) (v.tiles.at i d lt)));
     };
     parcels = record {
@@ -205,13 +205,13 @@ module _ (scene : Scene) (l : Layout) (depth tile : ℕ) (before : World) (w : M
       at = at_one (λ i. (d : Vec (PlainLane Parcel) Global) → i < tile_count l
           → AreLanesOf depth (client_total scene) (λ client. later.parcels client i) (slice_index_or parcels.items i d).items) tile
           (λ d lt. subst (λ (x : Vec (PlainLane Parcel) Global). AreLanesOf depth (client_total scene) (λ client. later.parcels client tile)
-              x.items) (sym (s.rows_changed.is d))
+          x.items) (sym (s.rows_changed.is d))
           (lanes_as depth (client_total scene) _ (λ client. later.parcels client tile) s.row'.items
-              (λ client low. with_here (w.parcels client) tile _) row_after))
+          (λ client low. with_here (w.parcels client) tile _) row_after))
           (λ i ne d lt. subst (λ (x : Vec (PlainLane Parcel) Global). AreLanesOf depth (client_total scene) (λ client. later.parcels client i)
-              x.items) (sym (s.rows_changed.others i d ne))
+          x.items) (sym (s.rows_changed.others i d ne))
           (lanes_as depth (client_total scene) (λ client. w.parcels client i) (λ client. later.parcels client i)
-              (slice_index_or before.parcels.items i d).items
+          (slice_index_or before.parcels.items i d).items
           (λ client low. with_other (w.parcels client) tile _ i ne) (v.parcels.at i d lt)));
     };
     row = v.row;
@@ -224,9 +224,9 @@ module _ (scene : Scene) (l : Layout) (depth tile : ℕ) (before : World) (w : M
       at = at_one (λ i. (d : Vec TilePart Global) → i < tile_count l
           → ArePartsOf l i ((later.tiles i).parts) (slice_index_or parts.items i d).items) tile
           (λ d lt. subst (λ (x : Tile). ArePartsOf l tile x.parts (slice_index_or parts.items tile d).items)
-              (sym (with_here w.tiles tile (tile_after was s.deed s.core'))) (parts_after_it d))
+          (sym (with_here w.tiles tile (tile_after was s.deed s.core'))) (parts_after_it d))
           (λ i ne d lt. subst (λ (x : Tile). ArePartsOf l i x.parts (slice_index_or parts.items i d).items)
-              (sym (with_other w.tiles tile (tile_after was s.deed s.core') i ne))
+          (sym (with_other w.tiles tile (tile_after was s.deed s.core') i ne))
           (subst (λ (x : Vec TilePart Global). ArePartsOf l i (w.tiles i).parts x.items) (sym (kept.others i d ne)) (v.parts.at i d lt)));
     };
   }
@@ -251,24 +251,24 @@ module _ (scene : Scene) (l : Layout) (depth tile : ℕ) (before : World) (w : M
         tile_step;
     parcel = λ client low_client.
         subst (λ (o : Option Parcel). MatchOption o (later.parcels client tile ≡ w.parcels client tile)
-            (λ p. w.parcels client tile ≡ p ∷ later.parcels client tile)) (same_taken s.deed client)
+        (λ p. w.parcels client tile ≡ p ∷ later.parcels client tile)) (same_taken s.deed client)
         (subst (λ (x : List Parcel). MatchOption (taken_of s.deed client) (x ≡ w.parcels client tile) (λ p. w.parcels client tile ≡ p ∷ x))
-            (sym (with_here (w.parcels client) tile _))
+        (sym (with_here (w.parcels client) tile _))
         (lanes_gave depth (client_total scene) (λ i. w.parcels i tile) s.row.items s.row'.items row_is s.step.row_depths (taken_of s.deed)
-            s.step.taken client low_client));
+        s.step.taken client low_client));
     no_parcel = λ client low_client found.
         let found_so = finds_no_parcel was (next_of s.core) s.deed m client core_is.next s.answered found in
         lanes_empty depth (client_total scene) (λ i. w.parcels i tile) s.row.items s.row'.items row_is s.step.row_depths (taken_of s.deed)
-            s.step.taken client low_client
+        s.step.taken client low_client
         (none_there was.progress (next_of s.core) s.deed client found_so)
         (λ d. ((s.step.empty was.progress core_is.progress).at client d (let e = row_is.count in omega arith)
         (subst (λ b. IsFoundEmpty b was.progress (next_of s.core) s.deed client) (sym core_is.ample) found_so)).1);
     grant = subst (λ (o : Option Grant). MatchOption o (later.grants tile ≡ w.grants tile) (λ g. w.grants tile ≡ g ∷ later.grants tile))
         (same_granted s.deed)
         (subst (λ (x : List Grant). MatchOption (granted_of s.deed) (x ≡ w.grants tile) (λ g. w.grants tile ≡ g ∷ x))
-            (sym (with_here w.grants tile _))
+        (sym (with_here w.grants tile _))
         (rest_was (granted_of s.deed) (w.grants tile) (held s.lane')
-            (at_item (granted_of s.deed) (w.grants tile) (held s.lane) (held s.lane') lane_is.holds s.step.heard)));
+        (at_item (granted_of s.deed) (w.grants tile) (held s.lane) (held s.lane') lane_is.holds s.step.heard)));
     no_grant = λ found.
         let unheard = finds_no_grant was.progress s.deed m s.answered found in
         let bare = (s.step.unheard was.progress core_is.progress (subst (λ b. IsUnheard b was.progress s.deed) (sym core_is.ample) unheard)).1 in

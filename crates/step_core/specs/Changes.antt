@@ -93,7 +93,7 @@ pub record IsClientCoreStep (m : ClientMoved) (core core' : ClientCore) (row row
       → IsBlockedTile held (λ x y. Rose x.full_seen y.full_seen × (length (held y) ≡ depth_of y)) row row' core core' t × (lane' ≡ lane))
   pub blocked_request : OnBlockedRequest m (client.short_of core ≡ false
       → IsBlockedRequest core core' × (held lane' ≡ held lane) × Rose lane.full_seen lane'.full_seen × (length (held lane') ≡ depth_of lane')
-          × (row' ≡ row))
+      × (row' ≡ row))
   pub ended : OnEnded m (client.short_of core ≡ false → HasEnded core core' × (row' ≡ row) × (lane' ≡ lane))
 
 -- a client's core took a step over a row of lanes, among the others

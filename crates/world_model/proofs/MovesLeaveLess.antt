@@ -119,11 +119,11 @@ module _ (scene : Scene) (l : Layout) (depth : ℕ) (w v : World) (well : IsWell
   tile_same : (t : ℕ) → v.tiles t ≡ w.tiles t → v.manager.delivered t ≡ w.manager.delivered t → v.manager.told t ≡ w.manager.told t → tile_work scene l v t ≡ tile_work scene l w t
   tile_same t e f g =
       ap (λ (a : Tile). (most_entries scene - v.manager.delivered t + one_unless (v.manager.told t)) + (most_entries scene - length a.progress.learnt + one_unless a.progress.no_more)
-        + (most_entries scene - performed_in a.progress.log) + total (λ client. length (parcels_of scene l client t) - a.progress.taken client) (client_total scene)) e
+      + (most_entries scene - performed_in a.progress.log) + total (λ client. length (parcels_of scene l client t) - a.progress.taken client) (client_total scene)) e
       ∙ ap (λ n. (most_entries scene - n + one_unless (v.manager.told t)) + (most_entries scene - length (w.tiles t).progress.learnt + one_unless (w.tiles t).progress.no_more)
-        + (most_entries scene - performed_in (w.tiles t).progress.log) + total (λ client. length (parcels_of scene l client t) - (w.tiles t).progress.taken client) (client_total scene)) f
+      + (most_entries scene - performed_in (w.tiles t).progress.log) + total (λ client. length (parcels_of scene l client t) - (w.tiles t).progress.taken client) (client_total scene)) f
       ∙ ap (λ b. (most_entries scene - w.manager.delivered t + one_unless b) + (most_entries scene - length (w.tiles t).progress.learnt + one_unless (w.tiles t).progress.no_more)
-        + (most_entries scene - performed_in (w.tiles t).progress.log) + total (λ client. length (parcels_of scene l client t) - (w.tiles t).progress.taken client) (client_total scene)) g
+      + (most_entries scene - performed_in (w.tiles t).progress.log) + total (λ client. length (parcels_of scene l client t) - (w.tiles t).progress.taken client) (client_total scene)) g
 
   sends_one : (client : ℕ) (answer : ClientMoved) → (IsAtRest (ClientMove client answer) → ⊥) → IsClientStep l depth w client answer v → length (v.clients client).left + 1 ≡ length (w.clients client).left
   sends_one client (client_moved.Appended tile) moving m = let e = ap length m.sent.next in omega (arith, e)
@@ -172,9 +172,9 @@ module _ (scene : Scene) (l : Layout) (depth : ℕ) (w v : World) (well : IsWell
       where
         tile_rest : (t : ℕ) → t < tile_count l
             → (most_entries scene - length (v.tiles t).progress.learnt + one_unless (v.tiles t).progress.no_more) + (most_entries scene - performed_in (v.tiles t).progress.log)
-              + total (λ client. length (parcels_of scene l client t) - (v.tiles t).progress.taken client) (client_total scene)
+            + total (λ client. length (parcels_of scene l client t) - (v.tiles t).progress.taken client) (client_total scene)
             ≡ (most_entries scene - length (w.tiles t).progress.learnt + one_unless (w.tiles t).progress.no_more) + (most_entries scene - performed_in (w.tiles t).progress.log)
-              + total (λ client. length (parcels_of scene l client t) - (w.tiles t).progress.taken client) (client_total scene)
+            + total (λ client. length (parcels_of scene l client t) - (w.tiles t).progress.taken client) (client_total scene)
         tile_rest t lt = ap (λ (a : Tile). (most_entries scene - length a.progress.learnt + one_unless a.progress.no_more) + (most_entries scene - performed_in a.progress.log)
             + total (λ client. length (parcels_of scene l client t) - a.progress.taken client) (client_total scene)) (m.only.tiles t lt)
 
@@ -197,15 +197,15 @@ module _ (scene : Scene) (l : Layout) (depth : ℕ) (w v : World) (well : IsWell
 
         tile_rest : (t : ℕ) → t < tile_count l
             → (most_entries scene - length (v.tiles t).progress.learnt + one_unless (v.tiles t).progress.no_more) + (most_entries scene - performed_in (v.tiles t).progress.log)
-              + total (λ client. length (parcels_of scene l client t) - (v.tiles t).progress.taken client) (client_total scene)
+            + total (λ client. length (parcels_of scene l client t) - (v.tiles t).progress.taken client) (client_total scene)
             ≡ (most_entries scene - length (w.tiles t).progress.learnt + one_unless (w.tiles t).progress.no_more) + (most_entries scene - performed_in (w.tiles t).progress.log)
-              + total (λ client. length (parcels_of scene l client t) - (w.tiles t).progress.taken client) (client_total scene)
+            + total (λ client. length (parcels_of scene l client t) - (w.tiles t).progress.taken client) (client_total scene)
         tile_rest t lt = ap (λ (a : Tile). (most_entries scene - length a.progress.learnt + one_unless a.progress.no_more) + (most_entries scene - performed_in a.progress.log)
             + total (λ client. length (parcels_of scene l client t) - a.progress.taken client) (client_total scene)) (m.only.tiles t lt)
 
     -- what a receipt makes of the manager
     journal_stays : (c : ℕ) (r : Request) → (book_after (sync_lists_of scene) w.manager.book (event_of (sync_lists_of scene) c r)).journal ≡ w.manager.book.journal
-    journal_stays c (request.Op place op) = elim (cases_Bool (is_declared (sync_lists_of scene) op)) [ | inl t ↦ rw t refl | inr f ↦ rw f refl ]
+    journal_stays c (request.Op place op) = elim (cases_Bool (is_declared (sync_lists_of scene) op)) [ inl t ↦ rw t refl | inr f ↦ rw f refl ]
     journal_stays c request.End = refl
 
     low_client : (c : ℕ) → c < client_count (sync_lists_of scene) → c < client_total scene
@@ -277,10 +277,10 @@ module _ (scene : Scene) (l : Layout) (depth : ℕ) (w v : World) (well : IsWell
         let e = ap length u.1 in let a = length-append p.learnt u.0 in let b = bound in omega (arith, e, a, b)
 
     act_performed : (c : ℕ) (a : Act) (place : ℕ) → performed_in (after_act p c a place).log ≡ performed_in p.log
-    act_performed c (act.Draw block) place = elim (cases_Bool (p.held c)) [ | inl y ↦ rw y refl | inr n ↦ rw n (let e = performed_more p.log (Took c place) in omega (arith, e)) ]
-    act_performed c (act.Clear mask) place = elim (cases_Bool (p.held c)) [ | inl y ↦ rw y refl | inr n ↦ rw n (let e = performed_more p.log (Took c place) in omega (arith, e)) ]
-    act_performed c (act.Shared part) place = elim (cases_Bool (p.held c)) [ | inl y ↦ rw y refl | inr n ↦ rw n (let e = performed_more p.log (Took c place) in omega (arith, e)) ]
-    act_performed c (act.Sync op) place = elim (cases_Bool (p.held c)) [ | inl y ↦ rw y refl | inr n ↦ rw n refl ]
+    act_performed c (act.Draw block) place = elim (cases_Bool (p.held c)) [ inl y ↦ rw y refl | inr n ↦ rw n (let e = performed_more p.log (Took c place) in omega (arith, e)) ]
+    act_performed c (act.Clear mask) place = elim (cases_Bool (p.held c)) [ inl y ↦ rw y refl | inr n ↦ rw n (let e = performed_more p.log (Took c place) in omega (arith, e)) ]
+    act_performed c (act.Shared part) place = elim (cases_Bool (p.held c)) [ inl y ↦ rw y refl | inr n ↦ rw n (let e = performed_more p.log (Took c place) in omega (arith, e)) ]
+    act_performed c (act.Sync op) place = elim (cases_Bool (p.held c)) [ inl y ↦ rw y refl | inr n ↦ rw n refl ]
     act_performed c act.End place = refl
 
     by_item : (item : Item) → m.item ≡ item → (IsAtRest (TileMove t answer) → ⊥) → IsAwaited p item → IsTileAnswer p item answer → q ≡ after_item p item → work_left scene l v < work_left scene l w
@@ -322,7 +322,7 @@ module _ (scene : Scene) (l : Layout) (depth : ℕ) (w v : World) (well : IsWell
         let l1 = length-append k.took (x ∷ (v.parcels c t ++ parcels_to t (w.clients c).left)) in
         let count = k.count in
         let less : parcels_part q < parcels_part p = total_less (λ client. length (parcels_of scene l client t) - p.taken client) (λ client. length (parcels_of scene l client t) - q.taken client)
-            (client_total scene) c lc (λ i li ne. ap (λ k. length (parcels_of scene l i t) - k) (taken i ∙ rw (off i c ne) (omega arith))) (omega (arith, here, all, l1, count)) in
+        (client_total scene) c lc (λ i li ne. ap (λ k. length (parcels_of scene l i t) - k) (taken i ∙ rw (off i c ne) (omega arith))) (omega (arith, here, all, l1, count)) in
         less_of (omega (arith, n, more)) (omega (arith, log)) (omega (arith, less)) (omega (arith, n, more, log, less))
 
     tile_less : (IsAtRest (TileMove t answer) → ⊥) → work_left scene l v < work_left scene l w

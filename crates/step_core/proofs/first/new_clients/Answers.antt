@@ -21,10 +21,10 @@ loop-client-preserved c =
       count = count_more c.loop-client.client xs _ x c.in_ok-push.ensures.items c.loop-client.invariant.count;
       at = each_more (λ i y. IsClientOf s l i (new_client s l i) y) c.loop-client.client xs _ x c.in_ok-push.ensures.items
           c.loop-client.invariant.count c.loop-client.invariant.at record {
-        sound = e.client;
-        whose = e.whose;
-        ample = e.short;
-        left = e.left;
-        tallies = e.tallies;
-      };
+            sound = e.client;
+            whose = e.whose;
+            ample = e.short;
+            left = e.left;
+            tallies = e.tallies;
+          };
     }

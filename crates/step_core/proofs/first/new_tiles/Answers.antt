@@ -11,13 +11,13 @@ loop-tile-preserved c =
       count = count_more c.loop-tile.tile xs _ x c.in_ok-push.ensures.items c.loop-tile.invariant.count;
       new = each_more (λ i y. IsNewTileCore c.args.decl.now c.args.clients c.args.layout.now i y) c.loop-tile.tile xs _ x c.in_ok-push.ensures.items
           c.loop-tile.invariant.count c.loop-tile.invariant.new record {
-        decl_is = e.decl;
-        clients_are = e.clients;
-        layout = e.layout;
-        number_is = e.tile;
-        rotation = e.rotation;
-        ample = e.ample;
-        progress = e.progress;
-        board = e.board;
-      };
+            decl_is = e.decl;
+            clients_are = e.clients;
+            layout = e.layout;
+            number_is = e.tile;
+            rotation = e.rotation;
+            ample = e.ample;
+            progress = e.progress;
+            board = e.board;
+          };
     }

@@ -15,7 +15,7 @@ take_frame-requires c =
 pub loop-preserved : goal.loop-preserved
 loop-preserved c =
     let taken : AreTakenBelow (length c.loop.queues.items) c.loop.queues.items c.loop.parts.items c.take_frame.new.queues c.take_frame.new.parts.items =
-        subst (λ (qs : List (VecDeque TilePart Global)). AreTakenBelow (length qs) qs c.loop.parts.items c.take_frame.new.queues c.take_frame.new.parts.items) c.deref_mut.ensures.value c.in_ok-take_frame.ensures in
+    subst (λ (qs : List (VecDeque TilePart Global)). AreTakenBelow (length qs) qs c.loop.parts.items c.take_frame.new.queues c.take_frame.new.parts.items) c.deref_mut.ensures.value c.in_ok-take_frame.ensures in
     let all = written c.loop.queues.len c.loop.queues.items c.take_frame.new.queues taken.queues (let a = c.deref_mut.ensures.len in let b = ap length c.deref_mut.ensures.value in omega (arith, a, b)) in
     subst (λ (qs : List (VecDeque TilePart Global)). AreTurned (c.loop.counter + 1) c.args.lists.items qs c.take_frame.new.parts.items) (sym all)
     (one_turned c.args.lists.items c.loop.counter c.loop.queues.items c.take_frame.new.queues c.loop.parts.items c.take_frame.new.parts.items c.loop.invariant taken)

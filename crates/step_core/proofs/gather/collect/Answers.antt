@@ -25,7 +25,7 @@ returns c = record {
   parts = λ n even.
       let lists : c.as_slice.result.now ≡ c.args.world.parts.items = c.as_slice.ensures.value in
       let same = c.frames_in-frames.ensures n (subst (λ (xs : List (Vec TilePart Global)). AreEven n xs) (sym lists) even)
-          (subst (λ (xs : List (Vec TilePart Global)). 0 < length xs) (sym lists) c.requires.some) in
+      (subst (λ (xs : List (Vec TilePart Global)). 0 < length xs) (sym lists) c.requires.some) in
       subst (λ k. AreInFrames k c.args.world.parts.items c.in_ok-parts.parts) same c.in_ok-parts.ensures;
   stuck = subst (λ (k : Book). (syncs : SyncLists) (b : Arrivals) → IsBookOf syncs k b → IsSome c.stuck-waiting.result ↔ IsStuck syncs b) c.book.ensures c.stuck-waiting.ensures.exact;
   waits = subst (λ (k : Book). IfSome c.stuck-waiting.result (λ w. (syncs : SyncLists) (b : Arrivals) → IsBookOf syncs k b → (client : ℕ) → wait_at w.at client ≡ waiting_in syncs b client))

@@ -13,4 +13,4 @@ loop-pick-preserved c =
     let i = c.loop-pick.pick-index in
     let more : take (i + 1) picks ≡ take i picks ++ get_or picks i 0 ∷ [] = rw add-one (take-suc picks i 0 (omega (arith, c.loop-pick-test.true))) in
     one_more c.args.scene.now c.args.layout.now c.args.depth (take i picks) (take (i + 1) picks) (get_or picks i 0) c.loop-pick.world
-        c.step.new.self c.in_ok-step.field-0 more c.loop-pick.invariant c.in_ok-step.ensures
+    c.step.new.self c.in_ok-step.field-0 more c.loop-pick.invariant c.in_ok-step.ensures

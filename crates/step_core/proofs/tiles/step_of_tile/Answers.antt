@@ -30,7 +30,7 @@ returns c =
       unheard = e.step.6;
     } in
     let first : IsTileCoreStep e.step.0 a b row.items left g h = subst (λ (xs : List (PlainLane Parcel)). IsTileCoreStep e.step.0 a b xs left g h)
-        c.deref_mut.ensures.value core in
+    c.deref_mut.ensures.value core in
     record {
       deed = e.step.0;
       answered = sym e.step.1 ∙ is;

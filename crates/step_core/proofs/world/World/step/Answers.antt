@@ -6,5 +6,5 @@ pub returns : goal.returns
 returns c =
     let before = c.args.self.now in
     let here : length before.clients.items + 1 + (c.args.number - c.len-clients.result - 1) ≡ c.args.number = omega
-        (arith, c.len-clients.ensures, c.if-number-clients.false, c.if-number-clients-2.false) in
+    (arith, c.len-clients.ensures, c.if-number-clients.false, c.if-number-clients-2.false) in
     subst (λ (n : ℕ). IfOk c.step_tile.result (λ said. Steps n before said c.step_tile.new.self)) here c.step_tile.ensures

@@ -22,7 +22,7 @@ returns c scene l depth w v =
     let g = c.deref_mut-3.ensures.value in
     let h = c.deref_mut-4.ensures.value in
     let stepped = column_at number m _ at.clients.items _ (with_items at.clients cores').items _ at.parcels.items _
-        (with_items at.parcels rows').items _ at.row.items _ (with_items at.row spare').items
+    (with_items at.parcels rows').items _ at.row.items _ (with_items at.row spare').items
     _ at.requests.items _ (with_items at.requests lanes').items
     e (sym (items_are at.clients cores' (s.step.cores_changed.count ∙ ap length e)))
     f (sym (items_are at.parcels rows' (s.count ∙ ap length f)))
@@ -30,5 +30,5 @@ returns c scene l depth w v =
     h (sym (items_are at.requests lanes' (s.step.lanes_changed.count ∙ ap length h))) s in
     let low = rw v.clients.count at c.requires.client in
     let done = client_steps scene l depth number at w m (with_items at.clients cores') (with_items at.parcels rows') (with_items at.row spare')
-        (with_items at.requests lanes') v low stepped in
+    (with_items at.requests lanes') v low stepped in
     told scene l depth w _ c.client_stepped.result (client_said m) number number (λ _. number) (sym c.client_stepped.ensures) done

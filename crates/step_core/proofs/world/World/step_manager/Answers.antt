@@ -14,7 +14,7 @@ returns c scene l depth w v =
     let at = c.args.self.now in
     let did = e.step.0 in
     let core : IsCoreStep at.manager c.step.new.self did c.deref_mut.result.now c.step.new.requests c.deref_mut-2.result.now c.step.new.grants =
-        record {
+    record {
       ample = e.ample;
       request_depths = e.request_lanes;
       grant_depths = e.grant_lanes;
@@ -28,13 +28,13 @@ returns c scene l depth w v =
     let ys = with_items at.grants c.step.new.grants in
     let first : IsCoreStep at.manager c.step.new.self did at.requests.items c.step.new.requests at.grants.items c.step.new.grants =
     subst (λ (xs : List (PlainLane Request)). IsCoreStep at.manager c.step.new.self did xs c.step.new.requests at.grants.items c.step.new.grants)
-        c.deref_mut.ensures.value
+    c.deref_mut.ensures.value
     (subst (λ (ys : List (PlainLane Grant)). IsCoreStep at.manager c.step.new.self did c.deref_mut.result.now c.step.new.requests ys
-        c.step.new.grants) c.deref_mut-2.ensures.value core) in
+    c.step.new.grants) c.deref_mut-2.ensures.value core) in
     let whole =
     subst (λ (xs : List (PlainLane Request)). IsCoreStep at.manager c.step.new.self did at.requests.items xs at.grants.items ys.items)
-        (sym (items_are at.requests c.step.new.requests first.request_depths.count))
+    (sym (items_are at.requests c.step.new.requests first.request_depths.count))
     (subst (λ (ys : List (PlainLane Grant)). IsCoreStep at.manager c.step.new.self did at.requests.items c.step.new.requests at.grants.items ys)
-        (sym (items_are at.grants c.step.new.grants first.grant_depths.count)) first) in
+    (sym (items_are at.grants c.step.new.grants first.grant_depths.count)) first) in
     let done = manager_steps scene l depth at w did c.step.new.self xs ys v whole c.in_ok-step.field-0 (sym e.step.1) in
     told scene l depth w _ c.manager_stepped.result _ _ _ (sym v.clients.count) (sym c.manager_stepped.ensures) done

@@ -26,13 +26,13 @@ returns c = on_ok c.keep_shown.result _ (λ said is scene l depth w v.
     let g = c.deref_mut-3.ensures.value in
     let h = c.deref_mut-4.ensures.value in
     let stepped = stepped_at tile m _ at.tiles.items _ (with_items at.tiles cores').items _ at.parcels.items _ (with_items at.parcels rows').items _
-        at.grants.items _ (with_items at.grants lanes').items
+    at.grants.items _ (with_items at.grants lanes').items
     e (sym (items_are at.tiles cores' (s.cores_changed.count ∙ ap length e)))
     f (sym (items_are at.parcels rows' (s.rows_changed.count ∙ ap length f)))
     g (sym (items_are at.grants lanes' (s.lanes_changed.count ∙ ap length g))) s in
     let kept' = kept_at tile m _ at.parts.items _ (with_items at.parts lists').items h (sym (items_are at.parts lists' (kept.count ∙ ap length h)))
-        kept in
+    kept in
     let low = rw v.tiles.count at c.requires.tile in
     let done = tile_steps scene l depth tile at w m (with_items at.tiles cores') (with_items at.parcels rows') (with_items at.grants lanes')
-        (with_items at.parts lists') v low stepped kept' in
+    (with_items at.parts lists') v low stepped kept' in
     told scene l depth w _ said _ _ _ (ap (λ n. n + 1 + tile) (sym v.clients.count)) (sym says) done)
