@@ -242,7 +242,7 @@ fn permits(alloc: Global, scene: &Scene, kept: &Record) -> Result<bool, Fail>
 {
     scene_lists_are_well_formed();
     let lists = sync_lists(alloc, scene)?;
-    if kept.syncs.clients.len() > 8 {
+    if kept.syncs.clients.len() > 8 || kept.logs.len() > 32 {
         return Ok(false);
     }
     for tile in 0..kept.logs.len() {
