@@ -4,3 +4,4 @@ mod SpansToPixels
 mod BlockPixels
 pub mod Places
 mod Steps
+mod ColumnsToPixels

@@ -17,7 +17,7 @@ use Rattle.draw_device.specs.Clips.{IsPartWhere, is_let_through}
 use Rattle.draw_device.specs.Shapes.{column_at, row_at, grid_rect, span_has, span_step, fragment_pixel, cleared_pixel, covered_step, IsRunStepped, IsStepped, IsSteppedBelow, IsSpanIn, IsCovered}
 use Rattle.draw_device.specs.declared.extent.Extent.{Extent}
 
-next_row : (w r j : ℕ) → r < j → r * w + w ≤ j * w
+pub next_row : (w r j : ℕ) → r < j → r * w + w ≤ j * w
 next_row w r j h = let m : (r + 1) * w ≤ j * w = mul-le-mul (omega arith) (omega arith) in omega arith
 
 pub room : (w h r t : ℕ) → r < h → t ≤ w → r * w + t ≤ w * h
@@ -129,19 +129,19 @@ covers_is : (s : State) (v : List WindowVertex) (g : Extent) (part : Rect) (i j 
 unfolding covers
 covers_is s v g part i j p hi hj = ap (λ (b : Bool). is_inside v (column_at g i) (row_at g j) && b) (p.exact (column_at g i) (row_at g j) (in_grid g i j hi hj))
 
-outside_rows : (r : Rect) (x y : ℤ) → (y <ℤ r.y0) → is_in_rect r x y ≡ false
+pub outside_rows : (r : Rect) (x y : ℤ) → (y <ℤ r.y0) → is_in_rect r x y ≡ false
 outside_rows r x y h = grind (arith, ints)
 
-above_rows : (r : Rect) (x y : ℤ) → (r.y1 ≤ℤ y) → is_in_rect r x y ≡ false
+pub above_rows : (r : Rect) (x y : ℤ) → (r.y1 ≤ℤ y) → is_in_rect r x y ≡ false
 above_rows r x y h = grind (arith, ints)
 
-left_of : (r : Rect) (x y : ℤ) → (x <ℤ r.x0) → is_in_rect r x y ≡ false
+pub left_of : (r : Rect) (x y : ℤ) → (x <ℤ r.x0) → is_in_rect r x y ≡ false
 left_of r x y h = grind (arith, ints)
 
-right_of : (r : Rect) (x y : ℤ) → (r.x1 ≤ℤ x) → is_in_rect r x y ≡ false
+pub right_of : (r : Rect) (x y : ℤ) → (r.x1 ≤ℤ x) → is_in_rect r x y ≡ false
 right_of r x y h = grind (arith, ints)
 
-inside_rect : (r : Rect) (x y : ℤ) → r.x0 ≤ℤ x → x <ℤ r.x1 → r.y0 ≤ℤ y → y <ℤ r.y1 → is_in_rect r x y ≡ true
+pub inside_rect : (r : Rect) (x y : ℤ) → r.x0 ≤ℤ x → x <ℤ r.x1 → r.y0 ≤ℤ y → y <ℤ r.y1 → is_in_rect r x y ≡ true
 inside_rect r x y a b c d = grind (arith, ints)
 
 and_false : (b : Bool) → (b && false) ≡ false
@@ -152,17 +152,17 @@ module _ (s : State) (picture : Option Picture) (v : List WindowVertex) (g : Ext
   step : ℤ → ℤ → Pixel → Pixel
   step = covered_step s picture v
 
-  cut_off : (i j : ℕ) → i < g.width → j < g.height → is_in_rect part (column_at g i) (row_at g j) ≡ false → (o : Pixel)
+  pub cut_off : (i j : ℕ) → i < g.width → j < g.height → is_in_rect part (column_at g i) (row_at g j) ≡ false → (o : Pixel)
       → covered_step s picture v (column_at g i) (row_at g j) o ≡ o
   unfolding covered_step
   cut_off i j hi hj e o = rw (covers_is s v g part i j p hi hj, e, and_false (is_inside v (column_at g i) (row_at g j))) refl
 
-  uncovered : (i j : ℕ) → i < g.width → j < g.height → is_inside v (column_at g i) (row_at g j) ≡ false → (o : Pixel)
+  pub uncovered : (i j : ℕ) → i < g.width → j < g.height → is_inside v (column_at g i) (row_at g j) ≡ false → (o : Pixel)
       → covered_step s picture v (column_at g i) (row_at g j) o ≡ o
   unfolding covered_step
   uncovered i j hi hj e o = rw (covers_is s v g part i j p hi hj, e) refl
 
-  hit : (i j : ℕ) → i < g.width → j < g.height → is_inside v (column_at g i) (row_at g j) ≡ true → is_in_rect part (column_at g i) (row_at g j) ≡ true
+  pub hit : (i j : ℕ) → i < g.width → j < g.height → is_inside v (column_at g i) (row_at g j) ≡ true → is_in_rect part (column_at g i) (row_at g j) ≡ true
       → (o : Pixel) → covered_step s picture v (column_at g i) (row_at g j) o ≡ fragment_pixel s picture v (column_at g i) (row_at g j) o
   unfolding covered_step
   hit i j hi hj e f o = rw (covers_is s v g part i j p hi hj, e, f) refl

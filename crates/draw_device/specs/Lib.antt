@@ -5,4 +5,5 @@ pub mod Clips
 pub mod Shapes
 pub mod Grids
 pub mod Loops
+pub mod Columns
 pub mod Plans

@@ -1,9 +1,10 @@
 //! A grid of pixels that stands in the window, and what spans, triangles and blocks make of it.
-ghost use Rattle.std.specs.Prelude.{◌≡◌, ℕ, ◌+◌, ◌*◌, ◌≤◌, length, replicate, pos, ◌≤ℤ◌, true, IfOk};
+ghost use Rattle.std.specs.Prelude.{◌≡◌, ℕ, ◌+◌, ◌*◌, ◌≤◌, length, replicate, pos, ◌≤ℤ◌, true, false, IfOk};
 ghost use Rattle.rc_base.specs.Cluster.Tiles.{is_in_rect};
 ghost use Rattle.rc_base.specs.Drawing.PixelStep.{clear_step};
 ghost use Rattle.rc_base.specs.Drawing.Serial.{blank_pixel};
 ghost use Rattle.geometry.specs.Items.{AreBelow};
+ghost use Rattle.raster.specs.Spans.{IsOnlyColumn};
 ghost use Rattle.textures.specs.Images.{HasTexelIfAny};
 ghost use Rattle.draw_device.specs.Clips.{IsPartWhere, is_let_through};
 ghost use Rattle.draw_device.specs.Shapes.{IsCovered, IsSpanIn, fragment_pixel, cleared_pixel, IsRunStepped, IsStepped, span_step, covered_step, corners_step, triangles_step, triangles_in, grid_rect};
@@ -14,6 +15,8 @@ ghost use Rattle.draw_device.specs.Devices.{pixel_index};
 ghost use Rattle.draw_device.specs.Pixels.{pixel_at};
 
 use crate::clip::{drawn_part, scissored};
+use crate::column_run::ColumnRun;
+use crate::columns::store_column;
 use crate::extent::Extent;
 use crate::paint::Paint;
 use crate::plan::Plan;
@@ -22,7 +25,7 @@ use crate::rows::draw_row;
 use crate::run::Run;
 use fragment_ops::{Clearing, clearing_of};
 use geometry::{VertexCache, triangles};
-use raster::spans;
+use raster::{Column, SpanIter, spans};
 use rc_base::command::Rgba;
 use rc_base::out_of_memory::OutOfMemory;
 use rc_base::state::{Block, State};
@@ -218,6 +221,71 @@ impl Grid {
         );
     }
 
+    // Draws the spans of a triangle in the part of the grid's rectangle that lets it through.
+    fn draw_rows(
+        &mut self,
+        state: &State,
+        texture: &Texture,
+        plan: &Plan,
+        part: Rect,
+        tri: &WindowTriangle,
+        paint: &Paint,
+        rows: SpanIter<'_>,
+    )
+        requires plan { IsPlan state.now plan.now }
+        requires texel { HasTexelIfAny texture.now }
+        requires part { IsPartWhere (grid_rect self.old.extent) part (is_let_through state.now) }
+        requires paint { IsPaint tri.now.v (pos self.old.extent.left) (pos self.old.extent.bottom) paint.now }
+        requires triangle { rows.tri.now ≡ tri.now }
+        requires rect { rows.rect ≡ part }
+        requires first { rows.y ≡ part.y0 }
+        ensures extent { self.new.extent ≡ self.old.extent }
+        ensures drawn { IsStepped (covered_step state.now texture.now tri.now.v) self.old.extent self.old.pixels.items self.new.pixels.items }
+    {
+        let _part = part;
+        'rows: for span in rows {
+            self.draw_span(state, texture, tri, plan, paint, span);
+        }
+    }
+
+    // Draws the pixels of a triangle that all stand in one column, where there is a loop for them, or nothing.
+    fn draw_column(
+        &mut self,
+        state: &State,
+        texture: &Texture,
+        plan: &Plan,
+        part: Rect,
+        tri: &WindowTriangle,
+        paint: &Paint,
+        column: Column,
+    ) -> bool
+        requires plan { IsPlan state.now plan.now }
+        requires part { IsPartWhere (grid_rect self.old.extent) part (is_let_through state.now) }
+        requires paint { IsPaint tri.now.v (pos self.old.extent.left) (pos self.old.extent.bottom) paint.now }
+        requires column { IsOnlyColumn tri.now.v part column }
+        ensures extent { self.new.extent ≡ self.old.extent }
+        ensures drawn { result ≡ true → IsStepped (covered_step state.now texture.now tri.now.v) self.old.extent self.old.pixels.items self.new.pixels.items }
+        ensures kept { result ≡ false → self.new.pixels.items ≡ self.old.pixels.items }
+    {
+        let _part = part;
+        let _height = self.extent.height;
+        if texture.has_image() {
+            return false;
+        }
+        let across = offset(column.x, self.extent.left);
+        let from = offset(column.y0, self.extent.bottom);
+        let to = offset(column.y1, self.extent.bottom);
+        let run = ColumnRun {
+            left: self.extent.left,
+            bottom: self.extent.bottom,
+            width: self.extent.width,
+            across,
+            from,
+            to,
+        };
+        store_column(self.pixels.as_mut_slice(), state, tri, plan, paint, run)
+    }
+
     // Draws a triangle in the part of the grid's rectangle that lets it through.
     fn draw_triangle(
         &mut self,
@@ -233,10 +301,17 @@ impl Grid {
         ensures extent { self.new.extent ≡ self.old.extent }
         ensures drawn { IsStepped (covered_step state.now texture.now tri.now.v) self.old.extent self.old.pixels.items self.new.pixels.items }
     {
-        let paint = paint_of(plan, tri, self.extent.left, self.extent.bottom);
-        'rows: for span in spans(tri, part) {
-            self.draw_span(state, texture, tri, plan, &paint, span);
+        let rows = spans(tri, part);
+        if rows.is_empty() {
+            return;
         }
+        let paint = paint_of(plan, tri, self.extent.left, self.extent.bottom);
+        if let Some(column) = rows.column() {
+            if self.draw_column(state, texture, plan, part, tri, &paint, column) {
+                return;
+            }
+        }
+        self.draw_rows(state, texture, plan, part, tri, &paint, rows);
     }
 
     // Draws the triangle of three vertices, where it is kept.

@@ -7,11 +7,16 @@
 //! of colours), blending by one of two pairs of factors with the depth test or without (one colour, or by a row of colours), or any stages.
 //! Textured rows get their colours first, texels by a sampler and then, where the environment is MODULATE, their products with the triangle's.
 //! A row that no loop is made for is drawn fragment by fragment.
+//!
+//! A triangle that covers no pixel of the rectangle is dropped before anything is prepared of it. One that stands in one column of it, and whose
+//! colours alone are stored, is drawn up that column.
 #![tactic(auto)]
 
 mod blends;
 mod clip;
 mod colors;
+mod column_run;
+mod columns;
 mod device;
 mod extent;
 mod grid;

@@ -74,6 +74,9 @@ up_is v x y f = let e = sum_above v x y f in omega (arith, ints, e)
 pub across_same : (v : List WindowVertex) (x y z w : ℤ) (f : WindowVertex → ℤ) → gain_across v x y f ≡ gain_across v z w f
 across_same v x y z w f = across_is v x y f ∙ sym (across_is v z w f)
 
+pub up_same : (v : List WindowVertex) (x y z w : ℤ) (f : WindowVertex → ℤ) → gain_up v x y f ≡ gain_up v z w f
+up_same v x y z w f = up_is v x y f ∙ sym (up_is v z w f)
+
 times_suc : (i : ℕ) (g : ℤ) → pos (suc i) *ℤ g ≡ pos i *ℤ g +ℤ g
 times_suc i g =
     let e : pos (suc i) ≡ pos i +ℤ pos 1 = omega (arith, ints) in
@@ -118,6 +121,9 @@ sum_there v x y i j f =
 
 pub sum_next : (v : List WindowVertex) (x y : ℤ) (f : WindowVertex → ℤ) → sum_at v x y f +ℤ gain_across v x y f ≡ sum_at v (x +ℤ pos 1) y f
 sum_next v x y f = omega (arith, ints)
+
+pub sum_over : (v : List WindowVertex) (x y : ℤ) (f : WindowVertex → ℤ) → sum_at v x y f +ℤ gain_up v x y f ≡ sum_at v x (y +ℤ pos 1) f
+sum_over v x y f = omega (arith, ints)
 
 -- the sum of the corners' values by the weights at a pixel
 pub sum_is : (v : List WindowVertex) (x y : ℤ) (f : WindowVertex → ℤ) (e : Edges) (a b c : ℤ) → AreEdges v (centre x) (centre y) e → AreCorners v f a b c

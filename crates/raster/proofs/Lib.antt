@@ -9,3 +9,4 @@ mod KeptRows
 mod Near
 mod FineNear
 mod Affine
+mod OneColumn

@@ -85,11 +85,17 @@ pub record IsPlane (v : List WindowVertex) (x y : ℤ) (f : WindowVertex → ℤ
   pub across : IsNear (gain_across v x y f) (triangle_area v) 1 p.across
   pub up : IsNear (gain_up v x y f) (triangle_area v) 1 p.up
 
--- at pixel (x, y), after so many steps
+-- at pixel (x, y), after so many steps, to be stepped along the row
 pub record IsRamp (v : List WindowVertex) (x y : ℤ) (f : WindowVertex → ℤ) (k : ℕ) (r : Ramp) : Type 0 where
   pub bytes : AreFromTo (pos 0) (pos 255) v f
   pub at : IsNear (sum_at v x y f) (triangle_area v) k r.at
-  pub across : IsNear (gain_across v x y f) (triangle_area v) 1 r.across
+  pub across : IsNear (gain_across v x y f) (triangle_area v) 1 r.gain
+
+-- the same, to be stepped up the column
+pub record IsRise (v : List WindowVertex) (x y : ℤ) (f : WindowVertex → ℤ) (k : ℕ) (r : Ramp) : Type 0 where
+  pub bytes : AreFromTo (pos 0) (pos 255) v f
+  pub at : IsNear (sum_at v x y f) (triangle_area v) k r.at
+  pub up : IsNear (gain_up v x y f) (triangle_area v) 1 r.gain
 
 -- ---- attributes of 32 bits
 

@@ -4,7 +4,7 @@ ghost use Rattle.rc_base.specs.Drawing.Cover.{triangle_area, is_inside};
 ghost use Rattle.rc_base.specs.Drawing.Fragment.{fragment_of};
 ghost use Rattle.rc_base.specs.declared.window.WindowVertex.{WindowVertex as AnyVertex};
 ghost use Rattle.raster.specs.Planes.{IsStencil};
-ghost use Rattle.raster.specs.Colors.{IsColorPlane, IsColorRamp, HasColor, are_one, has_one_color, is_depth, are_depths};
+ghost use Rattle.raster.specs.Colors.{IsColorPlane, IsColorRamp, IsColorRise, HasColor, are_one, has_one_color, is_depth, are_depths};
 
 use crate::plane::{Plane, Ramp, plane_of};
 use crate::stencil::Stencil;
@@ -20,7 +20,7 @@ pub struct ColorPlane {
     a: Plane,
 }
 
-/// The four channels at a pixel of a row.
+/// The four channels at a pixel, to be stepped along the row, or up the column.
 #[derive(Clone, Copy)]
 pub struct ColorRamp {
     r: Ramp,
@@ -54,12 +54,25 @@ impl ColorPlane {
             a: self.a.ramp(i, j),
         }
     }
+
+    /// The same as `ramp`, to be stepped up the column.
+    pub fn rise(&self, i: u64, j: u64) -> ColorRamp
+        ensures { (v : List AnyVertex) (x y : ℤ) → IsColorPlane v x y self.now → IsColorRise v (x +ℤ pos i) (y +ℤ pos j) (1 + i + j) result }
+    {
+        ColorRamp {
+            r: self.r.rise(i, j),
+            g: self.g.rise(i, j),
+            b: self.b.rise(i, j),
+            a: self.a.rise(i, j),
+        }
+    }
 }
 
 impl ColorRamp {
     /// The colour of the fragment at the pixel, which the triangle covers, if fewer than 2^12 steps lead there from the plane's first pixel.
     pub fn color(&self) -> Rgba
-        ensures { (v : List AnyVertex) (x y : ℤ) (k : ℕ) → IsColorRamp v x y k self.now → k < 2 ^ 12 → pos 0 <ℤ triangle_area v → is_inside v x y ≡ true → HasColor result (fragment_of v x y) }
+        ensures across { (v : List AnyVertex) (x y : ℤ) (k : ℕ) → IsColorRamp v x y k self.now → k < 2 ^ 12 → pos 0 <ℤ triangle_area v → is_inside v x y ≡ true → HasColor result (fragment_of v x y) }
+        ensures up { (v : List AnyVertex) (x y : ℤ) (k : ℕ) → IsColorRise v x y k self.now → k < 2 ^ 12 → pos 0 <ℤ triangle_area v → is_inside v x y ≡ true → HasColor result (fragment_of v x y) }
     {
         Rgba {
             r: self.r.mean(),
@@ -69,9 +82,10 @@ impl ColorRamp {
         }
     }
 
-    /// Goes to the next pixel of the row.
+    /// Goes to the next pixel of the row, or of the column.
     pub fn advance(&mut self)
-        ensures { (v : List AnyVertex) (x y : ℤ) (k : ℕ) → IsColorRamp v x y k self.old → IsColorRamp v (x +ℤ pos 1) y (k + 1) self.new }
+        ensures across { (v : List AnyVertex) (x y : ℤ) (k : ℕ) → IsColorRamp v x y k self.old → IsColorRamp v (x +ℤ pos 1) y (k + 1) self.new }
+        ensures up { (v : List AnyVertex) (x y : ℤ) (k : ℕ) → IsColorRise v x y k self.old → IsColorRise v x (y +ℤ pos 1) (k + 1) self.new }
     {
         self.r.advance();
         self.g.advance();

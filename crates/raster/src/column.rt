@@ -1,10 +1,11 @@
 //! The rows of one column whose centres a triangle covers: they stand together, and each edge says by at most one division where they begin
 //! or end.
-ghost use Rattle.std.specs.Prelude.{◌≡◌, ◌+◌, ◌^◌, true, pos, ◌+ℤ◌, ◌≤ℤ◌, ◌<ℤ◌};
+ghost use Rattle.std.specs.Prelude.{◌≡◌, ◌+◌, ◌^◌, true, pos, ◌+ℤ◌, ◌≤ℤ◌, ◌<ℤ◌, IfSome};
 ghost use Rattle.rc_base.specs.Numbers.{Within};
 ghost use Rattle.rc_base.specs.Drawing.Cover.{IsInBounds};
 ghost use Rattle.raster.specs.Columns.{AreKeptRows, strict_value};
 ghost use Rattle.raster.specs.Clamped.{HoldsCover, IsFull};
+ghost use Rattle.raster.specs.Spans.{IsColumnIn};
 
 use crate::bounds::covering_part;
 use crate::columns::{Places, falling, minus_1, rising};
@@ -12,6 +13,14 @@ use crate::cover::{keeps, passes_edge};
 use fixed_math::{centre_of, delta, edge};
 use rc_base::triangle::WindowTriangle;
 use rc_base::window::{Rect, WindowVertex};
+
+/// Rows `y0` to below `y1` of column `x`.
+#[derive(Clone, Copy)]
+pub struct Column {
+    pub x: i32,
+    pub y0: i32,
+    pub y1: i32,
+}
 
 // A part of a rectangle, and whether it is known that the triangle covers each of its pixels.
 #[derive(Clone, Copy)]
@@ -80,11 +89,27 @@ fn column_of(tri: &WindowTriangle, rect: Rect, part: Rect) -> Cut
     }
 }
 
+// Whether a part has one column, and rows.
 fn is_column(part: Rect) -> bool
     ensures one { result ≡ true → part.x1 ≡ part.x0 +ℤ pos 1 }
-    ensures order { result ≡ true → part.y0 ≤ℤ part.y1 }
+    ensures some { result ≡ true → part.y0 <ℤ part.y1 }
 {
-    i64::from(part.x1) - i64::from(part.x0) == 1 && part.y0 <= part.y1
+    part.y0 < part.y1 && i64::from(part.x1) - i64::from(part.x0) == 1
+}
+
+// The rows of a part of one column that stand in the rectangle.
+pub(crate) fn column_in(rect: Rect, part: Rect) -> Option<Column>
+    ensures { IfSome result (λ c. IsColumnIn rect part c) }
+{
+    let y0 = part.y0.max(rect.y0);
+    if part.y1 <= y0 || !is_column(part) {
+        return None;
+    }
+    Some(Column {
+        x: part.x0,
+        y0,
+        y1: part.y1,
+    })
 }
 
 /// The part of the rectangle that the triangle may cover. Of a triangle that stands in one column it is what the triangle covers.
@@ -93,7 +118,7 @@ pub(crate) fn cut_of(tri: &WindowTriangle, rect: Rect) -> Cut
     ensures full { result.is_full ≡ true → IsFull tri.now.v result.part }
 {
     let part = covering_part(tri, rect);
-    if is_column(part) {
+    if rect.y0 < part.y1 && is_column(part) {
         return column_of(tri, rect, part);
     }
     Cut {

@@ -23,6 +23,7 @@ mod stencil;
 mod tests;
 
 pub use color::{ColorPlane, ColorRamp, color_plane, flat_color, has_depths};
+pub use column::Column;
 pub use cover::covers;
 pub use fine::{FinePlane, FineRamp, coordinate_planes, depth_plane};
 pub use fragment::fragment_at;

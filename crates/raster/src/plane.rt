@@ -6,7 +6,7 @@ ghost use Rattle.std.specs.Prelude.{◌≡◌, ℕ, ◌^◌, ◌+◌, ◌*◌, �
 ghost use Rattle.rc_base.specs.Drawing.Cover.{triangle_area, is_inside};
 ghost use Rattle.rc_base.specs.Drawing.Fragment.{interpolated};
 ghost use Rattle.rc_base.specs.declared.window.WindowVertex.{WindowVertex as AnyVertex};
-ghost use Rattle.raster.specs.Planes.{IsNear, IsPlane, IsRamp, IsStencil, AreCorners, AreFromTo};
+ghost use Rattle.raster.specs.Planes.{IsNear, IsPlane, IsRamp, IsRise, IsStencil, AreCorners, AreFromTo, sum_at};
 
 use crate::edges::{gain, sum};
 use crate::parts::near;
@@ -20,11 +20,11 @@ pub struct Plane {
     up: u64,
 }
 
-/// An attribute at a pixel of a row, and what it gains to the next.
+/// An attribute at a pixel, and what it gains to the next of the row, or of the column.
 #[derive(Clone, Copy)]
 pub struct Ramp {
     at: u64,
-    across: u64,
+    gain: u64,
 }
 
 fn plane_by(s: &Stencil, a: i32, b: i32, c: i32) -> Plane
@@ -53,13 +53,30 @@ fn moved(at: u64, by: u64, times: u64) -> u64
 }
 
 impl Plane {
+    // The number at the pixel `i` columns further and `j` rows up.
+    fn there(&self, i: u64, j: u64) -> u64
+        ensures { (v : List AnyVertex) (x y : ℤ) (f : AnyVertex → ℤ) → IsPlane v x y f self.now → IsNear (sum_at v (x +ℤ pos i) (y +ℤ pos j) f) (triangle_area v) (1 + i + j) result }
+    {
+        moved(moved(self.at, self.across, i), self.up, j)
+    }
+
     /// The attribute at the pixel `i` columns further and `j` rows up.
     pub(crate) fn ramp(&self, i: u64, j: u64) -> Ramp
         ensures { (v : List AnyVertex) (x y : ℤ) (f : AnyVertex → ℤ) → IsPlane v x y f self.now → IsRamp v (x +ℤ pos i) (y +ℤ pos j) f (1 + i + j) result }
     {
         Ramp {
-            at: moved(moved(self.at, self.across, i), self.up, j),
-            across: self.across,
+            at: self.there(i, j),
+            gain: self.across,
+        }
+    }
+
+    /// The same as `ramp`, to be stepped up the column.
+    pub(crate) fn rise(&self, i: u64, j: u64) -> Ramp
+        ensures { (v : List AnyVertex) (x y : ℤ) (f : AnyVertex → ℤ) → IsPlane v x y f self.now → IsRise v (x +ℤ pos i) (y +ℤ pos j) f (1 + i + j) result }
+    {
+        Ramp {
+            at: self.there(i, j),
+            gain: self.up,
         }
     }
 }
@@ -67,15 +84,17 @@ impl Plane {
 impl Ramp {
     /// The mean at the pixel.
     pub(crate) fn mean(&self) -> u8
-        ensures { (v : List AnyVertex) (x y : ℤ) (f : AnyVertex → ℤ) (k : ℕ) → IsRamp v x y f k self.now → k < 2 ^ 12 → pos 0 <ℤ triangle_area v → is_inside v x y ≡ true → pos result ≡ interpolated v x y f }
+        ensures across { (v : List AnyVertex) (x y : ℤ) (f : AnyVertex → ℤ) (k : ℕ) → IsRamp v x y f k self.now → k < 2 ^ 12 → pos 0 <ℤ triangle_area v → is_inside v x y ≡ true → pos result ≡ interpolated v x y f }
+        ensures up { (v : List AnyVertex) (x y : ℤ) (f : AnyVertex → ℤ) (k : ℕ) → IsRise v x y f k self.now → k < 2 ^ 12 → pos 0 <ℤ triangle_area v → is_inside v x y ≡ true → pos result ≡ interpolated v x y f }
     {
         (self.at >> 56) as u8
     }
 
-    /// Goes to the next pixel of the row.
+    /// Goes to the next pixel of the row, or of the column.
     pub(crate) fn advance(&mut self)
-        ensures { (v : List AnyVertex) (x y : ℤ) (f : AnyVertex → ℤ) (k : ℕ) → IsRamp v x y f k self.old → IsRamp v (x +ℤ pos 1) y f (k + 1) self.new }
+        ensures across { (v : List AnyVertex) (x y : ℤ) (f : AnyVertex → ℤ) (k : ℕ) → IsRamp v x y f k self.old → IsRamp v (x +ℤ pos 1) y f (k + 1) self.new }
+        ensures up { (v : List AnyVertex) (x y : ℤ) (f : AnyVertex → ℤ) (k : ℕ) → IsRise v x y f k self.old → IsRise v x (y +ℤ pos 1) f (k + 1) self.new }
     {
-        self.at = self.at.wrapping_add(self.across);
+        self.at = self.at.wrapping_add(self.gain);
     }
 }

@@ -1,11 +1,11 @@
 //! The covered pixels of a rectangle, a span a row.
-ghost use Rattle.std.specs.Prelude.{◌≡◌, true, ◌≤ℤ◌, ◌<ℤ◌, MatchOption};
-ghost use Rattle.raster.specs.Spans.{IsEmptyRow, IsRowSpan, AreEmptyRows, IsNextSpan, GivesSpan};
+ghost use Rattle.std.specs.Prelude.{◌≡◌, true, ◌≤ℤ◌, ◌<ℤ◌, MatchOption, IfSome};
+ghost use Rattle.raster.specs.Spans.{IsEmptyRow, IsRowSpan, AreEmptyRows, IsNextSpan, GivesSpan, IsOnlyColumn};
 ghost use Rattle.raster.specs.Clamped.{HoldsCover, IsFull};
 ghost use Rattle.std.specs.Iterator.{at_most};
 ghost use Rattle.std.specs.Int.{int_gap};
 
-use crate::column::{Cut, cut_of};
+use crate::column::{Column, Cut, column_in, cut_of};
 use crate::columns::{Places, kept_columns};
 use rc_base::triangle::WindowTriangle;
 use rc_base::window::{Rect, Span};
@@ -107,6 +107,27 @@ pub struct SpanIter<'a> {
     cut: Cut,
     ghost cover: { HoldsCover tri.now.v rect cut.part },
     ghost full: { cut.is_full ≡ true → IsFull tri.now.v cut.part },
+}
+
+impl SpanIter<'_> {
+    /// Whether it is known that no covered pixel is left: the part of the rectangle between the triangle's corners has no pixel from row
+    /// `y` on.
+    pub fn is_empty(&self) -> bool
+        ensures { result ≡ true → AreEmptyRows self.now.tri.now.v self.now.rect self.now.y self.now.rect.y1 }
+    {
+        let part = self.cut.part;
+        part.x1 <= part.x0 || part.y1 <= part.y0.max(self.y)
+    }
+
+    /// The covered pixels of the rectangle, where it is known that they stand in one column and that there are some.
+    pub fn column(&self) -> Option<Column>
+        ensures { IfSome result (λ c. IsOnlyColumn self.now.tri.now.v self.now.rect c) }
+    {
+        if !self.cut.is_full {
+            return None;
+        }
+        column_in(self.rect, self.cut.part)
+    }
 }
 
 impl Iterator for SpanIter<'_> {

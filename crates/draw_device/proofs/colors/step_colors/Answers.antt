@@ -12,7 +12,7 @@ loop-x-preserved c =
     let order = c.requires.run.order in
     record {
       done = color_more (λ (k : ℕ) (old : Rgba). (run_fragment c.args.tri.now.v c.args.run k).color) r.from c.loop-x.x _ _ _ d (omega arith) (omega arith) (c.color_by.ensures);
-      ramp = color_moved _ r.left c.loop-x.x r.row r.up _ (c.advance.ensures c.args.tri.now.v (pos (r.left + c.loop-x.x)) (pos r.row) (1 + c.loop-x.x + r.up) c.loop-x.invariant.ramp);
+      ramp = color_moved _ r.left c.loop-x.x r.row r.up _ (c.advance.ensures.across c.args.tri.now.v (pos (r.left + c.loop-x.x)) (pos r.row) (1 + c.loop-x.x + r.up) c.loop-x.invariant.ramp);
     }
 
 pub returns : goal.returns

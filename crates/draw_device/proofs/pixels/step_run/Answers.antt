@@ -20,7 +20,7 @@ loop-x-preserved c =
     let e = alone_step c.args.state.now None f _ old c.requires.kind (c.requires.depths (pos (r.left + x)) (pos r.row) inside) c.color_by.ensures in
     record {
       drawn = run_next (fragment_pixel c.args.state.now None v) r.left r.row r.start r.from x _ _ _ d (omega arith) (omega arith) e;
-      ramp = color_moved _ r.left x r.row r.up _ (c.advance.ensures v (pos (r.left + x)) (pos r.row) (1 + x + r.up) c.loop-x.invariant.ramp);
+      ramp = color_moved _ r.left x r.row r.up _ (c.advance.ensures.across v (pos (r.left + x)) (pos r.row) (1 + x + r.up) c.loop-x.invariant.ramp);
     }
 
 pub returns : goal.returns

@@ -21,7 +21,7 @@ loop-x-preserved c =
     let e = c.test_step.ensures c.args.state.now None f c.requires.stages c.requires.kind color (to_z-of_z fit ∙ c.depth_by-depth.ensures) in
     record {
       drawn = run_next (fragment_pixel c.args.state.now None v) r.left r.row r.start r.from x _ _ _ d (omega arith) (omega arith) e;
-      shades = color_moved _ r.left x r.row r.up _ (c.advance.ensures v (pos (r.left + x)) (pos r.row) (1 + x + r.up) c.loop-x.invariant.shades);
+      shades = color_moved _ r.left x r.row r.up _ (c.advance.ensures.across v (pos (r.left + x)) (pos r.row) (1 + x + r.up) c.loop-x.invariant.shades);
       ramp = value_moved _ (λ (c : WindowVertex). c.z) r.left x r.row r.up _ (c.advance-in-loop-x.ensures v (pos (r.left + x)) (pos r.row) _ (1 + x + r.up) c.loop-x.invariant.ramp);
     }
 

@@ -1,6 +1,6 @@
 use Rattle.std.proofs.Common.{◌≡◌, ◌≤ℤ◌}
 use Rattle.draw_device.specs.Shapes.{covered_step, IsSteppedBelow}
-use Rattle.draw_device.proofs.grid.Grid.draw_triangle.Given as goal
+use Rattle.draw_device.proofs.grid.Grid.draw_rows.Given as goal
 
 abbrev pub invariant-rows : goal.invariant-rows
 invariant-rows l =

@@ -1,0 +1,219 @@
+-- From the rows of one column to the pixels of a grid.
+use Rattle.std.proofs.Common.{◌≡◌, ℕ, ◌+◌, ◌*◌, ◌<◌, ◌≤◌, ℤ, pos, ◌+ℤ◌, ◌≤ℤ◌, ◌<ℤ◌, Bool, true, false, ◌&&◌, arith, List, Option, None, Some, is_some, length, get_or, refl, mul-le-mul, sym, ◌∙◌, ap, subst, length-set, int_eq, int_le, int_lt}
+use Rattle.std.proofs.lemmas.Int.{ints, by_lt_z}
+use Rattle.std.proofs.lemmas.List.{get_or-set_other, get_or_default}
+use Rattle.std.proofs.lemmas.Grind.{get_or-set_at}
+use lib.ListN.{set}
+use Rattle.rc_base.specs.Pictures.{Picture}
+use Rattle.rc_base.specs.Cluster.Tiles.{is_in_rect}
+use Rattle.rc_base.specs.Drawing.Cover.{is_inside}
+use Rattle.rc_base.specs.declared.state.State.{State}
+use Rattle.rc_base.specs.declared.window.Pixel.{Pixel}
+use Rattle.rc_base.specs.declared.window.Rect.{Rect}
+use Rattle.rc_base.specs.declared.window.WindowVertex.{WindowVertex}
+use Rattle.raster.specs.Spans.{IsOnlyColumn, AreEmptyRows}
+use Rattle.raster.specs.Colors.{IsColorRise}
+use Rattle.raster.specs.declared.color.ColorRamp.{ColorRamp}
+use Rattle.raster.specs.declared.column.Column.{Column}
+use Rattle.draw_device.specs.Pixels.{pixel_at}
+use Rattle.draw_device.specs.Clips.{IsPartWhere, is_let_through}
+use Rattle.draw_device.specs.Columns.{place_in, IsColumnStepped, IsColumnDrawn, IsRiseAt}
+use Rattle.draw_device.specs.Shapes.{column_at, row_at, grid_rect, fragment_pixel, covered_step, IsStepped}
+use Rattle.draw_device.specs.declared.column_run.ColumnRun.{ColumnRun}
+use Rattle.draw_device.specs.declared.extent.Extent.{Extent}
+use Rattle.draw_device.proofs.SpansToPixels.{next_row, cut_off, uncovered, hit, outside_rows, above_rows, left_of, right_of, inside_rect}
+
+-- two places of one column are apart
+apart : (r : ColumnRun) (j k : ℕ) → r.across < r.width → j < k → place_in r j < place_in r k
+apart r j k h l = let m : j * r.width + r.width ≤ k * r.width = next_row r.width j k l in omega arith
+
+-- one more row
+column_more : (f : ℤ → ℤ → Pixel → Pixel) (r : ColumnRun) (y : ℕ) (old now : List Pixel) (p : Pixel) → r.across < r.width
+    → IsColumnStepped f r y old now → r.from ≤ y → place_in r y < length now
+    → p ≡ f (pos (r.left + r.across)) (pos (r.bottom + y)) (pixel_at now (place_in r y))
+    → IsColumnStepped f r (y + 1) old (set now (place_in r y) p)
+column_more f r y old now p inside d h l e =
+    let at = place_in r y in
+    let was : pixel_at now at ≡ pixel_at old at = d.rest at (λ k m n q. let a = apart r k y inside n in absurd (omega (arith, a, q))) in
+    record {
+      size = length-set _ _ _ ∙ d.size;
+      run = λ k m n. by_lt_z (pos k) (pos y)
+          (λ o. let before : k < y = omega (arith, ints, o) in
+          let a = apart r k y inside before in get_or-set_other now at (place_in r k) p _ (omega (arith, a)) ∙ d.run k m before)
+          (λ o. let same : k ≡ y = omega (arith, ints, o, n) in
+          get_or-set_at now at (place_in r k) p _ (ap (place_in r) same) l ∙ e
+          ∙ subst (λ (z : ℕ). f (pos (r.left + r.across)) (pos (r.bottom + y)) (pixel_at now at) ≡ f (pos (r.left + r.across)) (pos (r.bottom + z)) (pixel_at old (place_in r z)))
+          (sym same) (ap (λ (z : Pixel). f (pos (r.left + r.across)) (pos (r.bottom + y)) z) was));
+      rest = λ n o. get_or-set_other now at n p _ (λ q. o y h (omega arith) q) ∙ d.rest n (λ k m q. o k m (omega arith));
+    }
+
+-- the same at the index of the place
+pub column_next : (f : ℤ → ℤ → Pixel → Pixel) (r : ColumnRun) (y at : ℕ) (old now : List Pixel) (p : Pixel) → r.across < r.width
+    → IsColumnStepped f r y old now → r.from ≤ y → at ≡ place_in r y → at < length now
+    → p ≡ f (pos (r.left + r.across)) (pos (r.bottom + y)) (pixel_at now at) → IsColumnStepped f r (y + 1) old (set now at p)
+column_next f r y at old now p inside d h e =
+    subst (λ (n : ℕ). n < length now → p ≡ f (pos (r.left + r.across)) (pos (r.bottom + y)) (pixel_at now n) → IsColumnStepped f r (y + 1) old (set now n p)) (sym e)
+    (λ l s. column_more f r y old now p inside d h l s)
+
+pub column_none : (f : ℤ → ℤ → Pixel → Pixel) (r : ColumnRun) (old : List Pixel) → IsColumnStepped f r r.from old old
+column_none f r old = record { size = refl; run = λ k m n. absurd (omega arith); rest = λ n h. refl }
+
+pub column_end : (f : ℤ → ℤ → Pixel → Pixel) (r : ColumnRun) (y to : ℕ) (old now : List Pixel) → y ≡ to → IsColumnStepped f r y old now
+    → IsColumnStepped f r to old now
+column_end f r y to old now e d = subst (λ (n : ℕ). IsColumnStepped f r n old now) e d
+
+-- the next row's colour
+pub rise_moved : (v : List WindowVertex) (r : ColumnRun) (k : ℕ) (ramp : ColorRamp)
+    → IsColorRise v (pos (r.left + r.across)) (pos (r.bottom + k) +ℤ pos 1) (1 + r.across + k + 1) ramp → IsRiseAt v r (k + 1) ramp
+rise_moved v r k ramp h =
+    let e : pos (r.bottom + k) +ℤ pos 1 ≡ pos (r.bottom + (k + 1)) = omega (arith, ints) in
+    let n : 1 + r.across + k + 1 ≡ 1 + r.across + (k + 1) = omega arith in
+    subst (λ (m : ℕ). IsColorRise v (pos (r.left + r.across)) (pos (r.bottom + (k + 1))) m ramp) n
+    (subst (λ (z : ℤ). IsColorRise v (pos (r.left + r.across)) z (1 + r.across + k + 1) ramp) e h)
+
+-- the first row's colour
+pub rise_start : (v : List WindowVertex) (r : ColumnRun) (i j : ℕ) (ramp : ColorRamp) → i ≡ r.across → j ≡ r.from
+    → IsColorRise v (pos r.left +ℤ pos i) (pos r.bottom +ℤ pos j) (1 + i + j) ramp → IsRiseAt v r r.from ramp
+rise_start v r i j ramp e f h =
+    let x : pos r.left +ℤ pos i ≡ pos (r.left + r.across) = omega (arith, ints) in
+    let y : pos r.bottom +ℤ pos j ≡ pos (r.bottom + r.from) = omega (arith, ints) in
+    let n : 1 + i + j ≡ 1 + r.across + r.from = omega arith in
+    subst (λ (m : ℕ). IsColorRise v (pos (r.left + r.across)) (pos (r.bottom + r.from)) m ramp) n
+    (subst (λ (z : ℤ). IsColorRise v (pos (r.left + r.across)) z (1 + i + j) ramp) y
+    (subst (λ (z : ℤ). IsColorRise v z (pos r.bottom +ℤ pos j) (1 + i + j) ramp) x h))
+
+-- the place of a row of the column lies in the pixels
+pub place_below : (r : ColumnRun) (y length : ℕ) → r.across < r.width → y < r.to → r.to * r.width ≤ length → place_in r y < length
+place_below r y length inside l room = let m : y * r.width + r.width ≤ r.to * r.width = next_row r.width y r.to l in omega arith
+
+-- ---- the pixels of a grid
+
+abbrev column_test : Column → ℤ → ℤ → Bool
+column_test c x y = int_eq x c.x && (int_le c.y0 y && int_lt y c.y1)
+
+test_yes : (c : Column) (x y : ℤ) → x ≡ c.x → c.y0 ≤ℤ y → y <ℤ c.y1 → column_test c x y ≡ true
+test_yes c x y e l h = grind (arith, ints)
+
+test_below : (c : Column) (x y : ℤ) → y <ℤ c.y0 → column_test c x y ≡ false
+test_below c x y l = grind (arith, ints)
+
+test_above : (c : Column) (x y : ℤ) → c.y1 ≤ℤ y → column_test c x y ≡ false
+test_above c x y l = grind (arith, ints)
+
+test_left : (c : Column) (x y : ℤ) → x <ℤ c.x → column_test c x y ≡ false
+test_left c x y l = grind (arith, ints)
+
+test_right : (c : Column) (x y : ℤ) → c.x <ℤ x → column_test c x y ≡ false
+test_right c x y l = grind (arith, ints)
+
+-- two places of a grid are one only where their columns and rows are
+same_row : (w i j a k : ℕ) → i < w → a < w → j * w + i ≡ k * w + a → j ≡ k
+same_row w i j a k hi ha e =
+    by_lt_z (pos j) (pos k) (λ l. let m : j * w + w ≤ k * w = next_row w j k (omega (arith, ints)) in absurd (omega arith))
+    (λ u. by_lt_z (pos k) (pos j) (λ l. let m : k * w + w ≤ j * w = next_row w k j (omega (arith, ints)) in absurd (omega arith)) (λ v. omega (arith, ints)))
+
+same_column : (w i j a k : ℕ) → i < w → a < w → j * w + i ≡ k * w + a → i ≡ a
+same_column w i j a k hi ha e = let q : j * w ≡ k * w = ap (λ (n : ℕ). n * w) (same_row w i j a k hi ha e) in omega arith
+
+module _ (s : State) (picture : Option Picture) (v : List WindowVertex) (g : Extent) (part : Rect) (p : IsPartWhere (grid_rect g) part (is_let_through s)) where
+  -- a pixel that the triangle doesn't cover, or that isn't of the part, is as before
+  idle : (c : Column) → IsOnlyColumn v part c → (i j : ℕ) → i < g.width → j < g.height → column_test c (column_at g i) (row_at g j) ≡ false → (o : Pixel)
+      → covered_step s picture v (column_at g i) (row_at g j) o ≡ o
+  idle c n i j hi hj e o =
+      let x = column_at g i in
+      let y = row_at g j in
+      by_lt_z x part.x0 (λ l. cut_off s picture v g part p i j hi hj (left_of part x y l) o)
+      (λ a. by_lt_z x part.x1
+      (λ b. by_lt_z y part.y0 (λ l. cut_off s picture v g part p i j hi hj (outside_rows part x y l) o)
+      (λ d. by_lt_z y part.y1 (λ u. uncovered s picture v g part p i j hi hj (n.exact x y a b d u ∙ e) o)
+      (λ u. cut_off s picture v g part p i j hi hj (above_rows part x y u) o)))
+      (λ b. cut_off s picture v g part p i j hi hj (right_of part x y b) o))
+
+  -- the rows of the column that the triangle covers are all that it draws
+  pub column_drawn : (c : Column) (r : ColumnRun) (old new : List Pixel) → IsOnlyColumn v part c
+      → r.left ≡ g.left → r.bottom ≡ g.bottom → r.width ≡ g.width → r.across < g.width
+      → c.x ≡ pos (g.left + r.across) → c.y0 ≡ pos (g.bottom + r.from) → c.y1 ≡ pos (g.bottom + r.to)
+      → IsColumnDrawn s picture v r old new → IsStepped (covered_step s picture v) g old new
+  column_drawn c r old new n el eb ew inside ex ey ez d = record { each = by }
+    where
+      kept : (i j : ℕ) → i < g.width → j < g.height → column_test c (column_at g i) (row_at g j) ≡ false
+          → ((k : ℕ) → r.from ≤ k → k < r.to → ¬ (j * g.width + i ≡ place_in r k))
+          → pixel_at new (j * g.width + i) ≡ covered_step s picture v (column_at g i) (row_at g j) (pixel_at old (j * g.width + i))
+      kept i j hi hj e h = d.rest (j * g.width + i) h ∙ sym (idle c n i j hi hj e _)
+
+      row_of : (i j k : ℕ) → i < g.width → j * g.width + i ≡ place_in r k → j ≡ k
+      row_of i j k hi e = same_row g.width i j r.across k hi inside (e ∙ ap (λ (w : ℕ). k * w + r.across) ew)
+
+      column_of : (i j k : ℕ) → i < g.width → j * g.width + i ≡ place_in r k → i ≡ r.across
+      column_of i j k hi e = same_column g.width i j r.across k hi inside (e ∙ ap (λ (w : ℕ). k * w + r.across) ew)
+
+      taken : (i j : ℕ) → i < g.width → j < g.height → i ≡ r.across → r.from ≤ j → j < r.to
+          → pixel_at new (j * g.width + i) ≡ covered_step s picture v (column_at g i) (row_at g j) (pixel_at old (j * g.width + i))
+      taken i j hi hj e low high =
+          let x = column_at g i in
+          let y = row_at g j in
+          let test : column_test c x y ≡ true = test_yes c x y (omega (arith, ints)) (omega (arith, ints)) (omega (arith, ints)) in
+          let a = n.left in
+          let b = n.right in
+          let m = n.low in
+          let h = n.high in
+          let x0 : part.x0 ≤ℤ x = omega (arith, ints) in
+          let x1 : x <ℤ part.x1 = omega (arith, ints) in
+          let y0 : part.y0 ≤ℤ y = omega (arith, ints) in
+          let y1 : y <ℤ part.y1 = omega (arith, ints) in
+          let place : place_in r j ≡ j * g.width + i = (λ t. j * ew t + sym e t) in
+          let here : pixel_at new (place_in r j) ≡ fragment_pixel s picture v (pos (r.left + r.across)) (pos (r.bottom + j)) (pixel_at old (place_in r j)) = d.run j low high in
+          let there : pixel_at new (j * g.width + i) ≡ fragment_pixel s picture v x y (pixel_at old (j * g.width + i)) =
+              subst (λ (q : ℕ). pixel_at new q ≡ fragment_pixel s picture v x y (pixel_at old q)) place
+              (here ∙ (λ t. fragment_pixel s picture v (pos (el t + sym e t)) (pos (eb t + j)) (pixel_at old (place_in r j)))) in
+          there ∙ sym (hit s picture v g part p i j hi hj (n.exact x y x0 x1 y0 y1 ∙ test) (inside_rect part x y x0 x1 y0 y1) _)
+
+      by : (i j : ℕ) → i < g.width → j < g.height
+          → pixel_at new (j * g.width + i) ≡ covered_step s picture v (column_at g i) (row_at g j) (pixel_at old (j * g.width + i))
+      by i j hi hj =
+          let x = column_at g i in
+          let y = row_at g j in
+          by_lt_z (pos i) (pos r.across)
+          (λ l. kept i j hi hj (test_left c x y (omega (arith, ints))) (λ k m h q. let e = column_of i j k hi q in absurd (omega (arith, ints))))
+          (λ a. by_lt_z (pos r.across) (pos i)
+          (λ l. kept i j hi hj (test_right c x y (omega (arith, ints))) (λ k m h q. let e = column_of i j k hi q in absurd (omega (arith, ints))))
+          (λ b. by_lt_z (pos j) (pos r.from)
+          (λ l. kept i j hi hj (test_below c x y (omega (arith, ints))) (λ k m h q. let e = row_of i j k hi q in absurd (omega (arith, ints))))
+          (λ f. by_lt_z (pos j) (pos r.to)
+          (λ l. taken i j hi hj (omega (arith, ints)) (omega (arith, ints)) (omega (arith, ints)))
+          (λ u. kept i j hi hj (test_above c x y (omega (arith, ints))) (λ k m h q. let e = row_of i j k hi q in absurd (omega (arith, ints)))))))
+
+  -- a triangle that misses the part draws nothing
+  pub missed : (old : List Pixel) → AreEmptyRows v part part.y0 part.y1 → IsStepped (covered_step s picture v) g old old
+  missed old e = record {
+    each = λ i j hi hj. sym (by i j hi hj _);
+  }
+    where
+      by : (i j : ℕ) → i < g.width → j < g.height → (o : Pixel) → covered_step s picture v (column_at g i) (row_at g j) o ≡ o
+      by i j hi hj o =
+          let x = column_at g i in
+          let y = row_at g j in
+          by_lt_z x part.x0 (λ l. cut_off s picture v g part p i j hi hj (left_of part x y l) o)
+          (λ a. by_lt_z x part.x1
+          (λ b. by_lt_z y part.y0 (λ l. cut_off s picture v g part p i j hi hj (outside_rows part x y l) o)
+          (λ d. by_lt_z y part.y1 (λ u. uncovered s picture v g part p i j hi hj (e y d u x a b) o)
+          (λ u. cut_off s picture v g part p i j hi hj (above_rows part x y u) o)))
+          (λ b. cut_off s picture v g part p i j hi hj (right_of part x y b) o))
+
+-- so many rows have no more pixels than all rows
+pub rows_fit : (w h t : ℕ) → t ≤ h → t * w ≤ w * h
+rows_fit w h t l = let m : t * w ≤ h * w = mul-le-mul l (omega arith) in omega arith
+
+-- the triangle covers the rows of its only column
+pub covered_rows : (v : List WindowVertex) (part : Rect) (c : Column) (x y : ℤ) → IsOnlyColumn v part c → x ≡ c.x → c.y0 ≤ℤ y → y <ℤ c.y1
+    → is_inside v x y ≡ true
+covered_rows v part c x y n e low high =
+    let a = n.left in
+    let b = n.right in
+    let d = n.low in
+    let h = n.high in
+    n.exact x y (omega (arith, ints)) (omega (arith, ints)) (omega (arith, ints)) (omega (arith, ints)) ∙ test_yes c x y e low high
+
+pub no_picture : (p : Option Picture) → is_some p ≡ false → p ≡ None
+no_picture None e = refl
+no_picture (Some q) e = absurd (cc e)

@@ -1,0 +1,47 @@
+-- The rows of one column of a grid of pixels: what the loops over them take and leave.
+use Rattle.std.specs.Prelude.{◌≡◌, ℕ, ◌+◌, ◌*◌, ◌^◌, ◌<◌, ◌≤◌, length, List, Option, ℤ, pos, true}
+use Rattle.rc_base.specs.Pictures.{Picture}
+use Rattle.rc_base.specs.Drawing.Cover.{is_inside}
+use Rattle.rc_base.specs.Drawing.Fragment.{fragment_of}
+use Rattle.rc_base.specs.declared.state.State.{State}
+use Rattle.rc_base.specs.declared.window.Fragment.{Fragment}
+use Rattle.rc_base.specs.declared.window.Pixel.{Pixel}
+use Rattle.rc_base.specs.declared.window.WindowVertex.{WindowVertex}
+use Rattle.raster.specs.Colors.{IsColorRise}
+use Rattle.raster.specs.declared.color.ColorRamp.{ColorRamp}
+use Rattle.draw_device.specs.Pixels.{pixel_at}
+use Rattle.draw_device.specs.Shapes.{fragment_pixel}
+use Rattle.draw_device.specs.declared.column_run.ColumnRun.{ColumnRun}
+
+-- the index of the column's pixel in row k
+abbrev pub place_in : ColumnRun → ℕ → ℕ
+place_in r k = k * r.width + r.across
+
+-- the fragment at row k of the column
+abbrev pub column_fragment : List WindowVertex → ColumnRun → ℕ → Fragment
+column_fragment v r k = fragment_of v (pos (r.left + r.across)) (pos (r.bottom + k))
+
+-- the rows are in order, the column is one of the grid, and they are so few that no step of a plane is one too many
+pub record IsColumnRun (r : ColumnRun) : Type 0 where
+  pub order : r.from ≤ r.to
+  pub inside : r.across < r.width
+  pub few : r.across + r.to < 2 ^ 12
+
+-- the triangle covers the rows
+abbrev pub IsColumnCovered : List WindowVertex → ColumnRun → Type 0
+IsColumnCovered v r = (k : ℕ) → r.from ≤ k → k < r.to → is_inside v (pos (r.left + r.across)) (pos (r.bottom + k)) ≡ true
+
+-- the rows up to below `to` took a step, and no other pixel changed
+pub record IsColumnStepped (step : ℤ → ℤ → Pixel → Pixel) (r : ColumnRun) (to : ℕ) (old new : List Pixel) : Type 0 where
+  pub size : length new ≡ length old
+  pub run : (k : ℕ) → r.from ≤ k → k < to
+      → pixel_at new (place_in r k) ≡ step (pos (r.left + r.across)) (pos (r.bottom + k)) (pixel_at old (place_in r k))
+  pub rest : (n : ℕ) → ((k : ℕ) → r.from ≤ k → k < to → ¬ (n ≡ place_in r k)) → pixel_at new n ≡ pixel_at old n
+
+-- the rows after the fragments of a triangle
+abbrev pub IsColumnDrawn : State → Option Picture → List WindowVertex → ColumnRun → List Pixel → List Pixel → Type 0
+IsColumnDrawn s picture v r old new = IsColumnStepped (fragment_pixel s picture v) r r.to old new
+
+-- the triangle's colour at row k of the column
+abbrev pub IsRiseAt : List WindowVertex → ColumnRun → ℕ → ColorRamp → Type 0
+IsRiseAt v r k ramp = IsColorRise v (pos (r.left + r.across)) (pos (r.bottom + k)) (1 + r.across + k) ramp
