@@ -10,3 +10,4 @@ mod Near
 mod FineNear
 mod Affine
 mod OneColumn
+mod Flat

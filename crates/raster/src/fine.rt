@@ -10,7 +10,7 @@ ghost use Rattle.rc_base.specs.declared.window.WindowVertex.{WindowVertex as Any
 ghost use Rattle.raster.specs.Planes.{IsStencil, IsClose, IsFinePlane, IsFineRamp, AreCorners};
 
 use crate::edges::{gain, sum};
-use crate::parts::close;
+use crate::parts::{close, wide_high_parts};
 use crate::stencil::Stencil;
 use rc_base::triangle::WindowTriangle;
 
@@ -29,7 +29,18 @@ pub struct FineRamp {
     across: u128,
 }
 
-fn fine_plane_of(s: &Stencil, a: i32, b: i32, c: i32) -> FinePlane
+// Of an attribute that is the same at all corners.
+fn flat_fine_plane(a: i32) -> FinePlane
+    ensures { (v : List AnyVertex) (x y : ℤ) (f : AnyVertex → ℤ) → AreCorners v f a a a → IsFinePlane v x y f result }
+{
+    FinePlane {
+        at: wide_high_parts(i128::from(a)),
+        across: 0,
+        up: 0,
+    }
+}
+
+fn fine_plane_by(s: &Stencil, a: i32, b: i32, c: i32) -> FinePlane
     ensures { (v : List AnyVertex) (x y : ℤ) (f : AnyVertex → ℤ) → IsStencil v x y s.now → AreCorners v f a b c → IsFinePlane v x y f result }
 {
     let here = sum(&s.here, a, b, c);
@@ -40,6 +51,15 @@ fn fine_plane_of(s: &Stencil, a: i32, b: i32, c: i32) -> FinePlane
         across: close(gain(right, here), s),
         up: close(gain(above, here), s),
     }
+}
+
+fn fine_plane_of(s: &Stencil, a: i32, b: i32, c: i32) -> FinePlane
+    ensures { (v : List AnyVertex) (x y : ℤ) (f : AnyVertex → ℤ) → IsStencil v x y s.now → AreCorners v f a b c → IsFinePlane v x y f result }
+{
+    if a == b && b == c {
+        return flat_fine_plane(a);
+    }
+    fine_plane_by(s, a, b, c)
 }
 
 fn fine_moved(at: u128, by: u128, times: u64) -> u128

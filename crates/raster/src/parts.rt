@@ -8,8 +8,8 @@ ghost use Rattle.raster.specs.Planes.{IsFineResidue, IsNear, IsClose};
 use crate::stencil::Stencil;
 use fixed_math::floor_div;
 
-// A whole number in parts of 2^96, modulo 2^128.
-fn wide_high_parts(whole: i128) -> u128
+/// A whole number in parts of 2^96, modulo 2^128.
+pub(crate) fn wide_high_parts(whole: i128) -> u128
     ensures { IsFineResidue (pos (2 ^ 96) *ℤ whole) result }
 {
     whole.rem_euclid(4_294_967_296) as u128 * 79_228_162_514_264_337_593_543_950_336

@@ -40,9 +40,23 @@ fn plane_by(s: &Stencil, a: i32, b: i32, c: i32) -> Plane
     }
 }
 
+// Of a channel that is the same at all corners.
+fn flat_plane(a: u8) -> Plane
+    ensures { (v : List AnyVertex) (x y : ℤ) (f : AnyVertex → ℤ) → AreCorners v f (pos a) (pos a) (pos a) → IsPlane v x y f result }
+{
+    Plane {
+        at: u64::from(a) * 72_057_594_037_927_936,
+        across: 0,
+        up: 0,
+    }
+}
+
 pub(crate) fn plane_of(s: &Stencil, a: u8, b: u8, c: u8) -> Plane
     ensures { (v : List AnyVertex) (x y : ℤ) (f : AnyVertex → ℤ) → IsStencil v x y s.now → AreCorners v f (pos a) (pos b) (pos c) → IsPlane v x y f result }
 {
+    if a == b && b == c {
+        return flat_plane(a);
+    }
     plane_by(s, i32::from(a), i32::from(b), i32::from(c))
 }
 

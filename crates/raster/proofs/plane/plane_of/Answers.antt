@@ -1,4 +1,4 @@
-use Rattle.std.proofs.Common.{◌≡◌, ◌∙◌, ℕ, ℤ, ◌<◌, pos, sym, subst, to_z-of_z, FitsSigned, w32}
+use Rattle.std.proofs.Common.{◌≡◌, ◌∙◌, ℕ, ℤ, ◌<◌, pos, sym, ap, subst, arith, to_z-of_z, FitsSigned, w32}
 use Rattle.raster.specs.Planes.{IsFromTo}
 use Rattle.raster.proofs.Near.{byte_of}
 use Rattle.raster.proofs.plane.plane_of.Goals as goal
@@ -14,3 +14,9 @@ returns c v x y f s corners =
   where
     byte : (z : ℤ) (n : ℕ) → z ≡ pos n → n < 256 → IsFromTo (pos 0) (pos 255) z
     byte z n e h = subst (IsFromTo (pos 0) (pos 255)) (sym e) (byte_of n h)
+
+pub returns-then-b-c : goal.returns-then-b-c
+returns-then-b-c c v x y f s corners =
+    let e : c.args.a ≡ c.args.b = omega arith in
+    let g : c.args.b ≡ c.args.c = omega arith in
+    c.flat_plane.ensures v x y f (corners.0, corners.1 ∙ ap pos (sym e), corners.2 ∙ ap pos (sym g ∙ sym e))
