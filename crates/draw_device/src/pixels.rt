@@ -105,13 +105,7 @@ fn test_step(stages: Stages, color: Rgba, depth: i32, pixel: &mut Pixel)
     requires { is_depth depth ≡ true }
     ensures { (s : AnyState) (p : Option Picture) (f : AnyFragment) → IsPrepared s stages → tests_alone s ≡ true → color ≡ fragment_color s p f → depth ≡ f.depth → pixel.new ≡ fragment_step s p f pixel.old }
 {
-    let old = Pixel {
-        color: pixel.color,
-        depth: pixel.depth,
-    };
-    let new = stages.store(color, depth as u32, old);
-    pixel.color = new.color;
-    pixel.depth = new.depth;
+    stages.put(color, depth as u32, pixel);
 }
 
 /// The depth test is the one stage.
@@ -218,13 +212,7 @@ pub(crate) fn over_step(stages: Stages, color: Rgba, depth: i32, pixel: &mut Pix
     requires { is_depth depth ≡ true }
     ensures { (s : AnyState) (p : Option Picture) (f : AnyFragment) → IsPrepared s stages → blends_over s ≡ true → color ≡ fragment_color s p f → depth ≡ f.depth → pixel.new ≡ fragment_step s p f pixel.old }
 {
-    let old = Pixel {
-        color: pixel.color,
-        depth: pixel.depth,
-    };
-    let new = stages.store_over(color, depth as u32, old);
-    pixel.color = new.color;
-    pixel.depth = new.depth;
+    stages.put_over(color, depth as u32, pixel);
 }
 
 /// Depth test, and blending by SRC_ALPHA and ONE_MINUS_SRC_ALPHA.
@@ -302,13 +290,7 @@ fn sum_step(stages: Stages, color: Rgba, depth: i32, pixel: &mut Pixel)
     requires { is_depth depth ≡ true }
     ensures { (s : AnyState) (p : Option Picture) (f : AnyFragment) → IsPrepared s stages → blends_sum s ≡ true → color ≡ fragment_color s p f → depth ≡ f.depth → pixel.new ≡ fragment_step s p f pixel.old }
 {
-    let old = Pixel {
-        color: pixel.color,
-        depth: pixel.depth,
-    };
-    let new = stages.store_sum(color, depth as u32, old);
-    pixel.color = new.color;
-    pixel.depth = new.depth;
+    stages.put_sum(color, depth as u32, pixel);
 }
 
 /// Depth test, and blending by ONE and ONE.

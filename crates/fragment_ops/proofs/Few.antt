@@ -6,7 +6,7 @@ use Rattle.rc_base.specs.Drawing.PixelStep.{shaded, cleared, cleared_depth}
 use Rattle.rc_base.specs.declared.command.Rgba.{Rgba}
 use Rattle.rc_base.specs.declared.state.State.{State}
 use Rattle.rc_base.specs.declared.window.Pixel.{Pixel}
-use Rattle.fragment_ops.specs.Prepared.{IsPrepared}
+use Rattle.fragment_ops.specs.Prepared.{passes, IsPrepared}
 use Rattle.fragment_ops.specs.Shortcuts.{writes_all, stores_alone, tests_alone, blends_alone, color_over, color_sum, tested_pixel}
 use Rattle.fragment_ops.specs.Clearings.{IsClearing, cleared_by, writes_pixel}
 use Rattle.fragment_ops.specs.declared.stages.Stages.{Stages}
@@ -26,6 +26,16 @@ flags_on flags h =
 
 same : (x n : ℕ) → (x == n) ≡ true → x ≡ n
 same x n h = grind arith
+
+-- a pixel whose fragment passed its depth test, and one whose fragment didn't
+pub passed_is : (g : Stages) (c : Rgba) (depth : ℕ) (old : Pixel) → passes g.depth depth old.depth ≡ true
+    → record { color = c; depth = if g.stores_depth then depth else old.depth } ≡ tested_pixel g c depth old
+unfolding tested_pixel
+passed_is g c depth old h = rw h refl
+
+pub failed_is : (g : Stages) (c : Rgba) (depth : ℕ) (old : Pixel) → passes g.depth depth old.depth ≡ false → old ≡ tested_pixel g c depth old
+unfolding tested_pixel
+failed_is g c depth old h = rw h refl
 
 pub store_is : (s : State) (g : Stages) (c : Rgba) (depth : ℕ) (old : Pixel) → tests_alone s ≡ true → IsPrepared s g
     → tested_pixel g c depth old ≡ shaded s c depth old

@@ -1,5 +1,5 @@
 //! States of which few stages stand between a fragment and the buffer, and the steps that are left.
-ghost use Rattle.std.specs.Prelude.{◌≡◌, ◌-◌, ℕ, true, false};
+ghost use Rattle.std.specs.Prelude.{◌≡◌, ◌-◌, ℕ, if◌then◌else◌, true, false};
 ghost use Rattle.rc_base.specs.Drawing.PixelStep.{shaded};
 ghost use Rattle.rc_base.specs.declared.command.Rgba.{Rgba as AnyColor};
 ghost use Rattle.rc_base.specs.declared.state.State.{State as AnyState};
@@ -125,41 +125,50 @@ pub fn blend_sum(color: Rgba, old: Rgba) -> Rgba
 }
 
 impl Stages {
-    // The pixel after a depth test.
+    // What is stored of a fragment that passes.
     #[inline(always)]
-    #[tactic(auto, unfolding(crate::specs::Shortcuts::tested_pixel))]
-    fn tested(&self, color: Rgba, depth: u32, old: Pixel) -> Pixel
-        ensures { result ≡ tested_pixel self.now color depth old }
+    fn write(&self, color: Rgba, depth: u32, pixel: &mut Pixel)
+        ensures { pixel.new ≡ record { color = color; depth = if self.now.stores_depth then depth else pixel.old.depth } }
     {
-        if self.depth.passes(depth, old.depth) {
-            let depth = if self.stores_depth { depth } else { old.depth };
-            Pixel { color, depth }
-        } else {
-            old
+        pixel.color = color;
+        if self.stores_depth {
+            pixel.depth = depth;
         }
     }
 
-    /// A pixel after a fragment with a depth in the buffer's range, where no stage but the depth test is left.
+    /// Draws a fragment with a depth in the buffer's range, where no stage but the depth test is left.
     #[inline(always)]
-    pub fn store(&self, color: Rgba, depth: u32, old: Pixel) -> Pixel
-        ensures { (s : AnyState) → IsPrepared s self.now → tests_alone s ≡ true → result ≡ shaded s color depth old }
+    #[tactic(auto, unfolding(crate::specs::Shortcuts::tested_pixel))]
+    pub fn put(&self, color: Rgba, depth: u32, pixel: &mut Pixel)
+        ensures value { pixel.new ≡ tested_pixel self.now color depth pixel.old }
+        ensures stored { (s : AnyState) → IsPrepared s self.now → tests_alone s ≡ true → pixel.new ≡ shaded s color depth pixel.old }
     {
-        self.tested(color, depth, old)
+        if self.depth.passes(depth, pixel.depth) {
+            self.write(color, depth, pixel);
+        }
     }
 
     /// The same with blending by SRC_ALPHA and ONE_MINUS_SRC_ALPHA.
     #[inline(always)]
-    pub fn store_over(&self, color: Rgba, depth: u32, old: Pixel) -> Pixel
-        ensures { (s : AnyState) → IsPrepared s self.now → blends_over s ≡ true → result ≡ shaded s color depth old }
+    #[tactic(auto, unfolding(crate::specs::Shortcuts::tested_pixel))]
+    pub fn put_over(&self, color: Rgba, depth: u32, pixel: &mut Pixel)
+        ensures value { pixel.new ≡ tested_pixel self.now (color_over color pixel.old.color) depth pixel.old }
+        ensures stored { (s : AnyState) → IsPrepared s self.now → blends_over s ≡ true → pixel.new ≡ shaded s color depth pixel.old }
     {
-        self.tested(laid_over(color, old.color), depth, old)
+        if self.depth.passes(depth, pixel.depth) {
+            self.write(laid_over(color, pixel.color), depth, pixel);
+        }
     }
 
     /// The same with blending by ONE and ONE.
     #[inline(always)]
-    pub fn store_sum(&self, color: Rgba, depth: u32, old: Pixel) -> Pixel
-        ensures { (s : AnyState) → IsPrepared s self.now → blends_sum s ≡ true → result ≡ shaded s color depth old }
+    #[tactic(auto, unfolding(crate::specs::Shortcuts::tested_pixel))]
+    pub fn put_sum(&self, color: Rgba, depth: u32, pixel: &mut Pixel)
+        ensures value { pixel.new ≡ tested_pixel self.now (color_sum color pixel.old.color) depth pixel.old }
+        ensures stored { (s : AnyState) → IsPrepared s self.now → blends_sum s ≡ true → pixel.new ≡ shaded s color depth pixel.old }
     {
-        self.tested(added(color, old.color), depth, old)
+        if self.depth.passes(depth, pixel.depth) {
+            self.write(added(color, pixel.color), depth, pixel);
+        }
     }
 }
