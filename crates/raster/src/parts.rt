@@ -66,6 +66,10 @@ fn is_precise(m: i64, area: i64) -> bool
     requires small { area ≤ℤ pos (2 ^ 43) }
     ensures { result ≡ int_le (m *ℤ area) (pos (2 ^ 83)) }
 {
+    // No area is above 2^43.
+    if m <= 1_099_511_627_776 {
+        return true;
+    }
     i128::from(m) * i128::from(area) <= 9_671_406_556_917_033_397_649_408
 }
 

@@ -1,7 +1,7 @@
-use Rattle.std.proofs.Common.{◌≡◌, ◌∙◌, ◌*ℤ◌, ◌^◌, refl, arith, to_z, of_z, to_z-of_z, FitsSigned}
+use Rattle.std.proofs.Common.{◌≡◌, ◌∙◌, ◌*ℤ◌, ◌^◌, ℤ, pos, ◌≤ℤ◌, int_le, true, refl, sym, arith, to_z, of_z, to_z-of_z, FitsSigned}
 use mir.Syntax.{w128}
 use Rattle.std.proofs.lemmas.Int.{ints}
-use Rattle.fixed_math.proofs.Signed.{product_within, fits_from_ends}
+use Rattle.fixed_math.proofs.Signed.{product_within, mul_mono, fits_from_ends}
 use Rattle.raster.proofs.parts.is_precise.Goals as goal
 
 pub returns : goal.returns
@@ -17,3 +17,12 @@ returns c =
     let p = product_within c.args.m c.args.area (2 ^ 62) (2 ^ 43) (omega (arith, ints, l), m) (omega (arith, ints, s), t) in
     let h : FitsSigned w128 (c.args.m *ℤ c.args.area) = fits_from_ends w128 _ (let q = p.0 in omega (arith, ints, q)) (let q = p.1 in omega (arith, ints, q)) in
     rw (a, b, to_z-of_z h) refl
+
+pub returns-then-m-le1099511627776 : goal.returns-then-m-le1099511627776
+returns-then-m-le1099511627776 c =
+    let l = c.requires.low in
+    let k = mul_mono c.args.m c.args.area (pos (2 ^ 43)) l c.requires.small in
+    sym (small_product (c.args.m *ℤ c.args.area) (omega (arith, ints, k)))
+  where
+    small_product : (p : ℤ) → p ≤ℤ pos (2 ^ 83) → int_le p (pos (2 ^ 83)) ≡ true
+    small_product p h = grind (arith, ints)
