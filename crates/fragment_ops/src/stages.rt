@@ -1,6 +1,6 @@
 //! Stages prepared once for a draw, so that no code of the state is looked at for a pixel: tests by the outcomes that pass, factors by the
 //! value that they take. A test that is off passes always; blending that is off has the factors ONE and ZERO.
-ghost use Rattle.std.specs.Prelude.{◌≡◌, ℕ, ◌||◌, ◌&&◌, not, ◌<◌, if◌then◌else◌};
+ghost use Rattle.std.specs.Prelude.{◌≡◌, ℕ, ◌||◌, ◌&&◌, not, ◌<◌, ◌==◌, nat_lt, if◌then◌else◌};
 ghost use Rattle.rc_base.specs.Drawing.PixelStep.{compares, factor, shaded, mixed};
 ghost use Rattle.rc_base.specs.declared.command.Rgba.{Rgba as AnyColor};
 ghost use Rattle.rc_base.specs.declared.state.State.{State as AnyState};
@@ -150,6 +150,14 @@ pub fn stages_of(state: &State) -> Stages
     }
 }
 
+// Whether a number is below another one, or at most as great: one comparison.
+#[inline(always)]
+fn is_below(a: u32, b: u32, equal: bool) -> bool
+    ensures { result ≡ (nat_lt a b || (equal && a == b)) }
+{
+    u64::from(a) < u64::from(b) + u64::from(equal)
+}
+
 impl Test {
     /// Whether two numbers compare as the test wants.
     #[inline(always)]
@@ -157,6 +165,9 @@ impl Test {
     pub fn passes(&self, a: u32, b: u32) -> bool
         ensures { result ≡ passes self.now a b }
     {
+        if self.below && !self.above {
+            return is_below(a, b, self.equal);
+        }
         (self.below && a < b) || ((self.equal && a == b) || (self.above && a > b))
     }
 }
