@@ -8,8 +8,8 @@ ghost use Rattle.geometry.specs.Items.{AreBelow};
 ghost use Rattle.bounds_bucket.specs.Extents.{AreEnds, AreEndsOfBoth, IsGrown, Spans, corners_of};
 
 use crate::extent::{Ends, Extent};
-use geometry::{to_window, triangles};
-use rc_base::state::{Block, State, Vertex};
+use geometry::{VertexCache, triangles};
+use rc_base::state::{Block, State};
 use rc_base::triangle::WindowTriangle;
 
 fn least_of(a: i32, b: i32, c: i32) -> i32
@@ -63,21 +63,13 @@ fn joined(a: Extent, b: Extent) -> Extent
 }
 
 // Adds the corners of a triangle, where it is kept.
-fn grown(
-    extent: Option<Extent>,
-    state: &State,
-    vertices: &[Vertex],
-    corners: [usize; 3],
-) -> Option<Extent>
-    requires { AreBelow (length vertices.now) corners }
-    ensures { IsGrown (corners_of (kept_triangle state.now vertices.now corners)) extent result }
+fn grown(extent: Option<Extent>, cache: &mut VertexCache<'_>, corners: [usize; 3]) -> Option<Extent>
+    requires { AreBelow (length cache.old.vertices.now) corners }
+    ensures state { cache.new.state.now ≡ cache.old.state.now }
+    ensures vertices { cache.new.vertices.now ≡ cache.old.vertices.now }
+    ensures grown { IsGrown (corners_of (kept_triangle cache.old.state.now cache.old.vertices.now corners)) extent result }
 {
-    let three = [
-        vertices[corners[0]],
-        vertices[corners[1]],
-        vertices[corners[2]],
-    ];
-    let Some(tri) = to_window(state, &three) else {
+    let Some(tri) = cache.triangle(corners) else {
         return extent;
     };
     let more = extent_of(&tri);
@@ -91,10 +83,10 @@ fn grown(
 pub(crate) fn block_extent(state: &State, block: &Block) -> Option<Extent>
     ensures { Spans (kept_corners state.now block.now) result }
 {
-    let vertices = block.vertices.as_slice();
+    let mut cache = VertexCache::new(state, block.vertices.as_slice());
     let mut extent = None;
     'block: for corners in triangles(block) {
-        extent = grown(extent, state, vertices, corners);
+        extent = grown(extent, &mut cache, corners);
     }
     extent
 }

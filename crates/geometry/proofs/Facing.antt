@@ -1,5 +1,5 @@
 -- Tests of bounds, and which way a triangle faces.
-use Rattle.std.proofs.Common.{◌≡◌, ℕ, ◌<◌, ◌^◌, ℤ, pos, neg_ℤ, ◌<ℤ◌, ◌≤ℤ◌, true, false, ◌&&◌, arith, FitsSigned, w32, ap, not, int_eq, ◌-ℤ◌, Option, Some, None, MatchOption}
+use Rattle.std.proofs.Common.{◌≡◌, ℕ, ◌<◌, ◌^◌, ℤ, pos, neg_ℤ, ◌<ℤ◌, ◌≤ℤ◌, true, false, ◌&&◌, arith, FitsSigned, w32, ap, not, int_eq, ◌-ℤ◌, Option, Some, None, MatchOption, subst}
 use Rattle.std.specs.Prelude.{if◌then◌else◌}
 use Rattle.std.proofs.lemmas.Int.{ints}
 use Rattle.std.proofs.Math.IntN.{*ℤ_comm}
@@ -10,6 +10,7 @@ use Rattle.rc_base.specs.Numbers.{Within, entry, is_within}
 use Rattle.rc_base.specs.Drawing.Cover.{triangle_area, IsInBounds}
 use Rattle.rc_base.specs.Drawing.Window.{clip_of, window_of, is_in_bounds, is_placed, place_bound, depth_bound}
 use Rattle.rc_base.specs.Drawing.Kept.{three, is_culled, is_shown, oriented, is_kept, kept_of}
+use Rattle.geometry.specs.Placed.{IsPlace}
 use Rattle.fixed_math.proofs.Signs.{above_is, below_is, not_below_is, off}
 use Rattle.rc_base.specs.declared.state.State.{State}
 use Rattle.rc_base.specs.declared.state.Vertex.{Vertex}
@@ -71,3 +72,11 @@ pub kept_whole : (s : State) (a b c : Vertex) (r : Option WindowTriangle)
     → MatchOption r (kept_of s a b c ≡ None) (λ t. kept_of s a b c ≡ Some t.v)
 kept_whole s a b c None h = dropped s a b c h
 kept_whole s a b c (Some t) h = rw (h.1) (kept_is s a b c h.0)
+
+-- the vertex in window coordinates, where it was judged by the bounds
+pub place_of : (s : State) (v : Vertex) (a : WindowVertex) (r : Option WindowVertex) → pos 0 <ℤ entry (clip_of s v) 3 → a ≡ window_of s v
+    → MatchOption r (is_in_bounds a ≡ false) (λ p. (is_in_bounds a ≡ true) × (p ≡ a) × IsInBounds p) → IsPlace s v r
+place_of s v a r h q n =
+    let m : MatchOption r (is_in_bounds (window_of s v) ≡ false) (λ p. (is_in_bounds (window_of s v) ≡ true) × (p ≡ window_of s v) × IsInBounds p) =
+    subst (λ (b : WindowVertex). MatchOption r (is_in_bounds b ≡ false) (λ p. (is_in_bounds b ≡ true) × (p ≡ b) × IsInBounds p)) q n in
+    rw (placed_is s v h) m

@@ -1,3 +1,4 @@
 mod Facing
 mod Triples
+mod Units
 pub mod Identity

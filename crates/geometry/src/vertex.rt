@@ -1,9 +1,9 @@
 //! Where a vertex stands in the window.
-ghost use Rattle.std.specs.Prelude.{◌≡◌, ◌^◌, ◌*◌, ◌<◌, ◌-◌, ℕ, neg_ℤ, pos, true, false, ◌+ℤ◌, ◌-ℤ◌, ◌*ℤ◌, ◌<ℤ◌, MatchOption};
-ghost use Rattle.rc_base.specs.Numbers.{Within, is_within, is_between, floor_quotient, transformed};
+ghost use Rattle.std.specs.Prelude.{◌≡◌, ◌^◌, ◌+◌, ◌*◌, ◌<◌, ◌-◌, ℕ, neg_ℤ, pos, true, false, ◌+ℤ◌, ◌-ℤ◌, ◌*ℤ◌, ◌<ℤ◌, MatchOption};
+ghost use Rattle.rc_base.specs.Numbers.{Within, entry, is_within, is_between, floor_quotient, transformed};
 ghost use Rattle.rc_base.specs.Drawing.Cover.{IsInBounds};
 ghost use Rattle.rc_base.specs.Drawing.Window.{clip_of, axis_of, depth_of, window_of, is_in_bounds, is_placed, depth_most};
-ghost use Rattle.fixed_math.specs.Bounds.{AllWithin};
+ghost use Rattle.fixed_math.specs.Bounds.{AllWithin, four};
 ghost use Rattle.geometry.specs.Placed.{FixesVectors, AreIdentities, IsPlace};
 ghost use Rattle.geometry.specs.Vertices.{vertex_with};
 
@@ -20,6 +20,9 @@ const DEPTH_BOUND: u32 = 1_073_741_824;
 
 // The greatest depth that a buffer holds.
 const DEPTH_MOST: i128 = 16_777_215;
+
+// One in 16.16 fixed point.
+const ONE: i32 = 65_536;
 
 // The product, or the vector itself where the matrix is known to be the identity.
 fn product(is_identity: bool, m: &Mat4, v: [i128; 4]) -> [i128; 4]
@@ -55,11 +58,18 @@ fn shortened(n: i128) -> i64
     n as i64
 }
 
+// The divisors of places and depths where w is one are named: to divide by a known power of two is a shift.
 fn short_quotient(n: i64, d: i64) -> i64
     requires { pos 0 <ℤ d }
     ensures { result ≡ floor_quotient n d }
 {
-    n.div_euclid(d)
+    if d == 131_072 {
+        n.div_euclid(131_072)
+    } else if d == 8_589_934_592 {
+        n.div_euclid(8_589_934_592)
+    } else {
+        n.div_euclid(d)
+    }
 }
 
 // The quotient rounded down, by 64 bits where they hold both numbers.
@@ -207,6 +217,67 @@ fn narrow(v: &Vertex, x: i128, y: i128, z: i128) -> Option<WindowVertex>
     })
 }
 
+// x + w where w is one, times the viewport's size.
+fn unit_scaled(size: i32, x: i32) -> i64
+    ensures value { result ≡ (x +ℤ pos 65536) *ℤ size }
+    ensures small { Within (2 ^ 62 + 2 ^ 47) result }
+{
+    (i64::from(x) + i64::from(ONE)) * i64::from(size)
+}
+
+// Where w is one the divisor of a place is 16 times 8192.
+fn unit_moved(origin: i32, scaled: i64) -> i64
+    requires { Within (2 ^ 62 + 2 ^ 47) scaled }
+    ensures { result ≡ pos 16 *ℤ origin +ℤ floor_quotient scaled (pos 8192) }
+{
+    16 * i64::from(origin) + scaled.div_euclid(8_192)
+}
+
+// A window coordinate where w is one.
+#[tactic(auto, unfolding(rc_base::specs::Drawing::Window::axis_of))]
+fn unit_axis(origin: i32, size: i32, x: i32) -> i64
+    ensures { result ≡ axis_of origin size x (pos 65536) }
+{
+    unit_moved(origin, unit_scaled(size, x))
+}
+
+// A depth where w is one and the depth range is from 0 to one.
+fn unit_depth(z: i32) -> i64
+    ensures { result ≡ depth_of (pos 0) (pos 65536) z (pos 65536) }
+{
+    ((i64::from(z) + i64::from(ONE)) * 16_777_215).div_euclid(131_072)
+}
+
+// A depth where w is one.
+fn depth_in(near: i32, far: i32, z: i32) -> i128
+    ensures { result ≡ depth_of near far z (pos 65536) }
+{
+    if near == 0 && far == ONE {
+        return i128::from(unit_depth(z));
+    }
+    depth(near, far, i128::from(z), i128::from(ONE))
+}
+
+// The vertex in window coordinates where the matrices move nothing and w is one.
+fn unit_vertex(state: &State, v: &Vertex) -> Option<WindowVertex>
+    requires clip { clip_of state.now v.now ≡ four v.now.pos }
+    requires w { entry v.now.pos 3 ≡ pos 65536 }
+    ensures { IsPlace state.now v.now result }
+{
+    let x = unit_axis(state.viewport[0], state.viewport[2], v.pos[0]);
+    let y = unit_axis(state.viewport[1], state.viewport[3], v.pos[1]);
+    let z = depth_in(state.depth_range[0], state.depth_range[1], v.pos[2]);
+    narrow(v, i128::from(x), i128::from(y), z)
+}
+
+fn is_unit(identities: Identities, v: &Vertex) -> bool
+    ensures modelview { result ≡ true → identities.modelview ≡ true }
+    ensures projection { result ≡ true → identities.projection ≡ true }
+    ensures w { result ≡ true → entry v.now.pos 3 ≡ pos 65536 }
+{
+    identities.modelview && identities.projection && v.pos[3] == ONE
+}
+
 /// The vertex in window coordinates, where it stands before the eye and within their bounds.
 #[tactic(auto, unfolding(rc_base::specs::Drawing::Window::is_placed, rc_base::specs::Drawing::Window::window_of))]
 pub(crate) fn window_vertex(
@@ -217,6 +288,9 @@ pub(crate) fn window_vertex(
     requires { AreIdentities state.now identities }
     ensures { IsPlace state.now v.now result }
 {
+    if is_unit(identities, v) {
+        return unit_vertex(state, v);
+    }
     let c = clip(state, identities, v);
     if c[3] <= 0 {
         return None;

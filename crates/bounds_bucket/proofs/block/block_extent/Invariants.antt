@@ -8,7 +8,8 @@ use Rattle.bounds_bucket.proofs.block.block_extent.Given as goal
 abbrev pub invariant-block : goal.invariant-block
 invariant-block l =
     record {
-      vertices : l.vertices ≡ l.fn.block.vertices;
+      state : l.cache.state.now ≡ l.state;
+      vertices : l.cache.vertices.now ≡ l.fn.block.vertices;
       below : All (AreBelow (length l.fn.block.vertices)) (rest_from l.corners-iterator.block.now l.corners-iterator.given);
       spans : SpansAllBut (corners_from l.state l.fn.block.vertices (rest_from l.corners-iterator.block.now l.corners-iterator.given)) (kept_corners l.state l.fn.block) l.extent;
     }

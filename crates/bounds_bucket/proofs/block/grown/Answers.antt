@@ -6,10 +6,10 @@ use Rattle.bounds_bucket.specs.declared.extent.Extent.{Extent}
 use Rattle.bounds_bucket.proofs.EndsOfCorners.{grown_first, grown_more, corners_span, by_kept}
 use Rattle.bounds_bucket.proofs.block.grown.Goals as goal
 
-pub returns-in-None : goal.returns-in-None
-returns-in-None c =
-    let s = c.args.state.now in
-    let vs = c.args.vertices.now in
+pub returns-in-None-clause-grown : goal.returns-in-None-clause-grown
+returns-in-None-clause-grown c =
+    let s = c.args.cache.now.state.now in
+    let vs = c.args.cache.now.vertices.now in
     let t = c.args.corners in
     let kept : kept_triangle s vs t ≡ Some c.in-Some.tri.v = search rules in
     let corners = corners_span s (vertex_at vs (slice_index t 0)) (vertex_at vs (slice_index t 1)) (vertex_at vs (slice_index t 2)) c.in-Some.tri.v
@@ -17,10 +17,10 @@ returns-in-None c =
     by_kept s vs t c.in-Some.tri.v c.args.extent _ kept
     (subst (λ (o : Option Extent). IsGrown c.in-Some.tri.v o (Some c.extent_of-more.result)) (sym c.in-None.is) (grown_first c.extent_of-more.result c.in-Some.tri.v corners))
 
-pub returns-in-Some-extent : goal.returns-in-Some-extent
-returns-in-Some-extent c =
-    let s = c.args.state.now in
-    let vs = c.args.vertices.now in
+pub returns-in-Some-extent-clause-grown : goal.returns-in-Some-extent-clause-grown
+returns-in-Some-extent-clause-grown c =
+    let s = c.args.cache.now.state.now in
+    let vs = c.args.cache.now.vertices.now in
     let t = c.args.corners in
     let kept : kept_triangle s vs t ≡ Some c.in-Some.tri.v = search rules in
     let corners = corners_span s (vertex_at vs (slice_index t 0)) (vertex_at vs (slice_index t 1)) (vertex_at vs (slice_index t 2)) c.in-Some.tri.v

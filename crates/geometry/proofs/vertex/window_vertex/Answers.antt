@@ -1,13 +1,20 @@
-use Rattle.std.proofs.Common.{◌≡◌, to_z-of_z, to_z, of_z, FitsSigned, ◌<ℤ◌, arith, pos, true, false, ℤ, List, subst, rules, MatchOption}
+use Rattle.std.proofs.Common.{◌≡◌, to_z-of_z, to_z, of_z, FitsSigned, ◌<ℤ◌, arith, pos, ℤ, List, subst, rules}
 use Rattle.std.proofs.lemmas.Int.{ints}
 use mir.Syntax.{w128}
 use Rattle.rc_base.specs.Numbers.{entry}
-use Rattle.rc_base.specs.Drawing.Window.{window_of, clip_of, is_in_bounds}
-use Rattle.rc_base.specs.Drawing.Cover.{IsInBounds}
+use Rattle.rc_base.specs.Drawing.Window.{window_of, clip_of}
 use Rattle.geometry.specs.Vertices.{vertex_with}
-use Rattle.geometry.proofs.Facing.{placed_is}
+use Rattle.geometry.proofs.Facing.{place_of}
+use Rattle.geometry.proofs.Units.{clip_fixed}
 use Rattle.rc_base.specs.declared.window.WindowVertex.{WindowVertex}
 use Rattle.geometry.proofs.vertex.window_vertex.Goals as goal
+
+pub unit_vertex-requires-clause-clip : goal.unit_vertex-requires-clause-clip
+unit_vertex-requires-clause-clip c =
+    let u = c.if-is_unit.true in
+    let m = c.requires.modelview (c.is_unit.ensures.modelview u) in
+    let p = c.requires.projection (c.is_unit.ensures.projection u) in
+    clip_fixed c.args.state.now c.args.v.now m p
 
 pub returns : goal.returns
 unfolding window_of
@@ -19,6 +26,4 @@ returns c =
     let f : FitsSigned w128 (entry c.clip-c.result 3) = search rules in
     let g : pos 0 <ℤ entry c.clip-c.result 3 = omega (arith, ints) in
     let h : pos 0 <ℤ entry (clip_of s v) 3 = subst (λ (l : List ℤ). pos 0 <ℤ entry l 3) c.clip-c.ensures.value g in
-    let n : MatchOption c.narrow.result (is_in_bounds (window_of s v) ≡ false) (λ r. (is_in_bounds (window_of s v) ≡ true) × (r ≡ window_of s v) × IsInBounds r) =
-    subst (λ (p : WindowVertex). MatchOption c.narrow.result (is_in_bounds p ≡ false) (λ r. (is_in_bounds p ≡ true) × (r ≡ p) × IsInBounds r)) q c.narrow.ensures in
-    rw (placed_is s v h) n
+    place_of s v a c.narrow.result h q c.narrow.ensures
