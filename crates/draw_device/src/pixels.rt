@@ -212,7 +212,13 @@ pub(crate) fn over_step(stages: Stages, color: Rgba, depth: i32, pixel: &mut Pix
     requires { is_depth depth ≡ true }
     ensures { (s : AnyState) (p : Option Picture) (f : AnyFragment) → IsPrepared s stages → blends_over s ≡ true → color ≡ fragment_color s p f → depth ≡ f.depth → pixel.new ≡ fragment_step s p f pixel.old }
 {
-    stages.put_over(color, depth as u32, pixel);
+    let old = Pixel {
+        color: pixel.color,
+        depth: pixel.depth,
+    };
+    let new = stages.store_over(color, depth as u32, old);
+    pixel.color = new.color;
+    pixel.depth = new.depth;
 }
 
 /// Depth test, and blending by SRC_ALPHA and ONE_MINUS_SRC_ALPHA.
@@ -290,7 +296,13 @@ fn sum_step(stages: Stages, color: Rgba, depth: i32, pixel: &mut Pixel)
     requires { is_depth depth ≡ true }
     ensures { (s : AnyState) (p : Option Picture) (f : AnyFragment) → IsPrepared s stages → blends_sum s ≡ true → color ≡ fragment_color s p f → depth ≡ f.depth → pixel.new ≡ fragment_step s p f pixel.old }
 {
-    stages.put_sum(color, depth as u32, pixel);
+    let old = Pixel {
+        color: pixel.color,
+        depth: pixel.depth,
+    };
+    let new = stages.store_sum(color, depth as u32, old);
+    pixel.color = new.color;
+    pixel.depth = new.depth;
 }
 
 /// Depth test, and blending by ONE and ONE.

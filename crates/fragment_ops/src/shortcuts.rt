@@ -125,6 +125,20 @@ pub fn blend_sum(color: Rgba, old: Rgba) -> Rgba
 }
 
 impl Stages {
+    // The pixel after a depth test.
+    #[inline(always)]
+    #[tactic(auto, unfolding(crate::specs::Shortcuts::tested_pixel))]
+    fn tested(&self, color: Rgba, depth: u32, old: Pixel) -> Pixel
+        ensures { result ≡ tested_pixel self.now color depth old }
+    {
+        if self.depth.passes(depth, old.depth) {
+            let depth = if self.stores_depth { depth } else { old.depth };
+            Pixel { color, depth }
+        } else {
+            old
+        }
+    }
+
     // What is stored of a fragment that passes.
     #[inline(always)]
     fn write(&self, color: Rgba, depth: u32, pixel: &mut Pixel)
@@ -136,39 +150,32 @@ impl Stages {
         }
     }
 
-    /// Draws a fragment with a depth in the buffer's range, where no stage but the depth test is left.
+    /// Draws a fragment with a depth in the buffer's range, where no stage but the depth test is left: nothing is stored where it fails.
     #[inline(always)]
     #[tactic(auto, unfolding(crate::specs::Shortcuts::tested_pixel))]
     pub fn put(&self, color: Rgba, depth: u32, pixel: &mut Pixel)
         ensures value { pixel.new ≡ tested_pixel self.now color depth pixel.old }
         ensures stored { (s : AnyState) → IsPrepared s self.now → tests_alone s ≡ true → pixel.new ≡ shaded s color depth pixel.old }
     {
-        if self.depth.passes(depth, pixel.depth) {
+        if self.depth.passes_in_branch(depth, pixel.depth) {
             self.write(color, depth, pixel);
         }
     }
 
-    /// The same with blending by SRC_ALPHA and ONE_MINUS_SRC_ALPHA.
+    /// A pixel after a fragment with a depth in the buffer's range, where the depth test and blending by SRC_ALPHA and ONE_MINUS_SRC_ALPHA are left.
+    /// It is stored always: a loop that blends in a branch can't take several pixels at once.
     #[inline(always)]
-    #[tactic(auto, unfolding(crate::specs::Shortcuts::tested_pixel))]
-    pub fn put_over(&self, color: Rgba, depth: u32, pixel: &mut Pixel)
-        ensures value { pixel.new ≡ tested_pixel self.now (color_over color pixel.old.color) depth pixel.old }
-        ensures stored { (s : AnyState) → IsPrepared s self.now → blends_over s ≡ true → pixel.new ≡ shaded s color depth pixel.old }
+    pub fn store_over(&self, color: Rgba, depth: u32, old: Pixel) -> Pixel
+        ensures { (s : AnyState) → IsPrepared s self.now → blends_over s ≡ true → result ≡ shaded s color depth old }
     {
-        if self.depth.passes(depth, pixel.depth) {
-            self.write(laid_over(color, pixel.color), depth, pixel);
-        }
+        self.tested(laid_over(color, old.color), depth, old)
     }
 
     /// The same with blending by ONE and ONE.
     #[inline(always)]
-    #[tactic(auto, unfolding(crate::specs::Shortcuts::tested_pixel))]
-    pub fn put_sum(&self, color: Rgba, depth: u32, pixel: &mut Pixel)
-        ensures value { pixel.new ≡ tested_pixel self.now (color_sum color pixel.old.color) depth pixel.old }
-        ensures stored { (s : AnyState) → IsPrepared s self.now → blends_sum s ≡ true → pixel.new ≡ shaded s color depth pixel.old }
+    pub fn store_sum(&self, color: Rgba, depth: u32, old: Pixel) -> Pixel
+        ensures { (s : AnyState) → IsPrepared s self.now → blends_sum s ≡ true → result ≡ shaded s color depth old }
     {
-        if self.depth.passes(depth, pixel.depth) {
-            self.write(added(color, pixel.color), depth, pixel);
-        }
+        self.tested(added(color, old.color), depth, old)
     }
 }
