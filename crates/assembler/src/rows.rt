@@ -28,13 +28,23 @@ pub(crate) fn size_of_part(side: u16, parts: u8, j: usize) -> usize
     boundary(side, parts, j + 1) - boundary(side, parts, j)
 }
 
+// How many bytes the colours of pixels have.
+fn byte_count(pixels: &[Pixel]) -> usize
+    ensures { result ≡ 3 * length pixels.now }
+{
+    3 * pixels.len()
+}
+
 // Adds the colours of pixels.
 fn add_run(rgb: &mut Vec<u8>, pixels: &[Pixel]) -> Result<(), OutOfMemory>
     ensures { OnOk result (rgb.new.items ≡ rgb.old.items ++ flat_map rgb_of pixels.now) }
 {
+    rgb.reserve(byte_count(pixels))?;
     for pixel in pixels {
         let Rgba { r, g, b, .. } = pixel.color;
-        rgb.extend_from_slice(&[r, g, b])?;
+        rgb.push_reserved(r);
+        rgb.push_reserved(g);
+        rgb.push_reserved(b);
     }
     Ok(())
 }
