@@ -7,4 +7,4 @@ use Rattle.draw_device.proofs.pixels.over_step.Goals as goal
 pub returns : goal.returns
 returns c s p f prepared kind color depth =
     let n : nat_abs (to_z w32 (of_z w32 c.args.depth)) ≡ natural c.args.depth = ap nat_abs (to_z-of_z c.ranges.depth) ∙ natural_is c.args.depth c.requires in
-    c.put_over.ensures.stored s prepared kind ∙ step_of s p f c.args.color c.args.depth _ c.args.pixel.now c.requires color depth n
+    c.store_over-new.ensures s prepared kind ∙ step_of s p f c.args.color c.args.depth _ c.args.pixel.now c.requires color depth n
