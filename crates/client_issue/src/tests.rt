@@ -2,6 +2,7 @@
 ghost use Rattle.std.specs.Prelude.{◌≡◌, ◌<◌, ◌≤◌, ◌^◌, length, IfOk, OnOk};
 ghost use Rattle.std.specs.List.{AllByRecursion};
 ghost use Rattle.rc_base.specs.Formats.Commands.{IsCommand};
+ghost use Rattle.rc_base.specs.Contexts.Issue.{stream_of};
 ghost use Rattle.rc_base.specs.Cluster.Tiles.{tile_count};
 ghost use Rattle.client_issue.specs.Cores.{IsClient, layout_of};
 
@@ -70,8 +71,8 @@ fn draws(alloc: Global) -> Result<Commands, OutOfMemory>
 
 // A client with its lanes.
 #[derive(Drop)]
-struct Run {
-    core: ClientCore,
+struct Run<'a> {
+    core: ClientCore<'a>,
     tiles: Vec<PlainLane<Parcel>>,
     requests: PlainLane<Request>,
 }
@@ -88,14 +89,16 @@ fn lanes_of(alloc: Global, n: u8, depth: usize) -> Result<Vec<PlainLane<Parcel>>
     Ok(lanes)
 }
 
-// The only client of the window of a layout.
-fn core_of(alloc: Global, stream: Commands, layout: &Layout) -> Result<ClientCore, OutOfMemory>
-    requires few { length stream < 2 ^ 32 }
+// A scene of one client in the window of a layout.
+fn scene_of(alloc: Global, stream: Commands, layout: &Layout) -> Result<Scene, OutOfMemory>
     requires commands { AllByRecursion IsCommand stream }
-    requires tiles { tile_count layout.now ≤ 32 }
-    ensures client { IfOk result IsClient }
-    ensures layout { IfOk result (λ core. layout_of core ≡ layout.now) }
+    ensures one { IfOk result (λ scene. length scene.streams ≡ 1) }
+    ensures few { IfOk result (λ scene. length (stream_of scene 0) < 2 ^ 32) }
+    ensures commands { IfOk result (λ scene. AllByRecursion IsCommand (stream_of scene 0)) }
 {
+    if stream.len() > 100 {
+        return Err(OutOfMemory);
+    }
     let mut streams = Streams::new(alloc);
     streams.push(stream)?;
     let decl = Decl {
@@ -106,26 +109,25 @@ fn core_of(alloc: Global, stream: Commands, layout: &Layout) -> Result<ClientCor
         barriers: Counts::new(alloc),
         semaphores: Units::new(alloc),
     };
-    let scene = Scene { decl, streams };
-    ClientCore::new(alloc, &scene, 0, layout)
+    Ok(Scene { decl, streams })
 }
 
-fn run_of(
+// The only client of a scene.
+fn run_of<'a>(
     alloc: Global,
-    stream: Commands,
+    scene: &'a Scene,
     layout: &Layout,
     depth: usize,
-) -> Result<Run, OutOfMemory>
-    requires commands { AllByRecursion IsCommand stream }
+) -> Result<Run<'a>, OutOfMemory>
+    requires one { length scene.now.streams ≡ 1 }
+    requires few { length (stream_of scene.now 0) < 2 ^ 32 }
+    requires commands { AllByRecursion IsCommand (stream_of scene.now 0) }
     requires tiles { tile_count layout.now ≤ 32 }
     requires depth { (1 ≤ depth) × (depth ≤ 16) }
     ensures client { IfOk result (λ run. IsClient run.core) }
     ensures lanes { IfOk result (λ run. length run.tiles.items ≡ tile_count (layout_of run.core)) }
 {
-    if stream.len() > 100 {
-        return Err(OutOfMemory);
-    }
-    let core = core_of(alloc, stream, layout)?;
+    let core = ClientCore::new(alloc, scene, 0, layout)?;
     let tiles = lanes_of(alloc, layout.columns * layout.rows, depth)?;
     let requests = PlainLane::new(alloc, depth)?;
     Ok(Run {
@@ -151,7 +153,7 @@ const NINE: Layout = Layout {
     rows: 3,
 };
 
-impl Run {
+impl Run<'_> {
     fn step(&mut self) -> Result<ClientMoved, OutOfMemory>
         requires client { IsClient self.old.core }
         requires lanes { length self.old.tiles.items ≡ tile_count (layout_of self.old.core) }
@@ -195,7 +197,7 @@ enum Event {
 }
 
 // The event goes as it says.
-fn goes(run: &mut Run, event: Event) -> Result<bool, OutOfMemory>
+fn goes(run: &mut Run<'_>, event: Event) -> Result<bool, OutOfMemory>
     requires client { IsClient run.old.core }
     requires lanes { length run.old.tiles.items ≡ tile_count (layout_of run.old.core) }
     ensures client { IsClient run.new.core }
@@ -209,7 +211,7 @@ fn goes(run: &mut Run, event: Event) -> Result<bool, OutOfMemory>
 }
 
 // How many events go as they say.
-fn play(run: &mut Run, events: &[Event]) -> Result<usize, OutOfMemory>
+fn play(run: &mut Run<'_>, events: &[Event]) -> Result<usize, OutOfMemory>
     requires client { IsClient run.old.core }
     requires lanes { length run.old.tiles.items ≡ tile_count (layout_of run.old.core) }
     ensures client { IsClient run.new.core }
@@ -272,7 +274,8 @@ fn full_lanes_hold_a_client_up(rt: HostRuntime) -> Result<(), Fail> {
         Event::Place(1, 26),
         Event::Asked(Request::End),
     ];
-    let mut run = run_of(rt.alloc(), draws(rt.alloc())?, &TWO, 1)?;
+    let scene = scene_of(rt.alloc(), draws(rt.alloc())?, &TWO)?;
+    let mut run = run_of(rt.alloc(), &scene, &TWO, 1)?;
     assert_eq!(rt; play(&mut run, &events)?, 33);
     assert!(rt; !run.core.is_short());
     let left = Tally {
@@ -333,7 +336,7 @@ impl Taken {
     }
 
     // Bits 0, 1 and 2 of the draw say from which of the lanes an item is taken.
-    fn empty(&mut self, run: &mut Run, draw: u64) -> Result<(), OutOfMemory>
+    fn empty(&mut self, run: &mut Run<'_>, draw: u64) -> Result<(), OutOfMemory>
         ensures core { run.new.core ≡ run.old.core }
         ensures lanes { length run.new.tiles.items ≡ length run.old.tiles.items }
     {
@@ -353,7 +356,7 @@ impl Taken {
         Ok(())
     }
 
-    fn turn(&mut self, run: &mut Run, draw: u64) -> Result<(), OutOfMemory>
+    fn turn(&mut self, run: &mut Run<'_>, draw: u64) -> Result<(), OutOfMemory>
         requires client { IsClient run.old.core }
         requires lanes { length run.old.tiles.items ≡ tile_count (layout_of run.old.core) }
         ensures client { IsClient run.new.core }
@@ -369,7 +372,8 @@ impl Taken {
 fn emptied(alloc: Global, depth: usize) -> Result<Taken, OutOfMemory>
     requires depth { (1 ≤ depth) × (depth ≤ 16) }
 {
-    let mut run = run_of(alloc, mixed(alloc)?, &TWO, depth)?;
+    let scene = scene_of(alloc, mixed(alloc)?, &TWO)?;
+    let mut run = run_of(alloc, &scene, &TWO, depth)?;
     let mut taken = Taken {
         left: Vec::new(alloc),
         right: Vec::new(alloc),
@@ -415,7 +419,7 @@ fn triangle(alloc: Global) -> Result<Commands, OutOfMemory>
 }
 
 // How many steps move an item, of at most so many.
-fn moves(run: &mut Run, most: usize) -> Result<usize, OutOfMemory>
+fn moves(run: &mut Run<'_>, most: usize) -> Result<usize, OutOfMemory>
     requires client { IsClient run.old.core }
     requires lanes { length run.old.tiles.items ≡ tile_count (layout_of run.old.core) }
 {
@@ -428,7 +432,7 @@ fn moves(run: &mut Run, most: usize) -> Result<usize, OutOfMemory>
 }
 
 // The tile was sent the parcels of places 5, 6 and 7 and no other.
-fn has_three(run: &mut Run, tile: usize) -> bool {
+fn has_three(run: &mut Run<'_>, tile: usize) -> bool {
     run.place(tile) == Some(5)
         && run.place(tile) == Some(6)
         && run.place(tile) == Some(7)
@@ -437,7 +441,8 @@ fn has_three(run: &mut Run, tile: usize) -> bool {
 
 #[test]
 fn a_triangle_over_the_window_goes_to_nine_tiles(rt: HostRuntime) -> Result<(), Fail> {
-    let mut run = run_of(rt.alloc(), triangle(rt.alloc())?, &NINE, 16)?;
+    let scene = scene_of(rt.alloc(), triangle(rt.alloc())?, &NINE)?;
+    let mut run = run_of(rt.alloc(), &scene, &NINE, 16)?;
     assert_eq!(rt; moves(&mut run, 40)?, 29);
     for tile in 0..9 {
         assert!(rt; has_three(&mut run, tile));

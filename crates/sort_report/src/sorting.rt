@@ -22,8 +22,8 @@ pub(crate) const DEPTH: usize = 16;
 
 /// A client, a lane to each tile, tiles rising, and the lane to the manager.
 #[derive(Drop)]
-pub(crate) struct Sorting {
-    core: ClientCore,
+pub(crate) struct Sorting<'a> {
+    core: ClientCore<'a>,
     tiles: Vec<PlainLane<Parcel>>,
     requests: PlainLane<Request>,
 }
@@ -38,15 +38,15 @@ fn lanes(alloc: Global, count: usize) -> Result<Vec<PlainLane<Parcel>>, OutOfMem
     Ok(lanes)
 }
 
-impl Sorting {
+impl<'a> Sorting<'a> {
     /// A client of a scene before its first step.
     #[tactic(auto, using(crate::proofs::Streams::stream_all))]
     pub(crate) fn new(
         alloc: Global,
-        scene: &Scene,
+        scene: &'a Scene,
         client: u8,
         layout: &Layout,
-    ) -> Result<Sorting, OutOfMemory>
+    ) -> Result<Sorting<'a>, OutOfMemory>
         requires client { client < length scene.now.streams }
         requires few { length (stream_of scene.now client) < 2 ^ 32 }
         requires commands { AllByRecursion (AllByRecursion IsCommand) scene.now.streams }

@@ -15,8 +15,8 @@ use tile_server::TileCore;
 /// A cluster for one scene: its clients, its manager, a tile for each tile of the layout, the lanes between them, and the parts of frames that
 /// the tiles have shown.
 #[derive(Drop)]
-pub struct World {
-    pub(crate) clients: Vec<ClientCore>,
+pub struct World<'a> {
+    pub(crate) clients: Vec<ClientCore<'a>>,
     pub(crate) manager: ManagerCore,
     pub(crate) tiles: Vec<TileCore>,
     // of each tile one lane from each client
@@ -29,7 +29,7 @@ pub struct World {
     pub(crate) parts: Vec<Vec<TilePart>>,
 }
 
-impl World {
+impl<'a> World<'a> {
     ghost use Rattle.std.specs.Prelude.{IfOk};
     ghost use Rattle.step_core.specs.NewWorlds.{IsNew};
     ghost use Rattle.step_core.specs.Runnable.{IsDepth, IsLaidOut, HasActors};
@@ -37,10 +37,10 @@ impl World {
     /// The cluster before its first step.
     pub(crate) fn new(
         alloc: Global,
-        scene: &Scene,
+        scene: &'a Scene,
         layout: &Layout,
         depth: usize,
-    ) -> Result<World, OutOfMemory>
+    ) -> Result<World<'a>, OutOfMemory>
         requires scene { HasActors scene.now }
         requires layout { IsLaidOut layout.now }
         requires depth { IsDepth depth }
