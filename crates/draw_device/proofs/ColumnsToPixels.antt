@@ -164,8 +164,8 @@ module _ (s : State) (picture : Option Picture) (v : List WindowVertex) (g : Ext
           let place : place_in r j ≡ j * g.width + i = (λ t. j * ew t + sym e t) in
           let here : pixel_at new (place_in r j) ≡ fragment_pixel s picture v (pos (r.left + r.across)) (pos (r.bottom + j)) (pixel_at old (place_in r j)) = d.run j low high in
           let there : pixel_at new (j * g.width + i) ≡ fragment_pixel s picture v x y (pixel_at old (j * g.width + i)) =
-              subst (λ (q : ℕ). pixel_at new q ≡ fragment_pixel s picture v x y (pixel_at old q)) place
-              (here ∙ (λ t. fragment_pixel s picture v (pos (el t + sym e t)) (pos (eb t + j)) (pixel_at old (place_in r j)))) in
+          subst (λ (q : ℕ). pixel_at new q ≡ fragment_pixel s picture v x y (pixel_at old q)) place
+          (here ∙ (λ t. fragment_pixel s picture v (pos (el t + sym e t)) (pos (eb t + j)) (pixel_at old (place_in r j)))) in
           there ∙ sym (hit s picture v g part p i j hi hj (n.exact x y x0 x1 y0 y1 ∙ test) (inside_rect part x y x0 x1 y0 y1) _)
 
       by : (i j : ℕ) → i < g.width → j < g.height

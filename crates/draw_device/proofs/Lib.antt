@@ -5,3 +5,4 @@ mod BlockPixels
 pub mod Places
 mod Steps
 mod ColumnsToPixels
+mod Beside

@@ -3,6 +3,7 @@ ghost use Rattle.std.specs.Prelude.{◌≡◌, ℕ, ◌+◌, ◌*◌, ◌≤◌,
 ghost use Rattle.rc_base.specs.Cluster.Tiles.{is_in_rect};
 ghost use Rattle.rc_base.specs.Drawing.PixelStep.{clear_step};
 ghost use Rattle.rc_base.specs.Drawing.Serial.{blank_pixel};
+ghost use Rattle.geometry.specs.Beside.{AreSurrounds};
 ghost use Rattle.geometry.specs.Items.{AreBelow};
 ghost use Rattle.raster.specs.Spans.{IsOnlyColumn};
 ghost use Rattle.textures.specs.Images.{HasTexelIfAny};
@@ -24,8 +25,8 @@ use crate::prepare::{paint_of, plan_of};
 use crate::rows::draw_row;
 use crate::run::Run;
 use fragment_ops::{Clearing, clearing_of};
-use geometry::{VertexCache, triangles};
-use raster::{Column, SpanIter, spans};
+use geometry::{Surrounds, VertexCache, surrounds_of, triangles};
+use raster::{Column, SpanIter, cover_lies_in_bounds, spans};
 use rc_base::command::Rgba;
 use rc_base::out_of_memory::OutOfMemory;
 use rc_base::state::{Block, State};
@@ -314,19 +315,21 @@ impl Grid {
         self.draw_rows(state, texture, plan, part, tri, &paint, rows);
     }
 
-    // Draws the triangle of three vertices, where it is kept.
+    // Draws the triangle of three vertices, where it is kept and doesn't lie beside the part.
     fn draw_corners(
         &mut self,
         state: &State,
         texture: &Texture,
         plan: &Plan,
         part: Rect,
+        near: &Surrounds,
         cache: &mut VertexCache<'_>,
         corners: [usize; 3],
     )
         requires plan { IsPlan state.now plan.now }
         requires texel { HasTexelIfAny texture.now }
         requires part { IsPartWhere (grid_rect self.old.extent) part (is_let_through state.now) }
+        requires near { AreSurrounds part near.now }
         requires state { cache.old.state.now ≡ state.now }
         requires corners { AreBelow (length cache.old.vertices.now) corners }
         ensures state { cache.new.state.now ≡ cache.old.state.now }
@@ -334,7 +337,8 @@ impl Grid {
         ensures extent { self.new.extent ≡ self.old.extent }
         ensures drawn { IsStepped (corners_step state.now texture.now cache.old.vertices.now corners) self.old.extent self.old.pixels.items self.new.pixels.items }
     {
-        let Some(tri) = cache.triangle(corners) else {
+        cover_lies_in_bounds();
+        let Some(tri) = cache.triangle_near(corners, near) else {
             return;
         };
         self.draw_triangle(state, texture, plan, part, &tri);
@@ -347,10 +351,11 @@ impl Grid {
         ensures drawn { IsStepped (triangles_step state.now texture.now block.now.vertices (triangles_in block.now)) self.old.extent self.old.pixels.items self.new.pixels.items }
     {
         let part = drawn_part(state, self.rect());
+        let near = surrounds_of(part);
         let plan = plan_of(state, texture);
         let mut cache = VertexCache::new(state, block.vertices.as_slice());
         'draws: for corners in triangles(block) {
-            self.draw_corners(state, texture, &plan, part, &mut cache, corners);
+            self.draw_corners(state, texture, &plan, part, &near, &mut cache, corners);
         }
     }
 

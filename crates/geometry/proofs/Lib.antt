@@ -1,3 +1,4 @@
+mod Beside
 mod Facing
 mod Triples
 mod Units

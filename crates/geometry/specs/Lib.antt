@@ -1,3 +1,4 @@
 pub mod Vertices
 pub mod Items
 pub mod Placed
+pub mod Beside

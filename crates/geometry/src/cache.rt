@@ -1,12 +1,14 @@
 //! The vertices of a block on their way to the window: a post-transform vertex cache, as graphics processors have it.
-ghost use Rattle.std.specs.Prelude.{◌≡◌, ◌<◌, ◌∷◌, [], length, true, false, None, Some, MatchOption};
+ghost use Rattle.std.specs.Prelude.{◌≡◌, ◌<◌, ◌∷◌, [], length, slice_index, true, false, None, Some, MatchOption};
 ghost use Rattle.std.proofs.Props.{props};
 ghost use Rattle.rc_base.specs.Drawing.Kept.{is_kept, oriented, kept_triangle, vertex_at};
 ghost use Rattle.rc_base.specs.Drawing.Window.{window_of};
+ghost use Rattle.geometry.specs.Beside.{IsBesideIfKept};
 ghost use Rattle.geometry.specs.Items.{AreBelow};
 ghost use Rattle.geometry.specs.Placed.{AreIdentities, IsCorner, IsCached};
 
 use crate::identities::{Identities, identities_of};
+use crate::near::{Surrounds, are_beside};
 use crate::vertex::window_vertex;
 use crate::window::assemble;
 use rc_base::state::{State, Vertex};
@@ -115,6 +117,45 @@ impl<'a> VertexCache<'a> {
         self.kept(a, b, c)
     }
 
+    // Where the triangle of three corners is kept, it lies beside.
+    fn lies_beside(&self, near: &Surrounds, a: Corner, b: Corner, c: Corner) -> bool
+        requires a { IsCorner self.now.state.now self.now.vertices.now a }
+        requires b { IsCorner self.now.state.now self.now.vertices.now b }
+        requires c { IsCorner self.now.state.now self.now.vertices.now c }
+        ensures { result ≡ true → IsBesideIfKept self.now.state.now self.now.vertices.now (a.index ∷ b.index ∷ c.index ∷ []) near.now }
+    {
+        let Some(first) = a.at else {
+            return false;
+        };
+        let Some(second) = b.at else {
+            return false;
+        };
+        let Some(third) = c.at else {
+            return false;
+        };
+        are_beside(near, &first, &second, &third)
+    }
+
+    // Brings three vertices to the window, and keeps them.
+    fn bring(&mut self, corners: [usize; 3])
+        requires { AreBelow (length self.old.vertices.now) corners }
+        ensures state { self.new.state.now ≡ self.old.state.now }
+        ensures vertices { self.new.vertices.now ≡ self.old.vertices.now }
+        ensures first { self.new.first.index ≡ slice_index corners 0 }
+        ensures second { self.new.second.index ≡ slice_index corners 1 }
+        ensures third { self.new.third.index ≡ slice_index corners 2 }
+        ensures first_at { IsCorner self.old.state.now self.old.vertices.now self.new.first }
+        ensures second_at { IsCorner self.old.state.now self.old.vertices.now self.new.second }
+        ensures third_at { IsCorner self.old.state.now self.old.vertices.now self.new.third }
+    {
+        let a = self.corner(corners[0]);
+        let b = self.corner(corners[1]);
+        let c = self.corner(corners[2]);
+        self.first = a;
+        self.second = b;
+        self.third = c;
+    }
+
     /// The triangle of three vertices in window coordinates, by their indices: as `to_window` gives it of the same vertices.
     pub fn triangle(&mut self, corners: [usize; 3]) -> Option<WindowTriangle>
         requires { AreBelow (length self.old.vertices.now) corners }
@@ -124,12 +165,24 @@ impl<'a> VertexCache<'a> {
             (kept_triangle self.old.state.now self.old.vertices.now corners ≡ None)
             (λ t. kept_triangle self.old.state.now self.old.vertices.now corners ≡ Some t.v) }
     {
-        let a = self.corner(corners[0]);
-        let b = self.corner(corners[1]);
-        let c = self.corner(corners[2]);
-        self.first = a;
-        self.second = b;
-        self.third = c;
-        self.assembled(a, b, c)
+        self.bring(corners);
+        self.assembled(self.first, self.second, self.third)
+    }
+
+    /// The same triangle, or `None` also where all its corners lie on one side of the centres that bound a rectangle's pixels, so that it
+    /// covers none of them.
+    pub fn triangle_near(&mut self, corners: [usize; 3], near: &Surrounds) -> Option<WindowTriangle>
+        requires { AreBelow (length self.old.vertices.now) corners }
+        ensures state { self.new.state.now ≡ self.old.state.now }
+        ensures vertices { self.new.vertices.now ≡ self.old.vertices.now }
+        ensures triangle { MatchOption result
+            (IsBesideIfKept self.old.state.now self.old.vertices.now corners near.now)
+            (λ t. kept_triangle self.old.state.now self.old.vertices.now corners ≡ Some t.v) }
+    {
+        self.bring(corners);
+        if self.lies_beside(near, self.first, self.second, self.third) {
+            return None;
+        }
+        self.assembled(self.first, self.second, self.third)
     }
 }

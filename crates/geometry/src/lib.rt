@@ -5,6 +5,7 @@
 
 mod cache;
 mod identities;
+mod near;
 mod primitives;
 #[cfg(test)]
 mod tests;
@@ -12,5 +13,6 @@ mod vertex;
 mod window;
 
 pub use cache::VertexCache;
+pub use near::{Surrounds, surrounds_of};
 pub use primitives::{TriangleIter, triangles};
 pub use window::to_window;

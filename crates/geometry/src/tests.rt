@@ -1,8 +1,9 @@
 //! Triangles of blocks, and vertices whose place in the window is known by hand.
-use crate::{VertexCache, to_window, triangles};
+use crate::{VertexCache, surrounds_of, to_window, triangles};
 use rc_base::command::{Mat4, Rgba};
 use rc_base::items::Items;
 use rc_base::state::{Block, State, Vertex};
+use rc_base::window::Rect;
 use std::alloc::Global;
 
 const IDENTITY: Mat4 = Mat4 {
@@ -150,4 +151,32 @@ fn corners_may_stand_at_the_bounds(rt: HostRuntime) {
     assert_eq!(rt; v[2].y, 1048576);
     assert_eq!(rt; area, 4398046511104);
     assert!(rt; to_window(&s, &[a, b, at(-one, one + 1, one)]).is_none());
+}
+
+#[test]
+fn triangles_beside_a_rectangle_are_left_out(rt: HostRuntime) {
+    let one = 65536;
+    let vertices = [at(-one, -one, one), at(one, -one, one), at(-one, one, one)];
+    let s = state([0, 0, 2, 2], false);
+    for (x0, y0, x1, y1, want) in [
+        (0, 0, 2, 2, true),
+        (1, 1, 2, 2, true),
+        (2, 0, 4, 2, false),
+        (-2, 0, 0, 2, false),
+        (0, 2, 2, 4, false),
+        (0, -2, 2, 0, false),
+    ] {
+        let mut cache = VertexCache::new(&s, &vertices);
+        let near = surrounds_of(Rect { x0, y0, x1, y1 });
+        assert_eq!(rt; cache.triangle_near([0, 1, 2], &near).is_some(), want);
+    }
+    let near = surrounds_of(Rect {
+        x0: i32::MIN,
+        y0: 0,
+        x1: i32::MIN,
+        y1: i32::MAX,
+    });
+    let (left, right) = (near.left, near.right);
+    assert_eq!(rt; left, -34359738360);
+    assert_eq!(rt; right, -34359738376);
 }

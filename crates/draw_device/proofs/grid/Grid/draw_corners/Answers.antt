@@ -1,5 +1,8 @@
-use Rattle.std.proofs.Common.{◌≡◌, Some, rules}
+use Rattle.std.proofs.Common.{◌≡◌, Some, rules, subst}
 use Rattle.rc_base.specs.Drawing.Kept.{kept_triangle}
+use Rattle.rc_base.specs.declared.state.State.{State}
+use Rattle.geometry.specs.Beside.{IsBesideIfKept}
+use Rattle.draw_device.proofs.Beside.{beside_steps}
 use Rattle.draw_device.proofs.BlockPixels.{kept_steps}
 use Rattle.draw_device.proofs.grid.Grid.draw_corners.Goals as goal
 
@@ -8,3 +11,12 @@ returns-clause-drawn c =
     let kept : kept_triangle c.args.state.now c.args.cache.now.vertices.now c.args.corners ≡ Some c.in-Some.tri.v = search rules in
     kept_steps c.args.state.now c.args.texture.now c.in-Some.tri.v c.args.cache.now.vertices.now c.args.corners c.args.self.now.extent c.args.self.now.pixels.items
     c.draw_triangle.new.self.pixels.items kept c.draw_triangle.ensures.drawn
+
+pub returns-in_default-clause-drawn : goal.returns-in_default-clause-drawn
+returns-in_default-clause-drawn c =
+    let s = c.args.state.now in
+    let vs = c.args.cache.now.vertices.now in
+    let t = c.args.corners in
+    let near = c.args.near.now in
+    let beside = subst (λ (q : State). IsBesideIfKept q vs t near) c.requires.state c.in_default.ensures.triangle in
+    beside_steps c.cover_lies_in_bounds.ensures s c.args.texture.now vs t c.args.self.now.extent c.args.part near c.args.self.now.pixels.items c.requires.part c.requires.near beside
