@@ -117,26 +117,26 @@ impl<'a> VertexCache<'a> {
         self.kept(a, b, c)
     }
 
-    // Where the triangle of three corners is kept, it lies beside.
-    fn lies_beside(&self, near: &Surrounds, a: Corner, b: Corner, c: Corner) -> bool
-        requires a { IsCorner self.now.state.now self.now.vertices.now a }
-        requires b { IsCorner self.now.state.now self.now.vertices.now b }
-        requires c { IsCorner self.now.state.now self.now.vertices.now c }
-        ensures { result ≡ true → IsBesideIfKept self.now.state.now self.now.vertices.now (a.index ∷ b.index ∷ c.index ∷ []) near.now }
+    // Where the triangle of the corners that are kept is kept, it lies beside.
+    fn lies_beside(&self, near: &Surrounds) -> bool
+        requires a { IsCorner self.now.state.now self.now.vertices.now self.now.first }
+        requires b { IsCorner self.now.state.now self.now.vertices.now self.now.second }
+        requires c { IsCorner self.now.state.now self.now.vertices.now self.now.third }
+        ensures { result ≡ true → IsBesideIfKept self.now.state.now self.now.vertices.now (self.now.first.index ∷ self.now.second.index ∷ self.now.third.index ∷ []) near.now }
     {
-        let Some(first) = a.at else {
+        let Some(first) = &self.first.at else {
             return false;
         };
-        let Some(second) = b.at else {
+        let Some(second) = &self.second.at else {
             return false;
         };
-        let Some(third) = c.at else {
+        let Some(third) = &self.third.at else {
             return false;
         };
-        are_beside(near, &first, &second, &third)
+        are_beside(near, first, second, third)
     }
 
-    // Brings three vertices to the window, and keeps them.
+    // Brings three vertices to the window, and keeps them. Of a strip and a fan two corners are kept, and one of them stays in its place.
     fn bring(&mut self, corners: [usize; 3])
         requires { AreBelow (length self.old.vertices.now) corners }
         ensures state { self.new.state.now ≡ self.old.state.now }
@@ -148,6 +148,16 @@ impl<'a> VertexCache<'a> {
         ensures second_at { IsCorner self.old.state.now self.old.vertices.now self.new.second }
         ensures third_at { IsCorner self.old.state.now self.old.vertices.now self.new.third }
     {
+        if self.first.index == corners[0] && self.third.index == corners[1] {
+            self.second = self.third;
+            self.third = self.placed(corners[2]);
+            return;
+        }
+        if self.third.index == corners[0] && self.second.index == corners[1] {
+            self.first = self.third;
+            self.third = self.placed(corners[2]);
+            return;
+        }
         let a = self.corner(corners[0]);
         let b = self.corner(corners[1]);
         let c = self.corner(corners[2]);
@@ -180,7 +190,7 @@ impl<'a> VertexCache<'a> {
             (λ t. kept_triangle self.old.state.now self.old.vertices.now corners ≡ Some t.v) }
     {
         self.bring(corners);
-        if self.lies_beside(near, self.first, self.second, self.third) {
+        if self.lies_beside(near) {
             return None;
         }
         self.assembled(self.first, self.second, self.third)

@@ -6,11 +6,11 @@ pub returns : goal.returns
 returns c yes' =
     let s = c.args.self.now.state.now in
     let vs = c.args.self.now.vertices.now in
-    let a = vertex_at vs c.args.a.index in
-    let b = vertex_at vs c.args.b.index in
-    let d = vertex_at vs c.args.c.index in
+    let a = vertex_at vs c.args.self.now.first.index in
+    let b = vertex_at vs c.args.self.now.second.index in
+    let d = vertex_at vs c.args.self.now.third.index in
     kept_beside s c.args.near.now a b d c.in-Some.first c.in-Some-at.second c.in-Some-at-2.third
-    (place_is s a c.args.a.at c.in-Some.first c.in-Some.is c.requires.a)
-    (place_is s b c.args.b.at c.in-Some-at.second c.in-Some-at.is c.requires.b)
-    (place_is s d c.args.c.at c.in-Some-at-2.third c.in-Some-at-2.is c.requires.c)
+    (place_is s a c.args.self.now.first.at _ c.in-Some.is c.requires.a)
+    (place_is s b c.args.self.now.second.at _ c.in-Some-at.is c.requires.b)
+    (place_is s d c.args.self.now.third.at _ c.in-Some-at-2.is c.requires.c)
     (c.are_beside.ensures yes')
