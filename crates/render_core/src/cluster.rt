@@ -1,5 +1,5 @@
 //! The stepped cluster's frames, report and record.
-ghost use Rattle.std.specs.Prelude.{◌≡◌, ◌≤◌, ◌+◌, ◌<◌, ℕ, None, length, slice_index_or, IfOk, IfErr};
+ghost use Rattle.std.specs.Prelude.{◌≡◌, ◌≤◌, ◌+◌, ◌<◌, ℕ, None, length, slice_index_or, IfOk, IfErr, drop};
 ghost use Rattle.rc_base.specs.Cluster.Tiles.{tile_count};
 ghost use Rattle.rc_base.specs.Drawing.Images.{Pixels};
 ghost use Rattle.rc_base.specs.Formats.Limits.{limit_of};
@@ -19,6 +19,7 @@ use order_model::record::Record;
 use rc_base::cluster::TilePart;
 use rc_base::command::Bytes;
 use rc_base::image::{Frames, Image};
+use rc_base::items::Items;
 use rc_base::out_of_memory::OutOfMemory;
 use rc_base::scene::Scene;
 use rc_base::window::Layout;
@@ -88,17 +89,32 @@ fn image_of(
     assemble(alloc, layout, &parts[first..first + tiles])
 }
 
-// The image of each frame, put together from the parts of its tiles: it has the pixels that they show.
-fn frames_of(alloc: Global, layout: &Layout, parts: &[TilePart]) -> Result<Frames, OutOfMemory>
+// Lets the pixels of some parts go.
+fn let_go(alloc: Global, parts: &mut [TilePart], from: usize, to: usize)
+    requires order { from ≤ to }
+    requires inside { to ≤ length parts.old }
+    ensures count { length parts.new ≡ length parts.old }
+    ensures later { drop to parts.new ≡ drop to parts.old }
+{
+    for i in from..to {
+        parts[i].pixels = Items::new(alloc);
+    }
+}
+
+// The image of each frame, put together from the parts of its tiles: it has the pixels that they show. The pixels of a frame's parts are let go once it
+// stands, so that its successors' images take their room.
+fn frames_of(alloc: Global, layout: &Layout, parts: &mut [TilePart]) -> Result<Frames, OutOfMemory>
     requires some_tiles { 0 < tile_count layout.now }
-    requires parts { AreFrames layout.now parts.now }
-    ensures { IfOk result (λ frames. (pixels : ℕ → Pixels) → ShowFrames layout.now parts.now pixels → frames ≡ window_images layout.now pixels (frame_total layout.now parts.now)) }
+    requires parts { AreFrames layout.now parts.old }
+    ensures { IfOk result (λ frames. (pixels : ℕ → Pixels) → ShowFrames layout.now parts.old pixels → frames ≡ window_images layout.now pixels (frame_total layout.now parts.old)) }
 {
     let tiles = usize::from(layout.columns) * usize::from(layout.rows);
     let mut frames = Frames::new(alloc);
     for frame in 0..parts.len() / tiles {
         let image = image_of(alloc, layout, parts, frame)?;
         frames.push(image)?;
+        let first = frame * tiles;
+        let_go(alloc, parts, first, first + tiles);
     }
     Ok(frames)
 }
@@ -130,12 +146,12 @@ pub(crate) fn run_cluster(
     let world = run_schedule(alloc, scene, layout, depth, picks)?;
     let CoreRun {
         kept,
-        parts,
+        mut parts,
         tallies,
         waiting,
         faults,
     } = finish(alloc, &scene.decl, world)?;
-    let frames = frames_of(alloc, layout, parts.as_slice())?;
+    let frames = frames_of(alloc, layout, parts.as_mut_slice())?;
     let notes = cluster_report(
         alloc,
         faults.as_slice(),

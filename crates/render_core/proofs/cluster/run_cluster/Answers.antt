@@ -37,7 +37,7 @@ frames_of-requires-clause-parts c =
     c.requires.some_tiles c.requires.few_tiles c.requires.some_depth c.requires.little_depth in
     let is = c.in_ok-kept.ensures.done scene l c.args.depth c.args.picks.now ready refl c.in_ok-world.ensures in
     let run = c.in_ok-kept.field-0 in
-    subst (AreFrames l) (sym c.as_slice.ensures)
+    subst (AreFrames l) (sym c.as_mut_slice.ensures.value)
     (are_parts scene l run.kept run.parts is.run_of.parts c.requires.some_tiles)
 
 pub cluster_report-requires-clause-faults : goal.cluster_report-requires-clause-faults
@@ -48,7 +48,7 @@ cluster_report-requires-clause-faults c =
     c.requires.some_tiles c.requires.few_tiles c.requires.some_depth c.requires.little_depth in
     let is = c.in_ok-kept.ensures.done scene l c.args.depth c.args.picks.now ready refl c.in_ok-world.ensures in
     let few = few_faults scene l c.args.depth c.args.picks.now c.in_ok-kept.field-0 is c.requires.within in
-    let shown = ap length c.as_slice-2.ensures in
+    let shown = ap length c.as_slice.ensures in
     omega (arith, few, shown)
 
 pub cluster_report-requires-clause-clients : goal.cluster_report-requires-clause-clients
@@ -78,7 +78,7 @@ returns-clause-run c =
     let is = c.in_ok-kept.ensures.done scene l c.args.depth c.args.picks.now ready refl c.in_ok-world.ensures in
     let run = c.in_ok-kept.field-0 in
     let shown = subst (λ (parts : List TilePart). (pixels : ℕ → Pixels) → ShowFrames l parts pixels → c.in_ok-frames.frames ≡ window_images l pixels (frame_total l parts))
-    c.as_slice.ensures c.in_ok-frames.ensures in
-    let lines : c.in_ok-notes.notes ≡ lines_of_run run.faults run.tallies run.kept run.waiting c.args.orders = cc (c.in_ok-notes.ensures, c.as_slice-2.ensures, c.as_slice-3.ensures) in
+    c.as_mut_slice.ensures.value c.in_ok-frames.ensures in
+    let lines : c.in_ok-notes.notes ≡ lines_of_run run.faults run.tallies run.kept run.waiting c.args.orders = cc (c.in_ok-notes.ensures, c.as_slice.ensures, c.as_slice-2.ensures) in
     cluster_run scene l c.args.depth c.args.picks.now run is c.each_pixel_has_one_tile.ensures c.requires.some_tiles c.requires.width c.requires.height
     c.in_ok-frames.frames c.in_ok-notes.notes c.ending_of-ending.result c.args.orders shown lines c.ending_of-ending.ensures
