@@ -1,5 +1,5 @@
 -- One more column of a loop over a run.
-use Rattle.std.proofs.Common.{◌≡◌, ℕ, ◌+◌, ◌<◌, ◌≤◌, ℤ, pos, negsuc, ◌+ℤ◌, true, List, length, get_or, arith, ap, subst, sym, ◌∙◌, refl, length-set, Option, None, Some, if◌then◌else◌}
+use Rattle.std.proofs.Common.{◌≡◌, ℕ, ◌+◌, ◌<◌, ◌≤◌, ℤ, pos, negsuc, ◌+ℤ◌, true, false, List, length, get_or, arith, ap, subst, sym, ◌∙◌, refl, length-set, Option, None, Some, if◌then◌else◌}
 use Rattle.std.proofs.lemmas.Int.{ints, by_lt_z}
 use Rattle.std.proofs.lemmas.List.{get_or-set_other, get_or_default}
 use Rattle.std.proofs.lemmas.Grind.{get_or-set_at}
@@ -7,7 +7,7 @@ use lib.ListN.{set}
 use lib.IntN.{nat_abs}
 use Rattle.rc_base.specs.Numbers.{natural}
 use Rattle.rc_base.specs.Pictures.{Picture}
-use Rattle.rc_base.specs.Drawing.PixelStep.{fragment_step, fragment_color, shaded, textured}
+use Rattle.rc_base.specs.Drawing.PixelStep.{fragment_step, fragment_color, shaded, textured, written_color}
 use Rattle.rc_base.specs.declared.command.Rgba.{Rgba}
 use Rattle.rc_base.specs.declared.state.State.{State}
 use Rattle.rc_base.specs.declared.window.Fragment.{Fragment}
@@ -17,7 +17,8 @@ use Rattle.raster.specs.Colors.{IsColorRamp, is_depth}
 use Rattle.raster.specs.Planes.{IsFineRamp}
 use Rattle.raster.specs.declared.color.ColorRamp.{ColorRamp}
 use Rattle.raster.specs.declared.fine.FineRamp.{FineRamp}
-use Rattle.draw_device.specs.Loops.{color_at, run_fragment, texel_for, IsColorRun, AreColors, StoresColor}
+use Rattle.draw_device.specs.Loops.{color_at, run_fragment, texel_for, IsColorRun, AreColors, AreWritten, StoresColor}
+use Rattle.draw_device.specs.Pixels.{pixel_at}
 use Rattle.draw_device.specs.declared.run.Run.{Run}
 use Rattle.textures.specs.Images.{HasTexel}
 
@@ -66,6 +67,11 @@ pub step_of : (s : State) (p : Option Picture) (f : Fragment) (color : Rgba) (de
 step_of s p f color depth n old h c d e =
     (λ i. shaded s (c i) ((e ∙ ap (λ z. natural z) d) i) old) ∙ sym (rw (sym (ap (λ z. is_depth z) d) ∙ h) refl)
 
+-- the step of a fragment that the depth test keeps out
+pub kept_step : (s : State) (p : Option Picture) (f : Fragment) (depth : ℤ) (n : ℕ) (old : Pixel) → is_depth depth ≡ true → depth ≡ f.depth → n ≡ natural depth
+    → shaded s (fragment_color s p f) n old ≡ old → fragment_step s p f old ≡ old
+kept_step s p f depth n old h d e k = sym (step_of s p f (fragment_color s p f) depth n old h refl d e) ∙ k
+
 -- the step of a fragment without a texture, of that colour and depth
 pub step_same : (s : State) (p : Option Picture) (f : Fragment) (color : Rgba) (depth : ℤ) (old : Pixel) → color ≡ fragment_color s p f → depth ≡ f.depth
     → fragment_step s None (record { x = pos 0; y = pos 0; color = color; depth = depth; s = pos 0; t = pos 0 }) old ≡ fragment_step s p f old
@@ -75,10 +81,11 @@ pub alone_step : (s : State) (p : Option Picture) (f : Fragment) (color : Rgba) 
     → record { color = color; depth = old.depth } ≡ fragment_step s p f old
 alone_step s p f color old h d c = sym (h color (natural f.depth) old) ∙ (λ i. shaded s (c i) (natural f.depth) old) ∙ sym (rw d refl)
 
--- what is stored of a fragment whose depth is in range
-pub blended_step : (s : State) (p : Option Picture) (f : Fragment) (color : Rgba) (now old : Pixel) → is_depth f.depth ≡ true → color ≡ fragment_color s p f
-    → shaded s color (natural f.depth) old ≡ now → now ≡ fragment_step s p f old
-blended_step s p f color now old d c h = sym h ∙ (λ i. shaded s (c i) (natural f.depth) old) ∙ sym (rw d refl)
+-- what is stored of a fragment whose depth is in range, where it takes no test
+pub stored_step : (s : State) (p : Option Picture) (f : Fragment) (color : Rgba) (old : Pixel) → s.alpha_on ≡ false → s.depth_on ≡ false
+    → is_depth f.depth ≡ true → color ≡ written_color s (fragment_color s p f) old.color → record { color = color; depth = old.depth } ≡ fragment_step s p f old
+unfolding shaded
+stored_step s p f color old a d r w = (λ i. record { color = w i; depth = old.depth }) ∙ sym (rw (r, a, d) refl)
 
 -- a colour of the row that hasn't had its step yet
 pub color_before : (old now : List Rgba) (x : ℕ) (q : Rgba) → q ≡ get_or now x q → x < length now → color_at now x ≡ color_at old x → q ≡ color_at old x
@@ -121,3 +128,14 @@ pub tinted_are : (s : State) (p : Option Picture) (v : List WindowVertex) (r : R
     → IsColorRun (λ (k : ℕ) (c : Rgba). textured s (run_fragment v r k).color c) r.from r.to mid new → AreColors s p v r new
 tinted_are s p v r old mid new h d e k low high =
     e.run k low high ∙ ap (λ (c : Rgba). textured s (run_fragment v r k).color c) (d.run k low high) ∙ textured_is s p (run_fragment v r k) h
+
+-- ---- what is to be written
+
+pub plain_are : (s : State) (p : Option Picture) (v : List WindowVertex) (r : Run) (pixels : List Pixel) (colors : List Rgba)
+    → ((color old : Rgba) → written_color s color old ≡ color) → AreColors s p v r colors → AreWritten s p v r pixels colors
+plain_are s p v r pixels colors h d k low high = d k low high ∙ sym (h (fragment_color s p (run_fragment v r k)) (pixel_at pixels (r.start + k)).color)
+
+pub blended_are : (s : State) (p : Option Picture) (v : List WindowVertex) (r : Run) (pixels : List Pixel) (old new : List Rgba) → AreColors s p v r old
+    → IsColorRun (λ (k : ℕ) (c : Rgba). written_color s c (pixel_at pixels (r.start + k)).color) r.from r.to old new → AreWritten s p v r pixels new
+blended_are s p v r pixels old new h d k low high =
+    d.run k low high ∙ ap (λ (c : Rgba). written_color s c (pixel_at pixels (r.start + k)).color) (h k low high)

@@ -1,10 +1,10 @@
 -- What the loops over a run of pixels take and leave.
 use Rattle.std.specs.Prelude.{◌≡◌, ℕ, ◌+◌, ◌^◌, ◌<◌, ◌≤◌, length, slice_index_or, List, Option, Some, None, ℤ, pos, true}
-use Rattle.rc_base.specs.Colors.{rgba, prod}
+use Rattle.rc_base.specs.Colors.{rgba}
 use Rattle.rc_base.specs.Pictures.{Picture}
 use Rattle.rc_base.specs.Drawing.Cover.{is_inside}
 use Rattle.rc_base.specs.Drawing.Fragment.{fragment_of}
-use Rattle.rc_base.specs.Drawing.PixelStep.{fragment_color, shaded}
+use Rattle.rc_base.specs.Drawing.PixelStep.{fragment_color, shaded, written_color}
 use Rattle.rc_base.specs.Drawing.Texel.{texel_of, wrap_in_s, wrap_in_t}
 use Rattle.rc_base.specs.declared.command.Rgba.{Rgba}
 use Rattle.rc_base.specs.declared.state.State.{State}
@@ -15,6 +15,7 @@ use Rattle.raster.specs.Colors.{IsColorRamp, is_depth}
 use Rattle.raster.specs.Planes.{IsFineRamp}
 use Rattle.raster.specs.declared.color.ColorRamp.{ColorRamp}
 use Rattle.raster.specs.declared.fine.FineRamp.{FineRamp}
+use Rattle.draw_device.specs.Pixels.{pixel_at}
 use Rattle.draw_device.specs.Shapes.{fragment_pixel, IsRunStepped}
 use Rattle.draw_device.specs.declared.run.Run.{Run}
 
@@ -28,13 +29,27 @@ pub record IsRun (r : Run) : Type 0 where
   pub few : r.to + r.up < 2 ^ 12
   pub above : r.row ≡ r.bottom + r.up
 
+-- the triangle covers columns `from` to below `to` of a row whose first pixel is (left, row) of the window
+abbrev pub AreCovered : List WindowVertex → ℕ → ℕ → ℕ → ℕ → Type 0
+AreCovered v left row from to = (k : ℕ) → from ≤ k → k < to → is_inside v (pos (left + k)) (pos row) ≡ true
+
 -- the triangle covers the run
 abbrev pub IsRunCovered : List WindowVertex → Run → Type 0
-IsRunCovered v r = (k : ℕ) → r.from ≤ k → k < r.to → is_inside v (pos (r.left + k)) (pos r.row) ≡ true
+IsRunCovered v r = AreCovered v r.left r.row r.from r.to
 
 -- the pixels of the run after the fragments of a triangle
 abbrev pub IsRunDrawn : State → Option Picture → List WindowVertex → Run → List Pixel → List Pixel → Type 0
 IsRunDrawn s picture v r old new = IsRunStepped (fragment_pixel s picture v) r.left r.row r.start r.from r.to old new
+
+-- the triangle's fragments leave the run's columns below `to` as they are, whatever picture is sampled
+abbrev pub IsHidden : State → List WindowVertex → Run → ℕ → List Pixel → Type 0
+IsHidden s v r to pixels =
+    (picture : Option Picture) (k : ℕ) → r.from ≤ k → k < to
+    → fragment_pixel s picture v (pos (r.left + k)) (pos r.row) (pixel_at pixels (r.start + k)) ≡ pixel_at pixels (r.start + k)
+
+-- the run from a column on
+abbrev pub run_from : Run → ℕ → Run
+run_from r from = record { left = r.left; bottom = r.bottom; row = r.row; up = r.up; start = r.start; from = from; to = r.to }
 
 -- ---- stepped values at column k of the run's row
 
@@ -76,9 +91,11 @@ pub record IsColorRun (step : ℕ → Rgba → Rgba) (from to : ℕ) (old new : 
 abbrev pub AreColors : State → Option Picture → List WindowVertex → Run → List Rgba → Type 0
 AreColors s picture v r colors = (k : ℕ) → r.from ≤ k → k < r.to → color_at colors k ≡ fragment_color s picture (run_fragment v r k)
 
--- the products of two colours' channels
-abbrev pub modulated : Rgba → Rgba → Rgba
-modulated c t = rgba (prod c.r t.r) (prod c.g t.g) (prod c.b t.b) (prod c.a t.a)
+-- the colours are those that are to be written of the triangle's fragments over these pixels
+abbrev pub AreWritten : State → Option Picture → List WindowVertex → Run → List Pixel → List Rgba → Type 0
+AreWritten s picture v r pixels colors =
+    (k : ℕ) → r.from ≤ k → k < r.to
+    → color_at colors k ≡ written_color s (fragment_color s picture (run_fragment v r k)) (pixel_at pixels (r.start + k)).color
 
 -- the texel of a fragment, where there is a picture
 abbrev pub texel_for : State → Option Picture → Fragment → Rgba

@@ -2,26 +2,27 @@
 use Rattle.std.specs.Prelude.{◌≡◌, true, false, List, ℤ, IfSome}
 use Rattle.rc_base.specs.Drawing.Cover.{is_inside}
 use Rattle.rc_base.specs.Drawing.Fragment.{fragment_of}
-use Rattle.rc_base.specs.Drawing.PixelStep.{textured}
+use Rattle.rc_base.specs.Drawing.PixelStep.{textured, written_color}
 use Rattle.rc_base.specs.declared.command.Rgba.{Rgba}
 use Rattle.rc_base.specs.declared.state.State.{State}
 use Rattle.rc_base.specs.declared.window.WindowVertex.{WindowVertex}
 use Rattle.raster.specs.Colors.{IsColorPlane, HasColor}
 use Rattle.raster.specs.Planes.{IsFinePlane}
-use Rattle.fragment_ops.specs.Prepared.{IsPrepared}
-use Rattle.fragment_ops.specs.Shortcuts.{tests_alone, blends_over, blends_sum}
-use Rattle.draw_device.specs.Loops.{StoresColor, HasDepths, modulated}
+use Rattle.fragment_ops.specs.DepthTests.{IsDepthTest}
+use Rattle.fragment_ops.specs.Shortcuts.{blends_over, blends_sum, modulated}
+use Rattle.draw_device.specs.Loops.{StoresColor, HasDepths}
 use Rattle.draw_device.specs.declared.plan.Plan.{Plan}
 use Rattle.draw_device.specs.declared.paint.Paint.{Paint}
 
 -- what the plan says of a state holds
 pub record IsPlan (s : State) (p : Plan) : Type 0 where
-  pub stages : IsPrepared s p.stages
+  pub depth : IsDepthTest s p.depth
   pub stores : p.stores ≡ true → StoresColor s
-  pub tests : p.tests ≡ true → tests_alone s ≡ true
+  pub through : p.through ≡ true → s.alpha_on ≡ false
+  pub untested : p.untested ≡ true → s.depth_on ≡ false
+  pub plain : p.plain ≡ true → (color old : Rgba) → written_color s color old ≡ color
   pub over : p.over ≡ true → blends_over s ≡ true
   pub sum : p.sum ≡ true → blends_sum s ≡ true
-  pub untested : p.untested ≡ true → s.depth_on ≡ false
   pub replaces : p.replaces ≡ true → (color texel : Rgba) → textured s color texel ≡ texel
   pub modulates : p.replaces ≡ false → (color texel : Rgba) → textured s color texel ≡ modulated color texel
 

@@ -4,11 +4,12 @@ ghost use Rattle.rc_base.specs.Drawing.PixelStep.{textured};
 ghost use Rattle.rc_base.specs.Drawing.Texel.{wrap_in_s, wrap_in_t};
 ghost use Rattle.rc_base.specs.declared.command.Rgba.{Rgba as AnyColor};
 ghost use Rattle.textures.specs.Samplers.{IsSampler};
-ghost use Rattle.draw_device.specs.Loops.{run_fragment, texel_for, modulated, IsRun, IsRunCovered, IsColorAt, IsSAt, IsTAt, IsColorRun};
+ghost use Rattle.fragment_ops.specs.Shortcuts.{modulated};
+ghost use Rattle.draw_device.specs.Loops.{run_fragment, texel_for, IsRun, IsRunCovered, IsColorAt, IsSAt, IsTAt, IsColorRun};
 
 use crate::run::Run;
 use crate::stepped::{color_by, s_by, t_by};
-use fragment_ops::product;
+use fragment_ops::modulate;
 use raster::{ColorRamp, FineRamp};
 use rc_base::command::Rgba;
 use rc_base::state::State;
@@ -154,18 +155,6 @@ pub(crate) fn repeat_colors(
         colors[x as usize] = repeated_texel(sampler, state, texture, tri, run, x, s, t);
         ss.advance();
         ts.advance();
-    }
-}
-
-#[inline(always)]
-fn modulate(color: Rgba, texel: Rgba) -> Rgba
-    ensures { result ≡ modulated color texel }
-{
-    Rgba {
-        r: product(color.r, texel.r),
-        g: product(color.g, texel.g),
-        b: product(color.b, texel.b),
-        a: product(color.a, texel.a),
     }
 }
 

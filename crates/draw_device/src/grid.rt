@@ -23,7 +23,6 @@ use crate::paint::Paint;
 use crate::plan::Plan;
 use crate::prepare::{paint_of, plan_of};
 use crate::rows::draw_row;
-use crate::run::Run;
 use fragment_ops::{Clearing, clearing_of};
 use geometry::{Surrounds, VertexCache, surrounds_of, triangles};
 use raster::{Column, SpanIter, cover_lies_in_bounds, spans};
@@ -201,15 +200,6 @@ impl Grid {
         let from = offset(span.x0, self.extent.left);
         let to = offset(span.x1, self.extent.left);
         let start = row_start(self.extent.width, up);
-        let run = Run {
-            left: self.extent.left,
-            bottom: self.extent.bottom,
-            row: self.extent.bottom + up,
-            up,
-            start,
-            from,
-            to,
-        };
         draw_row(
             self.pixels.as_mut_slice(),
             self.colors.as_mut_slice(),
@@ -218,7 +208,12 @@ impl Grid {
             tri,
             plan,
             paint,
-            run,
+            self.extent.left,
+            self.extent.bottom,
+            up,
+            start,
+            from,
+            to,
         );
     }
 
@@ -228,22 +223,19 @@ impl Grid {
         state: &State,
         texture: &Texture,
         plan: &Plan,
-        part: Rect,
         tri: &WindowTriangle,
         paint: &Paint,
         rows: SpanIter<'_>,
     )
         requires plan { IsPlan state.now plan.now }
         requires texel { HasTexelIfAny texture.now }
-        requires part { IsPartWhere (grid_rect self.old.extent) part (is_let_through state.now) }
+        requires part { IsPartWhere (grid_rect self.old.extent) rows.rect (is_let_through state.now) }
         requires paint { IsPaint tri.now.v (pos self.old.extent.left) (pos self.old.extent.bottom) paint.now }
         requires triangle { rows.tri.now ≡ tri.now }
-        requires rect { rows.rect ≡ part }
-        requires first { rows.y ≡ part.y0 }
+        requires first { rows.y ≡ rows.rect.y0 }
         ensures extent { self.new.extent ≡ self.old.extent }
         ensures drawn { IsStepped (covered_step state.now texture.now tri.now.v) self.old.extent self.old.pixels.items self.new.pixels.items }
     {
-        let _part = part;
         'rows: for span in rows {
             self.draw_span(state, texture, tri, plan, paint, span);
         }
@@ -312,7 +304,7 @@ impl Grid {
                 return;
             }
         }
-        self.draw_rows(state, texture, plan, part, tri, &paint, rows);
+        self.draw_rows(state, texture, plan, tri, &paint, rows);
     }
 
     // Draws the triangle of three vertices, where it is kept and doesn't lie beside the part.

@@ -3,10 +3,11 @@
 //! Each pixel of the rectangle takes exactly the step of `rc_base::specs::Drawing::PixelStep`, and nothing else is touched. The rectangle is
 //! the whole window for a serial renderer and a tile's part of it for a tile.
 //!
-//! A row of a triangle takes the loop of its state: colours stored alone (one colour, or stepped), the depth test alone (the same, or by a row
-//! of colours), blending by one of two pairs of factors with the depth test or without (one colour, or by a row of colours), or any stages.
-//! Textured rows get their colours first, texels by a sampler and then, where the environment is MODULATE, their products with the triangle's.
-//! A row that no loop is made for is drawn fragment by fragment.
+//! A row of a triangle goes through a few short loops. Its fragments' colours are laid out first: one colour, stepped ones, or texels by a sampler
+//! and then, where the environment is MODULATE, their products with the triangle's. Then they become what is to be written: blended with the
+//! stored colours by one of two pairs of factors, or left as they are. Then they are put into the pixels, where the depth test passes or without
+//! one. Each loop does one thing to all columns, so that most take several at once. What the depth test hides at a row's beginning is skipped
+//! before. Colours that are stored alone skip the layout; other stages are gone through fragment by fragment.
 //!
 //! A triangle that covers no pixel of the rectangle is dropped before anything is prepared of it. One that stands in one column of it, and whose
 //! colours alone are stored, is drawn up that column.
@@ -20,6 +21,7 @@ mod columns;
 mod device;
 mod extent;
 mod grid;
+mod hidden;
 mod paint;
 mod pixels;
 mod plan;

@@ -1,16 +1,18 @@
 //! Which loops a block may take.
-use fragment_ops::Stages;
+use fragment_ops::DepthTest;
 
-/// What a block's state says of all its fragments: the stages that are on, whether the colour alone is stored, whether the depth test, or it and
-/// one of two ways of blending, are all that is left, whether the depth test is off, and whether texels replace colours.
+/// What a block's state says of all its fragments: the depth test; whether the colour alone is stored; whether the alpha test is off and lets all
+/// through, and the depth test; whether a colour is written as it is, or blended in one of two ways; whether there is a texture, and its texels
+/// replace colours.
 #[derive(Clone, Copy)]
 pub struct Plan {
-    pub stages: Stages,
+    pub depth: DepthTest,
     pub stores: bool,
-    pub tests: bool,
+    pub through: bool,
+    pub untested: bool,
+    pub plain: bool,
     pub over: bool,
     pub sum: bool,
-    pub untested: bool,
     pub textured: bool,
     pub replaces: bool,
 }

@@ -7,12 +7,12 @@ ghost use Rattle.rc_base.specs.declared.command.Rgba.{Rgba as AnyColor};
 ghost use Rattle.rc_base.specs.declared.window.WindowVertex.{WindowVertex as AnyVertex};
 ghost use Rattle.raster.specs.Colors.{IsColorPlane, HasColor};
 ghost use Rattle.raster.specs.Planes.{IsStencil, IsFinePlane};
-ghost use Rattle.draw_device.specs.Loops.{modulated};
+ghost use Rattle.fragment_ops.specs.Shortcuts.{modulated};
 ghost use Rattle.draw_device.specs.Plans.{IsPlan, IsPaint};
 
 use crate::paint::Paint;
 use crate::plan::Plan;
-use fragment_ops::{blends_over, blends_sum, stages_of, stores_alone, tests_alone};
+use fragment_ops::{blends_over, blends_sum, depth_test_of, stores_alone, writes_plainly};
 use raster::{
     ColorPlane, FinePlane, Stencil, color_plane, coordinate_planes, depth_plane, flat_color,
     has_depths, stencil_at,
@@ -38,17 +38,25 @@ fn is_untested(state: &State) -> bool
     !state.depth_on
 }
 
+// The alpha test is off.
+fn is_through(state: &State) -> bool
+    ensures { result ≡ true → state.now.alpha_on ≡ false }
+{
+    !state.alpha_on
+}
+
 /// What the state says of all fragments of a block.
 pub(crate) fn plan_of(state: &State, texture: &Texture) -> Plan
     ensures { IsPlan state.now result }
 {
     Plan {
-        stages: stages_of(state),
+        depth: depth_test_of(state),
         stores: stores_alone(state),
-        tests: tests_alone(state),
+        through: is_through(state),
+        untested: is_untested(state),
+        plain: writes_plainly(state),
         over: blends_over(state),
         sum: blends_sum(state),
-        untested: is_untested(state),
         textured: texture.has_image(),
         replaces: replaces(state),
     }
@@ -101,9 +109,8 @@ pub(crate) fn paint_of(plan: &Plan, tri: &WindowTriangle, left: u16, bottom: u16
 {
     let ranged = has_depths(tri);
     let flat = flat_if(!plan.textured, tri);
-    let stored = plan.stores && ranged;
-    let blended = plan.untested && (plan.over || plan.sum) && ranged;
-    let shallow = stored || blended;
+    let written = plan.plain || plan.over || plan.sum;
+    let shallow = ranged && plan.through && plan.untested && written;
     if shallow && flat.is_some() {
         return Paint {
             ranged,

@@ -8,16 +8,16 @@ ghost use Rattle.raster.specs.Colors.{IsColorPlane};
 ghost use Rattle.raster.specs.Planes.{IsFinePlane};
 ghost use Rattle.textures.specs.Images.{HasTexel, HasTexelIfAny};
 ghost use Rattle.textures.specs.Samplers.{IsSampler};
-ghost use Rattle.draw_device.specs.Loops.{run_fragment, texel_for, modulated, IsRun, IsRunCovered, IsRunDrawn, IsColorAt, IsDepthAt, IsValueAt, IsColorRun, HasDepths, AreColors};
+ghost use Rattle.draw_device.specs.Shapes.{fragment_pixel, IsRunStepped};
+ghost use Rattle.draw_device.specs.Loops.{AreCovered, run_fragment, run_from, texel_for, IsRun, IsRunCovered, IsHidden, IsRunDrawn, IsColorAt, IsDepthAt, IsValueAt, IsColorRun, HasDepths, AreColors, AreWritten};
+ghost use Rattle.fragment_ops.specs.Shortcuts.{modulated};
 ghost use Rattle.draw_device.specs.Plans.{IsPlan, IsPaint};
 
-use crate::blends::{lay_flat, over_flat};
+use crate::blends::{over_colors, sum_colors};
 use crate::colors::{fill_colors, repeat_colors, step_colors, texel_colors, tint_colors};
+use crate::hidden::first_passing;
 use crate::paint::Paint;
-use crate::pixels::{
-    add_run, any_run, fill_run, lay_run, over_run, step_run, store_run, sum_run, test_flat,
-    test_run, test_steps,
-};
+use crate::pixels::{any_run, fill_run, step_run, store_run, test_run};
 use crate::plan::Plan;
 use crate::run::Run;
 use crate::shade::draw_run;
@@ -44,7 +44,43 @@ fn value_ramp(plane: &FinePlane, run: Run) -> FineRamp
     plane.ramp(u64::from(run.from), u64::from(run.up))
 }
 
-// Of a triangle without a texture whose colours alone are stored: its row, or nothing.
+// Of a triangle of one colour without a texture, where colours alone are stored: its row, or nothing.
+#[inline(always)]
+fn fill_row(
+    pixels: &mut [Pixel],
+    state: &State,
+    tri: &WindowTriangle,
+    plan: &Plan,
+    paint: &Paint,
+    left: u16,
+    bottom: u16,
+    up: u16,
+    start: usize,
+    from: u16,
+    to: u16,
+) -> bool
+    requires order { from ≤ to }
+    requires room { start + to ≤ length pixels.old }
+    requires covered { AreCovered tri.now.v left (bottom + up) from to }
+    requires plan { IsPlan state.now plan.now }
+    requires paint { IsPaint tri.now.v (pos left) (pos bottom) paint.now }
+    ensures drawn { result ≡ true → IsRunStepped (fragment_pixel state.now None tri.now.v) left (bottom + up) start from to pixels.old pixels.new }
+    ensures kept { result ≡ false → pixels.new ≡ pixels.old }
+{
+    if !plan.stores {
+        return false;
+    }
+    if !paint.ranged {
+        return false;
+    }
+    let Some(color) = paint.flat else {
+        return false;
+    };
+    fill_run(pixels, state, tri, left, bottom, up, start, from, to, color);
+    true
+}
+
+// Of a triangle of several colours without a texture, where colours alone are stored: its row, or nothing.
 fn store_row(
     pixels: &mut [Pixel],
     state: &State,
@@ -67,128 +103,11 @@ fn store_row(
     if !paint.ranged {
         return false;
     }
-    if let Some(color) = paint.flat {
-        fill_run(pixels, state, tri, run, color);
-        return true;
-    }
     if let Some(plane) = &paint.colors {
         step_run(pixels, state, tri, run, color_ramp(plane, run));
         return true;
     }
     false
-}
-
-// Of a triangle without a texture whose one stage is the depth test: its row, or nothing.
-fn test_row(
-    pixels: &mut [Pixel],
-    state: &State,
-    tri: &WindowTriangle,
-    plan: &Plan,
-    paint: &Paint,
-    run: Run,
-) -> bool
-    requires run { IsRun run }
-    requires room { run.start + run.to ≤ length pixels.old }
-    requires covered { IsRunCovered tri.now.v run }
-    requires plan { IsPlan state.now plan.now }
-    requires paint { IsPaint tri.now.v (pos run.left) (pos run.bottom) paint.now }
-    ensures drawn { result ≡ true → IsRunDrawn state.now None tri.now.v run pixels.old pixels.new }
-    ensures kept { result ≡ false → pixels.new ≡ pixels.old }
-{
-    if !plan.tests {
-        return false;
-    }
-    if !paint.ranged {
-        return false;
-    }
-    let Some(depths) = &paint.depths else {
-        return false;
-    };
-    let ramp = value_ramp(depths, run);
-    if let Some(color) = paint.flat {
-        test_flat(pixels, state, tri, plan.stages, run, color, ramp);
-        return true;
-    }
-    if let Some(plane) = &paint.colors {
-        let shades = color_ramp(plane, run);
-        test_steps(pixels, state, tri, plan.stages, run, shades, ramp);
-        return true;
-    }
-    false
-}
-
-// Of a triangle of one colour that is blended without a depth test: its row, or nothing.
-fn lay_row(
-    pixels: &mut [Pixel],
-    state: &State,
-    tri: &WindowTriangle,
-    plan: &Plan,
-    paint: &Paint,
-    run: Run,
-) -> bool
-    requires run { IsRun run }
-    requires room { run.start + run.to ≤ length pixels.old }
-    requires covered { IsRunCovered tri.now.v run }
-    requires plan { IsPlan state.now plan.now }
-    requires paint { IsPaint tri.now.v (pos run.left) (pos run.bottom) paint.now }
-    ensures drawn { result ≡ true → IsRunDrawn state.now None tri.now.v run pixels.old pixels.new }
-    ensures kept { result ≡ false → pixels.new ≡ pixels.old }
-{
-    if !plan.untested {
-        return false;
-    }
-    if !paint.ranged {
-        return false;
-    }
-    if !plan.over {
-        return false;
-    }
-    let Some(color) = paint.flat else {
-        return false;
-    };
-    lay_flat(pixels, state, tri, run, color);
-    true
-}
-
-// Of a triangle of one colour that takes the depth test and is blended: its row, or nothing.
-fn over_row(
-    pixels: &mut [Pixel],
-    state: &State,
-    tri: &WindowTriangle,
-    plan: &Plan,
-    paint: &Paint,
-    run: Run,
-) -> bool
-    requires run { IsRun run }
-    requires room { run.start + run.to ≤ length pixels.old }
-    requires covered { IsRunCovered tri.now.v run }
-    requires plan { IsPlan state.now plan.now }
-    requires paint { IsPaint tri.now.v (pos run.left) (pos run.bottom) paint.now }
-    ensures drawn { result ≡ true → IsRunDrawn state.now None tri.now.v run pixels.old pixels.new }
-    ensures kept { result ≡ false → pixels.new ≡ pixels.old }
-{
-    if !plan.over {
-        return false;
-    }
-    if !paint.ranged {
-        return false;
-    }
-    let Some(color) = paint.flat else {
-        return false;
-    };
-    let Some(depths) = &paint.depths else {
-        return false;
-    };
-    over_flat(
-        pixels,
-        state,
-        tri,
-        plan.stages,
-        run,
-        color,
-        value_ramp(depths, run),
-    );
-    true
 }
 
 // The colours of a row's fragments without a texture, or nothing.
@@ -302,80 +221,76 @@ fn pictured_colors(
     tint_row(colors, state, tri, paint, run)
 }
 
-// A row of fragments with depths in the buffer's range, by its colours.
-fn ranged_row(
-    pixels: &mut [Pixel],
-    colors: &[Rgba],
+// The row's colours as they are to be written, or nothing.
+fn write_colors(
+    colors: &mut [Rgba],
+    pixels: &[Pixel],
     state: &State,
     texture: &Texture,
     tri: &WindowTriangle,
     plan: &Plan,
-    run: Run,
-    ramp: FineRamp,
-)
-    requires run { IsRun run }
-    requires room { run.start + run.to ≤ length pixels.old }
-    requires colors { run.to ≤ length colors.now }
-    requires colored { AreColors state.now texture.now tri.now.v run colors.now }
-    requires covered { IsRunCovered tri.now.v run }
-    requires depths { HasDepths tri.now.v }
-    requires plan { IsPlan state.now plan.now }
-    requires ramp { IsDepthAt tri.now.v run run.from ramp }
-    ensures { IsRunDrawn state.now texture.now tri.now.v run pixels.old pixels.new }
-{
-    if plan.tests {
-        test_run(pixels, colors, state, texture, tri, plan.stages, run, ramp);
-    } else if plan.over {
-        over_run(pixels, colors, state, texture, tri, plan.stages, run, ramp);
-    } else if plan.sum {
-        sum_run(pixels, colors, state, texture, tri, plan.stages, run, ramp);
-    } else {
-        any_run(pixels, colors, state, texture, tri, run, ramp);
-    }
-}
-
-// A row of fragments that blend without a depth test, by its colours, or nothing.
-fn blend_row(
-    pixels: &mut [Pixel],
-    colors: &[Rgba],
-    state: &State,
-    texture: &Texture,
-    tri: &WindowTriangle,
-    plan: &Plan,
-    paint: &Paint,
     run: Run,
 ) -> bool
     requires run { IsRun run }
-    requires room { run.start + run.to ≤ length pixels.old }
-    requires colors { run.to ≤ length colors.now }
-    requires colored { AreColors state.now texture.now tri.now.v run colors.now }
-    requires covered { IsRunCovered tri.now.v run }
+    requires room { run.start + run.to ≤ length pixels.now }
+    requires colors { run.to ≤ length colors.old }
+    requires colored { AreColors state.now texture.now tri.now.v run colors.old }
     requires plan { IsPlan state.now plan.now }
-    requires paint { IsPaint tri.now.v (pos run.left) (pos run.bottom) paint.now }
-    ensures drawn { result ≡ true → IsRunDrawn state.now texture.now tri.now.v run pixels.old pixels.new }
-    ensures kept { result ≡ false → pixels.new ≡ pixels.old }
+    ensures size { length colors.new ≡ length colors.old }
+    ensures written { result ≡ true → AreWritten state.now texture.now tri.now.v run pixels.now colors.new }
+    ensures kept { result ≡ false → colors.new ≡ colors.old }
 {
-    if !plan.untested {
-        return false;
-    }
-    if !paint.ranged {
-        return false;
+    let _texture = texture;
+    let _tri = tri;
+    if plan.plain {
+        return true;
     }
     if plan.over {
-        lay_run(pixels, colors, state, texture, tri, run);
+        over_colors(colors, pixels, state, run);
         return true;
     }
     if plan.sum {
-        add_run(pixels, colors, state, texture, tri, run);
+        sum_colors(colors, pixels, state, run);
         return true;
     }
     false
 }
 
-// A row of fragments by its colours, or nothing.
-fn colored_row(
+// A row of fragments that take no test, by its colours, or nothing.
+fn untested_row(
     pixels: &mut [Pixel],
-    colors: &[Rgba],
+    colors: &mut [Rgba],
+    state: &State,
+    texture: &Texture,
+    tri: &WindowTriangle,
+    plan: &Plan,
+    run: Run,
+) -> bool
+    requires run { IsRun run }
+    requires room { run.start + run.to ≤ length pixels.old }
+    requires colors { run.to ≤ length colors.old }
+    requires colored { AreColors state.now texture.now tri.now.v run colors.old }
+    requires covered { IsRunCovered tri.now.v run }
+    requires depths { HasDepths tri.now.v }
+    requires plan { IsPlan state.now plan.now }
+    requires through { state.now.alpha_on ≡ false }
+    requires untested { state.now.depth_on ≡ false }
+    ensures size { length colors.new ≡ length colors.old }
+    ensures drawn { result ≡ true → IsRunDrawn state.now texture.now tri.now.v run pixels.old pixels.new }
+    ensures kept { result ≡ false → pixels.new ≡ pixels.old }
+    ensures left { result ≡ false → colors.new ≡ colors.old }
+{
+    if !write_colors(colors, pixels, state, texture, tri, plan, run) {
+        return false;
+    }
+    store_run(pixels, colors, state, texture, tri, run);
+    true
+}
+
+// A row of fragments that take the depth test alone, by its colours, or nothing.
+fn tested_row(
+    pixels: &mut [Pixel],
+    colors: &mut [Rgba],
     state: &State,
     texture: &Texture,
     tri: &WindowTriangle,
@@ -385,30 +300,94 @@ fn colored_row(
 ) -> bool
     requires run { IsRun run }
     requires room { run.start + run.to ≤ length pixels.old }
-    requires colors { run.to ≤ length colors.now }
-    requires colored { AreColors state.now texture.now tri.now.v run colors.now }
+    requires colors { run.to ≤ length colors.old }
+    requires colored { AreColors state.now texture.now tri.now.v run colors.old }
+    requires covered { IsRunCovered tri.now.v run }
+    requires depths { HasDepths tri.now.v }
+    requires plan { IsPlan state.now plan.now }
+    requires paint { IsPaint tri.now.v (pos run.left) (pos run.bottom) paint.now }
+    requires through { state.now.alpha_on ≡ false }
+    ensures size { length colors.new ≡ length colors.old }
+    ensures drawn { result ≡ true → IsRunDrawn state.now texture.now tri.now.v run pixels.old pixels.new }
+    ensures kept { result ≡ false → pixels.new ≡ pixels.old }
+    ensures left { result ≡ false → colors.new ≡ colors.old }
+{
+    let Some(depths) = &paint.depths else {
+        return false;
+    };
+    if !write_colors(colors, pixels, state, texture, tri, plan, run) {
+        return false;
+    }
+    let ramp = value_ramp(depths, run);
+    test_run(pixels, colors, state, texture, tri, plan.depth, run, ramp);
+    true
+}
+
+// A row of fragments that take at most the depth test and a way of writing that there is a loop for, by its colours, or nothing.
+fn written_row(
+    pixels: &mut [Pixel],
+    colors: &mut [Rgba],
+    state: &State,
+    texture: &Texture,
+    tri: &WindowTriangle,
+    plan: &Plan,
+    paint: &Paint,
+    run: Run,
+) -> bool
+    requires run { IsRun run }
+    requires room { run.start + run.to ≤ length pixels.old }
+    requires colors { run.to ≤ length colors.old }
+    requires colored { AreColors state.now texture.now tri.now.v run colors.old }
     requires covered { IsRunCovered tri.now.v run }
     requires plan { IsPlan state.now plan.now }
     requires paint { IsPaint tri.now.v (pos run.left) (pos run.bottom) paint.now }
+    ensures size { length colors.new ≡ length colors.old }
+    ensures drawn { result ≡ true → IsRunDrawn state.now texture.now tri.now.v run pixels.old pixels.new }
+    ensures kept { result ≡ false → pixels.new ≡ pixels.old }
+    ensures left { result ≡ false → colors.new ≡ colors.old }
+{
+    if !plan.through {
+        return false;
+    }
+    if !paint.ranged {
+        return false;
+    }
+    if plan.untested {
+        return untested_row(pixels, colors, state, texture, tri, plan, run);
+    }
+    tested_row(pixels, colors, state, texture, tri, plan, paint, run)
+}
+
+// A row of fragments by its colours, or nothing.
+fn colored_row(
+    pixels: &mut [Pixel],
+    colors: &mut [Rgba],
+    state: &State,
+    texture: &Texture,
+    tri: &WindowTriangle,
+    plan: &Plan,
+    paint: &Paint,
+    run: Run,
+) -> bool
+    requires run { IsRun run }
+    requires room { run.start + run.to ≤ length pixels.old }
+    requires colors { run.to ≤ length colors.old }
+    requires colored { AreColors state.now texture.now tri.now.v run colors.old }
+    requires covered { IsRunCovered tri.now.v run }
+    requires plan { IsPlan state.now plan.now }
+    requires paint { IsPaint tri.now.v (pos run.left) (pos run.bottom) paint.now }
+    ensures size { length colors.new ≡ length colors.old }
     ensures drawn { result ≡ true → IsRunDrawn state.now texture.now tri.now.v run pixels.old pixels.new }
     ensures kept { result ≡ false → pixels.new ≡ pixels.old }
 {
-    if plan.stores && paint.ranged {
-        store_run(pixels, colors, state, texture, tri, run);
-        return true;
-    }
-    if blend_row(pixels, colors, state, texture, tri, plan, paint, run) {
+    if written_row(pixels, colors, state, texture, tri, plan, paint, run) {
         return true;
     }
     let Some(plane) = &paint.depths else {
         return false;
     };
     let ramp = value_ramp(plane, run);
-    if paint.ranged {
-        ranged_row(pixels, colors, state, texture, tri, plan, run, ramp);
-    } else {
-        any_run(pixels, colors, state, texture, tri, run, ramp);
-    }
+    any_run(pixels, colors, state, texture, tri, run, ramp);
     true
 }
 
@@ -447,15 +426,6 @@ fn untextured_row(
     ensures drawn { IsRunDrawn state.now None tri.now.v run pixels.old pixels.new }
 {
     if store_row(pixels, state, tri, plan, paint, run) {
-        return;
-    }
-    if test_row(pixels, state, tri, plan, paint, run) {
-        return;
-    }
-    if lay_row(pixels, state, tri, plan, paint, run) {
-        return;
-    }
-    if over_row(pixels, state, tri, plan, paint, run) {
         return;
     }
     if plain_colors(colors, state, tri, paint, run) {
@@ -500,6 +470,41 @@ fn textured_row(
     plain_row(pixels, state, texture, tri, run);
 }
 
+// The run without what the depth test hides at its beginning.
+fn visible_run(
+    pixels: &[Pixel],
+    state: &State,
+    tri: &WindowTriangle,
+    plan: &Plan,
+    paint: &Paint,
+    run: Run,
+) -> Run
+    requires run { IsRun run }
+    requires room { run.start + run.to ≤ length pixels.now }
+    requires covered { IsRunCovered tri.now.v run }
+    requires plan { IsPlan state.now plan.now }
+    requires paint { IsPaint tri.now.v (pos run.left) (pos run.bottom) paint.now }
+    ensures run { result ≡ run_from run result.from }
+    ensures low { run.from ≤ result.from }
+    ensures high { result.from ≤ run.to }
+    ensures hidden { IsHidden state.now tri.now.v run result.from pixels.now }
+{
+    let _state = state;
+    let _tri = tri;
+    if plan.untested {
+        return run;
+    }
+    if !paint.ranged {
+        return run;
+    }
+    let Some(depths) = &paint.depths else {
+        return run;
+    };
+    let ramp = value_ramp(depths, run);
+    let from = first_passing(pixels, state, tri, plan.depth, run, ramp);
+    Run { from, ..run }
+}
+
 // No step of a plane is one too many.
 fn is_few(run: Run) -> bool
     ensures { result ≡ nat_lt (run.to + run.up) (2 ^ 12) }
@@ -507,8 +512,9 @@ fn is_few(run: Run) -> bool
     u32::from(run.to) + u32::from(run.up) < 4096
 }
 
-/// A row of a triangle's pixels.
-pub(crate) fn draw_row(
+// A row of a triangle's pixels that isn't filled.
+#[inline(never)]
+fn run_row(
     pixels: &mut [Pixel],
     colors: &mut [Rgba],
     state: &State,
@@ -533,9 +539,61 @@ pub(crate) fn draw_row(
         plain_row(pixels, state, texture, tri, run);
         return;
     }
+    let run = visible_run(pixels, state, tri, plan, paint, run);
+    if run.from == run.to {
+        return;
+    }
     if texture.has_image() {
         textured_row(pixels, colors, state, texture, tri, plan, paint, run);
     } else {
         untextured_row(pixels, colors, state, texture, tri, plan, paint, run);
     }
+}
+
+/// A row of a triangle's pixels: columns `from` to below `to`, of a row that begins at the index `start`. Its first pixel lies `up` rows above the
+/// pixel (`left`, `bottom`) of the window, which is the grid's first.
+#[inline(always)]
+pub(crate) fn draw_row(
+    pixels: &mut [Pixel],
+    colors: &mut [Rgba],
+    state: &State,
+    texture: &Texture,
+    tri: &WindowTriangle,
+    plan: &Plan,
+    paint: &Paint,
+    left: u16,
+    bottom: u16,
+    up: u16,
+    start: usize,
+    from: u16,
+    to: u16,
+)
+    requires order { from ≤ to }
+    requires top { bottom + up ≤ 65535 }
+    requires room { start + to ≤ length pixels.old }
+    requires colors { to ≤ length colors.old }
+    requires texel { HasTexelIfAny texture.now }
+    requires covered { AreCovered tri.now.v left (bottom + up) from to }
+    requires plan { IsPlan state.now plan.now }
+    requires paint { IsPaint tri.now.v (pos left) (pos bottom) paint.now }
+    ensures size { length colors.new ≡ length colors.old }
+    ensures drawn { IsRunStepped (fragment_pixel state.now texture.now tri.now.v) left (bottom + up) start from to pixels.old pixels.new }
+{
+    if !texture.has_image() {
+        if fill_row(
+            pixels, state, tri, plan, paint, left, bottom, up, start, from, to,
+        ) {
+            return;
+        }
+    }
+    let run = Run {
+        left,
+        bottom,
+        row: bottom + up,
+        up,
+        start,
+        from,
+        to,
+    };
+    run_row(pixels, colors, state, texture, tri, plan, paint, run);
 }

@@ -1,15 +1,15 @@
 -- The steps of states with few stages.
-use Rattle.std.proofs.Common.{◌≡◌, ℕ, ◌/◌, ◌%◌, true, false, List, refl, arith, sym, ◌∙◌, slice_index, slice_index_or, not, Bool, ◌&&◌, ◌==◌, if◌then◌else◌}
+use Rattle.std.proofs.Common.{◌≡◌, ℕ, ◌/◌, ◌%◌, true, false, List, refl, arith, ap, sym, ◌∙◌, slice_index, slice_index_or, not, Bool, ◌&&◌, ◌==◌, if◌then◌else◌}
 use Rattle.std.proofs.lemmas.Bool.{and_parts}
 use Rattle.rc_base.specs.Colors.{rgba, prod}
-use Rattle.rc_base.specs.Drawing.PixelStep.{shaded, cleared, cleared_depth}
+use Rattle.rc_base.specs.Drawing.PixelStep.{shaded, passes_alpha, passes_depth, written_color, cleared, cleared_depth}
 use Rattle.rc_base.specs.declared.command.Rgba.{Rgba}
 use Rattle.rc_base.specs.declared.state.State.{State}
 use Rattle.rc_base.specs.declared.window.Pixel.{Pixel}
-use Rattle.fragment_ops.specs.Prepared.{passes, IsPrepared}
-use Rattle.fragment_ops.specs.Shortcuts.{writes_all, stores_alone, tests_alone, blends_alone, color_over, color_sum, tested_pixel}
+use Rattle.fragment_ops.specs.Shortcuts.{writes_all, writes_plainly, stores_alone, blends_by, color_over, color_sum}
+use Rattle.fragment_ops.specs.DepthTests.{passes, IsDepthTest, tested_pixel}
 use Rattle.fragment_ops.specs.Clearings.{IsClearing, cleared_by, writes_pixel}
-use Rattle.fragment_ops.specs.declared.stages.Stages.{Stages}
+use Rattle.fragment_ops.specs.declared.depth.DepthTest.{DepthTest}
 use Rattle.fragment_ops.specs.declared.clear.Clearing.{Clearing}
 
 off : (a : Bool) → not a ≡ true → a ≡ false
@@ -24,136 +24,98 @@ flags_on flags h =
     let r = and_parts (slice_index_or flags 2 false) _ q.1 in
     (p.0, q.0, r.0, r.1)
 
+and_false : (b : Bool) → (b && false) ≡ false
+and_false true = refl
+and_false false = refl
+
 same : (x n : ℕ) → (x == n) ≡ true → x ≡ n
 same x n h = grind arith
 
--- a pixel whose fragment passed its depth test, and one whose fragment didn't
-pub passed_is : (g : Stages) (c : Rgba) (depth : ℕ) (old : Pixel) → passes g.depth depth old.depth ≡ true
-    → record { color = c; depth = if g.stores_depth then depth else old.depth } ≡ tested_pixel g c depth old
-unfolding tested_pixel
-passed_is g c depth old h = rw h refl
+-- ---- colours
 
-pub failed_is : (g : Stages) (c : Rgba) (depth : ℕ) (old : Pixel) → passes g.depth depth old.depth ≡ false → old ≡ tested_pixel g c depth old
-unfolding tested_pixel
-failed_is g c depth old h = rw h refl
-
-pub store_is : (s : State) (g : Stages) (c : Rgba) (depth : ℕ) (old : Pixel) → tests_alone s ≡ true → IsPrepared s g
-    → tested_pixel g c depth old ≡ shaded s c depth old
-unfolding tests_alone tested_pixel shaded
-store_is s g c depth old h p =
-    let a = and_parts (not s.alpha_on) (not s.blend_on && writes_all s.color_mask) h in
-    let b = and_parts (not s.blend_on) (writes_all s.color_mask) a.1 in
+pub plain_is : (s : State) (c old : Rgba) → writes_plainly s ≡ true → written_color s c old ≡ c
+unfolding writes_plainly
+plain_is s c old h =
+    let b = and_parts (not s.blend_on) (writes_all s.color_mask) h in
     let m = flags_on s.color_mask b.1 in
-    let alpha : s.alpha_on ≡ false = off s.alpha_on a.0 in
-    let blend : s.blend_on ≡ false = off s.blend_on b.0 in
-    let red : slice_index_or s.color_mask 0 false ≡ true = m.0 in
-    let green : slice_index_or s.color_mask 1 false ≡ true = m.1 in
-    let blue : slice_index_or s.color_mask 2 false ≡ true = m.2 in
-    let opacity : slice_index_or s.color_mask 3 false ≡ true = m.3 in
-    (λ i. if p.depth depth old.depth i then record { color = c; depth = if p.stores i then depth else old.depth } else old)
-    ∙ rw (alpha, blend, red, green, blue, opacity) refl
+    rw (off s.blend_on b.0, m.0, m.1, m.2, m.3) refl
 
-pub alone_is : (s : State) (c : Rgba) (depth : ℕ) (old : Pixel) → stores_alone s ≡ true → shaded s c depth old ≡ record { color = c; depth = old.depth }
-unfolding stores_alone tests_alone shaded
-alone_is s c depth old h =
-    let e = and_parts (not s.depth_on) (not s.alpha_on && (not s.blend_on && writes_all s.color_mask)) h in
-    let a = and_parts (not s.alpha_on) (not s.blend_on && writes_all s.color_mask) e.1 in
-    let b = and_parts (not s.blend_on) (writes_all s.color_mask) a.1 in
-    let m = flags_on s.color_mask b.1 in
-    let depths : s.depth_on ≡ false = off s.depth_on e.0 in
-    let alpha : s.alpha_on ≡ false = off s.alpha_on a.0 in
-    let blend : s.blend_on ≡ false = off s.blend_on b.0 in
-    let red : slice_index_or s.color_mask 0 false ≡ true = m.0 in
-    let green : slice_index_or s.color_mask 1 false ≡ true = m.1 in
-    let blue : slice_index_or s.color_mask 2 false ≡ true = m.2 in
-    let opacity : slice_index_or s.color_mask 3 false ≡ true = m.3 in
-    rw (depths, alpha, blend, red, green, blue, opacity) refl
-
-pub over_is : (s : State) (g : Stages) (c : Rgba) (depth : ℕ) (old : Pixel) → blends_alone 6 7 s ≡ true → IsPrepared s g
-    → tested_pixel g (color_over c old.color) depth old ≡ shaded s c depth old
-unfolding blends_alone tested_pixel color_over shaded
-over_is s g c depth old h p =
-    let codes = slice_index s.blend 0 == 6 && slice_index s.blend 1 == 7 in
-    let a = and_parts (not s.alpha_on) (s.blend_on && (writes_all s.color_mask && codes)) h in
-    let b = and_parts s.blend_on (writes_all s.color_mask && codes) a.1 in
-    let w = and_parts (writes_all s.color_mask) codes b.1 in
-    let d = and_parts (slice_index s.blend 0 == 6) (slice_index s.blend 1 == 7) w.1 in
-    let m = flags_on s.color_mask w.0 in
-    let alpha : s.alpha_on ≡ false = off s.alpha_on a.0 in
-    let blend : s.blend_on ≡ true = b.0 in
-    let red : slice_index_or s.color_mask 0 false ≡ true = m.0 in
-    let green : slice_index_or s.color_mask 1 false ≡ true = m.1 in
-    let blue : slice_index_or s.color_mask 2 false ≡ true = m.2 in
-    let opacity : slice_index_or s.color_mask 3 false ≡ true = m.3 in
-    let source : slice_index s.blend 0 ≡ 6 = same (slice_index s.blend 0) 6 d.0 in
-    let stored : slice_index s.blend 1 ≡ 7 = same (slice_index s.blend 1) 7 d.1 in
-    (λ i. if p.depth depth old.depth i then record { color = color_over c old.color; depth = if p.stores i then depth else old.depth } else old)
-    ∙ rw (alpha, blend, red, green, blue, opacity, source, stored) refl
-
--- the product with 255 is the channel
-whole : (a : ℕ) → prod a 255 ≡ a
-whole a = omega arith
-
-pub sum_is : (s : State) (g : Stages) (c : Rgba) (depth : ℕ) (old : Pixel) → blends_alone 1 1 s ≡ true → IsPrepared s g
-    → tested_pixel g (color_sum c old.color) depth old ≡ shaded s c depth old
-unfolding blends_alone tested_pixel color_sum shaded
-sum_is s g c depth old h p =
-    let codes = slice_index s.blend 0 == 1 && slice_index s.blend 1 == 1 in
-    let a = and_parts (not s.alpha_on) (s.blend_on && (writes_all s.color_mask && codes)) h in
-    let b = and_parts s.blend_on (writes_all s.color_mask && codes) a.1 in
-    let w = and_parts (writes_all s.color_mask) codes b.1 in
-    let d = and_parts (slice_index s.blend 0 == 1) (slice_index s.blend 1 == 1) w.1 in
-    let m = flags_on s.color_mask w.0 in
-    let alpha : s.alpha_on ≡ false = off s.alpha_on a.0 in
-    let blend : s.blend_on ≡ true = b.0 in
-    let red : slice_index_or s.color_mask 0 false ≡ true = m.0 in
-    let green : slice_index_or s.color_mask 1 false ≡ true = m.1 in
-    let blue : slice_index_or s.color_mask 2 false ≡ true = m.2 in
-    let opacity : slice_index_or s.color_mask 3 false ≡ true = m.3 in
-    let source : slice_index s.blend 0 ≡ 1 = same (slice_index s.blend 0) 1 d.0 in
-    let stored : slice_index s.blend 1 ≡ 1 = same (slice_index s.blend 1) 1 d.1 in
-    (λ i. if p.depth depth old.depth i then record { color = color_sum c old.color; depth = if p.stores i then depth else old.depth } else old)
-    ∙ rw (alpha, blend, red, green, blue, opacity, source, stored, whole c.r, whole c.g, whole c.b, whole c.a, whole old.color.r, whole old.color.g, whole old.color.b, whole old.color.a) refl
-
--- what blending by two factors alone says of a state
-record IsBlendAlone (source stored : ℕ) (s : State) : Type 0 where
-  alpha : s.alpha_on ≡ false
+-- what blending by two factors says of a state
+record IsBlended (source stored : ℕ) (s : State) : Type 0 where
   blend : s.blend_on ≡ true
   flags : (slice_index_or s.color_mask 0 false ≡ true) × (slice_index_or s.color_mask 1 false ≡ true) × (slice_index_or s.color_mask 2 false ≡ true) × (slice_index_or s.color_mask 3 false ≡ true)
   first : slice_index s.blend 0 ≡ source
   second : slice_index s.blend 1 ≡ stored
 
-blend_alone : (source stored : ℕ) (s : State) → blends_alone source stored s ≡ true → IsBlendAlone source stored s
-unfolding blends_alone
-blend_alone source stored s h =
+blended_by : (source stored : ℕ) (s : State) → blends_by source stored s ≡ true → IsBlended source stored s
+unfolding blends_by
+blended_by source stored s h =
     let codes = slice_index s.blend 0 == source && slice_index s.blend 1 == stored in
-    let a = and_parts (not s.alpha_on) (s.blend_on && (writes_all s.color_mask && codes)) h in
-    let b = and_parts s.blend_on (writes_all s.color_mask && codes) a.1 in
+    let b = and_parts s.blend_on (writes_all s.color_mask && codes) h in
     let w = and_parts (writes_all s.color_mask) codes b.1 in
     let d = and_parts (slice_index s.blend 0 == source) (slice_index s.blend 1 == stored) w.1 in
     record {
-      alpha = off s.alpha_on a.0;
       blend = b.0;
       flags = flags_on s.color_mask w.0;
       first = same (slice_index s.blend 0) source d.0;
       second = same (slice_index s.blend 1) stored d.1;
     }
 
-pub over_alone_is : (s : State) (c old : Rgba) (depth under : ℕ) → blends_alone 6 7 s ≡ true → s.depth_on ≡ false
-    → shaded s c depth (record { color = old; depth = under }) ≡ record { color = color_over c old; depth = under }
-unfolding color_over shaded
-over_alone_is s c old depth under h depths =
-    let e = blend_alone 6 7 s h in
+pub over_is : (s : State) (c old : Rgba) → blends_by 6 7 s ≡ true → color_over c old ≡ written_color s c old
+unfolding color_over
+over_is s c old h =
+    let e = blended_by 6 7 s h in
     let f = e.flags in
-    rw (depths, e.alpha, e.blend, f.0, f.1, f.2, f.3, e.first, e.second) refl
+    rw (e.blend, f.0, f.1, f.2, f.3, e.first, e.second) refl
 
-pub sum_alone_is : (s : State) (c old : Rgba) (depth under : ℕ) → blends_alone 1 1 s ≡ true → s.depth_on ≡ false
-    → shaded s c depth (record { color = old; depth = under }) ≡ record { color = color_sum c old; depth = under }
-unfolding color_sum shaded
-sum_alone_is s c old depth under h depths =
-    let e = blend_alone 1 1 s h in
+-- the product with 255 is the channel
+whole : (a : ℕ) → prod a 255 ≡ a
+whole a = omega arith
+
+pub sum_is : (s : State) (c old : Rgba) → blends_by 1 1 s ≡ true → color_sum c old ≡ written_color s c old
+unfolding color_sum
+sum_is s c old h =
+    let e = blended_by 1 1 s h in
     let f = e.flags in
-    rw (depths, e.alpha, e.blend, f.0, f.1, f.2, f.3, e.first, e.second, whole c.r, whole c.g, whole c.b, whole c.a, whole old.r, whole old.g, whole old.b, whole old.a) refl
+    rw (e.blend, f.0, f.1, f.2, f.3, e.first, e.second, whole c.r, whole c.g, whole c.b, whole c.a, whole old.r, whole old.g, whole old.b, whole old.a) refl
+
+-- ---- pixels
+
+-- a pixel whose fragment passed its depth test, and one whose fragment didn't
+pub passed_is : (t : DepthTest) (c : Rgba) (depth : ℕ) (old : Pixel) → passes t depth old.depth ≡ true
+    → record { color = c; depth = if t.stores then depth else old.depth } ≡ tested_pixel t c depth old
+unfolding tested_pixel
+passed_is t c depth old h = rw h refl
+
+pub failed_is : (t : DepthTest) (c : Rgba) (depth : ℕ) (old : Pixel) → passes t depth old.depth ≡ false → old ≡ tested_pixel t c depth old
+unfolding tested_pixel
+failed_is t c depth old h = rw h refl
+
+pub tested_is : (s : State) (t : DepthTest) (c color : Rgba) (depth : ℕ) (old : Pixel) → IsDepthTest s t → s.alpha_on ≡ false
+    → color ≡ written_color s c old.color → tested_pixel t color depth old ≡ shaded s c depth old
+unfolding tested_pixel shaded
+tested_is s t c color depth old p alpha w =
+    (λ i. if p.passes depth old.depth i then record { color = w i; depth = if p.stores i then depth else old.depth } else old) ∙ rw alpha refl
+
+-- a pixel whose fragment doesn't pass the depth test
+pub kept_is : (s : State) (t : DepthTest) (c : Rgba) (depth stored : ℕ) (old : Pixel) → IsDepthTest s t → passes t depth stored ≡ false → old.depth ≡ stored
+    → shaded s c depth old ≡ old
+unfolding shaded
+kept_is s t c depth stored old p h d =
+    let fails : passes_depth s depth old.depth ≡ false = sym (p.passes depth old.depth) ∙ ap (λ (n : ℕ). passes t depth n) d ∙ h in
+    rw (fails, and_false (passes_alpha s c.a)) refl
+
+stored_is : (s : State) (c color : Rgba) (depth : ℕ) (old : Pixel) → s.alpha_on ≡ false → s.depth_on ≡ false → color ≡ written_color s c old.color
+    → record { color = color; depth = old.depth } ≡ shaded s c depth old
+unfolding shaded
+stored_is s c color depth old alpha depths w = (λ i. record { color = w i; depth = old.depth }) ∙ rw (alpha, depths) refl
+
+pub alone_is : (s : State) (c : Rgba) (depth : ℕ) (old : Pixel) → stores_alone s ≡ true → shaded s c depth old ≡ record { color = c; depth = old.depth }
+unfolding stores_alone
+alone_is s c depth old h =
+    let e = and_parts (not s.depth_on) (not s.alpha_on && writes_plainly s) h in
+    let a = and_parts (not s.alpha_on) (writes_plainly s) e.1 in
+    sym (stored_is s c c depth old (off s.alpha_on a.0) (off s.depth_on e.0) (sym (plain_is s c old.color a.1)))
 
 -- ---- Clear
 

@@ -6,9 +6,9 @@ ghost use Rattle.rc_base.specs.Drawing.PixelStep.{factor, blended, mixed, masked
 use rc_base::command::Rgba;
 use rc_base::state::State;
 
-/// The product of two channels, as parts of 255, rounded.
+// The product of two channels, as parts of 255, rounded.
 #[inline(always)]
-pub fn product(a: u8, b: u8) -> u8
+fn product(a: u8, b: u8) -> u8
     ensures { result ≡ prod a b }
 {
     ((u16::from(a) * u16::from(b) + 127) / 255) as u8
@@ -32,12 +32,12 @@ fn factor_of(code: u8, source: u8, stored: u8, source_alpha: u8, stored_alpha: u
     }
 }
 
-// The sum of two channels, held to 255.
+// The sum of two channels, held to 255. In numbers of 32 bits, of which a processor takes several at once.
 #[inline(always)]
 pub(crate) fn sum(a: u8, b: u8) -> u8
     ensures { result ≡ min 255 (a + b) }
 {
-    a.saturating_add(b)
+    (u32::from(a) + u32::from(b)).min(255) as u8
 }
 
 // A channel blended with the stored one.

@@ -1,21 +1,24 @@
 //! The fragment stages after rasterization, one pixel at a time: texture environment, alpha test, depth test, blending, masks; and Clear.
 //!
-//! No call takes memory.
+//! What a loop over a row takes of them is apart: how a state writes a colour, a colour made of two, by products of two channels at a time,
+//! and the depth test, prepared once for a draw. No call takes memory.
 #![tactic(auto)]
 
 mod blend;
 mod clear;
 mod clearing;
+mod colors;
 mod compare;
+mod depth;
+mod pairs;
 mod shade;
 mod shortcuts;
-mod stages;
 #[cfg(test)]
 mod tests;
 
-pub use blend::product;
 pub use clear::Clearing;
 pub use clearing::clearing_of;
+pub use colors::{blend_over, blend_sum, modulate};
+pub use depth::{DepthTest, depth_test_of};
 pub use shade::{clear_pixel, shade_pixel, texture_color};
-pub use shortcuts::{blend_over, blend_sum, blends_over, blends_sum, stores_alone, tests_alone};
-pub use stages::{Factor, Stages, Test, stages_of};
+pub use shortcuts::{blends_over, blends_sum, stores_alone, writes_plainly};

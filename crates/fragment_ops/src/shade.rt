@@ -3,7 +3,8 @@ ghost use Rattle.std.specs.Prelude.{◌≡◌, ◌≤ℤ◌, ◌<ℤ◌, ◌*ℤ
 ghost use Rattle.rc_base.specs.Numbers.{floor_quotient, is_between, natural};
 ghost use Rattle.rc_base.specs.Drawing.PixelStep.{textured, shaded, fragment_step, cleared, cleared_depth};
 
-use crate::blend::{clear_color, product, store};
+use crate::blend::{clear_color, store};
+use crate::colors::modulate;
 use crate::compare::{alpha_passes, depth_passes};
 use rc_base::command::Rgba;
 use rc_base::state::State;
@@ -17,12 +18,7 @@ pub fn texture_color(state: &State, color: Rgba, texel: Rgba) -> Rgba
     if state.tex_mode[0] != 0 {
         return texel;
     }
-    Rgba {
-        r: product(color.r, texel.r),
-        g: product(color.g, texel.g),
-        b: product(color.b, texel.b),
-        a: product(color.a, texel.a),
-    }
+    modulate(color, texel)
 }
 
 // A pixel after a fragment with a depth in the buffer's range.

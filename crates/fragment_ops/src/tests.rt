@@ -1,5 +1,6 @@
-//! Each comparison, blend factor and mask at the ends and about the middle of a channel, against the rule written out here.
-use crate::{clear_pixel, shade_pixel, texture_color};
+//! Each comparison, blend factor and mask at the ends and about the middle of a channel, and products of all channels, against the rules written
+//! out here.
+use crate::{blend_over, clear_pixel, modulate, shade_pixel, texture_color};
 use rc_base::command::{Mat4, Rgba};
 use rc_base::state::State;
 use rc_base::window::{Fragment, Pixel};
@@ -290,6 +291,40 @@ fn environments_modulate_or_replace(rt: HostRuntime) {
                 ..plain()
             };
             assert_eq!(rt; texture_color(&replace, color, texel), texel);
+        }
+    }
+}
+
+// A channel times another one, as parts of 255, rounded.
+fn times(a: u8, b: u8) -> u32 {
+    (u32::from(a) * u32::from(b) + 127) / 255
+}
+
+// A channel's part by alpha and the stored one's by the rest.
+fn over(source: u8, stored: u8, alpha: u8) -> u32 {
+    times(source, alpha)
+        .saturating_add(times(stored, 255 - alpha))
+        .min(255)
+}
+
+#[test]
+fn all_pairs_of_channels_are_modulated_and_laid_over(rt: HostRuntime) {
+    for alpha in CHANNELS {
+        for x in 0..=255_u8 {
+            for y in 0..=255_u8 {
+                let color = rgba(x, y, 255 - x, alpha);
+                let other = rgba(y, x, y, x);
+                let new = modulate(color, other);
+                assert_eq!(rt; u32::from(new.r), times(x, y));
+                assert_eq!(rt; u32::from(new.g), times(x, y));
+                assert_eq!(rt; u32::from(new.b), times(255 - x, y));
+                assert_eq!(rt; u32::from(new.a), times(alpha, x));
+                let new = blend_over(color, other);
+                assert_eq!(rt; u32::from(new.r), over(x, y, alpha));
+                assert_eq!(rt; u32::from(new.g), over(y, x, alpha));
+                assert_eq!(rt; u32::from(new.b), over(255 - x, y, alpha));
+                assert_eq!(rt; u32::from(new.a), over(alpha, x, alpha));
+            }
         }
     }
 }

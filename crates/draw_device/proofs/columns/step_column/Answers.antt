@@ -1,7 +1,7 @@
 use Rattle.std.proofs.Common.{◌+◌, ◌<◌, length, pos, arith, None}
 use Rattle.draw_device.specs.Pixels.{pixel_at}
 use Rattle.draw_device.specs.Shapes.{fragment_pixel}
-use Rattle.draw_device.specs.Columns.{place_in, column_fragment}
+use Rattle.draw_device.specs.Columns.{column_fragment}
 use Rattle.draw_device.proofs.ColumnsToPixels.{column_next, column_none, column_end, place_below, rise_moved}
 use Rattle.draw_device.proofs.Steps.{alone_step}
 use Rattle.draw_device.proofs.columns.step_column.Goals as goal

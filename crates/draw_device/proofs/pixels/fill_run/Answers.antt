@@ -1,29 +1,31 @@
 use Rattle.std.proofs.Common.{◌+◌, pos, arith, None}
+use Rattle.rc_base.specs.Drawing.Fragment.{fragment_of}
 use Rattle.draw_device.specs.Pixels.{pixel_at}
 use Rattle.draw_device.specs.Shapes.{fragment_pixel}
-use Rattle.draw_device.specs.Loops.{run_fragment}
 use Rattle.draw_device.proofs.Runs.{run_next, run_end}
 use Rattle.draw_device.proofs.Steps.{alone_step}
 use Rattle.draw_device.proofs.pixels.fill_run.Goals as goal
 
 pub loop-x-preserved : goal.loop-x-preserved
 loop-x-preserved c =
-    let r = c.args.run in
-    let v = c.args.tri.now.v in
+    let a = c.args in
+    let v = a.tri.now.v in
     let x = c.loop-x.x in
     let d = c.loop-x.invariant.drawn in
     let s = d.size in
-    let order = c.requires.run.order in
-    let f = run_fragment v r x in
+    let order = c.requires.order in
     let inside = c.requires.covered x (omega arith) (omega arith) in
-    let old = pixel_at c.loop-x.pixels (r.start + x) in
-    let e = alone_step c.args.state.now None f _ old c.requires.kind (c.requires.depths (pos (r.left + x)) (pos r.row) inside) (c.requires.color (pos (r.left + x)) (pos r.row) inside) in
+    let old = pixel_at c.loop-x.pixels (a.start + x) in
+    let f = fragment_of v (pos (a.left + x)) (pos (a.bottom + a.up)) in
+    let e = alone_step a.state.now None f _ old c.requires.kind (c.requires.depths (pos (a.left + x)) (pos (a.bottom + a.up)) inside)
+    (c.requires.color (pos (a.left + x)) (pos (a.bottom + a.up)) inside) in
     record {
-      drawn = run_next (fragment_pixel c.args.state.now None v) r.left r.row r.start r.from x _ _ _ d (omega arith) (omega arith) e;
+      drawn = run_next (fragment_pixel a.state.now None v) a.left (a.bottom + a.up) a.start a.from x _ _ _ d (omega arith) (omega arith) e;
     }
 
 pub returns : goal.returns
 returns c =
-    let order = c.requires.run.order in
+    let order = c.requires.order in
     let e = c.loop-x.auto.x-end order in
-    run_end (fragment_pixel c.args.state.now None c.args.tri.now.v) c.args.run.left c.args.run.row c.args.run.start c.args.run.from _ _ _ _ (omega arith) c.loop-x.invariant.drawn
+    run_end (fragment_pixel c.args.state.now None c.args.tri.now.v) c.args.left (c.args.bottom + c.args.up) c.args.start c.args.from _ _ _ _ (omega arith)
+    c.loop-x.invariant.drawn

@@ -1,9 +1,11 @@
-use Rattle.std.proofs.Common.{◌+◌, pos, arith}
+use Rattle.std.proofs.Common.{◌+◌, ◌∙◌, ap, sym, pos, arith}
+use Rattle.rc_base.specs.Drawing.PixelStep.{written_color, fragment_color}
+use Rattle.rc_base.specs.declared.window.Pixel.{Pixel}
 use Rattle.draw_device.specs.Pixels.{pixel_at}
 use Rattle.draw_device.specs.Shapes.{fragment_pixel}
 use Rattle.draw_device.specs.Loops.{run_fragment}
 use Rattle.draw_device.proofs.Runs.{run_next, run_end}
-use Rattle.draw_device.proofs.Steps.{alone_step}
+use Rattle.draw_device.proofs.Steps.{stored_step}
 use Rattle.draw_device.proofs.pixels.store_run.Goals as goal
 
 pub loop-x-preserved : goal.loop-x-preserved
@@ -17,7 +19,9 @@ loop-x-preserved c =
     let f = run_fragment v r x in
     let inside = c.requires.covered x (omega arith) (omega arith) in
     let old = pixel_at c.loop-x.pixels (r.start + x) in
-    let e = alone_step c.args.state.now c.args.texture.now f _ old c.requires.kind (c.requires.depths (pos (r.left + x)) (pos r.row) inside) (c.requires.colored x (omega arith) (omega arith)) in
+    let was = d.after (r.start + x) (omega arith) in
+    let color = c.requires.written x (omega arith) (omega arith) ∙ ap (λ (z : Pixel). written_color c.args.state.now (fragment_color c.args.state.now c.args.texture.now f) z.color) (sym was) in
+    let e = stored_step c.args.state.now c.args.texture.now f _ old c.requires.through c.requires.untested (c.requires.depths (pos (r.left + x)) (pos r.row) inside) color in
     record {
       drawn = run_next (fragment_pixel c.args.state.now c.args.texture.now v) r.left r.row r.start r.from x _ _ _ d (omega arith) (omega arith) e;
     }

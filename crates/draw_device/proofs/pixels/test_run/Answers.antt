@@ -1,4 +1,6 @@
-use Rattle.std.proofs.Common.{◌+◌, ◌∙◌, pos, arith, to_z-of_z, FitsSigned, w32}
+use Rattle.std.proofs.Common.{◌+◌, ◌∙◌, ap, sym, pos, arith, to_z-of_z, FitsSigned, w32}
+use Rattle.rc_base.specs.Drawing.PixelStep.{written_color, fragment_color}
+use Rattle.rc_base.specs.declared.window.Pixel.{Pixel}
 use Rattle.rc_base.specs.declared.window.WindowVertex.{WindowVertex}
 use Rattle.draw_device.specs.Shapes.{fragment_pixel}
 use Rattle.draw_device.specs.Loops.{run_fragment}
@@ -17,8 +19,9 @@ loop-x-preserved c =
     let f = run_fragment v r x in
     let inside = c.requires.covered x (omega arith) (omega arith) in
     let fit : FitsSigned w32 c.depth_by-depth.result = record { sfits = c.depth_by-depth.type_inv } in
-    let color = c.requires.colored x (omega arith) (omega arith) in
-    let e = c.test_step.ensures c.args.state.now c.args.texture.now f c.requires.stages c.requires.kind color (to_z-of_z fit ∙ c.depth_by-depth.ensures) in
+    let was = d.after (r.start + x) (omega arith) in
+    let color = c.requires.written x (omega arith) (omega arith) ∙ ap (λ (z : Pixel). written_color c.args.state.now (fragment_color c.args.state.now c.args.texture.now f) z.color) (sym was) in
+    let e = c.test_step.ensures c.args.state.now c.args.texture.now f c.requires.test c.requires.through color (to_z-of_z fit ∙ c.depth_by-depth.ensures) in
     record {
       drawn = run_next (fragment_pixel c.args.state.now c.args.texture.now v) r.left r.row r.start r.from x _ _ _ d (omega arith) (omega arith) e;
       ramp = value_moved _ (λ (c : WindowVertex). c.z) r.left x r.row r.up _ (c.advance.ensures v (pos (r.left + x)) (pos r.row) _ (1 + x + r.up) c.loop-x.invariant.ramp);

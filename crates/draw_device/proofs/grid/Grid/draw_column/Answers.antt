@@ -1,9 +1,8 @@
-use Rattle.std.proofs.Common.{◌≡◌, ◌+◌, ◌*◌, ◌∙◌, ℕ, ℤ, ◌≤◌, ◌<◌, ◌<ℤ◌, ◌≤ℤ◌, pos, true, arith, ap, subst, sym, List, Option, None, length, refl, int_eq, int_le, int_lt, ◌&&◌}
+use Rattle.std.proofs.Common.{◌≡◌, ◌+◌, ◌*◌, ◌∙◌, ℕ, ◌≤◌, pos, arith, ap, subst, sym, List, Option, None, length, refl}
 use Rattle.std.proofs.lemmas.Int.{ints}
 use Rattle.std.proofs.lemmas.List.{with_items_is}
 use Rattle.rc_base.specs.Pictures.{Picture}
 use Rattle.rc_base.specs.declared.window.Pixel.{Pixel}
-use Rattle.draw_device.specs.Columns.{IsColumnDrawn}
 use Rattle.draw_device.specs.Shapes.{IsStepped, covered_step}
 use Rattle.draw_device.proofs.ColumnsToPixels.{column_drawn, covered_rows, no_picture, rows_fit}
 use Rattle.draw_device.proofs.grid.Grid.draw_column.Goals as goal

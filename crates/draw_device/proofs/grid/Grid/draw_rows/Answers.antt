@@ -11,15 +11,15 @@ rows-init c =
     let g = c.args.self.now.extent in
     let step = covered_step c.args.state.now c.args.texture.now c.args.tri.now.v in
     let same = c.into_iter-span-iterator.ensures.into_iter_gives in
-    let row : c.into_iter-span-iterator.result.y ≡ c.args.part.y0 = ap (λ t. t.y) same ∙ c.requires.first in
+    let row : c.into_iter-span-iterator.result.y ≡ c.args.rows.rect.y0 = ap (λ t. t.y) same ∙ c.requires.first in
     record {
       triangle = ap (λ t. t.tri.now) same ∙ c.requires.triangle;
-      part = ap (λ t. t.rect) same ∙ c.requires.rect;
+      part = ap (λ t. t.rect) same;
       from = omega (arith, ints);
       extent = refl;
       drawn = subst (λ (y : ℤ). IsSteppedBelow step g c.args.self.now.pixels.items c.args.self.now.pixels.items y) (sym row)
-          (stepped_none step g c.args.self.now.pixels.items c.args.part.y0
-          (below_part c.args.state.now c.args.texture.now c.args.tri.now.v g c.args.part c.requires.part));
+          (stepped_none step g c.args.self.now.pixels.items c.args.rows.rect.y0
+          (below_part c.args.state.now c.args.texture.now c.args.tri.now.v g c.args.rows.rect c.requires.part));
     }
 
 pub draw_span-requires-clause-inside : goal.draw_span-requires-clause-inside
@@ -28,7 +28,7 @@ draw_span-requires-clause-inside c =
     let e = c.in-Some.ensures.steps in
     let n = rw (i.triangle, i.part) at e.0.0 in
     subst (λ (g : Extent). IsSpanIn g c.in-Some.span) (sym i.extent)
-    (span_in c.args.tri.now.v c.args.self.now.extent c.args.part _ _ c.in-Some.span n i.from c.requires.part)
+    (span_in c.args.tri.now.v c.args.self.now.extent c.args.rows.rect _ _ c.in-Some.span n i.from c.requires.part)
 
 pub draw_span-requires-clause-covered : goal.draw_span-requires-clause-covered
 draw_span-requires-clause-covered c =
@@ -55,7 +55,7 @@ rows-preserved c =
       from = omega (arith, ints, e.0.1);
       extent = c.draw_span.ensures.extent ∙ i.extent;
       drawn = stepped_more (covered_step s p v) (fragment_pixel s p v) g c.args.self.now.pixels.items c.rows.self.pixels.items c.draw_span.new.self.pixels.items
-          _ _ c.in-Some.span i.drawn (triangle_row s p v g c.args.part c.requires.part _ c.in-Some.span n i.from) drawn e.0.1;
+          _ _ c.in-Some.span i.drawn (triangle_row s p v g c.args.rows.rect c.requires.part _ c.in-Some.span n i.from) drawn e.0.1;
     }
 
 pub returns-clause-drawn : goal.returns-clause-drawn
@@ -68,7 +68,7 @@ returns-clause-drawn c =
     let v = c.args.tri.now.v in
     let g = c.args.self.now.extent in
     stepped_all (covered_step s p v) g c.args.self.now.pixels.items c.rows.self.pixels.items _ i.drawn
-    (rest_empty s p v g c.args.part c.requires.part _ n)
+    (rest_empty s p v g c.args.rows.rect c.requires.part _ n)
 
 pub draw_span-requires-clause-paint : goal.draw_span-requires-clause-paint
 draw_span-requires-clause-paint c =

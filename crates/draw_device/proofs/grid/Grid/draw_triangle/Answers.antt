@@ -1,6 +1,3 @@
-use Rattle.std.proofs.Common.{◌≡◌, ◌∙◌, ℤ, List, ap, refl, sym, subst, true}
-use Rattle.raster.specs.Spans.{AreEmptyRows, IsOnlyColumn}
-use Rattle.draw_device.specs.Plans.{IsPaint}
 use Rattle.draw_device.proofs.ColumnsToPixels.{missed}
 use Rattle.draw_device.proofs.grid.Grid.draw_triangle.Goals as goal
 

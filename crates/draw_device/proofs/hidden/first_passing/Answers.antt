@@ -1,0 +1,40 @@
+use Rattle.std.proofs.Common.{◌≡◌, ◌+◌, ◌∙◌, ℕ, pos, arith, refl, subst, sym, to_z-of_z, FitsSigned, w32, Option}
+use Rattle.std.proofs.lemmas.Int.{ints, by_lt_z}
+use Rattle.rc_base.specs.Pictures.{Picture}
+use Rattle.rc_base.specs.declared.window.WindowVertex.{WindowVertex}
+use Rattle.draw_device.specs.Pixels.{pixel_at}
+use Rattle.draw_device.specs.Shapes.{fragment_pixel}
+use Rattle.draw_device.specs.Loops.{run_fragment}
+use Rattle.draw_device.proofs.Steps.{value_moved}
+use Rattle.draw_device.proofs.hidden.first_passing.Goals as goal
+
+pub loop-x-preserved : goal.loop-x-preserved
+loop-x-preserved c =
+    let r = c.args.run in
+    let v = c.args.tri.now.v in
+    let x = c.loop-x.x in
+    let s = c.args.state.now in
+    let pixels = c.args.pixels.now in
+    let order = c.requires.run.order in
+    let fit : FitsSigned w32 c.depth_by-depth.result = record { sfits = c.depth_by-depth.type_inv } in
+    let here = λ (p : Option Picture). c.passes_step.ensures c.if-passes_step.false s p (run_fragment v r x) (pixel_at pixels (r.start + x)) c.requires.test (to_z-of_z fit ∙ c.depth_by-depth.ensures) refl in
+    record {
+      hidden = λ p k m n. by_lt_z (pos k) (pos x)
+          (λ o. c.loop-x.invariant.hidden p k m (omega (arith, ints, o)))
+          (λ o. let same : k ≡ x = omega (arith, ints, o, n) in
+          subst (λ (z : ℕ). fragment_pixel s p v (pos (r.left + z)) (pos r.row) (pixel_at pixels (r.start + z)) ≡ pixel_at pixels (r.start + z)) (sym same) (here p));
+      ramp = value_moved _ (λ (c : WindowVertex). c.z) r.left x r.row r.up _ (c.advance.ensures v (pos (r.left + x)) (pos r.row) _ (1 + x + r.up) c.loop-x.invariant.ramp);
+    }
+
+pub passes_step-requires : goal.passes_step-requires
+passes_step-requires c =
+    let r = c.args.run in
+    let x = c.loop-x.x in
+    let inside = c.requires.covered x (omega arith) (omega arith) in
+    rw (to_z-of_z (record { sfits = c.depth_by-depth.type_inv }), c.depth_by-depth.ensures) (c.requires.depths (pos (r.left + x)) (pos r.row) inside)
+
+pub returns-clause-hidden : goal.returns-clause-hidden
+returns-clause-hidden c p k m n =
+    let order = c.requires.run.order in
+    let e = c.loop-x.auto.x-end order in
+    c.loop-x.invariant.hidden p k m (omega arith)
