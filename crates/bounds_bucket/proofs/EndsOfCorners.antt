@@ -13,7 +13,7 @@ use Rattle.rc_base.specs.declared.window.WindowVertex.{WindowVertex}
 use Rattle.bounds_bucket.specs.Extents.{some_low, some_high, low_at, high_at, AreEnds, AreEndsOfBoth, IsGrown, SpansAllBut, corners_of, corners_from}
 use Rattle.bounds_bucket.specs.declared.extent.Ends.{Ends}
 use Rattle.bounds_bucket.specs.declared.extent.Extent.{Extent}
-use Rattle.bounds_bucket.proofs.TouchedInBox.{kept}
+use Rattle.geometry.proofs.Oriented.{kept}
 use Rattle.bounds_bucket.proofs.WholeNumbers.{min_le, le_max, or_thrice, or_same}
 
 low_of : (e a b c : ℤ) → e ≡ int_min (int_min a b) c → (p : ℤ) → int_le e p ≡ (int_le a p || (int_le b p || (int_le c p || false)))
@@ -97,7 +97,7 @@ pub corners_span : (s : State) (a b c : Vertex) (v : List WindowVertex) (e : Ext
     → AreEnds e.across (corner v 0).x (corner v 1).x (corner v 2).x → AreEnds e.up (corner v 0).y (corner v 1).y (corner v 2).y → AreCorners e v
 corners_span s a b c v e h =
     kept (λ (w : List WindowVertex). AreEnds e.across (corner w 0).x (corner w 1).x (corner w 2).x → AreEnds e.up (corner w 0).y (corner w 1).y (corner w 2).y → AreCorners e w)
-    s a b c v h (λ p q r area x y. record { left = x.low; right = x.high; bottom = y.low; top = y.high })
+    s a b c v h (λ area x y. record { left = x.low; right = x.high; bottom = y.low; top = y.high }) (λ area x y. record { left = x.low; right = x.high; bottom = y.low; top = y.high })
 
 -- one more triangle of a block
 pub one_more : (s : State) (vs : List Vertex) (t : List ℕ) (rest more : List (List ℕ)) (all : List WindowVertex) (before after : Option Extent)

@@ -1,22 +1,18 @@
 -- The covered pixels of kept triangles lie between their corners.
-use Rattle.std.proofs.Common.{◌≡◌, ℕ, ℤ, pos, neg_ℤ, ◌<ℤ◌, ◌≤ℤ◌, ◌-ℤ◌, Bool, true, false, ◌&&◌, not, List, [], ◌∷◌, ◌++◌, Some, None, refl, sym, ap, subst, ◌∙◌, arith, inl, inr}
-use Rattle.std.specs.Prelude.{if◌then◌else◌, ◌||◌, int_le, length, slice_index}
+use Rattle.std.proofs.Common.{◌≡◌, ℕ, ℤ, pos, ◌<ℤ◌, ◌≤ℤ◌, Bool, true, false, ◌&&◌, List, [], ◌∷◌, ◌++◌, Some, None, refl, ◌∙◌, arith, inl, inr}
+use Rattle.std.specs.Prelude.{◌||◌, int_le, length, slice_index}
 use Rattle.std.specs.declared.option.Option.{Option}
 use Rattle.std.specs.Option.{option_map_or}
-use Rattle.std.specs.Ordering.{int_eq}
 use Rattle.std.specs.Int.{int_min, int_max}
 use Rattle.std.specs.List.{list_any, flat_map}
-use Rattle.std.proofs.lemmas.Int.{ints, by_lt_z, int_min_is, int_max_is}
+use Rattle.std.proofs.lemmas.Int.{ints, int_min_is, int_max_is}
 use Rattle.std.proofs.lemmas.Bool.{and_parts, cases_Bool, or_left, or_right}
 use Rattle.std.proofs.lemmas.List.Folds.{list_any-append}
-use Rattle.std.proofs.lemmas.Bool.Decides.{Decides-int_eq}
-use Rattle.std.proofs.Math.IntN.{*ℤ_comm}
-use borrow.Author.Differences.{same_in, same_out, sum_is_lem, neg_is}
-use Rattle.fixed_math.proofs.Signs.{below_is, not_below_is}
+use Rattle.geometry.proofs.Oriented.{kept}
 use Rattle.raster.specs.Between.{IsBetween, CoverLiesInBounds}
 use Rattle.rc_base.specs.Drawing.Cover.{triangle_area, is_inside, covers, centre, is_in_area, is_in_scissor}
-use Rattle.rc_base.specs.Drawing.Kept.{three, is_culled, is_shown, oriented, is_kept, kept_of, vertex_at, kept_triangle}
-use Rattle.rc_base.specs.Drawing.Window.{window_of, is_placed}
+use Rattle.rc_base.specs.Drawing.Kept.{three, kept_of, vertex_at, kept_triangle}
+use Rattle.rc_base.specs.Drawing.Window.{window_of}
 use Rattle.rc_base.specs.Cluster.Tiles.{kept_corners, is_in_box}
 use Rattle.rc_base.specs.Drawing.Touch.{touches}
 use Rattle.rc_base.specs.Drawing.Triangles.{triangles_of}
@@ -26,57 +22,6 @@ use Rattle.rc_base.specs.declared.state.Effect.TheVariants as eff
 use Rattle.rc_base.specs.declared.state.State.{State}
 use Rattle.rc_base.specs.declared.state.Vertex.{Vertex}
 use Rattle.rc_base.specs.declared.window.WindowVertex.{WindowVertex}
-
--- ---- a kept triangle has an area
-
-area_turned : (a b c : WindowVertex) → triangle_area (three a c b) ≡ neg_ℤ (triangle_area (three a b c))
-area_turned a b c =
-    let e = *ℤ_comm (b.x -ℤ a.x) (c.y -ℤ a.y) in
-    let f = *ℤ_comm (b.y -ℤ a.y) (c.x -ℤ a.x) in
-    omega (arith, same_in, same_out, sum_is_lem, neg_is)
-
-not_flat : (s : State) (area : ℤ) → is_shown s area ≡ true → area ≡ pos 0 → ⊥
-unfolding is_shown
-not_flat s area h e =
-    let shown = and_parts (not (int_eq area (pos 0))) (not (is_culled s area)) h in
-    let flat = (Decides-int_eq area (pos 0)).1 e in
-    let no : not true ≡ true = subst (λ (b : Bool). not b ≡ true) flat shown.0 in
-    absurd cc
-
--- what holds of a triangle in both turns, where its area is above 0, holds of the turned one
-turned : (P : List WindowVertex → Type 0) (s : State) (a b c : WindowVertex) → is_shown s (triangle_area (three a b c)) ≡ true
-    → (pos 0 <ℤ triangle_area (three a b c) → P (three a b c)) → (pos 0 <ℤ triangle_area (three a c b) → P (three a c b)) → P (oriented a b c)
-unfolding oriented
-turned P s a b c shown left right =
-    by_lt_z (triangle_area (three a b c)) (pos 0)
-    (λ below.
-    let turns : oriented a b c ≡ three a c b = ap (λ t. if t then three a c b else three a b c) (below_is (triangle_area (three a b c)) below) in
-    let high : pos 0 <ℤ triangle_area (three a c b) = let e = area_turned a b c in omega (arith, ints, e, below) in
-    subst P (sym turns) (right high))
-    (λ above.
-    let stays : oriented a b c ≡ three a b c = ap (λ t. if t then three a c b else three a b c) (not_below_is (triangle_area (three a b c)) above) in
-    let apart = not_flat s (triangle_area (three a b c)) shown in
-    let high : pos 0 <ℤ triangle_area (three a b c) = by_lt_z (pos 0) (triangle_area (three a b c)) (λ h. h) (λ h. absurd (apart (let g = h in let k = above in omega (arith, ints, g, k)))) in
-    subst P (sym stays) (left high))
-
--- and of each kept triangle
-kept_by : (P : List WindowVertex → Type 0) (s : State) (a b c : Vertex) (v : List WindowVertex) (t : Bool) → is_kept s a b c ≡ t
-    → (if t then Some (oriented (window_of s a) (window_of s b) (window_of s c)) else None) ≡ Some v
-    → ((p q r : WindowVertex) → pos 0 <ℤ triangle_area (three p q r) → P (three p q r)) → P v
-unfolding is_kept
-kept_by P s a b c v true h e each =
-    let last = is_shown s (triangle_area (three (window_of s a) (window_of s b) (window_of s c))) in
-    let first = and_parts (is_placed s a) (is_placed s b && (is_placed s c && last)) h in
-    let second = and_parts (is_placed s b) (is_placed s c && last) first.1 in
-    let shown = and_parts (is_placed s c) last second.1 in
-    let same : oriented (window_of s a) (window_of s b) (window_of s c) ≡ v = cc in
-    subst P same (turned P s (window_of s a) (window_of s b) (window_of s c) shown.1 (each (window_of s a) (window_of s b) (window_of s c)) (each (window_of s a) (window_of s c) (window_of s b)))
-kept_by P s a b c v false h e each = absurd cc
-
-pub kept : (P : List WindowVertex → Type 0) (s : State) (a b c : Vertex) (v : List WindowVertex) → kept_of s a b c ≡ Some v
-    → ((p q r : WindowVertex) → pos 0 <ℤ triangle_area (three p q r) → P (three p q r)) → P v
-unfolding kept_of
-kept P s a b c v e each = kept_by P s a b c v (is_kept s a b c) refl e each
 
 -- ---- one of three corners isn't above a number, where the least isn't
 
@@ -163,7 +108,8 @@ covers_by s px py o = option_map_or (λ v. covers s v px py) o false
 first_covers : CoverLiesInBounds → (s : State) (a b c : Vertex) (px py : ℤ) (o : Option (List WindowVertex)) → kept_of s a b c ≡ o → covers_by s px py o ≡ true → IsBoxed s (corners_of o) px py
 first_covers bounds s a b c px py None e h = absurd cc
 first_covers bounds s a b c px py (Some v) e h =
-    kept (λ (w : List WindowVertex). covers s w px py ≡ true → IsBoxed s w px py) s a b c v e (λ p q r area. covered bounds s p q r px py area) h
+    kept (λ (w : List WindowVertex). covers s w px py ≡ true → IsBoxed s w px py) s a b c v e
+    (covered bounds s (window_of s a) (window_of s b) (window_of s c) px py) (covered bounds s (window_of s a) (window_of s c) (window_of s b) px py) h
 
 -- one of a block's triangles covers the pixel
 some_covers : CoverLiesInBounds → (s : State) (vs : List Vertex) (px py : ℤ) (ts : List (List ℕ))

@@ -3,3 +3,4 @@ mod Facing
 mod Triples
 mod Units
 pub mod Identity
+pub mod Oriented

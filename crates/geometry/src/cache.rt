@@ -117,7 +117,7 @@ impl<'a> VertexCache<'a> {
         self.kept(a, b, c)
     }
 
-    // Where the triangle of the corners that are kept is kept, it lies beside.
+    // Whether the cache's three corners lie beside; then their triangle does, unless it is dropped.
     fn lies_beside(&self, near: &Surrounds) -> bool
         requires a { IsCorner self.now.state.now self.now.vertices.now self.now.first }
         requires b { IsCorner self.now.state.now self.now.vertices.now self.now.second }

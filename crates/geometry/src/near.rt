@@ -4,6 +4,7 @@ ghost use Rattle.rc_base.specs.Drawing.Cover.{centre};
 ghost use Rattle.rc_base.specs.Drawing.Kept.{three};
 ghost use Rattle.geometry.specs.Beside.{AreSurrounds, AreLess, AreGreater, AreOutside, AreBeside};
 
+use fixed_math::centre_of;
 use rc_base::window::{Rect, WindowVertex};
 
 /// The centres of a rectangle's first and last columns and rows of pixels, in sixteenths of a pixel.
@@ -13,13 +14,6 @@ pub struct Surrounds {
     pub right: i64,
     pub bottom: i64,
     pub top: i64,
-}
-
-// The centre of a column or row.
-fn centre_of(at: i32) -> i64
-    ensures { result ≡ centre at }
-{
-    16 * i64::from(at) + 8
 }
 
 // The centre of the column or row before.
