@@ -1,5 +1,5 @@
 -- Packets one after the other.
-use Rattle.std.proofs.Common.{◌≡◌, ℕ, ◌+◌, ◌-◌, ◌<◌, ◌≤◌, Bool, true, leb, List, [], ◌∷◌, ◌++◌, length, map, Result, Ok, Err, refl, sym, ap, ◌∙◌, append_assoc, arith, length-append}
+use Rattle.std.proofs.Common.{◌≡◌, ℕ, ◌+◌, ◌-◌, ◌<◌, ◌≤◌, Bool, true, cond, leb, List, [], ◌∷◌, ◌++◌, length, map, Result, Ok, Err, refl, sym, ap, ◌∙◌, append_assoc, arith, length-append}
 use Rattle.std.specs.Prelude.{IfOk, IfErr}
 use Rattle.std.specs.List.{AllByRecursion, flat_map}
 use Rattle.std.proofs.Common.{eqb, false}
@@ -8,13 +8,16 @@ use Rattle.std.proofs.lemmas.List.{append-nil, length-map}
 use Rattle.std.proofs.lemmas.Bool.{leb-true, le-leb}
 use Rattle.std.proofs.lemmas.Grind.{flat_map-append}
 use Rattle.std.proofs.lemmas.List.Concat.{flat_map-cons}
+use Rattle.std.proofs.lemmas.List.Sums.{sum_by-append, count_by-le-length}
 use Rattle.rc_base.specs.declared.command.Command.{Command}
 use Rattle.cmd_pack.specs.declared.fault.Form.TheVariants.{BadCount, UnknownOpcode, Truncated}
 use Rattle.cmd_pack.specs.declared.fault.ReadError.{ReadError}
 use Rattle.cmd_pack.specs.declared.fault.ReadError.TheVariants as errors
+use Rattle.rc_base.specs.Formats.Limits.{is_swap_command, swaps_in}
 use Rattle.rc_base.specs.Formats.Spelling.{half, opcode_byte, payload, packet, IsPacket}
 use Rattle.cmd_pack.specs.Faults.{FailsBy, FailsAsStream, pack_fault}
 use Rattle.cmd_pack.specs.Reading.{Fails}
+use Rattle.cmd_pack.specs.declared.reading.Counts.{Counts}
 use Rattle.cmd_pack.specs.declared.reading.Decoded.{Decoded}
 use Rattle.cmd_pack.specs.Packets.{read_packet, kept, AddsPacket, Takes, Decodes}
 use Rattle.rc_base.specs.Formats.Commands.{AreBytes}
@@ -26,7 +29,7 @@ fails_by : (bytes : List ℕ) (e : ReadError) → AreBytes bytes → Fails e (re
 fails_by bytes errors.Memory fits h = tt
 fails_by bytes (errors.Form f) fits h = packet_fails bytes f fits h
 
-module _ {X : Type 0} (view : X → ℕ × List ℕ) (bytes : List ℕ) (room : ℕ) (old new : List Command) (fits : AreBytes bytes) where
+module _ {X : Type 0} (view : X → Counts × List ℕ) (bytes : List ℕ) (room : ℕ) (old new : List Command) (fits : AreBytes bytes) where
   pub takes_by : (r : Result X ReadError) → AddsPacket view room old new r (read_packet bytes) → IfOk r (λ x. Takes bytes (view x).1 room (view x).0 old new)
   takes_by (Ok x) h =
       let found = packet_takes bytes h.0 (view x).1 fits h.1 in
@@ -78,18 +81,29 @@ packet_some rest p after parts = omega (arith, packet_long rest p after parts)
 
 -- ---- what is stored of them
 
-pub record Progress (bytes : List ℕ) (room : ℕ) (commands : List Command) (count : ℕ) (rest : List ℕ) : Type 0 where
+pub record Progress (bytes : List ℕ) (room : ℕ) (commands : List Command) (count swaps : ℕ) (rest : List ℕ) : Type 0 where
   pub all : List Command
   pub front : Front bytes all rest
   pub counted : count ≡ length all
+  pub swaps_counted : swaps ≡ swaps_in all
   pub stored : count ≤ room → commands ≡ all
   pub few : length commands ≤ room
   pub less : length commands ≤ count
+  pub fewer : swaps ≤ count
   pub short : count + length rest ≤ length bytes
 
-pub progress_none : (bytes : List ℕ) (room : ℕ) → Progress bytes room [] 0 bytes
-progress_none bytes room =
-    record { all = []; front = front_none bytes; counted = refl; stored = λ _. refl; few = omega arith; less = omega arith; short = omega arith }
+pub progress_none : (bytes : List ℕ) (room : ℕ) → Progress bytes room [] 0 0 bytes
+progress_none bytes room = record {
+  all = [];
+  front = front_none bytes;
+  counted = refl;
+  swaps_counted = refl;
+  stored = λ _. refl;
+  few = omega arith;
+  less = omega arith;
+  fewer = omega arith;
+  short = omega arith;
+}
 
 -- room for a packet behind so many commands
 few_more : (keep : Bool) (room more : ℕ) (old new p : List Command) (count : ℕ) → leb more (room - count) ≡ keep → new ≡ kept keep old p → more ≡ length p
@@ -102,30 +116,29 @@ few_more false room more old new p count test e counted few less =
     let size : length new ≡ length old = ap length e in
     (omega (arith, size, few), omega (arith, size, less))
 
-pub progress_more : (bytes : List ℕ) (room : ℕ) (commands new : List Command) (count more : ℕ) (rest after : List ℕ) → Progress bytes room commands count rest
-    → Takes rest after (room - count) more commands new → Progress bytes room new (count + more) after
-progress_more bytes room commands new count more rest after so_far t =
+-- one more packet
+pub progress_more : (bytes : List ℕ) (room : ℕ) (commands new : List Command) (count swaps : ℕ) (more : Counts) (rest after : List ℕ) → Progress bytes room commands count swaps rest
+    → Takes rest after (room - count) more commands new → Progress bytes room new (count + more.commands) (swaps + more.swaps) after
+progress_more bytes room commands new count swaps more rest after so_far t =
     let p = t.commands in
     let long = packet_long rest p after t.parts in
-    let sizes = few_more (leb more (room - count)) room more commands new p count refl t.added t.counted so_far.few so_far.less in
+    let many = t.counted.commands in
+    let sizes = few_more (leb more.commands (room - count)) room more.commands commands new p count refl t.added many so_far.few so_far.less in
     record {
       all = so_far.all ++ p;
       front = front_more bytes so_far.all rest so_far.front p after t.is_packet t.parts;
-      counted = omega (arith, so_far.counted, t.counted, length-append so_far.all p);
+      counted = omega (arith, so_far.counted, many, length-append so_far.all p);
+      swaps_counted = omega (arith, so_far.swaps_counted, t.counted.swaps, sum_by-append (λ c. cond (is_swap_command c) 1 0) so_far.all p);
       stored = λ le.
-          let test : leb more (room - count) ≡ true = le-leb more (room - count) (omega (arith, le)) in
+          let test : leb more.commands (room - count) ≡ true = le-leb more.commands (room - count) (omega (arith, le)) in
           t.added ∙ ap (λ b. kept b commands p) test ∙ ap (λ (l : List Command). l ++ p) (so_far.stored (omega (arith, le)));
       few = sizes.0;
       less = sizes.1;
-      short = omega (arith, so_far.short, long, t.counted);
+      fewer = omega (arith, so_far.fewer, many, t.counted.swaps, count_by-le-length is_swap_command p);
+      short = omega (arith, so_far.short, long, many);
     }
 
-pub progress_fits : (bytes : List ℕ) (room : ℕ) (commands new : List Command) (count more : ℕ) (rest after : List ℕ) → Progress bytes room commands count rest
-    → Takes rest after (room - count) more commands new → count + more ≤ length bytes
-progress_fits bytes room commands new count more rest after so_far t =
-    omega (arith, (progress_more bytes room commands new count more rest after so_far t).short)
-
-pub decoded : (bytes : List ℕ) (room : ℕ) (x : Decoded) (rest : List ℕ) → Progress bytes room x.commands x.count rest → length rest ≡ 0 → Decodes bytes room x
+pub decoded : (bytes : List ℕ) (room : ℕ) (x : Decoded) (rest : List ℕ) → Progress bytes room x.commands x.count x.swaps rest → length rest ≡ 0 → Decodes bytes room x
 decoded bytes room x (b ∷ rest) so_far none = absurd (omega (arith, none))
 decoded bytes room x [] so_far none = record {
   all = so_far.all;
@@ -136,6 +149,7 @@ decoded bytes room x [] so_far none = record {
     whole = so_far.front.whole;
   };
   counted = so_far.counted;
+  swaps = so_far.swaps_counted;
   stored = so_far.stored;
   few = so_far.few;
   short = omega (arith, so_far.short);

@@ -1,12 +1,21 @@
 -- What is kept of a packet that is read.
-use Rattle.std.proofs.Common.{◌≡◌, ℕ, suc, true, false, List, [], ◌∷◌, ◌++◌, length, Result, Ok, Err, refl, sym, ap, ◌∙◌}
+use Rattle.std.proofs.Common.{◌≡◌, ℕ, ◌+◌, true, false, cond, List, [], ◌∷◌, ◌++◌, length, map, Result, Ok, Err, refl, sym, ap, ◌∙◌}
+use Rattle.std.specs.List.{count_by}
+use Rattle.std.proofs.lemmas.List.{length-map}
+use Rattle.std.proofs.lemmas.List.Sums.{sum_by-cons}
 use Rattle.rc_base.specs.declared.command.Command.{Command}
+use Rattle.rc_base.specs.declared.command.Command.TheVariants as cmd
 use Rattle.rc_base.specs.declared.command.Opcode.{Opcode}
+use Rattle.rc_base.specs.Formats.Commands.{opcode_of, kinds_of}
+use Rattle.rc_base.specs.Formats.Limits.{is_swap_command, swaps_in}
 use Rattle.cmd_pack.specs.declared.fault.Form.{Form}
 use Rattle.cmd_pack.specs.declared.fault.ReadError.{ReadError}
 use Rattle.cmd_pack.specs.declared.fault.ReadError.TheVariants as errors
 use Rattle.cmd_pack.specs.Reading.{◌>>=◌, Fails, Gives, with_front}
-use Rattle.cmd_pack.specs.Packets.{read_command, read_count, read_opcodes, read_payloads, read_packet, Keeps}
+use Rattle.cmd_pack.specs.declared.reading.Counts.{Counts}
+use Rattle.command_table.specs.Making.{command_from}
+use Rattle.command_table.proofs.FieldsAndParts.{opcode_made}
+use Rattle.cmd_pack.specs.Packets.{read_fields, read_command, read_count, read_opcodes, read_payloads, read_packet, is_swap_opcode, Keeps, AreCounted}
 use Rattle.cmd_pack.proofs.Codec.{bind_ok}
 use Rattle.cmd_pack.proofs.PacketCodec.{names_takes}
 
@@ -58,17 +67,44 @@ packet_read bytes n after os behind cs rest count opcodes payloads = rw (count, 
 opcodes_long : (n : ℕ) (bytes : List ℕ) (os : List Opcode) (rest : List ℕ) → read_opcodes n bytes ≡ Ok (os, rest) → length os ≡ n
 opcodes_long n bytes os rest e = (names_takes n bytes os rest e).1
 
-payloads_long : (os : List Opcode) (bytes : List ℕ) (cs : List Command) (rest : List ℕ) → read_payloads os bytes ≡ Ok (cs, rest) → length cs ≡ length os
+command_kind : (o : Opcode) (bytes : List ℕ) (c : Command) (rest : List ℕ) → read_command o bytes ≡ Ok (c, rest) → opcode_of c ≡ o
+unfolding read_command
+command_kind o bytes c rest e =
+    let a = bind_ok (read_fields (kinds_of o) bytes) (λ x. Ok (command_from o x.0, x.1)) (c, rest) e in
+    let same : (let v : Command × List ℕ = (command_from o a.0.0, a.0.1) in v) ≡ (c, rest) = cc in
+    sym (ap (λ (v : Command × List ℕ). opcode_of v.0) same) ∙ opcode_made o a.0.0
+
+payloads_kinds : (os : List Opcode) (bytes : List ℕ) (cs : List Command) (rest : List ℕ) → read_payloads os bytes ≡ Ok (cs, rest) → map opcode_of cs ≡ os
 unfolding read_payloads
-payloads_long [] bytes cs rest e =
+payloads_kinds [] bytes cs rest e =
     let same : (let v : List Command × List ℕ = ([], bytes) in v) ≡ (cs, rest) = cc in
-    sym (ap (λ (v : List Command × List ℕ). length v.0) same)
-payloads_long (o ∷ os) bytes cs rest e =
+    sym (ap (λ (v : List Command × List ℕ). map opcode_of v.0) same)
+payloads_kinds (o ∷ os) bytes cs rest e =
     let a = bind_ok (read_command o bytes) (λ first. read_payloads os first.1 >>= λ others. Ok (first.0 ∷ others.0, others.1)) (cs, rest) e in
     let b = bind_ok (read_payloads os a.0.1) (λ others. Ok (a.0.0 ∷ others.0, others.1)) (cs, rest) a.2 in
     let same : (let v : List Command × List ℕ = (a.0.0 ∷ b.0.0, b.0.1) in v) ≡ (cs, rest) = cc in
-    sym (ap (λ (v : List Command × List ℕ). length v.0) same) ∙ ap suc (payloads_long os a.0.1 b.0.0 b.0.1 b.1)
+    sym (ap (λ (v : List Command × List ℕ). map opcode_of v.0) same)
+    ∙ ap (λ (x : Opcode). x ∷ map opcode_of b.0.0) (command_kind o bytes a.0.0 a.0.1 a.1)
+    ∙ ap (λ (l : List Opcode). o ∷ l) (payloads_kinds os a.0.1 b.0.0 b.0.1 b.1)
 
-pub counted : (n : ℕ) (after : List ℕ) (os : List Opcode) (behind : List ℕ) (cs : List Command) (rest : List ℕ) → read_opcodes n after ≡ Ok (os, behind)
-    → read_payloads os behind ≡ Ok (cs, rest) → n ≡ length cs
-counted n after os behind cs rest opcodes payloads = sym (payloads_long os behind cs rest payloads ∙ opcodes_long n after os behind opcodes)
+-- a command is a Swap where its opcode is that of one
+same_swap : (c : Command) → is_swap_command c ≡ is_swap_opcode (opcode_of c)
+same_swap cmd.Swap = refl
+same_swap c = refl
+
+swaps_by_opcodes : (cs : List Command) → count_by is_swap_opcode (map opcode_of cs) ≡ swaps_in cs
+swaps_by_opcodes [] = refl
+swaps_by_opcodes (c ∷ cs) =
+    sum_by-cons (λ o. cond (is_swap_opcode o) 1 0) (opcode_of c) (map opcode_of cs)
+    ∙ ap (λ (n : ℕ). cond (is_swap_opcode (opcode_of c)) 1 0 + n) (swaps_by_opcodes cs)
+    ∙ ap (λ b. cond b 1 0 + swaps_in cs) (sym (same_swap c))
+    ∙ sym (sum_by-cons (λ d. cond (is_swap_command d) 1 0) c cs)
+
+pub counted : (counts : Counts) (n : ℕ) (after : List ℕ) (os : List Opcode) (behind : List ℕ) (cs : List Command) (rest : List ℕ) → read_opcodes n after ≡ Ok (os, behind)
+    → read_payloads os behind ≡ Ok (cs, rest) → counts.commands ≡ n → counts.swaps ≡ count_by is_swap_opcode os → AreCounted counts cs
+counted counts n after os behind cs rest opcodes payloads many swaps =
+    let kinds = payloads_kinds os behind cs rest payloads in
+    record {
+      commands = many ∙ sym (sym (length-map cs opcode_of) ∙ ap length kinds ∙ opcodes_long n after os behind opcodes);
+      swaps = swaps ∙ ap (count_by is_swap_opcode) (sym kinds) ∙ swaps_by_opcodes cs;
+    }

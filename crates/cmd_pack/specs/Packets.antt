@@ -3,13 +3,16 @@ use Rattle.std.specs.Prelude.{◌≡◌, ℕ, zero, suc, ◌*◌, ◌≤◌, Boo
 use Rattle.std.specs.Int.{w16}
 use Rattle.rc_base.specs.declared.command.Command.{Command}
 use Rattle.rc_base.specs.declared.command.Opcode.{Opcode}
+use Rattle.rc_base.specs.declared.command.Opcode.TheVariants as op
 use Rattle.rc_base.specs.Pictures.{Picture}
 use Rattle.rc_base.specs.Formats.Commands.{Kind, Value, Fields, kinds_of}
 use Rattle.rc_base.specs.Formats.Commands.Kind.{Byte, Half, Word, Code, Bytes, Words, Image}
 use Rattle.rc_base.specs.Formats.Spelling.{packet, IsPacket, SpellsStream}
+use Rattle.rc_base.specs.Formats.Limits.{swaps_in}
 use Rattle.command_table.specs.Making.{command_from}
 use Rattle.command_table.specs.Opcodes.{opcode_of_byte}
 use Rattle.cmd_pack.specs.declared.fault.ReadError.{ReadError}
+use Rattle.cmd_pack.specs.declared.reading.Counts.{Counts}
 use Rattle.cmd_pack.specs.declared.reading.Decoded.{Decoded}
 use Rattle.cmd_pack.specs.declared.fault.Form.{Form}
 use Rattle.cmd_pack.specs.declared.fault.Form.TheVariants.{BadCount, UnknownOpcode}
@@ -65,6 +68,11 @@ read_opcodes (suc n) bytes = do
   others ← read_opcodes n first.1
   Ok (first.0 ∷ others.0, others.1)
 
+-- the opcode of a Swap
+abbrev pub is_swap_opcode : Opcode → Bool
+is_swap_opcode op.Swap = true
+is_swap_opcode _ = false
+
 -- ---- packets
 
 unfoldable pub read_count : List ℕ → Result (ℕ × List ℕ) Form
@@ -95,26 +103,32 @@ abbrev pub Keeps : {X : Type 0} → (X → List ℕ) → Bool → List Command �
 Keeps rest keep old new (Ok x) read = (commands : List Command) × (read ≡ Ok (commands, rest x)) × (new ≡ kept keep old commands)
 Keeps rest keep old new (Err e) read = Fails e read
 
+-- how many commands there are, and how many of them are Swaps
+pub record AreCounted (counts : Counts) (all : List Command) : Type 0 where
+  pub commands : counts.commands ≡ length all
+  pub swaps : counts.swaps ≡ swaps_in all
+
 -- The commands of a packet were read and counted, and kept where there was room for so many; or a function failed as reading does, or for want
 -- of memory.
-abbrev pub AddsPacket : {X : Type 0} → (X → ℕ × List ℕ) → ℕ → List Command → List Command → Result X ReadError → Result (List Command × List ℕ) Form → Type 0
+abbrev pub AddsPacket : {X : Type 0} → (X → Counts × List ℕ) → ℕ → List Command → List Command → Result X ReadError → Result (List Command × List ℕ) Form → Type 0
 AddsPacket view room old new (Ok x) read =
-    (commands : List Command) × (read ≡ Ok (commands, (view x).1)) × ((view x).0 ≡ length commands) × (new ≡ kept (nat_le (view x).0 room) old commands)
+    (commands : List Command) × (read ≡ Ok (commands, (view x).1)) × AreCounted (view x).0 commands × (new ≡ kept (nat_le (view x).0.commands room) old commands)
 AddsPacket view room old new (Err e) read = Fails e read
 
 -- A packet of so many commands was taken from the front of the bytes. They were added where there was room for so many.
-pub record Takes (bytes rest : List ℕ) (room count : ℕ) (old new : List Command) : Type 0 where
+pub record Takes (bytes rest : List ℕ) (room : ℕ) (counts : Counts) (old new : List Command) : Type 0 where
   pub commands : List Command
   pub is_packet : IsPacket commands
   pub parts : bytes ≡ packet commands ++ rest
-  pub counted : count ≡ length commands
-  pub added : new ≡ kept (nat_le count room) old commands
+  pub counted : AreCounted counts commands
+  pub added : new ≡ kept (nat_le counts.commands room) old commands
 
--- The bytes of a stream spell commands, which were counted, and stored where there was room for them.
+-- The bytes of a stream spell commands, which were counted, and the Swaps among them, and stored where there was room for them.
 pub record Decodes (bytes : List ℕ) (room : ℕ) (x : Decoded) : Type 0 where
   pub all : List Command
   pub spells : SpellsStream bytes all
   pub counted : x.count ≡ length all
+  pub swaps : x.swaps ≡ swaps_in all
   pub stored : x.count ≤ room → x.commands ≡ all
   pub few : length x.commands ≤ room
   pub short : x.count ≤ length bytes

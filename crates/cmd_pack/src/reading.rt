@@ -1,9 +1,9 @@
 //! The reader of streams: packet by packet, with the first fault from the left.
-ghost use Rattle.std.specs.Prelude.{◌≡◌, List, IfOk, IfErr, Ok, Err, ◌⊎◌};
+ghost use Rattle.std.specs.Prelude.{◌≡◌, List, count_by, IfOk, IfErr, Ok, Err, ◌⊎◌};
 ghost use Rattle.rc_base.specs.declared.command.Command.{Command as AnyCommand};
 ghost use Rattle.rc_base.specs.Formats.Spelling.{SpellsStream};
 ghost use Rattle.cmd_pack.specs.Reading.{Gives, Reads, with_front};
-ghost use Rattle.cmd_pack.specs.Packets.{read_opcode, read_opcodes, read_count, read_payloads, read_packet, Keeps, AddsPacket, Takes, Decodes};
+ghost use Rattle.cmd_pack.specs.Packets.{read_opcode, read_opcodes, read_count, read_payloads, read_packet, Keeps, AddsPacket, is_swap_opcode, Takes, Decodes};
 ghost use Rattle.cmd_pack.specs.Faults.{FailsBy, FailsAsStream, pack_fault};
 
 use crate::fault::{Form, PackFault, ReadError};
@@ -13,12 +13,20 @@ use command_table::opcode_from;
 use rc_base::command::{Commands, Opcode};
 use std::alloc::Global;
 
-/// The commands of a stream, where there was room for them, and how many they are.
+/// The commands of a stream, where there was room for them, how many they are, and how many of them are Swaps.
 #[derive(Debug, Drop)]
 pub struct Decoded {
     /// All commands, where they are no more than there was room for, and else some of them.
     pub commands: Commands,
     pub count: usize,
+    pub swaps: usize,
+}
+
+/// How many commands a packet has, and how many of them are Swaps.
+#[derive(Clone, Copy, Debug)]
+pub(crate) struct Counts {
+    pub(crate) commands: usize,
+    pub(crate) swaps: usize,
 }
 
 #[tactic(auto, unfolding(crate::specs::Packets::read_count))]
@@ -56,6 +64,18 @@ fn read_opcodes(alloc: Global, count: u16, bytes: &[u8]) -> Result<(Vec<Opcode>,
     Ok((opcodes, rest))
 }
 
+fn is_swap(opcode: Opcode) -> bool
+    ensures { result ≡ is_swap_opcode opcode }
+{
+    matches!(opcode, Opcode::Swap)
+}
+
+fn count_swaps(opcodes: &[Opcode]) -> usize
+    ensures { result ≡ count_by is_swap_opcode opcodes.now }
+{
+    opcodes.iter().filter(|o| is_swap(**o)).count()
+}
+
 /// Adds the commands with these opcodes, whose payloads stand at the front.
 fn read_payloads<'a>(
     alloc: Global,
@@ -90,20 +110,26 @@ fn keep_payloads<'a>(
     read_payloads(alloc, &mut dropped, opcodes, bytes)
 }
 
-/// How many commands the packet at the front has. They are added where they are no more than there is room for.
+/// What the packet at the front has. Its commands are added where they are no more than there is room for.
 fn add_packet<'a>(
     alloc: Global,
     commands: &mut Commands,
     room: usize,
     bytes: &'a [u8],
-) -> Result<(usize, &'a [u8]), ReadError>
+) -> Result<(Counts, &'a [u8]), ReadError>
     ensures { AddsPacket (λ x. (x.0, x.1.now)) room commands.old commands.new result (read_packet bytes.now) }
 {
     let (count, rest) = read_count(bytes)?;
     let (opcodes, rest) = read_opcodes(alloc, count, rest)?;
+    let opcodes = opcodes.as_slice();
     let count = count as usize;
-    let rest = keep_payloads(alloc, commands, count <= room, opcodes.as_slice(), rest)?;
-    Ok((count, rest))
+    let swaps = count_swaps(opcodes);
+    let rest = keep_payloads(alloc, commands, count <= room, opcodes, rest)?;
+    let counts = Counts {
+        commands: count,
+        swaps,
+    };
+    Ok((counts, rest))
 }
 
 /// The same, by what the packet is.
@@ -112,7 +138,7 @@ fn read_packet<'a>(
     commands: &mut Commands,
     room: usize,
     bytes: &'a [u8],
-) -> Result<(usize, &'a [u8]), ReadError>
+) -> Result<(Counts, &'a [u8]), ReadError>
     ensures found { IfOk result (λ x. Takes bytes.now x.1.now room x.0 commands.old commands.new) }
     ensures fails { IfErr result (FailsBy bytes.now) }
 {
@@ -135,25 +161,32 @@ fn fault_at(error: ReadError, len: usize) -> PackFault
     }
 }
 
-/// The commands that the bytes of a stream spell, where they are no more than there is room for, and how many they are; or the first fault
-/// from the left with its place in the stream. Beyond the room no command is stored, so a stream that is too long takes no more memory.
+/// The commands that the bytes of a stream spell, where they are no more than there is room for, how many they are, and how many of them are
+/// Swaps; or the first fault from the left with its place in the stream. Beyond the room no command is stored, so a stream that is too long takes
+/// no more memory.
 pub fn decode_within(alloc: Global, room: usize, bytes: &[u8]) -> Result<Decoded, PackFault>
     ensures found { IfOk result (Decodes bytes.now room) }
     ensures fails { IfErr result (FailsAsStream bytes.now) }
 {
     let mut commands = Commands::new(alloc);
     let mut count = 0;
+    let mut swaps = 0;
     let mut rest = bytes;
     while !rest.is_empty() {
         match read_packet(alloc, &mut commands, room.saturating_sub(count), rest) {
             Ok((more, after)) => {
-                count += more;
+                count += more.commands;
+                swaps += more.swaps;
                 rest = after;
             }
             Err(error) => return Err(fault_at(error, bytes.len())),
         }
     }
-    Ok(Decoded { commands, count })
+    Ok(Decoded {
+        commands,
+        count,
+        swaps,
+    })
 }
 
 fn read_stream(alloc: Global, bytes: &[u8]) -> Result<Commands, PackFault>

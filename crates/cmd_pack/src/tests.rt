@@ -218,6 +218,7 @@ fn what_has_no_room_is_counted(rt: HostRuntime) -> Result<(), Fail> {
         match decode_within(rt.alloc(), room, bytes.as_slice()) {
             Ok(decoded) => {
                 assert_eq!(rt; decoded.count, 72);
+                assert_eq!(rt; decoded.swaps, 2);
                 assert_eq!(rt; decoded.commands.len(), stored);
             }
             Err(_) => assert!(rt; false),

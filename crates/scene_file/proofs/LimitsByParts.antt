@@ -1,15 +1,14 @@
 -- The parts of the table of limits, judged one after the other.
-use Rattle.std.proofs.Common.{◌≡◌, ℕ, ◌<◌, ◌≤◌, ◌*◌, inl, inr, true, false, Bool, cond, List, [], ◌∷◌, ◌++◌, length, map, Option, Some, None, Result, Ok, Err, refl, sym, ap, ◌∙◌, arith}
+use Rattle.std.proofs.Common.{◌≡◌, ℕ, ◌<◌, ◌≤◌, ◌*◌, true, false, Bool, cond, List, [], ◌∷◌, ◌++◌, length, map, Option, Some, None, Result, Ok, Err, refl, sym, ap, ◌∙◌, arith}
 use Rattle.std.specs.Prelude.{sum_by, MatchResult}
 use Rattle.std.specs.List.{flat_map}
 use Rattle.std.proofs.lemmas.Bool.Decides.{nat_tests}
-use Rattle.std.proofs.lemmas.Bool.{cases_lt, cond-true}
-use Rattle.rc_base.specs.declared.command.Command.{Command}
+use Rattle.std.proofs.lemmas.Bool.{cond-true}
 use Rattle.rc_base.specs.declared.scene.Decl.{Decl}
 use Rattle.rc_base.specs.declared.scene.Limit.{Limit}
 use Rattle.rc_base.specs.declared.scene.Scene.{Scene}
 use Rattle.rc_base.specs.Formats.Limits.{Quantity, is_outside, first_outside, size_area, side, barrier_count, least_swaps, commands_in, limit_of}
-use Rattle.scene_file.specs.Judging.{judged, or_else, one, window_part, judge_decl, stream_part, judge_parts}
+use Rattle.scene_file.specs.Judging.{judged, or_else, one, window_part, judge_decl, stream_part, judge_parts, judge_scene}
 use Rattle.scene_file.specs.declared.reading.Counted.{Counted}
 use Rattle.scene_file.specs.Counting.{Counts}
 
@@ -31,7 +30,7 @@ regroup None None (Some l) e f g h = refl
 regroup None (Some l) c e f g h = refl
 regroup (Some l) b c e f g h = refl
 
-pub limit_parts : (s : Scene) → limit_of s ≡ judge_parts s (commands_in s.streams)
+pub limit_parts : (s : Scene) → limit_of s ≡ judge_scene s
 unfolding limit_of
 limit_parts s =
     let d = s.decl in
@@ -41,7 +40,7 @@ limit_parts s =
     let e : List Quantity = one 8 (length d.barriers) 64 in
     let f = map barrier_count d.barriers in
     let g : List Quantity = one 10 (length d.semaphores) 64 in
-    let h = stream_part d s.streams (commands_in s.streams) in
+    let h = stream_part d (commands_in s.streams) (least_swaps s.streams) in
     outside_append a (b ++ (c ++ (e ++ (f ++ (g ++ h)))))
     ∙ ap (or_else (first_outside a)) (outside_append b (c ++ (e ++ (f ++ (g ++ h))))
     ∙ ap (or_else (first_outside b)) (outside_append c (e ++ (f ++ (g ++ h)))
@@ -49,42 +48,28 @@ limit_parts s =
     ∙ ap (or_else (first_outside e)) (outside_append f (g ++ h) ∙ ap (or_else (first_outside f)) (outside_append g h)))))
     ∙ regroup (first_outside a) (first_outside b) (first_outside c) (first_outside e) (first_outside f) (first_outside g) (first_outside h)
 
-pub judged_limit : (s : Scene) (r : Result (Unit {0}) Limit) → judged r ≡ judge_parts s (commands_in s.streams) → MatchResult r (λ _. limit_of s ≡ None) (λ l. limit_of s ≡ Some l)
+pub judged_limit : (s : Scene) (r : Result (Unit {0}) Limit) → judged r ≡ judge_scene s → MatchResult r (λ _. limit_of s ≡ None) (λ l. limit_of s ≡ Some l)
 judged_limit s (Ok u) h = limit_parts s ∙ sym h
 judged_limit s (Err l) h = limit_parts s ∙ sym h
 
 -- ---- of a scene of which not all commands are stored
 
--- a count beyond the limit is the first thing outside its range, whatever the commands are
-many_commands : (d e : Decl) (css dss : List (List Command)) (n : ℕ) → 1048576 < n → first_outside (stream_part d css n) ≡ first_outside (stream_part e dss n)
-many_commands d e css dss n many =
-    let q : Quantity = record { what = 11; value = n; least = 0; most = 1048576 } in
-    let test : is_outside q ≡ true = grind (arith, nat_tests) in
-    let found : Option Limit = Some (record { what = 11; value = n }) in
-    cond-true (is_outside q) found _ test ∙ sym (cond-true (is_outside q) found _ test)
-
--- what is told of a scene by its declaration, the number of its commands, and these where they are not too many
-pub counted_limit : (x : Counted) (s : Scene) → Counts x s → judge_parts x.scene x.commands ≡ limit_of s
-counted_limit x s c = elim (cases_lt 1048576 x.commands) [
-  | inr few ↦ (λ i. judge_parts (c.stored few i) (c.counted i)) ∙ sym (limit_parts s)
-  | inl many ↦
-      (λ i. or_else (judge_decl (c.decl i) (c.clients i)) (many_commands x.scene.decl s.decl x.scene.streams s.streams x.commands many i))
-      ∙ (λ i. or_else (judge_decl s.decl (length s.streams)) (first_outside (stream_part s.decl s.streams (c.counted i))))
-      ∙ sym (limit_parts s)
-]
+-- what is told of a scene by its declaration, and the numbers of its clients, its commands and its frames
+pub counted_limit : (x : Counted) (s : Scene) → Counts x s → judge_parts x.scene.decl (length x.scene.streams) x.commands x.frames ≡ limit_of s
+counted_limit x s c = (λ i. judge_parts (c.decl i) (c.clients i) (c.counted i) (c.frames i)) ∙ sym (limit_parts s)
 
 pub decl_limit : (d : Decl) (clients : ℕ) (l : Limit) → judge_decl d clients ≡ Some l → (s : Scene) → s.decl ≡ d → length s.streams ≡ clients → limit_of s ≡ Some l
 decl_limit d clients l h s e n =
-    limit_parts s ∙ (λ i. or_else (judge_decl (e i) (n i)) (first_outside (stream_part s.decl s.streams (commands_in s.streams))))
-    ∙ ap (λ o. or_else o (first_outside (stream_part s.decl s.streams (commands_in s.streams)))) h
+    limit_parts s ∙ (λ i. or_else (judge_decl (e i) (n i)) (first_outside (stream_part s.decl (commands_in s.streams) (least_swaps s.streams))))
+    ∙ ap (λ o. or_else o (first_outside (stream_part s.decl (commands_in s.streams) (least_swaps s.streams)))) h
 
 pub commands_limit : (d : Decl) (clients commands : ℕ) → judge_decl d clients ≡ None → 1048576 < commands → (s : Scene) → s.decl ≡ d → length s.streams ≡ clients → commands_in s.streams ≡ commands
     → limit_of s ≡ Some (record { what = 11; value = commands })
 commands_limit d clients commands h many s e n c =
     let q : Quantity = record { what = 11; value = commands; least = 0; most = 1048576 } in
     let test : is_outside q ≡ true = grind (arith, nat_tests) in
-    limit_parts s ∙ (λ i. or_else (judge_decl (e i) (n i)) (first_outside (stream_part s.decl s.streams (c i))))
-    ∙ ap (λ o. or_else o (first_outside (stream_part s.decl s.streams commands))) h
+    limit_parts s ∙ (λ i. or_else (judge_decl (e i) (n i)) (first_outside (stream_part s.decl (c i) (least_swaps s.streams))))
+    ∙ ap (λ o. or_else o (first_outside (stream_part s.decl commands (least_swaps s.streams)))) h
     ∙ cond-true (is_outside q) (Some (record { what = 11; value = commands })) _ test
 
 pub none_first : (x y : Option Limit) → or_else x y ≡ None → (x ≡ None) × (y ≡ None)
@@ -95,11 +80,12 @@ pub single : (what n most : ℕ) → first_outside (one what n most) ≡ None �
 single what n most h = grind (arith, nat_tests)
 
 -- all commands are stored of a scene that is within its limits
-pub all_stored : (x : Counted) (s : Scene) → Counts x s → judge_parts x.scene x.commands ≡ None → x.scene ≡ s
+pub all_stored : (x : Counted) (s : Scene) → Counts x s → judge_parts x.scene.decl (length x.scene.streams) x.commands x.frames ≡ None → x.scene ≡ s
 all_stored x s c h =
-    let others : List Quantity = record { what = 12; value = least_swaps x.scene.streams; least = 0; most = 1048576 }
-    ∷ record { what = 13; value = least_swaps x.scene.streams * (x.scene.decl.width * x.scene.decl.height); least = 0; most = 33554432 } ∷ [] in
-    let streams = none_first (judge_decl x.scene.decl (length x.scene.streams)) (first_outside (stream_part x.scene.decl x.scene.streams x.commands)) h in
+    let d = x.scene.decl in
+    let others : List Quantity = record { what = 12; value = x.frames; least = 0; most = 1048576 }
+    ∷ record { what = 13; value = x.frames * (d.width * d.height); least = 0; most = 33554432 } ∷ [] in
+    let streams = none_first (judge_decl d (length x.scene.streams)) (first_outside (stream_part d x.commands x.frames)) h in
     let commands = none_first (first_outside (one 11 x.commands 1048576)) (first_outside others) (sym (outside_append (one 11 x.commands 1048576) others) ∙ streams.1) in
     c.stored (single 11 x.commands 1048576 commands.0)
 

@@ -51,7 +51,7 @@ text_found bytes text after cs fits h spells =
 pub text_decoded : (bytes text after : List ℕ) (room : ℕ) (x : Decoded) → AreBytes bytes → read_text bytes ≡ Ok (text, after) → Decodes text room x → DecodesFirst bytes room x after
 text_decoded bytes text after room x fits h d =
     let t = text_codec.maker.takes bytes text after fits h in
-    record { all = d.all; first = text_found bytes text after d.all fits h d.spells; counted = d.counted; stored = d.stored; few = omega (arith, d.short, t.1.0) }
+    record { all = d.all; first = text_found bytes text after d.all fits h d.spells; counted = d.counted; swaps = d.swaps; stored = d.stored; few = omega (arith, d.short, t.1.0) }
 
 has_fault : (bytes text after : List ℕ) (fault : ℕ → PackFault) (inner : ℕ) → AreBytes bytes → read_text bytes ≡ Ok (text, after) → FailsAsStream text (fault inner) → inner ≤ length text
     → HasStreamFault bytes fault (length bytes - 4 - inner)

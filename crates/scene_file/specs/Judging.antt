@@ -1,11 +1,10 @@
 -- Judging the quantities of a scene part by part.
 use Rattle.std.specs.Prelude.{ℕ, ◌*◌, List, [], ◌∷◌, length, map, sum_by, Option, Some, None, Result, Ok, Err}
 use Rattle.std.specs.List.{flat_map}
-use Rattle.rc_base.specs.declared.command.Command.{Command}
 use Rattle.rc_base.specs.declared.scene.Decl.{Decl}
 use Rattle.rc_base.specs.declared.scene.Limit.{Limit}
 use Rattle.rc_base.specs.declared.scene.Scene.{Scene}
-use Rattle.rc_base.specs.Formats.Limits.{Quantity, first_outside, size_area, side, barrier_count, least_swaps}
+use Rattle.rc_base.specs.Formats.Limits.{Quantity, first_outside, size_area, side, barrier_count, least_swaps, commands_in}
 
 -- the quantity that was found outside its range
 abbrev pub judged : Result (Unit {0}) Limit → Option Limit
@@ -36,13 +35,17 @@ judge_counts d =
 abbrev pub judge_decl : Decl → ℕ → Option Limit
 judge_decl d clients = or_else (first_outside (window_part d clients)) (judge_counts d)
 
--- the commands, so many in all, and the frames
-abbrev pub stream_part : Decl → List (List Command) → ℕ → List Quantity
-stream_part d streams commands =
+-- the commands and the frames, so many in all
+abbrev pub stream_part : Decl → ℕ → ℕ → List Quantity
+stream_part d commands frames =
     record { what = 11; value = commands; least = 0; most = 1048576 }
-    ∷ record { what = 12; value = least_swaps streams; least = 0; most = 1048576 }
-    ∷ record { what = 13; value = least_swaps streams * (d.width * d.height); least = 0; most = 33554432 } ∷ []
+    ∷ record { what = 12; value = frames; least = 0; most = 1048576 }
+    ∷ record { what = 13; value = frames * (d.width * d.height); least = 0; most = 33554432 } ∷ []
 
--- the parts in the order of the table, where there are so many commands
-abbrev pub judge_parts : Scene → ℕ → Option Limit
-judge_parts s commands = or_else (judge_decl s.decl (length s.streams)) (first_outside (stream_part s.decl s.streams commands))
+-- the parts in the order of the table, of so many clients with so many commands and frames
+abbrev pub judge_parts : Decl → ℕ → ℕ → ℕ → Option Limit
+judge_parts d clients commands frames = or_else (judge_decl d clients) (first_outside (stream_part d commands frames))
+
+-- the same of a scene that is there
+abbrev pub judge_scene : Scene → Option Limit
+judge_scene s = judge_parts s.decl (length s.streams) (commands_in s.streams) (least_swaps s.streams)

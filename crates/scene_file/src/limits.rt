@@ -3,7 +3,7 @@ ghost use Rattle.rc_base.specs.declared.scene.Scene.{Scene as AnyScene};
 ghost use Rattle.std.specs.Prelude.{◌≡◌, ◌<◌, ◌≤◌, ◌*◌, ◌∷◌, ◌++◌, [], map, length, sum_by, MatchResult, OnOk, Some, None};
 ghost use Rattle.std.specs.List.{flat_map};
 ghost use Rattle.rc_base.specs.Formats.Limits.{first_outside, limit_of, size_area, side, barrier_count, is_swap_command, swaps_in, least_swaps, commands_in};
-ghost use Rattle.scene_file.specs.Judging.{judged, window_part, judge_counts, judge_decl, stream_part, judge_parts};
+ghost use Rattle.scene_file.specs.Judging.{judged, window_part, judge_counts, judge_decl, stream_part, judge_parts, judge_scene};
 
 use rc_base::command::{Command, Commands};
 use rc_base::scene::{Decl, Limit, Scene};
@@ -119,14 +119,13 @@ fn judge_decl(decl: &Decl, clients: usize) -> Result<(), Limit>
     judge_counts(decl)
 }
 
-/// The commands, so many in all, and the frames.
-fn judge_streams(decl: &Decl, streams: &[Commands], commands: u64) -> Result<(), Limit>
+/// The commands and the frames, so many in all.
+fn judge_streams(decl: &Decl, commands: u64, frames: u64) -> Result<(), Limit>
     requires width { decl.now.width ≤ 2048 }
     requires height { decl.now.height ≤ 2048 }
-    ensures { judged result ≡ first_outside (stream_part decl.now streams.now commands) }
+    ensures { judged result ≡ first_outside (stream_part decl.now commands frames) }
 {
     judge(11, commands, 0, MOST_COMMANDS)?;
-    let frames = count_frames(streams) as u64;
     judge(12, frames, 0, 1_048_576)?;
     judge(
         13,
@@ -136,20 +135,29 @@ fn judge_streams(decl: &Decl, streams: &[Commands], commands: u64) -> Result<(),
     )
 }
 
-/// The first quantity outside its range of a scene that has so many commands, of which these are stored.
-pub(crate) fn check_counted(scene: &Scene, commands: u64) -> Result<(), Limit>
-    ensures { judged result ≡ judge_parts scene.now commands }
+/// The first quantity outside its range of a scene with this declaration and so many clients, commands and frames.
+pub(crate) fn check_counted(
+    decl: &Decl,
+    clients: usize,
+    commands: u64,
+    frames: u64,
+) -> Result<(), Limit>
+    ensures { judged result ≡ judge_parts decl.now clients commands frames }
 {
-    judge_decl(&scene.decl, scene.streams.len())?;
-    judge_streams(&scene.decl, scene.streams.as_slice(), commands)
+    judge_decl(decl, clients)?;
+    judge_streams(decl, commands, frames)
 }
 
 fn judge_scene(scene: &Scene) -> Result<(), Limit>
-    ensures { judged result ≡ judge_parts scene.now (commands_in scene.now.streams) }
+    ensures { judged result ≡ judge_scene scene.now }
 {
     let streams = scene.streams.as_slice();
     judge_decl(&scene.decl, streams.len())?;
-    judge_streams(&scene.decl, streams, sum_commands(streams))
+    judge_streams(
+        &scene.decl,
+        sum_commands(streams),
+        count_frames(streams) as u64,
+    )
 }
 
 /// The first quantity of a scene outside its range, by the numbers of the table of limits (`docs/scene-format.md`). It takes no memory.

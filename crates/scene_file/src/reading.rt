@@ -10,7 +10,7 @@ ghost use Rattle.rc_base.specs.declared.scene.Limit.{Limit as AnyLimit};
 ghost use Rattle.cmd_pack.specs.Reading.{Reads};
 ghost use Rattle.scene_file.specs.Reading.{read_text};
 ghost use Rattle.scene_file.specs.Faults.{TextFailsBy, SceneFailsBy, FailsAsScene, TellsForm, IsBeyond, IsJudged};
-ghost use Rattle.scene_file.specs.Counting.{DecodesFirst, Counts, SpellsCounted};
+ghost use Rattle.scene_file.specs.Counting.{DecodesFirst, Counts, SpellsCounted, frames_with};
 
 use crate::fault::{Broken, SceneFault, fault_at, in_stream};
 use crate::header::{Head, MAGIC, read_head, read_letters};
@@ -22,11 +22,12 @@ use cmd_pack::reading::Decoded;
 use rc_base::scene::{Limit, Scene, SceneKind, Streams};
 use std::alloc::Global;
 
-/// A scene as far as it is stored, and how many commands its streams have.
+/// A scene as far as it is stored, how many commands its streams have, and how many frames it has: the least number of Swaps of a stream.
 #[derive(Debug, Drop)]
 pub(crate) struct Counted {
     pub(crate) scene: Scene,
     pub(crate) commands: usize,
+    pub(crate) frames: usize,
 }
 
 /// How many commands more may be stored.
@@ -34,6 +35,17 @@ fn room_behind(commands: usize) -> usize
     ensures { result ≡ 1048576 - commands }
 {
     1_048_576_usize.saturating_sub(commands)
+}
+
+/// The frames of one stream more, which has so many Swaps, behind some.
+fn frames_with(before: usize, frames: usize, swaps: usize) -> usize
+    ensures { result ≡ frames_with before frames swaps }
+{
+    if before == 0 {
+        swaps
+    } else {
+        frames.min(swaps)
+    }
 }
 
 #[tactic(auto, unfolding(crate::specs::Reading::read_text))]
@@ -62,7 +74,8 @@ fn is_end(rest: &[u8]) -> bool
     rest.is_empty()
 }
 
-/// The scene that the bytes spell, whatever its quantities. Its commands are counted, and stored where they are no more than a scene may have.
+/// The scene that the bytes spell, whatever its quantities. Its commands and frames are counted, and its commands stored where they are no more than
+/// a scene may have.
 fn read_spelled(alloc: Global, bytes: &[u8]) -> Result<Counted, Broken>
     ensures found { IfOk result (SpellsCounted bytes.now) }
     ensures fails { IfErr result (SceneFailsBy bytes.now) }
@@ -71,10 +84,12 @@ fn read_spelled(alloc: Global, bytes: &[u8]) -> Result<Counted, Broken>
     let (Head { decl, clients }, body) = read_head(alloc, body)?;
     let mut streams = Streams::new(alloc);
     let mut commands = 0;
+    let mut frames = 0;
     let mut rest = body;
     for _ in 0..clients {
         let room = room_behind(commands);
         let (decoded, after) = read_stream(alloc, room, rest)?;
+        frames = frames_with(streams.len(), frames, decoded.swaps);
         streams.push(decoded.commands)?;
         commands += decoded.count;
         rest = after;
@@ -86,14 +101,28 @@ fn read_spelled(alloc: Global, bytes: &[u8]) -> Result<Counted, Broken>
         });
     }
     let scene = Scene { decl, streams };
-    Ok(Counted { scene, commands })
+    Ok(Counted {
+        scene,
+        commands,
+        frames,
+    })
 }
 
 fn within_limits(counted: Counted) -> Result<Scene, SceneFault>
     ensures { (s : AnyScene) → Counts counted s → IsJudged s result }
 {
-    match check_counted(&counted.scene, counted.commands as u64) {
-        Ok(()) => Ok(counted.scene),
+    let Counted {
+        scene,
+        commands,
+        frames,
+    } = counted;
+    match check_counted(
+        &scene.decl,
+        scene.streams.len(),
+        commands as u64,
+        frames as u64,
+    ) {
+        Ok(()) => Ok(scene),
         Err(Limit { what, value }) => Err(SceneFault::Limit { what, value }),
     }
 }

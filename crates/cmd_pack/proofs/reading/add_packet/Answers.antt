@@ -1,4 +1,4 @@
-use Rattle.std.proofs.Common.{◌≡◌, Ok}
+use Rattle.std.proofs.Common.{◌≡◌, Ok, refl}
 use Rattle.std.proofs.lemmas.Result.{err_from_is_err_and}
 use Rattle.cmd_pack.specs.Packets.{read_opcodes}
 use Rattle.cmd_pack.proofs.PacketsKept.{count_failed, opcodes_failed, payloads_failed, packet_read, counted}
@@ -18,15 +18,17 @@ pub returns-in_err-rest : goal.returns-in_err-rest
 returns-in_err-rest c =
     let p = err_from_is_err_and c.from_residual-in_err-rest.result c.from_residual-in_err-rest.ensures.1 in
     rw (p.1, p.2)
-    (payloads_failed c.args.bytes.now c.in_ok-count.count c.in_ok-count.rest.now c.as_slice.result.now c.in_ok-opcodes.rest.now c.in_err-rest.field-0.0 c.in_ok-count.ensures
-    (rw c.as_slice.ensures.value c.in_ok-opcodes.ensures) c.in_err-rest.ensures)
+    (payloads_failed c.args.bytes.now c.in_ok-count.count c.in_ok-count.rest.now c.as_slice-opcodes.result.now c.in_ok-opcodes.rest.now c.in_err-rest.field-0.0 c.in_ok-count.ensures
+    (rw c.as_slice-opcodes.ensures.value c.in_ok-opcodes.ensures) c.in_err-rest.ensures)
 
 pub returns : goal.returns
 returns c =
     let h = c.in_ok-rest.ensures in
-    let opcodes : read_opcodes c.in_ok-count.count c.in_ok-count.rest.now ≡ Ok (c.as_slice.result.now, c.in_ok-opcodes.rest.now) = rw c.as_slice.ensures.value c.in_ok-opcodes.ensures in (
+    let n = c.in_ok-count.count in
+    let opcodes : read_opcodes n c.in_ok-count.rest.now ≡ Ok (c.as_slice-opcodes.result.now, c.in_ok-opcodes.rest.now) = rw c.as_slice-opcodes.ensures.value c.in_ok-opcodes.ensures in (
       h.0,
-      packet_read c.args.bytes.now c.in_ok-count.count c.in_ok-count.rest.now c.as_slice.result.now c.in_ok-opcodes.rest.now h.0 c.in_ok-rest.rest.now c.in_ok-count.ensures opcodes h.1,
-      counted c.in_ok-count.count c.in_ok-count.rest.now c.as_slice.result.now c.in_ok-opcodes.rest.now h.0 c.in_ok-rest.rest.now opcodes h.1,
+      packet_read c.args.bytes.now n c.in_ok-count.rest.now c.as_slice-opcodes.result.now c.in_ok-opcodes.rest.now h.0 c.in_ok-rest.rest.now c.in_ok-count.ensures opcodes h.1,
+      counted (record { commands = n; swaps = c.count_swaps-swaps.result }) n c.in_ok-count.rest.now c.as_slice-opcodes.result.now c.in_ok-opcodes.rest.now h.0 c.in_ok-rest.rest.now opcodes h.1
+          refl c.count_swaps-swaps.ensures,
       h.2,
     )

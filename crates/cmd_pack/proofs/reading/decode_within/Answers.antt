@@ -7,7 +7,7 @@ loop-rest-init c = rw c.new-commands.ensures (progress_none c.args.bytes.now c.a
 
 pub loop-rest-preserved : goal.loop-rest-preserved
 loop-rest-preserved c =
-    progress_more c.args.bytes.now c.args.room c.loop-rest.commands c.read_packet.new.commands c.loop-rest.count c.in-Ok.more c.loop-rest.rest.now c.in-Ok.after.now c.loop-rest.invariant
+    progress_more c.args.bytes.now c.args.room c.loop-rest.commands c.read_packet.new.commands c.loop-rest.count c.loop-rest.swaps c.in-Ok.more c.loop-rest.rest.now c.in-Ok.after.now c.loop-rest.invariant
     (rw c.saturating_sub.ensures at c.in-Ok.ensures.found)
 
 pub returns-in-Err-clause-fails : goal.returns-in-Err-clause-fails

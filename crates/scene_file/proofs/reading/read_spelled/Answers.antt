@@ -28,8 +28,8 @@ returns-in_err-decoded-clause-fails c =
 
 pub loop-preserved : goal.loop-preserved
 loop-preserved c =
-    rw c.in_ok-push.ensures.items
-    (progress_more c.args.bytes.now c.in_ok-decl.field-0-0.decl c.in_ok-decl.field-0-0.clients c.loop.counter c.loop.streams c.loop.commands c.loop.rest.now c.in_ok-decoded.decoded c.in_ok-decoded.after.now
+    rw (c.in_ok-push.ensures.items, c.frames_with-frames.ensures, c.len.ensures)
+    (progress_more c.args.bytes.now c.in_ok-decl.field-0-0.decl c.in_ok-decl.field-0-0.clients c.loop.counter c.loop.streams c.loop.commands c.loop.frames c.loop.rest.now c.in_ok-decoded.decoded c.in_ok-decoded.after.now
     c.loop.invariant (rw c.room_behind-room.ensures at c.in_ok-decoded.ensures.found))
 
 pub returns-then-not-is_end-clause-fails : goal.returns-then-not-is_end-clause-fails
@@ -39,5 +39,5 @@ returns-then-not-is_end-clause-fails c =
 
 pub returns-clause-found : goal.returns-clause-found
 returns-clause-found c =
-    progress_done c.args.bytes.now c.in_ok-decl.field-0-0.decl c.in_ok-decl.field-0-0.clients c.loop.counter c.loop.streams c.loop.commands c.loop.rest.now c.loop.invariant (omega arith)
+    progress_done c.args.bytes.now c.in_ok-decl.field-0-0.decl c.in_ok-decl.field-0-0.clients c.loop.counter c.loop.streams c.loop.commands c.loop.frames c.loop.rest.now c.loop.invariant (omega arith)
     (none_left c.is_end.result (length c.loop.rest.now) c.is_end.ensures c.if-not-is_end.false)
