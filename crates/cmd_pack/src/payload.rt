@@ -2,18 +2,18 @@
 ghost use Rattle.std.specs.Prelude.{◌≡◌, ◌≤◌, length, take};
 ghost use Rattle.rc_base.specs.Formats.Commands.{ranges_of, has_picture};
 ghost use Rattle.command_table.specs.Ranges.{AreIn};
-ghost use Rattle.cmd_pack.specs.Parts.{read_number, read_numbers, read_parts, texel_count};
-ghost use Rattle.cmd_pack.specs.Reading.{Reads, read_words};
+ghost use Rattle.cmd_pack.specs.Parts.{read_number, read_numbers, texel_count};
+ghost use Rattle.cmd_pack.specs.Reading.{Gives, Reads, take_bytes};
 ghost use Rattle.cmd_pack.specs.Packets.{AddsCommand, read_command};
 
 use crate::fault::{Form, ReadError};
 use crate::fields::{read_byte, read_half, read_word, take_bytes};
 use command_table::parts::Numbers;
 use command_table::{command_of, has_picture, picture_area, ranges_of};
-use rc_base::command::{Command, Commands, NumberRange, Opcode, Rgba};
-use rc_base::items::Items;
+use rc_base::command::{Commands, NumberRange, Opcode, Texels};
 use std::alloc::Global;
 
+#[inline(always)]
 fn read_number(range: NumberRange, bytes: &[u8]) -> Result<(i32, &[u8]), Form>
     ensures { Reads (λ x. (x.0, x.1.now)) result (read_number range bytes.now) }
 {
@@ -31,6 +31,7 @@ fn read_number(range: NumberRange, bytes: &[u8]) -> Result<(i32, &[u8]), Form>
 }
 
 /// Puts the numbers of these ranges to the front of the room.
+#[inline(always)]
 fn read_numbers<'a>(
     ranges: &[NumberRange],
     room: &mut Numbers,
@@ -48,80 +49,25 @@ fn read_numbers<'a>(
     Ok(rest)
 }
 
-/// How many bytes the texels of a command take: four for each texel of its picture, whose sides are its last two numbers.
-fn count_texels(opcode: Opcode, numbers: &[i32]) -> usize
+/// The texels of a command's picture, whose sides are its last two numbers: four bytes each, and none where it has no picture.
+fn read_texels<'a>(
+    alloc: Global,
+    opcode: Opcode,
+    numbers: &[i32],
+    bytes: &'a [u8],
+) -> Result<(Texels, &'a [u8]), ReadError>
     requires { AreIn (ranges_of opcode) numbers.now }
-    ensures { result ≡ texel_count (has_picture opcode) numbers.now }
+    ensures { Gives (λ x. (x.0, x.1.now)) result (take_bytes (texel_count (has_picture opcode) numbers.now) bytes.now) }
 {
-    if has_picture(opcode) {
-        4 * picture_area(numbers) as usize
-    } else {
-        0
+    if !has_picture(opcode) {
+        return Ok((Texels::new(alloc), bytes));
     }
+    let (texels, rest) = take_bytes(4 * picture_area(numbers) as usize, bytes)?;
+    Ok((Texels::from_slice(alloc, texels)?, rest))
 }
 
-#[tactic(auto, unfolding(crate::specs::Reading::read_words))]
-fn read_four_words(bytes: &[u8]) -> Result<([i32; 4], &[u8]), Form>
-    ensures { Reads (λ x. (x.0, x.1.now)) result (read_words 4 bytes.now) }
-{
-    let (x, rest) = read_word(bytes)?;
-    let (y, rest) = read_word(rest)?;
-    let (z, rest) = read_word(rest)?;
-    let (w, rest) = read_word(rest)?;
-    Ok(([x, y, z, w], rest))
-}
-
-#[tactic(auto, unfolding(crate::specs::Packets::read_command, crate::specs::Packets::read_fields, crate::specs::Packets::read_value))]
-fn read_vertex(bytes: &[u8]) -> Result<([i32; 4], &[u8]), Form>
-    ensures { Reads (λ x. (Command.Vertex x.0, x.1.now)) result (read_command Opcode.Vertex bytes.now) }
-{
-    read_four_words(bytes)
-}
-
-#[tactic(auto, unfolding(crate::specs::Packets::read_command, crate::specs::Packets::read_fields, crate::specs::Packets::read_value))]
-fn read_color(bytes: &[u8]) -> Result<(Rgba, &[u8]), Form>
-    ensures { Reads (λ x. (Command.Color x.0, x.1.now)) result (read_command Opcode.Color bytes.now) }
-{
-    let (r, rest) = read_byte(bytes)?;
-    let (g, rest) = read_byte(rest)?;
-    let (b, rest) = read_byte(rest)?;
-    let (a, rest) = read_byte(rest)?;
-    Ok((Rgba { r, g, b, a }, rest))
-}
-
-#[tactic(auto, unfolding(crate::specs::Packets::read_command, crate::specs::Packets::read_fields, crate::specs::Packets::read_value))]
-fn read_tex_coord(bytes: &[u8]) -> Result<((i32, i32), &[u8]), Form>
-    ensures { Reads (λ x. (Command.TexCoord x.0.0 x.0.1, x.1.now)) result (read_command Opcode.TexCoord bytes.now) }
-{
-    let (s, rest) = read_word(bytes)?;
-    let (t, rest) = read_word(rest)?;
-    Ok(((s, t), rest))
-}
-
-fn add_vertex<'a>(commands: &mut Commands, bytes: &'a [u8]) -> Result<&'a [u8], ReadError>
-    ensures { AddsCommand (λ rest. rest.now) commands.old commands.new result (read_command Opcode.Vertex bytes.now) }
-{
-    let (pos, rest) = read_vertex(bytes)?;
-    commands.push(Command::Vertex { pos })?;
-    Ok(rest)
-}
-
-fn add_color<'a>(commands: &mut Commands, bytes: &'a [u8]) -> Result<&'a [u8], ReadError>
-    ensures { AddsCommand (λ rest. rest.now) commands.old commands.new result (read_command Opcode.Color bytes.now) }
-{
-    let (color, rest) = read_color(bytes)?;
-    commands.push(Command::Color(color))?;
-    Ok(rest)
-}
-
-fn add_tex_coord<'a>(commands: &mut Commands, bytes: &'a [u8]) -> Result<&'a [u8], ReadError>
-    ensures { AddsCommand (λ rest. rest.now) commands.old commands.new result (read_command Opcode.TexCoord bytes.now) }
-{
-    let ((s, t), rest) = read_tex_coord(bytes)?;
-    commands.push(Command::TexCoord { s, t })?;
-    Ok(rest)
-}
-
+/// Adds the command of an opcode, by the table. It is inlined where the opcode is known, and there only this opcode's row is left of the table.
+#[inline(always)]
 fn add_any<'a>(
     alloc: Global,
     commands: &mut Commands,
@@ -134,14 +80,13 @@ fn add_any<'a>(
     let mut room = [0; 16];
     let rest = read_numbers(ranges, &mut room, bytes)?;
     let numbers = &room[..ranges.len()];
-    let (texels, rest) = take_bytes(count_texels(opcode, numbers), rest)?;
-    let texels = Items::from_slice(alloc, texels)?;
+    let (texels, rest) = read_texels(alloc, opcode, numbers, rest)?;
     commands.push(command_of(opcode, numbers, texels))?;
     Ok(rest)
 }
 
-/// Adds the command of an opcode whose payload stands at the front, and gives the bytes behind it. The commands that blocks are made of, which are
-/// most of a stream, are read without the table of ranges.
+/// Adds the command of an opcode whose payload stands at the front, and gives the bytes behind it. Each opcode has a branch of its own, so the table
+/// is read when this is compiled.
 pub fn add_command<'a>(
     alloc: Global,
     commands: &mut Commands,
@@ -151,9 +96,41 @@ pub fn add_command<'a>(
     ensures { AddsCommand (λ rest. rest.now) commands.old commands.new result (read_command opcode bytes.now) }
 {
     match opcode {
-        Opcode::Vertex => add_vertex(commands, bytes),
-        Opcode::Color => add_color(commands, bytes),
-        Opcode::TexCoord => add_tex_coord(commands, bytes),
-        _ => add_any(alloc, commands, opcode, bytes),
+        Opcode::Begin => add_any(alloc, commands, Opcode::Begin, bytes),
+        Opcode::End => add_any(alloc, commands, Opcode::End, bytes),
+        Opcode::Vertex => add_any(alloc, commands, Opcode::Vertex, bytes),
+        Opcode::Color => add_any(alloc, commands, Opcode::Color, bytes),
+        Opcode::TexCoord => add_any(alloc, commands, Opcode::TexCoord, bytes),
+        Opcode::Enable => add_any(alloc, commands, Opcode::Enable, bytes),
+        Opcode::Disable => add_any(alloc, commands, Opcode::Disable, bytes),
+        Opcode::MatrixMode => add_any(alloc, commands, Opcode::MatrixMode, bytes),
+        Opcode::LoadIdentity => add_any(alloc, commands, Opcode::LoadIdentity, bytes),
+        Opcode::LoadMatrix => add_any(alloc, commands, Opcode::LoadMatrix, bytes),
+        Opcode::MultMatrix => add_any(alloc, commands, Opcode::MultMatrix, bytes),
+        Opcode::PushMatrix => add_any(alloc, commands, Opcode::PushMatrix, bytes),
+        Opcode::PopMatrix => add_any(alloc, commands, Opcode::PopMatrix, bytes),
+        Opcode::Viewport => add_any(alloc, commands, Opcode::Viewport, bytes),
+        Opcode::DepthRange => add_any(alloc, commands, Opcode::DepthRange, bytes),
+        Opcode::Scissor => add_any(alloc, commands, Opcode::Scissor, bytes),
+        Opcode::AlphaFunc => add_any(alloc, commands, Opcode::AlphaFunc, bytes),
+        Opcode::DepthFunc => add_any(alloc, commands, Opcode::DepthFunc, bytes),
+        Opcode::DepthMask => add_any(alloc, commands, Opcode::DepthMask, bytes),
+        Opcode::BlendFunc => add_any(alloc, commands, Opcode::BlendFunc, bytes),
+        Opcode::ColorMask => add_any(alloc, commands, Opcode::ColorMask, bytes),
+        Opcode::ClearColor => add_any(alloc, commands, Opcode::ClearColor, bytes),
+        Opcode::ClearDepth => add_any(alloc, commands, Opcode::ClearDepth, bytes),
+        Opcode::Clear => add_any(alloc, commands, Opcode::Clear, bytes),
+        Opcode::CullFace => add_any(alloc, commands, Opcode::CullFace, bytes),
+        Opcode::FrontFace => add_any(alloc, commands, Opcode::FrontFace, bytes),
+        Opcode::BindTexture => add_any(alloc, commands, Opcode::BindTexture, bytes),
+        Opcode::TexEnv => add_any(alloc, commands, Opcode::TexEnv, bytes),
+        Opcode::TexWrap => add_any(alloc, commands, Opcode::TexWrap, bytes),
+        Opcode::TexImage => add_any(alloc, commands, Opcode::TexImage, bytes),
+        Opcode::TexPart => add_any(alloc, commands, Opcode::TexPart, bytes),
+        Opcode::SharedImage => add_any(alloc, commands, Opcode::SharedImage, bytes),
+        Opcode::Barrier => add_any(alloc, commands, Opcode::Barrier, bytes),
+        Opcode::SemP => add_any(alloc, commands, Opcode::SemP, bytes),
+        Opcode::SemV => add_any(alloc, commands, Opcode::SemV, bytes),
+        Opcode::Swap => add_any(alloc, commands, Opcode::Swap, bytes),
     }
 }

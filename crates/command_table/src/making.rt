@@ -79,7 +79,8 @@ fn texture_part(numbers: &[i32], texels: Texels) -> Part
     }
 }
 
-/// The command of an opcode with these numbers and texels.
+/// The command of an opcode with these numbers and texels. It is inlined: a caller that knows the opcode has its case alone.
+#[inline(always)]
 pub fn command_of(opcode: Opcode, numbers: &[i32], texels: Texels) -> Command
     requires numbers { AreIn (ranges_of opcode) numbers.now }
     requires texels { has_picture opcode ≡ false → texels ≡ [] }

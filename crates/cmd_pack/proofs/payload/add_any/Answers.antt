@@ -12,8 +12,8 @@ returns-in_err-rest c =
     let p = err_from_is_err_and c.from_residual.result c.from_residual.ensures.1 in
     rw (p.1, p.2) (numbers_failed c.args.opcode c.args.bytes.now (errors.Form c.in_err-rest.field-0.0) (rw (← c.ranges_of-ranges.ensures) c.in_err-rest.ensures))
 
-pub count_texels-requires : goal.count_texels-requires
-count_texels-requires c =
+pub read_texels-requires : goal.read_texels-requires
+read_texels-requires c =
     let o = c.args.opcode in
     let numbers = take (length c.ranges_of-ranges.result.now) c.read_numbers.new.room in
     let read : read_numbers (ranges_of o) c.args.bytes.now ≡ Ok (numbers, c.in_ok-rest.rest.now) =
@@ -27,7 +27,7 @@ returns-in_err-texels c =
     let read : read_numbers (ranges_of o) c.args.bytes.now ≡ Ok (numbers, c.in_ok-rest.rest.now) =
     subst (λ (rs : List NumberRange). read_numbers rs c.args.bytes.now ≡ Ok (numbers, c.in_ok-rest.rest.now)) c.ranges_of-ranges.ensures c.in_ok-rest.ensures in
     let p = err_from_is_err_and c.from_residual-in_err-texels.result c.from_residual-in_err-texels.ensures.1 in
-    rw (p.1, p.2) (texels_failed o c.args.bytes.now c.in_ok-rest.rest.now numbers (errors.Form c.in_err-texels.field-0.0) read (rw (← c.count_texels.ensures) c.in_err-texels.ensures))
+    rw (p.1, p.2) (texels_failed o c.args.bytes.now c.in_ok-rest.rest.now numbers c.in_err-texels.field-0.0 read c.in_err-texels.ensures)
 
 pub command_of-requires-clause-numbers : goal.command_of-requires-clause-numbers
 command_of-requires-clause-numbers c =
@@ -44,7 +44,7 @@ returns c =
     let read : read_numbers (ranges_of o) c.args.bytes.now ≡ Ok (numbers, c.in_ok-rest.rest.now) =
     subst (λ (rs : List NumberRange). read_numbers rs c.args.bytes.now ≡ Ok (numbers, c.in_ok-rest.rest.now)) c.ranges_of-ranges.ensures c.in_ok-rest.ensures in (
       c.command_of.result,
-      command_done o c.args.bytes.now c.in_ok-rest.rest.now c.in_ok-texels.rest.now numbers c.in_ok-texels.texels.now c.command_of.result read
-          (rw (← c.count_texels.ensures) c.in_ok-texels.ensures) (rw (← c.in_ok-texels-2.ensures) c.command_of.ensures),
+      command_done o c.args.bytes.now c.in_ok-rest.rest.now c.in_ok-texels.rest.now numbers c.in_ok-texels.texels c.command_of.result read c.in_ok-texels.ensures
+          c.command_of.ensures,
       c.in_ok-push.ensures.items,
     )
