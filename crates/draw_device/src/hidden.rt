@@ -7,7 +7,7 @@ ghost use Rattle.rc_base.specs.declared.window.Fragment.{Fragment as AnyFragment
 ghost use Rattle.rc_base.specs.declared.window.Pixel.{Pixel as AnyPixel};
 ghost use Rattle.raster.specs.Colors.{is_depth};
 ghost use Rattle.fragment_ops.specs.DepthTests.{IsDepthTest};
-ghost use Rattle.draw_device.specs.Loops.{run_from, IsRun, IsRunCovered, IsHidden, IsDepthAt, HasDepths};
+ghost use Rattle.draw_device.specs.Loops.{IsRun, IsRunCovered, IsHidden, IsDepthAt, HasDepths};
 
 use crate::run::Run;
 use crate::stepped::depth_by;

@@ -489,8 +489,6 @@ fn visible_run(
     ensures high { result.from ≤ run.to }
     ensures hidden { IsHidden state.now tri.now.v run result.from pixels.now }
 {
-    let _state = state;
-    let _tri = tri;
     if plan.untested {
         return run;
     }
