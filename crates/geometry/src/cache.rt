@@ -59,6 +59,7 @@ impl<'a> VertexCache<'a> {
     }
 
     // Brings a vertex to the window.
+    #[inline(always)]
     fn placed(&self, index: usize) -> Corner
         requires { index < length self.now.vertices.now }
         ensures index { result.index ≡ index }
@@ -68,24 +69,6 @@ impl<'a> VertexCache<'a> {
             index,
             at: window_vertex(self.state, self.identities, &self.vertices[index]),
         }
-    }
-
-    // The vertex as it is kept, or brought to the window.
-    fn corner(&self, index: usize) -> Corner
-        requires { index < length self.now.vertices.now }
-        ensures index { result.index ≡ index }
-        ensures at { IsCorner self.now.state.now self.now.vertices.now result }
-    {
-        if self.third.index == index {
-            return self.third;
-        }
-        if self.second.index == index {
-            return self.second;
-        }
-        if self.first.index == index {
-            return self.first;
-        }
-        self.placed(index)
     }
 
     // The oriented triangle, where it has an area and isn't culled.
@@ -150,20 +133,13 @@ impl<'a> VertexCache<'a> {
     {
         if self.first.index == corners[0] && self.third.index == corners[1] {
             self.second = self.third;
-            self.third = self.placed(corners[2]);
-            return;
-        }
-        if self.third.index == corners[0] && self.second.index == corners[1] {
+        } else if self.third.index == corners[0] && self.second.index == corners[1] {
             self.first = self.third;
-            self.third = self.placed(corners[2]);
-            return;
+        } else {
+            self.first = self.placed(corners[0]);
+            self.second = self.placed(corners[1]);
         }
-        let a = self.corner(corners[0]);
-        let b = self.corner(corners[1]);
-        let c = self.corner(corners[2]);
-        self.first = a;
-        self.second = b;
-        self.third = c;
+        self.third = self.placed(corners[2]);
     }
 
     /// The triangle of three vertices in window coordinates, by their indices: as `to_window` gives it of the same vertices.

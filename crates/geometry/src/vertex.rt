@@ -193,6 +193,7 @@ fn is_in(z: i128, bound: u32) -> bool
 }
 
 // The vertex with these coordinates, where they are in bounds; the rest of it is `v`'s.
+#[inline(always)]
 fn narrow(v: &Vertex, x: i128, y: i128, z: i128) -> Option<WindowVertex>
     ensures { MatchOption result
         (is_in_bounds (vertex_with v.now x y z) ≡ false)
@@ -259,6 +260,7 @@ fn depth_in(near: i32, far: i32, z: i32) -> i128
 }
 
 // The vertex in window coordinates where the matrices move nothing and w is one.
+#[inline(always)]
 fn unit_vertex(state: &State, v: &Vertex) -> Option<WindowVertex>
     requires clip { clip_of state.now v.now ≡ four v.now.pos }
     requires w { entry v.now.pos 3 ≡ pos 65536 }
@@ -278,8 +280,28 @@ fn is_unit(identities: Identities, v: &Vertex) -> bool
     identities.modelview && identities.projection && v.pos[3] == ONE
 }
 
-/// The vertex in window coordinates, where it stands before the eye and within their bounds.
+// Where a vertex stands in the window by any matrices, if it stands before the eye. It gives numbers, and the vertex is made of them where it is
+// kept, so that it isn't copied.
+#[inline(never)]
 #[tactic(auto, unfolding(rc_base::specs::Drawing::Window::is_placed, rc_base::specs::Drawing::Window::window_of))]
+fn any_place(state: &State, identities: Identities, v: &Vertex) -> Option<[i128; 3]>
+    requires { AreIdentities state.now identities }
+    ensures { MatchOption result
+        (is_placed state.now v.now ≡ false)
+        (λ p. (pos 0 <ℤ entry (clip_of state.now v.now) 3) × (vertex_with v.now (entry p 0) (entry p 1) (entry p 2) ≡ window_of state.now v.now)) }
+{
+    let c = clip(state, identities, v);
+    if c[3] <= 0 {
+        return None;
+    }
+    let x = axis(state.viewport[0], state.viewport[2], c[0], c[3]);
+    let y = axis(state.viewport[1], state.viewport[3], c[1], c[3]);
+    let z = depth(state.depth_range[0], state.depth_range[1], c[2], c[3]);
+    Some([x, y, z])
+}
+
+/// The vertex in window coordinates, where it stands before the eye and within their bounds.
+#[inline(always)]
 pub(crate) fn window_vertex(
     state: &State,
     identities: Identities,
@@ -291,12 +313,6 @@ pub(crate) fn window_vertex(
     if is_unit(identities, v) {
         return unit_vertex(state, v);
     }
-    let c = clip(state, identities, v);
-    if c[3] <= 0 {
-        return None;
-    }
-    let x = axis(state.viewport[0], state.viewport[2], c[0], c[3]);
-    let y = axis(state.viewport[1], state.viewport[3], c[1], c[3]);
-    let z = depth(state.depth_range[0], state.depth_range[1], c[2], c[3]);
+    let [x, y, z] = any_place(state, identities, v)?;
     narrow(v, x, y, z)
 }

@@ -10,6 +10,19 @@ use crate::columns::{Places, kept_columns};
 use rc_base::triangle::WindowTriangle;
 use rc_base::window::{Rect, Span};
 
+// The columns from `x0` to below `x1` of a row that the triangle covers. A function of its own: where it is part of the loop over rows, the compiler
+// prepares all of the triangle's edges before each row. It gives two numbers and no span, since these go back in a register.
+#[inline(never)]
+fn row_places(tri: &WindowTriangle, y: i32, x0: i32, x1: i32) -> Places
+    requires { x0 ≤ℤ x1 }
+    ensures none { result.x1 ≤ℤ result.x0 → IsEmptyRow tri.now.v y x0 x1 }
+    ensures some { result.x0 <ℤ result.x1 → IsRowSpan tri.now.v y x0 x1 (record { y = y; x0 = result.x0; x1 = result.x1 }) }
+{
+    let first = kept_columns(&tri.v[0], &tri.v[1], y, Places { x0, x1 });
+    let second = kept_columns(&tri.v[1], &tri.v[2], y, first);
+    kept_columns(&tri.v[2], &tri.v[0], y, second)
+}
+
 // The covered pixels of a row from `x0` to below `x1`.
 fn row_span(tri: &WindowTriangle, y: i32, x0: i32, x1: i32) -> Option<Span>
     requires { x0 ≤ℤ x1 }
@@ -17,16 +30,14 @@ fn row_span(tri: &WindowTriangle, y: i32, x0: i32, x1: i32) -> Option<Span>
         (IsEmptyRow tri.now.v y x0 x1)
         (λ s. IsRowSpan tri.now.v y x0 x1 s) }
 {
-    let first = kept_columns(&tri.v[0], &tri.v[1], y, Places { x0, x1 });
-    let second = kept_columns(&tri.v[1], &tri.v[2], y, first);
-    let third = kept_columns(&tri.v[2], &tri.v[0], y, second);
-    if third.x1 <= third.x0 {
+    let places = row_places(tri, y, x0, x1);
+    if places.x1 <= places.x0 {
         return None;
     }
     Some(Span {
         y,
-        x0: third.x0,
-        x1: third.x1,
+        x0: places.x0,
+        x1: places.x1,
     })
 }
 

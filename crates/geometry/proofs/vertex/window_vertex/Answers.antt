@@ -1,12 +1,9 @@
-use Rattle.std.proofs.Common.{◌≡◌, to_z-of_z, to_z, of_z, FitsSigned, ◌<ℤ◌, arith, pos, ℤ, List, subst, rules}
-use Rattle.std.proofs.lemmas.Int.{ints}
+use Rattle.std.proofs.Common.{to_z-of_z, FitsSigned, rules}
 use mir.Syntax.{w128}
 use Rattle.rc_base.specs.Numbers.{entry}
-use Rattle.rc_base.specs.Drawing.Window.{window_of, clip_of}
 use Rattle.geometry.specs.Vertices.{vertex_with}
 use Rattle.geometry.proofs.Facing.{place_of}
 use Rattle.geometry.proofs.Units.{clip_fixed}
-use Rattle.rc_base.specs.declared.window.WindowVertex.{WindowVertex}
 use Rattle.geometry.proofs.vertex.window_vertex.Goals as goal
 
 pub unit_vertex-requires-clause-clip : goal.unit_vertex-requires-clause-clip
@@ -17,13 +14,12 @@ unit_vertex-requires-clause-clip c =
     clip_fixed c.args.state.now c.args.v.now m p
 
 pub returns : goal.returns
-unfolding window_of
 returns c =
     let s = c.args.state.now in
     let v = c.args.v.now in
-    let a : WindowVertex = vertex_with v (to_z w128 (of_z w128 c.axis-x.result)) (to_z w128 (of_z w128 c.axis-y.result)) (to_z w128 (of_z w128 c.depth-z.result)) in
-    let q : a ≡ window_of s v = grind (arith, to_z-of_z) in
-    let f : FitsSigned w128 (entry c.clip-c.result 3) = search rules in
-    let g : pos 0 <ℤ entry c.clip-c.result 3 = omega (arith, ints) in
-    let h : pos 0 <ℤ entry (clip_of s v) 3 = subst (λ (l : List ℤ). pos 0 <ℤ entry l 3) c.clip-c.ensures.value g in
-    place_of s v a c.narrow.result h q c.narrow.ensures
+    let e = c.in_ok-x.ensures in
+    let p = c.in_ok-x.field-0 in
+    let x : FitsSigned w128 (entry p 0) = search rules in
+    let y : FitsSigned w128 (entry p 1) = search rules in
+    let z : FitsSigned w128 (entry p 2) = search rules in
+    place_of s v (vertex_with v (entry p 0) (entry p 1) (entry p 2)) c.narrow.result e.0 e.1 (rw (to_z-of_z x, to_z-of_z y, to_z-of_z z) at c.narrow.ensures)
