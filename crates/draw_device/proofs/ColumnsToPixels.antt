@@ -6,6 +6,7 @@ use Rattle.std.proofs.lemmas.Grind.{get_or-set_at}
 use lib.ListN.{set}
 use Rattle.rc_base.specs.Pictures.{Picture}
 use Rattle.rc_base.specs.Drawing.Cover.{is_inside}
+use Rattle.rc_base.specs.declared.command.Rgba.{Rgba}
 use Rattle.rc_base.specs.declared.state.State.{State}
 use Rattle.rc_base.specs.declared.window.Pixel.{Pixel}
 use Rattle.rc_base.specs.declared.window.Rect.{Rect}
@@ -14,9 +15,13 @@ use Rattle.raster.specs.Spans.{IsOnlyColumn, AreEmptyRows}
 use Rattle.raster.specs.Colors.{IsColorRise}
 use Rattle.raster.specs.declared.color.ColorRamp.{ColorRamp}
 use Rattle.raster.specs.declared.column.Column.{Column}
-use Rattle.draw_device.specs.Pixels.{pixel_at}
+use Rattle.fragment_ops.specs.DepthTests.{pixel}
+use Rattle.draw_device.specs.Pixels.{pixel_at, color_at, depth_at, pixels_of}
 use Rattle.draw_device.specs.Clips.{IsPartWhere, is_let_through}
-use Rattle.draw_device.specs.Columns.{place_in, IsColumnStepped, IsColumnDrawn, IsRiseAt}
+use Rattle.draw_device.specs.Columns.{place_in, column_fragment, IsColumnCovered, IsColumnStepped, IsColumnColored, IsColumnDrawn, IsRiseAt}
+use Rattle.draw_device.specs.Loops.{HasDepths, StoresColor}
+use Rattle.draw_device.proofs.Lists.{length_pixels, pixel_in}
+use Rattle.draw_device.proofs.Steps.{alone_step}
 use Rattle.draw_device.specs.Shapes.{column_at, row_at, grid_rect, fragment_pixel, covered_step, IsStepped}
 use Rattle.draw_device.specs.declared.column_run.ColumnRun.{ColumnRun}
 use Rattle.draw_device.specs.declared.extent.Extent.{Extent}
@@ -27,39 +32,37 @@ apart : (r : ColumnRun) (j k : ℕ) → r.across < r.width → j < k → place_i
 apart r j k h l = let m : j * r.width + r.width ≤ k * r.width = next_row r.width j k l in omega arith
 
 -- one more row
-column_more : (f : ℤ → ℤ → Pixel → Pixel) (r : ColumnRun) (y : ℕ) (old now : List Pixel) (p : Pixel) → r.across < r.width
-    → IsColumnStepped f r y old now → r.from ≤ y → place_in r y < length now
-    → p ≡ f (pos (r.left + r.across)) (pos (r.bottom + y)) (pixel_at now (place_in r y))
-    → IsColumnStepped f r (y + 1) old (set now (place_in r y) p)
-column_more f r y old now p inside d h l e =
-    let at = place_in r y in
-    let was : pixel_at now at ≡ pixel_at old at = d.rest at (λ k m n q. let a = apart r k y inside n in absurd (omega (arith, a, q))) in
-    record {
-      size = length-set _ _ _ ∙ d.size;
-      run = λ k m n. by_lt_z (pos k) (pos y)
-          (λ o. let before : k < y = omega (arith, ints, o) in
-          let a = apart r k y inside before in get_or-set_other now at (place_in r k) p _ (omega (arith, a)) ∙ d.run k m before)
-          (λ o. let same : k ≡ y = omega (arith, ints, o, n) in
-          get_or-set_at now at (place_in r k) p _ (ap (place_in r) same) l ∙ e
-          ∙ subst (λ (z : ℕ). f (pos (r.left + r.across)) (pos (r.bottom + y)) (pixel_at now at) ≡ f (pos (r.left + r.across)) (pos (r.bottom + z)) (pixel_at old (place_in r z)))
-          (sym same) (ap (λ (z : Pixel). f (pos (r.left + r.across)) (pos (r.bottom + y)) z) was));
-      rest = λ n o. get_or-set_other now at n p _ (λ q. o y h (omega arith) q) ∙ d.rest n (λ k m q. o k m (omega arith));
-    }
+pub colored_more : (g : ℕ → Rgba) (r : ColumnRun) (y at : ℕ) (old now : List Rgba) (q : Rgba) → r.across < r.width → IsColumnColored g r y old now → r.from ≤ y
+    → at ≡ place_in r y → at < length now → q ≡ g y → IsColumnColored g r (y + 1) old (set now at q)
+colored_more g r y at old now q inside d h e l s = record {
+  size = length-set _ _ _ ∙ d.size;
+  run = λ k m n. by_lt_z (pos k) (pos y)
+      (λ o. let before : k < y = omega (arith, ints, o) in
+      let a = apart r k y inside before in get_or-set_other now at (place_in r k) q _ (omega (arith, a, e)) ∙ d.run k m before)
+      (λ o. let same : k ≡ y = omega (arith, ints, o, n) in
+      get_or-set_at now at (place_in r k) q _ (ap (place_in r) same ∙ sym e) l ∙ s ∙ ap g (sym same));
+  rest = λ n o. get_or-set_other now at n q _ (λ z. o y h (omega arith) (z ∙ e)) ∙ d.rest n (λ k m u. o k m (omega arith));
+}
 
--- the same at the index of the place
-pub column_next : (f : ℤ → ℤ → Pixel → Pixel) (r : ColumnRun) (y at : ℕ) (old now : List Pixel) (p : Pixel) → r.across < r.width
-    → IsColumnStepped f r y old now → r.from ≤ y → at ≡ place_in r y → at < length now
-    → p ≡ f (pos (r.left + r.across)) (pos (r.bottom + y)) (pixel_at now at) → IsColumnStepped f r (y + 1) old (set now at p)
-column_next f r y at old now p inside d h e =
-    subst (λ (n : ℕ). n < length now → p ≡ f (pos (r.left + r.across)) (pos (r.bottom + y)) (pixel_at now n) → IsColumnStepped f r (y + 1) old (set now n p)) (sym e)
-    (λ l s. column_more f r y old now p inside d h l s)
+pub colored_none : (g : ℕ → Rgba) (r : ColumnRun) (old : List Rgba) → IsColumnColored g r r.from old old
+colored_none g r old = record { size = refl; run = λ k m n. absurd (omega arith); rest = λ n h. refl }
 
-pub column_none : (f : ℤ → ℤ → Pixel → Pixel) (r : ColumnRun) (old : List Pixel) → IsColumnStepped f r r.from old old
-column_none f r old = record { size = refl; run = λ k m n. absurd (omega arith); rest = λ n h. refl }
+pub colored_end : (g : ℕ → Rgba) (r : ColumnRun) (y to : ℕ) (old now : List Rgba) → y ≡ to → IsColumnColored g r y old now → IsColumnColored g r to old now
+colored_end g r y to old now e d = subst (λ (n : ℕ). IsColumnColored g r n old now) e d
 
-pub column_end : (f : ℤ → ℤ → Pixel → Pixel) (r : ColumnRun) (y to : ℕ) (old now : List Pixel) → y ≡ to → IsColumnStepped f r y old now
-    → IsColumnStepped f r to old now
-column_end f r y to old now e d = subst (λ (n : ℕ). IsColumnStepped f r n old now) e d
+-- a column whose colours alone are stored
+pub column_stored : (s : State) (v : List WindowVertex) (g : ℕ → Rgba) (r : ColumnRun) (old new : List Rgba) → StoresColor s → HasDepths v → IsColumnCovered v r
+    → ((k : ℕ) → r.from ≤ k → k < r.to → g k ≡ (column_fragment v r k).color) → IsColumnColored g r r.to old new → IsColumnDrawn s None v r old new
+column_stored s v g r old new kind ranged covered colors d ds e = record {
+  size = length_pixels new ds (e ∙ sym d.size) ∙ d.size ∙ sym (length_pixels old ds e);
+  run = λ k m n. at (place_in r k) ∙ (λ i. pixel (d.run k m n i) (depth_at ds (place_in r k)))
+      ∙ alone_step s None (column_fragment v r k) (g k) (pixel (color_at old (place_in r k)) (depth_at ds (place_in r k))) kind (ranged _ _ (covered k m n)) (colors k m n)
+      ∙ ap (λ (o : Pixel). fragment_pixel s None v (pos (r.left + r.across)) (pos (r.bottom + k)) o) (sym (pixel_in old ds (place_in r k) e));
+  rest = λ n h. at n ∙ (λ i. pixel (d.rest n h i) (depth_at ds n)) ∙ sym (pixel_in old ds n e);
+}
+  where
+    at : (n : ℕ) → pixel_at (pixels_of new ds) n ≡ pixel (color_at new n) (depth_at ds n)
+    at n = pixel_in new ds n (e ∙ sym d.size)
 
 -- the next row's colour
 pub rise_moved : (v : List WindowVertex) (r : ColumnRun) (k : ℕ) (ramp : ColorRamp)
@@ -132,7 +135,7 @@ module _ (s : State) (picture : Option Picture) (v : List WindowVertex) (g : Ext
   pub column_drawn : (c : Column) (r : ColumnRun) (old new : List Pixel) → IsOnlyColumn v part c
       → r.left ≡ g.left → r.bottom ≡ g.bottom → r.width ≡ g.width → r.across < g.width
       → c.x ≡ pos (g.left + r.across) → c.y0 ≡ pos (g.bottom + r.from) → c.y1 ≡ pos (g.bottom + r.to)
-      → IsColumnDrawn s picture v r old new → IsStepped (covered_step s picture v) g old new
+      → IsColumnStepped (fragment_pixel s picture v) r r.to old new → IsStepped (covered_step s picture v) g old new
   column_drawn c r old new n el eb ew inside ex ey ez d = record { each = by }
     where
       kept : (i j : ℕ) → i < g.width → j < g.height → column_test c (column_at g i) (row_at g j) ≡ false

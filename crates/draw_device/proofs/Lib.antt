@@ -1,4 +1,5 @@
 mod Clipping
+mod Lists
 mod Runs
 mod SpansToPixels
 mod BlockPixels

@@ -1,63 +1,98 @@
--- One more column of a run.
-use Rattle.std.proofs.Common.{Option, None, Some, is_some, false, ◌≡◌, ℕ, ◌+◌, ◌<◌, ◌≤◌, ℤ, pos, List, length, get_or, arith, ap, subst, sym, refl, ◌∙◌, length-set}
+-- The pixels of a run, one after the other and by a row of colours.
+use Rattle.std.proofs.Common.{Option, None, Some, is_some, false, ◌≡◌, ℕ, ◌+◌, ◌<◌, ◌≤◌, ℤ, pos, List, length, arith, ap, subst, sym, refl, ◌∙◌, length-set}
 use Rattle.std.proofs.lemmas.Int.{ints, by_lt_z}
-use Rattle.std.proofs.lemmas.List.{get_or-set_other, get_or_default}
+use Rattle.std.proofs.lemmas.List.{get_or-set_other}
 use Rattle.std.proofs.lemmas.Grind.{get_or-set_at}
 use lib.ListN.{set}
 use Rattle.rc_base.specs.Pictures.{Picture}
+use Rattle.rc_base.specs.Drawing.Fragment.{fragment_of}
+use Rattle.rc_base.specs.declared.command.Rgba.{Rgba}
 use Rattle.rc_base.specs.declared.state.State.{State}
 use Rattle.rc_base.specs.declared.window.Pixel.{Pixel}
 use Rattle.rc_base.specs.declared.window.WindowVertex.{WindowVertex}
-use Rattle.draw_device.specs.Pixels.{pixel_at}
+use Rattle.fragment_ops.specs.DepthTests.{pixel}
+use Rattle.draw_device.specs.Pixels.{pixel_at, color_at, depth_at, pixels_of}
 use Rattle.draw_device.specs.Shapes.{fragment_pixel, IsRunStepped}
-use Rattle.draw_device.specs.Loops.{run_from, IsRunCovered, IsRunDrawn, IsHidden}
+use Rattle.draw_device.specs.Loops.{run_fragment, run_from, AreCovered, IsRunCovered, IsRunDrawn, IsColorStepped, IsColorDrawn, IsHidden, IsColorRun, HasDepths, StoresColor, AreWritten}
+use Rattle.draw_device.proofs.Lists.{length_pixels, pixel_in, set_pixel}
+use Rattle.draw_device.proofs.Steps.{alone_step, stored_step}
 use Rattle.draw_device.specs.declared.run.Run.{Run}
 
-pub run_more : (f : ℤ → ℤ → Pixel → Pixel) (left row start from x : ℕ) (old now : List Pixel) (p q : Pixel)
-    → IsRunStepped f left row start from x old now → from ≤ x → start + x < length now
-    → q ≡ get_or now (start + x) q → p ≡ f (pos (left + x)) (pos row) q → IsRunStepped f left row start from (x + 1) old (set now (start + x) p)
-run_more f left row start from x old now p q d h l e s =
-    let was : q ≡ pixel_at old (start + x) = e ∙ get_or_default now (start + x) q _ l ∙ d.after (start + x) (omega arith) in
-    record {
-      size = length-set _ _ _ ∙ d.size;
-      run = λ k m n. by_lt_z (pos k) (pos x)
-          (λ o. get_or-set_other now (start + x) (start + k) p _ (omega (arith, ints, o)) ∙ d.run k m (omega (arith, ints, o)))
-          (λ o. let same : k ≡ x = omega (arith, ints, o, n) in
-          get_or-set_at now (start + x) (start + k) p _ (omega (arith, same)) l ∙ s
-          ∙ subst (λ (z : ℕ). f (pos (left + x)) (pos row) q ≡ f (pos (left + z)) (pos row) (pixel_at old (start + z))) (sym same)
-          (ap (λ (z : Pixel). f (pos (left + x)) (pos row) z) was));
-      before = λ k m. get_or-set_other now (start + x) k p _ (omega arith) ∙ d.before k m;
-      after = λ k m. get_or-set_other now (start + x) k p _ (omega arith) ∙ d.after k (omega arith);
-    }
+run_more : (f : ℤ → ℤ → Pixel → Pixel) (left row from x : ℕ) (old now : List Pixel) (p : Pixel) → IsRunStepped f left row from x old now → from ≤ x → x < length now
+    → p ≡ f (pos (left + x)) (pos row) (pixel_at now x) → IsRunStepped f left row from (x + 1) old (set now x p)
+run_more f left row from x old now p d h l s = record {
+  size = length-set _ _ _ ∙ d.size;
+  run = λ k m n. by_lt_z (pos k) (pos x)
+      (λ o. get_or-set_other now x k p _ (omega (arith, ints, o)) ∙ d.run k m (omega (arith, ints, o)))
+      (λ o. let same : k ≡ x = omega (arith, ints, o, n) in
+      get_or-set_at now x k p _ same l ∙ s ∙ ap (λ (o : Pixel). f (pos (left + x)) (pos row) o) (d.after x (omega arith))
+      ∙ sym (ap (λ (z : ℕ). f (pos (left + z)) (pos row) (pixel_at old z)) same));
+  before = λ k m. get_or-set_other now x k p _ (omega arith) ∙ d.before k m;
+  after = λ k m. get_or-set_other now x k p _ (omega arith) ∙ d.after k (omega arith);
+}
 
-pub run_end : (f : ℤ → ℤ → Pixel → Pixel) (left row start from x to : ℕ) (old now : List Pixel)
-    → x ≡ to → IsRunStepped f left row start from x old now → IsRunStepped f left row start from to old now
-run_end f left row start from x to old now e d = subst (λ (n : ℕ). IsRunStepped f left row start from n old now) e d
-
--- the same of a pixel that is read where it stands
-pub run_next : (f : ℤ → ℤ → Pixel → Pixel) (left row start from x : ℕ) (old now : List Pixel) (p : Pixel)
-    → IsRunStepped f left row start from x old now → from ≤ x → start + x < length now
-    → p ≡ f (pos (left + x)) (pos row) (pixel_at now (start + x)) → IsRunStepped f left row start from (x + 1) old (set now (start + x) p)
-run_next f left row start from x old now p d h l s =
-    run_more f left row start from x old now p (pixel_at now (start + x)) d h l (get_or_default now (start + x) _ _ l) s
+pub run_end : (f : ℤ → ℤ → Pixel → Pixel) (left row from x to : ℕ) (old now : List Pixel)
+    → x ≡ to → IsRunStepped f left row from x old now → IsRunStepped f left row from to old now
+run_end f left row from x to old now e d = subst (λ (n : ℕ). IsRunStepped f left row from n old now) e d
 
 -- a run of which nothing is left
-pub run_none : (f : ℤ → ℤ → Pixel → Pixel) (left row start from : ℕ) (old : List Pixel) → IsRunStepped f left row start from from old old
-run_none f left row start from old = record {
+pub run_none : (f : ℤ → ℤ → Pixel → Pixel) (left row from : ℕ) (old : List Pixel) → IsRunStepped f left row from from old old
+run_none f left row from old = record {
   size = refl;
   run = λ k m n. absurd (omega (arith, m, n));
   before = λ k m. refl;
   after = λ k m. refl;
 }
 
+-- one more pixel, by its colour and its depth
+pub run_pixel : (f : ℤ → ℤ → Pixel → Pixel) (left row from x : ℕ) (old : List Pixel) (cs : List Rgba) (ds : List ℕ) (c : Rgba) (d : ℕ) → length ds ≡ length cs
+    → IsRunStepped f left row from x old (pixels_of cs ds) → from ≤ x → x < length cs
+    → pixel c d ≡ f (pos (left + x)) (pos row) (pixel (color_at cs x) (depth_at ds x))
+    → IsRunStepped f left row from (x + 1) old (pixels_of (set cs x c) (set ds x d))
+run_pixel f left row from x old cs ds c d e h l m s =
+    subst (λ (new : List Pixel). IsRunStepped f left row from (x + 1) old new) (set_pixel cs ds x c d e)
+    (run_more f left row from x old (pixels_of cs ds) (pixel c d) h l (omega (arith, length_pixels cs ds e))
+    (s ∙ ap (λ (o : Pixel). f (pos (left + x)) (pos row) o) (sym (pixel_in cs ds x e))))
+
+-- a row whose colours alone took a step
+pub run_colored : (f : ℤ → ℤ → Pixel → Pixel) (g : ℕ → Rgba → Rgba) (left row from to : ℕ) (old new : List Rgba) (ds : List ℕ) → length ds ≡ length old
+    → IsColorRun g from to old new
+    → ((k : ℕ) → from ≤ k → k < to → pixel (g k (color_at old k)) (depth_at ds k) ≡ f (pos (left + k)) (pos row) (pixel (color_at old k) (depth_at ds k)))
+    → IsRunStepped f left row from to (pixels_of old ds) (pixels_of new ds)
+run_colored f g left row from to old new ds e d h = record {
+  size = length_pixels new ds (e ∙ sym d.size) ∙ d.size ∙ sym (length_pixels old ds e);
+  run = λ k m n. at k ∙ (λ i. pixel (d.run k m n i) (depth_at ds k)) ∙ h k m n ∙ ap (λ (o : Pixel). f (pos (left + k)) (pos row) o) (sym (pixel_in old ds k e));
+  before = λ k m. at k ∙ (λ i. pixel (d.before k m i) (depth_at ds k)) ∙ sym (pixel_in old ds k e);
+  after = λ k m. at k ∙ (λ i. pixel (d.after k m i) (depth_at ds k)) ∙ sym (pixel_in old ds k e);
+}
+  where
+    at : (k : ℕ) → pixel_at (pixels_of new ds) k ≡ pixel (color_at new k) (depth_at ds k)
+    at k = pixel_in new ds k (e ∙ sym d.size)
+
+-- a row whose colours alone are stored
+pub run_alone : (s : State) (v : List WindowVertex) (left row from to : ℕ) (g : ℕ → Rgba → Rgba) (old new : List Rgba) → StoresColor s → HasDepths v
+    → AreCovered v left row from to → ((k : ℕ) → from ≤ k → k < to → (o : Rgba) → g k o ≡ (fragment_of v (pos (left + k)) (pos row)).color)
+    → IsColorRun g from to old new → IsColorStepped s None v left row from to old new
+run_alone s v left row from to g old new kind ranged covered colors d ds e =
+    run_colored (fragment_pixel s None v) g left row from to old new ds e d
+    (λ k m n. alone_step s None (fragment_of v (pos (left + k)) (pos row)) (g k (color_at old k)) (pixel (color_at old k) (depth_at ds k)) kind (ranged _ _ (covered k m n))
+    (colors k m n _))
+
+-- a row of written colours that take no test
+pub run_written : (s : State) (p : Option Picture) (v : List WindowVertex) (r : Run) (written old new : List Rgba) → s.alpha_on ≡ false → s.depth_on ≡ false → HasDepths v
+    → IsRunCovered v r → AreWritten s p v r old written → IsColorRun (λ (k : ℕ) (o : Rgba). color_at written k) r.from r.to old new → IsColorDrawn s p v r old new
+run_written s p v r written old new through untested ranged covered h d ds e =
+    run_colored (fragment_pixel s p v) (λ (k : ℕ) (o : Rgba). color_at written k) r.left r.row r.from r.to old new ds e d
+    (λ k m n. stored_step s p (run_fragment v r k) (color_at written k) (pixel (color_at old k) (depth_at ds k)) through untested (ranged _ _ (covered k m n)) (h k m n))
+
 -- a run that begins with columns that no step changes
-pub run_behind : (f : ℤ → ℤ → Pixel → Pixel) (left row start from seen to : ℕ) (old new : List Pixel) → from ≤ seen
-    → ((k : ℕ) → from ≤ k → k < seen → f (pos (left + k)) (pos row) (pixel_at old (start + k)) ≡ pixel_at old (start + k))
-    → IsRunStepped f left row start seen to old new → IsRunStepped f left row start from to old new
-run_behind f left row start from seen to old new l h d = record {
+pub run_behind : (f : ℤ → ℤ → Pixel → Pixel) (left row from seen to : ℕ) (old new : List Pixel) → from ≤ seen
+    → ((k : ℕ) → from ≤ k → k < seen → f (pos (left + k)) (pos row) (pixel_at old (k)) ≡ pixel_at old (k))
+    → IsRunStepped f left row seen to old new → IsRunStepped f left row from to old new
+run_behind f left row from seen to old new l h d = record {
   size = d.size;
   run = λ k m n. by_lt_z (pos k) (pos seen)
-      (λ o. d.before (start + k) (omega (arith, ints, o)) ∙ sym (h k m (omega (arith, ints, o))))
+      (λ o. d.before (k) (omega (arith, ints, o)) ∙ sym (h k m (omega (arith, ints, o))))
       (λ o. d.run k (omega (arith, ints, o)) n);
   before = λ k m. d.before k (omega arith);
   after = d.after;
@@ -70,13 +105,16 @@ covered_from v r seen e l h = subst (λ (z : Run). IsRunCovered v z) (sym e) (λ
 
 pub nothing_left : (s : State) (p : Option Picture) (v : List WindowVertex) (seen : Run) (old : List Pixel) → seen.from ≡ seen.to → IsRunDrawn s p v seen old old
 nothing_left s p v seen old e =
-    subst (λ (n : ℕ). IsRunStepped (fragment_pixel s p v) seen.left seen.row seen.start seen.from n old old) e
-    (run_none (fragment_pixel s p v) seen.left seen.row seen.start seen.from old)
+    subst (λ (n : ℕ). IsRunStepped (fragment_pixel s p v) seen.left seen.row seen.from n old old) e
+    (run_none (fragment_pixel s p v) seen.left seen.row seen.from old)
 
-pub drawn_behind : (s : State) (p : Option Picture) (v : List WindowVertex) (r seen : Run) (old new : List Pixel) → seen ≡ run_from r seen.from
-    → r.from ≤ seen.from → IsHidden s v r seen.from old → IsRunDrawn s p v seen old new → IsRunDrawn s p v r old new
-drawn_behind s p v r seen old new e l h d =
-    run_behind (fragment_pixel s p v) r.left r.row r.start r.from seen.from r.to old new l (h p) (subst (λ (z : Run). IsRunDrawn s p v z old new) e d)
+pub drawn_behind : (s : State) (p : Option Picture) (v : List WindowVertex) (r seen : Run) (cs : List Rgba) (ds : List ℕ) (new : List Pixel) → length ds ≡ length cs
+    → seen ≡ run_from r seen.from → r.from ≤ seen.from → IsHidden s v r seen.from ds → IsRunDrawn s p v seen (pixels_of cs ds) new
+    → IsRunDrawn s p v r (pixels_of cs ds) new
+drawn_behind s p v r seen cs ds new e is l h d =
+    run_behind (fragment_pixel s p v) r.left r.row r.from seen.from r.to (pixels_of cs ds) new l
+    (λ k m n. ap (λ (o : Pixel). fragment_pixel s p v (pos (r.left + k)) (pos r.row) o) (pixel_in cs ds k e) ∙ h p (color_at cs k) k m n ∙ sym (pixel_in cs ds k e))
+    (subst (λ (z : Run). IsRunDrawn s p v z (pixels_of cs ds) new) is d)
 
 -- ---- textures
 

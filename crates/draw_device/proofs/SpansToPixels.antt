@@ -14,7 +14,7 @@ use Rattle.rc_base.specs.declared.window.Pixel.{Pixel}
 use Rattle.raster.specs.Spans.{in_span, IsNextSpan, IsRowSpan, AreEmptyRows}
 use Rattle.draw_device.specs.Pixels.{pixel_at}
 use Rattle.draw_device.specs.Clips.{IsPartWhere, is_let_through}
-use Rattle.draw_device.specs.Shapes.{column_at, row_at, grid_rect, span_has, span_step, fragment_pixel, cleared_pixel, covered_step, IsRunStepped, IsStepped, IsSteppedBelow, IsSpanIn, IsCovered}
+use Rattle.draw_device.specs.Shapes.{column_at, row_at, grid_rect, span_has, span_step, fragment_pixel, cleared_pixel, covered_step, IsRowStepped, IsStepped, IsSteppedBelow, IsSpanIn, IsCovered}
 use Rattle.draw_device.specs.declared.extent.Extent.{Extent}
 
 pub next_row : (w r j : ℕ) → r < j → r * w + w ≤ j * w
@@ -54,7 +54,7 @@ in_high s x h = grind (arith, ints)
 -- a run of a row's columns is a step of a span's pixels
 pub span_drawn : (f : ℤ → ℤ → Pixel → Pixel) (s : Span) (g : Extent) (r a b : ℕ) (old new : List Pixel)
     → s.y ≡ pos (g.bottom + r) → s.x0 ≡ pos (g.left + a) → s.x1 ≡ pos (g.left + b) → a ≤ b → b ≤ g.width
-    → IsRunStepped f g.left (g.bottom + r) (r * g.width) a b old new
+    → IsRowStepped f g.left (g.bottom + r) (r * g.width) a b old new
     → IsStepped (span_step f s) g old new
 span_drawn f s g r a b old new ey ea eb ab bw d = record { each = by }
   where

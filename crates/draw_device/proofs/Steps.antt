@@ -1,7 +1,7 @@
 -- One more column of a loop over a run.
-use Rattle.std.proofs.Common.{◌≡◌, ℕ, ◌+◌, ◌<◌, ◌≤◌, ℤ, pos, negsuc, ◌+ℤ◌, true, false, List, length, get_or, arith, ap, subst, sym, ◌∙◌, refl, length-set, Option, None, Some, if◌then◌else◌}
+use Rattle.std.proofs.Common.{◌≡◌, ℕ, ◌+◌, ◌<◌, ◌≤◌, ℤ, pos, negsuc, ◌+ℤ◌, true, false, List, length, arith, ap, subst, sym, ◌∙◌, refl, length-set, Option, None, Some, if◌then◌else◌}
 use Rattle.std.proofs.lemmas.Int.{ints, by_lt_z}
-use Rattle.std.proofs.lemmas.List.{get_or-set_other, get_or_default}
+use Rattle.std.proofs.lemmas.List.{get_or-set_other}
 use Rattle.std.proofs.lemmas.Grind.{get_or-set_at}
 use lib.ListN.{set}
 use lib.IntN.{nat_abs}
@@ -17,8 +17,8 @@ use Rattle.raster.specs.Colors.{IsColorRamp, is_depth}
 use Rattle.raster.specs.Planes.{IsFineRamp}
 use Rattle.raster.specs.declared.color.ColorRamp.{ColorRamp}
 use Rattle.raster.specs.declared.fine.FineRamp.{FineRamp}
-use Rattle.draw_device.specs.Loops.{color_at, run_fragment, texel_for, IsColorRun, AreColors, AreWritten, StoresColor}
-use Rattle.draw_device.specs.Pixels.{pixel_at}
+use Rattle.draw_device.specs.Loops.{run_fragment, texel_for, IsColorRun, AreColors, AreWritten, StoresColor}
+use Rattle.draw_device.specs.Pixels.{color_at}
 use Rattle.draw_device.specs.declared.run.Run.{Run}
 use Rattle.textures.specs.Images.{HasTexel}
 
@@ -48,7 +48,8 @@ color_more f from x old now q d h l e = record {
       (λ o. get_or-set_other now x k q _ (omega (arith, ints, o)) ∙ d.run k m (omega (arith, ints, o)))
       (λ o. let same : k ≡ x = omega (arith, ints, o, n) in
       get_or-set_at now x k q _ same l ∙ e ∙ sym (ap (λ (z : ℕ). f z (color_at old z)) same));
-  rest = λ k m. get_or-set_other now x k q _ (omega arith) ∙ d.rest k (omega arith);
+  before = λ k m. get_or-set_other now x k q _ (omega arith) ∙ d.before k m;
+  after = λ k m. get_or-set_other now x k q _ (omega arith) ∙ d.after k (omega arith);
 }
 
 pub color_end : (f : ℕ → Rgba → Rgba) (from x to : ℕ) (old now : List Rgba) → x ≡ to → IsColorRun f from x old now → IsColorRun f from to old now
@@ -86,10 +87,6 @@ pub stored_step : (s : State) (p : Option Picture) (f : Fragment) (color : Rgba)
     → is_depth f.depth ≡ true → color ≡ written_color s (fragment_color s p f) old.color → record { color = color; depth = old.depth } ≡ fragment_step s p f old
 unfolding shaded
 stored_step s p f color old a d r w = (λ i. record { color = w i; depth = old.depth }) ∙ sym (rw (r, a, d) refl)
-
--- a colour of the row that hasn't had its step yet
-pub color_before : (old now : List Rgba) (x : ℕ) (q : Rgba) → q ≡ get_or now x q → x < length now → color_at now x ≡ color_at old x → q ≡ color_at old x
-color_before old now x q e l h = e ∙ get_or_default now x q _ l ∙ h
 
 -- ---- the first column of a run
 
@@ -131,11 +128,11 @@ tinted_are s p v r old mid new h d e k low high =
 
 -- ---- what is to be written
 
-pub plain_are : (s : State) (p : Option Picture) (v : List WindowVertex) (r : Run) (pixels : List Pixel) (colors : List Rgba)
-    → ((color old : Rgba) → written_color s color old ≡ color) → AreColors s p v r colors → AreWritten s p v r pixels colors
-plain_are s p v r pixels colors h d k low high = d k low high ∙ sym (h (fragment_color s p (run_fragment v r k)) (pixel_at pixels (r.start + k)).color)
+pub plain_are : (s : State) (p : Option Picture) (v : List WindowVertex) (r : Run) (stored colors : List Rgba)
+    → ((color old : Rgba) → written_color s color old ≡ color) → AreColors s p v r colors → AreWritten s p v r stored colors
+plain_are s p v r stored colors h d k low high = d k low high ∙ sym (h (fragment_color s p (run_fragment v r k)) (color_at stored k))
 
-pub blended_are : (s : State) (p : Option Picture) (v : List WindowVertex) (r : Run) (pixels : List Pixel) (old new : List Rgba) → AreColors s p v r old
-    → IsColorRun (λ (k : ℕ) (c : Rgba). written_color s c (pixel_at pixels (r.start + k)).color) r.from r.to old new → AreWritten s p v r pixels new
-blended_are s p v r pixels old new h d k low high =
-    d.run k low high ∙ ap (λ (c : Rgba). written_color s c (pixel_at pixels (r.start + k)).color) (h k low high)
+pub blended_are : (s : State) (p : Option Picture) (v : List WindowVertex) (r : Run) (stored old new : List Rgba) → AreColors s p v r old
+    → IsColorRun (λ (k : ℕ) (c : Rgba). written_color s c (color_at stored k)) r.from r.to old new → AreWritten s p v r stored new
+blended_are s p v r stored old new h d k low high =
+    d.run k low high ∙ ap (λ (c : Rgba). written_color s c (color_at stored k)) (h k low high)

@@ -3,13 +3,14 @@ use Rattle.std.specs.Prelude.{◌≡◌, ℕ, ◌+◌, ◌*◌, ◌^◌, ◌<◌
 use Rattle.rc_base.specs.Pictures.{Picture}
 use Rattle.rc_base.specs.Drawing.Cover.{is_inside}
 use Rattle.rc_base.specs.Drawing.Fragment.{fragment_of}
+use Rattle.rc_base.specs.declared.command.Rgba.{Rgba}
 use Rattle.rc_base.specs.declared.state.State.{State}
 use Rattle.rc_base.specs.declared.window.Fragment.{Fragment}
 use Rattle.rc_base.specs.declared.window.Pixel.{Pixel}
 use Rattle.rc_base.specs.declared.window.WindowVertex.{WindowVertex}
 use Rattle.raster.specs.Colors.{IsColorRise}
 use Rattle.raster.specs.declared.color.ColorRamp.{ColorRamp}
-use Rattle.draw_device.specs.Pixels.{pixel_at}
+use Rattle.draw_device.specs.Pixels.{pixel_at, color_at, pixels_of}
 use Rattle.draw_device.specs.Shapes.{fragment_pixel}
 use Rattle.draw_device.specs.declared.column_run.ColumnRun.{ColumnRun}
 
@@ -38,9 +39,16 @@ pub record IsColumnStepped (step : ℤ → ℤ → Pixel → Pixel) (r : ColumnR
       → pixel_at new (place_in r k) ≡ step (pos (r.left + r.across)) (pos (r.bottom + k)) (pixel_at old (place_in r k))
   pub rest : (n : ℕ) → ((k : ℕ) → r.from ≤ k → k < to → ¬ (n ≡ place_in r k)) → pixel_at new n ≡ pixel_at old n
 
--- the rows after the fragments of a triangle
-abbrev pub IsColumnDrawn : State → Option Picture → List WindowVertex → ColumnRun → List Pixel → List Pixel → Type 0
-IsColumnDrawn s picture v r old new = IsColumnStepped (fragment_pixel s picture v) r r.to old new
+-- the rows after the fragments of a triangle, by colours alone, whatever the depths are
+abbrev pub IsColumnDrawn : State → Option Picture → List WindowVertex → ColumnRun → List Rgba → List Rgba → Type 0
+IsColumnDrawn s picture v r old new =
+    (depths : List ℕ) → length depths ≡ length old → IsColumnStepped (fragment_pixel s picture v) r r.to (pixels_of old depths) (pixels_of new depths)
+
+-- the rows up to below `to` have colours, and no other colour changed
+pub record IsColumnColored (color : ℕ → Rgba) (r : ColumnRun) (to : ℕ) (old new : List Rgba) : Type 0 where
+  pub size : length new ≡ length old
+  pub run : (k : ℕ) → r.from ≤ k → k < to → color_at new (place_in r k) ≡ color k
+  pub rest : (n : ℕ) → ((k : ℕ) → r.from ≤ k → k < to → ¬ (n ≡ place_in r k)) → color_at new n ≡ color_at old n
 
 -- the triangle's colour at row k of the column
 abbrev pub IsRiseAt : List WindowVertex → ColumnRun → ℕ → ColorRamp → Type 0

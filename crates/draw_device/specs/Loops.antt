@@ -1,5 +1,5 @@
 -- What the loops over a run of pixels take and leave.
-use Rattle.std.specs.Prelude.{◌≡◌, ℕ, ◌+◌, ◌^◌, ◌<◌, ◌≤◌, length, slice_index_or, List, Option, Some, None, ℤ, pos, true}
+use Rattle.std.specs.Prelude.{◌≡◌, ℕ, ◌+◌, ◌^◌, ◌<◌, ◌≤◌, length, List, Option, Some, None, ℤ, pos, true}
 use Rattle.rc_base.specs.Colors.{rgba}
 use Rattle.rc_base.specs.Pictures.{Picture}
 use Rattle.rc_base.specs.Drawing.Cover.{is_inside}
@@ -15,7 +15,8 @@ use Rattle.raster.specs.Colors.{IsColorRamp, is_depth}
 use Rattle.raster.specs.Planes.{IsFineRamp}
 use Rattle.raster.specs.declared.color.ColorRamp.{ColorRamp}
 use Rattle.raster.specs.declared.fine.FineRamp.{FineRamp}
-use Rattle.draw_device.specs.Pixels.{pixel_at}
+use Rattle.fragment_ops.specs.DepthTests.{pixel}
+use Rattle.draw_device.specs.Pixels.{color_at, depth_at, pixels_of}
 use Rattle.draw_device.specs.Shapes.{fragment_pixel, IsRunStepped}
 use Rattle.draw_device.specs.declared.run.Run.{Run}
 
@@ -37,19 +38,29 @@ AreCovered v left row from to = (k : ℕ) → from ≤ k → k < to → is_insid
 abbrev pub IsRunCovered : List WindowVertex → Run → Type 0
 IsRunCovered v r = AreCovered v r.left r.row r.from r.to
 
--- the pixels of the run after the fragments of a triangle
+-- the row's pixels after the fragments of a triangle
 abbrev pub IsRunDrawn : State → Option Picture → List WindowVertex → Run → List Pixel → List Pixel → Type 0
-IsRunDrawn s picture v r old new = IsRunStepped (fragment_pixel s picture v) r.left r.row r.start r.from r.to old new
+IsRunDrawn s picture v r old new = IsRunStepped (fragment_pixel s picture v) r.left r.row r.from r.to old new
 
--- the triangle's fragments leave the run's columns below `to` as they are, whatever picture is sampled
-abbrev pub IsHidden : State → List WindowVertex → Run → ℕ → List Pixel → Type 0
-IsHidden s v r to pixels =
-    (picture : Option Picture) (k : ℕ) → r.from ≤ k → k < to
-    → fragment_pixel s picture v (pos (r.left + k)) (pos r.row) (pixel_at pixels (r.start + k)) ≡ pixel_at pixels (r.start + k)
+-- columns `from` to below `to` after the fragments of a triangle, by colours alone, whatever the depths are
+abbrev pub IsColorStepped : State → Option Picture → List WindowVertex → ℕ → ℕ → ℕ → ℕ → List Rgba → List Rgba → Type 0
+IsColorStepped s picture v left row from to old new =
+    (depths : List ℕ) → length depths ≡ length old
+    → IsRunStepped (fragment_pixel s picture v) left row from to (pixels_of old depths) (pixels_of new depths)
+
+-- the same of a run
+abbrev pub IsColorDrawn : State → Option Picture → List WindowVertex → Run → List Rgba → List Rgba → Type 0
+IsColorDrawn s picture v r old new = IsColorStepped s picture v r.left r.row r.from r.to old new
+
+-- the triangle's fragments leave pixels of these depths in the run's columns below `to` as they are, whatever picture is sampled
+abbrev pub IsHidden : State → List WindowVertex → Run → ℕ → List ℕ → Type 0
+IsHidden s v r to depths =
+    (picture : Option Picture) (color : Rgba) (k : ℕ) → r.from ≤ k → k < to
+    → fragment_pixel s picture v (pos (r.left + k)) (pos r.row) (pixel color (depth_at depths k)) ≡ pixel color (depth_at depths k)
 
 -- the run from a column on
 abbrev pub run_from : Run → ℕ → Run
-run_from r from = record { left = r.left; bottom = r.bottom; row = r.row; up = r.up; start = r.start; from = from; to = r.to }
+run_from r from = record { left = r.left; bottom = r.bottom; row = r.row; up = r.up; from = from; to = r.to }
 
 -- ---- stepped values at column k of the run's row
 
@@ -78,24 +89,22 @@ StoresColor s = (color : Rgba) (depth : ℕ) (old : Pixel) → shaded s color de
 
 -- ---- a row of colours, one for each column of the grid
 
-abbrev pub color_at : List Rgba → ℕ → Rgba
-color_at colors k = slice_index_or colors k (rgba 0 0 0 0)
-
 -- the colours of columns `from` to below `to` took a step, and the others are as before
 pub record IsColorRun (step : ℕ → Rgba → Rgba) (from to : ℕ) (old new : List Rgba) : Type 0 where
   pub size : length new ≡ length old
   pub run : (k : ℕ) → from ≤ k → k < to → color_at new k ≡ step k (color_at old k)
-  pub rest : (k : ℕ) → to ≤ k → color_at new k ≡ color_at old k
+  pub before : (k : ℕ) → k < from → color_at new k ≡ color_at old k
+  pub after : (k : ℕ) → to ≤ k → color_at new k ≡ color_at old k
 
 -- the colours are those of the triangle's fragments after the texture stage
 abbrev pub AreColors : State → Option Picture → List WindowVertex → Run → List Rgba → Type 0
 AreColors s picture v r colors = (k : ℕ) → r.from ≤ k → k < r.to → color_at colors k ≡ fragment_color s picture (run_fragment v r k)
 
--- the colours are those that are to be written of the triangle's fragments over these pixels
-abbrev pub AreWritten : State → Option Picture → List WindowVertex → Run → List Pixel → List Rgba → Type 0
-AreWritten s picture v r pixels colors =
+-- the colours are those that are to be written of the triangle's fragments over the stored ones
+abbrev pub AreWritten : State → Option Picture → List WindowVertex → Run → List Rgba → List Rgba → Type 0
+AreWritten s picture v r stored colors =
     (k : ℕ) → r.from ≤ k → k < r.to
-    → color_at colors k ≡ written_color s (fragment_color s picture (run_fragment v r k)) (pixel_at pixels (r.start + k)).color
+    → color_at colors k ≡ written_color s (fragment_color s picture (run_fragment v r k)) (color_at stored k)
 
 -- the texel of a fragment, where there is a picture
 abbrev pub texel_for : State → Option Picture → Fragment → Rgba

@@ -39,10 +39,15 @@ fragment_pixel s picture v x y old = fragment_step s picture (fragment_of v x y)
 abbrev pub cleared_pixel : State → ℕ → ℤ → ℤ → Pixel → Pixel
 cleared_pixel s mask x y old = cleared s mask old
 
--- The columns from `from` to below `to` of a row took a step. The row begins at the index `start`, and its first pixel is (left, row) of the
--- window.
-pub record IsRunStepped (step : ℤ → ℤ → Pixel → Pixel) (left row start from to : ℕ) (old new : List Pixel) : Type 0 where
+-- the columns from `from` to below `to` of a row of pixels took a step; its first pixel is (left, row) of the window
+pub record IsRunStepped (step : ℤ → ℤ → Pixel → Pixel) (left row from to : ℕ) (old new : List Pixel) : Type 0 where
   pub size : length new ≡ length old
+  pub run : (k : ℕ) → from ≤ k → k < to → pixel_at new k ≡ step (pos (left + k)) (pos row) (pixel_at old k)
+  pub before : (k : ℕ) → k < from → pixel_at new k ≡ pixel_at old k
+  pub after : (k : ℕ) → to ≤ k → pixel_at new k ≡ pixel_at old k
+
+-- the same of a row that begins at the index `start` of a grid's pixels
+pub record IsRowStepped (step : ℤ → ℤ → Pixel → Pixel) (left row start from to : ℕ) (old new : List Pixel) : Type 0 where
   pub run : (k : ℕ) → from ≤ k → k < to → pixel_at new (start + k) ≡ step (pos (left + k)) (pos row) (pixel_at old (start + k))
   pub before : (k : ℕ) → k < start + from → pixel_at new k ≡ pixel_at old k
   pub after : (k : ℕ) → start + to ≤ k → pixel_at new k ≡ pixel_at old k

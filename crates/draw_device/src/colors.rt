@@ -1,10 +1,11 @@
-//! A row of fragments' colours after the texture stage.
+//! A row of colours: those of a triangle's fragments after the texture stage.
 ghost use Rattle.std.specs.Prelude.{◌≡◌, ℕ, ◌≤◌, length, pos, true};
 ghost use Rattle.rc_base.specs.Drawing.PixelStep.{textured};
 ghost use Rattle.rc_base.specs.Drawing.Texel.{wrap_in_s, wrap_in_t};
 ghost use Rattle.rc_base.specs.declared.command.Rgba.{Rgba as AnyColor};
 ghost use Rattle.textures.specs.Samplers.{IsSampler};
 ghost use Rattle.fragment_ops.specs.Shortcuts.{modulated};
+ghost use Rattle.draw_device.specs.Pixels.{color_at};
 ghost use Rattle.draw_device.specs.Loops.{run_fragment, texel_for, IsRun, IsRunCovered, IsColorAt, IsSAt, IsTAt, IsColorRun};
 
 use crate::run::Run;
@@ -16,15 +17,28 @@ use rc_base::state::State;
 use rc_base::triangle::WindowTriangle;
 use textures::{Sampler, Texture};
 
-/// One colour.
+/// One colour. The row is given by its numbers and not by a `Run`: small triangles are mostly such rows, and a number goes over in a register.
 #[inline(never)]
-pub(crate) fn fill_colors(colors: &mut [Rgba], run: Run, color: Rgba)
-    requires run { IsRun run }
-    requires room { run.to ≤ length colors.old }
-    ensures { IsColorRun (λ k old. color) run.from run.to colors.old colors.new }
+pub(crate) fn fill_colors(colors: &mut [Rgba], from: u16, to: u16, color: Rgba)
+    requires order { from ≤ to }
+    requires room { to ≤ length colors.old }
+    ensures { IsColorRun (λ k old. color) from to colors.old colors.new }
 {
-    for x in run.from..run.to {
+    for x in from..to {
         colors[x as usize] = color;
+    }
+}
+
+/// The colours of another row.
+#[inline(never)]
+pub(crate) fn copy_colors(colors: &mut [Rgba], others: &[Rgba], from: u16, to: u16)
+    requires order { from ≤ to }
+    requires room { to ≤ length colors.old }
+    requires others { to ≤ length others.now }
+    ensures { IsColorRun (λ k old. color_at others.now k) from to colors.old colors.new }
+{
+    for x in from..to {
+        colors[x as usize] = others[x as usize];
     }
 }
 

@@ -1,21 +1,16 @@
 //! Triangles that stand in one column of pixels, as most of a fine mesh do: their colours go up the column by one addition a channel and pixel.
-ghost use Rattle.std.specs.Prelude.{◌≡◌, ℤ, ◌+◌, ◌*◌, ◌^◌, ◌<◌, ◌≤◌, nat_lt, length, List, pos, true, false, None};
+ghost use Rattle.std.specs.Prelude.{◌≡◌, ◌+◌, ◌*◌, ◌^◌, ◌<◌, ◌≤◌, nat_lt, length, List, pos, true, false, None};
 ghost use Rattle.rc_base.specs.Drawing.Cover.{is_inside};
-ghost use Rattle.rc_base.specs.Drawing.Fragment.{fragment_of};
 ghost use Rattle.rc_base.specs.declared.window.WindowVertex.{WindowVertex as AnyVertex};
-ghost use Rattle.raster.specs.Colors.{IsColorPlane, HasColor};
-ghost use Rattle.draw_device.specs.Columns.{place_in, column_fragment, IsColumnRun, IsColumnCovered, IsColumnDrawn, IsRiseAt};
-ghost use Rattle.draw_device.specs.Loops.{HasDepths, StoresColor};
-ghost use Rattle.draw_device.specs.Plans.{IsPlan, IsPaint};
+ghost use Rattle.raster.specs.Colors.{IsColorPlane};
+ghost use Rattle.draw_device.specs.Columns.{place_in, column_fragment, IsColumnRun, IsColumnCovered, IsColumnColored, IsColumnDrawn, IsRiseAt};
+ghost use Rattle.draw_device.specs.Plans.{IsPaint};
 
 use crate::column_run::ColumnRun;
-use crate::paint::Paint;
-use crate::plan::Plan;
+use crate::setup::Setup;
 use raster::{ColorPlane, ColorRamp};
 use rc_base::command::Rgba;
-use rc_base::state::State;
 use rc_base::triangle::WindowTriangle;
-use rc_base::window::Pixel;
 
 // The index of the column's pixel in a row.
 fn place(run: ColumnRun, y: u16) -> usize
@@ -43,53 +38,32 @@ fn color_rise(plane: &ColorPlane, run: ColumnRun) -> ColorRamp
     plane.rise(u64::from(run.across), u64::from(run.from))
 }
 
-// One colour alone is stored.
+// One colour is stored.
 #[inline(never)]
-fn fill_column(
-    pixels: &mut [Pixel],
-    state: &State,
-    tri: &WindowTriangle,
-    run: ColumnRun,
-    color: Rgba,
-)
+fn fill_column(colors: &mut [Rgba], run: ColumnRun, color: Rgba)
     requires run { IsColumnRun run }
-    requires room { run.to * run.width ≤ length pixels.old }
-    requires covered { IsColumnCovered tri.now.v run }
-    requires depths { HasDepths tri.now.v }
-    requires kind { StoresColor state.now }
-    requires color { (x y : ℤ) → is_inside tri.now.v x y ≡ true → HasColor color (fragment_of tri.now.v x y) }
-    ensures { IsColumnDrawn state.now None tri.now.v run pixels.old pixels.new }
+    requires room { run.to * run.width ≤ length colors.old }
+    ensures { IsColumnColored (λ k. color) run run.to colors.old colors.new }
 {
-    let _state = state;
-    let _tri = tri;
     for y in run.from..run.to {
         let at = place(run, y);
-        pixels[at].color = color;
+        colors[at] = color;
     }
 }
 
-// The triangle's colours alone are stored.
+// The triangle's colours are stored.
 #[inline(never)]
-fn step_column(
-    pixels: &mut [Pixel],
-    state: &State,
-    tri: &WindowTriangle,
-    run: ColumnRun,
-    first: ColorRamp,
-)
+fn step_column(colors: &mut [Rgba], tri: &WindowTriangle, run: ColumnRun, first: ColorRamp)
     requires run { IsColumnRun run }
-    requires room { run.to * run.width ≤ length pixels.old }
+    requires room { run.to * run.width ≤ length colors.old }
     requires covered { IsColumnCovered tri.now.v run }
-    requires depths { HasDepths tri.now.v }
-    requires kind { StoresColor state.now }
     requires ramp { IsRiseAt tri.now.v run run.from first }
-    ensures { IsColumnDrawn state.now None tri.now.v run pixels.old pixels.new }
+    ensures { IsColumnColored (λ k. (column_fragment tri.now.v run k).color) run run.to colors.old colors.new }
 {
-    let _state = state;
     let mut ramp = first;
     for y in run.from..run.to {
         let at = place(run, y);
-        pixels[at].color = color_up(&ramp, tri, run, y);
+        colors[at] = color_up(&ramp, tri, run, y);
         ramp.advance();
     }
 }
@@ -102,38 +76,31 @@ fn is_few(run: ColumnRun) -> bool
 }
 
 /// Of a triangle without a texture whose colours alone are stored: its column, or nothing.
-pub(crate) fn store_column(
-    pixels: &mut [Pixel],
-    state: &State,
-    tri: &WindowTriangle,
-    plan: &Plan,
-    paint: &Paint,
-    run: ColumnRun,
-) -> bool
+pub(crate) fn store_column(colors: &mut [Rgba], setup: &Setup<'_>, run: ColumnRun) -> bool
     requires order { run.from ≤ run.to }
     requires inside { run.across < run.width }
-    requires room { run.to * run.width ≤ length pixels.old }
-    requires covered { IsColumnCovered tri.now.v run }
-    requires plan { IsPlan state.now plan.now }
-    requires paint { IsPaint tri.now.v (pos run.left) (pos run.bottom) paint.now }
-    ensures drawn { result ≡ true → IsColumnDrawn state.now None tri.now.v run pixels.old pixels.new }
-    ensures kept { result ≡ false → pixels.new ≡ pixels.old }
+    requires room { run.to * run.width ≤ length colors.old }
+    requires covered { IsColumnCovered setup.now.tri.now.v run }
+    requires paint { IsPaint setup.now.tri.now.v (pos run.left) (pos run.bottom) setup.now.paint }
+    ensures size { length colors.new ≡ length colors.old }
+    ensures drawn { result ≡ true → IsColumnDrawn setup.now.state.now None setup.now.tri.now.v run colors.old colors.new }
+    ensures kept { result ≡ false → colors.new ≡ colors.old }
 {
-    if !plan.stores {
+    if !setup.plan.stores {
         return false;
     }
-    if !paint.ranged {
+    if !setup.paint.ranged {
         return false;
     }
     if !is_few(run) {
         return false;
     }
-    if let Some(color) = paint.flat {
-        fill_column(pixels, state, tri, run, color);
+    if let Some(color) = setup.paint.flat {
+        fill_column(colors, run, color);
         return true;
     }
-    if let Some(plane) = &paint.colors {
-        step_column(pixels, state, tri, run, color_rise(plane, run));
+    if let Some(plane) = &setup.paint.colors {
+        step_column(colors, setup.tri, run, color_rise(plane, run));
         return true;
     }
     false

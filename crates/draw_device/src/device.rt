@@ -8,13 +8,15 @@ ghost use Rattle.rc_base.specs.declared.state.Effect.TheVariants as eff;
 ghost use Rattle.textures.specs.Images.{texture_image};
 ghost use Rattle.draw_device.specs.Conditions.{IsDrawable, IsClearable, sampled_of, shared_of};
 ghost use Rattle.draw_device.specs.Devices.{IsDeviceRect, EachTakes, rect_size, pixel_of};
+ghost use Rattle.draw_device.specs.Pixels.{color_at, pixel_at};
 
 use crate::extent::Extent;
 use crate::grid::Grid;
 use rc_base::cluster::TilePart;
+use rc_base::command::Rgba;
 use rc_base::out_of_memory::OutOfMemory;
 use rc_base::state::{Block, State};
-use rc_base::window::{Pixel, Pixels, Rect};
+use rc_base::window::{Pixel, Rect};
 use std::alloc::Global;
 use std::marker::Model;
 use textures::{PrivateSet, SharedSet, Texture};
@@ -122,12 +124,12 @@ impl Device {
         self.grid.pixel(x, y)
     }
 
-    /// The pixels of the rectangle, row by row from the lowest, each row from the left.
-    pub fn pixels(&self) -> &[Pixel]
-        ensures value { result.now ≡ self.now.pixels }
+    /// The colours of the rectangle's pixels, row by row from the lowest, each row from the left.
+    pub fn colors(&self) -> &[Rgba]
+        ensures each { (k : ℕ) → color_at result.now k ≡ (pixel_at self.now.pixels k).color }
         ensures size { length result.now ≡ rect_size self.now.rect }
     {
-        self.grid.pixels.as_slice()
+        self.grid.colors.as_slice()
     }
 
     /// A copy of the pixels, with these two numbers.
@@ -138,7 +140,7 @@ impl Device {
         Ok(TilePart {
             tile,
             frame,
-            pixels: Pixels::from_slice(alloc, self.pixels())?,
+            pixels: self.grid.copy(alloc)?,
         })
     }
 }

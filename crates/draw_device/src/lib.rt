@@ -28,6 +28,7 @@ mod plan;
 mod prepare;
 mod rows;
 mod run;
+mod setup;
 mod shade;
 mod stepped;
 #[cfg(test)]

@@ -1,127 +1,46 @@
-//! Loops over the pixels of a run, one for each kind of state, all with one contract: each pixel takes its fragment's step.
-ghost use Rattle.std.specs.Prelude.{◌≡◌, ◌+◌, ◌≤◌, length, pos, true, false, None, Option, ℤ};
+//! Rows of pixels that take their fragments one by one, by a depth test or by any stages.
+ghost use Rattle.std.specs.Prelude.{◌≡◌, ◌≤◌, length, true, false, Option};
 ghost use Rattle.rc_base.specs.Pictures.{Picture};
-ghost use Rattle.rc_base.specs.Drawing.Cover.{is_inside};
 ghost use Rattle.rc_base.specs.Drawing.PixelStep.{fragment_step, fragment_color, written_color};
 ghost use Rattle.rc_base.specs.declared.state.State.{State as AnyState};
 ghost use Rattle.rc_base.specs.declared.window.Fragment.{Fragment as AnyFragment};
-ghost use Rattle.raster.specs.Colors.{is_depth, HasColor};
-ghost use Rattle.fragment_ops.specs.DepthTests.{IsDepthTest};
-ghost use Rattle.rc_base.specs.Drawing.Fragment.{fragment_of};
-ghost use Rattle.draw_device.specs.Shapes.{fragment_pixel, IsRunStepped};
-ghost use Rattle.draw_device.specs.Loops.{AreCovered, IsRun, IsRunCovered, IsRunDrawn, IsColorAt, IsDepthAt, HasDepths, StoresColor, AreColors, AreWritten};
+ghost use Rattle.raster.specs.Colors.{is_depth};
+ghost use Rattle.fragment_ops.specs.DepthTests.{IsDepthTest, pixel};
+ghost use Rattle.draw_device.specs.Pixels.{pixels_of};
+ghost use Rattle.draw_device.specs.Loops.{IsRun, IsRunCovered, IsRunDrawn, IsDepthAt, HasDepths, AreColors, AreWritten};
 
 use crate::run::Run;
-use crate::stepped::{color_by, depth_by};
+use crate::stepped::depth_by;
 use fragment_ops::{DepthTest, shade_pixel};
-use raster::{ColorRamp, FineRamp};
+use raster::FineRamp;
 use rc_base::command::Rgba;
 use rc_base::state::State;
 use rc_base::triangle::WindowTriangle;
 use rc_base::window::{Fragment, Pixel};
 use textures::Texture;
 
-/// One colour alone is stored. The row is given by its numbers and not by a `Run`: small triangles are mostly such rows, and a number goes over in
-/// a register.
-#[inline(never)]
-pub(crate) fn fill_run(
-    pixels: &mut [Pixel],
-    state: &State,
-    tri: &WindowTriangle,
-    left: u16,
-    bottom: u16,
-    up: u16,
-    start: usize,
-    from: u16,
-    to: u16,
-    color: Rgba,
-)
-    requires order { from ≤ to }
-    requires room { start + to ≤ length pixels.old }
-    requires covered { AreCovered tri.now.v left (bottom + up) from to }
-    requires depths { HasDepths tri.now.v }
-    requires kind { StoresColor state.now }
-    requires color { (x y : ℤ) → is_inside tri.now.v x y ≡ true → HasColor color (fragment_of tri.now.v x y) }
-    ensures { IsRunStepped (fragment_pixel state.now None tri.now.v) left (bottom + up) start from to pixels.old pixels.new }
-{
-    let _state = state;
-    let _tri = tri;
-    let _place = (left, bottom, up);
-    for x in from..to {
-        let place = start + x as usize;
-        pixels[place].color = color;
-    }
-}
-
-/// The triangle's colours alone are stored.
-#[inline(never)]
-pub(crate) fn step_run(
-    pixels: &mut [Pixel],
-    state: &State,
-    tri: &WindowTriangle,
-    run: Run,
-    first: ColorRamp,
-)
-    requires run { IsRun run }
-    requires room { run.start + run.to ≤ length pixels.old }
-    requires covered { IsRunCovered tri.now.v run }
-    requires depths { HasDepths tri.now.v }
-    requires kind { StoresColor state.now }
-    requires ramp { IsColorAt tri.now.v run run.from first }
-    ensures { IsRunDrawn state.now None tri.now.v run pixels.old pixels.new }
-{
-    let _state = state;
-    let mut ramp = first;
-    for x in run.from..run.to {
-        let place = run.start + x as usize;
-        pixels[place].color = color_by(&ramp, tri, run, x);
-        ramp.advance();
-    }
-}
-
-/// The row's colours are stored, without a depth test.
-#[inline(never)]
-pub(crate) fn store_run(
-    pixels: &mut [Pixel],
-    colors: &[Rgba],
-    state: &State,
-    texture: &Texture,
-    tri: &WindowTriangle,
-    run: Run,
-)
-    requires run { IsRun run }
-    requires room { run.start + run.to ≤ length pixels.old }
-    requires colors { run.to ≤ length colors.now }
-    requires written { AreWritten state.now texture.now tri.now.v run pixels.old colors.now }
-    requires covered { IsRunCovered tri.now.v run }
-    requires depths { HasDepths tri.now.v }
-    requires through { state.now.alpha_on ≡ false }
-    requires untested { state.now.depth_on ≡ false }
-    ensures { IsRunDrawn state.now texture.now tri.now.v run pixels.old pixels.new }
-{
-    let _state = state;
-    let _texture = texture;
-    let _tri = tri;
-    for x in run.from..run.to {
-        let place = run.start + x as usize;
-        pixels[place].color = colors[x as usize];
-    }
-}
-
 #[inline(always)]
-fn test_step(test: DepthTest, color: Rgba, depth: i32, pixel: &mut Pixel)
+fn test_step(
+    test: DepthTest,
+    color: Rgba,
+    depth: i32,
+    stored_color: &mut Rgba,
+    stored_depth: &mut u32,
+)
     requires { is_depth depth ≡ true }
     ensures { (s : AnyState) (p : Option Picture) (f : AnyFragment) → IsDepthTest s test → s.alpha_on ≡ false
-        → color ≡ written_color s (fragment_color s p f) pixel.old.color → depth ≡ f.depth → pixel.new ≡ fragment_step s p f pixel.old }
+        → color ≡ written_color s (fragment_color s p f) stored_color.old → depth ≡ f.depth
+        → pixel stored_color.new stored_depth.new ≡ fragment_step s p f (pixel stored_color.old stored_depth.old) }
 {
-    test.put(color, depth as u32, pixel);
+    test.put(color, depth as u32, stored_color, stored_depth);
 }
 
-/// The row's colours are stored with their depths, where the depth test passes.
+/// The written colours are stored with their depths, where the depth test passes.
 #[inline(never)]
 pub(crate) fn test_run(
-    pixels: &mut [Pixel],
-    colors: &[Rgba],
+    colors: &mut [Rgba],
+    depths: &mut [u32],
+    written: &[Rgba],
     state: &State,
     texture: &Texture,
     tri: &WindowTriangle,
@@ -130,23 +49,32 @@ pub(crate) fn test_run(
     first: FineRamp,
 )
     requires run { IsRun run }
-    requires room { run.start + run.to ≤ length pixels.old }
-    requires colors { run.to ≤ length colors.now }
-    requires written { AreWritten state.now texture.now tri.now.v run pixels.old colors.now }
+    requires colors { run.to ≤ length colors.old }
+    requires depths { length depths.old ≡ length colors.old }
+    requires room { run.to ≤ length written.now }
+    requires written { AreWritten state.now texture.now tri.now.v run colors.old written.now }
     requires covered { IsRunCovered tri.now.v run }
-    requires depths { HasDepths tri.now.v }
+    requires ranged { HasDepths tri.now.v }
     requires through { state.now.alpha_on ≡ false }
     requires test { IsDepthTest state.now test }
     requires ramp { IsDepthAt tri.now.v run run.from first }
-    ensures { IsRunDrawn state.now texture.now tri.now.v run pixels.old pixels.new }
+    ensures colors { length colors.new ≡ length colors.old }
+    ensures depths { length depths.new ≡ length depths.old }
+    ensures drawn { IsRunDrawn state.now texture.now tri.now.v run (pixels_of colors.old depths.old) (pixels_of colors.new depths.new) }
 {
     let _state = state;
     let _texture = texture;
     let mut ramp = first;
     for x in run.from..run.to {
-        let place = run.start + x as usize;
         let depth = depth_by(&ramp, tri, run, x);
-        test_step(test, colors[x as usize], depth, &mut pixels[place]);
+        let place = x as usize;
+        test_step(
+            test,
+            written[place],
+            depth,
+            &mut colors[place],
+            &mut depths[place],
+        );
         ramp.advance();
     }
 }
@@ -165,11 +93,12 @@ fn any_step(state: &State, color: Rgba, depth: i32, old: Pixel) -> Pixel
     shade_pixel(state, &fragment, old)
 }
 
-/// Any stages.
+/// Fragments of these colours go through any stages.
 #[inline(never)]
 pub(crate) fn any_run(
-    pixels: &mut [Pixel],
-    colors: &[Rgba],
+    colors: &mut [Rgba],
+    depths: &mut [u32],
+    fragments: &[Rgba],
     state: &State,
     texture: &Texture,
     tri: &WindowTriangle,
@@ -177,19 +106,28 @@ pub(crate) fn any_run(
     first: FineRamp,
 )
     requires run { IsRun run }
-    requires room { run.start + run.to ≤ length pixels.old }
-    requires colors { run.to ≤ length colors.now }
-    requires colored { AreColors state.now texture.now tri.now.v run colors.now }
+    requires colors { run.to ≤ length colors.old }
+    requires depths { length depths.old ≡ length colors.old }
+    requires room { run.to ≤ length fragments.now }
+    requires colored { AreColors state.now texture.now tri.now.v run fragments.now }
     requires covered { IsRunCovered tri.now.v run }
     requires ramp { IsDepthAt tri.now.v run run.from first }
-    ensures { IsRunDrawn state.now texture.now tri.now.v run pixels.old pixels.new }
+    ensures colors { length colors.new ≡ length colors.old }
+    ensures depths { length depths.new ≡ length depths.old }
+    ensures drawn { IsRunDrawn state.now texture.now tri.now.v run (pixels_of colors.old depths.old) (pixels_of colors.new depths.new) }
 {
     let _texture = texture;
     let mut ramp = first;
     for x in run.from..run.to {
-        let place = run.start + x as usize;
         let depth = depth_by(&ramp, tri, run, x);
-        pixels[place] = any_step(state, colors[x as usize], depth, pixels[place]);
+        let place = x as usize;
+        let old = Pixel {
+            color: colors[place],
+            depth: depths[place],
+        };
+        let new = any_step(state, fragments[place], depth, old);
+        colors[place] = new.color;
+        depths[place] = new.depth;
         ramp.advance();
     }
 }

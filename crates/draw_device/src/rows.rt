@@ -1,4 +1,4 @@
-//! Which loop a row of a triangle's pixels takes.
+//! Which loops a row of a triangle's pixels takes.
 ghost use Rattle.std.specs.Prelude.{◌≡◌, ◌+◌, ◌^◌, ◌≤◌, nat_lt, length, pos, ℤ, List, true, false, None};
 ghost use Rattle.rc_base.specs.Drawing.PixelStep.{textured};
 ghost use Rattle.rc_base.specs.Drawing.Texel.{wrap_in_s, wrap_in_t};
@@ -8,25 +8,24 @@ ghost use Rattle.raster.specs.Colors.{IsColorPlane};
 ghost use Rattle.raster.specs.Planes.{IsFinePlane};
 ghost use Rattle.textures.specs.Images.{HasTexel, HasTexelIfAny};
 ghost use Rattle.textures.specs.Samplers.{IsSampler};
-ghost use Rattle.draw_device.specs.Shapes.{fragment_pixel, IsRunStepped};
-ghost use Rattle.draw_device.specs.Loops.{AreCovered, run_fragment, run_from, texel_for, IsRun, IsRunCovered, IsHidden, IsRunDrawn, IsColorAt, IsDepthAt, IsValueAt, IsColorRun, HasDepths, AreColors, AreWritten};
 ghost use Rattle.fragment_ops.specs.Shortcuts.{modulated};
-ghost use Rattle.draw_device.specs.Plans.{IsPlan, IsPaint};
+ghost use Rattle.draw_device.specs.Pixels.{pixels_of};
+ghost use Rattle.draw_device.specs.Shapes.{fragment_pixel, IsRunStepped};
+ghost use Rattle.draw_device.specs.Loops.{AreCovered, run_fragment, run_from, texel_for, IsRun, IsRunCovered, IsHidden, IsRunDrawn, IsColorStepped, IsColorDrawn, IsColorAt, IsValueAt, IsColorRun, HasDepths, AreColors, AreWritten};
+ghost use Rattle.draw_device.specs.Plans.{IsPaint};
 
 use crate::blends::{over_colors, sum_colors};
-use crate::colors::{fill_colors, repeat_colors, step_colors, texel_colors, tint_colors};
+use crate::colors::{
+    copy_colors, fill_colors, repeat_colors, step_colors, texel_colors, tint_colors,
+};
 use crate::hidden::first_passing;
-use crate::paint::Paint;
-use crate::pixels::{any_run, fill_run, step_run, store_run, test_run};
-use crate::plan::Plan;
+use crate::pixels::{any_run, test_run};
 use crate::run::Run;
+use crate::setup::Setup;
 use crate::shade::draw_run;
 use raster::{ColorPlane, ColorRamp, FinePlane, FineRamp};
 use rc_base::command::Rgba;
-use rc_base::state::State;
-use rc_base::triangle::WindowTriangle;
-use rc_base::window::Pixel;
-use textures::{Sampler, Texture};
+use textures::Sampler;
 
 // The colours of a plane from the run's first column on.
 fn color_ramp(plane: &ColorPlane, run: Run) -> ColorRamp
@@ -47,459 +46,428 @@ fn value_ramp(plane: &FinePlane, run: Run) -> FineRamp
 // Of a triangle of one colour without a texture, where colours alone are stored: its row, or nothing.
 #[inline(always)]
 fn fill_row(
-    pixels: &mut [Pixel],
-    state: &State,
-    tri: &WindowTriangle,
-    plan: &Plan,
-    paint: &Paint,
+    colors: &mut [Rgba],
+    setup: &Setup<'_>,
     left: u16,
     bottom: u16,
     up: u16,
-    start: usize,
     from: u16,
     to: u16,
 ) -> bool
     requires order { from ≤ to }
-    requires room { start + to ≤ length pixels.old }
-    requires covered { AreCovered tri.now.v left (bottom + up) from to }
-    requires plan { IsPlan state.now plan.now }
-    requires paint { IsPaint tri.now.v (pos left) (pos bottom) paint.now }
-    ensures drawn { result ≡ true → IsRunStepped (fragment_pixel state.now None tri.now.v) left (bottom + up) start from to pixels.old pixels.new }
-    ensures kept { result ≡ false → pixels.new ≡ pixels.old }
+    requires room { to ≤ length colors.old }
+    requires covered { AreCovered setup.now.tri.now.v left (bottom + up) from to }
+    requires paint { IsPaint setup.now.tri.now.v (pos left) (pos bottom) setup.now.paint }
+    ensures size { length colors.new ≡ length colors.old }
+    ensures drawn { result ≡ true → IsColorStepped setup.now.state.now None setup.now.tri.now.v left (bottom + up) from to colors.old colors.new }
+    ensures kept { result ≡ false → colors.new ≡ colors.old }
 {
-    if !plan.stores {
+    let _place = (left, bottom, up);
+    if !setup.plan.stores {
         return false;
     }
-    if !paint.ranged {
+    if !setup.paint.ranged {
         return false;
     }
-    let Some(color) = paint.flat else {
+    let Some(color) = setup.paint.flat else {
         return false;
     };
-    fill_run(pixels, state, tri, left, bottom, up, start, from, to, color);
+    fill_colors(colors, from, to, color);
     true
 }
 
 // Of a triangle of several colours without a texture, where colours alone are stored: its row, or nothing.
-fn store_row(
-    pixels: &mut [Pixel],
-    state: &State,
-    tri: &WindowTriangle,
-    plan: &Plan,
-    paint: &Paint,
-    run: Run,
-) -> bool
+fn store_row(colors: &mut [Rgba], setup: &Setup<'_>, run: Run) -> bool
     requires run { IsRun run }
-    requires room { run.start + run.to ≤ length pixels.old }
-    requires covered { IsRunCovered tri.now.v run }
-    requires plan { IsPlan state.now plan.now }
-    requires paint { IsPaint tri.now.v (pos run.left) (pos run.bottom) paint.now }
-    ensures drawn { result ≡ true → IsRunDrawn state.now None tri.now.v run pixels.old pixels.new }
-    ensures kept { result ≡ false → pixels.new ≡ pixels.old }
+    requires room { run.to ≤ length colors.old }
+    requires covered { IsRunCovered setup.now.tri.now.v run }
+    requires paint { IsPaint setup.now.tri.now.v (pos run.left) (pos run.bottom) setup.now.paint }
+    ensures size { length colors.new ≡ length colors.old }
+    ensures drawn { result ≡ true → IsColorDrawn setup.now.state.now None setup.now.tri.now.v run colors.old colors.new }
+    ensures kept { result ≡ false → colors.new ≡ colors.old }
 {
-    if !plan.stores {
+    if !setup.plan.stores {
         return false;
     }
-    if !paint.ranged {
+    if !setup.paint.ranged {
         return false;
     }
-    if let Some(plane) = &paint.colors {
-        step_run(pixels, state, tri, run, color_ramp(plane, run));
+    if let Some(plane) = &setup.paint.colors {
+        step_colors(colors, setup.tri, run, color_ramp(plane, run));
         return true;
     }
     false
 }
 
 // The colours of a row's fragments without a texture, or nothing.
-fn plain_colors(
-    colors: &mut [Rgba],
-    state: &State,
-    tri: &WindowTriangle,
-    paint: &Paint,
-    run: Run,
-) -> bool
+fn plain_colors(colors: &mut [Rgba], setup: &Setup<'_>, run: Run) -> bool
     requires run { IsRun run }
     requires room { run.to ≤ length colors.old }
-    requires covered { IsRunCovered tri.now.v run }
-    requires paint { IsPaint tri.now.v (pos run.left) (pos run.bottom) paint.now }
+    requires covered { IsRunCovered setup.now.tri.now.v run }
+    requires paint { IsPaint setup.now.tri.now.v (pos run.left) (pos run.bottom) setup.now.paint }
     ensures size { length colors.new ≡ length colors.old }
-    ensures done { result ≡ true → AreColors state.now None tri.now.v run colors.new }
+    ensures done { result ≡ true → AreColors setup.now.state.now None setup.now.tri.now.v run colors.new }
 {
-    let _state = state;
-    if let Some(color) = paint.flat {
-        fill_colors(colors, run, color);
+    if let Some(color) = setup.paint.flat {
+        fill_colors(colors, run.from, run.to, color);
         return true;
     }
-    if let Some(plane) = &paint.colors {
-        step_colors(colors, tri, run, color_ramp(plane, run));
+    if let Some(plane) = &setup.paint.colors {
+        step_colors(colors, setup.tri, run, color_ramp(plane, run));
         return true;
     }
     false
 }
 
 // The texels of a row's fragments, or nothing.
-fn texel_row(
-    colors: &mut [Rgba],
-    state: &State,
-    texture: &Texture,
-    sampler: Sampler<'_>,
-    tri: &WindowTriangle,
-    paint: &Paint,
-    run: Run,
-) -> bool
+fn texel_row(colors: &mut [Rgba], setup: &Setup<'_>, sampler: Sampler<'_>, run: Run) -> bool
     requires run { IsRun run }
     requires room { run.to ≤ length colors.old }
-    requires sampler { IsSampler texture.now (wrap_in_s state.now) (wrap_in_t state.now) sampler }
-    requires covered { IsRunCovered tri.now.v run }
-    requires paint { IsPaint tri.now.v (pos run.left) (pos run.bottom) paint.now }
+    requires sampler { IsSampler setup.now.texture.now (wrap_in_s setup.now.state.now) (wrap_in_t setup.now.state.now) sampler }
+    requires covered { IsRunCovered setup.now.tri.now.v run }
+    requires paint { IsPaint setup.now.tri.now.v (pos run.left) (pos run.bottom) setup.now.paint }
     ensures size { length colors.new ≡ length colors.old }
-    ensures done { result ≡ true → IsColorRun (λ k old. texel_for state.now texture.now (run_fragment tri.now.v run k)) run.from run.to colors.old colors.new }
+    ensures done { result ≡ true → IsColorRun (λ k old. texel_for setup.now.state.now setup.now.texture.now (run_fragment setup.now.tri.now.v run k)) run.from run.to colors.old colors.new }
 {
-    let Some((ss, ts)) = &paint.coordinates else {
+    let Some((ss, ts)) = &setup.paint.coordinates else {
         return false;
     };
     let s = value_ramp(ss, run);
     let t = value_ramp(ts, run);
     if sampler.wrap_s == 0 && sampler.wrap_t == 0 {
-        repeat_colors(colors, state, texture, sampler, tri, run, s, t);
+        repeat_colors(
+            colors,
+            setup.state,
+            setup.texture,
+            sampler,
+            setup.tri,
+            run,
+            s,
+            t,
+        );
     } else {
-        texel_colors(colors, state, texture, sampler, tri, run, s, t);
+        texel_colors(
+            colors,
+            setup.state,
+            setup.texture,
+            sampler,
+            setup.tri,
+            run,
+            s,
+            t,
+        );
     }
     true
 }
 
 // The texture stage of a row's texels, or nothing.
-fn tint_row(
-    colors: &mut [Rgba],
-    state: &State,
-    tri: &WindowTriangle,
-    paint: &Paint,
-    run: Run,
-) -> bool
+fn tint_row(colors: &mut [Rgba], setup: &Setup<'_>, run: Run) -> bool
     requires run { IsRun run }
     requires room { run.to ≤ length colors.old }
-    requires kind { (color texel : AnyColor) → textured state.now color texel ≡ modulated color texel }
-    requires covered { IsRunCovered tri.now.v run }
-    requires paint { IsPaint tri.now.v (pos run.left) (pos run.bottom) paint.now }
+    requires kind { (color texel : AnyColor) → textured setup.now.state.now color texel ≡ modulated color texel }
+    requires covered { IsRunCovered setup.now.tri.now.v run }
+    requires paint { IsPaint setup.now.tri.now.v (pos run.left) (pos run.bottom) setup.now.paint }
     ensures size { length colors.new ≡ length colors.old }
-    ensures done { result ≡ true → IsColorRun (λ k old. textured state.now (run_fragment tri.now.v run k).color old) run.from run.to colors.old colors.new }
+    ensures done { result ≡ true → IsColorRun (λ k old. textured setup.now.state.now (run_fragment setup.now.tri.now.v run k).color old) run.from run.to colors.old colors.new }
 {
-    if let Some(plane) = &paint.colors {
-        tint_colors(colors, state, tri, run, color_ramp(plane, run));
+    if let Some(plane) = &setup.paint.colors {
+        tint_colors(colors, setup.state, setup.tri, run, color_ramp(plane, run));
         return true;
     }
     false
 }
 
 // The colours of a row's fragments after the texture stage, or nothing.
-fn pictured_colors(
-    colors: &mut [Rgba],
-    state: &State,
-    texture: &Texture,
-    sampler: Sampler<'_>,
-    tri: &WindowTriangle,
-    plan: &Plan,
-    paint: &Paint,
-    run: Run,
-) -> bool
+fn pictured_colors(colors: &mut [Rgba], setup: &Setup<'_>, sampler: Sampler<'_>, run: Run) -> bool
     requires run { IsRun run }
     requires room { run.to ≤ length colors.old }
-    requires texel { HasTexel texture.now }
-    requires sampler { IsSampler texture.now (wrap_in_s state.now) (wrap_in_t state.now) sampler }
-    requires covered { IsRunCovered tri.now.v run }
-    requires plan { IsPlan state.now plan.now }
-    requires paint { IsPaint tri.now.v (pos run.left) (pos run.bottom) paint.now }
+    requires texel { HasTexel setup.now.texture.now }
+    requires sampler { IsSampler setup.now.texture.now (wrap_in_s setup.now.state.now) (wrap_in_t setup.now.state.now) sampler }
+    requires covered { IsRunCovered setup.now.tri.now.v run }
+    requires paint { IsPaint setup.now.tri.now.v (pos run.left) (pos run.bottom) setup.now.paint }
     ensures size { length colors.new ≡ length colors.old }
-    ensures done { result ≡ true → AreColors state.now texture.now tri.now.v run colors.new }
+    ensures done { result ≡ true → AreColors setup.now.state.now setup.now.texture.now setup.now.tri.now.v run colors.new }
 {
-    if !texel_row(colors, state, texture, sampler, tri, paint, run) {
+    if !texel_row(colors, setup, sampler, run) {
         return false;
     }
-    if plan.replaces {
+    if setup.plan.replaces {
         return true;
     }
-    tint_row(colors, state, tri, paint, run)
+    tint_row(colors, setup, run)
 }
 
-// The row's colours as they are to be written, or nothing.
-fn write_colors(
-    colors: &mut [Rgba],
-    pixels: &[Pixel],
-    state: &State,
-    texture: &Texture,
-    tri: &WindowTriangle,
-    plan: &Plan,
-    run: Run,
-) -> bool
-    requires run { IsRun run }
-    requires room { run.start + run.to ≤ length pixels.now }
-    requires colors { run.to ≤ length colors.old }
-    requires colored { AreColors state.now texture.now tri.now.v run colors.old }
-    requires plan { IsPlan state.now plan.now }
+// The row's colours as they are to be written over the stored ones, or nothing.
+fn write_colors(colors: &mut [Rgba], stored: &[Rgba], setup: &Setup<'_>, run: Run) -> bool
+    requires order { run.from ≤ run.to }
+    requires stored { run.to ≤ length stored.now }
+    requires room { run.to ≤ length colors.old }
+    requires colored { AreColors setup.now.state.now setup.now.texture.now setup.now.tri.now.v run colors.old }
     ensures size { length colors.new ≡ length colors.old }
-    ensures written { result ≡ true → AreWritten state.now texture.now tri.now.v run pixels.now colors.new }
+    ensures written { result ≡ true → AreWritten setup.now.state.now setup.now.texture.now setup.now.tri.now.v run stored.now colors.new }
     ensures kept { result ≡ false → colors.new ≡ colors.old }
 {
-    let _texture = texture;
-    let _tri = tri;
-    if plan.plain {
+    if setup.plan.plain {
         return true;
     }
-    if plan.over {
-        over_colors(colors, pixels, state, run);
+    if setup.plan.over {
+        over_colors(colors, stored, setup.state, run.from, run.to);
         return true;
     }
-    if plan.sum {
-        sum_colors(colors, pixels, state, run);
+    if setup.plan.sum {
+        sum_colors(colors, stored, setup.state, run.from, run.to);
         return true;
     }
     false
 }
 
-// A row of fragments that take no test, by its colours, or nothing.
-fn untested_row(
-    pixels: &mut [Pixel],
-    colors: &mut [Rgba],
-    state: &State,
-    texture: &Texture,
-    tri: &WindowTriangle,
-    plan: &Plan,
-    run: Run,
-) -> bool
-    requires run { IsRun run }
-    requires room { run.start + run.to ≤ length pixels.old }
+// A row of fragments that take no test, by their colours, or nothing.
+fn untested_row(colors: &mut [Rgba], spare: &mut [Rgba], setup: &Setup<'_>, run: Run) -> bool
+    requires order { run.from ≤ run.to }
     requires colors { run.to ≤ length colors.old }
-    requires colored { AreColors state.now texture.now tri.now.v run colors.old }
-    requires covered { IsRunCovered tri.now.v run }
-    requires depths { HasDepths tri.now.v }
-    requires plan { IsPlan state.now plan.now }
-    requires through { state.now.alpha_on ≡ false }
-    requires untested { state.now.depth_on ≡ false }
+    requires room { run.to ≤ length spare.old }
+    requires colored { AreColors setup.now.state.now setup.now.texture.now setup.now.tri.now.v run spare.old }
+    requires covered { IsRunCovered setup.now.tri.now.v run }
+    requires ranged { HasDepths setup.now.tri.now.v }
+    requires through { setup.now.state.now.alpha_on ≡ false }
+    requires untested { setup.now.state.now.depth_on ≡ false }
     ensures size { length colors.new ≡ length colors.old }
-    ensures drawn { result ≡ true → IsRunDrawn state.now texture.now tri.now.v run pixels.old pixels.new }
-    ensures kept { result ≡ false → pixels.new ≡ pixels.old }
-    ensures left { result ≡ false → colors.new ≡ colors.old }
+    ensures spare { length spare.new ≡ length spare.old }
+    ensures drawn { result ≡ true → IsColorDrawn setup.now.state.now setup.now.texture.now setup.now.tri.now.v run colors.old colors.new }
+    ensures kept { result ≡ false → colors.new ≡ colors.old }
+    ensures left { result ≡ false → spare.new ≡ spare.old }
 {
-    if !write_colors(colors, pixels, state, texture, tri, plan, run) {
+    if !write_colors(spare, colors, setup, run) {
         return false;
     }
-    store_run(pixels, colors, state, texture, tri, run);
+    copy_colors(colors, spare, run.from, run.to);
     true
 }
 
-// A row of fragments that take the depth test alone, by its colours, or nothing.
+// A row of fragments that take the depth test alone, by their colours, or nothing.
 fn tested_row(
-    pixels: &mut [Pixel],
     colors: &mut [Rgba],
-    state: &State,
-    texture: &Texture,
-    tri: &WindowTriangle,
-    plan: &Plan,
-    paint: &Paint,
+    depths: &mut [u32],
+    spare: &mut [Rgba],
+    setup: &Setup<'_>,
     run: Run,
 ) -> bool
     requires run { IsRun run }
-    requires room { run.start + run.to ≤ length pixels.old }
     requires colors { run.to ≤ length colors.old }
-    requires colored { AreColors state.now texture.now tri.now.v run colors.old }
-    requires covered { IsRunCovered tri.now.v run }
-    requires depths { HasDepths tri.now.v }
-    requires plan { IsPlan state.now plan.now }
-    requires paint { IsPaint tri.now.v (pos run.left) (pos run.bottom) paint.now }
-    requires through { state.now.alpha_on ≡ false }
-    ensures size { length colors.new ≡ length colors.old }
-    ensures drawn { result ≡ true → IsRunDrawn state.now texture.now tri.now.v run pixels.old pixels.new }
-    ensures kept { result ≡ false → pixels.new ≡ pixels.old }
-    ensures left { result ≡ false → colors.new ≡ colors.old }
+    requires depths { length depths.old ≡ length colors.old }
+    requires room { run.to ≤ length spare.old }
+    requires colored { AreColors setup.now.state.now setup.now.texture.now setup.now.tri.now.v run spare.old }
+    requires covered { IsRunCovered setup.now.tri.now.v run }
+    requires ranged { HasDepths setup.now.tri.now.v }
+    requires paint { IsPaint setup.now.tri.now.v (pos run.left) (pos run.bottom) setup.now.paint }
+    requires through { setup.now.state.now.alpha_on ≡ false }
+    ensures colors { length colors.new ≡ length colors.old }
+    ensures depths { length depths.new ≡ length depths.old }
+    ensures spare { length spare.new ≡ length spare.old }
+    ensures drawn { result ≡ true → IsRunDrawn setup.now.state.now setup.now.texture.now setup.now.tri.now.v run (pixels_of colors.old depths.old) (pixels_of colors.new depths.new) }
+    ensures kept_colors { result ≡ false → colors.new ≡ colors.old }
+    ensures kept_depths { result ≡ false → depths.new ≡ depths.old }
+    ensures left { result ≡ false → spare.new ≡ spare.old }
 {
-    let Some(depths) = &paint.depths else {
+    let Some(plane) = &setup.paint.depths else {
         return false;
     };
-    if !write_colors(colors, pixels, state, texture, tri, plan, run) {
+    if !write_colors(spare, colors, setup, run) {
         return false;
     }
-    let ramp = value_ramp(depths, run);
-    test_run(pixels, colors, state, texture, tri, plan.depth, run, ramp);
+    let ramp = value_ramp(plane, run);
+    test_run(
+        colors,
+        depths,
+        spare,
+        setup.state,
+        setup.texture,
+        setup.tri,
+        setup.plan.depth,
+        run,
+        ramp,
+    );
     true
 }
 
-// A row of fragments that take at most the depth test and a way of writing that there is a loop for, by its colours, or nothing.
+// A row of fragments that take at most the depth test and a way of writing that there is a loop for, by their colours, or nothing.
 fn written_row(
-    pixels: &mut [Pixel],
     colors: &mut [Rgba],
-    state: &State,
-    texture: &Texture,
-    tri: &WindowTriangle,
-    plan: &Plan,
-    paint: &Paint,
+    depths: &mut [u32],
+    spare: &mut [Rgba],
+    setup: &Setup<'_>,
     run: Run,
 ) -> bool
     requires run { IsRun run }
-    requires room { run.start + run.to ≤ length pixels.old }
     requires colors { run.to ≤ length colors.old }
-    requires colored { AreColors state.now texture.now tri.now.v run colors.old }
-    requires covered { IsRunCovered tri.now.v run }
-    requires plan { IsPlan state.now plan.now }
-    requires paint { IsPaint tri.now.v (pos run.left) (pos run.bottom) paint.now }
-    ensures size { length colors.new ≡ length colors.old }
-    ensures drawn { result ≡ true → IsRunDrawn state.now texture.now tri.now.v run pixels.old pixels.new }
-    ensures kept { result ≡ false → pixels.new ≡ pixels.old }
-    ensures left { result ≡ false → colors.new ≡ colors.old }
+    requires depths { length depths.old ≡ length colors.old }
+    requires room { run.to ≤ length spare.old }
+    requires colored { AreColors setup.now.state.now setup.now.texture.now setup.now.tri.now.v run spare.old }
+    requires covered { IsRunCovered setup.now.tri.now.v run }
+    requires paint { IsPaint setup.now.tri.now.v (pos run.left) (pos run.bottom) setup.now.paint }
+    ensures colors { length colors.new ≡ length colors.old }
+    ensures depths { length depths.new ≡ length depths.old }
+    ensures spare { length spare.new ≡ length spare.old }
+    ensures drawn { result ≡ true → IsRunDrawn setup.now.state.now setup.now.texture.now setup.now.tri.now.v run (pixels_of colors.old depths.old) (pixels_of colors.new depths.new) }
+    ensures kept_colors { result ≡ false → colors.new ≡ colors.old }
+    ensures kept_depths { result ≡ false → depths.new ≡ depths.old }
+    ensures left { result ≡ false → spare.new ≡ spare.old }
 {
-    if !plan.through {
+    if !setup.plan.through {
         return false;
     }
-    if !paint.ranged {
+    if !setup.paint.ranged {
         return false;
     }
-    if plan.untested {
-        return untested_row(pixels, colors, state, texture, tri, plan, run);
+    if setup.plan.untested {
+        return untested_row(colors, spare, setup, run);
     }
-    tested_row(pixels, colors, state, texture, tri, plan, paint, run)
+    tested_row(colors, depths, spare, setup, run)
 }
 
-// A row of fragments by its colours, or nothing.
+// A row of fragments by their colours, or nothing.
 fn colored_row(
-    pixels: &mut [Pixel],
     colors: &mut [Rgba],
-    state: &State,
-    texture: &Texture,
-    tri: &WindowTriangle,
-    plan: &Plan,
-    paint: &Paint,
+    depths: &mut [u32],
+    spare: &mut [Rgba],
+    setup: &Setup<'_>,
     run: Run,
 ) -> bool
     requires run { IsRun run }
-    requires room { run.start + run.to ≤ length pixels.old }
     requires colors { run.to ≤ length colors.old }
-    requires colored { AreColors state.now texture.now tri.now.v run colors.old }
-    requires covered { IsRunCovered tri.now.v run }
-    requires plan { IsPlan state.now plan.now }
-    requires paint { IsPaint tri.now.v (pos run.left) (pos run.bottom) paint.now }
-    ensures size { length colors.new ≡ length colors.old }
-    ensures drawn { result ≡ true → IsRunDrawn state.now texture.now tri.now.v run pixels.old pixels.new }
-    ensures kept { result ≡ false → pixels.new ≡ pixels.old }
+    requires depths { length depths.old ≡ length colors.old }
+    requires room { run.to ≤ length spare.old }
+    requires colored { AreColors setup.now.state.now setup.now.texture.now setup.now.tri.now.v run spare.old }
+    requires covered { IsRunCovered setup.now.tri.now.v run }
+    requires paint { IsPaint setup.now.tri.now.v (pos run.left) (pos run.bottom) setup.now.paint }
+    ensures colors { length colors.new ≡ length colors.old }
+    ensures depths { length depths.new ≡ length depths.old }
+    ensures spare { length spare.new ≡ length spare.old }
+    ensures drawn { result ≡ true → IsRunDrawn setup.now.state.now setup.now.texture.now setup.now.tri.now.v run (pixels_of colors.old depths.old) (pixels_of colors.new depths.new) }
+    ensures kept_colors { result ≡ false → colors.new ≡ colors.old }
+    ensures kept_depths { result ≡ false → depths.new ≡ depths.old }
 {
-    if written_row(pixels, colors, state, texture, tri, plan, paint, run) {
+    if written_row(colors, depths, spare, setup, run) {
         return true;
     }
-    let Some(plane) = &paint.depths else {
+    let Some(plane) = &setup.paint.depths else {
         return false;
     };
     let ramp = value_ramp(plane, run);
-    any_run(pixels, colors, state, texture, tri, run, ramp);
+    any_run(
+        colors,
+        depths,
+        spare,
+        setup.state,
+        setup.texture,
+        setup.tri,
+        run,
+        ramp,
+    );
     true
 }
 
 // A row, pixel by pixel.
-fn plain_row(pixels: &mut [Pixel], state: &State, texture: &Texture, tri: &WindowTriangle, run: Run)
-    requires texel { HasTexelIfAny texture.now }
+fn plain_row(colors: &mut [Rgba], depths: &mut [u32], setup: &Setup<'_>, run: Run)
     requires order { run.from ≤ run.to }
-    requires room { run.start + run.to ≤ length pixels.old }
-    requires covered { IsRunCovered tri.now.v run }
-    ensures { IsRunDrawn state.now texture.now tri.now.v run pixels.old pixels.new }
+    requires colors { run.to ≤ length colors.old }
+    requires depths { length depths.old ≡ length colors.old }
+    requires texel { HasTexelIfAny setup.now.texture.now }
+    requires covered { IsRunCovered setup.now.tri.now.v run }
+    ensures colors { length colors.new ≡ length colors.old }
+    ensures depths { length depths.new ≡ length depths.old }
+    ensures drawn { IsRunDrawn setup.now.state.now setup.now.texture.now setup.now.tri.now.v run (pixels_of colors.old depths.old) (pixels_of colors.new depths.new) }
 {
-    draw_run(
-        pixels, state, texture, tri, run.left, run.row, run.start, run.from, run.to,
-    );
+    draw_run(colors, depths, setup.state, setup.texture, setup.tri, run);
 }
 
 // A row of a triangle without a texture.
 fn untextured_row(
-    pixels: &mut [Pixel],
     colors: &mut [Rgba],
-    state: &State,
-    texture: &Texture,
-    tri: &WindowTriangle,
-    plan: &Plan,
-    paint: &Paint,
+    depths: &mut [u32],
+    spare: &mut [Rgba],
+    setup: &Setup<'_>,
     run: Run,
 )
     requires run { IsRun run }
-    requires room { run.start + run.to ≤ length pixels.old }
     requires colors { run.to ≤ length colors.old }
-    requires none { texture.now ≡ None }
-    requires covered { IsRunCovered tri.now.v run }
-    requires plan { IsPlan state.now plan.now }
-    requires paint { IsPaint tri.now.v (pos run.left) (pos run.bottom) paint.now }
-    ensures size { length colors.new ≡ length colors.old }
-    ensures drawn { IsRunDrawn state.now None tri.now.v run pixels.old pixels.new }
+    requires depths { length depths.old ≡ length colors.old }
+    requires room { run.to ≤ length spare.old }
+    requires none { setup.now.texture.now ≡ None }
+    requires covered { IsRunCovered setup.now.tri.now.v run }
+    requires paint { IsPaint setup.now.tri.now.v (pos run.left) (pos run.bottom) setup.now.paint }
+    ensures colors { length colors.new ≡ length colors.old }
+    ensures depths { length depths.new ≡ length depths.old }
+    ensures spare { length spare.new ≡ length spare.old }
+    ensures drawn { IsRunDrawn setup.now.state.now None setup.now.tri.now.v run (pixels_of colors.old depths.old) (pixels_of colors.new depths.new) }
 {
-    if store_row(pixels, state, tri, plan, paint, run) {
+    if store_row(colors, setup, run) {
         return;
     }
-    if plain_colors(colors, state, tri, paint, run) {
-        if colored_row(pixels, colors, state, texture, tri, plan, paint, run) {
+    if plain_colors(spare, setup, run) {
+        if colored_row(colors, depths, spare, setup, run) {
             return;
         }
     }
-    plain_row(pixels, state, texture, tri, run);
+    plain_row(colors, depths, setup, run);
 }
 
 // A row of a triangle with a texture.
 fn textured_row(
-    pixels: &mut [Pixel],
     colors: &mut [Rgba],
-    state: &State,
-    texture: &Texture,
-    tri: &WindowTriangle,
-    plan: &Plan,
-    paint: &Paint,
+    depths: &mut [u32],
+    spare: &mut [Rgba],
+    setup: &Setup<'_>,
     run: Run,
 )
     requires run { IsRun run }
-    requires room { run.start + run.to ≤ length pixels.old }
     requires colors { run.to ≤ length colors.old }
-    requires texel { HasTexel texture.now }
-    requires any { HasTexelIfAny texture.now }
-    requires covered { IsRunCovered tri.now.v run }
-    requires plan { IsPlan state.now plan.now }
-    requires paint { IsPaint tri.now.v (pos run.left) (pos run.bottom) paint.now }
-    ensures size { length colors.new ≡ length colors.old }
-    ensures drawn { IsRunDrawn state.now texture.now tri.now.v run pixels.old pixels.new }
+    requires depths { length depths.old ≡ length colors.old }
+    requires room { run.to ≤ length spare.old }
+    requires texel { HasTexel setup.now.texture.now }
+    requires any { HasTexelIfAny setup.now.texture.now }
+    requires covered { IsRunCovered setup.now.tri.now.v run }
+    requires paint { IsPaint setup.now.tri.now.v (pos run.left) (pos run.bottom) setup.now.paint }
+    ensures colors { length colors.new ≡ length colors.old }
+    ensures depths { length depths.new ≡ length depths.old }
+    ensures spare { length spare.new ≡ length spare.old }
+    ensures drawn { IsRunDrawn setup.now.state.now setup.now.texture.now setup.now.tri.now.v run (pixels_of colors.old depths.old) (pixels_of colors.new depths.new) }
 {
-    let Some(sampler) = texture.sampler(state.tex_mode[1], state.tex_mode[2]) else {
-        plain_row(pixels, state, texture, tri, run);
+    let modes = setup.state.tex_mode;
+    let Some(sampler) = setup.texture.sampler(modes[1], modes[2]) else {
+        plain_row(colors, depths, setup, run);
         return;
     };
-    if pictured_colors(colors, state, texture, sampler, tri, plan, paint, run) {
-        if colored_row(pixels, colors, state, texture, tri, plan, paint, run) {
+    if pictured_colors(spare, setup, sampler, run) {
+        if colored_row(colors, depths, spare, setup, run) {
             return;
         }
     }
-    plain_row(pixels, state, texture, tri, run);
+    plain_row(colors, depths, setup, run);
 }
 
 // The run without what the depth test hides at its beginning.
-fn visible_run(
-    pixels: &[Pixel],
-    state: &State,
-    tri: &WindowTriangle,
-    plan: &Plan,
-    paint: &Paint,
-    run: Run,
-) -> Run
+fn visible_run(depths: &[u32], setup: &Setup<'_>, run: Run) -> Run
     requires run { IsRun run }
-    requires room { run.start + run.to ≤ length pixels.now }
-    requires covered { IsRunCovered tri.now.v run }
-    requires plan { IsPlan state.now plan.now }
-    requires paint { IsPaint tri.now.v (pos run.left) (pos run.bottom) paint.now }
+    requires room { run.to ≤ length depths.now }
+    requires covered { IsRunCovered setup.now.tri.now.v run }
+    requires paint { IsPaint setup.now.tri.now.v (pos run.left) (pos run.bottom) setup.now.paint }
     ensures run { result ≡ run_from run result.from }
     ensures low { run.from ≤ result.from }
     ensures high { result.from ≤ run.to }
-    ensures hidden { IsHidden state.now tri.now.v run result.from pixels.now }
+    ensures hidden { IsHidden setup.now.state.now setup.now.tri.now.v run result.from depths.now }
 {
-    if plan.untested {
+    if setup.plan.untested {
         return run;
     }
-    if !paint.ranged {
+    if !setup.paint.ranged {
         return run;
     }
-    let Some(depths) = &paint.depths else {
+    let Some(plane) = &setup.paint.depths else {
         return run;
     };
-    let ramp = value_ramp(depths, run);
-    let from = first_passing(pixels, state, tri, plan.depth, run, ramp);
+    let ramp = value_ramp(plane, run);
+    let from = first_passing(depths, setup.state, setup.tri, setup.plan.depth, run, ramp);
     Run { from, ..run }
 }
 
@@ -512,75 +480,64 @@ fn is_few(run: Run) -> bool
 
 // A row of a triangle's pixels that isn't filled.
 #[inline(never)]
-fn run_row(
-    pixels: &mut [Pixel],
-    colors: &mut [Rgba],
-    state: &State,
-    texture: &Texture,
-    tri: &WindowTriangle,
-    plan: &Plan,
-    paint: &Paint,
-    run: Run,
-)
+fn run_row(colors: &mut [Rgba], depths: &mut [u32], spare: &mut [Rgba], setup: &Setup<'_>, run: Run)
     requires order { run.from ≤ run.to }
     requires above { run.row ≡ run.bottom + run.up }
-    requires room { run.start + run.to ≤ length pixels.old }
     requires colors { run.to ≤ length colors.old }
-    requires texel { HasTexelIfAny texture.now }
-    requires covered { IsRunCovered tri.now.v run }
-    requires plan { IsPlan state.now plan.now }
-    requires paint { IsPaint tri.now.v (pos run.left) (pos run.bottom) paint.now }
-    ensures size { length colors.new ≡ length colors.old }
-    ensures drawn { IsRunDrawn state.now texture.now tri.now.v run pixels.old pixels.new }
+    requires depths { length depths.old ≡ length colors.old }
+    requires room { run.to ≤ length spare.old }
+    requires texel { HasTexelIfAny setup.now.texture.now }
+    requires covered { IsRunCovered setup.now.tri.now.v run }
+    requires paint { IsPaint setup.now.tri.now.v (pos run.left) (pos run.bottom) setup.now.paint }
+    ensures colors { length colors.new ≡ length colors.old }
+    ensures depths { length depths.new ≡ length depths.old }
+    ensures spare { length spare.new ≡ length spare.old }
+    ensures drawn { IsRunDrawn setup.now.state.now setup.now.texture.now setup.now.tri.now.v run (pixels_of colors.old depths.old) (pixels_of colors.new depths.new) }
 {
     if !is_few(run) {
-        plain_row(pixels, state, texture, tri, run);
+        plain_row(colors, depths, setup, run);
         return;
     }
-    let run = visible_run(pixels, state, tri, plan, paint, run);
+    let run = visible_run(depths, setup, run);
     if run.from == run.to {
         return;
     }
-    if texture.has_image() {
-        textured_row(pixels, colors, state, texture, tri, plan, paint, run);
+    if setup.texture.has_image() {
+        textured_row(colors, depths, spare, setup, run);
     } else {
-        untextured_row(pixels, colors, state, texture, tri, plan, paint, run);
+        untextured_row(colors, depths, spare, setup, run);
     }
 }
 
-/// A row of a triangle's pixels: columns `from` to below `to`, of a row that begins at the index `start`. Its first pixel lies `up` rows above the
-/// pixel (`left`, `bottom`) of the window, which is the grid's first.
+/// Columns `from` to below `to` of a row of a triangle's pixels, by their colours and depths. The row's first pixel lies `up` rows above the pixel
+/// (`left`, `bottom`) of the window, which is the grid's first. `spare` is room for a row of colours.
 #[inline(always)]
 pub(crate) fn draw_row(
-    pixels: &mut [Pixel],
     colors: &mut [Rgba],
-    state: &State,
-    texture: &Texture,
-    tri: &WindowTriangle,
-    plan: &Plan,
-    paint: &Paint,
+    depths: &mut [u32],
+    spare: &mut [Rgba],
+    setup: &Setup<'_>,
     left: u16,
     bottom: u16,
     up: u16,
-    start: usize,
     from: u16,
     to: u16,
 )
     requires order { from ≤ to }
     requires top { bottom + up ≤ 65535 }
-    requires room { start + to ≤ length pixels.old }
     requires colors { to ≤ length colors.old }
-    requires texel { HasTexelIfAny texture.now }
-    requires covered { AreCovered tri.now.v left (bottom + up) from to }
-    requires plan { IsPlan state.now plan.now }
-    requires paint { IsPaint tri.now.v (pos left) (pos bottom) paint.now }
-    ensures size { length colors.new ≡ length colors.old }
-    ensures drawn { IsRunStepped (fragment_pixel state.now texture.now tri.now.v) left (bottom + up) start from to pixels.old pixels.new }
+    requires depths { length depths.old ≡ length colors.old }
+    requires room { to ≤ length spare.old }
+    requires texel { HasTexelIfAny setup.now.texture.now }
+    requires covered { AreCovered setup.now.tri.now.v left (bottom + up) from to }
+    requires paint { IsPaint setup.now.tri.now.v (pos left) (pos bottom) setup.now.paint }
+    ensures colors { length colors.new ≡ length colors.old }
+    ensures depths { length depths.new ≡ length depths.old }
+    ensures spare { length spare.new ≡ length spare.old }
+    ensures drawn { IsRunStepped (fragment_pixel setup.now.state.now setup.now.texture.now setup.now.tri.now.v) left (bottom + up) from to (pixels_of colors.old depths.old) (pixels_of colors.new depths.new) }
 {
-    if !texture.has_image() {
-        if fill_row(
-            pixels, state, tri, plan, paint, left, bottom, up, start, from, to,
-        ) {
+    if !setup.texture.has_image() {
+        if fill_row(colors, setup, left, bottom, up, from, to) {
             return;
         }
     }
@@ -589,9 +546,8 @@ pub(crate) fn draw_row(
         bottom,
         row: bottom + up,
         up,
-        start,
         from,
         to,
     };
-    run_row(pixels, colors, state, texture, tri, plan, paint, run);
+    run_row(colors, depths, spare, setup, run);
 }

@@ -1,10 +1,13 @@
 //! The pixels of a run: each takes the fragment of the triangle that covers it.
-ghost use Rattle.std.specs.Prelude.{◌≡◌, ℕ, ◌+◌, ◌<◌, ◌≤◌, length, pos, true, None, Some, Option};
+ghost use Rattle.std.specs.Prelude.{◌≡◌, ◌+◌, ◌≤◌, length, pos, true};
 ghost use Rattle.rc_base.specs.Drawing.Cover.{is_inside};
 ghost use Rattle.rc_base.specs.Drawing.PixelStep.{fragment_step, fragment_color};
 ghost use Rattle.textures.specs.Images.{HasTexelIfAny};
-ghost use Rattle.draw_device.specs.Shapes.{fragment_pixel, IsRunStepped};
+ghost use Rattle.draw_device.specs.Pixels.{pixels_of};
+ghost use Rattle.draw_device.specs.Shapes.{fragment_pixel};
+ghost use Rattle.draw_device.specs.Loops.{IsRunCovered, IsRunDrawn};
 
+use crate::run::Run;
 use fragment_ops::{shade_pixel, texture_color};
 use raster::fragment_at;
 use rc_base::command::Rgba;
@@ -52,26 +55,32 @@ fn shade_at(
     shade(state, texture, &fragment, old)
 }
 
-/// Draws the covered columns from `from` to below `to` of a row that begins at `start` with the pixel (`left`, `row`) of the window.
+/// Draws the run of a row, pixel by pixel.
 pub(crate) fn draw_run(
-    pixels: &mut [Pixel],
+    colors: &mut [Rgba],
+    depths: &mut [u32],
     state: &State,
     texture: &Texture,
     tri: &WindowTriangle,
-    left: u16,
-    row: u16,
-    start: usize,
-    from: u16,
-    to: u16,
+    run: Run,
 )
+    requires order { run.from ≤ run.to }
+    requires colors { run.to ≤ length colors.old }
+    requires depths { length depths.old ≡ length colors.old }
     requires texel { HasTexelIfAny texture.now }
-    requires order { from ≤ to }
-    requires room { start + to ≤ length pixels.old }
-    requires covered { (k : ℕ) → from ≤ k → k < to → is_inside tri.now.v (pos (left + k)) (pos row) ≡ true }
-    ensures { IsRunStepped (fragment_pixel state.now texture.now tri.now.v) left row start from to pixels.old pixels.new }
+    requires covered { IsRunCovered tri.now.v run }
+    ensures colors { length colors.new ≡ length colors.old }
+    ensures depths { length depths.new ≡ length depths.old }
+    ensures drawn { IsRunDrawn state.now texture.now tri.now.v run (pixels_of colors.old depths.old) (pixels_of colors.new depths.new) }
 {
-    for x in from..to {
-        let index = start + x as usize;
-        pixels[index] = shade_at(state, texture, tri, left, x, row, pixels[index]);
+    for x in run.from..run.to {
+        let place = x as usize;
+        let old = Pixel {
+            color: colors[place],
+            depth: depths[place],
+        };
+        let new = shade_at(state, texture, tri, run.left, x, run.row, old);
+        colors[place] = new.color;
+        depths[place] = new.depth;
     }
 }

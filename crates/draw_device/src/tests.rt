@@ -160,6 +160,14 @@ fn cut(
     Some(pixels)
 }
 
+fn colors_of(pixels: &[Pixel], alloc: Global) -> Option<Vec<Rgba>> {
+    let mut colors = Vec::new(alloc);
+    for pixel in pixels {
+        colors.push(pixel.color).ok()?;
+    }
+    Some(colors)
+}
+
 #[test]
 fn each_rectangle_has_the_windows_pixels(rt: HostRuntime) {
     let alloc = rt.alloc();
@@ -167,6 +175,7 @@ fn each_rectangle_has_the_windows_pixels(rt: HostRuntime) {
     let shareds = SharedSet::new(alloc, &Sizes::new(alloc)).expect(&rt, "memory");
     let mut window = Device::new(alloc, rect_from(0, 0, WIDTH, HEIGHT)).expect(&rt, "memory");
     draw(alloc, &mut window, &privates, &shareds).expect(&rt, "memory");
+    let whole = window.part(alloc, 0, 0).expect(&rt, "memory");
     for x0 in 0..WIDTH {
         for y0 in 0..HEIGHT {
             for width in 0..7 - x0 {
@@ -174,11 +183,12 @@ fn each_rectangle_has_the_windows_pixels(rt: HostRuntime) {
                     let rect = rect_from(x0, y0, width, height);
                     let mut device = Device::new(alloc, rect).expect(&rt, "memory");
                     draw(alloc, &mut device, &privates, &shareds).expect(&rt, "memory");
-                    let wanted = cut(window.pixels(), x0, y0, width, height, alloc).expect(
+                    let wanted = cut(whole.pixels.as_slice(), x0, y0, width, height, alloc).expect(
                         &rt,
                         "a part of the window",
                     );
-                    assert_eq!(rt; device.pixels(), wanted.as_slice());
+                    let colors = colors_of(wanted.as_slice(), alloc).expect(&rt, "memory");
+                    assert_eq!(rt; device.colors(), colors.as_slice());
                     let part = device.part(alloc, 3, 9).expect(&rt, "memory");
                     assert_eq!(rt; part.pixels.as_slice(), wanted.as_slice());
                     assert_eq!(rt; part.tile, 3);
@@ -195,7 +205,8 @@ fn a_clear_stays_in_the_scissor_box(rt: HostRuntime) {
     let mut device = Device::new(alloc, rect_from(0, 0, WIDTH, HEIGHT)).expect(&rt, "memory");
     device.clear(&state(false, true, false), 3);
     let mut cleared = 0_u8;
-    for pixel in device.pixels() {
+    let part = device.part(rt.alloc(), 0, 0).expect(&rt, "memory");
+    for pixel in part.pixels.as_slice() {
         if pixel.color.r == 40 {
             cleared = cleared.saturating_add(1);
             assert_eq!(rt; pixel.depth, 12_799_999);

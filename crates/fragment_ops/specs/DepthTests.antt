@@ -6,6 +6,10 @@ use Rattle.rc_base.specs.declared.state.State.{State}
 use Rattle.rc_base.specs.declared.window.Pixel.{Pixel}
 use Rattle.fragment_ops.specs.declared.depth.DepthTest.{DepthTest}
 
+-- a pixel of this colour and depth
+abbrev pub pixel : Rgba → ℕ → Pixel
+pixel color depth = record { color = color; depth = depth }
+
 -- a comparison by the outcomes that pass
 unfoldable pub passes : DepthTest → ℕ → ℕ → Bool
 passes t depth stored = (t.below && nat_lt depth stored) || ((t.equal && depth == stored) || (t.above && nat_lt stored depth))
@@ -18,4 +22,4 @@ pub record IsDepthTest (s : State) (t : DepthTest) : Type 0 where
 -- a pixel after it, by the colour that is to be written
 unfoldable pub tested_pixel : DepthTest → Rgba → ℕ → Pixel → Pixel
 tested_pixel t color depth old =
-    if passes t depth old.depth then record { color = color; depth = if t.stores then depth else old.depth } else old
+    if passes t depth old.depth then pixel color (if t.stores then depth else old.depth) else old

@@ -5,11 +5,10 @@ ghost use Rattle.rc_base.specs.Drawing.PixelStep.{compares, written_color, shade
 ghost use Rattle.rc_base.specs.declared.command.Rgba.{Rgba as AnyColor};
 ghost use Rattle.rc_base.specs.declared.state.State.{State as AnyState};
 ghost use Rattle.rc_base.specs.declared.window.Pixel.{Pixel as AnyPixel};
-ghost use Rattle.fragment_ops.specs.DepthTests.{passes, IsDepthTest, tested_pixel};
+ghost use Rattle.fragment_ops.specs.DepthTests.{passes, IsDepthTest, pixel, tested_pixel};
 
 use rc_base::command::Rgba;
 use rc_base::state::State;
-use rc_base::window::Pixel;
 
 /// The depth test of a state by the outcomes that pass, all of them where it is off, and whether it stores depths. Prepared once for a draw,
 /// so that no code of the state is looked at for a pixel.
@@ -102,26 +101,28 @@ impl DepthTest {
 
     // What is stored of a fragment that passes.
     #[inline(always)]
-    fn write(&self, color: Rgba, depth: u32, pixel: &mut Pixel)
-        ensures { pixel.new ≡ record { color = color; depth = if self.now.stores then depth else pixel.old.depth } }
+    fn write(&self, color: Rgba, depth: u32, stored_color: &mut Rgba, stored_depth: &mut u32)
+        ensures color { stored_color.new ≡ color }
+        ensures depth { stored_depth.new ≡ if self.now.stores then depth else stored_depth.old }
     {
-        pixel.color = color;
+        *stored_color = color;
         if self.stores {
-            pixel.depth = depth;
+            *stored_depth = depth;
         }
     }
 
     /// Puts a fragment's colour as it is to be written and, if depths are stored, its depth, where it passes; else nothing is changed. The depth
-    /// lies in the buffer's range.
+    /// lies in the buffer's range. The pixel is given by where its colour and its depth are stored.
     #[inline(always)]
     #[tactic(auto, unfolding(crate::specs::DepthTests::tested_pixel))]
-    pub fn put(&self, color: Rgba, depth: u32, pixel: &mut Pixel)
+    pub fn put(&self, color: Rgba, depth: u32, stored_color: &mut Rgba, stored_depth: &mut u32)
         requires { depth ≤ depth_most }
-        ensures value { pixel.new ≡ tested_pixel self.now color depth pixel.old }
-        ensures stored { (s : AnyState) (c : AnyColor) → IsDepthTest s self.now → s.alpha_on ≡ false → color ≡ written_color s c pixel.old.color → pixel.new ≡ shaded s c depth pixel.old }
+        ensures value { pixel stored_color.new stored_depth.new ≡ tested_pixel self.now color depth (pixel stored_color.old stored_depth.old) }
+        ensures stored { (s : AnyState) (c : AnyColor) → IsDepthTest s self.now → s.alpha_on ≡ false → color ≡ written_color s c stored_color.old
+            → pixel stored_color.new stored_depth.new ≡ shaded s c depth (pixel stored_color.old stored_depth.old) }
     {
-        if self.passes(depth, pixel.depth) {
-            self.write(color, depth, pixel);
+        if self.passes(depth, *stored_depth) {
+            self.write(color, depth, stored_color, stored_depth);
         }
     }
 }

@@ -1,11 +1,13 @@
 -- Places in a window's list of pixels.
-use Rattle.std.proofs.Common.{◌≡◌, ℕ, ◌+◌, ◌*◌, ◌<◌, ◌≤◌, pos, ◌-ℤ◌, true, sym, ap, ◌∙◌, arith, mul-le-mul}
+use Rattle.std.proofs.Common.{◌≡◌, ℕ, List, ◌+◌, ◌*◌, ◌<◌, ◌≤◌, pos, ◌-ℤ◌, true, sym, ap, ◌∙◌, arith, mul-le-mul}
 use Rattle.std.proofs.lemmas.Int.{ints}
 use Rattle.rc_base.specs.Numbers.{natural}
 use Rattle.rc_base.specs.Cluster.Tiles.{is_in_rect}
 use Rattle.rc_base.specs.Drawing.Images.{Pixels}
+use Rattle.rc_base.specs.declared.command.Rgba.{Rgba}
+use Rattle.rc_base.specs.declared.window.Pixel.{Pixel}
 use Rattle.rc_base.specs.declared.window.Rect.{Rect}
-use Rattle.draw_device.specs.Pixels.{pixel_at}
+use Rattle.draw_device.specs.Pixels.{pixel_at, color_at}
 use Rattle.draw_device.specs.Devices.{DeviceView, pixel_index, pixel_of, rect_size}
 use Rattle.serial_render.specs.Cells.{Shows}
 use Rattle.serial_render.specs.Steps.{window_of, Holds}
@@ -36,7 +38,9 @@ pixel_is : (d : DeviceView) (w h i j : ℕ) → d.rect ≡ window_of w h → pix
 unfolding pixel_of
 pixel_is d w h i j e = ap (λ (r : Rect). pixel_at d.pixels (pixel_index r (pos i) (pos j))) e ∙ ap (λ (k : ℕ). pixel_at d.pixels k) (index_is w h i j)
 
--- what a window's device holds its list of pixels shows
-pub holds_shows : (d : DeviceView) (w h : ℕ) (picture : Pixels) → d.rect ≡ window_of w h → Holds d picture → Shows w h d.pixels picture
-holds_shows d w h picture e holds i j li lj =
-    sym (pixel_is d w h i j e) ∙ holds (pos i) (pos j) (ap (λ (r : Rect). is_in_rect r (pos i) (pos j)) e ∙ in_window w h i j li lj)
+-- what a window's device holds its colours show
+pub holds_shows : (d : DeviceView) (colors : List Rgba) (w h : ℕ) (picture : Pixels) → d.rect ≡ window_of w h → ((k : ℕ) → color_at colors k ≡ (pixel_at d.pixels k).color)
+    → Holds d picture → Shows w h colors picture
+holds_shows d colors w h picture e each holds i j li lj =
+    each (j * w + i)
+    ∙ ap (λ (p : Pixel). p.color) (sym (pixel_is d w h i j e) ∙ holds (pos i) (pos j) (ap (λ (r : Rect). is_in_rect r (pos i) (pos j)) e ∙ in_window w h i j li lj))

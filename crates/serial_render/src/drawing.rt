@@ -54,7 +54,7 @@ pub(crate) fn show_up_to(
         → ((k : ℕ) → length frames.old < k → k ≤ count → Holds device.now (pictures k)) → frames.new ≡ images_of decl.now pictures (length frames.new)) }
 {
     for _ in frames.len()..count {
-        let image = image_of(alloc, decl.width, decl.height, device.pixels())?;
+        let image = image_of(alloc, decl.width, decl.height, device.colors())?;
         frames.push(image)?;
     }
     Ok(())

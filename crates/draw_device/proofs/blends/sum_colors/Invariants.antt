@@ -1,12 +1,12 @@
-use Rattle.std.proofs.Common.{ℕ, ◌+◌}
+use Rattle.std.proofs.Common.{ℕ}
 use Rattle.rc_base.specs.Drawing.PixelStep.{written_color}
 use Rattle.rc_base.specs.declared.command.Rgba.{Rgba}
-use Rattle.draw_device.specs.Pixels.{pixel_at}
+use Rattle.draw_device.specs.Pixels.{color_at}
 use Rattle.draw_device.specs.Loops.{IsColorRun}
 use Rattle.draw_device.proofs.blends.sum_colors.Given as goal
 
 abbrev pub invariant-loop-x : goal.invariant-loop-x
 invariant-loop-x l =
     record {
-      done : IsColorRun (λ (k : ℕ) (old : Rgba). written_color l.state old (pixel_at l.pixels (l.fn.run.start + k)).color) l.fn.run.from l.x l.fn.colors l.colors;
+      done : IsColorRun (λ (k : ℕ) (old : Rgba). written_color l.state old (color_at l.stored k)) l.fn.from l.x l.fn.colors l.colors;
     }

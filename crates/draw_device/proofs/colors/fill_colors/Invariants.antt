@@ -6,5 +6,5 @@ use Rattle.draw_device.proofs.colors.fill_colors.Given as goal
 abbrev pub invariant-loop-x : goal.invariant-loop-x
 invariant-loop-x l =
     record {
-      done : IsColorRun (λ (k : ℕ) (old : Rgba). l.fn.color) l.fn.run.from l.x l.fn.colors l.colors;
+      done : IsColorRun (λ (k : ℕ) (old : Rgba). l.fn.color) l.fn.from l.x l.fn.colors l.colors;
     }

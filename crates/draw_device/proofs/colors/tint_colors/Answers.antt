@@ -11,7 +11,7 @@ loop-x-preserved c =
     let d = c.loop-x.invariant.done in
     let s = d.size in
     let order = c.requires.run.order in
-    let was = d.rest c.loop-x.x (omega arith) in
+    let was = d.after c.loop-x.x (omega arith) in
     record {
       done = color_more (λ (k : ℕ) (old : Rgba). textured c.args.state.now (run_fragment c.args.tri.now.v c.args.run k).color old) r.from c.loop-x.x _ _ _ d (omega arith) (omega arith) (c.modulate.ensures ∙ sym (c.requires.kind _ _) ∙ (λ i. textured c.args.state.now (c.color_by-color.ensures i) (was i)));
       ramp = color_moved _ r.left c.loop-x.x r.row r.up _ (c.advance.ensures.across c.args.tri.now.v (pos (r.left + c.loop-x.x)) (pos r.row) (1 + c.loop-x.x + r.up) c.loop-x.invariant.ramp);

@@ -1,6 +1,12 @@
-use Rattle.std.proofs.Common.{ℕ}
+use Rattle.std.proofs.Common.{◌≡◌, ℕ, length}
+use Rattle.draw_device.specs.Pixels.{pixels_of}
 use Rattle.draw_device.specs.Shapes.{IsRunStepped, cleared_pixel}
 use Rattle.draw_device.proofs.grid.clear_run.Given as goal
 
 abbrev pub invariant-loop-x : goal.invariant-loop-x
-invariant-loop-x l = (left row : ℕ) → IsRunStepped (cleared_pixel l.fn.state l.fn.mask) left row l.fn.start l.fn.from l.x l.fn.pixels.items l.pixels.items
+invariant-loop-x l =
+    record {
+      colors : length l.colors ≡ length l.fn.colors;
+      depths : length l.depths ≡ length l.fn.depths;
+      drawn : (left row : ℕ) → IsRunStepped (cleared_pixel l.fn.state l.fn.mask) left row l.fn.from l.x (pixels_of l.fn.colors l.fn.depths) (pixels_of l.colors l.depths);
+    }

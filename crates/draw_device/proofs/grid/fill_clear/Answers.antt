@@ -1,16 +1,21 @@
-use Rattle.std.proofs.Common.{arith}
+use Rattle.std.proofs.Common.{◌∙◌, sym, arith, length-set}
 use Rattle.draw_device.specs.Shapes.{cleared_pixel}
-use Rattle.draw_device.proofs.Runs.{run_more, run_end}
+use Rattle.draw_device.proofs.Runs.{run_pixel, run_end}
 use Rattle.draw_device.proofs.grid.fill_clear.Goals as goal
 
 pub loop-x-preserved : goal.loop-x-preserved
-loop-x-preserved c left row =
-    let d = c.loop-x.invariant left row in
-    let s = d.size in
-    run_more (cleared_pixel c.args.state.now c.args.mask) left row c.args.start c.args.from c.loop-x.x _ _ _ c.index_mut.result.now d (omega arith)
-    (omega arith) c.index_mut.ensures.value (c.pixel-cleared.ensures c.requires.whole c.args.state.now c.args.mask _ c.requires.clearing)
+loop-x-preserved c =
+    let a = c.args in
+    let i = c.loop-x.invariant in
+    let alike = i.depths ∙ c.requires.depths ∙ sym i.colors in
+    record {
+      colors = length-set _ _ _ ∙ i.colors;
+      depths = length-set _ _ _ ∙ i.depths;
+      drawn = λ left row. run_pixel (cleared_pixel a.state.now a.mask) left row a.from c.loop-x.x _ c.loop-x.colors c.loop-x.depths _ _ alike (i.drawn left row) (omega arith)
+          (omega (arith, i.colors)) (c.pixel-cleared.ensures c.requires.whole a.state.now a.mask _ c.requires.clearing);
+    }
 
-pub returns : goal.returns
-returns c left row =
+pub returns-clause-drawn : goal.returns-clause-drawn
+returns-clause-drawn c left row =
     let e = c.loop-x.auto.x-end c.requires.order in
-    run_end (cleared_pixel c.args.state.now c.args.mask) left row c.args.start c.args.from _ _ _ _ (omega arith) (c.loop-x.invariant left row)
+    run_end (cleared_pixel c.args.state.now c.args.mask) left row c.args.from _ _ _ _ (omega arith) (c.loop-x.invariant.drawn left row)

@@ -1,8 +1,10 @@
-use Rattle.std.proofs.Common.{◌≡◌, ◌+◌, ◌∙◌, ℕ, pos, arith, refl, subst, sym, to_z-of_z, FitsSigned, w32, Option}
+use Rattle.std.proofs.Common.{◌≡◌, ◌+◌, ◌∙◌, ℕ, pos, arith, subst, sym, to_z-of_z, FitsSigned, w32, Option}
 use Rattle.std.proofs.lemmas.Int.{ints, by_lt_z}
 use Rattle.rc_base.specs.Pictures.{Picture}
+use Rattle.rc_base.specs.declared.command.Rgba.{Rgba}
 use Rattle.rc_base.specs.declared.window.WindowVertex.{WindowVertex}
-use Rattle.draw_device.specs.Pixels.{pixel_at}
+use Rattle.fragment_ops.specs.DepthTests.{pixel}
+use Rattle.draw_device.specs.Pixels.{depth_at}
 use Rattle.draw_device.specs.Shapes.{fragment_pixel}
 use Rattle.draw_device.specs.Loops.{run_fragment}
 use Rattle.draw_device.proofs.Steps.{value_moved}
@@ -14,15 +16,15 @@ loop-x-preserved c =
     let v = c.args.tri.now.v in
     let x = c.loop-x.x in
     let s = c.args.state.now in
-    let pixels = c.args.pixels.now in
+    let depths = c.args.depths.now in
     let order = c.requires.run.order in
     let fit : FitsSigned w32 c.depth_by-depth.result = record { sfits = c.depth_by-depth.type_inv } in
-    let here = λ (p : Option Picture). c.passes_step.ensures c.if-passes_step.false s p (run_fragment v r x) (pixel_at pixels (r.start + x)) c.requires.test (to_z-of_z fit ∙ c.depth_by-depth.ensures) refl in
+    let here = λ (p : Option Picture) (color : Rgba). c.passes_step.ensures c.if-passes_step.false s p (run_fragment v r x) color c.requires.test (to_z-of_z fit ∙ c.depth_by-depth.ensures) in
     record {
-      hidden = λ p k m n. by_lt_z (pos k) (pos x)
-          (λ o. c.loop-x.invariant.hidden p k m (omega (arith, ints, o)))
+      hidden = λ p color k m n. by_lt_z (pos k) (pos x)
+          (λ o. c.loop-x.invariant.hidden p color k m (omega (arith, ints, o)))
           (λ o. let same : k ≡ x = omega (arith, ints, o, n) in
-          subst (λ (z : ℕ). fragment_pixel s p v (pos (r.left + z)) (pos r.row) (pixel_at pixels (r.start + z)) ≡ pixel_at pixels (r.start + z)) (sym same) (here p));
+          subst (λ (z : ℕ). fragment_pixel s p v (pos (r.left + z)) (pos r.row) (pixel color (depth_at depths z)) ≡ pixel color (depth_at depths z)) (sym same) (here p color));
       ramp = value_moved _ (λ (c : WindowVertex). c.z) r.left x r.row r.up _ (c.advance.ensures v (pos (r.left + x)) (pos r.row) _ (1 + x + r.up) c.loop-x.invariant.ramp);
     }
 
@@ -31,10 +33,10 @@ passes_step-requires c =
     let r = c.args.run in
     let x = c.loop-x.x in
     let inside = c.requires.covered x (omega arith) (omega arith) in
-    rw (to_z-of_z (record { sfits = c.depth_by-depth.type_inv }), c.depth_by-depth.ensures) (c.requires.depths (pos (r.left + x)) (pos r.row) inside)
+    rw (to_z-of_z (record { sfits = c.depth_by-depth.type_inv }), c.depth_by-depth.ensures) (c.requires.ranged (pos (r.left + x)) (pos r.row) inside)
 
 pub returns-clause-hidden : goal.returns-clause-hidden
-returns-clause-hidden c p k m n =
+returns-clause-hidden c p color k m n =
     let order = c.requires.run.order in
     let e = c.loop-x.auto.x-end order in
-    c.loop-x.invariant.hidden p k m (omega arith)
+    c.loop-x.invariant.hidden p color k m (omega arith)

@@ -1,3 +1,5 @@
+use Rattle.std.proofs.Common.{◌≡◌, length}
+use Rattle.draw_device.specs.Pixels.{pixels_of}
 use Rattle.draw_device.specs.Shapes.{IsRunStepped, fragment_pixel}
 use Rattle.draw_device.specs.Loops.{IsDepthAt}
 use Rattle.draw_device.proofs.pixels.test_run.Given as goal
@@ -5,6 +7,8 @@ use Rattle.draw_device.proofs.pixels.test_run.Given as goal
 abbrev pub invariant-loop-x : goal.invariant-loop-x
 invariant-loop-x l =
     record {
-      drawn : IsRunStepped (fragment_pixel l.state l.texture l.tri.v) l.fn.run.left l.fn.run.row l.fn.run.start l.fn.run.from l.x l.fn.pixels l.pixels;
+      colors : length l.colors ≡ length l.fn.colors;
+      depths : length l.depths ≡ length l.fn.depths;
+      drawn : IsRunStepped (fragment_pixel l.state l.texture l.tri.v) l.fn.run.left l.fn.run.row l.fn.run.from l.x (pixels_of l.fn.colors l.fn.depths) (pixels_of l.colors l.depths);
       ramp : IsDepthAt l.tri.v l.fn.run l.x l.ramp;
     }

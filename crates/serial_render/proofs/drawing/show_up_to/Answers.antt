@@ -1,8 +1,6 @@
-use Rattle.std.proofs.Common.{◌≡◌, ◌+◌, ◌++◌, [], ◌∷◌, List, length, ◌∙◌, ap, sym, subst, arith, length-append}
+use Rattle.std.proofs.Common.{◌≡◌, ◌+◌, ◌++◌, [], ◌∷◌, List, length, ◌∙◌, ap, sym, arith, length-append}
 use Rattle.rc_base.specs.Drawing.Images.{image_from}
 use Rattle.rc_base.specs.declared.image.Image.{Image}
-use Rattle.rc_base.specs.declared.window.Pixel.{Pixel}
-use Rattle.serial_render.specs.Cells.{Shows}
 use Rattle.serial_render.specs.Shown.{images_of}
 use Rattle.serial_render.proofs.PixelIndex.{holds_shows}
 use Rattle.serial_render.proofs.SurveyedStreams.{map_more}
@@ -18,10 +16,8 @@ loop-preserved c =
       count = count;
       most = omega (arith, c.loop-test.true);
       images = λ pictures first due.
-          let shows : Shows d.width d.height c.pixels.result.now (pictures (n + 1)) =
-          subst (λ (l : List Pixel). Shows d.width d.height l (pictures (n + 1))) (sym c.pixels.ensures.value)
-          (holds_shows c.args.device.now d.width d.height (pictures (n + 1)) c.requires
-          (due (n + 1) (omega (arith, c.loop.auto.counter, c.len-counter.ensures)) (omega (arith, c.loop-test.true)))) in
+          let shows = holds_shows c.args.device.now c.colors.result.now d.width d.height (pictures (n + 1)) c.requires c.colors.ensures.each
+          (due (n + 1) (omega (arith, c.loop.auto.counter, c.len-counter.ensures)) (omega (arith, c.loop-test.true))) in
           c.in_ok-push.ensures.items
           ∙ ap (λ (l : List Image). l ++ c.in_ok-image.image ∷ []) (c.loop.invariant.images pictures first due ∙ ap (images_of d pictures) c.loop.invariant.count)
           ∙ ap (λ (v : Image). images_of d pictures n ++ v ∷ []) (c.in_ok-image.ensures (pictures (n + 1)) shows)

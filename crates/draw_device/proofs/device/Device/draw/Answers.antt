@@ -1,6 +1,7 @@
 use Rattle.rc_base.specs.Drawing.PixelStep.{effect_step}
 use Rattle.rc_base.specs.declared.state.Effect.TheVariants as eff
 use Rattle.textures.specs.Images.{texture_image}
+use Rattle.draw_device.specs.Pixels.{pixels_of}
 use Rattle.draw_device.specs.Conditions.{shared_of}
 use Rattle.draw_device.proofs.BlockPixels.{block_steps}
 use Rattle.draw_device.proofs.Places.{view_takes}
@@ -13,7 +14,7 @@ returns-clause-drawn c =
     let ss = c.args.shareds.now in
     let block = c.args.block.now in
     let g = c.self.inside.grid.extent in
-    let old = c.self.inside.grid.pixels.items in
-    let new = c.draw.new.self.pixels.items in
+    let old = (pixels_of c.self.inside.grid.colors.items c.self.inside.grid.depths.items) in
+    let new = (pixels_of c.draw.new.self.colors.items c.draw.new.self.depths.items) in
     view_takes (effect_step s (texture_image ps) (shared_of ss) (eff.Block block)) g c.draw.new.self.extent old new _ c.self.view_is c.draw.ensures.extent
     (block_steps s ps ss c.sampled_texture-texture.result.now block g old new c.sampled_texture-texture.ensures c.draw.ensures.drawn)

@@ -1,6 +1,7 @@
 use Rattle.std.proofs.Common.{◌≡◌, ◌+◌, pos, arith}
 use Rattle.std.proofs.lemmas.Int.{ints}
 use Rattle.rc_base.specs.Drawing.Serial.{blank_pixel}
+use Rattle.draw_device.specs.Pixels.{pixels_of}
 use Rattle.draw_device.specs.Shapes.{grid_rect}
 use Rattle.draw_device.specs.declared.extent.Extent.{Extent}
 use Rattle.draw_device.proofs.Places.{blank_view}
@@ -15,4 +16,4 @@ returns-clause-blank c x y e =
     let x1 : pos (g.left + g.width) ≡ r.x1 = omega (arith, ints) in
     let y1 : pos (g.bottom + g.height) ≡ r.y1 = omega (arith, ints) in
     let seen : grid_rect g ≡ r = λ i. record { x0 = x0 i; y0 = y0 i; x1 = x1 i; y1 = y1 i } in
-    blank_view g c.in_ok-new.field-0.extent c.in_ok-new.field-0.pixels.items blank_pixel r c.in_ok-new.ensures.extent seen c.in_ok-new.ensures.blank x y e
+    blank_view g c.in_ok-new.field-0.extent (pixels_of c.in_ok-new.field-0.colors.items c.in_ok-new.field-0.depths.items) blank_pixel r c.in_ok-new.ensures.extent seen c.in_ok-new.ensures.blank x y e

@@ -3,7 +3,7 @@ use Rattle.rc_base.specs.Drawing.PixelStep.{triangle_step}
 use Rattle.rc_base.specs.declared.state.Vertex.{Vertex}
 use Rattle.geometry.specs.Items.{AreBelow}
 use Rattle.draw_device.specs.Clips.{IsPartWhere, is_let_through}
-use Rattle.draw_device.specs.Pixels.{pixel_at}
+use Rattle.draw_device.specs.Pixels.{pixel_at, pixels_of}
 use Rattle.draw_device.specs.Shapes.{column_at, row_at, grid_rect, corners_step, triangles_in, IsStepped}
 use Rattle.draw_device.specs.declared.extent.Extent.{Extent}
 use Rattle.draw_device.proofs.BlockPixels.{draws_more, all_rest}
@@ -22,9 +22,9 @@ draws-preserved c =
     let p = c.args.texture.now in
     let block = c.args.block.now in
     let g = c.args.self.now.extent in
-    let start = c.args.self.now.pixels.items in
-    let old = c.draws.self.pixels.items in
-    let new = c.draw_corners.new.self.pixels.items in
+    let start = (pixels_of c.args.self.now.colors.items c.args.self.now.depths.items) in
+    let old = (pixels_of c.draws.self.colors.items c.draws.self.depths.items) in
+    let new = (pixels_of c.draw_corners.new.self.colors.items c.draw_corners.new.self.depths.items) in
     let drawn = subst (λ (g : Extent). IsStepped (corners_step s p block.vertices c.in-Some.corners) g old new) v.extent
     (subst (λ (vs : List Vertex). IsStepped (corners_step s p vs c.in-Some.corners) c.draws.self.extent old new) v.vertices c.draw_corners.ensures.drawn) in
     record {

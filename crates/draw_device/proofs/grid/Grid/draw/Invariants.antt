@@ -2,7 +2,7 @@ use Rattle.std.proofs.Common.{◌≡◌, ℕ, ◌+◌, ◌*◌, ◌<◌, length}
 use Rattle.std.specs.List.{All}
 use Rattle.geometry.specs.Items.{AreBelow, rest_from}
 use Rattle.draw_device.specs.Clips.{IsPartWhere, is_let_through}
-use Rattle.draw_device.specs.Pixels.{pixel_at}
+use Rattle.draw_device.specs.Pixels.{pixel_at, pixels_of}
 use Rattle.draw_device.specs.Shapes.{column_at, row_at, grid_rect, triangles_step, triangles_in}
 use Rattle.draw_device.proofs.grid.Grid.draw.Given as goal
 
@@ -16,7 +16,7 @@ invariant-draws l =
       below : All (AreBelow (length l.fn.block.vertices)) (rest_from l.corners-iterator.block.now l.corners-iterator.given);
       rest : (i j : ℕ) → i < l.fn.self.extent.width → j < l.fn.self.extent.height
           → triangles_step l.state l.texture l.fn.block.vertices (rest_from l.corners-iterator.block.now l.corners-iterator.given)
-          (column_at l.fn.self.extent i) (row_at l.fn.self.extent j) (pixel_at l.self.pixels.items (j * l.fn.self.extent.width + i))
+          (column_at l.fn.self.extent i) (row_at l.fn.self.extent j) (pixel_at (pixels_of l.self.colors.items l.self.depths.items) (j * l.fn.self.extent.width + i))
           ≡ triangles_step l.state l.texture l.fn.block.vertices (triangles_in l.fn.block)
-          (column_at l.fn.self.extent i) (row_at l.fn.self.extent j) (pixel_at l.fn.self.pixels.items (j * l.fn.self.extent.width + i));
+          (column_at l.fn.self.extent i) (row_at l.fn.self.extent j) (pixel_at (pixels_of l.fn.self.colors.items l.fn.self.depths.items) (j * l.fn.self.extent.width + i));
     }

@@ -2,7 +2,8 @@ use Rattle.std.proofs.Common.{◌≡◌, ◌+◌, ◌*◌, ◌∙◌, ℕ, ◌�
 use Rattle.std.proofs.lemmas.Int.{ints}
 use Rattle.std.proofs.lemmas.List.{with_items_is}
 use Rattle.rc_base.specs.Pictures.{Picture}
-use Rattle.rc_base.specs.declared.window.Pixel.{Pixel}
+use Rattle.rc_base.specs.declared.command.Rgba.{Rgba}
+use Rattle.draw_device.specs.Pixels.{pixels_of}
 use Rattle.draw_device.specs.Shapes.{IsStepped, covered_step}
 use Rattle.draw_device.proofs.ColumnsToPixels.{column_drawn, covered_rows, no_picture, rows_fit}
 use Rattle.draw_device.proofs.grid.Grid.draw_column.Goals as goal
@@ -31,20 +32,23 @@ pub store_column-requires-clause-covered : goal.store_column-requires-clause-cov
 store_column-requires-clause-covered c k low high =
     let g = c.args.self.now.extent in
     let ex : c.args.column.x ≡ pos (g.left + c.offset-across.result) = omega (arith, ints) in
-    covered_rows c.args.tri.now.v c.args.part c.args.column _ _ c.requires.column (sym ex) (omega (arith, ints)) (omega (arith, ints))
+    covered_rows c.args.setup.now.tri.now.v c.args.part c.args.column _ _ c.requires.column (sym ex) (omega (arith, ints)) (omega (arith, ints))
 
 pub returns-clause-drawn : goal.returns-clause-drawn
 returns-clause-drawn c hit =
-    let s = c.args.state.now in
-    let p = c.args.texture.now in
-    let v = c.args.tri.now.v in
-    let g = c.args.self.now.extent in
+    let s = c.args.setup.now.state.now in
+    let p = c.args.setup.now.texture.now in
+    let v = c.args.setup.now.tri.now.v in
+    let grid = c.args.self.now in
+    let g = grid.extent in
     let a = c.requires.part.bounds.right in
     let b = c.requires.column.right in
-    let drawn = rw c.as_mut_slice.ensures.value at c.store_column.ensures.drawn hit in
-    let same = with_items_is c.args.self.now.pixels c.store_column.new.pixels (drawn.size ∙ ap length (sym c.as_mut_slice.ensures.value) ∙ c.as_mut_slice.ensures.len) in
+    let ec = c.as_mut_slice.ensures.value in
+    let drawn = rw ec at c.store_column.ensures.drawn hit grid.depths.items grid.deep in
+    let same = with_items_is grid.colors c.store_column.new.colors (c.store_column.ensures.size ∙ c.as_mut_slice.ensures.len) in
     let none : p ≡ None = no_picture p (sym c.has_image.ensures ∙ c.if-has_image.false) in
-    subst (λ (l : List Pixel). IsStepped (covered_step s p v) g c.args.self.now.pixels.items l) (sym same)
-    (subst (λ (q : Option Picture). IsStepped (covered_step s q v) g c.args.self.now.pixels.items c.store_column.new.pixels) (sym none)
-    (column_drawn s None v g c.args.part c.requires.part c.args.column _ c.args.self.now.pixels.items c.store_column.new.pixels c.requires.column refl refl refl
+    let new = c.store_column.new.colors in
+    subst (λ (l : List Rgba). IsStepped (covered_step s p v) g (pixels_of grid.colors.items grid.depths.items) (pixels_of l grid.depths.items)) (sym same)
+    (subst (λ (q : Option Picture). IsStepped (covered_step s q v) g (pixels_of grid.colors.items grid.depths.items) (pixels_of new grid.depths.items)) (sym none)
+    (column_drawn s None v g c.args.part c.requires.part c.args.column _ (pixels_of grid.colors.items grid.depths.items) (pixels_of new grid.depths.items) c.requires.column refl refl refl
     (omega (arith, ints)) (omega (arith, ints)) (omega (arith, ints)) (omega (arith, ints)) drawn))

@@ -2,6 +2,7 @@ use Rattle.std.proofs.Common.{◌≡◌, Some, rules, subst}
 use Rattle.rc_base.specs.Drawing.Kept.{kept_triangle}
 use Rattle.rc_base.specs.declared.state.State.{State}
 use Rattle.geometry.specs.Beside.{IsBesideIfKept}
+use Rattle.draw_device.specs.Pixels.{pixels_of}
 use Rattle.draw_device.proofs.Beside.{beside_steps}
 use Rattle.draw_device.proofs.BlockPixels.{kept_steps}
 use Rattle.draw_device.proofs.grid.Grid.draw_corners.Goals as goal
@@ -9,8 +10,8 @@ use Rattle.draw_device.proofs.grid.Grid.draw_corners.Goals as goal
 pub returns-clause-drawn : goal.returns-clause-drawn
 returns-clause-drawn c =
     let kept : kept_triangle c.args.state.now c.args.cache.now.vertices.now c.args.corners ≡ Some c.in-Some.tri.v = search rules in
-    kept_steps c.args.state.now c.args.texture.now c.in-Some.tri.v c.args.cache.now.vertices.now c.args.corners c.args.self.now.extent c.args.self.now.pixels.items
-    c.draw_triangle.new.self.pixels.items kept c.draw_triangle.ensures.drawn
+    kept_steps c.args.state.now c.args.texture.now c.in-Some.tri.v c.args.cache.now.vertices.now c.args.corners c.args.self.now.extent (pixels_of c.args.self.now.colors.items c.args.self.now.depths.items)
+    (pixels_of c.draw_triangle.new.self.colors.items c.draw_triangle.new.self.depths.items) kept c.draw_triangle.ensures.drawn
 
 pub returns-in_default-clause-drawn : goal.returns-in_default-clause-drawn
 returns-in_default-clause-drawn c =
@@ -19,4 +20,4 @@ returns-in_default-clause-drawn c =
     let t = c.args.corners in
     let near = c.args.near.now in
     let beside = subst (λ (q : State). IsBesideIfKept q vs t near) c.requires.state c.in_default.ensures.triangle in
-    beside_steps c.cover_lies_in_bounds.ensures s c.args.texture.now vs t c.args.self.now.extent c.args.part near c.args.self.now.pixels.items c.requires.part c.requires.near beside
+    beside_steps c.cover_lies_in_bounds.ensures s c.args.texture.now vs t c.args.self.now.extent c.args.part near (pixels_of c.args.self.now.colors.items c.args.self.now.depths.items) c.requires.part c.requires.near beside

@@ -1,5 +1,6 @@
 use Rattle.std.proofs.Common.{◌≡◌, ◌∙◌, pos, ℤ, arith, ap, refl, sym, subst}
 use Rattle.std.proofs.lemmas.Int.{ints}
+use Rattle.draw_device.specs.Pixels.{pixels_of}
 use Rattle.draw_device.specs.Plans.{IsPaint}
 use Rattle.draw_device.specs.Shapes.{covered_step, fragment_pixel, span_step, IsSpanIn, IsStepped, IsSteppedBelow}
 use Rattle.draw_device.specs.declared.extent.Extent.{Extent}
@@ -9,7 +10,7 @@ use Rattle.draw_device.proofs.grid.Grid.draw_rows.Goals as goal
 pub rows-init : goal.rows-init
 rows-init c =
     let g = c.args.self.now.extent in
-    let step = covered_step c.args.state.now c.args.texture.now c.args.tri.now.v in
+    let step = covered_step c.args.setup.now.state.now c.args.setup.now.texture.now c.args.setup.now.tri.now.v in
     let same = c.into_iter-span-iterator.ensures.into_iter_gives in
     let row : c.into_iter-span-iterator.result.y ≡ c.args.rows.rect.y0 = ap (λ t. t.y) same ∙ c.requires.first in
     record {
@@ -17,9 +18,9 @@ rows-init c =
       part = ap (λ t. t.rect) same;
       from = omega (arith, ints);
       extent = refl;
-      drawn = subst (λ (y : ℤ). IsSteppedBelow step g c.args.self.now.pixels.items c.args.self.now.pixels.items y) (sym row)
-          (stepped_none step g c.args.self.now.pixels.items c.args.rows.rect.y0
-          (below_part c.args.state.now c.args.texture.now c.args.tri.now.v g c.args.rows.rect c.requires.part));
+      drawn = subst (λ (y : ℤ). IsSteppedBelow step g (pixels_of c.args.self.now.colors.items c.args.self.now.depths.items) (pixels_of c.args.self.now.colors.items c.args.self.now.depths.items) y) (sym row)
+          (stepped_none step g (pixels_of c.args.self.now.colors.items c.args.self.now.depths.items) c.args.rows.rect.y0
+          (below_part c.args.setup.now.state.now c.args.setup.now.texture.now c.args.setup.now.tri.now.v g c.args.rows.rect c.requires.part));
     }
 
 pub draw_span-requires-clause-inside : goal.draw_span-requires-clause-inside
@@ -28,7 +29,7 @@ draw_span-requires-clause-inside c =
     let e = c.in-Some.ensures.steps in
     let n = rw (i.triangle, i.part) at e.0.0 in
     subst (λ (g : Extent). IsSpanIn g c.in-Some.span) (sym i.extent)
-    (span_in c.args.tri.now.v c.args.self.now.extent c.args.rows.rect _ _ c.in-Some.span n i.from c.requires.part)
+    (span_in c.args.setup.now.tri.now.v c.args.self.now.extent c.args.rows.rect _ _ c.in-Some.span n i.from c.requires.part)
 
 pub draw_span-requires-clause-covered : goal.draw_span-requires-clause-covered
 draw_span-requires-clause-covered c =
@@ -42,19 +43,19 @@ rows-preserved c =
     let i = c.rows.invariant in
     let e = c.in-Some.ensures.steps in
     let n = rw (i.triangle, i.part) at e.0.0 in
-    let s = c.args.state.now in
-    let p = c.args.texture.now in
-    let v = c.args.tri.now.v in
+    let s = c.args.setup.now.state.now in
+    let p = c.args.setup.now.texture.now in
+    let v = c.args.setup.now.tri.now.v in
     let g = c.args.self.now.extent in
     let from = n.from in
-    let drawn = subst (λ (g : Extent). IsStepped (span_step (fragment_pixel s p v) c.in-Some.span) g c.rows.self.pixels.items c.draw_span.new.self.pixels.items)
+    let drawn = subst (λ (g : Extent). IsStepped (span_step (fragment_pixel s p v) c.in-Some.span) g (pixels_of c.rows.self.colors.items c.rows.self.depths.items) (pixels_of c.draw_span.new.self.colors.items c.draw_span.new.self.depths.items))
     i.extent c.draw_span.ensures.drawn in
     record {
       triangle = ap (λ t. t.now) e.1 ∙ i.triangle;
       part = e.2 ∙ i.part;
       from = omega (arith, ints, e.0.1);
       extent = c.draw_span.ensures.extent ∙ i.extent;
-      drawn = stepped_more (covered_step s p v) (fragment_pixel s p v) g c.args.self.now.pixels.items c.rows.self.pixels.items c.draw_span.new.self.pixels.items
+      drawn = stepped_more (covered_step s p v) (fragment_pixel s p v) g (pixels_of c.args.self.now.colors.items c.args.self.now.depths.items) (pixels_of c.rows.self.colors.items c.rows.self.depths.items) (pixels_of c.draw_span.new.self.colors.items c.draw_span.new.self.depths.items)
           _ _ c.in-Some.span i.drawn (triangle_row s p v g c.args.rows.rect c.requires.part _ c.in-Some.span n i.from) drawn e.0.1;
     }
 
@@ -63,14 +64,14 @@ returns-clause-drawn c =
     let i = c.rows.invariant in
     let e = c.in-None.ensures.steps in
     let n = rw (i.triangle, i.part) at e.0.0 in
-    let s = c.args.state.now in
-    let p = c.args.texture.now in
-    let v = c.args.tri.now.v in
+    let s = c.args.setup.now.state.now in
+    let p = c.args.setup.now.texture.now in
+    let v = c.args.setup.now.tri.now.v in
     let g = c.args.self.now.extent in
-    stepped_all (covered_step s p v) g c.args.self.now.pixels.items c.rows.self.pixels.items _ i.drawn
+    stepped_all (covered_step s p v) g (pixels_of c.args.self.now.colors.items c.args.self.now.depths.items) (pixels_of c.rows.self.colors.items c.rows.self.depths.items) _ i.drawn
     (rest_empty s p v g c.args.rows.rect c.requires.part _ n)
 
 pub draw_span-requires-clause-paint : goal.draw_span-requires-clause-paint
 draw_span-requires-clause-paint c =
     let i = c.rows.invariant in
-    subst (λ (g : Extent). IsPaint c.args.tri.now.v (pos g.left) (pos g.bottom) c.args.paint.now) (sym i.extent) c.requires.paint
+    subst (λ (g : Extent). IsPaint c.args.setup.now.tri.now.v (pos g.left) (pos g.bottom) c.args.setup.now.paint) (sym i.extent) c.requires.paint

@@ -1,15 +1,16 @@
-use Rattle.std.proofs.Common.{◌≡◌, ◌+◌, ◌∙◌, ℕ, ℤ, ◌≤◌, ◌<ℤ◌, ◌≤ℤ◌, pos, true, arith, subst, sym, List, ap, length}
+use Rattle.std.proofs.Common.{◌≡◌, ◌+◌, ◌-◌, ◌*◌, ◌∙◌, ℤ, ◌≤◌, ◌<◌, ◌<ℤ◌, ◌≤ℤ◌, pos, true, arith, subst, length}
 use Rattle.std.proofs.lemmas.Int.{ints}
 use Rattle.std.proofs.lemmas.List.{with_items_is}
+use borrow.Rule.Slice.PartMut.{put_mid, same_len_mid}
 use Rattle.rc_base.specs.Drawing.Cover.{is_inside}
-use Rattle.rc_base.specs.declared.window.Pixel.{Pixel}
-use Rattle.draw_device.specs.Shapes.{IsRunStepped, IsStepped, span_step, fragment_pixel}
-use Rattle.draw_device.proofs.SpansToPixels.{span_drawn}
+use Rattle.draw_device.specs.Shapes.{fragment_pixel}
+use Rattle.draw_device.proofs.Lists.{row_placed}
+use Rattle.draw_device.proofs.SpansToPixels.{room, span_drawn}
 use Rattle.draw_device.proofs.grid.Grid.draw_span.Goals as goal
 
 pub draw_row-requires-clause-covered : goal.draw_row-requires-clause-covered
 draw_row-requires-clause-covered c k low high =
-    let v = c.args.tri.now.v in
+    let v = c.args.setup.now.tri.now.v in
     let left = c.args.self.now.extent.left in
     let bottom = c.args.self.now.extent.bottom in
     let ey : c.args.span.y ≡ pos (bottom + c.offset-up.result) = omega (arith, ints) in
@@ -19,19 +20,34 @@ draw_row-requires-clause-covered c k low high =
 
 pub returns-clause-drawn : goal.returns-clause-drawn
 returns-clause-drawn c =
-    let s = c.args.span in
-    let g = c.args.self.now.extent in
-    let f = fragment_pixel c.args.state.now c.args.texture.now c.args.tri.now.v in
-    let ey : s.y ≡ pos (g.bottom + c.offset-up.result) = omega (arith, ints) in
-    let ea : s.x0 ≡ pos (g.left + c.offset-from.result) = omega (arith, ints) in
-    let eb : s.x1 ≡ pos (g.left + c.offset-to.result) = omega (arith, ints) in
-    let ab : c.offset-from.result ≤ c.offset-to.result = omega (arith, ints) in
-    let bw : c.offset-to.result ≤ g.width = omega (arith, ints) in
-    let drawn = rw c.as_mut_slice.ensures.value at c.draw_row.ensures.drawn in
-    let run = subst (λ (start : ℕ). IsRunStepped f g.left (g.bottom + c.offset-up.result) start c.offset-from.result c.offset-to.result c.args.self.now.pixels.items c.draw_row.new.pixels) c.row_start-start.ensures drawn in
-    let same = with_items_is c.args.self.now.pixels c.draw_row.new.pixels (drawn.size ∙ ap length (sym c.as_mut_slice.ensures.value) ∙ c.as_mut_slice.ensures.len) in
-    subst (λ (l : List Pixel). IsStepped (span_step f s) g c.args.self.now.pixels.items l) (sym same)
-    (span_drawn f s g c.offset-up.result c.offset-from.result c.offset-to.result c.args.self.now.pixels.items c.draw_row.new.pixels ey ea eb ab bw run)
+    let s = c.args.setup.now in
+    let t = c.args.span in
+    let grid = c.args.self.now in
+    let g = grid.extent in
+    let f = fragment_pixel s.state.now s.texture.now s.tri.now.v in
+    let up = c.offset-up.result in
+    let from = c.offset-from.result in
+    let to = c.offset-to.result in
+    let start = c.row_start-start.result in
+    let end = start + g.width in
+    let cs = c.as_mut_slice.result.now in
+    let ds = c.as_mut_slice-2.result.now in
+    let new_cs = c.draw_row.new.colors in
+    let new_ds = c.draw_row.new.depths in
+    let ey : t.y ≡ pos (g.bottom + up) = omega (arith, ints) in
+    let ea : t.x0 ≡ pos (g.left + from) = omega (arith, ints) in
+    let eb : t.x1 ≡ pos (g.left + to) = omega (arith, ints) in
+    let ab : from ≤ to = omega (arith, ints) in
+    let bw : to ≤ g.width = omega (arith, ints) in
+    let low : up < g.height = omega (arith, ints) in
+    let inside : end ≤ length grid.colors.items = let r = room g.width g.height up g.width low (omega arith) in omega (arith, r, grid.full, c.row_start-start.ensures) in
+    let size_cs = c.draw_row.ensures.colors in
+    let size_ds = c.draw_row.ensures.depths in
+    let back_cs = with_items_is grid.colors (put_mid start (end - start) cs new_cs) (same_len_mid start (end - start) cs new_cs size_cs ∙ c.as_mut_slice.ensures.len) in
+    let back_ds = with_items_is grid.depths (put_mid start (end - start) ds new_ds) (same_len_mid start (end - start) ds new_ds size_ds ∙ c.as_mut_slice-2.ensures.len) in
+    let row = row_placed f g.left (g.bottom + up) (up * g.width) start end from to grid.colors.items cs new_cs _ grid.depths.items ds new_ds _ c.row_start-start.ensures grid.deep (omega arith) inside ab (omega (arith, bw))
+    c.as_mut_slice.ensures.value c.as_mut_slice-2.ensures.value size_cs size_ds back_cs back_ds c.draw_row.ensures.drawn in
+    span_drawn f t g up from to _ _ ey ea eb ab bw row
 
 pub offset-to-requires-clause-low : goal.offset-to-requires-clause-low
 offset-to-requires-clause-low c =

@@ -1,8 +1,0 @@
-use Rattle.draw_device.specs.Shapes.{IsRunStepped, fragment_pixel}
-use Rattle.draw_device.proofs.pixels.store_run.Given as goal
-
-abbrev pub invariant-loop-x : goal.invariant-loop-x
-invariant-loop-x l =
-    record {
-      drawn : IsRunStepped (fragment_pixel l.state l.texture l.tri.v) l.fn.run.left l.fn.run.row l.fn.run.start l.fn.run.from l.x l.fn.pixels l.pixels;
-    }

@@ -1,0 +1,19 @@
+//! What a triangle's rows are drawn with.
+ghost use Rattle.draw_device.specs.Plans.{IsPlan};
+
+use crate::paint::Paint;
+use crate::plan::Plan;
+use rc_base::state::State;
+use rc_base::triangle::WindowTriangle;
+use textures::Texture;
+
+/// A triangle, the state and the texture that it is drawn with, and what is settled of them for all of its rows.
+#[derive(Drop)]
+pub struct Setup<'a> {
+    pub state: &'a State,
+    pub texture: &'a Texture,
+    pub plan: &'a Plan,
+    pub tri: &'a WindowTriangle,
+    pub paint: Paint,
+    pub ghost planned: { IsPlan state.now plan.now },
+}
