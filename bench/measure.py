@@ -82,7 +82,13 @@ def main():
     for name, windows in (("smooth", 100), ("tested", 100), ("blended", 100), ("fill", 40)):
         print(f" {name} {drawing[name] / (windows * PIXELS) / plain:.1f}", end="")
     triangle = drawing["small"] / 100_000
-    print(f"\na triangle: small {triangle * 1e9:.0f} ns; to small:", end="")
+    # Vertices at one place are issued and brought to the window as well, and cover nothing. The two take turns, since clocks vary.
+    covered, bare = [], []
+    for _ in range(9):
+        covered.append(run("serial", path("small", "noswap"))[0])
+        bare.append(run("serial", path("small", "noswap", "nodraw"))[0])
+    pixels = (min(covered) - min(bare)) / 100_000
+    print(f"\na triangle: small {triangle * 1e9:.0f} ns, {pixels * 1e9:.0f} of them for its pixels; to small:", end="")
     for name, count in (("usual", 400_000), ("state", 20_000), ("depth", 2_000)):
         print(f" {name} {drawing[name] / count / triangle:.1f}", end="")
     print()
