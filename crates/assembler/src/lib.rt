@@ -6,7 +6,5 @@
 
 pub mod assembly;
 mod rows;
-#[cfg(test)]
-mod tests;
 
 pub use assembly::assemble;

@@ -11,8 +11,6 @@ mod extent;
 mod law;
 mod limits;
 mod range;
-#[cfg(test)]
-mod tests;
 mod tiles;
 
 pub use boxes::{block_box, clear_box};

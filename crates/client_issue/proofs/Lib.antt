@@ -11,4 +11,3 @@ mod Split
 mod InTurn
 mod Rising
 mod Viewing
-mod Tested

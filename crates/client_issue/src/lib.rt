@@ -16,7 +16,5 @@ pub mod laws;
 mod pending;
 mod sender;
 mod step;
-#[cfg(test)]
-mod tests;
 
 pub use client::{ClientCore, ClientKept};

@@ -9,8 +9,6 @@ pub mod fields;
 pub mod laws;
 mod payload;
 pub mod reading;
-#[cfg(test)]
-mod tests;
 pub mod writing;
 
 pub use fault::PackFault;

@@ -19,6 +19,3 @@ pub use job::JobName;
 pub use laws::lines_have_one_reading;
 pub use line::{CommandLine, command_line};
 pub use values::Settings;
-
-#[cfg(test)]
-mod tests;

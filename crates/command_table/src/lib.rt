@@ -15,6 +15,3 @@ pub use making::command_of;
 pub use opcode::{name_of, opcode_byte, opcode_from, opcode_named, opcode_of};
 pub use parts::parts_of;
 pub use ranges::{has_picture, picture_area, ranges_of};
-
-#[cfg(test)]
-mod tests;

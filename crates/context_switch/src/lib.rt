@@ -6,8 +6,6 @@
 
 pub mod compare;
 pub mod states;
-#[cfg(test)]
-mod tests;
 
 pub use compare::is_same;
 pub use states::switch;

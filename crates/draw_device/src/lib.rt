@@ -31,7 +31,5 @@ mod run;
 mod setup;
 mod shade;
 mod stepped;
-#[cfg(test)]
-mod tests;
 
 pub use device::Device;

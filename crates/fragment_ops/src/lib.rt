@@ -13,8 +13,6 @@ mod depth;
 mod pairs;
 mod shade;
 mod shortcuts;
-#[cfg(test)]
-mod tests;
 
 pub use clear::Clearing;
 pub use clearing::clearing_of;

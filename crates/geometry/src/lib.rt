@@ -7,8 +7,6 @@ mod cache;
 mod identities;
 mod near;
 mod primitives;
-#[cfg(test)]
-mod tests;
 mod vertex;
 mod window;
 

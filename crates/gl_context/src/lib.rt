@@ -10,8 +10,6 @@ pub mod laws;
 mod rules;
 mod stacks;
 mod state;
-#[cfg(test)]
-mod tests;
 
 pub use context::Context;
 pub use elements::marks;

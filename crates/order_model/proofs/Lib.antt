@@ -37,4 +37,3 @@ mod UnitsByWalks
 mod UnitsInTurn
 mod PartedPairs
 mod CheckedOrders
-mod ListsByHand

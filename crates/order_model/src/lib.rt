@@ -12,8 +12,6 @@ mod permitted;
 pub mod record;
 mod recorded;
 mod spots;
-#[cfg(test)]
-mod tests;
 mod units;
 mod walk;
 

@@ -10,6 +10,3 @@ mod writing;
 
 pub use reading::{PpmFault, read_ppm};
 pub use writing::image_text;
-
-#[cfg(test)]
-mod tests;

@@ -19,8 +19,6 @@ mod plane;
 mod rows;
 mod setup;
 mod stencil;
-#[cfg(test)]
-mod tests;
 
 pub use color::{ColorPlane, ColorRamp, color_plane, flat_color, has_depths};
 pub use column::Column;

@@ -254,23 +254,3 @@ impl Sink for MemSink {
         }
     }
 }
-
-#[cfg(test)]
-mod tests {
-    use super::*;
-    use std::test::Fail;
-
-    #[test]
-    fn the_quiet_ends_never_fail(rt: HostRuntime) -> Result<(), Fail> {
-        let mut source = QuietSource::new(rt.alloc(), b"abc", 2)?;
-        let mut into = [b'.'; 4];
-        assert_eq!(rt; source.take(&mut into), Ok(2));
-        assert_eq!(rt; into, *b"ab..");
-        assert_eq!(rt; source.take(&mut into), Ok(1));
-        assert_eq!(rt; into, *b"cb..");
-        assert_eq!(rt; source.take(&mut into), Ok(0));
-        let mut sink = QuietSink::new();
-        assert_eq!(rt; sink.put(b"abc"), Ok(3));
-        Ok(())
-    }
-}

@@ -96,29 +96,3 @@ impl<W: Write> Sink for StdSink<W> {
         }
     }
 }
-
-#[cfg(test)]
-mod tests {
-    use super::*;
-    use crate::transfer::{read_all, write_all};
-    use std::test::Fail;
-
-    #[test]
-    fn a_slice_is_read(rt: HostRuntime) -> Result<(), Fail> {
-        let bytes: &[u8] = b"RCS1";
-        let mut source = StdSource::new(bytes);
-        let read = read_all(rt.alloc(), &mut source)?;
-        assert_eq!(rt; read.as_slice(), b"RCS1".as_slice());
-        Ok(())
-    }
-
-    #[test]
-    fn a_vector_is_written(rt: HostRuntime) -> Result<(), Fail> {
-        let mut held = Vec::new(rt.alloc());
-        let mut sink = StdSink::new(&mut held);
-        assert_eq!(rt; write_all(&mut sink, b"rc: "), Ok(()));
-        assert_eq!(rt; write_all(&mut sink, b"usage\n"), Ok(()));
-        assert_eq!(rt; held.as_slice(), b"rc: usage\n".as_slice());
-        Ok(())
-    }
-}

@@ -18,6 +18,3 @@ mod run_job;
 mod writing;
 
 pub use run_job::{Finish, run};
-
-#[cfg(test)]
-mod tests;

@@ -15,6 +15,3 @@ pub use fault::SceneFault;
 pub use limits::{check_limits, clients_beyond, commands_beyond};
 pub use reading::read_scene;
 pub use writing::write_scene;
-
-#[cfg(test)]
-mod tests;

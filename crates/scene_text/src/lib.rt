@@ -24,6 +24,3 @@ pub use laws::{
 };
 pub use parse::{TextSceneFault, parse_scene};
 pub use print::print_scene;
-
-#[cfg(test)]
-mod tests;

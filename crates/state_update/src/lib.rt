@@ -7,8 +7,6 @@
 mod images;
 pub mod laws;
 mod scalars;
-#[cfg(test)]
-mod tests;
 mod told;
 pub mod tracker;
 

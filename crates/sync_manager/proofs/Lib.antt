@@ -3,7 +3,6 @@ mod FirstEntries
 mod WaitingOperations
 mod SoundBooks
 mod BookGrants
-mod PositiveCounts
 mod ManagerSteps
 mod FoundLanes
 mod RightManagers

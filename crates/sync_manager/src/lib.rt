@@ -9,6 +9,4 @@ mod deed;
 pub mod laws;
 pub mod manager;
 mod search;
-#[cfg(test)]
-mod tests;
 mod unit;

@@ -11,8 +11,6 @@ mod parts;
 mod sampler;
 pub mod sets;
 pub mod shared;
-#[cfg(test)]
-mod tests;
 pub mod texture;
 
 pub use sampler::Sampler;

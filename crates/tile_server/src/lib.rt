@@ -12,8 +12,6 @@ mod kept;
 pub mod laws;
 mod ledger;
 mod sets;
-#[cfg(test)]
-mod tests;
 mod tile_core;
 mod work;
 

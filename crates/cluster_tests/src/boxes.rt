@@ -1,0 +1,158 @@
+//! Layouts, tiles and boxes of small windows.
+use bounds_bucket::{block_box, clear_box, layout, meets, tile_rect};
+use rc_base::command::{Mat4, Rgba};
+use rc_base::out_of_memory::OutOfMemory;
+use rc_base::scene::Limit;
+use rc_base::state::{Block, State, Vertex, Vertices};
+use rc_base::window::{Layout, Rect};
+use std::alloc::Global;
+
+fn rect(x0: i32, y0: i32, x1: i32, y1: i32) -> Rect {
+    Rect { x0, y0, x1, y1 }
+}
+
+#[test]
+fn five_by_three_in_four_by_two_tiles(rt: HostRuntime) {
+    let cut = Layout {
+        width: 5,
+        height: 3,
+        columns: 4,
+        rows: 2,
+    };
+    assert!(rt; layout(5, 3, 4, 2, 1) == Ok(cut));
+    assert!(rt; tile_rect(&cut, 0) == rect(0, 0, 1, 1));
+    assert!(rt; tile_rect(&cut, 1) == rect(1, 0, 2, 1));
+    assert!(rt; tile_rect(&cut, 2) == rect(2, 0, 3, 1));
+    assert!(rt; tile_rect(&cut, 3) == rect(3, 0, 5, 1));
+    assert!(rt; tile_rect(&cut, 7) == rect(3, 1, 5, 3));
+    assert!(rt; meets(&cut, rect(2, 0, 4, 2)) == 0b1100_1100);
+    assert!(rt; meets(&cut, rect(4, 2, 4, 3)) == 0);
+}
+
+#[test]
+fn quantities_of_a_layout_are_judged_in_their_order(rt: HostRuntime) {
+    assert!(rt; layout(7, 1, 8, 1, 1) == Err(Limit { what: 14, value: 8 }));
+    assert!(rt; layout(8, 1, 8, 1, 16).is_ok());
+    assert!(rt; layout(8, 8, 9, 9, 1) == Err(Limit { what: 14, value: 9 }));
+    assert!(rt; layout(8, 8, 8, 0, 1) == Err(Limit { what: 15, value: 0 }));
+    assert!(rt;
+        layout(8, 8, 8, 5, 17)
+            == Err(Limit {
+                what: 16,
+                value: 40
+            })
+    );
+    assert!(rt;
+        layout(8, 8, 8, 4, 17)
+            == Err(Limit {
+                what: 17,
+                value: 17
+            })
+    );
+}
+
+// How many of the first tiles have the pixel, up to 255.
+fn owners(cut: &Layout, tiles: u8, x: i32, y: i32) -> u8 {
+    let mut owners = 0_u8;
+    for tile in 0..tiles {
+        let r = tile_rect(cut, tile);
+        if r.x0 <= x && x < r.x1 && r.y0 <= y && y < r.y1 {
+            owners = owners.saturating_add(1);
+        }
+    }
+    owners
+}
+
+#[test]
+fn each_pixel_has_one_tile_in_every_layout(rt: HostRuntime) {
+    for columns in 1..9_u8 {
+        for rows in 1..5_u8 {
+            let cut = layout(9, 7, columns.into(), rows.into(), 1).expect(&rt, "a layout");
+            for x in 0..9 {
+                for y in 0..7 {
+                    assert!(rt; owners(&cut, columns * rows, x, y) == 1);
+                }
+            }
+        }
+    }
+}
+
+fn state(scissor_on: bool, scissor: [i32; 4]) -> State {
+    let identity = Mat4 {
+        m: [
+            65_536, 0, 0, 0, 0, 65_536, 0, 0, 0, 0, 65_536, 0, 0, 0, 0, 65_536,
+        ],
+    };
+    let black = Rgba {
+        r: 0,
+        g: 0,
+        b: 0,
+        a: 0,
+    };
+    State {
+        modelview: identity,
+        projection: identity,
+        viewport: [0, 0, 8, 8],
+        depth_range: [0, 65_536],
+        scissor_on,
+        scissor,
+        cull_on: true,
+        cull_face: 1,
+        front_face: 0,
+        alpha_on: false,
+        alpha: [7, 0],
+        depth_on: false,
+        depth_func: 1,
+        depth_mask: true,
+        blend_on: false,
+        blend: [1, 0],
+        color_mask: [true; 4],
+        clear_color: black,
+        clear_depth: 65_536,
+        texture_on: false,
+        binding: [0, 1],
+        tex_mode: [0, 0, 0],
+    }
+}
+
+fn triangle(alloc: Global, corners: [[i32; 2]; 3]) -> Result<Block, OutOfMemory> {
+    let mut vertices = Vertices::new(alloc);
+    for [x, y] in corners {
+        vertices.push(Vertex {
+            pos: [x, y, 0, 65_536],
+            color: Rgba {
+                r: 255,
+                g: 255,
+                b: 255,
+                a: 255,
+            },
+            s: 0,
+            t: 0,
+        })?;
+    }
+    Ok(Block { mode: 0, vertices })
+}
+
+#[test]
+fn a_large_triangle_meets_tiles_without_its_vertices(rt: HostRuntime) {
+    let alloc = rt.alloc();
+    let window = rect(0, 0, 8, 8);
+    let cut = layout(8, 8, 4, 4, 1).expect(&rt, "a layout");
+    let large = triangle(
+        alloc,
+        [[-65_536, -65_536], [65_536, -65_536], [-65_536, 65_536]],
+    )
+    .expect(&rt, "memory");
+    let small = triangle(alloc, [[0, 0], [16_384, 0], [0, 16_384]]).expect(&rt, "memory");
+    let turned = triangle(alloc, [[0, 0], [0, 16_384], [16_384, 0]]).expect(&rt, "memory");
+    let open = state(false, [0; 4]);
+    let scissored = state(true, [2, 0, 4, 4]);
+    assert!(rt; block_box(&open, &large, window) == Some(window));
+    assert!(rt; meets(&cut, window) == 0xffff);
+    assert!(rt; block_box(&open, &small, window) == Some(rect(4, 4, 5, 5)));
+    assert!(rt; block_box(&open, &turned, window) == None);
+    assert!(rt; block_box(&scissored, &large, window) == Some(rect(2, 0, 6, 4)));
+    assert!(rt; block_box(&scissored, &small, window) == None);
+    assert!(rt; clear_box(&scissored, rect(0, 0, 5, 8)) == Some(rect(2, 0, 5, 4)));
+    assert!(rt; clear_box(&state(true, [8, 0, 1, 1]), window) == None);
+}

@@ -1,0 +1,468 @@
+//! A client on two tiles: by hand over lanes that hold one item, and over lanes that are emptied at random times; and on nine tiles.
+ghost use Rattle.std.specs.Prelude.{◌≡◌, ◌<◌, ◌≤◌, ◌^◌, length, IfOk, OnOk};
+ghost use Rattle.std.specs.List.{AllByRecursion};
+ghost use Rattle.rc_base.specs.Formats.Commands.{IsCommand};
+ghost use Rattle.rc_base.specs.Contexts.Issue.{stream_of};
+ghost use Rattle.rc_base.specs.Cluster.Tiles.{tile_count};
+ghost use Rattle.client_issue.specs.Cores.{IsClient, layout_of};
+
+use client_issue::ClientCore;
+use rc_base::cluster::{ClientMoved, Tally};
+use rc_base::command::{Command, Commands};
+use rc_base::lane::{Inlet, Outlet};
+use rc_base::out_of_memory::OutOfMemory;
+use rc_base::plain_lane::PlainLane;
+use rc_base::scene::{Counts, Decl, Scene, Sizes, Streams, Units};
+use rc_base::state::Parcel;
+use rc_base::sync::{Request, SyncOp};
+use rc_base::window::Layout;
+use std::alloc::Global;
+use std::process::Abort;
+
+const ONE: i32 = 65_536;
+
+#[tactic(auto, using(crate::proofs::Pushed::pushed))]
+fn push(stream: &mut Commands, command: Command) -> Result<(), OutOfMemory>
+    requires all { AllByRecursion IsCommand stream.old }
+    requires one { IsCommand command }
+    ensures { OnOk result (AllByRecursion IsCommand stream.new) }
+{
+    stream.push(command)?;
+    Ok(())
+}
+
+fn vertex(x: i32, y: i32) -> Command
+    ensures { IsCommand result }
+{
+    Command::Vertex {
+        pos: [x, y, 0, ONE],
+    }
+}
+
+// A triangle that covers the window.
+fn cover(stream: &mut Commands) -> Result<(), OutOfMemory>
+    requires { AllByRecursion IsCommand stream.old }
+    ensures { OnOk result (AllByRecursion IsCommand stream.new) }
+{
+    push(stream, Command::Begin { mode: 0 })?;
+    push(stream, vertex(-ONE, -ONE))?;
+    push(stream, vertex(3 * ONE, -ONE))?;
+    push(stream, vertex(-ONE, 3 * ONE))?;
+    push(stream, Command::End)
+}
+
+// Draws before and after a blend that is set back, in a scissor box of the left pixel, and without it.
+fn draws(alloc: Global) -> Result<Commands, OutOfMemory>
+    ensures { IfOk result (AllByRecursion IsCommand) }
+{
+    let mut stream = Commands::new(alloc);
+    cover(&mut stream)?;
+    push(&mut stream, Command::Enable { capability: 3 })?;
+    push(&mut stream, Command::Disable { capability: 3 })?;
+    cover(&mut stream)?;
+    push(&mut stream, Command::Enable { capability: 0 })?;
+    push(&mut stream, Command::Scissor { area: [0, 0, 1, 1] })?;
+    cover(&mut stream)?;
+    push(&mut stream, Command::Disable { capability: 0 })?;
+    cover(&mut stream)?;
+    push(&mut stream, Command::Swap)?;
+    Ok(stream)
+}
+
+// A client with its lanes.
+#[derive(Drop)]
+struct Run<'a> {
+    core: ClientCore<'a>,
+    tiles: Vec<PlainLane<Parcel>>,
+    requests: PlainLane<Request>,
+}
+
+// So many lanes that hold at most `depth` parcels.
+fn lanes_of(alloc: Global, n: u8, depth: usize) -> Result<Vec<PlainLane<Parcel>>, OutOfMemory>
+    requires depth { (1 ≤ depth) × (depth ≤ 16) }
+    ensures { IfOk result (λ lanes. length lanes.items ≡ n) }
+{
+    let mut lanes = Vec::new(alloc);
+    for i in 0..n {
+        lanes.push(PlainLane::new(alloc, depth)?)?;
+    }
+    Ok(lanes)
+}
+
+// A scene of one client in the window of a layout.
+fn scene_of(alloc: Global, stream: Commands, layout: &Layout) -> Result<Scene, OutOfMemory>
+    requires commands { AllByRecursion IsCommand stream }
+    ensures one { IfOk result (λ scene. length scene.streams ≡ 1) }
+    ensures few { IfOk result (λ scene. length (stream_of scene 0) < 2 ^ 32) }
+    ensures commands { IfOk result (λ scene. AllByRecursion IsCommand (stream_of scene 0)) }
+{
+    if stream.len() > 100 {
+        return Err(OutOfMemory);
+    }
+    let mut streams = Streams::new(alloc);
+    streams.push(stream)?;
+    let decl = Decl {
+        version: 1,
+        width: layout.width,
+        height: layout.height,
+        shared: Sizes::new(alloc),
+        barriers: Counts::new(alloc),
+        semaphores: Units::new(alloc),
+    };
+    Ok(Scene { decl, streams })
+}
+
+// The only client of a scene.
+fn run_of<'a>(
+    rt: &impl Abort,
+    alloc: Global,
+    scene: &'a Scene,
+    layout: &Layout,
+    depth: usize,
+) -> Run<'a>
+    requires one { length scene.now.streams ≡ 1 }
+    requires few { length (stream_of scene.now 0) < 2 ^ 32 }
+    requires commands { AllByRecursion IsCommand (stream_of scene.now 0) }
+    requires tiles { tile_count layout.now ≤ 32 }
+    requires depth { (1 ≤ depth) × (depth ≤ 16) }
+    ensures client { IsClient result.core }
+    ensures lanes { length result.tiles.items ≡ tile_count (layout_of result.core) }
+{
+    Run {
+        core: ClientCore::new(alloc, scene, 0, layout).expect(rt, "memory"),
+        tiles: lanes_of(alloc, layout.columns * layout.rows, depth).expect(rt, "memory"),
+        requests: PlainLane::new(alloc, depth).expect(rt, "memory"),
+    }
+}
+
+// A window of 2 by 1 pixels, a tile each.
+const TWO: Layout = Layout {
+    width: 2,
+    height: 1,
+    columns: 2,
+    rows: 1,
+};
+
+// A window of 6 by 6 pixels in nine tiles.
+const NINE: Layout = Layout {
+    width: 6,
+    height: 6,
+    columns: 3,
+    rows: 3,
+};
+
+impl Run<'_> {
+    fn step(&mut self) -> Result<ClientMoved, OutOfMemory>
+        requires client { IsClient self.old.core }
+        requires lanes { length self.old.tiles.items ≡ tile_count (layout_of self.old.core) }
+        ensures client { IsClient self.new.core }
+        ensures lanes { length self.new.tiles.items ≡ tile_count (layout_of self.new.core) }
+    {
+        self.core.step(&mut self.tiles, &mut self.requests)
+    }
+
+    // The place of the parcel that the tile's lane holds.
+    fn place(&mut self, tile: usize) -> Option<u32>
+        ensures core { self.new.core ≡ self.old.core }
+        ensures lanes { length self.new.tiles.items ≡ length self.old.tiles.items }
+    {
+        match self.tiles.get_mut(tile) {
+            Some(lane) => {
+                let parcel = lane.pop()?;
+                Some(parcel.place)
+            }
+            None => None,
+        }
+    }
+
+    fn tally(&self, tile: u8) -> Option<Tally>
+        requires client { IsClient self.now.core }
+        requires lanes { length self.now.tiles.items ≡ tile_count (layout_of self.now.core) }
+    {
+        if usize::from(tile) >= self.tiles.len() {
+            return None;
+        }
+        Some(self.core.tallies(tile))
+    }
+}
+
+// What a step answers, and what is in the lanes.
+#[derive(Clone, Copy)]
+enum Event {
+    Step(ClientMoved),
+    Place(usize, u32),
+    Asked(Request),
+}
+
+// The event goes as it says.
+fn goes(run: &mut Run<'_>, event: Event) -> Result<bool, OutOfMemory>
+    requires client { IsClient run.old.core }
+    requires lanes { length run.old.tiles.items ≡ tile_count (layout_of run.old.core) }
+    ensures client { IsClient run.new.core }
+    ensures lanes { length run.new.tiles.items ≡ tile_count (layout_of run.new.core) }
+{
+    match event {
+        Event::Step(moved) => Ok(run.step()? == moved),
+        Event::Place(tile, place) => Ok(run.place(tile) == Some(place)),
+        Event::Asked(request) => Ok(run.requests.pop() == Some(request)),
+    }
+}
+
+// How many events go as they say.
+fn play(run: &mut Run<'_>, events: &[Event]) -> Result<usize, OutOfMemory>
+    requires client { IsClient run.old.core }
+    requires lanes { length run.old.tiles.items ≡ tile_count (layout_of run.old.core) }
+    ensures client { IsClient run.new.core }
+    ensures lanes { length run.new.tiles.items ≡ tile_count (layout_of run.new.core) }
+{
+    for (i, event) in events.iter().enumerate() {
+        if !goes(run, *event)? {
+            return Ok(i);
+        }
+    }
+    Ok(events.len())
+}
+
+fn sent(tile: u8) -> Event {
+    Event::Step(ClientMoved::Appended { tile })
+}
+
+fn full(tile: u8) -> Event {
+    Event::Step(ClientMoved::BlockedTile { tile })
+}
+
+#[test]
+fn full_lanes_hold_a_client_up(rt: HostRuntime) {
+    let swap = Request::Op {
+        place: 25,
+        op: SyncOp::Swap,
+    };
+    let events = [
+        sent(0),
+        sent(1),
+        full(0),
+        full(0),
+        Event::Place(0, 4),
+        sent(0),
+        full(1),
+        Event::Place(1, 4),
+        sent(1),
+        full(0),
+        Event::Place(0, 11),
+        sent(0),
+        full(0),
+        Event::Place(0, 18),
+        sent(0),
+        Event::Place(1, 11),
+        sent(1),
+        Event::Place(0, 24),
+        sent(0),
+        Event::Place(1, 24),
+        sent(1),
+        Event::Step(ClientMoved::Requested),
+        Event::Place(0, 25),
+        sent(0),
+        Event::Place(1, 25),
+        sent(1),
+        Event::Step(ClientMoved::BlockedRequest),
+        Event::Asked(swap),
+        Event::Step(ClientMoved::Requested),
+        Event::Step(ClientMoved::Ended),
+        Event::Place(0, 26),
+        Event::Place(1, 26),
+        Event::Asked(Request::End),
+    ];
+    let scene = scene_of(rt.alloc(), draws(rt.alloc()).expect(&rt, "memory"), &TWO).expect(
+        &rt, "memory",
+    );
+    let mut run = run_of(&rt, rt.alloc(), &scene, &TWO, 1);
+    assert!(rt; play(&mut run, &events).expect(&rt, "memory") == 33);
+    assert!(rt; !run.core.is_short());
+    let left = Tally {
+        parcels: 6,
+        sets: 3,
+        looks: 0,
+    };
+    let right = Tally {
+        parcels: 5,
+        sets: 1,
+        looks: 0,
+    };
+    assert!(rt; run.tally(0) == Some(left));
+    assert!(rt; run.tally(1) == Some(right));
+    let kept = run.core.into_kept();
+    assert!(rt; kept.tallies.as_slice() == &[left, right][..]);
+    assert!(rt; kept.syncs.length == 26);
+    assert!(rt; kept.faults.as_slice().is_empty());
+}
+
+// The draws, then a Clear, a draw and a second Swap: eight commands for each tile, and one more for the left.
+fn mixed(alloc: Global) -> Result<Commands, OutOfMemory>
+    ensures { IfOk result (AllByRecursion IsCommand) }
+{
+    let mut stream = draws(alloc)?;
+    push(&mut stream, Command::Clear { mask: 3 })?;
+    cover(&mut stream)?;
+    push(&mut stream, Command::Swap)?;
+    Ok(stream)
+}
+
+// What was taken from each lane, in order, and how many steps found a lane full.
+#[derive(Drop)]
+struct Taken {
+    left: Vec<Parcel>,
+    right: Vec<Parcel>,
+    requests: Vec<Request>,
+    blocked: u32,
+}
+
+// Takes an item from a lane, where it holds one.
+fn take<T: Drop>(lane: &mut PlainLane<T>, taken: &mut Vec<T>) -> Result<(), OutOfMemory> {
+    if let Some(item) = lane.pop() {
+        taken.push(item)?;
+    }
+    Ok(())
+}
+
+impl Taken {
+    fn count(&mut self, moved: ClientMoved) {
+        match moved {
+            ClientMoved::BlockedTile { .. } | ClientMoved::BlockedRequest => {
+                self.blocked = self.blocked.saturating_add(1);
+            }
+            _ => {}
+        }
+    }
+
+    // Bits 0, 1 and 2 of the draw say from which of the lanes an item is taken.
+    fn empty(&mut self, run: &mut Run<'_>, draw: u64) -> Result<(), OutOfMemory>
+        ensures core { run.new.core ≡ run.old.core }
+        ensures lanes { length run.new.tiles.items ≡ length run.old.tiles.items }
+    {
+        if draw % 2 == 1
+            && let Some(lane) = run.tiles.get_mut(0)
+        {
+            take(lane, &mut self.left)?;
+        }
+        if draw / 2 % 2 == 1
+            && let Some(lane) = run.tiles.get_mut(1)
+        {
+            take(lane, &mut self.right)?;
+        }
+        if draw / 4 % 2 == 1 {
+            take(&mut run.requests, &mut self.requests)?;
+        }
+        Ok(())
+    }
+
+    fn turn(&mut self, run: &mut Run<'_>, draw: u64) -> Result<(), OutOfMemory>
+        requires client { IsClient run.old.core }
+        requires lanes { length run.old.tiles.items ≡ tile_count (layout_of run.old.core) }
+        ensures client { IsClient run.new.core }
+        ensures lanes { length run.new.tiles.items ≡ tile_count (layout_of run.new.core) }
+    {
+        let moved = run.step()?;
+        self.count(moved);
+        self.empty(run, draw)
+    }
+
+    // 100 turns, after each of whose steps a linear congruential generator with a fixed seed draws the lanes.
+    fn turns(&mut self, run: &mut Run<'_>) -> Result<(), OutOfMemory>
+        requires client { IsClient run.old.core }
+        requires lanes { length run.old.tiles.items ≡ tile_count (layout_of run.old.core) }
+    {
+        let mut state: u64 = 7;
+        for _ in 0..100 {
+            state = state
+                .wrapping_mul(6_364_136_223_846_793_005)
+                .wrapping_add(1_442_695_040_888_963_407);
+            self.turn(run, state >> 40)?;
+        }
+        Ok(())
+    }
+}
+
+// What is taken from lanes of this depth in 100 turns.
+fn emptied(rt: &impl Abort, alloc: Global, depth: usize) -> Taken
+    requires depth { (1 ≤ depth) × (depth ≤ 16) }
+{
+    let stream = mixed(alloc).expect(rt, "memory");
+    let scene = scene_of(alloc, stream, &TWO).expect(rt, "memory");
+    let mut run = run_of(rt, alloc, &scene, &TWO, depth);
+    let mut taken = Taken {
+        left: Vec::new(alloc),
+        right: Vec::new(alloc),
+        requests: Vec::new(alloc),
+        blocked: 0,
+    };
+    taken.turns(&mut run).expect(rt, "memory");
+    taken
+}
+
+#[test]
+fn lanes_of_depth_1_emptied_at_random_times_get_what_deep_lanes_get(rt: HostRuntime) {
+    let deep = emptied(&rt, rt.alloc(), 16);
+    let shallow = emptied(&rt, rt.alloc(), 1);
+    assert!(rt; deep.blocked == 0);
+    assert!(rt; shallow.blocked > 0);
+    assert!(rt; deep.left.len() == 9);
+    assert!(rt; deep.right.len() == 8);
+    assert!(rt; deep.requests.len() == 3);
+    assert!(rt; shallow.left == deep.left);
+    assert!(rt; shallow.right == deep.right);
+    assert!(rt; shallow.requests == deep.requests);
+}
+
+// A triangle over the window, and a Swap.
+fn triangle(alloc: Global) -> Result<Commands, OutOfMemory>
+    ensures { IfOk result (AllByRecursion IsCommand) }
+{
+    let mut stream = Commands::new(alloc);
+    push(&mut stream, Command::Enable { capability: 3 })?;
+    cover(&mut stream)?;
+    push(&mut stream, Command::Swap)?;
+    Ok(stream)
+}
+
+// How many steps move an item, of at most so many.
+fn moves(run: &mut Run<'_>, most: usize) -> Result<usize, OutOfMemory>
+    requires client { IsClient run.old.core }
+    requires lanes { length run.old.tiles.items ≡ tile_count (layout_of run.old.core) }
+{
+    for i in 0..most {
+        if run.step()? == ClientMoved::Ended {
+            return Ok(i);
+        }
+    }
+    Ok(most)
+}
+
+// The tile was sent the parcels of places 5, 6 and 7 and no other.
+fn has_three(run: &mut Run<'_>, tile: usize) -> bool {
+    run.place(tile) == Some(5)
+        && run.place(tile) == Some(6)
+        && run.place(tile) == Some(7)
+        && run.place(tile).is_none()
+}
+
+#[test]
+fn a_triangle_over_the_window_goes_to_nine_tiles(rt: HostRuntime) {
+    let scene = scene_of(
+        rt.alloc(),
+        triangle(rt.alloc()).expect(&rt, "memory"),
+        &NINE,
+    )
+    .expect(&rt, "memory");
+    let mut run = run_of(&rt, rt.alloc(), &scene, &NINE, 16);
+    assert!(rt; moves(&mut run, 40).expect(&rt, "memory") == 29);
+    for tile in 0..9 {
+        assert!(rt; has_three(&mut run, tile));
+    }
+    let swap = Request::Op {
+        place: 6,
+        op: SyncOp::Swap,
+    };
+    assert!(rt; run.requests.pop() == Some(swap));
+    assert!(rt; run.requests.pop() == Some(Request::End));
+    assert!(rt; run.requests.pop() == None);
+}

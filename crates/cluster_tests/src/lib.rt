@@ -1,0 +1,17 @@
+//! Tests of orders, of the manager and of the stepped cluster's parts.
+//!
+//! Each test calls public items alone, and stands here so that none of those crates is proved twice.
+#![tactic(auto)]
+
+#[cfg(test)]
+mod boxes;
+#[cfg(test)]
+mod clients;
+#[cfg(test)]
+mod managers;
+#[cfg(test)]
+mod orders;
+#[cfg(test)]
+mod parts;
+#[cfg(test)]
+mod tiles;

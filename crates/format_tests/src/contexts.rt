@@ -1,0 +1,454 @@
+//! Refusals, each with the context before and after it, and values computed by hand.
+ghost use Rattle.std.specs.Prelude.{IsTrue};
+ghost use Rattle.gl_context.specs.Arguments.{HasTexels};
+
+use gl_context::{Context, marks};
+use rc_base::command::{Command, Mat4, Part, Rgba, Texels};
+use rc_base::out_of_memory::OutOfMemory;
+use rc_base::scene::{Counts, Decl, Sizes, Units};
+use rc_base::state::{Effect, Fault};
+use rc_base::sync::SyncOp;
+use std::alloc::Global;
+use std::process::Abort;
+
+const ONE: i32 = 65_536;
+
+// A context of a window of 2 by 1 pixels, with one shared texture of 3 by 2, two barriers and one semaphore.
+fn fresh(alloc: Global) -> Result<Context, OutOfMemory> {
+    let decl = Decl {
+        version: 1,
+        width: 2,
+        height: 1,
+        shared: Sizes::from_slice(alloc, &[[3, 2]])?,
+        barriers: Counts::from_slice(alloc, &[1, 2])?,
+        semaphores: Units::from_slice(alloc, &[0])?,
+    };
+    Context::new(alloc, &decl)
+}
+
+fn texels(alloc: Global, count: usize, value: u8) -> Result<Texels, OutOfMemory> {
+    let mut bytes = Vec::new(alloc);
+    bytes.resize(count, value)?;
+    Ok(Texels::from_vec(bytes))
+}
+
+fn has_texels(command: &Command) -> bool
+    ensures { IsTrue result → HasTexels command.now }
+{
+    match command {
+        Command::TexImage { w, h, texels, .. } => {
+            texels.len() == 4 * (usize::from(*w) * usize::from(*h))
+        }
+        Command::TexPart(part) => {
+            let Part { w, h, texels, .. } = part;
+            texels.len() == 4 * (usize::from(*w) * usize::from(*h))
+        }
+        _ => true,
+    }
+}
+
+// None where memory is wanting, or where the command may not be issued.
+fn issue(context: &mut Context, place: u32, command: &Command) -> Option<Effect> {
+    if !has_texels(command) {
+        return None;
+    }
+    for name in 1..65_u8 {
+        if context.edit(name) == u32::MAX {
+            return None;
+        }
+    }
+    context.issue(place, command).ok()
+}
+
+// Whether the command is accepted, and nothing is due for it.
+fn is_quiet(context: &mut Context, command: &Command) -> bool {
+    issue(context, 0, command) == Some(Effect::Quiet)
+}
+
+// Whether two contexts have the same scalar elements and private textures.
+fn look_alike(a: &Context, b: &Context) -> bool {
+    if a.state() != b.state() {
+        return false;
+    }
+    for name in 1..65_u8 {
+        let one = a.private().get(name);
+        let other = b.private().get(name);
+        if a.edit(name) != b.edit(name)
+            || one.sides() != other.sides()
+            || one.texels() != other.texels()
+        {
+            return false;
+        }
+    }
+    true
+}
+
+fn image(alloc: Global, name: u8, w: u16, h: u16) -> Result<Command, OutOfMemory> {
+    Ok(Command::TexImage {
+        name,
+        w,
+        h,
+        texels: texels(alloc, 4 * (usize::from(w) * usize::from(h)), name)?,
+    })
+}
+
+// A part of a private texture (kind 0) or of a shared one: kind, name, x, y, w, h.
+fn texture_part(
+    alloc: Global,
+    numbers: (u8, u8, u16, u16, u16, u16),
+) -> Result<Command, OutOfMemory> {
+    let (kind, name, x, y, w, h) = numbers;
+    let texels = texels(alloc, 4 * (usize::from(w) * usize::from(h)), 9)?;
+    let part = Part {
+        name,
+        x,
+        y,
+        w,
+        h,
+        texels,
+    };
+    Ok(if kind == 0 {
+        Command::TexPart(part)
+    } else {
+        Command::SharedImage(part)
+    })
+}
+
+// Mode and number of vertices of a block that is drawn.
+fn drawn_block(effect: &Option<Effect>) -> Option<(u8, usize)> {
+    match effect {
+        Some(Effect::Block(block)) => Some((block.mode, block.vertices.len())),
+        _ => None,
+    }
+}
+
+fn vertex(x: i32) -> Command {
+    Command::Vertex {
+        pos: [x, 0, 0, ONE],
+    }
+}
+
+fn matrix(diagonal: i32) -> Mat4 {
+    Mat4 {
+        m: [
+            diagonal, 0, 0, 0, 0, diagonal, 0, 0, 0, 0, diagonal, 0, 0, 0, 0, diagonal,
+        ],
+    }
+}
+
+// An entry of 2147483647, and 0 everywhere else.
+fn corner_matrix() -> Mat4 {
+    Mat4 {
+        m: [i32::MAX, 0, 0, 0, 0, 0, 0, 0, 0, 0, 0, 0, 0, 0, 0, 0],
+    }
+}
+
+// Whether the command is refused, and leaves the context as it was but for one more fault.
+fn is_refused(context: &mut Context, twin: &Context, command: &Command, fault: Fault) -> bool {
+    let count = context.faults().len();
+    let refused = issue(context, 7, command) == Some(Effect::Refused(fault));
+    let faults = context.faults().as_slice();
+    refused
+        && faults.len() > count
+        && faults.len() - count == 1
+        && faults[count] == (7, fault)
+        && look_alike(context, twin)
+}
+
+// Whether End makes a block of this mode and so many vertices.
+fn is_block(context: &mut Context, due: Option<(u8, usize)>) -> bool {
+    drawn_block(&issue(context, 0, &Command::End)) == due
+}
+
+// All commands but Vertex, Color, TexCoord and End, with arguments that are right outside a block.
+fn outside_alone(image: Command, part: Command, shared: Command) -> [Command; 32] {
+    [
+        Command::Begin { mode: 0 },
+        Command::Enable { capability: 0 },
+        Command::Disable { capability: 0 },
+        Command::MatrixMode { mode: 1 },
+        Command::LoadIdentity,
+        Command::LoadMatrix(matrix(2)),
+        Command::MultMatrix(matrix(2)),
+        Command::PushMatrix,
+        Command::PopMatrix,
+        Command::Viewport { area: [1, 1, 1, 1] },
+        Command::DepthRange { near: 1, far: 2 },
+        Command::Scissor { area: [1, 1, 1, 1] },
+        Command::AlphaFunc {
+            function: 1,
+            reference: 1,
+        },
+        Command::DepthFunc { function: 3 },
+        Command::DepthMask { flag: 0 },
+        Command::BlendFunc {
+            source: 2,
+            destination: 2,
+        },
+        Command::ColorMask {
+            flags: [0, 0, 0, 0],
+        },
+        Command::ClearColor(Rgba {
+            r: 1,
+            g: 2,
+            b: 3,
+            a: 4,
+        }),
+        Command::ClearDepth { depth: 3 },
+        Command::Clear { mask: 3 },
+        Command::CullFace { face: 2 },
+        Command::FrontFace { direction: 1 },
+        Command::BindTexture { kind: 0, name: 2 },
+        Command::TexEnv { environment: 1 },
+        Command::TexWrap { s: 1, t: 1 },
+        image,
+        part,
+        shared,
+        Command::Barrier { name: 1 },
+        Command::SemP { name: 1 },
+        Command::SemV { name: 1 },
+        Command::Swap,
+    ]
+}
+
+#[test]
+fn inside_a_block_four_commands_are_accepted(rt: HostRuntime) {
+    let mut context = fresh(rt.alloc()).expect(&rt, "memory");
+    let mut twin = fresh(rt.alloc()).expect(&rt, "memory");
+    let square = image(rt.alloc(), 1, 1, 1).expect(&rt, "memory");
+    let spot = texture_part(rt.alloc(), (0, 1, 0, 0, 1, 1)).expect(&rt, "memory");
+    let shared = texture_part(rt.alloc(), (1, 1, 0, 0, 1, 1)).expect(&rt, "memory");
+    let refused = outside_alone(square, spot, shared);
+    let color = Command::Color(Rgba {
+        r: 1,
+        g: 2,
+        b: 3,
+        a: 4,
+    });
+    let accepted = [
+        Command::Begin { mode: 2 },
+        color,
+        Command::TexCoord { s: 5, t: 6 },
+        vertex(7),
+    ];
+    for command in &accepted {
+        assert!(rt; is_quiet(&mut context, command));
+        assert!(rt; is_quiet(&mut twin, command));
+    }
+    for command in &refused {
+        assert!(rt; is_refused(&mut context, &twin, command, Fault::InvalidOperation));
+    }
+    let drawn = issue(&mut context, 8, &Command::End);
+    assert!(rt; drawn_block(&drawn) == Some((2, 1)));
+    assert!(rt; drawn == issue(&mut twin, 8, &Command::End));
+    for command in [vertex(7), Command::End] {
+        assert!(rt; is_refused(&mut context, &twin, &command, Fault::InvalidOperation));
+    }
+}
+
+// Each argument with codes, behind the last of them.
+fn wrong_codes() -> [Command; 15] {
+    [
+        Command::Begin { mode: 3 },
+        Command::Enable { capability: 6 },
+        Command::Disable { capability: 255 },
+        Command::MatrixMode { mode: 2 },
+        Command::AlphaFunc {
+            function: 8,
+            reference: 0,
+        },
+        Command::DepthFunc { function: 8 },
+        Command::BlendFunc {
+            source: 10,
+            destination: 0,
+        },
+        Command::BlendFunc {
+            source: 0,
+            destination: 10,
+        },
+        Command::CullFace { face: 3 },
+        Command::FrontFace { direction: 2 },
+        // its name would be wrong too
+        Command::BindTexture { kind: 2, name: 0 },
+        Command::TexEnv { environment: 2 },
+        Command::TexWrap { s: 2, t: 0 },
+        Command::TexWrap { s: 0, t: 2 },
+        Command::MatrixMode { mode: 255 },
+    ]
+}
+
+// Values outside their ranges, each on one side of one of them.
+fn wrong_values() -> [Command; 15] {
+    let viewport = |area| Command::Viewport { area };
+    let scissor = |area| Command::Scissor { area };
+    [
+        viewport([0, 0, 2049, 1]),
+        viewport([0, 0, 1, -1]),
+        viewport([32_768, 0, 1, 1]),
+        viewport([0, -32_769, 1, 1]),
+        scissor([0, 0, -1, 1]),
+        scissor([0, 0, 1, -1]),
+        Command::Clear { mask: 4 },
+        Command::BindTexture { kind: 0, name: 0 },
+        Command::BindTexture { kind: 0, name: 65 },
+        Command::BindTexture { kind: 1, name: 2 },
+        Command::Barrier { name: 0 },
+        Command::Barrier { name: 3 },
+        Command::SemP { name: 2 },
+        Command::SemV { name: 0 },
+        Command::MultMatrix(corner_matrix()),
+    ]
+}
+
+// Names and sides of images that are refused.
+const WRONG_IMAGES: [(u8, u16, u16); 4] = [(0, 1, 1), (65, 1, 1), (1, 0, 1), (1, 1, 257)];
+
+// Parts with wrong names, and parts that don't lie in private texture 1 of 2 by 2, or in the shared one.
+const WRONG_PARTS: [(u8, u8, u16, u16, u16, u16); 10] = [
+    (0, 0, 0, 0, 1, 1),
+    (0, 65, 0, 0, 1, 1),
+    (1, 0, 0, 0, 1, 1),
+    (1, 2, 0, 0, 1, 1),
+    (0, 1, 1, 0, 2, 1),
+    (0, 1, 0, 3, 0, 0),
+    (0, 1, 65_535, 0, 2, 0),
+    (1, 1, 2, 0, 2, 1),
+    (1, 1, 0, 65_535, 0, 1),
+    (1, 1, 0, 0, 3, 3),
+];
+
+// Whether each command is refused for this fault.
+fn are_refused(context: &mut Context, twin: &Context, commands: &[Command], fault: Fault) -> bool {
+    for command in commands {
+        if !is_refused(context, twin, command, fault) {
+            return false;
+        }
+    }
+    true
+}
+
+// Whether each of these images is refused.
+fn are_wrong_images(rt: &impl Abort, alloc: Global, context: &mut Context, twin: &Context) -> bool {
+    for (name, w, h) in WRONG_IMAGES {
+        let command = image(alloc, name, w, h).expect(rt, "memory");
+        if !is_refused(context, twin, &command, Fault::InvalidValue) {
+            return false;
+        }
+    }
+    true
+}
+
+// Whether each of these parts is refused.
+fn are_wrong_parts(rt: &impl Abort, alloc: Global, context: &mut Context, twin: &Context) -> bool {
+    for numbers in WRONG_PARTS {
+        let command = texture_part(alloc, numbers).expect(rt, "memory");
+        if !is_refused(context, twin, &command, Fault::InvalidValue) {
+            return false;
+        }
+    }
+    true
+}
+
+// A context in which private texture 1 has an image and the modelview a matrix of its own.
+fn prepared(rt: &impl Abort, alloc: Global) -> Context {
+    let mut context = fresh(alloc).expect(rt, "memory");
+    let square = image(alloc, 1, 2, 2).expect(rt, "memory");
+    assert!(rt; is_quiet(&mut context, &square));
+    assert!(rt; is_quiet(&mut context, &Command::LoadMatrix(corner_matrix())));
+    context
+}
+
+#[test]
+fn codes_values_and_images_are_refused_outside_a_block(rt: HostRuntime) {
+    let mut context = prepared(&rt, rt.alloc());
+    let twin = prepared(&rt, rt.alloc());
+    assert!(rt; are_refused(&mut context, &twin, &wrong_codes(), Fault::InvalidEnum));
+    assert!(rt; are_refused(&mut context, &twin, &wrong_values(), Fault::InvalidValue));
+    assert!(rt; are_wrong_images(&rt, rt.alloc(), &mut context, &twin));
+    assert!(rt; are_wrong_parts(&rt, rt.alloc(), &mut context, &twin));
+    // without an image even a part outside of it is an operation that isn't valid
+    let blank = texture_part(rt.alloc(), (0, 2, 9, 0, 1, 1)).expect(&rt, "memory");
+    assert!(rt; is_refused(&mut context, &twin, &blank, Fault::InvalidOperation));
+    assert!(rt;
+        is_refused(
+            &mut context,
+            &twin,
+            &Command::PopMatrix,
+            Fault::StackUnderflow
+        )
+    );
+    assert!(rt; context.state().modelview == corner_matrix());
+}
+
+#[test]
+fn the_deepest_stack_and_the_largest_block(rt: HostRuntime) {
+    let mut context = fresh(rt.alloc()).expect(&rt, "memory");
+    let mut twin = fresh(rt.alloc()).expect(&rt, "memory");
+    for _ in 0..31 {
+        assert!(rt; is_quiet(&mut context, &Command::PushMatrix));
+    }
+    assert!(rt;
+        is_refused(
+            &mut context,
+            &twin,
+            &Command::PushMatrix,
+            Fault::StackOverflow
+        )
+    );
+    let double = Command::MultMatrix(matrix(2 * ONE));
+    assert!(rt; is_quiet(&mut context, &double));
+    assert!(rt; context.state().modelview == matrix(2 * ONE));
+    for _ in 0..31 {
+        assert!(rt; is_quiet(&mut context, &Command::PopMatrix));
+    }
+    assert!(rt;
+        is_refused(
+            &mut context,
+            &twin,
+            &Command::PopMatrix,
+            Fault::StackUnderflow
+        )
+    );
+    assert!(rt; is_quiet(&mut context, &Command::Begin { mode: 1 }));
+    for x in 0..16_383 {
+        assert!(rt; is_quiet(&mut context, &vertex(x)));
+    }
+    assert!(rt; is_refused(&mut context, &twin, &vertex(0), Fault::InvalidValue));
+    assert!(rt; is_block(&mut context, Some((1, 16_383))));
+}
+
+#[test]
+fn private_images_and_their_parts(rt: HostRuntime) {
+    let mut context = fresh(rt.alloc()).expect(&rt, "memory");
+    for name in 1..65_u8 {
+        let small = image(rt.alloc(), name, 1, 1).expect(&rt, "memory");
+        assert!(rt; is_quiet(&mut context, &small));
+        assert!(rt; context.edit(name) == 1);
+    }
+    assert!(rt; marks(&Command::PopMatrix, 1) == Some(1));
+    let large = image(rt.alloc(), 64, 256, 256).expect(&rt, "memory");
+    assert!(rt; is_quiet(&mut context, &large));
+    // a texel at each corner, and a part without texels at the far one
+    for (x, y, side) in [
+        (0, 0, 1),
+        (255, 0, 1),
+        (0, 255, 1),
+        (255, 255, 1),
+        (256, 256, 0),
+    ] {
+        let spot = texture_part(rt.alloc(), (0, 64, x, y, side, side)).expect(&rt, "memory");
+        assert!(rt; is_quiet(&mut context, &spot));
+    }
+    assert!(rt; context.edit(64) == 7);
+    let bytes = context.private().get(64).texels().unwrap_or(&[]);
+    assert!(rt; bytes.len() == 262_144);
+    assert!(rt; bytes.iter().filter(|b| **b == 9).count() == 16);
+    for corner in [0, 1020, 261_120, 262_140] {
+        assert!(rt; bytes.get(corner) == Some(&9));
+    }
+    let whole = texture_part(rt.alloc(), (1, 1, 0, 0, 3, 2)).expect(&rt, "memory");
+    let shared = issue(&mut context, 0, &whole);
+    assert!(rt; matches!(&shared, Some(Effect::Shared(part)) if part.texels.len() == 24));
+    let waits = issue(&mut context, 0, &Command::Barrier { name: 2 });
+    assert!(rt; waits == Some(Effect::Sync(SyncOp::Barrier(2))));
+}

@@ -1,0 +1,23 @@
+//! Tests of the crates of formats and contexts: ends, packets, scenes, images, and what commands leave.
+//!
+//! Each test calls public items alone, and stands here so that none of those crates is proved twice.
+#![tactic(auto)]
+
+#[cfg(test)]
+mod commands;
+#[cfg(test)]
+mod contexts;
+#[cfg(test)]
+mod ends;
+#[cfg(test)]
+mod images;
+#[cfg(test)]
+mod packets;
+#[cfg(test)]
+mod scenes;
+#[cfg(test)]
+mod switches;
+#[cfg(test)]
+mod texts;
+#[cfg(test)]
+mod updates;

@@ -1,0 +1,115 @@
+use rc_base::command::{Command, Rgba};
+use rc_base::scene::{Scene, SceneKind};
+use scene_file::{SceneFault, read_scene, write_scene};
+
+/// A window of 2 by 2, and one stream: a red clear colour, a clear of the colours, a swap.
+const RED: [u8; 26] = [
+    0x52, 0x43, 0x53, 0x31, 2, 0, 2, 0, 1, 0, 0, 0, 10, 0, 0, 0, 3, 0, 0x16, 0x18, 0x24, 255, 0, 0,
+    255, 1,
+];
+
+fn fails(rt: &HostRuntime, bytes: &[u8], fault: SceneFault) -> bool {
+    match read_scene(rt.alloc(), bytes) {
+        Ok(_) => false,
+        Err(found) => found == fault,
+    }
+}
+
+/// Whether the bytes are read and written again as they stand.
+fn comes_back(rt: &HostRuntime, bytes: &[u8]) -> bool {
+    match read_scene(rt.alloc(), bytes) {
+        Ok(scene) => match write_scene(rt.alloc(), &scene) {
+            Ok(written) => written.as_slice() == bytes,
+            Err(_) => false,
+        },
+        Err(_) => false,
+    }
+}
+
+fn is_red(scene: &Scene) -> bool {
+    let decl = &scene.decl;
+    if decl.version != 1 || decl.width != 2 || decl.height != 2 || decl.shared.len() != 0 {
+        return false;
+    }
+    match scene.streams.as_slice() {
+        [stream] => match stream.as_slice() {
+            [
+                Command::ClearColor(color),
+                Command::Clear { mask: 1 },
+                Command::Swap,
+            ] => {
+                *color
+                    == (Rgba {
+                        r: 255,
+                        g: 0,
+                        b: 0,
+                        a: 255,
+                    })
+            }
+            _ => false,
+        },
+        _ => false,
+    }
+}
+
+#[test]
+fn red_scene_is_read_and_written(rt: HostRuntime) {
+    match read_scene(rt.alloc(), &RED) {
+        Ok(scene) => assert!(rt; is_red(&scene)),
+        Err(_) => assert!(rt; false),
+    }
+    assert!(rt; comes_back(&rt, &RED));
+}
+
+#[test]
+fn each_fault_stands_at_its_place(rt: HostRuntime) {
+    for n in 0..26 {
+        let fault = SceneFault::Malformed {
+            kind: SceneKind::Truncated,
+            at: n,
+        };
+        assert!(rt; fails(&rt, &RED[..n], fault));
+    }
+    let cases = [
+        (2, [0x54, 0x31], SceneKind::BadMagic, 2),
+        (16, [0, 0], SceneKind::BadCount, 16),
+        (16, [1, 4], SceneKind::BadCount, 16),
+        (18, [0, 0x18], SceneKind::UnknownOpcode, 18),
+        (12, [9, 0], SceneKind::Truncated, 25),
+        (12, [11, 0], SceneKind::Truncated, 26),
+    ];
+    for (place, bytes, kind, at) in cases {
+        let mut scene = RED;
+        scene[place] = bytes[0];
+        scene[place + 1] = bytes[1];
+        assert!(rt; fails(&rt, &scene, SceneFault::Malformed { kind, at }));
+    }
+    let mut longer = Vec::from_slice(rt.alloc(), &RED).expect(&rt, "memory");
+    longer.push(0).expect(&rt, "memory");
+    let fault = SceneFault::Malformed {
+        kind: SceneKind::Trailing,
+        at: 26,
+    };
+    assert!(rt; fails(&rt, longer.as_slice(), fault));
+    let mut narrow = RED;
+    narrow[4] = 0;
+    assert!(rt; fails(&rt, &narrow, SceneFault::Limit { what: 2, value: 0 }));
+}
+
+#[test]
+fn declarations_are_read_and_written(rt: HostRuntime) {
+    let bytes = [
+        0x52, 0x43, 0x53, 0x31, 5, 0, 7, 0, 1, 2, 1, 1, 2, 0, 1, 0, 3, 0, 4, 0, 8, 2, 1, 0, 0, 0, 0,
+    ];
+    match read_scene(rt.alloc(), &bytes) {
+        Ok(scene) => {
+            let decl = &scene.decl;
+            assert!(rt; decl.width == 5 && decl.height == 7 && scene.streams.len() == 1);
+            assert!(rt; decl.shared.as_slice() == [[2, 1], [3, 4]].as_slice());
+            assert!(rt; decl.barriers.as_slice() == [8].as_slice());
+            assert!(rt; decl.semaphores.as_slice() == [258].as_slice());
+        }
+        Err(_) => assert!(rt; false),
+    }
+    assert!(rt; comes_back(&rt, &bytes));
+}

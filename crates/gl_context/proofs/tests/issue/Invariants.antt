@@ -1,6 +1,0 @@
-use Rattle.std.proofs.Common.{ℕ, ◌+◌, ◌<◌, ◌^◌}
-use Rattle.rc_base.specs.Contexts.Context.{edit_of}
-use Rattle.gl_context.proofs.tests.issue.Given as goal
-
-abbrev pub invariant-loop-name : goal.invariant-loop-name
-invariant-loop-name l = (k : ℕ) → k < l.name → 0 < k → edit_of l.context k + 1 < 2 ^ 32

@@ -1,0 +1,126 @@
+//! Lines that are taken with their values, and lines that are refused.
+use command_line::{CommandLine, JobName, Settings, command_line};
+use rc_base::out_of_memory::OutOfMemory;
+use std::alloc::Global;
+
+const DEFAULTS: Settings = Settings {
+    columns: 1,
+    rows: 1,
+    depth: 8,
+    order: false,
+    seed: 0,
+    size: 0,
+};
+
+fn line_of(alloc: Global, words: &[&str]) -> Result<Option<CommandLine>, OutOfMemory> {
+    let mut all = Vec::new(alloc);
+    for word in words {
+        all.push(String::from_str(alloc, *word)?)?;
+    }
+    command_line(alloc, all.as_slice())
+}
+
+#[test]
+fn lines_are_taken(rt: HostRuntime) {
+    let cases: [(&[&str], JobName, Settings); 10] = [
+        (&["render"], JobName::Render, DEFAULTS),
+        (&["serial"], JobName::Serial, DEFAULTS),
+        (&["check"], JobName::Check, DEFAULTS),
+        (&["pack"], JobName::Pack, DEFAULTS),
+        (&["unpack"], JobName::Unpack, DEFAULTS),
+        (
+            &["render", "--tiles", "4x3"],
+            JobName::Render,
+            Settings {
+                columns: 4,
+                rows: 3,
+                ..DEFAULTS
+            },
+        ),
+        (
+            &["render", "--order", "--depth", "0"],
+            JobName::Render,
+            Settings {
+                order: true,
+                depth: 0,
+                ..DEFAULTS
+            },
+        ),
+        (
+            &["simulate", "--seed", "18446744073709551615"],
+            JobName::Simulate,
+            Settings {
+                seed: 18446744073709551615,
+                ..DEFAULTS
+            },
+        ),
+        (
+            &[
+                "simulate", "--depth", "2", "--tiles", "0x10", "--seed", "7", "--order",
+            ],
+            JobName::Simulate,
+            Settings {
+                columns: 0,
+                rows: 10,
+                depth: 2,
+                order: true,
+                seed: 7,
+                size: 0,
+            },
+        ),
+        (
+            &["gen", "--size", "12", "--seed", "3"],
+            JobName::Gen,
+            Settings {
+                seed: 3,
+                size: 12,
+                ..DEFAULTS
+            },
+        ),
+    ];
+    for (words, job, settings) in &cases {
+        let line = CommandLine {
+            job: *job,
+            settings: *settings,
+        };
+        assert!(rt; line_of(rt.alloc(), *words).expect(&rt, "memory") == Some(line));
+    }
+}
+
+#[test]
+fn other_words_are_refused(rt: HostRuntime) {
+    let cases: [&[&str]; 29] = [
+        &[],
+        &[""],
+        &["rende"],
+        &["Render"],
+        &["--order", "render"],
+        &["render", ""],
+        &["render", "render"],
+        &["render", "--"],
+        &["render", "-h"],
+        &["render", "--help"],
+        &["render", "--ord"],
+        &["render", "--depth=8"],
+        &["render", "--depth"],
+        &["render", "--depth", "--order"],
+        &["render", "--depth", "08"],
+        &["render", "--depth", "+8"],
+        &["render", "--depth", "18446744073709551616"],
+        &["render", "--depth", "8", "8"],
+        &["render", "--order", "--order"],
+        &["render", "--depth", "8", "--depth", "8"],
+        &["render", "--tiles", "4X4"],
+        &["render", "--tiles", "4x"],
+        &["render", "--tiles", "4x4x4"],
+        &["render", "--tiles", "04x1"],
+        &["render", "--seed", "1"],
+        &["serial", "--order"],
+        &["simulate"],
+        &["simulate", "--seed", "1", "--size", "1"],
+        &["gen", "--seed", "1"],
+    ];
+    for words in &cases {
+        assert!(rt; line_of(rt.alloc(), *words).expect(&rt, "memory") == None);
+    }
+}

@@ -1,0 +1,389 @@
+//! Runs on sources and sinks in memory.
+mod clusters;
+mod formats;
+mod hostile;
+mod orders;
+mod seeds;
+
+ghost use Rattle.std.specs.Prelude.{◌<◌};
+
+use rc_base::gate::OpenGate;
+use rc_base::in_memory::{MemSink, MemSource};
+use rc_base::outside::Source;
+use rc_base::transfer::read_all;
+use render_core::run;
+use std::alloc::Global;
+use std::process::Abort;
+
+// A window of 2 by 2: `ClearColor 255 0 0 255; Clear 1; Swap`.
+const RED_CLEAR: [u8; 26] = [
+    0x52, 0x43, 0x53, 0x31, 2, 0, 2, 0, 1, 0, 0, 0, 10, 0, 0, 0, 3, 0, 0x16, 0x18, 0x24, 255, 0, 0,
+    255, 1,
+];
+
+// The same without Swap.
+const CLEAR_ALONE: [u8; 25] = [
+    0x52, 0x43, 0x53, 0x31, 2, 0, 2, 0, 1, 0, 0, 0, 9, 0, 0, 0, 2, 0, 0x16, 0x18, 255, 0, 0, 255, 1,
+];
+
+// A window of 1 by 1: `Begin 0; Clear 1; End; Swap`. Nothing is cleared while a block is open.
+const CLEAR_IN_BLOCK: [u8; 24] = [
+    0x52, 0x43, 0x53, 0x31, 1, 0, 1, 0, 1, 0, 0, 0, 8, 0, 0, 0, 4, 0, 1, 0x18, 2, 0x24, 0, 1,
+];
+
+// A window of 1 by 1: `End; Begin 3; Swap`.
+const END_THEN_MODE_3: [u8; 22] = [
+    0x52, 0x43, 0x53, 0x31, 1, 0, 1, 0, 1, 0, 0, 0, 6, 0, 0, 0, 3, 0, 2, 1, 0x24, 3,
+];
+
+// A window of 1 by 1, and two clients that do nothing.
+const TWO_SILENT: &[u8] = b"RCS1\x01\0\x01\0\x02\0\0\0\0\0\0\0\0\0\0\0";
+
+// One black pixel.
+const BLACK_PIXEL: &[u8] = b"P6\n1 1\n255\n\0\0\0";
+
+// The frame of the red clear.
+const RED_FRAME: &[u8] = b"P6\n2 2\n255\n\xff\0\0\xff\0\0\xff\0\0\xff\0\0";
+
+const RED_CLEAR_TEXT: &[u8] = b"scene 1 2 2\nclient\nClearColor 255 0 0 255\nClear 1\nSwap\n";
+
+// What a run leaves: its status, and the ends that it was given.
+#[derive(Drop)]
+struct Left {
+    status: u8,
+    source: MemSource,
+    image: MemSink,
+    notes: MemSink,
+}
+
+impl Left {
+    // The status is this, and image and notes hold these bytes.
+    fn is(&self, status: u8, image: &[u8], notes: &[u8]) -> bool {
+        self.status == status && self.image.bytes() == image && self.notes.bytes() == notes
+    }
+}
+
+fn words(rt: &impl Abort, alloc: Global, words: &[&str]) -> Vec<String> {
+    let mut all = Vec::new(alloc);
+    for word in words {
+        let word = String::from_str(alloc, *word).expect(rt, "memory");
+        all.push(word).expect(rt, "memory");
+    }
+    all
+}
+
+// The status of a run on these ends. Its contract says nothing, so that a test is proved without that of `run`.
+fn status_on<S: Source>(
+    rt: &impl Abort,
+    alloc: Global,
+    job: &[&str],
+    source: &mut S,
+    image: &mut MemSink,
+    notes: &mut MemSink,
+) -> u8 {
+    let words = words(rt, alloc, job);
+    run(alloc, words.as_slice(), source, image, notes, &OpenGate).status
+}
+
+// A sink that takes at most so many bytes at once, and whose puts of these numbers fail.
+fn sink(rt: &impl Abort, alloc: Global, step: usize, fails: &[u64]) -> MemSink
+    requires { 0 < step }
+{
+    MemSink::new(alloc, step, fails).expect(rt, "memory")
+}
+
+// What a run leaves of a source and two sinks.
+fn left_on(
+    rt: &impl Abort,
+    alloc: Global,
+    job: &[&str],
+    source: MemSource,
+    image: MemSink,
+    notes: MemSink,
+) -> Left {
+    let mut left = Left {
+        status: 0,
+        source,
+        image,
+        notes,
+    };
+    left.status = status_on(
+        rt,
+        alloc,
+        job,
+        &mut left.source,
+        &mut left.image,
+        &mut left.notes,
+    );
+    left
+}
+
+// A source of these bytes whose takes of these numbers fail.
+fn source_of(rt: &impl Abort, alloc: Global, input: &[u8], fails: &[u64]) -> MemSource {
+    MemSource::new(alloc, input, 7, fails).expect(rt, "memory")
+}
+
+// What a run leaves, where the puts of the image that fail have these numbers.
+fn run_on(rt: &impl Abort, alloc: Global, job: &[&str], input: &[u8], fails: &[u64]) -> Left {
+    left_on(
+        rt,
+        alloc,
+        job,
+        source_of(rt, alloc, input, &[]),
+        sink(rt, alloc, 4, fails),
+        sink(rt, alloc, 64, &[]),
+    )
+}
+
+// What a job leaves of the scene of a text.
+fn run_text(rt: &impl Abort, alloc: Global, job: &[&str], text: &[u8], fails: &[u64]) -> Left {
+    let scene = run_on(rt, alloc, &["pack"], text, &[]);
+    run_on(rt, alloc, job, scene.image.bytes(), fails)
+}
+
+#[test]
+fn jobs_write_what_is_due(rt: HostRuntime) {
+    let rows = [
+        (
+            "render",
+            RED_CLEAR.as_slice(),
+            RED_FRAME,
+            "tile 0 parcels 3 sets 1\njournal 1\nframes 1\n",
+        ),
+        (
+            "render",
+            CLEAR_ALONE.as_slice(),
+            b"".as_slice(),
+            "tile 0 parcels 2 sets 1\njournal 0\nframes 0\n",
+        ),
+        (
+            "render",
+            TWO_SILENT,
+            b"".as_slice(),
+            "tile 0 parcels 2 sets 0\njournal 0\nframes 0\n",
+        ),
+        ("pack", RED_CLEAR_TEXT, RED_CLEAR.as_slice(), ""),
+        ("unpack", RED_CLEAR.as_slice(), RED_CLEAR_TEXT, ""),
+    ];
+    for (job, input, due, report) in rows {
+        let left = run_on(&rt, rt.alloc(), &[job], input, &[]);
+        assert!(rt; left.is(0, due, report.as_bytes()));
+    }
+}
+
+#[test]
+fn other_words_are_usage(rt: HostRuntime) {
+    let rows: [&[&str]; 6] = [
+        &[],
+        &["draw"],
+        &["render", "-h"],
+        &["render", "render"],
+        &["simulate"],
+        &["Check"],
+    ];
+    for row in rows {
+        let left = run_on(&rt, rt.alloc(), row, &RED_CLEAR, &[]);
+        assert!(rt; left.is(1, b"".as_slice(), b"rc: usage\n".as_slice()));
+    }
+}
+
+#[test]
+fn refusals_tell_kind_and_place(rt: HostRuntime) {
+    let mut trailing = Vec::from_slice(rt.alloc(), &RED_CLEAR).expect(&rt, "memory");
+    trailing.push(0).expect(&rt, "memory");
+    let rows = [
+        (
+            "render",
+            &RED_CLEAR[..25],
+            3,
+            "rc: malformed Truncated at 25\n",
+        ),
+        (
+            "render",
+            trailing.as_slice(),
+            3,
+            "rc: malformed Trailing at 26\n",
+        ),
+        (
+            "unpack",
+            b"RCT1".as_slice(),
+            3,
+            "rc: malformed BadMagic at 2\n",
+        ),
+        (
+            "pack",
+            b"scene 1 2 2\nclient\nClera 1\n".as_slice(),
+            3,
+            "rc: malformed UnknownWord at 3\n",
+        ),
+        (
+            "pack",
+            b"scene 1 0 2\n".as_slice(),
+            4,
+            "rc: limit width 0\n",
+        ),
+        (
+            "unpack",
+            b"RCS1\x00\x08\x01\x08\0\0\0\0".as_slice(),
+            4,
+            "rc: limit height 2049\n",
+        ),
+    ];
+    for (job, input, due, line) in rows {
+        let left = run_on(&rt, rt.alloc(), &[job], input, &[]);
+        assert!(rt; left.is(due, b"".as_slice(), line.as_bytes()));
+    }
+}
+
+// The window is 2 by 2, so that it has no more than two columns of tiles.
+#[test]
+fn words_past_their_limits_are_refused(rt: HostRuntime) {
+    let rows: [(&[&str], &str); 3] = [
+        (&["render", "--tiles", "3x1"], "rc: limit tile columns 3\n"),
+        (&["render", "--tiles", "1x3"], "rc: limit tile rows 3\n"),
+        (
+            &["simulate", "--seed", "1", "--depth", "17"],
+            "rc: limit depth 17\n",
+        ),
+    ];
+    for (job, line) in rows {
+        let left = run_on(&rt, rt.alloc(), job, &RED_CLEAR, &[]);
+        assert!(rt; left.is(4, b"".as_slice(), line.as_bytes()));
+    }
+}
+
+#[test]
+fn a_failing_image_keeps_eight_bytes(rt: HostRuntime) {
+    let left = run_on(&rt, rt.alloc(), &["render"], &RED_CLEAR, &[3]);
+    assert!(rt;
+        left.is(
+            6,
+            b"P6\n2 2\n2".as_slice(),
+            b"rc: image fault after 8 bytes\n".as_slice()
+        )
+    );
+}
+
+#[test]
+fn a_text_is_offered_once(rt: HostRuntime) {
+    let rows = [
+        ("render", RED_CLEAR.as_slice(), RED_FRAME),
+        ("pack", RED_CLEAR_TEXT, RED_CLEAR.as_slice()),
+        ("unpack", RED_CLEAR.as_slice(), RED_CLEAR_TEXT),
+    ];
+    for (job, input, due) in rows {
+        let source = source_of(&rt, rt.alloc(), input, &[]);
+        let left = left_on(
+            &rt,
+            rt.alloc(),
+            &[job],
+            source,
+            sink(&rt, rt.alloc(), 64, &[2]),
+            sink(&rt, rt.alloc(), 64, &[]),
+        );
+        assert!(rt; left.status == 0 && left.image.bytes() == due);
+    }
+}
+
+#[test]
+fn a_failing_source_keeps_its_bytes(rt: HostRuntime) {
+    for job in ["render", "pack", "unpack"] {
+        let source = source_of(&rt, rt.alloc(), &RED_CLEAR, &[1]);
+        let mut left = left_on(
+            &rt,
+            rt.alloc(),
+            &[job],
+            source,
+            sink(&rt, rt.alloc(), 4, &[]),
+            sink(&rt, rt.alloc(), 64, &[]),
+        );
+        assert!(rt; left.is(2, b"", b"rc: read fault\n"));
+        let rest = read_all(rt.alloc(), &mut left.source).expect(&rt, "the rest");
+        assert!(rt; rest.as_slice() == RED_CLEAR.as_slice());
+    }
+}
+
+#[test]
+fn refused_commands_are_noted(rt: HostRuntime) {
+    let rows = [
+        (
+            CLEAR_IN_BLOCK.as_slice(),
+            "client 0 fault INVALID_OPERATION at 1\ntile 0 parcels 2 sets 0\njournal 1\nframes 1\n",
+        ),
+        (
+            END_THEN_MODE_3.as_slice(),
+            "client 0 fault INVALID_OPERATION at 0\nclient 0 fault INVALID_ENUM at 1\ntile 0 parcels 2 sets 0\njournal 1\nframes 1\n",
+        ),
+    ];
+    for (input, lines) in rows {
+        let left = run_on(&rt, rt.alloc(), &["render"], input, &[]);
+        assert!(rt; left.is(0, BLACK_PIXEL, lines.as_bytes()));
+    }
+}
+
+#[test]
+fn failing_notes_leave_the_image_whole(rt: HostRuntime) {
+    let rows = [
+        (
+            "render",
+            CLEAR_IN_BLOCK.as_slice(),
+            1,
+            8,
+            BLACK_PIXEL,
+            b"".as_slice(),
+        ),
+        (
+            "render",
+            CLEAR_IN_BLOCK.as_slice(),
+            2,
+            8,
+            BLACK_PIXEL,
+            b"client 0".as_slice(),
+        ),
+        (
+            "unpack",
+            RED_CLEAR.as_slice(),
+            1,
+            0,
+            RED_CLEAR_TEXT,
+            b"".as_slice(),
+        ),
+    ];
+    for (job, input, fails, due, given, noted) in rows {
+        let source = source_of(&rt, rt.alloc(), input, &[]);
+        let left = left_on(
+            &rt,
+            rt.alloc(),
+            &[job],
+            source,
+            sink(&rt, rt.alloc(), 4, &[]),
+            sink(&rt, rt.alloc(), 8, &[fails]),
+        );
+        assert!(rt; left.is(due, given, noted));
+    }
+}
+
+#[test]
+fn failing_notes_change_no_refusal(rt: HostRuntime) {
+    let source = source_of(&rt, rt.alloc(), &RED_CLEAR, &[]);
+    let left = left_on(
+        &rt,
+        rt.alloc(),
+        &["draw"],
+        source,
+        sink(&rt, rt.alloc(), 4, &[]),
+        sink(&rt, rt.alloc(), 4, &[2]),
+    );
+    assert!(rt; left.is(1, b"", b"rc: "));
+}
+
+#[test]
+fn cut_scenes_are_truncated(rt: HostRuntime) {
+    for cut in 0..26 {
+        let line = format!(in rt.alloc(); "rc: malformed Truncated at {cut}\n").expect(
+            &rt, "memory",
+        );
+        let left = run_on(&rt, rt.alloc(), &["render"], &RED_CLEAR[..cut], &[]);
+        assert!(rt; left.is(3, b"".as_slice(), line.as_bytes()));
+    }
+}

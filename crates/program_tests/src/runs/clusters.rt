@@ -1,0 +1,92 @@
+//! Scenes on clusters of tiles, by `render` and `simulate`.
+use super::run_text;
+
+// A blend that is set and set back, and a scissor box that is one tile: what a tile was told isn't told again.
+pub(super) const LAZY_STATE: &[u8] = b"scene 1 2 1
+client
+Begin 0
+Vertex -65536 -65536 0 65536
+Vertex 196608 -65536 0 65536
+Vertex -65536 196608 0 65536
+End
+Enable 3
+Disable 3
+Begin 0
+Vertex -65536 -65536 0 65536
+Vertex 196608 -65536 0 65536
+Vertex -65536 196608 0 65536
+End
+Enable 0
+Scissor 0 0 1 1
+Begin 0
+Vertex -65536 -65536 0 65536
+Vertex 196608 -65536 0 65536
+Vertex -65536 196608 0 65536
+End
+Disable 0
+Begin 0
+Vertex -65536 -65536 0 65536
+Vertex 196608 -65536 0 65536
+Vertex -65536 196608 0 65536
+End
+Swap
+";
+
+const LAZY_REPORT: &str = "tile 0 parcels 6 sets 3\ntile 1 parcels 5 sets 1\njournal 1\nframes 1\n";
+
+// A barrier in an open block is refused, so nobody waits at it.
+pub(super) const BARRIER_IN_BLOCK: &[u8] = b"scene 1 1 1
+barrier 2
+client
+Begin 0
+Vertex -65536 -65536 0 65536
+Barrier 1
+Vertex 196608 -65536 0 65536
+Vertex -65536 196608 0 65536
+End
+Swap
+client
+Swap
+";
+
+const BARRIER_REPORT: &str =
+    "client 0 fault INVALID_OPERATION at 2\ntile 0 parcels 5 sets 0\njournal 1\nframes 1\n";
+
+// A white frame, and then a unit that nobody gives.
+pub(super) const NO_UNIT: &[u8] =
+    b"scene 1 1 1\nsemaphore 0\nclient\nClearColor 255 255 255 255\nClear 1\nSwap\nSemP 1\nSwap\n";
+
+const NO_UNIT_REPORT: &str =
+    "tile 0 parcels 5 sets 1\njournal 1\nframes 1\nstuck client 0 at 3 SemP 1\nrc: stuck\n";
+
+const NO_UNIT_IN_ORDER: &str =
+    "tile 0 parcels 5 sets 1\njournal 1\nframes 1\norder 0 0 0\norder 0 0 1\norder 0 0 2\nstuck client 0 at 3 SemP 1\nrc: stuck\n";
+
+#[test]
+fn clusters_draw_and_report(rt: HostRuntime) {
+    let two_white = b"P6\n2 1\n255\n\xff\xff\xff\xff\xff\xff".as_slice();
+    let white = b"P6\n1 1\n255\n\xff\xff\xff".as_slice();
+    let rows: [(&[&str], &[u8], u8, &[u8], &str); 5] = [
+        (
+            &["render", "--tiles", "2x1", "--depth", "1"],
+            LAZY_STATE,
+            0,
+            two_white,
+            LAZY_REPORT,
+        ),
+        (
+            &["simulate", "--tiles", "2x1", "--seed", "7"],
+            LAZY_STATE,
+            0,
+            two_white,
+            LAZY_REPORT,
+        ),
+        (&["render"], BARRIER_IN_BLOCK, 0, white, BARRIER_REPORT),
+        (&["render"], NO_UNIT, 5, white, NO_UNIT_REPORT),
+        (&["render", "--order"], NO_UNIT, 5, white, NO_UNIT_IN_ORDER),
+    ];
+    for (job, text, due, frames, report) in rows {
+        let left = run_text(&rt, rt.alloc(), job, text, &[]);
+        assert!(rt; left.is(due, frames, report.as_bytes()));
+    }
+}

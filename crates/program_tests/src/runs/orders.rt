@@ -1,0 +1,211 @@
+//! Scenes of several clients, by `serial` and `check`.
+use super::{BLACK_PIXEL, run_text};
+
+// Two clients blend over both pixels, one after the other: what the first one gives the semaphore back, the second one takes.
+pub(super) const BLENDED_IN_TURN: &[u8] = b"scene 1 2 1
+semaphore 1
+client
+Enable 3
+BlendFunc 6 7
+Color 255 0 0 128
+SemP 1
+Begin 0
+Vertex -65536 -65536 0 65536
+Vertex 196608 -65536 0 65536
+Vertex -65536 196608 0 65536
+End
+SemV 1
+Swap
+client
+Enable 3
+BlendFunc 6 7
+Color 0 0 255 128
+SemP 1
+Begin 0
+Vertex -65536 -65536 0 65536
+Vertex 196608 -65536 0 65536
+Vertex -65536 196608 0 65536
+End
+SemV 1
+Swap
+";
+
+// A client swaps, and the other one never does.
+const SWAP_ALONE: &[u8] = b"scene 1 1 1\nclient\nclient\nSwap\n";
+
+// A white frame, and then a unit that nobody gives.
+const NO_UNIT: &[u8] =
+    b"scene 1 1 1\nsemaphore 0\nclient\nClearColor 255 255 255 255\nClear 1\nSwap\nSemP 1\nSwap\n";
+
+// A barrier in an open block is refused, so nobody waits at it.
+const BARRIER_IN_BLOCK: &[u8] = b"scene 1 1 1
+barrier 2
+client
+Begin 0
+Vertex -65536 -65536 0 65536
+Barrier 1
+Vertex 196608 -65536 0 65536
+Vertex -65536 196608 0 65536
+End
+Swap
+client
+Swap
+";
+
+// One client writes a shared texture twice, the other one draws with it each time: one semaphore counts textures that are ready, one those that were
+// read.
+pub(super) const PRODUCED_AND_CONSUMED: &[u8] = b"scene 1 2 1
+shared 1 1
+semaphore 0
+semaphore 0
+client
+SharedImage 1 0 0 1 1 ff0000ff
+SemV 1
+SemP 2
+SharedImage 1 0 0 1 1 00ff00ff
+SemV 1
+Swap
+client
+Enable 5
+BindTexture 1 1
+TexEnv 1
+Viewport 0 0 1 1
+SemP 1
+Begin 0
+Vertex -65536 -65536 0 65536
+Vertex 196608 -65536 0 65536
+Vertex -65536 196608 0 65536
+End
+SemV 2
+Viewport 1 0 1 1
+SemP 1
+Begin 0
+Vertex -65536 -65536 0 65536
+Vertex 196608 -65536 0 65536
+Vertex -65536 196608 0 65536
+End
+Swap
+";
+
+// Two philosophers who take the same fork first.
+pub(super) const ONE_FORK_FIRST: &[u8] = b"scene 1 1 1
+semaphore 1
+semaphore 1
+client
+SemP 1
+SemP 2
+SemV 2
+SemV 1
+Swap
+client
+SemP 1
+SemP 2
+SemV 2
+SemV 1
+Swap
+";
+
+// Two philosophers who each hold a fork when they ask for the other one.
+const A_FORK_EACH: &[u8] = b"scene 1 1 1
+barrier 2
+semaphore 1
+semaphore 1
+client
+SemP 1
+Barrier 1
+SemP 2
+Swap
+client
+SemP 2
+Barrier 1
+SemP 1
+Swap
+";
+
+// Nobody swaps, and one client ends at once.
+const NO_SWAP: &[u8] = b"scene 1 1 1\nsemaphore 0\nclient\nclient\nClear 1\nSemV 1\n";
+
+const NO_UNIT_REPORT: &str = "journal 1\nframes 1\nstuck client 0 at 3 SemP 1\nrc: stuck\n";
+
+#[test]
+fn orders_are_drawn_and_reported(rt: HostRuntime) {
+    let blended = b"P6\n2 1\n255\n\x40\0\x80\x40\0\x80".as_slice();
+    let white = b"P6\n1 1\n255\n\xff\xff\xff".as_slice();
+    let unswapped = "journal 0\nframes 0\nstuck client 1 at 0 Swap\nrc: stuck\n";
+    let refused = "client 0 fault INVALID_OPERATION at 2\njournal 1\nframes 1\n";
+    let rows = [
+        (
+            "serial",
+            BLENDED_IN_TURN,
+            0,
+            blended,
+            "journal 5\nframes 1\n",
+        ),
+        ("serial", SWAP_ALONE, 5, b"".as_slice(), unswapped),
+        ("serial", NO_UNIT, 5, white, NO_UNIT_REPORT),
+        ("check", NO_UNIT, 5, b"".as_slice(), NO_UNIT_REPORT),
+        ("check", BARRIER_IN_BLOCK, 0, b"".as_slice(), refused),
+    ];
+    for (job, text, due, frames, report) in rows {
+        let left = run_text(&rt, rt.alloc(), &[job], text, &[]);
+        assert!(rt; left.is(due, frames, report.as_bytes()));
+    }
+}
+
+#[test]
+fn units_are_handed_on(rt: HostRuntime) {
+    let handed_on = b"P6\n2 1\n255\n\xff\0\0\0\xff\0".as_slice();
+    let held =
+        "journal 3\nframes 0\nstuck client 0 at 2 SemP 2\nstuck client 1 at 2 SemP 1\nrc: stuck\n";
+    let rows = [
+        (
+            "serial",
+            PRODUCED_AND_CONSUMED,
+            0,
+            handed_on,
+            "journal 7\nframes 1\n",
+        ),
+        (
+            "serial",
+            ONE_FORK_FIRST,
+            0,
+            BLACK_PIXEL,
+            "journal 9\nframes 1\n",
+        ),
+        ("serial", A_FORK_EACH, 5, b"".as_slice(), held),
+        (
+            "serial",
+            NO_SWAP,
+            0,
+            b"".as_slice(),
+            "journal 1\nframes 0\n",
+        ),
+    ];
+    for (job, text, due, frames, report) in rows {
+        let left = run_text(&rt, rt.alloc(), &[job], text, &[]);
+        assert!(rt; left.is(due, frames, report.as_bytes()));
+    }
+}
+
+#[test]
+fn a_thousand_units_are_given(rt: HostRuntime) {
+    let mut text = Vec::from_slice(rt.alloc(), b"scene 1 1 1\nsemaphore 0\nclient\n").expect(
+        &rt, "memory",
+    );
+    for _ in 0..1025 {
+        text.extend_from_slice(b"SemV 1\n").expect(&rt, "memory");
+    }
+    text.extend_from_slice(b"Swap\n").expect(&rt, "memory");
+    let left = run_text(&rt, rt.alloc(), &["serial"], text.as_slice(), &[]);
+    assert!(rt; left.is(0, BLACK_PIXEL, b"journal 1026\nframes 1\n".as_slice()));
+}
+
+// What a failing image leaves of a stuck run: the report, and the fault's line behind it.
+const FAULT_BEHIND_STUCK: &str =
+    "journal 1\nframes 1\nstuck client 0 at 3 SemP 1\nrc: stuck\nrc: image fault after 8 bytes\n";
+
+#[test]
+fn a_stuck_run_tells_that_its_image_failed(rt: HostRuntime) {
+    let left = run_text(&rt, rt.alloc(), &["serial"], NO_UNIT, &[3]);
+    assert!(rt; left.is(5, b"P6\n1 1\n2".as_slice(), FAULT_BEHIND_STUCK.as_bytes()));
+}

@@ -1,0 +1,291 @@
+//! Ordered scenes on many schedules: each gives the picture of the serial renderer.
+ghost use Rattle.std.specs.Prelude.{◌≡◌, None};
+ghost use Rattle.std.specs.List.{AllByRecursion};
+ghost use Rattle.rc_base.specs.Formats.Commands.{IsCommand};
+ghost use Rattle.rc_base.specs.Formats.Limits.{limit_of};
+
+use super::clusters::{BARRIER_IN_BLOCK, LAZY_STATE, NO_UNIT};
+use super::orders::{BLENDED_IN_TURN, ONE_FORK_FIRST, PRODUCED_AND_CONSUMED};
+use super::{Left, run_on, run_text, sink, source_of, words};
+use order_model::laws::scene_lists_are_well_formed;
+use order_model::record::Record;
+use order_model::{is_permitted, tile_order};
+use rc_base::gate::OpenGate;
+use rc_base::out_of_memory::OutOfMemory;
+use rc_base::scene::Scene;
+use render_core::run;
+use scene_file::read_scene;
+use serial_render::sync_lists;
+use std::alloc::Global;
+use std::process::Abort;
+
+// A client writes a shared texture, and behind a barrier another one draws its second texel over eight tiles by two.
+const SHARED_BEHIND_A_BARRIER: &[u8] = b"scene 1 8 2
+shared 2 1
+barrier 2
+client
+SharedImage 1 0 0 2 1 ff0000ff00ff00ff
+Barrier 1
+Swap
+client
+Barrier 1
+BindTexture 1 1
+Enable 5
+TexEnv 1
+TexCoord -1 0
+Begin 0
+Vertex -65536 -65536 0 65536
+Vertex 196608 -65536 0 65536
+Vertex -65536 196608 0 65536
+End
+Swap
+";
+
+// Two clients blend over both pixels, the second one behind a barrier.
+const BLENDED_BEHIND_A_BARRIER: &[u8] = b"scene 1 2 1
+barrier 2
+client
+Enable 3
+BlendFunc 6 7
+Color 255 0 0 128
+Begin 0
+Vertex -65536 -65536 0 65536
+Vertex 196608 -65536 0 65536
+Vertex -65536 196608 0 65536
+End
+Barrier 1
+Swap
+client
+Enable 3
+BlendFunc 6 7
+Color 0 0 255 128
+Barrier 1
+Begin 0
+Vertex -65536 -65536 0 65536
+Vertex 196608 -65536 0 65536
+Vertex -65536 196608 0 65536
+End
+Swap
+";
+
+// The same without the barrier: nothing orders the two.
+const BLENDED_AT_ONCE: &[u8] = b"scene 1 2 1
+client
+Enable 3
+BlendFunc 6 7
+Color 255 0 0 128
+Begin 0
+Vertex -65536 -65536 0 65536
+Vertex 196608 -65536 0 65536
+Vertex -65536 196608 0 65536
+End
+Swap
+client
+Enable 3
+BlendFunc 6 7
+Color 0 0 255 128
+Begin 0
+Vertex -65536 -65536 0 65536
+Vertex 196608 -65536 0 65536
+Vertex -65536 196608 0 65536
+End
+Swap
+";
+
+// Eight clients who each clear one column.
+const EIGHT_COLUMNS: &[u8] = b"scene 1 8 1
+client
+Enable 0
+Scissor 0 0 1 1
+ClearColor 16 0 0 255
+Clear 1
+Swap
+client
+Enable 0
+Scissor 1 0 1 1
+ClearColor 32 0 0 255
+Clear 1
+Swap
+client
+Enable 0
+Scissor 2 0 1 1
+ClearColor 48 0 0 255
+Clear 1
+Swap
+client
+Enable 0
+Scissor 3 0 1 1
+ClearColor 64 0 0 255
+Clear 1
+Swap
+client
+Enable 0
+Scissor 4 0 1 1
+ClearColor 80 0 0 255
+Clear 1
+Swap
+client
+Enable 0
+Scissor 5 0 1 1
+ClearColor 96 0 0 255
+Clear 1
+Swap
+client
+Enable 0
+Scissor 6 0 1 1
+ClearColor 112 0 0 255
+Clear 1
+Swap
+client
+Enable 0
+Scissor 7 0 1 1
+ClearColor 128 0 0 255
+Clear 1
+Swap
+";
+
+// A red window of 8 by 4.
+const RED_WINDOW: &[u8] = b"scene 1 8 4\nclient\nClearColor 255 0 0 255\nClear 1\nSwap\n";
+
+// A scene, and tiles and a depth to run it with.
+type Case = (&'static [u8], &'static str, &'static str);
+
+const CASES: [Case; 13] = [
+    (RED_WINDOW, "8x4", "16"),
+    (SHARED_BEHIND_A_BARRIER, "8x2", "1"),
+    (SHARED_BEHIND_A_BARRIER, "1x1", "16"),
+    (EIGHT_COLUMNS, "8x1", "1"),
+    (EIGHT_COLUMNS, "3x1", "2"),
+    (BLENDED_BEHIND_A_BARRIER, "2x1", "1"),
+    (BLENDED_BEHIND_A_BARRIER, "1x1", "3"),
+    (PRODUCED_AND_CONSUMED, "2x1", "1"),
+    (PRODUCED_AND_CONSUMED, "1x1", "8"),
+    (ONE_FORK_FIRST, "1x1", "1"),
+    (BARRIER_IN_BLOCK, "1x1", "1"),
+    (LAZY_STATE, "2x1", "1"),
+    (NO_UNIT, "1x1", "2"),
+];
+
+// The record that a run of the scene's bytes keeps.
+fn kept_on(rt: &impl Abort, alloc: Global, job: &[&str], bytes: &[u8]) -> Option<Record> {
+    let words = words(rt, alloc, job);
+    let mut source = source_of(rt, alloc, bytes, &[]);
+    let mut image = sink(rt, alloc, 64, &[]);
+    let mut notes = sink(rt, alloc, 64, &[]);
+    run(
+        alloc,
+        words.as_slice(),
+        &mut source,
+        &mut image,
+        &mut notes,
+        &OpenGate,
+    )
+    .kept
+}
+
+// What a seed's run leaves.
+fn run_by(rt: &impl Abort, alloc: Global, bytes: &[u8], case: Case, seed: u32) -> Left {
+    let seed = format!(in alloc; "{seed}").expect(rt, "memory");
+    let (_, tiles, depth) = case;
+    let job = [
+        "simulate",
+        "--depth",
+        depth,
+        "--seed",
+        seed.as_str(),
+        "--tiles",
+        tiles,
+    ];
+    run_on(rt, alloc, &job, bytes, &[])
+}
+
+// How many of twenty seeds give what the serial renderer gives.
+fn alike(rt: &impl Abort, alloc: Global, case: Case) -> u32 {
+    let scene = run_on(rt, alloc, &["pack"], case.0, &[]);
+    let bytes = scene.image.bytes();
+    let serial = run_on(rt, alloc, &["serial"], bytes, &[]);
+    let mut count: u32 = 0;
+    for seed in 0..20u32 {
+        let left = run_by(rt, alloc, bytes, case, seed);
+        if left.status == serial.status && left.image.bytes() == serial.image.bytes() {
+            count = count.saturating_add(1);
+        }
+    }
+    count
+}
+
+#[test]
+fn twenty_seeds_draw_what_the_serial_renderer_draws(rt: HostRuntime) {
+    for case in CASES {
+        assert!(rt; alike(&rt, rt.alloc(), case) == 20);
+    }
+}
+
+// Whether the journal permits the order that each tile of the record tells.
+fn permits(alloc: Global, scene: &Scene, kept: &Record) -> Result<bool, OutOfMemory>
+    requires commands { AllByRecursion (AllByRecursion IsCommand) scene.now.streams }
+    requires within { limit_of scene.now ≡ None }
+{
+    scene_lists_are_well_formed();
+    let lists = sync_lists(alloc, scene)?;
+    if kept.syncs.clients.len() > 8 || kept.logs.len() > 32 {
+        return Ok(false);
+    }
+    for tile in 0..kept.logs.len() {
+        let order = tile_order(alloc, kept, tile as u8)?;
+        if !is_permitted(&order, &kept.journal, &lists) {
+            return Ok(false);
+        }
+    }
+    Ok(kept.syncs == lists)
+}
+
+// Whether the record of a seed's run tells orders that its journal permits.
+fn keeps_orders(rt: &impl Abort, alloc: Global, bytes: &[u8], seed: u32) -> bool {
+    if bytes.len() > 1000 {
+        return false;
+    }
+    let scene = read_scene(alloc, bytes).expect(rt, "a scene");
+    let seed = format!(in alloc; "{seed}").expect(rt, "memory");
+    let job = [
+        "simulate",
+        "--depth",
+        "1",
+        "--seed",
+        seed.as_str(),
+        "--tiles",
+        "2x1",
+    ];
+    match kept_on(rt, alloc, &job, bytes) {
+        Some(kept) => permits(alloc, &scene, &kept).expect(rt, "memory"),
+        None => false,
+    }
+}
+
+#[test]
+fn recorded_orders_are_permitted(rt: HostRuntime) {
+    let scene = run_on(&rt, rt.alloc(), &["pack"], BLENDED_IN_TURN, &[]);
+    for seed in 0..20u32 {
+        assert!(rt; keeps_orders(&rt, rt.alloc(), scene.image.bytes(), seed));
+    }
+}
+
+// How often a text stands in another one.
+fn times(text: &[u8], part: &[u8]) -> usize {
+    let mut count: usize = 0;
+    for i in 0..text.len() {
+        if text[i..].starts_with(part) {
+            count = count.saturating_add(1);
+        }
+    }
+    count
+}
+
+#[test]
+fn each_tile_tells_its_order(rt: HostRuntime) {
+    let job = ["simulate", "--seed", "0", "--tiles", "2x1", "--order"];
+    let left = run_text(&rt, rt.alloc(), &job, BLENDED_AT_ONCE, &[]);
+    assert!(rt; left.status == 0);
+    assert!(rt; times(left.notes.bytes(), b"order 0 ") == 18);
+    assert!(rt; times(left.notes.bytes(), b"order 1 ") == 18);
+}
