@@ -2,5 +2,6 @@
 pub mod Commands
 pub mod Spelling
 pub mod Limits
+pub mod Within
 pub mod Netpbm
 pub mod Text

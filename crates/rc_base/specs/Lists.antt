@@ -1,5 +1,5 @@
 -- Membership and sequence in a list, elements that are named from 1, and numbers that rise.
-use Rattle.std.specs.Prelude.{◌≡◌, ℕ, zero, suc, ◌+◌, ◌<◌, ◌≤◌, List, [], ◌∷◌, ◌⊎◌, Option, None, slice_get, slice_set}
+use Rattle.std.specs.Prelude.{◌≡◌, ℕ, zero, suc, ◌+◌, ◌<◌, ◌≤◌, List, [], ◌∷◌, ◌++◌, ◌⊎◌, Option, None, slice_get, slice_set}
 
 -- x is an element
 abbrev pub IsIn : {A : Type 0} → A → List A → Type 0
@@ -30,3 +30,7 @@ with_name xs (suc n) x = slice_set xs n x
 abbrev pub AreRising : ℕ → List ℕ → ℕ → Type 0
 AreRising from [] end = from ≤ end
 AreRising from (n ∷ ns) end = (from ≤ n) × (n < end) × AreRising (n + 1) ns end
+
+-- the first list is a front of the second
+abbrev pub IsFront : {A : Type 0} → List A → List A → Type 0
+IsFront {A} front whole = (rest : List A) × (whole ≡ front ++ rest)

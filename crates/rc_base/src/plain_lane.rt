@@ -51,6 +51,7 @@ impl<T> Outlet<T> for PlainLane<T> {
 
     fn push(&mut self, item: T) -> Result<(), T>
         ensures lane { depth_of self.new ≡ depth_of self.old }
+        ensures empty_count { self.new.empty_seen ≡ self.old.empty_seen }
         ensures later { self.old.full_seen ≤ self.new.full_seen }
         ensures appended { OnOk result (held self.new ≡ held self.old ++ item ∷ []) }
         ensures counted { OnOk result (self.new.full_seen ≡ self.old.full_seen) }
@@ -86,6 +87,7 @@ impl<T> Inlet<T> for PlainLane<T> {
 
     fn pop(&mut self) -> Option<T>
         ensures lane { depth_of self.new ≡ depth_of self.old }
+        ensures full_count { self.new.full_seen ≡ self.old.full_seen }
         ensures later { self.old.empty_seen ≤ self.new.empty_seen }
         ensures given { IfSome result (λ x. held self.old ≡ x ∷ held self.new) }
         ensures counted { IfSome result (λ x. self.new.empty_seen ≡ self.old.empty_seen) }

@@ -14,7 +14,7 @@ pub record Quantity : Type 0 where
   pub least : ℕ
   pub most : ℕ
 
-abbrev quantity : ℕ → ℕ → ℕ → ℕ → Quantity
+abbrev pub quantity : ℕ → ℕ → ℕ → ℕ → Quantity
 quantity what value least most = record { what = what; value = value; least = least; most = most }
 
 abbrev pub is_outside : Quantity → Bool

@@ -13,8 +13,9 @@ risen count = min (count + 1) last_count
 abbrev pub Rose : ℕ → ℕ → Type 0
 Rose before now = (before < now) ⊎ ((before ≡ last_count) × (now ≡ last_count))
 
--- What one call says of its object's count of faults: an answer leaves it as it was, and an error comes only where it rose.
+-- What one call says of its object's count of faults: an answer leaves it as it was, and an error comes only where it rose, by the one refused call.
 pub record HasCause {T E : Type 0} (before now : ℕ) (result : Result T E) : Type 0 where
   pub later : before ≤ now
   pub failed : OnErr result (Rose before now)
+  pub once : OnErr result (now ≡ risen before)
   pub passed : OnOk result (now ≡ before)
