@@ -29,9 +29,9 @@ pub no_parcels : (scene : Scene) (l : Layout) (tile : ℕ) → parcels_before sc
 unfolding parcels_before
 no_parcels scene l tile = refl
 
-pub first_left : (s : Sender) (d : Decl) → s.decl ≡ d → s.pending ≡ None → s.request ≡ None → s.issued ≡ 0 → left_with s s.pending ≡ sent_from (alone d s.stream.now) s.layout 0
+pub first_left : (s : Sender) (d : Decl) → s.decl ≡ d → s.pending ≡ None → s.request ≡ None → s.issued ≡ 0 → left_with s s.pending ≡ sent_from (alone d s.stream) s.layout 0
 unfolding left_with
-first_left s d e pending request issued = λ i. pending_items (alone (e i) s.stream.now) s.layout (pending i) ++ (request_items (request i) ++ sent_from (alone (e i) s.stream.now) s.layout (issued i))
+first_left s d e pending request issued = λ i. pending_items (alone (e i) s.stream) s.layout (pending i) ++ (request_items (request i) ++ sent_from (alone (e i) s.stream) s.layout (issued i))
 
 pub no_tally_in : (n tile : ℕ) → get_or (replicate n no_tally) tile no_tally ≡ no_tally
 no_tally_in zero tile = refl

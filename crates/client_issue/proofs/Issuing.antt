@@ -34,7 +34,7 @@ use Rattle.client_issue.proofs.Giving.{skipped_to, tail_end, commands_next, comm
 pub record IsIssued (s : Sender) (c : Command) (x : ClientContext) (effect : Effect) (o : Option Pending) (ops : List WaitAt) : Type 0 where
   pub law : StreamsGoOnByIssue
   pub sending : IsSendingWith s None
-  pub more : s.issued < length s.stream.now
+  pub more : s.issued < length s.stream
   pub command : command_at (scene_of s) 0 s.issued ≡ Some c
   pub context : x ≡ issued s.context s.issued c
   pub effect_is : effect ≡ effect_of s.context c

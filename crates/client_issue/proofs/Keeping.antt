@@ -30,22 +30,22 @@ some_end l n (suc k) h = omega arith
 ends_gone : (core : ClientCore) → left_in core ≡ [] → 0 < core.ends
 unfolding left_in
 ends_gone core h =
-    some_end core.sender.layout (length core.sender.stream.now) core.ends
-    (right_nil (left_of core.sender) (ends_from core.sender.layout (length core.sender.stream.now) core.ends)
-    (right_nil (items_of core.ready) (left_of core.sender ++ ends_from core.sender.layout (length core.sender.stream.now) core.ends) h))
+    some_end core.sender.layout (length core.sender.stream) core.ends
+    (right_nil (left_of core.sender) (ends_from core.sender.layout (length core.sender.stream) core.ends)
+    (right_nil (items_of core.ready) (left_of core.sender ++ ends_from core.sender.layout (length core.sender.stream) core.ends) h))
 
 tallies_kept : (core : ClientCore) (kept : ClientKept) (tile : ℕ) → kept.tallies ≡ core.tallies.items → slice_index_or kept.tallies tile no_tally ≡ tally_of_tile core tile
 unfolding tally_of_tile
 tallies_kept core kept tile e = ap (λ (ts : List Tally). slice_index_or ts tile no_tally) e
 
 pub kept_is : (core : ClientCore) (scene : Scene) (client : ℕ) (l : Layout) (kept : ClientKept) → IsClient core → IsClientOf core scene client l → core.short ≡ false
-    → kept.syncs.ops ≡ core.sender.ops → kept.syncs.length ≡ length core.sender.stream.now → kept.faults ≡ core.sender.context.faults → kept.tallies ≡ core.tallies.items
+    → kept.syncs.ops ≡ core.sender.ops → kept.syncs.length ≡ length core.sender.stream → kept.faults ≡ core.sender.context.faults → kept.tallies ≡ core.tallies.items
     → IsKept core scene client kept
 kept_is core scene client l kept h whose going ops size faults tallies =
     let sending = h.sending going in
     let n = core.sender.issued in
     let within = sending.issued in
-    let same : length core.sender.stream.now ≡ length (stream_of scene client) = ap (λ (cs : List Command). length cs) whose.stream in
+    let same : length core.sender.stream ≡ length (stream_of scene client) = ap (λ (cs : List Command). length cs) whose.stream in
     record {
       issued = n;
       within = omega (arith, within, same);

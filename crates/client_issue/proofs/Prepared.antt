@@ -13,7 +13,7 @@ use Rattle.client_issue.specs.declared.item.Item.TheVariants as item
 use Rattle.rc_base.specs.Cluster.Tiles.{tile_count}
 
 abbrev pub IsOver : ClientCore → Type 0
-IsOver core = (left_of core.sender ≡ []) × (core.sender.issued ≡ length core.sender.stream.now)
+IsOver core = (left_of core.sender ≡ []) × (core.sender.issued ≡ length core.sender.stream)
 
 pub ready_client : (core : ClientCore) (o : Option Item) (k : ℕ) → IsClient core → k ≤ core.sender.count + 1 → IfSome o (IsForTile core.sender.count)
     → (core.short ≡ false → 0 < k → IsOver core) → IsClient (record core { ready = o; ends = k })
@@ -29,7 +29,7 @@ ready_client core o k h ends ready over = record {
 }
 
 same_ends : (s t : ClientCore) → IsSame s.sender t.sender → t.ends ≡ s.ends
-    → ends_from s.sender.layout (length s.sender.stream.now) s.ends ≡ ends_from t.sender.layout (length t.sender.stream.now) t.ends
+    → ends_from s.sender.layout (length s.sender.stream) s.ends ≡ ends_from t.sender.layout (length t.sender.stream) t.ends
 same_ends s t same ends = λ i. ends_from (sym same.layout i) (length (sym same.stream i)) (sym ends i)
 
 -- an item of a command is next
@@ -42,14 +42,14 @@ left_of_command s t item none same ends left =
 -- the commands give no more, and an End is next
 pub left_of_ends : (s t : ClientCore) (o : Option Item) (k : ℕ) → s.ready ≡ None → IsSame s.sender t.sender → t.ends ≡ s.ends
     → left_of s.sender ≡ left_of t.sender → left_of t.sender ≡ []
-    → ends_from t.sender.layout (length t.sender.stream.now) t.ends ≡ items_of o ++ ends_from t.sender.layout (length t.sender.stream.now) k
+    → ends_from t.sender.layout (length t.sender.stream) t.ends ≡ items_of o ++ ends_from t.sender.layout (length t.sender.stream) k
     → left_in (record t { ready = o; ends = k }) ≡ left_in s
 unfolding left_in
 left_of_ends s t o k none same ends left over given =
-    (λ i. items_of o ++ (over i ++ ends_from t.sender.layout (length t.sender.stream.now) k))
-    ∙ sym given ∙ sym (same_ends s t same ends) ∙ (λ i. items_of (sym none i) ++ (sym (left ∙ over) i ++ ends_from s.sender.layout (length s.sender.stream.now) s.ends))
+    (λ i. items_of o ++ (over i ++ ends_from t.sender.layout (length t.sender.stream) k))
+    ∙ sym given ∙ sym (same_ends s t same ends) ∙ (λ i. items_of (sym none i) ++ (sym (left ∙ over) i ++ ends_from s.sender.layout (length s.sender.stream) s.ends))
 
-pub nothing_ready : (t : ClientCore) (o : Option Item) (k : ℕ) → o ≡ None → left_of t.sender ≡ [] → ends_from t.sender.layout (length t.sender.stream.now) k ≡ []
+pub nothing_ready : (t : ClientCore) (o : Option Item) (k : ℕ) → o ≡ None → left_of t.sender ≡ [] → ends_from t.sender.layout (length t.sender.stream) k ≡ []
     → left_in (record t { ready = o; ends = k }) ≡ []
 unfolding left_in
 nothing_ready t o k none over last = λ i. items_of (none i) ++ (over i ++ last i)
@@ -75,8 +75,8 @@ pub taken : (s after : ClientCore) (i : Item) (o : Option Item) (ts : ClientCore
     → left_in s ≡ item_of i ∷ left_in after
 unfolding left_in
 taken s after i o ts was none now =
-    (λ j. items_of (was j) ++ (left_of s.sender ++ ends_from s.sender.layout (length s.sender.stream.now) s.ends))
-    ∙ ap (λ (q : Option Item). item_of i ∷ (items_of q ++ (left_of s.sender ++ ends_from s.sender.layout (length s.sender.stream.now) s.ends))) (sym none)
+    (λ j. items_of (was j) ++ (left_of s.sender ++ ends_from s.sender.layout (length s.sender.stream) s.ends))
+    ∙ ap (λ (q : Option Item). item_of i ∷ (items_of q ++ (left_of s.sender ++ ends_from s.sender.layout (length s.sender.stream) s.ends))) (sym none)
     ∙ ap (λ (z : ClientCore). item_of i ∷ left_in z) (sym now)
 
 pub taken_is : (s : ClientCore) (i : Item) (o : Option Item) → s.ready ≡ Some i → o ≡ None → left_in s ≡ item_of i ∷ left_in (record s { ready = o })
@@ -85,7 +85,7 @@ taken_is s i o was none = taken s (record s { ready = o }) i o s was none refl
 pub put_back : (s : ClientCore) (i j : Item) → s.ready ≡ Some i → j ≡ i → left_in (record s { ready = Some j }) ≡ left_in s
 unfolding left_in
 put_back s i j was same =
-    λ k. items_of ((ap (λ (x : Item). Some x) same ∙ sym was) k) ++ (left_of s.sender ++ ends_from s.sender.layout (length s.sender.stream.now) s.ends)
+    λ k. items_of ((ap (λ (x : Item). Some x) same ∙ sym was) k) ++ (left_of s.sender ++ ends_from s.sender.layout (length s.sender.stream) s.ends)
 
 pub tallied_here : (s after : ClientCore) (o : Option Item) (tile : ℕ) (p : Parcel) → IsTallied (record s { ready = o }) after tile p → IsTallied s after tile p
 unfolding tally_of_tile

@@ -14,7 +14,7 @@ request_left s w rests asks =
     (λ i. pending_items (scene_of s) s.layout (rests i) ++ (request_items (asks i) ++ sent_from (scene_of s) s.layout s.issued))
     ∙ ap (λ (o : Option Pending). ToManager (request_of w) ∷ (pending_items (scene_of s) s.layout o ++ sent_from (scene_of s) s.layout s.issued)) (sym rests)
 
-pub nothing_left : (s : Sender) → s.pending ≡ None → s.request ≡ None → s.issued ≡ length s.stream.now → left_of s ≡ []
+pub nothing_left : (s : Sender) → s.pending ≡ None → s.request ≡ None → s.issued ≡ length s.stream → left_of s ≡ []
 unfolding left_with
 nothing_left s rests asks over =
     (λ i. pending_items (scene_of s) s.layout (rests i) ++ (request_items (asks i) ++ sent_from (scene_of s) s.layout s.issued))

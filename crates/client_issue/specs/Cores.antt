@@ -30,24 +30,24 @@ ends_from l place tile =
 
 -- all that a core has still to send, in its sequence
 unfoldable pub left_in : ClientCore → List Sending
-left_in core = items_of core.ready ++ (left_of core.sender ++ ends_from core.sender.layout (length core.sender.stream.now) core.ends)
+left_in core = items_of core.ready ++ (left_of core.sender ++ ends_from core.sender.layout (length core.sender.stream) core.ends)
 
 -- the core is that of a client of a scene, for tiles in this layout
 pub record IsClientOf (core : ClientCore) (scene : Scene) (client : ℕ) (l : Layout) : Type 0 where
   pub decl : core.sender.decl ≡ scene.decl
-  pub stream : core.sender.stream.now ≡ stream_of scene client
+  pub stream : core.sender.stream ≡ stream_of scene client
   pub layout : core.sender.layout ≡ l
 
 -- What holds of a core at any time. One that isn't short knows what its tiles were told.
 pub record IsClient (core : ClientCore) : Type 0 where
-  pub few : length core.sender.stream.now < 2 ^ 32
+  pub few : length core.sender.stream < 2 ^ 32
   pub count : core.sender.count ≡ tile_count core.sender.layout
   pub tiles : core.sender.count ≤ 32
   pub tallied : length core.tallies.items ≡ core.sender.count
   pub ends : core.ends ≤ core.sender.count + 1
   pub ready : IfSome core.ready (IsForTile core.sender.count)
   pub sending : core.short ≡ false → IsSending core.sender
-  pub over : core.short ≡ false → 0 < core.ends → (left_of core.sender ≡ []) × (core.sender.issued ≡ length core.sender.stream.now)
+  pub over : core.short ≡ false → 0 < core.ends → (left_of core.sender ≡ []) × (core.sender.issued ≡ length core.sender.stream)
 
 abbrev pub IsSameCore : ClientCore → ClientCore → Type 0
 IsSameCore a b = IsSame a.sender b.sender

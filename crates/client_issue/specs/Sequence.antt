@@ -26,7 +26,7 @@ abbrev pub alone : Decl → List Command → Scene
 alone d stream = record { decl = d; streams = stream ∷ [] }
 
 abbrev pub scene_of : Sender → Scene
-scene_of s = alone s.decl s.stream.now
+scene_of s = alone s.decl s.stream
 
 -- what a command gives to a tile
 abbrev pub sent_to : Scene → Layout → ℕ → ℕ → List Sending
@@ -80,17 +80,17 @@ pub record IsPending (scene : Scene) (l : Layout) (issued : ℕ) (p : Pending) :
 -- What stays as it is: whose commands these are, and for which tiles.
 pub record IsSame (a b : Sender) : Type 0 where
   pub decl : b.decl ≡ a.decl
-  pub stream : b.stream.now ≡ a.stream.now
+  pub stream : b.stream ≡ a.stream
   pub layout : b.layout ≡ a.layout
   pub count : b.count ≡ a.count
 
 -- A client that has issued some of its commands, of the last of which these parcels are pending, and knows what its tiles were told.
 pub record IsSendingWith (s : Sender) (o : Option Pending) : Type 0 where
-  pub few : length s.stream.now < 2 ^ 32
-  pub commands : AllByRecursion IsCommand s.stream.now
+  pub few : length s.stream < 2 ^ 32
+  pub commands : AllByRecursion IsCommand s.stream
   pub count : s.count ≡ tile_count s.layout
   pub tiles : s.count ≤ 32
-  pub issued : s.issued ≤ length s.stream.now
+  pub issued : s.issued ≤ length s.stream
   pub context : s.context ≡ context_after (scene_of s) 0 s.issued
   pub ops : s.ops ≡ waits_below (scene_of s) 0 s.issued
   pub tracked : length s.tracker ≡ s.count

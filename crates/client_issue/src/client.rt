@@ -5,11 +5,11 @@ use rc_base::cluster::{FaultList, Tallies, Tally};
 use rc_base::sync::SyncRow;
 use std::alloc::Global;
 
-/// A client: it issues the commands of its scene and sends what they give, one item a step.
+/// A client: it issues its commands and sends what they give, one item a step.
 #[derive(Drop)]
-pub struct ClientCore<'a> {
+pub struct ClientCore {
     pub(crate) alloc: Global,
-    pub(crate) sender: Sender<'a>,
+    pub(crate) sender: Sender,
     pub(crate) ready: Option<Item>,
     pub(crate) ends: u8,
     pub(crate) short: bool,

@@ -1,7 +1,8 @@
 //! Exact copies of what a scene has.
-ghost use Rattle.std.specs.Prelude.{◌≡◌, IfOk};
+ghost use Rattle.std.specs.Prelude.{◌≡◌, ◌<◌, length, take, drop, OnOk, IfOk};
+ghost use Rattle.rc_base.specs.Contexts.Issue.{stream_of};
 
-use rc_base::command::{Part, Texels};
+use rc_base::command::{Command, Commands, Part, Texels};
 use rc_base::out_of_memory::OutOfMemory;
 use rc_base::scene::{Counts, Decl, Sizes, Units};
 use rc_base::state::{Act, Block, Vertices};
@@ -52,4 +53,21 @@ pub(crate) fn copy_of_decl(alloc: Global, decl: &Decl) -> Result<Decl, OutOfMemo
         barriers: Counts::from_slice(alloc, decl.barriers.as_slice())?,
         semaphores: Units::from_slice(alloc, decl.semaphores.as_slice())?,
     })
+}
+
+fn copy_of_command(command: &Command) -> Result<Command, OutOfMemory>
+    ensures { IfOk result (λ c. c ≡ command.now) }
+{
+    Ok(command.clone()?)
+}
+
+/// A copy of a client's commands.
+pub(crate) fn copy_of_stream(alloc: Global, commands: &[Command]) -> Result<Commands, OutOfMemory>
+    ensures { IfOk result (λ cs. cs ≡ commands.now) }
+{
+    let mut copy = Commands::with_capacity(alloc, commands.len())?;
+    for command in commands {
+        copy.push(copy_of_command(command)?)?;
+    }
+    Ok(copy)
 }

@@ -9,12 +9,12 @@ ghost use Rattle.client_issue.specs.Cores.{IsClient, IsClientOf, layout_of, left
 ghost use Rattle.client_issue.specs.Sequence.{IsSending, alone, left_of, sent_from};
 
 use crate::client::ClientCore;
-use crate::copies::copy_of_decl;
+use crate::copies::{copy_of_decl, copy_of_stream};
 use crate::sender::Sender;
 use gl_context::Context;
 use gl_context::laws::streams_go_on_by_issue;
 use rc_base::cluster::Tally;
-use rc_base::command::Command;
+use rc_base::command::{Command, Commands};
 use rc_base::out_of_memory::OutOfMemory;
 use rc_base::scene::{Decl, Scene};
 use rc_base::sync::SyncOps;
@@ -23,23 +23,23 @@ use state_update::Tracker;
 use state_update::laws::trackers_follow_parcels;
 use std::alloc::Global;
 
-fn first_sender<'a>(
+fn first_sender(
     alloc: Global,
     decl: &Decl,
-    stream: &'a [Command],
+    stream: Commands,
     layout: &Layout,
     count: u8,
-) -> Result<Sender<'a>, OutOfMemory>
-    requires few { length stream.now < 2 ^ 32 }
-    requires commands { AllByRecursion IsCommand stream.now }
+) -> Result<Sender, OutOfMemory>
+    requires few { length stream < 2 ^ 32 }
+    requires commands { AllByRecursion IsCommand stream }
     requires count { count ≡ tile_count layout.now }
     requires tiles { count ≤ 32 }
     ensures decl { IfOk result (λ s. s.decl ≡ decl.now) }
-    ensures stream { IfOk result (λ s. s.stream.now ≡ stream.now) }
+    ensures stream { IfOk result (λ s. s.stream ≡ stream) }
     ensures layout { IfOk result (λ s. s.layout ≡ layout.now) }
     ensures count { IfOk result (λ s. s.count ≡ count) }
     ensures sending { IfOk result IsSending }
-    ensures left { IfOk result (λ s. left_of s ≡ sent_from (alone decl.now stream.now) layout.now 0) }
+    ensures left { IfOk result (λ s. left_of s ≡ sent_from (alone decl.now stream) layout.now 0) }
 {
     streams_go_on_by_issue();
     trackers_follow_parcels();
@@ -88,15 +88,15 @@ fn commands_of(scene: &Scene, client: u8) -> &[Command]
     scene.streams.as_slice()[usize::from(client)].as_slice()
 }
 
-impl<'a> ClientCore<'a> {
-    /// The core of a client of a scene before its first step. It reads its commands from the scene. The layout has at most 32 tiles, the client's
+impl ClientCore {
+    /// The core of a client of a scene, with a copy of its commands, before its first step. The layout has at most 32 tiles, the client's
     /// stream fewer than 2^32 commands, and each of their fields is in its range, as in every scene that was read. End parcels take no memory.
     pub fn new(
         alloc: Global,
-        scene: &'a Scene,
+        scene: &Scene,
         client: u8,
         layout: &Layout,
-    ) -> Result<ClientCore<'a>, OutOfMemory>
+    ) -> Result<ClientCore, OutOfMemory>
         requires client { client < length scene.now.streams }
         requires few { length (stream_of scene.now client) < 2 ^ 32 }
         requires commands { AllByRecursion IsCommand (stream_of scene.now client) }
@@ -108,7 +108,8 @@ impl<'a> ClientCore<'a> {
         ensures tallies { IfOk result (λ core. (tile : ℕ) → tally_of_tile core tile ≡ no_tally) }
     {
         let count = count_of(layout);
-        let stream = commands_of(scene, client);
+        let commands = commands_of(scene, client);
+        let stream = copy_of_stream(alloc, commands)?;
         let sender = first_sender(alloc, &scene.decl, stream, layout, count)?;
         let tallies = no_tallies(alloc, count)?;
         Ok(ClientCore {

@@ -42,7 +42,7 @@ fn sets_with(
     }
 }
 
-impl Sender<'_> {
+impl Sender {
     // The parcel for the next tile. The last tile gets the act itself, each other one a copy.
     fn give_parcel(&mut self, pending: Pending) -> Result<Item, OutOfMemory>
         requires none { self.old.pending ≡ None }
@@ -93,11 +93,11 @@ impl Sender<'_> {
     fn give_request(&mut self) -> Option<Item>
         requires none { self.old.pending ≡ None }
         requires sending { IsSending self.old }
-        requires over { self.old.request ≡ None → self.old.issued ≡ length self.old.stream.now }
+        requires over { self.old.request ≡ None → self.old.issued ≡ length self.old.stream }
         ensures same { IsSame self.old self.new }
         ensures sending { IsSending self.new }
         ensures left { left_of self.old ≡ items_of result ++ left_of self.new }
-        ensures all { IfNone result ((left_of self.new ≡ []) × (self.new.issued ≡ length self.new.stream.now)) }
+        ensures all { IfNone result ((left_of self.new ≡ []) × (self.new.issued ≡ length self.new.stream)) }
         ensures tile { IfSome result (IsForTile self.old.count) }
     {
         let Some(wait) = self.request.take() else {
@@ -112,11 +112,11 @@ impl Sender<'_> {
     // The next item of the command that was issued last, if any is left.
     fn give(&mut self) -> Result<Option<Item>, OutOfMemory>
         requires sending { IsSending self.old }
-        requires over { self.old.pending ≡ None → self.old.request ≡ None → self.old.issued ≡ length self.old.stream.now }
+        requires over { self.old.pending ≡ None → self.old.request ≡ None → self.old.issued ≡ length self.old.stream }
         ensures same { IsSame self.old self.new }
         ensures sending { OnOk result (IsSending self.new) }
         ensures left { IfOk result (λ o. left_of self.old ≡ items_of o ++ left_of self.new) }
-        ensures all { IfOk result (λ o. IfNone o ((left_of self.new ≡ []) × (self.new.issued ≡ length self.new.stream.now))) }
+        ensures all { IfOk result (λ o. IfNone o ((left_of self.new ≡ []) × (self.new.issued ≡ length self.new.stream))) }
         ensures tile { IfOk result (λ o. IfSome o (IsForTile self.old.count)) }
     {
         match self.pending.take() {
@@ -131,7 +131,7 @@ impl Sender<'_> {
         ensures same { IsSame self.old self.new }
         ensures sending { OnOk result (IsSending self.new) }
         ensures left { IfOk result (λ o. left_of self.old ≡ items_of o ++ left_of self.new) }
-        ensures all { IfOk result (λ o. IfNone o ((left_of self.new ≡ []) × (self.new.issued ≡ length self.new.stream.now))) }
+        ensures all { IfOk result (λ o. IfNone o ((left_of self.new ≡ []) × (self.new.issued ≡ length self.new.stream))) }
         ensures tile { IfOk result (λ o. IfSome o (IsForTile self.old.count)) }
     {
         'issuing: while self.is_resting() && (self.issued as usize) < self.stream.len() {

@@ -30,7 +30,7 @@ fn add(ops: &mut SyncOps, wait: Option<WaitAt>) -> Result<(), OutOfMemory>
     Ok(())
 }
 
-impl Sender<'_> {
+impl Sender {
     /// Nothing of the command that was issued last is left.
     pub(crate) fn is_resting(&self) -> bool
         ensures { result ≡ (is_none self.now.pending && is_none self.now.request) }
@@ -43,7 +43,7 @@ impl Sender<'_> {
         requires sending { IsSending self.old }
         requires pending { self.old.pending ≡ None }
         requires request { self.old.request ≡ None }
-        requires more { self.old.issued < length self.old.stream.now }
+        requires more { self.old.issued < length self.old.stream }
         ensures same { IsSame self.old self.new }
         ensures sending { OnOk result (IsSending self.new) }
         ensures left { OnOk result (left_of self.new ≡ left_of self.old) }
@@ -52,8 +52,9 @@ impl Sender<'_> {
         commands_have_texels();
         streams_go_on_by_issue();
         let place = self.issued;
-        let stream = self.stream;
-        let effect = self.context.issue(place, &stream[place as usize])?;
+        let effect = self
+            .context
+            .issue(place, &self.stream.as_slice()[place as usize])?;
         let wait = wait_of(place, &effect);
         add(&mut self.ops, wait)?;
         self.request = wait;

@@ -10,12 +10,12 @@ use crate::sender::Sender;
 use rc_base::cluster::{FaultList, Tallies};
 use rc_base::sync::SyncRow;
 
-impl Sender<'_> {
+impl Sender {
     fn into_row(self) -> (SyncRow, FaultList)
-        requires { length self.stream.now < 2 ^ 32 }
-        ensures ops { result.0.ops ≡ self.entry.ops }
-        ensures length_is { result.0.length ≡ length self.entry.stream.now }
-        ensures faults { result.1 ≡ self.entry.context.faults }
+        requires { length self.stream < 2 ^ 32 }
+        ensures ops { result.0.ops ≡ self.ops }
+        ensures length_is { result.0.length ≡ length self.stream }
+        ensures faults { result.1 ≡ self.context.faults }
     {
         let length = self.stream.len() as u32;
         let faults = self.context.into_faults();
@@ -24,12 +24,12 @@ impl Sender<'_> {
     }
 }
 
-impl ClientCore<'_> {
+impl ClientCore {
     /// The accepted operations and the faults of the commands issued so far, which are those of the whole stream where all was sent, and the
     /// tallies, one for each tile. It takes no memory.
     pub fn into_kept(self) -> ClientKept
         requires { IsClient self }
-        ensures { (scene : Scene) (client : ℕ) (l : Layout) → IsClientOf self.entry scene client l → short_of self.entry ≡ false → IsKept self.entry scene client result }
+        ensures { (scene : Scene) (client : ℕ) (l : Layout) → IsClientOf self scene client l → short_of self ≡ false → IsKept self scene client result }
     {
         let (syncs, faults) = self.sender.into_row();
         ClientKept {

@@ -1,7 +1,7 @@
 //! What the commands of a client give, one item at a time.
 use crate::pending::Pending;
 use gl_context::Context;
-use rc_base::command::Command;
+use rc_base::command::Commands;
 use rc_base::scene::Decl;
 use rc_base::sync::{SyncOps, WaitAt};
 use rc_base::window::Layout;
@@ -10,10 +10,10 @@ use std::alloc::Global;
 
 /// A client that issues its commands: the next is number `issued`, and of the one before it parcels and a request may be pending.
 #[derive(Drop)]
-pub(crate) struct Sender<'a> {
+pub(crate) struct Sender {
     pub alloc: Global,
     pub decl: Decl,
-    pub stream: &'a [Command],
+    pub stream: Commands,
     pub layout: Layout,
     pub count: u8,
     pub context: Context,

@@ -17,15 +17,15 @@ use rc_base::out_of_memory::OutOfMemory;
 use rc_base::state::{Act, Parcel, Sets};
 use rc_base::sync::Request;
 
-impl ClientCore<'_> {
+impl ClientCore {
     // The next End parcel or the End request. It takes no memory.
     fn next_end(&mut self) -> Option<Item>
         requires { IsClient self.old }
         ensures sender { self.new ≡ record self.old { ends = self.new.ends } }
         ensures ends { self.new.ends ≤ self.old.sender.count + 1 }
-        ensures left { ends_from self.old.sender.layout (length self.old.sender.stream.now) self.old.ends ≡ items_of result ++ ends_from self.old.sender.layout (length self.old.sender.stream.now) self.new.ends }
+        ensures left { ends_from self.old.sender.layout (length self.old.sender.stream) self.old.ends ≡ items_of result ++ ends_from self.old.sender.layout (length self.old.sender.stream) self.new.ends }
         ensures tile { IfSome result (IsForTile self.old.sender.count) }
-        ensures all { IfNone result (ends_from self.old.sender.layout (length self.old.sender.stream.now) self.new.ends ≡ []) }
+        ensures all { IfNone result (ends_from self.old.sender.layout (length self.old.sender.stream) self.new.ends ≡ []) }
     {
         let tile = self.ends;
         if tile > self.sender.count {
@@ -53,7 +53,7 @@ impl ClientCore<'_> {
         ensures short { OnOk result (self.new.short ≡ self.old.short) }
         ensures err { OnErr result (self.new.short ≡ true) }
         ensures left { IfOk result (λ o. self.old.short ≡ false → left_of self.old.sender ≡ items_of o ++ left_of self.new.sender) }
-        ensures all { IfOk result (λ o. self.old.short ≡ false → IfNone o ((left_of self.new.sender ≡ []) × (self.new.sender.issued ≡ length self.new.sender.stream.now))) }
+        ensures all { IfOk result (λ o. self.old.short ≡ false → IfNone o ((left_of self.new.sender ≡ []) × (self.new.sender.issued ≡ length self.new.sender.stream))) }
         ensures tile { IfOk result (λ o. IfSome o (IsForTile self.old.sender.count)) }
     {
         if self.short {

@@ -71,8 +71,8 @@ fn draws(alloc: Global) -> Result<Commands, OutOfMemory>
 
 // A client with its lanes.
 #[derive(Drop)]
-struct Run<'a> {
-    core: ClientCore<'a>,
+struct Run {
+    core: ClientCore,
     tiles: Vec<PlainLane<Parcel>>,
     requests: PlainLane<Request>,
 }
@@ -113,13 +113,13 @@ fn scene_of(alloc: Global, stream: Commands, layout: &Layout) -> Result<Scene, O
 }
 
 // The only client of a scene.
-fn run_of<'a>(
+fn run_of(
     rt: &impl Abort,
     alloc: Global,
-    scene: &'a Scene,
+    scene: &Scene,
     layout: &Layout,
     depth: usize,
-) -> Run<'a>
+) -> Run
     requires one { length scene.now.streams ≡ 1 }
     requires few { length (stream_of scene.now 0) < 2 ^ 32 }
     requires commands { AllByRecursion IsCommand (stream_of scene.now 0) }
@@ -151,7 +151,7 @@ const NINE: Layout = Layout {
     rows: 3,
 };
 
-impl Run<'_> {
+impl Run {
     fn step(&mut self) -> Result<ClientMoved, OutOfMemory>
         requires client { IsClient self.old.core }
         requires lanes { length self.old.tiles.items ≡ tile_count (layout_of self.old.core) }
@@ -195,7 +195,7 @@ enum Event {
 }
 
 // The event goes as it says.
-fn goes(run: &mut Run<'_>, event: Event) -> Result<bool, OutOfMemory>
+fn goes(run: &mut Run, event: Event) -> Result<bool, OutOfMemory>
     requires client { IsClient run.old.core }
     requires lanes { length run.old.tiles.items ≡ tile_count (layout_of run.old.core) }
     ensures client { IsClient run.new.core }
@@ -209,7 +209,7 @@ fn goes(run: &mut Run<'_>, event: Event) -> Result<bool, OutOfMemory>
 }
 
 // How many events go as they say.
-fn play(run: &mut Run<'_>, events: &[Event]) -> Result<usize, OutOfMemory>
+fn play(run: &mut Run, events: &[Event]) -> Result<usize, OutOfMemory>
     requires client { IsClient run.old.core }
     requires lanes { length run.old.tiles.items ≡ tile_count (layout_of run.old.core) }
     ensures client { IsClient run.new.core }
@@ -335,7 +335,7 @@ impl Taken {
     }
 
     // Bits 0, 1 and 2 of the draw say from which of the lanes an item is taken.
-    fn empty(&mut self, run: &mut Run<'_>, draw: u64) -> Result<(), OutOfMemory>
+    fn empty(&mut self, run: &mut Run, draw: u64) -> Result<(), OutOfMemory>
         ensures core { run.new.core ≡ run.old.core }
         ensures lanes { length run.new.tiles.items ≡ length run.old.tiles.items }
     {
@@ -355,7 +355,7 @@ impl Taken {
         Ok(())
     }
 
-    fn turn(&mut self, run: &mut Run<'_>, draw: u64) -> Result<(), OutOfMemory>
+    fn turn(&mut self, run: &mut Run, draw: u64) -> Result<(), OutOfMemory>
         requires client { IsClient run.old.core }
         requires lanes { length run.old.tiles.items ≡ tile_count (layout_of run.old.core) }
         ensures client { IsClient run.new.core }
@@ -367,7 +367,7 @@ impl Taken {
     }
 
     // 100 turns, after each of whose steps a linear congruential generator with a fixed seed draws the lanes.
-    fn turns(&mut self, run: &mut Run<'_>) -> Result<(), OutOfMemory>
+    fn turns(&mut self, run: &mut Run) -> Result<(), OutOfMemory>
         requires client { IsClient run.old.core }
         requires lanes { length run.old.tiles.items ≡ tile_count (layout_of run.old.core) }
     {
@@ -425,7 +425,7 @@ fn triangle(alloc: Global) -> Result<Commands, OutOfMemory>
 }
 
 // How many steps move an item, of at most so many.
-fn moves(run: &mut Run<'_>, most: usize) -> Result<usize, OutOfMemory>
+fn moves(run: &mut Run, most: usize) -> Result<usize, OutOfMemory>
     requires client { IsClient run.old.core }
     requires lanes { length run.old.tiles.items ≡ tile_count (layout_of run.old.core) }
 {
@@ -438,7 +438,7 @@ fn moves(run: &mut Run<'_>, most: usize) -> Result<usize, OutOfMemory>
 }
 
 // The tile was sent the parcels of places 5, 6 and 7 and no other.
-fn has_three(run: &mut Run<'_>, tile: usize) -> bool {
+fn has_three(run: &mut Run, tile: usize) -> bool {
     run.place(tile) == Some(5)
         && run.place(tile) == Some(6)
         && run.place(tile) == Some(7)

@@ -61,10 +61,10 @@ impl From<AllocError> for ClusterFault {
     }
 }
 
-impl From<FinishFault<'_>> for ClusterFault {
+impl From<FinishFault> for ClusterFault {
     ghost from_gives = { λ refusal fault. refusal ≡ Unfinished → fault ≡ NoMemory };
 
-    fn from(fault: FinishFault<'_>) -> ClusterFault {
+    fn from(fault: FinishFault) -> ClusterFault {
         match fault {
             FinishFault::Standstill { .. } => ClusterFault::Standstill,
             FinishFault::OutOfMemory => ClusterFault::OutOfMemory,

@@ -22,8 +22,8 @@ pub(crate) const DEPTH: usize = 16;
 
 /// A client, a lane to each tile, tiles rising, and the lane to the manager.
 #[derive(Drop)]
-pub(crate) struct Sorting<'a> {
-    core: ClientCore<'a>,
+pub(crate) struct Sorting {
+    core: ClientCore,
     tiles: Vec<PlainLane<Parcel>>,
     requests: PlainLane<Request>,
 }
@@ -38,15 +38,15 @@ fn lanes(alloc: Global, count: usize) -> Result<Vec<PlainLane<Parcel>>, OutOfMem
     Ok(lanes)
 }
 
-impl<'a> Sorting<'a> {
+impl Sorting {
     /// A client of a scene before its first step.
     #[tactic(auto, using(crate::proofs::Streams::stream_all))]
     pub(crate) fn new(
         alloc: Global,
-        scene: &'a Scene,
+        scene: &Scene,
         client: u8,
         layout: &Layout,
-    ) -> Result<Sorting<'a>, OutOfMemory>
+    ) -> Result<Sorting, OutOfMemory>
         requires client { client < length scene.now.streams }
         requires few { length (stream_of scene.now client) < 2 ^ 32 }
         requires commands { AllByRecursion (AllByRecursion IsCommand) scene.now.streams }

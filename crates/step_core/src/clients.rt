@@ -16,7 +16,7 @@ use rc_base::sync::Request;
 
 /// A step of the client's core over a row of lanes, one for each tile, and the client's lane of requests.
 pub(crate) fn step_of_client(
-    cores: &mut [ClientCore<'_>],
+    cores: &mut [ClientCore],
     client: usize,
     row: &mut [PlainLane<Parcel>],
     lanes: &mut [PlainLane<Request>],
@@ -33,7 +33,7 @@ pub(crate) fn step_of_client(
 
 /// A step of the client's core over its column of lanes, which stand in the spare row meanwhile.
 pub(crate) fn step_in_column(
-    cores: &mut [ClientCore<'_>],
+    cores: &mut [ClientCore],
     client: usize,
     rows: &mut [Vec<PlainLane<Parcel>>],
     spare: &mut [PlainLane<Parcel>],

@@ -64,11 +64,11 @@ pub(crate) fn new_lists(alloc: Global, tiles: usize) -> Result<Vec<Vec<TilePart>
 }
 
 /// The cores of a scene's clients.
-pub(crate) fn new_clients<'a>(
+pub(crate) fn new_clients(
     alloc: Global,
-    scene: &'a Scene,
+    scene: &Scene,
     layout: &Layout,
-) -> Result<Vec<ClientCore<'a>>, OutOfMemory>
+) -> Result<Vec<ClientCore>, OutOfMemory>
     requires scene { HasActors scene.now }
     requires layout { IsLaidOut layout.now }
     ensures { IfOk result (λ cores. AreClientsOf scene.now layout.now (new_client scene.now layout.now) cores.items) }

@@ -19,9 +19,9 @@ use world_model::laws::{
 };
 
 /// Takes a cluster apart: the clients' lists, the tiles' logs, the journal, the parts frame by frame, and who is stuck.
-fn collect(alloc: Global, decl: &Decl, world: World<'_>) -> Result<CoreRun, OutOfMemory>
+fn collect(alloc: Global, decl: &Decl, world: World) -> Result<CoreRun, OutOfMemory>
     requires { IsCollectable world }
-    ensures { IfOk result (λ run. IsCollected decl.now world.entry run) }
+    ensures { IfOk result (λ run. IsCollected decl.now world run) }
 {
     let World {
         clients,
@@ -56,9 +56,9 @@ fn collect(alloc: Global, decl: &Decl, world: World<'_>) -> Result<CoreRun, OutO
 }
 
 /// What a cluster leaves in which all have ended.
-pub(crate) fn gather(alloc: Global, decl: &Decl, world: World<'_>) -> Result<CoreRun, OutOfMemory>
+pub(crate) fn gather(alloc: Global, decl: &Decl, world: World) -> Result<CoreRun, OutOfMemory>
     requires { IsAtEnd decl.now world }
-    ensures { IfOk result (λ run. IsGathered decl.now world.entry run) }
+    ensures { IfOk result (λ run. IsGathered decl.now world run) }
 {
     schedules_keep_worlds_sound();
     ended_worlds_are_lawful();

@@ -100,11 +100,11 @@ impl KeptLists {
 /// What is kept of the clients, with one tally for each of so many tiles.
 pub(crate) fn kept_lists(
     alloc: Global,
-    clients: Vec<ClientCore<'_>>,
+    clients: Vec<ClientCore>,
     tiles: usize,
 ) -> Result<KeptLists, OutOfMemory>
     requires { (i : ℕ) (d : ClientCore) → i < length clients.items → IsClient (slice_index_or clients.items i d) }
-    ensures { IfOk result (λ lists. AreKept clients.entry.items tiles lists) }
+    ensures { IfOk result (λ lists. AreKept clients.items tiles lists) }
 {
     let mut lists = KeptLists::new(alloc, tiles)?;
     for client in clients {

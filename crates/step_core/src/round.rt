@@ -42,7 +42,7 @@ impl Round {
     }
 }
 
-impl World<'_> {
+impl World {
     ghost use Rattle.std.specs.Prelude.{IfOk};
     ghost use Rattle.step_core.specs.Rounds.{Rounds};
     ghost use Rattle.step_core.specs.Worlds.{IsSeen};

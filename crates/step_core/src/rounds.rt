@@ -29,33 +29,29 @@ pub struct CoreRun {
 
 /// Why a cluster wasn't brought to its end.
 #[derive(Drop)]
-pub enum FinishFault<'a> {
+pub enum FinishFault {
     /// Some actor hasn't ended, and the last whole round moved nobody.
-    Standstill { world: World<'a> },
+    Standstill { world: World },
     OutOfMemory,
 }
 
-impl From<OutOfMemory> for FinishFault<'_> {
+impl From<OutOfMemory> for FinishFault {
     ghost use Rattle.std.specs.Prelude.{◌≡◌};
     ghost use Rattle.step_core.specs.declared.rounds.FinishFault.TheVariants as fault;
 
     ghost from_gives = { λ _ f. f ≡ fault.OutOfMemory };
 
-    fn from(_: OutOfMemory) -> Self {
+    fn from(_: OutOfMemory) -> FinishFault {
         FinishFault::OutOfMemory
     }
 }
 
 /// Brings a cluster to its end by rounds of one step for each actor, rising, and hands out what it leaves. `decl` is the declaration of its scene.
 /// It gives up after 2^64 - 1 rounds, as where memory lacks.
-pub fn finish<'a>(
-    alloc: Global,
-    decl: &Decl,
-    mut world: World<'a>,
-) -> Result<CoreRun, FinishFault<'a>>
+pub fn finish(alloc: Global, decl: &Decl, mut world: World) -> Result<CoreRun, FinishFault>
     requires { IsUnderWay decl.now world }
-    ensures done { IfOk result (λ run. (scene : Scene) (l : Layout) (depth : ℕ) (picks : List ℕ) → IsRunnable scene l depth → decl.now ≡ scene.decl → IsRunOf scene l depth picks world.entry → IsFinish scene l depth picks run) }
-    ensures standstill { IfErr result (λ fault. (scene : Scene) (l : Layout) (depth : ℕ) (picks : List ℕ) → IsRunnable scene l depth → decl.now ≡ scene.decl → IsRunOf scene l depth picks world.entry → IsStandstill scene l depth picks fault) }
+    ensures done { IfOk result (λ run. (scene : Scene) (l : Layout) (depth : ℕ) (picks : List ℕ) → IsRunnable scene l depth → decl.now ≡ scene.decl → IsRunOf scene l depth picks world → IsFinish scene l depth picks run) }
+    ensures standstill { IfErr result (λ fault. (scene : Scene) (l : Layout) (depth : ℕ) (picks : List ℕ) → IsRunnable scene l depth → decl.now ≡ scene.decl → IsRunOf scene l depth picks world → IsStandstill scene l depth picks fault) }
 {
     runs_go_on();
     one_schedule_has_one_run();

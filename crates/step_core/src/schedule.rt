@@ -12,13 +12,13 @@ use std::alloc::Global;
 
 /// The cluster of a scene on the tiles of a layout, with lanes that hold `depth` items, after one step of each picked actor in turn. The clients
 /// have the numbers from 0, then comes the manager, then the tiles. A step of an actor that waits or has ended changes nothing.
-pub fn run_schedule<'a>(
+pub fn run_schedule(
     alloc: Global,
-    scene: &'a Scene,
+    scene: &Scene,
     layout: &Layout,
     depth: usize,
     picks: &[u32],
-) -> Result<World<'a>, OutOfMemory>
+) -> Result<World, OutOfMemory>
     requires runnable { IsRunnable scene.now layout.now depth }
     requires picks { EachIndex picks.now (λ k. slice_index picks.now k < client_total scene.now + 1 + tile_count layout.now) }
     ensures { IfOk result (λ world. IsRunOf scene.now layout.now depth picks.now world) }

@@ -5,7 +5,7 @@ use crate::tiles::{keep_shown, step_of_tile};
 use crate::world::World;
 use rc_base::out_of_memory::OutOfMemory;
 
-impl World<'_> {
+impl World {
     ghost use Rattle.std.specs.Prelude.{◌≡◌, ◌+◌, ◌<◌, length, IfOk};
     ghost use Rattle.step_core.specs.Worlds.{IsSeen};
     ghost use Rattle.step_core.specs.Steps.{Steps};

@@ -15,8 +15,8 @@ use tile_server::TileCore;
 /// A cluster for one scene: its clients, its manager, a tile for each tile of the layout, the lanes between them, and the parts of frames that
 /// the tiles have shown.
 #[derive(Drop)]
-pub struct World<'a> {
-    pub(crate) clients: Vec<ClientCore<'a>>,
+pub struct World {
+    pub(crate) clients: Vec<ClientCore>,
     pub(crate) manager: ManagerCore,
     pub(crate) tiles: Vec<TileCore>,
     // of each tile one lane from each client
@@ -29,7 +29,7 @@ pub struct World<'a> {
     pub(crate) parts: Vec<Vec<TilePart>>,
 }
 
-impl<'a> World<'a> {
+impl World {
     ghost use Rattle.std.specs.Prelude.{IfOk};
     ghost use Rattle.step_core.specs.NewWorlds.{IsNew};
     ghost use Rattle.step_core.specs.Runnable.{IsDepth, IsLaidOut, HasActors};
@@ -37,10 +37,10 @@ impl<'a> World<'a> {
     /// The cluster before its first step.
     pub(crate) fn new(
         alloc: Global,
-        scene: &'a Scene,
+        scene: &Scene,
         layout: &Layout,
         depth: usize,
-    ) -> Result<World<'a>, OutOfMemory>
+    ) -> Result<World, OutOfMemory>
         requires scene { HasActors scene.now }
         requires layout { IsLaidOut layout.now }
         requires depth { IsDepth depth }

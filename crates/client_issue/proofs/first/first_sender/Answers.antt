@@ -11,7 +11,7 @@ use Rattle.client_issue.proofs.first.first_sender.Goals as goal
 pub returns-clause-sending : goal.returns-clause-sending
 returns-clause-sending c =
     let d = c.in_ok-copy.copy in
-    let scene = alone d c.args.stream.now in
+    let scene = alone d c.args.stream in
     record {
       few = c.requires.few;
       commands = c.requires.commands;

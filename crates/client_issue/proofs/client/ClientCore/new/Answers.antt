@@ -8,9 +8,9 @@ use Rattle.client_issue.proofs.client.ClientCore.new.Goals as goal
 pub returns-clause-left : goal.returns-clause-left
 unfolding left_in
 returns-clause-left c =
-    let e : c.commands_of-stream.result.now ≡ stream_of c.args.scene.now c.args.client = c.commands_of-stream.ensures in
+    let e : c.in_ok-stream.stream ≡ stream_of c.args.scene.now c.args.client = c.in_ok-stream.ensures ∙ c.commands_of-commands.ensures in
     let h = c.in_ok-sender.ensures in
-    (λ i. h.left i ++ ends_from (h.layout i) (length (h.stream i)) 0) ∙ whole c.args.scene.now c.args.client c.args.layout.now c.commands_of-stream.result.now e
+    (λ i. h.left i ++ ends_from (h.layout i) (length (h.stream i)) 0) ∙ whole c.args.scene.now c.args.client c.args.layout.now c.in_ok-stream.stream e
 
 pub returns-clause-tallies : goal.returns-clause-tallies
 unfolding tally_of_tile

@@ -10,12 +10,12 @@ returns-then-tile-self-clause-all c =
     let s = c.args.self.now in
     let more = c.if-tile-self.true in
     let e = c.requires.count in
-    ends_none s.sender.layout (length s.sender.stream.now) s.ends (omega (arith, more, e))
+    ends_none s.sender.layout (length s.sender.stream) s.ends (omega (arith, more, e))
 
 pub returns-then-tile-self-2-clause-left : goal.returns-then-tile-self-2-clause-left
 returns-then-tile-self-2-clause-left c =
     let s = c.args.self.now in
-    ends_last s.sender.layout (length s.sender.stream.now) s.ends (c.if-tile-self-2.true ∙ c.requires.count)
+    ends_last s.sender.layout (length s.sender.stream) s.ends (c.if-tile-self-2.true ∙ c.requires.count)
 
 pub returns-clause-left : goal.returns-clause-left
 returns-clause-left c =
@@ -23,5 +23,5 @@ returns-clause-left c =
     let more = c.if-tile-self.false in
     let other = c.if-tile-self-2.false in
     let e = c.requires.count in
-    ends_more s.sender.layout (length s.sender.stream.now) s.ends (omega (arith, more, other, e))
-    ∙ (λ i. ToTile s.ends (record { place = length s.sender.stream.now; sets = sym c.new.ensures i; act = act.End }) ∷ ends_from s.sender.layout (length s.sender.stream.now) (s.ends + 1))
+    ends_more s.sender.layout (length s.sender.stream) s.ends (omega (arith, more, other, e))
+    ∙ (λ i. ToTile s.ends (record { place = sym c.len.ensures i; sets = sym c.new.ensures i; act = act.End }) ∷ ends_from s.sender.layout (length s.sender.stream) (s.ends + 1))

@@ -31,4 +31,4 @@ returns-clause-all c going none =
     let o = c.next_end.result in
     let over = subst (λ (i : Option Item). IfNone i (IsOver t)) c.in_default.is (c.in_ok-item.ensures.all going) in
     ap (λ (z : ClientCore). left_in (record z { ready = o })) c.next_end.ensures.sender
-    ∙ nothing_ready t o c.next_end.new.self.ends none over.0 (subst (λ (i : Option Item). IfNone i (ends_from t.sender.layout (length t.sender.stream.now) c.next_end.new.self.ends ≡ [])) none c.next_end.ensures.all)
+    ∙ nothing_ready t o c.next_end.new.self.ends none over.0 (subst (λ (i : Option Item). IfNone i (ends_from t.sender.layout (length t.sender.stream) c.next_end.new.self.ends ≡ [])) none c.next_end.ensures.all)

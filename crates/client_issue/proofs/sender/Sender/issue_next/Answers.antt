@@ -1,4 +1,4 @@
-use Rattle.std.proofs.Common.{◌≡◌, ℕ, refl, false, ◌∙◌, ◌+◌, ap, subst, sym, ◌<◌, ◌++◌}
+use Rattle.std.proofs.Common.{◌≡◌, ℕ, arith, false, ◌∙◌, ◌+◌, ap, subst, sym, ◌<◌, length, ◌++◌}
 use Rattle.std.specs.Prelude.{MatchOption}
 use Rattle.std.specs.declared.option.Option.{Option}
 use Rattle.std.specs.Option.{option_to_list}
@@ -11,16 +11,17 @@ use Rattle.client_issue.specs.declared.pending.Pending.{Pending}
 use Rattle.client_issue.proofs.Issuing.{IsIssued, command_is, issued_sending, issued_left}
 use Rattle.client_issue.proofs.sender.Sender.issue_next.Goals as goal
 
-facts : (c : goal.After-self-2-1) → IsIssued c.args.self.now c.index-stream-place.result c.issue.new.self c.in_ok-effect.effect c.pending_of.result c.add.new.ops
+facts : (c : goal.After-self-2-1) → IsIssued c.args.self.now c.index-as_slice-place.result c.issue.new.self c.in_ok-effect.effect c.pending_of.result c.add.new.ops
 facts c =
     let s = c.args.self.now in
-    let x = c.index-stream-place.result in
+    let x = c.index-as_slice-place.result in
     let effect = c.in_ok-effect.effect in
+    let less : s.issued < length c.as_slice.result.now = omega (arith, c.requires.more, ap length c.as_slice.ensures) in
     record {
       law = c.streams_go_on_by_issue.ensures.next;
       sending = subst (λ (o : Option Pending). IsSendingWith s o) c.requires.pending c.requires.sending;
       more = c.requires.more;
-      command = command_is (scene_of s) s.stream.now s.issued x refl c.requires.more c.index-stream-place.is;
+      command = command_is (scene_of s) c.as_slice.result.now s.issued x c.as_slice.ensures less c.index-as_slice-place.is;
       context = c.in_ok-effect.ensures.ok;
       effect_is = c.in_ok-effect.ensures.effect;
       pending =
@@ -32,10 +33,10 @@ pub returns-clause-sending : goal.returns-clause-sending
 returns-clause-sending c =
     let s = c.args.self.now in
     subst (λ (w : Option WaitAt). IsSendingWith (record s { context = c.issue.new.self; issued = s.issued + 1; pending = c.pending_of.result; request = w; ops = c.add.new.ops }) c.pending_of.result)
-    (sym c.wait_of-wait.ensures) (issued_sending s c.index-stream-place.result c.issue.new.self c.in_ok-effect.effect c.pending_of.result c.add.new.ops (facts c))
+    (sym c.wait_of-wait.ensures) (issued_sending s c.index-as_slice-place.result c.issue.new.self c.in_ok-effect.effect c.pending_of.result c.add.new.ops (facts c))
 
 pub returns-clause-left : goal.returns-clause-left
 returns-clause-left c =
     let s = c.args.self.now in
     ap (λ (w : Option WaitAt). left_of (record s { context = c.issue.new.self; issued = s.issued + 1; pending = c.pending_of.result; request = w; ops = c.add.new.ops })) c.wait_of-wait.ensures
-    ∙ issued_left s c.index-stream-place.result c.issue.new.self c.in_ok-effect.effect c.pending_of.result c.add.new.ops c.requires.pending c.requires.request (facts c)
+    ∙ issued_left s c.index-as_slice-place.result c.issue.new.self c.in_ok-effect.effect c.pending_of.result c.add.new.ops c.requires.pending c.requires.request (facts c)

@@ -10,4 +10,4 @@ invariant-issuing l = record {
 }
 
 abbrev pub decreases-issuing : goal.decreases-issuing
-decreases-issuing l = length l.self.stream.now - l.self.issued
+decreases-issuing l = length l.self.stream - l.self.issued
