@@ -140,6 +140,10 @@ def cluster_ratios():
             print(f"  {tiles} {ratio}", end="", flush=True)
         parcels, sets = told("render --tiles 4x4", scene)
         print(f"   (4x4: {parcels} parcels, {sets} sets, of {os.path.getsize(scene) / 1e6:.1f} MB)", flush=True)
+    gives = path("gives")
+    seconds, memory, status = run("render --tiles 8x4", gives)
+    parcels, _ = told("render --tiles 8x4", gives)
+    print(f"much synchronisation, 8x4: {seconds:.2f} s, {seconds / max(parcels, 1) * 1e9:.0f} ns a parcel, {memory:.1f} MB, status {status}", flush=True)
 
 
 def sort_ratios():

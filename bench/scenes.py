@@ -14,6 +14,7 @@
     state               512 by 512, 20,000 small draws with state that changes between them.
     depth               1024 by 768, 2,000 overlapping triangles of some 200 by 200 pixels with depth test, colours interpolated.
     clears [SIDE] [N]   SIDE by SIDE (2,048), N (8) clears and swaps.
+    gives [CLIENTS] [N] 8 by 8, CLIENTS (8) clients of N (8,192) operations that give a unit and wait for nobody, and no frame: what synchronisation costs.
     commands [N]        one client, N (1,048,576) commands in all: semaphore operations in pairs, the swap last.
 
 Words after these: `noswap` leaves the swaps out, so nothing is written; `nodraw` puts all vertices at one place, so nothing is covered.
@@ -223,6 +224,12 @@ def commands_only(numbers, swap, corners):
     return scene(1, 1, [commands + [(SWAP, b"")]], semaphores=[0])
 
 
+def gives(numbers, swap, corners):
+    clients = numbers[0] if numbers else 8
+    count = numbers[1] if len(numbers) > 1 else 8_192
+    return scene(8, 8, [[byte_fields(SEM_V, 1)] * count] * clients, semaphores=[0])
+
+
 SCENES = {
     "usual": usual,
     "fill": fill,
@@ -234,6 +241,7 @@ SCENES = {
     "state": state,
     "depth": depth,
     "clears": clears,
+    "gives": gives,
     "commands": commands_only,
 }
 

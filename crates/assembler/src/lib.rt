@@ -4,7 +4,7 @@
 //! stands on rc_base.
 #![tactic(auto)]
 
-pub mod assembly;
+mod assembly;
 mod rows;
 
 pub use assembly::assemble;

@@ -1,7 +1,9 @@
 -- A client after it has issued its next command.
-use Rattle.std.proofs.Common.{◌≡◌, ◌∙◌, ℕ, ◌+◌, ◌<◌, ◌≤◌, false, List, [], ◌++◌, length, get_or, Some, None, refl, sym, ap, subst, arith, inl, inr, append-nil, append_assoc, lt-ltb}
+use Rattle.std.proofs.Common.{◌≡◌, ◌∙◌, ℕ, zero, suc, ◌+◌, ◌<◌, ◌≤◌, false, List, [], ◌∷◌, ◌++◌, length, get_or, Some, None, refl, sym, ap, subst, arith, inl, inr, append-nil, append_assoc, lt-ltb}
 use Rattle.std.specs.Prelude.{slice_get, MatchOption, IfSome}
 use Rattle.std.specs.declared.option.Option.{Option}
+use Rattle.std.proofs.Props.{props}
+use Rattle.std.specs.List.{AllByRecursion}
 use Rattle.std.specs.Option.{option_map_or, option_to_list}
 use Rattle.std.proofs.lemmas.Bool.{cases_lt, le-ltb}
 use Rattle.std.proofs.lemmas.Option.{slice_get-get_or}
@@ -20,6 +22,9 @@ use Rattle.rc_base.specs.declared.state.Parcel.{Parcel}
 use Rattle.rc_base.specs.declared.state.State.{State}
 use Rattle.rc_base.specs.declared.sync.WaitAt.{WaitAt}
 use Rattle.rc_base.specs.declared.window.Layout.{Layout}
+use Rattle.rc_base.specs.Formats.Commands.{IsCommand}
+use Rattle.rc_base.specs.declared.command.Command.TheVariants as cmd
+use Rattle.gl_context.specs.Arguments.{HasTexels}
 use Rattle.gl_context.specs.Streams.{StreamsGoOnByIssue}
 use Rattle.state_update.specs.Knowledge.{Knows}
 use Rattle.client_issue.specs.Acts.{act_by, goes_to, asks_of}
@@ -125,8 +130,8 @@ quiet_next s tile h =
     ∙ append-nil (parcels_before (scene_of s) s.layout 0 tile s.issued)
 
 known_at : (s : Sender) (tile n : ℕ) → parcels_before (scene_of s) s.layout 0 tile n ≡ parcels_before (scene_of s) s.layout 0 tile s.issued → tile < s.count → IsSendingWith s None
-    → Knows s.tracker tile (told s.decl (parcels_before (scene_of s) s.layout 0 tile n))
-known_at s tile n e lt h = subst (λ (ps : List Parcel). Knows s.tracker tile (told s.decl ps)) (sym e) (h.known tile lt)
+    → ∥ Knows s.tracker tile (told s.decl (parcels_before (scene_of s) s.layout 0 tile n)) ∥₁
+known_at s tile n e lt h = subst (λ (ps : List Parcel). ∥ Knows s.tracker tile (told s.decl ps) ∥₁) (sym e) (h.known tile lt)
 
 pub heard_less : (p : Pending) (issued tile : ℕ) → tile < p.tile → heard (Some p) issued tile ≡ issued
 heard_less p issued tile lt = rw (lt-ltb tile p.tile lt) refl
@@ -135,15 +140,15 @@ pub heard_more : (p : Pending) (issued tile : ℕ) → p.tile ≤ tile → heard
 heard_more p issued tile le = rw (le-ltb tile p.tile le) refl
 
 known_next : (s : Sender) (c : Command) (x : ClientContext) (effect : Effect) (o : Option Pending) (ops : List WaitAt) → IsIssued s c x effect o ops
-    → (tile : ℕ) → tile < s.count → Knows s.tracker tile (told s.decl (parcels_before (scene_of s) s.layout 0 tile (heard o (s.issued + 1) tile)))
+    → (tile : ℕ) → tile < s.count → ∥ Knows s.tracker tile (told s.decl (parcels_before (scene_of s) s.layout 0 tile (heard o (s.issued + 1) tile))) ∥₁
 known_next s c x effect None ops h tile lt = known_at s tile (s.issued + 1) (quiet_next s tile (not_asked s c x effect None ops h tile lt)) lt h.sending
 known_next s c x effect (Some p) ops h tile lt =
     elim (cases_lt tile p.tile) [
       | inl less ↦
-          subst (λ (n : ℕ). Knows s.tracker tile (told s.decl (parcels_before (scene_of s) s.layout 0 tile n))) (sym (heard_less p (s.issued + 1) tile less))
+          subst (λ (n : ℕ). ∥ Knows s.tracker tile (told s.decl (parcels_before (scene_of s) s.layout 0 tile n)) ∥₁) (sym (heard_less p (s.issued + 1) tile less))
           (known_at s tile (s.issued + 1) (quiet_next s tile (not_asked s c x effect (Some p) ops h tile less)) lt h.sending)
       | inr more ↦
-          subst (λ (n : ℕ). Knows s.tracker tile (told s.decl (parcels_before (scene_of s) s.layout 0 tile n))) (sym (heard_more p (s.issued + 1) tile more ∙ h.pending.place_is))
+          subst (λ (n : ℕ). ∥ Knows s.tracker tile (told s.decl (parcels_before (scene_of s) s.layout 0 tile n)) ∥₁) (sym (heard_more p (s.issued + 1) tile more ∙ h.pending.place_is))
           (h.sending.known tile lt)
     ]
 
@@ -172,6 +177,14 @@ waits_are place (eff.Clear mask) = refl
 waits_are place (eff.Shared part) = refl
 waits_are place (eff.Sync op) = refl
 
+wait_place : (place : ℕ) (effect : Effect) (w : WaitAt) → wait_in place effect ≡ Some w → place ≡ w.place
+wait_place place eff.Quiet w e = absurd cc
+wait_place place (eff.Refused fault) w e = absurd cc
+wait_place place (eff.Block block) w e = absurd cc
+wait_place place (eff.Clear mask) w e = absurd cc
+wait_place place (eff.Shared part) w e = absurd cc
+wait_place place (eff.Sync op) w e = ap (λ (o : Option WaitAt). option_map_or (λ v. v.place) o place) e
+
 pub issued_sending : (s : Sender) (c : Command) (x : ClientContext) (effect : Effect) (o : Option Pending) (ops : List WaitAt) → IsIssued s c x effect o ops
     → IsSendingWith (record s { context = x; issued = s.issued + 1; pending = o; request = wait_in s.issued effect; ops = ops }) o
 issued_sending s c x effect o ops h =
@@ -187,7 +200,18 @@ issued_sending s c x effect o ops h =
       tracked = h.sending.tracked;
       known = known_next s c x effect o ops h;
       pending = pending_next s c x effect o ops h;
+      asking = λ w e. ap (λ k. k + 1) (wait_place s.issued effect w e);
     }
+
+pub HasTexels-prop : (c : Command) → IsProp (HasTexels c)
+HasTexels-prop (cmd.TexImage name w h bytes) = hlevel props
+HasTexels-prop (cmd.TexPart part) = hlevel props
+HasTexels-prop _ = hlevel props
+
+pub command_in : (cs : List Command) (i : ℕ) (d : Command) → AllByRecursion IsCommand cs → i < length cs → IsCommand (get_or cs i d)
+command_in [] i d h lt = absurd (omega (arith, lt))
+command_in (c ∷ cs) zero d h lt = h.0
+command_in (c ∷ cs) (suc i) d h lt = command_in cs i d h.1 (omega (arith, lt))
 
 pub command_is : (scene : Scene) (xs : List Command) (i : ℕ) (c : Command) → xs ≡ stream_of scene 0 → i < length xs → c ≡ get_or xs i c → command_at scene 0 i ≡ Some c
 command_is scene xs i c same lt found =

@@ -10,11 +10,12 @@ use Rattle.rc_base.specs.declared.cluster.Tally.{Tally}
 use Rattle.rc_base.specs.declared.command.Command.{Command}
 use Rattle.rc_base.specs.declared.scene.Scene.{Scene}
 use Rattle.rc_base.specs.declared.window.Layout.{Layout}
-use Rattle.client_issue.specs.Sequence.{scene_of, left_of, items_of}
-use Rattle.client_issue.specs.Cores.{IsClient, IsClientOf, left_in, ends_from, no_tally, tally_of_tile}
+use Rattle.client_issue.specs.Sequence.{scene_of, items_of}
+use Rattle.client_issue.specs.Cores.{IsClientOf, commands_left, ends_from, left_by, left_in, no_tally, tally_in, tally_of_tile}
 use Rattle.client_issue.specs.Kept.{IsKept}
 use Rattle.client_issue.specs.declared.client.ClientCore.{ClientCore}
 use Rattle.client_issue.specs.declared.client.ClientKept.{ClientKept}
+use Rattle.client_issue.proofs.Prepared.{sound}
 use Rattle.client_issue.proofs.Firsts.{same_waits, same_contexts, ends_are}
 
 right_nil : (xs ys : List Sending) → xs ++ ys ≡ [] → ys ≡ []
@@ -28,30 +29,30 @@ some_end l n zero h =
 some_end l n (suc k) h = omega arith
 
 ends_gone : (core : ClientCore) → left_in core ≡ [] → 0 < core.ends
-unfolding left_in
+unfolding left_by
 ends_gone core h =
     some_end core.sender.layout (length core.sender.stream) core.ends
-    (right_nil (left_of core.sender) (ends_from core.sender.layout (length core.sender.stream) core.ends)
-    (right_nil (items_of core.ready) (left_of core.sender ++ ends_from core.sender.layout (length core.sender.stream) core.ends) h))
+    (right_nil (commands_left core.short core.sender) (ends_from core.sender.layout (length core.sender.stream) core.ends)
+    (right_nil (items_of core.ready) (commands_left core.short core.sender ++ ends_from core.sender.layout (length core.sender.stream) core.ends) h))
 
 tallies_kept : (core : ClientCore) (kept : ClientKept) (tile : ℕ) → kept.tallies ≡ core.tallies.items → slice_index_or kept.tallies tile no_tally ≡ tally_of_tile core tile
-unfolding tally_of_tile
+unfolding tally_in
 tallies_kept core kept tile e = ap (λ (ts : List Tally). slice_index_or ts tile no_tally) e
 
-pub kept_is : (core : ClientCore) (scene : Scene) (client : ℕ) (l : Layout) (kept : ClientKept) → IsClient core → IsClientOf core scene client l → core.short ≡ false
+pub kept_is : (core : ClientCore) (scene : Scene) (client : ℕ) (l : Layout) (kept : ClientKept) → IsClientOf core scene client l → core.short ≡ false
     → kept.syncs.ops ≡ core.sender.ops → kept.syncs.length ≡ length core.sender.stream → kept.faults ≡ core.sender.context.faults → kept.tallies ≡ core.tallies.items
     → IsKept core scene client kept
-kept_is core scene client l kept h whose going ops size faults tallies =
-    let sending = h.sending going in
+kept_is core scene client l kept whose ample ops size faults tallies =
+    let sending = (sound core).sending ample in
     let n = core.sender.issued in
     let within = sending.issued in
     let same : length core.sender.stream ≡ length (stream_of scene client) = ap (λ (cs : List Command). length cs) whose.stream in
     record {
-      issued = n;
       within = omega (arith, within, same);
       ops = ops ∙ sending.ops ∙ same_waits (scene_of core.sender) scene 0 client whose.decl whose.stream n;
       length_is = size ∙ same;
       faults = faults ∙ ap (λ (x : ClientContext). x.faults) (sending.context ∙ same_contexts (scene_of core.sender) scene 0 client whose.decl whose.stream n);
+      count = ap length tallies ∙ core.tallied ∙ core.count;
       tallies = λ tile. tallies_kept core kept tile tallies;
-      whole = λ none. (h.over going (ends_gone core none)).1 ∙ same;
+      whole = λ none. ((sound core).over ample (ends_gone core none)).issued ∙ same;
     }

@@ -8,6 +8,5 @@ mod Steps
 mod Firsts
 mod Keeping
 mod Split
-mod InTurn
 mod Rising
-mod Viewing
+mod ClientsMeetTheirClause

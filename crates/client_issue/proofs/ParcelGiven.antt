@@ -1,5 +1,7 @@
 -- A client after it has given a parcel to a tile.
 use Rattle.std.proofs.Common.{◌≡◌, ◌≢◌, ◌∙◌, ℕ, ◌+◌, ◌<◌, ◌≤◌, true, false, List, [], ◌∷◌, ◌++◌, length, Some, None, sym, ap, subst, arith, inl, inr, append-nil}
+use Rattle.std.proofs.Math.Logic.{∥∥₁_elim, ∥∥₁_map}
+use Rattle.std.proofs.Props.{props}
 use Rattle.std.specs.Prelude.{map}
 use Rattle.std.specs.declared.option.Option.{Option}
 use Rattle.std.specs.Option.{option_map_or}
@@ -15,8 +17,9 @@ use Rattle.rc_base.specs.declared.state.ElementSet.{ElementSet}
 use Rattle.rc_base.specs.declared.state.ElementValue.{ElementValue}
 use Rattle.rc_base.specs.declared.state.Parcel.{Parcel}
 use Rattle.gl_context.specs.Streams.{StreamsGoOnByIssue}
-use Rattle.state_update.specs.Knowledge.{Knows, after_sets}
-use Rattle.state_update.specs.Streams.{ParcelsTellTheirSets}
+use Rattle.gl_context.specs.Valid.{ContextsOfStreamsAreValid}
+use Rattle.state_update.specs.Knowledge.{HasBoundTexture, Knows, after_sets}
+use Rattle.state_update.specs.Streams.{ParcelsTellTheirSets, ValidContextsHaveTheirTexture}
 use Rattle.state_update.specs.declared.told.Told.{Told}
 use Rattle.client_issue.specs.Acts.{goes_to, asks_of, act_sets}
 use Rattle.client_issue.specs.Sequence.{scene_of, sent_to, sent_from_tile, sent_from, request_items, left_with, left_of, heard, IsSendingWith}
@@ -24,6 +27,15 @@ use Rattle.client_issue.specs.declared.pending.Pending.{Pending}
 use Rattle.client_issue.specs.declared.sender.Sender.{Sender}
 use Rattle.client_issue.proofs.Giving.{tail_next, tail_end, skipped_to, nothing_sent, no_parcel, parcel_is, before_next, leaves_sets}
 use Rattle.client_issue.proofs.Issuing.{heard_less, heard_more}
+
+HasBoundTexture-prop : (x : ClientContext) → IsProp (HasBoundTexture x)
+HasBoundTexture-prop x = hlevel props
+
+pub bound_texture : (s : Sender) (o : Option Pending) → ContextsOfStreamsAreValid → ValidContextsHaveTheirTexture → IsSendingWith s o → HasBoundTexture s.context
+bound_texture s o valid textures h =
+    let x = context_after (scene_of s) 0 s.issued in
+    subst HasBoundTexture (sym h.context)
+    (∥∥₁_elim {P = HasBoundTexture x} h.commands (HasBoundTexture-prop x) (λ commands. textures s.decl x (valid (scene_of s) (commands, tt) 0 s.issued)))
 
 -- what the code did: a tile got these sets, and the next tile was found
 pub record IsGiven (s : Sender) (p : Pending) (tracker : List Told) (sets : List ElementSet) (next : ℕ) : Type 0 where
@@ -50,16 +62,16 @@ parcel_by p sets = record { place = p.place; sets = sets; act = p.act }
 in_count : (s : Sender) (p : Pending) → IsSendingWith s (Some p) → p.tile < s.count
 in_count s p h = let e = h.count in let t = h.pending.tile in omega (arith, e, t)
 
-knows_tile : (s : Sender) (p : Pending) → IsSendingWith s (Some p) → Knows s.tracker p.tile (values_of s p)
+knows_tile : (s : Sender) (p : Pending) → IsSendingWith s (Some p) → ∥ Knows s.tracker p.tile (values_of s p) ∥₁
 knows_tile s p h =
-    subst (λ (n : ℕ). Knows s.tracker p.tile (told s.decl (parcels_before (scene_of s) s.layout 0 p.tile n))) (heard_more p s.issued p.tile (omega arith))
+    subst (λ (n : ℕ). ∥ Knows s.tracker p.tile (told s.decl (parcels_before (scene_of s) s.layout 0 p.tile n)) ∥₁) (heard_more p s.issued p.tile (omega arith))
     (h.known p.tile (in_count s p h))
 
 sets_given : (s : Sender) (p : Pending) (tracker : List Told) (sets : List ElementSet) (next : ℕ) → IsGiven s p tracker sets next
     → sets ≡ act_sets (values_of s p) (context_after (scene_of s) 0 p.place) p.act
 sets_given s p tracker sets next h =
     let pending = h.sending.pending in
-    h.sets_are (values_of s p) (knows_tile s p h.sending)
+    ∥∥₁_elim (knows_tile s p h.sending) (hlevel props) (λ known. h.sets_are (values_of s p) known)
     ∙ ap (λ (x : ClientContext). act_sets (values_of s p) x p.act) (h.sending.context ∙ ap (context_after (scene_of s) 0) pending.last)
     ∙ (leaves_sets h.law (scene_of s) p.place p.act pending.asks).sets (values_of s p)
 
@@ -102,11 +114,11 @@ last_left s p next h last = let e = h.count in tail_end (scene_of s) s.layout p.
 -- ---- what is known
 
 known_told : (s : Sender) (p : Pending) (tracker : List Told) (sets : List ElementSet) (next : ℕ) → IsGiven s p tracker sets next
-    → Knows tracker p.tile (told s.decl (parcels_before (scene_of s) s.layout 0 p.tile s.issued))
-known_told s p tracker sets next h =
+    → Knows s.tracker p.tile (values_of s p) → Knows tracker p.tile (told s.decl (parcels_before (scene_of s) s.layout 0 p.tile s.issued))
+known_told s p tracker sets next h known =
     let pending = h.sending.pending in
-    let now = h.told_now (values_of s p) (knows_tile s p h.sending) in
-    let same = h.sets_are (values_of s p) (knows_tile s p h.sending) in
+    let now = h.told_now (values_of s p) known in
+    let same = h.sets_are (values_of s p) known in
     let told_sets : Knows tracker p.tile (after_sets (values_of s p) sets) = subst (λ (more : List ElementSet). Knows tracker p.tile (after_sets (values_of s p) more)) (sym same) now in
     let after : Knows tracker p.tile (told s.decl (earlier s p p.tile ++ parcel_by p sets ∷ [])) = h.follow tracker p.tile s.decl (earlier s p p.tile) (parcel_by p sets) told_sets in
     let all : parcels_before (scene_of s) s.layout 0 p.tile s.issued ≡ earlier s p p.tile ++ parcel_by p sets ∷ [] =
@@ -115,13 +127,13 @@ known_told s p tracker sets next h =
     subst (λ (ps : List Parcel). Knows tracker p.tile (told s.decl ps)) (sym all) after
 
 known_old : (s : Sender) (p : Pending) (tracker : List Told) (sets : List ElementSet) (next : ℕ) → IsGiven s p tracker sets next
-    → (tile n : ℕ) → tile < s.count → tile ≢ p.tile → heard (Some p) s.issued tile ≡ n → Knows tracker tile (told s.decl (parcels_before (scene_of s) s.layout 0 tile n))
-known_old s p tracker sets next h tile n lt ne e =
-    h.others tile (told s.decl (parcels_before (scene_of s) s.layout 0 tile n)) ne
-    (subst (λ (k : ℕ). Knows s.tracker tile (told s.decl (parcels_before (scene_of s) s.layout 0 tile k))) e (h.sending.known tile lt))
+    → (tile n : ℕ) → tile < s.count → tile ≢ p.tile → heard (Some p) s.issued tile ≡ n → ∥ Knows tracker tile (told s.decl (parcels_before (scene_of s) s.layout 0 tile n)) ∥₁
+known_old s p tracker sets next h tile n lt ne e = ∥∥₁_map
+    (subst (λ (k : ℕ). ∥ Knows s.tracker tile (told s.decl (parcels_before (scene_of s) s.layout 0 tile k)) ∥₁) e (h.sending.known tile lt))
+    (h.others tile (told s.decl (parcels_before (scene_of s) s.layout 0 tile n)) ne)
 
 known_between : (s : Sender) (p : Pending) (tracker : List Told) (sets : List ElementSet) (next : ℕ) → IsGiven s p tracker sets next
-    → (tile : ℕ) → tile < s.count → p.tile + 1 ≤ tile → tile < next → Knows tracker tile (told s.decl (parcels_before (scene_of s) s.layout 0 tile s.issued))
+    → (tile : ℕ) → tile < s.count → p.tile + 1 ≤ tile → tile < next → ∥ Knows tracker tile (told s.decl (parcels_before (scene_of s) s.layout 0 tile s.issued)) ∥₁
 known_between s p tracker sets next h tile lt low high =
     let pending = h.sending.pending in
     let scene = scene_of s in
@@ -130,10 +142,10 @@ known_between s p tracker sets next h tile lt low high =
     ap (parcels_before scene s.layout 0 tile) pending.last ∙ before_next scene s.layout tile p.place
     ∙ ap (λ (ps : List Parcel). parcels_before scene s.layout 0 tile p.place ++ ps) (no_parcel scene s.layout tile p.place (not_asked s p tracker sets next h tile low high))
     ∙ append-nil (parcels_before scene s.layout 0 tile p.place) in
-    subst (λ (ps : List Parcel). Knows tracker tile (told s.decl ps)) (sym all) before
+    subst (λ (ps : List Parcel). ∥ Knows tracker tile (told s.decl ps) ∥₁) (sym all) before
 
 known_below : (s : Sender) (p : Pending) (tracker : List Told) (sets : List ElementSet) (next : ℕ) → IsGiven s p tracker sets next
-    → (tile : ℕ) → tile < s.count → tile < next → Knows tracker tile (told s.decl (parcels_before (scene_of s) s.layout 0 tile s.issued))
+    → (tile : ℕ) → tile < s.count → tile < next → ∥ Knows tracker tile (told s.decl (parcels_before (scene_of s) s.layout 0 tile s.issued)) ∥₁
 known_below s p tracker sets next h tile lt high =
     elim (cases_lt tile p.tile) [
       | inl less ↦ known_old s p tracker sets next h tile s.issued lt (omega (arith, less)) (heard_less p s.issued tile less)
@@ -141,7 +153,8 @@ known_below s p tracker sets next h tile lt high =
         | inl past ↦ known_between s p tracker sets next h tile lt (omega (arith, past)) high
         | inr same ↦
             let e : p.tile ≡ tile = omega (arith, more, same) in
-            subst (λ (t : ℕ). Knows tracker t (told s.decl (parcels_before (scene_of s) s.layout 0 t s.issued))) e (known_told s p tracker sets next h)
+            subst (λ (t : ℕ). ∥ Knows tracker t (told s.decl (parcels_before (scene_of s) s.layout 0 t s.issued)) ∥₁) e
+            (∥∥₁_map (knows_tile s p h.sending) (known_told s p tracker sets next h))
       ]
     ]
 
@@ -159,6 +172,7 @@ given_all s p tracker sets next h last = record {
   tracked = h.count ∙ h.sending.tracked;
   known = λ tile lt. known_below s p tracker sets next h tile lt (omega (arith, lt, last));
   pending = tt;
+  asking = h.sending.asking;
 }
 
 -- another tile is next
@@ -176,11 +190,11 @@ given_one s p tracker sets next h less met q e = subst (λ (r : Pending). IsSend
   tracked = h.count ∙ h.sending.tracked;
   known = λ tile lt. elim (cases_lt tile next) [
     | inl below ↦
-        subst (λ (n : ℕ). Knows tracker tile (told s.decl (parcels_before (scene_of s) s.layout 0 tile n))) (sym (heard_less (record p { tile = next }) s.issued tile below))
+        subst (λ (n : ℕ). ∥ Knows tracker tile (told s.decl (parcels_before (scene_of s) s.layout 0 tile n)) ∥₁) (sym (heard_less (record p { tile = next }) s.issued tile below))
         (known_below s p tracker sets next h tile lt below)
     | inr more ↦
         let low = h.low in
-        subst (λ (n : ℕ). Knows tracker tile (told s.decl (parcels_before (scene_of s) s.layout 0 tile n))) (sym (heard_more (record p { tile = next }) s.issued tile more))
+        subst (λ (n : ℕ). ∥ Knows tracker tile (told s.decl (parcels_before (scene_of s) s.layout 0 tile n)) ∥₁) (sym (heard_more (record p { tile = next }) s.issued tile more))
         (known_old s p tracker sets next h tile p.place lt (omega (arith, low, more)) (heard_more p s.issued tile (omega (arith, low, more))))
   ];
   pending = record {
@@ -190,6 +204,7 @@ given_one s p tracker sets next h less met q e = subst (λ (r : Pending). IsSend
     tile = let c = h.sending.count in omega (arith, less, c);
     met = met;
   };
+  asking = h.sending.asking;
 })
 
 pub left_last : (s : Sender) (p : Pending) (tracker : List Told) (sets : List ElementSet) (next : ℕ) → IsGiven s p tracker sets next → next ≡ s.count

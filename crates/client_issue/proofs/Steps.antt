@@ -1,112 +1,106 @@
 -- A step is an append of the item that is ready, or was made so.
-use Rattle.std.proofs.Common.{◌≡◌, ◌∙◌, ℕ, true, List, [], Some, None, sym, ap, subst}
-use Rattle.std.specs.Prelude.{is_some, slice_index_or, ◌<◌}
-use Rattle.rc_base.specs.declared.cluster.Tally.{Tally}
-use Rattle.std.specs.declared.option.Option.{Option}
+use Rattle.std.proofs.Common.{◌≡◌, ◌≢◌, ◌∙◌, ℕ, ◌<◌, Bool, true, false, List, [], ◌∷◌, ◌++◌, length, refl, sym, ap, subst, true≢false}
+use Rattle.std.specs.Prelude.{cond}
+use Rattle.rc_base.specs.Cluster.Lanes.{EachLane}
 use Rattle.rc_base.specs.Cluster.Tiles.{tile_count}
-use Rattle.rc_base.specs.declared.cluster.ClientMoved.{ClientMoved}
-use Rattle.rc_base.specs.declared.cluster.ClientMoved.TheVariants as moved
-use Rattle.rc_base.specs.declared.state.Parcel.{Parcel}
-use Rattle.rc_base.specs.declared.sync.Request.{Request}
+use Rattle.rc_base.specs.Outside.Causes.{Rose}
+use Rattle.rc_base.specs.declared.cluster.Tally.{Tally}
+use Rattle.rc_base.specs.declared.command.Command.{Command}
 use Rattle.rc_base.specs.declared.window.Layout.{Layout}
+use Rattle.client_issue.specs.Cores.{issued_of, layout_of, left_in, tally_after, tally_in, tally_of_tile, AreSameTallies}
+use Rattle.client_issue.specs.Deeds.{is_loss, issued_up_to, ClientDeed}
+use Rattle.client_issue.specs.Deeds.ClientDeed.{Appends, Requests, FindsTileFull, FindsManagerFull, Finishes, Loses}
 use Rattle.client_issue.specs.Sequence.{IsSame}
-use Rattle.client_issue.specs.Cores.{left_in, layout_of, tally_of_tile, no_tally, tally_after}
-use Rattle.client_issue.specs.Moves.{OnAppended, OnRequested, OnBlockedTile, OnBlockedRequest, OnEnded, IsAppended, IsRequested, IsBlockedTile, IsBlockedRequest, HasEnded}
+use Rattle.client_issue.specs.Steps.{AreTallied, HasGot, IsClientStep, IsCutShort, IsFoundFull, IsLaneAlone, IsNextDeed, MayLack}
 use Rattle.client_issue.specs.declared.client.ClientCore.{ClientCore}
-use Rattle.client_issue.specs.declared.item.Item.{Item}
+use Rattle.client_issue.specs.declared.sender.Sender.{Sender}
 
-pub on_appended : (m : ClientMoved) (F G : ℕ → Type 0) → ((t : ℕ) → F t → G t) → OnAppended m F → OnAppended m G
-on_appended (moved.Appended t) F G f h = f t h
-on_appended moved.Requested F G f h = tt
-on_appended (moved.BlockedTile t) F G f h = tt
-on_appended moved.BlockedRequest F G f h = tt
-on_appended moved.Ended F G f h = tt
+pub same_by : (a b : Sender) → b ≡ a → IsSame a b
+same_by a b e = record { decl = λ i. (e i).decl; stream = λ i. (e i).stream; layout = λ i. (e i).layout; count = λ i. (e i).count }
 
-pub on_requested : (m : ClientMoved) (F G : Type 0) → (F → G) → OnRequested m F → OnRequested m G
-on_requested (moved.Appended t) F G f h = tt
-on_requested moved.Requested F G f h = f h
-on_requested (moved.BlockedTile t) F G f h = tt
-on_requested moved.BlockedRequest F G f h = tt
-on_requested moved.Ended F G f h = tt
+-- a core whose next item was made ready is as it was
+pub record IsAlike (core ready : ClientCore) : Type 0 where
+  pub same : IsSame core.sender ready.sender
+  pub short : ready.short ≡ core.short
+  pub still : core.short ≡ true → issued_of ready ≡ issued_of core
+  pub left : left_in ready ≡ left_in core
+  pub tallies : ready.tallies ≡ core.tallies
 
-pub on_blocked_tile : (m : ClientMoved) (F G : ℕ → Type 0) → ((t : ℕ) → F t → G t) → OnBlockedTile m F → OnBlockedTile m G
-on_blocked_tile (moved.Appended t) F G f h = tt
-on_blocked_tile moved.Requested F G f h = tt
-on_blocked_tile (moved.BlockedTile t) F G f h = f t h
-on_blocked_tile moved.BlockedRequest F G f h = tt
-on_blocked_tile moved.Ended F G f h = tt
-
-pub on_blocked_request : (m : ClientMoved) (F G : Type 0) → (F → G) → OnBlockedRequest m F → OnBlockedRequest m G
-on_blocked_request (moved.Appended t) F G f h = tt
-on_blocked_request moved.Requested F G f h = tt
-on_blocked_request (moved.BlockedTile t) F G f h = tt
-on_blocked_request moved.BlockedRequest F G f h = f h
-on_blocked_request moved.Ended F G f h = tt
-
-pub on_ended : (m : ClientMoved) (F G : Type 0) → (F → G) → OnEnded m F → OnEnded m G
-on_ended (moved.Appended t) F G f h = tt
-on_ended moved.Requested F G f h = tt
-on_ended (moved.BlockedTile t) F G f h = tt
-on_ended moved.BlockedRequest F G f h = tt
-on_ended moved.Ended F G f h = f h
-
--- ---- a core whose next item was made ready is as it was
-
-pub record IsAlike (s t : ClientCore) : Type 0 where
-  pub left : left_in t ≡ left_in s
-  pub layout : layout_of t ≡ layout_of s
-  pub tallies : (tile : ℕ) → tally_of_tile t tile ≡ tally_of_tile s tile
-
-tally_same : (s t : ClientCore) (tile : ℕ) → t.tallies ≡ s.tallies → tally_of_tile t tile ≡ tally_of_tile s tile
-unfolding tally_of_tile
-tally_same s t tile e = λ i. slice_index_or (e i).items tile no_tally
-
-pub alike : (s t : ClientCore) → left_in t ≡ left_in s → IsSame s.sender t.sender → t.tallies ≡ s.tallies → IsAlike s t
-alike s t left same tallies = record { left = left; layout = same.layout; tallies = λ tile. tally_same s t tile tallies }
-
-pub same_twice : (a b c : ClientCore) → IsSame a.sender b.sender → IsSame b.sender c.sender → IsSame a.sender c.sender
+same_twice : (a b c : ClientCore) → IsSame a.sender b.sender → IsSame b.sender c.sender → IsSame a.sender c.sender
 same_twice a b c x y = record { decl = y.decl ∙ x.decl; stream = y.stream ∙ x.stream; layout = y.layout ∙ x.layout; count = y.count ∙ x.count }
 
-pub appended_from : {P : Type 0} (sent : P → List Parcel) (ts us : List P) (s t u : ClientCore) (tile : ℕ) → IsAlike s t → IsAppended sent ts us t u tile → IsAppended sent ts us s u tile
-appended_from sent ts us s t u tile e h = record {
-  parcel = h.parcel;
-  next = sym e.left ∙ h.next;
-  tile = subst (λ (l : Layout). tile < tile_count l) e.layout h.tile;
-  appended = h.appended;
-  others = h.others;
-  tallied = record {
-    counted = h.tallied.counted ∙ ap (λ (y : Tally). tally_after y h.parcel) (e.tallies tile);
-    others = λ other ne. h.tallied.others other ne ∙ e.tallies other;
-  };
+issued_from : (short now : Bool) (before issued up_to : ℕ) → now ≡ short → (short ≡ true → issued ≡ before) → cond now issued up_to ≡ cond short before up_to
+issued_from true now before issued up_to e still = ap (λ b. cond b issued up_to) e ∙ still refl
+issued_from false now before issued up_to e still = ap (λ b. cond b issued up_to) e
+
+module _ (core ready later : ClientCore) (alike : IsAlike core ready) where
+  low : (tile : ℕ) → tile < tile_count (layout_of ready) → tile < tile_count (layout_of core)
+  low tile lt = subst (λ (l : Layout). tile < tile_count l) alike.same.layout lt
+
+  next_from : (did : ClientDeed) → is_loss did ≡ false → IsNextDeed ready did later → IsNextDeed core did later
+  next_from (Appends tile parcel) whole h = (low tile h.0, sym alike.left ∙ h.1)
+  next_from (Requests r) whole h = sym alike.left ∙ h
+  next_from (FindsTileFull tile parcel) whole h = (low tile h.0, record { rest = h.1.rest; next = sym alike.left ∙ h.1.next }, h.2 ∙ alike.left)
+  next_from (FindsManagerFull r) whole h = (record { rest = h.0.rest; next = sym alike.left ∙ h.0.next }, h.1 ∙ alike.left)
+  next_from Finishes whole h = (sym alike.left ∙ h.0, h.1)
+  next_from Loses whole h = absurd (true≢false whole)
+
+  tally_from : (tile : ℕ) → tally_of_tile ready tile ≡ tally_of_tile core tile
+  tally_from tile = λ i. tally_in (alike.tallies i).items tile
+
+  same_from : AreSameTallies ready later → AreSameTallies core later
+  same_from h tile = h tile ∙ tally_from tile
+
+  tallied_from : (did : ClientDeed) → AreTallied ready did later → AreTallied core did later
+  tallied_from (Appends tile parcel) h = record {
+    counted = h.counted ∙ ap (λ (t : Tally). tally_after t parcel) (tally_from tile);
+    others = λ other ne. h.others other ne ∙ tally_from other;
+  }
+  tallied_from (Requests r) h = same_from h
+  tallied_from (FindsTileFull tile parcel) h = same_from h
+  tallied_from (FindsManagerFull r) h = same_from h
+  tallied_from Finishes h = same_from h
+  tallied_from Loses h = same_from h
+
+  pub step_from : (did : ClientDeed) → is_loss did ≡ false → IsClientStep ready did later → IsClientStep core did later
+  step_from did whole h = record {
+    same = same_twice core ready later alike.same h.same;
+    short = h.short ∙ ap (cond (is_loss did) true) alike.short;
+    ample = λ loss. absurd (true≢false (sym loss ∙ whole));
+    next = next_from did whole h.next;
+    issued = λ _.
+        h.issued whole
+        ∙ issued_from core.short ready.short (issued_of core) (issued_of ready) (issued_up_to (length ready.sender.stream) did) alike.short alike.still
+        ∙ ap (λ (cs : List Command). cond core.short (issued_of core) (issued_up_to (length cs) did)) alike.same.stream;
+    tallied = tallied_from did h.tallied;
+  }
+
+pub step_lost : (core later : ClientCore) → IsSame core.sender later.sender → later.short ≡ true → MayLack core → IsCutShort core later → later.tallies ≡ core.tallies
+    → IsClientStep core Loses later
+step_lost core later same short may cut tallies = record {
+  same = same;
+  short = short;
+  ample = λ _. may;
+  next = cut;
+  issued = λ gains. absurd (true≢false gains);
+  tallied = λ tile i. tally_in (tallies i).items tile;
 }
 
-pub blocked_from : {P : Type 0} (sent : P → List Parcel) (rose : P → P → Type 0) (ts us : List P) (s t u : ClientCore) (tile : ℕ) → IsAlike s t
-    → IsBlockedTile sent rose ts us t u tile → IsBlockedTile sent rose ts us s u tile
-blocked_from sent rose ts us s t u tile e h = record {
-  parcel = h.parcel;
-  rest = h.rest;
-  next = sym e.left ∙ h.next;
-  kept = h.kept ∙ e.left;
-  tile = subst (λ (l : Layout). tile < tile_count l) e.layout h.tile;
-  same = h.same;
-  cause = h.cause;
-  others = h.others;
-  tallies = λ k. h.tallies k ∙ e.tallies k;
-}
+-- ---- one lane of several
 
-pub requested_from : (xs ys : List Request) (s t u : ClientCore) → IsAlike s t → IsRequested xs ys t u → IsRequested xs ys s u
-requested_from xs ys s t u e h = record { request = h.request; next = sym e.left ∙ h.next; appended = h.appended; tallies = λ k. h.tallies k ∙ e.tallies k }
+module _ {T P : Type 0} (sent : P → List T) (full_seen : P → ℕ) (full : P → Type 0) (before after : List P) (n tile : ℕ) (is : n ≡ tile)
+    (others : EachLane (λ i a b. i ≢ n → b ≡ a) before after) where
+  pub got : (item : T) → EachLane (λ i a b. i ≡ n → sent b ≡ sent a ++ item ∷ []) before after → EachLane (λ i a b. i ≡ n → full_seen b ≡ full_seen a) before after
+      → IsLaneAlone tile (HasGot sent full_seen full item) before after
+  got item appended counted = subst (λ (k : ℕ). IsLaneAlone k (HasGot sent full_seen full item) before after) is (record {
+    here = record { count = appended.count; at = λ i d lt e. record { appended = appended.at i d lt e; counted = counted.at i d lt e } };
+    others = others;
+  })
 
-pub blocked_request_from : (s t u : ClientCore) → IsAlike s t → IsBlockedRequest t u → IsBlockedRequest s u
-blocked_request_from s t u e h = record { request = h.request; rest = h.rest; next = sym e.left ∙ h.next; kept = h.kept ∙ e.left; tallies = λ k. h.tallies k ∙ e.tallies k }
-
-pub ended_from : (s t u : ClientCore) → IsAlike s t → left_in t ≡ [] → u ≡ t → HasEnded s u
-ended_from s t u e none same = record {
-  nothing = sym e.left ∙ none;
-  still = ap left_in same ∙ none;
-  tallies = λ k. ap (λ (z : ClientCore). tally_of_tile z k) same ∙ e.tallies k;
-}
-
-pub not_none : (o : Option Item) → is_some o ≡ true → o ≡ None → ⊥
-not_none None h e = absurd cc
-not_none (Some i) h e = absurd cc
+  pub found_full : EachLane (λ i a b. i ≡ n → sent b ≡ sent a) before after
+      → EachLane (λ i a b. i ≡ n → Rose (full_seen a) (full_seen b) × full b) before after
+      → IsLaneAlone tile (IsFoundFull sent full_seen full) before after
+  found_full same cause = subst (λ (k : ℕ). IsLaneAlone k (IsFoundFull sent full_seen full) before after) is (record {
+    here = record { count = same.count; at = λ i d lt e. record { same = same.at i d lt e; cause = (cause.at i d lt e).0; full_is = (cause.at i d lt e).1 } };
+    others = others;
+  })

@@ -1,5 +1,5 @@
 -- What a core has still to send.
-use Rattle.std.specs.Prelude.{◌≡◌, ◌≢◌, ℕ, min, slice_index_or, ◌+◌, ◌-◌, ◌<◌, ◌≤◌, ◌^◌, Bool, false, nat_le, List, [], ◌∷◌, ◌++◌, length, IfSome, if◌then◌else◌}
+use Rattle.std.specs.Prelude.{◌≡◌, ◌≢◌, ℕ, min, slice_index_or, ◌+◌, ◌-◌, Bool, nat_le, List, [], ◌∷◌, ◌++◌, length, Option, if◌then◌else◌}
 use Rattle.std.specs.List.{flat_map, range_with_len}
 use Rattle.rc_base.specs.Contexts.Issue.{stream_of}
 use Rattle.rc_base.specs.Cluster.Tiles.{tile_count}
@@ -11,15 +11,27 @@ use Rattle.rc_base.specs.declared.scene.Scene.{Scene}
 use Rattle.rc_base.specs.declared.state.Parcel.{Parcel}
 use Rattle.rc_base.specs.declared.sync.Request.TheVariants as request
 use Rattle.rc_base.specs.declared.window.Layout.{Layout}
-use Rattle.client_issue.specs.Sequence.{IsForTile, IsSame, IsSending, left_of, items_of}
+use Rattle.client_issue.specs.Sequence.{IsSame, left_of, items_of}
 use Rattle.client_issue.specs.declared.client.ClientCore.{ClientCore}
+use Rattle.client_issue.specs.declared.item.Item.{Item}
+use Rattle.client_issue.specs.declared.sender.Sender.{Sender}
 
 abbrev pub layout_of : ClientCore → Layout
 layout_of core = core.sender.layout
 
+-- how many commands its client has
+abbrev pub commands_of : ClientCore → ℕ
+commands_of core = length core.sender.stream
+
+-- how many of them were issued
+abbrev pub issued_of : ClientCore → ℕ
+issued_of core = core.sender.issued
+
 -- memory was wanting
 abbrev pub short_of : ClientCore → Bool
 short_of core = core.short
+
+-- ---- what is left
 
 -- the End parcels to the tiles from one on, and the End request; nothing when it was sent
 unfoldable pub ends_from : Layout → ℕ → ℕ → List Sending
@@ -28,9 +40,17 @@ ends_from l place tile =
     then flat_map (λ t. ToTile t (end_parcel place) ∷ []) (range_with_len tile (tile_count l - tile)) ++ ToManager request.End ∷ []
     else []
 
--- all that a core has still to send, in its sequence
-unfoldable pub left_in : ClientCore → List Sending
-left_in core = items_of core.ready ++ (left_of core.sender ++ ends_from core.sender.layout (length core.sender.stream) core.ends)
+-- what its commands have still to give; nothing where memory was wanting
+abbrev pub commands_left : Bool → Sender → List Sending
+commands_left short s = if short then [] else left_of s
+
+-- an item that is ready, then what the commands have still to give, then the Ends from one tile on
+unfoldable pub left_by : Sender → Option Item → ℕ → Bool → List Sending
+left_by s ready ends short = items_of ready ++ (commands_left short s ++ ends_from s.layout (length s.stream) ends)
+
+-- all that a core has still to send, in its sequence: a short one its End parcels and its End request alone
+abbrev pub left_in : ClientCore → List Sending
+left_in core = left_by core.sender core.ready core.ends core.short
 
 -- the core is that of a client of a scene, for tiles in this layout
 pub record IsClientOf (core : ClientCore) (scene : Scene) (client : ℕ) (l : Layout) : Type 0 where
@@ -38,19 +58,10 @@ pub record IsClientOf (core : ClientCore) (scene : Scene) (client : ℕ) (l : La
   pub stream : core.sender.stream ≡ stream_of scene client
   pub layout : core.sender.layout ≡ l
 
--- What holds of a core at any time. One that isn't short knows what its tiles were told.
-pub record IsClient (core : ClientCore) : Type 0 where
-  pub few : length core.sender.stream < 2 ^ 32
-  pub count : core.sender.count ≡ tile_count core.sender.layout
-  pub tiles : core.sender.count ≤ 32
-  pub tallied : length core.tallies.items ≡ core.sender.count
-  pub ends : core.ends ≤ core.sender.count + 1
-  pub ready : IfSome core.ready (IsForTile core.sender.count)
-  pub sending : core.short ≡ false → IsSending core.sender
-  pub over : core.short ≡ false → 0 < core.ends → (left_of core.sender ≡ []) × (core.sender.issued ≡ length core.sender.stream)
-
 abbrev pub IsSameCore : ClientCore → ClientCore → Type 0
 IsSameCore a b = IsSame a.sender b.sender
+
+-- ---- tallies
 
 -- a tally after one more parcel; a count stands still at its type's end
 abbrev pub tally_after : Tally → Parcel → Tally
@@ -59,9 +70,12 @@ tally_after t p = record { parcels = min (t.parcels + 1) last_count; sets = min 
 abbrev pub no_tally : Tally
 no_tally = record { parcels = 0; sets = 0; looks = 0 }
 
+unfoldable pub tally_in : List Tally → ℕ → Tally
+tally_in tallies tile = slice_index_or tallies tile no_tally
+
 -- the tally of a tile
-unfoldable pub tally_of_tile : ClientCore → ℕ → Tally
-tally_of_tile core tile = slice_index_or core.tallies.items tile no_tally
+abbrev pub tally_of_tile : ClientCore → ℕ → Tally
+tally_of_tile core tile = tally_in core.tallies.items tile
 
 -- the tile's tally counts one more parcel, and no other is changed
 pub record IsTallied (before after : ClientCore) (tile : ℕ) (p : Parcel) : Type 0 where

@@ -3,8 +3,9 @@ pub mod First
 pub mod Sequence
 pub mod Issued
 pub mod Cores
-pub mod Moves
+pub mod Deeds
+pub mod Steps
 pub mod Kept
 pub mod Laws
 pub mod Turns
-pub mod Views
+pub mod Clauses

@@ -1,7 +1,9 @@
 -- What a client that has issued some of its commands has still to give.
-use Rattle.std.specs.Prelude.{◌≡◌, ℕ, ◌+◌, ◌-◌, ◌<◌, ◌≤◌, ◌^◌, true, nat_lt, List, [], ◌∷◌, ◌++◌, length, map, Option, Some, IfSome, if◌then◌else◌}
+use Rattle.std.specs.Prelude.{◌≡◌, ℕ, min, ◌+◌, ◌-◌, ◌<◌, ◌≤◌, ◌^◌, ◌&&◌, Bool, true, false, nat_lt, is_none, List, [], ◌∷◌, ◌++◌, length, map, Option, Some, IfSome, if◌then◌else◌}
 use Rattle.std.specs.List.{flat_map, range_with_len, AllByRecursion}
-use Rattle.std.specs.Option.{option_map_or}
+use Rattle.std.specs.Option.{option_map_or, ForSome}
+use Rattle.std.specs.Coded.{Unit-prop, le_prop}
+use Rattle.std.proofs.Props.{props}
 use Rattle.rc_base.specs.Formats.Commands.{IsCommand}
 use Rattle.rc_base.specs.Contexts.Issue.{stream_of, context_after, effect_at}
 use Rattle.rc_base.specs.Orders.Journal.{has}
@@ -12,6 +14,7 @@ use Rattle.rc_base.specs.Cluster.Sending.{Sending, ToTile, ToManager, sent_at, r
 use Rattle.rc_base.specs.declared.command.Command.{Command}
 use Rattle.rc_base.specs.declared.scene.Decl.{Decl}
 use Rattle.rc_base.specs.declared.scene.Scene.{Scene}
+use Rattle.rc_base.specs.declared.sync.Request.TheVariants as request
 use Rattle.rc_base.specs.declared.sync.WaitAt.{WaitAt}
 use Rattle.rc_base.specs.declared.window.Layout.{Layout}
 use Rattle.state_update.specs.Knowledge.{Knows}
@@ -60,10 +63,24 @@ item_of (item.Request r) = ToManager r
 abbrev pub items_of : Option Item → List Sending
 items_of o = option_map_or (λ i. item_of i ∷ []) o []
 
+-- of so many commands, how many were issued where this item comes next: those up to its own, and all where it is an End
+abbrev pub issued_for : ℕ → Sending → ℕ
+issued_for count (ToTile tile p) = min (p.place + 1) count
+issued_for count (ToManager (request.Op place op)) = place + 1
+issued_for count (ToManager request.End) = count
+
+-- the command issued last, of so many, is the item's own, or the item is an End and all were issued
+abbrev pub IsOfLast : ℕ → ℕ → Item → Type 0
+IsOfLast count issued i = issued ≡ issued_for count (item_of i)
+
 -- the item is for one of so many tiles, or for the manager
 abbrev pub IsForTile : ℕ → Item → Type 0
 IsForTile count (item.Parcel tile p) = tile < count
 IsForTile count (item.Request r) = Unit {0}
+
+pub IsForTile-prop : (count : ℕ) (i : Item) → IsProp (IsForTile count i)
+IsForTile-prop count (item.Parcel tile p) = le_prop
+IsForTile-prop count (item.Request r) = Unit-prop
 
 -- how many commands' parcels a tile was given
 abbrev pub heard : Option Pending → ℕ → ℕ → ℕ
@@ -87,15 +104,38 @@ pub record IsSame (a b : Sender) : Type 0 where
 -- A client that has issued some of its commands, of the last of which these parcels are pending, and knows what its tiles were told.
 pub record IsSendingWith (s : Sender) (o : Option Pending) : Type 0 where
   pub few : length s.stream < 2 ^ 32
-  pub commands : AllByRecursion IsCommand s.stream
+  pub commands : ∥ AllByRecursion IsCommand s.stream ∥₁
   pub count : s.count ≡ tile_count s.layout
   pub tiles : s.count ≤ 32
   pub issued : s.issued ≤ length s.stream
   pub context : s.context ≡ context_after (scene_of s) 0 s.issued
   pub ops : s.ops ≡ waits_below (scene_of s) 0 s.issued
   pub tracked : length s.tracker ≡ s.count
-  pub known : (tile : ℕ) → tile < s.count → Knows s.tracker tile (told s.decl (parcels_before (scene_of s) s.layout 0 tile (heard o s.issued tile)))
+  pub known : (tile : ℕ) → tile < s.count → ∥ Knows s.tracker tile (told s.decl (parcels_before (scene_of s) s.layout 0 tile (heard o s.issued tile))) ∥₁
   pub pending : IfSome o (IsPending (scene_of s) s.layout s.issued)
+  pub asking : (w : WaitAt) → s.request ≡ Some w → s.issued ≡ w.place + 1
 
 abbrev pub IsSending : Sender → Type 0
 IsSending s = IsSendingWith s s.pending
+
+-- each command was issued, and all that it gives was given
+pub record IsOver (s : Sender) : Type 0 where
+  pub resting : (is_none s.pending && is_none s.request) ≡ true
+  pub issued : s.issued ≡ length s.stream
+
+-- ---- a core
+
+-- What holds of a core's sender, the item that waits for its lane, the tile of the next End, and whether the core is short. One that isn't knows what
+-- its tiles were told; the item that waits is of the command issued last, or an End; and the Ends come when all commands are over.
+pub record IsInOrder (s : Sender) (ready : Option Item) (ends : ℕ) (short : Bool) : Type 0 where
+  pub fits : IfSome ready (IsForTile s.count)
+  pub last : short ≡ false → ForSome ready (IsOfLast (length s.stream) s.issued)
+  pub sending : short ≡ false → IsSending s
+  pub over : short ≡ false → 0 < ends → IsOver s
+
+unfoldable pub IsSound : Sender → Option Item → ℕ → Bool → Type 0
+IsSound s ready ends short = IsInOrder s ready ends short
+
+pub IsSound-prop : (s : Sender) (ready : Option Item) (ends : ℕ) (short : Bool) → IsProp (IsSound s ready ends short)
+unfolding IsSound
+IsSound-prop s ready ends short = Prim.hlevel (props, IsForTile-prop)

@@ -42,7 +42,8 @@ pub(crate) fn copy_of_act(alloc: Global, act: &Act) -> Result<Act, OutOfMemory>
     }
 }
 
-pub(crate) fn copy_of_decl(alloc: Global, decl: &Decl) -> Result<Decl, OutOfMemory>
+/// A copy of a declaration.
+pub fn copy_of_decl(alloc: Global, decl: &Decl) -> Result<Decl, OutOfMemory>
     ensures { IfOk result (λ d. d ≡ decl.now) }
 {
     Ok(Decl {

@@ -2,10 +2,11 @@
 ghost use Rattle.std.specs.Prelude.{◌≡◌, ℕ, ◌<◌, ◌≤◌, ◌^◌, length, replicate, IfOk, None, false, [], ◌∷◌};
 ghost use Rattle.std.specs.List.{AllByRecursion};
 ghost use Rattle.rc_base.specs.Formats.Commands.{IsCommand};
+ghost use Rattle.rc_base.specs.Formats.Within.{IsWithin, IsLayoutFor};
 ghost use Rattle.rc_base.specs.Contexts.Issue.{stream_of};
 ghost use Rattle.rc_base.specs.Cluster.Tiles.{tile_count};
 ghost use Rattle.rc_base.specs.Cluster.Sending.{sent_by};
-ghost use Rattle.client_issue.specs.Cores.{IsClient, IsClientOf, layout_of, left_in, short_of, no_tally, tally_of_tile};
+ghost use Rattle.client_issue.specs.Cores.{IsClientOf, issued_of, layout_of, left_in, short_of, no_tally, tally_of_tile};
 ghost use Rattle.client_issue.specs.Sequence.{IsSending, alone, left_of, sent_from};
 
 use crate::client::ClientCore;
@@ -38,6 +39,7 @@ fn first_sender(
     ensures stream { IfOk result (λ s. s.stream ≡ stream) }
     ensures layout { IfOk result (λ s. s.layout ≡ layout.now) }
     ensures count { IfOk result (λ s. s.count ≡ count) }
+    ensures issued { IfOk result (λ s. s.issued ≡ 0) }
     ensures sending { IfOk result IsSending }
     ensures left { IfOk result (λ s. left_of s ≡ sent_from (alone decl.now stream) layout.now 0) }
 {
@@ -89,8 +91,9 @@ fn commands_of(scene: &Scene, client: u8) -> &[Command]
 }
 
 impl ClientCore {
-    /// The core of a client of a scene, with a copy of its commands, before its first step. The layout has at most 32 tiles, the client's
-    /// stream fewer than 2^32 commands, and each of their fields is in its range, as in every scene that was read. End parcels take no memory.
+    /// The core of a client of a scene, with a copy of its commands, before its first step. The scene is within the limits, and the layout is
+    /// one for it with lanes of some depth. End parcels take no memory.
+    #[tactic(auto, unfolding(crate::specs::Sequence::IsSound))]
     pub fn new(
         alloc: Global,
         scene: &Scene,
@@ -98,12 +101,11 @@ impl ClientCore {
         layout: &Layout,
     ) -> Result<ClientCore, OutOfMemory>
         requires client { client < length scene.now.streams }
-        requires few { length (stream_of scene.now client) < 2 ^ 32 }
-        requires commands { AllByRecursion IsCommand (stream_of scene.now client) }
-        requires tiles { tile_count layout.now ≤ 32 }
-        ensures client { IfOk result IsClient }
+        requires within { IsWithin scene.now }
+        requires layout { (depth : ℕ) × IsLayoutFor scene.now layout.now depth }
         ensures whose { IfOk result (λ core. IsClientOf core scene.now client layout.now) }
         ensures short { IfOk result (λ core. short_of core ≡ false) }
+        ensures issued { IfOk result (λ core. issued_of core ≡ 0) }
         ensures left { IfOk result (λ core. left_in core ≡ sent_by scene.now layout.now client) }
         ensures tallies { IfOk result (λ core. (tile : ℕ) → tally_of_tile core tile ≡ no_tally) }
     {
@@ -123,10 +125,9 @@ impl ClientCore {
     }
 
     /// How many parcels went to a tile so far, and how many elements they set.
-    #[tactic(auto, unfolding(crate::specs::Cores::tally_of_tile))]
+    #[tactic(auto, unfolding(crate::specs::Cores::tally_in))]
     pub fn tallies(&self, tile: u8) -> Tally
-        requires client { IsClient self.now }
-        requires tile { tile < tile_count (layout_of self.now) }
+        requires { tile < tile_count (layout_of self.now) }
         ensures { result ≡ tally_of_tile self.now tile }
     {
         self.tallies[usize::from(tile)]

@@ -1,10 +1,10 @@
 //! The next parcel or request of the command that was issued last.
-ghost use Rattle.std.specs.Prelude.{◌≡◌, ◌≢◌, ℕ, ◌<◌, ◌≤◌, ◌++◌, ◌∷◌, [], length, IfOk, OnOk, IfNone, IfSome, None, Some};
+ghost use Rattle.std.specs.Prelude.{◌≡◌, ◌≢◌, ℕ, ◌<◌, ◌≤◌, ◌++◌, ◌∷◌, length, IfOk, OnOk, OnErr, IfNone, IfSome, None, Some};
 ghost use Rattle.rc_base.specs.Cluster.Sending.{ToTile, ToManager};
 ghost use Rattle.rc_base.specs.declared.state.ElementValue.{ElementValue};
 ghost use Rattle.state_update.specs.Knowledge.{HasBoundTexture, Knows, after_sets};
 ghost use Rattle.client_issue.specs.Acts.{act_sets};
-ghost use Rattle.client_issue.specs.Sequence.{IsForTile, IsSame, IsSending, IsSendingWith, left_of, left_with, item_of, items_of};
+ghost use Rattle.client_issue.specs.Sequence.{IsForTile, IsOfLast, IsOver, IsSame, IsSending, IsSendingWith, left_of, left_with, item_of, items_of};
 
 use crate::acts::next_tile;
 use crate::copies::copy_of_act;
@@ -51,6 +51,7 @@ impl Sender {
         ensures sending { OnOk result (IsSending self.new) }
         ensures left { IfOk result (λ i. left_with self.old (Some pending) ≡ item_of i ∷ left_of self.new) }
         ensures tile { IfOk result (IsForTile self.old.count) }
+        ensures next { IfOk result (IsOfLast (length self.old.stream) self.new.issued) }
     {
         contexts_of_streams_are_valid();
         streams_go_on_by_issue();
@@ -97,8 +98,9 @@ impl Sender {
         ensures same { IsSame self.old self.new }
         ensures sending { IsSending self.new }
         ensures left { left_of self.old ≡ items_of result ++ left_of self.new }
-        ensures all { IfNone result ((left_of self.new ≡ []) × (self.new.issued ≡ length self.new.stream)) }
+        ensures all { IfNone result (IsOver self.new) }
         ensures tile { IfSome result (IsForTile self.old.count) }
+        ensures next { IfSome result (IsOfLast (length self.old.stream) self.new.issued) }
     {
         let Some(wait) = self.request.take() else {
             return None;
@@ -116,8 +118,10 @@ impl Sender {
         ensures same { IsSame self.old self.new }
         ensures sending { OnOk result (IsSending self.new) }
         ensures left { IfOk result (λ o. left_of self.old ≡ items_of o ++ left_of self.new) }
-        ensures all { IfOk result (λ o. IfNone o ((left_of self.new ≡ []) × (self.new.issued ≡ length self.new.stream))) }
+        ensures all { IfOk result (λ o. IfNone o (IsOver self.new)) }
         ensures tile { IfOk result (λ o. IfSome o (IsForTile self.old.count)) }
+        ensures next { IfOk result (λ o. IfSome o (IsOfLast (length self.old.stream) self.new.issued)) }
+        ensures err { OnErr result (IsOver self.old → ⊥) }
     {
         match self.pending.take() {
             Some(pending) => Ok(Some(self.give_parcel(pending)?)),
@@ -131,8 +135,10 @@ impl Sender {
         ensures same { IsSame self.old self.new }
         ensures sending { OnOk result (IsSending self.new) }
         ensures left { IfOk result (λ o. left_of self.old ≡ items_of o ++ left_of self.new) }
-        ensures all { IfOk result (λ o. IfNone o ((left_of self.new ≡ []) × (self.new.issued ≡ length self.new.stream))) }
+        ensures all { IfOk result (λ o. IfNone o (IsOver self.new)) }
         ensures tile { IfOk result (λ o. IfSome o (IsForTile self.old.count)) }
+        ensures next { IfOk result (λ o. IfSome o (IsOfLast (length self.old.stream) self.new.issued)) }
+        ensures err { OnErr result (IsOver self.old → ⊥) }
     {
         'issuing: while self.is_resting() && (self.issued as usize) < self.stream.len() {
             self.issue_next()?;

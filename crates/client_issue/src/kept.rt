@@ -2,7 +2,7 @@
 ghost use Rattle.std.specs.Prelude.{◌≡◌, ℕ, ◌<◌, ◌^◌, false, length};
 ghost use Rattle.rc_base.specs.declared.scene.Scene.{Scene};
 ghost use Rattle.rc_base.specs.declared.window.Layout.{Layout};
-ghost use Rattle.client_issue.specs.Cores.{IsClient, IsClientOf, short_of};
+ghost use Rattle.client_issue.specs.Cores.{IsClientOf, short_of};
 ghost use Rattle.client_issue.specs.Kept.{IsKept};
 
 use crate::client::{ClientCore, ClientKept};
@@ -28,7 +28,6 @@ impl ClientCore {
     /// The accepted operations and the faults of the commands issued so far, which are those of the whole stream where all was sent, and the
     /// tallies, one for each tile. It takes no memory.
     pub fn into_kept(self) -> ClientKept
-        requires { IsClient self }
         ensures { (scene : Scene) (client : ℕ) (l : Layout) → IsClientOf self scene client l → short_of self ≡ false → IsKept self scene client result }
     {
         let (syncs, faults) = self.sender.into_row();

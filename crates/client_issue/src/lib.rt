@@ -18,3 +18,5 @@ mod sender;
 mod step;
 
 pub use client::{ClientCore, ClientKept};
+pub use copies::copy_of_decl;
+pub use rc_base::cluster::Tally;

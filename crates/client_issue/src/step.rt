@@ -1,12 +1,12 @@
 //! A step of the core: at most one item is appended.
-ghost use Rattle.std.specs.Prelude.{◌≡◌, ◌≢◌, ℕ, ◌+◌, ◌<◌, ◌≤◌, ◌^◌, ◌++◌, ◌∷◌, [], ◌↔◌, length, true, false, IfOk, OnOk, OnErr, IfNone, IfSome, Some, None, Ok};
-ghost use Rattle.rc_base.specs.Outside.Causes.{Rose};
+ghost use Rattle.std.specs.Prelude.{◌≡◌, ◌≢◌, ℕ, ◌+◌, ◌<◌, ◌≤◌, ◌++◌, ◌∷◌, [], length, true, false, IfOk, OnOk, OnErr, IfNone, IfSome, Some, None, Ok};
 ghost use Rattle.rc_base.specs.Cluster.Lanes.{EachLane};
 ghost use Rattle.rc_base.specs.Cluster.Tiles.{tile_count};
 ghost use Rattle.rc_base.specs.declared.state.Parcel.{Parcel};
-ghost use Rattle.client_issue.specs.Cores.{IsClient, IsSameCore, left_in, short_of, layout_of, ends_from, tally_after, IsTallied};
-ghost use Rattle.client_issue.specs.Moves.{OnAppended, OnRequested, OnBlockedTile, OnBlockedRequest, OnEnded, IsAppended, IsRequested, IsBlockedTile, IsBlockedRequest, HasEnded};
-ghost use Rattle.client_issue.specs.Sequence.{IsForTile, left_of, items_of};
+ghost use Rattle.client_issue.specs.Cores.{commands_left, commands_of, ends_from, issued_of, layout_of, left_in, short_of, IsSameCore, IsTallied};
+ghost use Rattle.client_issue.specs.Deeds.{answer_of, is_loss, ClientDeed};
+ghost use Rattle.client_issue.specs.Sequence.{items_of, IsForTile, IsOfLast, IsOver};
+ghost use Rattle.client_issue.specs.Steps.{AreSent, IsClientStep, IsCutShort, IsRequested, MayLack};
 
 use crate::client::ClientCore;
 use crate::item::Item;
@@ -19,13 +19,19 @@ use rc_base::sync::Request;
 
 impl ClientCore {
     // The next End parcel or the End request. It takes no memory.
+    #[tactic(auto, unfolding(crate::specs::Sequence::IsSound))]
     fn next_end(&mut self) -> Option<Item>
-        requires { IsClient self.old }
-        ensures sender { self.new ≡ record self.old { ends = self.new.ends } }
-        ensures ends { self.new.ends ≤ self.old.sender.count + 1 }
-        ensures left { ends_from self.old.sender.layout (length self.old.sender.stream) self.old.ends ≡ items_of result ++ ends_from self.old.sender.layout (length self.old.sender.stream) self.new.ends }
+        requires { self.old.short ≡ false → IsOver self.old.sender }
+        ensures sender { self.new.sender ≡ self.old.sender }
+        ensures waits { self.new.ready ≡ self.old.ready }
+        ensures short { self.new.short ≡ self.old.short }
+        ensures tallies { self.new.tallies ≡ self.old.tallies }
+        ensures left { ends_from (layout_of self.old) (commands_of self.old) self.old.ends
+            ≡ items_of result ++ ends_from (layout_of self.old) (commands_of self.old) self.new.ends }
         ensures tile { IfSome result (IsForTile self.old.sender.count) }
-        ensures all { IfNone result (ends_from self.old.sender.layout (length self.old.sender.stream) self.new.ends ≡ []) }
+        ensures next { IfSome result (IsOfLast (commands_of self.old) (commands_of self.old)) }
+        ensures none { IfNone result ((0 < self.new.ends)
+            × (ends_from (layout_of self.old) (commands_of self.old) self.new.ends ≡ [])) }
     {
         let tile = self.ends;
         if tile > self.sender.count {
@@ -44,17 +50,20 @@ impl ClientCore {
     }
 
     // The next item of a command, while one gives any.
+    #[tactic(auto, unfolding(crate::specs::Sequence::IsSound))]
     fn next_of_commands(&mut self) -> Result<Option<Item>, OutOfMemory>
-        requires client { IsClient self.old }
-        requires empty { self.old.ready ≡ None }
-        ensures client { IsClient self.new }
+        requires { self.old.ready ≡ None }
         ensures same { IsSameCore self.old self.new }
         ensures rest { (self.new.ready ≡ None) × (self.new.ends ≡ self.old.ends) × (self.new.tallies ≡ self.old.tallies) }
         ensures short { OnOk result (self.new.short ≡ self.old.short) }
-        ensures err { OnErr result (self.new.short ≡ true) }
-        ensures left { IfOk result (λ o. self.old.short ≡ false → left_of self.old.sender ≡ items_of o ++ left_of self.new.sender) }
-        ensures all { IfOk result (λ o. self.old.short ≡ false → IfNone o ((left_of self.new.sender ≡ []) × (self.new.sender.issued ≡ length self.new.sender.stream))) }
+        ensures still { self.old.short ≡ true → self.new.sender.issued ≡ self.old.sender.issued }
+        ensures err { OnErr result (MayLack self.old × (self.old.ends ≡ 0) × (self.new.short ≡ true)) }
+        ensures left { IfOk result (λ o. commands_left self.old.short self.old.sender
+            ≡ items_of o ++ commands_left self.new.short self.new.sender) }
+        ensures all { IfOk result (λ o. IfNone o (commands_left self.new.short self.new.sender ≡ [])) }
+        ensures over { IfOk result (λ o. self.old.short ≡ false → IfNone o (IsOver self.new.sender)) }
         ensures tile { IfOk result (λ o. IfSome o (IsForTile self.old.sender.count)) }
+        ensures next { IfOk result (λ o. self.old.short ≡ false → IfSome o (IsOfLast (commands_of self.old) (issued_of self.new))) }
     {
         if self.short {
             return Ok(None);
@@ -72,16 +81,16 @@ impl ClientCore {
     }
 
     // Makes the next item ready, if one is left.
+    #[tactic(auto, unfolding(crate::specs::Sequence::IsSound))]
     fn prepare(&mut self) -> Result<(), OutOfMemory>
-        requires client { IsClient self.old }
-        requires empty { self.old.ready ≡ None }
-        ensures client { IsClient self.new }
+        requires { self.old.ready ≡ None }
         ensures same { IsSameCore self.old self.new }
         ensures tallies { self.new.tallies ≡ self.old.tallies }
         ensures short { OnOk result (self.new.short ≡ self.old.short) }
-        ensures err { OnErr result (self.new.short ≡ true) }
-        ensures left { OnOk result (self.old.short ≡ false → left_in self.new ≡ left_in self.old) }
-        ensures all { OnOk result (self.old.short ≡ false → self.new.ready ≡ None → left_in self.new ≡ []) }
+        ensures still { self.old.short ≡ true → issued_of self.new ≡ issued_of self.old }
+        ensures err { OnErr result (MayLack self.old × (self.new.short ≡ true) × IsCutShort self.old self.new) }
+        ensures left { OnOk result (left_in self.new ≡ left_in self.old) }
+        ensures none { OnOk result (self.new.ready ≡ None → (0 < self.new.ends) × (left_in self.new ≡ [])) }
     {
         if let Some(item) = self.next_of_commands()? {
             self.ready = Some(item);
@@ -92,10 +101,11 @@ impl ClientCore {
     }
 
     fn count_parcel(&mut self, tile: u8, sets: usize)
-        requires client { IsClient self.old }
-        requires tile { tile < self.old.sender.count }
-        ensures rest { self.new ≡ record self.old { tallies = self.new.tallies } }
-        ensures client { IsClient self.new }
+        requires { tile < self.old.sender.count }
+        ensures sender { self.new.sender ≡ self.old.sender }
+        ensures waits { self.new.ready ≡ self.old.ready }
+        ensures ends { self.new.ends ≡ self.old.ends }
+        ensures short { self.new.short ≡ self.old.short }
         ensures tallied { (p : Parcel) → length p.sets ≡ sets → IsTallied self.old self.new tile p }
     {
         let tally = &mut self.tallies[usize::from(tile)];
@@ -104,22 +114,20 @@ impl ClientCore {
     }
 
     // Appends the item that is ready to its lane, or keeps it where that lane is full.
+    #[tactic(auto, unfolding(crate::specs::Sequence::IsSound))]
     fn send<P: Outlet<Parcel>, Q: Outlet<Request>>(
         &mut self,
         tiles: &mut [P],
         requests: &mut Q,
     ) -> ClientMoved
-        requires client { IsClient self.old }
         requires lanes { length tiles.old ≡ tile_count (layout_of self.old) }
-        ensures client { IsClient self.new }
-        ensures same { IsSameCore self.old self.new }
-        ensures short { self.new.short ≡ self.old.short }
-        ensures lane_of { EachLane (λ i a b. P.lane_of b ≡ P.lane_of a) tiles.old tiles.new × (Q.lane_of requests.new ≡ Q.lane_of requests.old) }
-        ensures appended { OnAppended result (λ t. IsAppended P.sent tiles.old tiles.new self.old self.new t × (requests.new ≡ requests.old)) }
-        ensures requested { OnRequested result (IsRequested (Q.sent requests.old) (Q.sent requests.new) self.old self.new × (tiles.new ≡ tiles.old)) }
-        ensures blocked_tile { OnBlockedTile result (λ t. IsBlockedTile P.sent (λ a b. Rose (P.full_seen a) (P.full_seen b) × P.full b) tiles.old tiles.new self.old self.new t × (requests.new ≡ requests.old)) }
-        ensures blocked_request { OnBlockedRequest result (IsBlockedRequest self.old self.new × (Q.sent requests.new ≡ Q.sent requests.old) × Rose (Q.full_seen requests.old) (Q.full_seen requests.new) × Q.full requests.new × (tiles.new ≡ tiles.old)) }
-        ensures ended { OnEnded result ((self.old.ready ≡ None) × (self.new ≡ self.old) × (tiles.new ≡ tiles.old) × (requests.new ≡ requests.old)) }
+        requires none { self.old.ready ≡ None → (0 < self.old.ends) × (left_in self.old ≡ []) }
+        ensures tile_lanes { EachLane (λ i a b. P.lane_of b ≡ P.lane_of a) tiles.old tiles.new }
+        ensures request_lane { Q.lane_of requests.new ≡ Q.lane_of requests.old }
+        ensures step { (did : ClientDeed) × (is_loss did ≡ false) × (answer_of did ≡ Ok result)
+            × IsClientStep self.old did self.new
+            × AreSent P.sent P.full_seen P.full did tiles.old tiles.new
+            × IsRequested Q.sent Q.full_seen Q.full did requests.old requests.new }
     {
         match self.ready.take() {
             Some(Item::Parcel { tile, parcel }) => {
@@ -146,32 +154,34 @@ impl ClientCore {
         }
     }
 
-    /// Appends the next item of the client's sequence to its lane: `tiles` has a lane for each tile, tiles rising, and `requests` is the lane
-    /// to the manager. Commands are issued up to the next one that gives an item. Where the lane is full, nothing is lost, and the next step
-    /// tries the same item. Where memory is wanting the core is short from then on, and sends only its End parcels and its End request, without
-    /// memory.
+    /// Appends the next item of the client's sequence to its lane: `tiles` has a lane for each tile, tiles rising, and `requests` is
+    /// the lane to the manager. Commands are issued up to the next one that gives an item. Where the lane is full, nothing is lost, and
+    /// the next step tries the same item.
+    ///
+    /// Where memory lacks for what a command gives, the core becomes short: it sends only its End parcels and its End request, for
+    /// which it takes none.
     pub fn step<P: Outlet<Parcel>, Q: Outlet<Request>>(
         &mut self,
         tiles: &mut [P],
         requests: &mut Q,
     ) -> Result<ClientMoved, OutOfMemory>
-        requires client { IsClient self.old }
-        requires lanes { length tiles.old ≡ tile_count (layout_of self.old) }
-        ensures client { IsClient self.new }
+        requires { length tiles.old ≡ tile_count (layout_of self.old) }
         ensures same { IsSameCore self.old self.new }
-        ensures short { OnOk result (short_of self.new ≡ short_of self.old) }
-        ensures lane_of { EachLane (λ i a b. P.lane_of b ≡ P.lane_of a) tiles.old tiles.new × (Q.lane_of requests.new ≡ Q.lane_of requests.old) }
-        ensures appended { IfOk result (λ m. OnAppended m (λ t. short_of self.old ≡ false → IsAppended P.sent tiles.old tiles.new self.old self.new t × (requests.new ≡ requests.old))) }
-        ensures requested { IfOk result (λ m. OnRequested m (short_of self.old ≡ false → IsRequested (Q.sent requests.old) (Q.sent requests.new) self.old self.new × (tiles.new ≡ tiles.old))) }
-        ensures blocked_tile { IfOk result (λ m. OnBlockedTile m (λ t. short_of self.old ≡ false → IsBlockedTile P.sent (λ a b. Rose (P.full_seen a) (P.full_seen b) × P.full b) tiles.old tiles.new self.old self.new t × (requests.new ≡ requests.old))) }
-        ensures blocked_request { IfOk result (λ m. OnBlockedRequest m (short_of self.old ≡ false → IsBlockedRequest self.old self.new × (Q.sent requests.new ≡ Q.sent requests.old) × Rose (Q.full_seen requests.old) (Q.full_seen requests.new) × Q.full requests.new × (tiles.new ≡ tiles.old))) }
-        ensures ended { IfOk result (λ m. OnEnded m (short_of self.old ≡ false → HasEnded self.old self.new × (tiles.new ≡ tiles.old) × (requests.new ≡ requests.old))) }
-        ensures wanting { OnErr result ((short_of self.new ≡ true) × (tiles.new ≡ tiles.old) × (requests.new ≡ requests.old)) }
+        ensures tile_lanes { EachLane (λ i a b. P.lane_of b ≡ P.lane_of a) tiles.old tiles.new }
+        ensures request_lane { Q.lane_of requests.new ≡ Q.lane_of requests.old }
+        ensures out_of_memory { OnErr result ((short_of self.old ≡ false) × (short_of self.new ≡ true)) }
+        ensures ample { OnOk result (short_of self.new ≡ short_of self.old) }
+        // the answer tells what it did with the next item: just its lane got it, or was found full, and no other was touched
+        ensures step { (did : ClientDeed) × (result ≡ answer_of did) × IsClientStep self.old did self.new
+            × AreSent P.sent P.full_seen P.full did tiles.old tiles.new
+            × IsRequested Q.sent Q.full_seen Q.full did requests.old requests.new }
     {
         if self.ready.is_some() {
             return Ok(self.send(tiles, requests));
         }
-        self.prepare()?;
-        Ok(self.send(tiles, requests))
+        match self.prepare() {
+            Ok(()) => Ok(self.send(tiles, requests)),
+            Err(OutOfMemory) => Err(OutOfMemory),
+        }
     }
 }

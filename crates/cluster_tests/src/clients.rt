@@ -1,11 +1,12 @@
 //! A client on two tiles: by hand over lanes that hold one item, and over lanes that are emptied at random times; and on nine tiles.
-ghost use Rattle.std.specs.Prelude.{◌≡◌, ◌<◌, ◌≤◌, ◌^◌, length, IfOk, OnOk};
+ghost use Rattle.std.specs.Prelude.{◌≡◌, ◌≤◌, length, IfOk, OnOk};
 ghost use Rattle.std.specs.List.{AllByRecursion};
 ghost use Rattle.rc_base.specs.Formats.Commands.{IsCommand};
-ghost use Rattle.rc_base.specs.Contexts.Issue.{stream_of};
+ghost use Rattle.rc_base.specs.Formats.Within.{IsWithin};
 ghost use Rattle.rc_base.specs.Cluster.Tiles.{tile_count};
-ghost use Rattle.client_issue.specs.Cores.{IsClient, layout_of};
+ghost use Rattle.client_issue.specs.Cores.{layout_of};
 
+use bounds_bucket::layout;
 use client_issue::ClientCore;
 use rc_base::cluster::{ClientMoved, Tally};
 use rc_base::command::{Command, Commands};
@@ -16,6 +17,7 @@ use rc_base::scene::{Counts, Decl, Scene, Sizes, Streams, Units};
 use rc_base::state::Parcel;
 use rc_base::sync::{Request, SyncOp};
 use rc_base::window::Layout;
+use scene_file::check_limits;
 use std::alloc::Global;
 use std::process::Abort;
 
@@ -89,48 +91,47 @@ fn lanes_of(alloc: Global, n: u8, depth: usize) -> Result<Vec<PlainLane<Parcel>>
     Ok(lanes)
 }
 
-// A scene of one client in the window of a layout.
-fn scene_of(alloc: Global, stream: Commands, layout: &Layout) -> Result<Scene, OutOfMemory>
+// A scene of one client in a window of these sides.
+fn scene_of(rt: &impl Abort, alloc: Global, stream: Commands, width: u16, height: u16) -> Scene
     requires commands { AllByRecursion IsCommand stream }
-    ensures one { IfOk result (λ scene. length scene.streams ≡ 1) }
-    ensures few { IfOk result (λ scene. length (stream_of scene 0) < 2 ^ 32) }
-    ensures commands { IfOk result (λ scene. AllByRecursion IsCommand (stream_of scene 0)) }
+    ensures one { length result.streams ≡ 1 }
+    ensures within { IsWithin result }
+    ensures width { result.decl.width ≡ width }
+    ensures height { result.decl.height ≡ height }
 {
-    if stream.len() > 100 {
-        return Err(OutOfMemory);
-    }
     let mut streams = Streams::new(alloc);
-    streams.push(stream)?;
+    streams.push(stream).expect(rt, "memory");
     let decl = Decl {
         version: 1,
-        width: layout.width,
-        height: layout.height,
+        width,
+        height,
         shared: Sizes::new(alloc),
         barriers: Counts::new(alloc),
         semaphores: Units::new(alloc),
     };
-    Ok(Scene { decl, streams })
+    let scene = Scene { decl, streams };
+    check_limits(&scene).expect(rt, "within the limits");
+    scene
 }
 
-// The only client of a scene.
-fn run_of(
-    rt: &impl Abort,
-    alloc: Global,
-    scene: &Scene,
-    layout: &Layout,
-    depth: usize,
-) -> Run
-    requires one { length scene.now.streams ≡ 1 }
-    requires few { length (stream_of scene.now 0) < 2 ^ 32 }
-    requires commands { AllByRecursion IsCommand (stream_of scene.now 0) }
-    requires tiles { tile_count layout.now ≤ 32 }
+// The client of a scene of one, with lanes of this depth.
+fn run_of(rt: &impl Abort, alloc: Global, stream: Commands, cut: &Layout, depth: usize) -> Run
+    requires commands { AllByRecursion IsCommand stream }
+    requires tiles { tile_count cut.now ≤ 32 }
     requires depth { (1 ≤ depth) × (depth ≤ 16) }
-    ensures client { IsClient result.core }
-    ensures lanes { length result.tiles.items ≡ tile_count (layout_of result.core) }
+    ensures { length result.tiles.items ≡ tile_count (layout_of result.core) }
 {
+    let Layout {
+        width,
+        height,
+        columns,
+        rows,
+    } = *cut;
+    let scene = scene_of(rt, alloc, stream, width, height);
+    let cut = layout(width, height, u64::from(columns), u64::from(rows), 16).expect(rt, "a layout");
     Run {
-        core: ClientCore::new(alloc, scene, 0, layout).expect(rt, "memory"),
-        tiles: lanes_of(alloc, layout.columns * layout.rows, depth).expect(rt, "memory"),
+        core: ClientCore::new(alloc, &scene, 0, &cut).expect(rt, "memory"),
+        tiles: lanes_of(alloc, columns * rows, depth).expect(rt, "memory"),
         requests: PlainLane::new(alloc, depth).expect(rt, "memory"),
     }
 }
@@ -153,10 +154,8 @@ const NINE: Layout = Layout {
 
 impl Run {
     fn step(&mut self) -> Result<ClientMoved, OutOfMemory>
-        requires client { IsClient self.old.core }
-        requires lanes { length self.old.tiles.items ≡ tile_count (layout_of self.old.core) }
-        ensures client { IsClient self.new.core }
-        ensures lanes { length self.new.tiles.items ≡ tile_count (layout_of self.new.core) }
+        requires { length self.old.tiles.items ≡ tile_count (layout_of self.old.core) }
+        ensures { length self.new.tiles.items ≡ tile_count (layout_of self.new.core) }
     {
         self.core.step(&mut self.tiles, &mut self.requests)
     }
@@ -176,8 +175,7 @@ impl Run {
     }
 
     fn tally(&self, tile: u8) -> Option<Tally>
-        requires client { IsClient self.now.core }
-        requires lanes { length self.now.tiles.items ≡ tile_count (layout_of self.now.core) }
+        requires { length self.now.tiles.items ≡ tile_count (layout_of self.now.core) }
     {
         if usize::from(tile) >= self.tiles.len() {
             return None;
@@ -196,10 +194,8 @@ enum Event {
 
 // The event goes as it says.
 fn goes(run: &mut Run, event: Event) -> Result<bool, OutOfMemory>
-    requires client { IsClient run.old.core }
-    requires lanes { length run.old.tiles.items ≡ tile_count (layout_of run.old.core) }
-    ensures client { IsClient run.new.core }
-    ensures lanes { length run.new.tiles.items ≡ tile_count (layout_of run.new.core) }
+    requires { length run.old.tiles.items ≡ tile_count (layout_of run.old.core) }
+    ensures { length run.new.tiles.items ≡ tile_count (layout_of run.new.core) }
 {
     match event {
         Event::Step(moved) => Ok(run.step()? == moved),
@@ -210,10 +206,8 @@ fn goes(run: &mut Run, event: Event) -> Result<bool, OutOfMemory>
 
 // How many events go as they say.
 fn play(run: &mut Run, events: &[Event]) -> Result<usize, OutOfMemory>
-    requires client { IsClient run.old.core }
-    requires lanes { length run.old.tiles.items ≡ tile_count (layout_of run.old.core) }
-    ensures client { IsClient run.new.core }
-    ensures lanes { length run.new.tiles.items ≡ tile_count (layout_of run.new.core) }
+    requires { length run.old.tiles.items ≡ tile_count (layout_of run.old.core) }
+    ensures { length run.new.tiles.items ≡ tile_count (layout_of run.new.core) }
 {
     for (i, event) in events.iter().enumerate() {
         if !goes(run, *event)? {
@@ -272,10 +266,8 @@ fn full_lanes_hold_a_client_up(rt: HostRuntime) {
         Event::Place(1, 26),
         Event::Asked(Request::End),
     ];
-    let scene = scene_of(rt.alloc(), draws(rt.alloc()).expect(&rt, "memory"), &TWO).expect(
-        &rt, "memory",
-    );
-    let mut run = run_of(&rt, rt.alloc(), &scene, &TWO, 1);
+    let stream = draws(rt.alloc()).expect(&rt, "memory");
+    let mut run = run_of(&rt, rt.alloc(), stream, &TWO, 1);
     assert!(rt; play(&mut run, &events).expect(&rt, "memory") == 33);
     assert!(rt; !run.core.is_short());
     let left = Tally {
@@ -356,10 +348,8 @@ impl Taken {
     }
 
     fn turn(&mut self, run: &mut Run, draw: u64) -> Result<(), OutOfMemory>
-        requires client { IsClient run.old.core }
-        requires lanes { length run.old.tiles.items ≡ tile_count (layout_of run.old.core) }
-        ensures client { IsClient run.new.core }
-        ensures lanes { length run.new.tiles.items ≡ tile_count (layout_of run.new.core) }
+        requires { length run.old.tiles.items ≡ tile_count (layout_of run.old.core) }
+        ensures { length run.new.tiles.items ≡ tile_count (layout_of run.new.core) }
     {
         let moved = run.step()?;
         self.count(moved);
@@ -368,8 +358,7 @@ impl Taken {
 
     // 100 turns, after each of whose steps a linear congruential generator with a fixed seed draws the lanes.
     fn turns(&mut self, run: &mut Run) -> Result<(), OutOfMemory>
-        requires client { IsClient run.old.core }
-        requires lanes { length run.old.tiles.items ≡ tile_count (layout_of run.old.core) }
+        requires { length run.old.tiles.items ≡ tile_count (layout_of run.old.core) }
     {
         let mut state: u64 = 7;
         for _ in 0..100 {
@@ -387,8 +376,7 @@ fn emptied(rt: &impl Abort, alloc: Global, depth: usize) -> Taken
     requires depth { (1 ≤ depth) × (depth ≤ 16) }
 {
     let stream = mixed(alloc).expect(rt, "memory");
-    let scene = scene_of(alloc, stream, &TWO).expect(rt, "memory");
-    let mut run = run_of(rt, alloc, &scene, &TWO, depth);
+    let mut run = run_of(rt, alloc, stream, &TWO, depth);
     let mut taken = Taken {
         left: Vec::new(alloc),
         right: Vec::new(alloc),
@@ -426,8 +414,7 @@ fn triangle(alloc: Global) -> Result<Commands, OutOfMemory>
 
 // How many steps move an item, of at most so many.
 fn moves(run: &mut Run, most: usize) -> Result<usize, OutOfMemory>
-    requires client { IsClient run.old.core }
-    requires lanes { length run.old.tiles.items ≡ tile_count (layout_of run.old.core) }
+    requires { length run.old.tiles.items ≡ tile_count (layout_of run.old.core) }
 {
     for i in 0..most {
         if run.step()? == ClientMoved::Ended {
@@ -447,13 +434,8 @@ fn has_three(run: &mut Run, tile: usize) -> bool {
 
 #[test]
 fn a_triangle_over_the_window_goes_to_nine_tiles(rt: HostRuntime) {
-    let scene = scene_of(
-        rt.alloc(),
-        triangle(rt.alloc()).expect(&rt, "memory"),
-        &NINE,
-    )
-    .expect(&rt, "memory");
-    let mut run = run_of(&rt, rt.alloc(), &scene, &NINE, 16);
+    let stream = triangle(rt.alloc()).expect(&rt, "memory");
+    let mut run = run_of(&rt, rt.alloc(), stream, &NINE, 16);
     assert!(rt; moves(&mut run, 40).expect(&rt, "memory") == 29);
     for tile in 0..9 {
         assert!(rt; has_three(&mut run, tile));

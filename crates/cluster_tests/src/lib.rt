@@ -14,4 +14,8 @@ mod orders;
 #[cfg(test)]
 mod parts;
 #[cfg(test)]
+mod stepped;
+#[cfg(test)]
 mod tiles;
+#[cfg(test)]
+mod usual;

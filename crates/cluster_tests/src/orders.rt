@@ -69,7 +69,7 @@ fn are_well_formed(syncs: &SyncLists) -> bool
 }
 
 // Whether the order is permitted, if the lists are well formed.
-fn permits(order: &Order, journal: &Journal, syncs: &SyncLists) -> Option<bool> {
+pub(crate) fn permits(order: &Order, journal: &Journal, syncs: &SyncLists) -> Option<bool> {
     if are_well_formed(syncs) {
         Some(is_permitted(order, journal, syncs))
     } else {

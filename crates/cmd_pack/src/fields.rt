@@ -39,7 +39,7 @@ pub fn read_long(bytes: &[u8]) -> Result<(u32, &[u8]), Form>
 }
 
 /// A signed number of 32 bits, in two's complement.
-pub fn read_word(bytes: &[u8]) -> Result<(i32, &[u8]), Form>
+pub(crate) fn read_word(bytes: &[u8]) -> Result<(i32, &[u8]), Form>
     ensures { Reads (λ x. (x.0, x.1.now)) result (read_word bytes.now) }
 {
     if bytes.len() < 4 {

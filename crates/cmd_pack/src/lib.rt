@@ -9,7 +9,7 @@ pub mod fields;
 pub mod laws;
 mod payload;
 pub mod reading;
-pub mod writing;
+mod writing;
 
 pub use fault::PackFault;
 pub use reading::{decode, decode_within};

@@ -4,9 +4,11 @@ use Rattle.std.specs.Str.{bytes_eq}
 use Rattle.std.proofs.Common.{◌≡◌, ◌≢◌, ℕ, true, false, List, [], ◌∷◌, ◌++◌, ◌⊎◌, inl, inr, Option, None, Some, if◌then◌else◌, map, sym, ap, subst, ◌∙◌, refl}
 use Rattle.std.specs.List.{flat_map, AllByRecursion}
 use Rattle.rc_base.specs.Lists.{IsIn, NoRepeat}
-use Rattle.rc_base.specs.Program.Words.{JobName, OptionName, Setting, option_of, options_of, options_due, setting_words, job_word, IsSetting, IsCommandLine}
-use Rattle.rc_base.specs.Program.Words.OptionName.{Tiles, Depth, Order, Seed, Size}
-use Rattle.rc_base.specs.Program.Words.JobName.{Render, Simulate, Serial, Check, Pack, Unpack, Gen}
+use Rattle.rc_base.specs.declared.job.JobName.{JobName}
+use Rattle.rc_base.specs.declared.job.OptionName.{OptionName}
+use Rattle.rc_base.specs.Program.Words.{Setting, option_of, options_of, options_due, setting_words, job_word, IsSetting, IsCommandLine}
+use Rattle.rc_base.specs.declared.job.OptionName.TheVariants.{Tiles, Depth, Order, Seed, Size}
+use Rattle.rc_base.specs.declared.job.JobName.TheVariants.{Render, Simulate, Serial, Check, Pack, Unpack, Gen}
 use Rattle.command_line.proofs.Reading.{one_reading}
 use Rattle.command_line.specs.declared.seen.Seen.{Seen}
 use Rattle.command_line.specs.Begins.{Begins}

@@ -1,6 +1,7 @@
 -- Laws on command lines.
 use Rattle.std.specs.Prelude.{◌≡◌, ℕ, List}
-use Rattle.rc_base.specs.Program.Words.{JobName, Setting, IsCommandLine}
+use Rattle.rc_base.specs.declared.job.JobName.{JobName}
+use Rattle.rc_base.specs.Program.Words.{Setting, IsCommandLine}
 
 -- words are the line of at most one job, and of one list of settings
 abbrev pub OneReading : Type 0

@@ -1,6 +1,5 @@
 pub mod Values
 pub mod Begins
-pub mod Names
 pub mod Reads
 pub mod Lines
 pub mod Texts

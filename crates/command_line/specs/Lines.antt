@@ -4,7 +4,6 @@ use Rattle.std.specs.Fmt.{decimal}
 use Rattle.rc_base.specs.Program.Words.{Setting, IsCommandLine, tiles_in, depth_in, order_in, seed_in, size_in}
 use Rattle.command_line.specs.declared.line.CommandLine.{CommandLine}
 use Rattle.command_line.specs.declared.values.Settings.{Settings}
-use Rattle.command_line.specs.Names.{name_of}
 
 -- the values are what the settings say, with the defaults
 pub record AreValues (values : Settings) (ss : List Setting) : Type 0 where
@@ -17,7 +16,7 @@ pub record AreValues (values : Settings) (ss : List Setting) : Type 0 where
 -- the words are a line of this job, and of settings that say these values
 pub record IsLineOf (words : List (List ℕ)) (c : CommandLine) : Type 0 where
   pub settings : List Setting
-  pub line : IsCommandLine words (name_of c.job) settings
+  pub line : IsCommandLine words c.job settings
   pub values : AreValues c.settings settings
 
 -- n is the number of the text, and the default where there is none

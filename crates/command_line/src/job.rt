@@ -1,33 +1,14 @@
 //! The jobs, their words, and the options that they take.
 ghost use Rattle.std.specs.Prelude.{◌≡◌, ◌↔◌, IsTrue, MatchOption};
 ghost use Rattle.rc_base.specs.Lists.{IsIn};
-ghost use Rattle.rc_base.specs.Program.Words.{JobName as SpelledJob, job_word, options_of};
-ghost use Rattle.command_line.specs.Names.{name_of, option_name};
+ghost use Rattle.rc_base.specs.declared.job.JobName.{JobName as SpelledJob};
+ghost use Rattle.rc_base.specs.Program.Words.{job_word, options_of};
 
-use crate::option::OptionName;
-
-/// What the program is asked to do.
-#[derive(Clone, Copy, Debug, PartialEq, Eq)]
-pub enum JobName {
-    /// Scene bytes to the frames of the threaded cluster.
-    Render,
-    /// Scene bytes to the frames of the stepped cluster.
-    Simulate,
-    /// Scene bytes to the frames of the serial renderer.
-    Serial,
-    /// Scene bytes to a report alone.
-    Check,
-    /// The text of a scene to its bytes.
-    Pack,
-    /// The bytes of a scene to its text.
-    Unpack,
-    /// A seed to the bytes of a scene.
-    Gen,
-}
+use rc_base::job::{JobName, OptionName};
 
 /// The job that the word names.
 pub(crate) fn job_named(word: &str) -> Option<JobName>
-    ensures { MatchOption result ((job : SpelledJob) → word.now ≡ job_word job → ⊥) (λ job. word.now ≡ job_word (name_of job)) }
+    ensures { MatchOption result ((job : SpelledJob) → word.now ≡ job_word job → ⊥) (λ job. word.now ≡ job_word job) }
 {
     match word {
         "render" => Some(JobName::Render),
@@ -43,7 +24,7 @@ pub(crate) fn job_named(word: &str) -> Option<JobName>
 
 /// The job takes the option.
 pub(crate) fn is_taken(job: JobName, option: OptionName) -> bool
-    ensures { IsTrue result ↔ IsIn (option_name option) (options_of (name_of job)) }
+    ensures { IsTrue result ↔ IsIn option (options_of job) }
 {
     match option {
         OptionName::Tiles | OptionName::Depth | OptionName::Order => {

@@ -15,7 +15,6 @@ mod option;
 mod seen;
 mod values;
 
-pub use job::JobName;
 pub use laws::lines_have_one_reading;
 pub use line::{CommandLine, command_line};
 pub use values::Settings;

@@ -1,17 +1,18 @@
 //! Whole lines.
-ghost use Rattle.std.specs.Prelude.{◌≡◌, ◌↔◌, ℕ, List, IfOk, IfNone, IfSome, MatchOption, map, string_bytes};
-ghost use Rattle.rc_base.specs.Program.Words.{JobName as SpelledJob, Setting as Spelled, IsCommandLine};
-ghost use Rattle.command_line.specs.Names.{name_of};
+ghost use Rattle.std.specs.Prelude.{◌≡◌, ◌↔◌, ℕ, List, IfOk, OnErr, IfNone, IfSome, MatchOption, map, string_bytes};
+ghost use Rattle.rc_base.specs.declared.job.JobName.{JobName as SpelledJob};
+ghost use Rattle.rc_base.specs.Program.Words.{Setting as Spelled, IsCommandLine};
 ghost use Rattle.clap.specs.Words.{kind_of};
 ghost use Rattle.command_line.specs.Lines.{AreValues, IsLineOf};
 ghost use Rattle.command_line.specs.Texts.{AreSettings};
 
-use crate::job::{JobName, job_named};
+use crate::job::job_named;
 use crate::matches::option_matches;
 use crate::seen::{Seen, has_due, read};
 use crate::values::{Settings, settings_of};
 use clap::Error;
 use clap::error::ErrorKind;
+use rc_base::job::JobName;
 use rc_base::out_of_memory::OutOfMemory;
 use std::alloc::Global;
 
@@ -27,7 +28,7 @@ pub struct CommandLine {
 // The job of a line, and the words of its options.
 fn job_of<'a>(words: &'a [String]) -> Option<(JobName, &'a [String])>
     ensures { MatchOption result ((job : SpelledJob) (ss : List Spelled) → IsCommandLine (map string_bytes words.now) job ss → ⊥)
-        (λ r. (ss : List Spelled) × IsCommandLine (map string_bytes words.now) (name_of r.0) ss × AreSettings (map string_bytes r.1.now) ss) }
+        (λ r. (ss : List Spelled) × IsCommandLine (map string_bytes words.now) r.0 ss × AreSettings (map string_bytes r.1.now) ss) }
 {
     match words {
         [] => None,
@@ -76,6 +77,8 @@ fn with_options(alloc: Global, job: JobName, words: &[String]) -> Result<Command
 pub fn command_line(alloc: Global, words: &[String]) -> Result<Option<CommandLine>, OutOfMemory>
     ensures none { IfOk result (λ r. IfNone r ((job : SpelledJob) (ss : List Spelled) → IsCommandLine (map string_bytes words.now) job ss → ⊥)) }
     ensures some { IfOk result (λ r. IfSome r (IsLineOf (map string_bytes words.now))) }
+    // Memory lacks for command lines alone.
+    ensures lacked { OnErr result ((job : SpelledJob) × (ss : List Spelled) × IsCommandLine (map string_bytes words.now) job ss) }
 {
     match job_of(words) {
         None => Ok(None),

@@ -2,24 +2,14 @@
 ghost use Rattle.std.specs.Prelude.{◌≡◌, ◌∷◌, [], ℕ, List, MatchOption, map, string_bytes};
 ghost use Rattle.rc_base.specs.Program.Words.{Setting, IsSetting, setting_words};
 ghost use Rattle.command_line.specs.Begins.{Begins, BeginsWith, IsSettingOf};
-ghost use Rattle.command_line.specs.Names.{option_name};
 
 use crate::number::{number, tiles};
-
-/// An option.
-#[derive(Clone, Copy)]
-pub(crate) enum OptionName {
-    Tiles,
-    Depth,
-    Order,
-    Seed,
-    Size,
-}
+use rc_base::job::OptionName;
 
 // The option of this name, which has this value.
 fn option_with(name: &str, value: &str) -> Option<OptionName>
     ensures { MatchOption result ((s : Setting) → IsSetting s → setting_words s ≡ name.now ∷ value.now ∷ [] → ⊥)
-        (λ o. IsSettingOf (option_name o) (name.now ∷ value.now ∷ [])) }
+        (λ o. IsSettingOf o (name.now ∷ value.now ∷ [])) }
 {
     match name {
         "--tiles" => {
@@ -45,7 +35,7 @@ fn option_with(name: &str, value: &str) -> Option<OptionName>
 /// The option at the front of the words, and the words behind it and its value.
 pub(crate) fn first_option<'a>(words: &'a [String]) -> Option<(OptionName, &'a [String])>
     ensures { MatchOption result ((s : Setting) (rest : List (List ℕ)) → Begins (map string_bytes words.now) s rest → ⊥)
-        (λ r. BeginsWith (option_name r.0) (map string_bytes words.now) (map string_bytes r.1.now)) }
+        (λ r. BeginsWith r.0 (map string_bytes words.now) (map string_bytes r.1.now)) }
 {
     match words {
         [] => None,

@@ -1,13 +1,14 @@
 //! The words of a line's options, one option after another.
 ghost use Rattle.std.specs.Prelude.{◌≡◌, ◌↔◌, ℕ, List, true, false, IsTrue, MatchOption, map, string_bytes};
 ghost use Rattle.rc_base.specs.Lists.{IsIn};
-ghost use Rattle.rc_base.specs.Program.Words.{OptionName as SpelledOption, Setting as Spelled, options_due};
+ghost use Rattle.rc_base.specs.declared.job.OptionName.{OptionName as SpelledOption};
+ghost use Rattle.rc_base.specs.Program.Words.{Setting as Spelled, options_due};
 ghost use Rattle.command_line.specs.declared.seen.Seen.{Seen as AnySeen};
-ghost use Rattle.command_line.specs.Names.{name_of, option_name};
 ghost use Rattle.command_line.specs.Reads.{Reads, IsFree, has, with_option};
 
-use crate::job::{JobName, is_taken};
-use crate::option::{OptionName, first_option};
+use crate::job::is_taken;
+use crate::option::first_option;
+use rc_base::job::{JobName, OptionName};
 
 /// The options that the words had so far.
 #[derive(Clone, Copy)]
@@ -20,7 +21,7 @@ pub(crate) struct Seen {
 }
 
 fn is_seen(seen: Seen, option: OptionName) -> bool
-    ensures { result ≡ has seen (option_name option) }
+    ensures { result ≡ has seen option }
 {
     match option {
         OptionName::Tiles => seen.tiles,
@@ -33,13 +34,13 @@ fn is_seen(seen: Seen, option: OptionName) -> bool
 
 // The job takes the option, which wasn't seen yet.
 fn is_free(job: JobName, seen: Seen, option: OptionName) -> bool
-    ensures { IsTrue result ↔ IsFree (name_of job) seen (option_name option) }
+    ensures { IsTrue result ↔ IsFree job seen option }
 {
     is_taken(job, option) && !is_seen(seen, option)
 }
 
 fn with_option(seen: Seen, option: OptionName) -> Seen
-    ensures { result ≡ with_option seen (option_name option) }
+    ensures { result ≡ with_option seen option }
 {
     match option {
         OptionName::Tiles => Seen {
@@ -61,20 +62,19 @@ fn with_option(seen: Seen, option: OptionName) -> Seen
 
 /// The options that the job must have were seen.
 pub(crate) fn has_due(seen: Seen, job: JobName) -> bool
-    ensures { IsTrue result ↔ ((o : SpelledOption) → IsIn o (options_due (name_of job)) → has seen o ≡ true) }
+    ensures { IsTrue result ↔ ((o : SpelledOption) → IsIn o (options_due job) → has seen o ≡ true) }
 {
     match job {
         JobName::Simulate => seen.seed,
         JobName::Gen => seen.seed && seen.size,
-        JobName::Render | JobName::Serial | JobName::Check | JobName::Pack | JobName::Unpack =>
-            true,
+        _ => true,
     }
 }
 
 /// Reads the words of a job's options, each of which it takes and wasn't seen before, and gives the options that were seen in the end.
 pub(crate) fn read(job: JobName, seen: Seen, words: &[String]) -> Option<Seen>
-    ensures { MatchOption result ((ss : List Spelled) (last : AnySeen) → Reads (name_of job) seen (map string_bytes words.now) ss last → ⊥)
-        (λ last. (ss : List Spelled) × Reads (name_of job) seen (map string_bytes words.now) ss last) }
+    ensures { MatchOption result ((ss : List Spelled) (last : AnySeen) → Reads job seen (map string_bytes words.now) ss last → ⊥)
+        (λ last. (ss : List Spelled) × Reads job seen (map string_bytes words.now) ss last) }
 {
     if words.is_empty() {
         return Some(seen);

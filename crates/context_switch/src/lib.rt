@@ -4,8 +4,6 @@
 //! crate stands on rc_base.
 #![tactic(auto)]
 
-pub mod compare;
-pub mod states;
+mod states;
 
-pub use compare::is_same;
 pub use states::switch;

@@ -2,7 +2,7 @@
 ghost use Rattle.std.specs.Prelude.{◌≡◌};
 ghost use Rattle.rc_base.specs.Contexts.Elements.{differing_count};
 
-use crate::compare::is_same;
+use rc_base::elements::is_same;
 use rc_base::state::State;
 
 /// Makes one state the other, and answers in how many of the 22 scalar elements they differed. (The soft context switch of Buck, Humphreys

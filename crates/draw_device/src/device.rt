@@ -24,6 +24,7 @@ use textures::{PrivateSet, SharedSet, Texture};
 /// A colour and a depth for each pixel of a rectangle of the window.
 #[derive(Drop)]
 pub struct Device {
+    alloc: Global,
     grid: Grid,
 }
 
@@ -83,6 +84,7 @@ impl Device {
             height: side(rect.y0, rect.y1),
         };
         Ok(Device {
+            alloc,
             grid: Grid::new(alloc, extent)?,
         })
     }
@@ -100,7 +102,7 @@ impl Device {
         ensures rect { self.new.rect ≡ self.old.rect }
         ensures drawn { EachTakes (effect_step state.now (texture_image privates.now) (shared_of shareds.now) (eff.Block block.now)) self.old self.new }
     {
-        let none = Texture::empty();
+        let none = Texture::empty(self.alloc);
         let texture = sampled_texture(state, privates, shareds, &none);
         self.grid.draw(state, texture, block);
     }
@@ -133,14 +135,14 @@ impl Device {
     }
 
     /// A copy of the pixels, with these two numbers.
-    pub fn part(&self, alloc: Global, tile: u8, frame: u32) -> Result<TilePart, OutOfMemory>
+    pub fn part(&self, tile: u8, frame: u32) -> Result<TilePart, OutOfMemory>
         ensures part { IfOk result (λ p. p ≡ record { tile = tile; frame = frame; pixels = self.now.pixels }) }
         ensures size { IfOk result (λ p. length p.pixels ≡ rect_size self.now.rect) }
     {
         Ok(TilePart {
             tile,
             frame,
-            pixels: self.grid.copy(alloc)?,
+            pixels: self.grid.copy(self.alloc)?,
         })
     }
 }

@@ -44,7 +44,7 @@ pub struct Grid {
     pub spare: Vec<Rgba>,
     pub ghost full: { length colors.items ≡ extent.width * extent.height },
     pub ghost deep: { length depths.items ≡ length colors.items },
-    pub ghost room: { extent.width ≤ length spare.items },
+    pub ghost room: { extent.width ≡ length spare.items },
     pub ghost right: { extent.left + extent.width ≤ 65535 },
     pub ghost top: { extent.bottom + extent.height ≤ 65535 },
 }

@@ -2,6 +2,7 @@
 use geometry::{VertexCache, surrounds_of, to_window, triangles};
 use rc_base::command::{Mat4, Rgba};
 use rc_base::items::Items;
+use rc_base::out_of_memory::OutOfMemory;
 use rc_base::state::{Block, State, Vertex};
 use rc_base::window::Rect;
 use std::alloc::Global;
@@ -18,6 +19,8 @@ const BLACK: Rgba = Rgba {
     b: 0,
     a: 0,
 };
+
+const ONE: i32 = 65_536;
 
 fn state(viewport: [i32; 4], cull_on: bool) -> State {
     State {
@@ -56,108 +59,85 @@ fn at(x: i32, y: i32, w: i32) -> Vertex {
     }
 }
 
-fn block(alloc: Global, mode: u8, n: u16) -> Option<Block> {
+// The corners of a block's second triangle, where it has two and no more.
+fn second(
+    alloc: Global,
+    mode: u8,
+    count: u8,
+) -> Result<Option<(usize, usize, usize)>, OutOfMemory> {
     let mut vertices = Items::new(alloc);
-    for _ in 0..n {
-        if vertices.push(at(0, 0, 0)).is_err() {
-            return None;
-        }
+    for _ in 0..count {
+        vertices.push(at(0, 0, 0))?;
     }
-    Some(Block { mode, vertices })
+    let block = Block { mode, vertices };
+    let mut all = triangles(&block);
+    let _first = all.next();
+    let found = all.next();
+    if all.next().is_some() {
+        return Ok(None);
+    }
+    Ok(found.map(|[a, b, c]| (a, b, c)))
 }
 
 #[test]
 fn blocks_have_their_triangles(rt: HostRuntime) {
-    for (mode, n, want) in [
-        (0, 16383, 5461),
-        (1, 16383, 16381),
-        (2, 16383, 16381),
-        (0, 8, 2),
-        (1, 2, 0),
-        (3, 9, 0),
+    for (mode, count, want) in [
+        (0, 8, Some((3, 4, 5))),
+        (1, 4, Some((2, 1, 3))),
+        (2, 4, Some((0, 2, 3))),
+        (1, 2, None),
+        (3, 9, None),
     ] {
-        let b = block(rt.alloc(), mode, n).expect(&rt, "memory");
-        let mut given: u32 = 0;
-        for _ in triangles(&b) {
-            given = given.saturating_add(1);
-        }
-        assert!(rt; given == want);
+        assert!(rt; second(rt.alloc(), mode, count) == Ok(want));
     }
-    let strip = block(rt.alloc(), 1, 4).expect(&rt, "memory");
-    let mut it = triangles(&strip);
-    assert!(rt; it.next().expect(&rt, "one") == [0, 1, 2]);
-    assert!(rt; it.next().expect(&rt, "two") == [2, 1, 3]);
-    assert!(rt; it.next().is_none());
-    let fan = block(rt.alloc(), 2, 4).expect(&rt, "memory");
-    let mut it = triangles(&fan);
-    assert!(rt; it.next().expect(&rt, "one") == [0, 1, 2]);
-    assert!(rt; it.next().expect(&rt, "two") == [0, 2, 3]);
+}
+
+// Twice the area, the second corner's column and the third's row, where the triangle is kept.
+fn seen(state: &State, corners: &[Vertex; 3]) -> Option<(i64, i32, i32)> {
+    let tri = to_window(state, corners)?;
+    Some((tri.area, tri.v[1].x, tri.v[2].y))
+}
+
+// The first corner's column, depth and t.
+fn first(state: &State, corners: &[Vertex; 3]) -> Option<(i32, i32, i32)> {
+    let tri = to_window(state, corners)?;
+    Some((tri.v[0].x, tri.v[0].z, tri.v[0].t))
 }
 
 #[test]
 fn corners_stand_in_the_window(rt: HostRuntime) {
-    let one = 65536;
-    let (a, b, c) = (at(-one, -one, one), at(one, -one, one), at(-one, one, one));
+    let (a, b, c) = (at(-ONE, -ONE, ONE), at(ONE, -ONE, ONE), at(-ONE, ONE, ONE));
     let s = state([0, 0, 2, 2], false);
-    let t = to_window(&s, &[a, b, c]).expect(&rt, "a triangle");
-    let (area, v) = (t.area, t.v);
-    assert!(rt; area == 1024);
-    assert!(rt; v[1].x == 32);
-    assert!(rt; v[2].y == 32);
-    assert!(rt; v[0].z == 8388607);
-    assert!(rt; v[0].t == -5);
-    let turned = to_window(&s, &[a, c, b]).expect(&rt, "a triangle");
-    let (area, v) = (turned.area, turned.v);
-    assert!(rt; area == 1024);
-    assert!(rt; v[1].x == 32);
-    assert!(rt; to_window(&s, &[a, b, b]).is_none());
-    assert!(rt; to_window(&s, &[a, b, at(0, 0, 0)]).is_none());
-    assert!(rt; to_window(&state([0, 0, 2, 2], true), &[a, b, c]).is_none());
-    assert!(rt; to_window(&state([0, 0, 2, 2], true), &[a, c, b]).is_some());
-}
-
-#[test]
-fn strips_share_their_corners(rt: HostRuntime) {
-    let one = 65536;
-    let vertices = [
-        at(-one, -one, one),
-        at(one, -one, one),
-        at(-one, one, one),
-        at(one, one, one),
-        at(0, 0, 0),
-    ];
-    let s = state([0, 0, 2, 2], false);
-    let mut cache = VertexCache::new(&s, &vertices);
-    let t = cache.triangle([0, 1, 2]).expect(&rt, "the first");
-    let (area, v) = (t.area, t.v);
-    assert!(rt; area == 1024);
-    assert!(rt; v[2].y == 32);
-    let t = cache.triangle([2, 1, 3]).expect(&rt, "the second");
-    let (area, v) = (t.area, t.v);
-    assert!(rt; area == 1024);
-    assert!(rt; v[0].y == 32);
-    assert!(rt; v[2].x == 32);
-    assert!(rt; cache.triangle([2, 3, 4]).is_none());
+    assert!(rt; seen(&s, &[a, b, c]) == Some((1024, 32, 32)));
+    assert!(rt; first(&s, &[a, b, c]) == Some((0, 8388607, -5)));
+    assert!(rt; seen(&s, &[a, c, b]) == Some((1024, 32, 32)));
+    assert!(rt; seen(&s, &[a, b, b]) == None);
+    assert!(rt; seen(&s, &[a, b, at(0, 0, 0)]) == None);
+    let culls = state([0, 0, 2, 2], true);
+    assert!(rt; seen(&culls, &[a, b, c]) == None);
+    assert!(rt; seen(&culls, &[a, c, b]) == Some((1024, 32, 32)));
 }
 
 #[test]
 fn corners_may_stand_at_the_bounds(rt: HostRuntime) {
-    let one = 65536;
     let s = state([-65536, -65536, 131072, 131072], false);
-    let (a, b, c) = (at(-one, -one, one), at(one, -one, one), at(-one, one, one));
-    let t = to_window(&s, &[a, b, c]).expect(&rt, "a triangle");
-    let (area, v) = (t.area, t.v);
-    assert!(rt; v[0].x == -1048576);
-    assert!(rt; v[2].y == 1048576);
-    assert!(rt; area == 4398046511104);
-    assert!(rt; to_window(&s, &[a, b, at(-one, one + 1, one)]).is_none());
+    let (a, b, c) = (at(-ONE, -ONE, ONE), at(ONE, -ONE, ONE), at(-ONE, ONE, ONE));
+    assert!(rt; seen(&s, &[a, b, c]) == Some((4398046511104, 1048576, 1048576)));
+    assert!(rt; first(&s, &[a, b, c]) == Some((-1048576, 8388607, -5)));
+    assert!(rt; seen(&s, &[a, b, at(-ONE, ONE + 1, ONE)]) == None);
+}
+
+// Whether the triangle of a window of 2 by 2 is drawn in a rectangle.
+fn is_near(x0: i32, y0: i32, x1: i32, y1: i32) -> bool {
+    let vertices = [at(-ONE, -ONE, ONE), at(ONE, -ONE, ONE), at(-ONE, ONE, ONE)];
+    let s = state([0, 0, 2, 2], false);
+    let mut cache = VertexCache::new(&s, &vertices);
+    let near = surrounds_of(Rect { x0, y0, x1, y1 });
+    cache.triangle([0, 1, 2]).is_some() && cache.triangle_near([0, 1, 2], &near).is_some()
 }
 
 #[test]
 fn triangles_beside_a_rectangle_are_left_out(rt: HostRuntime) {
-    let one = 65536;
-    let vertices = [at(-one, -one, one), at(one, -one, one), at(-one, one, one)];
-    let s = state([0, 0, 2, 2], false);
     for (x0, y0, x1, y1, want) in [
         (0, 0, 2, 2, true),
         (1, 1, 2, 2, true),
@@ -166,9 +146,7 @@ fn triangles_beside_a_rectangle_are_left_out(rt: HostRuntime) {
         (0, 2, 2, 4, false),
         (0, -2, 2, 0, false),
     ] {
-        let mut cache = VertexCache::new(&s, &vertices);
-        let near = surrounds_of(Rect { x0, y0, x1, y1 });
-        assert!(rt; cache.triangle_near([0, 1, 2], &near).is_some() == want);
+        assert!(rt; is_near(x0, y0, x1, y1) == want);
     }
     let near = surrounds_of(Rect {
         x0: i32::MIN,
@@ -176,7 +154,5 @@ fn triangles_beside_a_rectangle_are_left_out(rt: HostRuntime) {
         x1: i32::MIN,
         y1: i32::MAX,
     });
-    let (left, right) = (near.left, near.right);
-    assert!(rt; left == -34359738360);
-    assert!(rt; right == -34359738376);
+    assert!(rt; (near.left, near.right) == (-34359738360, -34359738376));
 }

@@ -1,12 +1,12 @@
-//! Triangles whose cover is known by hand, and spans against the cover of each pixel.
+//! Triangles whose cover, columns and fragments are known by hand.
 ghost use Rattle.std.specs.Prelude.{◌≡◌, IfSome};
 ghost use Rattle.rc_base.specs.Drawing.Cover.{IsInBounds, triangle_area};
 ghost use Rattle.rc_base.specs.Drawing.Kept.{three};
 
 use fixed_math::edge;
 use raster::{
-    color_plane, coordinate_planes, cover_lies_in_bounds, covers, depth_plane, flat_color,
-    fragment_at, has_depths, no_double_edge, spans, stencil_at,
+    color_plane, cover_lies_in_bounds, covers, flat_color, fragment_at, has_depths, no_double_edge,
+    spans, stencil_at,
 };
 use rc_base::command::Rgba;
 use rc_base::triangle::WindowTriangle;
@@ -85,52 +85,20 @@ fn square(side: i32) -> Rect {
     }
 }
 
-// Whether the spans have exactly the covered pixels of a window of 9 by 9.
-fn agrees(tri: &WindowTriangle) -> bool {
-    for y in 0..9 {
-        for x in 0..9 {
-            let mut found = false;
-            for span in spans(tri, square(9)) {
-                if span.y == y && span.x0 <= x && x < span.x1 {
-                    found = true;
-                }
-            }
-            if found != covers(tri, x, y) {
-                return false;
-            }
-        }
-    }
-    true
+// Row, first column and the column behind the last, of the first two spans of a triangle in a rectangle.
+fn two_spans(
+    tri: &WindowTriangle,
+    rect: Rect,
+) -> (Option<(i32, i32, i32)>, Option<(i32, i32, i32)>) {
+    let mut rows = spans(tri, rect);
+    let first = rows.next().map(|span| (span.y, span.x0, span.x1));
+    let second = rows.next().map(|span| (span.y, span.x0, span.x1));
+    (first, second)
 }
 
-// Whether the planes from pixel (x0, y0) on give each covered pixel of 9 by 9 its fragment.
-fn steps_agree(tri: &WindowTriangle, x0: i32, y0: i32) -> bool {
-    let stencil = stencil_at(tri, x0, y0);
-    let colors = color_plane(tri, &stencil);
-    let depths = depth_plane(tri, &stencil);
-    let (ss, ts) = coordinate_planes(tri, &stencil);
-    for j in 0..9u8 {
-        let mut color = colors.ramp(0, u64::from(j));
-        let mut depth = depths.ramp(0, u64::from(j));
-        let mut s = ss.ramp(0, u64::from(j));
-        let mut t = ts.ramp(0, u64::from(j));
-        for i in 0..9u8 {
-            let x = x0.wrapping_add(i32::from(i));
-            let y = y0.wrapping_add(i32::from(j));
-            if covers(tri, x, y) {
-                let f = fragment_at(tri, x, y);
-                let stepped = (color.color(), depth.mean(), s.mean(), t.mean());
-                if stepped != (f.color, f.depth, f.s, f.t) {
-                    return false;
-                }
-            }
-            color.advance();
-            depth.advance();
-            s.advance();
-            t.advance();
-        }
-    }
-    true
+// Column, first row and the row behind the last, where the triangle stands in one column of the rectangle.
+fn column(tri: &WindowTriangle, rect: Rect) -> Option<(i32, i32, i32)> {
+    spans(tri, rect).column().map(|c| (c.x, c.y0, c.y1))
 }
 
 #[test]
@@ -138,17 +106,20 @@ fn centres_on_the_hypotenuse_belong_to_the_other_side(rt: HostRuntime) {
     let low = triangle(at(0, 0), at(32, 0), at(0, 32)).expect(&rt, "a triangle");
     let high = triangle(at(32, 0), at(32, 32), at(0, 32)).expect(&rt, "a triangle");
     for (x, y, in_low) in [(0, 0, true), (1, 0, false), (0, 1, false), (1, 1, false)] {
-        assert!(rt; covers(&low, x, y) == in_low);
-        assert!(rt; covers(&high, x, y) == !in_low);
+        assert!(rt; covers(&low, x, y) == in_low && covers(&high, x, y) != in_low);
     }
-    let mut rows = spans(&low, square(2));
-    let first = rows.next().expect(&rt, "a span");
-    assert!(rt; first.y == 0);
-    assert!(rt; first.x0 == 0);
-    assert!(rt; first.x1 == 1);
-    assert!(rt; rows.next().is_none());
+    assert!(rt; two_spans(&low, square(2)) == (Some((0, 0, 1)), None));
     no_double_edge();
     cover_lies_in_bounds();
+}
+
+// Column, red, green, depth, s and t of a fragment, where the pixel is covered.
+fn fragment(tri: &WindowTriangle, x: i32, y: i32) -> Option<(i32, u8, u8, i32, i32, i32)> {
+    if !covers(tri, x, y) {
+        return None;
+    }
+    let f = fragment_at(tri, x, y);
+    Some((f.x, f.color.r, f.color.g, f.depth, f.s, f.t))
 }
 
 #[test]
@@ -160,121 +131,42 @@ fn corners_at_the_bounds_are_weighed(rt: HostRuntime) {
         vertex(-m, m, -1, 255, 0, 0),
     )
     .expect(&rt, "a triangle");
-    assert!(rt; !covers(&tri, 0, 0));
-    assert!(rt; !covers(&tri, 0, -1));
-    assert!(rt; covers(&tri, -1, -1));
-    if covers(&tri, -1, -1) {
-        let f = fragment_at(&tri, -1, -1);
-        assert!(rt; f.x == -1);
-        assert!(rt; f.color.r == 255);
-        assert!(rt; f.color.g == 254);
-        assert!(rt; f.depth == -1);
-        assert!(rt; f.s == 16);
-        assert!(rt; f.t == 1048568);
-    }
-    assert!(rt; steps_agree(&tri, -9, -9));
-    assert!(rt; rises_agree(&tri, -9, -9));
+    assert!(rt; fragment(&tri, 0, 0) == None);
+    assert!(rt; fragment(&tri, 0, -1) == None);
+    assert!(rt; fragment(&tri, -1, -1) == Some((-1, 255, 254, -1, 16, 1048568)));
     assert!(rt; flat_color(&tri).is_none());
     assert!(rt; !has_depths(&tri));
 }
 
 #[test]
-fn spans_have_the_covered_pixels(rt: HostRuntime) {
-    let mut seed: u32 = 7;
-    let mut tried = 0u32;
-    for _ in 0..80 {
-        let mut place = [0i32; 6];
-        for p in place.iter_mut() {
-            seed = seed.wrapping_mul(1664525).wrapping_add(1013904223);
-            *p = ((seed >> 16) % 240) as i32;
-        }
-        let corners = (
-            at(place[0], place[1]),
-            at(place[2], place[3]),
-            at(place[4], place[5]),
-        );
-        if let Some(tri) = triangle(corners.0, corners.1, corners.2) {
-            assert!(rt; agrees(&tri));
-            tried = tried.saturating_add(1);
-        }
-    }
-    assert!(rt; tried > 24);
+fn a_flat_triangle_has_one_colour(rt: HostRuntime) {
+    let corner = vertex(0, 0, 0, 3, 1, 2);
+    let tri = triangle(
+        corner,
+        vertex(144, 0, 16777215, 3, 5, 6),
+        vertex(0, 144, 7, 3, 7, 8),
+    )
+    .expect(&rt, "a triangle");
+    assert!(rt; has_depths(&tri));
+    assert!(rt; flat_color(&tri) == Some(corner.color));
 }
 
-// Half as wide as a pixel at its foot and 10 rows high, with its axis on the centres of column 0.
-#[test]
-fn a_triangle_in_one_column_has_a_pixel_a_row(rt: HostRuntime) {
-    let tri = triangle(at(4, 0), at(12, 0), at(8, 160)).expect(&rt, "a triangle");
-    let rect = Rect {
-        x0: -3,
-        y0: 2,
-        x1: 9,
-        y1: 5,
-    };
-    let mut rows = spans(&tri, rect);
-    for y in 2..5 {
-        let span = rows.next().expect(&rt, "a span");
-        assert!(rt; (span.y, span.x0, span.x1) == (y, 0, 1));
-    }
-    assert!(rt; rows.next().is_none());
-    assert!(rt; agrees(&tri));
-    // Between the centres of columns 0 and 1 it covers nothing.
-    let beside = triangle(at(12, 0), at(20, 0), at(16, 160)).expect(&rt, "a triangle");
-    assert!(rt; spans(&beside, rect).next().is_none());
-    assert!(rt; agrees(&beside));
-}
+const AROUND: Rect = Rect {
+    x0: -6,
+    y0: -6,
+    x1: 6,
+    y1: 12,
+};
 
-// Whether the column, where there is one, has exactly the rectangle's covered pixels, and whether it has none where that is known.
-fn column_agrees(tri: &WindowTriangle, rect: Rect) -> bool {
-    let rows = spans(tri, rect);
-    let column = rows.column();
-    for y in rect.y0..rect.y1 {
-        for x in rect.x0..rect.x1 {
-            let covered = covers(tri, x, y);
-            if covered && rows.is_empty() {
-                return false;
-            }
-            if let Some(c) = column {
-                if covered != (x == c.x && c.y0 <= y && y < c.y1) {
-                    return false;
-                }
-            }
-        }
-    }
-    true
-}
-
-// Whether the rises from pixel (x0, y0) on give each covered pixel of 9 by 9 its fragment's colour.
-fn rises_agree(tri: &WindowTriangle, x0: i32, y0: i32) -> bool {
-    let colors = color_plane(tri, &stencil_at(tri, x0, y0));
-    for i in 0..9u8 {
-        let mut color = colors.rise(u64::from(i), 2);
-        for j in 2..9u8 {
-            let x = x0.wrapping_add(i32::from(i));
-            let y = y0.wrapping_add(i32::from(j));
-            if covers(tri, x, y) && color.color() != fragment_at(tri, x, y).color {
-                return false;
-            }
-            color.advance();
-        }
-    }
-    true
-}
+const PART: Rect = Rect {
+    x0: -2,
+    y0: -1,
+    x1: 1,
+    y1: 1,
+};
 
 #[test]
 fn a_thin_triangle_is_a_column(rt: HostRuntime) {
-    let around = Rect {
-        x0: -6,
-        y0: -6,
-        x1: 6,
-        y1: 12,
-    };
-    let part = Rect {
-        x0: -2,
-        y0: -1,
-        x1: 1,
-        y1: 1,
-    };
     let thin = [
         // With its axis on the centres of column 0, and on those of column -2.
         (at(4, 0), at(12, 0), at(8, 160), (0, 0, 10), (0, 0, 1)),
@@ -296,23 +188,18 @@ fn a_thin_triangle_is_a_column(rt: HostRuntime) {
     ];
     for (a, b, c, all, some) in thin {
         let tri = triangle(a, b, c).expect(&rt, "a triangle");
-        let column = spans(&tri, around).column().expect(&rt, "a column");
-        assert!(rt; (column.x, column.y0, column.y1) == all);
-        assert!(rt; column_agrees(&tri, around));
-        let column = spans(&tri, part).column().expect(&rt, "a column");
-        assert!(rt; (column.x, column.y0, column.y1) == some);
-        assert!(rt; column_agrees(&tri, part));
-        assert!(rt; !spans(&tri, part).is_empty());
+        assert!(rt; column(&tri, AROUND) == Some(all));
+        assert!(rt; column(&tri, PART) == Some(some));
+        assert!(rt; !spans(&tri, PART).is_empty());
     }
+    // Its right edge on those centres; of two columns.
     let mirrored = triangle(at(-8, -24), at(-8, 24), at(-12, -24)).expect(&rt, "a triangle");
-    assert!(rt; spans(&mirrored, around).column().is_none());
-    assert!(rt; column_agrees(&mirrored, around));
-    // Of two columns, and of none.
+    assert!(rt; column(&mirrored, AROUND) == None);
     let wide = triangle(at(4, 0), at(28, 0), at(8, 160)).expect(&rt, "a triangle");
-    assert!(rt; spans(&wide, around).column().is_none());
-    assert!(rt; column_agrees(&wide, around));
+    assert!(rt; column(&wide, AROUND) == None);
 }
 
+// On the triangle's axis, a fifth of its height further up each time: 127.5 at its foot, 228 at its top.
 #[test]
 fn a_column_is_stepped_upward(rt: HostRuntime) {
     let tri = triangle(
@@ -321,9 +208,6 @@ fn a_column_is_stepped_upward(rt: HostRuntime) {
         vertex(-24, 40, -7, 228, 0, 0),
     )
     .expect(&rt, "a triangle");
-    assert!(rt; rises_agree(&tri, -4, -5));
-    assert!(rt; steps_agree(&tri, -4, -5));
-    // On the triangle's axis, a fifth of its height further up each time: 127.5 at its foot, 228 at its top.
     let mut color = color_plane(&tri, &stencil_at(&tri, -3, -2)).rise(1, 0);
     for g in [147, 167, 187, 207] {
         assert!(rt; color.color().g == g);
@@ -334,61 +218,17 @@ fn a_column_is_stepped_upward(rt: HostRuntime) {
 #[test]
 fn triangles_between_centres_are_empty(rt: HostRuntime) {
     let rect = square(9);
-    let beside = triangle(at(12, 0), at(20, 0), at(16, 160)).expect(&rt, "a triangle");
-    let between = triangle(at(0, 9), at(160, 9), at(80, 20)).expect(&rt, "a triangle");
-    let left = triangle(at(-28, -40), at(-20, -40), at(-24, 40)).expect(&rt, "a triangle");
-    let below = triangle(at(4, -90), at(12, -90), at(8, -10)).expect(&rt, "a triangle");
-    for tri in [beside, between, left, below] {
-        assert!(rt; spans(&tri, rect).is_empty());
-        assert!(rt; spans(&tri, rect).column().is_none());
-        assert!(rt; agrees(&tri));
-    }
-    let tri = triangle(at(4, 0), at(12, 0), at(8, 40)).expect(&rt, "a triangle");
-    let mut rows = spans(&tri, rect);
-    for _ in 0..2 {
-        assert!(rt; !rows.is_empty());
-        assert!(rt; rows.next().is_some());
-    }
-    assert!(rt; rows.is_empty());
-}
-
-#[test]
-fn steps_end_at_the_fragments(rt: HostRuntime) {
-    let least = -2147483648;
-    let most = 2147483647;
-    let m = 1048576;
-    let d = 1073741824;
-    let corners = [
-        (
-            vertex(-m, -m, d, 255, least, most),
-            vertex(m, -m, -d, 0, most, least),
-            vertex(m, m, d, 1, least, 0),
-        ),
-        (
-            vertex(-m, 0, 0, 254, most, 0),
-            vertex(m, 1, 1, 255, least, 1),
-            vertex(m, 33, 2, 0, 0, most),
-        ),
-        (
-            vertex(7, 7, -1, 0, least, least),
-            vertex(9, 8, d, 255, most, most),
-            vertex(8, 9, 0, 128, 0, 0),
-        ),
-        (
-            vertex(0, 0, 0, 3, 1, 2),
-            vertex(144, 0, 16777215, 3, most, 5),
-            vertex(0, 144, 7, 3, least, 6),
-        ),
-    ];
-    for (a, b, c) in corners {
+    for (a, b, c) in [
+        (at(12, 0), at(20, 0), at(16, 160)),
+        (at(0, 9), at(160, 9), at(80, 20)),
+        (at(-28, -40), at(-20, -40), at(-24, 40)),
+        (at(4, -90), at(12, -90), at(8, -10)),
+    ] {
         let tri = triangle(a, b, c).expect(&rt, "a triangle");
-        assert!(rt; steps_agree(&tri, 0, 0));
-        assert!(rt; rises_agree(&tri, 0, 0));
-        assert!(rt; steps_agree(&tri, -4, 60000));
+        assert!(rt; spans(&tri, rect).is_empty() && column(&tri, rect) == None);
+        assert!(rt; two_spans(&tri, rect) == (None, None));
     }
-    let (a, b, c) = corners[3];
-    let tri = triangle(a, b, c).expect(&rt, "a triangle");
-    assert!(rt; has_depths(&tri));
-    let color = flat_color(&tri).expect(&rt, "a colour");
-    assert!(rt; color == a.color);
+    // One with a pixel in each of two rows.
+    let tri = triangle(at(4, 0), at(12, 0), at(8, 40)).expect(&rt, "a triangle");
+    assert!(rt; two_spans(&tri, rect) == (Some((0, 0, 1)), Some((1, 0, 1))));
 }

@@ -1,11 +1,8 @@
-//! Each comparison, blend factor and mask at the ends and about the middle of a channel, and products of all channels, against the rules written
-//! out here.
+//! Comparisons, blend factors, masks and products of channels, at their ends and by hand.
 use fragment_ops::{blend_over, clear_pixel, modulate, shade_pixel, texture_color};
 use rc_base::command::{Mat4, Rgba};
 use rc_base::state::State;
 use rc_base::window::{Fragment, Pixel};
-
-const CHANNELS: [u8; 6] = [0, 1, 127, 128, 254, 255];
 
 // No stage is on, and all masks are.
 fn plain() -> State {
@@ -58,203 +55,177 @@ fn cleared(state: &State, mask: u8, old: Pixel) -> Pixel {
     clear_pixel(state, mask, old)
 }
 
-// The codes of the comparisons, and whether each passes a number that is less, equal, greater.
-const COMPARISONS: [(u8, bool, bool, bool); 8] = [
-    (0, false, false, false),
-    (1, true, false, false),
-    (2, false, true, false),
-    (3, true, true, false),
-    (4, false, false, true),
-    (5, true, false, true),
-    (6, false, true, true),
-    (7, true, true, true),
-];
+const OLD: Pixel = Pixel {
+    color: Rgba {
+        r: 1,
+        g: 2,
+        b: 3,
+        a: 4,
+    },
+    depth: 5,
+};
 
-fn passes(outcomes: (u8, bool, bool, bool), a: u32, b: u32) -> bool {
-    if a < b {
-        outcomes.1
-    } else if a == b {
-        outcomes.2
-    } else {
-        outcomes.3
-    }
+// Whether a fragment of this alpha is kept.
+fn passes_alpha(function: u8, alpha: u8, reference: u8) -> bool {
+    let state = State {
+        alpha_on: true,
+        alpha: [function, reference],
+        ..plain()
+    };
+    let color = rgba(10, 20, 30, alpha);
+    let new = shade_pixel(&state, &fragment(color, 77), OLD);
+    new.color == color && new.depth == 5
 }
 
 #[test]
 fn alpha_tests_pass_by_their_function(rt: HostRuntime) {
-    let old = Pixel {
-        color: rgba(1, 2, 3, 4),
-        depth: 5,
-    };
-    for outcomes in COMPARISONS {
-        for alpha in CHANNELS {
-            for reference in CHANNELS {
-                let state = State {
-                    alpha_on: true,
-                    alpha: [outcomes.0, reference],
-                    ..plain()
-                };
-                let color = rgba(10, 20, 30, alpha);
-                let new = shade_pixel(&state, &fragment(color, 77), old);
-                let goes_on = passes(outcomes, u32::from(alpha), u32::from(reference));
-                assert!(rt; new.color == if goes_on { color } else { old.color });
-                assert!(rt; new.depth == 5);
-            }
-        }
+    for (function, alpha, reference, want) in [
+        (0, 0, 255, false),
+        (1, 127, 128, true),
+        (1, 128, 128, false),
+        (2, 255, 255, true),
+        (2, 254, 255, false),
+        (3, 128, 128, true),
+        (3, 129, 128, false),
+        (4, 1, 0, true),
+        (4, 0, 0, false),
+        (5, 0, 1, true),
+        (5, 1, 1, false),
+        (6, 128, 128, true),
+        (6, 127, 128, false),
+        (7, 0, 255, true),
+    ] {
+        assert!(rt; passes_alpha(function, alpha, reference) == want);
     }
+}
+
+// Whether a fragment of this depth is kept, and the depth that is stored then.
+fn tested(function: u8, depth_mask: bool, depth: i32, stored: u32) -> (bool, u32) {
+    let state = State {
+        depth_on: true,
+        depth_func: function,
+        depth_mask,
+        ..plain()
+    };
+    let old = Pixel {
+        depth: stored,
+        ..OLD
+    };
+    let color = rgba(10, 20, 30, 40);
+    let new = shade_pixel(&state, &fragment(color, depth), old);
+    (new.color == color, new.depth)
 }
 
 #[test]
 fn depth_tests_pass_by_their_function_and_store_by_their_mask(rt: HostRuntime) {
-    let depths: [u32; 5] = [0, 1, 8_388_607, 16_777_214, 16_777_215];
-    for outcomes in COMPARISONS {
-        for depth in depths {
-            for stored in depths {
-                for depth_mask in [false, true] {
-                    let state = State {
-                        depth_on: true,
-                        depth_func: outcomes.0,
-                        depth_mask,
-                        ..plain()
-                    };
-                    let old = Pixel {
-                        color: rgba(1, 2, 3, 4),
-                        depth: stored,
-                    };
-                    let color = rgba(10, 20, 30, 40);
-                    let new = shade_pixel(&state, &fragment(color, depth as i32), old);
-                    let goes_on = passes(outcomes, depth, stored);
-                    assert!(rt; new.color == if goes_on { color } else { old.color });
-                    let wanted = if goes_on && depth_mask { depth } else { stored };
-                    assert!(rt; new.depth == wanted);
-                }
-            }
-        }
+    for (function, mask, depth, stored, passes, left) in [
+        (0, true, 0, 1, false, 1),
+        (1, true, 4, 5, true, 4),
+        (1, true, 5, 5, false, 5),
+        (2, true, 16_777_215, 16_777_215, true, 16_777_215),
+        (3, true, 5, 5, true, 5),
+        (3, true, 6, 5, false, 5),
+        (4, true, 16_777_215, 0, true, 16_777_215),
+        (5, true, 5, 5, false, 5),
+        (6, false, 7, 5, true, 5),
+        (7, true, 9, 5, true, 9),
+    ] {
+        assert!(rt; tested(function, mask, depth, stored) == (passes, left));
     }
 }
 
 #[test]
 fn depths_out_of_range_are_discarded(rt: HostRuntime) {
-    let old = Pixel {
-        color: rgba(1, 2, 3, 4),
-        depth: 5,
-    };
     for depth in [i32::MIN, -1, 16_777_216, i32::MAX] {
-        let new = shade_pixel(&plain(), &fragment(rgba(10, 20, 30, 40), depth), old);
-        assert!(rt; new == old);
+        assert!(rt; shade_pixel(&plain(), &fragment(rgba(10, 20, 30, 40), depth), OLD) == OLD);
     }
 }
 
-// The whole number nearest to a * b / 255.
-fn nearest_product(a: u8, b: u8) -> u32 {
-    (2 * u32::from(a) * u32::from(b) + 255) / 510
-}
-
-// A factor, as parts of 255: none, all, the source's or the stored channel or alpha, or what is missing of one of these.
-fn part(code: u8, source: u8, stored: u8, source_alpha: u8, stored_alpha: u8) -> u8 {
-    let whole = [0, source, stored, source_alpha, stored_alpha][usize::from(code / 2 % 5)];
-    if code % 2 == 1 { 255 - whole } else { whole }
+// A channel blended with the stored one, by the codes of the two factors and both alphas.
+fn blended(codes: [u8; 2], source: u8, stored: u8, alpha: u8, stored_alpha: u8) -> u8 {
+    let state = State {
+        blend_on: true,
+        blend: codes,
+        ..plain()
+    };
+    let old = Pixel {
+        color: rgba(stored, 0, 0, stored_alpha),
+        depth: 0,
+    };
+    shade_pixel(&state, &fragment(rgba(source, 0, 0, alpha), 0), old)
+        .color
+        .r
 }
 
 // ZERO, ONE, SRC_COLOR, ONE_MINUS_SRC_COLOR, DST_COLOR, ONE_MINUS_DST_COLOR, SRC_ALPHA, ONE_MINUS_SRC_ALPHA, DST_ALPHA, ONE_MINUS_DST_ALPHA
-fn blended(codes: (u8, u8), source: u8, stored: u8, source_alpha: u8, stored_alpha: u8) -> u8 {
-    let first = nearest_product(
-        source,
-        part(codes.0, source, stored, source_alpha, stored_alpha),
-    );
-    let second = nearest_product(
-        stored,
-        part(codes.1, source, stored, source_alpha, stored_alpha),
-    );
-    first.saturating_add(second).min(255) as u8
-}
-
 #[test]
-fn each_pair_of_factors_blends(rt: HostRuntime) {
-    for first in 0..10_u8 {
-        for second in 0..10_u8 {
-            let state = State {
-                blend_on: true,
-                blend: [first, second],
-                ..plain()
-            };
-            let codes = (first, second);
-            for source in CHANNELS {
-                for stored in CHANNELS {
-                    for a in CHANNELS {
-                        for b in CHANNELS {
-                            let old = Pixel {
-                                color: rgba(stored, stored, 255, b),
-                                depth: 0,
-                            };
-                            let new = shade_pixel(
-                                &state,
-                                &fragment(rgba(source, 0, source, a), 0),
-                                old,
-                            );
-                            assert!(rt; new.color.r == blended(codes, source, stored, a, b));
-                            assert!(rt; new.color.g == blended(codes, 0, stored, a, b));
-                            assert!(rt; new.color.b == blended(codes, source, 255, a, b));
-                            assert!(rt; new.color.a == blended(codes, a, b, a, b));
-                        }
-                    }
-                }
-            }
-        }
+fn each_factor_blends(rt: HostRuntime) {
+    for (first, second, source, stored, alpha, stored_alpha, want) in [
+        (0, 1, 255, 77, 255, 255, 77),
+        (1, 0, 77, 255, 0, 0, 77),
+        (1, 1, 200, 100, 0, 0, 255),
+        (2, 3, 1, 254, 0, 0, 253),
+        (3, 2, 254, 1, 0, 0, 2),
+        (4, 5, 127, 128, 0, 0, 128),
+        (5, 4, 255, 255, 0, 0, 255),
+        (6, 7, 255, 0, 128, 0, 128),
+        (6, 7, 0, 255, 128, 0, 127),
+        (7, 6, 255, 255, 1, 0, 255),
+        (8, 9, 255, 255, 0, 254, 255),
+        (9, 8, 255, 0, 0, 254, 1),
+    ] {
+        assert!(rt; blended([first, second], source, stored, alpha, stored_alpha) == want);
     }
 }
 
 #[test]
 fn masks_keep_channels(rt: HostRuntime) {
-    let old = Pixel {
-        color: rgba(1, 2, 3, 4),
-        depth: 5,
-    };
-    for flags in 0..16_u8 {
-        let color_mask = [
-            flags % 2 == 1,
-            flags / 2 % 2 == 1,
-            flags / 4 % 2 == 1,
-            flags / 8 == 1,
-        ];
+    for (color_mask, colored, cleared_to) in [
+        (
+            [true, false, false, false],
+            rgba(255, 2, 3, 4),
+            rgba(9, 2, 3, 4),
+        ),
+        (
+            [false, true, false, true],
+            rgba(1, 128, 3, 0),
+            rgba(1, 8, 3, 6),
+        ),
+        (
+            [false, false, true, false],
+            rgba(1, 2, 127, 4),
+            rgba(1, 2, 7, 4),
+        ),
+        ([false; 4], rgba(1, 2, 3, 4), rgba(1, 2, 3, 4)),
+    ] {
         let state = State {
             color_mask,
             ..plain()
         };
-        let wanted = |color: Rgba| {
-            rgba(
-                if color_mask[0] { color.r } else { 1 },
-                if color_mask[1] { color.g } else { 2 },
-                if color_mask[2] { color.b } else { 3 },
-                if color_mask[3] { color.a } else { 4 },
-            )
-        };
-        let color = rgba(255, 128, 127, 0);
-        let new = shade_pixel(&state, &fragment(color, 0), old);
-        assert!(rt; new.color == wanted(color));
-        assert!(rt; new.depth == 5);
-        for mask in 0..4_u8 {
-            let new = cleared(&state, mask, old);
-            let colored = mask == 1 || mask == 3;
-            assert!(rt;
-                new.color
-                    == if colored {
-                        wanted(rgba(9, 8, 7, 6))
-                    } else {
-                        old.color
-                    }
-            );
-            assert!(rt; new.depth == (if mask > 1 { 16_777_215 } else { 5 }));
-        }
+        assert!(rt;
+            shade_pixel(&state, &fragment(rgba(255, 128, 127, 0), 0), OLD).color == colored
+        );
+        assert!(rt;
+            cleared(&state, 1, OLD).color == cleared_to && cleared(&state, 1, OLD).depth == 5
+        );
+        assert!(rt; cleared(&state, 3, OLD).color == cleared_to);
+        assert!(rt; cleared(&state, 2, OLD).color == OLD.color);
+        assert!(rt; cleared(&state, 0, OLD) == OLD);
     }
+}
+
+// The stored depth after a Clear of depth 5.
+fn depth_after(clear_depth: i32, depth_mask: bool) -> u32 {
+    let state = State {
+        clear_depth,
+        depth_mask,
+        ..plain()
+    };
+    cleared(&state, 2, OLD).depth
 }
 
 #[test]
 fn clear_depths_are_rounded_down(rt: HostRuntime) {
-    let old = Pixel {
-        color: rgba(1, 2, 3, 4),
-        depth: 5,
-    };
     for (clear_depth, stored) in [
         (0, 0),
         (1, 255),
@@ -262,69 +233,31 @@ fn clear_depths_are_rounded_down(rt: HostRuntime) {
         (65_535, 16_776_959),
         (65_536, 16_777_215),
     ] {
-        let state = State {
-            clear_depth,
-            ..plain()
-        };
-        assert!(rt; cleared(&state, 2, old).depth == stored);
-        let masked = State {
-            depth_mask: false,
-            ..state
-        };
-        assert!(rt; cleared(&masked, 3, old).depth == 5);
+        assert!(rt; depth_after(clear_depth, true) == stored);
+        assert!(rt; depth_after(clear_depth, false) == 5);
     }
 }
 
 #[test]
 fn environments_modulate_or_replace(rt: HostRuntime) {
-    for a in CHANNELS {
-        for b in CHANNELS {
-            let texel = rgba(b, 255, a, 0);
-            let color = rgba(a, b, 255, a);
-            let new = texture_color(&plain(), color, texel);
-            assert!(rt; u32::from(new.r) == nearest_product(a, b));
-            assert!(rt; new.g == b);
-            assert!(rt; new.b == a);
-            assert!(rt; new.a == 0);
-            let replace = State {
-                tex_mode: [1, 0, 0],
-                ..plain()
-            };
-            assert!(rt; texture_color(&replace, color, texel) == texel);
-        }
+    let replace = State {
+        tex_mode: [1, 0, 0],
+        ..plain()
+    };
+    for (a, b, want) in [
+        (255, 255, 255),
+        (128, 128, 64),
+        (1, 127, 0),
+        (1, 128, 1),
+        (254, 254, 253),
+        (0, 255, 0),
+    ] {
+        let (color, texel) = (rgba(a, b, 255, a), rgba(b, 255, a, 0));
+        assert!(rt; texture_color(&plain(), color, texel) == rgba(want, b, a, 0));
+        assert!(rt; modulate(color, texel) == rgba(want, b, a, 0));
+        assert!(rt; texture_color(&replace, color, texel) == texel);
     }
-}
-
-// A channel times another one, as parts of 255, rounded.
-fn times(a: u8, b: u8) -> u32 {
-    (u32::from(a) * u32::from(b) + 127) / 255
-}
-
-// A channel's part by alpha and the stored one's by the rest.
-fn over(source: u8, stored: u8, alpha: u8) -> u32 {
-    times(source, alpha)
-        .saturating_add(times(stored, 255 - alpha))
-        .min(255)
-}
-
-#[test]
-fn all_pairs_of_channels_are_modulated_and_laid_over(rt: HostRuntime) {
-    for alpha in CHANNELS {
-        for x in 0..=255_u8 {
-            for y in 0..=255_u8 {
-                let color = rgba(x, y, 255 - x, alpha);
-                let other = rgba(y, x, y, x);
-                let new = modulate(color, other);
-                assert!(rt; u32::from(new.r) == times(x, y));
-                assert!(rt; u32::from(new.g) == times(x, y));
-                assert!(rt; u32::from(new.b) == times(255 - x, y));
-                assert!(rt; u32::from(new.a) == times(alpha, x));
-                let new = blend_over(color, other);
-                assert!(rt; u32::from(new.r) == over(x, y, alpha));
-                assert!(rt; u32::from(new.g) == over(y, x, alpha));
-                assert!(rt; u32::from(new.b) == over(255 - x, y, alpha));
-                assert!(rt; u32::from(new.a) == over(alpha, x, alpha));
-            }
-        }
-    }
+    assert!(rt;
+        blend_over(rgba(255, 0, 10, 128), rgba(0, 255, 10, 255)) == rgba(128, 127, 10, 191)
+    );
 }

@@ -85,32 +85,34 @@ const ROWS: [(i32, u8, u8); 7] = [
     (MOST, 1, 1),
 ];
 
-#[test]
-fn coordinates_wrap_over_all_their_range(rt: HostRuntime) {
-    // red is the column, green the row
+// 3 by 2 texels whose red is the column and whose green is the row.
+fn placed(alloc: Global) -> Result<Texture, OutOfMemory> {
     let bytes: [u8; 24] = [
         0, 0, 7, 8, 1, 0, 7, 8, 2, 0, 7, 8, 0, 1, 7, 8, 1, 1, 7, 8, 2, 1, 7, 8,
     ];
-    let texels = Texels::from_slice(rt.alloc(), &bytes).expect(&rt, "memory");
-    let mut texture = Texture::empty();
-    assert!(rt; !texture.has_image());
-    texture
-        .set_image(rt.alloc(), 3, 2, &texels)
-        .expect(&rt, "memory");
-    assert!(rt; texture.has_image());
-    for (s, repeated_column, clamped_column) in COLUMNS {
-        for (t, repeated_row, clamped_row) in ROWS {
-            let both = texture.sample(s, t, 0, 0);
-            assert!(rt; both.r == repeated_column);
-            assert!(rt; both.g == repeated_row);
-            assert!(rt; both.b == 7);
-            assert!(rt; both.a == 8);
-            let neither = texture.sample(s, t, 1, 1);
-            assert!(rt; neither.r == clamped_column);
-            assert!(rt; neither.g == clamped_row);
-            let mixed = texture.sample(s, t, 0, 1);
-            assert!(rt; mixed.r == repeated_column);
-            assert!(rt; mixed.g == clamped_row);
-        }
+    let texels = Texels::from_slice(alloc, &bytes)?;
+    let mut texture = Texture::empty(alloc);
+    texture.set_image(3, 2, &texels)?;
+    Ok(texture)
+}
+
+// Column, row, blue and alpha of the texel at a coordinate, where the texture has one.
+fn texel(texture: &Texture, s: i32, t: i32, wrap_s: u8, wrap_t: u8) -> Option<(u8, u8, u8, u8)> {
+    let sampler = texture.sampler(wrap_s, wrap_t)?;
+    let color = sampler.nearest(s, t);
+    Some((color.r, color.g, color.b, color.a))
+}
+
+#[test]
+fn coordinates_wrap_over_all_their_range(rt: HostRuntime) {
+    let texture = placed(rt.alloc()).expect(&rt, "memory");
+    for (s, repeated, clamped) in COLUMNS {
+        assert!(rt; texel(&texture, s, 0, 0, 0) == Some((repeated, 0, 7, 8)));
+        assert!(rt; texel(&texture, s, 0, 1, 0) == Some((clamped, 0, 7, 8)));
     }
+    for (t, repeated, clamped) in ROWS {
+        assert!(rt; texel(&texture, 0, t, 0, 0) == Some((0, repeated, 7, 8)));
+        assert!(rt; texel(&texture, 0, t, 0, 1) == Some((0, clamped, 7, 8)));
+    }
+    assert!(rt; texel(&Texture::empty(rt.alloc()), 0, 0, 0, 0) == None);
 }

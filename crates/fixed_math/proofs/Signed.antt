@@ -8,6 +8,7 @@ use lib.IntN.{*ℤ_comm}
 use mir.Syntax.{w32}
 use Rattle.rc_base.specs.Numbers.{Within, floor_quotient, fixed_one}
 use Rattle.fixed_math.specs.Bounds.{AllWithin}
+pub use Rattle.rc_base.proofs.Signed.{sum_times, mul_mono, times_assoc}
 
 -- the quotient q that rounds down has k * q ≤ a < k * q + k
 pub floor-parts : (a : ℤ) (k : ℕ) → 0 < k → (up (int_div_euclid a (pos k)) * k + down a ≤ down (int_div_euclid a (pos k)) * k + up a) × (down (int_div_euclid a (pos k)) * k + up a < up (int_div_euclid a (pos k)) * k + down a + k)
@@ -22,31 +23,12 @@ pub floor_greatest : (a d : ℤ) → pos 0 <ℤ d → a <ℤ (int_div_euclid a d
 floor_greatest a (pos k) h = omega (arith, ints, floor-parts a k (omega (arith, ints)))
 floor_greatest a (negsuc k) h = absurd (omega (arith, ints))
 
--- a product of a sum, multiplied out
-pub sum_times : (a b c : ℤ) → (a +ℤ b) *ℤ c ≡ a *ℤ c +ℤ b *ℤ c
-sum_times a b c =
-    let s = sum_is_lem a b in
-    let p = ap (λ x. x * up c) s in
-    let q = ap (λ x. x * down c) s in
-    omega (arith, same_in, sum_is_lem, product_is)
-
 pub times_sum : (a b c : ℤ) → c *ℤ (a +ℤ b) ≡ c *ℤ a +ℤ c *ℤ b
 times_sum a b c =
     let s = sum_is_lem a b in
     let p = ap (λ x. up c * x) s in
     let q = ap (λ x. down c * x) s in
     omega (arith, same_in, sum_is_lem, product_is)
-
--- to multiply by a number that is not negative keeps an order
-pub mul_mono : (a x y : ℤ) → pos 0 ≤ℤ a → x ≤ℤ y → (a *ℤ x) ≤ℤ (a *ℤ y)
-mul_mono (pos a) x y h k =
-    let o = le_out x y k in
-    let m : a * (up x + down y) ≤ a * (up y + down x) = mul-le-mul refl_le o in
-    omega (arith, ints)
-  where
-    refl_le : a ≤ a
-    refl_le = omega arith
-mul_mono (negsuc a) x y h k = absurd (omega (arith, ints))
 
 pub neg_times : (a x : ℤ) → neg_ℤ a *ℤ x ≡ neg_ℤ (a *ℤ x)
 neg_times a x =
@@ -184,20 +166,6 @@ floor_within z (pos k) b h w =
     let l = w.0 in let u = w.1 in
     (floor_from_low z (pos k) (neg_ℤ (pos b)) h (omega (arith, ints)), floor_to_high z (pos k) (pos b) h (omega (arith, ints)))
 floor_within z (negsuc k) b h w = absurd (omega (arith, ints))
-
-pub times_assoc : (a b c : ℤ) → (a *ℤ b) *ℤ c ≡ a *ℤ (b *ℤ c)
-times_assoc a b c =
-    let p = product_is a b in
-    let q = product_is b c in
-    let e1 = ap (λ n. n * up c) p.0 in
-    let e2 = ap (λ n. n * down c) p.0 in
-    let e3 = ap (λ n. n * up c) p.1 in
-    let e4 = ap (λ n. n * down c) p.1 in
-    let f1 = ap (λ n. up a * n) q.0 in
-    let f2 = ap (λ n. down a * n) q.0 in
-    let f3 = ap (λ n. up a * n) q.1 in
-    let f4 = ap (λ n. down a * n) q.1 in
-    omega (arith, same_in, product_is)
 
 pub positive_times : (a b : ℤ) → pos 0 <ℤ a → pos 0 <ℤ b → pos 0 <ℤ (a *ℤ b)
 positive_times a b h k =

@@ -65,6 +65,26 @@ fn is_quiet(context: &mut Context, command: &Command) -> bool {
     issue(context, 0, command) == Some(Effect::Quiet)
 }
 
+// Whether that holds of each of these commands.
+fn are_quiet(context: &mut Context, commands: &[Command]) -> bool {
+    for command in commands {
+        if !is_quiet(context, command) {
+            return false;
+        }
+    }
+    true
+}
+
+// Whether that holds of the command so many times.
+fn repeats(context: &mut Context, command: &Command, count: u16) -> bool {
+    for _ in 0..count {
+        if !is_quiet(context, command) {
+            return false;
+        }
+    }
+    true
+}
+
 // Whether two contexts have the same scalar elements and private textures.
 fn look_alike(a: &Context, b: &Context) -> bool {
     if a.state() != b.state() {
@@ -231,19 +251,11 @@ fn inside_a_block_four_commands_are_accepted(rt: HostRuntime) {
         Command::TexCoord { s: 5, t: 6 },
         vertex(7),
     ];
-    for command in &accepted {
-        assert!(rt; is_quiet(&mut context, command));
-        assert!(rt; is_quiet(&mut twin, command));
-    }
-    for command in &refused {
-        assert!(rt; is_refused(&mut context, &twin, command, Fault::InvalidOperation));
-    }
-    let drawn = issue(&mut context, 8, &Command::End);
-    assert!(rt; drawn_block(&drawn) == Some((2, 1)));
-    assert!(rt; drawn == issue(&mut twin, 8, &Command::End));
-    for command in [vertex(7), Command::End] {
-        assert!(rt; is_refused(&mut context, &twin, &command, Fault::InvalidOperation));
-    }
+    assert!(rt; are_quiet(&mut context, &accepted) && are_quiet(&mut twin, &accepted));
+    assert!(rt; are_refused(&mut context, &twin, &refused, Fault::InvalidOperation));
+    assert!(rt; is_block(&mut context, Some((2, 1))) && is_block(&mut twin, Some((2, 1))));
+    let outside = [vertex(7), Command::End];
+    assert!(rt; are_refused(&mut context, &twin, &outside, Fault::InvalidOperation));
 }
 
 // Each argument with codes, behind the last of them.
@@ -370,64 +382,86 @@ fn codes_values_and_images_are_refused_outside_a_block(rt: HostRuntime) {
     let blank = texture_part(rt.alloc(), (0, 2, 9, 0, 1, 1)).expect(&rt, "memory");
     assert!(rt; is_refused(&mut context, &twin, &blank, Fault::InvalidOperation));
     assert!(rt;
-        is_refused(
+        are_refused(
             &mut context,
             &twin,
-            &Command::PopMatrix,
+            &[Command::PopMatrix],
             Fault::StackUnderflow
         )
     );
     assert!(rt; context.state().modelview == corner_matrix());
 }
 
+// Whether so many matrices are pushed, and then one more is refused.
+fn are_pushed(context: &mut Context, twin: &Context, count: u16) -> bool {
+    repeats(context, &Command::PushMatrix, count)
+        && is_refused(context, twin, &Command::PushMatrix, Fault::StackOverflow)
+}
+
+// Whether so many are popped, and then one more is refused.
+fn are_popped(context: &mut Context, twin: &Context, count: u16) -> bool {
+    repeats(context, &Command::PopMatrix, count)
+        && is_refused(context, twin, &Command::PopMatrix, Fault::StackUnderflow)
+}
+
+// Whether the top is multiplied to this matrix.
+fn is_multiplied(context: &mut Context, by: Mat4, top: Mat4) -> bool {
+    is_quiet(context, &Command::MultMatrix(by)) && context.state().modelview == top
+}
+
+// Whether a block takes so many vertices and no more.
+fn is_filled(context: &mut Context, twin: &Context, count: u16) -> bool {
+    is_quiet(context, &Command::Begin { mode: 1 })
+        && repeats(context, &vertex(7), count)
+        && is_refused(context, twin, &vertex(0), Fault::InvalidValue)
+}
+
 #[test]
 fn the_deepest_stack_and_the_largest_block(rt: HostRuntime) {
     let mut context = fresh(rt.alloc()).expect(&rt, "memory");
-    let mut twin = fresh(rt.alloc()).expect(&rt, "memory");
-    for _ in 0..31 {
-        assert!(rt; is_quiet(&mut context, &Command::PushMatrix));
-    }
-    assert!(rt;
-        is_refused(
-            &mut context,
-            &twin,
-            &Command::PushMatrix,
-            Fault::StackOverflow
-        )
-    );
-    let double = Command::MultMatrix(matrix(2 * ONE));
-    assert!(rt; is_quiet(&mut context, &double));
-    assert!(rt; context.state().modelview == matrix(2 * ONE));
-    for _ in 0..31 {
-        assert!(rt; is_quiet(&mut context, &Command::PopMatrix));
-    }
-    assert!(rt;
-        is_refused(
-            &mut context,
-            &twin,
-            &Command::PopMatrix,
-            Fault::StackUnderflow
-        )
-    );
-    assert!(rt; is_quiet(&mut context, &Command::Begin { mode: 1 }));
-    for x in 0..16_383 {
-        assert!(rt; is_quiet(&mut context, &vertex(x)));
-    }
-    assert!(rt; is_refused(&mut context, &twin, &vertex(0), Fault::InvalidValue));
+    let twin = fresh(rt.alloc()).expect(&rt, "memory");
+    assert!(rt; are_pushed(&mut context, &twin, 31));
+    assert!(rt; is_multiplied(&mut context, matrix(2 * ONE), matrix(2 * ONE)));
+    assert!(rt; are_popped(&mut context, &twin, 31));
+    assert!(rt; is_filled(&mut context, &twin, 16_383));
     assert!(rt; is_block(&mut context, Some((1, 16_383))));
+}
+
+// The edit number of a private texture after an image of so many texels along each side, where it is accepted.
+fn edit_of_image(alloc: Global, context: &mut Context, name: u8, side: u16) -> Option<u32> {
+    let command = image(alloc, name, side, side).ok()?;
+    if !is_quiet(context, &command) || name == 0 || name > 64 {
+        return None;
+    }
+    Some(context.edit(name))
+}
+
+// Whether a part of private texture 64 of so many texels along each side is written.
+fn is_written(alloc: Global, context: &mut Context, x: u16, y: u16, side: u16) -> bool {
+    match texture_part(alloc, (0, 64, x, y, side, side)) {
+        Ok(command) => is_quiet(context, &command),
+        Err(_) => false,
+    }
+}
+
+// How many bytes of private texture 64 are 9, and whether those at these places are.
+fn nines(context: &Context, places: [usize; 4]) -> (usize, bool) {
+    let bytes = context.private().get(64).texels().unwrap_or(&[]);
+    let mut all = bytes.len() == 262_144;
+    for place in places {
+        all = all && bytes.get(place) == Some(&9);
+    }
+    (bytes.iter().filter(|b| **b == 9).count(), all)
 }
 
 #[test]
 fn private_images_and_their_parts(rt: HostRuntime) {
     let mut context = fresh(rt.alloc()).expect(&rt, "memory");
     for name in 1..65_u8 {
-        let small = image(rt.alloc(), name, 1, 1).expect(&rt, "memory");
-        assert!(rt; is_quiet(&mut context, &small));
-        assert!(rt; context.edit(name) == 1);
+        assert!(rt; edit_of_image(rt.alloc(), &mut context, name, 1) == Some(1));
     }
     assert!(rt; marks(&Command::PopMatrix, 1) == Some(1));
-    let large = image(rt.alloc(), 64, 256, 256).expect(&rt, "memory");
-    assert!(rt; is_quiet(&mut context, &large));
+    assert!(rt; edit_of_image(rt.alloc(), &mut context, 64, 256) == Some(2));
     // a texel at each corner, and a part without texels at the far one
     for (x, y, side) in [
         (0, 0, 1),
@@ -436,19 +470,26 @@ fn private_images_and_their_parts(rt: HostRuntime) {
         (255, 255, 1),
         (256, 256, 0),
     ] {
-        let spot = texture_part(rt.alloc(), (0, 64, x, y, side, side)).expect(&rt, "memory");
-        assert!(rt; is_quiet(&mut context, &spot));
+        assert!(rt; is_written(rt.alloc(), &mut context, x, y, side));
     }
     assert!(rt; context.edit(64) == 7);
-    let bytes = context.private().get(64).texels().unwrap_or(&[]);
-    assert!(rt; bytes.len() == 262_144);
-    assert!(rt; bytes.iter().filter(|b| **b == 9).count() == 16);
-    for corner in [0, 1020, 261_120, 262_140] {
-        assert!(rt; bytes.get(corner) == Some(&9));
+    assert!(rt; nines(&context, [0, 1020, 261_120, 262_140]) == (16, true));
+}
+
+// What is due for a command of one part or of none: its texels' bytes, or its operation.
+fn due(effect: &Option<Effect>) -> Option<(usize, Option<SyncOp>)> {
+    match effect {
+        Some(Effect::Shared(part)) => Some((part.texels.len(), None)),
+        Some(Effect::Sync(op)) => Some((0, Some(*op))),
+        _ => None,
     }
+}
+
+#[test]
+fn shared_parts_and_waits_are_due(rt: HostRuntime) {
+    let mut context = fresh(rt.alloc()).expect(&rt, "memory");
     let whole = texture_part(rt.alloc(), (1, 1, 0, 0, 3, 2)).expect(&rt, "memory");
-    let shared = issue(&mut context, 0, &whole);
-    assert!(rt; matches!(&shared, Some(Effect::Shared(part)) if part.texels.len() == 24));
-    let waits = issue(&mut context, 0, &Command::Barrier { name: 2 });
-    assert!(rt; waits == Some(Effect::Sync(SyncOp::Barrier(2))));
+    assert!(rt; due(&issue(&mut context, 0, &whole)) == Some((24, None)));
+    let wait = Command::Barrier { name: 2 };
+    assert!(rt; due(&issue(&mut context, 0, &wait)) == Some((0, Some(SyncOp::Barrier(2)))));
 }

@@ -1,7 +1,5 @@
 //! Streams by hand: every command byte for byte, packets of 1,024, and the first fault of bytes that spell nothing.
-use cmd_pack::fault::PackFault;
-use cmd_pack::reading::{decode, decode_within};
-use cmd_pack::writing::encode;
+use cmd_pack::{PackFault, decode, decode_within, encode};
 use rc_base::command::{Command, Commands, Mat4, Part, Rgba, Texels};
 use rc_base::out_of_memory::OutOfMemory;
 use std::alloc::Global;
@@ -207,24 +205,20 @@ fn the_first_fault_is_told(rt: HostRuntime) {
     assert!(rt; decode(rt.alloc(), &[]) == Ok(Commands::new(rt.alloc())));
 }
 
+// Commands, Swaps and stored commands of bytes for which there is so much room.
+fn counted(alloc: Global, room: usize, bytes: &[u8]) -> Result<(usize, usize, usize), PackFault> {
+    let decoded = decode_within(alloc, room, bytes)?;
+    Ok((decoded.count, decoded.swaps, decoded.commands.len()))
+}
+
 #[test]
 fn what_has_no_room_is_counted(rt: HostRuntime) {
     let mut bytes = Vec::from_slice(rt.alloc(), EVERY_COMMAND).expect(&rt, "memory");
     bytes.extend_from_slice(EVERY_COMMAND).expect(&rt, "memory");
-    let rooms = [(0, 0), (35, 0), (36, 36), (71, 36), (72, 72)];
-    for (room, stored) in rooms {
-        match decode_within(rt.alloc(), room, bytes.as_slice()) {
-            Ok(decoded) => {
-                assert!(rt; decoded.count == 72);
-                assert!(rt; decoded.swaps == 2);
-                assert!(rt; decoded.commands.len() == stored);
-            }
-            Err(_) => assert!(rt; false),
-        }
+    for (room, stored) in [(0, 0), (35, 0), (36, 36), (71, 36), (72, 72)] {
+        assert!(rt; counted(rt.alloc(), room, bytes.as_slice()) == Ok((72, 2, stored)));
     }
     bytes.push(1).expect(&rt, "memory");
-    match decode_within(rt.alloc(), 0, bytes.as_slice()) {
-        Ok(_) => assert!(rt; false),
-        Err(fault) => assert!(rt; fault == PackFault::Truncated { at: bytes.len() }),
-    }
+    let fault = PackFault::Truncated { at: bytes.len() };
+    assert!(rt; counted(rt.alloc(), 0, bytes.as_slice()) == Err(fault));
 }

@@ -38,6 +38,29 @@ fn is_issued(context: &mut Context, command: &Command) -> bool {
     context.issue(0, command).is_ok()
 }
 
+// The same of each of these commands.
+fn are_issued(context: &mut Context, commands: &[Command]) -> bool {
+    for command in commands {
+        if !is_issued(context, command) {
+            return false;
+        }
+    }
+    true
+}
+
+// A capability turned on, or off.
+fn is_switched(context: &mut Context, capability: u8, on: bool) -> bool {
+    if on {
+        return is_issued(context, &Command::Enable { capability });
+    }
+    is_issued(context, &Command::Disable { capability })
+}
+
+// The scissor test turned on, and its box.
+fn is_scissored(context: &mut Context, area: [i32; 4]) -> bool {
+    is_switched(context, 0, true) && is_issued(context, &Command::Scissor { area })
+}
+
 // The sets of a tile, where the bound texture exists.
 fn told(tracker: &mut Tracker, context: &Context, tile: u8, draws: bool) -> Option<Sets>
     requires { tile < length tracker.old }
@@ -83,22 +106,14 @@ fn a_blend_set_back_is_not_told_and_each_tile_is_told_in_its_time(rt: HostRuntim
     let decl = decl(rt.alloc());
     let mut context = Context::new(rt.alloc(), &decl).expect(&rt, "memory");
     let mut tracker = Tracker::new(rt.alloc(), &decl, 2).expect(&rt, "memory");
-    for command in [
-        Command::Enable { capability: 3 },
-        Command::Disable { capability: 3 },
-    ] {
-        assert!(rt; is_issued(&mut context, &command));
-    }
+    assert!(rt; is_switched(&mut context, 3, true) && is_switched(&mut context, 3, false));
     tracker.note(14);
     let nothing = Some([NONE, NONE, NONE]);
     assert!(rt; elements(told(&mut tracker, &context, 0, true)) == nothing);
     assert!(rt; elements(told(&mut tracker, &context, 1, true)) == nothing);
-    let scissor = Command::Scissor { area: [0, 0, 1, 1] };
-    for command in [Command::Enable { capability: 0 }, scissor] {
-        assert!(rt; is_issued(&mut context, &command));
-    }
+    assert!(rt; is_scissored(&mut context, [0, 0, 1, 1]));
     assert!(rt; elements(told(&mut tracker, &context, 0, true)) == Some([4, 5, NONE]));
-    assert!(rt; is_issued(&mut context, &Command::Disable { capability: 0 }));
+    assert!(rt; is_switched(&mut context, 0, false));
     assert!(rt; elements(told(&mut tracker, &context, 0, true)) == Some([4, NONE, NONE]));
     assert!(rt; elements(told(&mut tracker, &context, 1, true)) == Some([5, NONE, NONE]));
     assert!(rt; elements(told(&mut tracker, &context, 1, false)) == nothing);
@@ -124,6 +139,19 @@ fn texel(alloc: Global) -> Result<Command, OutOfMemory> {
     }))
 }
 
+// The image, bound and sampled.
+fn is_textured(alloc: Global, context: &mut Context) -> Result<bool, OutOfMemory> {
+    let bind = Command::BindTexture { kind: 0, name: 2 };
+    let commands = [image(alloc)?, bind, Command::Enable { capability: 5 }];
+    Ok(are_issued(context, &commands))
+}
+
+// A texel of it written anew.
+fn is_retouched(alloc: Global, context: &mut Context) -> Result<bool, OutOfMemory> {
+    let command = texel(alloc)?;
+    Ok(is_issued(context, &command))
+}
+
 // The edit number and the second byte of the image that is the only set, or the last of three.
 fn image_told(sets: &Option<Sets>) -> Option<(u8, u32, u8)> {
     match sets {
@@ -146,21 +174,16 @@ fn an_image_is_told_once_and_again_after_a_part(rt: HostRuntime) {
     let decl = decl(rt.alloc());
     let mut context = Context::new(rt.alloc(), &decl).expect(&rt, "memory");
     let mut tracker = Tracker::new(rt.alloc(), &decl, 2).expect(&rt, "memory");
-    let image = image(rt.alloc()).expect(&rt, "memory");
-    let texel = texel(rt.alloc()).expect(&rt, "memory");
-    let bind = Command::BindTexture { kind: 0, name: 2 };
-    for command in [image, bind, Command::Enable { capability: 5 }] {
-        assert!(rt; is_issued(&mut context, &command));
-    }
+    assert!(rt; is_textured(rt.alloc(), &mut context) == Ok(true));
     let nothing = Some([NONE, NONE, NONE]);
     assert!(rt; elements(told(&mut tracker, &context, 0, false)) == Some([19, 20, NONE]));
     assert!(rt; image_told(&told(&mut tracker, &context, 0, true)) == Some((23, 1, 2)));
     assert!(rt; elements(told(&mut tracker, &context, 0, true)) == nothing);
-    assert!(rt; is_issued(&mut context, &texel));
+    assert!(rt; is_retouched(rt.alloc(), &mut context) == Ok(true));
     assert!(rt; elements(told(&mut tracker, &context, 0, false)) == nothing);
     assert!(rt; image_told(&told(&mut tracker, &context, 0, true)) == Some((23, 2, 6)));
     assert!(rt; elements(told(&mut tracker, &context, 1, true)) == Some([19, 20, 23]));
-    assert!(rt; is_issued(&mut context, &texel));
-    assert!(rt; is_issued(&mut context, &Command::Disable { capability: 5 }));
+    assert!(rt; is_retouched(rt.alloc(), &mut context) == Ok(true));
+    assert!(rt; is_switched(&mut context, 5, false));
     assert!(rt; elements(told(&mut tracker, &context, 0, true)) == Some([19, NONE, NONE]));
 }

@@ -144,11 +144,14 @@ all_on : (c : Clearing) (old : Pixel) → c.red ≡ true → c.green ≡ true �
 unfolding cleared_by
 all_on c old r g b a d = rw (r, g, b, a, d) refl
 
-pub pixel_is : (s : State) (mask : ℕ) (c : Clearing) (old : Pixel) → writes_pixel c ≡ true → IsClearing s mask c
-    → record { color = c.color; depth = c.depth } ≡ cleared s mask old
-pixel_is s mask c old h p =
+pub whole_is : (c : Clearing) (old : Pixel) → writes_pixel c ≡ true → cleared_by c old ≡ record { color = c.color; depth = c.depth }
+whole_is c old h =
     let r = and_parts c.red _ h in
     let g = and_parts c.green _ r.1 in
     let b = and_parts c.blue _ g.1 in
     let a = and_parts c.opacity c.sets_depth b.1 in
-    sym (all_on c old r.0 g.0 b.0 a.0 a.1) ∙ cleared_is s mask c old p
+    all_on c old r.0 g.0 b.0 a.0 a.1
+
+pub pixel_is : (s : State) (mask : ℕ) (c : Clearing) (old : Pixel) → writes_pixel c ≡ true → IsClearing s mask c
+    → record { color = c.color; depth = c.depth } ≡ cleared s mask old
+pixel_is s mask c old h p = sym (whole_is c old h) ∙ cleared_is s mask c old p

@@ -59,7 +59,8 @@ impl Clearing {
 
     /// A pixel after the Clear.
     pub fn clear(&self, old: Pixel) -> Pixel
-        ensures { (s : AnyState) (m : ℕ) → IsClearing s m self.now → result ≡ cleared s m old }
+        ensures prepared { result ≡ cleared_by self.now old }
+        ensures cleared { (s : AnyState) (m : ℕ) → IsClearing s m self.now → result ≡ cleared s m old }
     {
         self.cleared(old)
     }
@@ -73,7 +74,8 @@ impl Clearing {
 
     /// What each pixel is after a Clear that writes all of it.
     pub fn pixel(&self) -> Pixel
-        ensures { writes_pixel self.now ≡ true → (s : AnyState) (m : ℕ) (old : AnyPixel) → IsClearing s m self.now → result ≡ cleared s m old }
+        ensures prepared { writes_pixel self.now ≡ true → (old : AnyPixel) → result ≡ cleared_by self.now old }
+        ensures cleared { writes_pixel self.now ≡ true → (s : AnyState) (m : ℕ) (old : AnyPixel) → IsClearing s m self.now → result ≡ cleared s m old }
     {
         Pixel {
             color: self.color,

@@ -4,8 +4,8 @@
 //! `Contexts::Faults`. This crate stands on fixed_math and textures.
 #![tactic(auto)]
 
-pub mod context;
-pub mod elements;
+mod context;
+mod elements;
 pub mod laws;
 mod rules;
 mod stacks;

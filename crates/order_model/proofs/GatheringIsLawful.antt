@@ -1,5 +1,5 @@
 -- The law of gathering.
-use Rattle.std.proofs.Common.{◌≡◌, ℕ, ◌<◌, List, [], ◌∷◌, ◌++◌, drop, length, map, Some, None, slice_get, inl, inr, refl, sym, ap, ◌∙◌, subst, arith}
+use Rattle.std.proofs.Common.{◌≡◌, ℕ, ◌<◌, List, [], ◌∷◌, ◌++◌, drop, length, map, Some, None, slice_get, inl, inr, refl, sym, ap, ◌∙◌, subst, arith, append-nil}
 use Rattle.std.proofs.Math.ListN.{drop_of_length-le}
 use Rattle.std.proofs.lemmas.Bool.{cases_lt, cases_Bool}
 use Rattle.std.proofs.lemmas.Option.{slice_get_past}
@@ -14,7 +14,7 @@ use Rattle.rc_base.specs.declared.sync.Entry.{Entry}
 use Rattle.rc_base.specs.declared.sync.SyncLists.{SyncLists}
 use Rattle.rc_base.specs.declared.sync.WaitAt.{WaitAt}
 use Rattle.rc_base.specs.declared.window.Layout.{Layout}
-use Rattle.order_model.specs.Gathering.{HasArrived}
+use Rattle.order_model.specs.Gathering.{HasArrived, LegalBooksHaveLegalJournals, OverBooksAreMaximal, OverBooksWaitAlike}
 use Rattle.order_model.specs.Log.{Job, job_place, IsNext, AreSent, waits_in, Replays, StandsAt, IsComplete, jobs_after}
 use Rattle.order_model.specs.Log.Job.{Wait}
 use Rattle.order_model.specs.Sent.{jobs_of, IsRecordOf}
@@ -23,7 +23,7 @@ use Rattle.order_model.specs.declared.record.LogEntry.{LogEntry}
 use Rattle.order_model.specs.declared.record.Record.{Record}
 use Rattle.order_model.proofs.ClientsBeyond.{length_past, ops_past}
 use Rattle.order_model.proofs.LogsLeaveJobs.{jobs_left, has_come}
-use Rattle.order_model.proofs.MoreOperations.{IsSettled, maximal_more}
+use Rattle.order_model.proofs.MoreOperations.{IsFront, IsSettled, head_append, legal_more, maximal_more}
 use Rattle.order_model.proofs.SceneJobsAreSent.{scene_jobs_are_sent}
 
 -- ---- the journal
@@ -36,18 +36,43 @@ none_more : (ws ops more : List WaitAt) → ops ≡ [] → ops ≡ ws ++ more �
 none_more [] ops more e f = sym f ∙ e
 none_more (w ∷ ws) ops more e f = absurd cc
 
+-- what has still to arrive of each client
+abbrev still_to_come : (syncs : SyncLists) (b : Book) → HasArrived syncs b → ℕ → List WaitAt
+still_to_come syncs b h c = (h.front c).0
+
+-- in a book that is over each client waits, or nothing more of it comes
+over_settled : (syncs : SyncLists) (b : Book) (h : HasArrived syncs b) → IsBookOver syncs b → IsSettled (standing syncs b) (still_to_come syncs b h)
+over_settled syncs b h over c = elim (cases_Bool (b.ended c)) [
+  | inl t ↦ inr (ends_whole (b.arrived c) (still_to_come syncs b h c) (h.all c t ∙ (h.front c).1))
+  | inr f ↦ elim (cases_lt c (client_count syncs)) [
+    | inl lt ↦ inl (over.all c lt f)
+    | inr ge ↦ inr (none_more (b.arrived c) (ops_of syncs c) (still_to_come syncs b h c) (ops_past syncs c ge) (h.front c).1)
+  ]
+]
+
 -- the journal of a book that is over is maximal by the whole lists
-book_maximal : (syncs : SyncLists) (b : Book) → HasArrived syncs b → IsLegalBook syncs b → IsBookOver syncs b → IsMaximal syncs b.journal
+pub book_maximal : OverBooksAreMaximal
 book_maximal syncs b h legal over =
-    let extra : ℕ → List WaitAt = λ c. (h.front c).0 in
-    let settled : IsSettled (standing syncs b) extra = λ c. elim (cases_Bool (b.ended c)) [
-      | inl t ↦ inr (ends_whole (b.arrived c) (extra c) (h.all c t ∙ (h.front c).1))
-      | inr f ↦ elim (cases_lt c (client_count syncs)) [
-        | inl lt ↦ inl (over.all c lt f)
-        | inr ge ↦ inr (none_more (b.arrived c) (ops_of syncs c) (extra c) (ops_past syncs c ge) (h.front c).1)
-      ]
-    ] in
-    maximal_more syncs (opened syncs b) (start syncs) extra b.journal (record { rest = λ c. (h.front c).1; units = refl }) settled legal over.over
+    maximal_more syncs (opened syncs b) (start syncs) (still_to_come syncs b h) b.journal (record { rest = λ c. (h.front c).1; units = refl })
+    (over_settled syncs b h over) legal over.over
+
+-- by the whole lists the journal is legal too, and what it leaves has what still comes behind it
+by_all : (syncs : SyncLists) (b : Book) (h : HasArrived syncs b) → IsLegalBook syncs b
+    → IsLegal syncs b.journal × IsFront (standing syncs b) (sync_state_after syncs b.journal) (still_to_come syncs b h)
+by_all syncs b h legal = legal_more syncs (opened syncs b) (start syncs) (still_to_come syncs b h) b.journal (record { rest = λ c. (h.front c).1; units = refl }) legal
+
+pub book_legal : LegalBooksHaveLegalJournals
+book_legal syncs b h legal = (by_all syncs b h legal).0
+
+pub book_waits_alike : OverBooksWaitAlike
+book_waits_alike syncs b h legal over client =
+    let here = (standing syncs b).rest client in
+    let more = still_to_come syncs b h client in
+    let behind = (by_all syncs b h legal).1.rest client in
+    sym (elim (over_settled syncs b h over client) [
+      | inl some ↦ ap head_wait behind ∙ head_append here more some
+      | inr none ↦ ap head_wait (behind ∙ ap (λ (ws : List WaitAt). here ++ ws) none ∙ append-nil here)
+    ])
 
 -- ---- a tile's log
 

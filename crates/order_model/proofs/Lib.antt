@@ -20,6 +20,7 @@ mod DefaultOrderIsPermitted
 mod OneClientHasOneOrder
 pub mod RecordedOrdersArePermitted
 pub mod SceneListsAreWellFormed
+pub mod ScenesWithinLimits
 pub mod SceneJobsAreSent
 pub mod LogsLeaveJobs
 mod GatheringIsLawful
@@ -37,3 +38,4 @@ mod UnitsByWalks
 mod UnitsInTurn
 mod PartedPairs
 mod CheckedOrders
+mod SwapsAreFew

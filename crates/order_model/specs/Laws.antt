@@ -2,6 +2,7 @@
 use Rattle.std.specs.Prelude.{◌≡◌, ℕ, ◌<◌, ◌≤◌, Bool, List, [], ◌++◌, length, ◌↔◌, Some, None, slice_get, ℤ, pos}
 use Rattle.rc_base.specs.Lists.{at_name}
 use Rattle.rc_base.specs.Formats.Netpbm.{p6_texts}
+use Rattle.rc_base.specs.Contexts.Issue.{stream_of}
 use Rattle.rc_base.specs.Drawing.Images.{frame_images}
 use Rattle.rc_base.specs.Drawing.Serial.{painted, textures_after, frame_pixel}
 use Rattle.rc_base.specs.Orders.Book.{Book, BookEvent, opened, standing, book_after_all, AreEvents, IsLegalBook}
@@ -146,6 +147,12 @@ abbrev pub MaximalJournalsSwapAlike : Type 0
 MaximalJournalsSwapAlike =
     (syncs : SyncLists) → IsWellFormed syncs → IsFull syncs → (journal other : List Entry) → IsMaximal syncs journal → IsMaximal syncs other
     → frame_count journal ≡ frame_count other
+
+-- a legal journal of a scene has no more Swaps than the first client has commands
+abbrev pub SwapsAreFew : Type 0
+SwapsAreFew =
+    (scene : Scene) (journal : List Entry) → 0 < length scene.streams → IsLegal (sync_lists_of scene) journal
+    → frame_count journal ≤ length (stream_of scene 0)
 
 -- the image text of a run of an ordered scene is that of the frames of any permitted order
 abbrev pub OrderedRunsShowOneImage : Type 0

@@ -1,3 +1,4 @@
+pub mod Scenes
 pub mod Log
 pub mod Full
 pub mod Commuting

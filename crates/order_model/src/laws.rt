@@ -1,6 +1,13 @@
 //! Laws of journals, orders and logs. Each function's contract is a law, and its body is empty: there is nothing to compute.
-ghost use Rattle.order_model.specs.Gathering.{GatheringIsLawful};
-ghost use Rattle.order_model.specs.Laws.{SceneListsAreWellFormed, PrefixesAreLegal, GrantsAreLawful, NothingIsGrantedExactlyWhenOver, DefaultJournalIsMaximal, MaximalJournalsWaitAlike, MaximalJournalsReachAlike, MaximalJournalsPermitAlike, DefaultOrdersArePermitted, OneClientHasOneOrder, RecordedOrdersArePermitted, LawfulRecordsArePermitted, OrderedScenesDrawAlike, OrderedScenesHaveOneFrame, LawfulRecordsShowOneImage, SceneJobsAreSent, RecordsOfScenesArePermitted, MaximalJournalsSwapAlike, CanvasTexturesAreTextures, BooksStayLegal, BooksGrantWhatIsLawful, OrderedRunsShowOneImage, FullOrderedRunsShowTheDefaultImage};
+ghost use Rattle.order_model.specs.Gathering.{GatheringIsLawful, LegalBooksHaveLegalJournals, OverBooksAreMaximal, OverBooksWaitAlike};
+ghost use Rattle.order_model.specs.Scenes.{ScenesWithinLimitsAreDrawable, ScenesWithinLimitsAreRunnable};
+ghost use Rattle.order_model.specs.Laws.{SceneListsAreWellFormed, PrefixesAreLegal, GrantsAreLawful, NothingIsGrantedExactlyWhenOver, DefaultJournalIsMaximal, MaximalJournalsWaitAlike, MaximalJournalsReachAlike, MaximalJournalsPermitAlike, DefaultOrdersArePermitted, OneClientHasOneOrder, RecordedOrdersArePermitted, LawfulRecordsArePermitted, OrderedScenesDrawAlike, OrderedScenesHaveOneFrame, LawfulRecordsShowOneImage, SceneJobsAreSent, RecordsOfScenesArePermitted, MaximalJournalsSwapAlike, CanvasTexturesAreTextures, BooksStayLegal, BooksGrantWhatIsLawful, OrderedRunsShowOneImage, FullOrderedRunsShowTheDefaultImage, SwapsAreFew};
+
+/// A scene within the limits can be drawn by one renderer, and run by a cluster on a layout within them: all that their calls need of it follows.
+pub fn scenes_within_limits()
+    ensures drawable { ScenesWithinLimitsAreDrawable }
+    ensures runnable { ScenesWithinLimitsAreRunnable }
+{}
 
 /// The operations of a scene rise within their streams.
 pub fn scene_lists_are_well_formed()
@@ -74,6 +81,19 @@ pub fn records_of_scenes()
 /// Where a legal book is over, and each tile is under way for its journal and done, the journal and the tiles' logs make a lawful record.
 pub fn gathering_is_lawful()
     ensures { GatheringIsLawful }
+{}
+
+/// What arrived in a legal book is a front of each client's operations: then its journal is legal for the whole lists. Where the book is over the
+/// journal is maximal, and the clients wait in the book where the journal leaves them waiting.
+pub fn over_books_are_maximal()
+    ensures legal { LegalBooksHaveLegalJournals }
+    ensures maximal { OverBooksAreMaximal }
+    ensures waiting { OverBooksWaitAlike }
+{}
+
+/// A legal journal of a scene has no more Swaps than the first client has commands.
+pub fn swaps_are_few()
+    ensures { SwapsAreFew }
 {}
 
 /// Runs of an ordered scene show the frames of every permitted order; those of a full one, the frames of the default order.

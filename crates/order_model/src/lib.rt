@@ -16,5 +16,6 @@ mod units;
 mod walk;
 
 pub use permitted::is_permitted;
+pub use record::{Log, LogEntry, Logs, Record};
 pub use recorded::tile_order;
 pub use walk::reach;

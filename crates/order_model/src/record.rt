@@ -16,7 +16,7 @@ pub type Log = Items<LogEntry>;
 pub type Logs = Items<Log>;
 
 /// What is kept of a run: the journal, each tile's log, and what the scene says of synchronisation.
-#[derive(Debug, PartialEq, Drop)]
+#[derive(Clone, Debug, PartialEq, Drop)]
 pub struct Record {
     pub journal: Journal,
     pub logs: Logs,

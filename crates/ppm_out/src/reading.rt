@@ -2,7 +2,7 @@
 ghost use Rattle.std.specs.Prelude.{◌≡◌, ◌++◌, ◌≤◌, ◌⊎◌, List, ℕ, length, take, IfOk, IfErr};
 ghost use Rattle.rc_base.specs.Formats.Netpbm.{SpellsImage};
 ghost use Rattle.rc_base.specs.declared.image.Image.{Image as AnyImage};
-ghost use Rattle.ppm_out.specs.Faults.{TellsNoImage};
+ghost use Rattle.ppm_out.specs.Faults.{TellsWhy};
 ghost use Rattle.ppm_out.specs.declared.reading.PpmFault.TheVariants.{OutOfMemory as NoMemory};
 
 use crate::header::{Header, read_header};
@@ -38,8 +38,8 @@ pub fn read_ppm(alloc: Global, bytes: &[u8]) -> Result<(Image, usize), PpmFault>
     ensures read { IfOk result (λ read. (read.1 ≤ length bytes.now) × SpellsImage (take read.1 bytes.now) read.0) }
     // An image at the front is read, unless memory runs out.
     ensures only { (front rest : List ℕ) (image : AnyImage) → bytes.now ≡ front ++ rest → SpellsImage front image → (result ≡ Ok (image, length front)) ⊎ (result ≡ Err PpmFault.OutOfMemory) }
-    // Where none stands there, the place is told.
-    ensures none { IfErr result (TellsNoImage bytes.now) }
+    // Where none stands there, the place is told. Memory is asked for only where one does.
+    ensures why { IfErr result (TellsWhy bytes.now) }
 {
     let Header { width, height, len } = match read_header(bytes) {
         Ok(header) => header,

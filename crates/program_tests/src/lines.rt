@@ -1,5 +1,6 @@
 //! Lines that are taken with their values, and lines that are refused.
-use command_line::{CommandLine, JobName, Settings, command_line};
+use command_line::{CommandLine, Settings, command_line};
+use rc_base::job::JobName;
 use rc_base::out_of_memory::OutOfMemory;
 use std::alloc::Global;
 

@@ -1,8 +1,10 @@
 //! Runs on sources and sinks in memory.
 mod clusters;
+mod ends;
 mod formats;
 mod hostile;
 mod orders;
+mod rows;
 mod seeds;
 
 ghost use Rattle.std.specs.Prelude.{◌<◌};

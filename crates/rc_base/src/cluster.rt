@@ -66,7 +66,7 @@ pub enum ManagerMoved {
 }
 
 /// What a tile's step did.
-#[derive(Debug, PartialEq, Drop)]
+#[derive(Clone, Debug, PartialEq, Drop)]
 pub enum TileMoved {
     /// An entry was performed.
     Performed,

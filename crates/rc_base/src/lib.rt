@@ -6,10 +6,12 @@
 
 pub mod cluster;
 pub mod command;
+pub mod elements;
 pub mod gate;
 pub mod image;
 pub mod in_memory;
 pub mod items;
+pub mod job;
 pub mod lane;
 pub mod out_of_memory;
 pub mod outside;
@@ -24,20 +26,29 @@ pub mod transfer;
 pub mod triangle;
 pub mod window;
 
-pub use cluster::{ClientMoved, FaultList, FaultLists, ManagerMoved, Parts, Tallies, Tally, TileMoved, TilePart};
+pub use cluster::{
+    ClientMoved, FaultList, FaultLists, ManagerMoved, Parts, Tallies, Tally, TileMoved, TilePart,
+};
 pub use command::{Bytes, Command, Commands, Mat4, Part, Rgba, Texels};
+pub use elements::is_same;
 pub use gate::{Actor, Gate, OpenGate};
 pub use image::{Frames, Image};
 pub use in_memory::{MemSink, MemSource, QuietSink, QuietSource};
 pub use items::Items;
+pub use job::{JobName, OptionName};
 pub use lane::{Inlet, Outlet};
 pub use out_of_memory::OutOfMemory;
 pub use outside::{Failed, Sink, Source};
 pub use plain_lane::PlainLane;
 pub use scene::{Counts, Decl, Limit, Scene, SceneKind, Sizes, Streams, TextKind, Units};
 pub use standard::{StdSink, StdSource};
-pub use state::{Act, Block, Effect, ElementSet, ElementValue, Fault, Parcel, Sets, State, Vertex, Vertices};
-pub use sync::{Entry, Grant, Journal, Name, Order, Request, SyncLists, SyncOp, SyncOps, SyncRow, SyncRows, WaitAt, Waiting};
+pub use state::{
+    Act, Block, Effect, ElementSet, ElementValue, Fault, Parcel, Sets, State, Vertex, Vertices,
+};
+pub use sync::{
+    Entry, Grant, Journal, Name, Order, Request, SyncLists, SyncOp, SyncOps, SyncRow, SyncRows,
+    WaitAt, Waiting,
+};
 pub use transfer::{ReadAllFault, WriteFault, read_all, write_all};
 pub use triangle::WindowTriangle;
 pub use window::{Fragment, Layout, Pixel, Pixels, Rect, Span, WindowVertex};

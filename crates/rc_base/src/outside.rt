@@ -7,8 +7,11 @@ ghost use Rattle.std.specs.Io.{ReadsAtMost};
 ghost use Rattle.std.specs.Io.KnownBytes.{ReadConsumes, WriteAppends};
 ghost use Rattle.rc_base.specs.Outside.Causes.{risen, Rose, HasCause};
 
+use thiserror::Error;
+
 /// The answer of a source or a sink that failed, for no reason that is told. Its count of faults rose.
-#[derive(Clone, Copy, Debug, PartialEq, Eq)]
+#[derive(Clone, Copy, Debug, PartialEq, Eq, Error)]
+#[error("the call failed")]
 pub struct Failed;
 
 // Counts one failure more.

@@ -20,7 +20,7 @@ fn pop_asked<T, I: Inlet<T>>(lane: &mut I, asked: bool) -> Option<T>
 }
 
 /// Takes from the first lane of a range that is asked and gives something.
-pub fn take_between<T, I: Inlet<T>>(
+fn take_between<T, I: Inlet<T>>(
     lanes: &mut [I],
     asks: &[bool],
     low: usize,

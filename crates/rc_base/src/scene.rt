@@ -1,6 +1,7 @@
 //! A scene: its declaration and its clients' streams, and what can be wrong with one that is read.
 use crate::command::Commands;
 use crate::items::Items;
+use thiserror::Error;
 
 /// One list of commands for each client, clients rising.
 pub type Streams = Items<Commands>;
@@ -34,7 +35,8 @@ pub struct Scene {
 }
 
 /// A quantity outside its range: its number in the table of limits (`docs/scene-format.md`) and its value.
-#[derive(Clone, Copy, Debug, PartialEq, Eq)]
+#[derive(Clone, Copy, Debug, PartialEq, Eq, Error)]
+#[error("{value} is outside the range of quantity {what}")]
 pub struct Limit {
     pub what: u8,
     pub value: u64,

@@ -6,7 +6,7 @@ use crate::window::WindowVertex;
 
 /// A triangle whose corners lie within the bounds of the window's coordinates and run counterclockwise. `area` is twice its area, in
 /// square sixteenths of a pixel.
-#[derive(Clone, Copy)]
+#[derive(Clone, Copy, Debug, PartialEq)]
 pub struct WindowTriangle {
     pub v: [WindowVertex; 3],
     pub area: i64,

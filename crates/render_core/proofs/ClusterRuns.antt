@@ -1,67 +1,68 @@
 -- What the cluster leaves is its run: frames, report and ending.
-use Rattle.std.proofs.Common.{◌≡◌, ℕ, zero, suc, ◌+◌, ◌<◌, ◌≤◌, Bool, false, List, [], ◌++◌, length, map, None, Ok, Err, refl, sym, ap, ap₂, ◌∙◌, arith}
+use Rattle.std.proofs.Common.{◌≡◌, ℕ, zero, suc, ◌+◌, ◌<◌, ◌≤◌, Bool, false, List, [], ◌++◌, length, None, Some, Ok, Err, inl, refl, sym, ap, ap₂, subst, ◌∙◌, arith}
 use Rattle.std.specs.Prelude.{IfErr, is_some, slice_index_or, if◌then◌else◌}
 use Rattle.std.specs.Result.{IsErrAnd}
 use Rattle.std.specs.declared.result.Result.{Result}
-use Rattle.std.specs.List.{flat_map, range_with_len}
+use Rattle.std.specs.List.{flat_map, range_with_len, AllByRecursion}
+use Rattle.ppm_out.specs.Pictures.{IsWhole}
 use Rattle.rc_base.specs.Cluster.Tiles.{tile_count}
-use Rattle.rc_base.specs.Drawing.Images.{Pixels, rgb_bytes}
-use Rattle.rc_base.specs.Formats.Limits.{limit_of}
-use Rattle.rc_base.specs.Orders.Sync.{client_count}
+use Rattle.rc_base.specs.Drawing.Images.{Pixels}
+use Rattle.rc_base.specs.Formats.Limits.{layout_limit, limit_of}
+use Rattle.rc_base.specs.Formats.Netpbm.{p6_texts}
+use Rattle.rc_base.specs.Orders.Order.{IsPermitted}
+use Rattle.rc_base.specs.Orders.Sync.{client_count, sync_lists_of}
 use Rattle.rc_base.specs.declared.image.Image.{Image}
 use Rattle.rc_base.specs.declared.scene.Scene.{Scene}
 use Rattle.rc_base.specs.declared.sync.SyncLists.{SyncLists}
 use Rattle.rc_base.specs.declared.window.Layout.{Layout}
 use Rattle.bounds_bucket.specs.Tiles.{EachPixelHasOneTile}
 use Rattle.client_issue.specs.Cores.{no_tally}
-use Rattle.order_model.specs.Report.{count_lines, fault_lines, frame_count, order_line, order_lines, recorded_pixel, report_text_of, stuck_lines, summed, tile_line, tile_lines, tile_order}
-use Rattle.tile_model.specs.Laws.{LimitsGiveSides}
-use Rattle.step_core.specs.CoreRuns.{IsFinish, IsStandstill as IsCoreStandstill}
-use Rattle.step_core.specs.Runs.{IsRunnable}
+use Rattle.order_model.specs.Laws.{SceneListsAreWellFormed, RecordsOfScenesArePermitted}
+use Rattle.order_model.specs.Report.{count_lines, fault_lines, frame_count, image_text_of, order_line, order_lines, recorded_pixel, report_text_of, stuck_lines, summed, tile_line, tile_lines, tile_order}
+use Rattle.rc_base.specs.Formats.Within.{IsWithin, IsLayoutFor}
+use Rattle.step_core.specs.CoreRuns.{IsFinish}
+use Rattle.step_core.specs.Schedules.{WorldView, picks_of, IsRightFor}
 use Rattle.step_core.specs.declared.rounds.CoreRun.{CoreRun}
 use Rattle.step_core.specs.declared.rounds.FinishFault.{FinishFault}
-use Rattle.step_core.specs.declared.rounds.FinishFault.TheVariants.{Standstill as Unended, OutOfMemory as Unfinished}
-use Rattle.render_core.specs.Clusters.{IsClusterRun, IsStandstill}
+use Rattle.step_core.specs.declared.rounds.FinishFault.TheVariants.{OutOfMemory as Unfinished}
+use Rattle.render_core.specs.Due.{IsStepped, report_due}
 use Rattle.render_core.specs.Frames.{frame_total, window_images, ShowFrames}
-use Rattle.render_core.specs.Refusals.{IsWellRead}
+use Rattle.render_core.specs.Jobs.{cluster_limit, layout_for}
+use Rattle.render_core.specs.Refusals.{IsClusterRefusal, IsFinishRefusal, IsWellRead}
 use Rattle.render_core.specs.Reports.{AreOf, line_of_tile, lines_of_orders, lines_of_run, lines_of_stuck, lines_of_tiles}
-use Rattle.render_core.specs.declared.cluster.ClusterFault.{ClusterFault}
-use Rattle.render_core.specs.declared.cluster.ClusterFault.TheVariants.{Standstill as StoodStill, OutOfMemory as NoMemory}
+use Rattle.render_core.specs.declared.due.DueRefusal.{DueRefusal}
 use Rattle.render_core.specs.declared.due.Ending.{Ending}
 use Rattle.render_core.specs.declared.due.Ending.TheVariants.{Complete, Stuck}
+use Rattle.render_core.specs.declared.job.Cluster.{Cluster}
 use Rattle.render_core.specs.declared.job.Form.TheVariants.{Bytes as OfBytes}
 use Rattle.render_core.proofs.FrameParts.{frames_are, show_frames}
 use Rattle.render_core.proofs.ReportLines.{faults_told, is_stuck_of, scene_clients, stuck_told}
-use Rattle.render_core.proofs.WithinLimits.{clients_within, counts_some, few_barriers, short_streams}
+use Rattle.render_core.proofs.WithinLimits.{clients_within, counts_some, pictures_whole}
 
--- a scene within the limits can be run
-pub runnable : (scene : Scene) (l : Layout) (depth : ℕ) → LimitsGiveSides → IsWellRead OfBytes scene → limit_of scene ≡ None
-    → 0 < tile_count l → tile_count l ≤ 32 → 1 ≤ depth → depth ≤ 16 → IsRunnable scene l depth
-runnable scene l depth sides well within some_tiles few_tiles some_depth little_depth = record {
-  some = let k = clients_within scene within in omega (arith, k);
-  few = (clients_within scene within).1;
-  short = short_streams scene within;
-  commands = well.1;
-  sides = sides scene well.0 within;
-  barriers = let k = few_barriers scene within in omega (arith, k);
-  counts = counts_some scene within;
-  some_tiles = some_tiles;
-  few_tiles = few_tiles;
-  some_depth = some_depth;
-  little_depth = little_depth;
-}
+-- a scene of bytes within the limits is what calls ask for
+pub scene_within : (scene : Scene) → IsWellRead OfBytes scene → limit_of scene ≡ None → IsWithin scene
+scene_within scene well within = record { limits = within; commands = well.1; sizes = well.0.shared }
 
--- what stood still is a run that stood still
-stood_still : (scene : Scene) (l : Layout) (depth : ℕ) (picks : List ℕ) (refusal : FinishFault) (fault : ClusterFault)
-    → IsCoreStandstill scene l depth picks refusal → (refusal ≡ Unfinished → fault ≡ NoMemory) → fault ≡ StoodStill → IsStandstill scene l depth picks
-stood_still scene l depth picks (Unended world) fault still memory is = record { rounds = still.0; moves = still.1; last = still.2; world = still.3; still = still.4 }
-stood_still scene l depth picks Unfinished fault still memory is = let both : NoMemory ≡ StoodStill = sym (memory refl) ∙ is in absurd cc
+-- and so is the layout of the words
+pub layout_within : (cluster : Cluster) (scene : Scene) (l : Layout) → l ≡ layout_for cluster scene → cluster_limit cluster scene ≡ None → IsLayoutFor scene l cluster.depth
+unfolding layout_limit
+layout_within cluster scene l tiles asked =
+    subst (λ (t : Layout). IsLayoutFor scene t cluster.depth) (sym tiles) (record { width = refl; height = refl; limits = asked })
 
-pub if_stood_still : (scene : Scene) (l : Layout) (depth : ℕ) (picks : List ℕ) (refusal : FinishFault) {T : Type 0} (r : Result T ClusterFault)
-    → IsCoreStandstill scene l depth picks refusal → IsErrAnd r (λ fault. refusal ≡ Unfinished → fault ≡ NoMemory)
-    → IfErr r (λ fault. fault ≡ StoodStill → IsStandstill scene l depth picks)
-if_stood_still scene l depth picks refusal (Ok x) still memory = tt
-if_stood_still scene l depth picks refusal (Err fault) still memory = stood_still scene l depth picks refusal fault still memory
+-- a cluster that isn't brought to its end lacks memory
+pub if_lacking : (scene : Scene) (l : Layout) (depth : ℕ) (picks : List ℕ) (fault : FinishFault) {T : Type 0} (r : Result T DueRefusal)
+    → fault ≡ Unfinished → IsErrAnd r (IsFinishRefusal fault) → IfErr r (IsClusterRefusal scene l depth picks)
+if_lacking scene l depth picks fault (Ok x) e is = tt
+if_lacking scene l depth picks fault (Err refusal) e is = inl (subst (λ f. IsFinishRefusal f refusal) e is)
+
+-- what a world is brought to is what its scene, its layout, its depth and its picks are brought to
+pub finish_of : (scene : Scene) (l : Layout) (depth : ℕ) (picks : List ℕ) (world : WorldView) (run : CoreRun) → (world.scene ≡ scene) × (world.layout ≡ l) × (world.depth ≡ depth)
+    → IsRightFor picks world → IsFinish world.scene world.layout world.depth (picks_of world) run → IsFinish scene l depth picks run
+finish_of scene l depth picks world run given right is =
+    let by_picks = subst (λ (ps : List ℕ). IsFinish world.scene world.layout world.depth ps run) right.run.actors is in
+    let by_scene = subst (λ (s : Scene). IsFinish s world.layout world.depth picks run) given.0 by_picks in
+    let by_layout = subst (λ (t : Layout). IsFinish scene t world.depth picks run) given.1 by_scene in
+    subst (λ (d : ℕ). IsFinish scene l d picks run) given.2 by_layout
 
 same_in_range : (f g : ℕ → List ℕ) (a n : ℕ) → ((k : ℕ) → k < n → f (a + k) ≡ g (a + k)) → flat_map f (range_with_len a n) ≡ flat_map g (range_with_len a n)
 same_in_range f g a zero same = refl
@@ -104,7 +105,7 @@ module _ (scene : Scene) (l : Layout) (depth : ℕ) (picks : List ℕ) (run : Co
   waits_told : lines_of_stuck run.waiting (length run.faults) ≡ stuck_lines run.kept.syncs run.kept.journal
   waits_told = stuck_told scene run.faults run.kept.journal run.waiting are ∙ ap (λ (s : SyncLists). stuck_lines s run.kept.journal) (sym is.record_of.syncs)
 
-  told : (orders : Bool) → lines_of_run run.faults run.tallies run.kept run.waiting orders ≡ report_text_of scene l run.kept (record { looks = false; orders = orders })
+  told : (orders : Bool) → lines_of_run run.faults run.tallies run.kept run.waiting orders ≡ report_due scene l run.kept orders
   unfolding report_text_of
   told orders =
       ap (λ (x : List ℕ). x ++ lines_of_tiles run.tallies ++ count_lines run.kept.journal ++ (if orders then lines_of_orders run.kept else []) ++ lines_of_stuck run.waiting (length run.faults))
@@ -113,22 +114,51 @@ module _ (scene : Scene) (l : Layout) (depth : ℕ) (picks : List ℕ) (run : Co
       ∙ ap (λ (x : List ℕ). fault_lines scene ++ tile_lines scene l false ++ count_lines run.kept.journal ++ (if orders then x else []) ++ lines_of_stuck run.waiting (length run.faults)) orders_told
       ∙ ap (λ (x : List ℕ). fault_lines scene ++ tile_lines scene l false ++ count_lines run.kept.journal ++ (if orders then order_lines l run.kept else []) ++ x) waits_told
 
-  -- ---- all of it
+  -- ---- its frames
 
-  module _ (one : EachPixelHasOneTile) (some : 0 < tile_count l) (width : l.width ≡ scene.decl.width) (height : l.height ≡ scene.decl.height) where
-    pub cluster_run : (frames : List Image) (notes : List ℕ) (ending : Ending) (orders : Bool)
-        → ((pixels : ℕ → Pixels) → ShowFrames l run.parts pixels → frames ≡ window_images l pixels (frame_total l run.parts))
-        → notes ≡ lines_of_run run.faults run.tallies run.kept run.waiting orders → ending ≡ (if is_some run.waiting then Stuck else Complete)
-        → IsClusterRun scene l depth picks orders (record { frames = frames; notes = notes; ending = ending; kept = run.kept })
-    cluster_run frames notes ending orders shown lines ends = record {
-      lawful = is.run_of.lawful;
+  frames_drawn : EachPixelHasOneTile → 0 < tile_count l → (frames : List Image)
+      → ((pixels : ℕ → Pixels) → ShowFrames l run.parts pixels → frames ≡ window_images l pixels (frame_total l run.parts))
+      → frames ≡ window_images l (recorded_pixel scene l run.kept) (frame_count run.kept.journal)
+  frames_drawn one some frames shown =
+      let parts = is.run_of.parts in
+      shown (recorded_pixel scene l run.kept) (show_frames scene l run.kept run.parts parts some one)
+      ∙ ap (window_images l (recorded_pixel scene l run.kept)) (frames_are scene l run.kept run.parts parts some)
+
+-- ---- all of it
+
+pub frames_of_cluster : (cluster : Cluster) (scene : Scene) (l : Layout) → l ≡ layout_for cluster scene → (picks : List ℕ) (run : CoreRun) → IsFinish scene l cluster.depth picks run
+    → EachPixelHasOneTile → 0 < tile_count (layout_for cluster scene) → (frames : List Image)
+    → ((pixels : ℕ → Pixels) → ShowFrames l run.parts pixels → frames ≡ window_images l pixels (frame_total l run.parts))
+    → frames ≡ window_images (layout_for cluster scene) (recorded_pixel scene (layout_for cluster scene) run.kept) (frame_count run.kept.journal)
+frames_of_cluster cluster scene l tiles picks run is one some frames shown =
+    subst (λ (t : Layout). frames ≡ window_images t (recorded_pixel scene t run.kept) (frame_count run.kept.journal)) tiles
+    (frames_drawn scene l cluster.depth picks run is one (subst (λ (t : Layout). 0 < tile_count t) (sym tiles) some) frames shown)
+
+module _ (cluster : Cluster) (picks : List ℕ) (scene : Scene) (run : CoreRun) (is : IsFinish scene (layout_for cluster scene) cluster.depth picks run) where
+  abbrev l : Layout
+  l = layout_for cluster scene
+
+  module _ (formed : SceneListsAreWellFormed) (permits : RecordsOfScenesArePermitted) (within : limit_of scene ≡ None) where
+    kept_permits : (tile : ℕ) → tile < tile_count l → IsPermitted (sync_lists_of scene) run.kept.journal (tile_order run.kept tile)
+    kept_permits = permits scene l run.kept (formed scene (clients_within scene within).0 (counts_some scene within)) is.run_of.lawful
+
+    pub is_stepped : (frames : List Image) (notes : List ℕ) (ending : Ending) → frames ≡ window_images l (recorded_pixel scene l run.kept) (frame_count run.kept.journal)
+        → notes ≡ lines_of_run run.faults run.tallies run.kept run.waiting cluster.orders → ending ≡ (if is_some run.waiting then Stuck else Complete)
+        → IsStepped cluster picks scene (record { image = p6_texts frames; notes = notes; ending = ending; kept = Some run.kept })
+    unfolding image_text_of
+    is_stepped frames notes ending drawn lines ends = record {
+      recorded = record {
+        record_kept = run.kept;
+        kept = refl;
+        lawful = is.run_of.lawful;
+        permitted = kept_permits;
+        image = ap p6_texts drawn;
+        notes = lines ∙ told scene l cluster.depth picks run is cluster.orders;
+        ending = ends ∙ ap (λ (b : Bool). if b then Stuck else Complete) (is_stuck_of scene run.kept.journal run.waiting is.run_of.waiting.stuck);
+      };
       stepped = record { rounds = is.rounds; moves = is.moves; world = is.world; finished = is.finished; record_of = is.record_of };
-      frames =
-          let parts = is.run_of.parts in
-          shown (recorded_pixel scene l run.kept) (show_frames scene l run.kept run.parts parts some one)
-          ∙ ap (window_images l (recorded_pixel scene l run.kept)) (frames_are scene l run.kept run.parts parts some)
-          ∙ ap (λ (w : ℕ). map (λ k. record { width = w; height = l.height; rgb = rgb_bytes (recorded_pixel scene l run.kept k) w l.height }) (range_with_len 1 (frame_count run.kept.journal))) width
-          ∙ ap (λ (h : ℕ). map (λ k. record { width = scene.decl.width; height = h; rgb = rgb_bytes (recorded_pixel scene l run.kept k) scene.decl.width h }) (range_with_len 1 (frame_count run.kept.journal))) height;
-      notes = lines ∙ told orders;
-      ending = ends ∙ ap (λ (b : Bool). if b then Stuck else Complete) (is_stuck_of scene run.kept.journal run.waiting is.run_of.waiting.stuck);
     }
+
+    pub are_whole : (frames : List Image) → frames ≡ window_images l (recorded_pixel scene l run.kept) (frame_count run.kept.journal) → AllByRecursion IsWhole frames
+    are_whole frames drawn =
+        subst (AllByRecursion IsWhole) (sym drawn) (pictures_whole scene within (recorded_pixel scene l run.kept) (range_with_len 1 (frame_count run.kept.journal)))

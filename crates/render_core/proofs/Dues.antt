@@ -1,14 +1,11 @@
 -- What is made of a scene is what is due for it.
 use Rattle.std.proofs.Common.{◌≡◌, ℕ, List, [], ◌++◌, length, Option, None, sym, ap, ◌∙◌, subst, true}
 use Rattle.std.specs.Prelude.{◌↔◌, IsSome, IfSome, is_some, slice_index_or, if◌then◌else◌}
-use Rattle.std.specs.List.{flat_map, range_with_len}
-use Rattle.std.proofs.lemmas.List.{append-nil}
-use Rattle.rc_base.specs.Contexts.Issue.{stream_of, faults_of}
+use Rattle.rc_base.specs.Contexts.Issue.{faults_of}
 use Rattle.rc_base.specs.Drawing.Images.{frame_images}
-use Rattle.rc_base.specs.Drawing.Serial.{accepted_swaps}
 use Rattle.rc_base.specs.Formats.Netpbm.{p6_texts}
 use Rattle.rc_base.specs.Orders.Journal.{IsLegal, waiting_of}
-use Rattle.rc_base.specs.Orders.Order.{IsPermitted, names_from, default_journal, default_order}
+use Rattle.rc_base.specs.Orders.Order.{IsPermitted, default_journal, default_order}
 use Rattle.rc_base.specs.Orders.Sync.{IsWellFormed, sync_lists_of}
 use Rattle.rc_base.specs.declared.image.Image.{Image}
 use Rattle.rc_base.specs.declared.scene.Scene.{Scene}
@@ -18,12 +15,12 @@ use Rattle.rc_base.specs.declared.sync.Name.{Name}
 use Rattle.rc_base.specs.declared.sync.SyncLists.{SyncLists}
 use Rattle.rc_base.specs.declared.sync.Waiting.{Waiting}
 use Rattle.order_model.specs.Laws.{DefaultJournalIsMaximal, DefaultOrdersArePermitted}
-use Rattle.order_model.specs.Report.{fault_line, client_faults, fault_lines, count_lines, frame_count, is_stuck, short_report_of}
+use Rattle.order_model.specs.Report.{count_lines, frame_count, is_stuck, short_report_of}
 use Rattle.render_core.specs.declared.due.DefaultRun.{DefaultRun}
 use Rattle.render_core.specs.declared.due.Ending.{Ending}
 use Rattle.render_core.specs.declared.due.Ending.TheVariants.{Complete, Stuck}
 use Rattle.render_core.specs.declared.job.Job.TheVariants.{Serial, Check}
-use Rattle.render_core.specs.Jobs.{IsOutcome, default_frames, journal_of}
+use Rattle.render_core.specs.Due.{IsOutcome, default_frames, journal_of}
 use Rattle.render_core.specs.Reports.{lines_of_faults, lines_of_stuck, AreOf, IsDefault}
 use Rattle.render_core.proofs.ReportLines.{report_told, ending_told}
 

@@ -21,7 +21,7 @@ use Rattle.bounds_bucket.specs.Tiles.{EachPixelHasOneTile}
 use Rattle.draw_device.specs.Devices.{pixel_index, rect_size}
 use Rattle.order_model.specs.Report.{frame_count, recorded_pixel, tile_order}
 use Rattle.order_model.specs.declared.record.Record.{Record}
-use Rattle.step_core.specs.CoreRuns.{AreFrameParts}
+use Rattle.run_record.specs.Told.{AreFrameParts}
 use Rattle.tile_server.specs.Laws.{IsFramePart}
 use Rattle.render_core.specs.Frames.{frame_parts, frame_total, AreFrames, ShowFrames}
 

@@ -1,32 +1,48 @@
 -- From what a reader answers to what the job finds in its input.
-use Rattle.std.proofs.Common.{◌≡◌, ℕ, ◌≤◌, List, length, None, Some, refl, sym, ap, subst, arith, ◌∙◌}
+use Rattle.std.proofs.Common.{◌≡◌, ℕ, ◌≤◌, Bool, true, false, List, [], ◌∷◌, ◌++◌, length, None, Some, refl, sym, ap, arith, ◌∙◌}
+use Rattle.std.specs.Prelude.{if◌then◌else◌}
 use Rattle.std.specs.Option.{option_or}
 use Rattle.std.specs.declared.option.Option.{Option}
-use Rattle.rc_base.specs.Formats.Limits.{limit_of}
+use Rattle.rc_base.specs.Formats.Limits.{Quantity, is_outside, first_outside, quantities, limit_of}
 use Rattle.rc_base.specs.Outside.Transfer.{byte_limit}
 use Rattle.rc_base.specs.declared.scene.Limit.{Limit}
 use Rattle.rc_base.specs.declared.scene.Scene.{Scene}
+use Rattle.scene_file.specs.Laws.{ScenesAreOne}
+use Rattle.scene_text.specs.Laws.{OneScene}
 use Rattle.render_core.specs.declared.job.Form.{Form}
+use Rattle.render_core.specs.declared.job.Form.TheVariants.{Bytes, Text}
 use Rattle.render_core.specs.declared.job.Job.{Job}
-use Rattle.render_core.specs.Jobs.{form_of, limit_for, word_limit, Spells, Outcome, IsOutcome}
+use Rattle.render_core.specs.declared.job.Origin.{Origin}
+use Rattle.render_core.specs.declared.job.Origin.TheVariants.{Read}
+use Rattle.render_core.specs.Ends.{Used}
+use Rattle.render_core.specs.Jobs.{origin_of, limit_for, word_quantities, Spells, Gives, HasScene}
 use Rattle.render_core.specs.Lines.{limit_line}
-use Rattle.render_core.specs.Findings.{Finding, Long, Malformed, Outside, Sound, IsInput, IsFinding, finding_status, ending_status, Finds, TellsFault, IsJudged}
-use Rattle.render_core.specs.Refusals.{IsRead}
+use Rattle.render_core.specs.Findings.{Finding, Long, Malformed, Outside, Sound, TellsFault, IsJudged, Judged}
+use Rattle.render_core.specs.Laws.{FindingsAreOne}
+use Rattle.render_core.specs.Refusals.{word_limit, Came}
 
 -- ---- limits: the scene's come first
 
+-- the first quantity outside its range stands in the first list, or else in the second
+own_first : (outside : Bool) (own : Limit) (both first second : Option Limit) → both ≡ option_or first second
+    → (if outside then Some own else both) ≡ option_or (if outside then Some own else first) second
+own_first true own both first second same = refl
+own_first false own both first second same = same
+
+first_of_both : (xs ys : List Quantity) → first_outside (xs ++ ys) ≡ option_or (first_outside xs) (first_outside ys)
+first_of_both [] ys = refl
+first_of_both (q ∷ qs) ys =
+    own_first (is_outside q) (record { what = q.what; value = q.value }) (first_outside (qs ++ ys)) (first_outside qs) (first_outside ys) (first_of_both qs ys)
+
+limit_is : (job : Job) (scene : Scene) → limit_for job scene ≡ option_or (limit_of scene) (word_limit job scene)
+unfolding limit_of
+limit_is job scene = first_of_both (quantities scene) (word_quantities job scene)
+
 pub scene_first : (job : Job) (scene : Scene) (limit : Limit) → limit_of scene ≡ Some limit → limit_for job scene ≡ Some limit
-scene_first job scene limit e = ap (λ (l : Option Limit). option_or l (word_limit job scene)) e
+scene_first job scene limit e = limit_is job scene ∙ ap (λ (l : Option Limit). option_or l (word_limit job scene)) e
 
 pub words_next : (job : Job) (scene : Scene) → limit_of scene ≡ None → limit_for job scene ≡ word_limit job scene
-words_next job scene e = ap (λ (l : Option Limit). option_or l (word_limit job scene)) e
-
--- where no quantity is outside its range, none of the scene is
-pub scene_within : (job : Job) (scene : Scene) → limit_for job scene ≡ None → limit_of scene ≡ None
-scene_within job scene e = go (limit_of scene) refl e where
-  go : (l : Option Limit) → limit_of scene ≡ l → option_or l (word_limit job scene) ≡ None → limit_of scene ≡ None
-  go None is h = is
-  go (Some limit) is h = cc
+words_next job scene e = limit_is job scene ∙ ap (λ (l : Option Limit). option_or l (word_limit job scene)) e
 
 -- where no scene within the limits is spelled and none outside, none is
 pub unspelled : (form : Form) (input : List ℕ) → ((s : Scene) → Spells form input s → limit_of s ≡ None → ⊥)
@@ -36,55 +52,68 @@ unspelled form input within outside s spelled = go (limit_of s) refl where
   go None e = within s spelled e
   go (Some l) e = outside s l spelled e
 
+-- ---- an input is one thing
+
+one_given : ScenesAreOne → OneScene → (origin : Origin) (input : List ℕ) (s t : Scene) → Gives origin input s → Gives origin input t → s ≡ t
+one_given bytes text (Read Bytes) input s t a b = bytes input s t a b
+one_given bytes text (Read Text) input s t a b = text input s t a b
+
+abbrev past : Option Limit → Finding
+past None = Long
+past (Some limit) = Outside limit
+
+module _ (bytes : ScenesAreOne) (text : OneScene) where
+  same_limit : (job : Job) (input : List ℕ) (s t : Scene) (a b : Option Limit) → Gives (origin_of job) input s → Gives (origin_of job) input t
+      → limit_for job s ≡ a → limit_for job t ≡ b → a ≡ b
+  same_limit job input s t a b given other is_a is_b = sym is_a ∙ ap (limit_for job) (one_given bytes text (origin_of job) input s t given other) ∙ is_b
+
+  pub findings_one : FindingsAreOne
+  findings_one job input Long Long a b = refl
+  findings_one job input Long Malformed a b = let short = b.0 in absurd (omega (arith, a, short))
+  findings_one job input Long (Outside m) a b = let short = b.0 in absurd (omega (arith, a, short))
+  findings_one job input Long (Sound t) a b = let short = b.short in absurd (omega (arith, a, short))
+  findings_one job input Malformed Long a b = let short = a.0 in absurd (omega (arith, b, short))
+  findings_one job input Malformed Malformed a b = refl
+  findings_one job input Malformed (Outside m) a b = absurd (a.1 b.1.0 b.1.1)
+  findings_one job input Malformed (Sound t) a b = absurd (a.1 t b.gives)
+  findings_one job input (Outside l) Long a b = let short = a.0 in absurd (omega (arith, b, short))
+  findings_one job input (Outside l) Malformed a b = absurd (b.1 a.1.0 a.1.1)
+  findings_one job input (Outside l) (Outside m) a b = ap past (same_limit job input a.1.0 b.1.0 (Some l) (Some m) a.1.1 b.1.1 a.1.2 b.1.2)
+  findings_one job input (Outside l) (Sound t) a b =
+      let none : Some l ≡ None = same_limit job input a.1.0 t (Some l) None a.1.1 b.gives a.1.2 b.within in absurd cc
+  findings_one job input (Sound s) Long a b = let short = a.short in absurd (omega (arith, b, short))
+  findings_one job input (Sound s) Malformed a b = absurd (b.1 s a.gives)
+  findings_one job input (Sound s) (Outside m) a b =
+      let none : Some m ≡ None = same_limit job input b.1.0 s (Some m) None b.1.1 a.gives b.1.2 a.within in absurd cc
+  findings_one job input (Sound s) (Sound t) a b = ap Sound (one_given bytes text (origin_of job) input s t a.gives b.gives)
+
+-- ---- an input that is refused
+
 module _ (job : Job) (input : List ℕ) (short : length input ≤ byte_limit) where
-  pub judged_malformed : (line : List ℕ) → ((s : Scene) → Spells (form_of job) input s → ⊥) → TellsFault (form_of job) input line → IsJudged job input 3 line
-  judged_malformed line none told = record { finding = Malformed; finds = record { is = (short, none); only = only }; status_is = refl; told = told } where
-    only : (other : Finding) → IsFinding job input other → finding_status other ≡ 3
-    only Long h = absurd (omega (arith, h))
-    only Malformed h = refl
-    only (Outside limit) h = absurd (none h.1.0 h.1.1)
-    only (Sound s o) h = absurd (none s h.0.spelled)
+  pub judged_malformed : (line : List ℕ) → ((s : Scene) → Gives (origin_of job) input s → ⊥) → TellsFault (origin_of job) input line → IsJudged job input 3 line
+  judged_malformed line none told = record { finding = Malformed; is = (short, none); refused = refl; told = told }
 
-  -- the first limit of a scene that the input spells, where no scene within all limits is spelled
-  judged_past : (scene : Scene) (limit : Limit) → Spells (form_of job) input scene → limit_for job scene ≡ Some limit
-      → ((s : Scene) → Spells (form_of job) input s → limit_for job s ≡ None → ⊥) → IsJudged job input 4 (limit_line limit.what limit.value)
-  judged_past scene limit spelled first none =
-      record { finding = Outside limit; finds = record { is = (short, (scene, spelled, first)); only = only }; status_is = refl; told = refl } where
-        only : (other : Finding) → IsFinding job input other → finding_status other ≡ 4
-        only Long h = refl
-        only Malformed h = absurd (h.1 scene spelled)
-        only (Outside other) h = refl
-        only (Sound s o) h = absurd (none s h.0.spelled h.0.within)
+  -- the first limit of a scene that the input gives
+  judged_past : (scene : Scene) (limit : Limit) → Gives (origin_of job) input scene → limit_for job scene ≡ Some limit
+      → IsJudged job input 4 (limit_line limit.what limit.value)
+  judged_past scene limit gives first = record { finding = Outside limit; is = (short, (scene, gives, first)); refused = refl; told = refl }
 
-  pub judged_outside : (scene : Scene) (limit : Limit) → Spells (form_of job) input scene → limit_of scene ≡ Some limit
-      → ((s : Scene) → Spells (form_of job) input s → limit_of s ≡ None → ⊥) → IsJudged job input 4 (limit_line limit.what limit.value)
-  judged_outside scene limit spelled first none =
-      judged_past scene limit spelled (scene_first job scene limit first) (λ s spells within. none s spells (scene_within job s within))
+  pub judged_outside : (scene : Scene) (limit : Limit) → Gives (origin_of job) input scene → limit_of scene ≡ Some limit
+      → IsJudged job input 4 (limit_line limit.what limit.value)
+  judged_outside scene limit gives first = judged_past scene limit gives (scene_first job scene limit first)
 
-  module _ (scene : Scene) (read : IsRead (form_of job) input scene) where
-    -- the words ask for what is outside its range in the scene's window
-    pub judged_by_words : (limit : Limit) → word_limit job scene ≡ Some limit → IsJudged job input 4 (limit_line limit.what limit.value)
-    judged_by_words limit first = judged_past scene limit read.spelled (words_next job scene read.within ∙ first) none where
-      none : (s : Scene) → Spells (form_of job) input s → limit_for job s ≡ None → ⊥
-      none s spelled within =
-          let same = read.only s spelled (scene_within job s within) in
-          let past : limit_for job s ≡ Some limit = ap (limit_for job) same ∙ words_next job scene read.within ∙ first in
-          cc
+module _ (job : Job) (source : Used) (scene : Scene) (came : Came job source scene) where
+  -- the words ask for what is outside its range in the scene's window
+  pub judged_by_words : (limit : Limit) → word_limit job scene ≡ Some limit → Judged job source 4 (limit_line limit.what limit.value)
+  judged_by_words limit first = record {
+    input = came.input;
+    took = came.took;
+    judged = judged_past job came.input came.short scene limit came.gives (words_next job scene came.within ∙ first);
+  }
 
-    pub is_input : word_limit job scene ≡ None → IsInput job input scene
-    is_input asked = record { short = short; spelled = read.spelled; within = words_next job scene read.within ∙ asked }
-
-    pub found_sound : (o : Outcome) → word_limit job scene ≡ None → ((other : Outcome) → IsOutcome job scene other → other ≡ o) → IsOutcome job scene o
-        → Finds job input (Sound scene o)
-    found_sound o asked one due = record { is = (is_input asked, due); only = only } where
-      only : (other : Finding) → IsFinding job input other → finding_status other ≡ ending_status o.ending
-      only Long h = absurd (omega (arith, h))
-      only Malformed h = absurd (h.1 scene read.spelled)
-      only (Outside limit) h = absurd (outside h.1.0 h.1.1 h.1.2 (limit_of h.1.0) refl) where
-        outside : (s : Scene) → Spells (form_of job) input s → limit_for job s ≡ Some limit → (l : Option Limit) → limit_of s ≡ l → ⊥
-        outside s spelled first None e =
-            let none : limit_for job s ≡ None = ap (limit_for job) (read.only s spelled e) ∙ words_next job scene read.within ∙ asked in cc
-        outside s spelled first (Some l) e = read.inside s l spelled e
-      only (Sound s other) h =
-          ap (λ (x : Outcome). ending_status x.ending)
-          (one other (subst (λ (t : Scene). IsOutcome job t other) (read.only s h.0.spelled (scene_within job s h.0.within)) h.1))
+  pub has_scene : word_limit job scene ≡ None → HasScene job source scene
+  has_scene asked = record {
+    input = came.input;
+    took = came.took;
+    is = record { short = came.short; gives = came.gives; within = words_next job scene came.within ∙ asked };
+  }

@@ -5,6 +5,7 @@ pub mod OneOutcome
 pub mod KeptOrders
 pub mod Judging
 pub mod Endings
+pub mod Headline
 pub mod ReportLines
 pub mod Dues
 pub mod Performing

@@ -1,11 +1,18 @@
 -- Fronts of texts that stand one after the other.
-use Rattle.std.proofs.Common.{◌≡◌, ℕ, ◌+◌, ◌<◌, ◌≤◌, List, ◌++◌, length, take, drop, get_or, sym, ap, ◌∙◌, take-append-drop, length-append, arith}
+use Rattle.std.proofs.Common.{◌≡◌, ℕ, ◌+◌, ◌<◌, ◌≤◌, List, ◌++◌, length, take, drop, get_or, Ok, Err, sym, ap, ◌∙◌, take-append-drop, length-append, arith}
+use Rattle.std.specs.Prelude.{OnErr}
+use Rattle.std.specs.declared.result.Result.{Result}
 use Rattle.std.specs.List.{flat_map}
 use Rattle.std.proofs.Math.Seq.{take-append-add, take-append_seam}
 use Rattle.std.proofs.lemmas.List.{take-append-le, drop_more}
 use Rattle.std.proofs.lemmas.Grind.{flat_map-append}
 use Rattle.std.proofs.lemmas.List.Concat.{flat_map-cons}
 use Rattle.rc_base.specs.declared.image.Image.{Image}
+
+-- what holds in any case holds where there is an error
+pub on_err : {T E : Type 0} (r : Result T E) {P : Type 0} → P → OnErr r P
+on_err (Ok x) h = tt
+on_err (Err e) h = h
 
 module _ (f : Image → List ℕ) (xs : List Image) (i : ℕ) where
   abbrev pub before : List ℕ

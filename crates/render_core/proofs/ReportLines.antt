@@ -17,7 +17,7 @@ use Rattle.rc_base.specs.declared.sync.WaitAt.{WaitAt}
 use Rattle.rc_base.specs.declared.sync.Waiting.{Waiting}
 use Rattle.order_model.specs.Report.{fault_line, client_faults, fault_lines, count_lines, stuck_line, client_stuck, stuck_lines, is_stuck, short_report_of}
 use Rattle.render_core.specs.declared.due.Ending.TheVariants.{Complete, Stuck}
-use Rattle.render_core.specs.Jobs.{journal_of, default_ending}
+use Rattle.render_core.specs.Due.{journal_of, default_ending}
 use Rattle.render_core.specs.Reports.{lines_of_faults, lines_of_stuck, AreOf}
 
 range_more : (a n : ℕ) → range_with_len a (n + 1) ≡ range_with_len a n ++ (a + n) ∷ []

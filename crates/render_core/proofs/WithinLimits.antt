@@ -1,27 +1,25 @@
 -- What is known of a scene within the limits.
-use Rattle.std.proofs.Common.{◌≡◌, ℕ, zero, suc, ◌+◌, ◌-◌, ◌*◌, ◌≤◌, ◌<◌, ◌^◌, inl, inr, Bool, true, false, List, [], ◌∷◌, ◌++◌, length, map, get_or, None, Some, refl, sym, ap, ◌∙◌, subst, arith, length-append, append_assoc}
-use Rattle.std.specs.Prelude.{pos, sum_by, slice_index, if◌then◌else◌}
+use Rattle.std.proofs.Common.{◌≡◌, ℕ, zero, suc, ◌+◌, ◌-◌, ◌*◌, ◌≤◌, ◌<◌, ◌^◌, inl, inr, Bool, true, false, List, [], ◌∷◌, ◌++◌, length, map, get_or, None, Some, refl, ap, ◌∙◌, arith, length-append}
+use Rattle.std.specs.Prelude.{pos, sum_by, if◌then◌else◌}
 use Rattle.std.specs.List.{flat_map, range_with_len, AllByRecursion}
 use Rattle.std.specs.declared.option.Option.{Option}
 use Rattle.std.proofs.lemmas.Bool.{cases_lt}
 use Rattle.std.proofs.lemmas.Bool.Decides.{nat_tests}
-use Rattle.std.proofs.lemmas.List.{get_or_past, get_or_default, map-append}
+use Rattle.std.proofs.lemmas.List.{get_or_past, get_or_default}
 use Rattle.std.proofs.Math.Nat.{mul_assoc}
 use Rattle.std.proofs.lemmas.List.FromFn.{length-range_with_len}
 use Rattle.std.proofs.lemmas.List.Sums.{get_or-le-sum_by}
-use Rattle.std.proofs.lemmas.Option.{slice_get_cases, unwrap_or-slice_get}
+use Rattle.std.proofs.lemmas.Option.{slice_get_cases}
 use Rattle.rc_base.specs.Lists.{at_name}
 use Rattle.rc_base.specs.Contexts.Issue.{stream_of}
 use Rattle.rc_base.specs.Drawing.Serial.{frame_pixel}
 use Rattle.rc_base.specs.Drawing.Images.{Pixels, rgb_of, row_bytes, rgb_bytes, image_from, frame_images}
 use Rattle.rc_base.specs.Formats.Limits.{Quantity, is_outside, first_outside, size_area, side, barrier_count, least_swaps, commands_in, limit_of}
-use Rattle.rc_base.specs.Formats.Spelling.{IsSize}
 use Rattle.rc_base.specs.declared.command.Command.{Command}
 use Rattle.rc_base.specs.declared.scene.Limit.{Limit}
 use Rattle.rc_base.specs.declared.scene.Scene.{Scene}
 use Rattle.rc_base.specs.declared.sync.Name.{Name}
 use Rattle.ppm_out.specs.Pictures.{IsWhole}
-use Rattle.serial_render.specs.Steps.{HasSides}
 
 -- ---- what stands in a list of which none is outside its range
 
@@ -90,29 +88,6 @@ counts_within (count ∷ counts) rest h zero lt =
     let r = in_range 9 count 1 8 (first_within (barrier_count count) (map barrier_count counts ++ rest) h).0 in omega (arith, r)
 counts_within (count ∷ counts) rest h (suc n) lt = counts_within counts rest (first_within (barrier_count count) (map barrier_count counts ++ rest) h).1 n (omega (arith, lt))
 
--- the two sides of a size
-two_within : (size : List ℕ) (rest : List Quantity) → length size ≡ 2 → first_outside (map side size ++ rest) ≡ None → (0 < slice_index size 0) × (0 < slice_index size 1)
-two_within [] rest two h = absurd (omega (arith, two))
-two_within (w ∷ []) rest two h = absurd (omega (arith, two))
-two_within (w ∷ (h ∷ [])) rest two none =
-    let first = first_within (side w) (side h ∷ rest) none in
-    let r = in_range 6 w 1 65535 first.0 in
-    let t = in_range 6 h 1 65535 (first_within (side h) rest first.1).0 in
-    (omega (arith, r), omega (arith, t))
-two_within (w ∷ (h ∷ (x ∷ xs))) rest two none = absurd (omega (arith, two))
-
-split_sides : (size : List ℕ) (shared : List (List ℕ)) (rest : List Quantity)
-    → map side (flat_map (λ (s : List ℕ). s) (size ∷ shared)) ++ rest ≡ map side size ++ (map side (flat_map (λ (s : List ℕ). s) shared) ++ rest)
-split_sides size shared rest = simp (map-append, append_assoc)
-
-sizes_within : (shared : List (List ℕ)) (rest : List Quantity) → first_outside (map side (flat_map (λ (s : List ℕ). s) shared) ++ rest) ≡ None → AllByRecursion IsSize shared
-    → (n : ℕ) → n < length shared → (0 < slice_index (get_or shared n []) 0) × (0 < slice_index (get_or shared n []) 1)
-sizes_within [] rest h all n lt = absurd (omega arith)
-sizes_within (size ∷ shared) rest h all zero lt =
-    two_within size (map side (flat_map (λ (s : List ℕ). s) shared) ++ rest) all.0.0 (sym (ap first_outside (split_sides size shared rest)) ∙ h)
-sizes_within (size ∷ shared) rest h all (suc n) lt =
-    sizes_within shared rest (later_within (map side size) (map side (flat_map (λ (s : List ℕ). s) shared) ++ rest) (sym (ap first_outside (split_sides size shared rest)) ∙ h)) all.1 n (omega (arith, lt))
-
 each_stream : (streams : List (List Command)) (client : ℕ) → length (get_or streams client []) ≤ commands_in streams
 each_stream streams client = elim (cases_lt client (length streams)) [
   | inl below ↦ get_or-le-sum_by (λ (commands : List Command). length commands) streams client [] below
@@ -173,9 +148,6 @@ module _ (scene : Scene) (within : limit_of scene ≡ None) where
       (in_range 11 (commands_in scene.streams) 0 1048576 (first_within (commands scene) (frames_on scene) (first_within (semaphores scene) (commands scene ∷ frames_on scene) from_semaphores).1).0).1
 
   -- each client has few commands
-  pub few_commands : (client : ℕ) → length (stream_of scene client) < 2 ^ 32
-  few_commands client = omega (arith, commands_within, each_stream scene.streams client)
-
   pub short_streams : (client : ℕ) → length (stream_of scene client) < 2 ^ 20 + 1
   short_streams client = omega (arith, commands_within, each_stream scene.streams client)
 
@@ -190,13 +162,6 @@ module _ (scene : Scene) (within : limit_of scene ≡ None) where
         omega (arith, some, same, is, there.3)
     | inr past ↦ cc (past.1, e)
   ]
-
-  -- the sides of shared textures are 1 or more
-  pub shared_have_sides : AllByRecursion IsSize scene.decl.shared → HasSides scene.decl
-  shared_have_sides all zero low high = absurd (omega arith)
-  shared_have_sides all (suc n) low high =
-      let some = sizes_within scene.decl.shared (texels_on scene) from_sides all n (omega (arith, high)) in
-      subst (λ (size : List ℕ). (0 < slice_index size 0) × (0 < slice_index size 1)) (sym (unwrap_or-slice_get scene.decl.shared n [])) some
 
   -- its frames can be written, whoever drew them
   pub pictures_whole : (pixels : ℕ → Pixels) (ks : List ℕ) → AllByRecursion IsWhole (map (λ (k : ℕ). image_from scene.decl (pixels k)) ks)

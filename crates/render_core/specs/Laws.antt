@@ -1,18 +1,24 @@
--- Laws on what is due for a scene.
-use Rattle.std.specs.Prelude.{◌≡◌, Option, None, IfSome}
+-- Laws on what a job finds in its input, and on what is due for a scene.
+use Rattle.std.specs.Prelude.{◌≡◌, ℕ, false, List, None, IfSome}
 use Rattle.rc_base.specs.Formats.Limits.{limit_of}
 use Rattle.rc_base.specs.declared.scene.Scene.{Scene}
 use Rattle.render_core.specs.declared.job.Job.{Job}
-use Rattle.render_core.specs.Jobs.{form_of, Outcome, IsOutcome}
+use Rattle.render_core.specs.Due.{Outcome, IsOutcome}
+use Rattle.render_core.specs.Findings.{Finding, IsFinding}
+use Rattle.render_core.specs.Jobs.{origin_of, has_threads}
 use Rattle.render_core.specs.Outcomes.{KeepsOrders}
-use Rattle.render_core.specs.Refusals.{IsWellRead}
+use Rattle.render_core.specs.Refusals.{IsWell}
 
--- what is due for a scene that was read is one thing: of a cluster the picks determine the record
+-- an input is one thing to a job
+abbrev pub FindingsAreOne : Type 0
+FindingsAreOne = (job : Job) (input : List ℕ) (finding other : Finding) → IsFinding job input finding → IsFinding job input other → finding ≡ other
+
+-- What is due for a scene is one thing, where no threads run: of a stepped cluster the picks determine the record.
 abbrev pub OneOutcomeIsDue : Type 0
 OneOutcomeIsDue =
-    (job : Job) (scene : Scene) (o other : Outcome) → IsWellRead (form_of job) scene → limit_of scene ≡ None → IsOutcome job scene o → IsOutcome job scene other
-    → other ≡ o
+    (job : Job) (scene : Scene) (o other : Outcome) → has_threads job ≡ false → IsWell (origin_of job) scene → limit_of scene ≡ None
+    → IsOutcome job scene o → IsOutcome job scene other → other ≡ o
 
 -- each order that a kept record tells is one that its journal permits
 abbrev pub KeptOrdersArePermitted : Type 0
-KeptOrdersArePermitted = (job : Job) (scene : Scene) (o : Outcome) → limit_of scene ≡ None → IsOutcome job scene o → IfSome o.kept KeepsOrders
+KeptOrdersArePermitted = (job : Job) (scene : Scene) (o : Outcome) → IsOutcome job scene o → IfSome o.kept KeepsOrders

@@ -1,9 +1,10 @@
+pub mod Ends
 pub mod Jobs
+pub mod Due
 pub mod Lines
 pub mod Findings
 pub mod Outcomes
 pub mod Refusals
 pub mod Reports
 pub mod Frames
-pub mod Clusters
 pub mod Laws

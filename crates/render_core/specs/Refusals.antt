@@ -1,15 +1,17 @@
 -- What the steps of a job leave: the refusals of each with their statuses and their lines, and what is due.
-use Rattle.std.specs.Prelude.{◌≡◌, ℕ, ◌<◌, ◌≤◌, ◌==◌, ◌⊎◌, List, length, take, Option, Some, None, if◌then◌else◌}
+use Rattle.std.specs.Prelude.{◌≡◌, ℕ, ◌<◌, ◌≤◌, ◌==◌, ◌⊎◌, true, false, List, ◌++◌, length, take, Option, Some, None, if◌then◌else◌}
+use Rattle.rc_base.specs.Outside.Transfer.{byte_limit}
 use Rattle.order_model.specs.declared.record.Record.{Record}
 use Rattle.std.specs.List.{AllByRecursion}
 use Rattle.rc_base.specs.Formats.Commands.{IsCommand}
-use Rattle.rc_base.specs.Formats.Limits.{limit_of}
+use Rattle.rc_base.specs.Formats.Limits.{first_outside, limit_of}
 use Rattle.rc_base.specs.Formats.Netpbm.{p6_texts}
 use Rattle.rc_base.specs.Formats.Spelling.{IsDecl}
 use Rattle.rc_base.specs.declared.transfer.ReadAllFault.{ReadAllFault}
 use Rattle.rc_base.specs.declared.transfer.ReadAllFault.TheVariants as reading
 use Rattle.rc_base.specs.declared.scene.Limit.{Limit}
 use Rattle.rc_base.specs.declared.scene.Scene.{Scene}
+use Rattle.rc_base.specs.declared.window.Layout.{Layout}
 use Rattle.ppm_out.specs.Pictures.{IsWhole}
 use Rattle.scene_file.specs.Written.{AreWhole}
 use Rattle.render_core.specs.declared.job.Job.{Job}
@@ -17,21 +19,30 @@ use Rattle.render_core.specs.declared.job.Form.{Form}
 use Rattle.render_core.specs.declared.job.Form.TheVariants.{Bytes, Text}
 use Rattle.render_core.specs.declared.due.Due.{Due}
 use Rattle.render_core.specs.declared.due.DueImage.{DueImage}
-use Rattle.render_core.specs.declared.due.DueImage.TheVariants.{Frames, Written}
+use Rattle.render_core.specs.declared.due.DueImage.TheVariants.{Frames, OneText}
 use Rattle.render_core.specs.declared.due.DueRefusal.{DueRefusal}
 use Rattle.render_core.specs.declared.due.DueRefusal.TheVariants as undue
+use Rattle.render_core.specs.declared.due.Ending.{Ending}
 use Rattle.render_core.specs.declared.due.Ending.TheVariants.{Complete, Stuck}
 use Rattle.render_core.specs.declared.refusal.InputRefusal.{InputRefusal}
 use Rattle.render_core.specs.declared.refusal.InputRefusal.TheVariants as judging
 use Rattle.render_core.specs.declared.refusal.ImageRefusal.{ImageRefusal}
 use Rattle.render_core.specs.declared.refusal.ImageRefusal.TheVariants as writing
 use Rattle.render_core.specs.declared.refusal.Refusal.{Refusal}
+use Rattle.render_core.specs.declared.refusal.Refused.{Refused}
 use Rattle.render_core.specs.declared.refusal.Refusal.TheVariants.{Reading, Input, Undue, Image}
 use Rattle.render_core.specs.declared.writing.Told.{Told}
-use Rattle.render_core.specs.Jobs.{form_of, word_limit, Spells, Outcome, IsOutcome}
-use Rattle.render_core.specs.Lines.{scene_kind_name, text_kind_name, malformed_line, limit_line, image_fault_line, read_fault_line, memory_line, standstill_line}
+use Rattle.render_core.specs.declared.job.Origin.{Origin}
+use Rattle.render_core.specs.declared.job.Origin.TheVariants.{Read}
+use Rattle.render_core.specs.declared.writing.Written.{Written}
+use Rattle.step_core.specs.declared.rounds.FinishFault.{FinishFault}
+use Rattle.step_core.specs.declared.rounds.FinishFault.TheVariants as finishing
+use Rattle.render_core.specs.Due.{Outcome, IsStandstill, Stands}
+use Rattle.render_core.specs.Ends.{Used, Failed, IsCalm, Took, Noted}
 use Rattle.render_core.specs.Findings.{IsJudged}
-use Rattle.render_core.specs.Outcomes.{Used, Failed, IsCalm, Took, Noted, Sent, Stands, IsDue, Cause}
+use Rattle.render_core.specs.Jobs.{origin_of, word_quantities, Spells, Gives, Takes}
+use Rattle.render_core.specs.Lines.{scene_kind_name, text_kind_name, malformed_line, limit_line, image_fault_line, read_fault_line, memory_line, standstill_line}
+use Rattle.render_core.specs.Outcomes.{Sent, IsDue, Cause}
 
 -- ---- statuses and lines
 
@@ -89,41 +100,64 @@ refusal_line (Input refusal) = input_line refusal
 refusal_line (Undue refusal) = due_line refusal
 refusal_line (Image refusal) = image_line refusal
 
--- ---- the input
+-- ---- the scene
 
--- The input spells this scene, which is within the limits, and no other.
+-- the input spells this scene, of which no quantity is outside its range
 pub record IsRead (form : Form) (input : List ℕ) (scene : Scene) : Type 0 where
   pub spelled : Spells form input scene
   pub within : limit_of scene ≡ None
-  pub only : (other : Scene) → Spells form input other → limit_of other ≡ None → other ≡ scene
-  pub inside : (other : Scene) (limit : Limit) → Spells form input other → limit_of other ≡ Some limit → ⊥
+
+-- The job's scene came from the source, and no quantity of the scene is outside its range; those of the words are judged after it.
+pub record Came (job : Job) (source : Used) (scene : Scene) : Type 0 where
+  pub input : List ℕ
+  pub took : Takes (origin_of job) source input
+  pub short : length input ≤ byte_limit
+  pub gives : Gives (origin_of job) input scene
+  pub within : limit_of scene ≡ None
 
 -- what is known of a scene that was read: of bytes its fields are in their ranges, of a text its version is 1 and its pictures are whole
 abbrev pub IsWellRead : Form → Scene → Type 0
 IsWellRead Bytes scene = IsDecl scene.decl × AllByRecursion (AllByRecursion IsCommand) scene.streams
 IsWellRead Text scene = (scene.decl.version ≡ 1) × AllByRecursion AreWhole scene.streams
 
--- every job of the form refuses the input, or there was no memory
-abbrev pub IsRefused : Form → List ℕ → InputRefusal → Type 0
-IsRefused form input refusal =
+-- what is known of a job's scene by where it comes from
+abbrev pub IsWell : Origin → Scene → Type 0
+IsWell (Read form) scene = IsWellRead form scene
+
+-- every job that reads this form refuses the input, or there was no memory
+abbrev pub IsRefusedInput : Form → List ℕ → InputRefusal → Type 0
+IsRefusedInput form input refusal =
     (refusal ≡ judging.OutOfMemory)
-    ⊎ ((job : Job) → form_of job ≡ form → IsJudged job input (input_status refusal) (input_line refusal))
+    ⊎ ((job : Job) → origin_of job ≡ Read form → IsJudged job input (input_status refusal) (input_line refusal))
 
 -- ---- what is due
 
 -- the bytes of what is due to the image
 abbrev pub due_text : DueImage → List ℕ
 due_text (Frames images) = p6_texts images
-due_text (Written bytes) = bytes
+due_text (OneText bytes) = bytes
 
 -- each frame can be written
 abbrev pub IsWritable : DueImage → Type 0
 IsWritable (Frames images) = AllByRecursion IsWhole images
-IsWritable (Written bytes) = Unit {0}
+IsWritable (OneText bytes) = Unit {0}
 
 -- what was made of a scene, as contracts see it
 abbrev pub outcome_of : Due → Outcome
 outcome_of due = record { image = due_text due.image; notes = due.notes; ending = due.ending; kept = due.kept }
+
+-- a cluster gives nothing: it stood still, or there was no memory
+abbrev pub IsClusterRefusal : Scene → Layout → ℕ → List ℕ → DueRefusal → Type 0
+IsClusterRefusal scene l depth picks refusal = (refusal ≡ undue.OutOfMemory) ⊎ ((refusal ≡ undue.Standstill) × IsStandstill scene l depth picks)
+
+-- the refusal of a cluster that wasn't brought to its end
+abbrev pub IsFinishRefusal : FinishFault → DueRefusal → Type 0
+IsFinishRefusal (finishing.Standstill world) refusal = refusal ≡ undue.Standstill
+IsFinishRefusal finishing.OutOfMemory refusal = refusal ≡ undue.OutOfMemory
+
+-- the first quantity of the words that is outside its range in the scene's window
+abbrev pub word_limit : Job → Scene → Option Limit
+word_limit job scene = first_outside (word_quantities job scene)
 
 -- The words ask for what is outside its range in the scene's window, the cluster stood still, or there was no memory.
 abbrev pub IsNoOutcome : Job → Scene → DueRefusal → Type 0
@@ -133,10 +167,29 @@ IsNoOutcome job scene undue.OutOfMemory = Unit {0}
 
 -- ---- writing
 
--- the image was given a front of the text, and failed before its end or not at all
-abbrev pub IsPartWritten : Used → List ℕ → ImageRefusal → Type 0
-IsPartWritten image text (writing.Fault done) = Failed image × (done < length text) × Took image (take done text)
-IsPartWritten image text writing.OutOfMemory = (done : ℕ) × (done ≤ length text) × Took image (take done text)
+-- the image was given a front of the text, which may be the whole
+pub record IsFront (image : Used) (text : List ℕ) : Type 0 where
+  pub done : ℕ
+  pub part : done ≤ length text
+  pub given : Took image (take done text)
+
+-- it was given the whole, or so many bytes before it failed
+abbrev pub IsWritten : Used → List ℕ → Written → Type 0
+IsWritten image text written =
+    ((written.fault ≡ false) × Took image text × IsCalm image)
+    ⊎ ((written.fault ≡ true) × Failed image × (written.bytes < length text) × Took image (take written.bytes text))
+
+-- Of what was made of a scene this is left to tell, where the image took so much of it. A fault of the image adds a line to what is stuck.
+pub record IsToldOf (notes : List ℕ) (ending : Ending) (kept : Option Record) (written : Written) (told : Told) : Type 0 where
+  pub lines : ((written.fault ≡ false) × (told.lines ≡ notes)) ⊎ ((written.fault ≡ true) × (ending ≡ Stuck) × (told.lines ≡ notes ++ image_fault_line written.bytes))
+  pub ending_is : told.ending ≡ ending
+  pub kept_is : told.kept ≡ kept
+
+-- nothing of it is, since a fault of the image cuts off what is complete, or there was no memory
+pub record IsUntold (ending : Ending) (kept : Option Record) (written : Written) (refused : Refused) : Type 0 where
+  pub why : (refused.refusal ≡ Image writing.OutOfMemory)
+      ⊎ ((written.fault ≡ true) × (ending ≡ Complete) × (refused.refusal ≡ Image (writing.Fault written.bytes)))
+  pub kept_is : refused.kept ≡ kept
 
 -- what is due was given to the image, and this is left to tell
 pub record IsSent (image : Used) (o : Outcome) (told : Told) : Type 0 where
@@ -157,21 +210,24 @@ IsConcluded notes told status =
     ⊎ (((status ≡ 8) × (told.ending ≡ Complete) × Failed notes × ((n : ℕ) × (n < length told.lines) × Took notes (take n told.lines)))
     ⊎ ((status ≡ 5) × (told.ending ≡ Stuck) × Noted notes told.lines))
 
--- a job that is done is cut off by a fault of its image; no other is
-abbrev pub IsFatal : Outcome → ImageRefusal → Type 0
-IsFatal o (writing.Fault done) = o.ending ≡ Complete
-IsFatal o writing.OutOfMemory = Unit {0}
+-- ---- refusals
+
+-- the record that is kept with a refusal: with that of an image that failed
+abbrev pub kept_for : ℕ → Option Record → Option Record
+kept_for status kept = if status == 6 then kept else None
+
+-- the refusal has a cause, or there was no memory
+abbrev pub IsCaused : Job → Used → Used → Refusal → Option Record → Type 0
+IsCaused job source image refusal kept =
+    Cause job source image (refusal_status refusal) (refusal_line refusal) (kept_for (refusal_status refusal) kept)
+    ⊎ ((refusal_status refusal ≡ 7) × (refusal_line refusal ≡ memory_line))
 
 -- The refusal comes before the image: its cause is the source or what it holds, whatever was given to the image, and no record is kept with it.
 abbrev pub IsRefusedUnwritten : Job → Used → Refusal → Type 0
-IsRefusedUnwritten job source refusal = (image : Used) → Cause job source image (refusal_status refusal) (refusal_line refusal) None
+IsRefusedUnwritten job source refusal = (image : Used) → IsCaused job source image refusal None
 
 -- A refusal is told: with its own status and line, or as want of memory where there was none for its line.
 pub record IsRefusalTold (notes : Used) (refusal : Refusal) (status : ℕ) : Type 0 where
   pub line : List ℕ
   pub noted : Noted notes line
   pub one_of : ((status ≡ refusal_status refusal) × (line ≡ refusal_line refusal)) ⊎ ((status ≡ 7) × (line ≡ memory_line))
-
--- the record that is kept with a refusal: with that of an image that failed
-abbrev pub kept_for : ℕ → Option Record → Option Record
-kept_for status kept = if status == 6 then kept else None

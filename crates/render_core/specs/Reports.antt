@@ -16,7 +16,7 @@ use Rattle.rc_base.specs.declared.sync.Waiting.{Waiting}
 use Rattle.client_issue.specs.Cores.{no_tally}
 use Rattle.order_model.specs.Report.{count_lines, fault_line, is_stuck, joined_line, order_line, short_report_of, stuck_line, tile_order}
 use Rattle.order_model.specs.declared.record.Record.{Record}
-use Rattle.render_core.specs.Jobs.{journal_of, default_ending}
+use Rattle.render_core.specs.Due.{journal_of, default_ending}
 use Rattle.render_core.specs.declared.due.DefaultRun.{DefaultRun}
 
 -- the lines of refused commands, client by client

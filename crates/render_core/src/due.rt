@@ -1,17 +1,16 @@
 //! What is due for a scene, job by job.
-ghost use Rattle.std.specs.Prelude.{◌≡◌, ℕ, ◌<◌, ◌⊎◌, [], length, slice_index_or, Some, None, is_some, IfOk, IfErr, MatchResult, if◌then◌else◌};
+ghost use Rattle.std.specs.Prelude.{◌≡◌, [], Some, None, is_some, IfOk, IfErr, MatchResult, if◌then◌else◌};
 ghost use Rattle.rc_base.specs.Formats.Limits.{limit_of};
-ghost use Rattle.render_core.specs.Clusters.{IsStandstill};
-ghost use Rattle.render_core.specs.Jobs.{actors_for, cluster_limit, form_of, layout_for, word_limit, IsClusterOutcome, IsOutcome};
-ghost use Rattle.render_core.specs.Refusals.{IsWellRead, IsWritable, outcome_of, IsNoOutcome};
+ghost use Rattle.render_core.specs.Due.{IsOutcome};
+ghost use Rattle.render_core.specs.Jobs.{cluster_limit, layout_for, origin_of};
+ghost use Rattle.render_core.specs.Refusals.{IsFinishRefusal, IsWell, IsWellRead, IsWritable, outcome_of, word_limit, IsNoOutcome};
 ghost use Rattle.render_core.specs.Reports.{IsDefault};
 ghost use Rattle.render_core.specs.declared.job.Form.TheVariants.{Bytes as OfBytes, Text as OfText};
 ghost use Rattle.render_core.specs.declared.job.Job.TheVariants.{Render as ToRender, Simulate as ToSimulate, Serial as ToSerial, Check as ToCheck, Pack as ToPack, Unpack as ToUnpack};
-ghost use Rattle.render_core.specs.declared.due.DueImage.TheVariants.{Frames as AsFrames};
 ghost use Rattle.render_core.specs.declared.due.Ending.TheVariants.{Complete as Whole, Stuck as IsStuck};
-ghost use Rattle.render_core.specs.declared.due.DueRefusal.TheVariants.{OutOfMemory as NoMemory, Standstill as StandsStill};
+ghost use Rattle.render_core.specs.declared.due.DueRefusal.TheVariants.{OutOfMemory as NoMemory};
 
-use crate::cluster::{ClusterFault, ClusterRun, run_cluster};
+use crate::cluster::cluster_due;
 use crate::job::{Cluster, Job};
 use crate::picks::{actor_count, picks_of};
 use crate::report::short_report;
@@ -30,6 +29,9 @@ use scene_file::write_scene;
 use scene_text::print_scene;
 use serial_render::{Survey, Turns, render_order, survey, turns_of};
 use std::alloc::{AllocError, Global};
+use step_core::FinishFault;
+use tile_model::laws::parcels_are_givable;
+use world_model::laws::rounds_move_somebody;
 
 /// What is due to the image.
 #[derive(Drop)]
@@ -37,7 +39,7 @@ pub(crate) enum DueImage {
     /// The text of each frame, one after the other.
     Frames(Frames),
     /// One text.
-    Written(Bytes),
+    OneText(Bytes),
 }
 
 /// How a job ends that is carried out.
@@ -80,6 +82,17 @@ impl From<OutOfMemory> for DueRefusal {
     }
 }
 
+impl From<FinishFault> for DueRefusal {
+    ghost from_gives = { λ fault refusal. IsFinishRefusal fault refusal };
+
+    fn from(fault: FinishFault) -> DueRefusal {
+        match fault {
+            FinishFault::Standstill { .. } => DueRefusal::Standstill,
+            FinishFault::OutOfMemory => DueRefusal::OutOfMemory,
+        }
+    }
+}
+
 impl From<AllocError> for DueRefusal {
     ghost from_gives = { λ _ refusal. refusal ≡ NoMemory };
 
@@ -90,7 +103,7 @@ impl From<AllocError> for DueRefusal {
 
 /// What is due for a scene that was read for the job.
 pub(crate) fn due_for(alloc: Global, job: Job, scene: &Scene) -> Result<Due, DueRefusal>
-    requires well { IsWellRead (form_of job) scene.now }
+    requires well { IsWell (origin_of job) scene.now }
     requires within { limit_of scene.now ≡ None }
     ensures outcome { IfOk result (λ due. IsOutcome job scene.now (outcome_of due)) }
     ensures within { IfOk result (λ due. word_limit job scene.now ≡ None) }
@@ -104,55 +117,6 @@ pub(crate) fn due_for(alloc: Global, job: Job, scene: &Scene) -> Result<Due, Due
         Job::Check => check(alloc, scene),
         Job::Pack => pack(alloc, scene),
         Job::Unpack => unpack(alloc, scene),
-    }
-}
-
-// What a run of the cluster gives.
-fn due_of(run: ClusterRun) -> Due
-    ensures { result ≡ record { image = AsFrames run.frames; notes = run.notes; ending = run.ending; kept = Some run.kept } }
-{
-    let ClusterRun {
-        frames,
-        notes,
-        ending,
-        kept,
-    } = run;
-    Due {
-        image: DueImage::Frames(frames),
-        notes,
-        ending,
-        kept: Some(kept),
-    }
-}
-
-// The frames, the report and the record of the cluster, whose first steps are these picks.
-fn cluster_due(
-    alloc: Global,
-    scene: &Scene,
-    layout: &Layout,
-    cluster: Cluster,
-    picks: &[u32],
-) -> Result<Due, DueRefusal>
-    requires well { IsWellRead OfBytes scene.now }
-    requires within { limit_of scene.now ≡ None }
-    requires asked { cluster_limit cluster scene.now ≡ None }
-    requires tiles { layout.now ≡ layout_for cluster scene.now }
-    requires picks { (i : ℕ) → i < length picks.now → slice_index_or picks.now i 0 < actors_for cluster scene.now }
-    ensures outcome { IfOk result (λ due. IsClusterOutcome cluster picks.now scene.now (outcome_of due)) }
-    ensures writable { IfOk result (λ due. IsWritable due.image) }
-    ensures refused { IfErr result (λ refusal. (refusal ≡ NoMemory) ⊎ ((refusal ≡ StandsStill) × IsStandstill scene.now (layout_for cluster scene.now) cluster.depth picks.now)) }
-{
-    match run_cluster(
-        alloc,
-        scene,
-        layout,
-        cluster.depth as usize,
-        picks,
-        cluster.orders,
-    ) {
-        Ok(run) => Ok(due_of(run)),
-        Err(ClusterFault::Standstill) => Err(DueRefusal::Standstill),
-        Err(ClusterFault::OutOfMemory) => Err(DueRefusal::OutOfMemory),
     }
 }
 
@@ -184,6 +148,8 @@ fn render(alloc: Global, scene: &Scene, cluster: Cluster) -> Result<Due, DueRefu
         Ok(layout) => layout,
         Err(limit) => return Err(DueRefusal::PastLimit(limit)),
     };
+    parcels_are_givable();
+    rounds_move_somebody();
     cluster_due(alloc, scene, &layout, cluster, &[])
 }
 
@@ -282,7 +248,7 @@ fn check(alloc: Global, scene: &Scene) -> Result<Due, DueRefusal>
 {
     let DefaultRun { notes, ending, .. } = default_of(alloc, scene)?;
     Ok(Due {
-        image: DueImage::Written(Bytes::new(alloc)),
+        image: DueImage::OneText(Bytes::new(alloc)),
         notes,
         ending,
         kept: None,
@@ -295,7 +261,7 @@ fn text_alone(alloc: Global, text: Bytes) -> Due
     ensures writable { IsWritable result.image }
 {
     Due {
-        image: DueImage::Written(text),
+        image: DueImage::OneText(text),
         notes: Bytes::new(alloc),
         ending: Ending::Complete,
         kept: None,

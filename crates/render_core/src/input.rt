@@ -1,7 +1,7 @@
 //! The scene that an input spells.
 ghost use Rattle.std.specs.Prelude.{◌≡◌, ◌≤◌, length, IfOk, IfErr};
 ghost use Rattle.rc_base.specs.Outside.Transfer.{byte_limit};
-ghost use Rattle.render_core.specs.Refusals.{IsRead, IsWellRead, IsRefused};
+ghost use Rattle.render_core.specs.Refusals.{IsRead, IsWellRead, IsRefusedInput};
 ghost use Rattle.render_core.specs.declared.job.Form.TheVariants.{Bytes as OfBytes, Text as OfText};
 
 use crate::job::Form;
@@ -17,7 +17,7 @@ fn scene_of_bytes(alloc: Global, input: &[u8]) -> Result<Scene, InputRefusal>
     requires { length input.now ≤ byte_limit }
     ensures read { IfOk result (IsRead OfBytes input.now) }
     ensures well { IfOk result (IsWellRead OfBytes) }
-    ensures refused { IfErr result (IsRefused OfBytes input.now) }
+    ensures refused { IfErr result (IsRefusedInput OfBytes input.now) }
 {
     match read_scene(alloc, input) {
         Ok(scene) => Ok(scene),
@@ -34,7 +34,7 @@ fn scene_of_text(alloc: Global, input: &[u8]) -> Result<Scene, InputRefusal>
     requires { length input.now ≤ byte_limit }
     ensures read { IfOk result (IsRead OfText input.now) }
     ensures well { IfOk result (IsWellRead OfText) }
-    ensures refused { IfErr result (IsRefused OfText input.now) }
+    ensures refused { IfErr result (IsRefusedInput OfText input.now) }
 {
     match parse_scene(alloc, input) {
         Ok(scene) => Ok(scene),
@@ -51,7 +51,7 @@ pub(crate) fn scene_of(alloc: Global, form: Form, input: Bytes) -> Result<Scene,
     requires { length input ≤ byte_limit }
     ensures read { IfOk result (IsRead form input) }
     ensures well { IfOk result (IsWellRead form) }
-    ensures refused { IfErr result (IsRefused form input) }
+    ensures refused { IfErr result (IsRefusedInput form input) }
 {
     match form {
         Form::Bytes => scene_of_bytes(alloc, input.as_slice()),

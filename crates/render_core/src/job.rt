@@ -1,13 +1,12 @@
 //! The jobs, and the words that name them.
-ghost use Rattle.std.specs.Prelude.{◌≡◌, List, IfOk, MatchOption};
+ghost use Rattle.std.specs.Prelude.{◌≡◌, List, IfOk, OnErr, MatchOption};
 ghost use Rattle.rc_base.specs.Program.Words.{Setting as Spelled};
 ghost use Rattle.command_line.specs.Lines.{AreValues};
-ghost use Rattle.command_line.specs.Names.{name_of as spelled_name};
-ghost use Rattle.command_line.specs.declared.job.JobName.TheVariants.{Gen};
-ghost use Rattle.render_core.specs.Jobs.{IsJob, AsksFor, form_of, name_of};
+ghost use Rattle.render_core.specs.Jobs.{IsJob, IsLine, cluster_in, job_in, origin_of};
 ghost use Rattle.render_core.specs.declared.job.Job.{Job as AnyJob};
 
-use command_line::{CommandLine, JobName, Settings, command_line, lines_have_one_reading};
+use command_line::{CommandLine, Settings, command_line, lines_have_one_reading};
+use rc_base::job::JobName;
 use rc_base::out_of_memory::OutOfMemory;
 use std::alloc::Global;
 
@@ -44,21 +43,28 @@ pub(crate) enum Form {
     Text,
 }
 
+/// Where a job's scene comes from.
+#[derive(Clone, Copy)]
+pub(crate) enum Origin {
+    /// The source is read to its end, and spells the scene in this form.
+    Read(Form),
+}
+
 impl Job {
-    // How its input spells a scene.
-    pub(crate) fn form(self) -> Form
-        ensures { result ≡ form_of self }
+    // Where its scene comes from.
+    pub(crate) fn origin(self) -> Origin
+        ensures { result ≡ origin_of self }
     {
         match self {
             Job::Render(_) | Job::Simulate { .. } | Job::Serial | Job::Check | Job::Unpack =>
-                Form::Bytes,
-            Job::Pack => Form::Text,
+                Origin::Read(Form::Bytes),
+            Job::Pack => Origin::Read(Form::Text),
         }
     }
 }
 
 fn cluster_of(settings: Settings) -> Cluster
-    ensures { result ≡ record { columns = settings.columns; rows = settings.rows; depth = settings.depth; orders = settings.order } }
+    ensures { (ss : List Spelled) → AreValues settings ss → result ≡ cluster_in ss }
 {
     Cluster {
         columns: settings.columns,
@@ -70,8 +76,7 @@ fn cluster_of(settings: Settings) -> Cluster
 
 // The job of a line; scenes are not generated so far.
 fn job_on(line: CommandLine) -> Option<Job>
-    ensures { MatchOption result (line.job ≡ Gen)
-        (λ job. (spelled_name line.job ≡ name_of job) × ((ss : List Spelled) → AreValues line.settings ss → AsksFor ss job)) }
+    ensures { (ss : List Spelled) → AreValues line.settings ss → result ≡ job_in line.job ss }
 {
     match line.job {
         JobName::Render => Some(Job::Render(cluster_of(line.settings))),
@@ -89,7 +94,9 @@ fn job_on(line: CommandLine) -> Option<Job>
 
 /// The job that the words ask for, by the definition of command lines.
 pub fn job_of(alloc: Global, words: &[String]) -> Result<Option<Job>, OutOfMemory>
-    ensures { IfOk result (λ r. MatchOption r ((job : AnyJob) → IsJob words.now job → ⊥) (IsJob words.now)) }
+    ensures job { IfOk result (λ r. MatchOption r ((job : AnyJob) → IsJob words.now job → ⊥) (IsJob words.now)) }
+    // Memory lacks for command lines alone.
+    ensures lacked { OnErr result (IsLine words.now) }
 {
     lines_have_one_reading();
     match command_line(alloc, words)? {

@@ -6,6 +6,7 @@ ghost use Rattle.render_core.specs.Refusals.{reading_status, reading_line, input
 ghost use Rattle.render_core.specs.declared.refusal.Refusal.TheVariants.{Reading as OfReading, Input as OfInput, Undue as OfUndue, Image as OfImage};
 
 use crate::due::DueRefusal;
+use order_model::record::Record;
 use rc_base::scene::{Limit, SceneKind, TextKind};
 use rc_base::transfer::ReadAllFault;
 use std::alloc::{AllocError, Global};
@@ -75,6 +76,13 @@ impl From<ImageRefusal> for Refusal {
     fn from(inner: ImageRefusal) -> Refusal {
         Refusal::Image(inner)
     }
+}
+
+/// Why a job is refused, and the record of the cluster whose frames weren't taken.
+#[derive(Drop)]
+pub(crate) struct Refused {
+    pub(crate) refusal: Refusal,
+    pub(crate) kept: Option<Record>,
 }
 
 fn scene_kind_name(kind: SceneKind) -> &'static str

@@ -1,20 +1,24 @@
 //! The top call: the words, the steps of the job that they name, and the notes.
 ghost use Rattle.std.specs.Prelude.{◌≡◌, ◌≢◌, ◌<◌, ◌≤◌, ◌⊎◌, [], None, length, take, OnOk, OnErr, IfOk, IfErr, IfSome};
+ghost use Rattle.render_core.specs.Ends.{use_of, Noted, Took, IsCalm, Failed};
+ghost use Rattle.render_core.specs.Jobs.{IsJob, IsLine, origin_of};
 ghost use Rattle.render_core.specs.Lines.{usage_line};
-ghost use Rattle.render_core.specs.Outcomes.{ForJob, KeepsOrders, used, Noted, Took, IsCalm, Failed, IsDue, Done, PartlyWritten, Cause, Ran};
-ghost use Rattle.render_core.specs.Refusals.{kept_for, outcome_of, refusal_status, refusal_line, IsWritable, IsRefusedUnwritten, IsRefusalTold, IsPerformed, IsConcluded};
+ghost use Rattle.render_core.specs.Outcomes.{IsDue, PartlyWritten, Ran, IsAnswered, IsHeadline, KeepsOrders, IsUnwritten, IsLeft, HasNotes};
+ghost use Rattle.render_core.specs.Refusals.{kept_for, outcome_of, refusal_status, Came, IsWell, IsWritable, IsCaused, IsRefusedUnwritten, IsRefusalTold, IsPerformed, IsConcluded};
+ghost use Rattle.render_core.specs.declared.job.Job.{Job as AnyJob};
 
 use crate::due::{Due, Ending, due_for};
 use crate::input::scene_of;
-use crate::job::{Job, job_of};
-use crate::laws::{kept_orders_are_permitted, one_outcome_is_due};
-use crate::refusal::{OUT_OF_MEMORY, Refusal};
-use crate::writing::{Told, Undelivered, deliver};
+use crate::job::{Job, Origin, job_of};
+use crate::laws::findings_are_one;
+use crate::refusal::{ImageRefusal, OUT_OF_MEMORY, Refusal, Refused};
+use crate::writing::{Told, told_of, write_due};
 use command_line::lines_have_one_reading;
 use order_model::record::Record;
 use rc_base::gate::Gate;
 use rc_base::out_of_memory::OutOfMemory;
 use rc_base::outside::{Sink, Source};
+use rc_base::scene::Scene;
 use rc_base::transfer::{WriteFault, read_all, write_all};
 use std::alloc::Global;
 
@@ -28,13 +32,6 @@ pub struct Finish {
     pub kept: Option<Record>,
 }
 
-// Why a job is refused, and the record of the cluster whose frames weren't taken.
-#[derive(Drop)]
-struct Refused {
-    refusal: Refusal,
-    kept: Option<Record>,
-}
-
 fn without_record(refusal: Refusal) -> Refused
     ensures refusal { result.refusal ≡ refusal }
     ensures kept { result.kept ≡ None }
@@ -45,16 +42,29 @@ fn without_record(refusal: Refusal) -> Refused
     }
 }
 
-// The job's scene, and what is due for it.
-fn due_of_input<S: Source>(alloc: Global, job: Job, source: &mut S) -> Result<Due, Refusal>
-    ensures due { IfOk result (λ due. IsDue job (used (S.left source.old) (S.left source.new) (S.faults source.old) (S.faults source.new)) (outcome_of due)) }
-    ensures writable { IfOk result (λ due. IsWritable due.image) }
-    ensures refused { IfErr result (IsRefusedUnwritten job (used (S.left source.old) (S.left source.new) (S.faults source.old) (S.faults source.new))) }
+// The job's scene, by where it comes from.
+fn scene_for<S: Source>(alloc: Global, job: Job, source: &mut S) -> Result<Scene, Refusal>
+    ensures came { IfOk result (Came job (use_of S.left S.faults source.old source.new)) }
+    ensures well { IfOk result (IsWell (origin_of job)) }
+    ensures refused { IfErr result (IsRefusedUnwritten job (use_of S.left S.faults source.old source.new)) }
     ensures later { S.faults source.old ≤ S.faults source.new }
 {
-    one_outcome_is_due();
-    let input = read_all(alloc, source)?;
-    let scene = scene_of(alloc, job.form(), input)?;
+    match job.origin() {
+        Origin::Read(form) => {
+            let input = read_all(alloc, source)?;
+            Ok(scene_of(alloc, form, input)?)
+        }
+    }
+}
+
+// What is due for the job's scene.
+fn due_of_source<S: Source>(alloc: Global, job: Job, source: &mut S) -> Result<Due, Refusal>
+    ensures due { IfOk result (λ due. IsDue job (use_of S.left S.faults source.old source.new) (outcome_of due)) }
+    ensures writable { IfOk result (λ due. IsWritable due.image) }
+    ensures refused { IfErr result (IsRefusedUnwritten job (use_of S.left S.faults source.old source.new)) }
+    ensures later { S.faults source.old ≤ S.faults source.new }
+{
+    let scene = scene_for(alloc, job, source)?;
     match due_for(alloc, job, &scene) {
         Ok(due) => Ok(due),
         Err(refusal) => Err(Refusal::Undue(refusal)),
@@ -63,7 +73,7 @@ fn due_of_input<S: Source>(alloc: Global, job: Job, source: &mut S) -> Result<Du
 
 // Writes a line, or as much of it as the notes take.
 fn note<N: Sink>(notes: &mut N, line: &str)
-    ensures noted { Noted (used (N.held notes.old) (N.held notes.new) (N.faults notes.old) (N.faults notes.new)) line.now }
+    ensures noted { Noted (use_of N.held N.faults notes.old notes.new) line.now }
     ensures later { N.faults notes.old ≤ N.faults notes.new }
 {
     let _ = write_all(notes, line.as_bytes());
@@ -72,7 +82,7 @@ fn note<N: Sink>(notes: &mut N, line: &str)
 // Notes a refusal, and gives the status of the run. Where there is no memory for its line, that is noted in its place.
 #[tactic(auto, unfolding(crate::specs::Lines::memory_line))]
 fn note_refusal<N: Sink>(alloc: Global, notes: &mut N, refusal: Refusal) -> u8
-    ensures told { IsRefusalTold (used (N.held notes.old) (N.held notes.new) (N.faults notes.old) (N.faults notes.new)) refusal result }
+    ensures told { IsRefusalTold (use_of N.held N.faults notes.old notes.new) refusal result }
     ensures later { N.faults notes.old ≤ N.faults notes.new }
 {
     match refusal.line(alloc) {
@@ -89,9 +99,9 @@ fn note_refusal<N: Sink>(alloc: Global, notes: &mut N, refusal: Refusal) -> u8
 
 // Writes what is due to the notes behind a job that is carried out. Where that is nothing they are not called.
 fn report<N: Sink>(notes: &mut N, lines: &[u8]) -> Result<(), WriteFault>
-    ensures told { OnOk result (Took (used (N.held notes.old) (N.held notes.new) (N.faults notes.old) (N.faults notes.new)) lines.now) }
-    ensures calm { OnOk result (IsCalm (used (N.held notes.old) (N.held notes.new) (N.faults notes.old) (N.faults notes.new))) }
-    ensures part { IfErr result (λ fault. Failed (used (N.held notes.old) (N.held notes.new) (N.faults notes.old) (N.faults notes.new)) × (fault.done < length lines.now) × Took (used (N.held notes.old) (N.held notes.new) (N.faults notes.old) (N.faults notes.new)) (take fault.done lines.now)) }
+    ensures told { OnOk result (Took (use_of N.held N.faults notes.old notes.new) lines.now) }
+    ensures calm { OnOk result (IsCalm (use_of N.held N.faults notes.old notes.new)) }
+    ensures part { IfErr result (λ fault. Failed (use_of N.held N.faults notes.old notes.new) × (fault.done < length lines.now) × Took (use_of N.held N.faults notes.old notes.new) (take fault.done lines.now)) }
     ensures untouched { lines.now ≡ [] → notes.new ≡ notes.old }
     ensures later { N.faults notes.old ≤ N.faults notes.new }
 {
@@ -104,7 +114,7 @@ fn report<N: Sink>(notes: &mut N, lines: &[u8]) -> Result<(), WriteFault>
 // Tells what is left to tell of a job that is carried out, and gives the status of the run. Failing notes change the status of a job that is done, and
 // no other.
 fn conclude<N: Sink>(notes: &mut N, told: &Told) -> u8
-    ensures concluded { IsConcluded (used (N.held notes.old) (N.held notes.new) (N.faults notes.old) (N.faults notes.new)) told.now result }
+    ensures concluded { IsConcluded (use_of N.held N.faults notes.old notes.new) told.now result }
     ensures silent { told.now.lines ≡ [] → notes.new ≡ notes.old }
     ensures later { N.faults notes.old ≤ N.faults notes.new }
 {
@@ -118,30 +128,32 @@ fn conclude<N: Sink>(notes: &mut N, told: &Told) -> u8
     }
 }
 
-// Carries out a job: its input, what is due for its scene, the image. The answer is what is left to tell.
+// Carries out a job: its scene, what is due for it, the image. The answer is what is left to tell.
 fn perform<S: Source, K: Sink>(
     alloc: Global,
     job: Job,
     source: &mut S,
     image: &mut K,
 ) -> Result<Told, Refused>
-    ensures done { IfOk result (IsPerformed job (used (S.left source.old) (S.left source.new) (S.faults source.old) (S.faults source.new)) (used (K.held image.old) (K.held image.new) (K.faults image.old) (K.faults image.new))) }
-    ensures refused { IfErr result (λ r. Cause job (used (S.left source.old) (S.left source.new) (S.faults source.old) (S.faults source.new)) (used (K.held image.old) (K.held image.new) (K.faults image.old) (K.faults image.new)) (refusal_status r.refusal) (refusal_line r.refusal) (kept_for (refusal_status r.refusal) r.kept)) }
+    ensures done { IfOk result (IsPerformed job (use_of S.left S.faults source.old source.new) (use_of K.held K.faults image.old image.new)) }
+    ensures refused { IfErr result (λ r. IsCaused job (use_of S.left S.faults source.old source.new) (use_of K.held K.faults image.old image.new) r.refusal r.kept) }
     ensures untouched { IfErr result (λ r. refusal_status r.refusal ≢ 6 → refusal_status r.refusal ≢ 7 → image.new ≡ image.old) }
-    ensures part { OnErr result ((image.new ≡ image.old) ⊎ PartlyWritten job (used (S.left source.old) (S.left source.new) (S.faults source.old) (S.faults source.new)) (used (K.held image.old) (K.held image.new) (K.faults image.old) (K.faults image.new))) }
+    ensures part { OnErr result ((image.new ≡ image.old) ⊎ PartlyWritten job (use_of S.left S.faults source.old source.new) (use_of K.held K.faults image.old image.new)) }
     ensures later_source { S.faults source.old ≤ S.faults source.new }
     ensures later_image { K.faults image.old ≤ K.faults image.new }
 {
-    let due = match due_of_input(alloc, job, source) {
+    let Due {
+        image: text,
+        notes,
+        ending,
+        kept,
+    } = match due_of_source(alloc, job, source) {
         Ok(due) => due,
         Err(refusal) => return Err(without_record(refusal)),
     };
-    match deliver(alloc, image, due) {
-        Ok(told) => Ok(told),
-        Err(Undelivered { refusal, kept }) => Err(Refused {
-            refusal: Refusal::Image(refusal),
-            kept,
-        }),
+    match write_due(alloc, image, &text) {
+        Ok(written) => told_of(alloc, notes, ending, kept, written),
+        Err(OutOfMemory) => Err(without_record(Refusal::Image(ImageRefusal::OutOfMemory))),
     }
 }
 
@@ -169,20 +181,41 @@ pub fn run<S: Source, K: Sink, N: Sink, G: Gate>(
     notes: &mut N,
     _gate: &G,
 ) -> Finish
+    // A record that is kept is lawful, its orders are permitted, and the image shows the frames that it tells.
+    ensures headline { IfSome result.kept (IsHeadline words.now (use_of S.left S.faults source.old source.new)
+        (use_of K.held K.faults image.old image.new) result.status) }
     // What the status says of the words, the source's bytes, what image and notes were given, and the record that is kept.
-    ensures ran { Ran words.now (used (S.left source.old) (S.left source.new) (S.faults source.old) (S.faults source.new)) (used (K.held image.old) (K.held image.new) (K.faults image.old) (K.faults image.new)) (used (N.held notes.old) (N.held notes.new) (N.faults notes.old) (N.faults notes.new)) result.status result.kept }
+    ensures ran { Ran words.now (use_of S.left S.faults source.old source.new)
+        (use_of K.held K.faults image.old image.new)
+        (use_of N.held N.faults notes.old notes.new) result.status result.kept }
+    // What the source holds decides the status.
+    ensures exact { IsAnswered words.now (use_of S.left S.faults source.old source.new)
+        (use_of K.held K.faults image.old image.new)
+        (use_of N.held N.faults notes.old notes.new) result.status result.kept }
     // Each order that a kept record tells keeps each client's order, every barrier and every semaphore grant.
     ensures permitted { IfSome result.kept KeepsOrders }
+    // Words that are no command line are told to be none, whatever memory there is.
+    ensures usage { (IsLine words.now → ⊥) → result.status ≡ 1 }
     // Where the words are no job nothing is read.
-    ensures unread { result.status ≡ 1 → source.new ≡ source.old }
-    // The image is untouched, save where the job is carried out, or where it failed or there was no memory: then it was given a front of what is due.
-    ensures untouched { result.status ≢ 0 → result.status ≢ 5 → result.status ≢ 6 → result.status ≢ 7 → result.status ≢ 8 → image.new ≡ image.old }
-    ensures memory { result.status ≡ 7 → (image.new ≡ image.old) ⊎ ForJob words.now (λ job. PartlyWritten job (used (S.left source.old) (S.left source.new) (S.faults source.old) (S.faults source.new)) (used (K.held image.old) (K.held image.new) (K.faults image.old) (K.faults image.new))) }
+    ensures unread { ((job : AnyJob) → IsJob words.now job → ⊥) → source.new ≡ source.old }
+    // The image is untouched, save where the job is carried out, or where it failed or there was no memory.
+    ensures untouched { IsUnwritten result.status → image.new ≡ image.old }
+    // Where there was no memory it was given a front of what is due; of a job with threads that is left open.
+    ensures memory { result.status ≡ 7 → (image.new ≡ image.old)
+        ⊎ IsLeft words.now (use_of S.left S.faults source.old source.new)
+        (use_of K.held K.faults image.old image.new) }
     // Notes to which nothing is due stay as they are.
-    ensures silent { result.status ≡ 0 → (notes.new ≡ notes.old) ⊎ ForJob words.now (λ job. (done : Done job (used (S.left source.old) (S.left source.new) (S.faults source.old) (S.faults source.new)) (used (K.held image.old) (K.held image.new) (K.faults image.old) (K.faults image.new)) (used (N.held notes.old) (N.held notes.new) (N.faults notes.old) (N.faults notes.new)) result.kept) × (0 < length done.o.notes)) }
+    ensures silent { result.status ≡ 0 → (notes.new ≡ notes.old)
+        ⊎ HasNotes words.now (use_of S.left S.faults source.old source.new)
+        (use_of K.held K.faults image.old image.new)
+        (use_of N.held N.faults notes.old notes.new) result.kept }
+    // No count of refused calls falls.
+    ensures later_source { S.faults source.old ≤ S.faults source.new }
+    ensures later_image { K.faults image.old ≤ K.faults image.new }
+    ensures later_notes { N.faults notes.old ≤ N.faults notes.new }
 {
     lines_have_one_reading();
-    kept_orders_are_permitted();
+    findings_are_one();
     let job = match job_of(alloc, words) {
         Ok(Some(job)) => job,
         Ok(None) => {

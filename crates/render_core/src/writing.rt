@@ -1,21 +1,32 @@
 //! What is due, written: to the image each frame's text, or the one text, by one `write_all`; and what is then left to tell.
-ghost use Rattle.std.specs.Prelude.{◌≡◌, ◌≤◌, ◌++◌, IfOk, IfErr, OnOk};
+ghost use Rattle.std.specs.Prelude.{◌≡◌, ◌≤◌, ◌++◌, IfOk, IfErr, OnErr};
 ghost use Rattle.std.specs.List.{AllByRecursion};
 ghost use Rattle.rc_base.specs.Formats.Netpbm.{p6_texts};
 ghost use Rattle.ppm_out.specs.Pictures.{IsWhole};
+ghost use Rattle.render_core.specs.Ends.{use_of};
 ghost use Rattle.render_core.specs.Lines.{image_fault_line};
-ghost use Rattle.render_core.specs.Outcomes.{used, Took, IsCalm};
-ghost use Rattle.render_core.specs.Refusals.{IsPartWritten, IsWritable, IsSent, IsFatal, due_text, outcome_of};
+ghost use Rattle.render_core.specs.Refusals.{IsFront, IsWritable, IsWritten, IsToldOf, IsUntold, due_text};
+ghost use Rattle.render_core.specs.declared.refusal.Refusal.TheVariants.{Image as OfImage};
 
-use crate::due::{Due, DueImage, Ending};
-use crate::refusal::{ImageRefusal, image_fault_line};
+use crate::due::{DueImage, Ending};
+use crate::refusal::{ImageRefusal, Refusal, Refused, image_fault_line};
 use order_model::record::Record;
 use ppm_out::image_text;
 use rc_base::command::Bytes;
 use rc_base::image::Image;
+use rc_base::out_of_memory::OutOfMemory;
 use rc_base::outside::Sink;
 use rc_base::transfer::write_all;
 use std::alloc::{AllocError, Global};
+
+/// What the image took of what is due to it.
+#[derive(Clone, Copy)]
+pub(crate) struct Written {
+    /// How many bytes went out.
+    pub(crate) bytes: u128,
+    /// The image failed behind them.
+    pub(crate) fault: bool,
+}
 
 /// What is left to tell of a job that is carried out.
 #[derive(Drop)]
@@ -27,63 +38,65 @@ pub(crate) struct Told {
     pub(crate) kept: Option<Record>,
 }
 
-/// Why the image was not written whole, and the record of the cluster whose frames it was to be.
-#[derive(Drop)]
-pub(crate) struct Undelivered {
-    pub(crate) refusal: ImageRefusal,
-    pub(crate) kept: Option<Record>,
-}
-
-fn write_frames<K: Sink>(alloc: Global, image: &mut K, frames: &[Image]) -> Result<(), ImageRefusal>
+fn write_frames<K: Sink>(
+    alloc: Global,
+    image: &mut K,
+    frames: &[Image],
+) -> Result<Written, OutOfMemory>
     requires { AllByRecursion IsWhole frames.now }
-    ensures whole { OnOk result (Took (used (K.held image.old) (K.held image.new) (K.faults image.old) (K.faults image.new)) (p6_texts frames.now)) }
-    ensures calm { OnOk result (IsCalm (used (K.held image.old) (K.held image.new) (K.faults image.old) (K.faults image.new))) }
-    ensures part { IfErr result (IsPartWritten (used (K.held image.old) (K.held image.new) (K.faults image.old) (K.faults image.new)) (p6_texts frames.now)) }
+    ensures written { IfOk result (IsWritten (use_of K.held K.faults image.old image.new) (p6_texts frames.now)) }
+    ensures front { OnErr result (IsFront (use_of K.held K.faults image.old image.new) (p6_texts frames.now)) }
     ensures later { K.faults image.old ≤ K.faults image.new }
 {
-    let mut done: u128 = 0;
+    let mut bytes: u128 = 0;
     for frame in frames {
-        let text = match image_text(alloc, frame) {
-            Ok(text) => text,
-            Err(_) => return Err(ImageRefusal::OutOfMemory),
-        };
+        let text = image_text(alloc, frame)?;
         match write_all(image, text.as_slice()) {
-            Ok(()) => done += text.len() as u128,
+            Ok(()) => bytes += text.len() as u128,
             Err(fault) => {
-                return Err(ImageRefusal::Fault {
-                    done: done + fault.done as u128,
+                return Ok(Written {
+                    bytes: bytes + fault.done as u128,
+                    fault: true,
                 });
             }
         }
     }
-    Ok(())
+    Ok(Written {
+        bytes,
+        fault: false,
+    })
 }
 
-fn write_text<K: Sink>(image: &mut K, text: &[u8]) -> Result<(), ImageRefusal>
-    ensures whole { OnOk result (Took (used (K.held image.old) (K.held image.new) (K.faults image.old) (K.faults image.new)) text.now) }
-    ensures calm { OnOk result (IsCalm (used (K.held image.old) (K.held image.new) (K.faults image.old) (K.faults image.new))) }
-    ensures part { IfErr result (IsPartWritten (used (K.held image.old) (K.held image.new) (K.faults image.old) (K.faults image.new)) text.now) }
+fn write_text<K: Sink>(image: &mut K, text: &[u8]) -> Written
+    ensures written { IsWritten (use_of K.held K.faults image.old image.new) text.now result }
     ensures later { K.faults image.old ≤ K.faults image.new }
 {
     match write_all(image, text) {
-        Ok(()) => Ok(()),
-        Err(fault) => Err(ImageRefusal::Fault {
-            done: fault.done as u128,
-        }),
+        Ok(()) => Written {
+            bytes: text.len() as u128,
+            fault: false,
+        },
+        Err(fault) => Written {
+            bytes: fault.done as u128,
+            fault: true,
+        },
     }
 }
 
-// Writes what is due to the image.
-fn write_due<K: Sink>(alloc: Global, image: &mut K, due: &DueImage) -> Result<(), ImageRefusal>
+/// Writes what is due to the image. Where memory lacks the image was given a front of it.
+pub(crate) fn write_due<K: Sink>(
+    alloc: Global,
+    image: &mut K,
+    due: &DueImage,
+) -> Result<Written, OutOfMemory>
     requires { IsWritable due.now }
-    ensures whole { OnOk result (Took (used (K.held image.old) (K.held image.new) (K.faults image.old) (K.faults image.new)) (due_text due.now)) }
-    ensures calm { OnOk result (IsCalm (used (K.held image.old) (K.held image.new) (K.faults image.old) (K.faults image.new))) }
-    ensures part { IfErr result (IsPartWritten (used (K.held image.old) (K.held image.new) (K.faults image.old) (K.faults image.new)) (due_text due.now)) }
+    ensures written { IfOk result (IsWritten (use_of K.held K.faults image.old image.new) (due_text due.now)) }
+    ensures front { OnErr result (IsFront (use_of K.held K.faults image.old image.new) (due_text due.now)) }
     ensures later { K.faults image.old ≤ K.faults image.new }
 {
     match due {
         DueImage::Frames(frames) => write_frames(alloc, image, frames.as_slice()),
-        DueImage::Written(text) => write_text(image, text.as_slice()),
+        DueImage::OneText(text) => Ok(write_text(image, text.as_slice())),
     }
 }
 
@@ -96,53 +109,49 @@ fn with_fault(alloc: Global, mut lines: Bytes, done: u128) -> Result<Bytes, Allo
     Ok(lines)
 }
 
-/// Writes what is due to the image. The answer is what is left to tell. A fault of the image cuts off a job that would be done; to one that is stuck
-/// it adds a line.
-pub(crate) fn deliver<K: Sink>(alloc: Global, image: &mut K, due: Due) -> Result<Told, Undelivered>
-    requires { IsWritable due.image }
-    ensures sent { IfOk result (IsSent (used (K.held image.old) (K.held image.new) (K.faults image.old) (K.faults image.new)) (outcome_of due)) }
-    ensures part { IfErr result (λ u. IsPartWritten (used (K.held image.old) (K.held image.new) (K.faults image.old) (K.faults image.new)) (due_text due.image) u.refusal) }
-    ensures fatal { IfErr result (λ u. IsFatal (outcome_of due) u.refusal) }
-    ensures kept { IfErr result (λ u. u.kept ≡ due.kept) }
-    ensures later { K.faults image.old ≤ K.faults image.new }
+// Why the image isn't told of: it failed, or there was no memory.
+fn untold(refusal: ImageRefusal, kept: Option<Record>) -> Refused
+    ensures { result ≡ record { refusal = OfImage refusal; kept = kept } }
 {
-    let Due {
-        image: text,
-        notes,
-        ending,
+    Refused {
+        refusal: Refusal::Image(refusal),
         kept,
-    } = due;
-    let done = match write_due(alloc, image, &text) {
-        Ok(()) => {
-            return Ok(Told {
-                lines: notes,
-                ending,
-                kept,
-            });
-        }
-        Err(ImageRefusal::Fault { done }) => done,
-        Err(ImageRefusal::OutOfMemory) => {
-            return Err(Undelivered {
-                refusal: ImageRefusal::OutOfMemory,
-                kept,
-            });
-        }
-    };
-    match ending {
-        Ending::Complete => Err(Undelivered {
-            refusal: ImageRefusal::Fault { done },
+    }
+}
+
+/// What is left to tell, where the image took so much of what is due to it. A fault of the image cuts off a job that would be done; to one that is
+/// stuck it adds a line.
+pub(crate) fn told_of(
+    alloc: Global,
+    notes: Bytes,
+    ending: Ending,
+    kept: Option<Record>,
+    written: Written,
+) -> Result<Told, Refused>
+    ensures told { IfOk result (IsToldOf notes ending kept written) }
+    ensures untold { IfErr result (IsUntold ending kept written) }
+{
+    if !written.fault {
+        return Ok(Told {
+            lines: notes,
+            ending,
             kept,
-        }),
-        Ending::Stuck => match with_fault(alloc, notes, done) {
+        });
+    }
+    match ending {
+        Ending::Complete => Err(untold(
+            ImageRefusal::Fault {
+                done: written.bytes,
+            },
+            kept,
+        )),
+        Ending::Stuck => match with_fault(alloc, notes, written.bytes) {
             Ok(lines) => Ok(Told {
                 lines,
                 ending,
                 kept,
             }),
-            Err(_) => Err(Undelivered {
-                refusal: ImageRefusal::OutOfMemory,
-                kept,
-            }),
+            Err(_) => Err(untold(ImageRefusal::OutOfMemory, kept)),
         },
     }
 }

@@ -4,7 +4,7 @@
 //! that is outside its range.
 #![tactic(auto)]
 
-pub mod fault;
+mod fault;
 mod header;
 pub mod laws;
 mod limits;

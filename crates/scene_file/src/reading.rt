@@ -4,6 +4,7 @@ ghost use Rattle.std.specs.List.{AllByRecursion};
 ghost use Rattle.rc_base.specs.Formats.Commands.{IsCommand};
 ghost use Rattle.rc_base.specs.Formats.Spelling.{stream_text, IsDecl, SpellsStream, SpellsScene};
 ghost use Rattle.rc_base.specs.Formats.Limits.{limit_of};
+ghost use Rattle.rc_base.specs.Formats.Within.{IsWithin};
 ghost use Rattle.rc_base.specs.declared.scene.Scene.{Scene as AnyScene};
 ghost use Rattle.rc_base.specs.declared.scene.SceneKind.{SceneKind as AnyKind};
 ghost use Rattle.rc_base.specs.declared.scene.Limit.{Limit as AnyLimit};
@@ -144,6 +145,8 @@ pub fn read_scene(alloc: Global, bytes: &[u8]) -> Result<Scene, SceneFault>
     ensures found { IfOk result (λ s. SpellsScene bytes.now s × (limit_of s ≡ None)) }
     // Its fields are in their ranges.
     ensures fields { IfOk result (λ s. IsDecl s.decl × AllByRecursion (AllByRecursion IsCommand) s.streams) }
+    // So it is within what every call that takes a scene asks.
+    ensures within { IfOk result IsWithin }
     // What is spelled so and within the limits is read, unless memory runs out.
     ensures only { (s : AnyScene) → SpellsScene bytes.now s → limit_of s ≡ None → (result ≡ Ok s) ⊎ (result ≡ Err SceneFault.OutOfMemory) }
     // Malformed bytes have this fault first from the left, at this place.

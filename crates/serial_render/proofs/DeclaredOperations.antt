@@ -7,6 +7,7 @@ use Rattle.std.specs.Option.{option_map_or}
 use Rattle.std.proofs.lemmas.Bool.{cases_lt}
 use Rattle.rc_base.specs.Lists.{at_name}
 use Rattle.rc_base.specs.Formats.Commands.{IsCommand}
+use Rattle.rc_base.specs.Formats.Within.{IsWithin}
 use Rattle.rc_base.specs.Contexts.Context.{ClientContext}
 use Rattle.rc_base.specs.Contexts.Faults.{fault_of, is_name}
 use Rattle.rc_base.specs.Contexts.Issue.{effect_of, done_by, command_at, context_after, effect_at, stream_of}
@@ -29,7 +30,8 @@ use Rattle.gl_context.proofs.Accepted.{accepted, and_both}
 use Rattle.gl_context.proofs.ValidContexts.{valid}
 use Rattle.order_model.proofs.ClientsBeyond.{ops_past}
 use Rattle.order_model.proofs.SceneListsAreWellFormed.{scene_client_count, scene_row}
-use Rattle.serial_render.specs.Turns.{AreDeclared}
+use Rattle.order_model.proofs.ScenesWithinLimits.{within_is_drawable}
+use Rattle.serial_render.specs.Turns.{AreDeclared, CanTakeTurns}
 
 -- an operation names one of so many barriers or semaphores
 abbrev names_of : Decl → SyncOp → Bool
@@ -139,3 +141,10 @@ scene_declared s all client k w e = elim (cases_lt client (length s.streams)) [
 pub scene_counts_are : (s : Scene) → (sync_lists_of s).counts ≡ s.decl.barriers
 unfolding sync_lists_of
 scene_counts_are s = refl
+
+-- a scene within the limits takes turns
+pub takes_turns : (scene : Scene) → IsWithin scene → CanTakeTurns (sync_lists_of scene)
+takes_turns scene within =
+    let can = within_is_drawable scene within in
+    let counts = ap length (scene_counts_are scene) in
+    record { well = can.formed; clients = can.clients; barriers = omega (arith, counts, can.barriers); declared = scene_declared scene within.commands }

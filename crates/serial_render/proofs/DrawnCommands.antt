@@ -30,8 +30,9 @@ use Rattle.gl_context.specs.Valid.{IsValidContext}
 use Rattle.gl_context.proofs.Accepted.{accepted, and_both}
 use Rattle.gl_context.proofs.OneMoreCommand.{goes_on}
 use Rattle.gl_context.proofs.ValidContexts.{command_of, stream_all, valid}
+use Rattle.order_model.specs.Scenes.{HasSides}
 use Rattle.draw_device.specs.Conditions.{IsDrawable, shared_of}
-use Rattle.serial_render.specs.Steps.{HasSides, IsWritable, set_after}
+use Rattle.serial_render.specs.Steps.{IsWritable, set_after}
 
 -- ---- the context after a command that draws draws the same as the one before it
 
@@ -66,13 +67,14 @@ same_drawn s client place c at shareds i j old =
 -- ---- the texture that is bound
 
 -- a bound shared texture is one of those that are declared
-bound_shared : (decl : Decl) (x : ClientContext) → IsValidContext decl x → (bound_kind x.state == 1) ≡ true → (0 < bound_name x.state) × (bound_name x.state ≤ length decl.shared)
+bound_shared : (decl : Decl) (x : ClientContext) → IsValidContext decl x → (bound_kind x.state == 1) ≡ true
+    → (is_name (bound_name x.state) (length decl.shared) ≡ true) × (0 < bound_name x.state) × (bound_name x.state ≤ length decl.shared)
 bound_shared decl x v kind =
     let one : bound_kind x.state ≡ 1 = eqb-true (bound_kind x.state) 1 kind in
     let named : is_name (bound_name x.state) (length decl.shared) ≡ true =
     subst (λ (k : ℕ). is_name (bound_name x.state) (if k == 0 then private_count else length decl.shared) ≡ true) one v.bound in
     let both = and_both (nat_lt 0 (bound_name x.state)) (nat_le (bound_name x.state) (length decl.shared)) named in
-    (ltb-true 0 (bound_name x.state) both.0, leb-true (bound_name x.state) (length decl.shared) both.1)
+    (named, ltb-true 0 (bound_name x.state) both.0, leb-true (bound_name x.state) (length decl.shared) both.1)
 
 shared_is : (sizes : List (List ℕ)) (texels : SharedTexels) (set : List (Option Picture)) (name : ℕ) → HasTexels sizes texels set → 0 < name → name ≤ length sizes
     → shared_of set name ≡ shared_picture sizes texels name
@@ -83,7 +85,7 @@ module _ (decl : Decl) (x : ClientContext) (texels : SharedTexels) (set : List (
   sampled_is privates = elim (cases_Bool (bound_kind x.state == 1)) [
     | inl t ↦
         let bound = bound_shared decl x v t in
-        let same : shared_of set (bound_name x.state) ≡ shared_picture decl.shared texels (bound_name x.state) = shared_is decl.shared texels set (bound_name x.state) has bound.0 bound.1 in
+        let same : shared_of set (bound_name x.state) ≡ shared_picture decl.shared texels (bound_name x.state) = shared_is decl.shared texels set (bound_name x.state) has bound.1 bound.2 in
         rw t (ap (λ (p : Picture). if x.state.texture_on then Some p else None) same)
     | inr f ↦ rw f refl
   ]
@@ -114,8 +116,9 @@ module _ (decl : Decl) (x : ClientContext) (texels : SharedTexels) (set : List (
       by (inl on) (inr f) = rw (on, f) (private_texel (private_image x (bound_name x.state)) refl)
       by (inl on) (inl t) =
           let bound = bound_shared decl x v t in
-          let same = shared_is decl.shared texels set (bound_name x.state) has bound.0 bound.1 in
-          let texel : HasTexelIfAny (Some (shared_picture decl.shared texels (bound_name x.state))) = sides (bound_name x.state) bound.0 bound.1 in
+          let same = shared_is decl.shared texels set (bound_name x.state) has bound.1 bound.2 in
+          let both = and_both _ _ (sides (bound_name x.state) bound.0) in
+          let texel : HasTexelIfAny (Some (shared_picture decl.shared texels (bound_name x.state))) = (ltb-true 0 _ both.0, ltb-true 0 _ both.1) in
           rw (on, t) (subst (λ (p : Picture). HasTexelIfAny (Some p)) (sym same) texel)
 
 -- ---- parts of shared textures

@@ -5,7 +5,7 @@ use Rattle.rc_base.specs.Orders.Book.BookEvent.{Arrives, Ends}
 use Rattle.rc_base.specs.Orders.Grant.{granted_from, operations_left}
 use Rattle.rc_base.specs.Orders.Journal.{stop, sync_state_after, waiting_of}
 use Rattle.rc_base.specs.Orders.Order.{names_in, default_journal, default_order}
-use Rattle.rc_base.specs.Orders.Sync.{client_count, ops_of}
+use Rattle.rc_base.specs.Orders.Sync.{IsWellFormed, client_count, ops_of}
 use Rattle.rc_base.specs.declared.sync.Entry.{Entry}
 use Rattle.rc_base.specs.declared.sync.SyncLists.{SyncLists}
 use Rattle.rc_base.specs.declared.sync.WaitAt.{WaitAt}
@@ -15,6 +15,13 @@ use Rattle.serial_render.specs.declared.progress.Progress.{Progress}
 -- each operation names a barrier or a semaphore that is declared
 abbrev pub AreDeclared : SyncLists → Type 0
 AreDeclared syncs = (client k : ℕ) (w : WaitAt) → slice_get (ops_of syncs client) k ≡ Some w → is_declared syncs w.op ≡ true
+
+-- lists of up to 8 clients, whose operations rise and name what is declared
+pub record CanTakeTurns (syncs : SyncLists) : Type 0 where
+  pub well : IsWellFormed syncs
+  pub clients : client_count syncs ≤ 8
+  pub barriers : length syncs.counts < 256
+  pub declared : AreDeclared syncs
 
 -- a client is left waiting
 pub record IsSomeoneLeft (syncs : SyncLists) (journal : List Entry) : Type 0 where

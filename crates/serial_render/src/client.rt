@@ -1,7 +1,7 @@
 //! What is kept of a client while an order is carried out.
-ghost use Rattle.std.specs.Prelude.{◌≡◌, ℕ, ◌+◌, ◌<◌, ◌^◌, length, map, Some, IfOk, OnOk, slice_get, slice_set};
-ghost use Rattle.std.specs.List.{AllByRecursion, range_with_len};
-ghost use Rattle.rc_base.specs.Formats.Commands.{IsCommand};
+ghost use Rattle.std.specs.Prelude.{◌≡◌, ℕ, ◌+◌, ◌<◌, length, map, Some, IfOk, OnOk, slice_get, slice_set};
+ghost use Rattle.std.specs.List.{range_with_len};
+ghost use Rattle.rc_base.specs.Formats.Within.{IsWithin};
 ghost use Rattle.rc_base.specs.Contexts.Issue.{stream_of, effect_at};
 ghost use Rattle.rc_base.specs.Drawing.Serial.{is_swap_effect};
 ghost use Rattle.serial_render.specs.Clients.{client_after};
@@ -40,8 +40,7 @@ impl Client {
 
     /// Issues the client's next command.
     fn issue(&mut self, scene: &Scene, client: usize, place: usize) -> Result<Effect, OutOfMemory>
-        requires commands { AllByRecursion (AllByRecursion IsCommand) scene.now.streams }
-        requires few { (client : ℕ) → length (stream_of scene.now client) < 2 ^ 32 }
+        requires within { IsWithin scene.now }
         requires inside { place < length (stream_of scene.now client) }
         requires before { self.old ≡ client_after scene.now client place }
         ensures client { OnOk result (self.new ≡ client_after scene.now client (place + 1)) }
@@ -70,8 +69,7 @@ pub(crate) fn issue_name(
     scene: &Scene,
     name: Name,
 ) -> Result<Effect, OutOfMemory>
-    requires commands { AllByRecursion (AllByRecursion IsCommand) scene.now.streams }
-    requires few { (client : ℕ) → length (stream_of scene.now client) < 2 ^ 32 }
+    requires within { IsWithin scene.now }
     requires inside { name.place < length (stream_of scene.now name.client) }
     requires before { slice_get clients.old.items name.client ≡ Some (client_after scene.now name.client name.place) }
     ensures clients { OnOk result (clients.new.items ≡ slice_set clients.old.items name.client (client_after scene.now name.client (name.place + 1))) }

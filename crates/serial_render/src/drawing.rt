@@ -1,8 +1,6 @@
 //! Carrying out the commands of an order on one device.
-ghost use Rattle.std.specs.Prelude.{◌≡◌, ℕ, ◌+◌, ◌<◌, ◌≤◌, ◌^◌, length, max, Some, IfOk, OnOk, slice_get};
-ghost use Rattle.std.specs.List.{AllByRecursion};
-ghost use Rattle.rc_base.specs.Formats.Commands.{IsCommand};
-ghost use Rattle.rc_base.specs.Contexts.Issue.{stream_of};
+ghost use Rattle.std.specs.Prelude.{◌≡◌, ℕ, ◌+◌, ◌<◌, ◌≤◌, length, max, Some, IfOk, OnOk, slice_get};
+ghost use Rattle.rc_base.specs.Formats.Within.{IsWithin};
 ghost use Rattle.rc_base.specs.Drawing.Images.{Pixels};
 ghost use Rattle.rc_base.specs.Drawing.PixelStep.{effect_step};
 ghost use Rattle.rc_base.specs.declared.command.Part.{Part};
@@ -12,7 +10,7 @@ ghost use Rattle.draw_device.specs.Conditions.{IsDrawable, IsClearable, shared_o
 ghost use Rattle.draw_device.specs.Devices.{IsDeviceRect, EachTakes};
 ghost use Rattle.serial_render.specs.Clients.{AreIssued};
 ghost use Rattle.serial_render.specs.Shown.{IsPlayable, IsShown, images_of};
-ghost use Rattle.serial_render.specs.Steps.{HasSides, Holds, IsWritable, set_after, window_of};
+ghost use Rattle.serial_render.specs.Steps.{Holds, IsWritable, set_after, window_of};
 
 use crate::client::{Client, clients_of, issue_name};
 use crate::image::image_of;
@@ -87,9 +85,7 @@ pub(crate) struct Played {
 
 /// Carries out the names of an order, one after the other. The picture of a frame is taken before the first name that lies beyond its client's Swap.
 pub(crate) fn play(alloc: Global, scene: &Scene, order: &[Name]) -> Result<Played, OutOfMemory>
-    requires commands { AllByRecursion (AllByRecursion IsCommand) scene.now.streams }
-    requires few { (client : ℕ) → length (stream_of scene.now client) < 2 ^ 32 }
-    requires sides { HasSides scene.now.decl }
+    requires within { IsWithin scene.now }
     requires playable { IsPlayable scene.now order.now }
     ensures clients { IfOk result (λ p. AreIssued scene.now order.now p.clients.items) }
     ensures shown { IfOk result (λ p. IsShown scene.now order.now order.now p.device p.frames) }

@@ -1,7 +1,6 @@
 //! Commands of a scene, issued by client and place.
-ghost use Rattle.std.specs.Prelude.{◌≡◌, ℕ, ◌+◌, ◌<◌, ◌^◌, length, Some, IfOk, OnOk};
-ghost use Rattle.std.specs.List.{AllByRecursion};
-ghost use Rattle.rc_base.specs.Formats.Commands.{IsCommand};
+ghost use Rattle.std.specs.Prelude.{◌≡◌, ◌+◌, ◌<◌, length, Some, IfOk, OnOk};
+ghost use Rattle.rc_base.specs.Formats.Within.{IsWithin};
 ghost use Rattle.rc_base.specs.Contexts.Issue.{stream_of, command_at, context_after, effect_at};
 
 use gl_context::Context;
@@ -26,8 +25,7 @@ pub(crate) fn issue_at(
     client: usize,
     place: usize,
 ) -> Result<Effect, OutOfMemory>
-    requires commands { AllByRecursion (AllByRecursion IsCommand) scene.now.streams }
-    requires few { (client : ℕ) → length (stream_of scene.now client) < 2 ^ 32 }
+    requires within { IsWithin scene.now }
     requires inside { place < length (stream_of scene.now client) }
     requires before { context.old ≡ context_after scene.now client place }
     ensures context { OnOk result (context.new ≡ context_after scene.now client (place + 1)) }

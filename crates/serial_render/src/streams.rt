@@ -1,10 +1,9 @@
 //! What a scene's streams say of synchronisation, and which of their commands are refused.
-ghost use Rattle.std.specs.Prelude.{◌≡◌, ℕ, ◌+◌, ◌<◌, ◌^◌, ◌++◌, ◌∷◌, [], length, slice_index_or, IfOk, OnOk};
-ghost use Rattle.std.specs.List.{AllByRecursion};
-ghost use Rattle.rc_base.specs.Formats.Commands.{IsCommand};
+ghost use Rattle.std.specs.Prelude.{◌≡◌, ℕ, ◌+◌, ◌<◌, ◌++◌, ◌∷◌, [], length, slice_index_or, IfOk, OnOk};
+ghost use Rattle.rc_base.specs.Formats.Within.{IsWithin};
 ghost use Rattle.rc_base.specs.Contexts.Issue.{stream_of, faults_of};
 ghost use Rattle.rc_base.specs.Orders.Sync.{wait_of, sync_row_of, sync_lists_of};
-ghost use Rattle.serial_render.specs.Turns.{AreDeclared};
+ghost use Rattle.serial_render.specs.Turns.{CanTakeTurns};
 
 use crate::lists::Survey;
 use crate::replay::issue_at;
@@ -41,8 +40,7 @@ fn survey_client(
     scene: &Scene,
     client: usize,
 ) -> Result<(SyncRow, FaultList), OutOfMemory>
-    requires commands { AllByRecursion (AllByRecursion IsCommand) scene.now.streams }
-    requires few { (client : ℕ) → length (stream_of scene.now client) < 2 ^ 32 }
+    requires within { IsWithin scene.now }
     requires client { client < length scene.now.streams }
     ensures row { IfOk result (λ p. p.0 ≡ sync_row_of scene.now client) }
     ensures faults { IfOk result (λ p. p.1 ≡ faults_of scene.now client) }
@@ -63,12 +61,11 @@ fn survey_client(
 
 /// The accepted operations of synchronisation and the refused commands of a scene's whole streams. Each command is issued once.
 pub fn survey(alloc: Global, scene: &Scene) -> Result<Survey, OutOfMemory>
-    requires commands { AllByRecursion (AllByRecursion IsCommand) scene.now.streams }
-    requires few { (client : ℕ) → length (stream_of scene.now client) < 2 ^ 32 }
+    requires { IsWithin scene.now }
     ensures syncs { IfOk result (λ s. s.syncs ≡ sync_lists_of scene.now) }
     ensures clients { IfOk result (λ s. length s.faults ≡ length scene.now.streams) }
     ensures faults { IfOk result (λ s. (client : ℕ) → slice_index_or s.faults client [] ≡ faults_of scene.now client) }
-    ensures declared { IfOk result (λ s. AreDeclared s.syncs) }
+    ensures turns { IfOk result (λ s. CanTakeTurns s.syncs) }
 {
     let mut rows = SyncRows::new(alloc);
     let mut faults = FaultLists::new(alloc);
@@ -87,9 +84,9 @@ pub fn survey(alloc: Global, scene: &Scene) -> Result<Survey, OutOfMemory>
 
 /// The accepted operations of synchronisation of a scene's whole streams, the barriers' counts and the semaphores' first units.
 pub fn sync_lists(alloc: Global, scene: &Scene) -> Result<SyncLists, OutOfMemory>
-    requires commands { AllByRecursion (AllByRecursion IsCommand) scene.now.streams }
-    requires few { (client : ℕ) → length (stream_of scene.now client) < 2 ^ 32 }
-    ensures { IfOk result (λ s. s ≡ sync_lists_of scene.now) }
+    requires { IsWithin scene.now }
+    ensures lists { IfOk result (λ s. s ≡ sync_lists_of scene.now) }
+    ensures turns { IfOk result CanTakeTurns }
 {
     let Survey { syncs, .. } = survey(alloc, scene)?;
     Ok(syncs)

@@ -1,15 +1,12 @@
 //! The default journal and the default order.
-ghost use Rattle.std.specs.Prelude.{◌≡◌, ℕ, ◌<◌, ◌≤◌, ◌^◌, ◌↔◌, length, Some, true, IfOk, IfSome, IsSome};
-ghost use Rattle.std.specs.List.{AllByRecursion};
-ghost use Rattle.rc_base.specs.Formats.Commands.{IsCommand};
-ghost use Rattle.rc_base.specs.Contexts.Issue.{stream_of};
-ghost use Rattle.rc_base.specs.Lists.{at_name};
+ghost use Rattle.std.specs.Prelude.{◌≡◌, ℕ, ◌↔◌, true, IfOk, IfSome, IsSome};
+ghost use Rattle.rc_base.specs.Formats.Within.{IsWithin};
 ghost use Rattle.rc_base.specs.Orders.Journal.{waiting_of};
 ghost use Rattle.rc_base.specs.Orders.Order.{default_journal, default_order as default_order_of};
-ghost use Rattle.rc_base.specs.Orders.Sync.{IsWellFormed, client_count, sync_lists_of};
+ghost use Rattle.rc_base.specs.Orders.Sync.{sync_lists_of};
 ghost use Rattle.sync_manager.specs.Stored.{wait_at};
 ghost use Rattle.order_model.specs.Report.{is_stuck};
-ghost use Rattle.serial_render.specs.Turns.{AreDeclared};
+ghost use Rattle.serial_render.specs.Turns.{CanTakeTurns};
 
 use crate::progress::Progress;
 use crate::streams::sync_lists;
@@ -32,10 +29,7 @@ pub struct Turns {
 /// Each client, rising, issues up to its next operation or to the end of its stream, and then the first lawful entry is granted, again and again
 /// until none is lawful. An operation's name stands at its grant.
 pub fn turns_of(alloc: Global, syncs: &SyncLists) -> Result<Turns, OutOfMemory>
-    requires well { IsWellFormed syncs.now }
-    requires clients { client_count syncs.now ≤ 8 }
-    requires barriers { length syncs.now.counts < 256 }
-    requires declared { AreDeclared syncs.now }
+    requires { CanTakeTurns syncs.now }
     ensures journal { IfOk result (λ t. t.journal ≡ default_journal syncs.now) }
     ensures order { IfOk result (λ t. t.order ≡ default_order_of syncs.now t.journal) }
     ensures waiting { IfOk result (λ t. IsSome t.waiting ↔ (is_stuck syncs.now t.journal ≡ true)) }
@@ -62,12 +56,7 @@ pub fn default_order(
     alloc: Global,
     scene: &Scene,
 ) -> Result<(Journal, Order, Option<Waiting>), OutOfMemory>
-    requires commands { AllByRecursion (AllByRecursion IsCommand) scene.now.streams }
-    requires few { (client : ℕ) → length (stream_of scene.now client) < 2 ^ 32 }
-    requires some { 0 < length scene.now.streams }
-    requires clients { length scene.now.streams ≤ 8 }
-    requires barriers { length scene.now.decl.barriers < 256 }
-    requires counts { (barrier count : ℕ) → at_name scene.now.decl.barriers barrier ≡ Some count → 0 < count }
+    requires { IsWithin scene.now }
     ensures journal { IfOk result (λ t. t.0 ≡ default_journal (sync_lists_of scene.now)) }
     ensures order { IfOk result (λ t. t.1 ≡ default_order_of (sync_lists_of scene.now) t.0) }
     ensures waiting { IfOk result (λ t. IsSome t.2 ↔ (is_stuck (sync_lists_of scene.now) t.0 ≡ true)) }

@@ -6,10 +6,9 @@
 
 mod sorting;
 
-ghost use Rattle.std.specs.Prelude.{◌≤◌, IfOk};
-ghost use Rattle.std.specs.List.{AllByRecursion};
-ghost use Rattle.rc_base.specs.Formats.Commands.{IsCommand};
-ghost use Rattle.rc_base.specs.Cluster.Tiles.{tile_count};
+ghost use Rattle.std.specs.Prelude.{◌≡◌, IfOk};
+ghost use Rattle.rc_base.specs.Formats.Within.{IsWithin, IsLayoutFor};
+ghost use Rattle.rc_base.specs.declared.scene.Scene.{Scene as AnyScene};
 
 use crate::sorting::{DEPTH, Sorting};
 use bounds_bucket::layout;
@@ -40,9 +39,6 @@ enum Refusal {
     Output,
 }
 
-// The most clients of a scene.
-const MOST_CLIENTS: u8 = 8;
-
 // Columns and rows.
 fn words(rt: &HostRuntime) -> Option<(u64, u64)> {
     let mut words = env::args(rt).ok()?.skip(1);
@@ -55,9 +51,8 @@ fn words(rt: &HostRuntime) -> Option<(u64, u64)> {
 }
 
 // The window, cut into tiles.
-#[tactic(auto, using(crate::proofs::Layouts::few_tiles))]
 fn cut(width: u16, height: u16, columns: u64, rows: u64) -> Result<Layout, SceneFault>
-    ensures { IfOk result (λ l. tile_count l ≤ 32) }
+    ensures { IfOk result (λ l. (scene : AnyScene) → scene.decl.width ≡ width → scene.decl.height ≡ height → IsLayoutFor scene l 16) }
 {
     match layout(width, height, columns, rows, DEPTH as u64) {
         Ok(layout) => Ok(layout),
@@ -67,8 +62,8 @@ fn cut(width: u16, height: u16, columns: u64, rows: u64) -> Result<Layout, Scene
 
 // What the clients send to each tile.
 fn sums(alloc: Global, scene: &Scene, layout: &Layout) -> Result<Vec<Tally>, Refusal>
-    requires commands { AllByRecursion (AllByRecursion IsCommand) scene.now.streams }
-    requires tiles { tile_count layout.now ≤ 32 }
+    requires within { IsWithin scene.now }
+    requires layout { IsLayoutFor scene.now layout.now 16 }
 {
     let mut sums = Vec::new(alloc);
     let none = Tally {
@@ -78,15 +73,7 @@ fn sums(alloc: Global, scene: &Scene, layout: &Layout) -> Result<Vec<Tally>, Ref
     };
     let count = usize::from(layout.columns) * usize::from(layout.rows);
     sums.resize(count, none).map_err(OutOfMemory::from)?;
-    for client in 0..MOST_CLIENTS {
-        let Some(commands) = scene.streams.as_slice().get(usize::from(client)) else {
-            break;
-        };
-        // No scene that is read has so many.
-        if commands.len() > u32::MAX as usize {
-            let value = commands.len() as u64;
-            return Err(Refusal::Scene(SceneFault::Limit { what: 11, value }));
-        }
+    for client in 0..scene.streams.len() as u8 {
         let mut sorting = Sorting::new(alloc, scene, client, layout)?;
         sorting.send_all()?;
         sorting.add_to(&mut sums);

@@ -1,10 +1,8 @@
 //! A client whose stream is sorted to the tiles, with lanes that are emptied as they are appended to.
-ghost use Rattle.std.specs.Prelude.{◌≡◌, ◌*◌, ◌<◌, ◌≤◌, ◌^◌, length, IfOk};
-ghost use Rattle.std.specs.List.{AllByRecursion};
-ghost use Rattle.rc_base.specs.Formats.Commands.{IsCommand};
-ghost use Rattle.rc_base.specs.Contexts.Issue.{stream_of};
+ghost use Rattle.std.specs.Prelude.{◌≡◌, ◌<◌, length, IfOk};
+ghost use Rattle.rc_base.specs.Formats.Within.{IsWithin, IsLayoutFor};
 ghost use Rattle.rc_base.specs.Cluster.Tiles.{tile_count};
-ghost use Rattle.client_issue.specs.Cores.{IsClient, layout_of};
+ghost use Rattle.client_issue.specs.Cores.{layout_of};
 
 use client_issue::ClientCore;
 use rc_base::cluster::{ClientMoved, Tally};
@@ -40,7 +38,6 @@ fn lanes(alloc: Global, count: usize) -> Result<Vec<PlainLane<Parcel>>, OutOfMem
 
 impl Sorting {
     /// A client of a scene before its first step.
-    #[tactic(auto, using(crate::proofs::Streams::stream_all))]
     pub(crate) fn new(
         alloc: Global,
         scene: &Scene,
@@ -48,11 +45,9 @@ impl Sorting {
         layout: &Layout,
     ) -> Result<Sorting, OutOfMemory>
         requires client { client < length scene.now.streams }
-        requires few { length (stream_of scene.now client) < 2 ^ 32 }
-        requires commands { AllByRecursion (AllByRecursion IsCommand) scene.now.streams }
-        requires tiles { tile_count layout.now ≤ 32 }
-        ensures client { IfOk result (λ s. IsClient s.core) }
-        ensures lanes { IfOk result (λ s. length s.tiles.items ≡ tile_count (layout_of s.core)) }
+        requires within { IsWithin scene.now }
+        requires layout { IsLayoutFor scene.now layout.now 16 }
+        ensures { IfOk result (λ s. length s.tiles.items ≡ tile_count (layout_of s.core)) }
     {
         let core = ClientCore::new(alloc, scene, client, layout)?;
         let tiles = lanes(
@@ -69,10 +64,8 @@ impl Sorting {
 
     // Sends the next item, and takes it from its lane. The answer is whether there was one.
     fn step(&mut self) -> Result<bool, OutOfMemory>
-        requires client { IsClient self.old.core }
-        requires lanes { length self.old.tiles.items ≡ tile_count (layout_of self.old.core) }
-        ensures client { IsClient self.new.core }
-        ensures lanes { length self.new.tiles.items ≡ tile_count (layout_of self.new.core) }
+        requires { length self.old.tiles.items ≡ tile_count (layout_of self.old.core) }
+        ensures { length self.new.tiles.items ≡ tile_count (layout_of self.new.core) }
     {
         match self.core.step(&mut self.tiles, &mut self.requests)? {
             ClientMoved::Appended { tile } => {
@@ -92,10 +85,8 @@ impl Sorting {
 
     /// Sends all that the client gives.
     pub(crate) fn send_all(&mut self) -> Result<(), OutOfMemory>
-        requires client { IsClient self.old.core }
-        requires lanes { length self.old.tiles.items ≡ tile_count (layout_of self.old.core) }
-        ensures client { IsClient self.new.core }
-        ensures lanes { length self.new.tiles.items ≡ tile_count (layout_of self.new.core) }
+        requires { length self.old.tiles.items ≡ tile_count (layout_of self.old.core) }
+        ensures { length self.new.tiles.items ≡ tile_count (layout_of self.new.core) }
     {
         for _ in 0..u64::MAX {
             if !self.step()? {
@@ -107,8 +98,7 @@ impl Sorting {
 
     /// Adds what went to each tile so far to the sums, tiles rising.
     pub(crate) fn add_to(&self, sums: &mut [Tally])
-        requires client { IsClient self.now.core }
-        requires lanes { length self.now.tiles.items ≡ tile_count (layout_of self.now.core) }
+        requires { length self.now.tiles.items ≡ tile_count (layout_of self.now.core) }
     {
         for tile in 0..self.tiles.len() as u8 {
             let tally = self.core.tallies(tile);

@@ -4,7 +4,7 @@ ghost use Rattle.std.specs.List.{flat_map, range_with_len};
 ghost use Rattle.rc_base.specs.Contexts.Elements.{scalar_count, values_of, no_image};
 ghost use Rattle.state_update.specs.Knowledge.{scalar_set, scalar_value};
 
-use context_switch::is_same;
+use rc_base::elements::is_same;
 use rc_base::out_of_memory::OutOfMemory;
 use rc_base::state::{ElementSet, ElementValue, Sets, State};
 

@@ -1,6 +1,6 @@
 -- One element of a list is written.
-use Rattle.std.proofs.Common.{◌≡◌, ℕ, ◌<◌, List, length, Ok, Err, refl, sym, ◌∙◌, subst, get_or-set_same, get_or-set_other, length-set}
-use Rattle.std.specs.Prelude.{slice_index_or, slice_set, IfOk, Result, Vec}
+use Rattle.std.proofs.Common.{◌≡◌, ℕ, ◌<◌, List, length, Option, None, Some, Ok, Err, refl, sym, ap, ◌∙◌, subst, get_or-set_same, get_or-set_other, length-set}
+use Rattle.std.specs.Prelude.{slice_index_or, slice_set, IfOk, MatchOption, Result, Vec}
 use Rattle.std.specs.Global.{Global}
 use Rattle.std.proofs.lemmas.Option.{slice_get-get_or}
 use Rattle.rc_base.specs.declared.cluster.ClientMoved.{ClientMoved}
@@ -12,7 +12,11 @@ use Rattle.rc_base.specs.declared.sync.Grant.{Grant}
 use Rattle.rc_base.specs.declared.sync.Request.{Request}
 use Rattle.client_issue.specs.declared.client.ClientCore.{ClientCore}
 use Rattle.tile_server.specs.declared.tile_core.TileCore.{TileCore}
-use Rattle.step_core.specs.Changes.{IsChanged, IsColumnStepped, IsTileStepped, ArePartsKept}
+use Rattle.step_core.specs.Changes.{IsClientStepped, IsTileStepped, ArePartsKept}
+use Rattle.rc_base.specs.declared.cluster.ClientMoved.TheVariants as client_moved
+use Rattle.world_model.specs.declared.moves.TileAnswer.{TileAnswer}
+use Rattle.step_core.specs.Ports.{where_appended, giver_of, IsCarried, IsChanged, IsChangedIn, IsFewer, AreFewer}
+use Rattle.step_core.specs.declared.port.Port.{Port}
 
 pub same_default : {A : Type 0} (xs : List A) (n : ℕ) (d e : A) → n < length xs → slice_index_or xs n d ≡ slice_index_or xs n e
 same_default xs n d e lt = let a = slice_get-get_or xs n d lt in let b = slice_get-get_or xs n e lt in cc
@@ -51,18 +55,60 @@ kept_at tile m lists lists1 lists' lists1' a a' h =
     subst (λ (x : List (Vec TilePart Global)). ArePartsKept tile m x lists1') a
     (subst (λ (x : List (Vec TilePart Global)). ArePartsKept tile m lists x) a' h)
 
-pub column_at : (number : ℕ) (m : ClientMoved) (cores cores1 cores' cores1' : List ClientCore)
-    (rows rows1 rows' rows1' : List (Vec (PlainLane Parcel) Global)) (spare spare1 spare' spare1' : List (PlainLane Parcel))
-    (lanes lanes1 lanes' lanes1' : List (PlainLane Request)) → cores ≡ cores1 → cores' ≡ cores1' → rows ≡ rows1 → rows' ≡ rows1' → spare ≡ spare1
-    → spare' ≡ spare1' → lanes ≡ lanes1 → lanes' ≡ lanes1'
-    → IsColumnStepped number m cores cores' rows rows' spare spare' lanes lanes'
-    → IsColumnStepped number m cores1 cores1' rows1 rows1' spare1 spare1' lanes1 lanes1'
-column_at number m cores cores1 cores' cores1' rows rows1 rows' rows1' spare spare1 spare' spare1' lanes lanes1 lanes' lanes1' a a' b b' c c' d d' h =
-    subst (λ (x : List ClientCore). IsColumnStepped number m x cores1' rows1 rows1' spare1 spare1' lanes1 lanes1') a
-    (subst (λ (x : List ClientCore). IsColumnStepped number m cores x rows1 rows1' spare1 spare1' lanes1 lanes1') a'
-    (subst (λ (x : List (Vec (PlainLane Parcel) Global)). IsColumnStepped number m cores cores' x rows1' spare1 spare1' lanes1 lanes1') b
-    (subst (λ (x : List (Vec (PlainLane Parcel) Global)). IsColumnStepped number m cores cores' rows x spare1 spare1' lanes1 lanes1') b'
-    (subst (λ (x : List (PlainLane Parcel)). IsColumnStepped number m cores cores' rows rows' x spare1' lanes1 lanes1') c
-    (subst (λ (x : List (PlainLane Parcel)). IsColumnStepped number m cores cores' rows rows' spare x lanes1 lanes1') c'
-    (subst (λ (x : List (PlainLane Request)). IsColumnStepped number m cores cores' rows rows' spare spare' x lanes1') d
-    (subst (λ (x : List (PlainLane Request)). IsColumnStepped number m cores cores' rows rows' spare spare' lanes x) d' h)))))))
+pub client_at : (number : ℕ) (m : ClientMoved) (cores cores1 cores' cores1' : List ClientCore)
+    (ports ports1 ports' ports1' : List (Vec Port Global)) (lanes lanes1 lanes' lanes1' : List (PlainLane Request)) → cores ≡ cores1
+    → cores' ≡ cores1' → ports ≡ ports1 → ports' ≡ ports1' → lanes ≡ lanes1 → lanes' ≡ lanes1'
+    → IsClientStepped number m cores cores' ports ports' lanes lanes' → IsClientStepped number m cores1 cores1' ports1 ports1' lanes1 lanes1'
+client_at number m cores cores1 cores' cores1' ports ports1 ports' ports1' lanes lanes1 lanes' lanes1' a a' b b' c c' h =
+    subst (λ (x : List ClientCore). IsClientStepped number m x cores1' ports1 ports1' lanes1 lanes1') a
+    (subst (λ (x : List ClientCore). IsClientStepped number m cores x ports1 ports1' lanes1 lanes1') a'
+    (subst (λ (x : List (Vec Port Global)). IsClientStepped number m cores cores' x ports1' lanes1 lanes1') b
+    (subst (λ (x : List (Vec Port Global)). IsClientStepped number m cores cores' ports x lanes1 lanes1') b'
+    (subst (λ (x : List (PlainLane Request)). IsClientStepped number m cores cores' ports ports' x lanes1') c
+    (subst (λ (x : List (PlainLane Request)). IsClientStepped number m cores cores' ports ports' lanes x) c' h)))))
+
+-- what is carried, where anything is
+abbrev pub Carried : ℕ → ClientMoved → List (Vec Port Global) → List (Vec Port Global) → List (Vec (PlainLane Parcel) Global)
+    → List (Vec (PlainLane Parcel) Global) → Type 0
+Carried number m ports ports' rows rows' =
+    where_appended m (λ tile. IsCarried number tile ports ports' rows rows') ((ports' ≡ ports) × (rows' ≡ rows))
+
+pub carried_at : (number : ℕ) (m : ClientMoved) (ports ports1 ports' ports1' : List (Vec Port Global))
+    (rows rows1 rows' rows1' : List (Vec (PlainLane Parcel) Global)) → ports ≡ ports1 → ports' ≡ ports1' → rows ≡ rows1 → rows' ≡ rows1'
+    → Carried number m ports ports' rows rows' → Carried number m ports1 ports1' rows1 rows1'
+carried_at number m ports ports1 ports' ports1' rows rows1 rows' rows1' a a' b b' h =
+    subst (λ (x : List (Vec Port Global)). Carried number m x ports1' rows1 rows1') a
+    (subst (λ (x : List (Vec Port Global)). Carried number m ports x rows1 rows1') a'
+    (subst (λ (x : List (Vec (PlainLane Parcel) Global)). Carried number m ports ports' x rows1') b
+    (subst (λ (x : List (Vec (PlainLane Parcel) Global)). Carried number m ports ports' rows x) b' h)))
+
+pub ports_count : (number : ℕ) (m : ClientMoved) (ports ports' : List (Vec Port Global)) (rows rows' : List (Vec (PlainLane Parcel) Global))
+    → Carried number m ports ports' rows rows' → length ports' ≡ length ports
+ports_count number (client_moved.Appended tile) ports ports' rows rows' h = h.ports_changed.rows_changed.count
+ports_count number client_moved.Requested ports ports' rows rows' h = ap length h.0
+ports_count number (client_moved.BlockedTile tile) ports ports' rows rows' h = ap length h.0
+ports_count number client_moved.BlockedRequest ports ports' rows rows' h = ap length h.0
+ports_count number client_moved.Ended ports ports' rows rows' h = ap length h.0
+
+pub rows_count : (number : ℕ) (m : ClientMoved) (ports ports' : List (Vec Port Global)) (rows rows' : List (Vec (PlainLane Parcel) Global))
+    → Carried number m ports ports' rows rows' → length rows' ≡ length rows
+rows_count number (client_moved.Appended tile) ports ports' rows rows' h = h.rows_changed.rows_changed.count
+rows_count number client_moved.Requested ports ports' rows rows' h = ap length h.1
+rows_count number (client_moved.BlockedTile tile) ports ports' rows rows' h = ap length h.1
+rows_count number client_moved.BlockedRequest ports ports' rows rows' h = ap length h.1
+rows_count number client_moved.Ended ports ports' rows rows' h = ap length h.1
+
+pub fewer_at : (tile : ℕ) (answer : TileAnswer) (ports ports1 ports' ports1' : List (Vec Port Global)) → ports ≡ ports1 → ports' ≡ ports1'
+    → AreFewer tile answer ports ports' → AreFewer tile answer ports1 ports1'
+fewer_at tile answer ports ports1 ports' ports1' a a' h =
+    subst (λ (x : List (Vec Port Global)). AreFewer tile answer x ports1') a
+    (subst (λ (x : List (Vec Port Global)). AreFewer tile answer ports x) a' h)
+
+fewer_by : (o : Option ℕ) (tile : ℕ) (ports ports' : List (Vec Port Global)) → MatchOption o (ports' ≡ ports)
+    (λ client. (port : Port) × (port' : Port) × IsChangedIn client tile port port' ports ports' × IsFewer port port') → length ports' ≡ length ports
+fewer_by None tile ports ports' h = ap length h
+fewer_by (Some client) tile ports ports' h = h.2.rows_changed.count
+
+pub fewer_count : (tile : ℕ) (answer : TileAnswer) (ports ports' : List (Vec Port Global)) → AreFewer tile answer ports ports'
+    → length ports' ≡ length ports
+fewer_count tile answer ports ports' h = fewer_by (giver_of answer) tile ports ports' h

@@ -19,8 +19,8 @@ use Rattle.world_model.specs.World.{client_total}
 use Rattle.world_model.specs.World.{World as Model}
 use Rattle.step_core.specs.NewWorlds.{IsNew}
 use Rattle.step_core.specs.Runnable.{IsLaidOut, IsNewTileCore, new_client}
-use Rattle.step_core.specs.Worlds.{AreClientsOf, AreLanesOf, AreRowsOf, ArePartsOf, IsTileOf}
-use Rattle.step_core.specs.declared.world.World.{World}
+use Rattle.step_core.specs.Worlds.{AreClientsOf, AreLanesOf, ArePortsOf, AreRowsOf, ArePartsOf, IsTileOf}
+use Rattle.step_core.specs.declared.cluster.Cluster.{Cluster}
 use Rattle.step_core.proofs.Changes.{same_default}
 use Rattle.step_core.proofs.Lanes.{first_of_some}
 
@@ -56,7 +56,7 @@ tile_is scene l i core other same h = record {
   shown = refl;
 }
 
-pub first_view : (scene : Scene) (l : Layout) (depth : ℕ) (world : World) → IsLaidOut l
+pub first_view : (scene : Scene) (l : Layout) (depth : ℕ) (world : Cluster) → IsLaidOut l
     → AreClientsOf scene l (new_client scene l) world.clients.items
     → manager.clients_of world.manager ≡ client_total scene → manager.tiles_of world.manager ≡ tile_count l
     → ((syncs : SyncLists) → client_count syncs ≡ client_total scene → syncs.counts ≡ scene.decl.barriers → syncs.units ≡ scene.decl.semaphores
@@ -64,13 +64,13 @@ pub first_view : (scene : Scene) (l : Layout) (depth : ℕ) (world : World) → 
     → length world.tiles.items ≡ tile_count l
     → ((i : ℕ) (d : TileCore) → i < tile_count l → IsNewTileCore scene.decl (client_total scene) l i (slice_index_or world.tiles.items i d))
     → AreRowsOf depth (client_total scene) (tile_count l) (λ client tile. []) world.parcels.items
-    → length world.row.items ≡ tile_count l
+    → ArePortsOf depth (client_total scene) (tile_count l) (λ client tile. []) world.ports.items
     → AreLanesOf depth (client_total scene) (λ i. []) world.requests.items
     → AreLanesOf depth (tile_count l) (λ i. []) world.grants.items
     → length world.parts.items ≡ tile_count l
     → ((i : ℕ) (d : Vec TilePart Global) → i < tile_count l → (slice_index_or world.parts.items i d).items ≡ [])
     → IsNew scene l depth world
-first_view scene l depth world laid clients manager_clients manager_tiles progress count tiles rows row requests grants part_count parts =
+first_view scene l depth world laid clients manager_clients manager_tiles progress count tiles rows ports requests grants part_count parts =
     let d = first_of_some world.tiles.items 0 (let a = laid.some in omega arith) in
     let p = progress (sync_lists_of scene) (scene_clients scene) (scene_counts scene) (scene_units scene) in
     let w : Model = record {
@@ -101,7 +101,7 @@ first_view scene l depth world laid clients manager_clients manager_tiles progre
               (same_default world.tiles.items i d e (omega arith)) (tiles i e lt);
         };
         parcels = rows;
-        row = row;
+        ports = ports;
         requests = requests;
         grants = grants;
         parts = record { count = part_count; at = λ i e lt. no_parts l i (slice_index_or world.parts.items i e).items (parts i e lt) };

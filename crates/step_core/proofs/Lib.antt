@@ -6,17 +6,13 @@ pub mod ShownFrames
 pub mod Fits
 pub mod FirstViews
 pub mod ClientMoves
+mod Carrying
+mod ClientWorlds
+mod GivingWay
 pub mod ManagerMoves
 pub mod TileDeeds
 pub mod TileMoves
 pub mod Runs
 mod RoundsGoOn
 mod RoundsReach
-mod Paired
-mod KeptMore
-mod FramesTurned
-mod FewSwaps
-mod FewParcels
-mod ClientsBeyond
-mod TalliesSum
 mod Gathered

@@ -19,15 +19,13 @@ use Rattle.sync_manager.specs.declared.deed.ManagerDeed.{ManagerDeed}
 use Rattle.sync_manager.specs.declared.deed.ManagerDeed.TheVariants.{Delivers, FindsFull, Grants, Receives, Loses, FindsNoRequest, Drops, FindsNoneLeft, Finishes}
 use Rattle.sync_manager.specs.declared.manager.ManagerCore.{ManagerCore}
 use Rattle.world_model.specs.Moves.{IsManagerMove}
-use Rattle.world_model.specs.Moves.Move.{ManagerMove}
+use Rattle.world_model.specs.declared.moves.Move.TheVariants.{Manager as ManagerMove}
 use Rattle.world_model.specs.World.{client_total}
 use Rattle.world_model.specs.World.{World as Model}
-use Rattle.step_core.specs.Actors.{manager_said}
 use Rattle.step_core.specs.Worlds.{IsViewOf}
 use Rattle.step_core.specs.Steps.{IsStep}
-use Rattle.step_core.specs.declared.world.World.{World}
+use Rattle.step_core.specs.declared.cluster.Cluster.{Cluster}
 use Rattle.step_core.proofs.Lanes.{rest_of, not_itself, lanes_give, lanes_gave, lanes_empty, lanes_gain, lanes_full}
-use Rattle.step_core.proofs.Said.{manager_tells}
 use Rattle.step_core.proofs.Fits.{view_fits}
 
 off : {A : Type 0} (x : A) (b : Bool) → b ≡ false → cond b (Some x) None ≡ None
@@ -76,10 +74,10 @@ pub record IsCoreStep (core later : ManagerCore) (deed : ManagerDeed) (requests 
   pub sent : AreSent held deed grants grants'
   pub full : AreFoundFull (λ x. x.full_seen) (λ x. length (held x) ≡ depth_of x) deed grants grants'
 
-module _ (scene : Scene) (l : Layout) (depth : ℕ) (before : World) (w : Model) (deed : ManagerDeed) (core : ManagerCore)
+module _ (scene : Scene) (l : Layout) (depth : ℕ) (before : Cluster) (w : Model) (deed : ManagerDeed) (core : ManagerCore)
     (requests : Vec (PlainLane Request) Global) (grants : Vec (PlainLane Grant) Global) (v : IsViewOf scene l depth before w)
     (s : IsCoreStep before.manager core deed before.requests.items requests.items before.grants.items grants.items) where
-  abbrev after : World
+  abbrev after : Cluster
   after = record before { manager = core; requests = requests; grants = grants }
 
   view_after : IsViewOf scene l depth after (later_of scene w deed)
@@ -93,7 +91,7 @@ module _ (scene : Scene) (l : Layout) (depth : ℕ) (before : World) (w : Model)
     };
     tiles = v.tiles;
     parcels = v.parcels;
-    row = v.row;
+    ports = v.ports;
     requests = lanes_give depth (client_total scene) w.requests before.requests.items requests.items v.requests s.request_depths (taken_of deed)
         s.taken;
     grants = lanes_gain depth (tile_count l) w.grants before.grants.items grants.items v.grants s.grant_depths (sent_to deed) s.sent;
@@ -116,7 +114,7 @@ module _ (scene : Scene) (l : Layout) (depth : ℕ) (before : World) (w : Model)
     sent = λ tile lt. refl;
     full = λ tile lt found. lanes_full depth (tile_count l) w.grants before.grants.items grants.items v.grants s.grant_depths (sent_to deed) s.sent
         tile lt (none_sent deed tile found)
-        (λ d. (s.full.at tile d (let e = v.grants.count in omega arith) found).1);
+        (λ d. ((s.full.at tile d (let e = v.grants.count in omega arith)).0 found).1);
     only = record {
       clients = λ client low. refl;
       tiles = λ tile lt. refl;
@@ -124,12 +122,10 @@ module _ (scene : Scene) (l : Layout) (depth : ℕ) (before : World) (w : Model)
     };
   }
 
-  pub manager_steps : (m : ManagerMoved) → answer_of deed ≡ Ok m → IsStep scene l depth (client_total scene) w (manager_said m) after
+  pub manager_steps : (m : ManagerMoved) → answer_of deed ≡ Ok m → IsStep scene l depth (client_total scene) w (ManagerMove m) after
   manager_steps m answered = record {
-    move = ManagerMove m;
     later = later_of scene w deed;
     moved = record { step = manager_moves m answered; fit = view_fits scene l depth after (later_of scene w deed) view_after };
     actor = refl;
     view = view_after;
-    tells = manager_tells m;
   }

@@ -1,7 +1,6 @@
 -- What holds of each element, by its number, holds with one more.
-use Rattle.std.proofs.Common.{◌≡◌, ℕ, zero, suc, ◌+◌, ◌<◌, List, [], ◌∷◌, ◌++◌, length, inl, inr, sym, ap, ◌∙◌, subst, arith, length-append}
+use Rattle.std.proofs.Common.{◌≡◌, ℕ, ◌+◌, ◌<◌, List, [], ◌∷◌, ◌++◌, length, inl, inr, sym, ap, ◌∙◌, subst, arith, length-append}
 use Rattle.std.specs.Prelude.{slice_index_or}
-use Rattle.std.specs.List.{AllByRecursion}
 use Rattle.std.proofs.lemmas.Bool.{cases_lt}
 use Rattle.std.proofs.Math.ListN.{get_or-append}
 use Rattle.std.proofs.Math.Seq.{get_or-append_seam}
@@ -16,12 +15,6 @@ each_more P n xs ys x e count h here i d lt = subst (λ zs. P i (slice_index_or 
       let same : i ≡ n = omega arith in
       subst (λ y. P i y) (sym (ap (λ k. slice_index_or (xs ++ x ∷ []) k d) at ∙ get_or-append_seam xs x [] d)) (subst (λ k. P k x) (sym same) here)
 ])
-
--- what holds of all streams holds of each
-pub each_of : {A : Type 0} (P : A → Type 0) (xs : List A) (i : ℕ) (d : A) → i < length xs → AllByRecursion P xs → P (slice_index_or xs i d)
-each_of P [] i d lt h = absurd (omega arith)
-each_of P (x ∷ xs) zero d lt h = h.0
-each_of P (x ∷ xs) (suc i) d lt h = each_of P xs i d (omega arith) h.1
 
 pub count_more : {A : Type 0} (n : ℕ) (xs ys : List A) (x : A) → ys ≡ xs ++ x ∷ [] → length xs ≡ n → length ys ≡ n + 1
 count_more n xs ys x e count = ap length e ∙ length-append xs (x ∷ []) ∙ ap (λ k. k + 1) count

@@ -6,19 +6,22 @@ use Rattle.std.specs.List.{range_with_len, AllByRecursion}
 use Rattle.rc_base.specs.Cluster.Tiles.{tile_count}
 use Rattle.rc_base.specs.declared.scene.Scene.{Scene}
 use Rattle.rc_base.specs.declared.window.Layout.{Layout}
-use Rattle.world_model.specs.Moves.{Move, IsMove, AreMoves, IsAtRest, IsLast}
-use Rattle.world_model.specs.Moves.Move.{ClientMove, ManagerMove, TileMove}
+use Rattle.world_model.specs.declared.moves.Move.{Move}
+use Rattle.world_model.specs.Moves.{IsMove, AreMoves, IsAtRest, IsLast}
+use Rattle.world_model.specs.declared.moves.Move.TheVariants.{Client as ClientMove, Manager as ManagerMove, Tile as TileMove}
 use Rattle.world_model.specs.Runs.{actor_of}
 use Rattle.world_model.specs.World.{client_total}
 use Rattle.world_model.specs.World.{World as Model}
 use Rattle.step_core.specs.Rounds.{round_with, IsRound, IsRoundOf, IsRoundBelow, Rounds}
+use Rattle.step_core.specs.Actors.{said_of}
 use Rattle.step_core.specs.Steps.{IsSaid, Steps}
 use Rattle.step_core.specs.Worlds.{IsSeen}
 use Rattle.step_core.specs.declared.actor.Stepped.{Stepped}
 use Rattle.step_core.specs.declared.actor.Stepped.TheVariants as stepped
 use Rattle.step_core.specs.declared.round.Round.{Round}
 use Rattle.step_core.specs.declared.round.Round.TheVariants.{Moved, Still, Ended}
-use Rattle.step_core.specs.declared.world.World.{World}
+use Rattle.step_core.specs.declared.cluster.Cluster.{Cluster}
+use Rattle.step_core.proofs.Said.{tells}
 
 -- ---- lists
 
@@ -94,34 +97,34 @@ pub moves_with : (scene : Scene) (l : Layout) (depth : ℕ) (moves : List Move) 
 moves_with scene l depth [] move a b c h k = (c, subst (λ w. IsMove scene l depth w move c) h k, refl)
 moves_with scene l depth (m ∷ moves) move a b c h k = (h.0, h.1, moves_with scene l depth moves move h.0 b c h.2 k)
 
-pub round_begins : (before : World) → IsRoundBelow 0 before Ended before
+pub round_begins : (before : Cluster) → IsRoundBelow 0 before Ended before
 round_begins before = record { each = λ scene l depth w view. record { moves = []; later = w; actors = refl; moved = refl; view = view; tells = tt } }
 
-pub round_goes_on : (n : ℕ) (before now after : World) (round : Round) (said : Stepped) → IsRoundBelow n before round now → Steps n now said after
-    → IsRoundBelow (n + 1) before (round_with round said) after
-round_goes_on n before now after round said h step = record {
+pub round_goes_on : (n : ℕ) (before now after : Cluster) (round : Round) (move : Move) → IsRoundBelow n before round now → Steps n now move after
+    → IsRoundBelow (n + 1) before (round_with round (said_of move)) after
+round_goes_on n before now after round move h step = record {
   each = λ scene l depth w view.
       let a = h.each scene l depth w view in
       let s = step scene l depth a.later a.view in
       record {
-        moves = a.moves ++ s.move ∷ [];
+        moves = a.moves ++ move ∷ [];
         later = s.later;
-        actors = map-append (actor_of scene) a.moves (s.move ∷ []) ∙ ap (λ xs. xs ++ actor_of scene s.move ∷ []) a.actors
+        actors = map-append (actor_of scene) a.moves (move ∷ []) ∙ ap (λ xs. xs ++ actor_of scene move ∷ []) a.actors
             ∙ ap (λ k. range_with_len 0 n ++ k ∷ []) s.actor ∙ sym (range_more n);
-        moved = moves_with scene l depth a.moves s.move w a.later s.later a.moved s.moved;
+        moved = moves_with scene l depth a.moves move w a.later s.later a.moved s.moved;
         view = s.view;
-        tells = tells_more round said a.moves s.move a.tells s.tells;
+        tells = tells_more round (said_of move) a.moves move a.tells (tells move);
       };
 }
 
 -- ---- it goes on, and over all actors
 
-pub still_seen : (n : ℕ) (before now : World) (round : Round) → IsSeen before → IsRoundBelow n before round now → IsSeen now
+pub still_seen : (n : ℕ) (before now : Cluster) (round : Round) → IsSeen before → IsRoundBelow n before round now → IsSeen now
 still_seen n before now round seen h =
     let a = h.each seen.scene seen.l seen.depth seen.model seen.view in
-    record { scene = seen.scene; l = seen.l; depth = seen.depth; model = a.later; view = a.view }
+    record { scene = seen.scene; l = seen.l; depth = seen.depth; model = a.later; view = a.view; few = seen.few; few_tiles = seen.few_tiles }
 
-pub same_actors : (n : ℕ) (before now : World) (round : Round) → IsSeen before → IsRoundBelow n before round now
+pub same_actors : (n : ℕ) (before now : Cluster) (round : Round) → IsSeen before → IsRoundBelow n before round now
     → length now.clients.items + 1 + length now.tiles.items ≡ length before.clients.items + 1 + length before.tiles.items
 same_actors n before now round seen h =
     let a = h.each seen.scene seen.l seen.depth seen.model seen.view in
@@ -131,7 +134,7 @@ same_actors n before now round seen h =
     let u = seen.view.tiles.count in
     omega (arith, c, d, t, u)
 
-pub all_actors : (before after : World) (round : Round) (n : ℕ) → n ≡ length before.clients.items + 1 + length before.tiles.items
+pub all_actors : (before after : Cluster) (round : Round) (n : ℕ) → n ≡ length before.clients.items + 1 + length before.tiles.items
     → IsRoundBelow n before round after → Rounds before round after
 all_actors before after round n e h scene l depth w view =
     let whole : n ≡ client_total scene + 1 + tile_count l =

@@ -1,54 +1,125 @@
--- A stepped run and one more move is a stepped run of one more pick.
-use Rattle.std.proofs.Common.{◌≡◌, ℕ, List, [], ◌∷◌, ◌++◌, refl, sym, ap, ◌∙◌, subst}
-use Rattle.std.specs.Prelude.{map}
+-- A stepped run and one more move is a stepped run of one more pick; what a world is seen as where one leads.
+use Rattle.std.proofs.Common.{◌≡◌, ℕ, ◌<◌, List, [], ◌∷◌, ◌++◌, length, Some, refl, sym, ap, ◌∙◌, subst, arith}
+use Rattle.std.proofs.lemmas.List.{length-map}
+use Rattle.std.proofs.lemmas.Option.{slice_get-get_or, slice_get-map, slice_get_within}
+use Rattle.std.specs.Prelude.{map, option_map}
+use Rattle.rc_base.specs.Cluster.Tiles.{tile_count}
+use Rattle.rc_base.specs.Orders.Journal.{IsLegal}
+use Rattle.rc_base.specs.Orders.Sync.{sync_lists_of}
 use Rattle.rc_base.specs.declared.scene.Scene.{Scene}
 use Rattle.rc_base.specs.declared.window.Layout.{Layout}
-use Rattle.world_model.specs.Moves.{Move, AreMoves, IsMove}
+use Rattle.order_model.specs.Log.{Replays}
+use Rattle.order_model.specs.Sent.{jobs_of}
+use Rattle.order_model.specs.declared.record.LogEntry.{LogEntry}
+use Rattle.tile_server.specs.Cores.{log_of}
+use Rattle.tile_server.specs.declared.tile_core.TileCore.{TileCore}
+use Rattle.world_model.specs.Laws.{SoundWorldsHaveLegalLogs, SteppedRunsAreSound}
+use Rattle.world_model.specs.Moves.{AreMoves, IsMove}
 use Rattle.world_model.specs.Runs.{actor_of}
 use Rattle.world_model.specs.World.{World as Model}
+use Rattle.world_model.specs.declared.moves.Move.{Move}
 use Rattle.step_core.specs.NewWorlds.{IsNew}
-use Rattle.step_core.specs.Runs.{IsRunOf}
+use Rattle.step_core.specs.Runnable.{HasActors, IsDepth, IsLaidOut}
+use Rattle.order_model.specs.Scenes.{IsRunnable}
+use Rattle.step_core.specs.Runs.{IsRunOf, seen_as}
+use Rattle.step_core.specs.Schedules.{WorldView, IsRightFor, IsLegalIn}
 use Rattle.step_core.specs.Steps.{Steps}
 use Rattle.step_core.specs.Worlds.{IsSeen}
-use Rattle.step_core.specs.declared.actor.Stepped.{Stepped}
-use Rattle.step_core.specs.declared.world.World.{World}
+use Rattle.step_core.specs.declared.cluster.Cluster.{Cluster}
+use Rattle.step_core.proofs.Lanes.{first_of_some}
 
 module _ (scene : Scene) (l : Layout) (depth : ℕ) where
-  pub moves_more : (w v later : Model) (moves : List Move) (move : Move) → AreMoves scene l depth w moves v → IsMove scene l depth v move later
+  moves_more : (w v later : Model) (moves : List Move) (move : Move) → AreMoves scene l depth w moves v → IsMove scene l depth v move later
       → AreMoves scene l depth w (moves ++ move ∷ []) later
   moves_more w v later [] move h k = (later, subst (λ (x : Model). IsMove scene l depth x move later) h k, refl)
   moves_more w v later (m ∷ moves) move h k = (h.0, h.1, moves_more h.0 v later moves move h.2 k)
 
-  pub actors_more : (moves : List Move) (move : Move)
+  actors_more : (moves : List Move) (move : Move)
       → map (actor_of scene) (moves ++ move ∷ []) ≡ map (actor_of scene) moves ++ actor_of scene move ∷ []
   actors_more [] move = refl
   actors_more (m ∷ moves) move = ap (λ (xs : List ℕ). actor_of scene m ∷ xs) (actors_more moves move)
 
-  pub first_run : (world : World) → IsNew scene l depth world → IsRunOf scene l depth [] world
-  first_run world h = record {
-    moves = [];
+  pub first_run : (cluster : Cluster) → IsNew scene l depth cluster → IsRunOf scene l depth [] [] cluster
+  first_run cluster h = record {
     model = h.model;
     run = record { first = h.model; new = h.new; actors = refl; leads = refl };
     view = h.view;
   }
 
-  pub one_more : (picks more : List ℕ) (pick : ℕ) (before after : World) (said : Stepped) → more ≡ picks ++ pick ∷ []
-      → IsRunOf scene l depth picks before → Steps pick before said after
-      → IsRunOf scene l depth more after
-  one_more picks more pick before after said e h steps =
+  pub one_more : (picks more : List ℕ) (pick : ℕ) (before after : Cluster) (moves : List Move) (move : Move) → more ≡ picks ++ pick ∷ []
+      → IsRunOf scene l depth picks moves before → Steps pick before move after → IsRunOf scene l depth more (moves ++ move ∷ []) after
+  one_more picks more pick before after moves move e h steps =
       let s = steps scene l depth h.model h.view in
       record {
-        moves = h.moves ++ s.move ∷ [];
         model = s.later;
         run = record {
           first = h.run.first;
           new = h.run.new;
-          actors = actors_more h.moves s.move ∙ ap (λ (xs : List ℕ). xs ++ actor_of scene s.move ∷ []) h.run.actors
+          actors = actors_more moves move ∙ ap (λ (xs : List ℕ). xs ++ actor_of scene move ∷ []) h.run.actors
               ∙ ap (λ n. picks ++ n ∷ []) s.actor ∙ sym e;
-          leads = moves_more h.run.first h.model s.later h.moves s.move h.run.leads s.moved;
+          leads = moves_more h.run.first h.model s.later moves move h.run.leads s.moved;
         };
         view = s.view;
       }
 
-  pub is_seen : (picks : List ℕ) (world : World) → IsRunOf scene l depth picks world → IsSeen world
-  is_seen picks world h = record { scene = scene; l = l; depth = depth; model = h.model; view = h.view }
+  pub is_seen : (picks : List ℕ) (moves : List Move) (cluster : Cluster) → IsRunnable scene l depth → IsRunOf scene l depth picks moves cluster
+      → IsSeen cluster
+  is_seen picks moves cluster can h =
+      record { scene = scene; l = l; depth = depth; model = h.model; view = h.view; few = can.few; few_tiles = can.few_tiles }
+
+  pub its_own : (picks : List ℕ) (moves : List Move) (cluster : Cluster) → IsRunOf scene l depth picks moves cluster
+      → IsRunOf scene l depth (map (actor_of scene) moves) moves cluster
+  its_own picks moves cluster h = subst (λ ps. IsRunOf scene l depth ps moves cluster) (sym h.run.actors) h
+
+  pub right_for : (picks : List ℕ) (moves : List Move) (cluster : Cluster) → IsRunOf scene l depth picks moves cluster
+      → IsRightFor picks (seen_as scene l depth moves cluster)
+  right_for picks moves cluster h = record {
+    model = h.model;
+    run = h.run;
+    journal = h.view.manager.progress.book.journal;
+    count = length-map cluster.tiles.items log_of ∙ h.view.tiles.count;
+    logs = λ tile lt.
+        let n = h.view.tiles.count in
+        let within : tile < length cluster.tiles.items = omega (arith, n, lt) in
+        let d : TileCore = first_of_some cluster.tiles.items tile within in
+        let core = h.view.tiles.at tile d lt in
+        slice_get-map log_of cluster.tiles.items tile ∙ ap (option_map log_of) (slice_get-get_or cluster.tiles.items tile d within)
+        ∙ ap (λ log. Some log) (sym core.progress.ledger.log);
+  }
+
+-- ---- what can be run
+
+pub has_actors : {scene : Scene} {l : Layout} {depth : ℕ} → IsRunnable scene l depth → HasActors scene
+has_actors can = record {
+  some = can.some;
+  most = can.few;
+  barriers = can.barriers;
+  counts = can.counts;
+}
+
+pub is_laid_out : {scene : Scene} {l : Layout} {depth : ℕ} → IsRunnable scene l depth → IsLaidOut l
+is_laid_out can = record { some = can.some_tiles; most = can.few_tiles }
+
+pub is_depth : {scene : Scene} {l : Layout} {depth : ℕ} → IsRunnable scene l depth → IsDepth depth
+is_depth can = record { some = can.some_depth; most = can.little_depth }
+
+-- the journal is legal, and the logs replay
+pub legal_in : SteppedRunsAreSound → SoundWorldsHaveLegalLogs → (picks : List ℕ) (world : WorldView) → IsRunnable world.scene world.layout world.depth
+    → IsRightFor picks world → IsLegalIn world
+legal_in sound logs picks world can h =
+    let has = logs world.scene world.layout h.model
+    (sound world.scene world.layout world.depth picks world.moves h.model can.commands can.sides h.run) in
+    record {
+      legal = subst (IsLegal (sync_lists_of world.scene)) (sym h.journal) has.legal;
+      replays = λ tile log at.
+          let within = slice_get_within world.logs tile log at in
+          let n = h.count in
+          let lt : tile < tile_count world.layout = omega (arith, n, within) in
+          let same : log ≡ (h.model.tiles tile).progress.log = some_is (sym at ∙ h.logs tile lt) in
+          subst (λ js. Replays (sync_lists_of world.scene) js (λ client. jobs_of world.scene world.layout client tile) log) (sym h.journal)
+          (subst (λ log. Replays (sync_lists_of world.scene) h.model.manager.book.journal (λ client. jobs_of world.scene world.layout client tile) log) (sym same)
+          (has.replays tile lt));
+    }
+  where
+    some_is : {a b : List LogEntry} → Some a ≡ Some b → a ≡ b
+    some_is e = cc

@@ -4,17 +4,18 @@ use Rattle.rc_base.specs.declared.cluster.ClientMoved.{ClientMoved}
 use Rattle.rc_base.specs.declared.cluster.ClientMoved.TheVariants as client_moved
 use Rattle.rc_base.specs.declared.cluster.ManagerMoved.{ManagerMoved}
 use Rattle.rc_base.specs.declared.cluster.ManagerMoved.TheVariants as manager_moved
-use Rattle.world_model.specs.Moves.Move.{ClientMove, ManagerMove, TileMove}
-use Rattle.world_model.specs.Tiles.{TileAnswer}
-use Rattle.world_model.specs.Tiles.TileAnswer.{Performed, Swapped, Learnt, Took, Held, Closed, Dropped, Blocked}
-use Rattle.world_model.specs.Tiles.TileAnswer.{Ended as NothingLeft}
-use Rattle.world_model.specs.Moves.{Move, IsAtRest}
-use Rattle.step_core.specs.Actors.{client_said, manager_said, tile_said}
+use Rattle.world_model.specs.declared.moves.Move.TheVariants.{Client as ClientMove, Manager as ManagerMove, Tile as TileMove}
+use Rattle.world_model.specs.declared.moves.TileAnswer.{TileAnswer}
+use Rattle.world_model.specs.declared.moves.TileAnswer.TheVariants.{Performed, Swapped, Learnt, Took, Held, Closed, Dropped, Blocked}
+use Rattle.world_model.specs.declared.moves.TileAnswer.TheVariants.{Ended as NothingLeft}
+use Rattle.world_model.specs.declared.moves.Move.{Move}
+use Rattle.world_model.specs.Moves.{IsAtRest, IsLast}
+use Rattle.step_core.specs.Actors.{client_said, manager_said, tile_said, said_of}
 use Rattle.rc_base.specs.declared.scene.Scene.{Scene}
 use Rattle.rc_base.specs.declared.window.Layout.{Layout}
 use Rattle.world_model.specs.World.{World as Model}
-use Rattle.step_core.specs.Steps.{IsLast, IsSaid, IsStep}
-use Rattle.step_core.specs.declared.world.World.{World}
+use Rattle.step_core.specs.Steps.{IsSaid, IsStep}
+use Rattle.step_core.specs.declared.cluster.Cluster.{Cluster}
 use Rattle.step_core.specs.declared.actor.Stepped.{Stepped}
 use Rattle.step_core.specs.declared.actor.Stepped.TheVariants.{Moved, Waits, Ended}
 
@@ -27,7 +28,7 @@ waits move said e rest last = record { rest = (λ h f. cc, λ f. rest); last = (
 ends : (move : Move) (said : Stepped) → said ≡ Ended → IsAtRest move → IsLast move → IsSaid move said
 ends move said e rest last = record { rest = (λ h f. cc, λ f. rest); last = (λ h. e, λ f. last) }
 
-pub client_tells : (client : ℕ) (m : ClientMoved) → IsSaid (ClientMove client m) (client_said m)
+client_tells : (client : ℕ) (m : ClientMoved) → IsSaid (ClientMove client m) (client_said m)
 client_tells client (client_moved.Appended tile) = moves _ _ refl
     (λ h. elim h [ inl x ↦ (let y = x.1 in cc) | inr x ↦ elim x [ inl y ↦ cc | inr y ↦ cc ] ]) (λ h. cc)
 client_tells client client_moved.Requested = moves _ _ refl
@@ -36,7 +37,7 @@ client_tells client (client_moved.BlockedTile tile) = waits _ _ refl (inl (tile,
 client_tells client client_moved.BlockedRequest = waits _ _ refl (inr (inl refl)) (λ h. cc)
 client_tells client client_moved.Ended = ends _ _ refl (inr (inr refl)) refl
 
-pub manager_tells : (m : ManagerMoved) → IsSaid (ManagerMove m) (manager_said m)
+manager_tells : (m : ManagerMoved) → IsSaid (ManagerMove m) (manager_said m)
 manager_tells (manager_moved.Delivered tile) = moves _ _ refl
     (λ h. elim h [ inl x ↦ (let y = x.1 in cc) | inr x ↦ elim x [ inl y ↦ cc | inr y ↦ cc ] ]) (λ h. cc)
 manager_tells (manager_moved.BlockedGrant tile) = waits _ _ refl (inl (tile, refl)) (λ h. cc)
@@ -49,7 +50,7 @@ manager_tells (manager_moved.Drained client) = moves _ _ refl
     (λ h. elim h [ inl x ↦ (let y = x.1 in cc) | inr x ↦ elim x [ inl y ↦ cc | inr y ↦ cc ] ]) (λ h. cc)
 manager_tells manager_moved.Ended = ends _ _ refl (inr (inr refl)) refl
 
-pub tile_tells : (tile : ℕ) (a : TileAnswer) → IsSaid (TileMove tile a) (tile_said a)
+tile_tells : (tile : ℕ) (a : TileAnswer) → IsSaid (TileMove tile a) (tile_said a)
 tile_tells tile Performed = moves _ _ refl (λ h. elim h [ inl x ↦ cc | inr x ↦ cc ]) (λ h. cc)
 tile_tells tile Swapped = moves _ _ refl (λ h. elim h [ inl x ↦ cc | inr x ↦ cc ]) (λ h. cc)
 tile_tells tile Learnt = moves _ _ refl (λ h. elim h [ inl x ↦ cc | inr x ↦ cc ]) (λ h. cc)
@@ -60,9 +61,13 @@ tile_tells tile (Dropped client) = moves _ _ refl (λ h. elim h [ inl x ↦ cc |
 tile_tells tile Blocked = waits _ _ refl (inl refl) (λ h. cc)
 tile_tells tile NothingLeft = ends _ _ refl (inr refl) refl
 
--- a step of an actor of the same number that says the same
-pub told : (scene : Scene) (l : Layout) (depth : ℕ) (w : Model) (after : World) (said said' : Stepped) (number number' : ℕ) → number ≡ number'
-    → said' ≡ said → IsStep scene l depth number w said' after
-    → IsStep scene l depth number' w said after
-told scene l depth w after said said' number number' e f h = subst (λ n. IsStep scene l depth n w said after) e
-    (subst (λ s. IsStep scene l depth number w s after) f h)
+pub tells : (move : Move) → IsSaid move (said_of move)
+tells (ClientMove client answer) = client_tells client answer
+tells (ManagerMove answer) = manager_tells answer
+tells (TileMove tile answer) = tile_tells tile answer
+
+-- a step of an actor of the same number with the same move
+pub told : (scene : Scene) (l : Layout) (depth : ℕ) (w : Model) (after : Cluster) (move made : Move) (number number' : ℕ) → number ≡ number'
+    → made ≡ move → IsStep scene l depth number w made after → IsStep scene l depth number' w move after
+told scene l depth w after move made number number' e f h =
+    subst (λ n. IsStep scene l depth n w move after) e (subst (λ m. IsStep scene l depth number w m after) f h)

@@ -14,15 +14,15 @@ use Rattle.rc_base.specs.declared.sync.Entry.TheVariants.{Meet, Swap, Give, Take
 use Rattle.rc_base.specs.declared.sync.Grant.TheVariants as grant
 use Rattle.order_model.specs.Standing.{Progress, performed_in}
 use Rattle.tile_model.specs.Acts.{is_work}
-use Rattle.tile_model.specs.Items.{Item, after_act, after_item, shown_frames, IsAwaited}
+use Rattle.tile_model.specs.Items.{Item, after_act, after_item, shown_frames, IsAwaited, parcel_taken, grant_taken}
 use Rattle.tile_model.specs.Items.Item.{Nothing, Due, Granted, NoMore, Sent}
 use Rattle.step_core.proofs.ShownFrames.{after_swap, after_other, after_learnt, after_worked}
 use Rattle.tile_server.specs.Deeds.{item_of, answer_of, is_end, is_wait, taken_of, granted_of, next_after, IsNextDeed, IsFinished, IsFoundEmpty, IsUnheard}
 use Rattle.tile_server.specs.declared.deed.TileDeed.{TileDeed}
 use Rattle.tile_server.specs.declared.deed.TileDeed.TheVariants.{Performs, Shows, Fails, Learns, Works, Holds, Closes, Drops, Loses, Rests, Finishes}
 use Rattle.world_model.specs.Tiles as model
-use Rattle.world_model.specs.Tiles.{Tile, parcel_taken, grant_taken, without_pixels, answer_to_act, answer_to_entry, parts_after, HasEnded, IsTileAnswer, IsUndue, FindsNoGrant, FindsNoParcel}
-use Rattle.world_model.specs.Tiles.TileAnswer.{Performed as DonePerformed, Took as DoneTook, Held as DoneHeld, Closed as DoneClosed, Dropped as DoneDropped}
+use Rattle.world_model.specs.Tiles.{Tile, without_pixels, answer_to_act, answer_to_entry, parts_after, HasEnded, IsTileAnswer, IsUndue, FindsNoGrant, FindsNoParcel}
+use Rattle.world_model.specs.declared.moves.TileAnswer.TheVariants.{Performed as DonePerformed, Took as DoneTook, Held as DoneHeld, Closed as DoneClosed, Dropped as DoneDropped}
 use Rattle.step_core.specs.Changes.{with_shown}
 
 -- ---- its lanes

@@ -1,6 +1,6 @@
 -- A step of a tile's core over lanes that are seen as the model's is a move of the tile.
 use Rattle.std.proofs.Common.{◌≡◌, ℕ, ◌+◌, ◌<◌, ◌^◌, ◌==◌, Bool, false, cond, List, [], ◌∷◌, ◌++◌, length, Option, Some, None, Ok, inl, inr, refl, sym, ap, ◌∙◌, subst, arith, length-append}
-use Rattle.std.specs.Prelude.{MatchOption, slice_index_or, Vec}
+use Rattle.std.specs.Prelude.{IfSome, MatchOption, slice_index_or, Vec}
 use Rattle.std.specs.Global.{Global}
 use Rattle.std.proofs.lemmas.Bool.{cases_lt}
 use Rattle.std.proofs.Math.ListN.{get_or-append}
@@ -27,18 +27,19 @@ use Rattle.tile_server.specs.declared.deed.TileDeed.{TileDeed}
 use Rattle.tile_server.specs.declared.deed.TileDeed.TheVariants.{Performs, Shows, Fails, Learns, Works, Holds, Closes, Drops, Loses, Rests, Finishes}
 use Rattle.tile_server.specs.declared.tile_core.TileCore.{TileCore}
 use Rattle.world_model.specs.Moves.{IsTileMove}
-use Rattle.world_model.specs.Moves.Move.{TileMove}
+use Rattle.world_model.specs.declared.moves.Move.TheVariants.{Tile as TileMove}
 use Rattle.world_model.specs.Tiles.{Tile, next_after, parts_after, without_pixels, IsTileStep}
 use Rattle.world_model.specs.World.{client_total}
 use Rattle.world_model.specs.World.{World as Model}
-use Rattle.step_core.specs.Actors.{tile_said}
 use Rattle.step_core.specs.Changes.{IsTileStepped, ArePartsKept, with_shown}
 use Rattle.step_core.specs.Worlds.{IsViewOf, IsTileOf, IsPartOf, ArePartsOf, AreLanesOf, IsLaneOf}
 use Rattle.step_core.specs.Steps.{IsStep}
-use Rattle.step_core.specs.declared.world.World.{World}
+use Rattle.step_core.specs.declared.cluster.Cluster.{Cluster}
+use Rattle.step_core.specs.Ports.{giver_of, AreFewer, HasPlace}
+use Rattle.step_core.specs.declared.port.Port.{Port}
+use Rattle.step_core.proofs.GivingWay.{gives, low_giver, has_places, fewer_ports}
 use Rattle.step_core.proofs.Fits.{view_fits}
 use Rattle.step_core.proofs.Lanes.{at_one, with_here, with_other, rest_of, rest_was, at_item, none_taken, not_itself, lanes_give, lanes_gave, lanes_empty, lanes_as, lanes_one, lane_gives}
-use Rattle.step_core.proofs.Said.{tile_tells}
 use Rattle.step_core.proofs.TileDeeds.{same_taken, same_granted, same_next, awaits, is_undue, finds_no_parcel, finds_no_grant, none_granted, answers, shows_or_not, shown_after}
 
 -- ---- the parts that are shown
@@ -129,15 +130,12 @@ shown_at : (l l' : Layout) (tile tile' : ℕ) (p : Progress) (b b' : Board) (dee
 shown_at l l' tile tile' p b b' deed e f g x =
     subst (λ (y : Layout). IsShown y tile' p b' deed) e (subst (λ y. IsShown l y p b' deed) f (subst (λ (y : Board). IsShown l tile p y deed) g x))
 
-module _ (scene : Scene) (l : Layout) (depth tile : ℕ) (before : World) (w : Model) (m : TileMoved) (tiles : Vec TileCore Global)
+module _ (scene : Scene) (l : Layout) (depth tile : ℕ) (before : Cluster) (w : Model) (m : TileMoved) (tiles : Vec TileCore Global)
     (parcels : Vec (Vec (PlainLane Parcel) Global) Global)
     (grants : Vec (PlainLane Grant) Global) (parts : Vec (Vec TilePart Global) Global) (v : IsViewOf scene l depth before w)
     (low : tile < tile_count l)
     (s : IsTileStepped tile m before.tiles.items tiles.items before.parcels.items parcels.items before.grants.items grants.items)
     (kept : ArePartsKept tile m before.parts.items parts.items) where
-  abbrev after : World
-  after = record before { tiles = tiles; parcels = parcels; grants = grants; parts = parts }
-
   abbrev was : Tile
   was = w.tiles tile
 
@@ -186,110 +184,120 @@ module _ (scene : Scene) (l : Layout) (depth tile : ℕ) (before : World) (w : M
       (shown_at _ _ _ _ was.progress _ _ s.deed core_is.layout core_is.number_of core_is.board (s.step.step.shown was.progress core_is.progress))
       core_is.shown (kept.here d) (v.parts.at tile d low)
 
-  view_after : IsViewOf scene l depth after later
-  view_after = record {
-    clients = v.clients;
-    manager = v.manager;
-    tiles = record {
-      count = s.cores_changed.count ∙ v.tiles.count;
-      at = at_one (λ i. (d : TileCore) → i < tile_count l → IsTileOf scene l i (later.tiles i) (slice_index_or tiles.items i d)) tile
-          (λ d lt. subst (λ (x : Tile). IsTileOf scene l tile x (slice_index_or tiles.items tile d))
-          (sym (with_here w.tiles tile (tile_after was s.deed s.core')))
-          (subst (λ (x : TileCore). IsTileOf scene l tile (tile_after was s.deed s.core') x) (sym (s.cores_changed.is d)) core_after))
-          (λ i ne d lt. subst (λ (x : Tile). IsTileOf scene l i x (slice_index_or tiles.items i d))
-          (sym (with_other w.tiles tile (tile_after was s.deed s.core') i ne))
-          (subst (λ (x : TileCore). IsTileOf scene l i (w.tiles i) x) (sym (s.cores_changed.others i d ne)) (v.tiles.at i d lt)));
-    };
-    parcels = record {
-      count = s.rows_changed.count ∙ v.parcels.count;
-      at = at_one (λ i. (d : Vec (PlainLane Parcel) Global) → i < tile_count l
-          → AreLanesOf depth (client_total scene) (λ client. later.parcels client i) (slice_index_or parcels.items i d).items) tile
-          (λ d lt. subst (λ (x : Vec (PlainLane Parcel) Global). AreLanesOf depth (client_total scene) (λ client. later.parcels client tile)
-          x.items) (sym (s.rows_changed.is d))
-          (lanes_as depth (client_total scene) _ (λ client. later.parcels client tile) s.row'.items
-          (λ client low. with_here (w.parcels client) tile _) row_after))
-          (λ i ne d lt. subst (λ (x : Vec (PlainLane Parcel) Global). AreLanesOf depth (client_total scene) (λ client. later.parcels client i)
-          x.items) (sym (s.rows_changed.others i d ne))
-          (lanes_as depth (client_total scene) (λ client. w.parcels client i) (λ client. later.parcels client i)
-          (slice_index_or before.parcels.items i d).items
-          (λ client low. with_other (w.parcels client) tile _ i ne) (v.parcels.at i d lt)));
-    };
-    row = v.row;
-    requests = v.requests;
-    grants = lanes_one depth (tile_count l) tile w.grants (rest_of (granted_of s.deed) (w.grants tile)) s.lane s.lane' before.grants.items
-        grants.items v.grants s.lanes_changed
-        (lane_gives depth (granted_of s.deed) (w.grants tile) s.lane s.lane' lane_is s.step.lane_depth s.step.heard);
-    parts = record {
-      count = kept.count ∙ v.parts.count;
-      at = at_one (λ i. (d : Vec TilePart Global) → i < tile_count l
-          → ArePartsOf l i ((later.tiles i).parts) (slice_index_or parts.items i d).items) tile
-          (λ d lt. subst (λ (x : Tile). ArePartsOf l tile x.parts (slice_index_or parts.items tile d).items)
-          (sym (with_here w.tiles tile (tile_after was s.deed s.core'))) (parts_after_it d))
-          (λ i ne d lt. subst (λ (x : Tile). ArePartsOf l i x.parts (slice_index_or parts.items i d).items)
-          (sym (with_other w.tiles tile (tile_after was s.deed s.core') i ne))
-          (subst (λ (x : Vec TilePart Global). ArePartsOf l i (w.tiles i).parts x.items) (sym (kept.others i d ne)) (v.parts.at i d lt)));
-    };
-  }
+  -- the ports that the tile's answer may change are there
+  pub places : IfSome (giver_of (without_pixels m)) (λ client. HasPlace client tile before.ports.items)
+  places = has_places depth (client_total scene) (tile_count l) tile w.parcels before.ports.items low v.ports (giver_of (without_pixels m))
+      (subst (λ n. IfSome (giver_of (without_pixels m)) (λ client. client < n)) (core_is.progress.ledger.count ∙ core_is.clients)
+      (low_giver was.progress s.deed m s.answered (awaits was.progress s.deed next_is)))
 
-  tile_step : IsTileStep scene.decl l tile (item_of s.deed) was (tile_after was s.deed s.core')
-  tile_step = record {
-    awaited = awaits was.progress s.deed next_is;
-    undue = is_undue was.progress s.deed m s.answered next_is;
-    progress = refl;
-    next = refl;
-    board = drawn_at _ _ _ _ _ _ was.progress (item_of s.deed) _ _ (board_of s.core') core_is.decl core_is.layout core_is.number_of core_is.board
-        (s.step.step.drawn was.progress core_is.progress short_is);
-    parts = refl;
-  }
+  module _ (ports : Vec (Vec Port Global) Global) (fewer : AreFewer tile (without_pixels m) before.ports.items ports.items) where
+    abbrev after : Cluster
+    after = record before { tiles = tiles; parcels = parcels; grants = grants; parts = parts; ports = ports }
 
-  tile_moves : IsTileMove scene l depth w tile (without_pixels m) later
-  tile_moves = record {
-    low = low;
-    item = item_of s.deed;
-    answered = answers was.progress s.deed m s.answered next_is;
-    step = subst (λ (x : Tile). IsTileStep scene.decl l tile (item_of s.deed) was x) (sym (with_here w.tiles tile (tile_after was s.deed s.core')))
-        tile_step;
-    parcel = λ client low_client.
-        subst (λ (o : Option Parcel). MatchOption o (later.parcels client tile ≡ w.parcels client tile)
-        (λ p. w.parcels client tile ≡ p ∷ later.parcels client tile)) (same_taken s.deed client)
-        (subst (λ (x : List Parcel). MatchOption (taken_of s.deed client) (x ≡ w.parcels client tile) (λ p. w.parcels client tile ≡ p ∷ x))
-        (sym (with_here (w.parcels client) tile _))
-        (lanes_gave depth (client_total scene) (λ i. w.parcels i tile) s.row.items s.row'.items row_is s.step.row_depths (taken_of s.deed)
-        s.step.taken client low_client));
-    no_parcel = λ client low_client found.
-        let found_so = finds_no_parcel was (next_of s.core) s.deed m client core_is.next s.answered found in
-        lanes_empty depth (client_total scene) (λ i. w.parcels i tile) s.row.items s.row'.items row_is s.step.row_depths (taken_of s.deed)
-        s.step.taken client low_client
-        (none_there was.progress (next_of s.core) s.deed client found_so)
-        (λ d. ((s.step.empty was.progress core_is.progress).at client d (let e = row_is.count in omega arith)
-        (subst (λ b. IsFoundEmpty b was.progress (next_of s.core) s.deed client) (sym core_is.ample) found_so)).1);
-    grant = subst (λ (o : Option Grant). MatchOption o (later.grants tile ≡ w.grants tile) (λ g. w.grants tile ≡ g ∷ later.grants tile))
-        (same_granted s.deed)
-        (subst (λ (x : List Grant). MatchOption (granted_of s.deed) (x ≡ w.grants tile) (λ g. w.grants tile ≡ g ∷ x))
-        (sym (with_here w.grants tile _))
-        (rest_was (granted_of s.deed) (w.grants tile) (held s.lane')
-        (at_item (granted_of s.deed) (w.grants tile) (held s.lane) (held s.lane') lane_is.holds s.step.heard)));
-    no_grant = λ found.
-        let unheard = finds_no_grant was.progress s.deed m s.answered found in
-        let bare = (s.step.unheard was.progress core_is.progress (subst (λ b. IsUnheard b was.progress s.deed) (sym core_is.ample) unheard)).1 in
-        sym (none_taken (granted_of s.deed) (w.grants tile) (held s.lane') (none_granted was.progress s.deed unheard)
-        (at_item (granted_of s.deed) (w.grants tile) (held s.lane) (held s.lane') lane_is.holds s.step.heard)) ∙ bare;
-    only = record {
-      clients = λ client low. refl;
-      manager = refl;
-      tiles = λ i lt ne. with_other w.tiles tile _ i ne;
-      parcels = λ client i low lt ne. with_other (w.parcels client) tile _ i ne;
-      requests = λ client low. refl;
-      grants = λ i lt ne. with_other w.grants tile _ i ne;
-    };
-  }
+    view_after : IsViewOf scene l depth after later
+    view_after = record {
+      clients = v.clients;
+      manager = v.manager;
+      tiles = record {
+        count = s.cores_changed.count ∙ v.tiles.count;
+        at = at_one (λ i. (d : TileCore) → i < tile_count l → IsTileOf scene l i (later.tiles i) (slice_index_or tiles.items i d)) tile
+            (λ d lt. subst (λ (x : Tile). IsTileOf scene l tile x (slice_index_or tiles.items tile d))
+            (sym (with_here w.tiles tile (tile_after was s.deed s.core')))
+            (subst (λ (x : TileCore). IsTileOf scene l tile (tile_after was s.deed s.core') x) (sym (s.cores_changed.is d)) core_after))
+            (λ i ne d lt. subst (λ (x : Tile). IsTileOf scene l i x (slice_index_or tiles.items i d))
+            (sym (with_other w.tiles tile (tile_after was s.deed s.core') i ne))
+            (subst (λ (x : TileCore). IsTileOf scene l i (w.tiles i) x) (sym (s.cores_changed.others i d ne)) (v.tiles.at i d lt)));
+      };
+      parcels = record {
+        count = s.rows_changed.count ∙ v.parcels.count;
+        at = at_one (λ i. (d : Vec (PlainLane Parcel) Global) → i < tile_count l
+            → AreLanesOf depth (client_total scene) (λ client. later.parcels client i) (slice_index_or parcels.items i d).items) tile
+            (λ d lt. subst (λ (x : Vec (PlainLane Parcel) Global). AreLanesOf depth (client_total scene) (λ client. later.parcels client tile)
+            x.items) (sym (s.rows_changed.is d))
+            (lanes_as depth (client_total scene) _ (λ client. later.parcels client tile) s.row'.items
+            (λ client low. with_here (w.parcels client) tile _) row_after))
+            (λ i ne d lt. subst (λ (x : Vec (PlainLane Parcel) Global). AreLanesOf depth (client_total scene) (λ client. later.parcels client i)
+            x.items) (sym (s.rows_changed.others i d ne))
+            (lanes_as depth (client_total scene) (λ client. w.parcels client i) (λ client. later.parcels client i)
+            (slice_index_or before.parcels.items i d).items
+            (λ client low. with_other (w.parcels client) tile _ i ne) (v.parcels.at i d lt)));
+      };
+      ports = fewer_ports depth (client_total scene) (tile_count l) tile w.parcels before.ports.items low v.ports (taken_of s.deed)
+          (lanes_gave depth (client_total scene) (λ i. w.parcels i tile) s.row.items s.row'.items row_is s.step.row_depths (taken_of s.deed) s.step.taken)
+          (giver_of (without_pixels m)) ports.items (gives s.deed m s.answered) fewer;
+      requests = v.requests;
+      grants = lanes_one depth (tile_count l) tile w.grants (rest_of (granted_of s.deed) (w.grants tile)) s.lane s.lane' before.grants.items
+          grants.items v.grants s.lanes_changed
+          (lane_gives depth (granted_of s.deed) (w.grants tile) s.lane s.lane' lane_is s.step.lane_depth s.step.heard);
+      parts = record {
+        count = kept.count ∙ v.parts.count;
+        at = at_one (λ i. (d : Vec TilePart Global) → i < tile_count l
+            → ArePartsOf l i ((later.tiles i).parts) (slice_index_or parts.items i d).items) tile
+            (λ d lt. subst (λ (x : Tile). ArePartsOf l tile x.parts (slice_index_or parts.items tile d).items)
+            (sym (with_here w.tiles tile (tile_after was s.deed s.core'))) (parts_after_it d))
+            (λ i ne d lt. subst (λ (x : Tile). ArePartsOf l i x.parts (slice_index_or parts.items i d).items)
+            (sym (with_other w.tiles tile (tile_after was s.deed s.core') i ne))
+            (subst (λ (x : Vec TilePart Global). ArePartsOf l i (w.tiles i).parts x.items) (sym (kept.others i d ne)) (v.parts.at i d lt)));
+      };
+    }
 
-  pub tile_steps : IsStep scene l depth (client_total scene + 1 + tile) w (tile_said (without_pixels m)) after
-  tile_steps = record {
-    move = TileMove tile (without_pixels m);
-    later = later;
-    moved = record { step = tile_moves; fit = view_fits scene l depth after later view_after };
-    actor = refl;
-    view = view_after;
-    tells = tile_tells tile (without_pixels m);
-  }
+    tile_step : IsTileStep scene.decl l tile (item_of s.deed) was (tile_after was s.deed s.core')
+    tile_step = record {
+      awaited = awaits was.progress s.deed next_is;
+      undue = is_undue was.progress s.deed m s.answered next_is;
+      progress = refl;
+      next = refl;
+      board = drawn_at _ _ _ _ _ _ was.progress (item_of s.deed) _ _ (board_of s.core') core_is.decl core_is.layout core_is.number_of core_is.board
+          (s.step.step.drawn was.progress core_is.progress short_is);
+      parts = refl;
+    }
+
+    tile_moves : IsTileMove scene l depth w tile (without_pixels m) later
+    tile_moves = record {
+      low = low;
+      item = item_of s.deed;
+      answered = answers was.progress s.deed m s.answered next_is;
+      step = subst (λ (x : Tile). IsTileStep scene.decl l tile (item_of s.deed) was x) (sym (with_here w.tiles tile (tile_after was s.deed s.core')))
+          tile_step;
+      parcel = λ client low_client.
+          subst (λ (o : Option Parcel). MatchOption o (later.parcels client tile ≡ w.parcels client tile)
+          (λ p. w.parcels client tile ≡ p ∷ later.parcels client tile)) (same_taken s.deed client)
+          (subst (λ (x : List Parcel). MatchOption (taken_of s.deed client) (x ≡ w.parcels client tile) (λ p. w.parcels client tile ≡ p ∷ x))
+          (sym (with_here (w.parcels client) tile _))
+          (lanes_gave depth (client_total scene) (λ i. w.parcels i tile) s.row.items s.row'.items row_is s.step.row_depths (taken_of s.deed)
+          s.step.taken client low_client));
+      no_parcel = λ client low_client found.
+          let found_so = finds_no_parcel was (next_of s.core) s.deed m client core_is.next s.answered found in
+          lanes_empty depth (client_total scene) (λ i. w.parcels i tile) s.row.items s.row'.items row_is s.step.row_depths (taken_of s.deed)
+          s.step.taken client low_client
+          (none_there was.progress (next_of s.core) s.deed client found_so)
+          (λ d. ((s.step.empty was.progress core_is.progress).at client d (let e = row_is.count in omega arith)
+          (subst (λ b. IsFoundEmpty b was.progress (next_of s.core) s.deed client) (sym core_is.ample) found_so)).1);
+      grant = subst (λ (o : Option Grant). MatchOption o (later.grants tile ≡ w.grants tile) (λ g. w.grants tile ≡ g ∷ later.grants tile))
+          (same_granted s.deed)
+          (subst (λ (x : List Grant). MatchOption (granted_of s.deed) (x ≡ w.grants tile) (λ g. w.grants tile ≡ g ∷ x))
+          (sym (with_here w.grants tile _))
+          (rest_was (granted_of s.deed) (w.grants tile) (held s.lane')
+          (at_item (granted_of s.deed) (w.grants tile) (held s.lane) (held s.lane') lane_is.holds s.step.heard)));
+      no_grant = λ found.
+          let unheard = finds_no_grant was.progress s.deed m s.answered found in
+          let bare = (s.step.unheard was.progress core_is.progress (subst (λ b. IsUnheard b was.progress s.deed) (sym core_is.ample) unheard)).1 in
+          sym (none_taken (granted_of s.deed) (w.grants tile) (held s.lane') (none_granted was.progress s.deed unheard)
+          (at_item (granted_of s.deed) (w.grants tile) (held s.lane) (held s.lane') lane_is.holds s.step.heard)) ∙ bare;
+      only = record {
+        clients = λ client low. refl;
+        manager = refl;
+        tiles = λ i lt ne. with_other w.tiles tile _ i ne;
+        parcels = λ client i low lt ne. with_other (w.parcels client) tile _ i ne;
+        requests = λ client low. refl;
+        grants = λ i lt ne. with_other w.grants tile _ i ne;
+      };
+    }
+
+    pub tile_steps : IsStep scene l depth (client_total scene + 1 + tile) w (TileMove tile (without_pixels m)) after
+    tile_steps = record {
+      later = later;
+      moved = record { step = tile_moves; fit = view_fits scene l depth after later view_after };
+      actor = refl;
+      view = view_after;
+    }

@@ -3,9 +3,11 @@ use Rattle.rc_base.specs.declared.cluster.ClientMoved.{ClientMoved}
 use Rattle.rc_base.specs.declared.cluster.ClientMoved.TheVariants as client_moved
 use Rattle.rc_base.specs.declared.cluster.ManagerMoved.{ManagerMoved}
 use Rattle.rc_base.specs.declared.cluster.ManagerMoved.TheVariants as manager_moved
-use Rattle.world_model.specs.Tiles.{TileAnswer}
-use Rattle.world_model.specs.Tiles.TileAnswer.{Performed, Swapped, Learnt, Took, Held, Closed, Dropped, Blocked}
-use Rattle.world_model.specs.Tiles.TileAnswer.{Ended as NothingLeft}
+use Rattle.world_model.specs.declared.moves.TileAnswer.{TileAnswer}
+use Rattle.world_model.specs.declared.moves.TileAnswer.TheVariants.{Performed, Swapped, Learnt, Took, Held, Closed, Dropped, Blocked}
+use Rattle.world_model.specs.declared.moves.TileAnswer.TheVariants.{Ended as NothingLeft}
+use Rattle.world_model.specs.declared.moves.Move.{Move}
+use Rattle.world_model.specs.declared.moves.Move.TheVariants.{Client as ClientMove, Manager as ManagerMove, Tile as TileMove}
 use Rattle.step_core.specs.declared.actor.Stepped.{Stepped}
 use Rattle.step_core.specs.declared.actor.Stepped.TheVariants.{Moved, Waits, Ended}
 
@@ -35,3 +37,9 @@ tile_said (Closed client) = Moved
 tile_said (Dropped client) = Moved
 tile_said Blocked = Waits
 tile_said NothingLeft = Ended
+
+-- what a move's answer comes to
+abbrev pub said_of : Move → Stepped
+said_of (ClientMove client answer) = client_said answer
+said_of (ManagerMove answer) = manager_said answer
+said_of (TileMove tile answer) = tile_said answer

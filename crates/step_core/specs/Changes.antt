@@ -1,5 +1,5 @@
 -- What a step makes of one core and of its lanes, among the others.
-use Rattle.std.specs.Prelude.{◌≡◌, ◌≢◌, ℕ, ◌<◌, ◌++◌, ◌∷◌, [], false, List, length, slice_index_or, Ok, Vec}
+use Rattle.std.specs.Prelude.{◌≡◌, ◌≢◌, ℕ, ◌++◌, ◌∷◌, [], List, length, slice_index_or, Ok, Vec}
 use Rattle.std.specs.Global.{Global}
 use Rattle.rc_base.specs.Cluster.Lanes.{EachLane}
 use Rattle.rc_base.specs.Cluster.PlainLanes.{held, depth_of}
@@ -9,24 +9,19 @@ use Rattle.rc_base.specs.declared.cluster.TilePart.{TilePart}
 use Rattle.rc_base.specs.declared.plain_lane.PlainLane.{PlainLane}
 use Rattle.rc_base.specs.declared.state.Parcel.{Parcel}
 use Rattle.rc_base.specs.declared.sync.Grant.{Grant}
-use Rattle.rc_base.specs.Outside.Causes.{Rose}
 use Rattle.rc_base.specs.declared.cluster.ClientMoved.{ClientMoved}
 use Rattle.rc_base.specs.declared.sync.Request.{Request}
 use Rattle.client_issue.specs.Cores as client
-use Rattle.client_issue.specs.Moves.{OnAppended, OnRequested, OnBlockedTile, OnBlockedRequest, OnEnded, IsAppended, IsRequested, IsBlockedTile, IsBlockedRequest, HasEnded}
+use Rattle.client_issue.specs.Deeds.{ClientDeed}
+use Rattle.client_issue.specs.Deeds.{answer_of as client_answer}
+use Rattle.client_issue.specs.Steps.{AreSent, IsClientStep, IsRequested}
 use Rattle.client_issue.specs.declared.client.ClientCore.{ClientCore}
-use Rattle.step_core.specs.Columns.{element}
+use Rattle.step_core.specs.Ports.{waiting, IsFull, IsSamePort, IsChanged}
+use Rattle.step_core.specs.declared.port.Port.{Port}
 use Rattle.tile_server.specs.Cores.{is_short, IsTileStep, AreTaken, AreFoundEmpty, IsHeard, IsCountedUnheard}
 use Rattle.tile_server.specs.Deeds.{answer_of}
 use Rattle.tile_server.specs.declared.deed.TileDeed.{TileDeed}
 use Rattle.tile_server.specs.declared.tile_core.TileCore.{TileCore}
-
--- x stood at this number, and y stands there now; all else is as it was
-pub record IsChanged {A : Type 0} (n : ℕ) (x y : A) (xs ys : List A) : Type 0 where
-  pub count : length ys ≡ length xs
-  pub was : (d : A) → slice_index_or xs n d ≡ x
-  pub is : (d : A) → slice_index_or ys n d ≡ y
-  pub others : (i : ℕ) (d : A) → i ≢ n → slice_index_or ys i d ≡ slice_index_or xs i d
 
 -- the lane holds as much as before at most
 abbrev pub IsSameDepth : {T : Type 0} → PlainLane T → PlainLane T → Type 0
@@ -79,48 +74,27 @@ pub record ArePartsKept (tile : ℕ) (m : TileMoved) (lists lists' : List (Vec T
 
 -- ---- a client
 
--- a step of a client's core over plain lanes
-pub record IsClientCoreStep (m : ClientMoved) (core core' : ClientCore) (row row' : List (PlainLane Parcel)) (lane lane' : PlainLane Request) : Type
-    0 where
+-- a step of a client's core over its ports and a plain lane
+pub record IsClientCoreStep (deed : ClientDeed) (core core' : ClientCore) (row row' : List Port) (lane lane' : PlainLane Request) : Type 0 where
   pub ample : client.short_of core' ≡ client.short_of core
-  pub sound : client.IsClient core'
-  pub same : client.IsSameCore core core'
-  pub row_depths : EachLane (λ i x y. IsSameDepth x y) row row'
+  pub same_ports : EachLane (λ i x y. IsSamePort x y) row row'
   pub lane_depth : IsSameDepth lane lane'
-  pub appended : OnAppended m (λ t. client.short_of core ≡ false → IsAppended held row row' core core' t × (lane' ≡ lane))
-  pub requested : OnRequested m (client.short_of core ≡ false → IsRequested (held lane) (held lane') core core' × (row' ≡ row))
-  pub blocked_tile : OnBlockedTile m (λ t. client.short_of core ≡ false
-      → IsBlockedTile held (λ x y. Rose x.full_seen y.full_seen × (length (held y) ≡ depth_of y)) row row' core core' t × (lane' ≡ lane))
-  pub blocked_request : OnBlockedRequest m (client.short_of core ≡ false
-      → IsBlockedRequest core core' × (held lane' ≡ held lane) × Rose lane.full_seen lane'.full_seen × (length (held lane') ≡ depth_of lane')
-      × (row' ≡ row))
-  pub ended : OnEnded m (client.short_of core ≡ false → HasEnded core core' × (row' ≡ row) × (lane' ≡ lane))
+  pub step : IsClientStep core deed core'
+  pub sent : AreSent waiting (λ x. x.full_seen) IsFull deed row row'
+  pub requested : IsRequested held (λ x. x.full_seen) (λ x. length (held x) ≡ depth_of x) deed lane lane'
 
--- a client's core took a step over a row of lanes, among the others
-pub record IsClientStepped (number : ℕ) (m : ClientMoved) (cores cores' : List ClientCore) (row row' : List (PlainLane Parcel))
+-- a client's core took a step, among the others
+pub record IsClientStepped (number : ℕ) (m : ClientMoved) (cores cores' : List ClientCore) (ports ports' : List (Vec Port Global))
     (lanes lanes' : List (PlainLane Request)) : Type 0 where
+  pub deed : ClientDeed
+  pub answered : client_answer deed ≡ Ok m
   pub core : ClientCore
   pub core' : ClientCore
+  pub row : Vec Port Global
+  pub row' : Vec Port Global
   pub lane : PlainLane Request
   pub lane' : PlainLane Request
   pub cores_changed : IsChanged number core core' cores cores'
+  pub ports_changed : IsChanged number row row' ports ports'
   pub lanes_changed : IsChanged number lane lane' lanes lanes'
-  pub step : IsClientCoreStep m core core' row row' lane lane'
-
--- a client's core took a step over its column of lanes
-pub record IsColumnStepped (number : ℕ) (m : ClientMoved) (cores cores' : List ClientCore) (rows rows' : List (Vec (PlainLane Parcel) Global))
-    (spare spare' : List (PlainLane Parcel))
-    (lanes lanes' : List (PlainLane Request)) : Type 0 where
-  pub row : List (PlainLane Parcel)
-  pub row' : List (PlainLane Parcel)
-  pub step : IsClientStepped number m cores cores' row row' lanes lanes'
-  pub spares : length spare' ≡ length spare
-  pub row_count : length row ≡ length rows
-  pub count : length rows' ≡ length rows
-  pub columns : (t : ℕ) (r : Vec (PlainLane Parcel) Global) → t < length rows
-      → length (slice_index_or rows' t r).items ≡ length (slice_index_or rows t r).items
-  pub got : (t : ℕ) (r : Vec (PlainLane Parcel) Global) (d : PlainLane Parcel) → t < length rows → slice_index_or row t d ≡ element rows t number r d
-  pub put : (t : ℕ) (r : Vec (PlainLane Parcel) Global) (d : PlainLane Parcel) → t < length rows
-      → element rows' t number r d ≡ slice_index_or row' t d
-  pub others : (t other : ℕ) (r : Vec (PlainLane Parcel) Global) (d : PlainLane Parcel) → t < length rows → other ≢ number
-      → element rows' t other r d ≡ element rows t other r d
+  pub step : IsClientCoreStep deed core core' row.items row'.items lane lane'

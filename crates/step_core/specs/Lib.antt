@@ -1,14 +1,11 @@
-pub mod Columns
+pub mod Ports
 pub mod Actors
 pub mod Changes
 pub mod Worlds
 pub mod Runnable
 pub mod NewWorlds
 pub mod Steps
+pub mod Schedules
 pub mod Runs
 pub mod Rounds
-pub mod Gathering
-pub mod Kept
-pub mod Frames
-pub mod Collected
 pub mod CoreRuns

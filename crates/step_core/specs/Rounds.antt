@@ -1,21 +1,24 @@
 -- What a round of one step for each actor comes to, and how far rounds have led.
-use Rattle.std.specs.Prelude.{◌≡◌, ℕ, ◌+◌, ◌<◌, List, ◌++◌, map}
+use Rattle.std.specs.Prelude.{◌≡◌, ℕ, ◌+◌, ◌<◌, ◌^◌, List, ◌++◌, map}
 use Rattle.std.specs.List.{range_with_len, AllByRecursion}
 use Rattle.rc_base.specs.Cluster.Tiles.{tile_count}
 use Rattle.rc_base.specs.declared.scene.Decl.{Decl}
 use Rattle.rc_base.specs.declared.scene.Scene.{Scene}
 use Rattle.rc_base.specs.declared.window.Layout.{Layout}
-use Rattle.world_model.specs.Moves.{Move, AreMoves, IsAtRest, IsLast}
+use Rattle.world_model.specs.declared.moves.Move.{Move}
+use Rattle.world_model.specs.Moves.{AreMoves, IsAtRest, IsLast}
 use Rattle.world_model.specs.Runs.{AllHaveEnded, actor_of, rounds_of, IsSteppedRun}
 use Rattle.world_model.specs.World.{client_total}
 use Rattle.world_model.specs.World.{World as Model}
-use Rattle.step_core.specs.Runs.{IsRunnable, IsRunOf}
+use Rattle.world_model.specs.Work.{work_left}
+use Rattle.order_model.specs.Scenes.{IsRunnable}
+use Rattle.step_core.specs.Schedules.{WorldView, picks_of}
 use Rattle.step_core.specs.Worlds.{IsViewOf}
 use Rattle.step_core.specs.declared.actor.Stepped.{Stepped}
 use Rattle.step_core.specs.declared.actor.Stepped.TheVariants as stepped
 use Rattle.step_core.specs.declared.round.Round.{Round}
 use Rattle.step_core.specs.declared.round.Round.TheVariants.{Moved, Still, Ended}
-use Rattle.step_core.specs.declared.world.World.{World}
+use Rattle.step_core.specs.declared.cluster.Cluster.{Cluster}
 
 -- what steps come to with one step more
 abbrev pub round_with : Round → Stepped → Round
@@ -36,7 +39,7 @@ IsRound Still moves = AllByRecursion IsAtRest moves × (AllByRecursion IsLast mo
 IsRound Ended moves = AllByRecursion IsLast moves
 
 -- One move of each of the first n actors, rising, of the world that the cluster was seen as, to one that it is seen as.
-pub record IsRoundOf (scene : Scene) (l : Layout) (depth n : ℕ) (w : Model) (round : Round) (after : World) : Type 0 where
+pub record IsRoundOf (scene : Scene) (l : Layout) (depth n : ℕ) (w : Model) (round : Round) (after : Cluster) : Type 0 where
   pub moves : List Move
   pub later : Model
   pub actors : map (actor_of scene) moves ≡ range_with_len 0 n
@@ -45,17 +48,17 @@ pub record IsRoundOf (scene : Scene) (l : Layout) (depth n : ℕ) (w : Model) (r
   pub tells : IsRound round moves
 
 -- whatever world the cluster was seen as
-pub record IsRoundBelow (n : ℕ) (before : World) (round : Round) (after : World) : Type 0 where
+pub record IsRoundBelow (n : ℕ) (before : Cluster) (round : Round) (after : Cluster) : Type 0 where
   pub each : (scene : Scene) (l : Layout) (depth : ℕ) (w : Model) → IsViewOf scene l depth before w → IsRoundOf scene l depth n w round after
 
 -- a round of all actors
-abbrev pub Rounds : World → Round → World → Type 0
+abbrev pub Rounds : Cluster → Round → Cluster → Type 0
 Rounds before round after =
     (scene : Scene) (l : Layout) (depth : ℕ) (w : Model) → IsViewOf scene l depth before w
     → IsRoundOf scene l depth (client_total scene + 1 + tile_count l) w round after
 
 -- The cluster is seen as where the picks and so many rounds lead, and fewer rounds end it nowhere.
-pub record IsReached (scene : Scene) (l : Layout) (depth : ℕ) (picks : List ℕ) (rounds : ℕ) (world : World) : Type 0 where
+pub record IsReached (scene : Scene) (l : Layout) (depth : ℕ) (picks : List ℕ) (rounds : ℕ) (world : Cluster) : Type 0 where
   pub moves : List Move
   pub model : Model
   pub run : IsSteppedRun scene l depth (picks ++ rounds_of scene l rounds) moves model
@@ -63,25 +66,26 @@ pub record IsReached (scene : Scene) (l : Layout) (depth : ℕ) (picks : List �
   pub fewest : (n : ℕ) (some : List Move) (v : Model) → n < rounds → IsSteppedRun scene l depth (picks ++ rounds_of scene l n) some v
       → AllHaveEnded scene l v → ⊥
 
--- so many rounds lead from one cluster to another
-pub record LeadsTo (rounds : ℕ) (before after : World) : Type 0 where
-  pub each : (scene : Scene) (l : Layout) (depth : ℕ) (picks : List ℕ) → IsRunnable scene l depth → IsRunOf scene l depth picks before
-      → IsReached scene l depth picks rounds after
+-- So many rounds behind a world's moves lead to the cluster, and each of them left less to do.
+pub record IsOnTheWay (world : WorldView) (rounds : ℕ) (cluster : Cluster) : Type 0 where
+  pub runnable : IsRunnable world.scene world.layout world.depth
+  pub reached : IsReached world.scene world.layout world.depth (picks_of world) rounds cluster
+  pub less : rounds + work_left world.scene world.layout reached.model < 2 ^ 40
 
 -- The cluster is seen as where a run of a scene leads in which all have ended.
-pub record HasRun (scene : Scene) (l : Layout) (world : World) : Type 0 where
+pub record HasRun (scene : Scene) (l : Layout) (cluster : Cluster) : Type 0 where
   pub depth : ℕ
   pub runnable : IsRunnable scene l depth
   pub picks : List ℕ
   pub moves : List Move
   pub model : Model
   pub run : IsSteppedRun scene l depth picks moves model
-  pub view : IsViewOf scene l depth world model
+  pub view : IsViewOf scene l depth cluster model
   pub ended : AllHaveEnded scene l model
 
 -- it is seen so for some scene of this declaration
-pub record IsAtEnd (decl : Decl) (world : World) : Type 0 where
+pub record IsAtEnd (decl : Decl) (cluster : Cluster) : Type 0 where
   pub scene : Scene
   pub l : Layout
   pub decl_is : decl ≡ scene.decl
-  pub has_run : HasRun scene l world
+  pub has_run : HasRun scene l cluster

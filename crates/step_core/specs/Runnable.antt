@@ -1,8 +1,7 @@
 -- What a scene, a layout and a depth have to be for a cluster to be made.
-use Rattle.std.specs.Prelude.{◌≡◌, ℕ, ◌<◌, ◌≤◌, ◌^◌, false, length, Some}
+use Rattle.std.specs.Prelude.{◌≡◌, ℕ, ◌<◌, ◌≤◌, false, length, Some}
 use Rattle.rc_base.specs.Cluster.Sending.{sent_by}
 use Rattle.rc_base.specs.Cluster.Tiles.{tile_count}
-use Rattle.rc_base.specs.Contexts.Issue.{stream_of}
 use Rattle.rc_base.specs.Lists.{at_name}
 use Rattle.rc_base.specs.declared.scene.Decl.{Decl}
 use Rattle.rc_base.specs.declared.scene.Scene.{Scene}
@@ -10,7 +9,6 @@ use Rattle.rc_base.specs.declared.window.Layout.{Layout}
 use Rattle.order_model.specs.Standing.{new_progress}
 use Rattle.client_issue.specs.Cores.{no_tally}
 use Rattle.tile_model.specs.Boards.{IsNewBoard}
-use Rattle.tile_model.specs.Scenes.{IsInRange}
 use Rattle.tile_server.specs.Cores as tile
 use Rattle.tile_server.specs.declared.tile_core.TileCore.{TileCore}
 use Rattle.world_model.specs.World.{Client, client_total}
@@ -25,12 +23,10 @@ pub record IsDepth (depth : ℕ) : Type 0 where
   pub some : 1 ≤ depth
   pub most : depth ≤ 16
 
--- there are 1 to 8 clients, streams have fewer than 2^32 commands with fields in their ranges, and fewer than 256 barriers count one client or more each
+-- there are 1 to 8 clients, and fewer than 256 barriers count one client or more each
 pub record HasActors (scene : Scene) : Type 0 where
   pub some : 0 < client_total scene
   pub most : client_total scene ≤ 8
-  pub few : (client : ℕ) → length (stream_of scene client) < 2 ^ 32
-  pub fields : IsInRange scene
   pub barriers : length scene.decl.barriers < 256
   pub counts : (barrier count : ℕ) → at_name scene.decl.barriers barrier ≡ Some count → 0 < count
 

@@ -1,5 +1,5 @@
 -- How a cluster on one thread is seen as a world of the model: each core and each lane as what the model says of it.
-use Rattle.std.specs.Prelude.{◌≡◌, ℕ, ◌+◌, ◌<◌, ◌^◌, true, false, List, length, Some, slice_get, slice_index_or, pos, Vec}
+use Rattle.std.specs.Prelude.{◌≡◌, ℕ, ◌+◌, ◌<◌, ◌≤◌, ◌^◌, true, false, List, length, None, Some, slice_get, slice_index_or, pos, Vec}
 use Rattle.std.specs.Global.{Global}
 use Rattle.rc_base.specs.Cluster.PlainLanes.{held, depth_of}
 use Rattle.rc_base.specs.Cluster.Tiles.{tile_count, tile_pixels, tile_rectangle}
@@ -22,7 +22,8 @@ use Rattle.tile_server.specs.declared.tile_core.TileCore.{TileCore}
 use Rattle.world_model.specs.Tiles.{Tile}
 use Rattle.world_model.specs.World.{Client, client_total}
 use Rattle.world_model.specs.World.{World as Model}
-use Rattle.step_core.specs.declared.world.World.{World}
+use Rattle.step_core.specs.declared.cluster.Cluster.{Cluster}
+use Rattle.step_core.specs.declared.port.Port.{Port}
 
 -- ---- lanes
 
@@ -41,6 +42,24 @@ pub record AreRowsOf (depth clients tiles : ℕ) (items : ℕ → ℕ → List P
   pub count : length rows ≡ tiles
   pub at : (tile : ℕ) (d : Vec (PlainLane Parcel) Global) → tile < tiles
       → AreLanesOf depth clients (λ client. items client tile) (slice_index_or rows tile d).items
+
+-- ---- ports
+
+-- nothing waits in it; as many items stand at the tile, and at most so many may
+pub record IsEmptyPort (depth : ℕ) (items : List Parcel) (port : Port) : Type 0 where
+  pub empty : port.sent ≡ None
+  pub count : port.count ≡ length items
+  pub most : port.depth ≡ depth
+
+-- of one client, to each tile
+pub record IsPortRow (depth tiles : ℕ) (items : ℕ → List Parcel) (row : List Port) : Type 0 where
+  pub count : length row ≡ tiles
+  pub at : (tile : ℕ) (d : Port) → tile < tiles → IsEmptyPort depth (items tile) (slice_index_or row tile d)
+
+-- by clients and in them by tiles
+pub record ArePortsOf (depth clients tiles : ℕ) (items : ℕ → ℕ → List Parcel) (ports : List (Vec Port Global)) : Type 0 where
+  pub count : length ports ≡ clients
+  pub at : (client : ℕ) (d : Vec Port Global) → client < clients → IsPortRow depth tiles (items client) (slice_index_or ports client d).items
 
 -- ---- parts
 
@@ -62,7 +81,6 @@ pub record ArePartsOf (l : Layout) (this_tile : ℕ) (shown : List Pixels) (part
 
 module _ (scene : Scene) (l : Layout) where
   pub record IsClientOf (number : ℕ) (c : Client) (core : ClientCore) : Type 0 where
-    pub sound : client.IsClient core
     pub whose : client.IsClientOf core scene number l
     pub ample : client.short_of core ≡ false
     pub left : client.left_in core ≡ c.left
@@ -101,20 +119,22 @@ module _ (scene : Scene) (l : Layout) where
 -- ---- all of it
 
 -- The cluster is seen as the model's world: its lanes hold at most `depth` items.
-pub record IsViewOf (scene : Scene) (l : Layout) (depth : ℕ) (world : World) (w : Model) : Type 0 where
+pub record IsViewOf (scene : Scene) (l : Layout) (depth : ℕ) (world : Cluster) (w : Model) : Type 0 where
   pub clients : AreClientsOf scene l w.clients world.clients.items
   pub manager : IsManagerOf scene l w.manager world.manager
   pub tiles : AreTilesOf scene l w.tiles world.tiles.items
   pub parcels : AreRowsOf depth (client_total scene) (tile_count l) w.parcels world.parcels.items
-  pub row : length world.row.items ≡ tile_count l
+  pub ports : ArePortsOf depth (client_total scene) (tile_count l) w.parcels world.ports.items
   pub requests : AreLanesOf depth (client_total scene) w.requests world.requests.items
   pub grants : AreLanesOf depth (tile_count l) w.grants world.grants.items
   pub parts : AreShown scene l w.tiles world.parts.items
 
--- it is seen as some world of the model
-pub record IsSeen (world : World) : Type 0 where
+-- it is seen as some world of the model, of no more actors than a scene may have
+pub record IsSeen (world : Cluster) : Type 0 where
   pub scene : Scene
   pub l : Layout
   pub depth : ℕ
   pub model : Model
   pub view : IsViewOf scene l depth world model
+  pub few : client_total scene ≤ 8
+  pub few_tiles : tile_count l ≤ 32

@@ -1,8 +1,9 @@
-//! The actors of a cluster by their numbers, and what a step of one comes to.
+//! What an actor's move comes to.
 ghost use Rattle.std.specs.Prelude.{◌≡◌};
-ghost use Rattle.step_core.specs.Actors.{client_said, manager_said};
+ghost use Rattle.step_core.specs.Actors.{client_said, manager_said, tile_said, said_of};
 
 use rc_base::cluster::{ClientMoved, ManagerMoved};
+use world_model::{Move, TileAnswer};
 
 /// What a step of an actor came to.
 #[derive(Clone, Copy)]
@@ -15,27 +16,46 @@ pub(crate) enum Stepped {
     Ended,
 }
 
-/// What a client's answer comes to.
-pub(crate) fn client_stepped(moved: ClientMoved) -> Stepped
-    ensures { result ≡ client_said moved }
+fn client_stepped(answer: ClientMoved) -> Stepped
+    ensures { result ≡ client_said answer }
 {
-    match moved {
+    match answer {
         ClientMoved::Appended { .. } | ClientMoved::Requested => Stepped::Moved,
         ClientMoved::BlockedTile { .. } | ClientMoved::BlockedRequest => Stepped::Waits,
         ClientMoved::Ended => Stepped::Ended,
     }
 }
 
-/// What a manager's answer comes to.
-pub(crate) fn manager_stepped(moved: ManagerMoved) -> Stepped
-    ensures { result ≡ manager_said moved }
+fn manager_stepped(answer: ManagerMoved) -> Stepped
+    ensures { result ≡ manager_said answer }
 {
-    match moved {
+    match answer {
         ManagerMoved::Delivered { .. }
         | ManagerMoved::Granted
         | ManagerMoved::Arrived { .. }
         | ManagerMoved::Drained { .. } => Stepped::Moved,
         ManagerMoved::BlockedGrant { .. } | ManagerMoved::BlockedRequest => Stepped::Waits,
         ManagerMoved::Ended => Stepped::Ended,
+    }
+}
+
+fn tile_stepped(answer: TileAnswer) -> Stepped
+    ensures { result ≡ tile_said answer }
+{
+    match answer {
+        TileAnswer::Blocked => Stepped::Waits,
+        TileAnswer::Ended => Stepped::Ended,
+        _ => Stepped::Moved,
+    }
+}
+
+/// What a move comes to.
+pub(crate) fn outcome_of(made: Move) -> Stepped
+    ensures { result ≡ said_of made }
+{
+    match made {
+        Move::Client { answer, .. } => client_stepped(answer),
+        Move::Manager { answer } => manager_stepped(answer),
+        Move::Tile { answer, .. } => tile_stepped(answer),
     }
 }

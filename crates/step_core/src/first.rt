@@ -2,12 +2,14 @@
 ghost use Rattle.std.specs.Prelude.{◌≡◌, ℕ, ◌<◌, ◌≤◌, List, [], length, slice_index_or, IfOk, Vec};
 ghost use Rattle.std.specs.Global.{Global};
 ghost use Rattle.rc_base.specs.Cluster.Tiles.{tile_count};
+ghost use Rattle.rc_base.specs.Formats.Within.{IsWithin, IsLayoutFor};
 ghost use Rattle.rc_base.specs.declared.cluster.TilePart.{TilePart};
 ghost use Rattle.tile_server.specs.declared.tile_core.TileCore.{TileCore};
 ghost use Rattle.world_model.specs.World.{client_total};
-ghost use Rattle.step_core.specs.Runnable.{IsDepth, IsLaidOut, IsNewTileCore, HasActors, new_client};
-ghost use Rattle.step_core.specs.Worlds.{AreClientsOf, AreLanesOf, AreRowsOf};
+ghost use Rattle.step_core.specs.Runnable.{IsDepth, IsNewTileCore, new_client};
+ghost use Rattle.step_core.specs.Worlds.{AreClientsOf, AreLanesOf, ArePortsOf, AreRowsOf, IsPortRow};
 
+use crate::port::Port;
 use client_issue::ClientCore;
 use rc_base::cluster::TilePart;
 use rc_base::out_of_memory::OutOfMemory;
@@ -51,6 +53,33 @@ pub(crate) fn new_rows(
     Ok(rows)
 }
 
+/// So many empty ports.
+fn new_port_row(alloc: Global, tiles: usize, depth: usize) -> Result<Vec<Port>, OutOfMemory>
+    ensures { IfOk result (λ row. IsPortRow depth tiles (λ tile. []) row.items) }
+{
+    let mut row = Vec::new(alloc);
+    for _ in 0..tiles {
+        row.push(Port::new(depth))?;
+    }
+    Ok(row)
+}
+
+/// So many rows of empty ports.
+pub(crate) fn new_ports(
+    alloc: Global,
+    clients: usize,
+    tiles: usize,
+    depth: usize,
+) -> Result<Vec<Vec<Port>>, OutOfMemory>
+    ensures { IfOk result (λ ports. ArePortsOf depth clients tiles (λ client tile. []) ports.items) }
+{
+    let mut ports = Vec::new(alloc);
+    for _ in 0..clients {
+        ports.push(new_port_row(alloc, tiles, depth)?)?;
+    }
+    Ok(ports)
+}
+
 /// So many empty lists of parts.
 pub(crate) fn new_lists(alloc: Global, tiles: usize) -> Result<Vec<Vec<TilePart>>, OutOfMemory>
     ensures count { IfOk result (λ lists. length lists.items ≡ tiles) }
@@ -69,8 +98,9 @@ pub(crate) fn new_clients(
     scene: &Scene,
     layout: &Layout,
 ) -> Result<Vec<ClientCore>, OutOfMemory>
-    requires scene { HasActors scene.now }
-    requires layout { IsLaidOut layout.now }
+    requires within { IsWithin scene.now }
+    requires fits { (depth : ℕ) × IsLayoutFor scene.now layout.now depth }
+    requires few { client_total scene.now ≤ 8 }
     ensures { IfOk result (λ cores. AreClientsOf scene.now layout.now (new_client scene.now layout.now) cores.items) }
 {
     let mut cores = Vec::new(alloc);

@@ -4,12 +4,12 @@
 #![tactic(auto)]
 
 mod actor;
+mod carry;
 mod clients;
-mod exchange;
+mod cluster;
 mod first;
-mod frames;
 mod gather;
-mod kept;
+mod port;
 mod round;
 mod rounds;
 mod schedule;

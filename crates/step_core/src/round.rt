@@ -1,6 +1,6 @@
 //! One step of each actor.
-use crate::actor::Stepped;
-use crate::world::World;
+use crate::actor::{Stepped, outcome_of};
+use crate::cluster::Cluster;
 use rc_base::out_of_memory::OutOfMemory;
 
 /// What steps came to.
@@ -42,7 +42,7 @@ impl Round {
     }
 }
 
-impl World {
+impl Cluster {
     ghost use Rattle.std.specs.Prelude.{IfOk};
     ghost use Rattle.step_core.specs.Rounds.{Rounds};
     ghost use Rattle.step_core.specs.Worlds.{IsSeen};
@@ -54,7 +54,7 @@ impl World {
     {
         let mut round = Round::Ended;
         for number in 0..self.actors() {
-            round = round.with(self.step(number)?);
+            round = round.with(outcome_of(self.step(number)?));
         }
         Ok(round)
     }

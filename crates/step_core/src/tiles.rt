@@ -2,20 +2,19 @@
 ghost use Rattle.std.specs.Prelude.{◌≡◌, ◌<◌, length, slice_index_or, IfOk, Vec};
 ghost use Rattle.std.specs.Global.{Global};
 ghost use Rattle.world_model.specs.Tiles.{without_pixels};
-ghost use Rattle.step_core.specs.Actors.{tile_said};
 ghost use Rattle.step_core.specs.Changes.{IsTileStepped, ArePartsKept};
 ghost use Rattle.rc_base.specs.declared.plain_lane.PlainLane.{PlainLane};
 ghost use Rattle.rc_base.specs.declared.state.Parcel.{Parcel};
 ghost use Rattle.tile_server.specs.Cores.{clients_of};
 ghost use Rattle.tile_server.specs.declared.tile_core.TileCore.{TileCore};
 
-use crate::actor::Stepped;
 use rc_base::cluster::{TileMoved, TilePart};
 use rc_base::out_of_memory::OutOfMemory;
 use rc_base::plain_lane::PlainLane;
 use rc_base::state::Parcel;
 use rc_base::sync::Grant;
 use tile_server::TileCore;
+use world_model::TileAnswer;
 
 /// A step of the tile's core over the tile's own lanes: one for each client, and that of its grants.
 pub(crate) fn step_of_tile(
@@ -33,23 +32,28 @@ pub(crate) fn step_of_tile(
     cores[tile].step(&mut rows[tile], &mut lanes[tile])
 }
 
-/// What a tile's answer comes to. A part that it shows goes behind the tile's others.
+/// The answer without the pixels of a part that was shown: the part goes behind the tile's others.
 pub(crate) fn keep_shown(
     lists: &mut [Vec<TilePart>],
     tile: usize,
     moved: TileMoved,
-) -> Result<Stepped, OutOfMemory>
+) -> Result<TileAnswer, OutOfMemory>
     requires { tile < length lists.old }
-    ensures said { IfOk result (λ said. said ≡ tile_said (without_pixels moved)) }
-    ensures kept { IfOk result (λ said. ArePartsKept tile moved lists.old lists.new) }
+    ensures said { IfOk result (λ answer. answer ≡ without_pixels moved) }
+    ensures kept { IfOk result (λ answer. ArePartsKept tile moved lists.old lists.new) }
 {
     match moved {
+        TileMoved::Performed => Ok(TileAnswer::Performed),
         TileMoved::Swapped(part) => {
             lists[tile].push(part)?;
-            Ok(Stepped::Moved)
+            Ok(TileAnswer::Swapped)
         }
-        TileMoved::Blocked => Ok(Stepped::Waits),
-        TileMoved::Ended => Ok(Stepped::Ended),
-        _ => Ok(Stepped::Moved),
+        TileMoved::Learnt => Ok(TileAnswer::Learnt),
+        TileMoved::Took { client } => Ok(TileAnswer::Took { client }),
+        TileMoved::Held { client } => Ok(TileAnswer::Held { client }),
+        TileMoved::Closed { client } => Ok(TileAnswer::Closed { client }),
+        TileMoved::Dropped { client } => Ok(TileAnswer::Dropped { client }),
+        TileMoved::Blocked => Ok(TileAnswer::Blocked),
+        TileMoved::Ended => Ok(TileAnswer::Ended),
     }
 }

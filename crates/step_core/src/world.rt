@@ -1,70 +1,65 @@
-//! The actors and their lanes.
-use crate::first::{new_clients, new_lanes, new_lists, new_rows, new_tiles};
-use client_issue::ClientCore;
-use rc_base::cluster::TilePart;
+//! A cluster of a scene, and the moves that led to it.
+ghost use Rattle.std.specs.Prelude.{◌≡◌, IfOk, map};
+ghost use Rattle.world_model.specs.Runs.{actor_of};
+ghost use Rattle.order_model.specs.Scenes.{IsRunnable};
+ghost use Rattle.step_core.specs.Runs.{IsRunOf, seen_as};
+
+use crate::cluster::Cluster;
+use client_issue::copy_of_decl;
 use rc_base::out_of_memory::OutOfMemory;
-use rc_base::plain_lane::PlainLane;
-use rc_base::scene::Scene;
-use rc_base::state::Parcel;
-use rc_base::sync::{Grant, Request};
+use rc_base::scene::{Decl, Scene};
 use rc_base::window::Layout;
 use std::alloc::Global;
-use sync_manager::manager::ManagerCore;
-use tile_server::TileCore;
+use std::marker::Model;
+use std::snapshot::Snapshot;
+use world_model::Move;
 
-/// A cluster for one scene: its clients, its manager, a tile for each tile of the layout, the lanes between them, and the parts of frames that
-/// the tiles have shown.
+/// A cluster where a schedule has led it. It is seen as the scene, the layout and the depth that it was made for, one move for each pick, the journal
+/// and the tiles' logs.
 #[derive(Drop)]
 pub struct World {
-    pub(crate) clients: Vec<ClientCore>,
-    pub(crate) manager: ManagerCore,
-    pub(crate) tiles: Vec<TileCore>,
-    // of each tile one lane from each client
-    pub(crate) parcels: Vec<Vec<PlainLane<Parcel>>>,
-    // of each tile a place for one lane: those of a client stand here while it steps
-    pub(crate) row: Vec<PlainLane<Parcel>>,
-    pub(crate) requests: Vec<PlainLane<Request>>,
-    pub(crate) grants: Vec<PlainLane<Grant>>,
-    // of each tile
-    pub(crate) parts: Vec<Vec<TilePart>>,
+    // the cores have the streams' commands
+    scene: Snapshot<Scene>,
+    layout: Layout,
+    depth: usize,
+    moves: Vec<Move>,
+    pub(crate) decl: Decl,
+    pub(crate) cluster: Cluster,
+}
+
+impl Model for World {
+    ghost use Rattle.step_core.specs.Runs.{IsUnderWay, seen_as};
+    ghost use Rattle.step_core.specs.Schedules.{WorldView};
+
+    ghost Value = { WorldView };
+
+    ghost view = { λ w. seen_as w.scene.value w.layout w.depth w.moves.items w.cluster };
+
+    ghost invariant = { λ w. IsUnderWay w.scene.value w.layout w.depth w.decl w.moves.items w.cluster };
 }
 
 impl World {
-    ghost use Rattle.std.specs.Prelude.{IfOk};
-    ghost use Rattle.step_core.specs.NewWorlds.{IsNew};
-    ghost use Rattle.step_core.specs.Runnable.{IsDepth, IsLaidOut, HasActors};
-
-    /// The cluster before its first step.
-    pub(crate) fn new(
+    /// The world of a cluster to which these moves led.
+    pub(crate) fn of(
         alloc: Global,
         scene: &Scene,
         layout: &Layout,
         depth: usize,
+        moves: Vec<Move>,
+        cluster: Cluster,
     ) -> Result<World, OutOfMemory>
-        requires scene { HasActors scene.now }
-        requires layout { IsLaidOut layout.now }
-        requires depth { IsDepth depth }
-        ensures { IfOk result (λ world. IsNew scene.now layout.now depth world) }
+        requires runnable { IsRunnable scene.now layout.now depth }
+        requires run { IsRunOf scene.now layout.now depth (map (actor_of scene.now) moves.items) moves.items cluster }
+        ensures { IfOk result (λ world. world ≡ seen_as scene.now layout.now depth moves.items cluster) }
     {
-        let client_count = scene.streams.len();
-        let tile_count = layout.columns * layout.rows;
-        let clients = new_clients(alloc, scene, layout)?;
-        let manager = ManagerCore::new(alloc, &scene.decl, client_count as u8, tile_count)?;
-        let tiles = new_tiles(alloc, &scene.decl, client_count as u8, layout, tile_count)?;
-        let parcels = new_rows(alloc, client_count, usize::from(tile_count), depth)?;
-        let row = new_lanes(alloc, usize::from(tile_count), depth)?;
-        let requests = new_lanes(alloc, client_count, depth)?;
-        let grants = new_lanes(alloc, usize::from(tile_count), depth)?;
-        let parts = new_lists(alloc, usize::from(tile_count))?;
+        let decl = copy_of_decl(alloc, &scene.decl)?;
         Ok(World {
-            clients,
-            manager,
-            tiles,
-            parcels,
-            row,
-            requests,
-            grants,
-            parts,
+            scene: Snapshot::of(scene),
+            layout: *layout,
+            depth,
+            moves,
+            decl,
+            cluster,
         })
     }
 }

@@ -6,3 +6,5 @@ mod BookGrants
 mod ManagerSteps
 mod FoundLanes
 mod RightManagers
+pub mod FrontsArrive
+mod ManagersMeetTheirClause

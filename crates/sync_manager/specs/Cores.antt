@@ -72,6 +72,7 @@ module _ {O : Type 0} (sent : O → List Grant) where
   AreSent deed before after = EachLane (λ i a b. sent b ≡ sent a ++ sent_to deed i) before after
 
 module _ {O : Type 0} (full_seen : O → ℕ) (full : O → Type 0) where
-  -- the lane that the step found full counted that
+  -- the lane that the step found full counted that, once; every other count is as it was
   abbrev pub AreFoundFull : ManagerDeed → List O → List O → Type 0
-  AreFoundFull deed before after = EachLane (λ i a b. IsFoundFull deed i → Rose (full_seen a) (full_seen b) × full b) before after
+  AreFoundFull deed before after =
+      EachLane (λ i a b. (IsFoundFull deed i → Rose (full_seen a) (full_seen b) × full b) × ((IsFoundFull deed i → ⊥) → full_seen b ≡ full_seen a)) before after

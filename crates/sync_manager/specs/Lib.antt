@@ -4,3 +4,4 @@ pub mod Progress
 pub mod Cores
 pub mod Tasks
 pub mod Promises
+pub mod Clauses

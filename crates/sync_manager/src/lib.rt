@@ -10,3 +10,6 @@ pub mod laws;
 pub mod manager;
 mod search;
 mod unit;
+
+pub use book::Book;
+pub use manager::ManagerCore;

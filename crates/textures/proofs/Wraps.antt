@@ -4,7 +4,7 @@ use Rattle.std.proofs.lemmas.Int.{ints, int_rem_euclid_is}
 use Rattle.std.specs.Int.{int_rem_euclid}
 use Rattle.std.proofs.lemmas.Nat.{mod-mul-add}
 use lib.IntN.{*ℤ_comm}
-use Rattle.fixed_math.proofs.Signed.{sum_times, times_assoc, mul_mono}
+use Rattle.rc_base.proofs.Signed.{sum_times, times_assoc, mul_mono}
 use Rattle.rc_base.specs.Numbers.{floor_quotient}
 use Rattle.rc_base.specs.Numbers.{natural}
 use Rattle.textures.specs.Axis.{repeated}

@@ -36,7 +36,7 @@ impl PrivateSet {
     {
         let mut textures = Vec::with_capacity(alloc, 64)?;
         for _ in 0..64_usize {
-            textures.push(Texture::empty())?;
+            textures.push(Texture::empty(alloc))?;
         }
         Ok(PrivateSet { alloc, textures })
     }
@@ -72,8 +72,8 @@ impl PrivateSet {
         ensures err { OnErr result (self.new ≡ self.old) }
     {
         let index = usize::from(name) - 1;
-        let mut texture = Texture::empty();
-        texture.set_image(self.alloc, w, h, texels)?;
+        let mut texture = Texture::empty(self.alloc);
+        texture.set_image(w, h, texels)?;
         self.textures[index] = texture;
         Ok(())
     }
@@ -92,7 +92,7 @@ impl PrivateSet {
 
 // Writes a part of the image of the texture of a name.
 #[tactic(auto, using(crate::proofs::Names::at_name_below, crate::proofs::Names::with_name_below), unfolding(rc_base::specs::Pictures::with_part))]
-pub fn set_part_of(
+pub(crate) fn set_part_of(
     textures: &mut Vec<Texture>,
     name: u8,
     x: u16,

@@ -41,6 +41,7 @@ fn sampler_of(image: &Image, wrap_s: u8, wrap_t: u8) -> Option<Sampler<'_>>
 /// A texture: r, g, b, a of each texel, row by row, where it has an image. Row 0 is at t = 0.
 #[derive(Drop)]
 pub struct Texture {
+    alloc: Global,
     image: Option<Image>,
 }
 
@@ -59,11 +60,11 @@ impl Model for Texture {
 }
 
 impl Texture {
-    /// A texture without an image.
-    pub fn empty() -> Texture
+    /// A texture without an image. Its images take their memory from this allocator.
+    pub fn empty(alloc: Global) -> Texture
         ensures { result ≡ None }
     {
-        Texture { image: None }
+        Texture { alloc, image: None }
     }
 
     /// A texture with an image of these sides, width and height, whose bytes are all 0.
@@ -74,6 +75,7 @@ impl Texture {
         let mut bytes = Vec::new(alloc);
         bytes.resize(4 * (usize::from(w) * usize::from(h)), 0)?;
         Ok(Texture {
+            alloc,
             image: Some(Image {
                 w,
                 h,
@@ -83,18 +85,12 @@ impl Texture {
     }
 
     /// Gives the texture a copy of an image. Where there is no memory for it, the texture is unchanged.
-    pub fn set_image(
-        &mut self,
-        alloc: Global,
-        w: u16,
-        h: u16,
-        texels: &Texels,
-    ) -> Result<(), OutOfMemory>
+    pub fn set_image(&mut self, w: u16, h: u16, texels: &Texels) -> Result<(), OutOfMemory>
         requires whole { length texels.now ≡ 4 * (w * h) }
         ensures ok { OnOk result (self.new ≡ Some (picture w h texels.now)) }
         ensures err { OnErr result (self.new ≡ self.old) }
     {
-        let texels = Texels::from_slice(alloc, texels.as_slice())?;
+        let texels = Texels::from_slice(self.alloc, texels.as_slice())?;
         self.image = Some(Image { w, h, texels });
         Ok(())
     }

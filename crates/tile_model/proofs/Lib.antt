@@ -24,3 +24,6 @@ mod SwapsShowFrames
 mod LimitsGiveSides
 mod LogsReplayOverWhatWasTaken
 mod EntriesHaveClients
+pub mod ItemsComeFromLanes
+pub mod ShownFrames
+pub mod DeclaredOperations

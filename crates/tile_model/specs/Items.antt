@@ -1,5 +1,5 @@
 -- What a step of a tile does, and what it makes of the tile's progress.
-use Rattle.std.specs.Prelude.{Bool, ◌≡◌, ℕ, ◌+◌, ◌^◌, ◌<◌, ◌==◌, nat_lt, true, false, cond, List, [], ◌∷◌, ◌++◌, length, take, Some, slice_get}
+use Rattle.std.specs.Prelude.{Bool, ◌≡◌, ℕ, ◌+◌, ◌^◌, ◌<◌, ◌==◌, nat_lt, true, false, cond, List, [], ◌∷◌, ◌++◌, length, map, take, Option, Some, None, slice_get}
 use Rattle.rc_base.specs.Cluster.Parcels.{parcels_of}
 use Rattle.rc_base.specs.Orders.Journal.{is_member}
 use Rattle.rc_base.specs.declared.scene.Scene.{Scene}
@@ -8,6 +8,8 @@ use Rattle.rc_base.specs.declared.state.Act.TheVariants as act
 use Rattle.rc_base.specs.declared.state.Parcel.{Parcel}
 use Rattle.rc_base.specs.declared.sync.Entry.{Entry}
 use Rattle.rc_base.specs.declared.sync.Entry.TheVariants.{Meet, Swap, Give, Take}
+use Rattle.rc_base.specs.declared.sync.Grant.{Grant}
+use Rattle.rc_base.specs.declared.sync.Grant.TheVariants as grant_item
 use Rattle.rc_base.specs.declared.window.Layout.{Layout}
 use Rattle.order_model.specs.Report.{frame_count}
 use Rattle.order_model.specs.Standing.{Progress, performed_in, is_listening, is_asked}
@@ -95,6 +97,28 @@ has_clients n (Meet barrier members) = nat_lt members (2 ^ n)
 has_clients n Swap = true
 has_clients n (Give semaphore client) = nat_lt client n
 has_clients n (Take semaphore client) = nat_lt client n
+
+-- ---- its lanes
+
+-- what is taken of a client's lane
+abbrev pub parcel_taken : Item → ℕ → Option Parcel
+parcel_taken Nothing i = None
+parcel_taken (Due e) i = None
+parcel_taken (Granted e) i = None
+parcel_taken NoMore i = None
+parcel_taken (Sent client parcel) i = cond (i == client) (Some parcel) None
+
+-- and of the grant lane
+abbrev pub grant_taken : Item → Option Grant
+grant_taken Nothing = None
+grant_taken (Due e) = None
+grant_taken (Granted e) = Some (grant_item.Entry e)
+grant_taken NoMore = Some grant_item.NoMore
+grant_taken (Sent client parcel) = None
+
+-- all that was taken of the grant lane: the entries that were learnt, and then that no more comes
+abbrev pub grants_heard : Progress → List Grant
+grants_heard p = map (λ e. grant_item.Entry e) p.learnt ++ cond p.no_more (grant_item.NoMore ∷ []) []
 
 -- ---- frames
 

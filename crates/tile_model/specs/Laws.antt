@@ -22,6 +22,7 @@ use Rattle.order_model.specs.Log.{Job, Replays, logged, recorded_order}
 use Rattle.order_model.specs.declared.record.LogEntry.{LogEntry}
 use Rattle.order_model.specs.declared.record.LogEntry.TheVariants.{Performed}
 use Rattle.order_model.specs.Board.{Board, StandsFor}
+use Rattle.order_model.specs.Gathering.{AreDeclared}
 use Rattle.order_model.specs.Sent.{jobs_of}
 use Rattle.order_model.specs.Standing.{Progress, IsUnderWay, new_progress}
 use Rattle.tile_model.specs.Boards.{IsNewBoard, IsDrawn}
@@ -55,6 +56,10 @@ abbrev pub LegalEntriesHaveClients : Type 0
 LegalEntriesHaveClients =
     (syncs : SyncLists) (journal : List Entry) (k : ℕ) (e : Entry) → IsLegal syncs journal → slice_get journal k ≡ Some e
     → has_clients (client_count syncs) e ≡ true
+
+-- each accepted operation of a scene names what is declared
+abbrev pub OperationsAreDeclared : Type 0
+OperationsAreDeclared = (scene : Scene) → IsInRange scene → AreDeclared (sync_lists_of scene)
 
 -- ---- parcels
 

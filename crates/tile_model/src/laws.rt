@@ -1,6 +1,6 @@
 //! Laws of tiles. Each function's contract is a law, and its body is empty: there is nothing to compute.
 ghost use Rattle.tile_model.specs.Lazy.{LazyStateDrawsAlike};
-ghost use Rattle.tile_model.specs.Laws.{ItemsKeepProgress, LegalEntriesHaveClients, LimitsGiveSides, LogsReplayOverWhatWasTaken, MembersAreClients, NamesWithoutParcelsChangeNothing, NewTilesStand, ParcelsAreFew, ParcelsAreGivable, StepsStand, SwapsShowAddedNames, SwapsShowFrames};
+ghost use Rattle.tile_model.specs.Laws.{ItemsKeepProgress, LegalEntriesHaveClients, LimitsGiveSides, LogsReplayOverWhatWasTaken, MembersAreClients, NamesWithoutParcelsChangeNothing, NewTilesStand, OperationsAreDeclared, ParcelsAreFew, ParcelsAreGivable, StepsStand, SwapsShowAddedNames, SwapsShowFrames};
 
 use bounds_bucket::touched_pixels_lie_in_the_box;
 
@@ -58,4 +58,9 @@ pub fn swaps_show_frames()
 pub fn entries_have_clients()
     ensures members { MembersAreClients }
     ensures legal { LegalEntriesHaveClients }
+{}
+
+/// Each accepted operation of a scene whose commands are in their ranges names what is declared.
+pub fn operations_are_declared()
+    ensures { OperationsAreDeclared }
 {}

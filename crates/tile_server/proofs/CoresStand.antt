@@ -13,7 +13,7 @@ use Rattle.tile_server.specs.declared.deed.TileDeed.{TileDeed}
 use Rattle.tile_server.specs.declared.deed.TileDeed.TheVariants.{Performs, Shows, Fails, Learns, Works, Holds, Closes, Drops, Loses, Rests, Finishes}
 
 -- the item of a deed is awaited
-awaited : (p : Progress) (deed : TileDeed) → IsNextDeed false p deed → IsAwaited p (item_of deed)
+pub awaited : (p : Progress) (deed : TileDeed) → IsNextDeed false p deed → IsAwaited p (item_of deed)
 awaited p (Performs e) h = h.2
 awaited p (Shows part) h = h.1
 awaited p Fails h = tt
@@ -27,7 +27,7 @@ awaited p (Loses client parcel) h = (h.take.low, h.take.asked)
 awaited p Rests h = tt
 awaited p Finishes h = tt
 
-ample_before : (lost before : Bool) → cond lost true before ≡ false → before ≡ false
+pub ample_before : (lost before : Bool) → cond lost true before ≡ false → before ≡ false
 ample_before true before e = absurd (true≢false e)
 ample_before false before e = e
 
@@ -73,7 +73,7 @@ shown_are_frames show scene l tile journal core p part later more legal h step r
           ∙ ap (λ q. Some q) (show scene l tile journal p (board_of core) more legal h.stands next.1 replays x y in_tile);
     }
 
-over_performed : (m n : ℕ) (b : Bool) → (b && (m == n)) ≡ true → m ≡ n
+pub over_performed : (m n : ℕ) (b : Bool) → (b && (m == n)) ≡ true → m ≡ n
 over_performed m n true t = eqb-true m n t
 over_performed m n false t = absurd (true≢false (sym t))
 

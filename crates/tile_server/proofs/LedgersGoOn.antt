@@ -29,10 +29,10 @@ same_ledger short ledger later p s h = record {
   count = h.count ∙ sym s.clients;
   closed = λ client. h.closed client ∙ ap (λ xs. slice_index_or xs client false) (sym s.closed);
   no_more = h.no_more ∙ sym s.no_more;
+  log = h.log ∙ sym s.log;
   whole = λ ample. let w = h.whole ample in record {
     held = λ client. w.held client ∙ ap (λ xs. slice_index_or xs client false) (sym s.held);
     known = subst (λ k. IsKnownOf k p) (sym s.known) w.known;
-    log = w.log ∙ sym s.log;
   };
 }
 
@@ -49,10 +49,10 @@ module _ (ledger later : Ledger) where
       count = h.count ∙ sym clients;
       closed = λ client. h.closed client ∙ ap (λ xs. slice_index_or xs client false) (sym closed);
       no_more = h.no_more ∙ sym no_more;
+      log = ap (λ xs. xs ++ Performed ∷ []) h.log ∙ sym log;
       whole = λ ample. record {
         held = λ client. rw (h.count, w.held client) (sym (held client));
         known = subst (λ o. IsKnownOf o (after_performed p e)) (sym now) (performed_more p.log ∙ sym k.0);
-        log = ap (λ xs. xs ++ Performed ∷ []) w.log ∙ sym log;
       };
     };
   }
@@ -68,10 +68,10 @@ module _ (ledger later : Ledger) where
       count = h.count ∙ sym clients;
       closed = λ client. h.closed client ∙ ap (λ xs. slice_index_or xs client false) (sym closed);
       no_more = h.no_more ∙ sym no_more;
+      log = ap (λ xs. xs ++ Took client place ∷ []) h.log ∙ sym log;
       whole = λ ample. record {
         held = λ client. w.held client ∙ ap (λ xs. slice_index_or xs client false) (sym held);
         known = subst (λ o. IsKnownOf o (after_work p client place)) (sym known) (same_known ledger.known p client place w.known);
-        log = ap (λ xs. xs ++ Took client place ∷ []) w.log ∙ sym log;
       };
     };
   }

@@ -7,3 +7,5 @@ mod FramesGoOn
 mod TileSteps
 mod FoundLanes
 mod CoresStand
+mod TilesMeetTheirClause
+mod Asked

@@ -45,11 +45,11 @@ fit_first d k state images = record {
   binding = ap (λ (s : State). is_binding d (slice_index s.binding 0) (slice_index s.binding 1)) state;
 }
 
-pub fit_new : (d e : Decl) (count : ℕ) (kept : List KeptClient) → e ≡ d → AreNew d count kept → AreFit e kept
+pub fit_new : (d e : Decl) (count : ℕ) (kept : List KeptClient) → e ≡ d → AreNew (default_state d) count kept → AreFit e kept
 fit_new d e count kept same new =
     subst (λ (f : Decl). AreFit f kept) (sym same) (record { each = λ client k at. fit_first d k (new.state client k at) (new.images client k at) })
 
-module _ (d : Decl) (count : ℕ) (kept : List KeptClient) (new : AreNew d count kept) where
+module _ (d : Decl) (count : ℕ) (kept : List KeptClient) (new : AreNew (default_state d) count kept) where
   abbrev first : Kept
   first = record { state = default_state d; image = λ name. None }
 
@@ -73,7 +73,7 @@ no_texels d name beyond =
     ap (λ (o : Option (List ℕ)). replicate (4 * (slice_index (unwrap_or o []) 0 * slice_index (unwrap_or o []) 1)) 0) (past_name d.shared name beyond)
 
 pub new_board : BlankTexturesHaveZeros → (d e : Decl) (l : Layout) (tile count : ℕ) (kept : List KeptClient) (set : List (Option Picture)) (device : DeviceView)
-    → e ≡ d → AreNew d count kept → set ≡ map blank_texture d.shared → ((x y : ℕ) → tile_pixels l tile x y ≡ true → pixel_of device (pos x) (pos y) ≡ blank_pixel)
+    → e ≡ d → AreNew (default_state d) count kept → set ≡ map blank_texture d.shared → ((x y : ℕ) → tile_pixels l tile x y ≡ true → pixel_of device (pos x) (pos y) ≡ blank_pixel)
     → IsNewBoard d l tile (board_with e kept set device)
 new_board zeros d e l tile count kept set device same new blank pixels =
     subst (λ (f : Decl). IsNewBoard d l tile (board_with f kept set device)) (sym same) (record {
@@ -93,12 +93,12 @@ last_or_before [] (suc i) x y at = inr at
 last_or_before (z ∷ zs) zero x y at = inr at
 last_or_before (z ∷ zs) (suc i) x y at = last_or_before zs i x y at
 
-pub one_more : (d : Decl) (n : ℕ) (kept kept' : List KeptClient) (k : KeptClient) → AreNew d n kept → kept' ≡ kept ++ k ∷ [] → k.state ≡ default_state d
-    → k.images ≡ replicate private_count None → AreNew d (n + 1) kept'
-one_more d n kept kept' k new is state images = subst (AreNew d (n + 1)) (sym is) (record {
+pub one_more : (s : State) (n : ℕ) (kept kept' : List KeptClient) (k : KeptClient) → AreNew s n kept → kept' ≡ kept ++ k ∷ [] → k.state ≡ s
+    → k.images ≡ replicate private_count None → AreNew s (n + 1) kept'
+one_more s n kept kept' k new is state images = subst (AreNew s (n + 1)) (sym is) (record {
   clients = omega (arith, length-append kept (k ∷ []), new.clients);
   state = λ client x at. elim (last_or_before kept client k x at) [
-    | inl same ↦ subst (λ (y : KeptClient). y.state ≡ default_state d) same state
+    | inl same ↦ subst (λ (y : KeptClient). y.state ≡ s) same state
     | inr before ↦ new.state client x before
   ];
   images = λ client x at. elim (last_or_before kept client k x at) [

@@ -190,11 +190,12 @@ parcel_ledger short ledger p client h = record {
   count = h.count;
   closed = h.closed;
   no_more = h.no_more;
-  whole = λ ample. let w = h.whole ample in record { held = w.held; known = parcel_known ledger.known p client w.known; log = w.log };
+  log = h.log;
+  whole = λ ample. let w = h.whole ample in record { held = w.held; known = parcel_known ledger.known p client w.known };
 }
 
 short_ledger : (short : Bool) (ledger : Ledger) (p : Progress) → IsLedgerOf short ledger p → IsLedgerOf true ledger p
-short_ledger short ledger p h = record { count = h.count; closed = h.closed; no_more = h.no_more; whole = λ e. absurd (true≢false e) }
+short_ledger short ledger p h = record { count = h.count; closed = h.closed; no_more = h.no_more; log = h.log; whole = λ e. absurd (true≢false e) }
 
 -- ---- afterwards
 

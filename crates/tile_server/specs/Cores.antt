@@ -13,6 +13,7 @@ use Rattle.tile_model.specs.Items.{shown_frames}
 use Rattle.tile_server.specs.Boards.{board_in, IsPartOf}
 use Rattle.tile_server.specs.Deeds.{item_of, is_loss, next_after, progress_after, IsNextDeed, IsFoundEmpty, IsUnheard, granted_of, taken_of}
 use Rattle.tile_server.specs.Ledgers.{IsLedgerOf}
+use Rattle.order_model.specs.declared.record.LogEntry.{LogEntry}
 use Rattle.tile_server.specs.declared.deed.TileDeed.{TileDeed}
 use Rattle.tile_server.specs.declared.deed.TileDeed.TheVariants.{Shows}
 use Rattle.tile_server.specs.declared.tile_core.TileCore.{TileCore}
@@ -39,6 +40,10 @@ board_of core = board_in core.canvas
 -- the client with which its rotation goes on
 abbrev pub next_of : TileCore → ℕ
 next_of core = core.next
+
+-- its log
+abbrev pub log_of : TileCore → List LogEntry
+log_of core = core.ledger.log.items
 
 -- memory has lacked
 abbrev pub is_short : TileCore → Bool

@@ -22,17 +22,17 @@ closed_in ledger client = slice_index_or ledger.closed client false
 abbrev pub is_over_in : Ledger → Bool
 is_over_in ledger = cond ledger.no_more (is_none ledger.known) false
 
--- what a tile that isn't short knows: whom it holds, what is to be performed, and its log
+-- what a tile that isn't short knows: whom it holds, and what is to be performed
 pub record IsWholeLedger (ledger : Ledger) (p : Progress) : Type 0 where
   pub held : (client : ℕ) → p.held client ≡ held_in ledger client
   pub known : IsKnownOf ledger.known p
-  pub log : p.log ≡ ledger.log.items
 
--- The ledger stands for how far a tile is: of a tile that is short it tells only who is closed, and whether no more is granted.
+-- The ledger stands for how far a tile is: of a tile that is short it tells only its log, who is closed, and whether no more is granted.
 pub record IsLedgerOf (short : Bool) (ledger : Ledger) (p : Progress) : Type 0 where
   pub count : p.count ≡ ledger.clients
   pub closed : (client : ℕ) → p.closed client ≡ closed_in ledger client
   pub no_more : p.no_more ≡ ledger.no_more
+  pub log : p.log ≡ ledger.log.items
   pub whole : short ≡ false → IsWholeLedger ledger p
 
 -- ---- what is made of it

@@ -6,3 +6,4 @@ pub mod Ledgers
 pub mod Cores
 pub mod Tasks
 pub mod Laws
+pub mod Clauses

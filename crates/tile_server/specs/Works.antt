@@ -2,12 +2,12 @@
 use Rattle.std.specs.Prelude.{◌≡◌, ℕ, ◌*◌, ◌<◌, ◌≤◌, ◌≤ℤ◌, List, length, Option, None, pos, replicate, slice_get, Some}
 use Rattle.rc_base.specs.Pictures.{Picture}
 use Rattle.rc_base.specs.Cluster.Tiles.{is_in_rect, tile_pixels, tile_rectangle}
-use Rattle.rc_base.specs.Contexts.Context.{default_state, private_count}
+use Rattle.rc_base.specs.Contexts.Context.{private_count}
 use Rattle.rc_base.specs.Drawing.Texel.{SharedTexels}
 use Rattle.rc_base.specs.declared.command.Part.{Part}
-use Rattle.rc_base.specs.declared.scene.Decl.{Decl}
 use Rattle.rc_base.specs.declared.state.Act.{Act}
 use Rattle.rc_base.specs.declared.state.Act.TheVariants as act
+use Rattle.rc_base.specs.declared.state.State.{State}
 use Rattle.rc_base.specs.declared.window.Layout.{Layout}
 use Rattle.rc_base.specs.declared.window.Rect.{Rect}
 use Rattle.draw_device.specs.Conditions.{shared_of}
@@ -32,10 +32,10 @@ pub record LiesInWindow (width height : ℕ) (r : Rect) : Type 0 where
 abbrev pub texels_in : List (Option Picture) → SharedTexels
 texels_in set name = (shared_of set name).texels
 
--- what is kept of clients that sent nothing: the defaults, and no images
-pub record AreNew (d : Decl) (count : ℕ) (kept : List KeptClient) : Type 0 where
+-- what is kept of clients that sent nothing: their first state, and no images
+pub record AreNew (first : State) (count : ℕ) (kept : List KeptClient) : Type 0 where
   pub clients : length kept ≡ count
-  pub state : (client : ℕ) (k : KeptClient) → slice_get kept client ≡ Some k → k.state ≡ default_state d
+  pub state : (client : ℕ) (k : KeptClient) → slice_get kept client ≡ Some k → k.state ≡ first
   pub images : (client : ℕ) (k : KeptClient) → slice_get kept client ≡ Some k → k.images ≡ replicate private_count None
 
 -- ---- work

@@ -31,24 +31,23 @@ pub(crate) fn decl_copy(alloc: Global, decl: &Decl) -> Result<Decl, OutOfMemory>
     })
 }
 
-// The scalar elements before the first command, which are those of a new context.
+/// The scalar elements before the first command, which are those of a new context.
 #[tactic(auto, unfolding(rc_base::specs::Contexts::Context::default_context))]
-fn default_state(alloc: Global, decl: &Decl) -> Result<State, OutOfMemory>
+pub(crate) fn default_state(alloc: Global, decl: &Decl) -> Result<State, OutOfMemory>
     ensures { IfOk result (λ s. s ≡ default_state decl.now) }
 {
     let context = Context::new(alloc, decl)?;
     Ok(*context.state())
 }
 
-/// What is kept of clients that sent nothing yet.
+/// What is kept of clients that sent nothing yet, whose first state is this.
 pub(crate) fn new_clients(
     alloc: Global,
-    decl: &Decl,
+    state: State,
     count: u8,
 ) -> Result<Vec<KeptClient>, OutOfMemory>
-    ensures { IfOk result (λ v. AreNew decl.now count v.items) }
+    ensures { IfOk result (λ v. AreNew state count v.items) }
 {
-    let state = default_state(alloc, decl)?;
     let mut clients = Vec::new(alloc);
     for _ in 0..count {
         clients.push(KeptClient {

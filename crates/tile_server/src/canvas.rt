@@ -3,7 +3,7 @@ ghost use Rattle.textures.specs.Stores.{HasTexels};
 ghost use Rattle.tile_server.specs.Kepts.{AreFit};
 ghost use Rattle.tile_server.specs.Works.{IsRectOf, texels_in};
 
-use crate::blank::{blank_device, decl_copy, new_clients};
+use crate::blank::{blank_device, decl_copy, default_state, new_clients};
 use crate::givable::is_givable;
 use crate::kept::KeptClient;
 use crate::work::work;
@@ -11,19 +11,21 @@ use draw_device::Device;
 use rc_base::cluster::TilePart;
 use rc_base::out_of_memory::OutOfMemory;
 use rc_base::scene::Decl;
-use rc_base::state::Parcel;
+use rc_base::state::{Parcel, State};
 use rc_base::window::Layout;
 use std::alloc::Global;
 use textures::SharedSet;
 use textures::laws::sets_have_stored_texels;
 
-/// The pixels of one tile, what the tile keeps of each client, and the shared textures.
+/// The pixels of one tile, what the tile keeps of each client, and the shared textures. The device draws with one state, which is switched from client to
+/// client.
 #[derive(Drop)]
 pub struct Canvas {
-    alloc: Global,
     decl: Decl,
     layout: Layout,
     tile: u8,
+    // the state that the device draws with
+    hw: State,
     kept: Vec<KeptClient>,
     shared: SharedSet,
     device: Device,
@@ -33,7 +35,7 @@ pub struct Canvas {
 }
 
 impl Canvas {
-    ghost use Rattle.std.specs.Prelude.{◌≡◌, ◌<◌, true, false, IfOk, OnOk};
+    ghost use Rattle.std.specs.Prelude.{◌≡◌, ◌<◌, true, false, IfOk, OnOk, OnErr};
     ghost use Rattle.rc_base.specs.Cluster.Tiles.{tile_count};
     ghost use Rattle.tile_model.specs.Acts.{is_work};
     ghost use Rattle.tile_model.specs.Boards.{IsCarriedOut, IsNewBoard};
@@ -56,12 +58,13 @@ impl Canvas {
         ensures blank { IfOk result (λ c. IsNewBoard decl.now layout.now tile (board_in c)) }
     {
         sets_have_stored_texels();
+        let hw = default_state(alloc, decl)?;
         Ok(Canvas {
-            alloc,
             decl: decl_copy(alloc, decl)?,
             layout: *layout,
             tile,
-            kept: new_clients(alloc, decl, clients)?,
+            hw,
+            kept: new_clients(alloc, hw, clients)?,
             shared: SharedSet::new(alloc, &decl.shared)?,
             device: blank_device(alloc, layout, tile)?,
         })
@@ -75,6 +78,7 @@ impl Canvas {
         ensures same { IsSameTile self.old self.new }
         ensures done { OnOk result (is_givable self.old.decl parcel.now ≡ true → IsCarriedOut self.old.decl self.old.layout client self.old.tile parcel.now (board_in self.old) (board_in self.new)) }
         ensures ignored { OnOk result (is_givable self.old.decl parcel.now ≡ false → board_in self.new ≡ board_in self.old) }
+        ensures lacked { OnErr result (is_givable self.old.decl parcel.now ≡ true) }
     {
         sets_have_stored_texels();
         if !is_givable(&self.decl, parcel) {
@@ -83,6 +87,7 @@ impl Canvas {
         let client = usize::from(client);
         self.kept[client].apply_all(parcel.sets.as_slice())?;
         work(
+            &mut self.hw,
             &self.kept[client],
             &parcel.act,
             &mut self.device,
@@ -95,6 +100,6 @@ impl Canvas {
     pub fn part(&self, frame: u32) -> Result<TilePart, OutOfMemory>
         ensures { IfOk result (IsPartOf self.now.layout self.now.tile frame (board_in self.now)) }
     {
-        self.device.part(self.alloc, self.tile, frame)
+        self.device.part(self.tile, frame)
     }
 }

@@ -1,8 +1,12 @@
 //! Laws of tiles' cores. Each function's contract is a law; there is nothing to compute.
 ghost use Rattle.order_model.specs.Gathering.{GatheringIsLawful};
+ghost use Rattle.tile_server.specs.Clauses.{NewTilesMeetTheirClause, TileStepsKeepTheClause, TileStepsOverLanesKeepTheClause, EndedTilesAreDone};
 ghost use Rattle.tile_server.specs.Laws.{FinishedCoresAreDone, NewCoresStand, ShownPartsAreFrames, StepsKeepStanding};
 
 use order_model::laws as order_laws;
+use rc_base::lane::Inlet;
+use rc_base::state::Parcel;
+use rc_base::sync::Grant;
 use tile_model::laws::{new_tiles_stand, steps_stand, swaps_show_frames};
 
 /// A new core stands for every scene of its declaration and its number of clients, and for every journal.
@@ -36,4 +40,23 @@ pub fn gathering_is_lawful()
     ensures { GatheringIsLawful }
 {
     order_laws::gathering_is_lawful();
+}
+
+/// A tile's core meets its clause at first, and after each step over any items. Where it has ended, isn't short, and took and heard fronts of what a
+/// scene and a legal journal give, it is right for them and done.
+pub fn tiles_meet_their_clause()
+    ensures first { NewTilesMeetTheirClause }
+    ensures step { TileStepsKeepTheClause }
+    ensures ended { EndedTilesAreDone }
+{
+    new_cores_stand();
+    steps_keep_standing();
+    swaps_show_frames();
+}
+
+/// So it does over lanes, by the contract of `TileCore::step` alone.
+pub fn tiles_meet_their_clause_over_lanes<I: Inlet<Parcel>, J: Inlet<Grant>>()
+    ensures { TileStepsOverLanesKeepTheClause I.gave I.same J.gave J.same }
+{
+    tiles_meet_their_clause();
 }

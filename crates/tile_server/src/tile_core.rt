@@ -31,7 +31,7 @@ pub struct TileCore {
 }
 
 impl TileCore {
-    ghost use Rattle.std.specs.Prelude.{◌≡◌, ◌≢◌, ◌⊎◌, ◌≤◌, ◌<◌, ℕ, true, false, None, length, slice_index_or, IfOk, OnOk, OnErr, IfSome, IfNone, IsTrue};
+    ghost use Rattle.std.specs.Prelude.{◌≡◌, ◌≢◌, ◌⊎◌, ◌≤◌, ◌<◌, ◌||◌, ℕ, true, false, None, length, slice_index_or, IfOk, OnOk, OnErr, IfSome, IfNone, IsTrue};
     ghost use Rattle.rc_base.specs.Cluster.Lanes.{EachLane};
     ghost use Rattle.rc_base.specs.Cluster.Tiles.{tile_count};
     ghost use Rattle.order_model.specs.Standing.{Progress, new_progress};
@@ -42,7 +42,7 @@ impl TileCore {
     ghost use Rattle.rc_base.specs.declared.sync.Grant.TheVariants as grant;
     ghost use Rattle.tile_server.specs.Boards.{IsPartOf};
     ghost use Rattle.tile_server.specs.Deeds.{answer_of, granted_of, is_end, is_wait};
-    ghost use Rattle.tile_server.specs.Ledgers.{held_in, IsSameLedger};
+    ghost use Rattle.tile_server.specs.Ledgers.{held_in, is_over_in, IsSameLedger};
     ghost use Rattle.tile_server.specs.Tasks.{asks_in, listens_in, next_frame, IsAlike, IsDueIn, IsFinishedIn, IsFreeIn, IsTaking, IsWorked, LeavesClients, LeavesGrants, MayTakeIn, NothingIsDueIn};
     ghost use Rattle.tile_server.specs.declared.deed.TileDeed.TheVariants as deed;
     ghost use Rattle.tile_server.specs.Cores.{board_of, clients_of, decl_of, is_short, layout_of, next_of, tile_of, IsProgressOf, IsSameCore, IsTileStep, AreTaken, AreFoundEmpty, IsHeard, IsCountedUnheard};
@@ -79,7 +79,7 @@ impl TileCore {
 
     /// The log, handed out.
     pub fn into_log(self) -> Log
-        ensures { (p : Progress) → IsProgressOf self p → is_short self ≡ false → result ≡ p.log }
+        ensures { (p : Progress) → IsProgressOf self p → result ≡ p.log }
     {
         let TileCore { ledger, .. } = self;
         ledger.into_log()
@@ -115,24 +115,24 @@ impl TileCore {
         self.ledger.is_listening()
     }
 
-    /// Whether parcels of the client are taken.
-    fn asks(&self, client: u8) -> bool
-        requires { client < clients_of self.now }
+    /// Whether parcels of the client are taken. It has no branch, so the eight of `asked` are found together.
+    #[tactic(auto, using(crate::proofs::Asked::asked_by))]
+    fn asks(&self, client: u8, free: bool) -> bool
+        requires client { client < 8 }
+        requires free { free ≡ (is_short self.now || is_over_in self.now.ledger) }
         ensures { result ≡ asks_in self.now client }
     {
-        if self.short {
-            return !self.ledger.is_closed(client);
-        }
-        !self.ledger.is_closed(client) && (!self.ledger.is_held(client) || self.ledger.is_over())
+        !self.ledger.is_closed(client) & (free | !self.ledger.is_held(client))
     }
 
-    /// The clients that parcels are taken of.
+    /// The clients that parcels are taken of: whom a tile holds counts as long as it isn't short and more may be performed.
     fn asked(&self) -> [bool; 8]
         ensures { (client : ℕ) → client < clients_of self.now → slice_index_or result client true ≡ asks_in self.now client }
     {
+        let free = self.short || self.ledger.is_over();
         let mut asks = [false; 8];
-        for client in 0..self.ledger.clients() {
-            asks[client as usize] = self.asks(client);
+        for client in 0..8u8 {
+            asks[client as usize] = self.asks(client, free);
         }
         asks
     }

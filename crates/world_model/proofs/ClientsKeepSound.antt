@@ -17,8 +17,9 @@ use Rattle.rc_base.specs.declared.window.Layout.{Layout}
 use Rattle.client_issue.specs.Cores.{tally_after, no_tally}
 use Rattle.sync_manager.specs.Progress.{ManagerProgress}
 use Rattle.sync_manager.specs.Promises.{grants_of, IsManagerRight}
+use Rattle.tile_model.specs.Items.{grants_heard}
 use Rattle.world_model.specs.Moves.{IsAppended, IsRequested, IsIdle, IsClientStep, IsClientMove}
-use Rattle.world_model.specs.Sound.{IsEndOf, grants_heard, tallied, IsTileSound, IsParcelLane, IsSound}
+use Rattle.world_model.specs.Sound.{IsEndOf, tallied, IsTileSound, IsParcelLane, IsSound}
 use Rattle.world_model.specs.Tiles.{Tile}
 use Rattle.world_model.specs.World.{World, Client, client_total}
 use Rattle.world_model.proofs.LanesGoOn.{at_one, moved, gains, this_tile, other_tile}

@@ -1,39 +1,36 @@
 -- Where all have ended the record is lawful, the parts are the frames, each client waits where the journal leaves it, and the tallies are whole.
-use Rattle.std.proofs.Common.{◌≡◌, ℕ, ◌+◌, ◌==◌, ◌<◌, true, List, [], ◌∷◌, ◌++◌, length, map, take, cond, Option, Some, None, inl, inr, refl, sym, ap, ◌∙◌, subst, append_assoc, append-nil, eqb-true, true≢false}
+use Rattle.std.proofs.Common.{◌≡◌, ℕ, ◌+◌, ◌==◌, ◌<◌, List, [], ◌∷◌, ◌++◌, length, map, take, cond, inl, inr, sym, ap, ◌∙◌, subst, append_assoc, append-nil, eqb-true, true≢false}
 use Rattle.std.proofs.Math.Seq.{take-length}
-use Rattle.std.proofs.lemmas.Bool.{cases_Bool, cases_lt, and_parts}
+use Rattle.std.proofs.lemmas.Bool.{and_parts}
 use Rattle.std.proofs.lemmas.Option.{get_or_from_slice_get}
-use Rattle.std.specs.Prelude.{pos, is_some, slice_index_or}
+use Rattle.std.specs.Prelude.{pos, slice_index_or}
 use Rattle.rc_base.specs.Cluster.Parcels.{parcels_of}
 use Rattle.rc_base.specs.Cluster.Sending.{parcels_to}
 use Rattle.rc_base.specs.Cluster.Tiles.{tile_count}
 use Rattle.rc_base.specs.Drawing.Serial.{frame_pixel}
-use Rattle.rc_base.specs.Orders.Book.{standing, waiting_in, IsBookOver}
-use Rattle.rc_base.specs.Orders.Journal.{head_wait, waiting_of}
-use Rattle.rc_base.specs.Orders.Sync.{client_count, sync_lists_of}
+use Rattle.rc_base.specs.Orders.Book.{waiting_in, IsBookOver}
+use Rattle.rc_base.specs.Orders.Journal.{waiting_of}
+use Rattle.rc_base.specs.Orders.Sync.{sync_lists_of}
 use Rattle.rc_base.specs.declared.scene.Scene.{Scene}
 use Rattle.rc_base.specs.declared.state.Parcel.{Parcel}
 use Rattle.rc_base.specs.declared.sync.Entry.{Entry}
 use Rattle.rc_base.specs.declared.sync.Grant.TheVariants as grant_item
 use Rattle.rc_base.specs.declared.sync.SyncLists.{SyncLists}
-use Rattle.rc_base.specs.declared.sync.WaitAt.{WaitAt}
 use Rattle.rc_base.specs.declared.window.Layout.{Layout}
-use Rattle.order_model.specs.Gathering.{GatheringIsLawful}
+use Rattle.order_model.specs.Gathering.{GatheringIsLawful, OverBooksWaitAlike}
 use Rattle.order_model.specs.Log.{Replays, recorded_order}
 use Rattle.order_model.specs.Report.{tile_order, frame_count}
 use Rattle.order_model.specs.Sent.{jobs_of, IsRecordOf}
 use Rattle.order_model.specs.Standing.{IsDone, performed_in}
 use Rattle.order_model.specs.declared.record.Record.{Record}
-use Rattle.order_model.proofs.MoreOperations.{head_append}
-use Rattle.order_model.proofs.SceneListsAreWellFormed.{scene_client_count}
 use Rattle.sync_manager.specs.Progress.{NoMoreComes}
 use Rattle.tile_model.specs.Scenes.{IsInRange}
-use Rattle.world_model.specs.Laws.{HasLegalLogs, IsRecordIn, ShowsFrames}
+use Rattle.world_model.specs.Laws.{HasLegalLogs, IsOver, IsRecordIn, ShowsFrames}
 use Rattle.world_model.specs.Runs.{AllHaveEnded}
 use Rattle.world_model.specs.Sound.{tallied, IsSound}
 use Rattle.world_model.specs.World.{World, client_total}
-use Rattle.world_model.proofs.ItemsComeFromLanes.{all_heard}
-use Rattle.world_model.proofs.WhatHasArrived.{comes, has_arrived, journal_legal, journal_stands, goes_on}
+use Rattle.tile_model.proofs.ItemsComeFromLanes.{all_heard}
+use Rattle.world_model.proofs.WhatHasArrived.{has_arrived, journal_legal, goes_on}
 
 pub legal_logs : (scene : Scene) (l : Layout) (w : World) → IsSound scene l w → HasLegalLogs scene l w
 legal_logs scene l w h = record {
@@ -71,6 +68,15 @@ module _ (scene : Scene) (l : Layout) (w : World) (h : IsSound scene l w) (done 
         closed = λ client low. end.closed client (subst (λ n. client < n) (sym count) low);
       }
 
+  pub all_over : IsInRange scene → IsOver scene l w
+  all_over range = record {
+    arrived = has_arrived scene l w h range;
+    over = book_over;
+    legal = journal_legal scene l w h;
+    under_way = λ tile lt. ((h.tiles tile lt).stands journal (goes_on scene l w h)).progress;
+    done = tile_done;
+  }
+
   -- ---- the record
 
   pub record_lawful : GatheringIsLawful → IsInRange scene → (kept : Record) → IsRecordIn scene l w kept → IsRecordOf scene l kept
@@ -100,33 +106,8 @@ module _ (scene : Scene) (l : Layout) (w : World) (h : IsSound scene l w) (done 
 
   -- ---- who waits
 
-  waits_or_ended : (client : ℕ) → client < client_total scene → waiting_in (sync_lists_of scene) w.manager.book client ≡ None → w.manager.book.ended client ≡ true
-  waits_or_ended client lc none = elim (cases_Bool (w.manager.book.ended client)) [
-    | inl t ↦ t
-    | inr f ↦
-        let low : client < client_count (sync_lists_of scene) = subst (λ n. client < n) (sym (scene_client_count scene)) lc in
-        absurd (true≢false (sym (book_over.all client low f) ∙ ap is_some none))
-  ]
-
-  pub waits_alike : IsInRange scene → (client : ℕ) → waiting_in (sync_lists_of scene) w.manager.book client ≡ waiting_of (sync_lists_of scene) journal client
-  waits_alike range client =
-      let syncs = sync_lists_of scene in
-      let here = (standing syncs w.manager.book).rest client in
-      let c = comes scene l w h client in
-      let behind = (journal_stands scene l w h).rest client in
-      let none : c.more ≡ [] → waiting_in syncs w.manager.book client ≡ waiting_of syncs journal client =
-      λ e. sym (ap head_wait (behind ∙ ap (λ ws. here ++ ws) e ∙ append-nil here)) in
-      elim (cases_lt client (client_total scene)) [
-        | inr ge ↦ none (c.nobody ge)
-        | inl lt ↦ by (waiting_in syncs w.manager.book client) refl lt none
-      ]
-    where
-      by : (o : Option WaitAt) → waiting_in (sync_lists_of scene) w.manager.book client ≡ o → client < client_total scene
-          → ((comes scene l w h client).more ≡ [] → waiting_in (sync_lists_of scene) w.manager.book client ≡ waiting_of (sync_lists_of scene) journal client)
-          → waiting_in (sync_lists_of scene) w.manager.book client ≡ waiting_of (sync_lists_of scene) journal client
-      by None is lt none = none ((comes scene l w h client).all range (waits_or_ended client lt is))
-      by (Some wait) is lt none = sym (ap head_wait ((journal_stands scene l w h).rest client)
-          ∙ head_append ((standing (sync_lists_of scene) w.manager.book).rest client) (comes scene l w h client).more (ap is_some is))
+  pub waits_alike : OverBooksWaitAlike → IsInRange scene → (client : ℕ) → waiting_in (sync_lists_of scene) w.manager.book client ≡ waiting_of (sync_lists_of scene) journal client
+  waits_alike alike range = alike (sync_lists_of scene) w.manager.book (has_arrived scene l w h range) h.manager.legal book_over
 
   -- ---- the tallies
 

@@ -24,11 +24,13 @@ use Rattle.sync_manager.specs.declared.deed.ManagerDeed.TheVariants.{Delivers, F
 use Rattle.tile_model.specs.Items.{Item, IsAwaited}
 use Rattle.tile_model.specs.Items.Item.{Nothing, Due, Granted, NoMore, Sent}
 use Rattle.world_model.specs.Laws.{IsSameWorld, RestsChangeNothing, EndedWorldsRest, LastRoundsTell}
-use Rattle.world_model.specs.Moves.{Move, IsAtRest, IsLast, IsClientStep, IsMove, AreMoves}
-use Rattle.world_model.specs.Moves.Move.{ClientMove, ManagerMove, TileMove}
+use Rattle.world_model.specs.declared.moves.Move.{Move}
+use Rattle.world_model.specs.Moves.{IsAtRest, IsLast, IsClientStep, IsMove, AreMoves}
+use Rattle.world_model.specs.declared.moves.Move.TheVariants.{Client as ClientMove, Manager as ManagerMove, Tile as TileMove}
 use Rattle.world_model.specs.Runs.{actor_of, round_of, AllHaveEnded}
-use Rattle.world_model.specs.Tiles.{TileAnswer, HasEnded, IsTileAnswer}
-use Rattle.world_model.specs.Tiles.TileAnswer.{Ended}
+use Rattle.world_model.specs.declared.moves.TileAnswer.{TileAnswer}
+use Rattle.world_model.specs.Tiles.{HasEnded, IsTileAnswer}
+use Rattle.world_model.specs.declared.moves.TileAnswer.TheVariants.{Ended}
 use Rattle.world_model.specs.World.{World, client_total}
 use Rattle.world_model.proofs.RestChangesNothing.{rest_changes_nothing, no_item}
 

@@ -1,5 +1,5 @@
 mod LanesGoOn
-mod JournalsGoOn
+pub mod JournalsGoOn
 mod NewWorldsAreSound
 mod ClientsKeepSound
 mod ManagersKeepSound
@@ -7,7 +7,6 @@ mod ItemsComeFromLanes
 mod PartsAreFrames
 mod TilesKeepSound
 mod SchedulesKeepSound
-mod DeclaredOperations
 mod WhatHasArrived
 mod EndedWorlds
 mod RestChangesNothing
@@ -23,5 +22,7 @@ mod TilesWaitForNobody
 mod NothingStandsStill
 mod RoundsMoveSomebody
 mod MovesLeaveLess
+mod SchedulesLeaveLess
+mod WorkIsLittle
 mod EndedWorldsRest
 mod OneRecord

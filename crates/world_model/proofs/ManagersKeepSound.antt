@@ -22,8 +22,9 @@ use Rattle.sync_manager.specs.Progress.{ManagerProgress, IsNextDeed, event_of, p
 use Rattle.sync_manager.specs.Promises.{grants_of, IsManagerRight, StepsKeepManagersRight}
 use Rattle.sync_manager.specs.declared.deed.ManagerDeed.{ManagerDeed}
 use Rattle.sync_manager.specs.declared.deed.ManagerDeed.TheVariants.{Delivers, FindsFull, Grants, Receives, Loses, FindsNoRequest, Drops, FindsNoneLeft, Finishes}
+use Rattle.tile_model.specs.Items.{grants_heard}
 use Rattle.world_model.specs.Moves.{IsManagerMove}
-use Rattle.world_model.specs.Sound.{IsEndOf, grants_heard, IsTileSound, IsParcelLane, IsSound}
+use Rattle.world_model.specs.Sound.{IsEndOf, IsTileSound, IsParcelLane, IsSound}
 use Rattle.world_model.specs.Tiles.{Tile}
 use Rattle.world_model.specs.World.{World, Client}
 use Rattle.world_model.proofs.LanesGoOn.{off, moved, takes}

@@ -31,23 +31,24 @@ use Rattle.order_model.proofs.SceneListsAreWellFormed.{scene_client_count}
 use Rattle.sync_manager.specs.Progress.{ManagerProgress, IsGrantDue, IsNextDeed, progress_after, with_grant, answer_of, taken_of, event_of}
 use Rattle.sync_manager.specs.declared.deed.ManagerDeed.{ManagerDeed}
 use Rattle.sync_manager.specs.declared.deed.ManagerDeed.TheVariants.{Delivers, FindsFull, Grants, Receives, Loses, FindsNoRequest, Drops, FindsNoneLeft, Finishes}
-use Rattle.tile_model.specs.Items.{Item, after_act, after_item, IsAwaited}
+use Rattle.tile_model.specs.Items.{Item, after_act, after_item, IsAwaited, parcel_taken}
 use Rattle.tile_model.specs.Items.Item.{Nothing, Due, Granted, NoMore, Sent}
 use Rattle.world_model.specs.Moves.{IsAtRest, IsClientStep, IsClientMove, IsManagerMove, IsTileMove}
-use Rattle.world_model.specs.Moves.Move.{ClientMove, ManagerMove, TileMove}
+use Rattle.world_model.specs.declared.moves.Move.TheVariants.{Client as ClientMove, Manager as ManagerMove, Tile as TileMove}
 use Rattle.world_model.specs.Sound.{IsSound}
-use Rattle.world_model.specs.Tiles.{Tile, TileAnswer, IsTileAnswer, parcel_taken}
+use Rattle.world_model.specs.declared.moves.TileAnswer.{TileAnswer}
+use Rattle.world_model.specs.Tiles.{Tile, IsTileAnswer}
 use Rattle.world_model.specs.Work.{total, most_entries, one_unless, client_work, tile_work, work_left, MovesLeaveLess}
 use Rattle.world_model.specs.World.{World, Client, client_total}
-use Rattle.world_model.proofs.ItemsComeFromLanes.{listens, learnt_same, taken_after}
+use Rattle.tile_model.proofs.ItemsComeFromLanes.{listens, learnt_same, taken_after}
 use Rattle.world_model.proofs.LanesGoOn.{self, off}
-use Rattle.world_model.proofs.PartsAreFrames.{performed_more}
+use Rattle.tile_model.proofs.ShownFrames.{performed_more}
 use Rattle.world_model.proofs.SchedulesKeepSound.{ActorsAreRight, move_keeps}
 use Rattle.world_model.proofs.WhatHasArrived.{journal_legal, goes_on}
 
 -- ---- sums
 
-total_same : (f g : ℕ → ℕ) (n : ℕ) → ((i : ℕ) → i < n → g i ≡ f i) → total g n ≡ total f n
+pub total_same : (f g : ℕ → ℕ) (n : ℕ) → ((i : ℕ) → i < n → g i ≡ f i) → total g n ≡ total f n
 total_same f g zero h = refl
 total_same f g (suc n) h = let a = total_same f g n (λ i lt. h i (omega (arith, lt))) in let b = h n (omega arith) in omega (arith, a, b)
 

@@ -14,9 +14,9 @@ use Rattle.order_model.specs.Board.{StandsFor}
 use Rattle.order_model.specs.Standing.{Progress}
 use Rattle.sync_manager.specs.Progress.{ManagerProgress}
 use Rattle.sync_manager.specs.Promises.{grants_of, IsManagerRight, NewManagersAreRight}
-use Rattle.tile_model.specs.Items.{shown_frames}
+use Rattle.tile_model.specs.Items.{shown_frames, grants_heard}
 use Rattle.tile_model.specs.Laws.{NewTilesStand}
-use Rattle.world_model.specs.Sound.{grants_heard, tallied, IsTileSound, IsParcelLane, IsManagerSound, IsSound}
+use Rattle.world_model.specs.Sound.{tallied, IsTileSound, IsParcelLane, IsManagerSound, IsSound}
 use Rattle.world_model.specs.World.{World, client_total, IsNewWorld}
 
 module _ (scene : Scene) (l : Layout) (w : World) (h : IsNewWorld scene l w) where

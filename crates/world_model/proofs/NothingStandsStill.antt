@@ -32,8 +32,9 @@ use Rattle.order_model.proofs.SceneListsAreWellFormed.{scene_client_count}
 use Rattle.sync_manager.specs.Progress.{NoMoreComes, IsReceiving, IsDraining, may_arrive, is_end, IsNextDeed}
 use Rattle.sync_manager.specs.declared.deed.ManagerDeed.TheVariants.{Finishes}
 use Rattle.tile_model.specs.Laws.{MembersAreClients, LegalEntriesHaveClients}
+use Rattle.tile_model.specs.Items.{grants_heard}
 use Rattle.world_model.specs.Runs.{AllHaveEnded}
-use Rattle.world_model.specs.Sound.{grants_heard, IsSound}
+use Rattle.world_model.specs.Sound.{IsSound}
 use Rattle.world_model.specs.Tiles.{NothingIsDue}
 use Rattle.world_model.specs.World.{World, client_total}
 use Rattle.world_model.proofs.SequencesAreOrdered.{waits, asks, AreOrdered}

@@ -8,8 +8,9 @@ use Rattle.sync_manager.specs.Promises.{NewManagersAreRight}
 use Rattle.tile_model.specs.Laws.{NewTilesStand, LegalEntriesHaveClients}
 use Rattle.tile_model.specs.Scenes.{IsInRange, HasSides}
 use Rattle.world_model.specs.Laws.{AreAlike, OneScheduleHasOneRun}
-use Rattle.world_model.specs.Moves.{Move, IsMove, AreMoves, IsClientMove, IsTileMove}
-use Rattle.world_model.specs.Moves.Move.{ClientMove, ManagerMove, TileMove}
+use Rattle.world_model.specs.declared.moves.Move.{Move}
+use Rattle.world_model.specs.Moves.{IsMove, AreMoves, IsClientMove, IsTileMove}
+use Rattle.world_model.specs.declared.moves.Move.TheVariants.{Client as ClientMove, Manager as ManagerMove, Tile as TileMove}
 use Rattle.world_model.specs.Runs.{actor_of}
 use Rattle.world_model.specs.Sound.{IsSound}
 use Rattle.world_model.specs.World.{World, IsNewWorld}

@@ -1,99 +1,25 @@
 -- What a tile has shown stays right with every item: one more part at a Swap, which is the board, and none else.
-use Rattle.std.proofs.Common.{◌≡◌, ℕ, zero, suc, ◌+◌, ◌≤◌, false, List, [], ◌∷◌, ◌++◌, ◌⊎◌, length, take, Some, slice_get, inl, inr, refl, sym, ap, ◌∙◌, subst, arith, append_assoc, append-nil, length-append}
-use Rattle.std.proofs.lemmas.Bool.{cases_Bool}
-use Rattle.std.proofs.lemmas.List.{take-append-le}
-use Rattle.std.proofs.lemmas.List.Sums.{count_by_more_yes, count_by_more_no}
-use Rattle.std.proofs.lemmas.Option.{get_or_from_slice_get, slice_get_within}
+use Rattle.std.proofs.Common.{◌≡◌, ℕ, ◌+◌, List, [], ◌∷◌, ◌++◌, inl, inr, refl, sym, ap, ◌∙◌, subst, arith, append_assoc, append-nil, length-append}
 use Rattle.std.specs.Prelude.{pos}
 use Rattle.rc_base.specs.Drawing.Images.{Pixels}
 use Rattle.rc_base.specs.Drawing.Serial.{frame_pixel}
 use Rattle.rc_base.specs.Orders.Sync.{sync_lists_of}
 use Rattle.rc_base.specs.declared.scene.Scene.{Scene}
-use Rattle.rc_base.specs.declared.state.Act.{Act}
-use Rattle.rc_base.specs.declared.state.Act.TheVariants as act
 use Rattle.rc_base.specs.declared.sync.Entry.{Entry}
 use Rattle.rc_base.specs.declared.sync.Entry.TheVariants.{Meet, Swap, Give, Take}
 use Rattle.rc_base.specs.declared.window.Layout.{Layout}
 use Rattle.order_model.specs.Board.{Board, StandsFor}
 use Rattle.order_model.specs.Log.{Replays, recorded_order}
-use Rattle.order_model.specs.Report.{is_swap_entry, frame_count}
 use Rattle.order_model.specs.Sent.{jobs_of}
-use Rattle.order_model.specs.Standing.{Progress, performed_in}
-use Rattle.order_model.specs.declared.record.LogEntry.{LogEntry}
-use Rattle.order_model.specs.declared.record.LogEntry.TheVariants.{Took, Performed}
-use Rattle.tile_model.specs.Items.{Item, after_act, after_item, IsAwaited, shown_frames}
+use Rattle.order_model.specs.Standing.{Progress}
+use Rattle.order_model.specs.declared.record.LogEntry.TheVariants.{Performed}
+use Rattle.tile_model.specs.Items.{Item, after_item, IsAwaited, shown_frames}
 use Rattle.tile_model.specs.Items.Item.{Nothing, Due, Granted, NoMore, Sent}
 use Rattle.tile_model.specs.Laws.{SwapsShowFrames}
 use Rattle.world_model.specs.Sound.{GoesOnTo, ArePartsOf}
 use Rattle.world_model.specs.Tiles.{parts_after}
-use Rattle.world_model.proofs.ItemsComeFromLanes.{listens}
-
--- ---- how many Swaps are performed
-
-pub performed_more : (log : List LogEntry) (line : LogEntry) → performed_in (log ++ line ∷ []) ≡ performed_in log + performed_in (line ∷ [])
-performed_more [] line = omega arith
-performed_more (Took client place ∷ log) line = performed_more log line
-performed_more (Performed ∷ log) line = let h = performed_more log line in omega arith
-
--- the log goes on, and no Swap is performed
-pub record ShowsNothing (p q : Progress) : Type 0 where
-  pub more : List LogEntry
-  pub log : q.log ≡ p.log ++ more
-  pub frames : shown_frames q ≡ shown_frames p
-
--- an entry is performed that isn't a Swap
-not_shown : (p : Progress) (e : Entry) → slice_get p.learnt (performed_in p.log) ≡ Some e → is_swap_entry e ≡ false → ShowsNothing p (after_item p (Due e))
-not_shown p e known other = record {
-  more = Performed ∷ [];
-  log = refl;
-  frames =
-      let n = performed_in p.log in
-      let one : performed_in (p.log ++ Performed ∷ []) ≡ n + 1 = performed_more p.log Performed in
-      ap (λ k. frame_count (take k p.learnt)) one
-      ∙ count_by_more_no is_swap_entry p.learnt n e (slice_get_within p.learnt n e known) (ap is_swap_entry (get_or_from_slice_get p.learnt n e e known) ∙ other);
-}
-
--- a Swap is
-one_shown : (p : Progress) → slice_get p.learnt (performed_in p.log) ≡ Some Swap → shown_frames (after_item p (Due Swap)) ≡ shown_frames p + 1
-one_shown p known =
-    let n = performed_in p.log in
-    let one : performed_in (p.log ++ Performed ∷ []) ≡ n + 1 = performed_more p.log Performed in
-    ap (λ k. frame_count (take k p.learnt)) one
-    ∙ count_by_more_yes is_swap_entry p.learnt n Swap (slice_get_within p.learnt n Swap known) (ap is_swap_entry (get_or_from_slice_get p.learnt n Swap Swap known))
-
-took_more : (p : Progress) (client place : ℕ) → frame_count (take (performed_in (p.log ++ Took client place ∷ [])) p.learnt) ≡ shown_frames p
-took_more p client place = let none : performed_in (p.log ++ Took client place ∷ []) ≡ performed_in p.log = let h = performed_more p.log (Took client place) in omega arith in
-    ap (λ k. frame_count (take k p.learnt)) none
-
-act_shows : (p : Progress) (client : ℕ) (a : Act) (place : ℕ) → ShowsNothing p (after_act p client a place)
-act_shows p client (act.Draw block) place = elim (cases_Bool (p.held client)) [
-  | inl t ↦ rw t record { more = []; log = sym (append-nil p.log); frames = refl }
-  | inr f ↦ rw f record { more = Took client place ∷ []; log = refl; frames = took_more p client place }
-]
-act_shows p client (act.Clear mask) place = elim (cases_Bool (p.held client)) [
-  | inl t ↦ rw t record { more = []; log = sym (append-nil p.log); frames = refl }
-  | inr f ↦ rw f record { more = Took client place ∷ []; log = refl; frames = took_more p client place }
-]
-act_shows p client (act.Shared part) place = elim (cases_Bool (p.held client)) [
-  | inl t ↦ rw t record { more = []; log = sym (append-nil p.log); frames = refl }
-  | inr f ↦ rw f record { more = Took client place ∷ []; log = refl; frames = took_more p client place }
-]
-act_shows p client (act.Sync op) place = elim (cases_Bool (p.held client)) [
-  | inl t ↦ rw t record { more = []; log = sym (append-nil p.log); frames = refl }
-  | inr f ↦ rw f record { more = []; log = sym (append-nil p.log); frames = refl }
-]
-act_shows p client act.End place = record { more = []; log = sym (append-nil p.log); frames = refl }
-
-learns_shows : (p : Progress) (e : Entry) → performed_in p.log ≤ length p.learnt → ShowsNothing p (after_item p (Granted e))
-learns_shows p e le = record { more = []; log = sym (append-nil p.log); frames = ap frame_count (take-append-le (performed_in p.log) p.learnt (e ∷ []) le) }
-
--- ---- the parts
-
-get_push : {A : Type 0} (xs : List A) (y : A) (k : ℕ) (f : A) → slice_get (xs ++ y ∷ []) k ≡ Some f → (slice_get xs k ≡ Some f) ⊎ ((k ≡ length xs) × (f ≡ y))
-get_push [] y zero f h = inr (refl, cc)
-get_push [] y (suc k) f h = absurd cc
-get_push (x ∷ xs) y zero f h = inl h
-get_push (x ∷ xs) y (suc k) f h = elim (get_push xs y k f h) [ inl e ↦ inl e | inr e ↦ inr (ap suc e.0, e.1) ]
+use Rattle.tile_model.proofs.ItemsComeFromLanes.{listens}
+use Rattle.tile_model.proofs.ShownFrames.{ShowsNothing, not_shown, one_shown, act_shows, learns_shows, get_push}
 
 module _ (scene : Scene) (l : Layout) (tile : ℕ) (journal : List Entry) (p : Progress) (parts : List Pixels) (h : ArePartsOf scene l tile journal p parts) where
   parts_stay : (q : Progress) → ShowsNothing p q → ArePartsOf scene l tile journal q parts

@@ -20,13 +20,14 @@ use Rattle.order_model.specs.Standing.{Progress}
 use Rattle.sync_manager.specs.Progress.{ManagerProgress, progress_after, answer_of, taken_of, sent_to}
 use Rattle.sync_manager.specs.declared.deed.ManagerDeed.{ManagerDeed}
 use Rattle.sync_manager.specs.declared.deed.ManagerDeed.TheVariants.{Delivers, FindsFull, Grants, Receives, Loses, FindsNoRequest, Drops, FindsNoneLeft, Finishes}
-use Rattle.tile_model.specs.Items.{Item}
+use Rattle.tile_model.specs.Items.{Item, parcel_taken, grant_taken}
 use Rattle.tile_model.specs.Items.Item.{Nothing, Due, Granted, NoMore, Sent}
 use Rattle.world_model.specs.Laws.{IsSameWorld, RestChangesNothing}
 use Rattle.world_model.specs.Moves.{IsAtRest, IsIdle, IsClientStep, IsClientMove, IsManagerMove, IsTileMove}
-use Rattle.world_model.specs.Moves.Move.{ClientMove, ManagerMove, TileMove}
-use Rattle.world_model.specs.Tiles.{Tile, TileAnswer, IsTileStep, parcel_taken, grant_taken, answer_to_entry, answer_to_act, IsTileAnswer}
-use Rattle.world_model.specs.Tiles.TileAnswer.{Learnt, Took, Held, Dropped, Blocked, Ended}
+use Rattle.world_model.specs.declared.moves.Move.TheVariants.{Client as ClientMove, Manager as ManagerMove, Tile as TileMove}
+use Rattle.world_model.specs.declared.moves.TileAnswer.{TileAnswer}
+use Rattle.world_model.specs.Tiles.{Tile, IsTileStep, answer_to_entry, answer_to_act, IsTileAnswer}
+use Rattle.world_model.specs.declared.moves.TileAnswer.TheVariants.{Learnt, Took, Held, Dropped, Blocked, Ended}
 use Rattle.world_model.specs.World.{World, Client, client_total}
 use Rattle.world_model.proofs.LanesGoOn.{at_one}
 

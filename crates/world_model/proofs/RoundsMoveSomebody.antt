@@ -21,10 +21,12 @@ use Rattle.sync_manager.specs.declared.deed.ManagerDeed.{ManagerDeed}
 use Rattle.sync_manager.specs.declared.deed.ManagerDeed.TheVariants.{Delivers, FindsFull, Grants, Receives, Loses, FindsNoRequest, Drops, FindsNoneLeft, Finishes}
 use Rattle.tile_model.specs.Laws.{MembersAreClients, LegalEntriesHaveClients}
 use Rattle.world_model.specs.Laws.{IsSameWorld, SteppedRunsAreSound, RoundsMoveSomebody, NoRunStandsStill}
-use Rattle.world_model.specs.Moves.{Move, IsAtRest, IsClientStep, IsTileMove, IsMove, AreMoves}
-use Rattle.world_model.specs.Moves.Move.{ClientMove, ManagerMove, TileMove}
+use Rattle.world_model.specs.declared.moves.Move.{Move}
+use Rattle.world_model.specs.Moves.{IsAtRest, IsClientStep, IsTileMove, IsMove, AreMoves}
+use Rattle.world_model.specs.declared.moves.Move.TheVariants.{Client as ClientMove, Manager as ManagerMove, Tile as TileMove}
 use Rattle.world_model.specs.Runs.{actor_of, round_of, rounds_of, AllHaveEnded}
-use Rattle.world_model.specs.Tiles.{Tile, TileAnswer, NothingIsDue, IsUndue, HasEnded, FindsNoGrant, FindsNoParcel}
+use Rattle.world_model.specs.declared.moves.TileAnswer.{TileAnswer}
+use Rattle.world_model.specs.Tiles.{Tile, NothingIsDue, IsUndue, HasEnded, FindsNoGrant, FindsNoParcel}
 use Rattle.world_model.specs.World.{World, client_total}
 use Rattle.world_model.proofs.NothingStandsStill.{ClientRests, TileRests, ManagerRests, AllRest, nothing_stands_still}
 use Rattle.world_model.proofs.RestChangesNothing.{rest_changes_nothing, no_item}

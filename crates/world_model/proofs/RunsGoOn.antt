@@ -4,7 +4,8 @@ use Rattle.std.proofs.lemmas.List.{map-append}
 use Rattle.rc_base.specs.declared.scene.Scene.{Scene}
 use Rattle.rc_base.specs.declared.window.Layout.{Layout}
 use Rattle.world_model.specs.Laws.{RunsGoOn}
-use Rattle.world_model.specs.Moves.{Move, AreMoves}
+use Rattle.world_model.specs.declared.moves.Move.{Move}
+use Rattle.world_model.specs.Moves.{AreMoves}
 use Rattle.world_model.specs.Runs.{actor_of}
 use Rattle.world_model.specs.World.{World}
 

@@ -5,7 +5,7 @@ use Rattle.order_model.specs.Laws.{BooksStayLegal}
 use Rattle.sync_manager.specs.Promises.{NewManagersAreRight, StepsKeepManagersRight}
 use Rattle.tile_model.specs.Laws.{NewTilesStand, StepsStand, SwapsShowFrames}
 use Rattle.world_model.specs.Laws.{MovesKeepWorldsSound, SchedulesKeepWorldsSound, SteppedRunsAreSound}
-use Rattle.world_model.specs.Moves.Move.{ClientMove, ManagerMove, TileMove}
+use Rattle.world_model.specs.declared.moves.Move.TheVariants.{Client as ClientMove, Manager as ManagerMove, Tile as TileMove}
 use Rattle.world_model.specs.Sound.{IsSound}
 use Rattle.world_model.proofs.ClientsKeepSound.{client_keeps}
 use Rattle.world_model.proofs.ManagersKeepSound.{manager_keeps}

@@ -176,7 +176,7 @@ module _ (tile : ℕ) where
 
 -- ---- the sequence
 
-few_parcels : (l : Layout) (tile : ℕ) (values : ℕ → ElementValue) (x : ClientContext) (place : ℕ) (effect : Effect)
+pub few_parcels : (l : Layout) (tile : ℕ) (values : ℕ → ElementValue) (x : ClientContext) (place : ℕ) (effect : Effect)
     → (parcel_of l tile values x place effect ≡ []) ⊎ ((p : Parcel) × (parcel_of l tile values x place effect ≡ p ∷ []))
 few_parcels l tile values x place eff.Quiet = inl refl
 few_parcels l tile values x place (eff.Refused fault) = inl refl

@@ -14,15 +14,16 @@ use Rattle.rc_base.specs.declared.window.Layout.{Layout}
 use Rattle.order_model.specs.Standing.{Progress, IsUnderWay, performed_in, is_asked}
 use Rattle.order_model.specs.Sent.{jobs_of}
 use Rattle.order_model.proofs.SceneListsAreWellFormed.{scene_client_count}
-use Rattle.tile_model.specs.Items.{Item, after_item, IsAwaited, has_clients}
+use Rattle.tile_model.specs.Items.{Item, after_item, IsAwaited, has_clients, parcel_taken, grant_taken}
 use Rattle.tile_model.specs.Items.Item.{Nothing, Due, Granted, NoMore, Sent}
 use Rattle.tile_model.specs.Laws.{LegalEntriesHaveClients}
 use Rattle.world_model.specs.Laws.{AreAlike}
 use Rattle.world_model.specs.Moves.{IsTileMove}
 use Rattle.world_model.specs.Sound.{IsSound}
-use Rattle.world_model.specs.Tiles.{Tile, TileAnswer, next_after, IsUndue, parcel_taken, grant_taken, FindsNoGrant, FindsNoParcel, IsTileAnswer}
+use Rattle.world_model.specs.declared.moves.TileAnswer.{TileAnswer}
+use Rattle.world_model.specs.Tiles.{Tile, next_after, IsUndue, FindsNoGrant, FindsNoParcel, IsTileAnswer}
 use Rattle.world_model.specs.World.{World, Client, client_total}
-use Rattle.world_model.proofs.ItemsComeFromLanes.{get_front}
+use Rattle.tile_model.proofs.ItemsComeFromLanes.{get_front}
 use Rattle.world_model.proofs.LanesGoOn.{self, at_one, same_rest, is_first}
 use Rattle.world_model.proofs.ManagersDoOneThing.{one_earlier}
 use Rattle.world_model.proofs.WhatHasArrived.{journal_legal, goes_on}

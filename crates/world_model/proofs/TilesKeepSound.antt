@@ -17,15 +17,17 @@ use Rattle.order_model.specs.Standing.{Progress}
 use Rattle.order_model.proofs.SceneListsAreWellFormed.{scene_client_count}
 use Rattle.sync_manager.specs.Progress.{ManagerProgress}
 use Rattle.sync_manager.specs.Promises.{grants_of, IsManagerRight}
-use Rattle.tile_model.specs.Items.{Item, after_item, IsAwaited, IsItemOf}
+use Rattle.tile_model.specs.Items.{Item, after_item, IsAwaited, IsItemOf, parcel_taken, grant_taken, grants_heard}
 use Rattle.tile_model.specs.Items.Item.{Nothing, Due, Granted, NoMore, Sent}
 use Rattle.tile_model.specs.Laws.{StepsStand, SwapsShowFrames}
 use Rattle.tile_model.specs.Scenes.{IsInRange, HasSides}
 use Rattle.world_model.specs.Moves.{IsTileMove}
-use Rattle.world_model.specs.Sound.{IsEndOf, GoesOnTo, ArePartsOf, IsTileSound, IsParcelLane, IsSound, grants_heard, tallied}
-use Rattle.world_model.specs.Tiles.{Tile, TileAnswer, parcel_taken, grant_taken}
+use Rattle.world_model.specs.Sound.{IsEndOf, GoesOnTo, ArePartsOf, IsTileSound, IsParcelLane, IsSound, tallied}
+use Rattle.world_model.specs.declared.moves.TileAnswer.{TileAnswer}
+use Rattle.world_model.specs.Tiles.{Tile}
 use Rattle.world_model.specs.World.{World, Client, client_total}
-use Rattle.world_model.proofs.ItemsComeFromLanes.{heard_after, entry_is_next, taken_after, parcel_is_next}
+use Rattle.tile_model.proofs.ItemsComeFromLanes.{heard_after, entry_is_next, taken_after}
+use Rattle.world_model.proofs.ItemsComeFromLanes.{parcel_is_next}
 use Rattle.world_model.proofs.LanesGoOn.{self, at_one, moved, takes, same_so_far}
 use Rattle.world_model.proofs.PartsAreFrames.{parts_go_on}
 

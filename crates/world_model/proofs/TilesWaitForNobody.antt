@@ -40,7 +40,7 @@ use Rattle.tile_model.specs.Items.{has_clients}
 use Rattle.tile_model.specs.Laws.{MembersAreClients, LegalEntriesHaveClients}
 use Rattle.world_model.specs.Sound.{IsSound}
 use Rattle.world_model.specs.World.{World, client_total}
-use Rattle.world_model.proofs.ItemsComeFromLanes.{get_front}
+use Rattle.tile_model.proofs.ItemsComeFromLanes.{get_front}
 use Rattle.world_model.proofs.SequencesAreOrdered.{waits, asks, wait_by, waits_append, asks_append, AreOrdered, ordered_end, sequence_ordered}
 use Rattle.world_model.proofs.WhatHasArrived.{comes, journal_legal, journal_stands, goes_on}
 

@@ -5,19 +5,22 @@ use Rattle.rc_base.specs.Cluster.Parcels.{parcels_of, set_count}
 use Rattle.rc_base.specs.Cluster.Tiles.{tile_count, tile_pixels}
 use Rattle.rc_base.specs.Drawing.Images.{Pixels}
 use Rattle.rc_base.specs.Drawing.Serial.{frame_pixel}
-use Rattle.rc_base.specs.Orders.Book.{waiting_in}
+use Rattle.rc_base.specs.Orders.Book.{waiting_in, IsBookOver}
 use Rattle.rc_base.specs.Orders.Journal.{IsLegal, waiting_of}
 use Rattle.rc_base.specs.Orders.Sync.{sync_lists_of}
 use Rattle.rc_base.specs.Outside.Causes.{last_count}
 use Rattle.rc_base.specs.declared.scene.Scene.{Scene}
 use Rattle.rc_base.specs.declared.state.Parcel.{Parcel}
 use Rattle.rc_base.specs.declared.window.Layout.{Layout}
+use Rattle.order_model.specs.Gathering.{HasArrived}
 use Rattle.order_model.specs.Log.{Replays}
 use Rattle.order_model.specs.Report.{tile_order, frame_count}
 use Rattle.order_model.specs.Sent.{jobs_of, IsRecordOf}
+use Rattle.order_model.specs.Standing.{IsUnderWay, IsDone}
 use Rattle.order_model.specs.declared.record.Record.{Record}
 use Rattle.tile_model.specs.Scenes.{IsInRange, HasSides}
-use Rattle.world_model.specs.Moves.{Move, IsMove, AreMoves, IsAtRest, IsLast}
+use Rattle.world_model.specs.declared.moves.Move.{Move}
+use Rattle.world_model.specs.Moves.{IsMove, AreMoves, IsAtRest, IsLast}
 use Rattle.world_model.specs.Runs.{AllHaveEnded, actor_of, round_of, IsSteppedRun, IsFinishedRun, StandsStill}
 use Rattle.world_model.specs.Sound.{tallied, IsSound}
 use Rattle.world_model.specs.World.{World, client_total, IsNewWorld}
@@ -121,6 +124,18 @@ pub record IsRecordIn (scene : Scene) (l : Layout) (w : World) (kept : Record) :
   pub journal : kept.journal ≡ w.manager.book.journal
   pub count : length kept.logs ≡ tile_count l
   pub logs : (tile : ℕ) → tile < tile_count l → slice_get kept.logs tile ≡ Some (w.tiles tile).progress.log
+
+-- The book is over, and what arrived are fronts of the scene's operations; each tile is under way for the journal, and done.
+pub record IsOver (scene : Scene) (l : Layout) (w : World) : Type 0 where
+  pub arrived : HasArrived (sync_lists_of scene) w.manager.book
+  pub over : IsBookOver (sync_lists_of scene) w.manager.book
+  pub legal : IsLegal (sync_lists_of scene) w.manager.book.journal
+  pub under_way : (tile : ℕ) → tile < tile_count l
+      → IsUnderWay (sync_lists_of scene) w.manager.book.journal (λ client. jobs_of scene l client tile) (w.tiles tile).progress
+  pub done : (tile : ℕ) → tile < tile_count l → IsDone (sync_lists_of scene) w.manager.book.journal (w.tiles tile).progress
+
+abbrev pub EndedWorldsAreOver : Type 0
+EndedWorldsAreOver = (scene : Scene) (l : Layout) (w : World) → IsInRange scene → IsSound scene l w → AllHaveEnded scene l w → IsOver scene l w
 
 abbrev pub EndedWorldsAreLawful : Type 0
 EndedWorldsAreLawful =

@@ -15,16 +15,13 @@ use Rattle.client_issue.specs.Cores.{tally_after}
 use Rattle.client_issue.specs.Turns.{IsParcelSent, IsRequestSent, IsNothingSent}
 use Rattle.sync_manager.specs.Progress.{IsNextDeed, progress_after, answer_of, taken_of, sent_to, IsFoundFull, IsFoundEmpty}
 use Rattle.sync_manager.specs.declared.deed.ManagerDeed.{ManagerDeed}
-use Rattle.tile_model.specs.Items.{Item}
-use Rattle.world_model.specs.Tiles.{TileAnswer, IsTileStep, parcel_taken, grant_taken, FindsNoGrant, FindsNoParcel, IsTileAnswer}
-use Rattle.world_model.specs.Tiles.TileAnswer.{Blocked, Ended}
+use Rattle.tile_model.specs.Items.{Item, parcel_taken, grant_taken}
+use Rattle.world_model.specs.declared.moves.TileAnswer.{TileAnswer}
+use Rattle.world_model.specs.declared.moves.Move.{Move}
+use Rattle.world_model.specs.declared.moves.Move.TheVariants.{Client as ClientMove, Manager as ManagerMove, Tile as TileMove}
+use Rattle.world_model.specs.Tiles.{IsTileStep, FindsNoGrant, FindsNoParcel, IsTileAnswer}
+use Rattle.world_model.specs.declared.moves.TileAnswer.TheVariants.{Blocked, Ended}
 use Rattle.world_model.specs.World.{World, lanes_of, client_total, LanesFit}
-
--- an actor's step, by its answer
-pub data Move : Type 0 where
-  ClientMove : (client : ℕ) (answer : ClientMoved) → Move
-  ManagerMove : (answer : ManagerMoved) → Move
-  TileMove : (tile : ℕ) (answer : TileAnswer) → Move
 
 -- ---- a client
 

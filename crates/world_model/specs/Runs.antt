@@ -7,8 +7,9 @@ use Rattle.rc_base.specs.declared.scene.Scene.{Scene}
 use Rattle.rc_base.specs.declared.window.Layout.{Layout}
 use Rattle.sync_manager.specs.Progress.{IsNextDeed}
 use Rattle.sync_manager.specs.declared.deed.ManagerDeed.TheVariants.{Finishes}
-use Rattle.world_model.specs.Moves.{Move, AreMoves, IsAtRest}
-use Rattle.world_model.specs.Moves.Move.{ClientMove, ManagerMove, TileMove}
+use Rattle.world_model.specs.declared.moves.Move.{Move}
+use Rattle.world_model.specs.Moves.{AreMoves, IsAtRest}
+use Rattle.world_model.specs.declared.moves.Move.TheVariants.{Client as ClientMove, Manager as ManagerMove, Tile as TileMove}
 use Rattle.world_model.specs.Tiles.{HasEnded}
 use Rattle.world_model.specs.World.{World, client_total, IsNewWorld}
 

@@ -1,5 +1,5 @@
 -- What is true of every world that moves lead to: each lane was sent what was taken of it and what it holds, and each actor is right for that.
-use Rattle.std.specs.Prelude.{◌≡◌, ℕ, ◌+◌, ◌<◌, ◌≤◌, true, false, cond, List, [], ◌∷◌, ◌++◌, length, map, fold, Some, slice_get, pos}
+use Rattle.std.specs.Prelude.{◌≡◌, ℕ, ◌+◌, ◌<◌, ◌≤◌, true, false, List, [], ◌++◌, length, fold, Some, slice_get, pos}
 use Rattle.rc_base.specs.Cluster.Parcels.{parcels_of}
 use Rattle.rc_base.specs.Cluster.Sending.{Sending, parcels_to, requests_in, sent_by, requests_of}
 use Rattle.rc_base.specs.Cluster.Tiles.{tile_count, tile_pixels}
@@ -12,8 +12,6 @@ use Rattle.rc_base.specs.declared.cluster.Tally.{Tally}
 use Rattle.rc_base.specs.declared.scene.Scene.{Scene}
 use Rattle.rc_base.specs.declared.state.Parcel.{Parcel}
 use Rattle.rc_base.specs.declared.sync.Entry.{Entry}
-use Rattle.rc_base.specs.declared.sync.Grant.{Grant}
-use Rattle.rc_base.specs.declared.sync.Grant.TheVariants as grant_item
 use Rattle.rc_base.specs.declared.sync.Request.{Request}
 use Rattle.rc_base.specs.declared.sync.SyncLists.{SyncLists}
 use Rattle.rc_base.specs.declared.window.Layout.{Layout}
@@ -24,7 +22,7 @@ use Rattle.order_model.specs.Sent.{jobs_of}
 use Rattle.order_model.specs.Standing.{Progress}
 use Rattle.order_model.specs.declared.record.LogEntry.{LogEntry}
 use Rattle.sync_manager.specs.Promises.{grants_of, IsManagerRight}
-use Rattle.tile_model.specs.Items.{shown_frames}
+use Rattle.tile_model.specs.Items.{grants_heard, shown_frames}
 use Rattle.world_model.specs.Tiles.{Tile}
 use Rattle.world_model.specs.World.{World, Client, client_total}
 
@@ -39,10 +37,6 @@ pub record IsLane {A : Type 0} (all : List A) (taken : ℕ) (held coming : List 
 -- what is left of a sequence is its end
 abbrev pub IsEndOf : List Sending → List Sending → Type 0
 IsEndOf items left = (sent : List Sending) × (items ≡ sent ++ left)
-
--- what a tile took of its grant lane: the entries that it learnt, and then that no more comes
-abbrev pub grants_heard : Progress → List Grant
-grants_heard p = map (λ e. grant_item.Entry e) p.learnt ++ cond p.no_more (grant_item.NoMore ∷ []) []
 
 -- the tally of these parcels, counted one by one
 abbrev pub tallied : List Parcel → Tally

@@ -1,5 +1,5 @@
 -- A tile with its board in the stepped cluster: what a step makes of it, what the step takes of its lanes, and what it answers.
-use Rattle.std.specs.Prelude.{◌≡◌, ℕ, ◌+◌, ◌<◌, ◌==◌, Bool, true, cond, List, [], ◌∷◌, ◌++◌, ◌⊎◌, Option, Some, None}
+use Rattle.std.specs.Prelude.{◌≡◌, ℕ, ◌+◌, ◌<◌, Bool, true, cond, List, [], ◌∷◌, ◌++◌, ◌⊎◌}
 use Rattle.rc_base.specs.Cluster.Lanes.{IsEarlier}
 use Rattle.rc_base.specs.Drawing.Images.{Pixels}
 use Rattle.rc_base.specs.declared.cluster.TileMoved.{TileMoved}
@@ -7,17 +7,16 @@ use Rattle.rc_base.specs.declared.cluster.TileMoved.TheVariants as moved
 use Rattle.rc_base.specs.declared.scene.Decl.{Decl}
 use Rattle.rc_base.specs.declared.state.Act.{Act}
 use Rattle.rc_base.specs.declared.state.Act.TheVariants as act
-use Rattle.rc_base.specs.declared.state.Parcel.{Parcel}
 use Rattle.rc_base.specs.declared.sync.Entry.{Entry}
 use Rattle.rc_base.specs.declared.sync.Entry.TheVariants.{Meet, Swap, Give, Take}
-use Rattle.rc_base.specs.declared.sync.Grant.{Grant}
-use Rattle.rc_base.specs.declared.sync.Grant.TheVariants as grant_item
 use Rattle.rc_base.specs.declared.window.Layout.{Layout}
 use Rattle.order_model.specs.Board.{Board}
 use Rattle.order_model.specs.Standing.{Progress, new_progress, is_over, is_listening, is_asked}
 use Rattle.tile_model.specs.Boards.{IsNewBoard, IsDrawn}
 use Rattle.tile_model.specs.Items.{Item, after_item, IsAwaited, has_clients}
 use Rattle.tile_model.specs.Items.Item.{Nothing, Due, Granted, NoMore, Sent}
+use Rattle.world_model.specs.declared.moves.TileAnswer.{TileAnswer}
+use Rattle.world_model.specs.declared.moves.TileAnswer.TheVariants.{Performed, Swapped, Learnt, Took, Held, Closed, Dropped, Blocked, Ended}
 
 -- how far it is, the client with which its rotation goes on, its board, and the pixels that it has shown, one part for each frame
 pub record Tile : Type 0 where
@@ -80,22 +79,6 @@ pub record IsTileStep (decl : Decl) (l : Layout) (tile : ℕ) (item : Item) (a b
 
 -- ---- its lanes
 
--- what is taken of a client's lane
-abbrev pub parcel_taken : Item → ℕ → Option Parcel
-parcel_taken Nothing i = None
-parcel_taken (Due e) i = None
-parcel_taken (Granted e) i = None
-parcel_taken NoMore i = None
-parcel_taken (Sent client parcel) i = cond (i == client) (Some parcel) None
-
--- and of the grant lane
-abbrev pub grant_taken : Item → Option Grant
-grant_taken Nothing = None
-grant_taken (Due e) = None
-grant_taken (Granted e) = Some (grant_item.Entry e)
-grant_taken NoMore = Some grant_item.NoMore
-grant_taken (Sent client parcel) = None
-
 -- the grant lane was tried before, and found empty
 abbrev pub FindsNoGrant : Progress → Item → Type 0
 FindsNoGrant p Nothing = is_listening p ≡ true
@@ -115,17 +98,6 @@ FindsNoParcel a (Sent client parcel) i = IsEarlier a.next client i × (is_asked 
 -- ---- answers
 
 -- what a step answers, without the pixels of a Swap
-pub data TileAnswer : Type 0 where
-  Performed : TileAnswer
-  Swapped : TileAnswer
-  Learnt : TileAnswer
-  Took : (client : ℕ) → TileAnswer
-  Held : (client : ℕ) → TileAnswer
-  Closed : (client : ℕ) → TileAnswer
-  Dropped : (client : ℕ) → TileAnswer
-  Blocked : TileAnswer
-  Ended : TileAnswer
-
 abbrev pub without_pixels : TileMoved → TileAnswer
 without_pixels moved.Performed = Performed
 without_pixels (moved.Swapped part) = Swapped

@@ -1,15 +1,18 @@
 -- How much is left to do in a world: each move that isn't at rest does one of these things.
-use Rattle.std.specs.Prelude.{ℕ, zero, suc, ◌+◌, ◌-◌, ◌<◌, Bool, cond, length}
+use Rattle.std.specs.Prelude.{ℕ, zero, suc, ◌+◌, ◌-◌, ◌<◌, ◌≤◌, ◌^◌, Bool, cond, List, length}
+use Rattle.std.specs.List.{AllByRecursion}
 use Rattle.rc_base.specs.Cluster.Parcels.{parcels_of}
 use Rattle.rc_base.specs.Cluster.Sending.{requests_of}
 use Rattle.rc_base.specs.Cluster.Tiles.{tile_count}
+use Rattle.rc_base.specs.Contexts.Issue.{stream_of}
 use Rattle.rc_base.specs.Orders.Grant.{operations_left}
 use Rattle.rc_base.specs.Orders.Sync.{IsWellFormed, client_count, ops_of, sync_lists_of}
 use Rattle.rc_base.specs.declared.scene.Scene.{Scene}
 use Rattle.rc_base.specs.declared.window.Layout.{Layout}
 use Rattle.order_model.specs.Standing.{performed_in}
 use Rattle.tile_model.specs.Scenes.{IsInRange, HasSides}
-use Rattle.world_model.specs.Moves.{Move, IsMove, IsAtRest}
+use Rattle.world_model.specs.declared.moves.Move.{Move}
+use Rattle.world_model.specs.Moves.{IsMove, AreMoves, IsAtRest}
 use Rattle.world_model.specs.Sound.{IsSound}
 use Rattle.world_model.specs.World.{World, client_total}
 
@@ -46,3 +49,16 @@ abbrev pub MovesLeaveLess : Type 0
 MovesLeaveLess =
     (scene : Scene) (l : Layout) (depth : ℕ) (w later : World) (move : Move) → IsInRange scene → HasSides scene.decl → IsWellFormed (sync_lists_of scene)
     → IsSound scene l w → IsMove scene l depth w move later → (IsAtRest move → ⊥) → work_left scene l later < work_left scene l w
+
+-- and so do moves one after the other, of which one isn't at rest
+abbrev pub SchedulesLeaveLess : Type 0
+SchedulesLeaveLess =
+    (scene : Scene) (l : Layout) (depth : ℕ) (w later : World) (moves : List Move) → IsInRange scene → HasSides scene.decl
+    → IsWellFormed (sync_lists_of scene) → IsSound scene l w → AreMoves scene l depth w moves later → (AllByRecursion IsAtRest moves → ⊥)
+    → work_left scene l later < work_left scene l w
+
+-- of few clients with short streams, on few tiles, there is little to do
+abbrev pub WorkIsLittle : Type 0
+WorkIsLittle =
+    (scene : Scene) (l : Layout) (w : World) → client_total scene ≤ 8 → tile_count l ≤ 32 → ((client : ℕ) → length (stream_of scene client) ≤ 2 ^ 20)
+    → IsSound scene l w → work_left scene l w < 2 ^ 32

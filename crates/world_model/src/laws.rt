@@ -1,13 +1,15 @@
 //! Laws of the stepped cluster. Each function's contract is a law, and its body calls the laws that it follows from: there is nothing to compute.
 ghost use Rattle.world_model.specs.Laws.{NewWorldsAreSound, MovesKeepWorldsSound, SchedulesKeepWorldsSound, SteppedRunsAreSound};
 ghost use Rattle.world_model.specs.Laws.{RunsGoOn, OneScheduleHasOneRun, SoundWorldsHaveLegalLogs, RestChangesNothing};
-ghost use Rattle.world_model.specs.Laws.{EndedWorldsAreLawful, EndedWorldsShowFrames, EndedWorldsWaitAlike, EndedWorldsTallyAll};
+ghost use Rattle.world_model.specs.Laws.{EndedWorldsAreOver, EndedWorldsAreLawful, EndedWorldsShowFrames, EndedWorldsWaitAlike, EndedWorldsTallyAll};
 ghost use Rattle.world_model.specs.Laws.{FinishedRunsAreWhole, FinishedRunsAreOne, FinishedRunsLeaveOneRecord, RoundsMoveSomebody, NoRunStandsStill, TalliesCount};
 ghost use Rattle.world_model.specs.Laws.{RestsChangeNothing, EndedWorldsRest, LastRoundsTell};
-ghost use Rattle.world_model.specs.Work.{MovesLeaveLess};
+ghost use Rattle.world_model.specs.Work.{MovesLeaveLess, SchedulesLeaveLess, WorkIsLittle};
 
 use client_issue::laws::sends_are_parcels;
-use order_model::laws::{books_stay_legal, gathering_is_lawful, grants_are_exact};
+use order_model::laws::{
+    books_stay_legal, gathering_is_lawful, grants_are_exact, over_books_are_maximal,
+};
 use sync_manager::laws::managers_are_right;
 use tile_model::laws::{entries_have_clients, new_tiles_stand, steps_stand, swaps_show_frames};
 
@@ -65,6 +67,11 @@ pub fn ended_worlds_rest()
     managers_are_right();
 }
 
+/// In a sound world in which all have ended, the book is over, and each tile is done with its journal.
+pub fn ended_worlds_are_over()
+    ensures { EndedWorldsAreOver }
+{}
+
 /// In a sound world in which all have ended, the scene's lists, the journal and the tiles' logs are a lawful record.
 pub fn ended_worlds_are_lawful()
     ensures { EndedWorldsAreLawful }
@@ -78,7 +85,9 @@ pub fn ended_worlds_are_whole()
     ensures frames { EndedWorldsShowFrames }
     ensures waiting { EndedWorldsWaitAlike }
     ensures tallies { EndedWorldsTallyAll }
-{}
+{
+    over_books_are_maximal();
+}
 
 /// Every schedule: picks, and behind them rounds until all have ended, whatever the depth of the lanes. The record is lawful, the parts are the frames
 /// in the orders that it records, and the picks determine it.
@@ -110,9 +119,11 @@ pub fn rounds_move_somebody()
     schedules_keep_worlds_sound();
 }
 
-/// Each move that isn't at rest leaves less to do.
+/// Each move that isn't at rest leaves less to do, and so do moves of which one isn't. Of a scene within the limits there is little to do.
 pub fn moves_leave_less()
-    ensures { MovesLeaveLess }
+    ensures one { MovesLeaveLess }
+    ensures all { SchedulesLeaveLess }
+    ensures little { WorkIsLittle }
 {
     books_stay_legal();
     managers_are_right();

@@ -1,17 +1,8 @@
-//! Whole texts by steps of any size, and faults at each step.
+//! Whole texts, and calls that fail: none is made behind the one that decides.
 use rc_base::in_memory::{MemSink, MemSource};
+use rc_base::outside::Failed;
+use rc_base::scene::Limit;
 use rc_base::transfer::{ReadAllFault, WriteFault, read_all, write_all};
-
-#[test]
-fn a_source_is_read_whole_by_any_step(rt: HostRuntime) {
-    let header = b"P6\n16 9\n255\n";
-    let mut bytewise = MemSource::new(rt.alloc(), header, 1, &[]).expect(&rt, "memory");
-    let by_ones = read_all(rt.alloc(), &mut bytewise).expect(&rt, "memory");
-    assert!(rt; by_ones.as_slice() == header.as_slice());
-    let mut larger = MemSource::new(rt.alloc(), header, 7, &[]).expect(&rt, "memory");
-    let by_sevens = read_all(rt.alloc(), &mut larger).expect(&rt, "memory");
-    assert!(rt; by_sevens.as_slice() == header.as_slice());
-}
 
 #[test]
 fn nothing_is_taken_after_the_end(rt: HostRuntime) {
@@ -37,14 +28,6 @@ fn a_fault_at_the_first_take_leaves_all_bytes(rt: HostRuntime) {
 }
 
 #[test]
-fn a_fault_leaves_the_bytes_behind_it(rt: HostRuntime) {
-    let mut source = MemSource::new(rt.alloc(), b"abcdefg", 2, &[3]).expect(&rt, "memory");
-    assert!(rt; read_all(rt.alloc(), &mut source) == Err(ReadAllFault::ReadFault));
-    let rest = read_all(rt.alloc(), &mut source).expect(&rt, "memory");
-    assert!(rt; rest.as_slice() == b"efg".as_slice());
-}
-
-#[test]
 fn a_fault_at_the_third_put_leaves_eight_bytes(rt: HostRuntime) {
     let mut sink = MemSink::new(rt.alloc(), 4, &[3]).expect(&rt, "memory");
     assert!(rt; write_all(&mut sink, b"P6\n1 1\n255\nrgb") == Err(WriteFault { done: 8 }));
@@ -61,4 +44,8 @@ fn faults_are_shown(rt: HostRuntime) {
         &rt, "memory",
     );
     assert!(rt; long.as_str() == "more than 33554432 bytes");
+    let limit = format!(in rt.alloc(); "{}: {}", Failed, Limit { what: 4, value: 9 }).expect(
+        &rt, "memory",
+    );
+    assert!(rt; limit.as_str() == "the call failed: 9 is outside the range of quantity 4");
 }

@@ -1,13 +1,9 @@
 //! Ordered scenes on many schedules: each gives the picture of the serial renderer.
-ghost use Rattle.std.specs.Prelude.{◌≡◌, None};
-ghost use Rattle.std.specs.List.{AllByRecursion};
-ghost use Rattle.rc_base.specs.Formats.Commands.{IsCommand};
-ghost use Rattle.rc_base.specs.Formats.Limits.{limit_of};
+ghost use Rattle.rc_base.specs.Formats.Within.{IsWithin};
 
 use super::clusters::{BARRIER_IN_BLOCK, LAZY_STATE, NO_UNIT};
 use super::orders::{BLENDED_IN_TURN, ONE_FORK_FIRST, PRODUCED_AND_CONSUMED};
 use super::{Left, run_on, run_text, sink, source_of, words};
-use order_model::laws::scene_lists_are_well_formed;
 use order_model::record::Record;
 use order_model::{is_permitted, tile_order};
 use rc_base::gate::OpenGate;
@@ -20,7 +16,7 @@ use std::alloc::Global;
 use std::process::Abort;
 
 // A client writes a shared texture, and behind a barrier another one draws its second texel over eight tiles by two.
-const SHARED_BEHIND_A_BARRIER: &[u8] = b"scene 1 8 2
+pub(super) const SHARED_BEHIND_A_BARRIER: &[u8] = b"scene 1 8 2
 shared 2 1
 barrier 2
 client
@@ -223,10 +219,8 @@ fn twenty_seeds_draw_what_the_serial_renderer_draws(rt: HostRuntime) {
 
 // Whether the journal permits the order that each tile of the record tells.
 fn permits(alloc: Global, scene: &Scene, kept: &Record) -> Result<bool, OutOfMemory>
-    requires commands { AllByRecursion (AllByRecursion IsCommand) scene.now.streams }
-    requires within { limit_of scene.now ≡ None }
+    requires { IsWithin scene.now }
 {
-    scene_lists_are_well_formed();
     let lists = sync_lists(alloc, scene)?;
     if kept.syncs.clients.len() > 8 || kept.logs.len() > 32 {
         return Ok(false);

@@ -3,58 +3,37 @@ use Rattle.std.specs.Prelude.{◌≡◌, ℕ, ◌^◌, ◌<◌, Bool, true, fals
 use Rattle.std.specs.List.{flat_map, AllByRecursion}
 use Rattle.std.specs.Fmt.{decimal}
 use Rattle.rc_base.specs.Lists.{IsIn, NoRepeat}
+use Rattle.rc_base.specs.declared.job.JobName.{JobName}
+use Rattle.rc_base.specs.declared.job.JobName.TheVariants.{Render, Simulate, Serial, Check, Pack, Unpack, Gen}
+use Rattle.rc_base.specs.declared.job.OptionName.{OptionName}
+use Rattle.rc_base.specs.declared.job.OptionName.TheVariants.{Tiles, Depth, Order, Seed, Size}
 
--- ---- jobs
+-- ---- jobs and their options
 
-pub data JobName : Type 0 where
-  -- scene bytes to the frames of the threaded cluster, of the stepped one, and of the serial renderer
-  Render : JobName
-  Simulate : JobName
-  Serial : JobName
-  -- scene bytes to a report alone
-  Check : JobName
-  -- a scene's text to its bytes, and its bytes to its text
-  Pack : JobName
-  Unpack : JobName
-  -- a seed to the bytes of a scene
-  Gen : JobName
+-- a job's word, the options that it takes, and those that it must have
+pub record JobRow : Type 0 where
+  pub word : List ℕ
+  pub options : List OptionName
+  pub due : List OptionName
+
+-- the jobs, one row each
+abbrev pub row_of : JobName → JobRow
+row_of Render = record { word = codes "render"; options = Tiles ∷ Depth ∷ Order ∷ []; due = [] }
+row_of Simulate = record { word = codes "simulate"; options = Seed ∷ Tiles ∷ Depth ∷ Order ∷ []; due = Seed ∷ [] }
+row_of Serial = record { word = codes "serial"; options = []; due = [] }
+row_of Check = record { word = codes "check"; options = []; due = [] }
+row_of Pack = record { word = codes "pack"; options = []; due = [] }
+row_of Unpack = record { word = codes "unpack"; options = []; due = [] }
+row_of Gen = record { word = codes "gen"; options = Seed ∷ Size ∷ []; due = Seed ∷ Size ∷ [] }
 
 abbrev pub job_word : JobName → List ℕ
-job_word Render = codes "render"
-job_word Simulate = codes "simulate"
-job_word Serial = codes "serial"
-job_word Check = codes "check"
-job_word Pack = codes "pack"
-job_word Unpack = codes "unpack"
-job_word Gen = codes "gen"
+job_word job = (row_of job).word
 
--- ---- options
-
-pub data OptionName : Type 0 where
-  Tiles : OptionName
-  Depth : OptionName
-  Order : OptionName
-  Seed : OptionName
-  Size : OptionName
-
--- the options that a job takes, and those that it must have
 abbrev pub options_of : JobName → List OptionName
-options_of Render = Tiles ∷ Depth ∷ Order ∷ []
-options_of Simulate = Seed ∷ Tiles ∷ Depth ∷ Order ∷ []
-options_of Serial = []
-options_of Check = []
-options_of Pack = []
-options_of Unpack = []
-options_of Gen = Seed ∷ Size ∷ []
+options_of job = (row_of job).options
 
 abbrev pub options_due : JobName → List OptionName
-options_due Render = []
-options_due Simulate = Seed ∷ []
-options_due Serial = []
-options_due Check = []
-options_due Pack = []
-options_due Unpack = []
-options_due Gen = Seed ∷ Size ∷ []
+options_due job = (row_of job).due
 
 -- an option with its value
 pub data Setting : Type 0 where

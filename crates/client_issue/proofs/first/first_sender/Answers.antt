@@ -14,7 +14,7 @@ returns-clause-sending c =
     let scene = alone d c.args.stream in
     record {
       few = c.requires.few;
-      commands = c.requires.commands;
+      commands = ∣ c.requires.commands ∣₁;
       count = c.requires.count;
       tiles = c.requires.tiles;
       issued = omega arith;
@@ -22,10 +22,11 @@ returns-clause-sending c =
       ops = c.new-3.ensures ∙ sym (no_waits scene);
       tracked = c.in_ok-tracker.ensures.count;
       known = λ tile lt.
-          subst (λ (ps : List Parcel). Knows c.in_ok-tracker.tracker tile (told d ps)) (sym (no_parcels scene c.args.layout.now tile))
+          ∣ subst (λ (ps : List Parcel). Knows c.in_ok-tracker.tracker tile (told d ps)) (sym (no_parcels scene c.args.layout.now tile))
           (subst (λ (x : Decl). Knows c.in_ok-tracker.tracker tile (told x [])) (sym c.in_ok-copy.ensures)
-          (c.trackers_follow_parcels.ensures.first c.in_ok-tracker.tracker tile c.args.decl.now (c.in_ok-tracker.ensures.told tile lt)));
+          (c.trackers_follow_parcels.ensures.first c.in_ok-tracker.tracker tile c.args.decl.now (c.in_ok-tracker.ensures.told tile lt))) ∣₁;
       pending = tt;
+      asking = λ w e. absurd cc;
     }
 
 pub returns-clause-left : goal.returns-clause-left

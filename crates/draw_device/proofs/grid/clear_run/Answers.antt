@@ -12,7 +12,7 @@ loop-x-preserved c =
       colors = length-set _ _ _ ∙ i.colors;
       depths = length-set _ _ _ ∙ i.depths;
       drawn = λ left row. run_pixel (cleared_pixel a.state.now a.mask) left row a.from c.loop-x.x _ c.loop-x.colors c.loop-x.depths _ _ alike (i.drawn left row) (omega arith)
-          (omega (arith, i.colors)) (c.clear-cleared.ensures a.state.now a.mask c.requires.clearing);
+          (omega (arith, i.colors)) (c.clear-cleared.ensures.cleared a.state.now a.mask c.requires.clearing);
     }
 
 pub returns-clause-drawn : goal.returns-clause-drawn

@@ -1,6 +1,7 @@
-use Rattle.std.proofs.Common.{◌≡◌, ℕ, List, ◌-◌, ◌*◌, ◌≤◌, length, take, drop, inl, ap, ◌∙◌, subst, arith, length-drop}
+use Rattle.std.proofs.Common.{◌≡◌, ℕ, List, ◌+◌, ◌-◌, ◌*◌, ◌≤◌, length, take, drop, inl, ap, ◌∙◌, subst, arith, length-drop}
 use Rattle.std.proofs.lemmas.List.{take_all}
-use Rattle.ppm_out.proofs.Framed.{no_front, only_framed, spells_framed, too_few}
+use Rattle.std.proofs.lemmas.Result.{err_from_is_err_and}
+use Rattle.ppm_out.proofs.Framed.{framed, no_front, only_framed, spells_framed, too_few}
 use Rattle.ppm_out.proofs.reading.read_ppm.Goals as goal
 
 pub returns-in-Err-clause-only : goal.returns-in-Err-clause-only
@@ -11,9 +12,20 @@ returns-then-rest-size-clause-only c = λ front behind image e spells.
     let framed = only_framed c.args.bytes.now c.in-Ok.header c.in-Ok.ensures.header front behind image e spells in
     absurd (omega (arith, framed.enough, c.if-rest-size.true, length-drop c.in-Ok.header.len c.args.bytes.now))
 
-pub returns-then-rest-size-clause-none : goal.returns-then-rest-size-clause-none
-returns-then-rest-size-clause-none c =
+pub returns-then-rest-size-clause-why : goal.returns-then-rest-size-clause-why
+returns-then-rest-size-clause-why c =
     too_few c.args.bytes.now c.in-Ok.header c.in-Ok.ensures.header (λ i. let fits = c.type_inv.bytes i in omega (arith, fits)) (omega (arith, c.if-rest-size.true, length-drop c.in-Ok.header.len c.args.bytes.now))
+
+pub returns-in_err-rgb-clause-why : goal.returns-in_err-rgb-clause-why
+returns-in_err-rgb-clause-why c =
+    let bytes = c.args.bytes.now in
+    let header = c.in-Ok.header in
+    let size : ℕ = 3 * (header.width * header.height) in
+    let rest : take (length bytes - header.len) (drop header.len bytes) ≡ drop header.len bytes = take_all (length bytes - header.len) (drop header.len bytes) (omega (arith, length-drop header.len bytes)) in
+    let enough : size ≤ length (drop header.len bytes) = subst (λ (l : List ℕ). size ≤ length l) rest c.if-rest-size.false in
+    let p = err_from_is_err_and c.from_residual.result c.from_residual.ensures.1 in
+    rw (p.1, p.2)
+    (header.len + size, framed bytes header c.in-Ok.ensures.header, spells_framed bytes header c.in-Ok.ensures.header (λ i. let fits = c.type_inv.bytes i in omega (arith, fits)) enough)
 
 pub returns-clause-read : goal.returns-clause-read
 returns-clause-read c =

@@ -1,33 +1,15 @@
-use Rattle.std.proofs.Common.{◌≡◌, ◌++◌, length, sym, ap, ◌∙◌, subst, arith}
-use Rattle.rc_base.specs.Orders.Sync.{IsWellFormed, client_count}
-use Rattle.rc_base.specs.declared.sync.SyncLists.{SyncLists}
+use Rattle.std.proofs.Common.{◌≡◌, ◌++◌, length, ap, arith}
 use Rattle.order_model.specs.Report.{count_lines}
 use Rattle.render_core.specs.Reports.{lines_of_faults, lines_of_stuck}
-use Rattle.render_core.proofs.WithinLimits.{clients_within, few_commands, counts_some, few_barriers}
-use Rattle.render_core.proofs.ReportLines.{scene_clients, scene_counts}
+use Rattle.render_core.proofs.WithinLimits.{clients_within, counts_some}
 use Rattle.render_core.proofs.Dues.{default_is}
 use Rattle.render_core.proofs.due.default_of.Goals as goal
 
-pub survey-requires-clause-few : goal.survey-requires-clause-few
-survey-requires-clause-few c = few_commands c.args.scene.now c.requires.within
+pub survey-requires : goal.survey-requires
+survey-requires c = record { limits = c.requires.within; commands = c.requires.well.1; sizes = c.requires.well.0.shared }
 
-pub turns_of-requires-clause-well : goal.turns_of-requires-clause-well
-turns_of-requires-clause-well c =
-    let scene = c.args.scene.now in
-    subst IsWellFormed (sym c.in_ok-syncs.ensures.syncs) (c.scene_lists_are_well_formed.ensures scene (clients_within scene c.requires.within).0 (counts_some scene c.requires.within))
-
-pub turns_of-requires-clause-clients : goal.turns_of-requires-clause-clients
-turns_of-requires-clause-clients c =
-    let count = ap client_count c.in_ok-syncs.ensures.syncs ∙ scene_clients c.args.scene.now in
-    omega (arith, count, clients_within c.args.scene.now c.requires.within)
-
-pub turns_of-requires-clause-barriers : goal.turns_of-requires-clause-barriers
-turns_of-requires-clause-barriers c =
-    let count = ap (λ (s : SyncLists). length s.counts) c.in_ok-syncs.ensures.syncs ∙ ap length (scene_counts c.args.scene.now) in
-    omega (arith, count, few_barriers c.args.scene.now c.requires.within)
-
-pub turns_of-requires-clause-declared : goal.turns_of-requires-clause-declared
-turns_of-requires-clause-declared c = c.in_ok-syncs.ensures.declared
+pub turns_of-requires : goal.turns_of-requires
+turns_of-requires c = c.in_ok-syncs.ensures.turns
 
 pub short_report-requires : goal.short_report-requires
 short_report-requires c =

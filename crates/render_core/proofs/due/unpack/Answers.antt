@@ -1,7 +1,7 @@
 use Rattle.std.proofs.Common.{None, ◌∙◌, List, ℕ, [], ap, subst, sym}
 use Rattle.rc_base.specs.Formats.Text.Read.{SpellsText}
 use Rattle.render_core.specs.declared.due.Ending.TheVariants.{Complete}
-use Rattle.render_core.specs.Jobs.{Outcome, IsOutcome}
+use Rattle.render_core.specs.Due.{Outcome, IsOutcome}
 use Rattle.render_core.proofs.due.unpack.Goals as goal
 
 pub returns-clause-outcome : goal.returns-clause-outcome

@@ -1,4 +1,4 @@
-use Rattle.std.proofs.Common.{◌≡◌, ◌<◌, ◌≤◌, ◌+◌, ◌%◌, ◌^◌, length, map, ℕ}
+use Rattle.std.proofs.Common.{◌≡◌, ◌%◌, map, ℕ}
 use Rattle.std.specs.List.{range_with_len}
 use Rattle.rc_base.specs.Program.Generator.{drawn_state, draw_of}
 use Rattle.render_core.proofs.picks.picks_of.Given as goal

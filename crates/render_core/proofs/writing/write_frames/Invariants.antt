@@ -7,7 +7,7 @@ abbrev pub invariant-loop-frame : goal.invariant-loop-frame
 invariant-loop-frame g l =
     record {
       given : Appends (g.K.Sink.held l.fn.image) (g.K.Sink.held l.image) (p6_texts (take l.frame-index l.frames));
-      count : l.done ≡ length (p6_texts (take l.frame-index l.frames));
-      bound : l.done ≤ 18446744073709551616 * l.frame-index;
+      count : l.bytes ≡ length (p6_texts (take l.frame-index l.frames));
+      bound : l.bytes ≤ 18446744073709551616 * l.frame-index;
       same : g.K.Sink.faults l.image ≡ g.K.Sink.faults l.fn.image;
     }

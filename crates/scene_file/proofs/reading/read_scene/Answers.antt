@@ -20,3 +20,8 @@ returns-clause-limit_only c =
 
 pub returns-clause-fields : goal.returns-clause-fields
 returns-clause-fields c = if_ok_map c.read_judged.result (λ s h. read_typed c.args.bytes.now s h.0) c.read_judged.ensures.found
+
+pub returns-clause-within : goal.returns-clause-within
+returns-clause-within c =
+    if_ok_map c.read_judged.result
+    (λ s h. let typed = read_typed c.args.bytes.now s h.0 in record { limits = h.1; commands = typed.1; sizes = typed.0.shared }) c.read_judged.ensures.found

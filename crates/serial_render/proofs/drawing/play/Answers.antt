@@ -10,6 +10,7 @@ use Rattle.textures.proofs.Stored.{blank}
 use Rattle.gl_context.proofs.ValidContexts.{valid}
 use Rattle.draw_device.specs.Conditions.{IsDrawable, IsClearable}
 use Rattle.draw_device.specs.Devices.{pixel_of}
+use Rattle.order_model.proofs.ScenesWithinLimits.{within_has_sides}
 use Rattle.serial_render.specs.Clients.{AreIssued, client_after}
 use Rattle.serial_render.specs.Shown.{IsShown, swaps_before}
 use Rattle.serial_render.specs.declared.client.Client.{Client}
@@ -73,7 +74,7 @@ carry_out-requires-clause-drawable c =
     let found = c.index-in-loop-name.ensures ∙ ap (λ (k : ℕ). slice_index_or c.issue_name.new.clients.items k c.index-in-loop-name.result.now) c.from-client.ensures in
     let now = client_now s n c.loop-name.clients.items c.issue_name.new.clients.items c.index-in-loop-name.result.now (omega (arith, lt, c.loop-name.invariant.clients.count)) c.in_ok-effect.ensures.clients found in
     subst (λ (x : Client). IsDrawable x.context.state x.context.images c.loop-name.shared) (sym now)
-    (drawable s.decl (context_after s n.client (n.place + 1)) (textures_after s (take i c.args.order.now)) c.loop-name.shared (valid s c.requires.commands n.client (n.place + 1)) c.loop-name.invariant.texels c.requires.sides)
+    (drawable s.decl (context_after s n.client (n.place + 1)) (textures_after s (take i c.args.order.now)) c.loop-name.shared (valid s c.requires.within.commands n.client (n.place + 1)) c.loop-name.invariant.texels (within_has_sides s c.requires.within))
 
 pub carry_out-requires-clause-clearable : goal.carry_out-requires-clause-clearable
 carry_out-requires-clause-clearable c =
@@ -92,7 +93,7 @@ carry_out-requires-clause-writable c part is =
     let i = c.loop-name.name-index in
     let n = slice_index_or c.args.order.now i none in
     let next = c.requires.playable.next i n (slice_get-get_or c.args.order.now i none c.loop-name-test.true) in
-    writable s n.client n.place _ (textures_after s (take i c.args.order.now)) c.loop-name.shared part c.requires.commands (some_command s n.client n.place next.1) c.loop-name.invariant.texels
+    writable s n.client n.place _ (textures_after s (take i c.args.order.now)) c.loop-name.shared part c.requires.within.commands (some_command s n.client n.place next.1) c.loop-name.invariant.texels
     (sym c.in_ok-effect.ensures.effect ∙ is)
 
 pub loop-name-preserved : goal.loop-name-preserved
@@ -127,11 +128,11 @@ loop-name-preserved c =
       clients = subst (λ (l : List Name). AreIssued s l ys) (sym parts.1) (clients_next s done n xs ys inv.clients next.0 lt c.in_ok-effect.ensures.clients);
       texels = rw parts.1
           (texels_after s done n c.in_ok-effect.effect c.loop-name.shared c.carry_out.new.shared c.in_ok-effect.ensures.effect inv.texels
-          (λ p is. writable s n.client n.place _ (textures_after s done) c.loop-name.shared p c.requires.commands (some_command s n.client n.place next.1) inv.texels (sym c.in_ok-effect.ensures.effect ∙ is))
+          (λ p is. writable s n.client n.place _ (textures_after s done) c.loop-name.shared p c.requires.within.commands (some_command s n.client n.place next.1) inv.texels (sym c.in_ok-effect.ensures.effect ∙ is))
           c.carry_out.ensures.shared);
       shown = subst (λ (l : List Name). IsShown s order l c.carry_out.new.device new) (sym parts.1)
           (shown_next s order done rest n d c.carry_out.new.device old new c.requires.playable parts.0 inv.shown count images c.carry_out.ensures.rect
           (λ x y inside. c.carry_out.ensures.drawn x y inside
           ∙ step_is s n _ (textures_after s done) c.loop-name.shared c.index-in-loop-name.result.now.context c.in_ok-effect.effect x y (pixel_of d x y) (some_command s n.client n.place next.1)
-          (ap (λ (z : Client). z.context) now) c.in_ok-effect.ensures.effect (valid s c.requires.commands n.client (n.place + 1)) inv.texels));
+          (ap (λ (z : Client). z.context) now) c.in_ok-effect.ensures.effect (valid s c.requires.within.commands n.client (n.place + 1)) inv.texels));
     }

@@ -6,8 +6,8 @@ use Rattle.rc_base.specs.Orders.Sync.{sync_row_of}
 use Rattle.rc_base.specs.declared.state.Fault.{Fault}
 use Rattle.rc_base.specs.declared.sync.SyncRow.{SyncRow}
 use Rattle.std.proofs.Common.{sym, subst}
-use Rattle.serial_render.specs.Turns.{AreDeclared}
-use Rattle.serial_render.proofs.DeclaredOperations.{scene_declared}
+use Rattle.serial_render.specs.Turns.{CanTakeTurns}
+use Rattle.serial_render.proofs.DeclaredOperations.{takes_turns}
 use Rattle.serial_render.proofs.SurveyedStreams.{map_more, lists_are, faults_are, faults_count}
 use Rattle.serial_render.proofs.streams.survey.Goals as goal
 
@@ -48,5 +48,5 @@ returns-clause-faults c =
     let all : c.loop-client.client ≡ length s.streams = omega (arith, c.loop-client-test.false, c.loop-client.auto.client-end, c.len-client-end.ensures) in
     faults_are s c.loop-client.faults (c.loop-client.invariant.faults ∙ ap (λ (n : ℕ). map (faults_of s) (range_with_len 0 n)) all)
 
-pub returns-clause-declared : goal.returns-clause-declared
-returns-clause-declared c = subst AreDeclared (sym (returns-clause-syncs c)) (scene_declared c.args.scene.now c.requires.commands)
+pub returns-clause-turns : goal.returns-clause-turns
+returns-clause-turns c = subst CanTakeTurns (sym (returns-clause-syncs c)) (takes_turns c.args.scene.now c.requires)

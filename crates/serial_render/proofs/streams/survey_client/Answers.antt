@@ -1,8 +1,8 @@
-use Rattle.std.proofs.Common.{◌++◌, ◌∙◌, ap, List}
+use Rattle.std.proofs.Common.{◌++◌, ◌∙◌, ap, arith, List, sym}
 use Rattle.rc_base.specs.Orders.Sync.{wait_of}
 use Rattle.rc_base.specs.declared.sync.WaitAt.{WaitAt}
+use Rattle.rc_base.proofs.WithinLimits.{few_commands}
 use Rattle.gl_context.proofs.OneMoreCommand.{begins}
-use Rattle.std.proofs.Common.{sym}
 use Rattle.serial_render.proofs.SurveyedStreams.{no_waits, one_more_wait}
 use Rattle.serial_render.proofs.streams.survey_client.Goals as goal
 
@@ -23,3 +23,9 @@ loop-place-preserved c =
           ∙ ap (λ (ws : List WaitAt). ws ++ wait_of place c.in_ok-effect.effect) c.loop-place.invariant.ops
           ∙ one_more_wait c.args.scene.now c.args.client place c.in_ok-effect.effect c.in_ok-effect.ensures.effect;
     }
+
+pub overflow_cast-place : goal.overflow_cast-place
+overflow_cast-place c = let few = few_commands c.args.scene.now c.requires.within.limits c.args.client in omega (arith, few)
+
+pub overflow_cast-row : goal.overflow_cast-row
+overflow_cast-row c = let few = few_commands c.args.scene.now c.requires.within.limits c.args.client in omega (arith, few)

@@ -1,56 +1,51 @@
-use Rattle.std.proofs.Common.{subst}
-use Rattle.step_core.specs.Rounds.{Rounds}
-use Rattle.step_core.proofs.RoundsReach.{begins, leads_on, seen_under_way, stands_still, at_end, is_finish}
+use Rattle.std.proofs.Common.{ap, ◌∙◌, subst}
+use Rattle.step_core.specs.Rounds.{IsOnTheWay, Rounds}
+use Rattle.step_core.specs.Schedules.{WorldView}
+use Rattle.step_core.proofs.RoundsReach.{begins, leads_on, still_never, seen, at_end, finishes}
 use Rattle.step_core.proofs.rounds.finish.Goals as goal
 
 pub loop-init : goal.loop-init
-loop-init c = begins record {
-  goes_on = c.runs_go_on.ensures;
-  one = c.one_schedule_has_one_run.ensures;
-  still = c.ended_worlds_rest.ensures.still;
-  ended = c.ended_worlds_rest.ensures.ended;
-  told = c.ended_worlds_rest.ensures.told;
-} c.args.world
+loop-init c =
+    let w = c.world.inside in
+    subst (λ world. IsOnTheWay world 0 w.cluster) c.world.view_is
+    (begins record {
+      goes_on = c.runs_go_on.ensures;
+      one = c.one_schedule_has_one_run.ensures;
+      still = c.ended_worlds_rest.ensures.still;
+      ended = c.ended_worlds_rest.ensures.ended;
+      told = c.ended_worlds_rest.ensures.told;
+      moving = c.rounds_move_somebody.ensures.run;
+      less = c.moves_leave_less.ensures.all;
+      little = c.moves_leave_less.ensures.little;
+      sound = c.schedules_keep_worlds_sound.ensures.runs;
+    } w.scene.value w.layout w.depth w.decl w.moves.items w.cluster c.world.invariant)
 
 pub round-requires : goal.round-requires
-round-requires c = seen_under_way record {
+round-requires c = seen record {
   goes_on = c.runs_go_on.ensures;
   one = c.one_schedule_has_one_run.ensures;
   still = c.ended_worlds_rest.ensures.still;
   ended = c.ended_worlds_rest.ensures.ended;
   told = c.ended_worlds_rest.ensures.told;
-} c.loop.counter c.args.decl.now c.args.world c.loop.world c.requires c.loop.invariant
+  moving = c.rounds_move_somebody.ensures.run;
+  less = c.moves_leave_less.ensures.all;
+  little = c.moves_leave_less.ensures.little;
+  sound = c.schedules_keep_worlds_sound.ensures.runs;
+} c.args.world c.loop.counter c.loop.cluster c.loop.invariant
 
-pub returns-in-Still-clause-standstill : goal.returns-in-Still-clause-standstill
-returns-in-Still-clause-standstill c scene l depth picks can is run = stands_still record {
+pub unreachable-requires : goal.unreachable-requires
+unreachable-requires c = still_never record {
   goes_on = c.runs_go_on.ensures;
   one = c.one_schedule_has_one_run.ensures;
   still = c.ended_worlds_rest.ensures.still;
   ended = c.ended_worlds_rest.ensures.ended;
   told = c.ended_worlds_rest.ensures.told;
-} scene l depth picks can c.loop.counter c.loop.world c.round.new.self (c.loop.invariant.each scene l depth picks can run)
-    (subst (λ r. Rounds c.loop.world r c.round.new.self) c.in-Still.is c.in_ok-round.ensures)
-
-pub gather-requires : goal.gather-requires
-gather-requires c = at_end record {
-  goes_on = c.runs_go_on.ensures;
-  one = c.one_schedule_has_one_run.ensures;
-  still = c.ended_worlds_rest.ensures.still;
-  ended = c.ended_worlds_rest.ensures.ended;
-  told = c.ended_worlds_rest.ensures.told;
-} c.loop.counter c.args.decl.now c.args.world c.loop.world c.round.new.self c.requires c.loop.invariant
-    (subst (λ r. Rounds c.loop.world r c.round.new.self) c.in-Ended.is c.in_ok-round.ensures)
-
-pub returns-in-Ended-clause-done : goal.returns-in-Ended-clause-done
-returns-in-Ended-clause-done c scene l depth picks can is run = is_finish record {
-  goes_on = c.runs_go_on.ensures;
-  one = c.one_schedule_has_one_run.ensures;
-  still = c.ended_worlds_rest.ensures.still;
-  ended = c.ended_worlds_rest.ensures.ended;
-  told = c.ended_worlds_rest.ensures.told;
-} scene l depth picks can c.loop.counter c.loop.world c.round.new.self (c.loop.invariant.each scene l depth picks can run)
-    c.args.decl.now c.in_ok-gather-in-Ended.field-0 is
-    (subst (λ r. Rounds c.loop.world r c.round.new.self) c.in-Ended.is c.in_ok-round.ensures) c.in_ok-gather-in-Ended.ensures
+  moving = c.rounds_move_somebody.ensures.run;
+  less = c.moves_leave_less.ensures.all;
+  little = c.moves_leave_less.ensures.little;
+  sound = c.schedules_keep_worlds_sound.ensures.runs;
+} c.args.world c.loop.counter c.loop.cluster c.loop.invariant c.round.new.self
+    (subst (λ r. Rounds c.loop.cluster r c.round.new.self) c.in-Still.is c.in_ok-round.ensures)
 
 pub loop-preserved : goal.loop-preserved
 loop-preserved c = leads_on record {
@@ -59,5 +54,42 @@ loop-preserved c = leads_on record {
   still = c.ended_worlds_rest.ensures.still;
   ended = c.ended_worlds_rest.ensures.ended;
   told = c.ended_worlds_rest.ensures.told;
-} c.loop.counter c.args.world c.loop.world c.round.new.self c.loop.invariant
-    (subst (λ r. Rounds c.loop.world r c.round.new.self) c.in-Moved.is c.in_ok-round.ensures)
+  moving = c.rounds_move_somebody.ensures.run;
+  less = c.moves_leave_less.ensures.all;
+  little = c.moves_leave_less.ensures.little;
+  sound = c.schedules_keep_worlds_sound.ensures.runs;
+} c.args.world c.loop.counter c.loop.cluster c.loop.invariant c.round.new.self
+    (subst (λ r. Rounds c.loop.cluster r c.round.new.self) c.in-Moved.is c.in_ok-round.ensures)
+
+pub gather-requires : goal.gather-requires
+gather-requires c =
+    let same = c.world.invariant.decl_is ∙ ap (λ (v : WorldView). v.scene.decl) c.world.view_is in
+    at_end record {
+      goes_on = c.runs_go_on.ensures;
+      one = c.one_schedule_has_one_run.ensures;
+      still = c.ended_worlds_rest.ensures.still;
+      ended = c.ended_worlds_rest.ensures.ended;
+      told = c.ended_worlds_rest.ensures.told;
+      moving = c.rounds_move_somebody.ensures.run;
+      less = c.moves_leave_less.ensures.all;
+      little = c.moves_leave_less.ensures.little;
+      sound = c.schedules_keep_worlds_sound.ensures.runs;
+    } c.args.world c.loop.counter c.loop.cluster c.loop.invariant c.world.inside.decl c.round.new.self same
+    (subst (λ r. Rounds c.loop.cluster r c.round.new.self) c.in-Ended.is c.in_ok-round.ensures)
+
+pub returns-in-Ended-clause-done : goal.returns-in-Ended-clause-done
+returns-in-Ended-clause-done c =
+    let same = c.world.invariant.decl_is ∙ ap (λ (v : WorldView). v.scene.decl) c.world.view_is in
+    finishes record {
+      goes_on = c.runs_go_on.ensures;
+      one = c.one_schedule_has_one_run.ensures;
+      still = c.ended_worlds_rest.ensures.still;
+      ended = c.ended_worlds_rest.ensures.ended;
+      told = c.ended_worlds_rest.ensures.told;
+      moving = c.rounds_move_somebody.ensures.run;
+      less = c.moves_leave_less.ensures.all;
+      little = c.moves_leave_less.ensures.little;
+      sound = c.schedules_keep_worlds_sound.ensures.runs;
+    } c.args.world c.loop.counter c.loop.cluster c.loop.invariant c.world.inside.decl c.round.new.self
+    c.in_ok-gather-in-Ended.field-0 same (subst (λ r. Rounds c.loop.cluster r c.round.new.self) c.in-Ended.is c.in_ok-round.ensures)
+    c.in_ok-gather-in-Ended.ensures

@@ -2,6 +2,8 @@ use Rattle.std.proofs.Common.{◌∙◌, ap, sym}
 use Rattle.rc_base.specs.Cluster.Parcels.{effect_by}
 use Rattle.rc_base.specs.Drawing.PixelStep.{effect_step}
 use Rattle.rc_base.specs.declared.state.Act.{Act}
+use Rattle.rc_base.specs.declared.state.Act.TheVariants as act
+use Rattle.rc_base.specs.declared.state.State.{State}
 use Rattle.textures.specs.Images.{texture_image}
 use Rattle.draw_device.specs.Conditions.{shared_of}
 use Rattle.draw_device.specs.Devices.{pixel_of}
@@ -18,5 +20,7 @@ returns-in-Clear-clause-drawn c x y inside =
     let k = c.args.kept.now in
     let privates = texture_image k.images in
     let shareds = shared_of c.args.shared.now in
+    let pixel = pixel_of c.args.device.now x y in
     c.clear.ensures.drawn privates shareds x y inside
-    ∙ sym (ap (λ (a : Act). effect_step k.state privates shareds (effect_by a) x y (pixel_of c.args.device.now x y)) c.in-Clear.is)
+    ∙ ap (λ (s : State). effect_step s privates shareds (effect_by (act.Clear c.in-Clear.mask)) x y pixel) c.switch-in-Clear.ensures.state
+    ∙ sym (ap (λ (a : Act). effect_step k.state privates shareds (effect_by a) x y pixel) c.in-Clear.is)

@@ -4,8 +4,12 @@ use Rattle.rc_base.specs.Cluster.Sending.{ToTile}
 use Rattle.rc_base.specs.declared.state.Act.{Act}
 use Rattle.client_issue.specs.Sequence.{IsSendingWith, left_of}
 use Rattle.client_issue.specs.declared.pending.Pending.{Pending}
-use Rattle.client_issue.proofs.ParcelGiven.{IsGiven, given_all, given_one, left_last, left_more, parcel_by}
+use Rattle.client_issue.proofs.ParcelGiven.{bound_texture, IsGiven, given_all, given_one, left_last, left_more, parcel_by}
 use Rattle.client_issue.proofs.sender.Sender.give_parcel.Goals as goal
+
+pub sets_with-requires-clause-bound : goal.sets_with-requires-clause-bound
+sets_with-requires-clause-bound c =
+    bound_texture c.args.self.now (Some c.args.pending) c.contexts_of_streams_are_valid.ensures c.valid_contexts_have_their_texture.ensures c.requires.sending
 
 facts : (c : goal.Then-next-self) → IsGiven c.args.self.now c.args.pending c.sets_with.new.tracker c.in_ok-sets.sets c.next_tile-next.result
 facts c = record {

@@ -3,15 +3,14 @@ use Rattle.std.specs.declared.option.Option.{Option}
 use Rattle.rc_base.specs.Cluster.Sending.{ToManager, request_of}
 use Rattle.rc_base.specs.declared.sync.WaitAt.{WaitAt}
 use Rattle.client_issue.specs.Sequence.{left_of}
-use Rattle.client_issue.proofs.Requesting.{request_left, nothing_left}
+use Rattle.client_issue.proofs.Requesting.{request_left, over_of}
 use Rattle.client_issue.proofs.sender.Sender.give_request.Goals as goal
 
 pub returns-in_default-clause-all : goal.returns-in_default-clause-all
 returns-in_default-clause-all c =
     let s = c.args.self.now in
     let asks = sym c.take.ensures.value ∙ c.in_default.is in
-    let over = c.requires.over asks in
-    (nothing_left (record s { request = c.take.new.self }) c.requires.none c.take.ensures.after over, over)
+    over_of (record s { request = c.take.new.self }) c.requires.none c.take.ensures.after (c.requires.over asks)
 
 pub returns-clause-left : goal.returns-clause-left
 returns-clause-left c =

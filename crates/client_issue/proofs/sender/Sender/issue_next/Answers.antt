@@ -1,5 +1,8 @@
-use Rattle.std.proofs.Common.{◌≡◌, ℕ, arith, false, ◌∙◌, ◌+◌, ap, subst, sym, ◌<◌, length, ◌++◌}
+use Rattle.std.proofs.Common.{◌≡◌, ℕ, arith, false, List, get_or, ◌∙◌, ◌+◌, ap, subst, sym, ◌<◌, length, ◌++◌}
 use Rattle.std.specs.Prelude.{MatchOption}
+use Rattle.std.proofs.Math.Logic.{∥∥₁_elim}
+use Rattle.rc_base.specs.Formats.Commands.{IsCommand}
+use Rattle.rc_base.specs.declared.command.Command.{Command}
 use Rattle.std.specs.declared.option.Option.{Option}
 use Rattle.std.specs.Option.{option_to_list}
 use Rattle.rc_base.specs.declared.state.State.{State}
@@ -8,8 +11,16 @@ use Rattle.client_issue.specs.Acts.{asks_of}
 use Rattle.client_issue.specs.First.{IsFirst}
 use Rattle.client_issue.specs.Sequence.{scene_of, IsSendingWith, left_of}
 use Rattle.client_issue.specs.declared.pending.Pending.{Pending}
-use Rattle.client_issue.proofs.Issuing.{IsIssued, command_is, issued_sending, issued_left}
+use Rattle.client_issue.proofs.Issuing.{IsIssued, HasTexels-prop, command_in, command_is, issued_sending, issued_left}
 use Rattle.client_issue.proofs.sender.Sender.issue_next.Goals as goal
+
+pub issue-requires-clause-texels : goal.issue-requires-clause-texels
+issue-requires-clause-texels c =
+    let s = c.args.self.now in
+    let x = c.index-as_slice-place.result in
+    let less : s.issued < length s.stream = c.requires.more in
+    let found : x ≡ get_or s.stream s.issued x = c.index-as_slice-place.is ∙ ap (λ (cs : List Command). get_or cs s.issued x) c.as_slice.ensures in
+    ∥∥₁_elim c.requires.sending.commands (HasTexels-prop x) (λ commands. c.commands_have_texels.ensures x (subst IsCommand (sym found) (command_in s.stream s.issued x commands less)))
 
 facts : (c : goal.After-self-2-1) → IsIssued c.args.self.now c.index-as_slice-place.result c.issue.new.self c.in_ok-effect.effect c.pending_of.result c.add.new.ops
 facts c =

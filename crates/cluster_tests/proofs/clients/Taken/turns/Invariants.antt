@@ -1,10 +1,7 @@
 use Rattle.std.proofs.Common.{◌≡◌, length}
 use Rattle.rc_base.specs.Cluster.Tiles.{tile_count}
-use Rattle.client_issue.specs.Cores.{IsClient, layout_of}
+use Rattle.client_issue.specs.Cores.{layout_of}
 use Rattle.cluster_tests.proofs.clients.Taken.turns.Given as goal
 
 abbrev pub invariant-loop : goal.invariant-loop
-invariant-loop l = record {
-  client : IsClient l.run.core;
-  lanes : length l.run.tiles.items ≡ tile_count (layout_of l.run.core);
-}
+invariant-loop l = length l.run.tiles.items ≡ tile_count (layout_of l.run.core)

@@ -1,5 +1,6 @@
 use Rattle.std.proofs.Common.{◌≡◌, ℕ, ◌+◌, ◌∙◌, Bool, arith, ap, sym, if◌then◌else◌}
 use Rattle.rc_base.specs.Drawing.Serial.{is_swap_effect, accepted_swaps}
+use Rattle.rc_base.proofs.WithinLimits.{few_commands}
 use Rattle.serial_render.specs.declared.client.Client.{Client}
 use Rattle.serial_render.proofs.PaintedOrders.{swaps_next, swaps_most, byte_most, byte_is}
 use Rattle.serial_render.proofs.client.Client.issue.Goals as goal
@@ -8,7 +9,7 @@ pub overflow_add-self : goal.overflow_add-self
 overflow_add-self c =
     let s = c.args.scene.now in
     let swaps : c.args.self.now.swaps ≡ accepted_swaps s c.args.client c.args.place = ap (λ (x : Client). x.swaps) c.requires.before in
-    omega (arith, swaps, swaps_most s c.args.client c.args.place, c.requires.inside, c.requires.few c.args.client, c.from.ensures, byte_most c.is_swap.result)
+    omega (arith, swaps, swaps_most s c.args.client c.args.place, c.requires.inside, few_commands s c.requires.within.limits c.args.client, c.from.ensures, byte_most c.is_swap.result)
 
 pub returns-clause-client : goal.returns-clause-client
 returns-clause-client c =

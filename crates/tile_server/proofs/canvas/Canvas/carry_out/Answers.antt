@@ -17,8 +17,8 @@ use Rattle.tile_server.specs.declared.kept.KeptClient.{KeptClient}
 use Rattle.tile_server.proofs.DrawnParcels.{act_given, are_fit, carried_out, clearable, just_set, kept_at, still_fit, texel_sampled, whole_after}
 use Rattle.tile_server.proofs.canvas.Canvas.carry_out.Goals as goal
 
-pub invariant_of-self : goal.invariant_of-self
-invariant_of-self c =
+pub invariant_of-self-in-Break-1 : goal.invariant_of-self-in-Break-1
+invariant_of-self-in-Break-1 c =
     let canvas = c.args.self.now in
     let kept = canvas.kept.items in
     let i = c.from-client.result in

@@ -1,0 +1,209 @@
+//! Small scenes on clusters, with the images and the lines that were worked out by hand.
+use super::orders::BLENDED_IN_TURN;
+use super::run_text;
+use super::seeds::SHARED_BEHIND_A_BARRIER;
+use std::alloc::Global;
+use std::process::Abort;
+
+// A client that does nothing, and one that swaps alone.
+const SWAP_ALONE: &[u8] = b"scene 1 1 1\nclient\nclient\nSwap\n";
+
+const SWAP_ALONE_REPORT: &str =
+    "tile 0 parcels 3 sets 0\njournal 0\nframes 0\nstuck client 1 at 0 Swap\nrc: stuck\n";
+
+// A quad of two triangles, added to what is there: where the shared edge runs through a centre, the pixel is drawn once.
+const ADDED_QUAD: &[u8] = b"scene 1 4 4
+client
+Enable 3
+BlendFunc 1 1
+Color 100 100 100 100
+Begin 1
+Vertex -65536 -65536 0 65536
+Vertex 65536 -65536 0 65536
+Vertex -65536 65536 0 65536
+Vertex 65536 65536 0 65536
+End
+Swap
+";
+
+// A blue triangle over the whole window, of which no corner lies in eight of the nine tiles.
+const ONE_TRIANGLE: &[u8] = b"scene 1 6 6
+client
+Color 0 0 255 255
+Begin 0
+Vertex -65536 -65536 0 65536
+Vertex 196608 -65536 0 65536
+Vertex -65536 196608 0 65536
+End
+Swap
+";
+
+// A clear in a scissor box that lies in the last of eight tiles.
+const CORNER_CLEARED: &[u8] =
+    b"scene 1 5 3\nclient\nEnable 0\nScissor 3 1 2 2\nClearColor 0 255 0 255\nClear 1\nSwap\n";
+
+const CORNER_FRAME: &[u8] = b"P6\n5 3\n255\n\
+    \0\0\0\0\0\0\0\0\0\0\xff\0\0\xff\0\
+    \0\0\0\0\0\0\0\0\0\0\xff\0\0\xff\0\
+    \0\0\0\0\0\0\0\0\0\0\0\0\0\0\0";
+
+// A triangle with a corner whose w is 0: it is dropped.
+const DROPPED: &[u8] = b"scene 1 1 1
+client
+Begin 0
+Vertex -65536 -65536 0 65536
+Vertex 196608 -65536 0 65536
+Vertex -65536 196608 0 0
+End
+Swap
+";
+
+// The lines of tiles that were sent as much, from 0 on; then the lines that follow.
+fn report(
+    rt: &impl Abort,
+    alloc: Global,
+    tiles: u32,
+    parcels: u32,
+    sets: u32,
+    rest: &str,
+) -> Vec<u8> {
+    let mut lines = Vec::new(alloc);
+    for tile in 0..tiles {
+        let line = format!(in alloc; "tile {tile} parcels {parcels} sets {sets}\n").expect(
+            rt, "memory",
+        );
+        lines
+            .extend_from_slice(line.as_bytes())
+            .expect(rt, "memory");
+    }
+    lines
+        .extend_from_slice(rest.as_bytes())
+        .expect(rt, "memory");
+    lines
+}
+
+// A frame of one colour.
+fn filled(
+    rt: &impl Abort,
+    alloc: Global,
+    header: &[u8],
+    pixels: u32,
+    colour: (u8, u8, u8),
+) -> Vec<u8> {
+    let mut text = Vec::from_slice(alloc, header).expect(rt, "memory");
+    for _ in 0..pixels {
+        text.push(colour.0).expect(rt, "memory");
+        text.push(colour.1).expect(rt, "memory");
+        text.push(colour.2).expect(rt, "memory");
+    }
+    text
+}
+
+// A scene, its words, the colour of its pixels, and what is sent to each tile.
+type Row<'a> = (
+    &'a [&'a str],
+    &'a [u8],
+    &'a [u8],
+    u32,
+    (u8, u8, u8),
+    (u32, u32, u32),
+    &'a str,
+);
+
+// The job leaves a frame of one colour, and as much is sent to each tile.
+fn draws(rt: &impl Abort, alloc: Global, row: Row) -> bool {
+    let (job, text, header, pixels, colour, (tiles, parcels, sets), rest) = row;
+    let left = run_text(rt, alloc, job, text, &[]);
+    let frame = filled(rt, alloc, header, pixels, colour);
+    let lines = report(rt, alloc, tiles, parcels, sets, rest);
+    left.is(0, frame.as_slice(), lines.as_slice())
+}
+
+#[test]
+fn frames_of_one_colour(rt: HostRuntime) {
+    let rows: [Row; 6] = [
+        (
+            &["render"],
+            ADDED_QUAD,
+            b"P6\n4 4\n255\n",
+            16,
+            (0x64, 0x64, 0x64),
+            (1, 3, 2),
+            "journal 1\nframes 1\n",
+        ),
+        (
+            &["render", "--tiles", "3x3"],
+            ONE_TRIANGLE,
+            b"P6\n6 6\n255\n",
+            36,
+            (0, 0, 255),
+            (9, 3, 0),
+            "journal 1\nframes 1\n",
+        ),
+        (
+            &["render"],
+            DROPPED,
+            b"P6\n1 1\n255\n",
+            1,
+            (0, 0, 0),
+            (1, 2, 0),
+            "journal 1\nframes 1\n",
+        ),
+        (
+            &["render", "--tiles", "2x1"],
+            BLENDED_IN_TURN,
+            b"P6\n2 1\n255\n",
+            2,
+            (0x40, 0, 0x80),
+            (2, 10, 4),
+            "journal 5\nframes 1\n",
+        ),
+        (
+            &["render", "--tiles", "8x2", "--depth", "1"],
+            SHARED_BEHIND_A_BARRIER,
+            b"P6\n8 2\n255\n",
+            16,
+            (0, 255, 0),
+            (16, 8, 3),
+            "journal 2\nframes 1\n",
+        ),
+        (
+            &["simulate", "--seed", "3", "--tiles", "8x2", "--depth", "1"],
+            SHARED_BEHIND_A_BARRIER,
+            b"P6\n8 2\n255\n",
+            16,
+            (0, 255, 0),
+            (16, 8, 3),
+            "journal 2\nframes 1\n",
+        ),
+    ];
+    for row in rows {
+        assert!(rt; draws(&rt, rt.alloc(), row));
+    }
+}
+
+#[test]
+fn a_corner_is_cleared_by_its_tile(rt: HostRuntime) {
+    let left = run_text(
+        &rt,
+        rt.alloc(),
+        &["render", "--tiles", "4x2"],
+        CORNER_CLEARED,
+        &[],
+    );
+    let lines = report(
+        &rt,
+        rt.alloc(),
+        7,
+        2,
+        0,
+        "tile 7 parcels 3 sets 3\njournal 1\nframes 1\n",
+    );
+    assert!(rt; left.is(0, CORNER_FRAME, lines.as_slice()));
+}
+
+#[test]
+fn a_swap_alone_is_stuck(rt: HostRuntime) {
+    let left = run_text(&rt, rt.alloc(), &["render"], SWAP_ALONE, &[]);
+    assert!(rt; left.is(5, b"", SWAP_ALONE_REPORT.as_bytes()));
+}

@@ -1,0 +1,121 @@
+-- What is due for a scene, job by job.
+use Rattle.std.specs.Prelude.{◌≡◌, ℕ, ◌<◌, Bool, false, List, [], Option, Some, None, if◌then◌else◌}
+use Rattle.rc_base.specs.Cluster.Tiles.{tile_count}
+use Rattle.rc_base.specs.Drawing.Images.{frame_images}
+use Rattle.rc_base.specs.Formats.Netpbm.{p6_texts}
+use Rattle.rc_base.specs.Formats.Spelling.{SpellsScene}
+use Rattle.rc_base.specs.Formats.Text.Printed.{printed}
+use Rattle.rc_base.specs.Formats.Text.Read.{SpellsText}
+use Rattle.rc_base.specs.Orders.Order.{IsPermitted, default_journal, default_order}
+use Rattle.rc_base.specs.Orders.Sync.{sync_lists_of}
+use Rattle.rc_base.specs.Program.Generator.{picks_of}
+use Rattle.rc_base.specs.declared.image.Image.{Image}
+use Rattle.rc_base.specs.declared.scene.Scene.{Scene}
+use Rattle.rc_base.specs.declared.sync.Entry.{Entry}
+use Rattle.rc_base.specs.declared.window.Layout.{Layout}
+use Rattle.order_model.specs.Report.{frame_count, image_text_of, is_stuck, report_text_of, short_report_of, tile_order}
+use Rattle.order_model.specs.Sent.{IsRecordOf}
+use Rattle.order_model.specs.declared.record.Record.{Record}
+use Rattle.scene_file.specs.Written.{written}
+use Rattle.world_model.specs.Laws.{IsRecordIn}
+use Rattle.world_model.specs.declared.moves.Move.{Move}
+use Rattle.world_model.specs.Runs.{IsFinishedRun, StandsStill}
+use Rattle.world_model.specs.World.{World}
+use Rattle.render_core.specs.Jobs.{layout_for, actors_for}
+use Rattle.render_core.specs.declared.due.Ending.{Ending}
+use Rattle.render_core.specs.declared.due.Ending.TheVariants.{Complete, Stuck}
+use Rattle.render_core.specs.declared.job.Cluster.{Cluster}
+use Rattle.render_core.specs.declared.job.Job.{Job}
+use Rattle.render_core.specs.declared.job.Job.TheVariants.{Render, Simulate, Serial, Check, Pack, Unpack}
+
+-- bytes to the image, bytes to the notes, how the run ends that writes them, and of a cluster the record that is kept
+pub record Outcome : Type 0 where
+  pub image : List ℕ
+  pub notes : List ℕ
+  pub ending : Ending
+  pub kept : Option Record
+
+-- the status of a run that comes to its end
+abbrev pub ending_status : Ending → ℕ
+ending_status Complete = 0
+ending_status Stuck = 5
+
+-- stuck exactly where the journal leaves a client waiting
+abbrev pub ending_by : Scene → List Entry → Ending
+ending_by scene journal = if is_stuck (sync_lists_of scene) journal then Stuck else Complete
+
+-- ---- of a cluster
+
+-- the report of a cluster's record, with each tile's order where that is asked for
+abbrev pub report_due : Scene → Layout → Record → Bool → List ℕ
+report_due scene l kept orders = report_text_of scene l kept (record { looks = false; orders = orders })
+
+-- What every run of a cluster owes, whoever picked its actors' turns: it keeps a lawful record of the scene on the tiles of the words, in which each
+-- tile's order is one that the journal permits. Its image text is that of the record: each tile's pixels of each frame are those of one serial
+-- renderer in the order that the tile's log records. Its report is the record's, and it is stuck where the journal leaves a client waiting.
+pub record IsRecorded (cluster : Cluster) (scene : Scene) (o : Outcome) : Type 0 where
+  pub record_kept : Record
+  pub kept : o.kept ≡ Some record_kept
+  pub lawful : IsRecordOf scene (layout_for cluster scene) record_kept
+  pub permitted : (tile : ℕ) → tile < tile_count (layout_for cluster scene)
+      → IsPermitted (sync_lists_of scene) record_kept.journal (tile_order record_kept tile)
+  pub image : o.image ≡ image_text_of scene (layout_for cluster scene) record_kept
+  pub notes : o.notes ≡ report_due scene (layout_for cluster scene) record_kept cluster.orders
+  pub ending : o.ending ≡ ending_by scene record_kept.journal
+
+-- The record is that of the stepped run of these picks, behind which come rounds of one pick for each actor until all have ended.
+pub record IsSteppedRecord (scene : Scene) (l : Layout) (depth : ℕ) (picks : List ℕ) (kept : Record) : Type 0 where
+  pub rounds : ℕ
+  pub moves : List Move
+  pub world : World
+  pub finished : IsFinishedRun scene l depth picks rounds moves world
+  pub record_of : IsRecordIn scene l world kept
+
+-- what a cluster owes whose turns are these picks, and then rounds
+pub record IsStepped (cluster : Cluster) (picks : List ℕ) (scene : Scene) (o : Outcome) : Type 0 where
+  pub recorded : IsRecorded cluster scene o
+  pub stepped : IsSteppedRecord scene (layout_for cluster scene) cluster.depth picks recorded.record_kept
+
+-- a whole round of that run moves nobody, though somebody hasn't ended
+pub record IsStandstill (scene : Scene) (l : Layout) (depth : ℕ) (picks : List ℕ) : Type 0 where
+  pub rounds : ℕ
+  pub moves : List Move
+  pub last : List Move
+  pub world : World
+  pub still : StandsStill scene l depth picks rounds moves last world
+
+-- the picks of a seed for the cluster's actors
+abbrev pub seeded_picks : ℕ → Cluster → Scene → List ℕ
+seeded_picks seed cluster scene = picks_of seed (actors_for cluster scene)
+
+-- ---- without a cluster
+
+-- the default journal of a scene
+abbrev pub journal_of : Scene → List Entry
+journal_of scene = default_journal (sync_lists_of scene)
+
+-- the frames of its default order, one for each Swap of the default journal
+unfoldable pub default_frames : Scene → List Image
+default_frames scene = frame_images scene (default_order (sync_lists_of scene) (journal_of scene)) (frame_count (journal_of scene))
+
+unfoldable pub default_ending : Scene → Ending
+default_ending scene = ending_by scene (journal_of scene)
+
+-- ---- job by job
+
+-- This is due for the scene: one case for each job. What is packed or unpacked spells the scene again, in the other form.
+unfoldable pub IsOutcome : Job → Scene → Outcome → Type 0
+IsOutcome (Render cluster) scene o = IsRecorded cluster scene o
+IsOutcome (Simulate seed cluster) scene o = IsStepped cluster (seeded_picks seed cluster scene) scene o
+IsOutcome Serial scene o =
+    o ≡ record { image = p6_texts (default_frames scene); notes = short_report_of scene (journal_of scene); ending = default_ending scene; kept = None }
+IsOutcome Check scene o = o ≡ record { image = []; notes = short_report_of scene (journal_of scene); ending = default_ending scene; kept = None }
+IsOutcome Pack scene o = (o ≡ record { image = written scene; notes = []; ending = Complete; kept = None }) × SpellsScene o.image scene
+IsOutcome Unpack scene o = (o ≡ record { image = printed scene; notes = []; ending = Complete; kept = None }) × SpellsText o.image scene
+
+-- Nothing is due, since a whole round of the seeded cluster moved nobody, though an actor hadn't ended.
+pub record Stands (job : Job) (scene : Scene) : Type 0 where
+  pub seed : ℕ
+  pub cluster : Cluster
+  pub simulated : job ≡ Simulate seed cluster
+  pub still : IsStandstill scene (layout_for cluster scene) cluster.depth (seeded_picks seed cluster scene)

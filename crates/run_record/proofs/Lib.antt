@@ -1,0 +1,8 @@
+mod Paired
+mod KeptMore
+mod FramesTurned
+mod FewParcels
+mod TalliesSum
+mod ClientsBeyond
+mod ClosedRuns
+mod RecordedRuns

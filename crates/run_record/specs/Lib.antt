@@ -1,0 +1,6 @@
+pub mod Told
+pub mod Gathering
+pub mod Frames
+pub mod Kept
+pub mod Closed
+pub mod Collected

@@ -1,2 +1,0 @@
-mod Layouts
-mod Streams

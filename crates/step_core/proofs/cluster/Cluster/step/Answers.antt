@@ -1,0 +1,10 @@
+use Rattle.std.proofs.Common.{◌≡◌, ◌+◌, ◌-◌, ℕ, IfOk, length, subst, arith}
+use Rattle.step_core.specs.Steps.{Steps}
+use Rattle.step_core.proofs.cluster.Cluster.step.Goals as goal
+
+pub returns : goal.returns
+returns c =
+    let before = c.args.self.now in
+    let here : length before.clients.items + 1 + (c.args.number - c.len-clients.result - 1) ≡ c.args.number = omega
+    (arith, c.len-clients.ensures, c.if-number-clients.false, c.if-number-clients-2.false) in
+    subst (λ (n : ℕ). IfOk c.step_tile.result (λ move. Steps n before move c.step_tile.new.self)) here c.step_tile.ensures
