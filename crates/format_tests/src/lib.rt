@@ -10,6 +10,8 @@ mod contexts;
 #[cfg(test)]
 mod ends;
 #[cfg(test)]
+mod generated;
+#[cfg(test)]
 mod images;
 #[cfg(test)]
 mod packets;

@@ -10,3 +10,6 @@ pub mod AnswersForced
 pub mod WrittenSpells
 pub mod SpelledOrFaulty
 pub mod CommandsCounted
+pub mod DrawsFromState
+pub mod TurnsOfClients
+pub mod GeneratedWithin

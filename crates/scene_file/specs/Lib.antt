@@ -4,3 +4,4 @@ pub mod Faults
 pub mod Written
 pub mod Laws
 pub mod Counting
+pub mod Generated

@@ -1,4 +1,5 @@
-//! Laws on the spelling of scenes, each the contract of a function that does nothing.
+//! Laws on the spelling of scenes and on generated scenes, each the contract of a function that does nothing.
+ghost use Rattle.scene_file.specs.Generated.{GeneratedScenesAreWithin};
 ghost use Rattle.scene_file.specs.Laws.{ScenesAreOne, FaultsSpellNoScene, SceneFaultsAreOne, ScenesOrFaults, WrittenIsRead};
 
 /// No bytes spell two scenes.
@@ -24,4 +25,9 @@ pub fn bytes_spell_or_fail()
 /// What is written of a scene is read again as that scene.
 pub fn written_is_read()
     ensures { WrittenIsRead }
+{}
+
+/// A generated scene of at most 4,096 rounds is within the limits.
+pub fn generated_scenes_are_within_limits()
+    ensures { GeneratedScenesAreWithin }
 {}

@@ -5,6 +5,7 @@
 #![tactic(auto)]
 
 mod fault;
+mod generator;
 mod header;
 pub mod laws;
 mod limits;
@@ -12,6 +13,7 @@ mod reading;
 mod writing;
 
 pub use fault::SceneFault;
+pub use generator::{generate, next_state};
 pub use limits::{check_limits, clients_beyond, commands_beyond};
 pub use reading::read_scene;
 pub use writing::write_scene;

@@ -1,0 +1,41 @@
+-- A generated scene as it grows, round by round.
+use Rattle.std.specs.Prelude.{ℕ, ◌+◌, ◌-◌, ◌*◌, ◌/◌, ◌≤◌, ◌==◌, List, [], ◌∷◌, ◌++◌, map, pos, if◌then◌else◌}
+use Rattle.std.specs.List.{flat_map, range_with_len}
+use Rattle.rc_base.specs.declared.command.Command.{Command}
+use Rattle.rc_base.specs.declared.command.Command.TheVariants as cmd
+use Rattle.rc_base.specs.Formats.Within.{IsWithin}
+use Rattle.rc_base.specs.Program.Generator.{generated_clients, is_lone, lone_client, generated_triangle, generated_round, generated_scene}
+
+-- how many triangles a client draws in a round
+abbrev pub triangles_in : ℕ → ℕ → ℕ
+triangles_in round client = if is_lone round then (if lone_client round == client then 1 else 0) else 1
+
+-- what a client draws in a round, by the draws from a state on
+abbrev pub drawing_from : ℕ → ℕ → ℕ → List Command
+drawing_from state round client =
+    if is_lone round then (if lone_client round == client then cmd.Disable 0 ∷ generated_triangle state 0 else [])
+    else cmd.Enable 0 ∷ generated_triangle state 0
+
+-- blending by alpha, and the scissor box of the client's band
+abbrev pub opening_of : ℕ → List Command
+opening_of client = cmd.Enable 3 ∷ cmd.BlendFunc 6 7 ∷ cmd.Scissor (pos 0 ∷ pos (32 * client) ∷ pos 256 ∷ pos 32 ∷ []) ∷ []
+
+-- a client's stream before a round
+unfoldable pub stream_before : ℕ → ℕ → ℕ → List Command
+stream_before seed round client = opening_of client ++ flat_map (generated_round seed client) (range_with_len 0 round)
+
+-- how many of the first turns are a client's, who take them one after the other
+abbrev pub turns_of : ℕ → ℕ → ℕ
+turns_of turn client = (turn + 7 - client) / 8
+
+-- the clients' streams behind so many turns
+unfoldable pub streams_at : ℕ → ℕ → List (List Command)
+streams_at seed turn = map (λ client. stream_before seed (turns_of turn client) client) (range_with_len 0 generated_clients)
+
+-- a stream and its Swap
+abbrev pub ended : List Command → List Command
+ended stream = stream ++ cmd.Swap ∷ []
+
+-- Each generated scene of at most 4096 rounds is within the limits.
+abbrev pub GeneratedScenesAreWithin : Type 0
+GeneratedScenesAreWithin = (seed size : ℕ) → size ≤ 4096 → IsWithin (generated_scene seed size)

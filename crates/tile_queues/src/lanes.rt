@@ -1,0 +1,140 @@
+//! Making a lane, what is done at its ends, and bringing them together.
+ghost use Rattle.std.specs.Prelude.{◌≡◌, ℕ, true, List, [], ◌∷◌, ◌++◌, ◌<◌, ◌≤◌, length, IfOk, IfSome, IfNone};
+ghost use Rattle.crossbeam_queue.specs.Passes.{view, ruled_capacity, IsPassOf, IsSamePass};
+ghost use Rattle.tile_queues.specs.Ends.{sent_of, taken_of, lane_in, lane_out, rest_of, depth_of};
+ghost use Rattle.tile_queues.specs.Rule.{new_pass, sender_pass, receiver_pass};
+
+use crate::ends::{LaneIn, LaneOut, Rest};
+use crate::rule::{Depth, Draining, History, Joining, Line, Parting, Sending, Taking};
+use crossbeam_queue::Pass;
+use rc_base::lane::{Inlet, Outlet};
+use rc_base::out_of_memory::OutOfMemory;
+use std::alloc::Global;
+use std::marker::Brand;
+use std::sync::{Arc, Wait};
+
+/// The most items that a lane carries in its life.
+const MOST: u64 = 1 << 62;
+
+/// The receiver's pass of a new lane, whose one pass becomes the sender's.
+fn part<T, D: Depth>(line: &Line<T>, pass: &mut Pass<T, History<T>>) -> Pass<T, History<T>>
+    requires queue { IsPassOf line.now pass.old }
+    requires new { view pass.old ≡ new_pass }
+    ensures queue { IsSamePass pass.old pass.new × IsPassOf line.now result }
+    ensures passes { (view pass.new ≡ sender_pass D.depth) × (view result ≡ receiver_pass D.depth) }
+{
+    line.another::<Parting<D>>(pass)
+}
+
+/// The two ends of a new lane, which holds at most `depth` items.
+pub fn lane<T: Drop, R: Copy>(
+    rt: R,
+    alloc: Global,
+    depth: usize,
+) -> Result<(LaneIn<T, R>, LaneOut<T, R>), OutOfMemory>
+    requires { (1 ≤ depth) × (depth ≤ 16) }
+    ensures pair { IfOk result (λ ends. lane_out ends.1 ≡ lane_in ends.0) }
+    ensures depth { IfOk result (λ ends. depth_of (lane_in ends.0) ≡ depth) }
+    ensures empty { IfOk result (λ ends. (sent_of ends.0 ≡ []) × (taken_of ends.1 ≡ [])) }
+{
+    let (line, mut sender) = Line::ruled(alloc, depth)?;
+    let receiver = part::<T, Brand>(&line, &mut sender);
+    let queue = Arc::new(alloc, line)?;
+    let theirs = Arc::try_clone(&queue)?;
+    let a = LaneIn {
+        rt,
+        queue,
+        pass: sender,
+        pushed: 0,
+        full_seen: 0,
+    };
+    let b = LaneOut {
+        rt,
+        queue: theirs,
+        pass: receiver,
+        empty_seen: 0,
+    };
+    Ok((a, b))
+}
+
+impl<T: Drop, R: Wait> Outlet<T> for LaneIn<T, R> {
+    ghost use Rattle.std.specs.Prelude.{◌≤◌, length};
+    ghost use Rattle.tile_queues.specs.Ends.{sent_of, lane_in, depth_of};
+
+    ghost sent = { sent_of };
+
+    ghost full_seen = { λ a. a.full_seen };
+
+    ghost lane_of = { lane_in };
+
+    ghost full = { λ a. depth_of (lane_in a) ≤ length (sent_of a) };
+
+    fn push(&mut self, item: T) -> Result<(), T> {
+        if self.pushed >= MOST {
+            self.full_seen = self.full_seen.saturating_add(1);
+            return Err(item);
+        }
+        let answer = self
+            .queue
+            .push_as::<Sending, R>(&self.rt, &mut self.pass, item);
+        if answer.is_ok() {
+            self.pushed += 1;
+        } else {
+            self.full_seen = self.full_seen.saturating_add(1);
+        }
+        answer
+    }
+}
+
+impl<T: Drop, R: Wait> Inlet<T> for LaneOut<T, R> {
+    ghost use Rattle.std.specs.Prelude.{◌≡◌, [], ◌∷◌, ◌++◌, ⊤, refl};
+    ghost use Rattle.tile_queues.specs.Ends.{taken_of, lane_out};
+
+    ghost gave = { λ b x c. taken_of c ≡ taken_of b ++ x ∷ [] };
+
+    ghost same = { λ b c. taken_of c ≡ taken_of b };
+
+    ghost empty_seen = { λ b. b.empty_seen };
+
+    ghost lane_of = { lane_out };
+
+    ghost bare = { λ b. ⊤ };
+
+    ghost same_here = { λ a. refl };
+
+    fn pop(&mut self) -> Option<T> {
+        let front = self.queue.pop_as::<Taking, R>(&self.rt, &mut self.pass);
+        if front.is_none() {
+            self.empty_seen = self.empty_seen.saturating_add(1);
+        }
+        front
+    }
+}
+
+/// Brings the two ends of a lane together. What was taken, and then the rest, is what was sent.
+pub fn close<T: Drop, R: Copy>(a: LaneIn<T, R>, b: LaneOut<T, R>) -> Rest<T, R>
+    requires { lane_out b ≡ lane_in a }
+    ensures order { sent_of a ≡ taken_of b ++ rest_of result }
+    ensures held { length (rest_of result) ≤ depth_of (lane_in a) }
+{
+    let LaneIn {
+        rt,
+        queue,
+        mut pass,
+        ..
+    } = a;
+    let LaneOut { pass: other, .. } = b;
+    queue.absorb::<Joining>(&mut pass, other);
+    queue.learn_as::<Draining>(&mut pass);
+    Rest { rt, queue, pass }
+}
+
+impl<T: Drop, R: Wait> Rest<T, R> {
+    /// The next item that was sent and not taken, or none where all were given.
+    pub fn next(&mut self) -> Option<T>
+        ensures some { IfSome result (λ x. rest_of self.old ≡ x ∷ rest_of self.new) }
+        ensures none { IfNone result ((rest_of self.old ≡ []) × (rest_of self.new ≡ [])) }
+    {
+        self.queue.pop_as::<Draining, R>(&self.rt, &mut self.pass)
+    }
+}
