@@ -8,7 +8,7 @@ use Rattle.rc_base.specs.declared.job.JobName.{JobName}
 use Rattle.rc_base.specs.declared.job.OptionName.{OptionName}
 use Rattle.rc_base.specs.Program.Words.{Setting, option_of, options_of, options_due, setting_words, job_word, IsSetting, IsCommandLine}
 use Rattle.rc_base.specs.declared.job.OptionName.TheVariants.{Tiles, Depth, Order, Seed, Size}
-use Rattle.rc_base.specs.declared.job.JobName.TheVariants.{Render, Simulate, Serial, Check, Pack, Unpack, Gen}
+use Rattle.rc_base.specs.declared.job.JobName.TheVariants.{Render, Simulate, Serial, Check, Pack, Unpack, Gen, Demo}
 use Rattle.command_line.proofs.Reading.{one_reading}
 use Rattle.command_line.specs.declared.seen.Seen.{Seen}
 use Rattle.command_line.specs.Begins.{Begins}
@@ -148,6 +148,7 @@ job_in w =
     else if bytes_eq w (codes "pack") then Some Pack
     else if bytes_eq w (codes "unpack") then Some Unpack
     else if bytes_eq w (codes "gen") then Some Gen
+    else if bytes_eq w (codes "demo") then Some Demo
     else None
 
 job_found : (job : JobName) → job_in (job_word job) ≡ Some job
@@ -158,6 +159,7 @@ job_found Check = refl
 job_found Pack = refl
 job_found Unpack = refl
 job_found Gen = refl
+job_found Demo = refl
 
 job_word_injective : (job other : JobName) → job_word job ≡ job_word other → job ≡ other
 job_word_injective job other e =

@@ -18,6 +18,7 @@ pub(crate) fn job_named(word: &str) -> Option<JobName>
         "pack" => Some(JobName::Pack),
         "unpack" => Some(JobName::Unpack),
         "gen" => Some(JobName::Gen),
+        "demo" => Some(JobName::Demo),
         _ => None,
     }
 }
@@ -27,10 +28,13 @@ pub(crate) fn is_taken(job: JobName, option: OptionName) -> bool
     ensures { IsTrue result ↔ IsIn option (options_of job) }
 {
     match option {
-        OptionName::Tiles | OptionName::Depth | OptionName::Order => {
-            job == JobName::Render || job == JobName::Simulate
+        OptionName::Tiles | OptionName::Depth => {
+            job == JobName::Render || job == JobName::Simulate || job == JobName::Demo
         }
-        OptionName::Seed => job == JobName::Simulate || job == JobName::Gen,
-        OptionName::Size => job == JobName::Gen,
+        OptionName::Order => job == JobName::Render || job == JobName::Simulate,
+        OptionName::Seed => {
+            job == JobName::Simulate || job == JobName::Gen || job == JobName::Demo
+        }
+        OptionName::Size => job == JobName::Gen || job == JobName::Demo,
     }
 }

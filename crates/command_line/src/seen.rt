@@ -67,6 +67,7 @@ pub(crate) fn has_due(seen: Seen, job: JobName) -> bool
     match job {
         JobName::Simulate => seen.seed,
         JobName::Gen => seen.seed && seen.size,
+        JobName::Demo => seen.seed && seen.size,
         _ => true,
     }
 }

@@ -1,5 +1,5 @@
--- Membership and sequence in a list, elements that are named from 1, and numbers that rise.
-use Rattle.std.specs.Prelude.{◌≡◌, ℕ, zero, suc, ◌+◌, ◌<◌, ◌≤◌, List, [], ◌∷◌, ◌++◌, ◌⊎◌, Option, None, slice_get, slice_set}
+-- Membership and sequence in a list, elements that are named from 1, numbers that rise, fronts, and lists of pairs.
+use Rattle.std.specs.Prelude.{◌≡◌, ℕ, zero, suc, ◌+◌, ◌<◌, ◌≤◌, List, [], ◌∷◌, ◌++◌, ◌⊎◌, Option, None, length, slice_get, slice_set, slice_index_or}
 
 -- x is an element
 abbrev pub IsIn : {A : Type 0} → A → List A → Type 0
@@ -34,3 +34,8 @@ AreRising from (n ∷ ns) end = (from ≤ n) × (n < end) × AreRising (n + 1) n
 -- the first list is a front of the second
 abbrev pub IsFront : {A : Type 0} → List A → List A → Type 0
 IsFront {A} front whole = (rest : List A) × (whole ≡ front ++ rest)
+
+-- one of these for each of those, and each pair by its number is so
+pub record ArePaired {A B : Type 0} (R : ℕ → A → B → Type 0) (xs : List A) (ys : List B) : Type 0 where
+  pub count : length ys ≡ length xs
+  pub at : (i : ℕ) (d : A) (e : B) → i < length xs → R i (slice_index_or xs i d) (slice_index_or ys i e)

@@ -17,6 +17,8 @@ pub enum JobName {
     Unpack,
     /// A seed to the bytes of a scene.
     Gen,
+    /// A seed to the frames of a cluster, and a report.
+    Demo,
 }
 
 /// An option of a command line.

@@ -17,7 +17,7 @@ use Rattle.render_core.specs.declared.job.Origin.TheVariants.{Read}
 use Rattle.render_core.specs.declared.refusal.Refusal.{Refusal}
 use Rattle.render_core.specs.declared.writing.Told.{Told}
 use Rattle.render_core.specs.Due.{Outcome}
-use Rattle.render_core.specs.Ends.{Used, Failed, IsCalm, Took, Noted, TookInput}
+use Rattle.rc_base.specs.Outside.Ends.{Used, Failed, IsCalm, Took, Noted, TookInput}
 use Rattle.render_core.specs.Findings.{Finding, Long, Malformed, Outside, Sound, IsFinding}
 use Rattle.render_core.specs.Jobs.{IsJob, Takes, job_in, origin_of}
 use Rattle.render_core.specs.Lines.{memory_line, usage_line}

@@ -11,12 +11,11 @@ use Rattle.render_core.specs.declared.job.Cluster.{Cluster}
 use Rattle.render_core.specs.declared.job.Job.{Job}
 use Rattle.render_core.specs.declared.job.Job.TheVariants.{Render, Simulate, Serial, Check, Pack, Unpack}
 use Rattle.render_core.specs.Due.{Outcome, IsRecorded, IsOutcome, ending_status}
-use Rattle.render_core.specs.Ends.{Used, Failed, Took}
+use Rattle.rc_base.specs.Outside.Ends.{Used, Failed, Took, TookFront}
 use Rattle.render_core.specs.Findings.{Finding, Long, Malformed, Outside, Sound, IsFinding, refused_with}
 use Rattle.render_core.specs.Jobs.{ForJob, HasScene, IsJob, cluster_of}
 use Rattle.render_core.specs.Laws.{FindingsAreOne}
 use Rattle.render_core.specs.Outcomes.{IsDue, Sent, Whole, Front, IsDone, IsUnnoted, IsStuck, IsRefused, Cause, SourceFailed, InputRefused, StoodStill, ImageFailed, Ran, Usage, Done, NotesFailed, Stuck, Refused, NoMemory, Answers, IsAnswered, IsHeadline, KeepsOrders, frames_text}
-use Rattle.render_core.specs.Refusals.{IsFront}
 use Rattle.render_core.proofs.Endings.{same_job, found_in_taken, sent_whole, noted_whole}
 use Rattle.render_core.proofs.KeptOrders.{keeps_orders}
 
@@ -92,12 +91,12 @@ recorded Check scene o kept e h = let none : Some kept ≡ None = e ∙ ap (λ (
 recorded Pack scene o kept e h = let none : Some kept ≡ None = e ∙ ap (λ (a : Outcome). a.kept) h.0 in absurd cc
 recorded Unpack scene o kept e h = let none : Some kept ≡ None = e ∙ ap (λ (a : Outcome). a.kept) h.0 in absurd cc
 
-whole_front : (image : Used) (text : List ℕ) → Took image text → IsFront image text
+whole_front : (image : Used) (text : List ℕ) → Took image text → TookFront image text
 whole_front image text given = record { done = length text; part = omega arith; given = subst (Took image) (sym (take-length text)) given }
 
 module _ (words : List (String Global)) (source image notes : Used) (status : ℕ) (kept : Record) where
   module _ (job : Job) (is_job : IsJob words job) (o : Outcome) (due : IsDue job source o) (e : Some kept ≡ o.kept) where
-    headline_of : IsFront image o.image → ((status ≡ 0) ⊎ (status ≡ 8) → Took image o.image) → (status ≡ 5 → (Failed image → ⊥) → Took image o.image)
+    headline_of : TookFront image o.image → ((status ≡ 0) ⊎ (status ≡ 8) → Took image o.image) → (status ≡ 5 → (Failed image → ⊥) → Took image o.image)
         → IsHeadline words source image status kept
     headline_of front all unfailed = go (recorded job due.scene o kept e due.due) where
       go : (cluster : Cluster) × (cluster_of job ≡ Some cluster) × IsRecorded cluster due.scene o → IsHeadline words source image status kept
@@ -124,7 +123,7 @@ module _ (words : List (String Global)) (source image notes : Used) (status : �
   not_whole n is zero eight (inl h) = zero (sym is ∙ h)
   not_whole n is zero eight (inr h) = eight (sym is ∙ h)
 
-  sent_front : (o : Outcome) (lines : List ℕ) → Sent image o lines → IsFront image o.image
+  sent_front : (o : Outcome) (lines : List ℕ) → Sent image o lines → TookFront image o.image
   sent_front o lines (Whole given calm same) = whole_front image o.image given
   sent_front o lines (Front short cut) = let below = cut.part in record { done = cut.done; part = omega (arith, below); given = cut.given }
 

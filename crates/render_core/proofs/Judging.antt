@@ -14,7 +14,7 @@ use Rattle.render_core.specs.declared.job.Form.TheVariants.{Bytes, Text}
 use Rattle.render_core.specs.declared.job.Job.{Job}
 use Rattle.render_core.specs.declared.job.Origin.{Origin}
 use Rattle.render_core.specs.declared.job.Origin.TheVariants.{Read}
-use Rattle.render_core.specs.Ends.{Used}
+use Rattle.rc_base.specs.Outside.Ends.{Used}
 use Rattle.render_core.specs.Jobs.{origin_of, limit_for, word_quantities, Spells, Gives, HasScene}
 use Rattle.render_core.specs.Lines.{limit_line}
 use Rattle.render_core.specs.Findings.{Finding, Long, Malformed, Outside, Sound, TellsFault, IsJudged, Judged}

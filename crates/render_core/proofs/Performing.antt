@@ -26,12 +26,12 @@ use Rattle.render_core.specs.declared.refusal.Refused.{Refused}
 use Rattle.render_core.specs.declared.writing.Told.{Told}
 use Rattle.render_core.specs.declared.writing.Written.{Written}
 use Rattle.render_core.specs.Due.{Outcome, IsOutcome}
-use Rattle.render_core.specs.Ends.{Used, IsCalm, Took, TookInput}
+use Rattle.rc_base.specs.Outside.Ends.{Used, IsCalm, Took, TookInput, TookFront}
 use Rattle.render_core.specs.Findings.{Long}
 use Rattle.render_core.specs.Jobs.{origin_of, Gives, Takes}
 use Rattle.render_core.specs.Lines.{limit_line, image_fault_line}
 use Rattle.render_core.specs.Outcomes.{IsDue, PartlyWritten, Sent, Whole, Front, Cause, SourceFailed, InputRefused, StoodStill, ImageFailed}
-use Rattle.render_core.specs.Refusals.{IsRead, Came, IsRefusedInput, IsNoOutcome, IsFront, IsWritten, IsToldOf, IsUntold, IsPerformed, IsCaused, IsRefusedUnwritten, input_status, input_line, kept_for, refusal_status, refusal_line, word_limit}
+use Rattle.render_core.specs.Refusals.{IsRead, Came, IsRefusedInput, IsNoOutcome, IsWritten, IsToldOf, IsUntold, IsPerformed, IsCaused, IsRefusedUnwritten, input_status, input_line, kept_for, refusal_status, refusal_line, word_limit}
 use Rattle.render_core.proofs.Judging.{judged_by_words, has_scene}
 
 -- no record is kept where there is none
@@ -102,13 +102,13 @@ module _ (job : Job) (source : Used) (scene : Scene) (came : Came job source sce
 -- ---- its image
 
 -- what was written is a front of the text
-pub front_of : (image : Used) (text : List ℕ) (written : Written) → IsWritten image text written → IsFront image text
+pub front_of : (image : Used) (text : List ℕ) (written : Written) → IsWritten image text written → TookFront image text
 front_of image text written (inl whole) =
     record { done = length text; part = omega arith; given = subst (Took image) (sym (take-length text)) whole.1 }
 front_of image text written (inr cut) = let below = cut.2 in record { done = written.bytes; part = omega (arith, below); given = cut.3 }
 
 module _ (job : Job) (source image : Used) (o : Outcome) (due : IsDue job source o) where
-  pub partly_written : IsFront image o.image → PartlyWritten job source image
+  pub partly_written : TookFront image o.image → PartlyWritten job source image
   partly_written front = record { o = o; due = due; done = front.done; part = front.part; given = front.given }
 
   module _ (written : Written) (is : IsWritten image o.image written) where

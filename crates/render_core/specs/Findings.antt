@@ -11,7 +11,7 @@ use Rattle.render_core.specs.declared.job.Form.TheVariants.{Bytes, Text}
 use Rattle.render_core.specs.declared.job.Job.{Job}
 use Rattle.render_core.specs.declared.job.Origin.{Origin}
 use Rattle.render_core.specs.declared.job.Origin.TheVariants.{Read}
-use Rattle.render_core.specs.Ends.{Used}
+use Rattle.rc_base.specs.Outside.Ends.{Used}
 use Rattle.render_core.specs.Jobs.{origin_of, limit_for, Gives, Takes, IsInput}
 use Rattle.render_core.specs.Lines.{scene_kind_name, text_kind_name, malformed_line, limit_line}
 

@@ -12,8 +12,8 @@ use Rattle.rc_base.specs.Cluster.Tiles.{tile_count}
 use Rattle.rc_base.specs.Outside.Transfer.{byte_limit}
 use Rattle.rc_base.specs.declared.job.JobName.{JobName}
 use Rattle.rc_base.specs.Program.Words.{Setting, IsCommandLine, tiles_in, depth_in, order_in, seed_in}
-use Rattle.rc_base.specs.declared.job.JobName.TheVariants.{Render as render_name, Simulate as simulate_name, Serial as serial_name, Check as check_name, Pack as pack_name, Unpack as unpack_name, Gen as gen_name}
-use Rattle.render_core.specs.Ends.{Used, TookInput}
+use Rattle.rc_base.specs.declared.job.JobName.TheVariants.{Render as render_name, Simulate as simulate_name, Serial as serial_name, Check as check_name, Pack as pack_name, Unpack as unpack_name, Gen as gen_name, Demo as demo_name}
+use Rattle.rc_base.specs.Outside.Ends.{Used, TookInput}
 use Rattle.render_core.specs.declared.job.Cluster.{Cluster}
 use Rattle.render_core.specs.declared.job.Job.{Job}
 use Rattle.render_core.specs.declared.job.Job.TheVariants.{Render, Simulate, Serial, Check, Pack, Unpack}
@@ -38,6 +38,7 @@ job_in check_name settings = Some Check
 job_in pack_name settings = Some Pack
 job_in unpack_name settings = Some Unpack
 job_in gen_name settings = None
+job_in demo_name settings = None
 
 -- the words are a command line
 abbrev pub IsLine : List (String Global) → Type 0

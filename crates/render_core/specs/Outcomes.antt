@@ -11,7 +11,7 @@ use Rattle.render_core.specs.declared.job.Cluster.{Cluster}
 use Rattle.render_core.specs.declared.job.Job.{Job}
 use Rattle.render_core.specs.declared.due.Ending.TheVariants.{Complete, Stuck as EndsStuck}
 use Rattle.render_core.specs.Due.{Outcome, IsOutcome, Stands, ending_status}
-use Rattle.render_core.specs.Ends.{Used, Failed, IsCalm, Took, Noted}
+use Rattle.rc_base.specs.Outside.Ends.{Used, Failed, IsCalm, Took, Noted}
 use Rattle.render_core.specs.Findings.{Finding, Long, Malformed, Outside, Sound, IsFinding, Judged, refused_with}
 use Rattle.render_core.specs.Jobs.{IsJob, ForJob, HasScene, cluster_of, has_threads, layout_for}
 use Rattle.render_core.specs.Lines.{image_fault_line, usage_line, read_fault_line, memory_line, standstill_line}

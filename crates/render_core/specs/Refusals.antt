@@ -38,7 +38,7 @@ use Rattle.render_core.specs.declared.writing.Written.{Written}
 use Rattle.step_core.specs.declared.rounds.FinishFault.{FinishFault}
 use Rattle.step_core.specs.declared.rounds.FinishFault.TheVariants as finishing
 use Rattle.render_core.specs.Due.{Outcome, IsStandstill, Stands}
-use Rattle.render_core.specs.Ends.{Used, Failed, IsCalm, Took, Noted}
+use Rattle.rc_base.specs.Outside.Ends.{Used, Failed, IsCalm, Took, Noted}
 use Rattle.render_core.specs.Findings.{IsJudged}
 use Rattle.render_core.specs.Jobs.{origin_of, word_quantities, Spells, Gives, Takes}
 use Rattle.render_core.specs.Lines.{scene_kind_name, text_kind_name, malformed_line, limit_line, image_fault_line, read_fault_line, memory_line, standstill_line}
@@ -166,12 +166,6 @@ IsNoOutcome job scene undue.Standstill = (word_limit job scene ≡ None) × Stan
 IsNoOutcome job scene undue.OutOfMemory = Unit {0}
 
 -- ---- writing
-
--- the image was given a front of the text, which may be the whole
-pub record IsFront (image : Used) (text : List ℕ) : Type 0 where
-  pub done : ℕ
-  pub part : done ≤ length text
-  pub given : Took image (take done text)
 
 -- it was given the whole, or so many bytes before it failed
 abbrev pub IsWritten : Used → List ℕ → Written → Type 0

@@ -88,7 +88,7 @@ fn job_on(line: CommandLine) -> Option<Job>
         JobName::Check => Some(Job::Check),
         JobName::Pack => Some(Job::Pack),
         JobName::Unpack => Some(Job::Unpack),
-        JobName::Gen => None,
+        JobName::Gen | JobName::Demo => None,
     }
 }
 

@@ -1,6 +1,6 @@
 //! The top call: the words, the steps of the job that they name, and the notes.
 ghost use Rattle.std.specs.Prelude.{◌≡◌, ◌≢◌, ◌<◌, ◌≤◌, ◌⊎◌, [], None, length, take, OnOk, OnErr, IfOk, IfErr, IfSome};
-ghost use Rattle.render_core.specs.Ends.{use_of, Noted, Took, IsCalm, Failed};
+ghost use Rattle.rc_base.specs.Outside.Ends.{use_of, Noted, Took, IsCalm, Failed};
 ghost use Rattle.render_core.specs.Jobs.{IsJob, IsLine, origin_of};
 ghost use Rattle.render_core.specs.Lines.{usage_line};
 ghost use Rattle.render_core.specs.Outcomes.{IsDue, PartlyWritten, Ran, IsAnswered, IsHeadline, KeepsOrders, IsUnwritten, IsLeft, HasNotes};

@@ -3,9 +3,9 @@ ghost use Rattle.std.specs.Prelude.{◌≡◌, ◌≤◌, ◌++◌, IfOk, IfErr,
 ghost use Rattle.std.specs.List.{AllByRecursion};
 ghost use Rattle.rc_base.specs.Formats.Netpbm.{p6_texts};
 ghost use Rattle.ppm_out.specs.Pictures.{IsWhole};
-ghost use Rattle.render_core.specs.Ends.{use_of};
+ghost use Rattle.rc_base.specs.Outside.Ends.{use_of, TookFront};
 ghost use Rattle.render_core.specs.Lines.{image_fault_line};
-ghost use Rattle.render_core.specs.Refusals.{IsFront, IsWritable, IsWritten, IsToldOf, IsUntold, due_text};
+ghost use Rattle.render_core.specs.Refusals.{IsWritable, IsWritten, IsToldOf, IsUntold, due_text};
 ghost use Rattle.render_core.specs.declared.refusal.Refusal.TheVariants.{Image as OfImage};
 
 use crate::due::{DueImage, Ending};
@@ -45,7 +45,7 @@ fn write_frames<K: Sink>(
 ) -> Result<Written, OutOfMemory>
     requires { AllByRecursion IsWhole frames.now }
     ensures written { IfOk result (IsWritten (use_of K.held K.faults image.old image.new) (p6_texts frames.now)) }
-    ensures front { OnErr result (IsFront (use_of K.held K.faults image.old image.new) (p6_texts frames.now)) }
+    ensures front { OnErr result (TookFront (use_of K.held K.faults image.old image.new) (p6_texts frames.now)) }
     ensures later { K.faults image.old ≤ K.faults image.new }
 {
     let mut bytes: u128 = 0;
@@ -91,7 +91,7 @@ pub(crate) fn write_due<K: Sink>(
 ) -> Result<Written, OutOfMemory>
     requires { IsWritable due.now }
     ensures written { IfOk result (IsWritten (use_of K.held K.faults image.old image.new) (due_text due.now)) }
-    ensures front { OnErr result (IsFront (use_of K.held K.faults image.old image.new) (due_text due.now)) }
+    ensures front { OnErr result (TookFront (use_of K.held K.faults image.old image.new) (due_text due.now)) }
     ensures later { K.faults image.old ≤ K.faults image.new }
 {
     match due {

@@ -9,7 +9,8 @@ use Rattle.std.specs.Global.{Global}
 use Rattle.std.specs.declared.collections.VecDeque.{VecDeque}
 use Rattle.rc_base.specs.declared.cluster.TilePart.{TilePart}
 use Rattle.run_record.specs.Frames.{IsQueueOf, AreTakenBelow, AreTurned}
-use Rattle.run_record.specs.Gathering.{ArePaired, AreEven}
+use Rattle.rc_base.specs.Lists.{ArePaired}
+use Rattle.run_record.specs.Gathering.{AreEven}
 
 -- all of a list is written over
 pub written : {A : Type 0} (n : ℕ) (old new : List A) → length new ≡ length old → n ≡ length old → take n (new ++ drop (length new) old) ≡ new

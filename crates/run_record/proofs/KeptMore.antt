@@ -16,10 +16,11 @@ use Rattle.client_issue.specs.Cores.{IsClientOf, short_of, no_tally, tally_of_ti
 use Rattle.client_issue.specs.Kept.{IsKept}
 use Rattle.client_issue.specs.declared.client.ClientCore.{ClientCore}
 use Rattle.client_issue.specs.declared.client.ClientKept.{ClientKept}
-use Rattle.run_record.specs.Gathering.{ArePaired, HasSent, HaveSent, IsRowOf, AreFaultsOf, AreSums}
+use Rattle.rc_base.specs.Lists.{ArePaired}
+use Rattle.run_record.specs.Gathering.{HasSent, HaveSent, IsRowOf, AreFaultsOf, AreSums}
 use Rattle.run_record.specs.Kept.{together, AreAdded, AreKept, HasAdded}
 use Rattle.run_record.specs.declared.kept.KeptLists.{KeptLists}
-use Rattle.run_record.proofs.Paired.{paired_more}
+use Rattle.rc_base.proofs.Paired.{paired_more}
 
 -- what is kept of a core, whatever its scene
 abbrev IsKeptOf : ClientCore → ClientKept → Type 0

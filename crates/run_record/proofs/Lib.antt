@@ -1,4 +1,3 @@
-mod Paired
 mod KeptMore
 mod FramesTurned
 mod FewParcels

@@ -21,7 +21,8 @@ use Rattle.sync_manager.specs.declared.manager.ManagerCore.{ManagerCore}
 use Rattle.tile_model.specs.Scenes.{IsInRange, HasSides}
 use Rattle.tile_server.specs.declared.tile_core.TileCore.{TileCore}
 use Rattle.run_record.specs.Closed.{AreClosed, AreDone}
-use Rattle.run_record.specs.Gathering.{ArePaired, IsLogOf, IsRowOf, AreFaultsOf, AreSums, AreEven, AreInFrames}
+use Rattle.rc_base.specs.Lists.{ArePaired}
+use Rattle.run_record.specs.Gathering.{IsLogOf, IsRowOf, AreFaultsOf, AreSums, AreEven, AreInFrames}
 use Rattle.run_record.specs.Told.{AreFrameParts, IsRun}
 
 -- there is a tile, and each tile has shown as many frames

@@ -18,11 +18,6 @@ use Rattle.order_model.specs.declared.record.LogEntry.{LogEntry}
 use Rattle.tile_server.specs.Cores as tile
 use Rattle.tile_server.specs.declared.tile_core.TileCore.{TileCore}
 
--- one of these for each of those, and each pair by its number is so
-pub record ArePaired {A B : Type 0} (R : ℕ → A → B → Type 0) (xs : List A) (ys : List B) : Type 0 where
-  pub count : length ys ≡ length xs
-  pub at : (i : ℕ) (d : A) (e : B) → i < length xs → R i (slice_index_or xs i d) (slice_index_or ys i e)
-
 -- ---- tiles
 
 -- the log of what the core stands for

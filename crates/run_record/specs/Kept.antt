@@ -5,7 +5,8 @@ use Rattle.rc_base.specs.declared.cluster.Tally.{Tally}
 use Rattle.client_issue.specs.Cores.{no_tally}
 use Rattle.client_issue.specs.declared.client.ClientCore.{ClientCore}
 use Rattle.client_issue.specs.declared.client.ClientKept.{ClientKept}
-use Rattle.run_record.specs.Gathering.{ArePaired, IsRowOf, AreFaultsOf, AreSums}
+use Rattle.rc_base.specs.Lists.{ArePaired}
+use Rattle.run_record.specs.Gathering.{IsRowOf, AreFaultsOf, AreSums}
 use Rattle.run_record.specs.declared.kept.KeptLists.{KeptLists}
 
 -- two tallies as one; a count stands still at its type's end

@@ -4,7 +4,8 @@ ghost use Rattle.std.specs.Global.{Global};
 ghost use Rattle.std.specs.declared.collections.VecDeque.{VecDeque};
 ghost use Rattle.rc_base.specs.declared.cluster.TilePart.{TilePart};
 ghost use Rattle.run_record.specs.Frames.{AreTakenBelow, IsQueueOf};
-ghost use Rattle.run_record.specs.Gathering.{ArePaired, AreEven, AreInFrames};
+ghost use Rattle.rc_base.specs.Lists.{ArePaired};
+ghost use Rattle.run_record.specs.Gathering.{AreEven, AreInFrames};
 
 use rc_base::cluster::{Parts, TilePart};
 use rc_base::out_of_memory::OutOfMemory;

@@ -2,7 +2,8 @@
 ghost use Rattle.std.specs.Prelude.{◌≡◌, ◌<◌, ℕ, [], length, slice_index_or, IfOk, OnOk};
 ghost use Rattle.client_issue.specs.Cores.{no_tally};
 ghost use Rattle.client_issue.specs.declared.client.ClientCore.{ClientCore};
-ghost use Rattle.run_record.specs.Gathering.{ArePaired, IsLogOf};
+ghost use Rattle.rc_base.specs.Lists.{ArePaired};
+ghost use Rattle.run_record.specs.Gathering.{IsLogOf};
 ghost use Rattle.run_record.specs.Kept.{together, AreAdded, AreKept, HasAdded};
 
 use client_issue::{ClientCore, ClientKept};

@@ -4,7 +4,7 @@ use Rattle.std.specs.List.{flat_map, AllByRecursion}
 use Rattle.std.specs.Fmt.{decimal}
 use Rattle.rc_base.specs.Lists.{IsIn, NoRepeat}
 use Rattle.rc_base.specs.declared.job.JobName.{JobName}
-use Rattle.rc_base.specs.declared.job.JobName.TheVariants.{Render, Simulate, Serial, Check, Pack, Unpack, Gen}
+use Rattle.rc_base.specs.declared.job.JobName.TheVariants.{Render, Simulate, Serial, Check, Pack, Unpack, Gen, Demo}
 use Rattle.rc_base.specs.declared.job.OptionName.{OptionName}
 use Rattle.rc_base.specs.declared.job.OptionName.TheVariants.{Tiles, Depth, Order, Seed, Size}
 
@@ -25,6 +25,7 @@ row_of Check = record { word = codes "check"; options = []; due = [] }
 row_of Pack = record { word = codes "pack"; options = []; due = [] }
 row_of Unpack = record { word = codes "unpack"; options = []; due = [] }
 row_of Gen = record { word = codes "gen"; options = Seed ∷ Size ∷ []; due = Seed ∷ Size ∷ [] }
+row_of Demo = record { word = codes "demo"; options = Seed ∷ Size ∷ Tiles ∷ Depth ∷ []; due = Seed ∷ Size ∷ [] }
 
 abbrev pub job_word : JobName → List ℕ
 job_word job = (row_of job).word

@@ -1,4 +1,4 @@
-use Rattle.render_core.specs.Ends.{use_of}
+use Rattle.rc_base.specs.Outside.Ends.{use_of}
 use Rattle.render_core.specs.Refusals.{outcome_of}
 use Rattle.render_core.proofs.Performing.{undue_cause, due_of_scene}
 use Rattle.render_core.proofs.run_job.due_of_source.Goals as goal

@@ -2,7 +2,7 @@ use Rattle.std.proofs.Common.{inr, None, sym, subst}
 use Rattle.std.specs.declared.option.Option.{Option}
 use Rattle.order_model.specs.declared.record.Record.{Record}
 use Rattle.render_core.specs.declared.refusal.Refusal.{Refusal}
-use Rattle.render_core.specs.Ends.{use_of}
+use Rattle.rc_base.specs.Outside.Ends.{use_of}
 use Rattle.render_core.specs.Refusals.{IsCaused, due_text, outcome_of}
 use Rattle.render_core.proofs.Performing.{front_of, if_untold, partly_written}
 use Rattle.render_core.proofs.Prefixes.{on_err}

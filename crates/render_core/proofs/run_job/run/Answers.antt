@@ -1,5 +1,5 @@
 use Rattle.std.proofs.Common.{inl, inr, None, sym, subst}
-use Rattle.render_core.specs.Ends.{use_of}
+use Rattle.rc_base.specs.Outside.Ends.{use_of}
 use Rattle.render_core.specs.Lines.{memory_line, usage_line}
 use Rattle.render_core.specs.Outcomes.{Ran}
 use Rattle.render_core.proofs.Endings.{ran_usage, ran_short, ran_refused, ran_told, some_told, cases_nil, named, unnamed}

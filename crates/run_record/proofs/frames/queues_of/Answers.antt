@@ -1,8 +1,8 @@
 use Rattle.std.proofs.Common.{◌++◌, [], ◌∷◌, sym, subst}
 use Rattle.std.specs.Vec.Iter.{into_iter_items}
 use Rattle.run_record.specs.Frames.{IsQueueOf}
-use Rattle.run_record.specs.Gathering.{ArePaired}
-use Rattle.run_record.proofs.Paired.{paired_more, goes_on}
+use Rattle.rc_base.specs.Lists.{ArePaired}
+use Rattle.rc_base.proofs.Paired.{paired_more, goes_on}
 use Rattle.run_record.proofs.frames.queues_of.Goals as goal
 
 pub loop-list-preserved : goal.loop-list-preserved

@@ -1,7 +1,7 @@
 use Rattle.std.proofs.Common.{◌≡◌, ◌++◌}
 use Rattle.std.specs.Vec.Iter.{into_iter_items}
 use Rattle.run_record.specs.Frames.{IsQueueOf}
-use Rattle.run_record.specs.Gathering.{ArePaired}
+use Rattle.rc_base.specs.Lists.{ArePaired}
 use Rattle.run_record.proofs.frames.queues_of.Given as goal
 
 abbrev pub invariant-loop-list : goal.invariant-loop-list

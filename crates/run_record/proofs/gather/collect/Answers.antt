@@ -7,7 +7,8 @@ use Rattle.rc_base.specs.declared.sync.SyncLists.{SyncLists}
 use Rattle.sync_manager.specs.Books.{IsBookOf, IsStuck}
 use Rattle.sync_manager.specs.Stored.{wait_at}
 use Rattle.sync_manager.specs.declared.book.Book.{Book}
-use Rattle.run_record.specs.Gathering.{ArePaired, IsRowOf, AreFaultsOf, AreSums, AreEven, AreInFrames}
+use Rattle.rc_base.specs.Lists.{ArePaired}
+use Rattle.run_record.specs.Gathering.{IsRowOf, AreFaultsOf, AreSums, AreEven, AreInFrames}
 use Rattle.run_record.specs.Kept.{AreKept}
 use Rattle.run_record.proofs.gather.collect.Goals as goal
 

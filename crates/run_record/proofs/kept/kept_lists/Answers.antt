@@ -1,6 +1,6 @@
 use Rattle.std.specs.Vec.Iter.{into_iter_items}
 use Rattle.run_record.proofs.KeptMore.{kept_more}
-use Rattle.run_record.proofs.Paired.{goes_on}
+use Rattle.rc_base.proofs.Paired.{goes_on}
 use Rattle.run_record.proofs.kept.kept_lists.Goals as goal
 
 pub loop-client-preserved : goal.loop-client-preserved

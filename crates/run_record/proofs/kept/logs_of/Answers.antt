@@ -1,7 +1,8 @@
 use Rattle.std.proofs.Common.{◌++◌, [], ◌∷◌, sym, subst}
 use Rattle.std.specs.Vec.Iter.{into_iter_items}
-use Rattle.run_record.specs.Gathering.{ArePaired, IsLogOf}
-use Rattle.run_record.proofs.Paired.{paired_more, goes_on}
+use Rattle.rc_base.specs.Lists.{ArePaired}
+use Rattle.run_record.specs.Gathering.{IsLogOf}
+use Rattle.rc_base.proofs.Paired.{paired_more, goes_on}
 use Rattle.run_record.proofs.kept.logs_of.Goals as goal
 
 pub loop-tile-preserved : goal.loop-tile-preserved

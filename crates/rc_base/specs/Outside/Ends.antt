@@ -33,6 +33,12 @@ IsLater e = e.faults_before ≤ e.faults_after
 abbrev pub Took : Used → List ℕ → Type 0
 Took e bytes = Appends e.before e.after bytes
 
+-- a sink was given a front of these bytes, which may be the whole
+pub record TookFront (e : Used) (bytes : List ℕ) : Type 0 where
+  pub done : ℕ
+  pub part : done ≤ length bytes
+  pub given : Took e (take done bytes)
+
 -- it was given the lines, or the front of them where it failed
 abbrev pub Noted : Used → List ℕ → Type 0
 Noted e lines = (Took e lines × IsCalm e) ⊎ (Failed e × ((n : ℕ) × (n < length lines) × Took e (take n lines)))
