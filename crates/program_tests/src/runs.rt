@@ -2,20 +2,25 @@
 mod clusters;
 mod ends;
 mod formats;
+mod generated;
 mod hostile;
+mod ordered;
 mod orders;
 mod rows;
 mod seeds;
 
 ghost use Rattle.std.specs.Prelude.{◌<◌};
 
+use order_model::record::Record;
 use rc_base::gate::OpenGate;
 use rc_base::in_memory::{MemSink, MemSource};
 use rc_base::outside::Source;
 use rc_base::transfer::read_all;
-use render_core::run;
+use render_core::{Finish, run};
 use std::alloc::Global;
 use std::process::Abort;
+use std::sync::Wait;
+use std::thread::Threads;
 
 // A window of 2 by 2: `ClearColor 255 0 0 255; Clear 1; Swap`.
 const RED_CLEAR: [u8; 26] = [
@@ -49,10 +54,16 @@ const RED_FRAME: &[u8] = b"P6\n2 2\n255\n\xff\0\0\xff\0\0\xff\0\0\xff\0\0";
 
 const RED_CLEAR_TEXT: &[u8] = b"scene 1 2 2\nclient\nClearColor 255 0 0 255\nClear 1\nSwap\n";
 
-// What a run leaves: its status, and the ends that it was given.
+// What a test's runtime can do: a run may start threads and wait for them.
+trait Host: Abort + Threads + Wait + Copy + Send + Sync + Drop {}
+
+impl<R: Abort + Threads + Wait + Copy + Send + Sync + Drop> Host for R {}
+
+// What a run leaves: its status, the record that it keeps, and the ends that it was given.
 #[derive(Drop)]
 struct Left {
     status: u8,
+    kept: Option<Record>,
     source: MemSource,
     image: MemSink,
     notes: MemSink,
@@ -65,7 +76,7 @@ impl Left {
     }
 }
 
-fn words(rt: &impl Abort, alloc: Global, words: &[&str]) -> Vec<String> {
+fn words(rt: &impl Host, alloc: Global, words: &[&str]) -> Vec<String> {
     let mut all = Vec::new(alloc);
     for word in words {
         let word = String::from_str(alloc, *word).expect(rt, "memory");
@@ -74,21 +85,29 @@ fn words(rt: &impl Abort, alloc: Global, words: &[&str]) -> Vec<String> {
     all
 }
 
-// The status of a run on these ends. Its contract says nothing, so that a test is proved without that of `run`.
-fn status_on<S: Source>(
-    rt: &impl Abort,
+// How a run on these ends ends. Its contract says nothing, so that a test is proved without that of `run`.
+fn finish_on<S: Source>(
+    rt: &impl Host,
     alloc: Global,
     job: &[&str],
     source: &mut S,
     image: &mut MemSink,
     notes: &mut MemSink,
-) -> u8 {
+) -> Finish {
     let words = words(rt, alloc, job);
-    run(alloc, words.as_slice(), source, image, notes, &OpenGate).status
+    run(
+        *rt,
+        alloc,
+        words.as_slice(),
+        source,
+        image,
+        notes,
+        &OpenGate,
+    )
 }
 
 // A sink that takes at most so many bytes at once, and whose puts of these numbers fail.
-fn sink(rt: &impl Abort, alloc: Global, step: usize, fails: &[u64]) -> MemSink
+fn sink(rt: &impl Host, alloc: Global, step: usize, fails: &[u64]) -> MemSink
     requires { 0 < step }
 {
     MemSink::new(alloc, step, fails).expect(rt, "memory")
@@ -96,7 +115,7 @@ fn sink(rt: &impl Abort, alloc: Global, step: usize, fails: &[u64]) -> MemSink
 
 // What a run leaves of a source and two sinks.
 fn left_on(
-    rt: &impl Abort,
+    rt: &impl Host,
     alloc: Global,
     job: &[&str],
     source: MemSource,
@@ -105,11 +124,12 @@ fn left_on(
 ) -> Left {
     let mut left = Left {
         status: 0,
+        kept: None,
         source,
         image,
         notes,
     };
-    left.status = status_on(
+    let Finish { status, kept } = finish_on(
         rt,
         alloc,
         job,
@@ -117,16 +137,18 @@ fn left_on(
         &mut left.image,
         &mut left.notes,
     );
+    left.status = status;
+    left.kept = kept;
     left
 }
 
 // A source of these bytes whose takes of these numbers fail.
-fn source_of(rt: &impl Abort, alloc: Global, input: &[u8], fails: &[u64]) -> MemSource {
+fn source_of(rt: &impl Host, alloc: Global, input: &[u8], fails: &[u64]) -> MemSource {
     MemSource::new(alloc, input, 7, fails).expect(rt, "memory")
 }
 
 // What a run leaves, where the puts of the image that fail have these numbers.
-fn run_on(rt: &impl Abort, alloc: Global, job: &[&str], input: &[u8], fails: &[u64]) -> Left {
+fn run_on(rt: &impl Host, alloc: Global, job: &[&str], input: &[u8], fails: &[u64]) -> Left {
     left_on(
         rt,
         alloc,
@@ -138,7 +160,7 @@ fn run_on(rt: &impl Abort, alloc: Global, job: &[&str], input: &[u8], fails: &[u
 }
 
 // What a job leaves of the scene of a text.
-fn run_text(rt: &impl Abort, alloc: Global, job: &[&str], text: &[u8], fails: &[u64]) -> Left {
+fn run_text(rt: &impl Host, alloc: Global, job: &[&str], text: &[u8], fails: &[u64]) -> Left {
     let scene = run_on(rt, alloc, &["pack"], text, &[]);
     run_on(rt, alloc, job, scene.image.bytes(), fails)
 }

@@ -33,6 +33,7 @@ fn main(rt: HostRuntime) -> ExitCode {
     let mut image = StdSink::new(rt.stdout());
     let mut notes = StdSink::new(rt.stderr());
     let Finish { status, .. } = run(
+        rt,
         alloc,
         words.as_slice(),
         &mut source,

@@ -1,6 +1,6 @@
 -- How a run ends, from what its steps leave, and what follows from how it ended.
 use Rattle.std.proofs.Common.{◌≡◌, ℕ, ◌<◌, ◌≤◌, ◌⊎◌, inl, inr, List, [], ◌∷◌, ◌++◌, length, map, take, None, Some, refl, sym, ap, subst, ◌∙◌, length-append, arith}
-use Rattle.std.specs.Prelude.{String, MatchOption, string_bytes, unwrap_or}
+use Rattle.std.specs.Prelude.{String, MatchOption, string_bytes}
 use Rattle.std.specs.Global.{Global}
 use Rattle.std.specs.declared.option.Option.{Option}
 use Rattle.std.proofs.lemmas.Bool.{cases_lt}
@@ -13,15 +13,15 @@ use Rattle.order_model.specs.declared.record.Record.{Record}
 use Rattle.render_core.specs.declared.due.Ending.TheVariants.{Complete, Stuck as EndsStuck}
 use Rattle.render_core.specs.declared.job.Job.{Job}
 use Rattle.render_core.specs.declared.job.Origin.{Origin}
-use Rattle.render_core.specs.declared.job.Origin.TheVariants.{Read}
+use Rattle.render_core.specs.declared.job.Origin.TheVariants.{Read, Generated}
 use Rattle.render_core.specs.declared.refusal.Refusal.{Refusal}
 use Rattle.render_core.specs.declared.writing.Told.{Told}
 use Rattle.render_core.specs.Due.{Outcome}
 use Rattle.rc_base.specs.Outside.Ends.{Used, Failed, IsCalm, Took, Noted, TookInput}
 use Rattle.render_core.specs.Findings.{Finding, Long, Malformed, Outside, Sound, IsFinding}
-use Rattle.render_core.specs.Jobs.{IsJob, Takes, job_in, origin_of}
-use Rattle.render_core.specs.Lines.{memory_line, usage_line}
-use Rattle.render_core.specs.Outcomes.{Sent, Whole, Front, IsDone, IsUnnoted, IsStuck, Cause, Ran, Usage, Done, NotesFailed, Stuck, Refused, NoMemory, HasNotes}
+use Rattle.render_core.specs.Jobs.{Holds, IsJob, Reads, Takes, job_in, origin_of}
+use Rattle.render_core.specs.Lines.{memory_line}
+use Rattle.render_core.specs.Outcomes.{Sent, Whole, Front, IsDone, IsUnnoted, IsStuck, Cause, Ran, Done, NotesFailed, Stuck, Refused, NoMemory, HasNotes}
 use Rattle.render_core.specs.Refusals.{refusal_status, refusal_line, kept_for, IsCaused, IsRefusalTold, IsPerformed, IsConcluded}
 
 -- ---- the words name one job
@@ -29,8 +29,7 @@ use Rattle.render_core.specs.Refusals.{refusal_status, refusal_line, kept_for, I
 pub same_job : OneReading → (words : List (String Global)) (a b : Job) → IsJob words a → IsJob words b → a ≡ b
 same_job one words a b is_a is_b =
     let same = one (map string_bytes words) is_a.name is_b.name is_a.settings is_b.settings is_a.line is_b.line in
-    let both : Some a ≡ Some b = sym is_a.asked ∙ ap (λ (n : JobName). job_in n is_a.settings) same.0 ∙ ap (job_in is_b.name) same.1 ∙ is_b.asked in
-    ap (λ (j : Option Job). unwrap_or j a) both
+    sym is_a.asked ∙ ap (λ (n : JobName). job_in n is_a.settings) same.0 ∙ ap (job_in is_b.name) same.1 ∙ is_b.asked
 
 -- from what is read of the words
 pub named : (words : List (String Global)) (r : Option Job) (job : Job) → r ≡ Some job → MatchOption r ((j : Job) → IsJob words j → ⊥) (IsJob words) → IsJob words job
@@ -63,24 +62,33 @@ module _ (given input : List ℕ) where
     go (Some rest) taken all = let same = ap length (front_whole input given rest taken (all short)) in omega (arith, same, short, long)
 
 -- what the source is to the job, its taken input is
-module _ (job : Job) (source : Used) (given input : List ℕ) (left_is : source.before ≡ Some given) (takes : Takes (origin_of job) source input) where
-  took_input : (origin : Origin) → Takes origin source input → TookInput source input
-  took_input (Read form) t = t
+module _ (job : Job) (source : Used) (given input : List ℕ) where
+  module _ (left_is : source.before ≡ Some given) (took : TookInput source input) where
+    whole : (finding : Finding) → length given ≤ byte_limit → IsFinding job given finding → IsFinding job input finding
+    whole finding short h = subst (λ (l : List ℕ). IsFinding job l finding) (sym (plain_whole given input source.before source.after left_is took.taken took.all short)) h
 
-  took : TookInput source input
-  took = took_input (origin_of job) takes
+    found_in_read : (finding : Finding) → IsFinding job given finding → IsFinding job input finding
+    found_in_read Long h = elim (cases_lt byte_limit (length input)) [
+      | inl long ↦ long
+      | inr short ↦ absurd (plain_long given input source.before source.after left_is took.taken took.all h short)
+    ]
+    found_in_read Malformed h = whole Malformed h.0 h
+    found_in_read (Outside limit) h = whole (Outside limit) h.0 h
+    found_in_read (Sound scene) h = whole (Sound scene) h.short h
 
-  whole : (finding : Finding) → length given ≤ byte_limit → IsFinding job given finding → IsFinding job input finding
-  whole finding short h = subst (λ (l : List ℕ). IsFinding job l finding) (sym (plain_whole given input source.before source.after left_is took.taken took.all short)) h
+  by_origin : (origin : Origin) → Holds origin source given → Takes origin source input → (finding : Finding) → IsFinding job given finding → IsFinding job input finding
+  by_origin (Read form) holds takes finding h = found_in_read holds.0 takes finding h
+  by_origin (Generated seed size) holds takes finding h = subst (λ (l : List ℕ). IsFinding job l finding) (holds ∙ sym takes.0) h
 
-  pub found_in_taken : (finding : Finding) → IsFinding job given finding → IsFinding job input finding
-  found_in_taken Long h = elim (cases_lt byte_limit (length input)) [
-    | inl long ↦ long
-    | inr short ↦ absurd (plain_long given input source.before source.after left_is took.taken took.all h short)
-  ]
-  found_in_taken Malformed h = whole Malformed h.0 h
-  found_in_taken (Outside limit) h = whole (Outside limit) h.0 h
-  found_in_taken (Sound scene) h = whole (Sound scene) h.short h
+  pub found_in_taken : Holds (origin_of job) source given → Takes (origin_of job) source input → (finding : Finding) → IsFinding job given finding
+      → IsFinding job input finding
+  found_in_taken holds takes finding h = by_origin (origin_of job) holds takes finding h
+
+-- a source that is read, and has an input for the job, didn't fail
+pub holds_calm : (job : Job) (source : Used) (given : List ℕ) → Reads job → Holds (origin_of job) source given → Failed source → ⊥
+holds_calm job source given reads holds = go (subst (λ (o : Origin). Holds o source given) reads.1 holds) where
+  go : Holds (Read reads.0) source given → Failed source → ⊥
+  go h = h.1
 
 -- ---- an end that didn't fail
 
@@ -92,16 +100,13 @@ pub noted_whole : (notes : Used) (lines : List ℕ) → (Failed notes → ⊥) �
 noted_whole notes lines calm (inl whole) = whole.0
 noted_whole notes lines calm (inr cut) = absurd (calm cut.0)
 
+pub cases_nil : (l : List ℕ) → (l ≡ []) ⊎ (0 < length l)
+cases_nil [] = inl refl
+cases_nil (x ∷ xs) = inr (omega arith)
+
 -- ---- how runs end
 
 module _ (words : List (String Global)) (source image notes : Used) where
-  pub ran_usage : ((job : Job) → IsJob words job → ⊥) → Noted notes usage_line → Ran words source image notes 1 None
-  ran_usage none told = Usage refl none told refl
-
-  -- there was no memory for the words
-  pub ran_short : Noted notes memory_line → Ran words source image notes 7 None
-  ran_short told = NoMemory refl told refl
-
   module _ (job : Job) (is : IsJob words job) where
     -- what is told has a cause: its own, or want of memory for its line
     pub ran_refused : (refusal : Refusal) (status : ℕ) (kept : Option Record) → IsCaused job source image refusal kept → IsRefusalTold notes refusal status
@@ -176,7 +181,3 @@ module _ (words : List (String Global)) (source image notes : Used) where
           (job, is, (done_by complete done.2 done.3, subst (λ (l : List ℕ). 0 < length l) (whole_of complete).2 some))
       some_told status (inr (inl unnoted)) zero some = let is = unnoted.0 in absurd (omega (arith, is, zero))
       some_told status (inr (inr stuck)) zero some = let is = stuck.0 in absurd (omega (arith, is, zero))
-
-pub cases_nil : (l : List ℕ) → (l ≡ []) ⊎ (0 < length l)
-cases_nil [] = inl refl
-cases_nil (x ∷ xs) = inr (omega arith)

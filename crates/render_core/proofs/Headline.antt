@@ -9,14 +9,14 @@ use Rattle.command_line.specs.Laws.{OneReading}
 use Rattle.order_model.specs.declared.record.Record.{Record}
 use Rattle.render_core.specs.declared.job.Cluster.{Cluster}
 use Rattle.render_core.specs.declared.job.Job.{Job}
-use Rattle.render_core.specs.declared.job.Job.TheVariants.{Render, Simulate, Serial, Check, Pack, Unpack}
+use Rattle.render_core.specs.declared.job.Job.TheVariants.{Render, Simulate, Serial, Check, Pack, Unpack, Gen, Demo}
 use Rattle.render_core.specs.Due.{Outcome, IsRecorded, IsOutcome, ending_status}
 use Rattle.rc_base.specs.Outside.Ends.{Used, Failed, Took, TookFront}
 use Rattle.render_core.specs.Findings.{Finding, Long, Malformed, Outside, Sound, IsFinding, refused_with}
-use Rattle.render_core.specs.Jobs.{ForJob, HasScene, IsJob, cluster_of}
-use Rattle.render_core.specs.Laws.{FindingsAreOne}
+use Rattle.render_core.specs.Jobs.{ForJob, HasScene, Holds, IsJob, cluster_of, origin_of}
+use Rattle.render_core.specs.Laws.{FindingsAreOne, OrderedRecordsShowOneImage}
 use Rattle.render_core.specs.Outcomes.{IsDue, Sent, Whole, Front, IsDone, IsUnnoted, IsStuck, IsRefused, Cause, SourceFailed, InputRefused, StoodStill, ImageFailed, Ran, Usage, Done, NotesFailed, Stuck, Refused, NoMemory, Answers, IsAnswered, IsHeadline, KeepsOrders, frames_text}
-use Rattle.render_core.proofs.Endings.{same_job, found_in_taken, sent_whole, noted_whole}
+use Rattle.render_core.proofs.Endings.{same_job, found_in_taken, holds_calm, sent_whole, noted_whole}
 use Rattle.render_core.proofs.KeptOrders.{keeps_orders}
 
 -- ---- what the source holds decides the status
@@ -30,22 +30,22 @@ by_status job image notes status kept (Outside limit) e = sym (ap (λ (o : Optio
 by_status job image notes status kept (Sound scene) e = absurd cc
 
 module _ (reading : OneReading) (findings : FindingsAreOne) (words : List (String Global)) (source image notes : Used) (status : ℕ) (kept : Option Record) where
-  module _ (job : Job) (input : List ℕ) (finding : Finding) (is_job : IsJob words job) (left_is : source.before ≡ Some input) (found : IsFinding job input finding)
-      (read : Failed source → ⊥) (taken : refused_with finding ≡ None → (Failed image → ⊥) × (Failed notes → ⊥)) where
+  module _ (job : Job) (input : List ℕ) (finding : Finding) (is_job : IsJob words job) (holds_input : Holds (origin_of job) source input)
+      (found : IsFinding job input finding) (taken : refused_with finding ≡ None → (Failed image → ⊥) × (Failed notes → ⊥)) where
     at : (holds : Job → Type 0) → ForJob words holds → holds job
     at holds h = subst holds (same_job reading words h.0 job h.1 is_job) h.2
 
     sound : (scene : Scene) → HasScene job source scene → finding ≡ Sound scene
-    sound scene has = findings job has.input finding (Sound scene) (found_in_taken job source input has.input left_is has.took finding found) has.is
+    sound scene has = findings job has.input finding (Sound scene) (found_in_taken job source input has.input holds_input has.took finding found) has.is
 
     answers : (other : Finding) → finding ≡ other → Answers job other image notes status kept → (status ≡ 7) ⊎ Answers job finding image notes status kept
     answers other same h = inr (subst (λ (f : Finding). Answers job f image notes status kept) (sym same) h)
 
     refused : (line : List ℕ) → Cause job source image status line kept → (status ≡ 7) ⊎ Answers job finding image notes status kept
-    refused line (SourceFailed is told failed none) = absurd (read failed)
+    refused line (SourceFailed reads is told failed none) = absurd (holds_calm job source input reads holds_input failed)
     refused line (InputRefused judged none) =
         answers judged.judged.finding
-        (findings job judged.input finding judged.judged.finding (found_in_taken job source input judged.input left_is judged.took finding found) judged.judged.is)
+        (findings job judged.input finding judged.judged.finding (found_in_taken job source input judged.input holds_input judged.took finding found) judged.judged.is)
         (by_status job image notes status kept judged.judged.finding judged.judged.refused)
     refused line (ImageFailed is o due complete cut of) = absurd ((taken (ap refused_with (sound due.scene due.has))).0 cut.failed)
     refused line (StoodStill is told still none) = answers (Sound still.scene) (sound still.scene still.has) (inr (is, still.stands))
@@ -76,7 +76,7 @@ module _ (reading : OneReading) (findings : FindingsAreOne) (words : List (Strin
     go (NoMemory is told unkept) = inl is
 
   pub answered : Ran words source image notes status kept → IsAnswered words source image notes status kept
-  answered ran job input finding is_job left_is found read taken = go job input finding is_job left_is found read taken ran
+  answered ran job input finding is_job holds_input found taken = go job input finding is_job holds_input found taken ran
 
 -- ---- the headline
 
@@ -90,11 +90,13 @@ recorded Serial scene o kept e h = let none : Some kept ≡ None = e ∙ ap (λ 
 recorded Check scene o kept e h = let none : Some kept ≡ None = e ∙ ap (λ (a : Outcome). a.kept) h in absurd cc
 recorded Pack scene o kept e h = let none : Some kept ≡ None = e ∙ ap (λ (a : Outcome). a.kept) h.0 in absurd cc
 recorded Unpack scene o kept e h = let none : Some kept ≡ None = e ∙ ap (λ (a : Outcome). a.kept) h.0 in absurd cc
+recorded (Gen seed size) scene o kept e h = let none : Some kept ≡ None = e ∙ ap (λ (a : Outcome). a.kept) h.0 in absurd cc
+recorded (Demo seed size cluster) scene o kept e h = (cluster, refl, h)
 
 whole_front : (image : Used) (text : List ℕ) → Took image text → TookFront image text
 whole_front image text given = record { done = length text; part = omega arith; given = subst (Took image) (sym (take-length text)) given }
 
-module _ (words : List (String Global)) (source image notes : Used) (status : ℕ) (kept : Record) where
+module _ (shows : OrderedRecordsShowOneImage) (words : List (String Global)) (source image notes : Used) (status : ℕ) (kept : Record) where
   module _ (job : Job) (is_job : IsJob words job) (o : Outcome) (due : IsDue job source o) (e : Some kept ≡ o.kept) where
     headline_of : TookFront image o.image → ((status ≡ 0) ⊎ (status ≡ 8) → Took image o.image) → (status ≡ 5 → (Failed image → ⊥) → Took image o.image)
         → IsHeadline words source image status kept
@@ -103,6 +105,7 @@ module _ (words : List (String Global)) (source image notes : Used) (status : �
       go (cluster, of, is) =
           let same : kept ≡ is.record_kept = ap (λ (k : Option Record). unwrap_or k kept) (e ∙ is.kept) in
           let text : o.image ≡ frames_text cluster due.scene is.record_kept = is.image in
+          let one = shows job cluster due.has.input due.scene is.record_kept of due.has.is is.lawful in
           subst (IsHeadline words source image status) (sym same)
           (record {
             job = job;
@@ -117,6 +120,8 @@ module _ (words : List (String Global)) (source image notes : Used) (status : �
                 subst (λ (t : List ℕ). (n : ℕ) × (n ≤ length t) × Took image (take n t)) text (front.done, front.part, front.given);
             whole = λ h. subst (Took image) text (all h);
             unfailed = λ five calm. subst (Took image) text (unfailed five calm);
+            one_image = λ ordered. (one ordered).0;
+            serial_image = λ ordered. (one ordered).1;
           })
 
   not_whole : (n : ℕ) → status ≡ n → n ≢ 0 → n ≢ 8 → (status ≡ 0) ⊎ (status ≡ 8) → ⊥
@@ -128,7 +133,7 @@ module _ (words : List (String Global)) (source image notes : Used) (status : �
   sent_front o lines (Front short cut) = let below = cut.part in record { done = cut.done; part = omega (arith, below); given = cut.given }
 
   of_cause : (job : Job) → IsJob words job → (line : List ℕ) → Cause job source image status line (Some kept) → IsHeadline words source image status kept
-  of_cause job is_job line (SourceFailed is told failed none) = absurd cc
+  of_cause job is_job line (SourceFailed reads is told failed none) = absurd cc
   of_cause job is_job line (InputRefused judged none) = absurd cc
   of_cause job is_job line (ImageFailed is o due complete cut of) =
       let below = cut.part in
@@ -149,12 +154,12 @@ module _ (words : List (String Global)) (source image notes : Used) (status : �
   of_ran (Refused h) = of_cause h.0 h.1 h.2.line h.2.cause
   of_ran (NoMemory is told unkept) = absurd cc
 
-module _ (words : List (String Global)) (source image notes : Used) (status : ℕ) where
+module _ (shows : OrderedRecordsShowOneImage) (words : List (String Global)) (source image notes : Used) (status : ℕ) where
   pub headline : (kept : Option Record) → Ran words source image notes status kept → IfSome kept (IsHeadline words source image status)
   headline None ran = tt
-  headline (Some kept) ran = of_ran words source image notes status kept ran
+  headline (Some kept) ran = of_ran shows words source image notes status kept ran
 
   -- so the orders of a record that is kept are permitted
   pub permits : (kept : Option Record) → Ran words source image notes status kept → IfSome kept KeepsOrders
   permits None ran = tt
-  permits (Some kept) ran = (of_ran words source image notes status kept ran).permitted
+  permits (Some kept) ran = (of_ran shows words source image notes status kept ran).permitted

@@ -1,9 +1,8 @@
 -- From what a reader answers to what the job finds in its input.
-use Rattle.std.proofs.Common.{◌≡◌, ℕ, ◌≤◌, Bool, true, false, List, [], ◌∷◌, ◌++◌, length, None, Some, refl, sym, ap, arith, ◌∙◌}
-use Rattle.std.specs.Prelude.{if◌then◌else◌}
+use Rattle.std.proofs.Common.{◌≡◌, ℕ, ◌≤◌, List, length, None, Some, refl, sym, ap, subst, arith, ◌∙◌}
 use Rattle.std.specs.Option.{option_or}
 use Rattle.std.specs.declared.option.Option.{Option}
-use Rattle.rc_base.specs.Formats.Limits.{Quantity, is_outside, first_outside, quantities, limit_of}
+use Rattle.rc_base.specs.Formats.Limits.{limit_of, size_limit}
 use Rattle.rc_base.specs.Outside.Transfer.{byte_limit}
 use Rattle.rc_base.specs.declared.scene.Limit.{Limit}
 use Rattle.rc_base.specs.declared.scene.Scene.{Scene}
@@ -13,36 +12,40 @@ use Rattle.render_core.specs.declared.job.Form.{Form}
 use Rattle.render_core.specs.declared.job.Form.TheVariants.{Bytes, Text}
 use Rattle.render_core.specs.declared.job.Job.{Job}
 use Rattle.render_core.specs.declared.job.Origin.{Origin}
-use Rattle.render_core.specs.declared.job.Origin.TheVariants.{Read}
+use Rattle.render_core.specs.declared.job.Origin.TheVariants.{Read, Generated}
 use Rattle.rc_base.specs.Outside.Ends.{Used}
-use Rattle.render_core.specs.Jobs.{origin_of, limit_for, word_quantities, Spells, Gives, HasScene}
+use Rattle.render_core.specs.Jobs.{cluster_of, limit_for, origin_of, scene_limit, tile_limit, with_rounds, word_limit, Spells, Gives, HasScene}
 use Rattle.render_core.specs.Lines.{limit_line}
 use Rattle.render_core.specs.Findings.{Finding, Long, Malformed, Outside, Sound, TellsFault, IsJudged, Judged}
 use Rattle.render_core.specs.Laws.{FindingsAreOne}
-use Rattle.render_core.specs.Refusals.{word_limit, Came}
+use Rattle.render_core.specs.Refusals.{Came}
 
 -- ---- limits: the scene's come first
 
--- the first quantity outside its range stands in the first list, or else in the second
-own_first : (outside : Bool) (own : Limit) (both first second : Option Limit) → both ≡ option_or first second
-    → (if outside then Some own else both) ≡ option_or (if outside then Some own else first) second
-own_first true own both first second same = refl
-own_first false own both first second same = same
+pub scene_first : (job : Job) (scene : Scene) (limit : Limit) → scene_limit (origin_of job) scene ≡ Some limit → limit_for job scene ≡ Some limit
+scene_first job scene limit e = ap (λ (l : Option Limit). option_or l (word_limit job scene)) e
 
-first_of_both : (xs ys : List Quantity) → first_outside (xs ++ ys) ≡ option_or (first_outside xs) (first_outside ys)
-first_of_both [] ys = refl
-first_of_both (q ∷ qs) ys =
-    own_first (is_outside q) (record { what = q.what; value = q.value }) (first_outside (qs ++ ys)) (first_outside qs) (first_outside ys) (first_of_both qs ys)
+pub words_next : (job : Job) (scene : Scene) → scene_limit (origin_of job) scene ≡ None → limit_for job scene ≡ word_limit job scene
+words_next job scene e = ap (λ (l : Option Limit). option_or l (word_limit job scene)) e
 
-limit_is : (job : Job) (scene : Scene) → limit_for job scene ≡ option_or (limit_of scene) (word_limit job scene)
-unfolding limit_of
-limit_is job scene = first_of_both (quantities scene) (word_quantities job scene)
+neither : (a b : Option Limit) → option_or a b ≡ None → (a ≡ None) × (b ≡ None)
+neither None b e = (refl, e)
+neither (Some limit) b e = absurd cc
 
-pub scene_first : (job : Job) (scene : Scene) (limit : Limit) → limit_of scene ≡ Some limit → limit_for job scene ≡ Some limit
-scene_first job scene limit e = limit_is job scene ∙ ap (λ (l : Option Limit). option_or l (word_limit job scene)) e
+-- where nothing is outside its range, neither the scene nor the words are
+pub within_both : (job : Job) (scene : Scene) → limit_for job scene ≡ None → (scene_limit (origin_of job) scene ≡ None) × (word_limit job scene ≡ None)
+within_both job scene e = neither (scene_limit (origin_of job) scene) (word_limit job scene) e
 
-pub words_next : (job : Job) (scene : Scene) → limit_of scene ≡ None → limit_for job scene ≡ word_limit job scene
-words_next job scene e = limit_is job scene ∙ ap (λ (l : Option Limit). option_or l (word_limit job scene)) e
+-- nor are its rounds, where the scene is made
+pub rounds_within : (seed size : ℕ) (first : Option Limit) → with_rounds (Generated seed size) first ≡ None → size_limit size ≡ None
+rounds_within seed size first e = (neither first (size_limit size) e).1
+
+-- of the words tiles and lanes aren't
+pub tiles_within : (job : Job) (scene : Scene) → word_limit job scene ≡ None → tile_limit (cluster_of job) scene ≡ None
+tiles_within job scene e = go (origin_of job) e where
+  go : (origin : Origin) → with_rounds origin (tile_limit (cluster_of job) scene) ≡ None → tile_limit (cluster_of job) scene ≡ None
+  go (Read form) h = h
+  go (Generated seed size) h = (neither (tile_limit (cluster_of job) scene) (size_limit size) h).0
 
 -- where no scene within the limits is spelled and none outside, none is
 pub unspelled : (form : Form) (input : List ℕ) → ((s : Scene) → Spells form input s → limit_of s ≡ None → ⊥)
@@ -57,6 +60,7 @@ unspelled form input within outside s spelled = go (limit_of s) refl where
 one_given : ScenesAreOne → OneScene → (origin : Origin) (input : List ℕ) (s t : Scene) → Gives origin input s → Gives origin input t → s ≡ t
 one_given bytes text (Read Bytes) input s t a b = bytes input s t a b
 one_given bytes text (Read Text) input s t a b = text input s t a b
+one_given bytes text (Generated seed size) input s t a b = a ∙ sym b
 
 abbrev past : Option Limit → Finding
 past None = Long
@@ -98,9 +102,11 @@ module _ (job : Job) (input : List ℕ) (short : length input ≤ byte_limit) wh
       → IsJudged job input 4 (limit_line limit.what limit.value)
   judged_past scene limit gives first = record { finding = Outside limit; is = (short, (scene, gives, first)); refused = refl; told = refl }
 
-  pub judged_outside : (scene : Scene) (limit : Limit) → Gives (origin_of job) input scene → limit_of scene ≡ Some limit
+  pub judged_outside : (form : Form) → origin_of job ≡ Read form → (scene : Scene) (limit : Limit) → Spells form input scene → limit_of scene ≡ Some limit
       → IsJudged job input 4 (limit_line limit.what limit.value)
-  judged_outside scene limit gives first = judged_past scene limit gives (scene_first job scene limit first)
+  judged_outside form reads scene limit spelled first =
+      judged_past scene limit (subst (λ (o : Origin). Gives o input scene) (sym reads) spelled)
+      (scene_first job scene limit (subst (λ (o : Origin). scene_limit o scene ≡ Some limit) (sym reads) first))
 
 module _ (job : Job) (source : Used) (scene : Scene) (came : Came job source scene) where
   -- the words ask for what is outside its range in the scene's window

@@ -8,7 +8,7 @@ use Rattle.rc_base.specs.declared.sync.SyncLists.{SyncLists}
 use Rattle.order_model.specs.Report.{tile_order}
 use Rattle.order_model.specs.declared.record.Record.{Record}
 use Rattle.render_core.specs.declared.job.Cluster.{Cluster}
-use Rattle.render_core.specs.declared.job.Job.TheVariants.{Render, Simulate, Serial, Check, Pack, Unpack}
+use Rattle.render_core.specs.declared.job.Job.TheVariants.{Render, Simulate, Serial, Check, Pack, Unpack, Gen, Demo}
 use Rattle.render_core.specs.Due.{Outcome, IsRecorded, IsOutcome}
 use Rattle.render_core.specs.Laws.{KeptOrdersArePermitted}
 use Rattle.render_core.specs.Outcomes.{KeepsOrders}
@@ -35,3 +35,5 @@ kept_orders Serial scene o h = keeps_none o _ refl h
 kept_orders Check scene o h = keeps_none o _ refl h
 kept_orders Pack scene o h = keeps_none o _ refl h.0
 kept_orders Unpack scene o h = keeps_none o _ refl h.0
+kept_orders (Gen seed size) scene o h = keeps_none o _ refl h.0
+kept_orders (Demo seed size cluster) scene o h = keeps_some cluster scene o h

@@ -1,48 +1,29 @@
 -- What is due for a scene is one thing.
-use Rattle.std.proofs.Common.{◌≡◌, ℕ, false, true, List, None, Some, sym, ap, ◌∙◌}
-use Rattle.std.specs.declared.option.Option.{Option}
+use Rattle.std.proofs.Common.{◌≡◌, ℕ, false, true, List, None, sym, ap, ◌∙◌}
 use Rattle.rc_base.specs.Formats.Limits.{limit_of}
 use Rattle.rc_base.specs.declared.scene.Scene.{Scene}
-use Rattle.order_model.specs.Report.{image_text_of}
-use Rattle.order_model.specs.declared.record.Record.{Record}
 use Rattle.tile_model.specs.Laws.{LimitsGiveSides}
 use Rattle.tile_model.specs.Scenes.{IsInRange, HasSides}
 use Rattle.world_model.specs.Laws.{FinishedRunsLeaveOneRecord}
-use Rattle.render_core.specs.declared.due.Ending.{Ending}
 use Rattle.render_core.specs.declared.job.Cluster.{Cluster}
 use Rattle.render_core.specs.declared.job.Job.{Job}
-use Rattle.render_core.specs.declared.job.Job.TheVariants.{Render, Simulate, Serial, Check, Pack, Unpack}
-use Rattle.render_core.specs.Due.{Outcome, IsRecorded, IsStepped, IsOutcome, ending_by, report_due, seeded_picks}
+use Rattle.render_core.specs.declared.job.Job.TheVariants.{Render, Simulate, Serial, Check, Pack, Unpack, Gen, Demo}
+use Rattle.render_core.specs.Due.{Outcome, IsStepped, IsOutcome, seeded_picks}
 use Rattle.render_core.specs.Jobs.{has_threads, layout_for, origin_of}
 use Rattle.render_core.specs.Refusals.{IsWell}
+use Rattle.render_core.proofs.Recorded.{is_by_record, outcome_by}
 
 same_due : (o other x : Outcome) → o ≡ x → other ≡ x → other ≡ o
 same_due o other x e f = f ∙ sym e
 
--- a cluster's outcome is that of its record
 module _ (cluster : Cluster) (scene : Scene) where
-  abbrev outcome_by : Record → Outcome
-  outcome_by kept = record {
-    image = image_text_of scene (layout_for cluster scene) kept;
-    notes = report_due scene (layout_for cluster scene) kept cluster.orders;
-    ending = ending_by scene kept.journal;
-    kept = Some kept;
-  }
-
-  is_by_record : (o : Outcome) (is : IsRecorded cluster scene o) → o ≡ outcome_by is.record_kept
-  is_by_record o is =
-      ap (λ (l : List ℕ). record { image = l; notes = o.notes; ending = o.ending; kept = o.kept }) is.image
-      ∙ ap (λ (l : List ℕ). record { image = image_text_of scene (layout_for cluster scene) is.record_kept; notes = l; ending = o.ending; kept = o.kept }) is.notes
-      ∙ ap (λ (e : Ending). record { image = image_text_of scene (layout_for cluster scene) is.record_kept; notes = report_due scene (layout_for cluster scene) is.record_kept cluster.orders; ending = e; kept = o.kept }) is.ending
-      ∙ ap (λ (k : Option Record). record { image = image_text_of scene (layout_for cluster scene) is.record_kept; notes = report_due scene (layout_for cluster scene) is.record_kept cluster.orders; ending = ending_by scene is.record_kept.journal; kept = k }) is.kept
-
   one_cluster : (picks : List ℕ) → FinishedRunsLeaveOneRecord → IsInRange scene → HasSides scene.decl → (o other : Outcome) → IsStepped cluster picks scene o
       → IsStepped cluster picks scene other → other ≡ o
   one_cluster picks law ranged sides o other a b =
       let same : b.recorded.record_kept ≡ a.recorded.record_kept =
       law scene (layout_for cluster scene) cluster.depth a.stepped.rounds b.stepped.rounds picks a.stepped.moves b.stepped.moves a.stepped.world b.stepped.world
       a.recorded.record_kept b.recorded.record_kept ranged sides a.stepped.finished b.stepped.finished a.stepped.record_of b.stepped.record_of in
-      is_by_record other b.recorded ∙ ap outcome_by same ∙ sym (is_by_record o a.recorded)
+      is_by_record cluster scene other b.recorded ∙ ap (outcome_by cluster scene) same ∙ sym (is_by_record cluster scene o a.recorded)
 
 pub one_outcome : FinishedRunsLeaveOneRecord → LimitsGiveSides → (job : Job) (scene : Scene) (o other : Outcome) → has_threads job ≡ false
     → IsWell (origin_of job) scene → limit_of scene ≡ None → IsOutcome job scene o → IsOutcome job scene other → other ≡ o
@@ -54,3 +35,5 @@ one_outcome law give Serial scene o other alone well within h k = same_due o oth
 one_outcome law give Check scene o other alone well within h k = same_due o other _ h k
 one_outcome law give Pack scene o other alone well within h k = same_due o other _ h.0 k.0
 one_outcome law give Unpack scene o other alone well within h k = same_due o other _ h.0 k.0
+one_outcome law give (Gen seed size) scene o other alone well within h k = same_due o other _ h.0 k.0
+one_outcome law give (Demo seed size cluster) scene o other alone well within h k = let same : true ≡ false = alone in absurd cc

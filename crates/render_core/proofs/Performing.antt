@@ -1,12 +1,13 @@
 -- From the steps of a job to what it left.
-use Rattle.std.proofs.Common.{◌≡◌, ℕ, ◌+◌, ◌≤◌, ◌⊎◌, inl, inr, Bool, true, false, List, ◌++◌, length, Ok, Err, None, refl, sym, ap, ◌∙◌, subst, arith}
+use Rattle.std.proofs.Common.{◌≡◌, ℕ, ◌+◌, ◌≤◌, ◌⊎◌, inl, inr, Bool, true, false, List, [], ◌++◌, length, Ok, Err, None, refl, sym, ap, ◌∙◌, subst, arith}
 use Rattle.std.specs.declared.option.Option.{Option}
-use Rattle.std.specs.Prelude.{◌==◌, IfErr, if◌then◌else◌}
+use Rattle.std.specs.Prelude.{◌==◌, ◌≢◌, IfErr, IfOk, MatchResult, if◌then◌else◌}
 use Rattle.std.specs.declared.result.Result.{Result}
 use Rattle.std.specs.Io.KnownBytes.{Consumes, IsAtEnd}
 use Rattle.std.proofs.Math.Seq.{take-length}
 use Rattle.order_model.specs.declared.record.Record.{Record}
 use Rattle.rc_base.specs.Outside.Transfer.{byte_limit, IsAnswerFor, IsCountFor}
+use Rattle.rc_base.specs.Program.Generator.{generated_scene}
 use Rattle.rc_base.specs.declared.scene.Scene.{Scene}
 use Rattle.rc_base.specs.declared.transfer.ReadAllFault.{ReadAllFault}
 use Rattle.rc_base.specs.declared.transfer.ReadAllFault.TheVariants.{ReadFault, TooLong, OutOfMemory as Unread}
@@ -17,21 +18,22 @@ use Rattle.render_core.specs.declared.due.Ending.TheVariants.{Complete, Stuck}
 use Rattle.render_core.specs.declared.job.Form.{Form}
 use Rattle.render_core.specs.declared.job.Job.{Job}
 use Rattle.render_core.specs.declared.job.Origin.{Origin}
-use Rattle.render_core.specs.declared.job.Origin.TheVariants.{Read}
+use Rattle.render_core.specs.declared.job.Origin.TheVariants.{Read, Generated}
 use Rattle.render_core.specs.declared.refusal.InputRefusal.{InputRefusal}
 use Rattle.render_core.specs.declared.refusal.ImageRefusal.TheVariants as writing
 use Rattle.render_core.specs.declared.refusal.Refusal.{Refusal}
 use Rattle.render_core.specs.declared.refusal.Refusal.TheVariants.{Reading, Input, Undue, Image}
 use Rattle.render_core.specs.declared.refusal.Refused.{Refused}
 use Rattle.render_core.specs.declared.writing.Told.{Told}
-use Rattle.render_core.specs.declared.writing.Written.{Written}
+use Rattle.frame_out.specs.Writing.{IsWritten}
+use Rattle.frame_out.specs.declared.writing.Written.{Written}
 use Rattle.render_core.specs.Due.{Outcome, IsOutcome}
 use Rattle.rc_base.specs.Outside.Ends.{Used, IsCalm, Took, TookInput, TookFront}
 use Rattle.render_core.specs.Findings.{Long}
-use Rattle.render_core.specs.Jobs.{origin_of, Gives, Takes}
+use Rattle.render_core.specs.Jobs.{origin_of, scene_limit, word_limit, Gives, IsUntouched, Takes}
 use Rattle.render_core.specs.Lines.{limit_line, image_fault_line}
 use Rattle.render_core.specs.Outcomes.{IsDue, PartlyWritten, Sent, Whole, Front, Cause, SourceFailed, InputRefused, StoodStill, ImageFailed}
-use Rattle.render_core.specs.Refusals.{IsRead, Came, IsRefusedInput, IsNoOutcome, IsWritten, IsToldOf, IsUntold, IsPerformed, IsCaused, IsRefusedUnwritten, input_status, input_line, kept_for, refusal_status, refusal_line, word_limit}
+use Rattle.render_core.specs.Refusals.{IsRead, Came, IsRefusedInput, IsNoOutcome, IsToldOf, IsUntold, IsPerformed, IsCaused, IsRefusedUnwritten, input_status, input_line, kept_for, refusal_status, refusal_line}
 use Rattle.render_core.proofs.Judging.{judged_by_words, has_scene}
 
 -- no record is kept where there is none
@@ -61,7 +63,7 @@ module _ (job : Job) (form : Form) (reads : origin_of job ≡ Read form) (source
   -- the source wasn't read to its end
   pub reading_cause : (fault : ReadAllFault) (bytes : List ℕ) → Consumes source.before source.after bytes → IsAnswerFor bytes (Err fault)
       → IsCountFor source.faults_before source.faults_after (Err fault) → IsRefusedUnwritten job source (Reading fault)
-  reading_cause ReadFault bytes taken answer count image = inl (SourceFailed refl refl (record { rose = count.0; once = count.1 }) refl)
+  reading_cause ReadFault bytes taken answer count image = inl (SourceFailed (form, reads) refl refl (record { rose = count.0; once = count.1 }) refl)
   reading_cause (TooLong seen) bytes taken answer count image =
       let long = answer.1 in
       inl (InputRefused (record {
@@ -83,8 +85,20 @@ module _ (job : Job) (form : Form) (reads : origin_of job ≡ Read form) (source
       took = takes input took;
       short = short;
       gives = subst (λ (o : Origin). Gives o input scene) (sym reads) read.spelled;
-      within = read.within;
+      within = subst (λ (o : Origin). scene_limit o scene ≡ None) (sym reads) read.within;
     }
+
+-- ---- a job that makes its scene
+
+pub came_made : (job : Job) (seed size : ℕ) → origin_of job ≡ Generated seed size → (source : Used) → IsUntouched source → (scene : Scene)
+    → scene ≡ generated_scene seed size → Came job source scene
+came_made job seed size makes source untouched scene is = record {
+  input = [];
+  took = subst (λ (o : Origin). Takes o source []) (sym makes) (refl, untouched);
+  short = omega arith;
+  gives = subst (λ (o : Origin). Gives o [] scene) (sym makes) is;
+  within = subst (λ (o : Origin). scene_limit o scene ≡ None) (sym makes) refl;
+}
 
 -- ---- its scene
 
@@ -138,6 +152,33 @@ module _ (job : Job) (source image : Used) (o : Outcome) (due : IsDue job source
     pub if_untold : (r : Result Told Refused) → IfErr r (IsUntold o.ending o.kept written) → IfErr r (λ x. IsCaused job source image x.refusal x.kept)
     if_untold (Ok told) h = tt
     if_untold (Err refused) h = untold_cause refused h
+
+    pub told_either : (r : Result Told Refused) → IfOk r (IsToldOf o.notes o.ending o.kept written) → IfErr r (IsUntold o.ending o.kept written)
+        → MatchResult r (IsToldOf o.notes o.ending o.kept written) (IsUntold o.ending o.kept written)
+    told_either (Ok told) h n = h
+    told_either (Err refused) h n = n
+
+    module _ (r : Result Told Refused) (told : MatchResult r (IsToldOf o.notes o.ending o.kept written) (IsUntold o.ending o.kept written)) where
+      pub told_done : IfOk r (IsPerformed job source image)
+      told_done = go r told where
+        go : (r : Result Told Refused) → MatchResult r (IsToldOf o.notes o.ending o.kept written) (IsUntold o.ending o.kept written) → IfOk r (IsPerformed job source image)
+        go (Ok t) h = performed_of t h
+        go (Err refused) h = tt
+
+      pub told_refused : IfErr r (λ x. IsCaused job source image x.refusal x.kept)
+      told_refused = go r told where
+        go : (r : Result Told Refused) → MatchResult r (IsToldOf o.notes o.ending o.kept written) (IsUntold o.ending o.kept written)
+            → IfErr r (λ x. IsCaused job source image x.refusal x.kept)
+        go (Ok t) h = tt
+        go (Err refused) h = untold_cause refused h
+
+      -- nothing is to be said of refusals before the image
+      pub told_late : (P : Type 0) → IfErr r (λ x. refusal_status x.refusal ≢ 6 → refusal_status x.refusal ≢ 7 → P)
+      told_late P = go r told where
+        go : (r : Result Told Refused) → MatchResult r (IsToldOf o.notes o.ending o.kept written) (IsUntold o.ending o.kept written)
+            → IfErr r (λ x. refusal_status x.refusal ≢ 6 → refusal_status x.refusal ≢ 7 → P)
+        go (Ok t) h = tt
+        go (Err refused) h = λ six seven. elim h.why [ inl memory ↦ absurd (seven (ap refusal_status memory)) | inr cut ↦ absurd (six (ap refusal_status cut.2)) ]
 
 -- the statuses of what isn't told
 pub untold_status : {ending : Ending} {kept : Option Record} {written : Written} (refused : Refused) → IsUntold ending kept written refused

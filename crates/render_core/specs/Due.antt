@@ -26,7 +26,7 @@ use Rattle.render_core.specs.declared.due.Ending.{Ending}
 use Rattle.render_core.specs.declared.due.Ending.TheVariants.{Complete, Stuck}
 use Rattle.render_core.specs.declared.job.Cluster.{Cluster}
 use Rattle.render_core.specs.declared.job.Job.{Job}
-use Rattle.render_core.specs.declared.job.Job.TheVariants.{Render, Simulate, Serial, Check, Pack, Unpack}
+use Rattle.render_core.specs.declared.job.Job.TheVariants.{Render, Simulate, Serial, Check, Pack, Unpack, Gen, Demo}
 
 -- bytes to the image, bytes to the notes, how the run ends that writes them, and of a cluster the record that is kept
 pub record Outcome : Type 0 where
@@ -101,6 +101,10 @@ default_frames scene = frame_images scene (default_order (sync_lists_of scene) (
 unfoldable pub default_ending : Scene → Ending
 default_ending scene = ending_by scene (journal_of scene)
 
+-- the scene's bytes, which spell it, and nothing for the notes
+abbrev pub IsPacked : Scene → Outcome → Type 0
+IsPacked scene o = (o ≡ record { image = written scene; notes = []; ending = Complete; kept = None }) × SpellsScene o.image scene
+
 -- ---- job by job
 
 -- This is due for the scene: one case for each job. What is packed or unpacked spells the scene again, in the other form.
@@ -110,8 +114,10 @@ IsOutcome (Simulate seed cluster) scene o = IsStepped cluster (seeded_picks seed
 IsOutcome Serial scene o =
     o ≡ record { image = p6_texts (default_frames scene); notes = short_report_of scene (journal_of scene); ending = default_ending scene; kept = None }
 IsOutcome Check scene o = o ≡ record { image = []; notes = short_report_of scene (journal_of scene); ending = default_ending scene; kept = None }
-IsOutcome Pack scene o = (o ≡ record { image = written scene; notes = []; ending = Complete; kept = None }) × SpellsScene o.image scene
+IsOutcome Pack scene o = IsPacked scene o
 IsOutcome Unpack scene o = (o ≡ record { image = printed scene; notes = []; ending = Complete; kept = None }) × SpellsText o.image scene
+IsOutcome (Gen seed size) scene o = IsPacked scene o
+IsOutcome (Demo seed size cluster) scene o = IsRecorded cluster scene o
 
 -- Nothing is due, since a whole round of the seeded cluster moved nobody, though an actor hadn't ended.
 pub record Stands (job : Job) (scene : Scene) : Type 0 where

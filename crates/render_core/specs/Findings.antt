@@ -1,4 +1,4 @@
--- What a job finds in its input: one of four cases, by which it is carried out or refused.
+-- What a job finds in its input, or in its words where it makes its scene: one of four cases, by which it is carried out or refused.
 use Rattle.std.specs.Prelude.{◌≡◌, ℕ, ◌+◌, ◌<◌, ◌≤◌, List, length, Option, Some, None}
 use Rattle.rc_base.specs.Formats.Text.Faults.{text_fault}
 use Rattle.rc_base.specs.Outside.Transfer.{byte_limit}
@@ -10,7 +10,7 @@ use Rattle.scene_file.specs.Faults.{FailsAsScene}
 use Rattle.render_core.specs.declared.job.Form.TheVariants.{Bytes, Text}
 use Rattle.render_core.specs.declared.job.Job.{Job}
 use Rattle.render_core.specs.declared.job.Origin.{Origin}
-use Rattle.render_core.specs.declared.job.Origin.TheVariants.{Read}
+use Rattle.render_core.specs.declared.job.Origin.TheVariants.{Read, Generated}
 use Rattle.rc_base.specs.Outside.Ends.{Used}
 use Rattle.render_core.specs.Jobs.{origin_of, limit_for, Gives, Takes, IsInput}
 use Rattle.render_core.specs.Lines.{scene_kind_name, text_kind_name, malformed_line, limit_line}
@@ -41,10 +41,11 @@ refused_with (Sound scene) = None
 
 -- ---- the line that tells it
 
--- the first fault of bytes and its place, or of a text and its line
+-- the first fault of bytes and its place, or of a text and its line; a scene that is made has none
 abbrev pub TellsFault : Origin → List ℕ → List ℕ → Type 0
 TellsFault (Read Bytes) input line = (kind : SceneKind) × (at : ℕ) × FailsAsScene input kind at × (line ≡ malformed_line (scene_kind_name kind) at)
 TellsFault (Read Text) input line = (kind : TextKind) × (at : ℕ) × (text_fault input ≡ Some (at, kind)) × (line ≡ malformed_line (text_kind_name kind) at)
+TellsFault (Generated seed size) input line = ⊥
 
 -- the line tells why the job refuses this
 abbrev pub TellsFinding : Job → List ℕ → Finding → List ℕ → Type 0

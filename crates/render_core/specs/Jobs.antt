@@ -1,26 +1,28 @@
 -- The jobs of the program: the words that name them, where their scenes come from, and what limits them.
-use Rattle.std.specs.Prelude.{◌≡◌, ℕ, ◌+◌, ◌≤◌, Bool, true, false, List, [], ◌++◌, Option, Some, None, length, map, string_bytes}
+use Rattle.std.specs.Prelude.{◌≡◌, ℕ, ◌+◌, ◌≤◌, ◌⊎◌, Bool, List, [], Option, Some, None, is_some, length, map, slice_get, string_bytes}
+use Rattle.std.specs.Option.{option_or}
 use Rattle.std.specs.declared.string.String.{String}
 use Rattle.std.specs.Global.{Global}
 use Rattle.rc_base.specs.declared.scene.Limit.{Limit}
 use Rattle.rc_base.specs.declared.scene.Scene.{Scene}
 use Rattle.rc_base.specs.declared.window.Layout.{Layout}
-use Rattle.rc_base.specs.Formats.Limits.{Quantity, quantities, layout_quantities, first_outside}
+use Rattle.rc_base.specs.Formats.Limits.{Quantity, layout_quantities, first_outside, limit_of, size_limit}
 use Rattle.rc_base.specs.Formats.Spelling.{SpellsScene}
 use Rattle.rc_base.specs.Formats.Text.Read.{SpellsText}
 use Rattle.rc_base.specs.Cluster.Tiles.{tile_count}
 use Rattle.rc_base.specs.Outside.Transfer.{byte_limit}
 use Rattle.rc_base.specs.declared.job.JobName.{JobName}
-use Rattle.rc_base.specs.Program.Words.{Setting, IsCommandLine, tiles_in, depth_in, order_in, seed_in}
+use Rattle.rc_base.specs.Program.Words.{Setting, IsCommandLine, job_word, tiles_in, depth_in, order_in, seed_in, size_in}
 use Rattle.rc_base.specs.declared.job.JobName.TheVariants.{Render as render_name, Simulate as simulate_name, Serial as serial_name, Check as check_name, Pack as pack_name, Unpack as unpack_name, Gen as gen_name, Demo as demo_name}
-use Rattle.rc_base.specs.Outside.Ends.{Used, TookInput}
+use Rattle.rc_base.specs.Outside.Ends.{Used, Failed, TookInput}
+use Rattle.rc_base.specs.Program.Generator.{generated_scene}
 use Rattle.render_core.specs.declared.job.Cluster.{Cluster}
 use Rattle.render_core.specs.declared.job.Job.{Job}
-use Rattle.render_core.specs.declared.job.Job.TheVariants.{Render, Simulate, Serial, Check, Pack, Unpack}
+use Rattle.render_core.specs.declared.job.Job.TheVariants.{Render, Simulate, Serial, Check, Pack, Unpack, Gen, Demo}
 use Rattle.render_core.specs.declared.job.Form.{Form}
 use Rattle.render_core.specs.declared.job.Form.TheVariants.{Bytes, Text}
 use Rattle.render_core.specs.declared.job.Origin.{Origin}
-use Rattle.render_core.specs.declared.job.Origin.TheVariants.{Read}
+use Rattle.render_core.specs.declared.job.Origin.TheVariants.{Read, Generated}
 
 -- ---- words and inputs
 
@@ -29,16 +31,16 @@ abbrev pub cluster_in : List Setting → Cluster
 cluster_in settings =
     record { columns = (tiles_in settings).0; rows = (tiles_in settings).1; depth = depth_in settings; orders = order_in settings }
 
--- the job that a name and settings ask for; scenes are not generated so far
-abbrev pub job_in : JobName → List Setting → Option Job
-job_in render_name settings = Some (Render (cluster_in settings))
-job_in simulate_name settings = Some (Simulate (seed_in settings) (cluster_in settings))
-job_in serial_name settings = Some Serial
-job_in check_name settings = Some Check
-job_in pack_name settings = Some Pack
-job_in unpack_name settings = Some Unpack
-job_in gen_name settings = None
-job_in demo_name settings = None
+-- the job that a name and settings ask for
+abbrev pub job_in : JobName → List Setting → Job
+job_in render_name settings = Render (cluster_in settings)
+job_in simulate_name settings = Simulate (seed_in settings) (cluster_in settings)
+job_in serial_name settings = Serial
+job_in check_name settings = Check
+job_in pack_name settings = Pack
+job_in unpack_name settings = Unpack
+job_in gen_name settings = Gen (seed_in settings) (size_in settings)
+job_in demo_name settings = Demo (seed_in settings) (size_in settings) (cluster_in settings)
 
 -- the words are a command line
 abbrev pub IsLine : List (String Global) → Type 0
@@ -49,7 +51,7 @@ pub record IsJob (words : List (String Global)) (job : Job) : Type 0 where
   pub name : JobName
   pub settings : List Setting
   pub line : IsCommandLine (map string_bytes words) name settings
-  pub asked : job_in name settings ≡ Some job
+  pub asked : job_in name settings ≡ job
 
 -- the words name a job, of which this holds
 abbrev pub ForJob : List (String Global) → (Job → Type 0) → Type 0
@@ -59,16 +61,27 @@ ForJob words holds = (job : Job) × IsJob words job × holds job
 abbrev pub cluster_of : Job → Option Cluster
 cluster_of (Render cluster) = Some cluster
 cluster_of (Simulate seed cluster) = Some cluster
+cluster_of (Demo seed size cluster) = Some cluster
 cluster_of _ = None
 
--- whose turn it is in its cluster is left open, as where each actor is a thread of its own
+-- the cluster of a job whose actors are threads of their own
+abbrev pub threads_of : Job → Option Cluster
+threads_of (Render cluster) = Some cluster
+threads_of (Demo seed size cluster) = Some cluster
+threads_of _ = None
+
+-- so whose turn it is in its cluster is left open
 abbrev pub has_threads : Job → Bool
-has_threads (Render cluster) = true
-has_threads _ = false
+has_threads job = is_some (threads_of job)
+
+-- the first word is that of such a job
+abbrev pub IsThreaded : List (String Global) → Type 0
+IsThreaded words =
+    (slice_get (map string_bytes words) 0 ≡ Some (job_word render_name)) ⊎ (slice_get (map string_bytes words) 0 ≡ Some (job_word demo_name))
 
 -- ---- where a job's scene comes from
 
--- it is read: a scene's text is packed, all else is bytes
+-- it is read, as text where it is packed and else as bytes; or it is made
 abbrev pub origin_of : Job → Origin
 origin_of (Render cluster) = Read Bytes
 origin_of (Simulate seed cluster) = Read Bytes
@@ -76,19 +89,36 @@ origin_of Serial = Read Bytes
 origin_of Check = Read Bytes
 origin_of Pack = Read Text
 origin_of Unpack = Read Bytes
+origin_of (Gen seed size) = Generated seed size
+origin_of (Demo seed size cluster) = Generated seed size
+
+-- it is read
+abbrev pub Reads : Job → Type 0
+Reads job = (form : Form) × (origin_of job ≡ Read form)
 
 -- the input spells the scene in this form
 abbrev pub Spells : Form → List ℕ → Scene → Type 0
 Spells Bytes input scene = SpellsScene input scene
 Spells Text input scene = SpellsText input scene
 
--- the scene comes of this input
+-- the scene comes of this input; one that is made is that of its seed and its size, whatever the input
 abbrev pub Gives : Origin → List ℕ → Scene → Type 0
 Gives (Read form) input scene = Spells form input scene
+Gives (Generated seed size) input scene = scene ≡ generated_scene seed size
 
--- and this input is taken of the source for it
+-- the end is as it was
+abbrev pub IsUntouched : Used → Type 0
+IsUntouched e = (e.after ≡ e.before) × (e.faults_after ≡ e.faults_before)
+
+-- this input is taken of the source for it: nothing where the scene is made
 abbrev pub Takes : Origin → Used → List ℕ → Type 0
 Takes (Read form) source input = TookInput source input
+Takes (Generated seed size) source input = (input ≡ []) × IsUntouched source
+
+-- the source has this input for it: it tells these bytes and doesn't fail, and for a scene that is made it needn't tell any
+abbrev pub Holds : Origin → Used → List ℕ → Type 0
+Holds (Read form) source input = (source.before ≡ Some input) × (Failed source → ⊥)
+Holds (Generated seed size) source input = input ≡ []
 
 -- ---- limits
 
@@ -108,19 +138,28 @@ cluster_quantities cluster scene = layout_quantities scene.decl.width scene.decl
 abbrev pub cluster_limit : Cluster → Scene → Option Limit
 cluster_limit cluster scene = first_outside (cluster_quantities cluster scene)
 
--- the quantities of the job's words
-abbrev pub word_quantities : Job → Scene → List Quantity
-word_quantities (Render cluster) scene = cluster_quantities cluster scene
-word_quantities (Simulate seed cluster) scene = cluster_quantities cluster scene
-word_quantities _ scene = []
+-- of the scene's own quantities, where it is read; one that is made is within the limits where its size is
+abbrev pub scene_limit : Origin → Scene → Option Limit
+scene_limit (Read form) scene = limit_of scene
+scene_limit (Generated seed size) scene = None
 
--- all quantities that are judged for the job, in the order in which they are: the scene's, and then the words'
-abbrev pub quantities_for : Job → Scene → List Quantity
-quantities_for job scene = quantities scene ++ word_quantities job scene
+-- of the tiles and the lanes, where the job runs a cluster
+abbrev pub tile_limit : Option Cluster → Scene → Option Limit
+tile_limit None scene = None
+tile_limit (Some cluster) scene = cluster_limit cluster scene
 
--- the first of them that is outside its range
+-- of these and then of the rounds, where the scene is made
+abbrev pub with_rounds : Origin → Option Limit → Option Limit
+with_rounds (Read form) first = first
+with_rounds (Generated seed size) first = option_or first (size_limit size)
+
+-- of the job's words: the tiles and the lanes, and then the rounds
+abbrev pub word_limit : Job → Scene → Option Limit
+word_limit job scene = with_rounds (origin_of job) (tile_limit (cluster_of job) scene)
+
+-- the first quantity outside its range of all that are judged for the job: the scene's, and then the words'
 abbrev pub limit_for : Job → Scene → Option Limit
-limit_for job scene = first_outside (quantities_for job scene)
+limit_for job scene = option_or (scene_limit (origin_of job) scene) (word_limit job scene)
 
 -- ---- the scene of a run
 

@@ -1,12 +1,18 @@
 -- Laws on what a job finds in its input, and on what is due for a scene.
-use Rattle.std.specs.Prelude.{◌≡◌, ℕ, false, List, None, IfSome}
+use Rattle.std.specs.Prelude.{◌≡◌, ℕ, false, List, Some, None, IfSome}
 use Rattle.rc_base.specs.Formats.Limits.{limit_of}
+use Rattle.rc_base.specs.Orders.Footprints.{IsOrderedScene}
+use Rattle.rc_base.specs.Orders.Sync.{sync_lists_of}
 use Rattle.rc_base.specs.declared.scene.Scene.{Scene}
+use Rattle.order_model.specs.Full.{IsFull}
+use Rattle.order_model.specs.Sent.{IsRecordOf}
+use Rattle.order_model.specs.declared.record.Record.{Record}
+use Rattle.render_core.specs.declared.job.Cluster.{Cluster}
 use Rattle.render_core.specs.declared.job.Job.{Job}
 use Rattle.render_core.specs.Due.{Outcome, IsOutcome}
 use Rattle.render_core.specs.Findings.{Finding, IsFinding}
-use Rattle.render_core.specs.Jobs.{origin_of, has_threads}
-use Rattle.render_core.specs.Outcomes.{KeepsOrders}
+use Rattle.render_core.specs.Jobs.{IsInput, cluster_of, has_threads, layout_for, origin_of}
+use Rattle.render_core.specs.Outcomes.{KeepsOrders, ShowsEveryPermittedOrder, ShowsTheSerialImage}
 use Rattle.render_core.specs.Refusals.{IsWell}
 
 -- an input is one thing to a job
@@ -22,3 +28,11 @@ OneOutcomeIsDue =
 -- each order that a kept record tells is one that its journal permits
 abbrev pub KeptOrdersArePermitted : Type 0
 KeptOrdersArePermitted = (job : Job) (scene : Scene) (o : Outcome) → IsOutcome job scene o → IfSome o.kept KeepsOrders
+
+-- A lawful record of a job's ordered scene shows the image of every order that its journal permits; where nothing takes a unit and all clients meet at
+-- each barrier that is named, also that of `serial`.
+abbrev pub OrderedRecordsShowOneImage : Type 0
+OrderedRecordsShowOneImage =
+    (job : Job) (cluster : Cluster) (input : List ℕ) (scene : Scene) (kept : Record) → cluster_of job ≡ Some cluster → IsInput job input scene
+    → IsRecordOf scene (layout_for cluster scene) kept → IsOrderedScene scene kept.journal
+    → ShowsEveryPermittedOrder cluster scene kept × (IsFull (sync_lists_of scene) → ShowsTheSerialImage cluster scene kept)

@@ -4,6 +4,6 @@ pub mod Lines
 pub mod Findings
 pub mod Outcomes
 pub mod Refusals
+pub mod Finishes
 pub mod Reports
-pub mod Frames
 pub mod Laws

@@ -1,19 +1,25 @@
 -- How a run may end: what each status says of the words, of the bytes of the source, and of what the image and the notes were given.
-use Rattle.std.specs.Prelude.{◌≡◌, ◌≢◌, ℕ, ◌<◌, ◌≤◌, ◌⊎◌, true, List, [], ◌++◌, length, take, Option, Some, None}
+use Rattle.std.specs.Prelude.{◌≡◌, ◌≢◌, ℕ, ◌<◌, ◌≤◌, ◌⊎◌, List, [], ◌++◌, length, take, Option, Some, None}
 use Rattle.std.specs.declared.string.String.{String}
 use Rattle.std.specs.Global.{Global}
+use Rattle.rc_base.specs.Drawing.Images.{frame_image, frame_images}
+use Rattle.rc_base.specs.Formats.Netpbm.{p6_texts}
+use Rattle.rc_base.specs.Orders.Footprints.{IsOrderedScene}
 use Rattle.rc_base.specs.Orders.Order.{IsPermitted}
+use Rattle.rc_base.specs.Orders.Sync.{sync_lists_of}
 use Rattle.rc_base.specs.declared.scene.Scene.{Scene}
-use Rattle.order_model.specs.Report.{image_text_of, tile_order}
+use Rattle.rc_base.specs.declared.sync.Name.{Name}
+use Rattle.order_model.specs.Full.{IsFull}
+use Rattle.order_model.specs.Report.{frame_count, image_text_of, recorded_frame, tile_order}
 use Rattle.order_model.specs.Sent.{IsRecordOf}
 use Rattle.order_model.specs.declared.record.Record.{Record}
 use Rattle.render_core.specs.declared.job.Cluster.{Cluster}
 use Rattle.render_core.specs.declared.job.Job.{Job}
 use Rattle.render_core.specs.declared.due.Ending.TheVariants.{Complete, Stuck as EndsStuck}
-use Rattle.render_core.specs.Due.{Outcome, IsOutcome, Stands, ending_status}
+use Rattle.render_core.specs.Due.{Outcome, IsOutcome, Stands, default_frames, ending_status}
 use Rattle.rc_base.specs.Outside.Ends.{Used, Failed, IsCalm, Took, Noted}
 use Rattle.render_core.specs.Findings.{Finding, Long, Malformed, Outside, Sound, IsFinding, Judged, refused_with}
-use Rattle.render_core.specs.Jobs.{IsJob, ForJob, HasScene, cluster_of, has_threads, layout_for}
+use Rattle.render_core.specs.Jobs.{Holds, IsJob, ForJob, HasScene, Reads, cluster_of, layout_for, origin_of}
 use Rattle.render_core.specs.Lines.{image_fault_line, usage_line, read_fault_line, memory_line, standstill_line}
 
 -- ---- what a job left of its source and of its image
@@ -90,9 +96,9 @@ pub record IsStill (job : Job) (source : Used) : Type 0 where
 
 -- why it is refused, with this status and this line; a record is kept where a cluster came to its end
 pub data Cause (job : Job) (source image : Used) (status : ℕ) (line : List ℕ) (kept : Option Record) : Type 0 where
-  -- the source failed
-  SourceFailed : status ≡ 2 → line ≡ read_fault_line → Failed source → kept ≡ None → Cause job source image status line kept
-  -- the input spells no scene, or has or spells something outside the limits: 3 or 4
+  -- the source failed, which the job reads
+  SourceFailed : Reads job → status ≡ 2 → line ≡ read_fault_line → Failed source → kept ≡ None → Cause job source image status line kept
+  -- the input spells no scene, or input, scene or words have something outside the limits: 3 or 4
   InputRefused : Judged job source status line → kept ≡ None → Cause job source image status line kept
   -- the image failed before it had taken all that is due
   ImageFailed : status ≡ 6 → (o : Outcome) → IsDue job source o → o.ending ≡ Complete → CutOff image o [] line → kept ≡ o.kept
@@ -139,11 +145,11 @@ Answers job Malformed image notes status kept = status ≡ 3
 Answers job (Outside limit) image notes status kept = status ≡ 4
 Answers job (Sound scene) image notes status kept = IsWhole job scene image notes status kept ⊎ ((status ≡ 9) × Stands job scene)
 
--- Where the source tells its bytes and doesn't fail, what the job finds in them is answered, or there was no memory. Image and notes don't fail
--- either where something is due to them.
+-- Where the source tells its bytes and doesn't fail, what the job finds in them is answered, or there was no memory; of a job that makes its scene
+-- the words alone decide. Image and notes don't fail either where something is due to them.
 abbrev pub IsAnswered : List (String Global) → Used → Used → Used → ℕ → Option Record → Type 0
 IsAnswered words source image notes status kept =
-    (job : Job) (input : List ℕ) (finding : Finding) → IsJob words job → source.before ≡ Some input → IsFinding job input finding → (Failed source → ⊥)
+    (job : Job) (input : List ℕ) (finding : Finding) → IsJob words job → Holds (origin_of job) source input → IsFinding job input finding
     → (refused_with finding ≡ None → (Failed image → ⊥) × (Failed notes → ⊥)) → (status ≡ 7) ⊎ Answers job finding image notes status kept
 
 -- ---- the headline
@@ -156,10 +162,25 @@ KeepsOrders kept = (tile : ℕ) → tile < length kept.logs → IsPermitted kept
 abbrev pub frames_text : Cluster → Scene → Record → List ℕ
 frames_text cluster scene kept = image_text_of scene (layout_for cluster scene) kept
 
--- A record that is kept is lawful for the scene that the source's bytes spell and for the tiles of the words. Each tile's recorded order is one that
--- the journal permits: it keeps each client's order, every barrier and every semaphore grant. The image was given the record's frames, in which each
--- tile's pixels are those of one serial renderer over the whole streams in that tile's recorded order: all of them with the statuses 0 and 8, and
--- with 5 and 6 a front of their text, which with 5 is the whole unless the image failed.
+-- Every order that the journal permits shows the record's image: in each of them one serial renderer over the whole streams draws, frame by frame,
+-- what the tiles drew, so the text of the frames is one too.
+pub record ShowsEveryPermittedOrder (cluster : Cluster) (scene : Scene) (kept : Record) : Type 0 where
+  pub frames : (order : List Name) → IsPermitted (sync_lists_of scene) kept.journal order → (k : ℕ) → 0 < k → k ≤ frame_count kept.journal
+      → recorded_frame scene (layout_for cluster scene) kept k ≡ frame_image scene order k
+  pub text : (order : List Name) → IsPermitted (sync_lists_of scene) kept.journal order
+      → frames_text cluster scene kept ≡ p6_texts (frame_images scene order (frame_count kept.journal))
+
+-- The record's image is the one that `serial` writes of the scene, whatever the tiles, the depth and the schedule.
+abbrev pub ShowsTheSerialImage : Cluster → Scene → Record → Type 0
+ShowsTheSerialImage cluster scene kept = frames_text cluster scene kept ≡ p6_texts (default_frames scene)
+
+-- Each tile's pixels of every frame written are those of one serial renderer over the whole streams in that tile's recorded order, which keeps each
+-- client's order, every barrier and every semaphore grant; and where these order every two commands that touch a common pixel or shared texture, the
+-- image is that of every permitted order.
+--
+-- The record that is kept is lawful for the scene that the source's bytes spell, or that the job makes, and for the tiles of the words. The image was
+-- given its frames: all of them with the statuses 0 and 8, and with 5 and 6 a front of their text, which with 5 is the whole unless the image failed.
+-- Where besides nothing takes a unit, and at each barrier that is named all clients meet, the image is that of `serial`.
 pub record IsHeadline (words : List (String Global)) (source image : Used) (status : ℕ) (kept : Record) : Type 0 where
   pub job : Job
   pub named : IsJob words job
@@ -172,6 +193,8 @@ pub record IsHeadline (words : List (String Global)) (source image : Used) (stat
   pub front : (n : ℕ) × (n ≤ length (frames_text cluster scene kept)) × Took image (take n (frames_text cluster scene kept))
   pub whole : (status ≡ 0) ⊎ (status ≡ 8) → Took image (frames_text cluster scene kept)
   pub unfailed : status ≡ 5 → (Failed image → ⊥) → Took image (frames_text cluster scene kept)
+  pub one_image : IsOrderedScene scene kept.journal → ShowsEveryPermittedOrder cluster scene kept
+  pub serial_image : IsOrderedScene scene kept.journal → IsFull (sync_lists_of scene) → ShowsTheSerialImage cluster scene kept
 
 -- ---- what a run leaves alone
 
@@ -179,9 +202,9 @@ pub record IsHeadline (words : List (String Global)) (source image : Used) (stat
 abbrev pub IsUnwritten : ℕ → Type 0
 IsUnwritten status = (status ≢ 0) × (status ≢ 5) × (status ≢ 6) × (status ≢ 7) × (status ≢ 8)
 
--- what is left of an image where there was no memory: a front of what is due; of a job with threads it is left open
+-- what is left of an image where there was no memory: a front of what is due
 abbrev pub IsLeft : List (String Global) → Used → Used → Type 0
-IsLeft words source image = ForJob words (λ job. (has_threads job ≡ true) ⊎ PartlyWritten job source image)
+IsLeft words source image = ForJob words (λ job. PartlyWritten job source image)
 
 -- something is due to the notes of a job that is done
 abbrev pub HasNotes : List (String Global) → Used → Used → Used → Option Record → Type 0

@@ -4,15 +4,16 @@ use Rattle.rc_base.specs.Outside.Transfer.{byte_limit}
 use Rattle.order_model.specs.declared.record.Record.{Record}
 use Rattle.std.specs.List.{AllByRecursion}
 use Rattle.rc_base.specs.Formats.Commands.{IsCommand}
-use Rattle.rc_base.specs.Formats.Limits.{first_outside, limit_of}
+use Rattle.rc_base.specs.Formats.Limits.{limit_of, size_limit}
 use Rattle.rc_base.specs.Formats.Netpbm.{p6_texts}
 use Rattle.rc_base.specs.Formats.Spelling.{IsDecl}
+use Rattle.rc_base.specs.Program.Generator.{generated_scene}
 use Rattle.rc_base.specs.declared.transfer.ReadAllFault.{ReadAllFault}
 use Rattle.rc_base.specs.declared.transfer.ReadAllFault.TheVariants as reading
-use Rattle.rc_base.specs.declared.scene.Limit.{Limit}
 use Rattle.rc_base.specs.declared.scene.Scene.{Scene}
 use Rattle.rc_base.specs.declared.window.Layout.{Layout}
-use Rattle.ppm_out.specs.Pictures.{IsWhole}
+use Rattle.frame_out.specs.Writing.{AreWritable}
+use Rattle.frame_out.specs.declared.writing.Written.{Written}
 use Rattle.scene_file.specs.Written.{AreWhole}
 use Rattle.render_core.specs.declared.job.Job.{Job}
 use Rattle.render_core.specs.declared.job.Form.{Form}
@@ -33,14 +34,13 @@ use Rattle.render_core.specs.declared.refusal.Refused.{Refused}
 use Rattle.render_core.specs.declared.refusal.Refusal.TheVariants.{Reading, Input, Undue, Image}
 use Rattle.render_core.specs.declared.writing.Told.{Told}
 use Rattle.render_core.specs.declared.job.Origin.{Origin}
-use Rattle.render_core.specs.declared.job.Origin.TheVariants.{Read}
-use Rattle.render_core.specs.declared.writing.Written.{Written}
+use Rattle.render_core.specs.declared.job.Origin.TheVariants.{Read, Generated}
 use Rattle.step_core.specs.declared.rounds.FinishFault.{FinishFault}
 use Rattle.step_core.specs.declared.rounds.FinishFault.TheVariants as finishing
 use Rattle.render_core.specs.Due.{Outcome, IsStandstill, Stands}
 use Rattle.rc_base.specs.Outside.Ends.{Used, Failed, IsCalm, Took, Noted}
 use Rattle.render_core.specs.Findings.{IsJudged}
-use Rattle.render_core.specs.Jobs.{origin_of, word_quantities, Spells, Gives, Takes}
+use Rattle.render_core.specs.Jobs.{origin_of, scene_limit, word_limit, Spells, Gives, Takes}
 use Rattle.render_core.specs.Lines.{scene_kind_name, text_kind_name, malformed_line, limit_line, image_fault_line, read_fault_line, memory_line, standstill_line}
 use Rattle.render_core.specs.Outcomes.{Sent, IsDue, Cause}
 
@@ -107,22 +107,30 @@ pub record IsRead (form : Form) (input : List ℕ) (scene : Scene) : Type 0 wher
   pub spelled : Spells form input scene
   pub within : limit_of scene ≡ None
 
--- The job's scene came from the source, and no quantity of the scene is outside its range; those of the words are judged after it.
+-- The job's scene came from the source or is made, and of one that was read no quantity is outside its range; those of the words are judged after it.
 pub record Came (job : Job) (source : Used) (scene : Scene) : Type 0 where
   pub input : List ℕ
   pub took : Takes (origin_of job) source input
   pub short : length input ≤ byte_limit
   pub gives : Gives (origin_of job) input scene
-  pub within : limit_of scene ≡ None
+  pub within : scene_limit (origin_of job) scene ≡ None
 
 -- what is known of a scene that was read: of bytes its fields are in their ranges, of a text its version is 1 and its pictures are whole
 abbrev pub IsWellRead : Form → Scene → Type 0
 IsWellRead Bytes scene = IsDecl scene.decl × AllByRecursion (AllByRecursion IsCommand) scene.streams
 IsWellRead Text scene = (scene.decl.version ≡ 1) × AllByRecursion AreWhole scene.streams
 
+-- what is known of a scene that was made: its rounds are within their range, and all that is known of a scene that was read
+pub record IsMade (seed size : ℕ) (scene : Scene) : Type 0 where
+  pub is : scene ≡ generated_scene seed size
+  pub rounds : size_limit size ≡ None
+  pub of_bytes : IsWellRead Bytes scene
+  pub of_text : IsWellRead Text scene
+
 -- what is known of a job's scene by where it comes from
 abbrev pub IsWell : Origin → Scene → Type 0
 IsWell (Read form) scene = IsWellRead form scene
+IsWell (Generated seed size) scene = IsMade seed size scene
 
 -- every job that reads this form refuses the input, or there was no memory
 abbrev pub IsRefusedInput : Form → List ℕ → InputRefusal → Type 0
@@ -137,9 +145,9 @@ abbrev pub due_text : DueImage → List ℕ
 due_text (Frames images) = p6_texts images
 due_text (OneText bytes) = bytes
 
--- each frame can be written
+-- the frames can be written
 abbrev pub IsWritable : DueImage → Type 0
-IsWritable (Frames images) = AllByRecursion IsWhole images
+IsWritable (Frames images) = AreWritable images
 IsWritable (OneText bytes) = Unit {0}
 
 -- what was made of a scene, as contracts see it
@@ -155,10 +163,6 @@ abbrev pub IsFinishRefusal : FinishFault → DueRefusal → Type 0
 IsFinishRefusal (finishing.Standstill world) refusal = refusal ≡ undue.Standstill
 IsFinishRefusal finishing.OutOfMemory refusal = refusal ≡ undue.OutOfMemory
 
--- the first quantity of the words that is outside its range in the scene's window
-abbrev pub word_limit : Job → Scene → Option Limit
-word_limit job scene = first_outside (word_quantities job scene)
-
 -- The words ask for what is outside its range in the scene's window, the cluster stood still, or there was no memory.
 abbrev pub IsNoOutcome : Job → Scene → DueRefusal → Type 0
 IsNoOutcome job scene (undue.PastLimit limit) = word_limit job scene ≡ Some limit
@@ -166,12 +170,6 @@ IsNoOutcome job scene undue.Standstill = (word_limit job scene ≡ None) × Stan
 IsNoOutcome job scene undue.OutOfMemory = Unit {0}
 
 -- ---- writing
-
--- it was given the whole, or so many bytes before it failed
-abbrev pub IsWritten : Used → List ℕ → Written → Type 0
-IsWritten image text written =
-    ((written.fault ≡ false) × Took image text × IsCalm image)
-    ⊎ ((written.fault ≡ true) × Failed image × (written.bytes < length text) × Took image (take written.bytes text))
 
 -- Of what was made of a scene this is left to tell, where the image took so much of it. A fault of the image adds a line to what is stuck.
 pub record IsToldOf (notes : List ℕ) (ending : Ending) (kept : Option Record) (written : Written) (told : Told) : Type 0 where

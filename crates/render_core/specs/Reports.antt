@@ -1,9 +1,11 @@
 -- What a report is made of.
-use Rattle.std.specs.Prelude.{◌≡◌, ℕ, Bool, true, List, [], ◌∷◌, ◌++◌, length, ◌↔◌, Option, Some, None, IsSome, IfSome, slice_index_or, codes, if◌then◌else◌}
+use Rattle.std.specs.Prelude.{◌≡◌, ℕ, ◌≤◌, Bool, true, List, [], ◌∷◌, ◌++◌, length, ◌↔◌, Option, Some, None, IsSome, IfSome, slice_index_or, codes, if◌then◌else◌}
 use Rattle.std.specs.List.{flat_map, range_with_len}
 use Rattle.std.specs.Option.{option_map_or}
 use Rattle.std.specs.Fmt.{decimal}
+use Rattle.rc_base.specs.Cluster.Tiles.{tile_count}
 use Rattle.rc_base.specs.Contexts.Issue.{faults_of}
+use Rattle.rc_base.specs.Formats.Limits.{limit_of}
 use Rattle.rc_base.specs.Orders.Journal.{IsLegal, waiting_of}
 use Rattle.rc_base.specs.Orders.Order.{IsPermitted, default_order}
 use Rattle.rc_base.specs.Orders.Sync.{sync_lists_of}
@@ -13,10 +15,13 @@ use Rattle.rc_base.specs.declared.state.Fault.{Fault}
 use Rattle.rc_base.specs.declared.sync.Entry.{Entry}
 use Rattle.rc_base.specs.declared.sync.WaitAt.{WaitAt}
 use Rattle.rc_base.specs.declared.sync.Waiting.{Waiting}
+use Rattle.rc_base.specs.declared.window.Layout.{Layout}
 use Rattle.client_issue.specs.Cores.{no_tally}
 use Rattle.order_model.specs.Report.{count_lines, fault_line, is_stuck, joined_line, order_line, short_report_of, stuck_line, tile_order}
 use Rattle.order_model.specs.declared.record.Record.{Record}
-use Rattle.render_core.specs.Due.{journal_of, default_ending}
+use Rattle.run_record.specs.Told.{IsRun}
+use Rattle.render_core.specs.Due.{ending_by, journal_of, default_ending, report_due}
+use Rattle.render_core.specs.declared.cluster.Account.{Account}
 use Rattle.render_core.specs.declared.due.DefaultRun.{DefaultRun}
 
 -- the lines of refused commands, client by client
@@ -65,3 +70,18 @@ pub record IsDefault (scene : Scene) (run : DefaultRun) : Type 0 where
   pub ending : run.ending ≡ default_ending scene
   pub legal : IsLegal (sync_lists_of scene) run.journal
   pub permitted : IsPermitted (sync_lists_of scene) run.journal run.order
+
+-- ---- of a cluster
+
+-- this is left of a run of a scene within the limits, on 32 tiles at most
+pub record IsSmallRun (kept : Record) (tallies : List Tally) (waiting : Option Waiting) (faults : List (List (ℕ × Fault))) : Type 0 where
+  pub scene : Scene
+  pub layout : Layout
+  pub within : limit_of scene ≡ None
+  pub tiles : tile_count layout ≤ 32
+  pub run : IsRun scene layout kept tallies waiting faults
+
+-- the report of the record, and whether its journal leaves a client waiting
+pub record IsAccount (scene : Scene) (l : Layout) (kept : Record) (orders : Bool) (account : Account) : Type 0 where
+  pub notes : account.notes ≡ report_due scene l kept orders
+  pub ending : account.ending ≡ ending_by scene kept.journal

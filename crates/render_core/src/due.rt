@@ -1,12 +1,12 @@
-//! What is due for a scene, job by job.
-ghost use Rattle.std.specs.Prelude.{◌≡◌, [], Some, None, is_some, IfOk, IfErr, MatchResult, if◌then◌else◌};
+//! What is due for a scene, job by job, where no job starts a thread.
+ghost use Rattle.std.specs.Prelude.{◌≡◌, [], false, Some, None, is_some, IfOk, IfErr, MatchResult, if◌then◌else◌};
 ghost use Rattle.rc_base.specs.Formats.Limits.{limit_of};
-ghost use Rattle.render_core.specs.Due.{IsOutcome};
-ghost use Rattle.render_core.specs.Jobs.{cluster_limit, layout_for, origin_of};
-ghost use Rattle.render_core.specs.Refusals.{IsFinishRefusal, IsWell, IsWellRead, IsWritable, outcome_of, word_limit, IsNoOutcome};
+ghost use Rattle.render_core.specs.Due.{IsOutcome, IsPacked};
+ghost use Rattle.render_core.specs.Jobs.{cluster_limit, has_threads, layout_for, origin_of, word_limit};
+ghost use Rattle.render_core.specs.Refusals.{IsFinishRefusal, IsWell, IsWellRead, IsWritable, outcome_of, IsNoOutcome};
 ghost use Rattle.render_core.specs.Reports.{IsDefault};
 ghost use Rattle.render_core.specs.declared.job.Form.TheVariants.{Bytes as OfBytes, Text as OfText};
-ghost use Rattle.render_core.specs.declared.job.Job.TheVariants.{Render as ToRender, Simulate as ToSimulate, Serial as ToSerial, Check as ToCheck, Pack as ToPack, Unpack as ToUnpack};
+ghost use Rattle.render_core.specs.declared.job.Job.TheVariants.{Simulate as ToSimulate, Serial as ToSerial, Check as ToCheck, Unpack as ToUnpack};
 ghost use Rattle.render_core.specs.declared.due.Ending.TheVariants.{Complete as Whole, Stuck as IsStuck};
 ghost use Rattle.render_core.specs.declared.due.DueRefusal.TheVariants.{OutOfMemory as NoMemory};
 
@@ -15,6 +15,7 @@ use crate::job::{Cluster, Job};
 use crate::picks::{actor_count, picks_of};
 use crate::report::short_report;
 use bounds_bucket::layout;
+use frame_out::laws::frames_of_scenes_are_writable;
 use order_model::laws::{
     default_journal_is_maximal, default_orders_are_permitted, scene_lists_are_well_formed,
 };
@@ -30,8 +31,6 @@ use scene_text::print_scene;
 use serial_render::{Survey, Turns, render_order, survey, turns_of};
 use std::alloc::{AllocError, Global};
 use step_core::FinishFault;
-use tile_model::laws::parcels_are_givable;
-use world_model::laws::rounds_move_somebody;
 
 /// What is due to the image.
 #[derive(Drop)]
@@ -101,8 +100,10 @@ impl From<AllocError> for DueRefusal {
     }
 }
 
-/// What is due for a scene that was read for the job.
+/// What is due for a scene that was read or made for the job.
+#[tactic(auto, unfolding(crate::specs::Due::IsOutcome))]
 pub(crate) fn due_for(alloc: Global, job: Job, scene: &Scene) -> Result<Due, DueRefusal>
+    requires alone { has_threads job ≡ false }
     requires well { IsWell (origin_of job) scene.now }
     requires within { limit_of scene.now ≡ None }
     ensures outcome { IfOk result (λ due. IsOutcome job scene.now (outcome_of due)) }
@@ -111,17 +112,18 @@ pub(crate) fn due_for(alloc: Global, job: Job, scene: &Scene) -> Result<Due, Due
     ensures refused { IfErr result (IsNoOutcome job scene.now) }
 {
     match job {
-        Job::Render(cluster) => render(alloc, scene, cluster),
+        Job::Render(_) | Job::Demo { .. } => unreachable!(),
         Job::Simulate { seed, cluster } => simulate(alloc, scene, seed, cluster),
         Job::Serial => serial(alloc, scene),
         Job::Check => check(alloc, scene),
         Job::Pack => pack(alloc, scene),
         Job::Unpack => unpack(alloc, scene),
+        Job::Gen { .. } => pack(alloc, scene),
     }
 }
 
-// The tiles of the scene's window, or the first quantity of the words that is outside its range.
-fn layout_of(scene: &Scene, cluster: Cluster) -> Result<Layout, Limit>
+/// The tiles of the scene's window, or the first quantity of the words that is outside its range.
+pub(crate) fn layout_of(scene: &Scene, cluster: Cluster) -> Result<Layout, Limit>
     ensures { MatchResult result
         (λ l. (cluster_limit cluster scene.now ≡ None) × (l ≡ layout_for cluster scene.now))
         (λ limit. cluster_limit cluster scene.now ≡ Some limit) }
@@ -133,24 +135,6 @@ fn layout_of(scene: &Scene, cluster: Cluster) -> Result<Layout, Limit>
         cluster.rows,
         cluster.depth,
     )
-}
-
-// The cluster by rounds.
-fn render(alloc: Global, scene: &Scene, cluster: Cluster) -> Result<Due, DueRefusal>
-    requires well { IsWellRead OfBytes scene.now }
-    requires within { limit_of scene.now ≡ None }
-    ensures outcome { IfOk result (λ due. IsOutcome (ToRender cluster) scene.now (outcome_of due)) }
-    ensures within { IfOk result (λ due. word_limit (ToRender cluster) scene.now ≡ None) }
-    ensures writable { IfOk result (λ due. IsWritable due.image) }
-    ensures refused { IfErr result (IsNoOutcome (ToRender cluster) scene.now) }
-{
-    let layout = match layout_of(scene, cluster) {
-        Ok(layout) => layout,
-        Err(limit) => return Err(DueRefusal::PastLimit(limit)),
-    };
-    parcels_are_givable();
-    rounds_move_somebody();
-    cluster_due(alloc, scene, &layout, cluster, &[])
 }
 
 // The cluster by a seed.
@@ -223,6 +207,7 @@ fn serial(alloc: Global, scene: &Scene) -> Result<Due, DueRefusal>
     ensures writable { IfOk result (λ due. IsWritable due.image) }
     ensures refused { IfErr result (IsNoOutcome ToSerial scene.now) }
 {
+    frames_of_scenes_are_writable();
     let DefaultRun {
         journal,
         order,
@@ -272,9 +257,9 @@ fn text_alone(alloc: Global, text: Bytes) -> Due
 fn pack(alloc: Global, scene: &Scene) -> Result<Due, DueRefusal>
     requires well { IsWellRead OfText scene.now }
     requires within { limit_of scene.now ≡ None }
-    ensures outcome { IfOk result (λ due. IsOutcome ToPack scene.now (outcome_of due)) }
+    ensures outcome { IfOk result (λ due. IsPacked scene.now (outcome_of due)) }
     ensures writable { IfOk result (λ due. IsWritable due.image) }
-    ensures refused { IfErr result (IsNoOutcome ToPack scene.now) }
+    ensures refused { IfErr result (λ refusal. refusal ≡ NoMemory) }
 {
     let bytes = write_scene(alloc, scene)?;
     Ok(text_alone(alloc, bytes))

@@ -1,8 +1,9 @@
 //! The jobs, and the words that name them.
-ghost use Rattle.std.specs.Prelude.{◌≡◌, List, IfOk, OnErr, MatchOption};
-ghost use Rattle.rc_base.specs.Program.Words.{Setting as Spelled};
+ghost use Rattle.std.specs.Prelude.{◌≡◌, ◌↔◌, ◌⊎◌, List, IfOk, IsTrue, OnErr, MatchOption};
+ghost use Rattle.rc_base.specs.Program.Words.{Setting as Spelled, job_word};
+ghost use Rattle.rc_base.specs.declared.job.JobName.TheVariants.{Render as SpelledRender, Demo as SpelledDemo};
 ghost use Rattle.command_line.specs.Lines.{AreValues};
-ghost use Rattle.render_core.specs.Jobs.{IsJob, IsLine, cluster_in, job_in, origin_of};
+ghost use Rattle.render_core.specs.Jobs.{IsJob, IsLine, IsThreaded, cluster_in, cluster_of, job_in, origin_of, threads_of};
 ghost use Rattle.render_core.specs.declared.job.Job.{Job as AnyJob};
 
 use command_line::{CommandLine, Settings, command_line, lines_have_one_reading};
@@ -22,10 +23,13 @@ pub struct Cluster {
 /// What the program is asked to do.
 #[derive(Clone, Copy, Debug, PartialEq, Eq)]
 pub enum Job {
-    /// Scene bytes to the frames of a cluster whose actors step in rounds, as images, and a report.
+    /// Scene bytes to the frames of a cluster each of whose actors is a thread of its own, as images, and a report.
     Render(Cluster),
-    /// The same of a cluster whose first steps are drawn from a seed.
-    Simulate { seed: u64, cluster: Cluster },
+    /// The same of a cluster in one thread, whose first steps are drawn from a seed.
+    Simulate {
+        seed: u64,
+        cluster: Cluster,
+    },
     /// Scene bytes to the frames of the scene's default order, as images, and a short report.
     Serial,
     /// Scene bytes to the short report alone.
@@ -34,6 +38,17 @@ pub enum Job {
     Pack,
     /// The bytes of a scene to its text.
     Unpack,
+    /// The scene of a seed with so many rounds, as bytes.
+    Gen {
+        seed: u64,
+        size: u64,
+    },
+    /// The frames of that scene by a cluster each of whose actors is a thread of its own, as images, and a report.
+    Demo {
+        seed: u64,
+        size: u64,
+        cluster: Cluster,
+    },
 }
 
 /// How an input spells a scene.
@@ -48,10 +63,38 @@ pub(crate) enum Form {
 pub(crate) enum Origin {
     /// The source is read to its end, and spells the scene in this form.
     Read(Form),
+    /// The source is left alone: the scene is that of a seed with so many rounds.
+    Generated { seed: u64, size: u64 },
 }
 
 impl Job {
-    // Where its scene comes from.
+    /// The cluster of a job whose actors are threads of their own.
+    pub(crate) fn threads(self) -> Option<Cluster>
+        ensures { result ≡ threads_of self }
+    {
+        match self {
+            Job::Render(cluster) | Job::Demo { cluster, .. } => Some(cluster),
+            Job::Simulate { .. }
+            | Job::Serial
+            | Job::Check
+            | Job::Pack
+            | Job::Unpack
+            | Job::Gen { .. } => None,
+        }
+    }
+
+    /// The cluster that it runs.
+    pub(crate) fn cluster(self) -> Option<Cluster>
+        ensures { result ≡ cluster_of self }
+    {
+        match self {
+            Job::Render(cluster) | Job::Simulate { cluster, .. } | Job::Demo { cluster, .. } =>
+                Some(cluster),
+            Job::Serial | Job::Check | Job::Pack | Job::Unpack | Job::Gen { .. } => None,
+        }
+    }
+
+    /// Where its scene comes from.
     pub(crate) fn origin(self) -> Origin
         ensures { result ≡ origin_of self }
     {
@@ -59,11 +102,15 @@ impl Job {
             Job::Render(_) | Job::Simulate { .. } | Job::Serial | Job::Check | Job::Unpack =>
                 Origin::Read(Form::Bytes),
             Job::Pack => Origin::Read(Form::Text),
+            Job::Gen { seed, size } | Job::Demo { seed, size, .. } => Origin::Generated {
+                seed,
+                size,
+            },
         }
     }
 }
 
-fn cluster_of(settings: Settings) -> Cluster
+fn cluster_asked(settings: Settings) -> Cluster
     ensures { (ss : List Spelled) → AreValues settings ss → result ≡ cluster_in ss }
 {
     Cluster {
@@ -74,21 +121,46 @@ fn cluster_of(settings: Settings) -> Cluster
     }
 }
 
-// The job of a line; scenes are not generated so far.
-fn job_on(line: CommandLine) -> Option<Job>
+// The job of a line.
+fn job_on(line: CommandLine) -> Job
     ensures { (ss : List Spelled) → AreValues line.settings ss → result ≡ job_in line.job ss }
 {
     match line.job {
-        JobName::Render => Some(Job::Render(cluster_of(line.settings))),
-        JobName::Simulate => Some(Job::Simulate {
+        JobName::Render => Job::Render(cluster_asked(line.settings)),
+        JobName::Simulate => Job::Simulate {
             seed: line.settings.seed,
-            cluster: cluster_of(line.settings),
-        }),
-        JobName::Serial => Some(Job::Serial),
-        JobName::Check => Some(Job::Check),
-        JobName::Pack => Some(Job::Pack),
-        JobName::Unpack => Some(Job::Unpack),
-        JobName::Gen | JobName::Demo => None,
+            cluster: cluster_asked(line.settings),
+        },
+        JobName::Serial => Job::Serial,
+        JobName::Check => Job::Check,
+        JobName::Pack => Job::Pack,
+        JobName::Unpack => Job::Unpack,
+        JobName::Gen => Job::Gen {
+            seed: line.settings.seed,
+            size: line.settings.size,
+        },
+        JobName::Demo => Job::Demo {
+            seed: line.settings.seed,
+            size: line.settings.size,
+            cluster: cluster_asked(line.settings),
+        },
+    }
+}
+
+// The word is that of a job whose actors are threads of their own.
+fn names_threads(word: &str) -> bool
+    ensures { IsTrue result ↔ ((word.now ≡ job_word SpelledRender) ⊎ (word.now ≡ job_word SpelledDemo)) }
+{
+    matches!(word, "render" | "demo")
+}
+
+/// The first word is that of a job whose actors are threads of their own.
+pub(crate) fn is_threaded(words: &[String]) -> bool
+    ensures { IsTrue result ↔ IsThreaded words.now }
+{
+    match words.first() {
+        Some(word) => names_threads(word.as_str()),
+        None => false,
     }
 }
 
@@ -100,7 +172,7 @@ pub fn job_of(alloc: Global, words: &[String]) -> Result<Option<Job>, OutOfMemor
 {
     lines_have_one_reading();
     match command_line(alloc, words)? {
-        Some(line) => Ok(job_on(line)),
+        Some(line) => Ok(Some(job_on(line))),
         None => Ok(None),
     }
 }

@@ -1,8 +1,9 @@
 //! Laws on what a job finds in its input and on what is due for a scene. Each function's contract is a law, and its body calls the laws that it follows
 //! from: there is nothing to compute.
-ghost use Rattle.render_core.specs.Laws.{FindingsAreOne, OneOutcomeIsDue, KeptOrdersArePermitted};
+ghost use Rattle.render_core.specs.Laws.{FindingsAreOne, OneOutcomeIsDue, KeptOrdersArePermitted, OrderedRecordsShowOneImage};
 
-use scene_file::laws::bytes_spell_one_scene;
+use order_model::laws::{runs_show_one_image, scene_lists_are_well_formed};
+use scene_file::laws::{bytes_spell_one_scene, generated_scenes_are_within_limits};
 use scene_text::texts_spell_one_scene;
 use tile_model::laws::parcels_are_givable;
 use world_model::laws::finished_runs_leave_one_record;
@@ -27,3 +28,13 @@ pub fn one_outcome_is_due()
 pub fn kept_orders_are_permitted()
     ensures { KeptOrdersArePermitted }
 {}
+
+/// Where every two commands that touch a common pixel or shared texture are ordered, a run shows the image of every permitted order: a lawful record of
+/// an ordered scene has its frames, and where all clients meet at each barrier and none takes a unit, those of the serial renderer.
+pub fn ordered_records_show_one_image()
+    ensures { OrderedRecordsShowOneImage }
+{
+    scene_lists_are_well_formed();
+    generated_scenes_are_within_limits();
+    runs_show_one_image();
+}

@@ -1,11 +1,12 @@
 //! The picks of a seed.
 ghost use Rattle.std.specs.Prelude.{◌≡◌, ◌<◌, ◌≤◌, ◌+◌, ◌/◌, ◌^◌, length, IfOk};
 ghost use Rattle.rc_base.specs.Cluster.Tiles.{tile_count};
-ghost use Rattle.rc_base.specs.Program.Generator.{next_state, picks_of};
+ghost use Rattle.rc_base.specs.Program.Generator.{picks_of};
 
 use rc_base::out_of_memory::OutOfMemory;
 use rc_base::scene::Scene;
 use rc_base::window::Layout;
+use scene_file::next_state;
 use std::alloc::Global;
 
 /// How many actors a cluster has for a scene on these tiles.
@@ -15,15 +16,6 @@ pub(crate) fn actor_count(scene: &Scene, layout: &Layout) -> u32
     ensures { result ≡ length scene.now.streams + 1 + tile_count layout.now }
 {
     scene.streams.len() as u32 + 1 + u32::from(layout.columns) * u32::from(layout.rows)
-}
-
-// The state after one more draw: a linear congruence modulo 2^64.
-fn next_state(state: u64) -> u64
-    ensures { result ≡ next_state state }
-{
-    state
-        .wrapping_mul(6_364_136_223_846_793_005)
-        .wrapping_add(1_442_695_040_888_963_407)
 }
 
 /// The actors that a seed picks one after the other, 4,096 in all: the high 24 bits of each draw, modulo the number of actors.

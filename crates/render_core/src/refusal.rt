@@ -28,8 +28,8 @@ pub enum InputRefusal {
 #[derive(Clone, Copy, Debug, PartialEq, Eq)]
 pub enum ImageRefusal {
     /// The image failed when it had taken so many bytes.
-    Fault { done: u128 },
-    /// There was no memory for the text of a frame.
+    Fault { done: u64 },
+    /// There was no memory for the frames or their texts.
     OutOfMemory,
 }
 
@@ -153,7 +153,7 @@ fn limit_line(alloc: Global, what: u8, value: u64) -> Result<String, AllocError>
 }
 
 #[tactic(auto, unfolding(crate::specs::Lines::image_fault_line))]
-pub(crate) fn image_fault_line(alloc: Global, done: u128) -> Result<String, AllocError>
+pub(crate) fn image_fault_line(alloc: Global, done: u64) -> Result<String, AllocError>
     ensures { IfOk result (λ line. string_bytes line ≡ image_fault_line done) }
 {
     format!(in alloc; "rc: image fault after {done} bytes\n")

@@ -1,32 +1,19 @@
 //! What is due, written: to the image each frame's text, or the one text, by one `write_all`; and what is then left to tell.
 ghost use Rattle.std.specs.Prelude.{◌≡◌, ◌≤◌, ◌++◌, IfOk, IfErr, OnErr};
-ghost use Rattle.std.specs.List.{AllByRecursion};
-ghost use Rattle.rc_base.specs.Formats.Netpbm.{p6_texts};
-ghost use Rattle.ppm_out.specs.Pictures.{IsWhole};
 ghost use Rattle.rc_base.specs.Outside.Ends.{use_of, TookFront};
+ghost use Rattle.frame_out.specs.Writing.{IsWritten};
 ghost use Rattle.render_core.specs.Lines.{image_fault_line};
-ghost use Rattle.render_core.specs.Refusals.{IsWritable, IsWritten, IsToldOf, IsUntold, due_text};
+ghost use Rattle.render_core.specs.Refusals.{IsWritable, IsToldOf, IsUntold, due_text};
 ghost use Rattle.render_core.specs.declared.refusal.Refusal.TheVariants.{Image as OfImage};
 
 use crate::due::{DueImage, Ending};
 use crate::refusal::{ImageRefusal, Refusal, Refused, image_fault_line};
+use frame_out::{Written, write_frames, write_text};
 use order_model::record::Record;
-use ppm_out::image_text;
 use rc_base::command::Bytes;
-use rc_base::image::Image;
 use rc_base::out_of_memory::OutOfMemory;
 use rc_base::outside::Sink;
-use rc_base::transfer::write_all;
 use std::alloc::{AllocError, Global};
-
-/// What the image took of what is due to it.
-#[derive(Clone, Copy)]
-pub(crate) struct Written {
-    /// How many bytes went out.
-    pub(crate) bytes: u128,
-    /// The image failed behind them.
-    pub(crate) fault: bool,
-}
 
 /// What is left to tell of a job that is carried out.
 #[derive(Drop)]
@@ -36,51 +23,6 @@ pub(crate) struct Told {
     pub(crate) ending: Ending,
     /// The record of a cluster.
     pub(crate) kept: Option<Record>,
-}
-
-fn write_frames<K: Sink>(
-    alloc: Global,
-    image: &mut K,
-    frames: &[Image],
-) -> Result<Written, OutOfMemory>
-    requires { AllByRecursion IsWhole frames.now }
-    ensures written { IfOk result (IsWritten (use_of K.held K.faults image.old image.new) (p6_texts frames.now)) }
-    ensures front { OnErr result (TookFront (use_of K.held K.faults image.old image.new) (p6_texts frames.now)) }
-    ensures later { K.faults image.old ≤ K.faults image.new }
-{
-    let mut bytes: u128 = 0;
-    for frame in frames {
-        let text = image_text(alloc, frame)?;
-        match write_all(image, text.as_slice()) {
-            Ok(()) => bytes += text.len() as u128,
-            Err(fault) => {
-                return Ok(Written {
-                    bytes: bytes + fault.done as u128,
-                    fault: true,
-                });
-            }
-        }
-    }
-    Ok(Written {
-        bytes,
-        fault: false,
-    })
-}
-
-fn write_text<K: Sink>(image: &mut K, text: &[u8]) -> Written
-    ensures written { IsWritten (use_of K.held K.faults image.old image.new) text.now result }
-    ensures later { K.faults image.old ≤ K.faults image.new }
-{
-    match write_all(image, text) {
-        Ok(()) => Written {
-            bytes: text.len() as u128,
-            fault: false,
-        },
-        Err(fault) => Written {
-            bytes: fault.done as u128,
-            fault: true,
-        },
-    }
 }
 
 /// Writes what is due to the image. Where memory lacks the image was given a front of it.
@@ -101,7 +43,7 @@ pub(crate) fn write_due<K: Sink>(
 }
 
 // The lines, and behind them how many bytes the image took before it failed.
-fn with_fault(alloc: Global, mut lines: Bytes, done: u128) -> Result<Bytes, AllocError>
+fn with_fault(alloc: Global, mut lines: Bytes, done: u64) -> Result<Bytes, AllocError>
     ensures { IfOk result (λ told. told ≡ lines ++ image_fault_line done) }
 {
     let line = image_fault_line(alloc, done)?;
@@ -109,8 +51,8 @@ fn with_fault(alloc: Global, mut lines: Bytes, done: u128) -> Result<Bytes, Allo
     Ok(lines)
 }
 
-// Why the image isn't told of: it failed, or there was no memory.
-fn untold(refusal: ImageRefusal, kept: Option<Record>) -> Refused
+/// Why the image isn't told of: it failed, or there was no memory.
+pub(crate) fn untold(refusal: ImageRefusal, kept: Option<Record>) -> Refused
     ensures { result ≡ record { refusal = OfImage refusal; kept = kept } }
 {
     Refused {

@@ -1,7 +1,6 @@
 -- What is collected of cores that have ended is the run of their scene.
-use Rattle.std.proofs.Common.{◌≡◌, ℕ, ◌+◌, ◌*◌, ◌-◌, ◌^◌, ◌<◌, ◌≤◌, List, [], ◌++◌, length, take, Option, Some, None, inl, inr, sym, ap, ◌∙◌, subst, arith, append-nil}
+use Rattle.std.proofs.Common.{◌≡◌, ℕ, ◌+◌, ◌*◌, ◌-◌, ◌^◌, ◌<◌, ◌≤◌, List, [], ◌++◌, length, Option, Some, None, inl, inr, sym, ap, ◌∙◌, subst, arith, append-nil}
 use Rattle.std.proofs.Math.Nat.{mul-le-mul_right}
-use Rattle.std.proofs.Math.Seq.{take-length}
 use Rattle.std.proofs.lemmas.Bool.{cases_lt}
 use Rattle.std.proofs.lemmas.List.{ext_get_or, get_or_past}
 use Rattle.std.proofs.lemmas.List.FromFn.{length-map-range_with_len, get_or-map-range_with_len}
@@ -47,6 +46,7 @@ use Rattle.run_record.specs.Told.{AreFrameParts, AreTallies, AreFaults, IsWaitin
 use Rattle.run_record.proofs.ClientsBeyond.{stuck_by, someone_waits, none_refused}
 use Rattle.run_record.proofs.ClosedRuns.{some_of}
 use Rattle.run_record.proofs.FewParcels.{few_parcels}
+use Rattle.run_record.proofs.ShownAlike.{even}
 use Rattle.run_record.proofs.TalliesSum.{no_sum, whole_sum}
 
 -- the laws that are cited
@@ -127,13 +127,8 @@ module _ (laws : RecordingLaws) (scene : Scene) (l : Layout) (clients : List Cli
 
   -- ---- the parts
 
-  shown_all : (t : ℕ) (e : Vec TilePart Global) → t < tile_count l → length (slice_index_or lists t e).items ≡ frame_count journal
-  shown_all t e lt =
-      let f = h.tile t (core_at t lt) e lt in
-      f.frames.count ∙ ap (λ n. frame_count (take n f.progress.learnt)) f.done.performed ∙ ap frame_count (take-length f.progress.learnt ∙ f.done.learnt)
-
-  even : AreEven (frame_count journal) lists
-  even = record { each = λ t d lt. shown_all t d (let n = h.part_total in omega (arith, n, lt)) }
+  are_even : AreEven (frame_count journal) lists
+  are_even = even scene l clients core tiles lists h
 
   few_frames : frame_count kept.journal < 2 ^ 32 - 1
   few_frames =
@@ -162,7 +157,7 @@ module _ (laws : RecordingLaws) (scene : Scene) (l : Layout) (clients : List Cli
 
   in_frames : AreFrameParts scene l kept parts
   in_frames =
-      let f = k.parts_are (frame_count journal) even in
+      let f = k.parts_are (frame_count journal) are_even in
       let n : frame_count journal ≡ frame_count kept.journal = ap frame_count (sym journal_is) in
       let t : length lists ≡ tile_count l = h.part_total in
       let count : length parts ≡ frame_count kept.journal * tile_count l =
@@ -182,7 +177,7 @@ module _ (laws : RecordingLaws) (scene : Scene) (l : Layout) (clients : List Cli
             sym (get_or_from_slice_get parts (frame * tile_count l + tile) part part is)
             ∙ ap (λ x. slice_index_or parts (frame * x + tile) part) (sym t)
             ∙ f.at frame tile d part (omega (arith, n, less)) here in
-            let inside : frame < length list = (let c = shown_all tile d low in omega (arith, c, n, less)) in
+            let inside : frame < length list = (let c = are_even.each tile d here in omega (arith, c, n, less)) in
             let mine : slice_get list frame ≡ Some part = slice_get-get_or list frame part inside ∙ ap (λ x. Some x) (sym at) in
             frame_at tile frame part low mine (let g = few_frames in omega (arith, g, less));
       }

@@ -2,7 +2,7 @@
 ghost use Rattle.std.specs.Prelude.{◌≡◌, ℕ, true, List, [], ◌∷◌, ◌++◌, ◌<◌, ◌≤◌, length, IfOk, IfSome, IfNone};
 ghost use Rattle.crossbeam_queue.specs.Passes.{view, ruled_capacity, IsPassOf, IsSamePass};
 ghost use Rattle.tile_queues.specs.Ends.{sent_of, taken_of, lane_in, lane_out, rest_of, depth_of};
-ghost use Rattle.tile_queues.specs.Rule.{new_pass, sender_pass, receiver_pass};
+ghost use Rattle.tile_queues.specs.Rule.{new_pass, sender_pass, receiver_pass, left_of};
 
 use crate::ends::{LaneIn, LaneOut, Rest};
 use crate::rule::{Depth, Draining, History, Joining, Line, Parting, Sending, Taking};
@@ -16,7 +16,20 @@ use std::sync::{Arc, Wait};
 /// The most items that a lane carries in its life.
 const MOST: u64 = 1 << 62;
 
-/// The receiver's pass of a new lane, whose one pass becomes the sender's.
+// A line that holds at most `depth` items, and its one pass.
+fn new_line<T: Drop>(
+    alloc: Global,
+    depth: usize,
+) -> Result<(Line<T>, Pass<T, History<T>>), OutOfMemory>
+    requires { 1 ≤ depth }
+    ensures queue { IfOk result (λ l. IsPassOf l.0 l.1) }
+    ensures new { IfOk result (λ l. view l.1 ≡ new_pass) }
+    ensures depth { IfOk result (λ l. ruled_capacity l.0 ≡ depth) }
+{
+    Ok(Line::ruled(alloc, depth)?)
+}
+
+// The receiver's pass of a new lane, whose one pass becomes the sender's.
 fn part<T, D: Depth>(line: &Line<T>, pass: &mut Pass<T, History<T>>) -> Pass<T, History<T>>
     requires queue { IsPassOf line.now pass.old }
     requires new { view pass.old ≡ new_pass }
@@ -37,7 +50,7 @@ pub fn lane<T: Drop, R: Copy>(
     ensures depth { IfOk result (λ ends. depth_of (lane_in ends.0) ≡ depth) }
     ensures empty { IfOk result (λ ends. (sent_of ends.0 ≡ []) × (taken_of ends.1 ≡ [])) }
 {
-    let (line, mut sender) = Line::ruled(alloc, depth)?;
+    let (line, mut sender) = new_line(alloc, depth)?;
     let receiver = part::<T, Brand>(&line, &mut sender);
     let queue = Arc::new(alloc, line)?;
     let theirs = Arc::try_clone(&queue)?;
@@ -55,6 +68,15 @@ pub fn lane<T: Drop, R: Copy>(
         empty_seen: 0,
     };
     Ok((a, b))
+}
+
+impl<T, R> LaneIn<T, R> {
+    /// How often the lane was found full.
+    pub fn refusals(&self) -> u64
+        ensures { result ≡ self.now.full_seen }
+    {
+        self.full_seen
+    }
 }
 
 impl<T: Drop, R: Wait> Outlet<T> for LaneIn<T, R> {
@@ -86,6 +108,27 @@ impl<T: Drop, R: Wait> Outlet<T> for LaneIn<T, R> {
     }
 }
 
+impl<T, R> LaneOut<T, R> {
+    /// How often the lane was found empty.
+    pub fn refusals(&self) -> u64
+        ensures { result ≡ self.now.empty_seen }
+    {
+        self.empty_seen
+    }
+}
+
+impl<T, R: Wait> LaneOut<T, R> {
+    // Takes the front, or finds the lane empty.
+    fn take(&mut self) -> Option<T>
+        ensures lane { lane_out self.new ≡ lane_out self.old }
+        ensures count { self.new.empty_seen ≡ self.old.empty_seen }
+        ensures given { IfSome result (λ x. taken_of self.new ≡ taken_of self.old ++ x ∷ []) }
+        ensures none { IfNone result (taken_of self.new ≡ taken_of self.old) }
+    {
+        self.queue.pop_as::<Taking, R>(&self.rt, &mut self.pass)
+    }
+}
+
 impl<T: Drop, R: Wait> Inlet<T> for LaneOut<T, R> {
     ghost use Rattle.std.specs.Prelude.{◌≡◌, [], ◌∷◌, ◌++◌, ⊤, refl};
     ghost use Rattle.tile_queues.specs.Ends.{taken_of, lane_out};
@@ -103,7 +146,7 @@ impl<T: Drop, R: Wait> Inlet<T> for LaneOut<T, R> {
     ghost same_here = { λ a. refl };
 
     fn pop(&mut self) -> Option<T> {
-        let front = self.queue.pop_as::<Taking, R>(&self.rt, &mut self.pass);
+        let front = self.take();
         if front.is_none() {
             self.empty_seen = self.empty_seen.saturating_add(1);
         }
@@ -129,12 +172,26 @@ pub fn close<T: Drop, R: Copy>(a: LaneIn<T, R>, b: LaneOut<T, R>) -> Rest<T, R>
     Rest { rt, queue, pass }
 }
 
+// Takes the next of what was sent and not taken, by the pass that knows of both.
+fn drain<T, R: Wait>(rt: &R, line: &Line<T>, pass: &mut Pass<T, History<T>>) -> Option<T>
+    requires queue { IsPassOf line.now pass.old }
+    requires both { ((view pass.old).sends ≡ true) × ((view pass.old).takes ≡ true) }
+    requires ordered { (view pass.old).sent ≡ (view pass.old).taken ++ left_of (view pass.old) }
+    ensures queue { IsPassOf line.now pass.new }
+    ensures both { ((view pass.new).sends ≡ true) × ((view pass.new).takes ≡ true) }
+    ensures ordered { (view pass.new).sent ≡ (view pass.new).taken ++ left_of (view pass.new) }
+    ensures some { IfSome result (λ x. left_of (view pass.old) ≡ x ∷ left_of (view pass.new)) }
+    ensures none { IfNone result ((left_of (view pass.old) ≡ []) × (left_of (view pass.new) ≡ [])) }
+{
+    line.pop_as::<Draining, R>(rt, pass)
+}
+
 impl<T: Drop, R: Wait> Rest<T, R> {
     /// The next item that was sent and not taken, or none where all were given.
     pub fn next(&mut self) -> Option<T>
         ensures some { IfSome result (λ x. rest_of self.old ≡ x ∷ rest_of self.new) }
         ensures none { IfNone result ((rest_of self.old ≡ []) × (rest_of self.new ≡ [])) }
     {
-        self.queue.pop_as::<Draining, R>(&self.rt, &mut self.pass)
+        drain(&self.rt, &self.queue, &mut self.pass)
     }
 }

@@ -1,12 +1,11 @@
 //! What no clause sees of a run: which calls of its ends it makes.
 ghost use Rattle.std.specs.Prelude.{◌<◌};
 
-use super::{Left, RED_CLEAR, RED_CLEAR_TEXT, RED_FRAME, left_on, sink, source_of, words};
+use super::{Host, Left, RED_CLEAR, RED_CLEAR_TEXT, RED_FRAME, left_on, sink, source_of, words};
 use rc_base::gate::{Actor, Gate};
 use rc_base::in_memory::{MemSink, MemSource};
 use render_core::run;
 use std::alloc::Global;
-use std::process::Abort;
 use std::sync::atomic::{AtomicU64, Ordering};
 
 // A gate that counts its passes.
@@ -22,7 +21,7 @@ impl Gate for CountingGate {
 }
 
 // How often a job passes its gate.
-fn passes(rt: &impl Abort, alloc: Global, job: &[&str], input: &[u8]) -> u64 {
+fn passes(rt: &impl Host, alloc: Global, job: &[&str], input: &[u8]) -> u64 {
     let gate = CountingGate {
         passes: AtomicU64::new(0),
     };
@@ -31,6 +30,7 @@ fn passes(rt: &impl Abort, alloc: Global, job: &[&str], input: &[u8]) -> u64 {
     let mut image = sink(rt, alloc, 64, &[]);
     let mut notes = sink(rt, alloc, 64, &[]);
     let _ = run(
+        *rt,
         alloc,
         words.as_slice(),
         &mut source,
@@ -58,7 +58,7 @@ fn jobs_without_threads_pass_no_gate(rt: HostRuntime) {
 
 // What a run leaves whose source gives 64 bytes a take, and whose calls of these numbers fail.
 fn left_with(
-    rt: &impl Abort,
+    rt: &impl Host,
     alloc: Global,
     job: &str,
     input: &[u8],

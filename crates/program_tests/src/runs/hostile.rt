@@ -1,5 +1,5 @@
 //! Inputs made to be hard: of just the most bytes and of one more, of lengths and pictures that are announced and missing, of endless lines.
-use super::{RED_CLEAR, run_on, sink, status_on};
+use super::{Host, RED_CLEAR, finish_on, run_on, sink};
 use rc_base::in_memory::QuietSource;
 use std::alloc::Global;
 use std::process::Abort;
@@ -21,19 +21,12 @@ fn repeated(rt: &impl Abort, alloc: Global, front: &[u8], word: &[u8], times: us
 }
 
 // A run of the job that ends with this status and notes this line, and whose image stays empty.
-fn refuses(
-    rt: &impl Abort,
-    alloc: Global,
-    job: &str,
-    input: &[u8],
-    status: u8,
-    line: &str,
-) -> bool {
+fn refuses(rt: &impl Host, alloc: Global, job: &str, input: &[u8], status: u8, line: &str) -> bool {
     let mut source = QuietSource::new(alloc, input, 1048576).expect(rt, "memory");
     let mut image = sink(rt, alloc, 64, &[]);
     let mut notes = sink(rt, alloc, 64, &[]);
-    let told = status_on(rt, alloc, &[job], &mut source, &mut image, &mut notes);
-    told == status && image.bytes().is_empty() && notes.bytes() == line.as_bytes()
+    let finish = finish_on(rt, alloc, &[job], &mut source, &mut image, &mut notes);
+    finish.status == status && image.bytes().is_empty() && notes.bytes() == line.as_bytes()
 }
 
 #[test]

@@ -1,9 +1,10 @@
 //! Small scenes on clusters, with the images and the lines that were worked out by hand.
 use super::orders::BLENDED_IN_TURN;
-use super::run_text;
 use super::seeds::SHARED_BEHIND_A_BARRIER;
+use super::{Host, run_on, run_text};
+use order_model::record::Record;
+use rc_base::sync::Entry;
 use std::alloc::Global;
-use std::process::Abort;
 
 // A client that does nothing, and one that swaps alone.
 const SWAP_ALONE: &[u8] = b"scene 1 1 1\nclient\nclient\nSwap\n";
@@ -60,7 +61,7 @@ Swap
 
 // The lines of tiles that were sent as much, from 0 on; then the lines that follow.
 fn report(
-    rt: &impl Abort,
+    rt: &impl Host,
     alloc: Global,
     tiles: u32,
     parcels: u32,
@@ -84,7 +85,7 @@ fn report(
 
 // A frame of one colour.
 fn filled(
-    rt: &impl Abort,
+    rt: &impl Host,
     alloc: Global,
     header: &[u8],
     pixels: u32,
@@ -111,7 +112,7 @@ type Row<'a> = (
 );
 
 // The job leaves a frame of one colour, and as much is sent to each tile.
-fn draws(rt: &impl Abort, alloc: Global, row: Row) -> bool {
+fn draws(rt: &impl Host, alloc: Global, row: Row) -> bool {
     let (job, text, header, pixels, colour, (tiles, parcels, sets), rest) = row;
     let left = run_text(rt, alloc, job, text, &[]);
     let frame = filled(rt, alloc, header, pixels, colour);
@@ -121,7 +122,7 @@ fn draws(rt: &impl Abort, alloc: Global, row: Row) -> bool {
 
 #[test]
 fn frames_of_one_colour(rt: HostRuntime) {
-    let rows: [Row; 6] = [
+    let rows: [Row; 5] = [
         (
             &["render"],
             ADDED_QUAD,
@@ -148,15 +149,6 @@ fn frames_of_one_colour(rt: HostRuntime) {
             (0, 0, 0),
             (1, 2, 0),
             "journal 1\nframes 1\n",
-        ),
-        (
-            &["render", "--tiles", "2x1"],
-            BLENDED_IN_TURN,
-            b"P6\n2 1\n255\n",
-            2,
-            (0x40, 0, 0x80),
-            (2, 10, 4),
-            "journal 5\nframes 1\n",
         ),
         (
             &["render", "--tiles", "8x2", "--depth", "1"],
@@ -206,4 +198,31 @@ fn a_corner_is_cleared_by_its_tile(rt: HostRuntime) {
 fn a_swap_alone_is_stuck(rt: HostRuntime) {
     let left = run_text(&rt, rt.alloc(), &["render"], SWAP_ALONE, &[]);
     assert!(rt; left.is(5, b"", SWAP_ALONE_REPORT.as_bytes()));
+}
+
+// The client that takes a unit first.
+fn first_taker(kept: &Record) -> Option<u8> {
+    for entry in kept.journal.as_slice() {
+        if let Entry::Take { client, .. } = entry {
+            return Some(*client);
+        }
+    }
+    None
+}
+
+// Whoever takes the unit first draws first, in both tiles.
+#[test]
+fn clients_blend_in_the_order_of_their_units(rt: HostRuntime) {
+    let scene = run_on(&rt, rt.alloc(), &["pack"], BLENDED_IN_TURN, &[]);
+    let job = ["render", "--tiles", "2x1", "--depth", "1"];
+    let lines = report(&rt, rt.alloc(), 2, 10, 4, "journal 5\nframes 1\n");
+    for _ in 0..50u32 {
+        let left = run_on(&rt, rt.alloc(), &job, scene.image.bytes(), &[]);
+        let kept = left.kept.as_ref().expect(&rt, "a record");
+        let frame = match first_taker(kept) {
+            Some(0) => b"P6\n2 1\n255\n\x40\0\x80\x40\0\x80",
+            _ => b"P6\n2 1\n255\n\x80\0\x40\x80\0\x40",
+        };
+        assert!(rt; left.is(0, frame.as_slice(), lines.as_slice()));
+    }
 }

@@ -3,17 +3,14 @@ ghost use Rattle.rc_base.specs.Formats.Within.{IsWithin};
 
 use super::clusters::{BARRIER_IN_BLOCK, LAZY_STATE, NO_UNIT};
 use super::orders::{BLENDED_IN_TURN, ONE_FORK_FIRST, PRODUCED_AND_CONSUMED};
-use super::{Left, run_on, run_text, sink, source_of, words};
+use super::{Host, Left, run_on, run_text};
 use order_model::record::Record;
 use order_model::{is_permitted, tile_order};
-use rc_base::gate::OpenGate;
 use rc_base::out_of_memory::OutOfMemory;
 use rc_base::scene::Scene;
-use render_core::run;
 use scene_file::read_scene;
 use serial_render::sync_lists;
 use std::alloc::Global;
-use std::process::Abort;
 
 // A client writes a shared texture, and behind a barrier another one draws its second texel over eight tiles by two.
 pub(super) const SHARED_BEHIND_A_BARRIER: &[u8] = b"scene 1 8 2
@@ -65,7 +62,7 @@ Swap
 ";
 
 // The same without the barrier: nothing orders the two.
-const BLENDED_AT_ONCE: &[u8] = b"scene 1 2 1
+pub(super) const BLENDED_AT_ONCE: &[u8] = b"scene 1 2 1
 client
 Enable 3
 BlendFunc 6 7
@@ -162,25 +159,8 @@ const CASES: [Case; 13] = [
     (NO_UNIT, "1x1", "2"),
 ];
 
-// The record that a run of the scene's bytes keeps.
-fn kept_on(rt: &impl Abort, alloc: Global, job: &[&str], bytes: &[u8]) -> Option<Record> {
-    let words = words(rt, alloc, job);
-    let mut source = source_of(rt, alloc, bytes, &[]);
-    let mut image = sink(rt, alloc, 64, &[]);
-    let mut notes = sink(rt, alloc, 64, &[]);
-    run(
-        alloc,
-        words.as_slice(),
-        &mut source,
-        &mut image,
-        &mut notes,
-        &OpenGate,
-    )
-    .kept
-}
-
 // What a seed's run leaves.
-fn run_by(rt: &impl Abort, alloc: Global, bytes: &[u8], case: Case, seed: u32) -> Left {
+fn run_by(rt: &impl Host, alloc: Global, bytes: &[u8], case: Case, seed: u32) -> Left {
     let seed = format!(in alloc; "{seed}").expect(rt, "memory");
     let (_, tiles, depth) = case;
     let job = [
@@ -196,7 +176,7 @@ fn run_by(rt: &impl Abort, alloc: Global, bytes: &[u8], case: Case, seed: u32) -
 }
 
 // How many of twenty seeds give what the serial renderer gives.
-fn alike(rt: &impl Abort, alloc: Global, case: Case) -> u32 {
+fn alike(rt: &impl Host, alloc: Global, case: Case) -> u32 {
     let scene = run_on(rt, alloc, &["pack"], case.0, &[]);
     let bytes = scene.image.bytes();
     let serial = run_on(rt, alloc, &["serial"], bytes, &[]);
@@ -235,7 +215,7 @@ fn permits(alloc: Global, scene: &Scene, kept: &Record) -> Result<bool, OutOfMem
 }
 
 // Whether the record of a seed's run tells orders that its journal permits.
-fn keeps_orders(rt: &impl Abort, alloc: Global, bytes: &[u8], seed: u32) -> bool {
+fn keeps_orders(rt: &impl Host, alloc: Global, bytes: &[u8], seed: u32) -> bool {
     if bytes.len() > 1000 {
         return false;
     }
@@ -250,8 +230,9 @@ fn keeps_orders(rt: &impl Abort, alloc: Global, bytes: &[u8], seed: u32) -> bool
         "--tiles",
         "2x1",
     ];
-    match kept_on(rt, alloc, &job, bytes) {
-        Some(kept) => permits(alloc, &scene, &kept).expect(rt, "memory"),
+    let left = run_on(rt, alloc, &job, bytes, &[]);
+    match &left.kept {
+        Some(kept) => permits(alloc, &scene, kept).expect(rt, "memory"),
         None => false,
     }
 }

@@ -1,23 +1,22 @@
-use Rattle.std.proofs.Common.{◌≡◌, ℕ, ◌+◌, ◌≤◌, ◌<◌, List, length, sym, ap, subst, arith}
+use Rattle.std.proofs.Common.{◌≡◌, ℕ, ◌+◌, ◌≤◌, ◌<◌, List, length, sym, subst}
 use Rattle.std.specs.Prelude.{slice_index_or}
 use Rattle.rc_base.specs.Cluster.Tiles.{tile_count}
 use Rattle.rc_base.specs.Drawing.Images.{Pixels}
 use Rattle.rc_base.specs.declared.cluster.TilePart.{TilePart}
 use Rattle.rc_base.specs.declared.window.Layout.{Layout}
+use Rattle.rc_base.proofs.WithinLimits.{tiles_within}
+use Rattle.frame_out.specs.Frames.{frame_total, window_images, AreFrames, ShowFrames}
 use Rattle.step_core.specs.CoreRuns.{IsFinish}
 use Rattle.render_core.specs.Jobs.{layout_for}
-use Rattle.render_core.specs.Frames.{frame_total, window_images, AreFrames, ShowFrames}
-use Rattle.render_core.specs.Reports.{lines_of_run}
-use Rattle.render_core.proofs.Clustered.{asked_within}
-use Rattle.render_core.proofs.FrameParts.{are_parts}
-use Rattle.render_core.proofs.ClusterRuns.{are_whole, few_clients, few_faults, few_logs, finish_of, frames_of_cluster, if_lacking, is_stepped, layout_within, scene_within}
+use Rattle.render_core.proofs.Recorded.{layout_fits, layout_within, scene_within}
+use Rattle.render_core.proofs.ClusterRuns.{are_writable, finish_of, if_lacking, is_stepped, run_of, text_is}
 use Rattle.render_core.proofs.cluster.cluster_due.Goals as goal
 
 pub run_schedule-requires-clause-within : goal.run_schedule-requires-clause-within
 run_schedule-requires-clause-within c = scene_within c.args.scene.now c.requires.well c.requires.within
 
 pub run_schedule-requires-clause-layout : goal.run_schedule-requires-clause-layout
-run_schedule-requires-clause-layout c = layout_within c.args.cluster c.args.scene.now c.args.layout.now c.requires.tiles c.requires.asked
+run_schedule-requires-clause-layout c = layout_fits c.args.cluster c.args.scene.now c.args.layout.now c.requires.asked c.requires.tiles
 
 pub run_schedule-requires-clause-picks : goal.run_schedule-requires-clause-picks
 run_schedule-requires-clause-picks c =
@@ -31,7 +30,9 @@ returns-in_err-kept-clause-refused c =
 
 pub frames_of-requires-clause-some_tiles : goal.frames_of-requires-clause-some_tiles
 frames_of-requires-clause-some_tiles c =
-    subst (λ (t : Layout). 0 < tile_count t) (sym c.requires.tiles) (asked_within c.args.cluster c.args.scene.now c.requires.asked).least_tiles
+    let scene = c.args.scene.now in
+    let cluster = c.args.cluster in
+    subst (λ (t : Layout). 0 < tile_count t) (sym c.requires.tiles) (tiles_within scene (layout_for cluster scene) cluster.depth (layout_within cluster scene c.requires.asked)).0
 
 pub frames_of-requires-clause-parts : goal.frames_of-requires-clause-parts
 frames_of-requires-clause-parts c =
@@ -40,61 +41,50 @@ frames_of-requires-clause-parts c =
     let cluster = c.args.cluster in
     let is = finish_of scene l cluster.depth c.args.picks.now c.in_ok-world.world c.in_ok-kept.field-0 c.in_ok-world.ensures.given c.in_ok-world.ensures.right c.in_ok-kept.ensures.done in
     let run = c.in_ok-kept.field-0 in
-    subst (AreFrames l) (sym c.as_mut_slice.ensures.value) (are_parts scene l run.kept run.parts is.run_of.parts
-    (subst (λ (t : Layout). 0 < tile_count t) (sym c.requires.tiles) (asked_within c.args.cluster c.args.scene.now c.requires.asked).least_tiles))
+    let some = subst (λ (t : Layout). 0 < tile_count t) (sym c.requires.tiles) (tiles_within scene (layout_for cluster scene) cluster.depth (layout_within cluster scene c.requires.asked)).0 in
+    subst (AreFrames l) (sym c.as_mut_slice.ensures.value) (c.whole_runs_show_frames.ensures.shown scene l run.kept run.parts is.run_of.parts some).frames
 
-pub cluster_report-requires-clause-faults : goal.cluster_report-requires-clause-faults
-cluster_report-requires-clause-faults c =
+pub account_of-requires : goal.account_of-requires
+account_of-requires c =
     let scene = c.args.scene.now in
     let l = c.args.layout.now in
     let cluster = c.args.cluster in
     let is = finish_of scene l cluster.depth c.args.picks.now c.in_ok-world.world c.in_ok-kept.field-0 c.in_ok-world.ensures.given c.in_ok-world.ensures.right c.in_ok-kept.ensures.done in
-    let few = few_faults scene l cluster.depth c.args.picks.now c.in_ok-kept.field-0 is c.requires.within in
-    let shown = ap length c.as_slice.ensures in
-    omega (arith, few, shown)
-
-pub cluster_report-requires-clause-clients : goal.cluster_report-requires-clause-clients
-cluster_report-requires-clause-clients c =
-    let scene = c.args.scene.now in
-    let l = c.args.layout.now in
-    let cluster = c.args.cluster in
-    let is = finish_of scene l cluster.depth c.args.picks.now c.in_ok-world.world c.in_ok-kept.field-0 c.in_ok-world.ensures.given c.in_ok-world.ensures.right c.in_ok-kept.ensures.done in
-    few_clients scene l cluster.depth c.args.picks.now c.in_ok-kept.field-0 is c.requires.within
-
-pub cluster_report-requires-clause-tiles : goal.cluster_report-requires-clause-tiles
-cluster_report-requires-clause-tiles c =
-    let scene = c.args.scene.now in
-    let l = c.args.layout.now in
-    let cluster = c.args.cluster in
-    let is = finish_of scene l cluster.depth c.args.picks.now c.in_ok-world.world c.in_ok-kept.field-0 c.in_ok-world.ensures.given c.in_ok-world.ensures.right c.in_ok-kept.ensures.done in
-    few_logs scene l cluster.depth c.args.picks.now c.in_ok-kept.field-0 is
-    (subst (λ (t : Layout). tile_count t ≤ 32) (sym c.requires.tiles) (asked_within cluster scene c.requires.asked).most_tiles)
+    let tiles = (tiles_within scene (layout_for cluster scene) cluster.depth (layout_within cluster scene c.requires.asked)).1 in
+    record {
+      scene = scene;
+      layout = l;
+      within = c.requires.within;
+      tiles = subst (λ (t : Layout). tile_count t ≤ 32) (sym c.requires.tiles) tiles;
+      run = run_of scene l c.in_ok-kept.field-0 is.run_of;
+    }
 
 pub returns-clause-outcome : goal.returns-clause-outcome
 returns-clause-outcome c =
     let scene = c.args.scene.now in
     let l = c.args.layout.now in
     let cluster = c.args.cluster in
-    let is = finish_of scene l cluster.depth c.args.picks.now c.in_ok-world.world c.in_ok-kept.field-0 c.in_ok-world.ensures.given c.in_ok-world.ensures.right c.in_ok-kept.ensures.done in
-    let whole = subst (λ (t : Layout). IsFinish scene t cluster.depth c.args.picks.now c.in_ok-kept.field-0) c.requires.tiles is in
-    let drawn = frames_of_cluster cluster scene l c.requires.tiles c.args.picks.now c.in_ok-kept.field-0 is c.each_pixel_has_one_tile.ensures
-    (asked_within cluster scene c.requires.asked).least_tiles c.in_ok-frames.frames
-    (subst (λ (parts : List TilePart). (pixels : ℕ → Pixels) → ShowFrames l parts pixels → c.in_ok-frames.frames ≡ window_images l pixels (frame_total l parts))
-    c.as_mut_slice.ensures.value c.in_ok-frames.ensures) in
     let run = c.in_ok-kept.field-0 in
-    let lines : c.in_ok-notes.notes ≡ lines_of_run run.faults run.tallies run.kept run.waiting cluster.orders = cc (c.in_ok-notes.ensures, c.as_slice.ensures, c.as_slice-2.ensures) in
-    is_stepped cluster c.args.picks.now scene run whole c.scene_lists_are_well_formed.ensures c.records_of_scenes.ensures.orders c.requires.within
-    c.in_ok-frames.frames c.in_ok-notes.notes c.ending_of-ending.result drawn lines c.ending_of-ending.ensures
+    let is = finish_of scene l cluster.depth c.args.picks.now c.in_ok-world.world run c.in_ok-world.ensures.given c.in_ok-world.ensures.right c.in_ok-kept.ensures.done in
+    let whole = subst (λ (t : Layout). IsFinish scene t cluster.depth c.args.picks.now run) c.requires.tiles is in
+    let some = (tiles_within scene (layout_for cluster scene) cluster.depth (layout_within cluster scene c.requires.asked)).0 in
+    let own = subst (λ (parts : List TilePart). (pixels : ℕ → Pixels) → ShowFrames l parts pixels → c.in_ok-frames.frames ≡ window_images l pixels (frame_total l parts))
+    c.as_mut_slice.ensures.value c.in_ok-frames.ensures in
+    let shown = subst (λ (t : Layout). (pixels : ℕ → Pixels) → ShowFrames t run.parts pixels → c.in_ok-frames.frames ≡ window_images t pixels (frame_total t run.parts)) c.requires.tiles own in
+    is_stepped cluster c.args.picks.now scene run c.scene_lists_are_well_formed.ensures c.records_of_scenes.ensures.orders c.requires.within whole _
+    (text_is cluster scene run whole.run_of c.whole_runs_show_frames.ensures.shown some c.in_ok-frames.frames shown c.whole_runs_show_frames.ensures.text)
+    c.in_ok-notes.field-0 (c.in_ok-notes.ensures scene (layout_for cluster scene) (run_of scene (layout_for cluster scene) run whole.run_of))
 
 pub returns-clause-writable : goal.returns-clause-writable
 returns-clause-writable c =
     let scene = c.args.scene.now in
     let l = c.args.layout.now in
     let cluster = c.args.cluster in
-    let is = finish_of scene l cluster.depth c.args.picks.now c.in_ok-world.world c.in_ok-kept.field-0 c.in_ok-world.ensures.given c.in_ok-world.ensures.right c.in_ok-kept.ensures.done in
-    let whole = subst (λ (t : Layout). IsFinish scene t cluster.depth c.args.picks.now c.in_ok-kept.field-0) c.requires.tiles is in
-    let drawn = frames_of_cluster cluster scene l c.requires.tiles c.args.picks.now c.in_ok-kept.field-0 is c.each_pixel_has_one_tile.ensures
-    (asked_within cluster scene c.requires.asked).least_tiles c.in_ok-frames.frames
-    (subst (λ (parts : List TilePart). (pixels : ℕ → Pixels) → ShowFrames l parts pixels → c.in_ok-frames.frames ≡ window_images l pixels (frame_total l parts))
-    c.as_mut_slice.ensures.value c.in_ok-frames.ensures) in
-    are_whole cluster c.args.picks.now scene c.in_ok-kept.field-0 whole c.scene_lists_are_well_formed.ensures c.records_of_scenes.ensures.orders c.requires.within c.in_ok-frames.frames drawn
+    let run = c.in_ok-kept.field-0 in
+    let is = finish_of scene l cluster.depth c.args.picks.now c.in_ok-world.world run c.in_ok-world.ensures.given c.in_ok-world.ensures.right c.in_ok-kept.ensures.done in
+    let whole = subst (λ (t : Layout). IsFinish scene t cluster.depth c.args.picks.now run) c.requires.tiles is in
+    let some = (tiles_within scene (layout_for cluster scene) cluster.depth (layout_within cluster scene c.requires.asked)).0 in
+    let own = subst (λ (parts : List TilePart). (pixels : ℕ → Pixels) → ShowFrames l parts pixels → c.in_ok-frames.frames ≡ window_images l pixels (frame_total l parts))
+    c.as_mut_slice.ensures.value c.in_ok-frames.ensures in
+    let shown = subst (λ (t : Layout). (pixels : ℕ → Pixels) → ShowFrames t run.parts pixels → c.in_ok-frames.frames ≡ window_images t pixels (frame_total t run.parts)) c.requires.tiles own in
+    are_writable cluster scene run whole.run_of c.whole_runs_show_frames.ensures.shown some c.in_ok-frames.frames shown c.frames_of_scenes_are_writable.ensures c.requires.within

@@ -1,7 +1,7 @@
 use Rattle.std.proofs.Common.{◌≡◌, ◌++◌, length, ap, arith}
 use Rattle.order_model.specs.Report.{count_lines}
 use Rattle.render_core.specs.Reports.{lines_of_faults, lines_of_stuck}
-use Rattle.render_core.proofs.WithinLimits.{clients_within, counts_some}
+use Rattle.rc_base.proofs.WithinLimits.{clients_within, counts_some}
 use Rattle.render_core.proofs.Dues.{default_is}
 use Rattle.render_core.proofs.due.default_of.Goals as goal
 

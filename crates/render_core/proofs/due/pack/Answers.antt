@@ -1,11 +1,10 @@
 use Rattle.std.proofs.Common.{None, ◌∙◌, List, ℕ, [], ap, subst, sym}
 use Rattle.rc_base.specs.Formats.Spelling.{SpellsScene}
 use Rattle.render_core.specs.declared.due.Ending.TheVariants.{Complete}
-use Rattle.render_core.specs.Due.{Outcome, IsOutcome}
+use Rattle.render_core.specs.Due.{Outcome}
 use Rattle.render_core.proofs.due.pack.Goals as goal
 
 pub returns-clause-outcome : goal.returns-clause-outcome
-unfolding IsOutcome
 returns-clause-outcome c =
     let whole = c.requires.well in
     let is = c.text_alone.ensures.outcome in

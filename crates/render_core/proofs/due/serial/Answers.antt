@@ -1,7 +1,7 @@
-use Rattle.std.proofs.Common.{sym, subst}
-use Rattle.std.specs.List.{AllByRecursion}
-use Rattle.ppm_out.specs.Pictures.{IsWhole}
-use Rattle.render_core.proofs.WithinLimits.{frames_whole}
+use Rattle.std.proofs.Common.{refl, sym, subst}
+use Rattle.rc_base.specs.Drawing.Serial.{frame_pixel}
+use Rattle.rc_base.specs.declared.window.Layout.{Layout}
+use Rattle.frame_out.specs.Writing.{AreWritable}
 use Rattle.render_core.proofs.Dues.{serial_due}
 use Rattle.render_core.proofs.due.serial.Goals as goal
 
@@ -12,4 +12,9 @@ pub returns-clause-outcome : goal.returns-clause-outcome
 returns-clause-outcome c = serial_due c.args.scene.now c.in_ok-journal.field-0 c.in_ok-journal.ensures.default c.in_ok-frames.frames c.in_ok-frames.ensures
 
 pub returns-clause-writable : goal.returns-clause-writable
-returns-clause-writable c = subst (AllByRecursion IsWhole) (sym c.in_ok-frames.ensures) (frames_whole c.args.scene.now c.requires.within _ _)
+returns-clause-writable c =
+    let scene = c.args.scene.now in
+    let run = c.in_ok-journal.field-0 in
+    let window : Layout = record { width = scene.decl.width; height = scene.decl.height; columns = 1; rows = 1 } in
+    subst AreWritable (sym c.in_ok-frames.ensures)
+    (c.frames_of_scenes_are_writable.ensures scene window run.journal (frame_pixel scene run.order) c.requires.within (record { width = refl; height = refl }) c.in_ok-journal.ensures.default.legal)

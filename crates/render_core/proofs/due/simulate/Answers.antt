@@ -7,8 +7,9 @@ use Rattle.render_core.specs.Due.{IsStepped, IsOutcome, seeded_picks}
 use Rattle.render_core.specs.Jobs.{actors_for, layout_for}
 use Rattle.render_core.specs.declared.job.Job.TheVariants.{Simulate}
 use Rattle.render_core.specs.Refusals.{IsClusterRefusal, outcome_of}
-use Rattle.render_core.proofs.WithinLimits.{clients_within}
-use Rattle.render_core.proofs.Clustered.{asked_within, cluster_refused, picks_below}
+use Rattle.rc_base.proofs.WithinLimits.{clients_within, tiles_within}
+use Rattle.render_core.proofs.Picked.{cluster_refused, picks_below}
+use Rattle.render_core.proofs.Recorded.{layout_within}
 use Rattle.render_core.proofs.due.simulate.Goals as goal
 
 pub actor_count-requires-clause-clients : goal.actor_count-requires-clause-clients
@@ -16,7 +17,10 @@ actor_count-requires-clause-clients c = (clients_within c.args.scene.now c.requi
 
 pub actor_count-requires-clause-tiles : goal.actor_count-requires-clause-tiles
 actor_count-requires-clause-tiles c =
-    subst (λ (l : Layout). tile_count l ≤ 32) (sym c.in-Ok.ensures.1) (asked_within c.args.cluster c.args.scene.now c.in-Ok.ensures.0).most_tiles
+    let scene = c.args.scene.now in
+    let cluster = c.args.cluster in
+    subst (λ (l : Layout). tile_count l ≤ 32) (sym c.in-Ok.ensures.1)
+    (tiles_within scene (layout_for cluster scene) cluster.depth (layout_within cluster scene c.in-Ok.ensures.0)).1
 
 pub cluster_due-requires-clause-picks : goal.cluster_due-requires-clause-picks
 cluster_due-requires-clause-picks c =

@@ -29,5 +29,4 @@ returns-in-Err-Limit-clause-refused c =
     let input = c.args.input.now in
     let is : c.read_scene.result ≡ Err (fault.Limit c.in-Err-Limit.what c.in-Err-Limit.value) = c.in-Err-Limit.is ∙ ap Err c.in-Err-Limit.field-0-is in
     let beyond = subst (λ (r : Result Scene SceneFault). IfErr r (IsBeyond input)) is c.read_scene.ensures.limit in
-    inr (λ job form. judged_outside job input c.requires beyond.0 (record { what = c.in-Err-Limit.what; value = c.in-Err-Limit.value })
-    (subst (λ (f : Origin). Gives f input beyond.0) (sym form) beyond.1) beyond.2)
+    inr (λ job reads. judged_outside job input c.requires Bytes reads beyond.0 (record { what = c.in-Err-Limit.what; value = c.in-Err-Limit.value }) beyond.1 beyond.2)

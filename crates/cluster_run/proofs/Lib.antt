@@ -1,0 +1,7 @@
+mod Named
+mod ClustersEnd
+mod Made
+mod NewCrews
+mod Apart
+mod ClosedCrews
+mod Runs

@@ -1,0 +1,17 @@
+use Rattle.std.proofs.Common.{refl, sym, ◌∙◌}
+use Rattle.rc_base.specs.Orders.Sync.{sync_lists_of}
+use Rattle.order_model.proofs.SceneListsAreWellFormed.{scene_client_count}
+use Rattle.cluster_run.proofs.crew.new_manager.Goals as goal
+
+pub returns : goal.returns
+unfolding sync_lists_of
+returns g c =
+    let made = c.in_ok-core.ensures in
+    let scene = c.args.scene.now in
+    let core = c.in_ok-core.core in
+    record {
+      requests_are = refl;
+      grants_are = refl;
+      clause = λ took sent. c.managers_meet_their_clause.ensures.first (sync_lists_of scene) c.args.tiles core took sent made.tiles
+          (made.progress (sync_lists_of scene) (scene_client_count scene ∙ sym c.len-client_count.ensures) refl refl);
+    }

@@ -1,0 +1,18 @@
+use Rattle.std.proofs.Common.{[], ◌∙◌, refl, subst}
+use Rattle.order_model.specs.Standing.{new_progress}
+use Rattle.tile_server.specs.Cores.{IsProgressOf}
+use Rattle.cluster_run.proofs.tiles.new_tile.Goals as goal
+
+pub returns-clause-new : goal.returns-clause-new
+returns-clause-new g c =
+    let made = c.in_ok-core.ensures in
+    let core = c.in_ok-core.core in
+    let count = c.len-client_count.ensures in
+    record {
+      number_is = refl;
+      clients_are = refl;
+      clause = λ took none.
+          c.tiles_meet_their_clause.ensures.first c.args.scene.now c.args.layout.now c.args.number core took [] c.new-2.result.items
+          made.decl made.layout made.tile (made.clients ∙ count) (subst (λ n. IsProgressOf core (new_progress n)) count made.progress) made.board none refl
+          c.new-2.ensures.items;
+    }

@@ -1,0 +1,51 @@
+use Rattle.std.proofs.Common.{ap, sym, ◌∙◌, ◌++◌, ℕ, Bool, List, length, take, drop, subst}
+use Rattle.std.specs.Prelude.{slice_index_or}
+use Rattle.rc_base.specs.Orders.Sync.{client_count}
+use Rattle.rc_base.specs.declared.sync.Grant.{Grant}
+use Rattle.rc_base.specs.declared.sync.Request.{Request}
+use Rattle.rc_base.specs.declared.sync.SyncLists.{SyncLists}
+use Rattle.rc_base.proofs.Paired.{after_slice}
+use Rattle.sync_manager.specs.Clauses.{IsManagerClause}
+use Rattle.sync_manager.specs.declared.manager.ManagerCore.{ManagerCore}
+use Rattle.tile_queues.specs.Ends.{sent_of, taken_of}
+use Rattle.tile_queues.specs.declared.ends.LaneIn.{LaneIn}
+use Rattle.tile_queues.specs.declared.ends.LaneOut.{LaneOut}
+use Rattle.lane_grid.specs.Names.{AreInto, AreOutOf}
+use Rattle.cluster_run.proofs.Named.{into_goes_on, out_goes_on}
+use Rattle.cluster_run.proofs.workers.ManagerWorker.advance.Goals as goal
+
+-- the core's clause over these ends
+abbrev Holds : {R : Type 0} → SyncLists → ℕ → LaneOut Request R → LaneIn Grant R → ManagerCore → List (LaneOut Request R) → List (LaneIn Grant R) → Bool → Type 0
+Holds syncs tiles d e core requests grants ended =
+    IsManagerClause syncs tiles core (λ client. taken_of (slice_index_or requests client d)) (λ tile. sent_of (slice_index_or grants tile e)) ended
+
+pub returns-clause-leads : goal.returns-clause-leads
+returns-clause-leads g c syncs tiles asked granted h =
+    let step = c.step-answer.ensures in
+    let told = step.step in
+    let w = c.args.self.now in
+    let later = c.step-answer.new.self in
+    let ended = c.has_ended-self.result in
+    let xs = c.deref_mut.result.now in
+    let ys = c.deref_mut-2.result.now in
+    let xs' = c.step-answer.new.requests in
+    let ys' = c.step-answer.new.grants in
+    let xs_are = c.deref_mut.ensures.value in
+    let ys_are = c.deref_mut-2.ensures.value in
+    let xs_left = after_slice w.requests.len xs' w.requests.items w.requests.ok.0 (step.request_lanes.count ∙ ap length xs_are) in
+    let ys_left = after_slice w.grants.len ys' w.grants.items w.grants.ok.0 (step.grant_lanes.count ∙ ap length ys_are) in
+    let grants_left = take w.grants.len (ys' ++ drop (length ys') w.grants.items) in
+    let clients = client_count syncs in
+    record {
+      requests_are = subst (λ ends. AreOutOf clients asked ends) (sym xs_left)
+          (out_goes_on clients asked xs xs' (subst (λ ends. AreOutOf clients asked ends) (sym xs_are) h.requests_are) step.request_lanes);
+      grants_are = subst (λ ends. AreInto tiles granted ends) (sym ys_left)
+          (into_goes_on tiles granted ys ys' (subst (λ ends. AreInto tiles granted ends) (sym ys_are) h.grants_are) step.grant_lanes);
+      clause = λ d e.
+          let before = subst (λ ends. Holds syncs tiles d e w.core ends ys w.ended) (sym xs_are)
+          (subst (λ ends. Holds syncs tiles d e w.core w.requests.items ends w.ended) (sym ys_are) (h.clause d e)) in
+          let after = c.managers_meet_their_clause_over_lanes.ensures taken_of (λ a b r gave. gave) (λ a b same. same) syncs tiles w.core told.0 later
+          d xs xs' e ys ys' w.ended ended (ap length xs_are ∙ w.clients) (ap length ys_are ∙ w.tiles)
+          before told.2 told.3 told.5 (λ is. sym told.1 ∙ c.attempt_of-attempt.ensures (c.has_ended-self.ensures.only is)) in
+          subst (λ ends. Holds syncs tiles d e later ends grants_left ended) (sym xs_left) (subst (λ ends. Holds syncs tiles d e later xs' ends ended) (sym ys_left) after);
+    }

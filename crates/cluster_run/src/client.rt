@@ -1,0 +1,62 @@
+//! A client's worker.
+ghost use Rattle.std.specs.Prelude.{◌≡◌, true, Ok};
+ghost use Rattle.rc_base.specs.declared.cluster.ClientMoved.TheVariants as moved;
+ghost use Rattle.worker_crew.specs.declared.worker.Attempt.TheVariants as attempt;
+ghost use Rattle.cluster_run.specs.Clients.{ClientLeads};
+
+use crate::workers::{ClientWorker, has_ended};
+use client_issue::laws::clients_meet_their_clause_over_lanes;
+use rc_base::cluster::ClientMoved;
+use rc_base::gate::Actor;
+use rc_base::out_of_memory::OutOfMemory;
+use rc_base::state::Parcel;
+use rc_base::sync::Request;
+use std::sync::Wait;
+use tile_queues::LaneIn;
+use worker_crew::{Attempt, Worker};
+
+/// What an answer of the core comes to. Want of memory is a move: the core is short from then on, and goes on.
+fn attempt_of(answer: Result<ClientMoved, OutOfMemory>) -> Attempt
+    ensures { result ≡ attempt.Ended → answer ≡ Ok moved.Ended }
+{
+    match answer {
+        Ok(ClientMoved::BlockedTile { .. }) | Ok(ClientMoved::BlockedRequest) => Attempt::Blocked,
+        Ok(ClientMoved::Ended) => Attempt::Ended,
+        _ => Attempt::Moved,
+    }
+}
+
+impl<R: Wait> ClientWorker<R> {
+    /// Tries one step of the core over the worker's own lanes.
+    fn advance(&mut self) -> Attempt
+        ensures leads { ClientLeads self.old self.new }
+        ensures ended { result ≡ attempt.Ended → self.new.ended ≡ true }
+    {
+        clients_meet_their_clause_over_lanes::<LaneIn<Parcel, R>, LaneIn<Request, R>>();
+        let answer = self.core.step(&mut self.tiles, &mut self.requests);
+        let attempt = attempt_of(answer);
+        self.ended = has_ended(attempt);
+        attempt
+    }
+}
+
+impl<R: Wait> Worker for ClientWorker<R> {
+    ghost use Rattle.std.specs.Prelude.{◌≡◌, true};
+    ghost use Rattle.cluster_run.specs.Clients.{ClientLeads};
+
+    ghost leads = { ClientLeads };
+
+    ghost over = { λ w. w.ended ≡ true };
+
+    ghost stays = { λ a scene l client sent asked h. h };
+
+    ghost goes_on = { λ a b c f g scene l client sent asked h. g scene l client sent asked (f scene l client sent asked h) };
+
+    fn actor(&self) -> Actor {
+        Actor::Client(self.number)
+    }
+
+    fn step(&mut self) -> Attempt {
+        self.advance()
+    }
+}

@@ -1,0 +1,77 @@
+//! The workers of a cluster that has moved nothing, and the lanes between them.
+ghost use Rattle.std.specs.Prelude.{◌≡◌, length, IfOk};
+ghost use Rattle.rc_base.specs.Formats.Within.{IsWithin, IsLayoutFor};
+ghost use Rattle.cluster_run.specs.Clusters.{LaneNames, IsCluster};
+ghost use Rattle.cluster_run.specs.NewWorkers.{IsNewManager};
+
+use crate::clients::new_clients;
+use crate::tiles::new_tiles;
+use crate::workers::{ClientWorker, ManagerWorker, TileWorker};
+use lane_grid::lane_grid;
+use order_model::laws::scenes_within_limits;
+use rc_base::out_of_memory::OutOfMemory;
+use rc_base::scene::Scene;
+use rc_base::sync::{Grant, Request};
+use rc_base::window::Layout;
+use std::alloc::Global;
+use sync_manager::ManagerCore;
+use sync_manager::laws::managers_meet_their_clause;
+use tile_queues::{LaneIn, LaneOut};
+use worker_crew::Crew;
+
+/// The worker of a manager that was asked for nothing.
+fn new_manager<R: Drop>(
+    alloc: Global,
+    scene: &Scene,
+    tiles: u8,
+    requests: Vec<LaneOut<Request, R>>,
+    grants: Vec<LaneIn<Grant, R>>,
+) -> Result<ManagerWorker<R>, OutOfMemory>
+    requires within { IsWithin scene.now }
+    requires clients { length requests.items ≡ length scene.now.streams }
+    requires tiles { length grants.items ≡ tiles }
+    ensures { IfOk result (λ w. IsNewManager scene.now tiles requests grants w) }
+{
+    scenes_within_limits();
+    managers_meet_their_clause();
+    let client_count = scene.streams.len() as u8;
+    let core = ManagerCore::new(alloc, &scene.decl, client_count, tiles)?;
+    Ok(ManagerWorker {
+        core,
+        requests,
+        grants,
+        ended: false,
+    })
+}
+
+/// The workers of a scene on the tiles of a layout, before their first step, joined by new lanes of one depth: one from each client to each tile and to
+/// the manager, and one from the manager to each tile.
+pub(crate) fn new_crew<R: Copy>(
+    rt: R,
+    alloc: Global,
+    scene: &Scene,
+    layout: &Layout,
+    depth: usize,
+) -> Result<Crew<ClientWorker<R>, ManagerWorker<R>, TileWorker<R>>, OutOfMemory>
+    requires within { IsWithin scene.now }
+    requires layout { IsLayoutFor scene.now layout.now depth }
+    ensures { IfOk result (λ crew. (names : LaneNames) × IsCluster scene.now layout.now names crew) }
+{
+    scenes_within_limits();
+    let tile_count = layout.columns * layout.rows;
+    let grid = lane_grid(
+        rt,
+        alloc,
+        depth,
+        scene.streams.len(),
+        usize::from(tile_count),
+    )?;
+    let clients = new_clients(rt, alloc, scene, layout, depth, grid.ins)?;
+    let tiles = new_tiles(rt, alloc, scene, layout, depth, grid.outs)?;
+    let manager = new_manager(alloc, scene, tile_count, clients.requests, tiles.grants)?;
+    Ok(Crew {
+        clients: clients.workers,
+        manager,
+        tiles: tiles.workers,
+    })
+}

@@ -1,0 +1,63 @@
+//! The manager's worker.
+ghost use Rattle.std.specs.Prelude.{◌≡◌, true, Ok};
+ghost use Rattle.rc_base.specs.declared.cluster.ManagerMoved.TheVariants as moved;
+ghost use Rattle.worker_crew.specs.declared.worker.Attempt.TheVariants as attempt;
+ghost use Rattle.cluster_run.specs.Managers.{ManagerLeads};
+
+use crate::workers::{ManagerWorker, has_ended};
+use rc_base::cluster::ManagerMoved;
+use rc_base::gate::Actor;
+use rc_base::out_of_memory::OutOfMemory;
+use rc_base::sync::{Grant, Request};
+use std::sync::Wait;
+use sync_manager::laws::managers_meet_their_clause_over_lanes;
+use tile_queues::{LaneIn, LaneOut};
+use worker_crew::{Attempt, Worker};
+
+/// What an answer of the core comes to. Want of memory is a move: the core is short from then on, and goes on.
+fn attempt_of(answer: Result<ManagerMoved, OutOfMemory>) -> Attempt
+    ensures { result ≡ attempt.Ended → answer ≡ Ok moved.Ended }
+{
+    match answer {
+        Ok(ManagerMoved::BlockedGrant { .. }) | Ok(ManagerMoved::BlockedRequest) => {
+            Attempt::Blocked
+        }
+        Ok(ManagerMoved::Ended) => Attempt::Ended,
+        _ => Attempt::Moved,
+    }
+}
+
+impl<R: Wait> ManagerWorker<R> {
+    /// Tries one step of the core over the worker's own lanes.
+    fn advance(&mut self) -> Attempt
+        ensures leads { ManagerLeads self.old self.new }
+        ensures ended { result ≡ attempt.Ended → self.new.ended ≡ true }
+    {
+        managers_meet_their_clause_over_lanes::<LaneOut<Request, R>, LaneIn<Grant, R>>();
+        let answer = self.core.step(&mut self.requests, &mut self.grants);
+        let attempt = attempt_of(answer);
+        self.ended = has_ended(attempt);
+        attempt
+    }
+}
+
+impl<R: Wait> Worker for ManagerWorker<R> {
+    ghost use Rattle.std.specs.Prelude.{◌≡◌, true};
+    ghost use Rattle.cluster_run.specs.Managers.{ManagerLeads};
+
+    ghost leads = { ManagerLeads };
+
+    ghost over = { λ w. w.ended ≡ true };
+
+    ghost stays = { λ a syncs tiles asked granted h. h };
+
+    ghost goes_on = { λ a b c f g syncs tiles asked granted h. g syncs tiles asked granted (f syncs tiles asked granted h) };
+
+    fn actor(&self) -> Actor {
+        Actor::Manager
+    }
+
+    fn step(&mut self) -> Attempt {
+        self.advance()
+    }
+}

@@ -1,0 +1,78 @@
+//! All tiles' workers.
+ghost use Rattle.std.specs.Prelude.{◌≡◌, ◌<◌, ◌≤◌, ℕ, length, slice_index_or, IfOk};
+ghost use Rattle.rc_base.specs.Cluster.Tiles.{tile_count};
+ghost use Rattle.cluster_run.specs.NewWorkers.{IsNewTile, AreNewTiles};
+
+use crate::workers::TileWorker;
+use rc_base::out_of_memory::OutOfMemory;
+use rc_base::scene::Scene;
+use rc_base::state::Parcel;
+use rc_base::sync::Grant;
+use rc_base::window::Layout;
+use std::alloc::Global;
+use tile_queues::{LaneIn, LaneOut, lane};
+use tile_server::TileCore;
+use tile_server::laws::tiles_meet_their_clause;
+
+/// The workers of all tiles, and the manager's ends of their lanes.
+#[derive(Drop)]
+pub(crate) struct NewTiles<R> {
+    pub(crate) workers: Vec<TileWorker<R>>,
+    pub(crate) grants: Vec<LaneIn<Grant, R>>,
+}
+
+/// The worker of a tile that was sent nothing.
+fn new_tile<R: Drop>(
+    alloc: Global,
+    scene: &Scene,
+    layout: &Layout,
+    number: u8,
+    clients: Vec<LaneOut<Parcel, R>>,
+    grants: LaneOut<Grant, R>,
+) -> Result<TileWorker<R>, OutOfMemory>
+    requires number { number < tile_count layout.now }
+    requires few { length scene.now.streams ≤ 8 }
+    requires lanes { length clients.items ≡ length scene.now.streams }
+    ensures new { IfOk result (λ w. IsNewTile scene.now layout.now number clients w) }
+    ensures grants { IfOk result (λ w. w.grants ≡ grants) }
+{
+    tiles_meet_their_clause();
+    let client_count = scene.streams.len() as u8;
+    let core = TileCore::new(alloc, &scene.decl, client_count, layout, number)?;
+    Ok(TileWorker {
+        number,
+        core,
+        clients,
+        grants,
+        parts: Vec::new(alloc),
+        lost: false,
+        ended: false,
+    })
+}
+
+/// A worker for each column of ends, with a new lane from the manager.
+pub(crate) fn new_tiles<R: Copy>(
+    rt: R,
+    alloc: Global,
+    scene: &Scene,
+    layout: &Layout,
+    depth: usize,
+    columns: Vec<Vec<LaneOut<Parcel, R>>>,
+) -> Result<NewTiles<R>, OutOfMemory>
+    requires few { length scene.now.streams ≤ 8 }
+    requires depth { (1 ≤ depth) × (depth ≤ 16) }
+    requires few_tiles { tile_count layout.now ≤ 32 }
+    requires tiles { length columns.items ≡ tile_count layout.now }
+    requires lanes { (t : ℕ) (d : _) → t < length columns.items → length (slice_index_or columns.items t d).items ≡ length scene.now.streams }
+    ensures { IfOk result (λ new. AreNewTiles scene.now layout.now depth columns.items new.workers.items new.grants.items) }
+{
+    let mut workers = Vec::new(alloc);
+    let mut grants = Vec::new(alloc);
+    for clients in columns {
+        let number = workers.len() as u8;
+        let (sender, receiver) = lane(rt, alloc, depth)?;
+        workers.push(new_tile(alloc, scene, layout, number, clients, receiver)?)?;
+        grants.push(sender)?;
+    }
+    Ok(NewTiles { workers, grants })
+}

@@ -1,0 +1,4 @@
+pub mod Prefixes
+pub mod Texts
+pub mod FrameParts
+pub mod Writable

@@ -1,0 +1,20 @@
+//! Laws of frames. Each function's contract is a law, and its body calls the laws that it follows from: there is nothing to compute.
+ghost use Rattle.frame_out.specs.Laws.{FramesOfScenesAreWritable, RecordedFramesHaveTheImageText, WholeRunsShowFrames};
+
+use bounds_bucket::each_pixel_has_one_tile;
+use order_model::laws::swaps_are_few;
+
+/// The parts of a whole run show the frames that its record tells, and the texts of their images are the record's image text.
+pub fn whole_runs_show_frames()
+    ensures shown { WholeRunsShowFrames }
+    ensures text { RecordedFramesHaveTheImageText }
+{
+    each_pixel_has_one_tile();
+}
+
+/// The frames of a scene within the limits can be written, one for each Swap of a legal journal.
+pub fn frames_of_scenes_are_writable()
+    ensures { FramesOfScenesAreWritable }
+{
+    swaps_are_few();
+}

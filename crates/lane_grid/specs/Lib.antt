@@ -1,0 +1,3 @@
+pub mod Grids
+pub mod Names
+pub mod Laws

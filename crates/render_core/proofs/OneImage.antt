@@ -1,0 +1,140 @@
+-- Records of ordered scenes show one image.
+use Rattle.std.proofs.Common.{◌≡◌, ℕ, zero, suc, ◌+◌, ◌-◌, ◌*◌, ◌<◌, ◌≤◌, inl, inr, List, [], ◌∷◌, ◌++◌, length, map, take, None, Some, refl, sym, ap, subst, ◌∙◌, length-append, arith}
+use Rattle.std.specs.Prelude.{codes, pos}
+use Rattle.std.specs.Fmt.{decimal}
+use Rattle.std.specs.List.{flat_map, range_with_len}
+use Rattle.std.specs.declared.option.Option.{Option}
+use Rattle.std.proofs.Math.Seq.{take-append_seam}
+use Rattle.std.proofs.lemmas.Bool.{cases_lt}
+use Rattle.std.proofs.lemmas.List.{append_cancel_left}
+use Rattle.rc_base.specs.Drawing.Images.{Pixels, frame_images, image_from, rgb_bytes, rgb_of, row_bytes}
+use Rattle.rc_base.specs.Drawing.Serial.{frame_pixel}
+use Rattle.rc_base.specs.Formats.Limits.{limit_of, size_limit}
+use Rattle.rc_base.specs.Formats.Netpbm.{p6_text, p6_texts}
+use Rattle.rc_base.specs.Orders.Footprints.{IsOrderedScene}
+use Rattle.rc_base.specs.Orders.Order.{IsPermitted}
+use Rattle.rc_base.specs.Orders.Sync.{IsWellFormed, sync_lists_of}
+use Rattle.rc_base.specs.declared.image.Image.{Image}
+use Rattle.rc_base.specs.declared.scene.Decl.{Decl}
+use Rattle.rc_base.specs.declared.scene.Limit.{Limit}
+use Rattle.rc_base.specs.declared.scene.Scene.{Scene}
+use Rattle.rc_base.specs.declared.sync.Name.{Name}
+use Rattle.order_model.specs.Laws.{SceneListsAreWellFormed, OrderedRunsShowOneImage, FullOrderedRunsShowTheDefaultImage}
+use Rattle.order_model.specs.Report.{frame_count, image_text_of, recorded_pixel}
+use Rattle.order_model.specs.Sent.{IsRecordOf}
+use Rattle.order_model.specs.declared.record.Record.{Record}
+use Rattle.scene_file.specs.Generated.{GeneratedScenesAreWithin}
+use Rattle.render_core.specs.Due.{default_frames}
+use Rattle.render_core.specs.Jobs.{Gives, IsInput, cluster_of, layout_for, origin_of, scene_limit, tile_limit, with_rounds}
+use Rattle.render_core.specs.Laws.{OrderedRecordsShowOneImage}
+use Rattle.render_core.specs.Outcomes.{ShowsEveryPermittedOrder}
+use Rattle.render_core.specs.declared.job.Cluster.{Cluster}
+use Rattle.render_core.specs.declared.job.Job.{Job}
+use Rattle.render_core.specs.declared.job.Origin.{Origin}
+use Rattle.render_core.specs.declared.job.Origin.TheVariants.{Read, Generated}
+use Rattle.render_core.proofs.Recorded.{layout_within}
+use Rattle.render_core.proofs.Judging.{rounds_within, tiles_within, within_both}
+use Rattle.rc_base.proofs.WithinLimits.{clients_within, counts_some, first_within, in_range, tiles_within as layout_tiles}
+
+-- ---- texts of images of one size, one after the other, tell each image
+
+apart : (xs ys ts us : List ℕ) → length xs ≡ length ys → xs ++ ts ≡ ys ++ us → (xs ≡ ys) × (ts ≡ us)
+apart xs ys ts us sizes e =
+    let first : xs ≡ ys = sym (take-append_seam xs ts) ∙ ap (take (length xs)) e ∙ ap (λ (n : ℕ). take n (ys ++ us)) sizes ∙ take-append_seam ys us in
+    (first, append_cancel_left ys ts us (ap (λ (zs : List ℕ). zs ++ ts) (sym first) ∙ e))
+
+longer : (xs ys zs : List ℕ) → length ys ≡ length zs → length (xs ++ ys) ≡ length (xs ++ zs)
+longer xs ys zs e = length-append xs ys ∙ ap (λ (n : ℕ). length xs + n) e ∙ sym (length-append xs zs)
+
+as_long : (f g : ℕ → List ℕ) → ((x : ℕ) → length (f x) ≡ length (g x)) → (xs : List ℕ) → length (flat_map f xs) ≡ length (flat_map g xs)
+as_long f g each [] = refl
+as_long f g each (x ∷ xs) = omega (arith, length-append (f x) (flat_map f xs), length-append (g x) (flat_map g xs), each x, as_long f g each xs)
+
+module _ (f g : ℕ → List ℕ) (sizes : (k : ℕ) → length (f k) ≡ length (g k)) where
+  each_apart : (F G : ℕ → Image) → ((k : ℕ) → p6_text (F k) ≡ f k) → ((k : ℕ) → p6_text (G k) ≡ g k) → (a n : ℕ)
+      → p6_texts (map F (range_with_len a n)) ≡ p6_texts (map G (range_with_len a n)) → (k : ℕ) → a ≤ k → k < a + n → f k ≡ g k
+  each_apart F G is_f is_g a zero e k low high = absurd (omega (arith, low, high))
+  each_apart F G is_f is_g a (suc n) e k low high =
+      let here = apart (p6_text (F a)) (p6_text (G a)) (p6_texts (map F (range_with_len (a + 1) n))) (p6_texts (map G (range_with_len (a + 1) n)))
+      (ap length (is_f a) ∙ sizes a ∙ sym (ap length (is_g a))) e in
+      elim (cases_lt a k) [
+        | inl later ↦ each_apart F G is_f is_g (a + 1) n here.1 k (omega (arith, later)) (omega (arith, high))
+        | inr now ↦
+            let same : a ≡ k = omega (arith, low, now) in
+            subst (λ (i : ℕ). f i ≡ g i) same (sym (is_f a) ∙ here.0 ∙ is_g a)
+      ]
+
+-- what stands before the bytes of the pixels
+abbrev before : ℕ → ℕ → List ℕ
+before w h = codes "P6\n" ++ decimal w ++ codes " " ++ decimal h ++ codes "\n255\n"
+
+module _ (d : Decl) (p q : ℕ → Pixels) where
+  abbrev bytes : (ℕ → Pixels) → ℕ → List ℕ
+  bytes pixels k = rgb_bytes (pixels k) d.width d.height
+
+  one_size : (k : ℕ) → length (bytes p k) ≡ length (bytes q k)
+  unfolding rgb_bytes row_bytes
+  one_size k =
+      as_long (λ row. row_bytes (p k) d.width (d.height - 1 - row)) (λ row. row_bytes (q k) d.width (d.height - 1 - row))
+      (λ row. as_long (λ x. rgb_of (p k (pos x) (pos (d.height - 1 - row)))) (λ x. rgb_of (q k (pos x) (pos (d.height - 1 - row)))) (λ x. refl) (range_with_len 0 d.width))
+      (range_with_len 0 d.height)
+
+  text_sizes : (k : ℕ) → length (p6_text (image_from d (p k))) ≡ length (p6_text (image_from d (q k)))
+  text_sizes k = longer (before d.width d.height) (bytes p k) (bytes q k) (one_size k)
+
+  of_texts : (k : ℕ) → p6_text (image_from d (p k)) ≡ p6_text (image_from d (q k)) → image_from d (p k) ≡ image_from d (q k)
+  of_texts k e = ap (λ (rgb : List ℕ). record { width = d.width; height = d.height; rgb = rgb }) (append_cancel_left (before d.width d.height) (bytes p k) (bytes q k) e)
+
+  -- so the images are the same, one by one
+  images_apart : (n : ℕ) → p6_texts (map (λ k. image_from d (p k)) (range_with_len 1 n)) ≡ p6_texts (map (λ k. image_from d (q k)) (range_with_len 1 n))
+      → (k : ℕ) → 0 < k → k ≤ n → image_from d (p k) ≡ image_from d (q k)
+  images_apart n e k some most =
+      of_texts k
+      (each_apart (λ j. p6_text (image_from d (p j))) (λ j. p6_text (image_from d (q j))) text_sizes (λ j. image_from d (p j)) (λ j. image_from d (q j))
+      (λ j. refl) (λ j. refl) 1 n e k (omega (arith, some)) (omega (arith, most)))
+
+-- ---- a job's scene is within the limits, and so are the tiles of its words
+
+-- of at most 4,096 rounds
+few_rounds : (size : ℕ) → size_limit size ≡ None → size ≤ 4096
+unfolding size_limit
+few_rounds size e = (in_range 18 size 1 4096 (first_within (record { what = 18; value = size; least = 1; most = 4096 }) [] e).0).1
+
+limits_of : GeneratedScenesAreWithin → (origin : Origin) (tiles : Option Limit) (input : List ℕ) (scene : Scene) → Gives origin input scene
+    → scene_limit origin scene ≡ None → with_rounds origin tiles ≡ None → limit_of scene ≡ None
+limits_of made (Read form) tiles input scene gives own words = own
+limits_of made (Generated seed size) tiles input scene gives own words =
+    subst (λ (s : Scene). limit_of s ≡ None) (sym gives) (made seed size (few_rounds size (rounds_within seed size tiles words))).limits
+
+module _ (formed : SceneListsAreWellFormed) (made : GeneratedScenesAreWithin) (permitted : OrderedRunsShowOneImage) (default : FullOrderedRunsShowTheDefaultImage) where
+  module _ (job : Job) (cluster : Cluster) (input : List ℕ) (scene : Scene) (kept : Record) (of : cluster_of job ≡ Some cluster) (is : IsInput job input scene)
+      (lawful : IsRecordOf scene (layout_for cluster scene) kept) (ordered : IsOrderedScene scene kept.journal) where
+    within : limit_of scene ≡ None
+    within = limits_of made (origin_of job) (tile_limit (cluster_of job) scene) input scene is.gives (within_both job scene is.within).0 (within_both job scene is.within).1
+
+    well : IsWellFormed (sync_lists_of scene)
+    well = formed scene (clients_within scene within).0 (counts_some scene within)
+
+    some_tiles : 1 ≤ (layout_for cluster scene).columns * (layout_for cluster scene).rows
+    some_tiles =
+        (layout_tiles scene (layout_for cluster scene) cluster.depth
+        (layout_within cluster scene (subst (λ (c : Option Cluster). tile_limit c scene ≡ None) of (tiles_within job scene (within_both job scene is.within).1)))).0
+
+    texts : (order : List Name) → IsPermitted (sync_lists_of scene) kept.journal order
+        → image_text_of scene (layout_for cluster scene) kept ≡ p6_texts (frame_images scene order (frame_count kept.journal))
+    texts order p = permitted scene (layout_for cluster scene) kept well (let least = some_tiles in omega (arith, least)) lawful ordered order p
+
+    shows : ShowsEveryPermittedOrder cluster scene kept
+    unfolding image_text_of
+    shows = record {
+      frames = λ order p. images_apart scene.decl (recorded_pixel scene (layout_for cluster scene) kept) (frame_pixel scene order) (frame_count kept.journal) (texts order p);
+      text = texts;
+    }
+
+  pub one_image : OrderedRecordsShowOneImage
+  unfolding default_frames
+  one_image job cluster input scene kept of is lawful ordered = (
+    shows job cluster input scene kept of is lawful ordered,
+    λ full. default scene (layout_for cluster scene) kept (well job cluster input scene kept of is lawful ordered)
+        (let least = some_tiles job cluster input scene kept of is lawful ordered in omega (arith, least)) full lawful ordered,
+  )

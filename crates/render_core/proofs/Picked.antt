@@ -1,0 +1,44 @@
+-- The picks of a seed, and the refusals of a job that runs a stepped cluster.
+use Rattle.std.proofs.Common.{◌≡◌, ℕ, ◌<◌, ◌%◌, inl, inr, Ok, Err, List, length, map, None, sym, subst, arith}
+use Rattle.std.specs.Prelude.{IfErr, slice_index_or}
+use Rattle.std.specs.declared.result.Result.{Result}
+use Rattle.std.specs.List.{range_with_len}
+use Rattle.std.proofs.lemmas.List.FromFn.{length-map-range_with_len, get_or-map-range_with_len}
+use Rattle.std.proofs.Math.Nat.{mod-lt}
+use Rattle.rc_base.specs.Program.Generator.{pick_count, draw_of, picks_of}
+use Rattle.rc_base.specs.declared.scene.Scene.{Scene}
+use Rattle.rc_base.specs.declared.window.Layout.{Layout}
+use Rattle.render_core.specs.Due.{IsStandstill, Stands}
+use Rattle.render_core.specs.Jobs.{word_limit}
+use Rattle.render_core.specs.Refusals.{IsClusterRefusal, IsNoOutcome}
+use Rattle.render_core.specs.declared.due.Due.{Due}
+use Rattle.render_core.specs.declared.due.DueRefusal.{DueRefusal}
+use Rattle.render_core.specs.declared.job.Job.{Job}
+
+-- ---- picks
+
+drawn_below : (seed actors count : ℕ) → 0 < actors → (i : ℕ) → i < length (map (λ (n : ℕ). draw_of seed n % actors) (range_with_len 0 count))
+    → slice_index_or (map (λ (n : ℕ). draw_of seed n % actors) (range_with_len 0 count)) i 0 < actors
+drawn_below seed actors count some i below =
+    let f : ℕ → ℕ = λ (n : ℕ). draw_of seed n % actors in
+    let counted = length-map-range_with_len f 0 count in
+    let is : slice_index_or (map f (range_with_len 0 count)) i 0 ≡ f i =
+    get_or-map-range_with_len f 0 count i i 0 (omega (arith, counted, below)) (omega arith) in
+    subst (λ (n : ℕ). n < actors) (sym is) (mod-lt (draw_of seed i) some)
+
+pub picks_below : (seed actors : ℕ) → 0 < actors → (i : ℕ) → i < length (picks_of seed actors) → slice_index_or (picks_of seed actors) i 0 < actors
+unfolding picks_of
+picks_below seed actors some = drawn_below seed actors pick_count some
+
+-- ---- refusals
+
+-- a job that the cluster refuses, where the cluster stands still as the job may
+module _ (job : Job) (scene : Scene) (l : Layout) (depth : ℕ) (picks : List ℕ) (asked : word_limit job scene ≡ None)
+    (stands : IsStandstill scene l depth picks → Stands job scene) where
+  refused_by : (refusal : DueRefusal) → IsClusterRefusal scene l depth picks refusal → IsNoOutcome job scene refusal
+  refused_by refusal (inl memory) = subst (IsNoOutcome job scene) (sym memory) tt
+  refused_by refusal (inr still) = subst (IsNoOutcome job scene) (sym still.0) (asked, stands still.1)
+
+  pub cluster_refused : (r : Result Due DueRefusal) → IfErr r (IsClusterRefusal scene l depth picks) → IfErr r (IsNoOutcome job scene)
+  cluster_refused (Ok due) h = tt
+  cluster_refused (Err refusal) h = refused_by refusal h

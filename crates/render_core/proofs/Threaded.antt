@@ -1,0 +1,193 @@
+-- Jobs whose actors are threads of their own.
+use Rattle.std.proofs.Common.{◌≡◌, ◌≢◌, ℕ, ◌⊎◌, Bool, true, false, List, [], ◌∷◌, map, inl, inr, None, Some, refl, sym, ap, ◌∙◌, subst}
+use Rattle.std.specs.Prelude.{String, IfErr, IfOk, MatchResult, slice_get, string_bytes, unwrap_or, codes}
+use Rattle.std.specs.Global.{Global}
+use Rattle.std.specs.Str.{bytes_eq}
+use Rattle.std.specs.declared.option.Option.{Option}
+use Rattle.std.specs.declared.result.Result.{Result}
+use Rattle.std.specs.List.{flat_map}
+use Rattle.std.specs.Option.{option_or}
+use Rattle.rc_base.specs.Formats.Limits.{limit_of, size_limit}
+use Rattle.rc_base.specs.Outside.Ends.{Used, TookFront}
+use Rattle.rc_base.specs.Program.Words.{Setting, job_word, setting_words}
+use Rattle.rc_base.specs.declared.job.JobName.{JobName}
+use Rattle.rc_base.specs.declared.job.JobName.TheVariants as name
+use Rattle.rc_base.specs.declared.cluster.Tally.{Tally}
+use Rattle.rc_base.specs.declared.scene.Limit.{Limit}
+use Rattle.rc_base.specs.declared.scene.Scene.{Scene}
+use Rattle.rc_base.specs.declared.state.Fault.{Fault}
+use Rattle.rc_base.specs.declared.sync.Waiting.{Waiting}
+use Rattle.rc_base.specs.declared.window.Layout.{Layout}
+use Rattle.cluster_run.specs.Fronts.{GaveFront}
+use Rattle.frame_out.specs.Writing.{IsWritten}
+use Rattle.frame_out.specs.declared.writing.Written.{Written}
+use Rattle.order_model.specs.Laws.{SceneListsAreWellFormed, RecordsOfScenesArePermitted}
+use Rattle.order_model.specs.Report.{image_text_of}
+use Rattle.order_model.specs.Sent.{IsRecordOf}
+use Rattle.order_model.specs.declared.record.Record.{Record}
+use Rattle.run_record.specs.Told.{IsRun}
+use Rattle.render_core.specs.declared.job.Cluster.{Cluster}
+use Rattle.render_core.specs.declared.job.Form.TheVariants.{Bytes}
+use Rattle.render_core.specs.declared.job.Job.{Job}
+use Rattle.render_core.specs.declared.job.Job.TheVariants.{Render, Simulate, Serial, Check, Pack, Unpack, Gen, Demo}
+use Rattle.render_core.specs.declared.refusal.Refused.{Refused}
+use Rattle.render_core.specs.declared.writing.Told.{Told}
+use Rattle.render_core.specs.Due.{Outcome, IsRecorded, IsOutcome, ending_by, report_due}
+use Rattle.render_core.specs.Jobs.{IsJob, IsThreaded, cluster_limit, has_threads, job_in, layout_for, origin_of, threads_of, word_limit}
+use Rattle.render_core.specs.Outcomes.{IsDue, PartlyWritten}
+use Rattle.render_core.specs.Refusals.{refusal_status, Came, IsCaused, IsPerformed, IsToldOf, IsUntold, IsWell, IsWellRead}
+use Rattle.render_core.proofs.Judging.{has_scene}
+use Rattle.render_core.proofs.Performing.{front_of, partly_written, told_done, told_late, told_refused}
+use Rattle.render_core.proofs.Recorded.{outcome_by, recorded_by}
+
+-- ---- their words
+
+first_word : (words : List (List ℕ)) (job : JobName) (settings : List Setting) → words ≡ job_word job ∷ flat_map setting_words settings
+    → slice_get words 0 ≡ Some (job_word job)
+first_word words job settings parts = ap (λ (ws : List (List ℕ)). slice_get ws 0) parts
+
+-- a job's first word tells whether it is one
+abbrev AreThreads : List ℕ → Type 0
+AreThreads word = (word ≡ job_word name.Render) ⊎ (word ≡ job_word name.Demo)
+
+other_word : (w : List ℕ) → bytes_eq w (codes "render") ≡ false → bytes_eq w (codes "demo") ≡ false → AreThreads w → ⊥
+other_word w render demo (inl same) = let none : false ≡ true = sym render ∙ ap (λ (v : List ℕ). bytes_eq v (codes "render")) same in absurd cc
+other_word w render demo (inr same) = let none : false ≡ true = sym demo ∙ ap (λ (v : List ℕ). bytes_eq v (codes "demo")) same in absurd cc
+
+told_by : (job_name : JobName) (settings : List Setting) → AreThreads (job_word job_name) → has_threads (job_in job_name settings) ≡ true
+told_by name.Render settings same = refl
+told_by name.Simulate settings same = absurd (other_word (codes "simulate") refl refl same)
+told_by name.Serial settings same = absurd (other_word (codes "serial") refl refl same)
+told_by name.Check settings same = absurd (other_word (codes "check") refl refl same)
+told_by name.Pack settings same = absurd (other_word (codes "pack") refl refl same)
+told_by name.Unpack settings same = absurd (other_word (codes "unpack") refl refl same)
+told_by name.Gen settings same = absurd (other_word (codes "gen") refl refl same)
+told_by name.Demo settings same = refl
+
+tells : (job_name : JobName) (settings : List Setting) → has_threads (job_in job_name settings) ≡ true → AreThreads (job_word job_name)
+tells name.Render settings threads = inl refl
+tells name.Simulate settings threads = let none : false ≡ true = threads in absurd cc
+tells name.Serial settings threads = let none : false ≡ true = threads in absurd cc
+tells name.Check settings threads = let none : false ≡ true = threads in absurd cc
+tells name.Pack settings threads = let none : false ≡ true = threads in absurd cc
+tells name.Unpack settings threads = let none : false ≡ true = threads in absurd cc
+tells name.Gen settings threads = let none : false ≡ true = threads in absurd cc
+tells name.Demo settings threads = inr refl
+
+module _ (words : List (String Global)) (job : Job) (is : IsJob words job) where
+  first : slice_get (map string_bytes words) 0 ≡ Some (job_word is.name)
+  first = first_word (map string_bytes words) is.name is.settings is.line.parts
+
+  by_word : (word : List ℕ) → slice_get (map string_bytes words) 0 ≡ Some word → job_word is.name ≡ word
+  by_word word named = ap (λ (o : Option (List ℕ)). unwrap_or o []) (sym first ∙ named)
+
+  pub threaded : IsThreaded words → has_threads job ≡ true
+  threaded named =
+      subst (λ (j : Job). has_threads j ≡ true) is.asked
+      (told_by is.name is.settings (elim named [ inl render ↦ inl (by_word (job_word name.Render) render) | inr demo ↦ inr (by_word (job_word name.Demo) demo) ]))
+
+  pub alone : (IsThreaded words → ⊥) → has_threads job ≡ false
+  alone other = go (has_threads job) refl where
+    named : AreThreads (job_word is.name) → IsThreaded words
+    named (inl render) = inl (first ∙ ap (λ (w : List ℕ). Some w) render)
+    named (inr demo) = inr (first ∙ ap (λ (w : List ℕ). Some w) demo)
+
+    go : (b : Bool) → has_threads job ≡ b → b ≡ false
+    go true e = absurd (other (named (tells is.name is.settings (ap has_threads is.asked ∙ e))))
+    go false e = refl
+
+-- ---- their limits, and what is due
+
+the_cluster : (cluster other : Cluster) → Some cluster ≡ Some other → cluster ≡ other
+the_cluster cluster other e = ap (λ (o : Option Cluster). unwrap_or o cluster) e
+
+-- what its cluster's tiles and lanes have outside their ranges, its words have
+pub words_past : (job : Job) (cluster : Cluster) (scene : Scene) (limit : Limit) → threads_of job ≡ Some cluster → cluster_limit cluster scene ≡ Some limit
+    → word_limit job scene ≡ Some limit
+words_past (Render own) cluster scene limit e past = ap (λ (c : Cluster). cluster_limit c scene) (the_cluster own cluster e) ∙ past
+words_past (Simulate seed own) cluster scene limit e past = absurd cc
+words_past Serial cluster scene limit e past = absurd cc
+words_past Check cluster scene limit e past = absurd cc
+words_past Pack cluster scene limit e past = absurd cc
+words_past Unpack cluster scene limit e past = absurd cc
+words_past (Gen seed size) cluster scene limit e past = absurd cc
+words_past (Demo seed size own) cluster scene limit e past =
+    ap (λ (l : Option Limit). option_or l (size_limit size)) (ap (λ (c : Cluster). cluster_limit c scene) (the_cluster own cluster e) ∙ past)
+
+-- where these have nothing, its words have nothing either: the rounds of a scene that was made are within their range
+pub words_asked : (job : Job) (cluster : Cluster) (scene : Scene) → threads_of job ≡ Some cluster → IsWell (origin_of job) scene → cluster_limit cluster scene ≡ None
+    → word_limit job scene ≡ None
+words_asked (Render own) cluster scene e well asked = ap (λ (c : Cluster). cluster_limit c scene) (the_cluster own cluster e) ∙ asked
+words_asked (Simulate seed own) cluster scene e well asked = absurd cc
+words_asked Serial cluster scene e well asked = absurd cc
+words_asked Check cluster scene e well asked = absurd cc
+words_asked Pack cluster scene e well asked = absurd cc
+words_asked Unpack cluster scene e well asked = absurd cc
+words_asked (Gen seed size) cluster scene e well asked = absurd cc
+words_asked (Demo seed size own) cluster scene e well asked =
+    ap (λ (l : Option Limit). option_or l (size_limit size)) (ap (λ (c : Cluster). cluster_limit c scene) (the_cluster own cluster e) ∙ asked) ∙ well.rounds
+
+-- its scene is what calls ask for
+pub read_or_made : (job : Job) (cluster : Cluster) (scene : Scene) → threads_of job ≡ Some cluster → IsWell (origin_of job) scene → IsWellRead Bytes scene
+read_or_made (Render own) cluster scene e well = well
+read_or_made (Simulate seed own) cluster scene e well = absurd cc
+read_or_made Serial cluster scene e well = absurd cc
+read_or_made Check cluster scene e well = absurd cc
+read_or_made Pack cluster scene e well = absurd cc
+read_or_made Unpack cluster scene e well = absurd cc
+read_or_made (Gen seed size) cluster scene e well = absurd cc
+read_or_made (Demo seed size own) cluster scene e well = well.of_bytes
+
+outcome_is : (job : Job) (cluster : Cluster) (scene : Scene) (o : Outcome) → threads_of job ≡ Some cluster → IsRecorded cluster scene o → IsOutcome job scene o
+unfolding IsOutcome
+outcome_is (Render own) cluster scene o e is = subst (λ (c : Cluster). IsRecorded c scene o) (sym (the_cluster own cluster e)) is
+outcome_is (Simulate seed own) cluster scene o e is = absurd cc
+outcome_is Serial cluster scene o e is = absurd cc
+outcome_is Check cluster scene o e is = absurd cc
+outcome_is Pack cluster scene o e is = absurd cc
+outcome_is Unpack cluster scene o e is = absurd cc
+outcome_is (Gen seed size) cluster scene o e is = absurd cc
+outcome_is (Demo seed size own) cluster scene o e is = subst (λ (c : Cluster). IsRecorded c scene o) (sym (the_cluster own cluster e)) is
+
+-- ---- what a run leaves
+
+module _ (job : Job) (cluster : Cluster) (source image : Used) (scene : Scene) (threads : threads_of job ≡ Some cluster) (came : Came job source scene)
+    (well : IsWell (origin_of job) scene) (within : limit_of scene ≡ None) (formed : SceneListsAreWellFormed) (permits : RecordsOfScenesArePermitted) (l : Layout) (asked : cluster_limit cluster scene ≡ None) (tiles : l ≡ layout_for cluster scene) where
+  -- what is due by any lawful record
+  due_by : (kept : Record) → IsRecordOf scene l kept → IsDue job source (outcome_by cluster scene kept)
+  due_by kept lawful = record {
+    scene = scene;
+    has = has_scene job source scene came (words_asked job cluster scene threads well asked);
+    due = outcome_is job cluster scene (outcome_by cluster scene kept) threads
+        (recorded_by cluster scene formed permits within kept (subst (λ (t : Layout). IsRecordOf scene t kept) tiles lawful));
+  }
+
+  -- a run that lacked memory
+  pub front_given : GaveFront scene l image → PartlyWritten job source image
+  front_given gave =
+      partly_written job source image (outcome_by cluster scene gave.kept) (due_by gave.kept gave.lawful)
+      (subst (λ (t : Layout). TookFront image (image_text_of scene t gave.kept)) tiles gave.front)
+
+  module _ (kept : Record) (tallies : List Tally) (waiting : Option Waiting) (faults : List (List (ℕ × Fault))) (written : Written) (is : IsRun scene l kept tallies waiting faults)
+      (given : IsWritten image (image_text_of scene l kept) written) where
+    here : IsWritten image (image_text_of scene (layout_for cluster scene) kept) written
+    here = subst (λ (t : Layout). IsWritten image (image_text_of scene t kept) written) tiles given
+
+    pub run_given : PartlyWritten job source image
+    run_given =
+        partly_written job source image (outcome_by cluster scene kept) (due_by kept is.lawful) (front_of image (image_text_of scene (layout_for cluster scene) kept) written here)
+
+    module _ (r : Result Told Refused) (told : (s : Scene) (t : Layout) → IsRun s t kept tallies waiting faults
+        → MatchResult r (IsToldOf (report_due s t kept cluster.orders) (ending_by s kept.journal) (Some kept) written) (IsUntold (ending_by s kept.journal) (Some kept) written)) where
+      abbrev own : MatchResult r (IsToldOf (report_due scene (layout_for cluster scene) kept cluster.orders) (ending_by scene kept.journal) (Some kept) written)
+          (IsUntold (ending_by scene kept.journal) (Some kept) written)
+      own = told scene (layout_for cluster scene) (subst (λ (t : Layout). IsRun scene t kept tallies waiting faults) tiles is)
+
+      pub run_done : IfOk r (IsPerformed job source image)
+      run_done = told_done job source image (outcome_by cluster scene kept) (due_by kept is.lawful) written here r own
+
+      pub run_refused : IfErr r (λ x. IsCaused job source image x.refusal x.kept)
+      run_refused = told_refused job source image (outcome_by cluster scene kept) (due_by kept is.lawful) written here r own
+
+      pub run_late : (P : Type 0) → IfErr r (λ x. refusal_status x.refusal ≢ 6 → refusal_status x.refusal ≢ 7 → P)
+      run_late P = told_late job source image (outcome_by cluster scene kept) (due_by kept is.lawful) written here r own P

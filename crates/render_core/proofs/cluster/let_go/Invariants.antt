@@ -1,8 +1,0 @@
-use Rattle.std.proofs.Common.{◌≡◌, length, drop}
-use Rattle.render_core.proofs.cluster.let_go.Given as goal
-
-abbrev pub invariant-loop-i : goal.invariant-loop-i
-invariant-loop-i l = record {
-  count : length l.parts ≡ length l.fn.parts;
-  later : drop l.fn.to l.parts ≡ drop l.fn.to l.fn.parts;
-}

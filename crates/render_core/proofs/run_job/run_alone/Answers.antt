@@ -1,0 +1,68 @@
+use Rattle.std.proofs.Common.{◌≡◌, [], subst}
+use Rattle.std.specs.Prelude.{IfOk}
+use Rattle.rc_base.specs.Outside.Ends.{use_of}
+use Rattle.render_core.specs.Finishes.{IsFinished}
+use Rattle.render_core.proofs.Finishing.{jobless, left_by, ran_by, silent_by}
+use Rattle.render_core.proofs.Headline.{answered, headline, permits}
+use Rattle.render_core.proofs.run_job.run_alone.Goals as goal
+
+pub returns-in-Err-clause-exact : goal.returns-in-Err-clause-exact
+returns-in-Err-clause-exact g c =
+    let source = use_of g.S.Source.left g.S.Source.faults c.args.source.now c.args.source.now in
+    let image = use_of g.K.Sink.held g.K.Sink.faults c.args.image.now c.args.image.now in
+    let notes = use_of g.N.Sink.held g.N.Sink.faults c.args.notes.now c.job_for.new.notes in
+    let ran = jobless c.args.words.now notes c.in-Err.finish c.in-Err.ensures.none source image in
+    answered c.lines_have_one_reading.ensures c.findings_are_one.ensures c.args.words.now source image notes _ _ ran
+
+pub returns-clause-headline : goal.returns-clause-headline
+returns-clause-headline g c =
+    let source = use_of g.S.Source.left g.S.Source.faults c.args.source.now c.perform-performed.new.source in
+    let image = use_of g.K.Sink.held g.K.Sink.faults c.args.image.now c.perform-performed.new.image in
+    let notes = use_of g.N.Sink.held g.N.Sink.faults c.args.notes.now c.finish_of.new.notes in
+    let finished = subst (λ n. IsFinished (use_of g.N.Sink.held g.N.Sink.faults n c.finish_of.new.notes) c.perform-performed.result c.finish_of.result) c.in-Ok.ensures.unnoted c.finish_of.ensures.finished in
+    let ran = ran_by c.args.words.now c.in-Ok.job c.in-Ok.ensures.job source image notes c.finish_of.result c.perform-performed.result finished c.perform-performed.ensures.done c.perform-performed.ensures.refused in
+    headline c.ordered_records_show_one_image.ensures c.args.words.now source image notes _ _ ran
+
+pub returns-clause-ran : goal.returns-clause-ran
+returns-clause-ran g c =
+    let source = use_of g.S.Source.left g.S.Source.faults c.args.source.now c.perform-performed.new.source in
+    let image = use_of g.K.Sink.held g.K.Sink.faults c.args.image.now c.perform-performed.new.image in
+    let notes = use_of g.N.Sink.held g.N.Sink.faults c.args.notes.now c.finish_of.new.notes in
+    let finished = subst (λ n. IsFinished (use_of g.N.Sink.held g.N.Sink.faults n c.finish_of.new.notes) c.perform-performed.result c.finish_of.result) c.in-Ok.ensures.unnoted c.finish_of.ensures.finished in
+    let ran = ran_by c.args.words.now c.in-Ok.job c.in-Ok.ensures.job source image notes c.finish_of.result c.perform-performed.result finished c.perform-performed.ensures.done c.perform-performed.ensures.refused in
+    ran
+
+pub returns-clause-exact : goal.returns-clause-exact
+returns-clause-exact g c =
+    let source = use_of g.S.Source.left g.S.Source.faults c.args.source.now c.perform-performed.new.source in
+    let image = use_of g.K.Sink.held g.K.Sink.faults c.args.image.now c.perform-performed.new.image in
+    let notes = use_of g.N.Sink.held g.N.Sink.faults c.args.notes.now c.finish_of.new.notes in
+    let finished = subst (λ n. IsFinished (use_of g.N.Sink.held g.N.Sink.faults n c.finish_of.new.notes) c.perform-performed.result c.finish_of.result) c.in-Ok.ensures.unnoted c.finish_of.ensures.finished in
+    let ran = ran_by c.args.words.now c.in-Ok.job c.in-Ok.ensures.job source image notes c.finish_of.result c.perform-performed.result finished c.perform-performed.ensures.done c.perform-performed.ensures.refused in
+    answered c.lines_have_one_reading.ensures c.findings_are_one.ensures c.args.words.now source image notes _ _ ran
+
+pub returns-clause-permitted : goal.returns-clause-permitted
+returns-clause-permitted g c =
+    let source = use_of g.S.Source.left g.S.Source.faults c.args.source.now c.perform-performed.new.source in
+    let image = use_of g.K.Sink.held g.K.Sink.faults c.args.image.now c.perform-performed.new.image in
+    let notes = use_of g.N.Sink.held g.N.Sink.faults c.args.notes.now c.finish_of.new.notes in
+    let finished = subst (λ n. IsFinished (use_of g.N.Sink.held g.N.Sink.faults n c.finish_of.new.notes) c.perform-performed.result c.finish_of.result) c.in-Ok.ensures.unnoted c.finish_of.ensures.finished in
+    let ran = ran_by c.args.words.now c.in-Ok.job c.in-Ok.ensures.job source image notes c.finish_of.result c.perform-performed.result finished c.perform-performed.ensures.done c.perform-performed.ensures.refused in
+    permits c.ordered_records_show_one_image.ensures c.args.words.now source image notes _ _ ran
+
+pub returns-clause-memory : goal.returns-clause-memory
+returns-clause-memory g c =
+    let source = use_of g.S.Source.left g.S.Source.faults c.args.source.now c.perform-performed.new.source in
+    let image = use_of g.K.Sink.held g.K.Sink.faults c.args.image.now c.perform-performed.new.image in
+    let notes = use_of g.N.Sink.held g.N.Sink.faults c.args.notes.now c.finish_of.new.notes in
+    let finished = subst (λ n. IsFinished (use_of g.N.Sink.held g.N.Sink.faults n c.finish_of.new.notes) c.perform-performed.result c.finish_of.result) c.in-Ok.ensures.unnoted c.finish_of.ensures.finished in
+    left_by c.args.words.now c.in-Ok.job c.in-Ok.ensures.job source image notes c.finish_of.result c.perform-performed.result finished c.perform-performed.ensures.part
+
+pub returns-clause-silent : goal.returns-clause-silent
+returns-clause-silent g c =
+    let source = use_of g.S.Source.left g.S.Source.faults c.args.source.now c.perform-performed.new.source in
+    let image = use_of g.K.Sink.held g.K.Sink.faults c.args.image.now c.perform-performed.new.image in
+    let notes = use_of g.N.Sink.held g.N.Sink.faults c.args.notes.now c.finish_of.new.notes in
+    let finished = subst (λ n. IsFinished (use_of g.N.Sink.held g.N.Sink.faults n c.finish_of.new.notes) c.perform-performed.result c.finish_of.result) c.in-Ok.ensures.unnoted c.finish_of.ensures.finished in
+    silent_by c.args.words.now c.in-Ok.job c.in-Ok.ensures.job source image notes c.finish_of.result c.perform-performed.result finished c.perform-performed.ensures.done
+    (subst (λ n. IfOk c.perform-performed.result (λ told. told.lines ≡ [] → c.finish_of.new.notes ≡ n)) c.in-Ok.ensures.unnoted c.finish_of.ensures.silent)

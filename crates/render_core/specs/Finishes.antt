@@ -1,0 +1,26 @@
+-- How a run ends that has told what it had to tell.
+use Rattle.std.specs.Prelude.{◌≡◌, ◌⊎◌, List, MatchResult, None}
+use Rattle.std.specs.declared.result.Result.{Result}
+use Rattle.std.specs.declared.string.String.{String}
+use Rattle.std.specs.Global.{Global}
+use Rattle.rc_base.specs.Outside.Ends.{Used, Noted}
+use Rattle.render_core.specs.declared.job.Job.{Job}
+use Rattle.render_core.specs.declared.refusal.Refused.{Refused}
+use Rattle.render_core.specs.declared.run_job.Finish.{Finish}
+use Rattle.render_core.specs.declared.writing.Told.{Told}
+use Rattle.render_core.specs.Jobs.{IsJob, IsLine}
+use Rattle.render_core.specs.Lines.{memory_line, usage_line}
+use Rattle.render_core.specs.Refusals.{kept_for, IsConcluded, IsRefusalTold}
+
+-- The words name no job, or there was no memory for the line that they are.
+pub record IsJobless (words : List (String Global)) (notes : Used) (finish : Finish) : Type 0 where
+  pub unkept : finish.kept ≡ None
+  pub why : ((finish.status ≡ 1) × ((job : Job) → IsJob words job → ⊥) × Noted notes usage_line)
+      ⊎ ((finish.status ≡ 7) × IsLine words × Noted notes memory_line)
+
+-- the run ends as its job was carried out or refused
+abbrev pub IsFinished : Used → Result Told Refused → Finish → Type 0
+IsFinished notes performed finish =
+    MatchResult performed
+    (λ told. IsConcluded notes told finish.status × (finish.kept ≡ told.kept))
+    (λ refused. IsRefusalTold notes refused.refusal finish.status × (finish.kept ≡ kept_for finish.status refused.kept))

@@ -1,0 +1,14 @@
+//! Tests of the cluster on threads: that gates choose which client a tile takes first, that clients run at once, and many runs in which nothing, or all
+//! that matters, is ordered.
+//!
+//! Each test calls public items alone, and stands here so that none of those crates is proved twice.
+#![tactic(auto)]
+
+#[cfg(test)]
+mod gates;
+#[cfg(test)]
+mod racy;
+#[cfg(test)]
+mod rendering;
+#[cfg(test)]
+mod semaphores;

@@ -1,0 +1,190 @@
+//! Scenes in which nothing is ordered, on as many tiles and by as many clients as there may be: each record is lawful, and each picture its record's.
+ghost use Rattle.rc_base.specs.Formats.Within.{IsWithin};
+ghost use Rattle.order_model.specs.Sent.{IsRecordOf};
+
+use crate::rendering::packed;
+use bounds_bucket::{layout, tile_rect};
+use cluster_run::run_threads;
+use order_model::laws::scenes_within_limits;
+use order_model::record::Record;
+use order_model::{is_permitted, tile_order};
+use rc_base::gate::OpenGate;
+use rc_base::image::{Frames, Image};
+use rc_base::in_memory::MemSink;
+use rc_base::out_of_memory::OutOfMemory;
+use rc_base::scene::Scene;
+use rc_base::window::{Layout, Rect};
+use scene_file::read_scene;
+use serial_render::render_order;
+use std::alloc::Global;
+use std::process::Abort;
+use std::sync::Wait;
+use std::thread::Threads;
+
+const WIDTH: usize = 16;
+
+const HEIGHT: usize = 8;
+
+// The next number of a simple generator.
+fn next(state: u32) -> u32 {
+    state.wrapping_mul(1_664_525).wrapping_add(1_013_904_223)
+}
+
+// A coordinate between -1.5 and 1.5.
+fn coordinate(state: u32) -> i64 {
+    (state >> 8) as i64 % 196_608 - 98_304
+}
+
+// Eight clients that blend triangles over one another, and swap twice.
+fn racy(rt: &impl Abort, alloc: Global, seed: u32) -> Vec<u8> {
+    let mut text = Vec::from_slice(alloc, b"scene 1 16 8\n").expect(rt, "memory");
+    let mut state = next(seed);
+    for client in 0..8u32 {
+        text.extend_from_slice(b"client\nEnable 3\nBlendFunc 6 7\n")
+            .expect(rt, "memory");
+        for _ in 0..2 {
+            for _ in 0..3 {
+                let red = client * 36;
+                let green = next(state) >> 24;
+                let color = format!(in alloc; "Color {red} {green} 128 160\nBegin 0\n").expect(
+                    rt, "memory",
+                );
+                text.extend_from_slice(color.as_bytes())
+                    .expect(rt, "memory");
+                for _ in 0..3 {
+                    state = next(state);
+                    let x = coordinate(state);
+                    state = next(state);
+                    let y = coordinate(state);
+                    let vertex = format!(in alloc; "Vertex {x} {y} 0 65536\n").expect(rt, "memory");
+                    text.extend_from_slice(vertex.as_bytes())
+                        .expect(rt, "memory");
+                }
+                text.extend_from_slice(b"End\n").expect(rt, "memory");
+            }
+            text.extend_from_slice(b"Swap\n").expect(rt, "memory");
+        }
+    }
+    text
+}
+
+// The row of a picture, from the top, in which row y from the bottom stands.
+fn from_top(y: i32) -> usize {
+    (HEIGHT as i32 - 1).saturating_sub(y).max(0) as usize
+}
+
+// Whether a frame has, inside the rectangle, the pixels of these r, g, b bytes, rows from the top.
+fn is_same_inside(frame: &Image, shown: &[u8], rect: Rect) -> bool {
+    for y in rect.y0..rect.y1 {
+        for x in rect.x0..rect.x1 {
+            let at = 3 * (from_top(y) % HEIGHT * WIDTH + x.max(0) as usize % WIDTH);
+            if frame.rgb.as_slice().get(at..at + 3) != shown.get(at..at + 3) {
+                return false;
+            }
+        }
+    }
+    true
+}
+
+// The r, g, b bytes of a frame in the text of all.
+fn shown_in(image: &[u8], frame: usize) -> &[u8] {
+    let header = b"P6\n16 8\n255\n".len();
+    let size = 3 * WIDTH * HEIGHT;
+    let first = frame % 8 * (header + size) + header;
+    match image.get(first..first + size) {
+        Some(bytes) => bytes,
+        None => &[],
+    }
+}
+
+// Whether the frames have, in the tile's rectangle, what the image shows.
+fn is_shown(frames: &[Image], layout: &Layout, tile: u8, image: &[u8]) -> bool {
+    let mut same = frames.len() == 2;
+    for frame in 0..frames.len() {
+        same &= is_same_inside(
+            &frames[frame],
+            shown_in(image, frame),
+            tile_rect(layout, tile),
+        );
+    }
+    same
+}
+
+// What the serial renderer draws in the order that the tile recorded; nothing where the journal doesn't permit that order.
+fn redrawn(
+    alloc: Global,
+    scene: &Scene,
+    layout: &Layout,
+    kept: &Record,
+    tile: u8,
+) -> Result<Frames, OutOfMemory>
+    requires within { IsWithin scene.now }
+    requires lawful { IsRecordOf scene.now layout.now kept.now }
+{
+    scenes_within_limits();
+    let order = tile_order(alloc, kept, tile)?;
+    let permitted = is_permitted(&order, &kept.journal, &kept.syncs);
+    if !permitted {
+        return Ok(Frames::new(alloc));
+    }
+    render_order(alloc, scene, &kept.journal, &order)
+}
+
+// Whether the run's image is, in each tile's rectangle, what the serial renderer draws in the order that this tile recorded.
+fn is_redrawn(
+    alloc: Global,
+    scene: &Scene,
+    layout: &Layout,
+    kept: &Record,
+    image: &[u8],
+) -> Result<bool, OutOfMemory>
+    requires within { IsWithin scene.now }
+    requires lawful { IsRecordOf scene.now layout.now kept.now }
+{
+    let mut same = kept.logs.len() == 32;
+    for tile in 0..32u8 {
+        let frames = redrawn(alloc, scene, layout, kept, tile)?;
+        same &= is_shown(frames.as_slice(), layout, tile, image);
+    }
+    Ok(same)
+}
+
+// Whether a run of the scene, over lanes of this depth, shows what its record tells.
+fn is_right<R>(rt: R, alloc: Global, scene: &Scene, depth: u64) -> bool
+where
+    R: Abort + Threads + Wait + Copy + Send + Sync + Drop,
+    requires { IsWithin scene.now }
+{
+    if scene.decl.width != WIDTH as u16 || scene.decl.height != HEIGHT as u16 {
+        return false;
+    }
+    let Ok(layout) = layout(scene.decl.width, scene.decl.height, 8, 4, depth) else {
+        return false;
+    };
+    let mut image = MemSink::new(alloc, 4096, &[]).expect(&rt, "memory");
+    let run = run_threads(
+        rt,
+        alloc,
+        scene,
+        &layout,
+        depth as usize,
+        &OpenGate,
+        &mut image,
+    )
+    .expect(&rt, "memory");
+    !run.written.fault
+        && run.written.bytes == image.bytes().len() as u64
+        && is_redrawn(alloc, scene, &layout, &run.kept, image.bytes()).expect(&rt, "memory")
+}
+
+#[test]
+fn each_tile_shows_what_it_recorded(rt: HostRuntime) {
+    for seed in 0..10u32 {
+        let text = racy(&rt, rt.alloc(), seed);
+        let bytes = packed(rt, rt.alloc(), text.as_slice());
+        let scene = read_scene(rt.alloc(), bytes.bytes()).expect(&rt, "a scene");
+        for depth in [1, 2, 16] {
+            assert!(rt; is_right(rt, rt.alloc(), &scene, depth));
+        }
+    }
+}

@@ -1,0 +1,73 @@
+//! Runs of `render` on ends in memory.
+use rc_base::gate::{Gate, OpenGate};
+use rc_base::in_memory::{MemSink, MemSource};
+use render_core::{Finish, run};
+use std::alloc::Global;
+use std::process::Abort;
+use std::sync::Wait;
+use std::thread::Threads;
+
+/// The words of a command line.
+fn words(rt: &impl Abort, alloc: Global, words: &[&str]) -> Vec<String> {
+    let mut all = Vec::new(alloc);
+    for word in words {
+        let word = String::from_str(alloc, *word).expect(rt, "memory");
+        all.push(word).expect(rt, "memory");
+    }
+    all
+}
+
+fn source(rt: &impl Abort, alloc: Global, input: &[u8]) -> MemSource {
+    MemSource::new(alloc, input, 4096, &[]).expect(rt, "memory")
+}
+
+fn sink(rt: &impl Abort, alloc: Global) -> MemSink {
+    MemSink::new(alloc, 4096, &[]).expect(rt, "memory")
+}
+
+/// What a run leaves.
+#[derive(Drop)]
+pub(crate) struct Left {
+    pub(crate) finish: Finish,
+    pub(crate) image: MemSink,
+    pub(crate) notes: MemSink,
+}
+
+/// What the job of the words leaves of a scene's bytes. The contract says nothing, so that a test is proved without that of `run`.
+pub(crate) fn left_by<G: Gate, R>(
+    rt: R,
+    alloc: Global,
+    job: &[&str],
+    bytes: &[u8],
+    gate: &G,
+) -> Left
+where
+    R: Abort + Threads + Wait + Copy + Send + Sync + Drop,
+{
+    let words = words(&rt, alloc, job);
+    let mut from = source(&rt, alloc, bytes);
+    let mut image = sink(&rt, alloc);
+    let mut notes = sink(&rt, alloc);
+    let finish = run(
+        rt,
+        alloc,
+        words.as_slice(),
+        &mut from,
+        &mut image,
+        &mut notes,
+        gate,
+    );
+    Left {
+        finish,
+        image,
+        notes,
+    }
+}
+
+/// The bytes of the scene of a text.
+pub(crate) fn packed<R>(rt: R, alloc: Global, text: &[u8]) -> MemSink
+where
+    R: Abort + Threads + Wait + Copy + Send + Sync + Drop,
+{
+    left_by(rt, alloc, &["pack"], text, &OpenGate).image
+}

@@ -1,0 +1,24 @@
+-- Lists of tasks, one after another.
+use Rattle.std.proofs.Common.{◌≡◌, ◌<◌, ℕ, true, List, length, get_or, ◌∙◌, arith}
+use Rattle.rc_base.specs.Lists.{ArePaired}
+use Rattle.rc_base.proofs.Paired.{some_item}
+use Rattle.worker_crew.specs.Tasks.{IsTask, HasEnded, GoOn}
+use Rattle.worker_crew.specs.declared.task.Task.{Task}
+
+module _ {W : Type 0} (leads : W → W → Type 0) (over : W → Type 0) where
+  -- started, joined, and then stepped to their ends
+  pub all_ended : {S : Type 0} (R : W → S → Type 0) (ws : List W) (ss : List S) (ts us : List (Task W)) → ArePaired (λ i w s. R w s) ws ss
+      → ArePaired (λ i s t. (w : W) → R w s → IsTask leads over w t) ss ts → GoOn leads over ts us
+      → ((i : ℕ) (d : Task W) → i < length us → (get_or us i d).ended ≡ true) → ArePaired (λ i w t. HasEnded leads over w t) ws us
+  all_ended R ws ss ts us began joins goes ends = record {
+    count = goes.count ∙ joins.count ∙ began.count;
+    at = λ i w u low.
+        let a = began.count in
+        let b = joins.count in
+        let e = goes.count in
+        let s_low : i < length ss = omega arith in
+        let t_low : i < length ts = omega arith in
+        let s = some_item ss i s_low in
+        let t = goes.at i u t_low _ (joins.at i s u s_low _ (began.at i w s low)) in
+        record { led = t.led; over_is = t.ends (ends i u (omega arith)) };
+  }

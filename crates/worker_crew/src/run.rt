@@ -1,0 +1,76 @@
+//! A crew's run, with nothing for the caller to do meanwhile.
+ghost use Rattle.std.specs.Prelude.{IfOk};
+ghost use Rattle.worker_crew.specs.Crews.{HaveEnded};
+
+use crate::crew::Crew;
+use crate::foreground::Idle;
+use crate::ready::{Ready, prepare};
+use crate::scope::run_crew;
+use crate::task::Task;
+use crate::worker::Worker;
+use crossbeam_utils::CachePadded;
+use rc_base::gate::Gate;
+use rc_base::out_of_memory::OutOfMemory;
+use std::alloc::Global;
+use std::sync::Wait;
+use std::sync::atomic::AtomicBool;
+use std::thread;
+use std::thread::Threads;
+
+/// So many flags that aren't set.
+fn new_flags(alloc: Global, count: usize) -> Result<Vec<CachePadded<AtomicBool>>, OutOfMemory> {
+    let mut flags = Vec::new(alloc);
+    for _ in 0..count {
+        flags.push(CachePadded::new(AtomicBool::new(false)))?;
+    }
+    Ok(flags)
+}
+
+/// Runs a crew to its end with these flags.
+fn run_with<A, B, C, G, R>(
+    rt: R,
+    gate: &G,
+    flags: &[CachePadded<AtomicBool>],
+    ready: Ready<A, B, C>,
+) -> Crew<Task<A>, Task<B>, Task<C>>
+where
+    A: Worker + Drop + Send,
+    B: Worker + Drop + Send,
+    C: Worker + Drop + Send,
+    G: Gate,
+    R: Threads + Wait + Copy + Send,
+    ensures { HaveEnded A.leads A.over B.leads B.over C.leads C.over ready.crew result }
+{
+    thread::scope(
+        thread::scope_env(),
+        &rt,
+        |scope| -> Crew<Task<A>, Task<B>, Task<C>>
+            ensures { HaveEnded A.leads A.over B.leads B.over C.leads C.over ready.crew result }
+        {
+            let mut idle = Idle;
+            run_crew(scope, rt, gate, flags, ready, &mut idle)
+        },
+    )
+}
+
+/// Runs a crew to its end, each worker in a thread of its own where one can be made. The others are stepped by the caller. All memory is taken before
+/// the first start.
+pub fn run_to_end<A, B, C, G, R>(
+    rt: R,
+    alloc: Global,
+    gate: &G,
+    crew: Crew<A, B, C>,
+) -> Result<Crew<Task<A>, Task<B>, Task<C>>, OutOfMemory>
+where
+    A: Worker + Drop + Send,
+    B: Worker + Drop + Send,
+    C: Worker + Drop + Send,
+    G: Gate,
+    R: Threads + Wait + Copy + Send,
+    ensures { IfOk result (λ tasks. HaveEnded A.leads A.over B.leads B.over C.leads C.over crew tasks) }
+{
+    let count = crew.clients.len().saturating_add(crew.tiles.len());
+    let flags = new_flags(alloc, count.saturating_add(1))?;
+    let ready = prepare(alloc, crew)?;
+    Ok(run_with(rt, gate, &flags, ready))
+}

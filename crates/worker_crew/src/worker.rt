@@ -1,0 +1,39 @@
+//! What a worker is.
+ghost use Rattle.std.specs.Prelude.{◌≡◌};
+ghost use Rattle.worker_crew.specs.declared.worker.Attempt.TheVariants as attempt;
+
+use rc_base::gate::Actor;
+
+/// What an attempt of a step came to.
+#[derive(Clone, Copy, Debug, PartialEq, Eq)]
+pub enum Attempt {
+    /// The worker moved.
+    Moved,
+    /// Nothing could be done, since a lane that it waits for was full or empty.
+    Blocked,
+    /// Nothing is left to do.
+    Ended,
+}
+
+/// An actor of a cluster, with its own ends of lanes.
+pub trait Worker {
+    /// What any number of steps may make of it.
+    ghost leads: { Self → Self → Type 0 };
+
+    /// It has nothing left to do.
+    ghost over: { Self → Type 0 };
+
+    /// Which actor it is.
+    fn actor(&self) -> Actor;
+
+    /// Tries one step.
+    fn step(&mut self) -> Attempt
+        ensures leads { leads self.old self.new }
+        ensures over { result ≡ attempt.Ended → over self.new };
+
+    /// No step at all is a number of steps.
+    ghost stays: { (a : Self) → leads a a };
+
+    /// Steps after steps are steps.
+    ghost goes_on: { (a b c : Self) → leads a b → leads b c → leads a c };
+}
