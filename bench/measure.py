@@ -1,6 +1,7 @@
 """Runs the program on the scenes of scenes.py and prints processor seconds, memory and ratios. run.sh calls it.
 
-Drawing is that of `serial`; what the stepped cluster takes is its `render` to that. What reading takes is measured on the same scene with a width of 0, which is refused after it was read; drawing is the scene without swaps less that,
+Drawing is that of `serial`; what the stepped cluster takes is `simulate` to that, and what the cluster on threads takes is `render` to both, by the clock
+and in processor seconds. What reading takes is measured on the same scene with a width of 0, which is refused after it was read; drawing is the scene without swaps less that,
 and writing what the swaps add. Mesa prints its own seconds of drawing, those of all its threads together. Processor seconds are user and system time, so that
 what else the machine does counts little.
 
@@ -9,6 +10,7 @@ Where the program sort_report is built (SORT_REPORT names another place), what i
 import os
 import subprocess
 import sys
+import time
 
 program, scenes, work = sys.argv[1:]
 mesa = os.path.join(work, "mesa")
@@ -44,6 +46,20 @@ def best_of(command, scene, output=os.devnull):
             seconds = usage.ru_utime + usage.ru_stime
         if best is None or seconds < best[0]:
             best = (seconds, usage.ru_maxrss / 1024, os.waitstatus_to_exitcode(status))
+    return best
+
+
+def clocked(command, scene, times=5, environment=None):
+    """The least of so many runs by the clock: seconds by the clock, processor seconds of all threads, and the status."""
+    best = None
+    for _ in range(times):
+        with open(scene, "rb") as source:
+            begun = time.perf_counter()
+            child = subprocess.Popen(command, stdin=source, stdout=subprocess.DEVNULL, stderr=subprocess.DEVNULL, env=environment)
+            _, status, usage = os.wait4(child.pid, 0)
+            seconds = time.perf_counter() - begun
+        if best is None or seconds < best[0]:
+            best = (seconds, usage.ru_utime + usage.ru_stime, os.waitstatus_to_exitcode(status))
     return best
 
 
@@ -116,6 +132,7 @@ def main():
     show("1,048,576 commands, check", commands)
     print(f"reading them : checking them = 1 : {(commands[0] - unread[0]) / unread[0]:.1f}")
     cluster_ratios()
+    thread_ratios()
     if os.path.exists(sorter):
         sort_ratios()
 
@@ -129,21 +146,45 @@ def told(words, scene):
 
 
 def cluster_ratios():
-    """Seconds of the stepped cluster to those of the serial renderer, and what goes over its lanes."""
+    """Processor seconds of the stepped cluster to those of the serial renderer, and what goes over its lanes."""
     for name in (("usual",), ("usual", "4"), ("fill",), ("small",)):
         scene = path(*name)
         serial = run("serial", scene)[0]
-        print(f"serial : cluster on {' '.join(name)} = 1 :", end="")
+        print(f"serial : stepped cluster on {' '.join(name)} = 1 :", end="")
         for tiles in ("1x1", "2x2", "4x4", "8x4"):
-            seconds, _, status = run(f"render --tiles {tiles}", scene)
+            seconds, _, status = run(f"simulate --seed 1 --tiles {tiles}", scene)
             ratio = f"{seconds / serial:.2f}" if status == 0 else f"status {status}"
             print(f"  {tiles} {ratio}", end="", flush=True)
-        parcels, sets = told("render --tiles 4x4", scene)
+        parcels, sets = told("simulate --seed 1 --tiles 4x4", scene)
         print(f"   (4x4: {parcels} parcels, {sets} sets, of {os.path.getsize(scene) / 1e6:.1f} MB)", flush=True)
     gives = path("gives")
-    seconds, memory, status = run("render --tiles 8x4", gives)
-    parcels, _ = told("render --tiles 8x4", gives)
+    seconds, memory, status = run("simulate --seed 1 --tiles 8x4", gives)
+    parcels, _ = told("simulate --seed 1 --tiles 8x4", gives)
     print(f"much synchronisation, 8x4: {seconds:.2f} s, {seconds / max(parcels, 1) * 1e9:.0f} ns a parcel, {memory:.1f} MB, status {status}", flush=True)
+
+
+def thread_ratios():
+    """The cluster on threads beside the serial renderer, the stepped cluster and Mesa, by the clock and in processor seconds of all threads.
+
+    Mesa reads and draws the same scene, and writes no image.
+    """
+    print(f"\non {os.cpu_count()} processors, by the clock (and all processors together):")
+    for name, tiles in ((("usual", "4"), "4x3"), (("fill",), "4x4"), (("small",), "4x4")):
+        scene = path(*name)
+        serial, threads = clocked([program, "serial"], scene), clocked([program, "render", "--tiles", tiles], scene)
+        line = f"{' '.join(name):<10} serial {serial[0]:.3f} s   render {tiles} {threads[0]:.3f} s ({threads[1]:.3f})   render : serial = {threads[0] / serial[0]:.2f} : 1"
+        if os.path.exists(mesa):
+            for driver in ("softpipe", "llvmpipe"):
+                peer = clocked([mesa], scene, environment=dict(os.environ, GALLIUM_DRIVER=driver))
+                line += f"   {driver} {peer[0]:.3f} s ({peer[1]:.3f})"
+        print(line, flush=True)
+    made = os.path.join(work, "generated.rcs")
+    with open(made, "wb") as file:
+        subprocess.run([program, "gen", "--seed", "1", "--size", "1024"], check=True, stdout=file)
+    for name, scene, words in (("gen, 1,024 rounds", made, "--tiles 8x4 --depth 1"), ("gives", path("gives"), "--tiles 8x4")):
+        threads = clocked([program, "render", *words.split()], scene)
+        stepped = clocked([program, "simulate", "--seed", "1", *words.split()], scene)
+        print(f"{name}, {words}: render {threads[0]:.3f} s ({threads[1]:.3f})   simulate {stepped[0]:.3f} s   render : simulate = {threads[0] / stepped[0]:.2f} : 1", flush=True)
 
 
 def sort_ratios():

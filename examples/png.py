@@ -52,4 +52,5 @@ def main():
         print(name)
 
 
-main()
+if __name__ == "__main__":
+    main()
