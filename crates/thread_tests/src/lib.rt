@@ -1,5 +1,5 @@
-//! Tests of the cluster on threads: that gates choose which client a tile takes first, that clients run at once, and many runs in which nothing, or all
-//! that matters, is ordered.
+//! Tests of the cluster on threads: that gates choose which client a tile takes first, that clients run at once, and many runs in which nothing is
+//! ordered.
 //!
 //! Each test calls public items alone, and stands here so that none of those crates is proved twice.
 #![tactic(auto)]
@@ -10,5 +10,3 @@ mod gates;
 mod racy;
 #[cfg(test)]
 mod rendering;
-#[cfg(test)]
-mod semaphores;

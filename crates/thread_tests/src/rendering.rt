@@ -30,7 +30,6 @@ fn sink(rt: &impl Abort, alloc: Global) -> MemSink {
 pub(crate) struct Left {
     pub(crate) finish: Finish,
     pub(crate) image: MemSink,
-    pub(crate) notes: MemSink,
 }
 
 /// What the job of the words leaves of a scene's bytes. The contract says nothing, so that a test is proved without that of `run`.
@@ -57,11 +56,7 @@ where
         &mut notes,
         gate,
     );
-    Left {
-        finish,
-        image,
-        notes,
-    }
+    Left { finish, image }
 }
 
 /// The bytes of the scene of a text.
