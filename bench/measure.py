@@ -131,10 +131,26 @@ def main():
     commands, unread = run("check", path("commands")), run("render", path("commands", "unread"))
     show("1,048,576 commands, check", commands)
     print(f"reading them : checking them = 1 : {(commands[0] - unread[0]) / unread[0]:.1f}")
+    state_ratios()
     cluster_ratios()
     thread_ratios()
     if os.path.exists(sorter):
         sort_ratios()
+
+
+def state_ratios():
+    """What a pixel of a full window takes in each state, and its ratio to blending by SRC_ALPHA, ONE_MINUS_SRC_ALPHA."""
+    names = subprocess.run([sys.executable, scenes, "ways"], check=True, stdout=subprocess.PIPE, text=True).stdout.splitlines()
+    read = run("serial", path("way", "0", "unread"))[0]
+    pixels = {}
+    for n, name in enumerate(names):
+        drawn = run("serial", path("way", str(n), "noswap"))[0]
+        os.remove(path("way", str(n), "noswap"))
+        pixels[name] = max(drawn - read, 0.0) / (40 * PIXELS)
+    over = pixels["SRC_ALPHA, ONE_MINUS_SRC_ALPHA"]
+    print("\na pixel in each state: ns, and to SRC_ALPHA, ONE_MINUS_SRC_ALPHA")
+    for name, seconds in pixels.items():
+        print(f"{name:<64} {seconds * 1e9:6.2f} {seconds / over:6.2f}", flush=True)
 
 
 def told(words, scene):

@@ -11,6 +11,9 @@
     tested              the same with the depth test, each window nearer than the one before.
     blended             the same, blended by SRC_ALPHA, ONE_MINUS_SRC_ALPHA.
     small [TRIANGLES]   1024 by 768, one frame of 100,000 triangles of 8 by 8 pixels, a colour for each.
+    ways                no scene, but the names of the states that `way` draws in, one a line.
+    way N               1024 by 768, 40 full windows of four colours in the Nth of these states: no stage, each pair of blend factors, each function
+                        of both tests, colour masks, and the same with a texture.
     state               512 by 512, 20,000 small draws with state that changes between them.
     depth               1024 by 768, 2,000 overlapping triangles of some 200 by 200 pixels with depth test, colours interpolated.
     clears [SIDE] [N]   SIDE by SIDE (2,048), N (8) clears and swaps.
@@ -24,10 +27,10 @@ import struct
 import sys
 
 BEGIN, END, VERTEX, COLOR, TEX_COORD, ENABLE, DISABLE = 1, 2, 3, 4, 5, 6, 7
-DEPTH_FUNC, BLEND_FUNC, CLEAR_COLOR, CLEAR = 0x12, 0x14, 0x16, 0x18
-TEX_ENV, TEX_IMAGE, BARRIER, SEM_P, SEM_V, SWAP = 0x1C, 0x1E, 0x21, 0x22, 0x23, 0x24
+ALPHA_FUNC, DEPTH_FUNC, BLEND_FUNC, COLOR_MASK, CLEAR_COLOR, CLEAR = 0x11, 0x12, 0x14, 0x15, 0x16, 0x18
+TEX_ENV, TEX_WRAP, TEX_IMAGE, BARRIER, SEM_P, SEM_V, SWAP = 0x1C, 0x1D, 0x1E, 0x21, 0x22, 0x23, 0x24
 TRIANGLES, STRIP = 0, 1
-DEPTH_TEST, BLEND, TEXTURE = 2, 3, 5
+ALPHA_TEST, DEPTH_TEST, BLEND, TEXTURE = 1, 2, 3, 5
 SRC_ALPHA, ONE_MINUS_SRC_ALPHA = 6, 7
 ONE = 65536
 
@@ -151,6 +154,51 @@ def windows(setup, colors, nearer=False):
     return make
 
 
+FACTORS = (
+    "ZERO ONE SRC_COLOR ONE_MINUS_SRC_COLOR DST_COLOR ONE_MINUS_DST_COLOR SRC_ALPHA ONE_MINUS_SRC_ALPHA DST_ALPHA ONE_MINUS_DST_ALPHA".split()
+)
+FUNCTIONS = "NEVER LESS EQUAL LEQUAL GREATER NOTEQUAL GEQUAL ALWAYS".split()
+
+
+def blending(first, second):
+    return [byte_fields(ENABLE, BLEND), byte_fields(BLEND_FUNC, first, second)]
+
+
+def texturing(environment, wrap):
+    rng = random.Random(3)
+    texels = bytes(rng.randrange(256) for _ in range(4 * 64 * 64))
+    image = (TEX_IMAGE, struct.pack("<BHH", 1, 64, 64) + texels)
+    return [image, byte_fields(ENABLE, TEXTURE), byte_fields(TEX_ENV, environment), byte_fields(TEX_WRAP, wrap, wrap)]
+
+
+def state_table():
+    """The states of `way`: name, commands that set the state, whether there is a texture."""
+    plain = [("no stage", [], False)]
+    pairs = [(f"{FACTORS[a]}, {FACTORS[b]}", blending(a, b), False) for a in range(10) for b in range(10)]
+    tests = [(f"depth {FUNCTIONS[f]}", [byte_fields(ENABLE, DEPTH_TEST), byte_fields(DEPTH_FUNC, f)], False) for f in range(8)]
+    alpha = [byte_fields(ENABLE, ALPHA_TEST)]
+    tests += [(f"alpha {FUNCTIONS[f]}", alpha + [byte_fields(ALPHA_FUNC, f, 160)], False) for f in range(8)]
+    tests += [("alpha GREATER, depth LESS", alpha + [byte_fields(ALPHA_FUNC, 4, 100), byte_fields(ENABLE, DEPTH_TEST)], False)]
+    flags = [tuple(n >> bit & 1 for bit in range(4)) for n in range(15)]
+    masks = [("mask " + "".join(map(str, f)), [byte_fields(COLOR_MASK, *f)], False) for f in flags]
+    masks += [("mask 1010, SRC_ALPHA, ONE_MINUS_SRC_ALPHA", blending(6, 7) + [byte_fields(COLOR_MASK, 1, 0, 1, 0)], False)]
+    textured = []
+    for name, environment, wrap in (("MODULATE", 0, 0), ("REPLACE", 1, 0), ("MODULATE by CLAMP", 0, 1)):
+        setup = texturing(environment, wrap)
+        textured.append((f"texture {name}", setup, True))
+        textured += [(f"texture {name}, {FACTORS[a]}, {FACTORS[b]}", setup + blending(a, b), True) for a, b in ((6, 7), (6, 1), (4, 0), (1, 7))]
+        textured.append((f"texture {name}, alpha GREATER", setup + alpha + [byte_fields(ALPHA_FUNC, 4, 100)], True))
+    return plain + pairs + tests + masks + textured
+
+
+def way(numbers, swap, corners):
+    name, setup, texture = state_table()[numbers[0]]
+    commands = list(setup)
+    for i in range(40):
+        commands += window(corners, FOUR, z=60000 - 1000 * i, texture=texture)
+    return one_client(1024, 768, commands, swap)
+
+
 def small(numbers, swap, corners):
     count = numbers[0] if numbers else 100_000
     rng = random.Random(7)
@@ -237,6 +285,7 @@ SCENES = {
     "smooth": windows([], FOUR),
     "tested": windows([byte_fields(ENABLE, DEPTH_TEST)], FOUR, nearer=True),
     "blended": windows([byte_fields(ENABLE, BLEND), byte_fields(BLEND_FUNC, SRC_ALPHA, ONE_MINUS_SRC_ALPHA)], FOUR),
+    "way": way,
     "small": small,
     "state": state,
     "depth": depth,
@@ -250,8 +299,11 @@ def main():
     words = sys.argv[1:]
     options = {word for word in words if word in ("noswap", "nodraw")}
     words = [word for word in words if word not in options]
-    if not words or words[0] not in SCENES or not all(word.isdigit() for word in words[1:]):
+    if not words or words[0] not in [*SCENES, "ways"] or not all(word.isdigit() for word in words[1:]):
         sys.exit(__doc__)
+    if words[0] == "ways":
+        print("\n".join(name for name, _, _ in state_table()))
+        return
     data = SCENES[words[0]](list(map(int, words[1:])), "noswap" not in options, Corners("nodraw" not in options))
     sys.stdout.buffer.write(data)
 

@@ -18,8 +18,9 @@ use Rattle.raster.specs.declared.column.Column.{Column}
 use Rattle.fragment_ops.specs.DepthTests.{pixel}
 use Rattle.draw_device.specs.Pixels.{pixel_at, color_at, depth_at, pixels_of}
 use Rattle.draw_device.specs.Clips.{IsPartWhere, is_let_through}
-use Rattle.draw_device.specs.Columns.{place_in, column_fragment, IsColumnCovered, IsColumnStepped, IsColumnColored, IsColumnDrawn, IsRiseAt}
+use Rattle.draw_device.specs.Columns.{place_in, column_fragment, IsColumnCovered, IsColumnStepped, IsColumnColored, IsColumnDrawn, IsRiseAt, IsOnlyRun, column_of}
 use Rattle.draw_device.specs.Loops.{HasDepths, StoresColor}
+use Rattle.draw_device.specs.Plans.{AreStored}
 use Rattle.draw_device.proofs.Lists.{length_pixels, pixel_in}
 use Rattle.draw_device.proofs.Steps.{alone_step}
 use Rattle.draw_device.specs.Shapes.{column_at, row_at, grid_rect, fragment_pixel, covered_step, IsStepped}
@@ -215,6 +216,26 @@ covered_rows v part c x y n e low high =
     let d = n.low in
     let h = n.high in
     n.exact x y (omega (arith, ints)) (omega (arith, ints)) (omega (arith, ints)) (omega (arith, ints)) ∙ test_yes c x y e low high
+
+pub only_covered : (v : List WindowVertex) (g : Extent) (part : Rect) (r : ColumnRun) → IsOnlyRun v g part r → IsColumnCovered v r
+only_covered v g part r o k low high = covered_rows v part (column_of r) _ _ o.only refl (omega (arith, ints)) (omega (arith, ints))
+
+-- the rows of the only column lie in the grid
+pub only_room : (v : List WindowVertex) (g : Extent) (part : Rect) (r : ColumnRun) (n : ℕ) → IsOnlyRun v g part r → n ≡ g.width * g.height → r.to * r.width ≤ n
+only_room v g part r n o e =
+    subst (λ (m : ℕ). r.to * r.width ≤ m) (sym e) (subst (λ (w : ℕ). r.to * w ≤ g.width * g.height) (sym o.width) (rows_fit g.width g.height r.to o.top))
+
+-- a triangle of one column whose colours alone are stored
+pub only_drawn : (s : State) (p : Option Picture) (v : List WindowVertex) (g : Extent) (part : Rect) (r : ColumnRun) (f : ℕ → Rgba) (old new : List Rgba) (ds : List ℕ)
+    → IsPartWhere (grid_rect g) part (is_let_through s) → IsOnlyRun v g part r → AreStored s p v
+    → ((k : ℕ) → r.from ≤ k → k < r.to → f k ≡ (column_fragment v r k).color) → IsColumnColored f r r.to old new → length ds ≡ length old
+    → IsStepped (covered_step s p v) g (pixels_of old ds) (pixels_of new ds)
+only_drawn s p v g part r f old new ds w o st colors d e =
+    let drawn = column_stored s v f r old new st.alone st.ranged (only_covered v g part r o) colors d in
+    let inside : r.across < g.width = subst (λ (n : ℕ). r.across < n) o.width o.run.inside in
+    subst (λ (q : Option Picture). IsStepped (covered_step s q v) g (pixels_of old ds) (pixels_of new ds)) (sym st.none)
+    (column_drawn s None v g part w (column_of r) r (pixels_of old ds) (pixels_of new ds) o.only o.left o.bottom o.width inside
+    (λ i. pos (o.left i + r.across)) (λ i. pos (o.bottom i + r.from)) (λ i. pos (o.bottom i + r.to)) (drawn ds e))
 
 pub no_picture : (p : Option Picture) → is_some p ≡ false → p ≡ None
 no_picture None e = refl

@@ -7,3 +7,4 @@ pub mod Places
 mod Steps
 mod ColumnsToPixels
 mod Beside
+mod Codes

@@ -7,12 +7,16 @@ use Rattle.rc_base.specs.declared.command.Rgba.{Rgba}
 use Rattle.rc_base.specs.declared.state.State.{State}
 use Rattle.rc_base.specs.declared.window.Fragment.{Fragment}
 use Rattle.rc_base.specs.declared.window.Pixel.{Pixel}
+use Rattle.rc_base.specs.declared.window.Rect.{Rect}
 use Rattle.rc_base.specs.declared.window.WindowVertex.{WindowVertex}
 use Rattle.raster.specs.Colors.{IsColorRise}
+use Rattle.raster.specs.Spans.{IsOnlyColumn}
 use Rattle.raster.specs.declared.color.ColorRamp.{ColorRamp}
+use Rattle.raster.specs.declared.column.Column.{Column}
 use Rattle.draw_device.specs.Pixels.{pixel_at, color_at, pixels_of}
 use Rattle.draw_device.specs.Shapes.{fragment_pixel}
 use Rattle.draw_device.specs.declared.column_run.ColumnRun.{ColumnRun}
+use Rattle.draw_device.specs.declared.extent.Extent.{Extent}
 
 -- the index of the column's pixel in row k
 abbrev pub place_in : ColumnRun → ℕ → ℕ
@@ -31,6 +35,19 @@ pub record IsColumnRun (r : ColumnRun) : Type 0 where
 -- the triangle covers the rows
 abbrev pub IsColumnCovered : List WindowVertex → ColumnRun → Type 0
 IsColumnCovered v r = (k : ℕ) → r.from ≤ k → k < r.to → is_inside v (pos (r.left + r.across)) (pos (r.bottom + k)) ≡ true
+
+-- the run's column of the window
+abbrev pub column_of : ColumnRun → Column
+column_of r = record { x = pos (r.left + r.across); y0 = pos (r.bottom + r.from); y1 = pos (r.bottom + r.to) }
+
+-- of a part of a grid's rectangle the triangle covers the rows and no other pixel
+pub record IsOnlyRun (v : List WindowVertex) (g : Extent) (part : Rect) (r : ColumnRun) : Type 0 where
+  pub run : IsColumnRun r
+  pub left : r.left ≡ g.left
+  pub bottom : r.bottom ≡ g.bottom
+  pub width : r.width ≡ g.width
+  pub top : r.to ≤ g.height
+  pub only : IsOnlyColumn v part (column_of r)
 
 -- the rows up to below `to` took a step, and no other pixel changed
 pub record IsColumnStepped (step : ℤ → ℤ → Pixel → Pixel) (r : ColumnRun) (to : ℕ) (old new : List Pixel) : Type 0 where

@@ -1,10 +1,10 @@
 -- What the loops over a run of pixels take and leave.
-use Rattle.std.specs.Prelude.{◌≡◌, ℕ, ◌+◌, ◌^◌, ◌<◌, ◌≤◌, length, List, Option, Some, None, ℤ, pos, true}
+use Rattle.std.specs.Prelude.{◌≡◌, ℕ, ◌+◌, ◌<◌, ◌≤◌, length, List, Bool, Option, Some, None, ℤ, pos, true}
 use Rattle.rc_base.specs.Colors.{rgba}
 use Rattle.rc_base.specs.Pictures.{Picture}
 use Rattle.rc_base.specs.Drawing.Cover.{is_inside}
 use Rattle.rc_base.specs.Drawing.Fragment.{fragment_of}
-use Rattle.rc_base.specs.Drawing.PixelStep.{fragment_color, shaded, written_color}
+use Rattle.rc_base.specs.Drawing.PixelStep.{fragment_color, shaded, written_color, passes_alpha}
 use Rattle.rc_base.specs.Drawing.Texel.{texel_of, wrap_in_s, wrap_in_t}
 use Rattle.rc_base.specs.declared.command.Rgba.{Rgba}
 use Rattle.rc_base.specs.declared.state.State.{State}
@@ -12,23 +12,18 @@ use Rattle.rc_base.specs.declared.window.Fragment.{Fragment}
 use Rattle.rc_base.specs.declared.window.Pixel.{Pixel}
 use Rattle.rc_base.specs.declared.window.WindowVertex.{WindowVertex}
 use Rattle.raster.specs.Colors.{IsColorRamp, is_depth}
-use Rattle.raster.specs.Planes.{IsFineRamp}
+use Rattle.raster.specs.Planes.{IsWordRamp}
 use Rattle.raster.specs.declared.color.ColorRamp.{ColorRamp}
-use Rattle.raster.specs.declared.fine.FineRamp.{FineRamp}
+use Rattle.raster.specs.declared.word_plane.WordRamp.{WordRamp}
 use Rattle.fragment_ops.specs.DepthTests.{pixel}
-use Rattle.draw_device.specs.Pixels.{color_at, depth_at, pixels_of}
-use Rattle.draw_device.specs.Shapes.{fragment_pixel, IsRunStepped}
+use Rattle.draw_device.specs.Pixels.{color_at, depth_at, flag_at, pixels_of}
+use Rattle.draw_device.specs.Shapes.{fragment_pixel, IsRunStepped, IsRowChanged}
+use Rattle.draw_device.specs.declared.extent.Extent.{Extent}
 use Rattle.draw_device.specs.declared.run.Run.{Run}
 
 -- the fragment at column k of the run's row
 abbrev pub run_fragment : List WindowVertex → Run → ℕ → Fragment
 run_fragment v r k = fragment_of v (pos (r.left + k)) (pos r.row)
-
--- the columns are in order, and so few that no step of a plane is one too many
-pub record IsRun (r : Run) : Type 0 where
-  pub order : r.from ≤ r.to
-  pub few : r.to + r.up < 2 ^ 12
-  pub above : r.row ≡ r.bottom + r.up
 
 -- the triangle covers columns `from` to below `to` of a row whose first pixel is (left, row) of the window
 abbrev pub AreCovered : List WindowVertex → ℕ → ℕ → ℕ → ℕ → Type 0
@@ -37,6 +32,25 @@ AreCovered v left row from to = (k : ℕ) → from ≤ k → k < to → is_insid
 -- the triangle covers the run
 abbrev pub IsRunCovered : List WindowVertex → Run → Type 0
 IsRunCovered v r = AreCovered v r.left r.row r.from r.to
+
+-- the colours and depths are of one row, which has the run, and the triangle covers the run
+pub record IsCoveredRow (v : List WindowVertex) (r : Run) (colors : List Rgba) (depths : List ℕ) : Type 0 where
+  pub inside : r.to ≤ length colors
+  pub alike : length depths ≡ length colors
+  pub covered : IsRunCovered v r
+
+-- the colours and depths are of the row that lies `up` rows above the grid's first, and the triangle covers columns `from` to below `to` of it
+pub record IsGridRow (v : List WindowVertex) (g : Extent) (up from to : ℕ) (colors : List Rgba) (depths : List ℕ) : Type 0 where
+  pub top : g.bottom + up ≤ 65535
+  pub order : from ≤ to
+  pub inside : to ≤ length colors
+  pub alike : length depths ≡ length colors
+  pub covered : AreCovered v g.left (g.bottom + up) from to
+
+-- the row's colours and depths after the fragments of a triangle
+abbrev pub IsRowDrawn : State → Option Picture → List WindowVertex → Run → List Rgba → List ℕ → List Rgba → List ℕ → Type 0
+IsRowDrawn s picture v r colors depths new_colors new_depths =
+    IsRowChanged (fragment_pixel s picture v) r.left r.row r.from r.to colors depths new_colors new_depths
 
 -- the row's pixels after the fragments of a triangle
 abbrev pub IsRunDrawn : State → Option Picture → List WindowVertex → Run → List Pixel → List Pixel → Type 0
@@ -58,25 +72,27 @@ IsHidden s v r to depths =
     (picture : Option Picture) (color : Rgba) (k : ℕ) → r.from ≤ k → k < to
     → fragment_pixel s picture v (pos (r.left + k)) (pos r.row) (pixel color (depth_at depths k)) ≡ pixel color (depth_at depths k)
 
--- the run from a column on
-abbrev pub run_from : Run → ℕ → Run
-run_from r from = record { left = r.left; bottom = r.bottom; row = r.row; up = r.up; from = from; to = r.to }
+-- a column of the run, or its end, before which all is hidden
+pub record IsVisibleFrom (s : State) (v : List WindowVertex) (r : Run) (depths : List ℕ) (from : ℕ) : Type 0 where
+  pub low : r.from ≤ from
+  pub high : from ≤ r.to
+  pub hidden : IsHidden s v r from depths
 
 -- ---- stepped values at column k of the run's row
 
 abbrev pub IsColorAt : List WindowVertex → Run → ℕ → ColorRamp → Type 0
 IsColorAt v r k ramp = IsColorRamp v (pos (r.left + k)) (pos r.row) (1 + k + r.up) ramp
 
-abbrev pub IsValueAt : List WindowVertex → Run → (WindowVertex → ℤ) → ℕ → FineRamp → Type 0
-IsValueAt v r f k ramp = IsFineRamp v (pos (r.left + k)) (pos r.row) f (1 + k + r.up) ramp
+abbrev pub IsValueAt : List WindowVertex → Run → (WindowVertex → ℤ) → ℕ → WordRamp → Type 0
+IsValueAt v r f k ramp = IsWordRamp v (pos (r.left + k)) (pos r.row) f (1 + k + r.up) ramp
 
-abbrev pub IsDepthAt : List WindowVertex → Run → ℕ → FineRamp → Type 0
+abbrev pub IsDepthAt : List WindowVertex → Run → ℕ → WordRamp → Type 0
 IsDepthAt v r k ramp = IsValueAt v r (λ (c : WindowVertex). c.z) k ramp
 
-abbrev pub IsSAt : List WindowVertex → Run → ℕ → FineRamp → Type 0
+abbrev pub IsSAt : List WindowVertex → Run → ℕ → WordRamp → Type 0
 IsSAt v r k ramp = IsValueAt v r (λ (c : WindowVertex). c.s) k ramp
 
-abbrev pub IsTAt : List WindowVertex → Run → ℕ → FineRamp → Type 0
+abbrev pub IsTAt : List WindowVertex → Run → ℕ → WordRamp → Type 0
 IsTAt v r k ramp = IsValueAt v r (λ (c : WindowVertex). c.t) k ramp
 
 -- no fragment of the triangle has a depth outside the buffer's range
@@ -96,6 +112,13 @@ pub record IsColorRun (step : ℕ → Rgba → Rgba) (from to : ℕ) (old new : 
   pub before : (k : ℕ) → k < from → color_at new k ≡ color_at old k
   pub after : (k : ℕ) → to ≤ k → color_at new k ≡ color_at old k
 
+-- the depths of columns `from` to below `to` are one, and the others are as before
+pub record IsDepthRun (depth from to : ℕ) (old new : List ℕ) : Type 0 where
+  pub size : length new ≡ length old
+  pub run : (k : ℕ) → from ≤ k → k < to → depth_at new k ≡ depth
+  pub before : (k : ℕ) → k < from → depth_at new k ≡ depth_at old k
+  pub after : (k : ℕ) → to ≤ k → depth_at new k ≡ depth_at old k
+
 -- the colours are those of the triangle's fragments after the texture stage
 abbrev pub AreColors : State → Option Picture → List WindowVertex → Run → List Rgba → Type 0
 AreColors s picture v r colors = (k : ℕ) → r.from ≤ k → k < r.to → color_at colors k ≡ fragment_color s picture (run_fragment v r k)
@@ -105,6 +128,20 @@ abbrev pub AreWritten : State → Option Picture → List WindowVertex → Run �
 AreWritten s picture v r stored colors =
     (k : ℕ) → r.from ≤ k → k < r.to
     → color_at colors k ≡ written_color s (fragment_color s picture (run_fragment v r k)) (color_at stored k)
+
+-- ---- a row of flags, one for each column of the grid
+
+-- the flags of columns `from` to below `to` are set
+pub record IsFlagRun (flag : ℕ → Bool) (from to : ℕ) (old new : List Bool) : Type 0 where
+  pub size : length new ≡ length old
+  pub run : (k : ℕ) → from ≤ k → k < to → flag_at new k ≡ flag k
+
+-- the flags say which of the triangle's fragments pass the alpha test
+abbrev pub AreFlags : State → Option Picture → List WindowVertex → Run → List Bool → Type 0
+AreFlags s picture v r flags =
+    (k : ℕ) → r.from ≤ k → k < r.to → flag_at flags k ≡ passes_alpha s (fragment_color s picture (run_fragment v r k)).a
+
+-- ---- textures
 
 -- the texel of a fragment, where there is a picture
 abbrev pub texel_for : State → Option Picture → Fragment → Rgba

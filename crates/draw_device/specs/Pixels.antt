@@ -1,5 +1,5 @@
 -- Lists of pixels, and of their colours and depths.
-use Rattle.std.specs.Prelude.{ℕ, List, [], ◌∷◌, slice_index_or}
+use Rattle.std.specs.Prelude.{ℕ, List, [], ◌∷◌, Bool, false, slice_index_or}
 use Rattle.rc_base.specs.Colors.{rgba}
 use Rattle.rc_base.specs.declared.command.Rgba.{Rgba}
 use Rattle.rc_base.specs.declared.window.Pixel.{Pixel}
@@ -14,6 +14,9 @@ color_at colors k = slice_index_or colors k (rgba 0 0 0 0)
 
 abbrev pub depth_at : List ℕ → ℕ → ℕ
 depth_at depths k = slice_index_or depths k 0
+
+abbrev pub flag_at : List Bool → ℕ → Bool
+flag_at flags k = slice_index_or flags k false
 
 -- the pixels of as many colours and depths
 unfoldable pub pixels_of : List Rgba → List ℕ → List Pixel

@@ -1,35 +1,145 @@
 -- What is settled once a block, and once a triangle.
-use Rattle.std.specs.Prelude.{◌≡◌, true, false, List, ℤ, IfSome}
+use Rattle.std.specs.Prelude.{◌≡◌, true, false, List, ℤ, Option, None, Some}
+use Rattle.std.proofs.Props.{props}
+use Rattle.rc_base.specs.Pictures.{Picture}
 use Rattle.rc_base.specs.Drawing.Cover.{is_inside}
 use Rattle.rc_base.specs.Drawing.Fragment.{fragment_of}
 use Rattle.rc_base.specs.Drawing.PixelStep.{textured, written_color}
+use Rattle.rc_base.specs.Drawing.Texel.{wrap_in_s, wrap_in_t}
 use Rattle.rc_base.specs.declared.command.Rgba.{Rgba}
 use Rattle.rc_base.specs.declared.state.State.{State}
 use Rattle.rc_base.specs.declared.window.WindowVertex.{WindowVertex}
 use Rattle.raster.specs.Colors.{IsColorPlane, HasColor}
-use Rattle.raster.specs.Planes.{IsFinePlane}
+use Rattle.raster.specs.Planes.{IsWordPlane}
+use Rattle.raster.specs.declared.word_plane.WordPlane.{WordPlane}
+use Rattle.textures.specs.Images.{HasTexel, HasTexelIfAny}
+use Rattle.textures.specs.Samplers.{IsSampler}
+use Rattle.textures.specs.declared.sampler.Sampler.{Sampler}
+use Rattle.fragment_ops.specs.AlphaTests.{IsAlphaTest}
+use Rattle.fragment_ops.specs.Blends.{IsBlending}
 use Rattle.fragment_ops.specs.DepthTests.{IsDepthTest}
-use Rattle.fragment_ops.specs.Shortcuts.{blends_over, blends_sum, modulated}
+use Rattle.fragment_ops.specs.Shortcuts.{blends_over, blends_sum, modulated, writes_all}
 use Rattle.draw_device.specs.Loops.{StoresColor, HasDepths}
 use Rattle.draw_device.specs.declared.plan.Plan.{Plan}
 use Rattle.draw_device.specs.declared.paint.Paint.{Paint}
+use Rattle.draw_device.specs.declared.paint.Paint.TheVariants as paint
+use Rattle.draw_device.specs.declared.source.Source.{Source}
+use Rattle.draw_device.specs.declared.source.Source.TheVariants as source
+use Rattle.draw_device.specs.declared.stages.Stages.{Stages}
+use Rattle.draw_device.specs.declared.tests.Tests.{Tests}
+use Rattle.draw_device.specs.declared.tests.Tests.TheVariants as tests
+use Rattle.draw_device.specs.declared.write.Write.{Write}
+use Rattle.draw_device.specs.declared.write.Write.TheVariants as write
+
+-- ---- once a block
+
+-- the state's colours are written so
+abbrev pub IsWrite : State → Write → Type 0
+IsWrite s write.Plain = (color old : Rgba) → written_color s color old ≡ color
+IsWrite s write.Over = blends_over s ≡ true
+IsWrite s write.Sum = blends_sum s ≡ true
+IsWrite s write.Masked = s.blend_on ≡ false
+IsWrite s (write.Blended a b) = IsBlending s a b × (writes_all s.color_mask ≡ true)
+IsWrite s (write.Both a b) = IsBlending s a b
+
+pub IsWrite-prop : (s : State) (w : Write) → IsProp (IsWrite s w)
+IsWrite-prop s write.Plain = Prim.hlevel props
+IsWrite-prop s write.Over = Prim.hlevel props
+IsWrite-prop s write.Sum = Prim.hlevel props
+IsWrite-prop s write.Masked = Prim.hlevel props
+IsWrite-prop s (write.Blended a b) = Prim.hlevel props
+IsWrite-prop s (write.Both a b) = Prim.hlevel props
+
+-- texels replace the triangle's colours, or are modulated by them
+abbrev pub Replaces : State → Type 0
+Replaces s = (color texel : Rgba) → textured s color texel ≡ texel
+
+abbrev pub Modulates : State → Type 0
+Modulates s = (color texel : Rgba) → textured s color texel ≡ modulated color texel
 
 -- what the plan says of a state holds
 pub record IsPlan (s : State) (p : Plan) : Type 0 where
   pub depth : IsDepthTest s p.depth
+  pub alpha : IsAlphaTest s p.alpha
+  pub write : IsWrite s p.write
   pub stores : p.stores ≡ true → StoresColor s
   pub through : p.through ≡ true → s.alpha_on ≡ false
   pub untested : p.untested ≡ true → s.depth_on ≡ false
-  pub plain : p.plain ≡ true → (color old : Rgba) → written_color s color old ≡ color
-  pub over : p.over ≡ true → blends_over s ≡ true
-  pub sum : p.sum ≡ true → blends_sum s ≡ true
-  pub replaces : p.replaces ≡ true → (color texel : Rgba) → textured s color texel ≡ texel
-  pub modulates : p.replaces ≡ false → (color texel : Rgba) → textured s color texel ≡ modulated color texel
+  pub replaces : p.replaces ≡ true → Replaces s
+  pub modulates : p.replaces ≡ false → Modulates s
 
--- what is prepared of a triangle's attributes holds, from pixel (x, y) on
-pub record IsPaint (v : List WindowVertex) (x y : ℤ) (p : Paint) : Type 0 where
-  pub ranged : p.ranged ≡ true → HasDepths v
-  pub flat : IfSome p.flat (λ c. (i j : ℤ) → is_inside v i j ≡ true → HasColor c (fragment_of v i j))
-  pub colors : IfSome p.colors (λ q. IsColorPlane v x y q)
-  pub depths : IfSome p.depths (λ q. IsFinePlane v x y (λ (c : WindowVertex). c.z) q)
-  pub coordinates : IfSome p.coordinates (λ q. IsFinePlane v x y (λ (c : WindowVertex). c.s) q.0 × IsFinePlane v x y (λ (c : WindowVertex). c.t) q.1)
+pub IsPlan-prop : (s : State) (p : Plan) → IsProp (IsPlan s p)
+IsPlan-prop s p = Prim.hlevel (props, IsWrite-prop)
+
+-- ---- once a triangle, whose planes hold from pixel (x, y) on
+
+-- the fragments have one colour
+abbrev pub AreFlat : List WindowVertex → Rgba → Type 0
+AreFlat v color = (i j : ℤ) → is_inside v i j ≡ true → HasColor color (fragment_of v i j)
+
+abbrev pub IsDepthPlane : List WindowVertex → ℤ → ℤ → WordPlane → Type 0
+IsDepthPlane v x y plane = IsWordPlane v x y (λ (c : WindowVertex). c.z) plane
+
+-- the sampler has the picture's texels, and the planes are those of the coordinates
+pub record AreTexels (s : State) (p : Option Picture) (v : List WindowVertex) (x y : ℤ) (k : Sampler) (ss ts : WordPlane) : Type 0 where
+  pub texel : HasTexel p
+  pub sampler : IsSampler p (wrap_in_s s) (wrap_in_t s) k
+  pub across : IsWordPlane v x y (λ (c : WindowVertex). c.s) ss
+  pub up : IsWordPlane v x y (λ (c : WindowVertex). c.t) ts
+
+-- the fragments' colours after the texture stage are made so
+abbrev pub IsSource : State → Option Picture → List WindowVertex → ℤ → ℤ → Source → Type 0
+IsSource s p v x y (source.Flat color) = (p ≡ None) × AreFlat v color
+IsSource s p v x y (source.Smooth plane) = (p ≡ None) × IsColorPlane v x y plane
+IsSource s p v x y (source.Texels k ss ts) = AreTexels s p v x y k ss ts × Replaces s
+IsSource s p v x y (source.Tinted k ss ts plane) = AreTexels s p v x y k ss ts × Modulates s × IsColorPlane v x y plane
+
+pub HasTexelIfAny-prop : (p : Option Picture) → IsProp (HasTexelIfAny p)
+HasTexelIfAny-prop None = Prim.hlevel props
+HasTexelIfAny-prop (Some p) = Prim.hlevel props
+
+-- the fragments take no test
+pub record AreUntested (s : State) (v : List WindowVertex) : Type 0 where
+  pub ranged : HasDepths v
+  pub through : s.alpha_on ≡ false
+  pub untested : s.depth_on ≡ false
+
+-- the fragments take the alpha test alone
+pub record AreAlphaTested (s : State) (v : List WindowVertex) : Type 0 where
+  pub ranged : HasDepths v
+  pub untested : s.depth_on ≡ false
+
+-- the fragments' depths lie in the buffer's range, and go by the plane
+pub record HasDepthPlane (v : List WindowVertex) (x y : ℤ) (p : WordPlane) : Type 0 where
+  pub ranged : HasDepths v
+  pub plane : IsDepthPlane v x y p
+
+-- the fragments take the depth test alone
+pub record AreDepthTested (s : State) (v : List WindowVertex) (x y : ℤ) (plane : WordPlane) : Type 0 where
+  pub depths : HasDepthPlane v x y plane
+  pub through : s.alpha_on ≡ false
+
+-- the fragments take these tests and no others
+abbrev pub IsTests : State → List WindowVertex → ℤ → ℤ → Tests → Type 0
+IsTests s v x y tests.Off = AreUntested s v
+IsTests s v x y (tests.Depth plane) = AreDepthTested s v x y plane
+IsTests s v x y tests.Alpha = AreAlphaTested s v
+IsTests s v x y (tests.Both plane) = HasDepthPlane v x y plane
+IsTests s v x y (tests.Any plane) = IsDepthPlane v x y plane
+
+-- the fragments' colours alone are stored
+pub record AreStored (s : State) (p : Option Picture) (v : List WindowVertex) : Type 0 where
+  pub alone : StoresColor s
+  pub none : p ≡ None
+  pub ranged : HasDepths v
+
+-- the fragments' colours are made so, and they take these tests
+pub record AreStages (s : State) (p : Option Picture) (v : List WindowVertex) (x y : ℤ) (stages : Stages) : Type 0 where
+  pub source : IsSource s p v x y stages.source.now
+  pub tests : IsTests s v x y stages.tests.now
+
+-- the way that is settled for a triangle is right
+abbrev pub IsPaint : State → Option Picture → List WindowVertex → ℤ → ℤ → Paint → Type 0
+IsPaint s p v x y (paint.Fill color) = AreStored s p v × AreFlat v color
+IsPaint s p v x y (paint.Store plane) = AreStored s p v × IsColorPlane v x y plane.now
+IsPaint s p v x y (paint.Stages stages) = AreStages s p v x y stages

@@ -7,15 +7,19 @@ use Rattle.rc_base.specs.Drawing.Fragment.{fragment_of}
 use Rattle.rc_base.specs.Drawing.Triangles.{triangles_of}
 use Rattle.rc_base.specs.Drawing.PixelStep.{fragment_step, triangle_step, cleared}
 use Rattle.draw_device.specs.declared.extent.Extent.{Extent}
+use Rattle.rc_base.specs.declared.command.Rgba.{Rgba}
 use Rattle.rc_base.specs.declared.state.Block.{Block}
 use Rattle.rc_base.specs.declared.state.State.{State}
 use Rattle.rc_base.specs.declared.state.Vertex.{Vertex}
+use Rattle.rc_base.specs.declared.triangle.WindowTriangle.{WindowTriangle}
 use Rattle.rc_base.specs.declared.window.Pixel.{Pixel}
 use Rattle.rc_base.specs.declared.window.Rect.{Rect}
 use Rattle.rc_base.specs.declared.window.Span.{Span}
 use Rattle.rc_base.specs.declared.window.WindowVertex.{WindowVertex}
+use Rattle.geometry.specs.declared.cache.VertexCache.{VertexCache}
 use Rattle.raster.specs.Spans.{in_span}
-use Rattle.draw_device.specs.Pixels.{pixel_at}
+use Rattle.raster.specs.declared.rows.SpanIter.{SpanIter}
+use Rattle.draw_device.specs.Pixels.{pixel_at, pixels_of}
 
 -- the column and the row of the window of a grid's column and row
 abbrev pub column_at : Extent → ℕ → ℤ
@@ -46,6 +50,12 @@ pub record IsRunStepped (step : ℤ → ℤ → Pixel → Pixel) (left row from 
   pub before : (k : ℕ) → k < from → pixel_at new k ≡ pixel_at old k
   pub after : (k : ℕ) → to ≤ k → pixel_at new k ≡ pixel_at old k
 
+-- the same of a row's colours and depths
+pub record IsRowChanged (step : ℤ → ℤ → Pixel → Pixel) (left row from to : ℕ) (cs : List Rgba) (ds : List ℕ) (new_cs : List Rgba) (new_ds : List ℕ) : Type 0 where
+  pub colors : length new_cs ≡ length cs
+  pub depths : length new_ds ≡ length ds
+  pub drawn : IsRunStepped step left row from to (pixels_of cs ds) (pixels_of new_cs new_ds)
+
 -- the same of a row that begins at the index `start` of a grid's pixels
 pub record IsRowStepped (step : ℤ → ℤ → Pixel → Pixel) (left row start from to : ℕ) (old new : List Pixel) : Type 0 where
   pub run : (k : ℕ) → from ≤ k → k < to → pixel_at new (start + k) ≡ step (pos (left + k)) (pos row) (pixel_at old (start + k))
@@ -67,6 +77,17 @@ pub record IsSpanIn (g : Extent) (s : Span) : Type 0 where
 -- the triangle covers the span
 abbrev pub IsCovered : List WindowVertex → Span → Type 0
 IsCovered v s = (x : ℤ) → s.x0 ≤ℤ x → x <ℤ s.x1 → is_inside v x s.y ≡ true
+
+-- the spans to come are all of those of a triangle in a part of the window
+pub record AreRowsOf (tri : WindowTriangle) (part : Rect) (rows : SpanIter) : Type 0 where
+  pub triangle : rows.tri.now ≡ tri
+  pub rect : rows.rect ≡ part
+  pub first : rows.y ≡ rows.rect.y0
+
+-- the cache brings these vertices to the window, as the state has it
+pub record IsCacheOf (s : State) (vs : List Vertex) (cache : VertexCache) : Type 0 where
+  pub state : cache.state.now ≡ s
+  pub vertices : cache.vertices.now ≡ vs
 
 -- each pixel of the grid took a step
 pub record IsStepped (step : ℤ → ℤ → Pixel → Pixel) (g : Extent) (old new : List Pixel) : Type 0 where

@@ -6,16 +6,18 @@ ghost use Rattle.rc_base.specs.declared.command.Rgba.{Rgba as AnyColor};
 ghost use Rattle.textures.specs.Samplers.{IsSampler};
 ghost use Rattle.fragment_ops.specs.Shortcuts.{modulated};
 ghost use Rattle.draw_device.specs.Pixels.{color_at};
-ghost use Rattle.draw_device.specs.Loops.{run_fragment, texel_for, IsRun, IsRunCovered, IsColorAt, IsSAt, IsTAt, IsColorRun};
+ghost use Rattle.draw_device.specs.Loops.{run_fragment, texel_for, IsRunCovered, IsColorAt, IsColorRun};
+ghost use Rattle.draw_device.specs.Plans.{AreTexels};
 
 use crate::run::Run;
-use crate::stepped::{color_by, s_by, t_by};
+use crate::setup::Setup;
+use crate::stepped::{color_by, s_by, t_by, value_ramp};
 use fragment_ops::modulate;
-use raster::{ColorRamp, FineRamp};
+use raster::{ColorRamp, WordPlane};
 use rc_base::command::Rgba;
 use rc_base::state::State;
 use rc_base::triangle::WindowTriangle;
-use textures::{Sampler, Texture};
+use textures::Sampler;
 
 /// One colour. The row is given by its numbers and not by a `Run`: small triangles are mostly such rows, and a number goes over in a register.
 #[inline(never)]
@@ -45,7 +47,6 @@ pub(crate) fn copy_colors(colors: &mut [Rgba], others: &[Rgba], from: u16, to: u
 /// The triangle's colours, by one addition a channel and pixel.
 #[inline(never)]
 pub(crate) fn step_colors(colors: &mut [Rgba], tri: &WindowTriangle, run: Run, first: ColorRamp)
-    requires run { IsRun run }
     requires room { run.to ≤ length colors.old }
     requires covered { IsRunCovered tri.now.v run }
     requires ramp { IsColorAt tri.now.v run run.from first }
@@ -60,50 +61,28 @@ pub(crate) fn step_colors(colors: &mut [Rgba], tri: &WindowTriangle, run: Run, f
 
 // The texel at a texture coordinate.
 #[inline(always)]
-fn texel(
-    sampler: Sampler<'_>,
-    state: &State,
-    texture: &Texture,
-    tri: &WindowTriangle,
-    run: Run,
-    x: u16,
-    s: i32,
-    t: i32,
-) -> Rgba
-    requires sampler { IsSampler texture.now (wrap_in_s state.now) (wrap_in_t state.now) sampler }
-    requires s { s ≡ (run_fragment tri.now.v run x).s }
-    requires t { t ≡ (run_fragment tri.now.v run x).t }
-    ensures { result ≡ texel_for state.now texture.now (run_fragment tri.now.v run x) }
+fn texel(sampler: Sampler<'_>, setup: &Setup<'_>, run: Run, x: u16, s: i32, t: i32) -> Rgba
+    requires sampler { IsSampler setup.now.texture.now (wrap_in_s setup.now.state.now) (wrap_in_t setup.now.state.now) sampler }
+    requires s { s ≡ (run_fragment setup.now.tri.now.v run x).s }
+    requires t { t ≡ (run_fragment setup.now.tri.now.v run x).t }
+    ensures { result ≡ texel_for setup.now.state.now setup.now.texture.now (run_fragment setup.now.tri.now.v run x) }
 {
-    let _state = state;
-    let _texture = texture;
-    let _tri = tri;
+    let _setup = setup;
     let _place = (run.left, run.row, x);
     sampler.nearest(s, t)
 }
 
 // The same of an image that repeats along both sides.
 #[inline(always)]
-fn repeated_texel(
-    sampler: Sampler<'_>,
-    state: &State,
-    texture: &Texture,
-    tri: &WindowTriangle,
-    run: Run,
-    x: u16,
-    s: i32,
-    t: i32,
-) -> Rgba
-    requires sampler { IsSampler texture.now (wrap_in_s state.now) (wrap_in_t state.now) sampler }
+fn repeated_texel(sampler: Sampler<'_>, setup: &Setup<'_>, run: Run, x: u16, s: i32, t: i32) -> Rgba
+    requires sampler { IsSampler setup.now.texture.now (wrap_in_s setup.now.state.now) (wrap_in_t setup.now.state.now) sampler }
     requires across { sampler.wrap_s ≡ 0 }
     requires up { sampler.wrap_t ≡ 0 }
-    requires s { s ≡ (run_fragment tri.now.v run x).s }
-    requires t { t ≡ (run_fragment tri.now.v run x).t }
-    ensures { result ≡ texel_for state.now texture.now (run_fragment tri.now.v run x) }
+    requires s { s ≡ (run_fragment setup.now.tri.now.v run x).s }
+    requires t { t ≡ (run_fragment setup.now.tri.now.v run x).t }
+    ensures { result ≡ texel_for setup.now.state.now setup.now.texture.now (run_fragment setup.now.tri.now.v run x) }
 {
-    let _state = state;
-    let _texture = texture;
-    let _tri = tri;
+    let _setup = setup;
     let _place = (run.left, run.row, x);
     sampler.nearest_repeated(s, t)
 }
@@ -112,28 +91,23 @@ fn repeated_texel(
 #[inline(never)]
 pub(crate) fn texel_colors(
     colors: &mut [Rgba],
-    state: &State,
-    texture: &Texture,
+    setup: &Setup<'_>,
     sampler: Sampler<'_>,
-    tri: &WindowTriangle,
+    s_plane: &WordPlane,
+    t_plane: &WordPlane,
     run: Run,
-    first_s: FineRamp,
-    first_t: FineRamp,
 )
-    requires run { IsRun run }
     requires room { run.to ≤ length colors.old }
-    requires sampler { IsSampler texture.now (wrap_in_s state.now) (wrap_in_t state.now) sampler }
-    requires covered { IsRunCovered tri.now.v run }
-    requires s_ramp { IsSAt tri.now.v run run.from first_s }
-    requires t_ramp { IsTAt tri.now.v run run.from first_t }
-    ensures { IsColorRun (λ k old. texel_for state.now texture.now (run_fragment tri.now.v run k)) run.from run.to colors.old colors.new }
+    requires covered { IsRunCovered setup.now.tri.now.v run }
+    requires texels { AreTexels setup.now.state.now setup.now.texture.now setup.now.tri.now.v (pos run.left) (pos run.bottom) sampler s_plane.now t_plane.now }
+    ensures { IsColorRun (λ k old. texel_for setup.now.state.now setup.now.texture.now (run_fragment setup.now.tri.now.v run k)) run.from run.to colors.old colors.new }
 {
-    let mut ss = first_s;
-    let mut ts = first_t;
+    let mut ss = value_ramp(s_plane, run);
+    let mut ts = value_ramp(t_plane, run);
     for x in run.from..run.to {
-        let s = s_by(&ss, tri, run, x);
-        let t = t_by(&ts, tri, run, x);
-        colors[x as usize] = texel(sampler, state, texture, tri, run, x, s, t);
+        let s = s_by(&ss, setup.tri, run, x);
+        let t = t_by(&ts, setup.tri, run, x);
+        colors[x as usize] = texel(sampler, setup, run, x, s, t);
         ss.advance();
         ts.advance();
     }
@@ -143,30 +117,25 @@ pub(crate) fn texel_colors(
 #[inline(never)]
 pub(crate) fn repeat_colors(
     colors: &mut [Rgba],
-    state: &State,
-    texture: &Texture,
+    setup: &Setup<'_>,
     sampler: Sampler<'_>,
-    tri: &WindowTriangle,
+    s_plane: &WordPlane,
+    t_plane: &WordPlane,
     run: Run,
-    first_s: FineRamp,
-    first_t: FineRamp,
 )
-    requires run { IsRun run }
     requires room { run.to ≤ length colors.old }
-    requires sampler { IsSampler texture.now (wrap_in_s state.now) (wrap_in_t state.now) sampler }
     requires across { sampler.wrap_s ≡ 0 }
     requires up { sampler.wrap_t ≡ 0 }
-    requires covered { IsRunCovered tri.now.v run }
-    requires s_ramp { IsSAt tri.now.v run run.from first_s }
-    requires t_ramp { IsTAt tri.now.v run run.from first_t }
-    ensures { IsColorRun (λ k old. texel_for state.now texture.now (run_fragment tri.now.v run k)) run.from run.to colors.old colors.new }
+    requires covered { IsRunCovered setup.now.tri.now.v run }
+    requires texels { AreTexels setup.now.state.now setup.now.texture.now setup.now.tri.now.v (pos run.left) (pos run.bottom) sampler s_plane.now t_plane.now }
+    ensures { IsColorRun (λ k old. texel_for setup.now.state.now setup.now.texture.now (run_fragment setup.now.tri.now.v run k)) run.from run.to colors.old colors.new }
 {
-    let mut ss = first_s;
-    let mut ts = first_t;
+    let mut ss = value_ramp(s_plane, run);
+    let mut ts = value_ramp(t_plane, run);
     for x in run.from..run.to {
-        let s = s_by(&ss, tri, run, x);
-        let t = t_by(&ts, tri, run, x);
-        colors[x as usize] = repeated_texel(sampler, state, texture, tri, run, x, s, t);
+        let s = s_by(&ss, setup.tri, run, x);
+        let t = t_by(&ts, setup.tri, run, x);
+        colors[x as usize] = repeated_texel(sampler, setup, run, x, s, t);
         ss.advance();
         ts.advance();
     }
@@ -181,7 +150,6 @@ pub(crate) fn tint_colors(
     run: Run,
     first: ColorRamp,
 )
-    requires run { IsRun run }
     requires room { run.to ≤ length colors.old }
     requires covered { IsRunCovered tri.now.v run }
     requires kind { (color texel : AnyColor) → textured state.now color texel ≡ modulated color texel }

@@ -1,13 +1,11 @@
 //! Triangles that stand in one column of pixels, as most of a fine mesh do: their colours go up the column by one addition a channel and pixel.
-ghost use Rattle.std.specs.Prelude.{◌≡◌, ◌+◌, ◌*◌, ◌^◌, ◌<◌, ◌≤◌, nat_lt, length, List, pos, true, false, None};
+ghost use Rattle.std.specs.Prelude.{◌≡◌, ◌+◌, ◌*◌, ◌^◌, ◌<◌, ◌≤◌, nat_lt, length, List, pos, true};
 ghost use Rattle.rc_base.specs.Drawing.Cover.{is_inside};
 ghost use Rattle.rc_base.specs.declared.window.WindowVertex.{WindowVertex as AnyVertex};
 ghost use Rattle.raster.specs.Colors.{IsColorPlane};
-ghost use Rattle.draw_device.specs.Columns.{place_in, column_fragment, IsColumnRun, IsColumnCovered, IsColumnColored, IsColumnDrawn, IsRiseAt};
-ghost use Rattle.draw_device.specs.Plans.{IsPaint};
+ghost use Rattle.draw_device.specs.Columns.{place_in, column_fragment, IsColumnRun, IsColumnCovered, IsColumnColored, IsRiseAt};
 
 use crate::column_run::ColumnRun;
-use crate::setup::Setup;
 use raster::{ColorPlane, ColorRamp};
 use rc_base::command::Rgba;
 use rc_base::triangle::WindowTriangle;
@@ -31,16 +29,16 @@ fn color_up(ramp: &ColorRamp, tri: &WindowTriangle, run: ColumnRun, y: u16) -> R
     ramp.color()
 }
 
-// The colours of a plane from the column's first row on.
-fn color_rise(plane: &ColorPlane, run: ColumnRun) -> ColorRamp
+/// The colours of a plane from the column's first row on.
+pub(crate) fn color_rise(plane: &ColorPlane, run: ColumnRun) -> ColorRamp
     ensures { (v : List AnyVertex) → IsColorPlane v (pos run.left) (pos run.bottom) plane.now → IsRiseAt v run run.from result }
 {
     plane.rise(u64::from(run.across), u64::from(run.from))
 }
 
-// One colour is stored.
+/// One colour is stored.
 #[inline(never)]
-fn fill_column(colors: &mut [Rgba], run: ColumnRun, color: Rgba)
+pub(crate) fn fill_column(colors: &mut [Rgba], run: ColumnRun, color: Rgba)
     requires run { IsColumnRun run }
     requires room { run.to * run.width ≤ length colors.old }
     ensures { IsColumnColored (λ k. color) run run.to colors.old colors.new }
@@ -51,9 +49,14 @@ fn fill_column(colors: &mut [Rgba], run: ColumnRun, color: Rgba)
     }
 }
 
-// The triangle's colours are stored.
+/// The triangle's colours are stored.
 #[inline(never)]
-fn step_column(colors: &mut [Rgba], tri: &WindowTriangle, run: ColumnRun, first: ColorRamp)
+pub(crate) fn step_column(
+    colors: &mut [Rgba],
+    tri: &WindowTriangle,
+    run: ColumnRun,
+    first: ColorRamp,
+)
     requires run { IsColumnRun run }
     requires room { run.to * run.width ≤ length colors.old }
     requires covered { IsColumnCovered tri.now.v run }
@@ -68,40 +71,9 @@ fn step_column(colors: &mut [Rgba], tri: &WindowTriangle, run: ColumnRun, first:
     }
 }
 
-// No step of a plane is one too many.
-fn is_few(run: ColumnRun) -> bool
-    ensures { result ≡ nat_lt (run.across + run.to) (2 ^ 12) }
+/// Whether no step of a plane that goes `across` one way and below `to` the other is one too many.
+pub(crate) fn is_few(across: u16, to: u16) -> bool
+    ensures { result ≡ nat_lt (across + to) (2 ^ 12) }
 {
-    u32::from(run.across) + u32::from(run.to) < 4096
-}
-
-/// Of a triangle without a texture whose colours alone are stored: its column, or nothing.
-pub(crate) fn store_column(colors: &mut [Rgba], setup: &Setup<'_>, run: ColumnRun) -> bool
-    requires order { run.from ≤ run.to }
-    requires inside { run.across < run.width }
-    requires room { run.to * run.width ≤ length colors.old }
-    requires covered { IsColumnCovered setup.now.tri.now.v run }
-    requires paint { IsPaint setup.now.tri.now.v (pos run.left) (pos run.bottom) setup.now.paint }
-    ensures size { length colors.new ≡ length colors.old }
-    ensures drawn { result ≡ true → IsColumnDrawn setup.now.state.now None setup.now.tri.now.v run colors.old colors.new }
-    ensures kept { result ≡ false → colors.new ≡ colors.old }
-{
-    if !setup.plan.stores {
-        return false;
-    }
-    if !setup.paint.ranged {
-        return false;
-    }
-    if !is_few(run) {
-        return false;
-    }
-    if let Some(color) = setup.paint.flat {
-        fill_column(colors, run, color);
-        return true;
-    }
-    if let Some(plane) = &setup.paint.colors {
-        step_column(colors, setup.tri, run, color_rise(plane, run));
-        return true;
-    }
-    false
+    u32::from(across) + u32::from(to) < 4096
 }

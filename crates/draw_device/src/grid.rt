@@ -1,31 +1,38 @@
 //! A grid of pixels that stands in the window, and what spans, triangles and blocks make of it.
-ghost use Rattle.std.specs.Prelude.{◌≡◌, ℕ, ◌+◌, ◌*◌, ◌≤◌, length, replicate, pos, ◌≤ℤ◌, true, false, IfOk};
+ghost use Rattle.std.specs.Prelude.{◌≡◌, ℕ, ◌+◌, ◌*◌, ◌≤◌, length, replicate, pos, ◌≤ℤ◌, true, IfOk, IfSome};
 ghost use Rattle.rc_base.specs.Cluster.Tiles.{is_in_rect};
 ghost use Rattle.rc_base.specs.Drawing.PixelStep.{clear_step};
 ghost use Rattle.rc_base.specs.Drawing.Serial.{blank_pixel};
-ghost use Rattle.geometry.specs.Beside.{AreSurrounds};
 ghost use Rattle.geometry.specs.Items.{AreBelow};
+ghost use Rattle.raster.specs.Colors.{IsColorPlane};
 ghost use Rattle.raster.specs.Spans.{IsOnlyColumn};
 ghost use Rattle.textures.specs.Images.{HasTexelIfAny};
-ghost use Rattle.draw_device.specs.Clips.{IsPartWhere, is_let_through};
-ghost use Rattle.draw_device.specs.Shapes.{IsCovered, IsSpanIn, fragment_pixel, cleared_pixel, IsRunStepped, IsStepped, span_step, covered_step, corners_step, triangles_step, triangles_in, grid_rect};
-ghost use Rattle.fragment_ops.specs.Clearings.{IsClearing, writes_pixel};
+ghost use Rattle.draw_device.specs.Clips.{IsPart, IsPartWhere, is_let_through};
+ghost use Rattle.draw_device.specs.Shapes.{IsCovered, IsSpanIn, AreRowsOf, IsCacheOf, fragment_pixel, IsStepped, span_step, covered_step, corners_step, triangles_step, triangles_in, grid_rect};
 ghost use Rattle.draw_device.specs.Conditions.{IsClearable};
-ghost use Rattle.draw_device.specs.Plans.{IsPlan, IsPaint};
+ghost use Rattle.draw_device.specs.Columns.{IsOnlyRun};
+ghost use Rattle.draw_device.specs.Plans.{IsPaint, AreStored, AreFlat};
 ghost use Rattle.draw_device.specs.Devices.{pixel_index};
 ghost use Rattle.draw_device.specs.Pixels.{pixel_at, pixels_of};
 
+use crate::block_setup::BlockSetup;
+use crate::clear_setup::ClearSetup;
+use crate::clears::clear_row;
 use crate::clip::{drawn_part, scissored};
 use crate::column_run::ColumnRun;
-use crate::columns::store_column;
+use crate::columns::{color_rise, fill_column, is_few, step_column};
 use crate::extent::Extent;
-use crate::plan::Plan;
-use crate::prepare::{paint_of, plan_of};
+use crate::paint::Paint;
+use crate::prepare::{plan_of, shared_at, source_of, stores_colors, takes_no_test, tests_of};
 use crate::rows::draw_row;
 use crate::setup::Setup;
-use fragment_ops::{Clearing, clearing_of};
-use geometry::{Surrounds, VertexCache, surrounds_of, triangles};
-use raster::{Column, SpanIter, cover_lies_in_bounds, spans};
+use crate::source::Source;
+use crate::spare::Spare;
+use crate::stages::Stages;
+use crate::tests::Tests;
+use fragment_ops::clearing_of;
+use geometry::{VertexCache, surrounds_of, triangles};
+use raster::{ColorPlane, Column, SpanIter, color_plane, cover_lies_in_bounds, flat_color, spans};
 use rc_base::command::Rgba;
 use rc_base::out_of_memory::OutOfMemory;
 use rc_base::state::{Block, State};
@@ -35,16 +42,16 @@ use std::alloc::Global;
 use textures::Texture;
 
 /// The colours of pixels, and their depths, row by row from the lowest, each row from the left. `extent` says where they stand. They are two
-/// lists, since most draws store colours alone. `spare` is room for one row of fragments' colours.
+/// lists, since most draws store colours alone. `spare` is room for one row of fragments.
 #[derive(Drop)]
 pub struct Grid {
     pub extent: Extent,
     pub colors: Vec<Rgba>,
     pub depths: Vec<u32>,
-    pub spare: Vec<Rgba>,
+    pub spare: Spare,
     pub ghost full: { length colors.items ≡ extent.width * extent.height },
     pub ghost deep: { length depths.items ≡ length colors.items },
-    pub ghost room: { extent.width ≡ length spare.items },
+    pub ghost room: { extent.width ≡ length spare.colors.items },
     pub ghost right: { extent.left + extent.width ≤ 65535 },
     pub ghost top: { extent.bottom + extent.height ≤ 65535 },
 }
@@ -63,90 +70,6 @@ fn row_start(width: u16, row: u16) -> usize
     ensures { result ≡ row * width }
 {
     row as usize * width as usize
-}
-
-// Clears the columns from `from` to below `to` of a row.
-fn clear_run(
-    colors: &mut [Rgba],
-    depths: &mut [u32],
-    state: &State,
-    mask: u8,
-    clearing: &Clearing,
-    from: u16,
-    to: u16,
-)
-    requires clearing { IsClearing state.now mask clearing.now }
-    requires order { from ≤ to }
-    requires colors { to ≤ length colors.old }
-    requires depths { length depths.old ≡ length colors.old }
-    ensures colors { length colors.new ≡ length colors.old }
-    ensures depths { length depths.new ≡ length depths.old }
-    ensures drawn { (left row : ℕ) → IsRunStepped (cleared_pixel state.now mask) left row from to (pixels_of colors.old depths.old) (pixels_of colors.new depths.new) }
-{
-    let _what = mask;
-    let _state = state;
-    for x in from..to {
-        let place = x as usize;
-        let cleared = clearing.clear(Pixel {
-            color: colors[place],
-            depth: depths[place],
-        });
-        colors[place] = cleared.color;
-        depths[place] = cleared.depth;
-    }
-}
-
-// The same where the Clear writes all of a pixel.
-fn fill_clear(
-    colors: &mut [Rgba],
-    depths: &mut [u32],
-    state: &State,
-    mask: u8,
-    clearing: &Clearing,
-    from: u16,
-    to: u16,
-)
-    requires clearing { IsClearing state.now mask clearing.now }
-    requires whole { writes_pixel clearing.now ≡ true }
-    requires order { from ≤ to }
-    requires colors { to ≤ length colors.old }
-    requires depths { length depths.old ≡ length colors.old }
-    ensures colors { length colors.new ≡ length colors.old }
-    ensures depths { length depths.new ≡ length depths.old }
-    ensures drawn { (left row : ℕ) → IsRunStepped (cleared_pixel state.now mask) left row from to (pixels_of colors.old depths.old) (pixels_of colors.new depths.new) }
-{
-    let _what = mask;
-    let _state = state;
-    let cleared = clearing.pixel();
-    for x in from..to {
-        let place = x as usize;
-        colors[place] = cleared.color;
-        depths[place] = cleared.depth;
-    }
-}
-
-fn clear_row(
-    colors: &mut [Rgba],
-    depths: &mut [u32],
-    state: &State,
-    mask: u8,
-    clearing: &Clearing,
-    from: u16,
-    to: u16,
-)
-    requires clearing { IsClearing state.now mask clearing.now }
-    requires order { from ≤ to }
-    requires colors { to ≤ length colors.old }
-    requires depths { length depths.old ≡ length colors.old }
-    ensures colors { length colors.new ≡ length colors.old }
-    ensures depths { length depths.new ≡ length depths.old }
-    ensures drawn { (left row : ℕ) → IsRunStepped (cleared_pixel state.now mask) left row from to (pixels_of colors.old depths.old) (pixels_of colors.new depths.new) }
-{
-    if clearing.writes_pixel() {
-        fill_clear(colors, depths, state, mask, clearing, from, to);
-    } else {
-        clear_run(colors, depths, state, mask, clearing, from, to);
-    }
 }
 
 impl Grid {
@@ -168,13 +91,15 @@ impl Grid {
         colors.resize(count, color)?;
         let mut depths = Vec::new(alloc);
         depths.resize(count, 16_777_215)?;
-        let mut spare = Vec::new(alloc);
-        spare.resize(extent.width as usize, color)?;
+        let mut row = Vec::new(alloc);
+        row.resize(extent.width as usize, color)?;
+        let mut flags = Vec::new(alloc);
+        flags.resize(extent.width as usize, false)?;
         Ok(Grid {
             extent,
             colors,
             depths,
-            spare,
+            spare: Spare { colors: row, flags },
         })
     }
 
@@ -194,8 +119,8 @@ impl Grid {
 
     // Draws the pixels of a span of a triangle.
     fn draw_span(&mut self, setup: &Setup<'_>, span: Span)
-        requires paint { IsPaint setup.now.tri.now.v (pos self.old.extent.left) (pos self.old.extent.bottom) setup.now.paint }
-        requires texel { HasTexelIfAny setup.now.texture.now }
+        requires grid { setup.now.extent ≡ self.old.extent }
+        requires paint { IsPaint setup.now.state.now setup.now.texture.now setup.now.tri.now.v (pos setup.now.extent.left) (pos setup.now.extent.bottom) setup.now.paint }
         requires inside { IsSpanIn self.old.extent span }
         requires covered { IsCovered setup.now.tri.now.v span }
         ensures extent { self.new.extent ≡ self.old.extent }
@@ -210,10 +135,8 @@ impl Grid {
         draw_row(
             &mut self.colors.as_mut_slice()[start..end],
             &mut self.depths.as_mut_slice()[start..end],
-            self.spare.as_mut_slice(),
+            &mut self.spare,
             setup,
-            self.extent.left,
-            self.extent.bottom,
             up,
             from,
             to,
@@ -222,11 +145,10 @@ impl Grid {
 
     // Draws the spans of a triangle in the part of the grid's rectangle that lets it through.
     fn draw_rows(&mut self, setup: &Setup<'_>, rows: SpanIter<'_>)
-        requires texel { HasTexelIfAny setup.now.texture.now }
+        requires grid { setup.now.extent ≡ self.old.extent }
+        requires paint { IsPaint setup.now.state.now setup.now.texture.now setup.now.tri.now.v (pos setup.now.extent.left) (pos setup.now.extent.bottom) setup.now.paint }
         requires part { IsPartWhere (grid_rect self.old.extent) rows.rect (is_let_through setup.now.state.now) }
-        requires paint { IsPaint setup.now.tri.now.v (pos self.old.extent.left) (pos self.old.extent.bottom) setup.now.paint }
-        requires triangle { rows.tri.now ≡ setup.now.tri.now }
-        requires first { rows.y ≡ rows.rect.y0 }
+        requires rows { AreRowsOf setup.now.tri.now rows.rect rows }
         ensures extent { self.new.extent ≡ self.old.extent }
         ensures drawn { IsStepped (covered_step setup.now.state.now setup.now.texture.now setup.now.tri.now.v) self.old.extent (pixels_of self.old.colors.items self.old.depths.items) (pixels_of self.new.colors.items self.new.depths.items) }
     {
@@ -235,95 +157,203 @@ impl Grid {
         }
     }
 
-    // Draws the pixels of a triangle that all stand in one column, where there is a loop for them, or nothing.
-    fn draw_column(&mut self, setup: &Setup<'_>, part: Rect, column: Column) -> bool
-        requires part { IsPartWhere (grid_rect self.old.extent) part (is_let_through setup.now.state.now) }
-        requires paint { IsPaint setup.now.tri.now.v (pos self.old.extent.left) (pos self.old.extent.bottom) setup.now.paint }
-        requires column { IsOnlyColumn setup.now.tri.now.v part column }
-        ensures extent { self.new.extent ≡ self.old.extent }
-        ensures drawn { result ≡ true → IsStepped (covered_step setup.now.state.now setup.now.texture.now setup.now.tri.now.v) self.old.extent (pixels_of self.old.colors.items self.old.depths.items) (pixels_of self.new.colors.items self.new.depths.items) }
-        ensures kept { result ≡ false → pixels_of self.new.colors.items self.new.depths.items ≡ pixels_of self.old.colors.items self.old.depths.items }
+    // A column's rows, unless there are so many that a step of a plane to them is one too many.
+    fn column_run(&self, tri: &WindowTriangle, part: Rect, column: Column) -> Option<ColumnRun>
+        requires part { IsPart (grid_rect self.now.extent) part }
+        requires column { IsOnlyColumn tri.now.v part column }
+        ensures { IfSome result (λ r. IsOnlyRun tri.now.v self.now.extent part r) }
     {
+        let _tri = tri;
         let _part = part;
         let _height = self.extent.height;
-        if setup.texture.has_image() {
-            return false;
-        }
         let across = offset(column.x, self.extent.left);
         let from = offset(column.y0, self.extent.bottom);
         let to = offset(column.y1, self.extent.bottom);
-        let run = ColumnRun {
+        if !is_few(across, to) {
+            return None;
+        }
+        Some(ColumnRun {
             left: self.extent.left,
             bottom: self.extent.bottom,
             width: self.extent.width,
             across,
             from,
             to,
-        };
-        store_column(self.colors.as_mut_slice(), setup, run)
+        })
     }
 
-    // Draws a triangle in the part of the grid's rectangle that lets it through.
-    fn draw_triangle(
-        &mut self,
-        state: &State,
-        texture: &Texture,
-        plan: &Plan,
-        part: Rect,
+    // The same of a triangle's only column in a part, where it is known that there is one.
+    fn only_column(
+        &self,
         tri: &WindowTriangle,
-    )
-        requires plan { IsPlan state.now plan.now }
-        requires texel { HasTexelIfAny texture.now }
-        requires part { IsPartWhere (grid_rect self.old.extent) part (is_let_through state.now) }
-        ensures extent { self.new.extent ≡ self.old.extent }
-        ensures drawn { IsStepped (covered_step state.now texture.now tri.now.v) self.old.extent (pixels_of self.old.colors.items self.old.depths.items) (pixels_of self.new.colors.items self.new.depths.items) }
+        part: Rect,
+        rows: &SpanIter<'_>,
+    ) -> Option<ColumnRun>
+        requires part { IsPart (grid_rect self.now.extent) part }
+        requires rows { AreRowsOf tri.now part rows.now }
+        ensures { IfSome result (λ r. IsOnlyRun tri.now.v self.now.extent part r) }
     {
-        let rows = spans(tri, part);
-        if rows.is_empty() {
-            return;
-        }
-        let setup = Setup {
-            state,
-            texture,
-            plan,
-            tri,
-            paint: paint_of(plan, tri, self.extent.left, self.extent.bottom),
+        let Some(column) = rows.column() else {
+            return None;
         };
-        if let Some(column) = rows.column() {
-            if self.draw_column(&setup, part, column) {
+        self.column_run(tri, part, column)
+    }
+
+    // Draws a triangle of one column and one colour that is stored alone.
+    fn draw_filled_column(&mut self, setup: &Setup<'_>, part: Rect, run: ColumnRun, color: Rgba)
+        requires part { IsPartWhere (grid_rect self.old.extent) part (is_let_through setup.now.state.now) }
+        requires run { IsOnlyRun setup.now.tri.now.v self.old.extent part run }
+        requires stored { AreStored setup.now.state.now setup.now.texture.now setup.now.tri.now.v }
+        requires color { AreFlat setup.now.tri.now.v color }
+        ensures extent { self.new.extent ≡ self.old.extent }
+        ensures drawn { IsStepped (covered_step setup.now.state.now setup.now.texture.now setup.now.tri.now.v) self.old.extent (pixels_of self.old.colors.items self.old.depths.items) (pixels_of self.new.colors.items self.new.depths.items) }
+    {
+        let _setup = setup;
+        let _part = part;
+        fill_column(self.colors.as_mut_slice(), run, color);
+    }
+
+    // Draws a triangle of one column and several colours that are stored alone.
+    fn draw_stepped_column(
+        &mut self,
+        setup: &Setup<'_>,
+        part: Rect,
+        run: ColumnRun,
+        plane: &ColorPlane,
+    )
+        requires part { IsPartWhere (grid_rect self.old.extent) part (is_let_through setup.now.state.now) }
+        requires run { IsOnlyRun setup.now.tri.now.v self.old.extent part run }
+        requires stored { AreStored setup.now.state.now setup.now.texture.now setup.now.tri.now.v }
+        requires plane { IsColorPlane setup.now.tri.now.v (pos self.old.extent.left) (pos self.old.extent.bottom) plane.now }
+        ensures extent { self.new.extent ≡ self.old.extent }
+        ensures drawn { IsStepped (covered_step setup.now.state.now setup.now.texture.now setup.now.tri.now.v) self.old.extent (pixels_of self.old.colors.items self.old.depths.items) (pixels_of self.new.colors.items self.new.depths.items) }
+    {
+        let _part = part;
+        let first = color_rise(plane, run);
+        step_column(self.colors.as_mut_slice(), setup.tri, run, first);
+    }
+
+    // Draws a triangle in a part by the way that was settled for it.
+    fn draw_painted(&mut self, setup: &Setup<'_>, part: Rect, rows: SpanIter<'_>)
+        requires grid { setup.now.extent ≡ self.old.extent }
+        requires paint { IsPaint setup.now.state.now setup.now.texture.now setup.now.tri.now.v (pos setup.now.extent.left) (pos setup.now.extent.bottom) setup.now.paint }
+        requires part { IsPartWhere (grid_rect self.old.extent) part (is_let_through setup.now.state.now) }
+        requires rows { AreRowsOf setup.now.tri.now part rows }
+        ensures extent { self.new.extent ≡ self.old.extent }
+        ensures drawn { IsStepped (covered_step setup.now.state.now setup.now.texture.now setup.now.tri.now.v) self.old.extent (pixels_of self.old.colors.items self.old.depths.items) (pixels_of self.new.colors.items self.new.depths.items) }
+    {
+        match (self.only_column(setup.tri, part, &rows), setup.paint) {
+            (Some(run), Paint::Fill(color)) => self.draw_filled_column(setup, part, run, color),
+            (Some(run), Paint::Store(plane)) => self.draw_stepped_column(setup, part, run, plane),
+            _ => self.draw_rows(setup, rows),
+        }
+    }
+
+    // Draws a triangle in a part by the way that was settled for it.
+    fn draw_settled<'s>(
+        &mut self,
+        block: &BlockSetup<'_>,
+        tri: &'s WindowTriangle,
+        rows: SpanIter<'s>,
+        paint: Paint<'s>,
+    )
+        requires grid { block.now.extent ≡ self.old.extent }
+        requires paint { IsPaint block.now.state.now block.now.texture.now tri.now.v (pos self.old.extent.left) (pos self.old.extent.bottom) paint }
+        requires rows { AreRowsOf tri.now block.now.part rows }
+        ensures extent { self.new.extent ≡ self.old.extent }
+        ensures drawn { IsStepped (covered_step block.now.state.now block.now.texture.now tri.now.v) self.old.extent (pixels_of self.old.colors.items self.old.depths.items) (pixels_of self.new.colors.items self.new.depths.items) }
+    {
+        let setup = Setup {
+            state: block.state,
+            texture: block.texture,
+            plan: block.plan,
+            tri,
+            extent: self.extent,
+            paint,
+        };
+        self.draw_painted(&setup, block.part, rows);
+    }
+
+    // Draws a triangle in a part with the planes that it needs. It is compiled for itself, since planes take room at its entry.
+    #[inline(never)]
+    fn draw_by_planes<'s>(
+        &mut self,
+        block: &BlockSetup<'_>,
+        tri: &'s WindowTriangle,
+        rows: SpanIter<'s>,
+    )
+        requires grid { block.now.extent ≡ self.old.extent }
+        requires rows { AreRowsOf tri.now block.now.part rows }
+        ensures extent { self.new.extent ≡ self.old.extent }
+        ensures drawn { IsStepped (covered_step block.now.state.now block.now.texture.now tri.now.v) self.old.extent (pixels_of self.old.colors.items self.old.depths.items) (pixels_of self.new.colors.items self.new.depths.items) }
+    {
+        if takes_no_test(block.state, block.texture, block.plan, tri) {
+            if let Some(color) = flat_color(tri) {
+                let source = Source::Flat(color);
+                let tests = Tests::Off;
+                let paint = Paint::Stages(Stages {
+                    source: &source,
+                    tests: &tests,
+                });
+                self.draw_settled(block, tri, rows, paint);
                 return;
             }
         }
-        self.draw_rows(&setup, rows);
+        let shared = shared_at(tri, self.extent.left, self.extent.bottom);
+        if stores_colors(block.state, block.texture, block.plan, tri) {
+            let plane = color_plane(tri, &shared);
+            let paint = Paint::Store(&plane);
+            self.draw_settled(block, tri, rows, paint);
+            return;
+        }
+        let source = source_of(block.state, block.texture, block.plan, tri, &shared);
+        let tests = tests_of(block.state, block.plan, tri, &shared);
+        let paint = Paint::Stages(Stages {
+            source: &source,
+            tests: &tests,
+        });
+        self.draw_settled(block, tri, rows, paint);
+    }
+
+    // Draws a triangle in the part of the grid's rectangle that lets it through.
+    fn draw_triangle(&mut self, block: &BlockSetup<'_>, tri: &WindowTriangle)
+        requires grid { block.now.extent ≡ self.old.extent }
+        ensures extent { self.new.extent ≡ self.old.extent }
+        ensures drawn { IsStepped (covered_step block.now.state.now block.now.texture.now tri.now.v) self.old.extent (pixels_of self.old.colors.items self.old.depths.items) (pixels_of self.new.colors.items self.new.depths.items) }
+    {
+        let rows = spans(tri, block.part);
+        if rows.is_empty() {
+            return;
+        }
+        if stores_colors(block.state, block.texture, block.plan, tri) {
+            if let Some(color) = flat_color(tri) {
+                let paint = Paint::Fill(color);
+                self.draw_settled(block, tri, rows, paint);
+                return;
+            }
+        }
+        self.draw_by_planes(block, tri, rows);
     }
 
     // Draws the triangle of three vertices, where it is kept and doesn't lie beside the part.
     fn draw_corners(
         &mut self,
-        state: &State,
-        texture: &Texture,
-        plan: &Plan,
-        part: Rect,
-        near: &Surrounds,
+        block: &BlockSetup<'_>,
         cache: &mut VertexCache<'_>,
         corners: [usize; 3],
     )
-        requires plan { IsPlan state.now plan.now }
-        requires texel { HasTexelIfAny texture.now }
-        requires part { IsPartWhere (grid_rect self.old.extent) part (is_let_through state.now) }
-        requires near { AreSurrounds part near.now }
-        requires state { cache.old.state.now ≡ state.now }
+        requires grid { block.now.extent ≡ self.old.extent }
+        requires state { cache.old.state.now ≡ block.now.state.now }
         requires corners { AreBelow (length cache.old.vertices.now) corners }
-        ensures state { cache.new.state.now ≡ cache.old.state.now }
-        ensures vertices { cache.new.vertices.now ≡ cache.old.vertices.now }
+        ensures cache { IsCacheOf cache.old.state.now cache.old.vertices.now cache.new }
         ensures extent { self.new.extent ≡ self.old.extent }
-        ensures drawn { IsStepped (corners_step state.now texture.now cache.old.vertices.now corners) self.old.extent (pixels_of self.old.colors.items self.old.depths.items) (pixels_of self.new.colors.items self.new.depths.items) }
+        ensures drawn { IsStepped (corners_step block.now.state.now block.now.texture.now cache.old.vertices.now corners) self.old.extent (pixels_of self.old.colors.items self.old.depths.items) (pixels_of self.new.colors.items self.new.depths.items) }
     {
         cover_lies_in_bounds();
-        let Some(tri) = cache.triangle_near(corners, near) else {
+        let Some(tri) = cache.triangle_near(corners, &block.near) else {
             return;
         };
-        self.draw_triangle(state, texture, plan, part, &tri);
+        self.draw_triangle(block, &tri);
     }
 
     /// Draws the triangles of a block, one after the other, with the texture that the state samples.
@@ -333,11 +363,18 @@ impl Grid {
         ensures drawn { IsStepped (triangles_step state.now texture.now block.now.vertices (triangles_in block.now)) self.old.extent (pixels_of self.old.colors.items self.old.depths.items) (pixels_of self.new.colors.items self.new.depths.items) }
     {
         let part = drawn_part(state, self.rect());
-        let near = surrounds_of(part);
-        let plan = plan_of(state, texture);
+        let plan = plan_of(state);
+        let setup = BlockSetup {
+            state,
+            texture,
+            plan: &plan,
+            extent: self.extent,
+            part,
+            near: surrounds_of(part),
+        };
         let mut cache = VertexCache::new(state, block.vertices.as_slice());
         'draws: for corners in triangles(block) {
-            self.draw_corners(state, texture, &plan, part, &near, &mut cache, corners);
+            self.draw_corners(&setup, &mut cache, corners);
         }
     }
 
@@ -355,16 +392,18 @@ impl Grid {
         let to = offset(part.x1, self.extent.left);
         let first = offset(part.y0, self.extent.bottom);
         let last = offset(part.y1, self.extent.bottom);
-        let clearing = clearing_of(state, mask);
+        let setup = ClearSetup {
+            state,
+            mask,
+            clearing: clearing_of(state, mask),
+        };
         for row in first..last {
             let start = row_start(self.extent.width, row);
             let end = start + self.extent.width as usize;
             clear_row(
                 &mut self.colors.as_mut_slice()[start..end],
                 &mut self.depths.as_mut_slice()[start..end],
-                state,
-                mask,
-                &clearing,
+                &setup,
                 from,
                 to,
             );

@@ -1,5 +1,5 @@
 //! The part of a row that the depth test leaves to be drawn: what lies behind the stored depths costs no colour.
-ghost use Rattle.std.specs.Prelude.{◌≡◌, ◌+◌, ◌≤◌, length, pos, true, false, Option};
+ghost use Rattle.std.specs.Prelude.{◌≡◌, ◌≤◌, length, pos, true, false, Option};
 ghost use Rattle.rc_base.specs.Pictures.{Picture};
 ghost use Rattle.rc_base.specs.Drawing.PixelStep.{fragment_step};
 ghost use Rattle.rc_base.specs.declared.command.Rgba.{Rgba as AnyColor};
@@ -7,14 +7,14 @@ ghost use Rattle.rc_base.specs.declared.state.State.{State as AnyState};
 ghost use Rattle.rc_base.specs.declared.window.Fragment.{Fragment as AnyFragment};
 ghost use Rattle.raster.specs.Colors.{is_depth};
 ghost use Rattle.fragment_ops.specs.DepthTests.{IsDepthTest, pixel};
-ghost use Rattle.draw_device.specs.Loops.{IsRun, IsRunCovered, IsHidden, IsDepthAt, HasDepths};
+ghost use Rattle.draw_device.specs.Loops.{IsRunCovered, IsVisibleFrom};
+ghost use Rattle.draw_device.specs.Plans.{HasDepthPlane};
 
 use crate::run::Run;
-use crate::stepped::depth_by;
+use crate::setup::Setup;
+use crate::stepped::{depth_by, value_ramp};
 use fragment_ops::DepthTest;
-use raster::FineRamp;
-use rc_base::state::State;
-use rc_base::triangle::WindowTriangle;
+use raster::WordPlane;
 
 // Whether a fragment of this depth passes the depth test; where it doesn't, its pixel stays as it is.
 #[inline(always)]
@@ -28,28 +28,16 @@ fn passes_step(test: DepthTest, depth: i32, stored: u32) -> bool
 
 /// The first column of a run whose fragment passes the depth test, or the run's end.
 #[inline(never)]
-pub(crate) fn first_passing(
-    depths: &[u32],
-    state: &State,
-    tri: &WindowTriangle,
-    test: DepthTest,
-    run: Run,
-    first: FineRamp,
-) -> u16
-    requires run { IsRun run }
+pub(crate) fn first_passing(depths: &[u32], setup: &Setup<'_>, plane: &WordPlane, run: Run) -> u16
     requires room { run.to ≤ length depths.now }
-    requires covered { IsRunCovered tri.now.v run }
-    requires ranged { HasDepths tri.now.v }
-    requires test { IsDepthTest state.now test }
-    requires ramp { IsDepthAt tri.now.v run run.from first }
-    ensures low { run.from ≤ result }
-    ensures high { result ≤ run.to }
-    ensures hidden { IsHidden state.now tri.now.v run result depths.now }
+    requires covered { IsRunCovered setup.now.tri.now.v run }
+    requires depths { HasDepthPlane setup.now.tri.now.v (pos run.left) (pos run.bottom) plane.now }
+    ensures { IsVisibleFrom setup.now.state.now setup.now.tri.now.v run depths.now result }
 {
-    let _state = state;
-    let mut ramp = first;
+    let test = setup.plan.depth;
+    let mut ramp = value_ramp(plane, run);
     for x in run.from..run.to {
-        let depth = depth_by(&ramp, tri, run, x);
+        let depth = depth_by(&ramp, setup.tri, run, x);
         if passes_step(test, depth, depths[x as usize]) {
             return x;
         }

@@ -3,33 +3,48 @@
 //! Each pixel of the rectangle takes exactly the step of `rc_base::specs::Drawing::PixelStep`, and nothing else is touched. The rectangle is
 //! the whole window for a serial renderer and a tile's part of it for a tile.
 //!
-//! A row of a triangle goes through a few short loops. Its fragments' colours are laid out first: one colour, stepped ones, or texels by a sampler
-//! and then, where the environment is MODULATE, their products with the triangle's. Then they become what is to be written: blended with the
-//! stored colours by one of two pairs of factors, or left as they are. Then they are put into the pixels, where the depth test passes or without
-//! one. Each loop does one thing to all columns, so that most take several at once. What the depth test hides at a row's beginning is skipped
-//! before. Colours that are stored alone skip the layout; other stages are gone through fragment by fragment.
+//! How a block writes its colours is settled once, and the way of a triangle before its first row; no row asks the state. A row goes through a few
+//! short loops. Its fragments' colours are laid out first: one colour, stepped ones, or texels by a sampler and then, where the environment is
+//! MODULATE, their products with the triangle's. Where there is an alpha test they are flagged by it. Then they become what is to be written: left as
+//! they are, or blended with the stored colours by any two factors, and written by the colour mask. Then they are put into the pixels, where the
+//! tests pass. Each loop does one thing to all columns, so that most take several at once. What the depth test hides at a row's beginning is skipped
+//! before. Colours that are stored alone skip the layout. No state is gone through fragment by fragment; only a row beyond the reach of the planes'
+//! steps is, which no window has.
 //!
 //! A triangle that covers no pixel of the rectangle is dropped before anything is prepared of it. One that stands in one column of it, and whose
 //! colours alone are stored, is drawn up that column.
 #![tactic(auto)]
 
+mod alpha;
+mod blending;
 mod blends;
+mod block_setup;
+mod clear_setup;
+mod clears;
 mod clip;
 mod colors;
 mod column_run;
 mod columns;
 mod device;
 mod extent;
+mod fragments;
 mod grid;
 mod hidden;
 mod paint;
 mod pixels;
 mod plan;
 mod prepare;
+mod put;
 mod rows;
 mod run;
 mod setup;
 mod shade;
+mod source;
+mod spare;
+mod stages;
 mod stepped;
+mod tests;
+mod write;
+mod writes;
 
 pub use device::Device;

@@ -1,13 +1,13 @@
-//! What is prepared of a triangle.
-use raster::{ColorPlane, FinePlane};
+//! The way that a triangle is drawn.
+use crate::stages::Stages;
+use raster::ColorPlane;
 use rc_base::command::Rgba;
 
-/// Whether all depths are in range; the one colour, or the planes of those attributes that its rows step through.
+/// One colour, or a plane of colours, that are stored alone; or the stages of its rows, one after the other. Planes stand elsewhere, so that a triangle
+/// of one colour has no room for them.
 #[derive(Clone, Copy)]
-pub struct Paint {
-    pub ranged: bool,
-    pub flat: Option<Rgba>,
-    pub colors: Option<ColorPlane>,
-    pub depths: Option<FinePlane>,
-    pub coordinates: Option<(FinePlane, FinePlane)>,
+pub enum Paint<'a> {
+    Fill(Rgba),
+    Store(&'a ColorPlane),
+    Stages(Stages<'a>),
 }

@@ -1,23 +1,21 @@
-//! Rows of pixels that take their fragments one by one, by a depth test or by any stages.
-ghost use Rattle.std.specs.Prelude.{◌≡◌, ◌≤◌, length, true, false, Option};
+//! Rows of pixels that take their fragments' written colours, by the depth test or by both tests.
+ghost use Rattle.std.specs.Prelude.{◌≡◌, ◌≤◌, length, pos, true, Option};
 ghost use Rattle.rc_base.specs.Pictures.{Picture};
-ghost use Rattle.rc_base.specs.Drawing.PixelStep.{fragment_step, fragment_color, written_color};
+ghost use Rattle.rc_base.specs.Drawing.PixelStep.{fragment_step, fragment_color, passes_alpha, written_color};
 ghost use Rattle.rc_base.specs.declared.state.State.{State as AnyState};
 ghost use Rattle.rc_base.specs.declared.window.Fragment.{Fragment as AnyFragment};
 ghost use Rattle.raster.specs.Colors.{is_depth};
 ghost use Rattle.fragment_ops.specs.DepthTests.{IsDepthTest, pixel};
-ghost use Rattle.draw_device.specs.Pixels.{pixels_of};
-ghost use Rattle.draw_device.specs.Loops.{IsRun, IsRunCovered, IsRunDrawn, IsDepthAt, HasDepths, AreColors, AreWritten};
+ghost use Rattle.draw_device.specs.Loops.{IsCoveredRow, IsRowDrawn, AreFlags, AreWritten};
+ghost use Rattle.draw_device.specs.Plans.{IsDepthPlane, AreDepthTested};
 
 use crate::run::Run;
-use crate::stepped::depth_by;
-use fragment_ops::{DepthTest, shade_pixel};
-use raster::FineRamp;
+use crate::setup::Setup;
+use crate::spare::Spare;
+use crate::stepped::{depth_by, value_ramp};
+use fragment_ops::DepthTest;
+use raster::WordPlane;
 use rc_base::command::Rgba;
-use rc_base::state::State;
-use rc_base::triangle::WindowTriangle;
-use rc_base::window::{Fragment, Pixel};
-use textures::Texture;
 
 #[inline(always)]
 fn test_step(
@@ -28,7 +26,7 @@ fn test_step(
     stored_depth: &mut u32,
 )
     requires { is_depth depth ≡ true }
-    ensures { (s : AnyState) (p : Option Picture) (f : AnyFragment) → IsDepthTest s test → s.alpha_on ≡ false
+    ensures { (s : AnyState) (p : Option Picture) (f : AnyFragment) → IsDepthTest s test → passes_alpha s (fragment_color s p f).a ≡ true
         → color ≡ written_color s (fragment_color s p f) stored_color.old → depth ≡ f.depth
         → pixel stored_color.new stored_depth.new ≡ fragment_step s p f (pixel stored_color.old stored_depth.old) }
 {
@@ -41,32 +39,20 @@ pub(crate) fn test_run(
     colors: &mut [Rgba],
     depths: &mut [u32],
     written: &[Rgba],
-    state: &State,
-    texture: &Texture,
-    tri: &WindowTriangle,
-    test: DepthTest,
+    setup: &Setup<'_>,
+    plane: &WordPlane,
     run: Run,
-    first: FineRamp,
 )
-    requires run { IsRun run }
-    requires colors { run.to ≤ length colors.old }
-    requires depths { length depths.old ≡ length colors.old }
+    requires row { IsCoveredRow setup.now.tri.now.v run colors.old depths.old }
     requires room { run.to ≤ length written.now }
-    requires written { AreWritten state.now texture.now tri.now.v run colors.old written.now }
-    requires covered { IsRunCovered tri.now.v run }
-    requires ranged { HasDepths tri.now.v }
-    requires through { state.now.alpha_on ≡ false }
-    requires test { IsDepthTest state.now test }
-    requires ramp { IsDepthAt tri.now.v run run.from first }
-    ensures colors { length colors.new ≡ length colors.old }
-    ensures depths { length depths.new ≡ length depths.old }
-    ensures drawn { IsRunDrawn state.now texture.now tri.now.v run (pixels_of colors.old depths.old) (pixels_of colors.new depths.new) }
+    requires written { AreWritten setup.now.state.now setup.now.texture.now setup.now.tri.now.v run colors.old written.now }
+    requires tested { AreDepthTested setup.now.state.now setup.now.tri.now.v (pos run.left) (pos run.bottom) plane.now }
+    ensures { IsRowDrawn setup.now.state.now setup.now.texture.now setup.now.tri.now.v run colors.old depths.old colors.new depths.new }
 {
-    let _state = state;
-    let _texture = texture;
-    let mut ramp = first;
+    let test = setup.plan.depth;
+    let mut ramp = value_ramp(plane, run);
     for x in run.from..run.to {
-        let depth = depth_by(&ramp, tri, run, x);
+        let depth = depth_by(&ramp, setup.tri, run, x);
         let place = x as usize;
         test_step(
             test,
@@ -79,55 +65,67 @@ pub(crate) fn test_run(
     }
 }
 
-fn any_step(state: &State, color: Rgba, depth: i32, old: Pixel) -> Pixel
-    ensures { (p : Option Picture) (f : AnyFragment) → color ≡ fragment_color state.now p f → depth ≡ f.depth → result ≡ fragment_step state.now p f old }
+fn is_depth(depth: i32) -> bool
+    ensures { result ≡ is_depth depth }
 {
-    let fragment = Fragment {
-        x: 0,
-        y: 0,
-        color,
-        depth,
-        s: 0,
-        t: 0,
-    };
-    shade_pixel(state, &fragment, old)
+    0 <= depth && depth <= 16_777_215
 }
 
-/// Fragments of these colours go through any stages.
+// Of a fragment of which is known whether its alpha passes.
+#[inline(always)]
+fn any_step(
+    test: DepthTest,
+    passes: bool,
+    color: Rgba,
+    depth: i32,
+    stored_color: &mut Rgba,
+    stored_depth: &mut u32,
+)
+    ensures { (s : AnyState) (p : Option Picture) (f : AnyFragment) → IsDepthTest s test → passes ≡ passes_alpha s (fragment_color s p f).a
+        → color ≡ written_color s (fragment_color s p f) stored_color.old → depth ≡ f.depth
+        → pixel stored_color.new stored_depth.new ≡ fragment_step s p f (pixel stored_color.old stored_depth.old) }
+{
+    if !passes {
+        return;
+    }
+    if !is_depth(depth) {
+        return;
+    }
+    test_step(test, color, depth, stored_color, stored_depth);
+}
+
+/// The written colours are stored with their depths, where both tests pass. Depths may lie out of range.
 #[inline(never)]
 pub(crate) fn any_run(
     colors: &mut [Rgba],
     depths: &mut [u32],
-    fragments: &[Rgba],
-    state: &State,
-    texture: &Texture,
-    tri: &WindowTriangle,
+    spare: &Spare,
+    setup: &Setup<'_>,
+    plane: &WordPlane,
     run: Run,
-    first: FineRamp,
 )
-    requires run { IsRun run }
-    requires colors { run.to ≤ length colors.old }
-    requires depths { length depths.old ≡ length colors.old }
-    requires room { run.to ≤ length fragments.now }
-    requires colored { AreColors state.now texture.now tri.now.v run fragments.now }
-    requires covered { IsRunCovered tri.now.v run }
-    requires ramp { IsDepthAt tri.now.v run run.from first }
-    ensures colors { length colors.new ≡ length colors.old }
-    ensures depths { length depths.new ≡ length depths.old }
-    ensures drawn { IsRunDrawn state.now texture.now tri.now.v run (pixels_of colors.old depths.old) (pixels_of colors.new depths.new) }
+    requires row { IsCoveredRow setup.now.tri.now.v run colors.old depths.old }
+    requires room { run.to ≤ length spare.now.colors.items }
+    requires written { AreWritten setup.now.state.now setup.now.texture.now setup.now.tri.now.v run colors.old spare.now.colors.items }
+    requires flags { AreFlags setup.now.state.now setup.now.texture.now setup.now.tri.now.v run spare.now.flags.items }
+    requires plane { IsDepthPlane setup.now.tri.now.v (pos run.left) (pos run.bottom) plane.now }
+    ensures { IsRowDrawn setup.now.state.now setup.now.texture.now setup.now.tri.now.v run colors.old depths.old colors.new depths.new }
 {
-    let _texture = texture;
-    let mut ramp = first;
+    let written = spare.colors.as_slice();
+    let flags = spare.flags.as_slice();
+    let test = setup.plan.depth;
+    let mut ramp = value_ramp(plane, run);
     for x in run.from..run.to {
-        let depth = depth_by(&ramp, tri, run, x);
+        let depth = depth_by(&ramp, setup.tri, run, x);
         let place = x as usize;
-        let old = Pixel {
-            color: colors[place],
-            depth: depths[place],
-        };
-        let new = any_step(state, fragments[place], depth, old);
-        colors[place] = new.color;
-        depths[place] = new.depth;
+        any_step(
+            test,
+            flags[place],
+            written[place],
+            depth,
+            &mut colors[place],
+            &mut depths[place],
+        );
         ramp.advance();
     }
 }

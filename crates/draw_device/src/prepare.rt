@@ -1,32 +1,31 @@
 //! What is settled once a block, and once a triangle.
-ghost use Rattle.std.specs.Prelude.{◌≡◌, pos, ℤ, IfSome, true, false};
-ghost use Rattle.rc_base.specs.Drawing.Cover.{is_inside};
-ghost use Rattle.rc_base.specs.Drawing.Fragment.{fragment_of};
-ghost use Rattle.rc_base.specs.Drawing.PixelStep.{textured};
-ghost use Rattle.rc_base.specs.declared.command.Rgba.{Rgba as AnyColor};
-ghost use Rattle.rc_base.specs.declared.window.WindowVertex.{WindowVertex as AnyVertex};
-ghost use Rattle.raster.specs.Colors.{IsColorPlane, HasColor};
-ghost use Rattle.raster.specs.Planes.{IsStencil, IsFinePlane};
-ghost use Rattle.fragment_ops.specs.Shortcuts.{modulated};
-ghost use Rattle.draw_device.specs.Plans.{IsPlan, IsPaint};
+ghost use Rattle.std.specs.Prelude.{◌≡◌, pos, ℤ, true, false, None};
+ghost use Rattle.rc_base.specs.Drawing.Texel.{wrap_in_s, wrap_in_t};
+ghost use Rattle.raster.specs.Planes.{IsTriangleSetup};
+ghost use Rattle.textures.specs.Images.{HasTexel, HasTexelIfAny};
+ghost use Rattle.textures.specs.Samplers.{IsSampler};
+ghost use Rattle.draw_device.specs.Plans.{IsPlan, IsWrite, IsSource, IsTests, AreStored, AreUntested, Replaces, Modulates};
 
-use crate::paint::Paint;
 use crate::plan::Plan;
-use fragment_ops::{blends_over, blends_sum, depth_test_of, stores_alone, writes_plainly};
-use raster::{
-    ColorPlane, FinePlane, Stencil, color_plane, coordinate_planes, depth_plane, flat_color,
-    has_depths, stencil_at,
+use crate::source::Source;
+use crate::tests::Tests;
+use crate::write::Write;
+use fragment_ops::{
+    alpha_test_of, blends_over, blends_sum, depth_test_of, factor_named, stores_alone,
+    writes_channels, writes_plainly,
 };
-use rc_base::command::Rgba;
+use raster::{
+    TriangleSetup, color_plane, coordinate_planes, depth_plane, flat_color, has_depths, setup_at,
+};
 use rc_base::state::State;
 use rc_base::triangle::WindowTriangle;
-use textures::Texture;
+use textures::{Sampler, Texture};
 
 // The texture environment is REPLACE, and not MODULATE.
 #[tactic(auto, unfolding(rc_base::specs::Drawing::PixelStep::textured))]
 fn replaces(state: &State) -> bool
-    ensures replaced { result ≡ true → (color texel : AnyColor) → textured state.now color texel ≡ texel }
-    ensures modulated { result ≡ false → (color texel : AnyColor) → textured state.now color texel ≡ modulated color texel }
+    ensures replaced { result ≡ true → Replaces state.now }
+    ensures modulated { result ≡ false → Modulates state.now }
 {
     state.tex_mode[0] != 0
 }
@@ -45,88 +44,177 @@ fn is_through(state: &State) -> bool
     !state.alpha_on
 }
 
+// How the state's colours are written.
+fn write_of(state: &State) -> Write
+    ensures { IsWrite state.now result }
+{
+    if writes_plainly(state) {
+        return Write::Plain;
+    }
+    if blends_over(state) {
+        return Write::Over;
+    }
+    if blends_sum(state) {
+        return Write::Sum;
+    }
+    if !state.blend_on {
+        return Write::Masked;
+    }
+    let first = factor_named(state.blend[0]);
+    let second = factor_named(state.blend[1]);
+    if writes_channels(state) {
+        return Write::Blended(first, second);
+    }
+    Write::Both(first, second)
+}
+
 /// What the state says of all fragments of a block.
-pub(crate) fn plan_of(state: &State, texture: &Texture) -> Plan
+pub(crate) fn plan_of(state: &State) -> Plan
     ensures { IsPlan state.now result }
 {
     Plan {
         depth: depth_test_of(state),
+        alpha: alpha_test_of(state),
+        write: write_of(state),
         stores: stores_alone(state),
         through: is_through(state),
         untested: is_untested(state),
-        plain: writes_plainly(state),
-        over: blends_over(state),
-        sum: blends_sum(state),
-        textured: texture.has_image(),
         replaces: replaces(state),
     }
 }
 
-fn flat_if(wanted: bool, tri: &WindowTriangle) -> Option<Rgba>
-    ensures { IfSome result (λ c. (i j : ℤ) → is_inside tri.now.v i j ≡ true → HasColor c (fragment_of tri.now.v i j)) }
+/// What all attributes of a triangle share, from pixel (`left`, `bottom`) on.
+pub(crate) fn shared_at(tri: &WindowTriangle, left: u16, bottom: u16) -> TriangleSetup
+    ensures { IsTriangleSetup tri.now.v (pos left) (pos bottom) result }
 {
-    if !wanted {
-        return None;
-    }
-    flat_color(tri)
+    setup_at(tri, i32::from(left), i32::from(bottom))
 }
 
-fn colors_if(wanted: bool, tri: &WindowTriangle, stencil: &Stencil) -> Option<ColorPlane>
-    ensures { (x y : ℤ) → IsStencil tri.now.v x y stencil.now → IfSome result (λ p. IsColorPlane tri.now.v x y p) }
-{
-    if !wanted {
-        return None;
-    }
-    Some(color_plane(tri, stencil))
-}
-
-fn depths_if(wanted: bool, tri: &WindowTriangle, stencil: &Stencil) -> Option<FinePlane>
-    ensures { (x y : ℤ) → IsStencil tri.now.v x y stencil.now → IfSome result (λ p. IsFinePlane tri.now.v x y (λ (c : AnyVertex). c.z) p) }
-{
-    if !wanted {
-        return None;
-    }
-    Some(depth_plane(tri, stencil))
-}
-
-fn coordinates_if(
-    wanted: bool,
+// The triangle's own colours, without a texture.
+fn plain_source<'a>(
+    state: &State,
+    texture: &'a Texture,
     tri: &WindowTriangle,
-    stencil: &Stencil,
-) -> Option<(FinePlane, FinePlane)>
-    ensures { (x y : ℤ) → IsStencil tri.now.v x y stencil.now
-        → IfSome result (λ p. IsFinePlane tri.now.v x y (λ (c : AnyVertex). c.s) p.0 × IsFinePlane tri.now.v x y (λ (c : AnyVertex). c.t) p.1) }
+    shared: &TriangleSetup,
+) -> Source<'a>
+    requires { texture.now ≡ None }
+    ensures { (x y : ℤ) → IsTriangleSetup tri.now.v x y shared.now → IsSource state.now texture.now tri.now.v x y result }
 {
-    if !wanted {
-        return None;
+    let _state = state;
+    let _texture = texture;
+    match flat_color(tri) {
+        Some(color) => Source::Flat(color),
+        None => Source::Smooth(color_plane(tri, shared)),
     }
-    Some(coordinate_planes(tri, stencil))
 }
 
-/// The planes of a triangle that its rows need, from pixel (`left`, `bottom`) on.
-pub(crate) fn paint_of(plan: &Plan, tri: &WindowTriangle, left: u16, bottom: u16) -> Paint
-    ensures { IsPaint tri.now.v (pos left) (pos bottom) result }
+// Texels, which replace the triangle's colours or are modulated by them.
+fn texel_source<'a>(
+    state: &State,
+    texture: &'a Texture,
+    plan: &Plan,
+    sampler: Sampler<'a>,
+    tri: &WindowTriangle,
+    shared: &TriangleSetup,
+) -> Source<'a>
+    requires plan { IsPlan state.now plan.now }
+    requires texel { HasTexel texture.now }
+    requires sampler { IsSampler texture.now (wrap_in_s state.now) (wrap_in_t state.now) sampler }
+    ensures { (x y : ℤ) → IsTriangleSetup tri.now.v x y shared.now → IsSource state.now texture.now tri.now.v x y result }
 {
-    let ranged = has_depths(tri);
-    let flat = flat_if(!plan.textured, tri);
-    let written = plan.plain || plan.over || plan.sum;
-    let shallow = ranged && plan.through && plan.untested && written;
-    if shallow && flat.is_some() {
-        return Paint {
-            ranged,
-            flat,
-            colors: None,
-            depths: None,
-            coordinates: None,
-        };
+    let _state = state;
+    let _texture = texture;
+    let (ss, ts) = coordinate_planes(tri, shared);
+    if plan.replaces {
+        return Source::Texels(sampler, ss, ts);
     }
-    let stencil = stencil_at(tri, i32::from(left), i32::from(bottom));
-    let stepped = flat.is_none() && !(plan.textured && plan.replaces);
-    Paint {
-        ranged,
-        flat,
-        colors: colors_if(stepped, tri, &stencil),
-        depths: depths_if(!shallow, tri, &stencil),
-        coordinates: coordinates_if(plan.textured, tri, &stencil),
+    Source::Tinted(sampler, ss, ts, color_plane(tri, shared))
+}
+
+/// The tests of a triangle's fragments.
+pub(crate) fn tests_of(
+    state: &State,
+    plan: &Plan,
+    tri: &WindowTriangle,
+    shared: &TriangleSetup,
+) -> Tests
+    requires { IsPlan state.now plan.now }
+    ensures { (x y : ℤ) → IsTriangleSetup tri.now.v x y shared.now → IsTests state.now tri.now.v x y result }
+{
+    let _state = state;
+    if !has_depths(tri) {
+        return Tests::Any(depth_plane(tri, shared));
     }
+    if plan.untested {
+        if plan.through {
+            return Tests::Off;
+        }
+        return Tests::Alpha;
+    }
+    if plan.through {
+        return Tests::Depth(depth_plane(tri, shared));
+    }
+    Tests::Both(depth_plane(tri, shared))
+}
+
+/// How the colours of a triangle's fragments are made: of texels, where the texture has one.
+pub(crate) fn source_of<'a>(
+    state: &State,
+    texture: &'a Texture,
+    plan: &Plan,
+    tri: &WindowTriangle,
+    shared: &TriangleSetup,
+) -> Source<'a>
+    requires plan { IsPlan state.now plan.now }
+    requires texel { HasTexelIfAny texture.now }
+    ensures { (x y : ℤ) → IsTriangleSetup tri.now.v x y shared.now → IsSource state.now texture.now tri.now.v x y result }
+{
+    match texture.sampler(state.tex_mode[1], state.tex_mode[2]) {
+        Some(sampler) => texel_source(state, texture, plan, sampler, tri, shared),
+        None => plain_source(state, texture, tri, shared),
+    }
+}
+
+/// Whether of a triangle's fragments the colours alone are stored.
+pub(crate) fn stores_colors(
+    state: &State,
+    texture: &Texture,
+    plan: &Plan,
+    tri: &WindowTriangle,
+) -> bool
+    requires { IsPlan state.now plan.now }
+    ensures { result ≡ true → AreStored state.now texture.now tri.now.v }
+{
+    let _state = state;
+    if !plan.stores {
+        return false;
+    }
+    if texture.has_image() {
+        return false;
+    }
+    has_depths(tri)
+}
+
+/// Whether a triangle's fragments have no texture and take no test.
+pub(crate) fn takes_no_test(
+    state: &State,
+    texture: &Texture,
+    plan: &Plan,
+    tri: &WindowTriangle,
+) -> bool
+    requires { IsPlan state.now plan.now }
+    ensures none { result ≡ true → texture.now ≡ None }
+    ensures untested { result ≡ true → AreUntested state.now tri.now.v }
+{
+    let _state = state;
+    if !plan.through {
+        return false;
+    }
+    if !plan.untested {
+        return false;
+    }
+    if texture.has_image() {
+        return false;
+    }
+    has_depths(tri)
 }

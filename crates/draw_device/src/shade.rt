@@ -1,18 +1,16 @@
-//! The pixels of a run: each takes the fragment of the triangle that covers it.
+//! The pixels of a row: each takes the fragment of the triangle that covers it.
 ghost use Rattle.std.specs.Prelude.{◌≡◌, ◌+◌, ◌≤◌, length, pos, true};
 ghost use Rattle.rc_base.specs.Drawing.Cover.{is_inside};
 ghost use Rattle.rc_base.specs.Drawing.PixelStep.{fragment_step, fragment_color};
 ghost use Rattle.textures.specs.Images.{HasTexelIfAny};
-ghost use Rattle.draw_device.specs.Pixels.{pixels_of};
-ghost use Rattle.draw_device.specs.Shapes.{fragment_pixel};
-ghost use Rattle.draw_device.specs.Loops.{IsRunCovered, IsRunDrawn};
+ghost use Rattle.draw_device.specs.Shapes.{fragment_pixel, IsRowChanged};
+ghost use Rattle.draw_device.specs.Loops.{AreCovered};
 
-use crate::run::Run;
+use crate::setup::Setup;
 use fragment_ops::{shade_pixel, texture_color};
 use raster::fragment_at;
 use rc_base::command::Rgba;
 use rc_base::state::State;
-use rc_base::triangle::WindowTriangle;
 use rc_base::window::{Fragment, Pixel};
 use textures::Texture;
 
@@ -37,49 +35,38 @@ fn shade(state: &State, texture: &Texture, fragment: &Fragment, old: Pixel) -> P
     shade_pixel(state, &Fragment { color, ..*fragment }, old)
 }
 
-// The pixel after the triangle's fragment at a column that lies `x` to the right of another.
-fn shade_at(
-    state: &State,
-    texture: &Texture,
-    tri: &WindowTriangle,
-    left: u16,
-    x: u16,
-    row: u16,
-    old: Pixel,
-) -> Pixel
-    requires texel { HasTexelIfAny texture.now }
-    requires inside { is_inside tri.now.v (pos (left + x)) (pos row) ≡ true }
-    ensures { result ≡ fragment_pixel state.now texture.now tri.now.v (pos (left + x)) (pos row) old }
+// The pixel after the triangle's fragment at a column of the grid and a row of the window.
+fn shade_at(setup: &Setup<'_>, x: u16, row: u16, old: Pixel) -> Pixel
+    requires { is_inside setup.now.tri.now.v (pos (setup.now.extent.left + x)) (pos row) ≡ true }
+    ensures { result ≡ fragment_pixel setup.now.state.now setup.now.texture.now setup.now.tri.now.v (pos (setup.now.extent.left + x)) (pos row) old }
 {
-    let fragment = fragment_at(tri, i32::from(left) + i32::from(x), i32::from(row));
-    shade(state, texture, &fragment, old)
+    let column = i32::from(setup.extent.left) + i32::from(x);
+    let fragment = fragment_at(setup.tri, column, i32::from(row));
+    shade(setup.state, setup.texture, &fragment, old)
 }
 
-/// Draws the run of a row, pixel by pixel.
+/// Draws columns `from` to below `to` of the window's row, pixel by pixel.
 pub(crate) fn draw_run(
     colors: &mut [Rgba],
     depths: &mut [u32],
-    state: &State,
-    texture: &Texture,
-    tri: &WindowTriangle,
-    run: Run,
+    setup: &Setup<'_>,
+    row: u16,
+    from: u16,
+    to: u16,
 )
-    requires order { run.from ≤ run.to }
-    requires colors { run.to ≤ length colors.old }
+    requires order { from ≤ to }
+    requires colors { to ≤ length colors.old }
     requires depths { length depths.old ≡ length colors.old }
-    requires texel { HasTexelIfAny texture.now }
-    requires covered { IsRunCovered tri.now.v run }
-    ensures colors { length colors.new ≡ length colors.old }
-    ensures depths { length depths.new ≡ length depths.old }
-    ensures drawn { IsRunDrawn state.now texture.now tri.now.v run (pixels_of colors.old depths.old) (pixels_of colors.new depths.new) }
+    requires covered { AreCovered setup.now.tri.now.v setup.now.extent.left row from to }
+    ensures { IsRowChanged (fragment_pixel setup.now.state.now setup.now.texture.now setup.now.tri.now.v) setup.now.extent.left row from to colors.old depths.old colors.new depths.new }
 {
-    for x in run.from..run.to {
+    for x in from..to {
         let place = x as usize;
         let old = Pixel {
             color: colors[place],
             depth: depths[place],
         };
-        let new = shade_at(state, texture, tri, run.left, x, run.row, old);
+        let new = shade_at(setup, x, row, old);
         colors[place] = new.color;
         depths[place] = new.depth;
     }

@@ -1,12 +1,29 @@
 //! What a ramp has at a column of a run, as what the triangle's fragment has there.
-ghost use Rattle.std.specs.Prelude.{◌≡◌, ◌+◌, ◌^◌, ◌<◌, pos, true};
+ghost use Rattle.std.specs.Prelude.{◌≡◌, ◌+◌, ◌^◌, ◌<◌, ℤ, List, pos, true};
 ghost use Rattle.rc_base.specs.Drawing.Cover.{is_inside};
-ghost use Rattle.draw_device.specs.Loops.{run_fragment, IsColorAt, IsDepthAt, IsSAt, IsTAt};
+ghost use Rattle.rc_base.specs.declared.window.WindowVertex.{WindowVertex as AnyVertex};
+ghost use Rattle.raster.specs.Colors.{IsColorPlane};
+ghost use Rattle.raster.specs.Planes.{IsWordPlane};
+ghost use Rattle.draw_device.specs.Loops.{run_fragment, IsColorAt, IsValueAt, IsDepthAt, IsSAt, IsTAt};
 
 use crate::run::Run;
-use raster::{ColorRamp, FineRamp};
+use raster::{ColorPlane, ColorRamp, WordPlane, WordRamp};
 use rc_base::command::Rgba;
 use rc_base::triangle::WindowTriangle;
+
+/// The colours of a plane from the run's first column on.
+pub(crate) fn color_ramp(plane: &ColorPlane, run: Run) -> ColorRamp
+    ensures { (v : List AnyVertex) → IsColorPlane v (pos run.left) (pos run.bottom) plane.now → IsColorAt v run run.from result }
+{
+    plane.ramp(u64::from(run.from), u64::from(run.up))
+}
+
+/// An attribute's values from the run's first column on.
+pub(crate) fn value_ramp(plane: &WordPlane, run: Run) -> WordRamp
+    ensures { (v : List AnyVertex) (f : AnyVertex → ℤ) → IsWordPlane v (pos run.left) (pos run.bottom) f plane.now → IsValueAt v run f run.from result }
+{
+    plane.ramp(u64::from(run.from), u64::from(run.up))
+}
 
 pub(crate) fn color_by(ramp: &ColorRamp, tri: &WindowTriangle, run: Run, x: u16) -> Rgba
     requires inside { is_inside tri.now.v (pos (run.left + x)) (pos run.row) ≡ true }
@@ -19,7 +36,7 @@ pub(crate) fn color_by(ramp: &ColorRamp, tri: &WindowTriangle, run: Run, x: u16)
     ramp.color()
 }
 
-pub(crate) fn depth_by(ramp: &FineRamp, tri: &WindowTriangle, run: Run, x: u16) -> i32
+pub(crate) fn depth_by(ramp: &WordRamp, tri: &WindowTriangle, run: Run, x: u16) -> i32
     requires inside { is_inside tri.now.v (pos (run.left + x)) (pos run.row) ≡ true }
     requires few { 1 + x + run.up < 2 ^ 12 }
     requires ramp { IsDepthAt tri.now.v run x ramp.now }
@@ -30,7 +47,7 @@ pub(crate) fn depth_by(ramp: &FineRamp, tri: &WindowTriangle, run: Run, x: u16) 
     ramp.mean()
 }
 
-pub(crate) fn s_by(ramp: &FineRamp, tri: &WindowTriangle, run: Run, x: u16) -> i32
+pub(crate) fn s_by(ramp: &WordRamp, tri: &WindowTriangle, run: Run, x: u16) -> i32
     requires inside { is_inside tri.now.v (pos (run.left + x)) (pos run.row) ≡ true }
     requires few { 1 + x + run.up < 2 ^ 12 }
     requires ramp { IsSAt tri.now.v run x ramp.now }
@@ -41,7 +58,7 @@ pub(crate) fn s_by(ramp: &FineRamp, tri: &WindowTriangle, run: Run, x: u16) -> i
     ramp.mean()
 }
 
-pub(crate) fn t_by(ramp: &FineRamp, tri: &WindowTriangle, run: Run, x: u16) -> i32
+pub(crate) fn t_by(ramp: &WordRamp, tri: &WindowTriangle, run: Run, x: u16) -> i32
     requires inside { is_inside tri.now.v (pos (run.left + x)) (pos run.row) ≡ true }
     requires few { 1 + x + run.up < 2 ^ 12 }
     requires ramp { IsTAt tri.now.v run x ramp.now }

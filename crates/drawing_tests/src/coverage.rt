@@ -6,7 +6,7 @@ ghost use Rattle.rc_base.specs.Drawing.Kept.{three};
 use fixed_math::edge;
 use raster::{
     color_plane, cover_lies_in_bounds, covers, flat_color, fragment_at, has_depths, no_double_edge,
-    spans, stencil_at,
+    setup_at, spans,
 };
 use rc_base::command::Rgba;
 use rc_base::triangle::WindowTriangle;
@@ -208,7 +208,7 @@ fn a_column_is_stepped_upward(rt: HostRuntime) {
         vertex(-24, 40, -7, 228, 0, 0),
     )
     .expect(&rt, "a triangle");
-    let mut color = color_plane(&tri, &stencil_at(&tri, -3, -2)).rise(1, 0);
+    let mut color = color_plane(&tri, &setup_at(&tri, -3, -2)).rise(1, 0);
     for g in [147, 167, 187, 207] {
         assert!(rt; color.color().g == g);
         color.advance();
@@ -231,4 +231,59 @@ fn triangles_between_centres_are_empty(rt: HostRuntime) {
     // One with a pixel in each of two rows.
     let tri = triangle(at(4, 0), at(12, 0), at(8, 40)).expect(&rt, "a triangle");
     assert!(rt; two_spans(&tri, rect) == (Some((0, 0, 1)), Some((1, 0, 1))));
+}
+
+// Whether the spans of a triangle have exactly the pixels of a rectangle that it covers: each row's once, from left to right, rows rising.
+fn spans_are_the_cover(tri: &WindowTriangle, rect: Rect) -> bool {
+    let mut rows = spans(tri, rect);
+    let mut next = rows.next();
+    for y in rect.y0..rect.y1 {
+        let mut x0 = rect.x1;
+        let mut x1 = rect.x1;
+        if let Some(span) = next {
+            if span.y == y {
+                x0 = span.x0;
+                x1 = span.x1;
+                next = rows.next();
+            }
+        }
+        for x in rect.x0..rect.x1 {
+            if covers(tri, x, y) != (x0 <= x && x < x1) {
+                return false;
+            }
+        }
+    }
+    next.is_none()
+}
+
+// The same of each rectangle of one to seventeen columns whose left end is from -9 to 9: of the widths that are found by lanes, and of more.
+fn spans_are_the_cover_at_each_width(tri: &WindowTriangle) -> bool {
+    for x0 in -9..10 {
+        for width in 1..18 {
+            let rect = Rect {
+                x0,
+                y0: -1,
+                x1: x0.wrapping_add(width),
+                y1: 5,
+            };
+            if !spans_are_the_cover(tri, rect) {
+                return false;
+            }
+        }
+    }
+    true
+}
+
+#[test]
+fn spans_of_any_width_are_the_cover(rt: HostRuntime) {
+    let m = 1048576;
+    for (a, b, c) in [
+        (at(0, 0), at(32, 0), at(0, 32)),
+        // All of a window of 17 by 2, and more.
+        (at(0, 0), at(544, 0), at(0, 64)),
+        (at(-m, -m), at(m, -m), at(-m, m)),
+    ] {
+        let tri = triangle(a, b, c).expect(&rt, "a triangle");
+        assert!(rt; spans_are_the_cover_at_each_width(&tri));
+    }
 }

@@ -16,4 +16,6 @@ mod products;
 #[cfg(test)]
 mod rectangles;
 #[cfg(test)]
+mod stages;
+#[cfg(test)]
 mod texels;

@@ -91,7 +91,7 @@ pub failed_is : (t : DepthTest) (c : Rgba) (depth : ℕ) (old : Pixel) → passe
 unfolding tested_pixel
 failed_is t c depth old h = rw h refl
 
-pub tested_is : (s : State) (t : DepthTest) (c color : Rgba) (depth : ℕ) (old : Pixel) → IsDepthTest s t → s.alpha_on ≡ false
+pub tested_is : (s : State) (t : DepthTest) (c color : Rgba) (depth : ℕ) (old : Pixel) → IsDepthTest s t → passes_alpha s c.a ≡ true
     → color ≡ written_color s c old.color → tested_pixel t color depth old ≡ shaded s c depth old
 unfolding tested_pixel shaded
 tested_is s t c color depth old p alpha w =

@@ -1,6 +1,6 @@
 //! Colours made of two: by a texel, and with the stored one.
 ghost use Rattle.std.specs.Prelude.{◌≡◌, ◌<◌, ℕ, true};
-ghost use Rattle.rc_base.specs.Colors.{rgba};
+ghost use Rattle.rc_base.specs.Colors.{rgba, prod};
 ghost use Rattle.rc_base.specs.Drawing.PixelStep.{written_color};
 ghost use Rattle.rc_base.specs.declared.state.State.{State as AnyState};
 ghost use Rattle.fragment_ops.specs.Pairs.{pair_of};
@@ -32,6 +32,16 @@ pub fn modulate(color: Rgba, texel: Rgba) -> Rgba
 {
     let red_blue = products(color.r, texel.r, color.b, texel.b);
     let green_alpha = products(color.g, texel.g, color.a, texel.a);
+    unpaired(red_blue, green_alpha)
+}
+
+/// A colour's channels as so many parts of 255.
+#[inline(always)]
+pub(crate) fn scale_color(color: Rgba, by: u8) -> Rgba
+    ensures { result ≡ rgba (prod color.r by) (prod color.g by) (prod color.b by) (prod color.a by) }
+{
+    let red_blue = scaled(color.r, color.b, by);
+    let green_alpha = scaled(color.g, color.a, by);
     unpaired(red_blue, green_alpha)
 }
 

@@ -1,7 +1,7 @@
 //! The depth test, prepared once for a draw.
-ghost use Rattle.std.specs.Prelude.{◌≡◌, ◌≤◌, ℕ, ◌||◌, ◌&&◌, ◌==◌, nat_lt, if◌then◌else◌, false};
+ghost use Rattle.std.specs.Prelude.{◌≡◌, ◌≤◌, ℕ, ◌||◌, ◌&&◌, ◌==◌, nat_lt, if◌then◌else◌, true, false};
 ghost use Rattle.rc_base.specs.Drawing.Window.{depth_most};
-ghost use Rattle.rc_base.specs.Drawing.PixelStep.{compares, written_color, shaded};
+ghost use Rattle.rc_base.specs.Drawing.PixelStep.{compares, passes_alpha, written_color, shaded};
 ghost use Rattle.rc_base.specs.declared.command.Rgba.{Rgba as AnyColor};
 ghost use Rattle.rc_base.specs.declared.state.State.{State as AnyState};
 ghost use Rattle.rc_base.specs.declared.window.Pixel.{Pixel as AnyPixel};
@@ -20,7 +20,7 @@ pub struct DepthTest {
     pub stores: bool,
 }
 
-fn outcomes(below: bool, equal: bool, above: bool, stores: bool) -> DepthTest
+pub(crate) fn outcomes(below: bool, equal: bool, above: bool, stores: bool) -> DepthTest
     ensures { result ≡ record { below = below; equal = equal; above = above; stores = stores } }
 {
     DepthTest {
@@ -32,7 +32,7 @@ fn outcomes(below: bool, equal: bool, above: bool, stores: bool) -> DepthTest
 }
 
 #[tactic(auto, using(crate::proofs::Outcomes::none_is, crate::proofs::Outcomes::less_is, crate::proofs::Outcomes::equal_is, crate::proofs::Outcomes::at_most_is, crate::proofs::Outcomes::greater_is, crate::proofs::Outcomes::other_is, crate::proofs::Outcomes::at_least_is, crate::proofs::Outcomes::all_is))]
-fn outcomes_of(function: u8, stores: bool) -> DepthTest
+pub(crate) fn outcomes_of(function: u8, stores: bool) -> DepthTest
     ensures passes { (a b : ℕ) → passes result a b ≡ compares function a b }
     ensures stores { result.stores ≡ stores }
 {
@@ -118,7 +118,7 @@ impl DepthTest {
     pub fn put(&self, color: Rgba, depth: u32, stored_color: &mut Rgba, stored_depth: &mut u32)
         requires { depth ≤ depth_most }
         ensures value { pixel stored_color.new stored_depth.new ≡ tested_pixel self.now color depth (pixel stored_color.old stored_depth.old) }
-        ensures stored { (s : AnyState) (c : AnyColor) → IsDepthTest s self.now → s.alpha_on ≡ false → color ≡ written_color s c stored_color.old
+        ensures stored { (s : AnyState) (c : AnyColor) → IsDepthTest s self.now → passes_alpha s c.a ≡ true → color ≡ written_color s c stored_color.old
             → pixel stored_color.new stored_depth.new ≡ shaded s c depth (pixel stored_color.old stored_depth.old) }
     {
         if self.passes(depth, *stored_depth) {

@@ -51,6 +51,13 @@ fn blends_by(state: &State, source: u8, stored: u8) -> bool
         && (writes_all(state.color_mask) && (state.blend[0] == source && state.blend[1] == stored))
 }
 
+/// Whether the colour mask has all channels written.
+pub fn writes_channels(state: &State) -> bool
+    ensures { result ≡ writes_all state.now.color_mask }
+{
+    writes_all(state.color_mask)
+}
+
 /// Whether a fragment's colour is blended by SRC_ALPHA and ONE_MINUS_SRC_ALPHA, and all of it is written.
 pub fn blends_over(state: &State) -> bool
     ensures { result ≡ blends_over state.now }

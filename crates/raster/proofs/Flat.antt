@@ -6,7 +6,7 @@ use Rattle.fixed_math.proofs.Signed.{times_assoc}
 use Rattle.rc_base.specs.Drawing.Cover.{triangle_area, centre}
 use Rattle.rc_base.specs.Drawing.Fragment.{weight, weighted_sum}
 use Rattle.rc_base.specs.declared.window.WindowVertex.{WindowVertex}
-use Rattle.raster.specs.Planes.{sum_at, gain_across, gain_up, AreCorners, IsNear, IsFineResidue, IsClose}
+use Rattle.raster.specs.Planes.{sum_at, gain_across, gain_up, AreCorners, IsByteQuotient, IsWordResidue, IsWordQuotient}
 use Rattle.raster.proofs.Average.{weights_sum, sum_of_three}
 
 -- its sum is the area times it
@@ -29,14 +29,14 @@ apart area c a = sym (times_assoc c area a) ∙ ap (λ z. z *ℤ a) (*ℤ_comm c
 
 -- ---- in parts of 2^56
 
-near_nothing : (n area : ℤ) → n ≡ pos 0 → IsNear n area 1 0
-near_nothing n area e =
+byte_quotient_nothing : (n area : ℤ) → n ≡ pos 0 → IsByteQuotient n area 1 0
+byte_quotient_nothing n area e =
     let z : area *ℤ pos 0 ≡ pos 0 = omega (arith, ints) in
     record { whole = pos 0; low = omega (arith, ints); high = omega (arith, ints); residue = record { turns = pos 0; is = omega (arith, ints) } }
 
-pub near_flat : (v : List WindowVertex) (x y : ℤ) (f : WindowVertex → ℤ) (a p : ℕ) → AreCorners v f (pos a) (pos a) (pos a) → p ≡ a * 2 ^ 56
-    → IsNear (sum_at v x y f) (triangle_area v) 1 p
-near_flat v x y f a p h e =
+pub byte_quotient_flat : (v : List WindowVertex) (x y : ℤ) (f : WindowVertex → ℤ) (a p : ℕ) → AreCorners v f (pos a) (pos a) (pos a) → p ≡ a * 2 ^ 56
+    → IsByteQuotient (sum_at v x y f) (triangle_area v) 1 p
+byte_quotient_flat v x y f a p h e =
     let s = flat_sum v x y f (pos a) h in
     let q = apart (triangle_area v) (pos (2 ^ 56)) (pos a) in
     record {
@@ -46,28 +46,28 @@ near_flat v x y f a p h e =
       residue = record { turns = pos 0; is = omega (arith, ints) };
     }
 
-pub near_across : (v : List WindowVertex) (x y : ℤ) (f : WindowVertex → ℤ) (a : ℤ) → AreCorners v f a a a → IsNear (gain_across v x y f) (triangle_area v) 1 0
-near_across v x y f a h = near_nothing _ _ (flat_across v x y f a h)
+pub byte_quotient_across : (v : List WindowVertex) (x y : ℤ) (f : WindowVertex → ℤ) (a : ℤ) → AreCorners v f a a a → IsByteQuotient (gain_across v x y f) (triangle_area v) 1 0
+byte_quotient_across v x y f a h = byte_quotient_nothing _ _ (flat_across v x y f a h)
 
-pub near_up : (v : List WindowVertex) (x y : ℤ) (f : WindowVertex → ℤ) (a : ℤ) → AreCorners v f a a a → IsNear (gain_up v x y f) (triangle_area v) 1 0
-near_up v x y f a h = near_nothing _ _ (flat_up v x y f a h)
+pub byte_quotient_up : (v : List WindowVertex) (x y : ℤ) (f : WindowVertex → ℤ) (a : ℤ) → AreCorners v f a a a → IsByteQuotient (gain_up v x y f) (triangle_area v) 1 0
+byte_quotient_up v x y f a h = byte_quotient_nothing _ _ (flat_up v x y f a h)
 
 -- ---- in parts of 2^96
 
-close_nothing : (n area : ℤ) → n ≡ pos 0 → IsClose n area 1 0
-close_nothing n area e =
+word_quotient_nothing : (n area : ℤ) → n ≡ pos 0 → IsWordQuotient n area 1 0
+word_quotient_nothing n area e =
     let z : area *ℤ pos 0 ≡ pos 0 = omega (arith, ints) in
     record { whole = pos 0; low = omega (arith, ints); high = omega (arith, ints); residue = record { turns = pos 0; is = omega (arith, ints) } }
 
-pub close_flat : (v : List WindowVertex) (x y : ℤ) (f : WindowVertex → ℤ) (a : ℤ) (p : ℕ) → AreCorners v f a a a → IsFineResidue (pos (2 ^ 96) *ℤ a) p
-    → IsClose (sum_at v x y f) (triangle_area v) 1 p
-close_flat v x y f a p h e =
+pub word_quotient_flat : (v : List WindowVertex) (x y : ℤ) (f : WindowVertex → ℤ) (a : ℤ) (p : ℕ) → AreCorners v f a a a → IsWordResidue (pos (2 ^ 96) *ℤ a) p
+    → IsWordQuotient (sum_at v x y f) (triangle_area v) 1 p
+word_quotient_flat v x y f a p h e =
     let s = flat_sum v x y f a h in
     let q = apart (triangle_area v) (pos (2 ^ 96)) a in
     record { whole = pos (2 ^ 96) *ℤ a; low = omega (arith, ints, s, q); high = omega (arith, ints, s, q); residue = e }
 
-pub close_across : (v : List WindowVertex) (x y : ℤ) (f : WindowVertex → ℤ) (a : ℤ) → AreCorners v f a a a → IsClose (gain_across v x y f) (triangle_area v) 1 0
-close_across v x y f a h = close_nothing _ _ (flat_across v x y f a h)
+pub word_quotient_across : (v : List WindowVertex) (x y : ℤ) (f : WindowVertex → ℤ) (a : ℤ) → AreCorners v f a a a → IsWordQuotient (gain_across v x y f) (triangle_area v) 1 0
+word_quotient_across v x y f a h = word_quotient_nothing _ _ (flat_across v x y f a h)
 
-pub close_up : (v : List WindowVertex) (x y : ℤ) (f : WindowVertex → ℤ) (a : ℤ) → AreCorners v f a a a → IsClose (gain_up v x y f) (triangle_area v) 1 0
-close_up v x y f a h = close_nothing _ _ (flat_up v x y f a h)
+pub word_quotient_up : (v : List WindowVertex) (x y : ℤ) (f : WindowVertex → ℤ) (a : ℤ) → AreCorners v f a a a → IsWordQuotient (gain_up v x y f) (triangle_area v) 1 0
+word_quotient_up v x y f a h = word_quotient_nothing _ _ (flat_up v x y f a h)

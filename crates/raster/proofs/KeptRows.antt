@@ -24,7 +24,7 @@ edge_row a b y0 y px =
     let o = neg_times (pos 16 *ℤ (a.x -ℤ b.x)) (y -ℤ y0) in
     omega (arith, ints, f, g, h, m, o)
 
-passes_strict : (e : ℤ) (k : Bool) → passes e k ≡ int_lt (pos 0) (strict_value e k)
+pub passes_strict : (e : ℤ) (k : Bool) → passes e k ≡ int_lt (pos 0) (strict_value e k)
 passes_strict e true = grind (arith, ints)
 passes_strict e false = grind (arith, ints)
 
@@ -32,10 +32,10 @@ strict_less : (e f d : ℤ) (k : Bool) → f ≡ e -ℤ d → strict_value f k �
 strict_less e f d true h = omega (arith, ints)
 strict_less e f d false h = omega (arith, ints)
 
-above : (z : ℤ) → pos 0 <ℤ z → int_lt (pos 0) z ≡ true
+pub above : (z : ℤ) → pos 0 <ℤ z → int_lt (pos 0) z ≡ true
 above z h = grind (arith, ints)
 
-not_above : (z : ℤ) → z ≤ℤ pos 0 → int_lt (pos 0) z ≡ false
+pub not_above : (z : ℤ) → z ≤ℤ pos 0 → int_lt (pos 0) z ≡ false
 not_above z h = grind (arith, ints)
 
 -- in row y the edge keeps the column exactly where this is above 0

@@ -1,3 +1,10 @@
+mod Products
+mod SpansInTurn
+mod SlopesToSpan
+mod EdgeLanes
+mod LaneBits
+mod BitsToSpan
+mod Convex
 mod SharedEdges
 mod RowsToSpan
 mod Average
@@ -6,8 +13,8 @@ mod PartHoldsCover
 mod Fragments
 mod KeptColumns
 mod KeptRows
-mod Near
-mod FineNear
+mod ByteQuotients
+mod WordQuotients
 mod Affine
 mod OneColumn
 mod Flat

@@ -8,28 +8,28 @@ use Rattle.rc_base.specs.declared.window.WindowVertex.{WindowVertex}
 use Rattle.rc_base.specs.declared.window.Fragment.{Fragment}
 use Rattle.raster.specs.declared.color.ColorPlane.{ColorPlane}
 use Rattle.raster.specs.declared.color.ColorRamp.{ColorRamp}
-use Rattle.raster.specs.Planes.{IsPlane, IsRamp, IsRise}
+use Rattle.raster.specs.Planes.{IsBytePlane, IsByteRamp, IsByteRise}
 
 -- the colour of a triangle from pixel (x, y) on
 pub record IsColorPlane (v : List WindowVertex) (x y : ℤ) (p : ColorPlane) : Type 0 where
-  pub r : IsPlane v x y (λ (c : WindowVertex). pos c.color.r) p.r
-  pub g : IsPlane v x y (λ (c : WindowVertex). pos c.color.g) p.g
-  pub b : IsPlane v x y (λ (c : WindowVertex). pos c.color.b) p.b
-  pub a : IsPlane v x y (λ (c : WindowVertex). pos c.color.a) p.a
+  pub r : IsBytePlane v x y (λ (c : WindowVertex). pos c.color.r) p.r
+  pub g : IsBytePlane v x y (λ (c : WindowVertex). pos c.color.g) p.g
+  pub b : IsBytePlane v x y (λ (c : WindowVertex). pos c.color.b) p.b
+  pub a : IsBytePlane v x y (λ (c : WindowVertex). pos c.color.a) p.a
 
 -- the colour at pixel (x, y), after so many steps, to be stepped along the row
 pub record IsColorRamp (v : List WindowVertex) (x y : ℤ) (k : ℕ) (p : ColorRamp) : Type 0 where
-  pub r : IsRamp v x y (λ (c : WindowVertex). pos c.color.r) k p.r
-  pub g : IsRamp v x y (λ (c : WindowVertex). pos c.color.g) k p.g
-  pub b : IsRamp v x y (λ (c : WindowVertex). pos c.color.b) k p.b
-  pub a : IsRamp v x y (λ (c : WindowVertex). pos c.color.a) k p.a
+  pub r : IsByteRamp v x y (λ (c : WindowVertex). pos c.color.r) k p.r
+  pub g : IsByteRamp v x y (λ (c : WindowVertex). pos c.color.g) k p.g
+  pub b : IsByteRamp v x y (λ (c : WindowVertex). pos c.color.b) k p.b
+  pub a : IsByteRamp v x y (λ (c : WindowVertex). pos c.color.a) k p.a
 
 -- the same, to be stepped up the column
 pub record IsColorRise (v : List WindowVertex) (x y : ℤ) (k : ℕ) (p : ColorRamp) : Type 0 where
-  pub r : IsRise v x y (λ (c : WindowVertex). pos c.color.r) k p.r
-  pub g : IsRise v x y (λ (c : WindowVertex). pos c.color.g) k p.g
-  pub b : IsRise v x y (λ (c : WindowVertex). pos c.color.b) k p.b
-  pub a : IsRise v x y (λ (c : WindowVertex). pos c.color.a) k p.a
+  pub r : IsByteRise v x y (λ (c : WindowVertex). pos c.color.r) k p.r
+  pub g : IsByteRise v x y (λ (c : WindowVertex). pos c.color.g) k p.g
+  pub b : IsByteRise v x y (λ (c : WindowVertex). pos c.color.b) k p.b
+  pub a : IsByteRise v x y (λ (c : WindowVertex). pos c.color.a) k p.a
 
 abbrev pub HasColor : Rgba → Fragment → Type 0
 HasColor color f = color ≡ f.color

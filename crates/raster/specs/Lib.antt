@@ -1,5 +1,6 @@
 pub mod SharedEdge
 pub mod Spans
+pub mod Lanes
 pub mod Weights
 pub mod Between
 pub mod Clamped
@@ -7,4 +8,7 @@ pub mod Blend
 pub mod Columns
 pub mod Planes
 pub mod Reciprocal
+pub mod Slopes
+pub mod Ways
+pub mod Runs
 pub mod Colors

@@ -3,12 +3,12 @@ use Rattle.std.specs.Prelude.{◌≡◌, ℕ, ◌*◌, ◌-◌, ◌^◌, List, �
 use Rattle.rc_base.specs.Drawing.Cover.{corner, triangle_area, centre}
 use Rattle.rc_base.specs.Drawing.Fragment.{weight, weighted_sum}
 use Rattle.rc_base.specs.declared.window.WindowVertex.{WindowVertex}
-use Rattle.raster.specs.declared.plane.Plane.{Plane}
-use Rattle.raster.specs.declared.plane.Ramp.{Ramp}
-use Rattle.raster.specs.declared.fine.FinePlane.{FinePlane}
-use Rattle.raster.specs.declared.fine.FineRamp.{FineRamp}
+use Rattle.raster.specs.declared.byte_plane.BytePlane.{BytePlane}
+use Rattle.raster.specs.declared.byte_plane.ByteRamp.{ByteRamp}
+use Rattle.raster.specs.declared.word_plane.WordPlane.{WordPlane}
+use Rattle.raster.specs.declared.word_plane.WordRamp.{WordRamp}
 use Rattle.raster.specs.declared.edges.Edges.{Edges}
-use Rattle.raster.specs.declared.stencil.Stencil.{Stencil}
+use Rattle.raster.specs.declared.triangle_setup.TriangleSetup.{TriangleSetup}
 
 -- ---- sums by weight
 
@@ -45,7 +45,7 @@ pub record AreEdges (v : List WindowVertex) (px py : ℤ) (e : Edges) : Type 0 w
   pub third : e.third ≡ weight v 2 px py
 
 -- the area, and the weights at a pixel's centre, at the next one's and at the one's above it
-pub record IsStencil (v : List WindowVertex) (x y : ℤ) (s : Stencil) : Type 0 where
+pub record IsTriangleSetup (v : List WindowVertex) (x y : ℤ) (s : TriangleSetup) : Type 0 where
   pub area : s.area ≡ triangle_area v
   pub here : AreEdges v (centre x) (centre y) s.here
   pub right : AreEdges v (centre (x +ℤ pos 1)) (centre y) s.right
@@ -54,61 +54,61 @@ pub record IsStencil (v : List WindowVertex) (x y : ℤ) (s : Stencil) : Type 0 
 -- ---- numbers of parts
 
 -- a number modulo 2^64, and modulo 2^128
-pub record IsResidue (whole : ℤ) (part : ℕ) : Type 0 where
+pub record IsByteResidue (whole : ℤ) (part : ℕ) : Type 0 where
   pub turns : ℤ
   pub is : whole ≡ pos part +ℤ pos (2 ^ 64) *ℤ turns
 
-pub record IsFineResidue (whole : ℤ) (part : ℕ) : Type 0 where
+pub record IsWordResidue (whole : ℤ) (part : ℕ) : Type 0 where
   pub turns : ℤ
   pub is : whole ≡ pos part +ℤ pos (2 ^ 128) *ℤ turns
 
 -- `part` is n / area in parts of 2^56, modulo 2^64, and too large by at most k times 2^44 parts of the area
-pub record IsNear (n area : ℤ) (k part : ℕ) : Type 0 where
+pub record IsByteQuotient (n area : ℤ) (k part : ℕ) : Type 0 where
   pub whole : ℤ
   pub low : (pos (2 ^ 56) *ℤ n) ≤ℤ (area *ℤ whole)
   pub high : (area *ℤ whole) ≤ℤ (pos (2 ^ 56) *ℤ n +ℤ pos (2 ^ 44 * k))
-  pub residue : IsResidue whole part
+  pub residue : IsByteResidue whole part
 
 -- `part` is n / area in parts of 2^96, modulo 2^128, and too large by at most k times 2^83 parts of the area
-pub record IsClose (n area : ℤ) (k part : ℕ) : Type 0 where
+pub record IsWordQuotient (n area : ℤ) (k part : ℕ) : Type 0 where
   pub whole : ℤ
   pub low : (pos (2 ^ 96) *ℤ n) ≤ℤ (area *ℤ whole)
   pub high : (area *ℤ whole) ≤ℤ (pos (2 ^ 96) *ℤ n +ℤ pos (2 ^ 83 * k))
-  pub residue : IsFineResidue whole part
+  pub residue : IsWordResidue whole part
 
 -- ---- attributes of a byte
 
 -- from pixel (x, y) on
-pub record IsPlane (v : List WindowVertex) (x y : ℤ) (f : WindowVertex → ℤ) (p : Plane) : Type 0 where
+pub record IsBytePlane (v : List WindowVertex) (x y : ℤ) (f : WindowVertex → ℤ) (p : BytePlane) : Type 0 where
   pub bytes : AreFromTo (pos 0) (pos 255) v f
-  pub at : IsNear (sum_at v x y f) (triangle_area v) 1 p.at
-  pub across : IsNear (gain_across v x y f) (triangle_area v) 1 p.across
-  pub up : IsNear (gain_up v x y f) (triangle_area v) 1 p.up
+  pub at : IsByteQuotient (sum_at v x y f) (triangle_area v) 1 p.at
+  pub across : IsByteQuotient (gain_across v x y f) (triangle_area v) 1 p.across
+  pub up : IsByteQuotient (gain_up v x y f) (triangle_area v) 1 p.up
 
 -- at pixel (x, y), after so many steps, to be stepped along the row
-pub record IsRamp (v : List WindowVertex) (x y : ℤ) (f : WindowVertex → ℤ) (k : ℕ) (r : Ramp) : Type 0 where
+pub record IsByteRamp (v : List WindowVertex) (x y : ℤ) (f : WindowVertex → ℤ) (k : ℕ) (r : ByteRamp) : Type 0 where
   pub bytes : AreFromTo (pos 0) (pos 255) v f
-  pub at : IsNear (sum_at v x y f) (triangle_area v) k r.at
-  pub across : IsNear (gain_across v x y f) (triangle_area v) 1 r.gain
+  pub at : IsByteQuotient (sum_at v x y f) (triangle_area v) k r.at
+  pub across : IsByteQuotient (gain_across v x y f) (triangle_area v) 1 r.gain
 
 -- the same, to be stepped up the column
-pub record IsRise (v : List WindowVertex) (x y : ℤ) (f : WindowVertex → ℤ) (k : ℕ) (r : Ramp) : Type 0 where
+pub record IsByteRise (v : List WindowVertex) (x y : ℤ) (f : WindowVertex → ℤ) (k : ℕ) (r : ByteRamp) : Type 0 where
   pub bytes : AreFromTo (pos 0) (pos 255) v f
-  pub at : IsNear (sum_at v x y f) (triangle_area v) k r.at
-  pub up : IsNear (gain_up v x y f) (triangle_area v) 1 r.gain
+  pub at : IsByteQuotient (sum_at v x y f) (triangle_area v) k r.at
+  pub up : IsByteQuotient (gain_up v x y f) (triangle_area v) 1 r.gain
 
 -- ---- attributes of 32 bits
 
 abbrev pub AreShort : List WindowVertex → (WindowVertex → ℤ) → Type 0
 AreShort v f = AreFromTo (neg_ℤ (pos (2 ^ 31))) (pos (2 ^ 31 - 1)) v f
 
-pub record IsFinePlane (v : List WindowVertex) (x y : ℤ) (f : WindowVertex → ℤ) (p : FinePlane) : Type 0 where
+pub record IsWordPlane (v : List WindowVertex) (x y : ℤ) (f : WindowVertex → ℤ) (p : WordPlane) : Type 0 where
   pub short : AreShort v f
-  pub at : IsClose (sum_at v x y f) (triangle_area v) 1 p.at
-  pub across : IsClose (gain_across v x y f) (triangle_area v) 1 p.across
-  pub up : IsClose (gain_up v x y f) (triangle_area v) 1 p.up
+  pub at : IsWordQuotient (sum_at v x y f) (triangle_area v) 1 p.at
+  pub across : IsWordQuotient (gain_across v x y f) (triangle_area v) 1 p.across
+  pub up : IsWordQuotient (gain_up v x y f) (triangle_area v) 1 p.up
 
-pub record IsFineRamp (v : List WindowVertex) (x y : ℤ) (f : WindowVertex → ℤ) (k : ℕ) (r : FineRamp) : Type 0 where
+pub record IsWordRamp (v : List WindowVertex) (x y : ℤ) (f : WindowVertex → ℤ) (k : ℕ) (r : WordRamp) : Type 0 where
   pub short : AreShort v f
-  pub at : IsClose (sum_at v x y f) (triangle_area v) k r.at
-  pub across : IsClose (gain_across v x y f) (triangle_area v) 1 r.across
+  pub at : IsWordQuotient (sum_at v x y f) (triangle_area v) k r.at
+  pub across : IsWordQuotient (gain_across v x y f) (triangle_area v) 1 r.across

@@ -3,42 +3,42 @@ ghost use Rattle.std.specs.Prelude.{◌≡◌, ℕ, ◌+◌, ◌^◌, ◌<◌, �
 ghost use Rattle.rc_base.specs.Drawing.Cover.{triangle_area, is_inside};
 ghost use Rattle.rc_base.specs.Drawing.Fragment.{fragment_of};
 ghost use Rattle.rc_base.specs.declared.window.WindowVertex.{WindowVertex as AnyVertex};
-ghost use Rattle.raster.specs.Planes.{IsStencil};
+ghost use Rattle.raster.specs.Planes.{IsTriangleSetup};
 ghost use Rattle.raster.specs.Colors.{IsColorPlane, IsColorRamp, IsColorRise, HasColor, are_one, has_one_color, is_depth, are_depths};
 
-use crate::plane::{Plane, Ramp, plane_of};
-use crate::stencil::Stencil;
+use crate::byte_plane::{BytePlane, ByteRamp, byte_plane_of};
+use crate::triangle_setup::TriangleSetup;
 use rc_base::command::Rgba;
 use rc_base::triangle::WindowTriangle;
 
 /// The four channels over the pixels.
 #[derive(Clone, Copy)]
 pub struct ColorPlane {
-    r: Plane,
-    g: Plane,
-    b: Plane,
-    a: Plane,
+    r: BytePlane,
+    g: BytePlane,
+    b: BytePlane,
+    a: BytePlane,
 }
 
 /// The four channels at a pixel, to be stepped along the row, or up the column.
 #[derive(Clone, Copy)]
 pub struct ColorRamp {
-    r: Ramp,
-    g: Ramp,
-    b: Ramp,
-    a: Ramp,
+    r: ByteRamp,
+    g: ByteRamp,
+    b: ByteRamp,
+    a: ByteRamp,
 }
 
-/// The colour of a triangle from the stencil's pixel on.
-pub fn color_plane(tri: &WindowTriangle, stencil: &Stencil) -> ColorPlane
-    ensures { (x y : ℤ) → IsStencil tri.now.v x y stencil.now → IsColorPlane tri.now.v x y result }
+/// The colour of a triangle from the setup's pixel on.
+pub fn color_plane(tri: &WindowTriangle, setup: &TriangleSetup) -> ColorPlane
+    ensures { (x y : ℤ) → IsTriangleSetup tri.now.v x y setup.now → IsColorPlane tri.now.v x y result }
 {
     let [a, b, c] = &tri.v;
     ColorPlane {
-        r: plane_of(stencil, a.color.r, b.color.r, c.color.r),
-        g: plane_of(stencil, a.color.g, b.color.g, c.color.g),
-        b: plane_of(stencil, a.color.b, b.color.b, c.color.b),
-        a: plane_of(stencil, a.color.a, b.color.a, c.color.a),
+        r: byte_plane_of(setup, a.color.r, b.color.r, c.color.r),
+        g: byte_plane_of(setup, a.color.g, b.color.g, c.color.g),
+        b: byte_plane_of(setup, a.color.b, b.color.b, c.color.b),
+        a: byte_plane_of(setup, a.color.a, b.color.a, c.color.a),
     }
 }
 

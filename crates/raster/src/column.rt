@@ -9,7 +9,7 @@ ghost use Rattle.raster.specs.Spans.{IsColumnIn};
 
 use crate::bounds::covering_part;
 use crate::columns::{Places, falling, minus_1, rising};
-use crate::cover::{keeps, passes_edge};
+use crate::coverage::{keeps, passes_edge};
 use fixed_math::{centre_of, delta, edge};
 use rc_base::triangle::WindowTriangle;
 use rc_base::window::{Rect, WindowVertex};
@@ -30,7 +30,7 @@ pub(crate) struct Cut {
 }
 
 // The edge's value, one more where it keeps its line.
-fn strict(e: i64, keeps: bool) -> i64
+pub(crate) fn strict(e: i64, keeps: bool) -> i64
     requires { Within (2 ^ 60) e }
     ensures value { result ≡ strict_value e keeps }
     ensures small { Within (2 ^ 60 + 1) result }

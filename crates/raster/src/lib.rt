@@ -1,31 +1,38 @@
-//! Which pixels a triangle covers, and what it brings to them: the definitions of `rc_base::specs::Drawing`, row by row and pixel by pixel;
-//! and its attributes as planes over the pixels, which a row steps through by one addition each.
+//! Which pixels a triangle covers, and what it brings to them: the definitions of `rc_base::specs::Drawing`, row by row and pixel by pixel.
+//!
+//! Coverage: `coverage`, and behind it `rows` with its three ways, `lanes`, `slopes` and divisions (`columns`), and the one `column`. Triangle
+//! setup: `setup`. Planes and ramps: `byte_plane`, `word_plane` and `color`, which a row steps through by one addition each.
 //!
 //! Stands on `rc_base`'s types and `fixed_math`'s edge functions. No call takes memory.
 #![tactic(auto)]
 
 mod bounds;
+mod byte_plane;
 mod color;
 mod column;
 mod columns;
-mod cover;
+mod coverage;
 mod edges;
-mod fine;
 mod fragment;
+mod lanes;
 mod law;
 mod mean;
-mod parts;
-mod plane;
+mod quotients;
+mod rise;
 mod rows;
 mod setup;
-mod stencil;
+mod slopes;
+mod triangle_setup;
+mod turns;
+mod ways;
+mod word_plane;
 
 pub use color::{ColorPlane, ColorRamp, color_plane, flat_color, has_depths};
 pub use column::Column;
-pub use cover::covers;
-pub use fine::{FinePlane, FineRamp, coordinate_planes, depth_plane};
+pub use coverage::{covers, spans};
 pub use fragment::fragment_at;
 pub use law::{cover_lies_in_bounds, no_double_edge};
-pub use rows::{SpanIter, spans};
-pub use setup::stencil_at;
-pub use stencil::Stencil;
+pub use rows::SpanIter;
+pub use setup::setup_at;
+pub use triangle_setup::TriangleSetup;
+pub use word_plane::{WordPlane, WordRamp, coordinate_planes, depth_plane};

@@ -2,35 +2,24 @@
 ghost use Rattle.std.specs.Prelude.{◌≡◌, true, ◌≤ℤ◌, ◌<ℤ◌, MatchOption, IfSome};
 ghost use Rattle.raster.specs.Spans.{IsEmptyRow, IsRowSpan, AreEmptyRows, IsNextSpan, GivesSpan, IsOnlyColumn};
 ghost use Rattle.raster.specs.Clamped.{HoldsCover, IsFull};
+ghost use Rattle.raster.specs.Ways.{IsWay};
 ghost use Rattle.std.specs.Iterator.{at_most};
 ghost use Rattle.std.specs.Int.{int_gap};
 
 use crate::column::{Column, Cut, column_in, cut_of};
-use crate::columns::{Places, kept_columns};
+use crate::ways::{Way, places_in, way_of};
 use rc_base::triangle::WindowTriangle;
 use rc_base::window::{Rect, Span};
 
-// The columns from `x0` to below `x1` of a row that the triangle covers. A function of its own: where it is part of the loop over rows, the compiler
-// prepares all of the triangle's edges before each row. It gives two numbers and no span, since these go back in a register.
-#[inline(never)]
-fn row_places(tri: &WindowTriangle, y: i32, x0: i32, x1: i32) -> Places
-    requires { x0 ≤ℤ x1 }
-    ensures none { result.x1 ≤ℤ result.x0 → IsEmptyRow tri.now.v y x0 x1 }
-    ensures some { result.x0 <ℤ result.x1 → IsRowSpan tri.now.v y x0 x1 (record { y = y; x0 = result.x0; x1 = result.x1 }) }
-{
-    let first = kept_columns(&tri.v[0], &tri.v[1], y, Places { x0, x1 });
-    let second = kept_columns(&tri.v[1], &tri.v[2], y, first);
-    kept_columns(&tri.v[2], &tri.v[0], y, second)
-}
-
-// The covered pixels of a row from `x0` to below `x1`.
-fn row_span(tri: &WindowTriangle, y: i32, x0: i32, x1: i32) -> Option<Span>
-    requires { x0 ≤ℤ x1 }
+// The covered pixels of a row of a part.
+fn row_span(tri: &WindowTriangle, part: Rect, way: &Way, y: i32) -> Option<Span>
+    requires way { IsWay tri.now.v part way.now }
+    requires order { part.x0 ≤ℤ part.x1 }
     ensures { MatchOption result
-        (IsEmptyRow tri.now.v y x0 x1)
-        (λ s. IsRowSpan tri.now.v y x0 x1 s) }
+        (IsEmptyRow tri.now.v y part.x0 part.x1)
+        (λ s. IsRowSpan tri.now.v y part.x0 part.x1 s) }
 {
-    let places = row_places(tri, y, x0, x1);
+    let places = places_in(tri, part, way, y);
     if places.x1 <= places.x0 {
         return None;
     }
@@ -58,8 +47,9 @@ fn full_span(tri: &WindowTriangle, part: Rect, y: i32) -> Option<Span>
     })
 }
 
-// The covered pixels of a row of the part.
-fn span_of(tri: &WindowTriangle, cut: Cut, y: i32) -> Option<Span>
+// The covered pixels of a row of the part that was cut.
+fn span_of(tri: &WindowTriangle, cut: Cut, way: &Way, y: i32) -> Option<Span>
+    requires way { IsWay tri.now.v cut.part way.now }
     requires full { cut.is_full ≡ true → IsFull tri.now.v cut.part }
     requires some { cut.part.x0 <ℤ cut.part.x1 }
     requires low { cut.part.y0 ≤ℤ y }
@@ -71,12 +61,13 @@ fn span_of(tri: &WindowTriangle, cut: Cut, y: i32) -> Option<Span>
     if cut.is_full {
         return full_span(tri, cut.part, y);
     }
-    row_span(tri, y, cut.part.x0, cut.part.x1)
+    row_span(tri, cut.part, way, y)
 }
 
 // The covered pixels of a row of the rectangle, which all stand in its part.
-fn span_in(tri: &WindowTriangle, rect: Rect, cut: Cut, y: i32) -> Option<Span>
+fn span_in(tri: &WindowTriangle, rect: Rect, cut: Cut, way: &Way, y: i32) -> Option<Span>
     requires part { HoldsCover tri.now.v rect cut.part }
+    requires way { IsWay tri.now.v cut.part way.now }
     requires full { cut.is_full ≡ true → IsFull tri.now.v cut.part }
     requires some { cut.part.x0 <ℤ cut.part.x1 }
     requires low { cut.part.y0 ≤ℤ y }
@@ -85,12 +76,13 @@ fn span_in(tri: &WindowTriangle, rect: Rect, cut: Cut, y: i32) -> Option<Span>
         (IsEmptyRow tri.now.v y rect.x0 rect.x1)
         (λ s. IsRowSpan tri.now.v y rect.x0 rect.x1 s) }
 {
-    span_of(tri, cut, y)
+    span_of(tri, cut, way, y)
 }
 
 // The span of the first row from `from` on that has a covered pixel.
-fn next_span(tri: &WindowTriangle, rect: Rect, cut: Cut, from: i32) -> Option<Span>
+fn next_span(tri: &WindowTriangle, rect: Rect, cut: Cut, way: &Way, from: i32) -> Option<Span>
     requires part { HoldsCover tri.now.v rect cut.part }
+    requires way { IsWay tri.now.v cut.part way.now }
     requires full { cut.is_full ≡ true → IsFull tri.now.v cut.part }
     ensures { MatchOption result
         (AreEmptyRows tri.now.v rect from rect.y1)
@@ -101,7 +93,7 @@ fn next_span(tri: &WindowTriangle, rect: Rect, cut: Cut, from: i32) -> Option<Sp
     }
     let mut y = from.max(cut.part.y0);
     'rows: while y < cut.part.y1 {
-        match span_in(tri, rect, cut, y) {
+        match span_in(tri, rect, cut, way, y) {
             Some(span) => return Some(span),
             None => y += 1,
         }
@@ -116,8 +108,10 @@ pub struct SpanIter<'a> {
     pub rect: Rect,
     pub y: i32,
     cut: Cut,
+    way: Way,
     ghost cover: { HoldsCover tri.now.v rect cut.part },
     ghost full: { cut.is_full ≡ true → IsFull tri.now.v cut.part },
+    ghost prepared: { IsWay tri.now.v cut.part way },
 }
 
 impl SpanIter<'_> {
@@ -150,23 +144,24 @@ impl Iterator for SpanIter<'_> {
 
     fn next(&mut self) -> Option<Span> {
         let _last = self.rect.y1;
-        let span = next_span(self.tri, self.rect, self.cut, self.y)?;
+        let span = next_span(self.tri, self.rect, self.cut, &self.way, self.y)?;
         self.y = span.y + 1;
         Some(span)
     }
 }
 
-/// For each row of the rectangle, rising, the span of exactly the pixels that the triangle covers in it; empty rows are left out. It looks
-/// only at rows and columns between the triangle's corners.
-pub fn spans(tri: &WindowTriangle, rect: Rect) -> SpanIter<'_>
+/// The iterator over the spans of a rectangle, before its first call.
+pub(crate) fn span_iter(tri: &WindowTriangle, rect: Rect) -> SpanIter<'_>
     ensures triangle { result.tri.now ≡ tri.now }
     ensures rect { result.rect ≡ rect }
     ensures row { result.y ≡ rect.y0 }
 {
+    let cut = cut_of(tri, rect);
     SpanIter {
         tri,
         rect,
         y: rect.y0,
-        cut: cut_of(tri, rect),
+        cut,
+        way: way_of(tri, cut),
     }
 }

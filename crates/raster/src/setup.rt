@@ -1,12 +1,12 @@
-//! The stencil of a triangle at a pixel.
+//! The setup of a triangle at a pixel.
 ghost use Rattle.std.specs.Prelude.{◌≡◌, ◌^◌, pos, ◌+ℤ◌, ◌<ℤ◌};
 ghost use Rattle.rc_base.specs.Numbers.{Within};
 ghost use Rattle.rc_base.specs.Drawing.Cover.{centre};
 ghost use Rattle.raster.specs.Reciprocal.{IsReciprocal};
-ghost use Rattle.raster.specs.Planes.{IsStencil};
+ghost use Rattle.raster.specs.Planes.{IsTriangleSetup};
 
 use crate::edges::edges_at;
-use crate::stencil::Stencil;
+use crate::triangle_setup::TriangleSetup;
 use fixed_math::centre_of;
 use rc_base::triangle::WindowTriangle;
 
@@ -29,15 +29,15 @@ fn reciprocal(area: i64) -> u128
 }
 
 /// What the planes of a triangle's attributes share, from pixel (`x`, `y`) on.
-pub fn stencil_at(tri: &WindowTriangle, x: i32, y: i32) -> Stencil
-    ensures { IsStencil tri.now.v x y result }
+pub fn setup_at(tri: &WindowTriangle, x: i32, y: i32) -> TriangleSetup
+    ensures { IsTriangleSetup tri.now.v x y result }
 {
     let px = centre_of(x);
     let py = centre_of(y);
     let here = edges_at(tri, px, py);
     let right = edges_at(tri, next_centre(px, x), py);
     let above = edges_at(tri, px, next_centre(py, y));
-    Stencil {
+    TriangleSetup {
         here,
         right,
         above,

@@ -6,7 +6,7 @@ use Rattle.draw_device.proofs.colors.repeat_colors.Given as goal
 abbrev pub invariant-loop-x : goal.invariant-loop-x
 invariant-loop-x l =
     record {
-      done : IsColorRun (λ (k : ℕ) (old : Rgba). texel_for l.state l.texture (run_fragment l.tri.v l.fn.run k)) l.fn.run.from l.x l.fn.colors l.colors;
-      ss : IsSAt l.tri.v l.fn.run l.x l.ss;
-      ts : IsTAt l.tri.v l.fn.run l.x l.ts;
+      done : IsColorRun (λ (k : ℕ) (old : Rgba). texel_for l.setup.state.now l.setup.texture.now (run_fragment l.setup.tri.now.v l.fn.run k)) l.fn.run.from l.x l.fn.colors l.colors;
+      ss : IsSAt l.setup.tri.now.v l.fn.run l.x l.ss;
+      ts : IsTAt l.setup.tri.now.v l.fn.run l.x l.ts;
     }

@@ -9,7 +9,7 @@ loop-x-preserved c =
     let r = c.args.run in
     let d = c.loop-x.invariant.done in
     let s = d.size in
-    let order = c.requires.run.order in
+    let order = c.args.run.order in
     record {
       done = color_more (λ (k : ℕ) (old : Rgba). (run_fragment c.args.tri.now.v c.args.run k).color) r.from c.loop-x.x _ _ _ d (omega arith) (omega arith) (c.color_by.ensures);
       ramp = color_moved _ r.left c.loop-x.x r.row r.up _ (c.advance.ensures.across c.args.tri.now.v (pos (r.left + c.loop-x.x)) (pos r.row) (1 + c.loop-x.x + r.up) c.loop-x.invariant.ramp);
@@ -17,7 +17,7 @@ loop-x-preserved c =
 
 pub returns : goal.returns
 returns c =
-    let order = c.requires.run.order in
+    let order = c.args.run.order in
     let e = c.loop-x.auto.x-end order in
     color_end (λ (k : ℕ) (old : Rgba). (run_fragment c.args.tri.now.v c.args.run k).color) c.args.run.from _ c.args.run.to _ _ (omega arith) c.loop-x.invariant.done
 
@@ -25,4 +25,4 @@ pub color_by-requires-clause-inside : goal.color_by-requires-clause-inside
 color_by-requires-clause-inside c = c.requires.covered c.loop-x.x (omega arith) (omega arith)
 
 pub color_by-requires-clause-few : goal.color_by-requires-clause-few
-color_by-requires-clause-few c = let few = c.requires.run.few in omega arith
+color_by-requires-clause-few c = let few = c.args.run.few in omega arith

@@ -2,7 +2,7 @@ use Rattle.std.proofs.Common.{ℕ, ◌+◌, pos, arith}
 use Rattle.rc_base.specs.declared.command.Rgba.{Rgba}
 use Rattle.rc_base.specs.declared.window.WindowVertex.{WindowVertex}
 use Rattle.draw_device.specs.Loops.{run_fragment, texel_for}
-use Rattle.draw_device.proofs.Steps.{color_more, color_end, value_moved}
+use Rattle.draw_device.proofs.Steps.{color_more, color_end, color_none, value_moved}
 use Rattle.draw_device.proofs.colors.texel_colors.Goals as goal
 
 pub loop-x-preserved : goal.loop-x-preserved
@@ -10,27 +10,36 @@ loop-x-preserved c =
     let r = c.args.run in
     let d = c.loop-x.invariant.done in
     let s = d.size in
-    let order = c.requires.run.order in
+    let order = c.args.run.order in
     record {
-      done = color_more (λ (k : ℕ) (old : Rgba). texel_for c.args.state.now c.args.texture.now (run_fragment c.args.tri.now.v c.args.run k)) r.from c.loop-x.x _ _ _ d (omega arith) (omega arith) (c.texel.ensures);
-      ss = value_moved _ (λ (c : WindowVertex). c.s) r.left c.loop-x.x r.row r.up _ (c.advance.ensures c.args.tri.now.v (pos (r.left + c.loop-x.x)) (pos r.row) _ (1 + c.loop-x.x + r.up) c.loop-x.invariant.ss);
-      ts = value_moved _ (λ (c : WindowVertex). c.t) r.left c.loop-x.x r.row r.up _ (c.advance-in-loop-x.ensures c.args.tri.now.v (pos (r.left + c.loop-x.x)) (pos r.row) _ (1 + c.loop-x.x + r.up) c.loop-x.invariant.ts);
+      done = color_more (λ (k : ℕ) (old : Rgba). texel_for c.args.setup.now.state.now c.args.setup.now.texture.now (run_fragment c.args.setup.now.tri.now.v c.args.run k)) r.from c.loop-x.x _ _ _ d (omega arith) (omega arith) (c.texel.ensures);
+      ss = value_moved _ (λ (c : WindowVertex). c.s) r.left c.loop-x.x r.row r.up _ (c.advance.ensures c.args.setup.now.tri.now.v (pos (r.left + c.loop-x.x)) (pos r.row) _ (1 + c.loop-x.x + r.up) c.loop-x.invariant.ss);
+      ts = value_moved _ (λ (c : WindowVertex). c.t) r.left c.loop-x.x r.row r.up _ (c.advance-in-loop-x.ensures c.args.setup.now.tri.now.v (pos (r.left + c.loop-x.x)) (pos r.row) _ (1 + c.loop-x.x + r.up) c.loop-x.invariant.ts);
     }
 
 pub returns : goal.returns
 returns c =
-    let order = c.requires.run.order in
+    let order = c.args.run.order in
     let e = c.loop-x.auto.x-end order in
-    color_end (λ (k : ℕ) (old : Rgba). texel_for c.args.state.now c.args.texture.now (run_fragment c.args.tri.now.v c.args.run k)) c.args.run.from _ c.args.run.to _ _ (omega arith) c.loop-x.invariant.done
+    color_end (λ (k : ℕ) (old : Rgba). texel_for c.args.setup.now.state.now c.args.setup.now.texture.now (run_fragment c.args.setup.now.tri.now.v c.args.run k)) c.args.run.from _ c.args.run.to _ _ (omega arith) c.loop-x.invariant.done
 
 pub s_by-s-requires-clause-inside : goal.s_by-s-requires-clause-inside
 s_by-s-requires-clause-inside c = c.requires.covered c.loop-x.x (omega arith) (omega arith)
 
 pub s_by-s-requires-clause-few : goal.s_by-s-requires-clause-few
-s_by-s-requires-clause-few c = let few = c.requires.run.few in omega arith
+s_by-s-requires-clause-few c = let few = c.args.run.few in omega arith
 
 pub t_by-t-requires-clause-inside : goal.t_by-t-requires-clause-inside
 t_by-t-requires-clause-inside c = c.requires.covered c.loop-x.x (omega arith) (omega arith)
 
 pub t_by-t-requires-clause-few : goal.t_by-t-requires-clause-few
-t_by-t-requires-clause-few c = let few = c.requires.run.few in omega arith
+t_by-t-requires-clause-few c = let few = c.args.run.few in omega arith
+
+pub loop-x-init : goal.loop-x-init
+loop-x-init c =
+    let s = c.args.setup.now in
+    record {
+      done = color_none _ _ _;
+      ss = c.value_ramp-ss.ensures s.tri.now.v (λ (c : WindowVertex). c.s) c.requires.texels.across;
+      ts = c.value_ramp-ts.ensures s.tri.now.v (λ (c : WindowVertex). c.t) c.requires.texels.up;
+    }

@@ -10,7 +10,7 @@ loop-x-preserved c =
     let r = c.args.run in
     let d = c.loop-x.invariant.done in
     let s = d.size in
-    let order = c.requires.run.order in
+    let order = c.args.run.order in
     let was = d.after c.loop-x.x (omega arith) in
     record {
       done = color_more (λ (k : ℕ) (old : Rgba). textured c.args.state.now (run_fragment c.args.tri.now.v c.args.run k).color old) r.from c.loop-x.x _ _ _ d (omega arith) (omega arith) (c.modulate.ensures ∙ sym (c.requires.kind _ _) ∙ (λ i. textured c.args.state.now (c.color_by-color.ensures i) (was i)));
@@ -19,7 +19,7 @@ loop-x-preserved c =
 
 pub returns : goal.returns
 returns c =
-    let order = c.requires.run.order in
+    let order = c.args.run.order in
     let e = c.loop-x.auto.x-end order in
     color_end (λ (k : ℕ) (old : Rgba). textured c.args.state.now (run_fragment c.args.tri.now.v c.args.run k).color old) c.args.run.from _ c.args.run.to _ _ (omega arith) c.loop-x.invariant.done
 
@@ -27,4 +27,4 @@ pub color_by-color-requires-clause-inside : goal.color_by-color-requires-clause-
 color_by-color-requires-clause-inside c = c.requires.covered c.loop-x.x (omega arith) (omega arith)
 
 pub color_by-color-requires-clause-few : goal.color_by-color-requires-clause-few
-color_by-color-requires-clause-few c = let few = c.requires.run.few in omega arith
+color_by-color-requires-clause-few c = let few = c.args.run.few in omega arith

@@ -13,13 +13,13 @@ use Rattle.draw_device.proofs.hidden.first_passing.Goals as goal
 pub loop-x-preserved : goal.loop-x-preserved
 loop-x-preserved c =
     let r = c.args.run in
-    let v = c.args.tri.now.v in
+    let v = c.args.setup.now.tri.now.v in
     let x = c.loop-x.x in
-    let s = c.args.state.now in
+    let s = c.args.setup.now.state.now in
     let depths = c.args.depths.now in
-    let order = c.requires.run.order in
+    let order = c.args.run.order in
     let fit : FitsSigned w32 c.depth_by-depth.result = record { sfits = c.depth_by-depth.type_inv } in
-    let here = λ (p : Option Picture) (color : Rgba). c.passes_step.ensures c.if-passes_step.false s p (run_fragment v r x) color c.requires.test (to_z-of_z fit ∙ c.depth_by-depth.ensures) in
+    let here = λ (p : Option Picture) (color : Rgba). c.passes_step.ensures c.if-passes_step.false s p (run_fragment v r x) color c.args.setup.now.planned.depth (to_z-of_z fit ∙ c.depth_by-depth.ensures) in
     record {
       hidden = λ p color k m n. by_lt_z (pos k) (pos x)
           (λ o. c.loop-x.invariant.hidden p color k m (omega (arith, ints, o)))
@@ -33,10 +33,22 @@ passes_step-requires c =
     let r = c.args.run in
     let x = c.loop-x.x in
     let inside = c.requires.covered x (omega arith) (omega arith) in
-    rw (to_z-of_z (record { sfits = c.depth_by-depth.type_inv }), c.depth_by-depth.ensures) (c.requires.ranged (pos (r.left + x)) (pos r.row) inside)
+    rw (to_z-of_z (record { sfits = c.depth_by-depth.type_inv }), c.depth_by-depth.ensures) (c.requires.depths.ranged (pos (r.left + x)) (pos r.row) inside)
 
-pub returns-clause-hidden : goal.returns-clause-hidden
-returns-clause-hidden c p color k m n =
-    let order = c.requires.run.order in
+pub returns-then-passes_step : goal.returns-then-passes_step
+returns-then-passes_step c =
+    record {
+      low = omega arith;
+      high = omega arith;
+      hidden = c.loop-x.invariant.hidden;
+    }
+
+pub returns : goal.returns
+returns c =
+    let order = c.args.run.order in
     let e = c.loop-x.auto.x-end order in
-    c.loop-x.invariant.hidden p color k m (omega arith)
+    record {
+      low = order;
+      high = omega arith;
+      hidden = λ p color k m n. c.loop-x.invariant.hidden p color k m (omega arith);
+    }

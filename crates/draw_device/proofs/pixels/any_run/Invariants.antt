@@ -9,6 +9,6 @@ invariant-loop-x l =
     record {
       colors : length l.colors ≡ length l.fn.colors;
       depths : length l.depths ≡ length l.fn.depths;
-      drawn : IsRunStepped (fragment_pixel l.state l.texture l.tri.v) l.fn.run.left l.fn.run.row l.fn.run.from l.x (pixels_of l.fn.colors l.fn.depths) (pixels_of l.colors l.depths);
-      ramp : IsDepthAt l.tri.v l.fn.run l.x l.ramp;
+      drawn : IsRunStepped (fragment_pixel l.setup.state.now l.setup.texture.now l.setup.tri.now.v) l.fn.run.left l.fn.run.row l.fn.run.from l.x (pixels_of l.fn.colors l.fn.depths) (pixels_of l.colors l.depths);
+      ramp : IsDepthAt l.setup.tri.now.v l.fn.run l.x l.ramp;
     }

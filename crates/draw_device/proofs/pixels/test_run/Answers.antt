@@ -6,28 +6,28 @@ use Rattle.draw_device.specs.Shapes.{fragment_pixel}
 use Rattle.draw_device.specs.Loops.{run_fragment}
 use Rattle.draw_device.proofs.Lists.{pixel_in}
 use Rattle.draw_device.proofs.Runs.{run_pixel, run_end}
-use Rattle.draw_device.proofs.Steps.{value_moved}
+use Rattle.draw_device.proofs.Steps.{value_moved, through_passes}
 use Rattle.draw_device.proofs.pixels.test_run.Goals as goal
 
 pub loop-x-preserved : goal.loop-x-preserved
 loop-x-preserved c =
     let a = c.args in
     let r = a.run in
-    let v = a.tri.now.v in
+    let v = a.setup.now.tri.now.v in
     let x = c.loop-x.x in
     let i = c.loop-x.invariant in
-    let order = c.requires.run.order in
-    let alike = i.depths ∙ c.requires.depths ∙ sym i.colors in
+    let order = c.args.run.order in
+    let alike = i.depths ∙ c.requires.row.alike ∙ sym i.colors in
     let f = run_fragment v r x in
-    let inside = c.requires.covered x (omega arith) (omega arith) in
+    let inside = c.requires.row.covered x (omega arith) (omega arith) in
     let fit : FitsSigned w32 c.depth_by-depth.result = record { sfits = c.depth_by-depth.type_inv } in
-    let was = sym (pixel_in c.loop-x.colors c.loop-x.depths x alike) ∙ i.drawn.after x (omega arith) ∙ pixel_in a.colors.now a.depths.now x c.requires.depths in
-    let color = c.requires.written x (omega arith) (omega arith) ∙ ap (λ (o : Pixel). written_color a.state.now (fragment_color a.state.now a.texture.now f) o.color) (sym was) in
-    let e = c.test_step.ensures a.state.now a.texture.now f c.requires.test c.requires.through color (to_z-of_z fit ∙ c.depth_by-depth.ensures) in
+    let was = sym (pixel_in c.loop-x.colors c.loop-x.depths x alike) ∙ i.drawn.after x (omega arith) ∙ pixel_in a.colors.now a.depths.now x c.requires.row.alike in
+    let color = c.requires.written x (omega arith) (omega arith) ∙ ap (λ (o : Pixel). written_color a.setup.now.state.now (fragment_color a.setup.now.state.now a.setup.now.texture.now f) o.color) (sym was) in
+    let e = c.test_step.ensures a.setup.now.state.now a.setup.now.texture.now f a.setup.now.planned.depth (through_passes a.setup.now.state.now _ c.requires.tested.through) color (to_z-of_z fit ∙ c.depth_by-depth.ensures) in
     record {
       colors = length-set _ _ _ ∙ i.colors;
       depths = length-set _ _ _ ∙ i.depths;
-      drawn = run_pixel (fragment_pixel a.state.now a.texture.now v) r.left r.row r.from x _ c.loop-x.colors c.loop-x.depths _ _ alike i.drawn (omega arith) (omega (arith, i.colors)) e;
+      drawn = run_pixel (fragment_pixel a.setup.now.state.now a.setup.now.texture.now v) r.left r.row r.from x _ c.loop-x.colors c.loop-x.depths _ _ alike i.drawn (omega arith) (omega (arith, i.colors, c.requires.row.inside)) e;
       ramp = value_moved _ (λ (c : WindowVertex). c.z) r.left x r.row r.up _ (c.advance.ensures v (pos (r.left + x)) (pos r.row) _ (1 + x + r.up) i.ramp);
     }
 
@@ -35,17 +35,21 @@ pub test_step-requires : goal.test_step-requires
 test_step-requires c =
     let r = c.args.run in
     let x = c.loop-x.x in
-    let inside = c.requires.covered x (omega arith) (omega arith) in
-    rw (to_z-of_z (record { sfits = c.depth_by-depth.type_inv }), c.depth_by-depth.ensures) (c.requires.ranged (pos (r.left + x)) (pos r.row) inside)
+    let inside = c.requires.row.covered x (omega arith) (omega arith) in
+    rw (to_z-of_z (record { sfits = c.depth_by-depth.type_inv }), c.depth_by-depth.ensures) (c.requires.tested.depths.ranged (pos (r.left + x)) (pos r.row) inside)
 
-pub returns-clause-drawn : goal.returns-clause-drawn
-returns-clause-drawn c =
-    let order = c.requires.run.order in
+pub returns : goal.returns
+returns c =
+    let order = c.args.run.order in
     let e = c.loop-x.auto.x-end order in
-    run_end (fragment_pixel c.args.state.now c.args.texture.now c.args.tri.now.v) c.args.run.left c.args.run.row c.args.run.from _ _ _ _ (omega arith) c.loop-x.invariant.drawn
+    record {
+      colors = c.loop-x.invariant.colors;
+      depths = c.loop-x.invariant.depths;
+      drawn = run_end (fragment_pixel c.args.setup.now.state.now c.args.setup.now.texture.now c.args.setup.now.tri.now.v) c.args.run.left c.args.run.row c.args.run.from _ _ _ _ (omega arith) c.loop-x.invariant.drawn;
+    }
 
 pub depth_by-depth-requires-clause-inside : goal.depth_by-depth-requires-clause-inside
-depth_by-depth-requires-clause-inside c = c.requires.covered c.loop-x.x (omega arith) (omega arith)
+depth_by-depth-requires-clause-inside c = c.requires.row.covered c.loop-x.x (omega arith) (omega arith)
 
 pub depth_by-depth-requires-clause-few : goal.depth_by-depth-requires-clause-few
-depth_by-depth-requires-clause-few c = let few = c.requires.run.few in omega arith
+depth_by-depth-requires-clause-few c = let few = c.args.run.few in omega arith

@@ -1,14 +1,31 @@
-use Rattle.std.proofs.Common.{◌+◌, ◌∙◌, Option, sym, subst}
-use Rattle.rc_base.specs.Pictures.{Picture}
-use Rattle.draw_device.specs.Pixels.{pixels_of}
-use Rattle.draw_device.specs.Shapes.{fragment_pixel, IsRunStepped}
-use Rattle.draw_device.proofs.Runs.{missing}
+use Rattle.std.proofs.Common.{◌+◌, refl}
+use Rattle.draw_device.proofs.Runs.{filled_run}
 use Rattle.draw_device.proofs.rows.draw_row.Goals as goal
 
-pub returns-then-fill_row-clause-drawn : goal.returns-then-fill_row-clause-drawn
-returns-then-fill_row-clause-drawn c =
+pub returns-in-Fill-clause-drawn : goal.returns-in-Fill-clause-drawn
+returns-in-Fill-clause-drawn c =
     let a = c.args in
     let s = a.setup.now in
-    let none = missing s.texture.now (sym c.has_image.ensures ∙ c.if-not-has_image.true) in
-    subst (λ (p : Option Picture). IsRunStepped (fragment_pixel s.state.now p s.tri.now.v) a.left (a.bottom + a.up) a.from a.to (pixels_of a.colors.now a.depths.now)
-    (pixels_of c.fill_row.new.colors a.depths.now)) (sym none) (c.fill_row.ensures.drawn c.if-fill_row.true a.depths.now c.requires.depths)
+    let g = s.extent in
+    let h = rw c.in-Fill.is at c.requires.paint in
+    record {
+      colors = c.fill_colors.ensures.size;
+      depths = refl;
+      drawn = filled_run s.state.now s.texture.now s.tri.now.v g.left (g.bottom + a.up) a.from a.to c.in-Fill.color a.colors.now _ a.depths.now h.0 h.1 c.requires.row.covered
+          c.requires.row.alike c.fill_colors.ensures;
+    }
+
+pub store_row-requires-clause-row : goal.store_row-requires-clause-row
+store_row-requires-clause-row c = let h = c.requires.row in record { inside = h.inside; alike = h.alike; covered = h.covered }
+
+pub store_row-requires-clause-stored : goal.store_row-requires-clause-stored
+store_row-requires-clause-stored c = (rw c.in-Store.is at c.requires.paint).0
+
+pub store_row-requires-clause-plane : goal.store_row-requires-clause-plane
+store_row-requires-clause-plane c = (rw c.in-Store.is at c.requires.paint).1
+
+pub stage_row-requires-clause-row : goal.stage_row-requires-clause-row
+stage_row-requires-clause-row c = let h = c.requires.row in record { inside = h.inside; alike = h.alike; covered = h.covered }
+
+pub stage_row-requires-clause-stages : goal.stage_row-requires-clause-stages
+stage_row-requires-clause-stages c = rw c.in-Stages.is at c.requires.paint

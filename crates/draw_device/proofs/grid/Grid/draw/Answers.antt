@@ -1,18 +1,12 @@
-use Rattle.std.proofs.Common.{◌∙◌, ◌+◌, ◌*◌, List, length, subst, sym}
+use Rattle.std.proofs.Common.{◌∙◌, ◌+◌, ◌*◌, List, length, subst}
 use Rattle.rc_base.specs.Drawing.PixelStep.{triangle_step}
 use Rattle.rc_base.specs.declared.state.Vertex.{Vertex}
 use Rattle.geometry.specs.Items.{AreBelow}
-use Rattle.draw_device.specs.Clips.{IsPartWhere, is_let_through}
 use Rattle.draw_device.specs.Pixels.{pixel_at, pixels_of}
-use Rattle.draw_device.specs.Shapes.{column_at, row_at, grid_rect, corners_step, triangles_in, IsStepped}
+use Rattle.draw_device.specs.Shapes.{column_at, row_at, corners_step, triangles_in, IsStepped}
 use Rattle.draw_device.specs.declared.extent.Extent.{Extent}
 use Rattle.draw_device.proofs.BlockPixels.{draws_more, all_rest}
 use Rattle.draw_device.proofs.grid.Grid.draw.Goals as goal
-
-pub draw_corners-requires-clause-part : goal.draw_corners-requires-clause-part
-draw_corners-requires-clause-part c =
-    let v = c.draws.invariant in
-    subst (λ (g : Extent). IsPartWhere (grid_rect g) c.drawn_part-part.result (is_let_through c.args.state.now)) (sym v.extent) v.part
 
 pub draws-preserved : goal.draws-preserved
 draws-preserved c =
@@ -29,9 +23,8 @@ draws-preserved c =
     (subst (λ (vs : List Vertex). IsStepped (corners_step s p vs c.in-Some.corners) c.draws.self.extent old new) v.vertices c.draw_corners.ensures.drawn) in
     record {
       extent = c.draw_corners.ensures.extent ∙ v.extent;
-      state = c.draw_corners.ensures.state ∙ v.state;
-      vertices = c.draw_corners.ensures.vertices ∙ v.vertices;
-      part = v.part;
+      state = c.draw_corners.ensures.cache.state ∙ v.state;
+      vertices = c.draw_corners.ensures.cache.vertices ∙ v.vertices;
       below = all_rest (AreBelow (length block.vertices)) c.in-Some.corners _ _ e v.below;
       rest = λ i j li lj.
           draws_more (triangle_step s p block.vertices (column_at g i) (row_at g j)) (pixel_at old (j * g.width + i)) (pixel_at new (j * g.width + i))

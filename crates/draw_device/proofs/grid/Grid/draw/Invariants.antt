@@ -1,9 +1,8 @@
 use Rattle.std.proofs.Common.{◌≡◌, ℕ, ◌+◌, ◌*◌, ◌<◌, length}
 use Rattle.std.specs.List.{All}
 use Rattle.geometry.specs.Items.{AreBelow, rest_from}
-use Rattle.draw_device.specs.Clips.{IsPartWhere, is_let_through}
 use Rattle.draw_device.specs.Pixels.{pixel_at, pixels_of}
-use Rattle.draw_device.specs.Shapes.{column_at, row_at, grid_rect, triangles_step, triangles_in}
+use Rattle.draw_device.specs.Shapes.{column_at, row_at, triangles_step, triangles_in}
 use Rattle.draw_device.proofs.grid.Grid.draw.Given as goal
 
 abbrev pub invariant-draws : goal.invariant-draws
@@ -12,7 +11,6 @@ invariant-draws l =
       extent : l.self.extent ≡ l.fn.self.extent;
       state : l.cache.state.now ≡ l.state;
       vertices : l.cache.vertices.now ≡ l.fn.block.vertices;
-      part : IsPartWhere (grid_rect l.fn.self.extent) l.part (is_let_through l.state);
       below : All (AreBelow (length l.fn.block.vertices)) (rest_from l.corners-iterator.block.now l.corners-iterator.given);
       rest : (i j : ℕ) → i < l.fn.self.extent.width → j < l.fn.self.extent.height
           → triangles_step l.state l.texture l.fn.block.vertices (rest_from l.corners-iterator.block.now l.corners-iterator.given)

@@ -2,22 +2,27 @@ use Rattle.std.proofs.Common.{◌≡◌, Some, rules, subst}
 use Rattle.rc_base.specs.Drawing.Kept.{kept_triangle}
 use Rattle.rc_base.specs.declared.state.State.{State}
 use Rattle.geometry.specs.Beside.{IsBesideIfKept}
+use Rattle.draw_device.specs.Clips.{IsPartWhere, is_let_through}
 use Rattle.draw_device.specs.Pixels.{pixels_of}
+use Rattle.draw_device.specs.Shapes.{grid_rect}
+use Rattle.draw_device.specs.declared.extent.Extent.{Extent}
 use Rattle.draw_device.proofs.Beside.{beside_steps}
 use Rattle.draw_device.proofs.BlockPixels.{kept_steps}
 use Rattle.draw_device.proofs.grid.Grid.draw_corners.Goals as goal
 
 pub returns-clause-drawn : goal.returns-clause-drawn
 returns-clause-drawn c =
-    let kept : kept_triangle c.args.state.now c.args.cache.now.vertices.now c.args.corners ≡ Some c.in-Some.tri.v = search rules in
-    kept_steps c.args.state.now c.args.texture.now c.in-Some.tri.v c.args.cache.now.vertices.now c.args.corners c.args.self.now.extent (pixels_of c.args.self.now.colors.items c.args.self.now.depths.items)
+    let kept : kept_triangle c.args.block.now.state.now c.args.cache.now.vertices.now c.args.corners ≡ Some c.in-Some.tri.v = search rules in
+    kept_steps c.args.block.now.state.now c.args.block.now.texture.now c.in-Some.tri.v c.args.cache.now.vertices.now c.args.corners c.args.self.now.extent (pixels_of c.args.self.now.colors.items c.args.self.now.depths.items)
     (pixels_of c.draw_triangle.new.self.colors.items c.draw_triangle.new.self.depths.items) kept c.draw_triangle.ensures.drawn
 
 pub returns-in_default-clause-drawn : goal.returns-in_default-clause-drawn
 returns-in_default-clause-drawn c =
-    let s = c.args.state.now in
+    let b = c.args.block.now in
+    let s = b.state.now in
     let vs = c.args.cache.now.vertices.now in
     let t = c.args.corners in
-    let near = c.args.near.now in
+    let near = b.near in
     let beside = subst (λ (q : State). IsBesideIfKept q vs t near) c.requires.state c.in_default.ensures.triangle in
-    beside_steps c.cover_lies_in_bounds.ensures s c.args.texture.now vs t c.args.self.now.extent c.args.part near (pixels_of c.args.self.now.colors.items c.args.self.now.depths.items) c.requires.part c.requires.near beside
+    beside_steps c.cover_lies_in_bounds.ensures s b.texture.now vs t c.args.self.now.extent b.part near (pixels_of c.args.self.now.colors.items c.args.self.now.depths.items)
+    (subst (λ (g : Extent). IsPartWhere (grid_rect g) b.part (is_let_through b.state.now)) c.requires.grid b.within) b.beside beside

@@ -1,7 +1,6 @@
-use Rattle.std.proofs.Common.{◌≡◌, ◌∙◌, pos, ℤ, arith, ap, refl, sym, subst}
+use Rattle.std.proofs.Common.{◌≡◌, ◌∙◌, ℤ, arith, ap, refl, sym, subst}
 use Rattle.std.proofs.lemmas.Int.{ints}
 use Rattle.draw_device.specs.Pixels.{pixels_of}
-use Rattle.draw_device.specs.Plans.{IsPaint}
 use Rattle.draw_device.specs.Shapes.{covered_step, fragment_pixel, span_step, IsSpanIn, IsStepped, IsSteppedBelow}
 use Rattle.draw_device.specs.declared.extent.Extent.{Extent}
 use Rattle.draw_device.proofs.SpansToPixels.{stepped_none, stepped_more, stepped_all, triangle_row, below_part, rest_empty, span_in, span_covered}
@@ -12,9 +11,9 @@ rows-init c =
     let g = c.args.self.now.extent in
     let step = covered_step c.args.setup.now.state.now c.args.setup.now.texture.now c.args.setup.now.tri.now.v in
     let same = c.into_iter-span-iterator.ensures.into_iter_gives in
-    let row : c.into_iter-span-iterator.result.y ≡ c.args.rows.rect.y0 = ap (λ t. t.y) same ∙ c.requires.first in
+    let row : c.into_iter-span-iterator.result.y ≡ c.args.rows.rect.y0 = ap (λ t. t.y) same ∙ c.requires.rows.first in
     record {
-      triangle = ap (λ t. t.tri.now) same ∙ c.requires.triangle;
+      triangle = ap (λ t. t.tri.now) same ∙ c.requires.rows.triangle;
       part = ap (λ t. t.rect) same;
       from = omega (arith, ints);
       extent = refl;
@@ -70,8 +69,3 @@ returns-clause-drawn c =
     let g = c.args.self.now.extent in
     stepped_all (covered_step s p v) g (pixels_of c.args.self.now.colors.items c.args.self.now.depths.items) (pixels_of c.rows.self.colors.items c.rows.self.depths.items) _ i.drawn
     (rest_empty s p v g c.args.rows.rect c.requires.part _ n)
-
-pub draw_span-requires-clause-paint : goal.draw_span-requires-clause-paint
-draw_span-requires-clause-paint c =
-    let i = c.rows.invariant in
-    subst (λ (g : Extent). IsPaint c.args.setup.now.tri.now.v (pos g.left) (pos g.bottom) c.args.setup.now.paint) (sym i.extent) c.requires.paint

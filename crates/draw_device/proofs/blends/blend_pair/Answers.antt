@@ -1,0 +1,26 @@
+use Rattle.std.proofs.Common.{ℕ, ◌∙◌, ap, arith}
+use Rattle.fragment_ops.specs.Blends.{mixed_color}
+use Rattle.rc_base.specs.declared.command.Rgba.{Rgba}
+use Rattle.draw_device.specs.Pixels.{color_at}
+use Rattle.draw_device.proofs.Codes.{by_codes}
+use Rattle.draw_device.proofs.Steps.{color_more, color_end}
+use Rattle.draw_device.proofs.blends.blend_pair.Goals as goal
+
+pub loop-x-preserved : goal.loop-x-preserved
+loop-x-preserved g c =
+    let x = c.loop-x.x in
+    let d = c.loop-x.invariant.done in
+    let s = d.size in
+    let order = c.requires.order in
+    let was = d.after x (omega arith) in
+    let kind = by_codes c.args.blending.now.state.now g.row.FIRST g.row.SECOND c.args.blending.now.first c.args.blending.now.second c.factor_named-source.result c.factor_named-kept.result c.args.blending.now.kind c.requires.first c.requires.second c.factor_named-source.ensures c.factor_named-kept.ensures in
+    record {
+      done = color_more (λ (k : ℕ) (old : Rgba). mixed_color c.args.blending.now.state.now old (color_at c.args.stored.now k)) c.args.from x _ _ _ d (omega arith) (omega arith)
+          (c.blend_by.ensures.mixed c.args.blending.now.state.now kind ∙ ap (λ (z : Rgba). mixed_color c.args.blending.now.state.now z (color_at c.args.stored.now x)) was);
+    }
+
+pub returns : goal.returns
+returns g c =
+    let order = c.requires.order in
+    let e = c.loop-x.auto.x-end order in
+    color_end (λ (k : ℕ) (old : Rgba). mixed_color c.args.blending.now.state.now old (color_at c.args.stored.now k)) c.args.from _ c.args.to _ _ (omega arith) c.loop-x.invariant.done

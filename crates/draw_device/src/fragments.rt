@@ -1,0 +1,53 @@
+//! The colours of a row's fragments after the texture stage.
+ghost use Rattle.std.specs.Prelude.{◌≡◌, pos, ◌≤◌, length};
+ghost use Rattle.draw_device.specs.Loops.{run_fragment, texel_for, IsRunCovered, IsColorRun, AreColors};
+ghost use Rattle.draw_device.specs.Plans.{AreTexels, IsSource};
+
+use crate::colors::{fill_colors, repeat_colors, step_colors, texel_colors, tint_colors};
+use crate::run::Run;
+use crate::setup::Setup;
+use crate::source::Source;
+use crate::stepped::color_ramp;
+use raster::WordPlane;
+use rc_base::command::Rgba;
+use textures::Sampler;
+
+// The texels of a row's fragments.
+fn texel_row(
+    colors: &mut [Rgba],
+    setup: &Setup<'_>,
+    sampler: Sampler<'_>,
+    ss: &WordPlane,
+    ts: &WordPlane,
+    run: Run,
+)
+    requires room { run.to ≤ length colors.old }
+    requires covered { IsRunCovered setup.now.tri.now.v run }
+    requires texels { AreTexels setup.now.state.now setup.now.texture.now setup.now.tri.now.v (pos run.left) (pos run.bottom) sampler ss.now ts.now }
+    ensures { IsColorRun (λ k old. texel_for setup.now.state.now setup.now.texture.now (run_fragment setup.now.tri.now.v run k)) run.from run.to colors.old colors.new }
+{
+    if sampler.wrap_s == 0 && sampler.wrap_t == 0 {
+        repeat_colors(colors, setup, sampler, ss, ts, run);
+    } else {
+        texel_colors(colors, setup, sampler, ss, ts, run);
+    }
+}
+
+/// The colours of a row's fragments, as they are made of the triangle.
+pub(crate) fn color_row(colors: &mut [Rgba], setup: &Setup<'_>, source: &Source<'_>, run: Run)
+    requires room { run.to ≤ length colors.old }
+    requires covered { IsRunCovered setup.now.tri.now.v run }
+    requires source { IsSource setup.now.state.now setup.now.texture.now setup.now.tri.now.v (pos run.left) (pos run.bottom) source.now }
+    ensures size { length colors.new ≡ length colors.old }
+    ensures done { AreColors setup.now.state.now setup.now.texture.now setup.now.tri.now.v run colors.new }
+{
+    match source {
+        Source::Flat(color) => fill_colors(colors, run.from, run.to, *color),
+        Source::Smooth(plane) => step_colors(colors, setup.tri, run, color_ramp(plane, run)),
+        Source::Texels(sampler, ss, ts) => texel_row(colors, setup, *sampler, ss, ts, run),
+        Source::Tinted(sampler, ss, ts, plane) => {
+            texel_row(colors, setup, *sampler, ss, ts, run);
+            tint_colors(colors, setup.state, setup.tri, run, color_ramp(plane, run));
+        }
+    }
+}
