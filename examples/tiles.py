@@ -4,7 +4,7 @@
     render --tiles 4x3 < scene.rcs > frames.ppm 2> notes.txt
     tiles.py NAME 4x3 notes.txt < frames.ppm        writes NAME.png, or NAME-1.png, NAME-2.png, .. where there are several frames
 
-The numbers are those of the report's lines `tile T parcels P sets S`.
+The numbers are those of the report's lines `tile T parcels P sets S looks L`.
 """
 import colorsys
 import sys

@@ -1,45 +1,22 @@
 -- A client's core meets its clause at first and after each step; and what follows where it has ended.
-use Rattle.std.proofs.Common.{◌≡◌, ◌≢◌, ℕ, ◌+◌, ◌<◌, ◌==◌, Bool, true, false, List, [], ◌∷◌, ◌++◌, length, inl, inr, refl, sym, ap, ◌∙◌, subst, arith, append_assoc, append-nil, length-append, eqb-true, eq-eqb, true≢false}
-use Rattle.std.specs.List.{flat_map}
-use Rattle.std.specs.Prelude.{min, slice_index_or, Ok}
-use Rattle.rc_base.specs.Cluster.Parcels.{parcels_of, set_count}
+use Rattle.std.proofs.Common.{◌≡◌, ◌≢◌, ℕ, ◌<◌, ◌==◌, Bool, true, false, List, [], ◌∷◌, ◌++◌, length, inl, inr, refl, sym, ap, ◌∙◌, subst, arith, append_assoc, append-nil, eqb-true, eq-eqb, true≢false}
+use Rattle.std.specs.Prelude.{slice_index_or, Ok}
+use Rattle.rc_base.specs.Cluster.Parcels.{parcels_of}
 use Rattle.rc_base.specs.Cluster.Sending.{Sending, ToTile, ToManager, parcels_to, requests_in, sent_by}
 use Rattle.rc_base.specs.Cluster.Tiles.{tile_count}
-use Rattle.rc_base.specs.Outside.Causes.{last_count}
 use Rattle.rc_base.specs.declared.cluster.ClientMoved.TheVariants as moved
 use Rattle.rc_base.specs.declared.scene.Scene.{Scene}
 use Rattle.rc_base.specs.declared.state.Parcel.{Parcel}
 use Rattle.rc_base.specs.declared.sync.Request.{Request}
 use Rattle.rc_base.specs.declared.window.Layout.{Layout}
 use Rattle.client_issue.specs.Clauses.{counted, IsSequenceOf, IsClientClause, NewClientsMeetTheirClause, ClientStepsOverLanesKeepTheClause, ClientsAreUnderWay, EndedClientsAreDone}
-use Rattle.client_issue.specs.Cores.{left_in, short_of, tally_after, tally_of_tile, AreSameTallies, IsClientOf, IsSameCore, IsTallied}
+use Rattle.client_issue.specs.Cores.{left_in, looks_of, short_of, tally_after, tally_of_tile, AreSameTallies, IsClientOf, IsSameCore, IsTallied}
 use Rattle.client_issue.specs.Deeds.{answer_of, ClientDeed}
 use Rattle.client_issue.specs.Deeds.ClientDeed.{Appends, Requests, FindsTileFull, FindsManagerFull, Finishes, Loses}
 use Rattle.client_issue.specs.Steps.{AreSent, IsClientStep, IsCutShort, IsFoundFull, IsLaneAlone, IsRequested}
 use Rattle.client_issue.specs.declared.client.ClientCore.{ClientCore}
+use Rattle.client_issue.proofs.Tallies.{counted_more, looks_are}
 use Rattle.client_issue.proofs.Split.{which, to_append, requests_append, all_to, all_asked}
-
--- ---- tallies
-
-sets_more : (parcels : List Parcel) (p : Parcel) → set_count (parcels ++ p ∷ []) ≡ set_count parcels + length p.sets
-sets_more [] p = let a = length-append p.sets [] in omega (arith, a)
-sets_more (q ∷ parcels) p =
-    let h = sets_more parcels p in
-    let a = length-append q.sets (flat_map (λ (r : Parcel). r.sets) (parcels ++ p ∷ [])) in
-    let b = length-append q.sets (flat_map (λ (r : Parcel). r.sets) parcels) in
-    omega (arith, h, a, b)
-
-held_twice : (a b m : ℕ) → min (min a m + b) m ≡ min (a + b) m
-held_twice a b m = omega arith
-
-counted_more : (scene : Scene) (l : Layout) (client tile : ℕ) (parcels : List Parcel) (p : Parcel)
-    → counted scene l client tile (parcels ++ p ∷ []) ≡ tally_after (counted scene l client tile parcels) p
-counted_more scene l client tile parcels p =
-    let a : min (length (parcels ++ p ∷ [])) last_count ≡ min (min (length parcels) last_count + 1) last_count =
-    ap (λ n. min n last_count) (length-append parcels (p ∷ [])) ∙ sym (held_twice (length parcels) 1 last_count) in
-    let b : min (set_count (parcels ++ p ∷ [])) last_count ≡ min (min (set_count parcels) last_count + length p.sets) last_count =
-    ap (λ n. min n last_count) (sets_more parcels p) ∙ sym (held_twice (set_count parcels) (length p.sets) last_count) in
-    λ i. record { parcels = a i; sets = b i; looks = 0 }
 
 -- ---- at first
 
@@ -103,8 +80,8 @@ module _ (scene : Scene) (l : Layout) (client : ℕ) (core later : ClientCore) (
         tallies = λ tile lt. elim (which (tile == t)) [
           | inl y ↦
               let e : tile ≡ t = eqb-true tile t y in
-              ap (tally_of_tile later) e ∙ tallied.counted ∙ ap (λ k. tally_after (tally_of_tile core k) p) (sym e)
-              ∙ ap (λ x. tally_after x p) (h.tallies tile lt) ∙ sym (counted_more scene l client tile (sent tile) p)
+              ap (tally_of_tile later) e ∙ tallied.counted ∙ ap (λ k. tally_after (tally_of_tile core k) p (looks_of core k p)) (sym e)
+              ∙ (λ i. tally_after (h.tallies tile lt i) p (looks_are core scene client l h.whose tile p i)) ∙ sym (counted_more scene l client tile (sent tile) p)
               ∙ ap (counted scene l client tile) (sym (here tile lt e))
           | inr f ↦
               tallied.others tile (off tile f) ∙ h.tallies tile lt ∙ ap (counted scene l client tile) (sym (others tile lt (off tile f)))

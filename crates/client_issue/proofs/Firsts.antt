@@ -1,13 +1,17 @@
 -- A client before its first command, and the sequence of a client by its commands alone.
 use Rattle.std.proofs.Common.{◌≡◌, ◌∙◌, ℕ, zero, suc, ◌+◌, ◌-◌, ◌≤◌, List, [], ◌∷◌, ◌++◌, length, get_or, None, refl, sym, ap, arith, append_assoc, append-nil}
-use Rattle.std.specs.Prelude.{map, replicate, slice_get}
+use Rattle.std.specs.Prelude.{map, replicate, slice_get, not, nat_eq, is_some, false, ◌&&◌, ◌||◌, option_and_then, if◌then◌else◌}
+use Rattle.std.specs.List.{list_any}
 use Rattle.rc_base.specs.Contexts.Context.{default_context}
-use Rattle.rc_base.specs.Contexts.Issue.{stream_of, context_after, effect_at, effect_of, issued_next}
+use Rattle.rc_base.specs.Contexts.Elements.{marks}
+use Rattle.rc_base.specs.Contexts.Faults.{fault_of}
+use Rattle.rc_base.specs.Contexts.Issue.{stream_of, context_after, effect_at, effect_of, fault_at, issued_next}
 use Rattle.std.specs.Option.{option_map_or}
 use Rattle.rc_base.specs.declared.state.Effect.TheVariants as eff
 use Rattle.rc_base.specs.Orders.Sync.{waits_below, wait_of}
 use Rattle.rc_base.specs.Cluster.Tiles.{tile_count}
-use Rattle.rc_base.specs.Cluster.Parcels.{told, parcel_of, parcels_before, end_parcel}
+use Rattle.rc_base.specs.Cluster.Looks.{is_block, is_pending, looks_at, looks_for}
+use Rattle.rc_base.specs.Cluster.Parcels.{draws_on, examined, told, parcel_of, parcels_before, end_parcel}
 use Rattle.rc_base.specs.Cluster.Sending.{Sending, ToManager, sent_at, sent_before, sent_by, to_tiles, request_of}
 use Rattle.rc_base.specs.declared.command.Command.{Command}
 use Rattle.rc_base.specs.declared.scene.Decl.{Decl}
@@ -24,6 +28,10 @@ use Rattle.client_issue.proofs.Giving.{commands_next, commands_end, one_more}
 pub no_waits : (scene : Scene) → waits_below scene 0 0 ≡ []
 unfolding waits_below
 no_waits scene = refl
+
+pub none_pending : (scene : Scene) (l : Layout) (tile e : ℕ) → is_pending scene l 0 tile 0 e ≡ false
+unfolding is_pending
+none_pending scene l tile e = refl
 
 pub no_parcels : (scene : Scene) (l : Layout) (tile : ℕ) → parcels_before scene l 0 tile 0 ≡ []
 unfolding parcels_before
@@ -62,6 +70,19 @@ module _ (scene other : Scene) (client k : ℕ) (d : scene.decl ≡ other.decl) 
   unfolding parcels_before
   same_parcels l tile zero = refl
   same_parcels l tile (suc n) = λ i. same_parcels l tile n i ++ parcel_of l tile (told (d i) (same_parcels l tile n i)) (same_contexts n i) n (same_effects n i)
+
+  same_pending : (l : Layout) (tile n m : ℕ) → is_pending scene l client tile n m ≡ is_pending other l k tile n m
+  unfolding is_pending fault_at
+  same_pending l tile zero m = refl
+  same_pending l tile (suc n) m = λ i.
+      (not (is_some (option_and_then (fault_of (same_contexts n i)) (slice_get (e i) n)))
+      && option_map_or (λ c. option_map_or (nat_eq m) (marks c (same_contexts n i).matrix_mode) false) (slice_get (e i) n) false)
+      || (same_pending l tile n m i && not (draws_on l tile (same_contexts n i) (same_effects n i) && list_any (nat_eq m) (examined (same_contexts n i) (is_block (same_effects n i)))))
+
+  -- the looks at a place
+  pub looks_alike : (l : Layout) (tile n : ℕ) → looks_at scene l client tile n ≡ looks_at other l k tile n
+  unfolding looks_at
+  looks_alike l tile n = λ i. if draws_on l tile (same_contexts n i) (same_effects n i) then looks_for (λ m. same_pending l tile n m i) else 0
 
   same_sent_at : (l : Layout) (n : ℕ) → sent_at scene l client n ≡ sent_at other l k n
   same_sent_at l n = λ i. to_tiles l (λ tile. parcel_of l tile (told (d i) (same_parcels l tile n i)) (same_contexts n i) n (same_effects n i))

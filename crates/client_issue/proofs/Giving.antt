@@ -5,6 +5,7 @@ use Rattle.std.specs.declared.option.Option.{Option}
 use Rattle.std.specs.Option.{option_map_or}
 use Rattle.std.specs.List.{flat_map, range_with_len}
 use Rattle.rc_base.specs.Contexts.Context.{ClientContext}
+use Rattle.rc_base.specs.Contexts.Elements.{value_in}
 use Rattle.rc_base.specs.Contexts.Faults.{fault_of}
 use Rattle.rc_base.specs.Contexts.Issue.{stream_of, context_after, effect_at, command_at, issued, carried_out, done_by, effect_of}
 use Rattle.rc_base.specs.Orders.Sync.{wait_of, waits_below}
@@ -24,7 +25,7 @@ use Rattle.rc_base.specs.declared.state.Parcel.{Parcel}
 use Rattle.rc_base.specs.declared.sync.WaitAt.{WaitAt}
 use Rattle.rc_base.specs.declared.window.Layout.{Layout}
 use Rattle.gl_context.specs.Streams.{StreamsGoOnByIssue}
-use Rattle.client_issue.specs.Acts.{act_by, goes_to, asks_of, act_sets}
+use Rattle.client_issue.specs.Acts.{act_by, goes_to, asks_of, act_sets, examines}
 use Rattle.client_issue.specs.Issued.{wait_in}
 use Rattle.client_issue.specs.Sequence.{sent_to, sent_from_tile, sent_from, request_items}
 
@@ -152,18 +153,30 @@ end_sets values x (act.Shared part) = refl
 end_sets values x (act.Sync op) = refl
 end_sets values x act.End = refl
 
+end_examines : (x : ClientContext) (a : Act) (e : ℕ) → examines (record x { block = None }) a e ≡ examines x a e
+end_examines x (act.Draw block) e = refl
+end_examines x (act.Clear mask) e = refl
+end_examines x (act.Shared part) e = refl
+end_examines x (act.Sync op) e = refl
+end_examines x act.End e = refl
+
 pub record LeavesSets (before after : ClientContext) (a : Act) : Type 0 where
   pub state : after.state ≡ before.state
   pub sets : (values : ℕ → ElementValue) → act_sets values after a ≡ act_sets values before a
+  pub values : (e : ℕ) → value_in after e ≡ value_in before e
+  pub examined : (e : ℕ) → examines after a e ≡ examines before a e
+
+same_context : (x : ClientContext) (a : Act) → LeavesSets x x a
+same_context x a = record { state = refl; sets = λ values. refl; values = λ e. refl; examined = λ e. refl }
 
 by_command : (x : ClientContext) (c : Command) (a : Act) → act_by (done_by x c) ≡ Some a → LeavesSets x (carried_out x c) a
-by_command x cmd.End a h = record { state = refl; sets = λ values. end_sets values x a }
-by_command x (cmd.Clear mask) a h = record { state = refl; sets = λ values. refl }
-by_command x (cmd.SharedImage part) a h = record { state = refl; sets = λ values. refl }
-by_command x (cmd.Barrier name) a h = record { state = refl; sets = λ values. refl }
-by_command x (cmd.SemP name) a h = record { state = refl; sets = λ values. refl }
-by_command x (cmd.SemV name) a h = record { state = refl; sets = λ values. refl }
-by_command x cmd.Swap a h = record { state = refl; sets = λ values. refl }
+by_command x cmd.End a h = record { state = refl; sets = λ values. end_sets values x a; values = λ e. refl; examined = end_examines x a }
+by_command x (cmd.Clear mask) a h = same_context x a
+by_command x (cmd.SharedImage part) a h = same_context x a
+by_command x (cmd.Barrier name) a h = same_context x a
+by_command x (cmd.SemP name) a h = same_context x a
+by_command x (cmd.SemV name) a h = same_context x a
+by_command x cmd.Swap a h = same_context x a
 by_command x c a h = absurd cc
 
 by_fault : (x : ClientContext) (place : ℕ) (c : Command) (a : Act) (o : Option Fault)

@@ -1,22 +1,26 @@
 -- A client after it has issued its next command.
 use Rattle.std.proofs.Common.{◌≡◌, ◌∙◌, ℕ, zero, suc, ◌+◌, ◌<◌, ◌≤◌, false, List, [], ◌∷◌, ◌++◌, length, get_or, Some, None, refl, sym, ap, subst, arith, inl, inr, append-nil, append_assoc, lt-ltb}
-use Rattle.std.specs.Prelude.{slice_get, MatchOption, IfSome}
+use Rattle.std.specs.Prelude.{slice_get, MatchOption, IfSome, ◌||◌}
 use Rattle.std.specs.declared.option.Option.{Option}
+use Rattle.std.proofs.Math.Logic.{∥∥₁_map}
 use Rattle.std.proofs.Props.{props}
 use Rattle.std.specs.List.{AllByRecursion}
 use Rattle.std.specs.Option.{option_map_or, option_to_list}
 use Rattle.std.proofs.lemmas.Bool.{cases_lt, le-ltb}
 use Rattle.std.proofs.lemmas.Option.{slice_get-get_or}
 use Rattle.rc_base.specs.Contexts.Context.{ClientContext}
+use Rattle.rc_base.specs.Contexts.Elements.{element_count}
 use Rattle.rc_base.specs.Contexts.Issue.{stream_of, context_after, effect_at, command_at, issued, effect_of}
 use Rattle.rc_base.specs.Orders.Sync.{wait_of}
 use Rattle.rc_base.specs.Cluster.Tiles.{tile_count}
+use Rattle.rc_base.specs.Cluster.Looks.{is_pending, marks_at}
 use Rattle.rc_base.specs.Cluster.Parcels.{told, parcels_before}
 use Rattle.rc_base.specs.Cluster.Sending.{Sending}
 use Rattle.rc_base.specs.declared.command.Command.{Command}
 use Rattle.rc_base.specs.declared.scene.Scene.{Scene}
 use Rattle.rc_base.specs.declared.state.Act.{Act}
 use Rattle.rc_base.specs.declared.state.Effect.{Effect}
+use Rattle.rc_base.specs.declared.state.ElementValue.{ElementValue}
 use Rattle.rc_base.specs.declared.state.Effect.TheVariants as eff
 use Rattle.rc_base.specs.declared.state.Parcel.{Parcel}
 use Rattle.rc_base.specs.declared.state.State.{State}
@@ -26,34 +30,38 @@ use Rattle.rc_base.specs.Formats.Commands.{IsCommand}
 use Rattle.rc_base.specs.declared.command.Command.TheVariants as cmd
 use Rattle.gl_context.specs.Arguments.{HasTexels}
 use Rattle.gl_context.specs.Streams.{StreamsGoOnByIssue}
-use Rattle.state_update.specs.Knowledge.{Knows}
+use Rattle.state_update.specs.Knowledge.{Knows, Tracked, pending}
+use Rattle.state_update.specs.declared.told.Told.{Told}
 use Rattle.client_issue.specs.Acts.{act_by, goes_to, asks_of}
 use Rattle.client_issue.specs.First.{IsFirst}
-use Rattle.client_issue.specs.Issued.{wait_in}
+use Rattle.client_issue.specs.Issued.{sets_element, wait_in}
 use Rattle.client_issue.specs.Sequence.{scene_of, sent_from_tile, sent_from, request_items, pending_items, left_with, left_of, heard, IsPending, IsSendingWith}
 use Rattle.client_issue.specs.declared.pending.Pending.{Pending}
 use Rattle.client_issue.specs.declared.sender.Sender.{Sender}
 use Rattle.client_issue.proofs.Giving.{skipped_to, tail_end, commands_next, command_items, nothing_sent, no_parcel, before_next, waits_next, leaves_sets}
+use Rattle.client_issue.proofs.Marking.{quiet_pending, sets_are_marks, unmarked}
 
 -- what the code did
-pub record IsIssued (s : Sender) (c : Command) (x : ClientContext) (effect : Effect) (o : Option Pending) (ops : List WaitAt) : Type 0 where
+pub record IsIssued (s : Sender) (c : Command) (x : ClientContext) (effect : Effect) (o : Option Pending) (ops : List WaitAt) (tracker : Tracked) : Type 0 where
   pub law : StreamsGoOnByIssue
   pub sending : IsSendingWith s None
   pub more : s.issued < length s.stream
   pub command : command_at (scene_of s) 0 s.issued ≡ Some c
   pub context : x ≡ issued s.context s.issued c
   pub effect_is : effect ≡ effect_of s.context c
+  pub told : tracker.told ≡ s.tracker.told
+  pub marked : (tile e : ℕ) → tile < 32 → pending tracker tile e ≡ (sets_element c s.context.matrix_mode effect e || pending s.tracker tile e)
   pub pending : MatchOption o ((t : ℕ) → t < s.count → asks_of s.layout x.state effect t ≡ false) (IsFirst s.layout x.state s.issued effect)
   pub noted : ops ≡ s.ops ++ option_to_list (wait_in s.issued effect)
 
-pub next_context : (s : Sender) (c : Command) (x : ClientContext) (effect : Effect) (o : Option Pending) (ops : List WaitAt) → IsIssued s c x effect o ops
+pub next_context : (s : Sender) (c : Command) (x : ClientContext) (effect : Effect) (o : Option Pending) (ops : List WaitAt) (tracker : Tracked) → IsIssued s c x effect o ops tracker
     → x ≡ context_after (scene_of s) 0 (s.issued + 1)
-next_context s c x effect o ops h =
+next_context s c x effect o ops tracker h =
     h.context ∙ ap (λ (y : ClientContext). issued y s.issued c) h.sending.context ∙ sym (h.law (scene_of s) 0 s.issued c h.command).0
 
-pub next_effect : (s : Sender) (c : Command) (x : ClientContext) (effect : Effect) (o : Option Pending) (ops : List WaitAt) → IsIssued s c x effect o ops
+pub next_effect : (s : Sender) (c : Command) (x : ClientContext) (effect : Effect) (o : Option Pending) (ops : List WaitAt) (tracker : Tracked) → IsIssued s c x effect o ops tracker
     → effect ≡ effect_at (scene_of s) 0 s.issued
-next_effect s c x effect o ops h =
+next_effect s c x effect o ops tracker h =
     h.effect_is ∙ ap (λ (y : ClientContext). effect_of y c) h.sending.context ∙ sym (h.law (scene_of s) 0 s.issued c h.command).1
 
 -- an effect goes to the same tiles by the state before its command and after it
@@ -72,49 +80,49 @@ abbrev pub first_tile : ℕ → Option Pending → ℕ
 first_tile count None = count
 first_tile count (Some p) = p.tile
 
-pub not_asked : (s : Sender) (c : Command) (x : ClientContext) (effect : Effect) (o : Option Pending) (ops : List WaitAt) → IsIssued s c x effect o ops
+pub not_asked : (s : Sender) (c : Command) (x : ClientContext) (effect : Effect) (o : Option Pending) (ops : List WaitAt) (tracker : Tracked) → IsIssued s c x effect o ops tracker
     → (t : ℕ) → t < first_tile s.count o → asks_of s.layout (context_after (scene_of s) 0 s.issued).state (effect_at (scene_of s) 0 s.issued) t ≡ false
-not_asked s c x effect None ops h t lt =
+not_asked s c x effect None ops tracker h t lt =
     asks_before h.law (scene_of s) s.layout s.issued t
-    (subst (λ (e : Effect). asks_of s.layout (context_after (scene_of s) 0 (s.issued + 1)).state e t ≡ false) (next_effect s c x effect None ops h)
-    (subst (λ (y : ClientContext). asks_of s.layout y.state effect t ≡ false) (next_context s c x effect None ops h) (h.pending t lt)))
-not_asked s c x effect (Some p) ops h t lt =
+    (subst (λ (e : Effect). asks_of s.layout (context_after (scene_of s) 0 (s.issued + 1)).state e t ≡ false) (next_effect s c x effect None ops tracker h)
+    (subst (λ (y : ClientContext). asks_of s.layout y.state effect t ≡ false) (next_context s c x effect None ops tracker h) (h.pending t lt)))
+not_asked s c x effect (Some p) ops tracker h t lt =
     let first = h.pending in
     let count : t < tile_count s.layout = omega (arith, lt, first.tile) in
     let asks : asks_of s.layout x.state effect t ≡ false =
     ap (λ (o : Option Act). option_map_or (λ a. goes_to s.layout x.state a t) o false) first.act_is ∙ sym (first.goes t count) ∙ first.before t lt in
     asks_before h.law (scene_of s) s.layout s.issued t
-    (subst (λ (e : Effect). asks_of s.layout (context_after (scene_of s) 0 (s.issued + 1)).state e t ≡ false) (next_effect s c x effect (Some p) ops h)
-    (subst (λ (y : ClientContext). asks_of s.layout y.state effect t ≡ false) (next_context s c x effect (Some p) ops h) asks))
+    (subst (λ (e : Effect). asks_of s.layout (context_after (scene_of s) 0 (s.issued + 1)).state e t ≡ false) (next_effect s c x effect (Some p) ops tracker h)
+    (subst (λ (y : ClientContext). asks_of s.layout y.state effect t ≡ false) (next_context s c x effect (Some p) ops tracker h) asks))
 
 -- ---- what is left
 
 none_left : (a b : List Sending) → a ≡ [] → ([] ++ b) ≡ (a ++ b)
 none_left a b e = ap (λ (items : List Sending). items ++ b) (sym e)
 
-items_pending : (s : Sender) (c : Command) (x : ClientContext) (effect : Effect) (o : Option Pending) (ops : List WaitAt) → IsIssued s c x effect o ops
+items_pending : (s : Sender) (c : Command) (x : ClientContext) (effect : Effect) (o : Option Pending) (ops : List WaitAt) (tracker : Tracked) → IsIssued s c x effect o ops tracker
     → pending_items (scene_of s) s.layout o ≡ sent_from_tile (scene_of s) s.layout s.issued 0
-items_pending s c x effect None ops h =
+items_pending s c x effect None ops tracker h =
     let count : tile_count s.layout ≡ s.count = sym h.sending.count in
     sym (skipped_to (scene_of s) s.layout s.issued 0 (tile_count s.layout) (omega arith) (omega arith)
-    (λ t _ lt. nothing_sent (scene_of s) s.layout t s.issued (not_asked s c x effect None ops h t (omega (arith, lt, count))))
+    (λ t _ lt. nothing_sent (scene_of s) s.layout t s.issued (not_asked s c x effect None ops tracker h t (omega (arith, lt, count))))
     ∙ tail_end (scene_of s) s.layout s.issued (tile_count s.layout) (omega arith))
-items_pending s c x effect (Some p) ops h =
+items_pending s c x effect (Some p) ops tracker h =
     let first = h.pending in
     let within = first.tile in
     sym (skipped_to (scene_of s) s.layout s.issued 0 p.tile (omega arith) (omega (arith, within))
-    (λ t _ lt. nothing_sent (scene_of s) s.layout t s.issued (not_asked s c x effect (Some p) ops h t lt))
+    (λ t _ lt. nothing_sent (scene_of s) s.layout t s.issued (not_asked s c x effect (Some p) ops tracker h t lt))
     ∙ ap (λ (k : ℕ). sent_from_tile (scene_of s) s.layout k p.tile) (sym first.place_is))
 
-pub issued_left : (s : Sender) (c : Command) (x : ClientContext) (effect : Effect) (o : Option Pending) (ops : List WaitAt) → s.pending ≡ None → s.request ≡ None → IsIssued s c x effect o ops
-    → left_of (record s { context = x; issued = s.issued + 1; pending = o; request = wait_in s.issued effect; ops = ops }) ≡ left_of s
+pub issued_left : (s : Sender) (c : Command) (x : ClientContext) (effect : Effect) (o : Option Pending) (ops : List WaitAt) (tracker : Tracked) → s.pending ≡ None → s.request ≡ None → IsIssued s c x effect o ops tracker
+    → left_of (record s { context = x; tracker = tracker; issued = s.issued + 1; pending = o; request = wait_in s.issued effect; ops = ops }) ≡ left_of s
 unfolding left_with
-issued_left s c x effect o ops rests asked h =
+issued_left s c x effect o ops tracker rests asked h =
     let scene = scene_of s in
     let l = s.layout in
     let k = s.issued in
-    let request : request_items (wait_in k effect) ≡ request_items (wait_in k (effect_at scene 0 k)) = ap (λ (e : Effect). request_items (wait_in k e)) (next_effect s c x effect o ops h) in
-    (λ i. items_pending s c x effect o ops h i ++ (request i ++ sent_from scene l (k + 1)))
+    let request : request_items (wait_in k effect) ≡ request_items (wait_in k (effect_at scene 0 k)) = ap (λ (e : Effect). request_items (wait_in k e)) (next_effect s c x effect o ops tracker h) in
+    (λ i. items_pending s c x effect o ops tracker h i ++ (request i ++ sent_from scene l (k + 1)))
     ∙ sym (append_assoc (sent_from_tile scene l k 0) (request_items (wait_in k (effect_at scene 0 k))) (sent_from scene l (k + 1)))
     ∙ ap (λ (items : List Sending). items ++ sent_from scene l (k + 1)) (sym (command_items scene l k))
     ∙ sym (commands_next scene l k h.more)
@@ -139,28 +147,78 @@ heard_less p issued tile lt = rw (lt-ltb tile p.tile lt) refl
 pub heard_more : (p : Pending) (issued tile : ℕ) → p.tile ≤ tile → heard (Some p) issued tile ≡ p.place
 heard_more p issued tile le = rw (le-ltb tile p.tile le) refl
 
-known_next : (s : Sender) (c : Command) (x : ClientContext) (effect : Effect) (o : Option Pending) (ops : List WaitAt) → IsIssued s c x effect o ops
+knows_noted : (s : Sender) (tracker : Tracked) (tile : ℕ) (values : ℕ → ElementValue) → tracker.told ≡ s.tracker.told → Knows s.tracker tile values → Knows tracker tile values
+knows_noted s tracker tile values same k = record { kept = k.kept; is = ap (λ (l : List Told). slice_get l tile) same ∙ k.is; agrees = k.agrees }
+
+known_before : (s : Sender) (c : Command) (x : ClientContext) (effect : Effect) (o : Option Pending) (ops : List WaitAt) (tracker : Tracked) → IsIssued s c x effect o ops tracker
     → (tile : ℕ) → tile < s.count → ∥ Knows s.tracker tile (told s.decl (parcels_before (scene_of s) s.layout 0 tile (heard o (s.issued + 1) tile))) ∥₁
-known_next s c x effect None ops h tile lt = known_at s tile (s.issued + 1) (quiet_next s tile (not_asked s c x effect None ops h tile lt)) lt h.sending
-known_next s c x effect (Some p) ops h tile lt =
+known_before s c x effect None ops tracker h tile lt = known_at s tile (s.issued + 1) (quiet_next s tile (not_asked s c x effect None ops tracker h tile lt)) lt h.sending
+known_before s c x effect (Some p) ops tracker h tile lt =
     elim (cases_lt tile p.tile) [
       | inl less ↦
           subst (λ (n : ℕ). ∥ Knows s.tracker tile (told s.decl (parcels_before (scene_of s) s.layout 0 tile n)) ∥₁) (sym (heard_less p (s.issued + 1) tile less))
-          (known_at s tile (s.issued + 1) (quiet_next s tile (not_asked s c x effect (Some p) ops h tile less)) lt h.sending)
+          (known_at s tile (s.issued + 1) (quiet_next s tile (not_asked s c x effect (Some p) ops tracker h tile less)) lt h.sending)
       | inr more ↦
           subst (λ (n : ℕ). ∥ Knows s.tracker tile (told s.decl (parcels_before (scene_of s) s.layout 0 tile n)) ∥₁) (sym (heard_more p (s.issued + 1) tile more ∙ h.pending.place_is))
           (h.sending.known tile lt)
     ]
 
-pending_next : (s : Sender) (c : Command) (x : ClientContext) (effect : Effect) (o : Option Pending) (ops : List WaitAt) → IsIssued s c x effect o ops
+known_next : (s : Sender) (c : Command) (x : ClientContext) (effect : Effect) (o : Option Pending) (ops : List WaitAt) (tracker : Tracked) → IsIssued s c x effect o ops tracker
+    → (tile : ℕ) → tile < s.count → ∥ Knows tracker tile (told s.decl (parcels_before (scene_of s) s.layout 0 tile (heard o (s.issued + 1) tile))) ∥₁
+known_next s c x effect o ops tracker h tile lt =
+    ∥∥₁_map (known_before s c x effect o ops tracker h tile lt)
+    (knows_noted s tracker tile (told s.decl (parcels_before (scene_of s) s.layout 0 tile (heard o (s.issued + 1) tile))) h.told)
+
+-- ---- what is pending
+
+-- the command sets the element, in the code's words and in the definition's
+sets_here : (s : Sender) (c : Command) (x : ClientContext) (effect : Effect) (o : Option Pending) (ops : List WaitAt) (tracker : Tracked) → IsIssued s c x effect o ops tracker
+    → (e : ℕ) → sets_element c s.context.matrix_mode effect e ≡ marks_at (scene_of s) 0 s.issued e
+sets_here s c x effect o ops tracker h e =
+    (λ i. sets_element c (h.sending.context i).matrix_mode (next_effect s c x effect o ops tracker h i) e)
+    ∙ sets_are_marks (scene_of s) s.issued c h.command h.law e
+
+-- a tile that the command doesn't go to
+marked_quiet : (s : Sender) (c : Command) (x : ClientContext) (effect : Effect) (o : Option Pending) (ops : List WaitAt) (tracker : Tracked) → IsIssued s c x effect o ops tracker
+    → (tile e : ℕ) → tile < s.count → e < element_count → tile < first_tile s.count o
+    → pending tracker tile e ≡ is_pending (scene_of s) s.layout 0 tile (s.issued + 1) e
+marked_quiet s c x effect o ops tracker h tile e lt few first =
+    let all = h.sending.tiles in
+    h.marked tile e (omega (arith, lt, all))
+    ∙ (λ i. sets_here s c x effect o ops tracker h e i || h.sending.marked tile e lt few i)
+    ∙ sym (quiet_pending (scene_of s) s.layout tile s.issued e (not_asked s c x effect o ops tracker h tile first))
+
+-- one that it goes to isn't given its parcel yet
+marked_asked : (s : Sender) (c : Command) (x : ClientContext) (effect : Effect) (p : Pending) (ops : List WaitAt) (tracker : Tracked) → IsIssued s c x effect (Some p) ops tracker
+    → (tile e : ℕ) → tile < s.count → e < element_count → pending tracker tile e ≡ is_pending (scene_of s) s.layout 0 tile s.issued e
+marked_asked s c x effect p ops tracker h tile e lt few =
+    let all = h.sending.tiles in
+    let asks : act_by (effect_at (scene_of s) 0 s.issued) ≡ Some p.act = ap act_by (sym (next_effect s c x effect (Some p) ops tracker h)) ∙ h.pending.act_is in
+    h.marked tile e (omega (arith, lt, all))
+    ∙ (λ i. (sets_here s c x effect (Some p) ops tracker h e ∙ unmarked (scene_of s) s.issued e p.act asks) i || h.sending.marked tile e lt few i)
+
+marked_next : (s : Sender) (c : Command) (x : ClientContext) (effect : Effect) (o : Option Pending) (ops : List WaitAt) (tracker : Tracked) → IsIssued s c x effect o ops tracker
+    → (tile e : ℕ) → tile < s.count → e < element_count → pending tracker tile e ≡ is_pending (scene_of s) s.layout 0 tile (heard o (s.issued + 1) tile) e
+marked_next s c x effect None ops tracker h tile e lt few = marked_quiet s c x effect None ops tracker h tile e lt few lt
+marked_next s c x effect (Some p) ops tracker h tile e lt few =
+    elim (cases_lt tile p.tile) [
+      | inl less ↦
+          marked_quiet s c x effect (Some p) ops tracker h tile e lt few less
+          ∙ ap (λ (n : ℕ). is_pending (scene_of s) s.layout 0 tile n e) (sym (heard_less p (s.issued + 1) tile less))
+      | inr more ↦
+          marked_asked s c x effect p ops tracker h tile e lt few
+          ∙ ap (λ (n : ℕ). is_pending (scene_of s) s.layout 0 tile n e) (sym (heard_more p (s.issued + 1) tile more ∙ h.pending.place_is))
+    ]
+
+pending_next : (s : Sender) (c : Command) (x : ClientContext) (effect : Effect) (o : Option Pending) (ops : List WaitAt) (tracker : Tracked) → IsIssued s c x effect o ops tracker
     → IfSome o (IsPending (scene_of s) s.layout (s.issued + 1))
-pending_next s c x effect None ops h = tt
-pending_next s c x effect (Some p) ops h =
+pending_next s c x effect None ops tracker h = tt
+pending_next s c x effect (Some p) ops tracker h =
     let scene = scene_of s in
     let first = h.pending in
     let same = sym first.place_is in
-    let asks : act_by (effect_at scene 0 s.issued) ≡ Some p.act = ap act_by (sym (next_effect s c x effect (Some p) ops h)) ∙ first.act_is in
-    let state : x.state ≡ (context_after scene 0 s.issued).state = ap (λ (y : ClientContext). y.state) (next_context s c x effect (Some p) ops h) ∙ (leaves_sets h.law scene s.issued p.act asks).state in
+    let asks : act_by (effect_at scene 0 s.issued) ≡ Some p.act = ap act_by (sym (next_effect s c x effect (Some p) ops tracker h)) ∙ first.act_is in
+    let state : x.state ≡ (context_after scene 0 s.issued).state = ap (λ (y : ClientContext). y.state) (next_context s c x effect (Some p) ops tracker h) ∙ (leaves_sets h.law scene s.issued p.act asks).state in
     record {
       last = ap (λ (k : ℕ). k + 1) same;
       asks = subst (λ (k : ℕ). act_by (effect_at scene 0 k) ≡ Some p.act) same asks;
@@ -185,9 +243,9 @@ wait_place place (eff.Clear mask) w e = absurd cc
 wait_place place (eff.Shared part) w e = absurd cc
 wait_place place (eff.Sync op) w e = ap (λ (o : Option WaitAt). option_map_or (λ v. v.place) o place) e
 
-pub issued_sending : (s : Sender) (c : Command) (x : ClientContext) (effect : Effect) (o : Option Pending) (ops : List WaitAt) → IsIssued s c x effect o ops
-    → IsSendingWith (record s { context = x; issued = s.issued + 1; pending = o; request = wait_in s.issued effect; ops = ops }) o
-issued_sending s c x effect o ops h =
+pub issued_sending : (s : Sender) (c : Command) (x : ClientContext) (effect : Effect) (o : Option Pending) (ops : List WaitAt) (tracker : Tracked) → IsIssued s c x effect o ops tracker
+    → IsSendingWith (record s { context = x; tracker = tracker; issued = s.issued + 1; pending = o; request = wait_in s.issued effect; ops = ops }) o
+issued_sending s c x effect o ops tracker h =
     let more = h.more in
     record {
       few = h.sending.few;
@@ -195,11 +253,12 @@ issued_sending s c x effect o ops h =
       count = h.sending.count;
       tiles = h.sending.tiles;
       issued = omega (arith, more);
-      context = next_context s c x effect o ops h;
-      ops = h.noted ∙ (λ i. h.sending.ops i ++ waits_are s.issued (next_effect s c x effect o ops h i) i) ∙ sym (waits_next (scene_of s) s.issued);
-      tracked = h.sending.tracked;
-      known = known_next s c x effect o ops h;
-      pending = pending_next s c x effect o ops h;
+      context = next_context s c x effect o ops tracker h;
+      ops = h.noted ∙ (λ i. h.sending.ops i ++ waits_are s.issued (next_effect s c x effect o ops tracker h i) i) ∙ sym (waits_next (scene_of s) s.issued);
+      tracked = ap length h.told ∙ h.sending.tracked;
+      known = known_next s c x effect o ops tracker h;
+      marked = marked_next s c x effect o ops tracker h;
+      pending = pending_next s c x effect o ops tracker h;
       asking = λ w e. ap (λ k. k + 1) (wait_place s.issued effect w e);
     }
 

@@ -1,4 +1,5 @@
 mod Giving
+mod Marking
 mod Issuing
 mod ParcelGiven
 mod Requesting
@@ -9,4 +10,5 @@ mod Firsts
 mod Keeping
 mod Split
 mod Rising
+pub mod Tallies
 mod ClientsMeetTheirClause

@@ -11,7 +11,7 @@ use Rattle.rc_base.specs.declared.cluster.Tally.{Tally}
 use Rattle.rc_base.specs.declared.state.Parcel.{Parcel}
 use Rattle.rc_base.specs.declared.sync.Request.TheVariants as request
 use Rattle.rc_base.specs.declared.window.Layout.{Layout}
-use Rattle.client_issue.specs.Cores.{commands_left, ends_from, left_by, no_tally, tally_after, tally_in, IsTallied}
+use Rattle.client_issue.specs.Cores.{commands_left, ends_from, left_by, no_tally, looks_of, tally_after, tally_in, IsTallied}
 use Rattle.client_issue.specs.Sequence.{item_of, items_of, left_of, IsForTile, IsInOrder, IsSame, IsSound}
 use Rattle.client_issue.specs.Steps.{IsCutShort}
 use Rattle.client_issue.specs.declared.client.ClientCore.{ClientCore}
@@ -84,24 +84,24 @@ unfolding left_by
 put_back s o k short i j was same =
     λ n. items_of ((ap (λ (x : Item). Some x) same ∙ sym was) n) ++ (commands_left short s ++ ends_from s.layout (length s.stream) k)
 
-pub tallied_by : (core after : ClientCore) (tile k : ℕ) (old d t : Tally) (p : Parcel) → after.tallies.items ≡ slice_set core.tallies.items k t → k ≡ tile
-    → tile < length core.tallies.items → old ≡ get_or core.tallies.items k d → t ≡ tally_after old p → IsTallied core after tile p
+pub tallied_by : (core after : ClientCore) (tile k : ℕ) (old d t : Tally) (p : Parcel) (looks : ℕ) → after.tallies.items ≡ slice_set core.tallies.items k t → k ≡ tile
+    → tile < length core.tallies.items → old ≡ get_or core.tallies.items k d → looks_of core tile p ≡ looks → t ≡ tally_after old p looks → IsTallied core after tile p
 unfolding tally_in
-tallied_by core after tile k old d t p now same lt was counts = record {
+tallied_by core after tile k old d t p looks now same lt was cost counts = record {
   counted =
       ap (λ (xs : List Tally). get_or xs tile no_tally) now
       ∙ ap (λ (j : ℕ). get_or (slice_set core.tallies.items j t) tile no_tally) same
       ∙ get_or-set_same core.tallies.items tile t no_tally lt ∙ counts
-      ∙ ap (λ (u : Tally). tally_after u p) (was ∙ ap (λ (j : ℕ). get_or core.tallies.items j d) same ∙ get_or_default core.tallies.items tile d no_tally lt);
+      ∙ (λ i. tally_after ((was ∙ ap (λ (j : ℕ). get_or core.tallies.items j d) same ∙ get_or_default core.tallies.items tile d no_tally lt) i) p (sym cost i));
   others = λ other ne.
       ap (λ (xs : List Tally). get_or xs other no_tally) now
       ∙ ap (λ (j : ℕ). get_or (slice_set core.tallies.items j t) other no_tally) same
       ∙ get_or-set_other core.tallies.items tile other t no_tally ne;
 }
 
-pub for_tile : (core : ClientCore) (tile : ℕ) (p : Parcel) → core.ready ≡ Some (item.Parcel tile p) → tile < tile_count core.sender.layout
-for_tile core tile p was =
-    let r : IfSome (Some (item.Parcel tile p)) (IsForTile core.sender.count) = subst (λ (o : Option Item). IfSome o (IsForTile core.sender.count)) was (sound core).fits in
+pub for_tile : (core : ClientCore) (tile : ℕ) (p : Parcel) (looks : ℕ) → core.ready ≡ Some (item.Parcel tile p looks) → tile < tile_count core.sender.layout
+for_tile core tile p looks was =
+    let r : IfSome (Some (item.Parcel tile p looks)) (IsForTile core.sender.count) = subst (λ (o : Option Item). IfSome o (IsForTile core.sender.count)) was (sound core).fits in
     let e = core.count in
     subst (λ (n : ℕ). tile < n) e r
 

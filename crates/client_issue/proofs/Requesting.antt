@@ -45,6 +45,7 @@ with_pending s o q h = record {
   ops = h.ops;
   tracked = h.tracked;
   known = h.known;
+  marked = h.marked;
   pending = h.pending;
   asking = h.asking;
 }

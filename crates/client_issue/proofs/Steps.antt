@@ -2,15 +2,16 @@
 use Rattle.std.proofs.Common.{◌≡◌, ◌≢◌, ◌∙◌, ℕ, ◌<◌, Bool, true, false, List, [], ◌∷◌, ◌++◌, length, refl, sym, ap, subst, true≢false}
 use Rattle.std.specs.Prelude.{cond}
 use Rattle.rc_base.specs.Cluster.Lanes.{EachLane}
+use Rattle.rc_base.specs.Cluster.Looks.{looks_at}
 use Rattle.rc_base.specs.Cluster.Tiles.{tile_count}
 use Rattle.rc_base.specs.Outside.Causes.{Rose}
-use Rattle.rc_base.specs.declared.cluster.Tally.{Tally}
 use Rattle.rc_base.specs.declared.command.Command.{Command}
+use Rattle.rc_base.specs.declared.state.Parcel.{Parcel}
 use Rattle.rc_base.specs.declared.window.Layout.{Layout}
-use Rattle.client_issue.specs.Cores.{issued_of, layout_of, left_in, tally_after, tally_in, tally_of_tile, AreSameTallies}
+use Rattle.client_issue.specs.Cores.{issued_of, layout_of, left_in, looks_of, tally_after, tally_in, tally_of_tile, AreSameTallies}
 use Rattle.client_issue.specs.Deeds.{is_loss, issued_up_to, ClientDeed}
 use Rattle.client_issue.specs.Deeds.ClientDeed.{Appends, Requests, FindsTileFull, FindsManagerFull, Finishes, Loses}
-use Rattle.client_issue.specs.Sequence.{IsSame}
+use Rattle.client_issue.specs.Sequence.{alone, IsSame}
 use Rattle.client_issue.specs.Steps.{AreTallied, HasGot, IsClientStep, IsCutShort, IsFoundFull, IsLaneAlone, IsNextDeed, MayLack}
 use Rattle.client_issue.specs.declared.client.ClientCore.{ClientCore}
 use Rattle.client_issue.specs.declared.sender.Sender.{Sender}
@@ -48,12 +49,15 @@ module _ (core ready later : ClientCore) (alike : IsAlike core ready) where
   tally_from : (tile : ℕ) → tally_of_tile ready tile ≡ tally_of_tile core tile
   tally_from tile = λ i. tally_in (alike.tallies i).items tile
 
+  looks_from : (tile : ℕ) (p : Parcel) → looks_of ready tile p ≡ looks_of core tile p
+  looks_from tile p = λ i. looks_at (alone (alike.same.decl i) (alike.same.stream i)) (alike.same.layout i) 0 tile p.place
+
   same_from : AreSameTallies ready later → AreSameTallies core later
   same_from h tile = h tile ∙ tally_from tile
 
   tallied_from : (did : ClientDeed) → AreTallied ready did later → AreTallied core did later
   tallied_from (Appends tile parcel) h = record {
-    counted = h.counted ∙ ap (λ (t : Tally). tally_after t parcel) (tally_from tile);
+    counted = h.counted ∙ (λ i. tally_after (tally_from tile i) parcel (looks_from tile parcel i));
     others = λ other ne. h.others other ne ∙ tally_from other;
   }
   tallied_from (Requests r) h = same_from h

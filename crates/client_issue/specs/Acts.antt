@@ -1,8 +1,10 @@
 -- What an effect asks of tiles, and of which.
-use Rattle.std.specs.Prelude.{ℕ, Bool, true, false, List, [], Option, Some, None}
+use Rattle.std.specs.Prelude.{ℕ, nat_eq, Bool, true, false, List, [], Option, Some, None}
+use Rattle.std.specs.List.{list_any}
 use Rattle.std.specs.Option.{option_map_or}
 use Rattle.rc_base.specs.Contexts.Context.{ClientContext}
-use Rattle.rc_base.specs.Cluster.Parcels.{sets_for}
+use Rattle.rc_base.specs.Cluster.Looks.{looks_for}
+use Rattle.rc_base.specs.Cluster.Parcels.{examined, sets_for}
 use Rattle.rc_base.specs.declared.state.ElementSet.{ElementSet}
 use Rattle.rc_base.specs.declared.state.ElementValue.{ElementValue}
 use Rattle.rc_base.specs.Cluster.Tiles.{meets_tile}
@@ -41,3 +43,19 @@ act_sets values x (act.Clear mask) = sets_for values x false
 act_sets values x (act.Shared part) = []
 act_sets values x (act.Sync op) = []
 act_sets values x act.End = []
+
+-- the act examines the element
+abbrev pub examines : ClientContext → Act → ℕ → Bool
+examines x (act.Draw block) e = list_any (nat_eq e) (examined x true)
+examines x (act.Clear mask) e = list_any (nat_eq e) (examined x false)
+examines x (act.Shared part) e = false
+examines x (act.Sync op) e = false
+examines x act.End e = false
+
+-- the looks that the act costs, where these elements are pending
+abbrev pub act_looks : (ℕ → Bool) → Act → ℕ
+act_looks pending (act.Draw block) = looks_for pending
+act_looks pending (act.Clear mask) = looks_for pending
+act_looks pending (act.Shared part) = 0
+act_looks pending (act.Sync op) = 0
+act_looks pending act.End = 0

@@ -1,5 +1,6 @@
 -- What a client's core promises of itself and of the lists of its own lane ends alone.
 use Rattle.std.specs.Prelude.{◌≡◌, ℕ, ◌<◌, min, Bool, true, false, List, [], ◌++◌, length, slice_index_or, Ok}
+use Rattle.rc_base.specs.Cluster.Looks.{look_count}
 use Rattle.rc_base.specs.Cluster.Parcels.{parcels_of, set_count}
 use Rattle.rc_base.specs.Cluster.Sending.{Sending, parcels_to, requests_in, sent_by, sent_last, requests_of}
 use Rattle.rc_base.specs.Cluster.Tiles.{tile_count}
@@ -15,10 +16,13 @@ use Rattle.client_issue.specs.Deeds.{answer_of, ClientDeed}
 use Rattle.client_issue.specs.Steps.{AreSent, IsClientStep, IsRequested}
 use Rattle.client_issue.specs.declared.client.ClientCore.{ClientCore}
 
--- The tally of these parcels of a client to a tile, as a core counts: a count stands still at its type's end. Looks aren't counted.
+-- The tally of these parcels of a client to a tile, as a core counts: a count stands still at its type's end.
 abbrev pub counted : Scene → Layout → ℕ → ℕ → List Parcel → Tally
-counted scene l client tile parcels =
-    record { parcels = min (length parcels) last_count; sets = min (set_count parcels) last_count; looks = 0 }
+counted scene l client tile parcels = record {
+  parcels = min (length parcels) last_count;
+  sets = min (set_count parcels) last_count;
+  looks = min (look_count scene l client tile parcels) last_count;
+}
 
 -- ---- the clause
 

@@ -3,6 +3,7 @@ use Rattle.std.specs.Prelude.{◌≡◌, ◌≢◌, ℕ, min, slice_index_or, �
 use Rattle.std.specs.List.{flat_map, range_with_len}
 use Rattle.rc_base.specs.Contexts.Issue.{stream_of}
 use Rattle.rc_base.specs.Cluster.Tiles.{tile_count}
+use Rattle.rc_base.specs.Cluster.Looks.{looks_at}
 use Rattle.rc_base.specs.Cluster.Parcels.{end_parcel}
 use Rattle.rc_base.specs.Cluster.Sending.{Sending, ToTile, ToManager}
 use Rattle.rc_base.specs.Outside.Causes.{last_count}
@@ -11,7 +12,7 @@ use Rattle.rc_base.specs.declared.scene.Scene.{Scene}
 use Rattle.rc_base.specs.declared.state.Parcel.{Parcel}
 use Rattle.rc_base.specs.declared.sync.Request.TheVariants as request
 use Rattle.rc_base.specs.declared.window.Layout.{Layout}
-use Rattle.client_issue.specs.Sequence.{IsSame, left_of, items_of}
+use Rattle.client_issue.specs.Sequence.{IsSame, left_of, items_of, scene_of}
 use Rattle.client_issue.specs.declared.client.ClientCore.{ClientCore}
 use Rattle.client_issue.specs.declared.item.Item.{Item}
 use Rattle.client_issue.specs.declared.sender.Sender.{Sender}
@@ -63,9 +64,17 @@ IsSameCore a b = IsSame a.sender b.sender
 
 -- ---- tallies
 
--- a tally after one more parcel; a count stands still at its type's end
-abbrev pub tally_after : Tally → Parcel → Tally
-tally_after t p = record { parcels = min (t.parcels + 1) last_count; sets = min (t.sets + length p.sets) last_count; looks = t.looks }
+-- a tally after one more parcel, which cost so many looks; a count stands still at its type's end
+abbrev pub tally_after : Tally → Parcel → ℕ → Tally
+tally_after t p looks = record {
+  parcels = min (t.parcels + 1) last_count;
+  sets = min (t.sets + length p.sets) last_count;
+  looks = min (t.looks + looks) last_count;
+}
+
+-- the looks that a parcel of the core's client to a tile costs
+abbrev pub looks_of : ClientCore → ℕ → Parcel → ℕ
+looks_of core tile p = looks_at (scene_of core.sender) core.sender.layout 0 tile p.place
 
 abbrev pub no_tally : Tally
 no_tally = record { parcels = 0; sets = 0; looks = 0 }
@@ -79,7 +88,7 @@ tally_of_tile core tile = tally_in core.tallies.items tile
 
 -- the tile's tally counts one more parcel, and no other is changed
 pub record IsTallied (before after : ClientCore) (tile : ℕ) (p : Parcel) : Type 0 where
-  pub counted : tally_of_tile after tile ≡ tally_after (tally_of_tile before tile) p
+  pub counted : tally_of_tile after tile ≡ tally_after (tally_of_tile before tile) p (looks_of before tile p)
   pub others : (other : ℕ) → other ≢ tile → tally_of_tile after other ≡ tally_of_tile before other
 
 -- the tallies are as they were

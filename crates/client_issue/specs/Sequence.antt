@@ -9,6 +9,8 @@ use Rattle.rc_base.specs.Contexts.Issue.{stream_of, context_after, effect_at}
 use Rattle.rc_base.specs.Orders.Journal.{has}
 use Rattle.rc_base.specs.Orders.Sync.{waits_below}
 use Rattle.rc_base.specs.Cluster.Tiles.{tile_count}
+use Rattle.rc_base.specs.Contexts.Elements.{element_count}
+use Rattle.rc_base.specs.Cluster.Looks.{is_pending, looks_at}
 use Rattle.rc_base.specs.Cluster.Parcels.{told, parcels_at, parcels_before}
 use Rattle.rc_base.specs.Cluster.Sending.{Sending, ToTile, ToManager, sent_at, request_of}
 use Rattle.rc_base.specs.declared.command.Command.{Command}
@@ -17,7 +19,7 @@ use Rattle.rc_base.specs.declared.scene.Scene.{Scene}
 use Rattle.rc_base.specs.declared.sync.Request.TheVariants as request
 use Rattle.rc_base.specs.declared.sync.WaitAt.{WaitAt}
 use Rattle.rc_base.specs.declared.window.Layout.{Layout}
-use Rattle.state_update.specs.Knowledge.{Knows}
+use Rattle.state_update.specs.Knowledge.{Knows, pending}
 use Rattle.client_issue.specs.Acts.{act_by, goes_to}
 use Rattle.client_issue.specs.declared.item.Item.{Item}
 use Rattle.client_issue.specs.declared.item.Item.TheVariants as item
@@ -57,7 +59,7 @@ abbrev pub left_of : Sender → List Sending
 left_of s = left_with s s.pending
 
 abbrev pub item_of : Item → Sending
-item_of (item.Parcel tile p) = ToTile tile p
+item_of (item.Parcel tile p looks) = ToTile tile p
 item_of (item.Request r) = ToManager r
 
 abbrev pub items_of : Option Item → List Sending
@@ -75,12 +77,21 @@ IsOfLast count issued i = issued ≡ issued_for count (item_of i)
 
 -- the item is for one of so many tiles, or for the manager
 abbrev pub IsForTile : ℕ → Item → Type 0
-IsForTile count (item.Parcel tile p) = tile < count
+IsForTile count (item.Parcel tile p looks) = tile < count
 IsForTile count (item.Request r) = Unit {0}
 
 pub IsForTile-prop : (count : ℕ) (i : Item) → IsProp (IsForTile count i)
-IsForTile-prop count (item.Parcel tile p) = le_prop
+IsForTile-prop count (item.Parcel tile p looks) = le_prop
 IsForTile-prop count (item.Request r) = Unit-prop
+
+-- the looks that come with a parcel are those of its place
+abbrev pub HasLooks : Scene → Layout → Item → Type 0
+HasLooks scene l (item.Parcel tile p looks) = looks ≡ looks_at scene l 0 tile p.place
+HasLooks scene l (item.Request r) = Unit {0}
+
+pub HasLooks-prop : (scene : Scene) (l : Layout) (i : Item) → IsProp (HasLooks scene l i)
+HasLooks-prop scene l (item.Parcel tile p looks) = hlevel props
+HasLooks-prop scene l (item.Request r) = Unit-prop
 
 -- how many commands' parcels a tile was given
 abbrev pub heard : Option Pending → ℕ → ℕ → ℕ
@@ -101,7 +112,8 @@ pub record IsSame (a b : Sender) : Type 0 where
   pub layout : b.layout ≡ a.layout
   pub count : b.count ≡ a.count
 
--- A client that has issued some of its commands, of the last of which these parcels are pending, and knows what its tiles were told.
+-- A client that has issued some of its commands, of the last of which these parcels are pending, and knows what its tiles were told and which elements are
+-- pending to them.
 pub record IsSendingWith (s : Sender) (o : Option Pending) : Type 0 where
   pub few : length s.stream < 2 ^ 32
   pub commands : ∥ AllByRecursion IsCommand s.stream ∥₁
@@ -110,8 +122,10 @@ pub record IsSendingWith (s : Sender) (o : Option Pending) : Type 0 where
   pub issued : s.issued ≤ length s.stream
   pub context : s.context ≡ context_after (scene_of s) 0 s.issued
   pub ops : s.ops ≡ waits_below (scene_of s) 0 s.issued
-  pub tracked : length s.tracker ≡ s.count
+  pub tracked : length s.tracker.told ≡ s.count
   pub known : (tile : ℕ) → tile < s.count → ∥ Knows s.tracker tile (told s.decl (parcels_before (scene_of s) s.layout 0 tile (heard o s.issued tile))) ∥₁
+  pub marked : (tile e : ℕ) → tile < s.count → e < element_count
+      → pending s.tracker tile e ≡ is_pending (scene_of s) s.layout 0 tile (heard o s.issued tile) e
   pub pending : IfSome o (IsPending (scene_of s) s.layout s.issued)
   pub asking : (w : WaitAt) → s.request ≡ Some w → s.issued ≡ w.place + 1
 
@@ -130,6 +144,7 @@ pub record IsOver (s : Sender) : Type 0 where
 pub record IsInOrder (s : Sender) (ready : Option Item) (ends : ℕ) (short : Bool) : Type 0 where
   pub fits : IfSome ready (IsForTile s.count)
   pub last : short ≡ false → ForSome ready (IsOfLast (length s.stream) s.issued)
+  pub looked : ForSome ready (HasLooks (scene_of s) s.layout)
   pub sending : short ≡ false → IsSending s
   pub over : short ≡ false → 0 < ends → IsOver s
 
@@ -138,4 +153,4 @@ IsSound s ready ends short = IsInOrder s ready ends short
 
 pub IsSound-prop : (s : Sender) (ready : Option Item) (ends : ℕ) (short : Bool) → IsProp (IsSound s ready ends short)
 unfolding IsSound
-IsSound-prop s ready ends short = Prim.hlevel (props, IsForTile-prop)
+IsSound-prop s ready ends short = Prim.hlevel (props, IsForTile-prop, HasLooks-prop)

@@ -1,23 +1,27 @@
 //! The next parcel or request of the command that was issued last.
-ghost use Rattle.std.specs.Prelude.{◌≡◌, ◌≢◌, ℕ, ◌<◌, ◌≤◌, ◌++◌, ◌∷◌, length, IfOk, OnOk, OnErr, IfNone, IfSome, None, Some};
+ghost use Rattle.std.specs.Prelude.{◌≡◌, ◌≢◌, ℕ, ◌+◌, ◌<◌, ◌≤◌, ◌^◌, ◌==◌, ◌&&◌, not, ◌++◌, ◌∷◌, length, IfOk, OnOk, OnErr, IfNone, IfSome, None, Some};
 ghost use Rattle.rc_base.specs.Cluster.Sending.{ToTile, ToManager};
 ghost use Rattle.rc_base.specs.declared.state.ElementValue.{ElementValue};
-ghost use Rattle.state_update.specs.Knowledge.{HasBoundTexture, Knows, after_sets};
-ghost use Rattle.client_issue.specs.Acts.{act_sets};
-ghost use Rattle.client_issue.specs.Sequence.{IsForTile, IsOfLast, IsOver, IsSame, IsSending, IsSendingWith, left_of, left_with, item_of, items_of};
+ghost use Rattle.state_update.specs.Knowledge.{HasBoundTexture, IsSettled, Knows, after_sets, pending};
+ghost use Rattle.client_issue.specs.Acts.{act_looks, act_sets, examines};
+ghost use Rattle.client_issue.specs.Sequence.{HasLooks, IsForTile, IsOfLast, IsOver, IsSame, IsSending, IsSendingWith, left_of, left_with, item_of, items_of, scene_of};
 
 use crate::acts::next_tile;
 use crate::copies::copy_of_act;
 use crate::item::Item;
 use crate::pending::Pending;
 use crate::sender::Sender;
+use dirty_bits::Looks;
 use gl_context::Context;
 use gl_context::laws::{contexts_of_streams_are_valid, streams_go_on_by_issue};
 use rc_base::out_of_memory::OutOfMemory;
 use rc_base::state::{Act, Parcel, Sets};
 use rc_base::sync::Request;
 use state_update::Tracker;
-use state_update::laws::{trackers_follow_parcels, valid_contexts_have_their_texture};
+use state_update::laws::{
+    elements_that_are_not_pending_were_told, known_values_are_alike, trackers_follow_parcels,
+    valid_contexts_have_their_texture,
+};
 use std::alloc::Global;
 
 // The sets that a tile gets with the act; it counts as told.
@@ -27,17 +31,23 @@ fn sets_with(
     context: &Context,
     tile: u8,
     act: &Act,
+    looks: &mut Looks,
 ) -> Result<Sets, OutOfMemory>
-    requires tile { tile < length tracker.old }
+    requires tile { tile < length tracker.old.told }
+    requires server { tile < 32 }
     requires bound { HasBoundTexture context.now }
-    ensures count { length tracker.new ≡ length tracker.old }
+    requires settled { IsSettled tracker.old tile context.now }
+    requires room { looks.old < 2 ^ 62 }
+    ensures count { length tracker.new.told ≡ length tracker.old.told }
     ensures sets { (values : ℕ → ElementValue) → Knows tracker.old tile values → IfOk result (λ sets. sets ≡ act_sets values context.now act.now) }
     ensures told { (values : ℕ → ElementValue) → Knows tracker.old tile values → OnOk result (Knows tracker.new tile (after_sets values (act_sets values context.now act.now))) }
     ensures others { (other : ℕ) (values : ℕ → ElementValue) → other ≢ tile → Knows tracker.old other values → Knows tracker.new other values }
+    ensures pending { OnOk result ((t e : ℕ) → t < 32 → pending tracker.new t e ≡ (pending tracker.old t e && not (t == tile && examines context.now act.now e))) }
+    ensures looked { OnOk result (looks.new ≡ looks.old + act_looks (pending tracker.old tile) act.now) }
 {
     match act {
-        Act::Draw(_) => tracker.update(context, tile, true),
-        Act::Clear(_) => tracker.update(context, tile, false),
+        Act::Draw(_) => tracker.update(context, tile, true, looks),
+        Act::Clear(_) => tracker.update(context, tile, false, looks),
         _ => Ok(Sets::new(alloc)),
     }
 }
@@ -51,20 +61,26 @@ impl Sender {
         ensures sending { OnOk result (IsSending self.new) }
         ensures left { IfOk result (λ i. left_with self.old (Some pending) ≡ item_of i ∷ left_of self.new) }
         ensures tile { IfOk result (IsForTile self.old.count) }
+        ensures looked { IfOk result (HasLooks (scene_of self.old) self.old.layout) }
         ensures next { IfOk result (IsOfLast (length self.old.stream) self.new.issued) }
     {
         contexts_of_streams_are_valid();
         streams_go_on_by_issue();
         valid_contexts_have_their_texture();
         trackers_follow_parcels();
+        elements_that_are_not_pending_were_told();
+        known_values_are_alike();
         let tile = pending.tile;
+        let mut looks = Looks::new();
         let sets = sets_with(
             self.alloc,
             &mut self.tracker,
             &self.context,
             tile,
             &pending.act,
+            &mut looks,
         )?;
+        let looks = looks.count();
         let next = next_tile(pending.tiles, tile + 1, self.count);
         let Pending {
             place,
@@ -74,7 +90,11 @@ impl Sender {
         } = pending;
         if next == self.count {
             let parcel = Parcel { place, sets, act };
-            return Ok(Item::Parcel { tile, parcel });
+            return Ok(Item::Parcel {
+                tile,
+                parcel,
+                looks,
+            });
         }
         let copy = copy_of_act(self.alloc, &act)?;
         self.pending = Some(Pending {
@@ -88,7 +108,11 @@ impl Sender {
             sets,
             act: copy,
         };
-        Ok(Item::Parcel { tile, parcel })
+        Ok(Item::Parcel {
+            tile,
+            parcel,
+            looks,
+        })
     }
 
     fn give_request(&mut self) -> Option<Item>
@@ -100,6 +124,7 @@ impl Sender {
         ensures left { left_of self.old ≡ items_of result ++ left_of self.new }
         ensures all { IfNone result (IsOver self.new) }
         ensures tile { IfSome result (IsForTile self.old.count) }
+        ensures looked { IfSome result (HasLooks (scene_of self.old) self.old.layout) }
         ensures next { IfSome result (IsOfLast (length self.old.stream) self.new.issued) }
     {
         let Some(wait) = self.request.take() else {
@@ -120,6 +145,7 @@ impl Sender {
         ensures left { IfOk result (λ o. left_of self.old ≡ items_of o ++ left_of self.new) }
         ensures all { IfOk result (λ o. IfNone o (IsOver self.new)) }
         ensures tile { IfOk result (λ o. IfSome o (IsForTile self.old.count)) }
+        ensures looked { IfOk result (λ o. IfSome o (HasLooks (scene_of self.old) self.old.layout)) }
         ensures next { IfOk result (λ o. IfSome o (IsOfLast (length self.old.stream) self.new.issued)) }
         ensures err { OnErr result (IsOver self.old → ⊥) }
     {
@@ -137,6 +163,7 @@ impl Sender {
         ensures left { IfOk result (λ o. left_of self.old ≡ items_of o ++ left_of self.new) }
         ensures all { IfOk result (λ o. IfNone o (IsOver self.new)) }
         ensures tile { IfOk result (λ o. IfSome o (IsForTile self.old.count)) }
+        ensures looked { IfOk result (λ o. IfSome o (HasLooks (scene_of self.old) self.old.layout)) }
         ensures next { IfOk result (λ o. IfSome o (IsOfLast (length self.old.stream) self.new.issued)) }
         ensures err { OnErr result (IsOver self.old → ⊥) }
     {

@@ -1,15 +1,20 @@
 //! Issuing the next command.
-ghost use Rattle.std.specs.Prelude.{◌≡◌, ℕ, ◌+◌, ◌<◌, ◌&&◌, ◌++◌, is_none, length, OnOk, None};
+ghost use Rattle.std.specs.Prelude.{◌≡◌, ℕ, ◌+◌, ◌<◌, ◌&&◌, ◌||◌, ◌++◌, false, is_none, length, OnOk, None};
 ghost use Rattle.std.specs.Option.{option_to_list};
 ghost use Rattle.client_issue.specs.Sequence.{IsSame, IsSending, left_of};
-ghost use Rattle.client_issue.specs.Issued.{wait_in};
+ghost use Rattle.client_issue.specs.Issued.{is_refused, sets_element, wait_in};
+ghost use Rattle.gl_context.specs.Arguments.{HasName};
+ghost use Rattle.state_update.specs.Knowledge.{pending};
 
 use crate::pending::pending_of;
 use crate::sender::Sender;
 use gl_context::laws::{commands_have_texels, streams_go_on_by_issue};
+use gl_context::marks;
+use rc_base::command::Command;
 use rc_base::out_of_memory::OutOfMemory;
 use rc_base::state::Effect;
 use rc_base::sync::{SyncOps, WaitAt};
+use state_update::Tracker;
 
 // The operation of synchronisation that the effect is, if it is one.
 fn wait_of(place: u32, effect: &Effect) -> Option<WaitAt>
@@ -28,6 +33,20 @@ fn add(ops: &mut SyncOps, wait: Option<WaitAt>) -> Result<(), OutOfMemory>
         ops.push(wait)?;
     }
     Ok(())
+}
+
+// Notes the element that the command set, where it was accepted.
+fn note(tracker: &mut Tracker, command: &Command, mode: u8, effect: &Effect)
+    requires { is_refused effect.now ≡ false → HasName command.now }
+    ensures told { tracker.new.told ≡ tracker.old.told }
+    ensures marked { (tile e : ℕ) → tile < 32 → pending tracker.new tile e ≡ (sets_element command.now mode effect.now e || pending tracker.old tile e) }
+{
+    if matches!(effect, Effect::Refused(_)) {
+        return;
+    }
+    if let Some(element) = marks(command, mode) {
+        tracker.note(element);
+    }
 }
 
 impl Sender {
@@ -52,9 +71,10 @@ impl Sender {
         commands_have_texels();
         streams_go_on_by_issue();
         let place = self.issued;
-        let effect = self
-            .context
-            .issue(place, &self.stream.as_slice()[place as usize])?;
+        let command = &self.stream.as_slice()[place as usize];
+        let mode = self.context.matrix_mode();
+        let effect = self.context.issue(place, command)?;
+        note(&mut self.tracker, command, mode, &effect);
         let wait = wait_of(place, &effect);
         add(&mut self.ops, wait)?;
         self.request = wait;

@@ -2,9 +2,13 @@
 use rc_base::state::Parcel;
 use rc_base::sync::Request;
 
-/// A parcel to a tile, or a request to the manager.
+/// A parcel to a tile with the looks that it cost, or a request to the manager.
 #[derive(Drop)]
 pub(crate) enum Item {
-    Parcel { tile: u8, parcel: Parcel },
+    Parcel {
+        tile: u8,
+        parcel: Parcel,
+        looks: u64,
+    },
     Request(Request),
 }

@@ -3,9 +3,9 @@ ghost use Rattle.std.specs.Prelude.{◌≡◌, ◌≢◌, ℕ, ◌+◌, ◌<◌,
 ghost use Rattle.rc_base.specs.Cluster.Lanes.{EachLane};
 ghost use Rattle.rc_base.specs.Cluster.Tiles.{tile_count};
 ghost use Rattle.rc_base.specs.declared.state.Parcel.{Parcel};
-ghost use Rattle.client_issue.specs.Cores.{commands_left, commands_of, ends_from, issued_of, layout_of, left_in, short_of, IsSameCore, IsTallied};
+ghost use Rattle.client_issue.specs.Cores.{commands_left, commands_of, ends_from, issued_of, layout_of, left_in, looks_of, short_of, IsSameCore, IsTallied};
 ghost use Rattle.client_issue.specs.Deeds.{answer_of, is_loss, ClientDeed};
-ghost use Rattle.client_issue.specs.Sequence.{items_of, IsForTile, IsOfLast, IsOver};
+ghost use Rattle.client_issue.specs.Sequence.{items_of, scene_of, HasLooks, IsForTile, IsOfLast, IsOver};
 ghost use Rattle.client_issue.specs.Steps.{AreSent, IsClientStep, IsCutShort, IsRequested, MayLack};
 
 use crate::client::ClientCore;
@@ -29,6 +29,7 @@ impl ClientCore {
         ensures left { ends_from (layout_of self.old) (commands_of self.old) self.old.ends
             ≡ items_of result ++ ends_from (layout_of self.old) (commands_of self.old) self.new.ends }
         ensures tile { IfSome result (IsForTile self.old.sender.count) }
+        ensures looked { IfSome result (HasLooks (scene_of self.old.sender) (layout_of self.old)) }
         ensures next { IfSome result (IsOfLast (commands_of self.old) (commands_of self.old)) }
         ensures none { IfNone result ((0 < self.new.ends)
             × (ends_from (layout_of self.old) (commands_of self.old) self.new.ends ≡ [])) }
@@ -46,7 +47,11 @@ impl ClientCore {
             sets: Sets::new(self.alloc),
             act: Act::End,
         };
-        Some(Item::Parcel { tile, parcel })
+        Some(Item::Parcel {
+            tile,
+            parcel,
+            looks: 0,
+        })
     }
 
     // The next item of a command, while one gives any.
@@ -63,6 +68,7 @@ impl ClientCore {
         ensures all { IfOk result (λ o. IfNone o (commands_left self.new.short self.new.sender ≡ [])) }
         ensures over { IfOk result (λ o. self.old.short ≡ false → IfNone o (IsOver self.new.sender)) }
         ensures tile { IfOk result (λ o. IfSome o (IsForTile self.old.sender.count)) }
+        ensures looked { IfOk result (λ o. IfSome o (HasLooks (scene_of self.old.sender) (layout_of self.old))) }
         ensures next { IfOk result (λ o. self.old.short ≡ false → IfSome o (IsOfLast (commands_of self.old) (issued_of self.new))) }
     {
         if self.short {
@@ -100,17 +106,18 @@ impl ClientCore {
         Ok(())
     }
 
-    fn count_parcel(&mut self, tile: u8, sets: usize)
+    fn count_parcel(&mut self, tile: u8, sets: usize, looks: u64)
         requires { tile < self.old.sender.count }
         ensures sender { self.new.sender ≡ self.old.sender }
         ensures waits { self.new.ready ≡ self.old.ready }
         ensures ends { self.new.ends ≡ self.old.ends }
         ensures short { self.new.short ≡ self.old.short }
-        ensures tallied { (p : Parcel) → length p.sets ≡ sets → IsTallied self.old self.new tile p }
+        ensures tallied { (p : Parcel) → length p.sets ≡ sets → looks_of self.old tile p ≡ looks → IsTallied self.old self.new tile p }
     {
         let tally = &mut self.tallies[usize::from(tile)];
         tally.parcels = tally.parcels.saturating_add(1);
         tally.sets = tally.sets.saturating_add(sets as u64);
+        tally.looks = tally.looks.saturating_add(looks);
     }
 
     // Appends the item that is ready to its lane, or keeps it where that lane is full.
@@ -130,15 +137,25 @@ impl ClientCore {
             × IsRequested Q.sent Q.full_seen Q.full did requests.old requests.new }
     {
         match self.ready.take() {
-            Some(Item::Parcel { tile, parcel }) => {
+            Some(
+                Item::Parcel {
+                    tile,
+                    parcel,
+                    looks,
+                },
+            ) => {
                 let sets = parcel.sets.len();
                 match append(tiles, usize::from(tile), parcel) {
                     Ok(()) => {
-                        self.count_parcel(tile, sets);
+                        self.count_parcel(tile, sets, looks);
                         ClientMoved::Appended { tile }
                     }
                     Err(parcel) => {
-                        self.ready = Some(Item::Parcel { tile, parcel });
+                        self.ready = Some(Item::Parcel {
+                            tile,
+                            parcel,
+                            looks,
+                        });
                         ClientMoved::BlockedTile { tile }
                     }
                 }

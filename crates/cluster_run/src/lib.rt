@@ -21,4 +21,5 @@ mod tile;
 mod tiles;
 mod workers;
 
+pub use frame_out::Written;
 pub use run::{Run, run_threads};

@@ -273,12 +273,12 @@ fn full_lanes_hold_a_client_up(rt: HostRuntime) {
     let left = Tally {
         parcels: 6,
         sets: 3,
-        looks: 0,
+        looks: 46,
     };
     let right = Tally {
         parcels: 5,
         sets: 1,
-        looks: 0,
+        looks: 31,
     };
     assert!(rt; run.tally(0) == Some(left));
     assert!(rt; run.tally(1) == Some(right));

@@ -18,8 +18,10 @@ use Rattle.rc_base.specs.declared.command.Mat4.{Mat4}
 use Rattle.rc_base.specs.declared.command.Part.{Part}
 use Rattle.rc_base.specs.declared.state.State.{State}
 use Rattle.rc_base.specs.declared.state.ElementValue.{ElementValue}
+use Rattle.rc_base.specs.declared.state.ElementValue.TheVariants as val
 use Rattle.rc_base.specs.declared.state.Fault.{Fault}
 use Rattle.rc_base.specs.declared.scene.Scene.{Scene}
+use Rattle.element_table.proofs.Capabilities.{capability_turned}
 use Rattle.gl_context.specs.Elements.{SetsAt}
 use Rattle.textures.proofs.Names.{other_name}
 use Rattle.gl_context.proofs.ImagesGoOn.{SameTextures, top_same, below_same_textures, pop_same}
@@ -29,25 +31,8 @@ data IsSet (before after : State) (marked : Option ℕ) : Type 0 where
   Same : after ≡ before → IsSet before after marked
   One : (k : ℕ) (v : ElementValue) → marked ≡ Some k → values_of after ≡ set (values_of before) k v → IsSet before after marked
 
-capability_by : (s : State) (on a b c d e : Bool)
-    → IsSet s
-    (if a then record s { scissor_on = on }
-    else if b then record s { alpha_on = on }
-    else if c then record s { depth_on = on }
-    else if d then record s { blend_on = on }
-    else if e then record s { cull_on = on }
-    else record s { texture_on = on })
-    (Some (if a then 4 else if b then 9 else if c then 11 else if d then 14 else if e then 6 else 19))
-unfolding values_of
-capability_by s on true b c d e = One 4 _ refl refl
-capability_by s on false true c d e = One 9 _ refl refl
-capability_by s on false false true d e = One 11 _ refl refl
-capability_by s on false false false true e = One 14 _ refl refl
-capability_by s on false false false false true = One 6 _ refl refl
-capability_by s on false false false false false = One 19 _ refl refl
-
 capability_set : (s : State) (k : ℕ) (on : Bool) → IsSet s (with_capability s k on) (Some (capability_element k))
-capability_set s k on = capability_by s on (k == 0) (k == 1) (k == 2) (k == 3) (k == 4)
+capability_set s k on = One (capability_element k) (val.Flag on) refl (capability_turned s k on).values
 
 top_set : (x : ClientContext) (m : Mat4) → IsSet x.state (with_top x m).state (Some (matrix_element x.matrix_mode))
 unfolding values_of
@@ -176,7 +161,7 @@ pub sets_one : (x : ClientContext) (c : Command) (e : ℕ) → marks c x.matrix_
 sets_one x c e other = elim (cases_lt e scalar_count) [
   | inl scalar ↦ sets_one_scalar x c e scalar other
   | inr image ↦
-      let name = e - 21 in
+      let name = e + 1 - scalar_count in
       let is : image_element name ≡ e = omega (arith, image) in
       subst (λ (k : ℕ). value_in (carried_out x c) k ≡ value_in x k) is
       (sets_one_image x c name (omega (arith, image)) (λ marked. other (marked ∙ ap (λ (k : ℕ). Some k) is)))

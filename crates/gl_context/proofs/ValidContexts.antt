@@ -27,6 +27,7 @@ use Rattle.rc_base.specs.declared.state.Fault.{Fault}
 use Rattle.rc_base.specs.declared.state.State.{State}
 use Rattle.textures.specs.Images.{Fits}
 use Rattle.textures.proofs.Written.{length_written}
+use Rattle.element_table.proofs.Capabilities.{capability_turned, without_capabilities}
 use Rattle.gl_context.specs.Valid.{HasLegalCodes, IsLegalBlock, IsPrivateImage, IsValidContext}
 use Rattle.gl_context.proofs.Accepted.{which, and_both, accepted}
 use Rattle.gl_context.proofs.Texels.{has_texels}
@@ -52,6 +53,10 @@ same_codes s t a b c d e f g h = record {
   wraps = ap (λ (l : List ℕ). has_codes (cmd.TexWrap (slice_index l 1) (slice_index l 2))) g ∙ h.wraps;
 }
 
+-- the same bound texture
+same_bound : (decl : Decl) (s t : State) → t.binding ≡ s.binding → IsBound decl s → IsBound decl t
+same_bound decl s t same h = subst (λ (l : List ℕ). is_name (slice_index l 1) (if slice_index l 0 == 0 then private_count else length decl.shared) ≡ true) (sym same) h
+
 -- the context with another state
 state_valid : (decl : Decl) (x : ClientContext) (s : State) → HasLegalCodes s → IsBound decl s → IsValidContext decl x → IsValidContext decl (with_state x s)
 state_valid decl x s codes bound h = record {
@@ -69,28 +74,16 @@ state_valid decl x s codes bound h = record {
   semaphores = h.semaphores;
 }
 
-abbrev IsStateOf : Decl → State → Type 0
-IsStateOf decl s = HasLegalCodes s × IsBound decl s
-
-capability_by : (decl : Decl) (s : State) (on a b c d e : Bool) → IsStateOf decl s
-    → IsStateOf decl
-    (if a then record s { scissor_on = on }
-    else if b then record s { alpha_on = on }
-    else if c then record s { depth_on = on }
-    else if d then record s { blend_on = on }
-    else if e then record s { cull_on = on }
-    else record s { texture_on = on })
-capability_by decl s on true b c d e h = (same_codes s _ refl refl refl refl refl refl refl h.0, h.1)
-capability_by decl s on false true c d e h = (same_codes s _ refl refl refl refl refl refl refl h.0, h.1)
-capability_by decl s on false false true d e h = (same_codes s _ refl refl refl refl refl refl refl h.0, h.1)
-capability_by decl s on false false false true e h = (same_codes s _ refl refl refl refl refl refl refl h.0, h.1)
-capability_by decl s on false false false false true h = (same_codes s _ refl refl refl refl refl refl refl h.0, h.1)
-capability_by decl s on false false false false false h = (same_codes s _ refl refl refl refl refl refl refl h.0, h.1)
-
+-- no code of a state, and no texture that is bound, is a capability's
 capability_valid : (decl : Decl) (x : ClientContext) (k : ℕ) (on : Bool) → IsValidContext decl x → IsValidContext decl (with_state x (with_capability x.state k on))
 capability_valid decl x k on h =
-    let c = capability_by decl x.state on (k == 0) (k == 1) (k == 2) (k == 3) (k == 4) (h.codes, h.bound) in
-    state_valid decl x (with_capability x.state k on) c.0 c.1 h
+    let t = with_capability x.state k on in
+    let rest : without_capabilities t ≡ without_capabilities x.state = (capability_turned x.state k on).rest in
+    let binding : t.binding ≡ x.state.binding = ap (λ (s : State). s.binding) rest in
+    state_valid decl x t
+    (same_codes x.state t (ap (λ (s : State). s.cull_face) rest) (ap (λ (s : State). s.front_face) rest) (ap (λ (s : State). s.alpha) rest) (ap (λ (s : State). s.depth_func) rest) (ap (λ (s : State). s.blend) rest) binding (ap (λ (s : State). s.tex_mode) rest) h.codes)
+    (same_bound decl x.state t binding h.bound)
+    h
 
 top_valid : (decl : Decl) (x : ClientContext) (m : Mat4) → IsValidContext decl x → IsValidContext decl (with_top x m)
 top_valid decl x m h = elim (which (x.matrix_mode == 0)) [

@@ -9,8 +9,9 @@ ghost use Rattle.textures.specs.Images.{LiesInside, picture};
 ghost use Rattle.gl_context.specs.Arguments.{HasTexels, product_asked};
 
 use crate::rules;
-use crate::stacks::{IDENTITY, pop_last};
-use crate::state::{default_state, flags_of, held, set_capability};
+use crate::stacks::pop_last;
+use crate::state::{flags_of, held};
+use element_table::{IDENTITY, default_state, is_name, lies_inside, set_capability};
 use fixed_math::multiply;
 use rc_base::cluster::FaultList;
 use rc_base::command::{Command, Mat4, Part, Rgba, Texels};
@@ -148,19 +149,16 @@ impl Context {
             Command::Clear { mask } => *mask < 4,
             Command::BindTexture { kind, name } => {
                 let count = if *kind == 0 { 64 } else { self.shared.len() };
-                rules::is_name((*name).into(), count as u64)
+                is_name((*name).into(), count as u64)
             }
             Command::TexImage { name, w, h, .. } => {
-                rules::is_name((*name).into(), 64)
-                    && (rules::is_name((*w).into(), 256) && rules::is_name((*h).into(), 256))
+                is_name((*name).into(), 64)
+                    && (is_name((*w).into(), 256) && is_name((*h).into(), 256))
             }
-            Command::TexPart(part) => rules::is_name(part.name.into(), 64),
-            Command::SharedImage(part) => rules::is_name(
-                part.name.into(),
-                self.shared.len() as u64,
-            ),
-            Command::Barrier { name } => rules::is_name((*name).into(), self.barriers as u64),
-            Command::SemP { name } | Command::SemV { name } => rules::is_name(
+            Command::TexPart(part) => is_name(part.name.into(), 64),
+            Command::SharedImage(part) => is_name(part.name.into(), self.shared.len() as u64),
+            Command::Barrier { name } => is_name((*name).into(), self.barriers as u64),
+            Command::SemP { name } | Command::SemV { name } => is_name(
                 (*name).into(),
                 self.semaphores as u64,
             ),
@@ -193,10 +191,10 @@ impl Context {
     {
         match command {
             Command::TexPart(part) => match self.images.get(part.name).sides() {
-                Some(sides) => rules::lies_inside(part, sides),
+                Some(sides) => lies_inside(part, sides),
                 None => true,
             },
-            Command::SharedImage(part) => rules::lies_inside(part, self.shared_sides(part.name)),
+            Command::SharedImage(part) => lies_inside(part, self.shared_sides(part.name)),
             _ => true,
         }
     }
@@ -446,6 +444,13 @@ impl Context {
         ensures { result.now ≡ self.now.state }
     {
         &self.state
+    }
+
+    /// The stack of matrices that the matrix commands mean: modelview (0) or projection (1).
+    pub fn matrix_mode(&self) -> u8
+        ensures { result ≡ self.now.matrix_mode }
+    {
+        self.matrix_mode
     }
 
     /// The private textures.

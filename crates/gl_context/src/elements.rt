@@ -1,41 +1,16 @@
 //! Which element of a context a command sets.
-ghost use Rattle.std.specs.Prelude.{◌≡◌, ◌≤◌};
-ghost use Rattle.rc_base.specs.Contexts.Context.{private_count};
-ghost use Rattle.rc_base.specs.Contexts.Elements.{marks, capability_element, matrix_element, image_element};
+ghost use Rattle.std.specs.Prelude.{◌≡◌, ◌<◌, IfSome};
+ghost use Rattle.rc_base.specs.Contexts.Elements.{element_count, marks};
 ghost use Rattle.gl_context.specs.Arguments.{HasName};
 
+use element_table::{capability_element, image_element, matrix_element};
 use rc_base::command::Command;
-
-fn capability_element(capability: u8) -> u8
-    ensures { result ≡ capability_element capability }
-{
-    match capability {
-        0 => 4,
-        1 => 9,
-        2 => 11,
-        3 => 14,
-        4 => 6,
-        _ => 19,
-    }
-}
-
-fn matrix_element(mode: u8) -> u8
-    ensures { result ≡ matrix_element mode }
-{
-    if mode == 0 { 0 } else { 1 }
-}
-
-fn image_element(name: u8) -> u8
-    requires { name ≤ private_count }
-    ensures { result ≡ image_element name }
-{
-    21 + name
-}
 
 /// The element that the command sets when it is accepted, by the matrix mode before it.
 pub fn marks(command: &Command, mode: u8) -> Option<u8>
     requires { HasName command.now }
-    ensures { result ≡ marks command.now mode }
+    ensures element { result ≡ marks command.now mode }
+    ensures bound { IfSome result (λ e. e < element_count) }
 {
     match command {
         Command::Enable { capability } | Command::Disable { capability } => {

@@ -1,7 +1,7 @@
 //! What a client's commands make of its context, and which of them are refused.
 //!
 //! A context is that of `rc_base::specs::Contexts::Context`, each command does what `Contexts::Issue` says, and is refused by the rules of
-//! `Contexts::Faults`. This crate stands on fixed_math and textures.
+//! `Contexts::Faults`. This crate stands on element_table, fixed_math and textures.
 #![tactic(auto)]
 
 mod context;

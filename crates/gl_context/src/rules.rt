@@ -1,9 +1,10 @@
 //! The rules that need no context.
-ghost use Rattle.std.specs.Prelude.{◌≡◌, ◌&&◌, nat_lt, true, slice_index};
+ghost use Rattle.std.specs.Prelude.{◌≡◌};
 ghost use Rattle.rc_base.specs.Formats.Commands.{has_codes, table_row, opcode_of};
-ghost use Rattle.rc_base.specs.Contexts.Faults.{may_stand_in, is_name, is_viewport, lies_inside};
+ghost use Rattle.rc_base.specs.Contexts.Faults.{may_stand_in, is_viewport};
 
-use rc_base::command::{Command, Part};
+use element_table::{are_codes, is_capability, is_code};
+use rc_base::command::Command;
 
 /// Whether a command may stand where a block is open, or where none is.
 pub fn may_stand_in(command: &Command, open_block: bool) -> bool
@@ -16,28 +17,14 @@ pub fn may_stand_in(command: &Command, open_block: bool) -> bool
     }
 }
 
-// Whether an argument has one of so many codes.
-fn is_code(argument: u8, count: u8) -> bool
-    ensures { result ≡ (nat_lt argument count && true) }
-{
-    argument < count
-}
-
-// Whether two arguments have each one of so many codes.
-fn are_codes(first: u8, second: u8, count: u8) -> bool
-    ensures { result ≡ (nat_lt first count && (nat_lt second count && true)) }
-{
-    first < count && second < count
-}
-
 /// Whether each argument that has codes has one of them.
 pub fn has_codes(command: &Command) -> bool
     ensures { result ≡ has_codes command.now }
 {
     match command {
         Command::Begin { mode } => is_code(*mode, 3),
-        Command::Enable { capability } => is_code(*capability, 6),
-        Command::Disable { capability } => is_code(*capability, 6),
+        Command::Enable { capability } => is_capability(*capability),
+        Command::Disable { capability } => is_capability(*capability),
         Command::MatrixMode { mode } => is_code(*mode, 2),
         Command::AlphaFunc { function, .. } => is_code(*function, 8),
         Command::DepthFunc { function } => is_code(*function, 8),
@@ -54,27 +41,10 @@ pub fn has_codes(command: &Command) -> bool
     }
 }
 
-/// Whether a name, or a number of texels, is one from 1 to `count`.
-pub fn is_name(name: u64, count: u64) -> bool
-    ensures { result ≡ is_name name count }
-{
-    0 < name && name <= count
-}
-
 /// Whether the corner of a viewport has 16 bits and its sides are 0 to 2048.
 pub fn is_viewport(area: &[i32; 4]) -> bool
     ensures { result ≡ is_viewport area.now }
 {
     (-32768 <= area[0] && area[0] <= 32767 && (-32768 <= area[1] && area[1] <= 32767))
         && (0 <= area[2] && area[2] <= 2048 && (0 <= area[3] && area[3] <= 2048))
-}
-
-/// Whether the part lies inside a texture of these sides, width and height.
-pub fn lies_inside(part: &Part, sides: [u16; 2]) -> bool
-    ensures { result ≡ lies_inside part.now (slice_index sides 0) (slice_index sides 1) }
-{
-    let Part { x, y, w, h, .. } = part;
-    let right = u32::from(*x) + u32::from(*w);
-    let upper = u32::from(*y) + u32::from(*h);
-    right <= u32::from(sides[0]) && upper <= u32::from(sides[1])
 }

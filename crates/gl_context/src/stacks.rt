@@ -4,13 +4,6 @@ ghost use Rattle.rc_base.specs.Contexts.Issue.{last_of, front_of};
 
 use rc_base::command::Mat4;
 
-/// The matrix that changes nothing: one on the diagonal.
-pub const IDENTITY: Mat4 = Mat4 {
-    m: [
-        65_536, 0, 0, 0, 0, 65_536, 0, 0, 0, 0, 65_536, 0, 0, 0, 0, 65_536,
-    ],
-};
-
 /// Takes the last matrix of a list that isn't empty.
 pub fn pop_last(matrices: &mut Vec<Mat4>) -> Mat4
     requires { 0 < vec_len matrices.old }

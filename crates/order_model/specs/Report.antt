@@ -84,19 +84,13 @@ client_numbers scene = range_with_len 0 (length scene.streams)
 abbrev pub summed : Scene → Layout → ℕ → (ℕ → List Parcel → ℕ) → ℕ
 summed scene l tile count = sum (map (λ client. count client (parcels_of scene l client tile)) (client_numbers scene))
 
--- the parcels and the sets of a tile
-abbrev pub tile_parts : Scene → Layout → ℕ → List (List ℕ)
-tile_parts scene l tile =
-    codes "tile " ∷ decimal tile
+-- the parcels, the sets and the looks of a tile
+abbrev pub tile_line : Scene → Layout → ℕ → List ℕ
+tile_line scene l tile = joined_line
+    (codes "tile " ∷ decimal tile
     ∷ codes " parcels " ∷ decimal (summed scene l tile (λ client parcels. length parcels))
-    ∷ codes " sets " ∷ decimal (summed scene l tile (λ client parcels. set_count parcels)) ∷ []
-
--- and the looks, where they are counted
-abbrev pub look_parts : Scene → Layout → ℕ → List (List ℕ)
-look_parts scene l tile = codes " looks " ∷ decimal (summed scene l tile (λ client parcels. look_count scene l client tile parcels)) ∷ []
-
-abbrev pub tile_line : Scene → Layout → Bool → ℕ → List ℕ
-tile_line scene l with_looks tile = joined_line (tile_parts scene l tile ++ (if with_looks then look_parts scene l tile else []))
+    ∷ codes " sets " ∷ decimal (summed scene l tile (λ client parcels. set_count parcels))
+    ∷ codes " looks " ∷ decimal (summed scene l tile (λ client parcels. look_count scene l client tile parcels)) ∷ [])
 
 abbrev pub order_line : ℕ → Name → List ℕ
 order_line tile n = joined_line (codes "order " ∷ decimal tile ∷ codes " " ∷ decimal n.client ∷ codes " " ∷ decimal n.place ∷ [])
@@ -116,8 +110,8 @@ stuck_line client w = joined_line (codes "stuck client " ∷ decimal client ∷ 
 abbrev pub fault_lines : Scene → List ℕ
 fault_lines scene = flat_map (client_faults scene) (client_numbers scene)
 
-abbrev pub tile_lines : Scene → Layout → Bool → List ℕ
-tile_lines scene l with_looks = flat_map (tile_line scene l with_looks) (range_with_len 0 (tile_count l))
+abbrev pub tile_lines : Scene → Layout → List ℕ
+tile_lines scene l = flat_map (tile_line scene l) (range_with_len 0 (tile_count l))
 
 -- how many entries the journal has, and how many frames
 abbrev pub count_lines : List Entry → List ℕ
@@ -140,16 +134,11 @@ stuck_lines syncs journal =
     flat_map (client_stuck syncs journal) (range_with_len 0 (client_count syncs))
     ++ (if is_stuck syncs journal then joined_line (codes "rc: stuck" ∷ []) else [])
 
--- what a report is asked for beside its other lines: the looks of each tile, and the recorded orders
-pub record Asked : Type 0 where
-  pub looks : Bool
-  pub orders : Bool
-
--- The report of a run: faults, tiles, the journal's and the frames' numbers, where they are asked for the recorded orders, and who is left
+-- The report of a run: faults, tiles, the journal's and the frames' numbers, the recorded orders where they are asked for, and who is left
 -- waiting.
-unfoldable pub report_text_of : Scene → Layout → Record → Asked → List ℕ
-report_text_of scene l kept asked =
-    fault_lines scene ++ tile_lines scene l asked.looks ++ count_lines kept.journal ++ (if asked.orders then order_lines l kept else [])
+unfoldable pub report_text_of : Scene → Layout → Record → Bool → List ℕ
+report_text_of scene l kept orders =
+    fault_lines scene ++ tile_lines scene l ++ count_lines kept.journal ++ (if orders then order_lines l kept else [])
     ++ stuck_lines kept.syncs kept.journal
 
 -- The report of a run without tiles, by a journal: no tile and no order is told.

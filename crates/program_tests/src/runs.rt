@@ -172,19 +172,19 @@ fn jobs_write_what_is_due(rt: HostRuntime) {
             "render",
             RED_CLEAR.as_slice(),
             RED_FRAME,
-            "tile 0 parcels 3 sets 1\njournal 1\nframes 1\n",
+            "tile 0 parcels 3 sets 1 looks 15\njournal 1\nframes 1\n",
         ),
         (
             "render",
             CLEAR_ALONE.as_slice(),
             b"".as_slice(),
-            "tile 0 parcels 2 sets 1\njournal 0\nframes 0\n",
+            "tile 0 parcels 2 sets 1 looks 15\njournal 0\nframes 0\n",
         ),
         (
             "render",
             TWO_SILENT,
             b"".as_slice(),
-            "tile 0 parcels 2 sets 0\njournal 0\nframes 0\n",
+            "tile 0 parcels 2 sets 0 looks 0\njournal 0\nframes 0\n",
         ),
         ("pack", RED_CLEAR_TEXT, RED_CLEAR.as_slice(), ""),
         ("unpack", RED_CLEAR.as_slice(), RED_CLEAR_TEXT, ""),
@@ -332,11 +332,11 @@ fn refused_commands_are_noted(rt: HostRuntime) {
     let rows = [
         (
             CLEAR_IN_BLOCK.as_slice(),
-            "client 0 fault INVALID_OPERATION at 1\ntile 0 parcels 2 sets 0\njournal 1\nframes 1\n",
+            "client 0 fault INVALID_OPERATION at 1\ntile 0 parcels 2 sets 0 looks 0\njournal 1\nframes 1\n",
         ),
         (
             END_THEN_MODE_3.as_slice(),
-            "client 0 fault INVALID_OPERATION at 0\nclient 0 fault INVALID_ENUM at 1\ntile 0 parcels 2 sets 0\njournal 1\nframes 1\n",
+            "client 0 fault INVALID_OPERATION at 0\nclient 0 fault INVALID_ENUM at 1\ntile 0 parcels 2 sets 0 looks 0\njournal 1\nframes 1\n",
         ),
     ];
     for (input, lines) in rows {

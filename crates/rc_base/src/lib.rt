@@ -6,7 +6,6 @@
 
 pub mod cluster;
 pub mod command;
-pub mod elements;
 pub mod gate;
 pub mod image;
 pub mod in_memory;
@@ -30,7 +29,6 @@ pub use cluster::{
     ClientMoved, FaultList, FaultLists, ManagerMoved, Parts, Tallies, Tally, TileMoved, TilePart,
 };
 pub use command::{Bytes, Command, Commands, Mat4, Part, Rgba, Texels};
-pub use elements::is_same;
 pub use gate::{Actor, Gate, OpenGate};
 pub use image::{Frames, Image};
 pub use in_memory::{MemSink, MemSource, QuietSink, QuietSource};

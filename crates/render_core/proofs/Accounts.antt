@@ -44,15 +44,14 @@ module _ (scene : Scene) (l : Layout) (kept : Record) (tallies : List Tally) (wa
 
   -- ---- its report
 
-  tile_told : (tile : ℕ) → tile < tile_count l → line_of_tile tile (slice_index_or tallies tile no_tally) ≡ tile_line scene l false tile
+  tile_told : (tile : ℕ) → tile < tile_count l → line_of_tile tile (slice_index_or tallies tile no_tally) ≡ tile_line scene l tile
   tile_told tile low =
-      ap (λ (n : ℕ). line_of_tile tile (record { parcels = n; sets = (slice_index_or tallies tile no_tally).sets; looks = 0 })) (is.tallies_are.parcels tile low)
-      ∙ ap (λ (n : ℕ). line_of_tile tile (record { parcels = summed scene l tile (λ client parcels. length parcels); sets = n; looks = 0 })) (is.tallies_are.sets tile low)
+      λ i. line_of_tile tile (record { parcels = is.tallies_are.parcels tile low i; sets = is.tallies_are.sets tile low i; looks = is.tallies_are.looks tile low i })
 
-  tiles_told : lines_of_tiles tallies ≡ tile_lines scene l false
+  tiles_told : lines_of_tiles tallies ≡ tile_lines scene l
   tiles_told =
       ap (λ (n : ℕ). flat_map (λ tile. line_of_tile tile (slice_index_or tallies tile no_tally)) (range_with_len 0 n)) is.tallies_are.count
-      ∙ same_in_range (λ tile. line_of_tile tile (slice_index_or tallies tile no_tally)) (tile_line scene l false) 0 (tile_count l)
+      ∙ same_in_range (λ tile. line_of_tile tile (slice_index_or tallies tile no_tally)) (tile_line scene l) 0 (tile_count l)
       (λ k lt. let z : 0 + k ≡ k = omega arith in rw z (tile_told k lt))
 
   orders_told : lines_of_orders kept ≡ order_lines l kept
@@ -70,8 +69,8 @@ module _ (scene : Scene) (l : Layout) (kept : Record) (tallies : List Tally) (wa
       ap (λ (x : List ℕ). x ++ lines_of_tiles tallies ++ count_lines kept.journal ++ (if orders then lines_of_orders kept else []) ++ lines_of_stuck waiting (length faults))
       (faults_told scene faults kept.journal is.faults_are.clients is.faults_are.each)
       ∙ ap (λ (x : List ℕ). fault_lines scene ++ x ++ count_lines kept.journal ++ (if orders then lines_of_orders kept else []) ++ lines_of_stuck waiting (length faults)) tiles_told
-      ∙ ap (λ (x : List ℕ). fault_lines scene ++ tile_lines scene l false ++ count_lines kept.journal ++ (if orders then x else []) ++ lines_of_stuck waiting (length faults)) orders_told
-      ∙ ap (λ (x : List ℕ). fault_lines scene ++ tile_lines scene l false ++ count_lines kept.journal ++ (if orders then order_lines l kept else []) ++ x) waits_told
+      ∙ ap (λ (x : List ℕ). fault_lines scene ++ tile_lines scene l ++ count_lines kept.journal ++ (if orders then x else []) ++ lines_of_stuck waiting (length faults)) orders_told
+      ∙ ap (λ (x : List ℕ). fault_lines scene ++ tile_lines scene l ++ count_lines kept.journal ++ (if orders then order_lines l kept else []) ++ x) waits_told
 
   -- ---- its ending
 

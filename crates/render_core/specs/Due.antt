@@ -48,7 +48,7 @@ ending_by scene journal = if is_stuck (sync_lists_of scene) journal then Stuck e
 
 -- the report of a cluster's record, with each tile's order where that is asked for
 abbrev pub report_due : Scene → Layout → Record → Bool → List ℕ
-report_due scene l kept orders = report_text_of scene l kept (record { looks = false; orders = orders })
+report_due scene l kept orders = report_text_of scene l kept orders
 
 -- What every run of a cluster owes, whoever picked its actors' turns: it keeps a lawful record of the scene on the tiles of the words, in which each
 -- tile's order is one that the journal permits. Its image text is that of the record: each tile's pixels of each frame are those of one serial

@@ -37,9 +37,10 @@ abbrev pub lines_of_stuck : Option Waiting → ℕ → List ℕ
 lines_of_stuck None n = []
 lines_of_stuck (Some w) n = lines_of_waiting w.at n ++ codes "rc: stuck\n"
 
--- the line of a tile: how many parcels were sent to it, and how many sets
+-- the line of a tile: how many parcels were sent to it, how many sets, and how many looks they cost
 abbrev pub line_of_tile : ℕ → Tally → List ℕ
-line_of_tile tile tally = joined_line (codes "tile " ∷ decimal tile ∷ codes " parcels " ∷ decimal tally.parcels ∷ codes " sets " ∷ decimal tally.sets ∷ [])
+line_of_tile tile tally = joined_line
+    (codes "tile " ∷ decimal tile ∷ codes " parcels " ∷ decimal tally.parcels ∷ codes " sets " ∷ decimal tally.sets ∷ codes " looks " ∷ decimal tally.looks ∷ [])
 
 -- the lines of what was sent, tile by tile
 abbrev pub lines_of_tiles : List Tally → List ℕ

@@ -176,13 +176,14 @@ pub(crate) fn short_report(
 
 // ---- clusters
 
-// The line of a tile: how many parcels were sent to it, and how many sets.
+// The line of a tile: how many parcels were sent to it, how many sets, and how many looks they cost.
 fn tile_line(alloc: Global, tile: usize, tally: &Tally) -> Result<String, AllocError>
     ensures { IfOk result (λ line. string_bytes line ≡ line_of_tile tile tally.now) }
 {
     let parcels = tally.parcels;
     let sets = tally.sets;
-    format!(in alloc; "tile {tile} parcels {parcels} sets {sets}\n")
+    let looks = tally.looks;
+    format!(in alloc; "tile {tile} parcels {parcels} sets {sets} looks {looks}\n")
 }
 
 // The lines of all tiles.

@@ -6,8 +6,9 @@ use Rattle.std.proofs.lemmas.List.{ext_get_or, get_or_past}
 use Rattle.std.proofs.lemmas.List.FromFn.{length-map-range_with_len, get_or-map-range_with_len}
 use Rattle.std.proofs.lemmas.Option.{slice_get-get_or, slice_get_within, get_or_from_slice_get}
 use Rattle.std.specs.List.{range_with_len}
-use Rattle.std.specs.Prelude.{min, map, sum, is_some, IfSome, slice_get, slice_index_or, Vec}
+use Rattle.std.specs.Prelude.{map, sum, is_some, IfSome, slice_get, slice_index_or, Vec}
 use Rattle.std.specs.Global.{Global}
+use Rattle.rc_base.specs.Cluster.Looks.{look_count}
 use Rattle.rc_base.specs.Cluster.Parcels.{parcels_of, set_count}
 use Rattle.rc_base.specs.Cluster.Tiles.{tile_count}
 use Rattle.rc_base.specs.Orders.Book.{Book, waiting_in}
@@ -45,9 +46,9 @@ use Rattle.run_record.specs.Gathering.{AreEven}
 use Rattle.run_record.specs.Told.{AreFrameParts, AreTallies, AreFaults, IsWaiting}
 use Rattle.run_record.proofs.ClientsBeyond.{stuck_by, someone_waits, none_refused}
 use Rattle.run_record.proofs.ClosedRuns.{some_of}
-use Rattle.run_record.proofs.FewParcels.{few_parcels}
+use Rattle.run_record.proofs.FewParcels.{few_looks, few_parcels}
 use Rattle.run_record.proofs.ShownAlike.{even}
-use Rattle.run_record.proofs.TalliesSum.{no_sum, whole_sum}
+use Rattle.run_record.proofs.TalliesSum.{whole_sum}
 
 -- the laws that are cited
 pub record RecordingLaws : Type 0 where
@@ -211,7 +212,11 @@ module _ (laws : RecordingLaws) (scene : Scene) (l : Layout) (clients : List Cli
             ∙ ap (λ xs. sum xs) (same_range (λ client. set_count (parcels_of scene l client tile)));
         looks = λ tile low.
             (k.sums.each scene l h.sent tile (omega (arith, t, low))).looks
-            ∙ ap (λ n. min n last_count) (no_sum (λ (c : ClientCore). (tally_of_tile c tile).looks) clients (λ i d lt. ap (λ (x : Tally). x.looks) (h.tallies i tile d lt low)));
+            ∙ whole_sum (λ (c : ClientCore). (tally_of_tile c tile).looks) (λ client. look_count scene l client tile (parcels_of scene l client tile)) clients (96 * (2 ^ 20 + 1)) last_count
+            few_clients (omega arith)
+            (λ i d lt. ap (λ (x : Tally). x.looks) (h.tallies i tile d lt low))
+            (λ i lt. let a = (few_parcels scene l i tile).0 in let b = small.short i in let c = few_looks scene l i tile (parcels_of scene l i tile) in omega (arith, a, b, c))
+            ∙ ap (λ xs. sum xs) (same_range (λ client. look_count scene l client tile (parcels_of scene l client tile)));
       }
 
   -- ---- the faults

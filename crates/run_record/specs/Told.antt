@@ -3,6 +3,7 @@ use Rattle.std.specs.Prelude.{◌≡◌, ℕ, ◌+◌, ◌*◌, ◌<◌, ◌↔�
 use Rattle.rc_base.specs.Contexts.Issue.{faults_of}
 use Rattle.rc_base.specs.Orders.Journal.{waiting_of}
 use Rattle.rc_base.specs.Orders.Sync.{sync_lists_of}
+use Rattle.rc_base.specs.Cluster.Looks.{look_count}
 use Rattle.rc_base.specs.Cluster.Parcels.{set_count}
 use Rattle.rc_base.specs.Cluster.Tiles.{tile_count}
 use Rattle.rc_base.specs.declared.cluster.Tally.{Tally}
@@ -24,13 +25,13 @@ pub record AreFrameParts (scene : Scene) (l : Layout) (kept : Record) (parts : L
   pub each : (frame tile : ℕ) (part : TilePart) → tile < tile_count l → slice_get parts (frame * tile_count l + tile) ≡ Some part
       → IsFramePart scene l (tile_order kept tile) tile (frame + 1) part
 
--- For each tile the numbers of parcels and of sets that all clients sent to it, those beyond a place where a client waits for ever among them. No client
--- looks whether an element has changed since it was told.
+-- For each tile the numbers of parcels and of sets that all clients sent to it, and of the looks that these cost, those beyond a place where a client
+-- waits for ever among them.
 pub record AreTallies (scene : Scene) (l : Layout) (tallies : List Tally) : Type 0 where
   pub count : length tallies ≡ tile_count l
   pub parcels : (tile : ℕ) → tile < tile_count l → (slice_index_or tallies tile no_tally).parcels ≡ summed scene l tile (λ client parcels. length parcels)
   pub sets : (tile : ℕ) → tile < tile_count l → (slice_index_or tallies tile no_tally).sets ≡ summed scene l tile (λ client parcels. set_count parcels)
-  pub looks : (tile : ℕ) → tile < tile_count l → (slice_index_or tallies tile no_tally).looks ≡ 0
+  pub looks : (tile : ℕ) → tile < tile_count l → (slice_index_or tallies tile no_tally).looks ≡ summed scene l tile (λ client parcels. look_count scene l client tile parcels)
 
 -- the refused commands of each client's whole stream
 pub record AreFaults (scene : Scene) (faults : List (List (ℕ × Fault))) : Type 0 where

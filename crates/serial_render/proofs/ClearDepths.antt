@@ -1,5 +1,5 @@
 -- The clear depth of every context of a stream lies in its range.
-use Rattle.std.proofs.Common.{◌≡◌, ℕ, zero, suc, Bool, true, false, List, Some, None, refl, ◌∙◌, sym, subst, arith, ℤ}
+use Rattle.std.proofs.Common.{◌≡◌, ℕ, zero, suc, Bool, true, false, List, Some, None, refl, ap, ◌∙◌, sym, subst, arith, ℤ}
 use Rattle.std.specs.Prelude.{◌==◌, ◌≤ℤ◌, pos, if◌then◌else◌}
 use Rattle.std.specs.declared.option.Option.{Option}
 use Rattle.std.specs.Option.{option_map_or}
@@ -7,7 +7,7 @@ use Rattle.std.proofs.lemmas.Int.{ints}
 use Rattle.rc_base.specs.Pictures.{Picture, with_part}
 use Rattle.rc_base.specs.Contexts.Context.{ClientContext, default_context, default_state, below, identity, top, private_image}
 use Rattle.rc_base.specs.Contexts.Faults.{fault_of}
-use Rattle.rc_base.specs.Contexts.Issue.{issued, issued_next, refused, carried_out, command_at, context_after, held, with_top, with_below, with_image, last_of, front_of}
+use Rattle.rc_base.specs.Contexts.Issue.{issued, issued_next, refused, carried_out, command_at, context_after, held, with_capability, with_top, with_below, with_image, last_of, front_of}
 use Rattle.rc_base.specs.Numbers.{product_of}
 use Rattle.rc_base.specs.declared.command.Command.{Command}
 use Rattle.rc_base.specs.declared.command.Command.TheVariants as cmd
@@ -16,6 +16,7 @@ use Rattle.rc_base.specs.declared.command.Part.{Part}
 use Rattle.rc_base.specs.declared.scene.Scene.{Scene}
 use Rattle.rc_base.specs.declared.state.Fault.{Fault}
 use Rattle.rc_base.specs.declared.state.State.{State}
+use Rattle.element_table.proofs.Capabilities.{capability_turned, without_capabilities}
 use Rattle.draw_device.specs.Conditions.{IsClearable}
 
 -- the depth lies in its range
@@ -25,20 +26,10 @@ InRange z = (pos 0 ≤ℤ z) × (z ≤ℤ pos 65536)
 held_in_range : (z : ℤ) → InRange (held z)
 held_in_range z = (grind (arith, ints), grind (arith, ints))
 
-capability_depth : (s : State) (on a b c d e : Bool)
-    → (if a then record s { scissor_on = on }
-    else if b then record s { alpha_on = on }
-    else if c then record s { depth_on = on }
-    else if d then record s { blend_on = on }
-    else if e then record s { cull_on = on }
-    else record s { texture_on = on }).clear_depth
-    ≡ s.clear_depth
-capability_depth s on true b c d e = refl
-capability_depth s on false true c d e = refl
-capability_depth s on false false true d e = refl
-capability_depth s on false false false true e = refl
-capability_depth s on false false false false true = refl
-capability_depth s on false false false false false = refl
+capability_depth : (s : State) (k : ℕ) (on : Bool) → (with_capability s k on).clear_depth ≡ s.clear_depth
+capability_depth s k on =
+    let rest : without_capabilities (with_capability s k on) ≡ without_capabilities s = (capability_turned s k on).rest in
+    ap (λ (t : State). t.clear_depth) rest
 
 top_depth : (x : ClientContext) (m : Mat4) → (with_top x m).state.clear_depth ≡ x.state.clear_depth
 top_depth x m = by (x.matrix_mode == 0)
@@ -62,8 +53,8 @@ part_depth x part (Some image) = refl
 -- ClearDepth alone sets it
 depth_done : (x : ClientContext) (c : Command) → InRange x.state.clear_depth → InRange (carried_out x c).state.clear_depth
 depth_done x (cmd.ClearDepth depth) h = held_in_range depth
-depth_done x (cmd.Enable k) h = subst InRange (sym (capability_depth x.state true (k == 0) (k == 1) (k == 2) (k == 3) (k == 4))) h
-depth_done x (cmd.Disable k) h = subst InRange (sym (capability_depth x.state false (k == 0) (k == 1) (k == 2) (k == 3) (k == 4))) h
+depth_done x (cmd.Enable k) h = subst InRange (sym (capability_depth x.state k true)) h
+depth_done x (cmd.Disable k) h = subst InRange (sym (capability_depth x.state k false)) h
 depth_done x cmd.LoadIdentity h = subst InRange (sym (top_depth x identity)) h
 depth_done x (cmd.LoadMatrix m) h = subst InRange (sym (top_depth x m)) h
 depth_done x (cmd.MultMatrix m) h = subst InRange (sym (top_depth x (record { m = product_of (top x).m m.m }))) h

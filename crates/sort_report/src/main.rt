@@ -90,8 +90,12 @@ fn report(rt: &HostRuntime) -> Result<(), Refusal> {
     let scene = read_scene(alloc, bytes.as_slice())?;
     let layout = cut(scene.decl.width, scene.decl.height, columns, rows)?;
     for (tile, sum) in sums(alloc, &scene, &layout)?.iter().enumerate() {
-        let Tally { parcels, sets, .. } = *sum;
-        if println!(rt; "tile {tile} parcels {parcels} sets {sets}").is_err() {
+        let Tally {
+            parcels,
+            sets,
+            looks,
+        } = *sum;
+        if println!(rt; "tile {tile} parcels {parcels} sets {sets} looks {looks}").is_err() {
             return Err(Refusal::Output);
         }
     }

@@ -105,6 +105,7 @@ impl Sorting {
             if let Some(sum) = sums.get_mut(usize::from(tile)) {
                 sum.parcels = sum.parcels.saturating_add(tally.parcels);
                 sum.sets = sum.sets.saturating_add(tally.sets);
+                sum.looks = sum.looks.saturating_add(tally.looks);
             }
         }
     }

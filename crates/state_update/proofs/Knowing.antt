@@ -48,8 +48,8 @@ one_of_many zero k a lt = absurd (omega arith)
 one_of_many (suc n) zero a lt = refl
 one_of_many (suc n) (suc k) a lt = one_of_many n k a (omega arith)
 
-pub knows_at_first : (d : Decl) (n tile : ℕ) → tile < n → Knows (replicate n (first_told d)) tile (default_value d)
-knows_at_first d n tile lt = record { kept = first_told d; is = one_of_many n tile (first_told d) lt; agrees = agrees_at_first d }
+pub knows_at_first : (d : Decl) (n tile : ℕ) (bits : List ℕ) → tile < n → Knows (record { told = replicate n (first_told d); bits = bits }) tile (default_value d)
+knows_at_first d n tile bits lt = record { kept = first_told d; is = one_of_many n tile (first_told d) lt; agrees = agrees_at_first d }
 
 -- ---- the image that a parcel examines
 

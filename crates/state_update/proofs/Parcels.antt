@@ -16,13 +16,12 @@ use Rattle.rc_base.specs.Contexts.Faults.{is_name}
 use Rattle.rc_base.specs.Drawing.Texel.{bound_kind, bound_name}
 use Rattle.gl_context.specs.Valid.{IsValidContext}
 use Rattle.gl_context.proofs.Accepted.{and_both}
-use Rattle.state_update.specs.declared.told.Told.{Told}
-use Rattle.state_update.specs.Knowledge.{HasBoundTexture, Knows, after_sets}
+use Rattle.state_update.specs.Knowledge.{HasBoundTexture, Knows, Tracked, after_sets}
 
 abbrev sets_in : List Parcel → List ElementSet
 sets_in parcels = flat_map (λ (p : Parcel). p.sets) parcels
 
-told_more : (d : Decl) (earlier : List Parcel) (p : Parcel) (e : ℕ) → after_sets (told d earlier) p.sets e ≡ told d (earlier ++ p ∷ []) e
+pub told_more : (d : Decl) (earlier : List Parcel) (p : Parcel) (e : ℕ) → after_sets (told d earlier) p.sets e ≡ told d (earlier ++ p ∷ []) e
 unfolding told
 told_more d earlier p e =
     sym (
@@ -30,15 +29,15 @@ told_more d earlier p e =
     ∙ fold-append (told_by e) (default_value d e) (sets_in earlier) p.sets
     )
 
-pub begins : (tracker : List Told) (tile : ℕ) (d : Decl) → Knows tracker tile (default_value d) → Knows tracker tile (told d [])
+pub begins : (tracker : Tracked) (tile : ℕ) (d : Decl) → Knows tracker tile (default_value d) → Knows tracker tile (told d [])
 unfolding told
 begins tracker tile d k = k
 
-pub goes_on : (tracker : List Told) (tile : ℕ) (d : Decl) (earlier : List Parcel) (p : Parcel) → Knows tracker tile (after_sets (told d earlier) p.sets)
+pub goes_on : (tracker : Tracked) (tile : ℕ) (d : Decl) (earlier : List Parcel) (p : Parcel) → Knows tracker tile (after_sets (told d earlier) p.sets)
     → Knows tracker tile (told d (earlier ++ p ∷ []))
 goes_on tracker tile d earlier p k = subst (Knows tracker tile) (fun_ext (told_more d earlier p)) k
 
-pub stays : (tracker : List Told) (tile : ℕ) (d : Decl) (earlier : List Parcel) (p : Parcel) → p.sets ≡ [] → Knows tracker tile (told d earlier)
+pub stays : (tracker : Tracked) (tile : ℕ) (d : Decl) (earlier : List Parcel) (p : Parcel) → p.sets ≡ [] → Knows tracker tile (told d earlier)
     → Knows tracker tile (told d (earlier ++ p ∷ []))
 stays tracker tile d earlier p none k =
     goes_on tracker tile d earlier p (subst (λ (l : List ElementSet). Knows tracker tile (after_sets (told d earlier) l)) (sym none) k)

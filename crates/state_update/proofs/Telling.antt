@@ -15,12 +15,12 @@ use Rattle.rc_base.specs.declared.state.ElementValue.{ElementValue}
 use Rattle.textures.proofs.Names.{other_name, same_name, length_with_name}
 use Rattle.state_update.specs.declared.told.Told.{Told}
 use Rattle.state_update.specs.Knowledge.{Agrees, IsImageOf, after_sets, edit_told, image_examined, scalar_value, told_after}
-use Rattle.state_update.proofs.SameValues.{same_is, scalar_at}
+use Rattle.element_table.proofs.SameValues.{same_is, scalar_at}
 use Rattle.state_update.proofs.Knowing.{IsThere, image_in_context, image_is_examined, image_same, is_there, scalar_in_context}
 
 module _ (values : ℕ → ElementValue) (x : ClientContext) where
   -- an element's value after the sets of these elements
-  abbrev after : ℕ → List ℕ → ElementValue → ElementValue
+  abbrev pub after : ℕ → List ℕ → ElementValue → ElementValue
   after e es v = fold (told_by e) v (flat_map (set_of values x) es)
 
   after_more : (e : ℕ) (es fs : List ℕ) (v : ElementValue) → after e (es ++ fs) v ≡ after e fs (after e es v)
@@ -33,7 +33,7 @@ module _ (values : ℕ → ElementValue) (x : ClientContext) where
   other_by e k v true ne = refl
   other_by e k v false ne = ap (λ (b : Bool). if b then value_in x k else v) (ne_eqb k e ne)
 
-  other_set : (e k : ℕ) (v : ElementValue) → k ≢ e → fold (told_by e) v (set_of values x k) ≡ v
+  pub other_set : (e k : ℕ) (v : ElementValue) → k ≢ e → fold (told_by e) v (set_of values x k) ≡ v
   other_set e k v ne = other_by e k v (same_value (values k) (value_in x k)) ne
 
   own_by : (e : ℕ) (same : Bool)
@@ -45,7 +45,7 @@ module _ (values : ℕ → ElementValue) (x : ClientContext) where
   own_set : (e : ℕ) → fold (told_by e) (values e) (set_of values x e) ≡ (if same_value (values e) (value_in x e) then values e else value_in x e)
   own_set e = own_by e (same_value (values e) (value_in x e))
 
-  after_cons : (e k : ℕ) (es : List ℕ) (v : ElementValue) → after e (k ∷ es) v ≡ after e es (fold (told_by e) v (set_of values x k))
+  pub after_cons : (e k : ℕ) (es : List ℕ) (v : ElementValue) → after e (k ∷ es) v ≡ after e es (fold (told_by e) v (set_of values x k))
   after_cons e k es v = fold-append (told_by e) v (set_of values x k) (flat_map (set_of values x) es)
 
   beyond : (e a n : ℕ) (v : ElementValue) → (e < a) ⊎ (a + n ≤ e) → after e (range_with_len a n) v ≡ v

@@ -1,10 +1,13 @@
 -- What a tracker knows of the elements that a tile was told, and what a parcel adds to it.
-use Rattle.std.specs.Prelude.{◌≡◌, ℕ, ◌<◌, ◌≤◌, ◌==◌, ◌&&◌, Bool, List, [], ◌∷◌, ◌++◌, Option, Some, None, fold, is_some, length, replicate, slice_get, slice_index_or, unwrap_or, if◌then◌else◌}
+use Rattle.std.specs.Prelude.{◌≡◌, ℕ, ◌<◌, ◌≤◌, ◌==◌, ◌&&◌, ◌||◌, nat_lt, Bool, true, false, List, [], ◌∷◌, ◌++◌, Option, Some, None, drop, fold, is_some, drop, length, replicate, slice_get, slice_index, slice_index_or, unwrap_or, if◌then◌else◌}
 use Rattle.std.specs.List.{flat_map, range_with_len}
 use Rattle.std.specs.Option.{option_map_or}
+use Rattle.dirty_bits.specs.Bits.{is_dirty, is_group_dirty}
+use Rattle.element_table.specs.Groups.{group_start}
 use Rattle.rc_base.specs.Lists.{at_name, with_name}
 use Rattle.rc_base.specs.Contexts.Context.{ClientContext, default_state, private_count, private_image, edit_of}
-use Rattle.rc_base.specs.Contexts.Elements.{values_of, scalar_count, image_element, image_value, no_image, same_value}
+use Rattle.rc_base.specs.Contexts.Elements.{values_of, value_in, scalar_count, element_count, group_sizes, image_element, image_value, no_image, same_value}
+use Rattle.rc_base.specs.Cluster.Looks.{sizes_with}
 use Rattle.rc_base.specs.Cluster.Parcels.{told_by}
 use Rattle.rc_base.specs.Drawing.Texel.{bound_kind, bound_name}
 use Rattle.rc_base.specs.declared.scene.Decl.{Decl}
@@ -35,11 +38,26 @@ pub record Agrees (kept : Told) (values : ℕ → ElementValue) : Type 0 where
   pub scalars : (e : ℕ) → e < scalar_count → values e ≡ scalar_value kept.state e
   pub images : (name : ℕ) → 0 < name → name ≤ private_count → IsImageOf (values (image_element name)) (edit_told kept name)
 
+-- what a tracker keeps: what each tile was told, and the bits of the elements that are pending to tiles
+pub record Tracked : Type 0 where
+  pub told : List Told
+  pub bits : List ℕ
+
+-- the element is pending to the tile: it was noted since the tile was last told of it
+abbrev pub pending : Tracked → ℕ → ℕ → Bool
+pending t tile e = is_dirty t.bits e tile
+
 -- the tracker knows that the tile was told these values
-pub record Knows (tracker : List Told) (tile : ℕ) (values : ℕ → ElementValue) : Type 0 where
+pub record Knows (tracker : Tracked) (tile : ℕ) (values : ℕ → ElementValue) : Type 0 where
   pub kept : Told
-  pub is : slice_get tracker tile ≡ Some kept
+  pub is : slice_get tracker.told tile ≡ Some kept
   pub agrees : Agrees kept values
+
+-- nothing is to be told that isn't pending: each other element is, in the context, what the tile was told
+abbrev pub IsSettled : Tracked → ℕ → ClientContext → Type 0
+IsSettled t tile x =
+    (values : ℕ → ElementValue) → Knows t tile values
+    → (e : ℕ) → e < element_count → pending t tile e ≡ false → same_value (values e) (value_in x e) ≡ true
 
 -- the values that a tile was told after these sets
 abbrev pub after_sets : (ℕ → ElementValue) → List ElementSet → ℕ → ElementValue
@@ -78,6 +96,12 @@ image_set t x name =
 abbrev pub image_sets : Told → ClientContext → Option ℕ → List ElementSet
 image_sets t x image = option_map_or (image_set t x) image []
 
+-- those of one element: of a scalar one, or of the image that is examined
+abbrev pub element_sets : Told → ClientContext → Option ℕ → ℕ → List ElementSet
+element_sets t x image e =
+    if nat_lt e scalar_count then scalar_set t.state x.state e
+    else option_map_or (λ (name : ℕ). if image_element name == e then image_set t x name else []) image []
+
 unfoldable pub sets_by : Told → ClientContext → Option ℕ → List ElementSet
 sets_by t x image = flat_map (scalar_set t.state x.state) (range_with_len 0 scalar_count) ++ image_sets t x image
 
@@ -86,6 +110,26 @@ told_after t x image = record {
   state = x.state;
   edits = option_map_or (λ (name : ℕ). with_name t.edits name (edit_of x name)) image t.edits;
 }
+
+-- ---- by dirty bits
+
+-- the parcel examines the element
+abbrev pub is_examined : Option ℕ → ℕ → Bool
+is_examined image e = nat_lt e scalar_count || option_map_or (λ (name : ℕ). e == image_element name) image false
+
+-- no element that is clean for the tile is set
+abbrev pub CleanElementsAreNotSet : List ℕ → ℕ → Told → ClientContext → Option ℕ → Type 0
+CleanElementsAreNotSet bits tile t x image = (e : ℕ) → e < element_count → is_dirty bits e tile ≡ false → element_sets t x image e ≡ []
+
+-- the looks at the elements of a group
+abbrev pub element_looks : List ℕ → ℕ → ℕ → ℕ
+element_looks bits tile g = if is_group_dirty bits g tile then slice_index group_sizes g else 0
+
+-- and at those of the groups from g on
+unfoldable pub looks_from : List ℕ → ℕ → ℕ → ℕ
+looks_from bits tile g = sizes_with (λ e. is_dirty bits e tile) (group_start g) (drop g group_sizes)
+
+-- ---- at first
 
 abbrev pub first_told : Decl → Told
 first_told d = record { state = default_state d; edits = replicate private_count 0 }

@@ -1,10 +1,12 @@
 //! What one tile was told.
-ghost use Rattle.std.specs.Prelude.{◌≡◌, ◌<◌, ◌≤◌, ◌++◌, [], IfOk, IsOk, OnOk, replicate};
+ghost use Rattle.std.specs.Prelude.{◌≡◌, ◌<◌, ◌≤◌, ◌++◌, [], IfOk, IsOk, OnOk, length, replicate};
 ghost use Rattle.rc_base.specs.Contexts.Context.{default_state, private_count};
-ghost use Rattle.state_update.specs.Knowledge.{IsPrivateName, edit_told, first_told, image_sets, sets_by, told_after};
+ghost use Rattle.rc_base.specs.Contexts.Elements.{scalar_count};
+ghost use Rattle.state_update.specs.Knowledge.{IsPrivateName, edit_told, element_sets, first_told, image_set, told_after};
 
 use crate::images::image_of;
-use crate::scalars::add_scalars;
+use crate::scalars::add_scalar;
+use element_table::{SCALAR_COUNT, image_element};
 use gl_context::Context;
 use rc_base::out_of_memory::OutOfMemory;
 use rc_base::scene::Decl;
@@ -31,6 +33,13 @@ impl Told {
         })
     }
 
+    /// There is an edit number for each private texture.
+    pub fn has_each_name(&self)
+        ensures { length self.now.edits ≡ private_count }
+    {
+        let _ = self.edits.len();
+    }
+
     #[tactic(auto, using(textures::proofs::Names::at_name_below))]
     fn edit(&self, name: u8) -> u32
         requires low { 0 < name }
@@ -46,42 +55,64 @@ impl Told {
         sets: &mut Sets,
         alloc: Global,
         context: &Context,
-        image: Option<u8>,
+        name: u8,
     ) -> Result<(), OutOfMemory>
-        requires { IsPrivateName image }
-        ensures added { OnOk result (sets.new ≡ sets.old ++ image_sets self.now context.now image) }
-        ensures quiet { image_sets self.now context.now image ≡ [] → IsOk result }
+        requires low { 0 < name }
+        requires high { name ≤ private_count }
+        ensures added { OnOk result (sets.new ≡ sets.old ++ image_set self.now context.now name) }
+        ensures quiet { image_set self.now context.now name ≡ [] → IsOk result }
     {
-        let Some(name) = image else {
-            return Ok(());
-        };
         if self.edit(name) == context.edit(name) {
             return Ok(());
         }
         let value = image_of(alloc, context, name)?;
         sets.push(ElementSet {
-            element: 21 + name,
+            element: image_element(name),
             value,
         })?;
         Ok(())
     }
 
-    /// The sets that the tile gets, where the parcel examines this image.
-    #[tactic(auto, unfolding(crate::specs::Knowledge::sets_by))]
-    pub fn sets(
+    // The same of another element than the scalar ones, where it is that of the image.
+    fn add_examined(
         &self,
+        sets: &mut Sets,
         alloc: Global,
         context: &Context,
         image: Option<u8>,
-    ) -> Result<Sets, OutOfMemory>
-        requires { IsPrivateName image }
-        ensures sets { IfOk result (λ sets. sets ≡ sets_by self.now context.now image) }
-        ensures quiet { sets_by self.now context.now image ≡ [] → IsOk result }
+        element: u8,
+    ) -> Result<(), OutOfMemory>
+        requires named { IsPrivateName image }
+        requires element { scalar_count ≤ element }
+        ensures added { OnOk result (sets.new ≡ sets.old ++ element_sets self.now context.now image element) }
+        ensures quiet { element_sets self.now context.now image element ≡ [] → IsOk result }
     {
-        let mut sets = Sets::new(alloc);
-        add_scalars(&mut sets, &self.state, context.state())?;
-        self.add_image(&mut sets, alloc, context, image)?;
-        Ok(sets)
+        let Some(name) = image else {
+            return Ok(());
+        };
+        if image_element(name) != element {
+            return Ok(());
+        }
+        self.add_image(sets, alloc, context, name)
+    }
+
+    /// Adds an element where the tile was told another value of it: a scalar element, or the image where the parcel examines it.
+    pub fn add_element(
+        &self,
+        sets: &mut Sets,
+        alloc: Global,
+        context: &Context,
+        image: Option<u8>,
+        element: u8,
+    ) -> Result<(), OutOfMemory>
+        requires { IsPrivateName image }
+        ensures added { OnOk result (sets.new ≡ sets.old ++ element_sets self.now context.now image element) }
+        ensures quiet { element_sets self.now context.now image element ≡ [] → IsOk result }
+    {
+        if element < SCALAR_COUNT {
+            return add_scalar(sets, &self.state, context.state(), element);
+        }
+        self.add_examined(sets, alloc, context, image, element)
     }
 
     /// Notes that the tile was told the context's values, and this image.

@@ -8,7 +8,6 @@ use Rattle.rc_base.specs.Cluster.Sending.{ToTile, ToManager}
 use Rattle.rc_base.specs.Cluster.Tiles.{tile_count}
 use Rattle.rc_base.specs.declared.cluster.ClientMoved.{ClientMoved}
 use Rattle.rc_base.specs.declared.cluster.ClientMoved.TheVariants as moved
-use Rattle.rc_base.specs.declared.cluster.Tally.{Tally}
 use Rattle.rc_base.specs.declared.plain_lane.PlainLane.{PlainLane}
 use Rattle.rc_base.specs.declared.scene.Scene.{Scene}
 use Rattle.rc_base.specs.declared.state.Parcel.{Parcel}
@@ -24,6 +23,7 @@ use Rattle.tile_model.specs.Items.{with_at}
 use Rattle.world_model.specs.Moves.{IsClientStep, IsIdle}
 use Rattle.world_model.specs.World.{Client}
 use Rattle.world_model.specs.World.{World as Model}
+use Rattle.client_issue.proofs.Tallies.{looks_are}
 use Rattle.step_core.specs.Changes.{IsClientCoreStep, IsSameDepth}
 use Rattle.step_core.specs.Ports.{waiting, IsFull, IsSamePort, where_appended}
 use Rattle.step_core.specs.Worlds.{IsClientOf, IsLaneOf, IsPortRow}
@@ -119,7 +119,7 @@ module _ (scene : Scene) (l : Layout) (depth number : ℕ) (w : Model) (core cor
     pub client : own.client ≡ seen core'
     pub requests : IsLaneOf depth own.requests lane'
     pub ports : where_appended m (HasAppended (tile_count l) (w.parcels number) own.parcels row') (HasNotAppended (tile_count l) (w.parcels number) own.parcels row')
-    pub step : IsClientStep l depth w number m (later_of w number own)
+    pub step : IsClientStep scene l depth w number m (later_of w number own)
 
   module _ (s : EachLane (λ i x y. IsSamePort x y) row row') (lane_depth : IsSameDepth lane lane') where
     pub counted : (i : ℕ) (d : Port) → i < tile_count l → IsCounted depth (w.parcels number i) (slice_index_or row' i d)
@@ -175,7 +175,7 @@ module _ (scene : Scene) (l : Layout) (depth number : ℕ) (w : Model) (core cor
                   ∙ with_other (w.parcels number) t _ other ne;
               requests = with_here w.requests number own.requests;
             };
-            tallied = tallies_now own refl t ∙ tallied.counted ∙ ap (λ (x : Tally). tally_after x p) (c.tallies t);
+            tallied = tallies_now own refl t ∙ tallied.counted ∙ (λ i. tally_after (c.tallies t i) p (looks_are core scene number l c.whose t p i));
             others = λ other ne. tallies_now own refl other ∙ tallied.others other ne ∙ c.tallies other;
           };
         }

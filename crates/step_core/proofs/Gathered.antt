@@ -3,20 +3,15 @@ use Rattle.std.proofs.Common.{◌≡◌, ℕ, ◌+◌, ◌<◌, List, [], ◌∷
 use Rattle.std.proofs.lemmas.List.FromFn.{length-map-range_with_len, get_or-map-range_with_len}
 use Rattle.std.proofs.lemmas.Option.{slice_get-get_or, slice_get_within, get_or_from_slice_get}
 use Rattle.std.specs.List.{range_with_len}
-use Rattle.std.specs.Prelude.{fold, map, slice_index_or, Vec}
+use Rattle.std.specs.Prelude.{map, slice_index_or, Vec}
 use Rattle.std.specs.Global.{Global}
-use Rattle.rc_base.specs.Cluster.Parcels.{parcels_of}
 use Rattle.rc_base.specs.Cluster.Tiles.{tile_count}
 use Rattle.rc_base.specs.Orders.Sync.{sync_lists_of}
-use Rattle.rc_base.specs.declared.cluster.Tally.{Tally}
 use Rattle.rc_base.specs.declared.cluster.TilePart.{TilePart}
 use Rattle.rc_base.specs.declared.scene.Decl.{Decl}
 use Rattle.rc_base.specs.declared.scene.Scene.{Scene}
-use Rattle.rc_base.specs.declared.state.Parcel.{Parcel}
 use Rattle.rc_base.specs.declared.sync.Entry.{Entry}
 use Rattle.rc_base.specs.declared.window.Layout.{Layout}
-use Rattle.client_issue.specs.Clauses.{counted}
-use Rattle.client_issue.specs.Cores.{no_tally, tally_after}
 use Rattle.order_model.specs.Report.{frame_count}
 use Rattle.order_model.specs.declared.record.LogEntry.{LogEntry}
 use Rattle.order_model.specs.declared.record.Record.{Record}
@@ -24,8 +19,8 @@ use Rattle.tile_server.specs.declared.tile_core.TileCore.{TileCore}
 use Rattle.run_record.specs.Closed.{AreDone, IsTileFinished}
 use Rattle.run_record.specs.Collected.{AreCollected, AreShownAlike, IsSmall, IsWholeRun, DoneRunsAreRecorded}
 use Rattle.run_record.specs.Gathering.{AreEven, HaveSent}
-use Rattle.world_model.specs.Laws.{SteppedRunsAreSound, EndedWorldsAreOver, EndedWorldsShowFrames, EndedWorldsTallyAll, TalliesCount, IsOver, IsRecordIn}
-use Rattle.world_model.specs.Sound.{IsSound, tallied}
+use Rattle.world_model.specs.Laws.{SteppedRunsAreSound, EndedWorldsAreOver, EndedWorldsShowFrames, EndedWorldsTallyAll, IsOver, IsRecordIn}
+use Rattle.world_model.specs.Sound.{IsSound}
 use Rattle.world_model.proofs.JournalsGoOn.{goes_on_to_itself}
 use Rattle.step_core.specs.CoreRuns.{IsCoreRun, IsGathered}
 use Rattle.step_core.specs.Rounds.{HasRun, IsAtEnd}
@@ -39,18 +34,12 @@ pub record GatherLaws : Type 0 where
   pub over : EndedWorldsAreOver
   pub frames : EndedWorldsShowFrames
   pub tallies : EndedWorldsTallyAll
-  pub counts : TalliesCount
   pub recorded : DoneRunsAreRecorded
 
 -- a list with an element isn't empty
 some_of : {A : Type 0} (xs : List A) (i : ℕ) → i < length xs → A
 some_of [] i lt = absurd (omega (arith, lt))
 some_of (x ∷ xs) i lt = x
-
--- no looks are counted
-no_looks : (t : Tally) (parcels : List Parcel) → (fold tally_after t parcels).looks ≡ t.looks
-no_looks t [] = refl
-no_looks t (p ∷ parcels) = no_looks (tally_after t p) parcels
 
 module _ (laws : GatherLaws) (scene : Scene) (l : Layout) (world : Cluster) (h : HasRun scene l world) where
   abbrev journal : List Entry
@@ -112,11 +101,6 @@ module _ (laws : GatherLaws) (scene : Scene) (l : Layout) (world : Cluster) (h :
   over : IsOver scene l h.model
   over = laws.over scene l h.model h.runnable.commands sound h.ended
 
-  as_counted : (client tile : ℕ) → tallied (parcels_of scene l client tile) ≡ counted scene l client tile (parcels_of scene l client tile)
-  as_counted client tile =
-      let n = laws.counts (parcels_of scene l client tile) in
-      λ i. record { parcels = n.0 i; sets = n.1 i; looks = no_looks no_tally (parcels_of scene l client tile) i }
-
   tile_finished : (t : ℕ) (d : TileCore) (e : Vec TilePart Global) → t < tile_count l
       → IsTileFinished scene l t journal (slice_index_or world.tiles.items t d) (slice_index_or world.parts.items t e).items
   tile_finished t d e lt =
@@ -158,7 +142,7 @@ module _ (laws : GatherLaws) (scene : Scene) (l : Layout) (world : Cluster) (h :
     sent = have_sent;
     tallies = λ client tile d lt low.
         let here : client < length scene.streams = (let a = h.view.clients.count in omega (arith, a, lt)) in
-        (h.view.clients.at client d here).tallies tile ∙ laws.tallies scene l h.model sound h.ended client tile here low ∙ as_counted client tile;
+        (h.view.clients.at client d here).tallies tile ∙ laws.tallies scene l h.model sound h.ended client tile here low;
     progress = h.model.manager;
     stands = h.view.manager.progress;
     arrived = over.arrived;

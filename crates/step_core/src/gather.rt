@@ -11,7 +11,7 @@ use run_record::laws::done_runs_are_recorded;
 use run_record::{Collected, collect};
 use std::alloc::Global;
 use world_model::laws::{
-    ended_worlds_are_over, ended_worlds_are_whole, schedules_keep_worlds_sound, tallies_count,
+    ended_worlds_are_over, ended_worlds_are_whole, schedules_keep_worlds_sound,
 };
 
 /// What a cluster leaves in which all have ended.
@@ -22,7 +22,6 @@ pub(crate) fn gather(alloc: Global, decl: &Decl, cluster: Cluster) -> Result<Cor
     schedules_keep_worlds_sound();
     ended_worlds_are_over();
     ended_worlds_are_whole();
-    tallies_count();
     done_runs_are_recorded();
     let Cluster {
         clients,

@@ -1,6 +1,5 @@
 -- The depth range and the clear depth of every context of a stream lie between 0 and one.
-use Rattle.std.proofs.Common.{◌≡◌, ℕ, zero, suc, ◌==◌, Bool, true, false, List, ℤ, Some, None, inl, inr, refl, sym, subst, arith}
-use Rattle.std.specs.Prelude.{if◌then◌else◌}
+use Rattle.std.proofs.Common.{◌≡◌, ℕ, zero, suc, ◌==◌, Bool, true, false, List, ℤ, Some, None, inl, inr, refl, sym, ap, subst, arith}
 use Rattle.std.specs.declared.option.Option.{Option}
 use Rattle.std.specs.Option.{option_map_or}
 use Rattle.std.proofs.lemmas.Bool.{cases_Bool}
@@ -16,7 +15,8 @@ use Rattle.rc_base.specs.declared.command.Mat4.{Mat4}
 use Rattle.rc_base.specs.declared.scene.Scene.{Scene}
 use Rattle.rc_base.specs.declared.state.Fault.{Fault}
 use Rattle.rc_base.specs.declared.state.State.{State}
-use Rattle.tile_model.specs.Givable.{is_depth}
+use Rattle.element_table.specs.Values.{is_depth}
+use Rattle.element_table.proofs.Capabilities.{capability_turned, without_capabilities}
 
 pub record HasDepths (s : State) : Type 0 where
   pub near : is_depth (entry s.depth_range 0) ≡ true
@@ -33,23 +33,10 @@ same_depths s t e f h = record {
   clear = subst (λ depth. is_depth depth ≡ true) (sym f) h.clear;
 }
 
-capability_by : (s : State) (on a b c d e : Bool) → HasDepths s
-    → HasDepths
-    (if a then record s { scissor_on = on }
-    else if b then record s { alpha_on = on }
-    else if c then record s { depth_on = on }
-    else if d then record s { blend_on = on }
-    else if e then record s { cull_on = on }
-    else record s { texture_on = on })
-capability_by s on true b c d e h = same_depths s _ refl refl h
-capability_by s on false true c d e h = same_depths s _ refl refl h
-capability_by s on false false true d e h = same_depths s _ refl refl h
-capability_by s on false false false true e h = same_depths s _ refl refl h
-capability_by s on false false false false true h = same_depths s _ refl refl h
-capability_by s on false false false false false h = same_depths s _ refl refl h
-
 capability_depths : (s : State) (k : ℕ) (on : Bool) → HasDepths s → HasDepths (with_capability s k on)
-capability_depths s k on h = capability_by s on (k == 0) (k == 1) (k == 2) (k == 3) (k == 4) h
+capability_depths s k on h =
+    let rest : without_capabilities (with_capability s k on) ≡ without_capabilities s = (capability_turned s k on).rest in
+    same_depths s _ (ap (λ (t : State). t.depth_range) rest) (ap (λ (t : State). t.clear_depth) rest) h
 
 top_depths : (x : ClientContext) (m : Mat4) → HasDepths x.state → HasDepths (with_top x m).state
 top_depths x m h = elim (cases_Bool (x.matrix_mode == 0)) [ inl t ↦ rw t (same_depths x.state _ refl refl h) | inr f ↦ rw f (same_depths x.state _ refl refl h) ]

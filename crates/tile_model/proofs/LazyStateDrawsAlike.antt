@@ -26,7 +26,7 @@ use Rattle.gl_context.proofs.ValidContexts.{valid}
 use Rattle.tile_model.specs.Acts.{is_draw, is_drawing, is_work}
 use Rattle.tile_model.specs.Scenes.{IsInRange}
 use Rattle.tile_model.specs.Lazy.{DrawsAlike}
-use Rattle.tile_model.proofs.SameValuesAreEqual.{same_is, scalar_value, value_is_scalar, state_is}
+use Rattle.element_table.proofs.SameValues.{same_is, scalar_value, value_is_scalar, state_is}
 use Rattle.tile_model.proofs.ValuesTellImages.{picture_of_value, same_value_images, none_before}
 use Rattle.tile_model.proofs.NextInLists.{next_is, take_more}
 use Rattle.tile_model.proofs.ParcelsComeFromCommands.{sets_by, command_makes, command_of}

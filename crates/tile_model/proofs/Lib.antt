@@ -9,7 +9,6 @@ mod NewTilesStand
 mod IdleNamesChangeNothing
 mod JobsAreLeftBehindNames
 mod ParcelsComeFromCommands
-mod SameValuesAreEqual
 mod ParcelsTellValues
 mod ValuesTellImages
 mod LazyStateDrawsAlike

@@ -1,5 +1,5 @@
 -- Every parcel of a scene is one that a scene can give.
-use Rattle.std.proofs.Common.{◌≡◌, ℕ, zero, suc, ◌+◌, ◌*◌, ◌<◌, ◌≤◌, ◌==◌, ◌&&◌, ◌||◌, Bool, true, false, List, [], ◌∷◌, length, Some, None, slice_get, inl, inr, refl, sym, ap, ◌∙◌, subst, arith, true≢false, eq-eqb, lt-ltb, le-leb, ltb-true, leb-true}
+use Rattle.std.proofs.Common.{◌≡◌, ℕ, zero, suc, ◌+◌, ◌*◌, ◌<◌, ◌≤◌, ◌==◌, ◌&&◌, Bool, true, false, List, [], ◌∷◌, length, Some, None, slice_get, inl, inr, refl, sym, ap, ◌∙◌, subst, arith, eq-eqb, lt-ltb, ltb-true, leb-true}
 use Rattle.std.specs.Prelude.{if◌then◌else◌, nat_lt, nat_le, is_some, slice_index, slice_index_or}
 use Rattle.std.specs.declared.option.Option.{Option}
 use Rattle.std.specs.List.{flat_map, list_all, range_with_len}
@@ -34,9 +34,12 @@ use Rattle.gl_context.proofs.Accepted.{accepted}
 use Rattle.gl_context.proofs.OneElement.{image_element_is}
 use Rattle.gl_context.proofs.ValidContexts.{valid, command_of as is_in_range, stream_all}
 use Rattle.order_model.proofs.StandsInLists.{in_append}
-use Rattle.tile_model.specs.Scenes.{has_sides, HasSides}
-use Rattle.tile_model.specs.Givable.{is_value_of, is_binding, is_shared_part, is_givable, is_givable_act}
-use Rattle.tile_model.specs.Scenes.{IsInRange}
+use Rattle.element_table.specs.Kinds.{has_kind, kind_of}
+use Rattle.element_table.specs.Values.{has_sides, is_binding, is_value_of}
+use Rattle.element_table.specs.declared.kind.ValueKind.{ValueKind}
+use Rattle.element_table.proofs.Rows.{image_kind}
+use Rattle.tile_model.specs.Scenes.{HasSides, IsInRange}
+use Rattle.tile_model.specs.Givable.{is_shared_part, is_givable, is_givable_act}
 use Rattle.tile_model.proofs.DepthsAreInRange.{HasDepths, depths_at}
 use Rattle.tile_model.proofs.ValuesTellImages.{edited}
 use Rattle.tile_model.proofs.ParcelsComeFromCommands.{sets_by, command_makes, of_command_or_end}
@@ -59,17 +62,15 @@ binding_is d kind name sides codes named = and_from (has_codes (cmd.BindTexture 
   | inr f ↦ let n : is_name name (length d.shared) ≡ true = rw f at named in rw f (and_from (is_name name (length d.shared)) (has_sides d name) n (sides name n))
 ])
 
-or_left : (a b : Bool) → a ≡ true → (a || b) ≡ true
-or_left true b e = refl
-or_left false b e = absurd (true≢false (sym e))
-
 scalars_right : (d : Decl) (x : ClientContext) → HasSides d → IsValidContext d x → HasDepths x.state → AllFrom d 0 (values_of x.state)
-unfolding values_of
+unfolding values_of kind_of
 scalars_right d x sides h depths =
     let c = h.codes in
     let range = and_from _ _ depths.near depths.far in
     let binding = binding_is d (bound_kind x.state) (bound_name x.state) sides c.binding h.bound in
-    let mode = and_from _ _ c.environment c.wraps in (
+    let mode = and_from _ _ c.environment c.wraps in
+    -- 0 to 6, 7 to 12, 13 to 21
+    (
       refl,
       (
         refl,
@@ -84,14 +85,20 @@ scalars_right d x sides h depths =
                 (
                   refl,
                   (
-                    or_left _ _ c.cull_face,
+                    c.cull_face,
                     (
-                      or_left _ _ c.front_face,
+                      c.front_face,
                       (
                         refl,
                         (
-                          or_left _ _ c.alpha,
-                          (refl, (c.depth_func, (refl, (refl, (or_left _ _ c.blend, (refl, (refl, (depths.clear, (refl, (binding, (mode, tt))))))))))),
+                          c.alpha,
+                          (
+                            refl,
+                            (
+                              c.depth_func,
+                              (refl, (refl, (c.blend, (refl, (refl, (depths.clear, (refl, (binding, (mode, tt))))))))),
+                            ),
+                          ),
                         ),
                       ),
                     ),
@@ -115,10 +122,11 @@ scalar_right d x sides h depths e low =
 image_right : (d : Decl) (x : ClientContext) (name edit : ℕ) (p : Picture) → 0 < name → name ≤ private_count → 0 < edit → IsPrivateImage p
     → is_value_of d (image_element name) (image_value edit p) ≡ true
 image_right d x name edit p low high some h =
-    let at : (nat_le scalar_count (image_element name) && nat_lt (image_element name) element_count) ≡ true
-    = and_from _ _ (le-leb scalar_count (image_element name) (omega arith)) (lt-ltb (image_element name) element_count (omega arith)) in
+    let value = image_value edit p in
+    let kind : has_kind value (kind_of (image_element name)) ≡ true = ap (λ (k : ValueKind). has_kind value k) (image_kind (image_element name) (omega (arith, low))) in
+    let at : nat_lt (image_element name) element_count ≡ true = lt-ltb (image_element name) element_count (omega arith) in
     let whole : (nat_lt 0 edit && length p.texels == 4 * (p.w * p.h)) ≡ true = and_from _ _ (lt-ltb 0 edit some) (eq-eqb (length p.texels) (4 * (p.w * p.h)) h.whole) in
-    and_from _ _ at (and_from _ _ whole (and_from _ _ h.w h.h))
+    and_from _ _ kind (and_from _ _ at (and_from _ _ whole (and_from _ _ h.w h.h)))
 
 sampled_right : (scene : Scene) (client n : ℕ) → IsInRange scene → let x = context_after scene client n in
     (kind : Bool) → (bound_kind x.state == 0) ≡ kind → (on : Bool) → x.state.texture_on ≡ on → (o : Option Picture) → private_image x (bound_name x.state) ≡ o

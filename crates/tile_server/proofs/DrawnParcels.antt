@@ -35,8 +35,8 @@ use Rattle.textures.specs.Images.{HasTexelIfAny, texture_image, with_texture_par
 use Rattle.textures.specs.Stores.{HasTexels, WrittenPartsAreStored}
 use Rattle.order_model.specs.Board.{Kept, Board}
 use Rattle.tile_model.specs.Boards.{HasSets, IsCarriedOut}
-use Rattle.tile_model.specs.Givable.{is_binding, is_depth, is_givable, is_givable_act, is_shared_part}
-use Rattle.tile_model.specs.Scenes.{has_sides}
+use Rattle.element_table.specs.Values.{has_sides, is_binding, is_depth}
+use Rattle.tile_model.specs.Givable.{is_givable, is_givable_act, is_shared_part}
 use Rattle.tile_server.specs.Kepts.{kept_of, AreFit, IsFit, is_set_value}
 use Rattle.tile_server.specs.Works.{IsRectOf, IsWritable, set_after, texels_in}
 use Rattle.tile_server.specs.declared.kept.KeptClient.{KeptClient}

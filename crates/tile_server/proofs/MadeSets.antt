@@ -1,17 +1,17 @@
 -- Sets of elements: what one makes of what is kept of a client, and several, one after the other.
-use Rattle.std.proofs.Common.{◌≡◌, ℕ, zero, suc, ◌+◌, ◌-◌, ◌*◌, ◌<◌, ◌==◌, ◌&&◌, ◌||◌, Bool, true, List, [], ◌∷◌, fold, length, get_or, drop, Some, None, Ok, Err, refl, sym, ap, ◌∙◌, subst, arith, inl, inr, eqb-true, eq-eqb, ne_eqb, ltb-true, leb-true}
-use Rattle.std.specs.Prelude.{nat_eq, nat_le, nat_lt, slice_index_or, OnOk, OnErr, slice_set, if◌then◌else◌, unwrap_or}
-use Rattle.std.specs.List.{list_all, list_any}
+use Rattle.std.proofs.Common.{◌≡◌, ℕ, zero, suc, ◌+◌, ◌*◌, ◌<◌, ◌==◌, ◌&&◌, Bool, true, List, [], ◌∷◌, fold, length, get_or, drop, Some, None, Ok, Err, refl, sym, ap, ◌∙◌, subst, arith, inl, inr, eqb-true, eq-eqb, ne_eqb, ltb-true}
+use Rattle.std.specs.Prelude.{nat_le, nat_lt, slice_index_or, OnOk, OnErr, slice_set, if◌then◌else◌, unwrap_or}
+use Rattle.std.specs.List.{list_all}
 use Rattle.std.specs.declared.option.Option.{Option}
 use Rattle.std.specs.declared.result.Result.{Result}
 use Rattle.std.proofs.Math.Seq.{drop-cons}
 use Rattle.std.proofs.lemmas.List.Sums.{AllPass-from_list_all}
-use Rattle.std.proofs.lemmas.Bool.{and_parts, cases_eq, or_cases}
-use Rattle.std.proofs.lemmas.Bool.Decides.{nat_tests}
+use Rattle.std.proofs.lemmas.Bool.{and_parts, cases_eq}
 use Rattle.std.proofs.lemmas.Grind.{get_or-set_at}
 use Rattle.std.proofs.lemmas.List.{get_or-set_other}
 use Rattle.rc_base.specs.Lists.{with_name}
 use Rattle.rc_base.specs.Pictures.{Picture}
+use Rattle.rc_base.specs.Contexts.Context.{private_count}
 use Rattle.rc_base.specs.Contexts.Elements.{values_of, scalar_count, element_count, image_element, no_image}
 use Rattle.rc_base.specs.Contexts.Faults.{is_name, image_side_most}
 use Rattle.rc_base.specs.Cluster.Parcels.{told_by}
@@ -24,7 +24,9 @@ use Rattle.order_model.specs.Board.{Kept, picture_in}
 use Rattle.textures.specs.Images.{picture, texture_image}
 use Rattle.textures.proofs.Names.{same_name, other_name, length_with_name}
 use Rattle.tile_model.specs.Boards.{HasSets, image_by}
-use Rattle.tile_model.specs.Givable.{is_image, is_value_of}
+use Rattle.element_table.specs.Kinds.{has_kind, kind_of}
+use Rattle.element_table.specs.Values.{is_image, is_value_of}
+use Rattle.element_table.proofs.KindsOfValues.{scalar_given}
 use Rattle.tile_server.specs.Kepts.{HasImage, IsFit, is_set_value}
 
 -- ---- one set
@@ -56,19 +58,19 @@ named_here xs zero v some low = absurd (omega arith)
 named_here xs (suc n) v some low = ap (λ (o : Option (Option Picture)). unwrap_or o None) (same_name xs n v (omega arith))
 
 -- the value of an image, given to its texture
-pub image_set : (d : Decl) (element edit w h : ℕ) (texels : List ℕ) (before now : List (Option Picture))
-    → is_value_of d element (val.Image edit w h texels) ≡ true → length before ≡ 64 → now ≡ with_name before (element - 21) (Some (picture w h texels))
-    → HasImage element (val.Image edit w h texels) before now
-image_set d element edit w h texels before now is count made = record { images = images }
+pub image_set : (d : Decl) (element edit w h : ℕ) (texels : List ℕ) (here : ℕ) (before now : List (Option Picture))
+    → is_value_of d element (val.Image edit w h texels) ≡ true → length before ≡ private_count → image_element here ≡ element → 0 < here
+    → now ≡ with_name before here (Some (picture w h texels)) → HasImage element (val.Image edit w h texels) before now
+image_set d element edit w h texels here before now is count at low made = record { images = images }
   where
-    parts : ((nat_le scalar_count element && nat_lt element element_count) ≡ true) × (is_image edit w h texels ≡ true)
-    parts = and_parts (nat_le scalar_count element && nat_lt element element_count) (is_image edit w h texels) is
+    parts : (has_kind (val.Image edit w h texels) (kind_of element) ≡ true) × ((nat_lt element element_count && is_image edit w h texels) ≡ true)
+    parts = and_parts (has_kind (val.Image edit w h texels) (kind_of element)) (nat_lt element element_count && is_image edit w h texels) is
 
-    low : 22 < suc element
-    low = let l = leb-true scalar_count element (and_parts (nat_le scalar_count element) (nat_lt element element_count) parts.0).0 in omega arith
+    rest : (nat_lt element element_count ≡ true) × (is_image edit w h texels ≡ true)
+    rest = and_parts (nat_lt element element_count) (is_image edit w h texels) parts.1
 
-    high : element < 86
-    high = ltb-true element element_count (and_parts (nat_le scalar_count element) (nat_lt element element_count) parts.0).1
+    high : element < element_count
+    high = ltb-true element element_count rest.0
 
     v : Option Picture
     v = Some (picture w h texels)
@@ -76,14 +78,14 @@ image_set d element edit w h texels before now is count made = record { images =
     images : (name : ℕ) → 0 < name → texture_image now name ≡ image_by name (texture_image before name) (record { element = element; value = val.Image edit w h texels })
     images name some = elim (cases_eq element (image_element name)) [
       | inl same ↦
-          let this : element - 21 ≡ name = omega (arith, same) in
+          let this : here ≡ name = omega (arith, same, at) in
           rw made
           (rw (eq-eqb element (image_element name) same)
           (subst (λ (n : ℕ). texture_image (with_name before n v) name ≡ picture_in (val.Image edit w h texels)) (sym this)
-          (named_here before name v some (omega (arith, high, low, same, count)) ∙ sym (written_image edit w h texels (image_facts edit w h texels parts.1).edited))))
+          (named_here before name v some (omega (arith, high, same, count)) ∙ sym (written_image edit w h texels (image_facts edit w h texels rest.1).edited))))
       | inr ne ↦
-          let other : name ≡ element - 21 → ⊥ = λ e. ne (omega (arith, low, e)) in
-          rw made (rw (ne_eqb element (image_element name) ne) (ap (λ (o : Option (Option Picture)). unwrap_or o None) (other_name before (element - 21) name v other)))
+          let other : name ≡ here → ⊥ = λ e. ne (omega (arith, at, e)) in
+          rw made (rw (ne_eqb element (image_element name) ne) (ap (λ (o : Option (Option Picture)). unwrap_or o None) (other_name before here name v other)))
     ]
 
 set_index : {A : Type 0} (xs : List A) (i e : ℕ) (v d : A) → e < length xs → slice_index_or (slice_set xs i v) e d ≡ (if i == e then v else slice_index_or xs e d)
@@ -92,7 +94,7 @@ set_index xs i e v d low = elim (cases_eq i e) [
   | inr ne ↦ rw (ne_eqb i e ne) (get_or-set_other xs i e v d (λ same. ne (sym same)))
 ]
 
-value_count : (s : State) → length (values_of s) ≡ 22
+value_count : (s : State) → length (values_of s) ≡ scalar_count
 unfolding values_of
 value_count s = refl
 
@@ -129,7 +131,8 @@ binding_value s = refl
 
 image_sides : (d : Decl) (e : ℕ) (v : ElementValue) (p : Picture) → is_value_of d e v ≡ true → picture_in v ≡ Some p → (0 < p.w) × (0 < p.h)
 image_sides d e (val.Image edit w h texels) p is at =
-    let facts = image_facts edit w h texels (and_parts (nat_le scalar_count e && nat_lt e element_count) (is_image edit w h texels) is).1 in
+    let legal = (and_parts (has_kind (val.Image edit w h texels) (kind_of e)) (nat_lt e element_count && is_image edit w h texels) is).1 in
+    let facts = image_facts edit w h texels (and_parts (nat_lt e element_count) (is_image edit w h texels) legal).1 in
     let same : Some (picture w h texels) ≡ Some p = sym (written_image edit w h texels facts.edited) ∙ at in
     let is_p : picture w h texels ≡ p = cc in
     subst (λ (q : Picture). (0 < q.w) × (0 < q.h)) is_p (facts.width, facts.height)
@@ -146,7 +149,7 @@ image_sides d e (val.Mode m) p is at = absurd cc
 
 module _ (d : Decl) (x : ElementSet) (a b : Kept) (is : is_set_value d x ≡ true) (made : HasSets (x ∷ []) a b) (fit : IsFit d a) where
   -- a property of an element's value, that each value that is set has too
-  kept_value : (P : ElementValue → Type 0) (e : ℕ) → e < 22 → P (slice_index_or (values_of a.state) e no_image) → (x.element ≡ e → P x.value) → P (slice_index_or (values_of b.state) e no_image)
+  kept_value : (P : ElementValue → Type 0) (e : ℕ) → e < scalar_count → P (slice_index_or (values_of a.state) e no_image) → (x.element ≡ e → P x.value) → P (slice_index_or (values_of b.state) e no_image)
   kept_value P e low old new = elim (cases_eq x.element e) [
     | inl same ↦ subst P (sym (made.values e low ∙ ap (λ (t : Bool). if t then x.value else slice_index_or (values_of a.state) e no_image) (eq-eqb x.element e same))) (new same)
     | inr ne ↦ subst P (sym (made.values e low ∙ ap (λ (t : Bool). if t then x.value else slice_index_or (values_of a.state) e no_image) (ne_eqb x.element e ne))) old
@@ -156,6 +159,7 @@ module _ (d : Decl) (x : ElementSet) (a b : Kept) (is : is_set_value d x ≡ tru
   at_element e same = subst (λ (n : ℕ). is_value_of d n x.value ≡ true) same is
 
   pub fit_set : IsFit d b
+  unfolding kind_of
   fit_set = record {
     images = λ name p some at. elim (cases_eq x.element (image_element name)) [
       | inl same ↦
@@ -170,8 +174,8 @@ module _ (d : Decl) (x : ElementSet) (a b : Kept) (is : is_set_value d x ≡ tru
   }
 
 -- however an image's set ends, there are as many textures
-pub same_count : {T E : Type 0} (r : Result T E) (before now : List (Option Picture)) (name : ℕ) (v : Option Picture) → length before ≡ 64
-    → OnOk r (now ≡ with_name before name v) → OnErr r (now ≡ before) → length now ≡ 64
+pub same_count : {T E : Type 0} (r : Result T E) (before now : List (Option Picture)) (name : ℕ) (v : Option Picture) → length before ≡ private_count
+    → OnOk r (now ≡ with_name before name v) → OnErr r (now ≡ before) → length now ≡ private_count
 same_count (Ok x) before now name v count made none = ap length made ∙ length_with_name before name v ∙ count
 same_count (Err e) before now name v count made none = ap length none ∙ count
 
@@ -187,28 +191,7 @@ next_set sets i x low at =
 
 -- ---- a value that is no image's
 
-one_of_two : (e a b : ℕ) → a < 22 → b < 22 → (e == a || e == b) ≡ true → e < 22
-one_of_two e a b la lb h = grind (arith, nat_tests)
-
-at_one : (e a : ℕ) (t : Bool) → a < 22 → (e == a && t) ≡ true → e < 22
-at_one e a t low h = let same : e ≡ a = eqb-true e a (and_parts (e == a) t h).0 in omega arith
-
-one_of_three : (e a b k : ℕ) (t u v : Bool) → a < 22 → b < 22 → k < 22 → (e == a && t || (e == b && u || e == k && v)) ≡ true → e < 22
-one_of_three e a b k t u v la lb lk h = elim (or_cases (e == a && t) (e == b && u || e == k && v) h) [
-  | inl first ↦ at_one e a t la first
-  | inr rest ↦ elim (or_cases (e == b && u) (e == k && v) rest) [
-    | inl second ↦ at_one e b u lb second
-    | inr third ↦ at_one e k v lk third
-  ]
-]
-
-flag_below : (e : ℕ) → list_any (nat_eq e) (4 ∷ 6 ∷ 9 ∷ 11 ∷ 13 ∷ 14 ∷ 19 ∷ []) ≡ true → e < 22
-flag_below e h = grind (arith, nat_tests)
-
-is_one : (e a : ℕ) → a < 22 → (e == a) ≡ true → e < 22
-is_one e a low h = let same : e ≡ a = eqb-true e a h in omega arith
-
-untouched : (e : ℕ) (v : ElementValue) (before : List (Option Picture)) → e < 22 → HasImage e v before before
+untouched : (e : ℕ) (v : ElementValue) (before : List (Option Picture)) → e < scalar_count → HasImage e v before before
 untouched e v before low = record {
   images = λ name some. sym (ap (λ (b : Bool). if b then picture_in v else texture_image before name) (ne_eqb e (image_element name) (λ same. absurd (omega arith))));
 }
@@ -217,13 +200,13 @@ untouched e v before low = record {
 pub no_image_set : (d : Decl) (e : ℕ) (v : ElementValue) (before : List (Option Picture)) → is_value_of d e v ≡ true
     → ((edit w h : ℕ) (texels : List ℕ) → v ≡ val.Image edit w h texels → ⊥) → HasImage e v before before
 no_image_set d e (val.Image edit w h texels) before is other = absurd (other edit w h texels refl)
-no_image_set d e (val.Matrix m) before is other = untouched e _ before (one_of_two e 0 1 (omega arith) (omega arith) is)
-no_image_set d e (val.Area m) before is other = untouched e _ before (one_of_two e 2 5 (omega arith) (omega arith) is)
-no_image_set d e (val.Range m) before is other = untouched e _ before (at_one e 3 _ (omega arith) is)
-no_image_set d e (val.Flag m) before is other = untouched e _ before (flag_below e is)
-no_image_set d e (val.Code m) before is other = untouched e _ before (one_of_three e 7 8 12 _ _ _ (omega arith) (omega arith) (omega arith) is)
-no_image_set d e (val.Pair m) before is other = untouched e _ before (one_of_three e 10 15 20 _ _ _ (omega arith) (omega arith) (omega arith) is)
-no_image_set d e (val.Mask m) before is other = untouched e _ before (is_one e 16 (omega arith) is)
-no_image_set d e (val.Color m) before is other = untouched e _ before (is_one e 17 (omega arith) is)
-no_image_set d e (val.Depth m) before is other = untouched e _ before (at_one e 18 _ (omega arith) is)
-no_image_set d e (val.Mode m) before is other = untouched e _ before (at_one e 21 _ (omega arith) is)
+no_image_set d e (val.Matrix m) before is other = untouched e _ before (scalar_given d e (val.Matrix m) is refl)
+no_image_set d e (val.Area m) before is other = untouched e _ before (scalar_given d e (val.Area m) is refl)
+no_image_set d e (val.Range m) before is other = untouched e _ before (scalar_given d e (val.Range m) is refl)
+no_image_set d e (val.Flag m) before is other = untouched e _ before (scalar_given d e (val.Flag m) is refl)
+no_image_set d e (val.Code m) before is other = untouched e _ before (scalar_given d e (val.Code m) is refl)
+no_image_set d e (val.Pair m) before is other = untouched e _ before (scalar_given d e (val.Pair m) is refl)
+no_image_set d e (val.Mask m) before is other = untouched e _ before (scalar_given d e (val.Mask m) is refl)
+no_image_set d e (val.Color m) before is other = untouched e _ before (scalar_given d e (val.Color m) is refl)
+no_image_set d e (val.Depth m) before is other = untouched e _ before (scalar_given d e (val.Depth m) is refl)
+no_image_set d e (val.Mode m) before is other = untouched e _ before (scalar_given d e (val.Mode m) is refl)

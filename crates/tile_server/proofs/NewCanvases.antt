@@ -15,7 +15,7 @@ use Rattle.order_model.specs.Board.{Kept}
 use Rattle.textures.specs.Images.{blank_texture, texture_image}
 use Rattle.textures.specs.Stores.{BlankTexturesHaveZeros, HasTexels}
 use Rattle.tile_model.specs.Boards.{IsNewBoard}
-use Rattle.tile_model.specs.Givable.{is_binding, is_depth}
+use Rattle.element_table.specs.Values.{is_binding, is_depth}
 use Rattle.tile_server.specs.Kepts.{kept_of, AreFit, IsFit}
 use Rattle.tile_server.specs.Works.{AreNew, texels_in}
 use Rattle.tile_server.specs.declared.kept.KeptClient.{KeptClient}

@@ -1,24 +1,18 @@
--- What is kept of a client so that a tile can draw with it, and what a declaration says of its shared textures.
+-- What is kept of a client so that a tile can draw with it.
 use Rattle.std.specs.Prelude.{◌≡◌, ℕ, ◌<◌, Bool, true, List, Option, Some, slice_get, slice_index}
 use Rattle.std.specs.List.{list_all}
 use Rattle.rc_base.specs.Pictures.{Picture}
-use Rattle.rc_base.specs.Contexts.Context.{shared_sides}
 use Rattle.rc_base.specs.declared.scene.Decl.{Decl}
 use Rattle.rc_base.specs.declared.state.ElementSet.{ElementSet}
 use Rattle.rc_base.specs.declared.state.ElementValue.{ElementValue}
 use Rattle.order_model.specs.Board.{Kept}
 use Rattle.textures.specs.Images.{texture_image}
 use Rattle.tile_model.specs.Boards.{image_by}
-use Rattle.tile_model.specs.Givable.{is_binding, is_depth, is_value_of}
+use Rattle.element_table.specs.Values.{is_binding, is_depth, is_value_of}
 use Rattle.tile_server.specs.declared.kept.KeptClient.{KeptClient}
 
 abbrev pub kept_of : KeptClient → Kept
 kept_of k = record { state = k.state; image = texture_image k.images }
-
--- the sides of a declared shared texture; of a name that isn't declared, 0
-pub record IsSidesOf (d : Decl) (name : ℕ) (sides : List ℕ) : Type 0 where
-  pub width : slice_index sides 0 ≡ slice_index (shared_sides d.shared name) 0
-  pub height : slice_index sides 1 ≡ slice_index (shared_sides d.shared name) 1
 
 -- With what is kept a draw finds texels and a Clear a depth: no image has a side of 0, the clear depth lies in its range, and the texture that is
 -- bound can be bound.

@@ -2,7 +2,7 @@
 ghost use Rattle.std.specs.Prelude.{◌≡◌, length};
 ghost use Rattle.rc_base.specs.Contexts.Context.{private_count};
 
-use crate::sets::{set_image, set_scalar};
+use crate::sets::set_image;
 use rc_base::out_of_memory::OutOfMemory;
 use rc_base::state::{ElementSet, State};
 use textures::PrivateSet;
@@ -29,7 +29,7 @@ impl KeptClient {
         ensures err { OnErr result (self.new ≡ self.old) }
     {
         set_image(&mut self.images, set.element, &set.value)?;
-        set_scalar(&mut self.state, set.element, &set.value);
+        element_table::set(&mut self.state, set.element, &set.value);
         Ok(())
     }
 

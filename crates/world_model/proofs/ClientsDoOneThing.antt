@@ -40,7 +40,7 @@ module _ (scene : Scene) (l : Layout) (depth : ℕ) (w v : World) (client : ℕ)
   idle : IsIdle w client v → SendsNothing
   idle m = record { left = m.sent.left; parcels = m.sent.parcels; requests = m.sent.requests }
 
-  pub at_end : (answer : ClientMoved) → (w.clients client).left ≡ [] → IsClientStep l depth w client answer v → (answer ≡ moved.Ended) × SendsNothing
+  pub at_end : (answer : ClientMoved) → (w.clients client).left ≡ [] → IsClientStep scene l depth w client answer v → (answer ≡ moved.Ended) × SendsNothing
   at_end (moved.Appended t) e m = absurd (let no : [] ≡ ToTile t m.sent.parcel ∷ (v.clients client).left = sym e ∙ m.sent.next in cc)
   at_end moved.Requested e m = absurd (let no : [] ≡ ToManager m.sent.request ∷ (v.clients client).left = sym e ∙ m.sent.next in cc)
   at_end (moved.BlockedTile t) e m = absurd (let no : [] ≡ ToTile t m.parcel ∷ m.rest = sym e ∙ m.next in cc)
@@ -54,7 +54,7 @@ module _ (scene : Scene) (l : Layout) (depth : ℕ) (w v : World) (client : ℕ)
   sends_parcel : (t k : ℕ) (p q : Parcel) (rest now : List Sending) → ToTile t p ∷ rest ≡ ToTile k q ∷ now → (k ≡ t) × (q ≡ p) × (now ≡ rest)
   sends_parcel t k p q rest now e = (cc, cc, cc)
 
-  pub at_parcel : (t : ℕ) (p : Parcel) (rest : List Sending) (answer : ClientMoved) → (w.clients client).left ≡ ToTile t p ∷ rest → IsClientStep l depth w client answer v → AtParcel t p rest answer
+  pub at_parcel : (t : ℕ) (p : Parcel) (rest : List Sending) (answer : ClientMoved) → (w.clients client).left ≡ ToTile t p ∷ rest → IsClientStep scene l depth w client answer v → AtParcel t p rest answer
   at_parcel t p rest (moved.Appended k) e m =
       let s = sends_parcel t k p m.sent.parcel rest (v.clients client).left (sym e ∙ m.sent.next) in
       let lt = subst (λ i. i < tile_count l) s.0 m.low in
@@ -85,7 +85,7 @@ module _ (scene : Scene) (l : Layout) (depth : ℕ) (w v : World) (client : ℕ)
   sends_request : (r q : Request) (rest now : List Sending) → ToManager r ∷ rest ≡ ToManager q ∷ now → (q ≡ r) × (now ≡ rest)
   sends_request r q rest now e = (cc, cc)
 
-  pub at_request : (r : Request) (rest : List Sending) (answer : ClientMoved) → (w.clients client).left ≡ ToManager r ∷ rest → IsClientStep l depth w client answer v → AtRequest r rest answer
+  pub at_request : (r : Request) (rest : List Sending) (answer : ClientMoved) → (w.clients client).left ≡ ToManager r ∷ rest → IsClientStep scene l depth w client answer v → AtRequest r rest answer
   at_request r rest (moved.Appended k) e m = absurd (let no : ToManager r ∷ rest ≡ ToTile k m.sent.parcel ∷ (v.clients client).left = sym e ∙ m.sent.next in cc)
   at_request r rest moved.Requested e m =
       let s = sends_request r m.sent.request rest (v.clients client).left (sym e ∙ m.sent.next) in
@@ -158,7 +158,7 @@ module _ (scene : Scene) (l : Layout) (depth : ℕ) (w v w' v' : World) (client 
   request_alike r rest answer answer' (inr x) (inl y) = absurd (let q = y.1.room in let f = x.1 in let e = ap length (h.requests client low) in omega (arith, q, f, e))
   request_alike r rest answer answer' (inr x) (inr y) = (y.0 ∙ sym x.0, nothing_alike x.2 y.2)
 
-  by_next : (items : List Sending) (answer answer' : ClientMoved) → (w.clients client).left ≡ items → IsClientStep l depth w client answer v → IsClientStep l depth w' client answer' v'
+  by_next : (items : List Sending) (answer answer' : ClientMoved) → (w.clients client).left ≡ items → IsClientStep scene l depth w client answer v → IsClientStep scene l depth w' client answer' v'
       → (answer' ≡ answer) × OwnAlike
   by_next [] answer answer' e m m' =
       let a = at_end scene l depth w v client low fit answer e m in

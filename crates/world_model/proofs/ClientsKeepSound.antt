@@ -1,7 +1,7 @@
 -- A client's move leaves the world sound.
 use Rattle.std.proofs.Common.{◌≡◌, ℕ, ◌<◌, List, [], ◌∷◌, ◌++◌, sym, ap, ◌∙◌, subst}
 use Rattle.std.proofs.lemmas.List.{append_assoc}
-use Rattle.std.proofs.lemmas.List.Sums.{fold-append}
+use Rattle.rc_base.specs.Cluster.Looks.{looks_at}
 use Rattle.rc_base.specs.Cluster.Parcels.{parcels_of}
 use Rattle.rc_base.specs.Cluster.Sending.{Sending, ToTile, ToManager, parcels_to, requests_in, sent_by, requests_of}
 use Rattle.rc_base.specs.Cluster.Tiles.{tile_count}
@@ -14,20 +14,17 @@ use Rattle.rc_base.specs.declared.state.Parcel.{Parcel}
 use Rattle.rc_base.specs.declared.sync.Grant.{Grant}
 use Rattle.rc_base.specs.declared.sync.Request.{Request}
 use Rattle.rc_base.specs.declared.window.Layout.{Layout}
-use Rattle.client_issue.specs.Cores.{tally_after, no_tally}
+use Rattle.client_issue.specs.Clauses.{counted}
+use Rattle.client_issue.specs.Cores.{tally_after}
+use Rattle.client_issue.proofs.Tallies.{counted_more}
 use Rattle.sync_manager.specs.Progress.{ManagerProgress}
 use Rattle.sync_manager.specs.Promises.{grants_of, IsManagerRight}
 use Rattle.tile_model.specs.Items.{grants_heard}
 use Rattle.world_model.specs.Moves.{IsAppended, IsRequested, IsIdle, IsClientStep, IsClientMove}
-use Rattle.world_model.specs.Sound.{IsEndOf, tallied, IsTileSound, IsParcelLane, IsSound}
+use Rattle.world_model.specs.Sound.{IsEndOf, IsTileSound, IsParcelLane, IsSound}
 use Rattle.world_model.specs.Tiles.{Tile}
 use Rattle.world_model.specs.World.{World, Client, client_total}
 use Rattle.world_model.proofs.LanesGoOn.{at_one, moved, gains, this_tile, other_tile}
-
--- ---- the tally
-
-pub tally_more : (sent : List Parcel) (p : Parcel) → tallied (sent ++ p ∷ []) ≡ tally_after (tallied sent) p
-tally_more sent p = fold-append tally_after no_tally sent (p ∷ [])
 
 module _ (scene : Scene) (l : Layout) (depth : ℕ) (w v : World) (client : ℕ) where
   -- what is to be shown of the client's own lanes
@@ -52,7 +49,7 @@ module _ (scene : Scene) (l : Layout) (depth : ℕ) (w v : World) (client : ℕ)
             whole = k.lane.whole ∙ ap (λ (xs : List Parcel). k.lane.took ++ (xs ++ parcels_to tile (w.clients client).left)) (sym held)
                 ∙ ap (λ (xs : List Parcel). k.lane.took ++ (v.parcels client tile ++ xs)) left;
           };
-          tally = tally ∙ k.tally ∙ ap (λ (xs : List Parcel). tallied (k.lane.took ++ xs)) (sym held);
+          tally = tally ∙ k.tally ∙ ap (λ (xs : List Parcel). counted scene l client tile (k.lane.took ++ xs)) (sym held);
         }
 
     unasked : requests_in (w.clients client).left ≡ requests_in (v.clients client).left → v.requests client ≡ w.requests client
@@ -85,7 +82,7 @@ module _ (scene : Scene) (l : Layout) (depth : ℕ) (w v : World) (client : ℕ)
     }
 
     -- the tile gets a parcel
-    this_gets : (tile : ℕ) → tile < tile_count l → IsAppended l depth w client tile v → IsParcelLane scene l client tile (v.clients client) (v.parcels client tile) (w.tiles tile)
+    this_gets : (tile : ℕ) → tile < tile_count l → IsAppended scene l depth w client tile v → IsParcelLane scene l client tile (v.clients client) (v.parcels client tile) (w.tiles tile)
     this_gets tile lt m =
         let k = h.parcels client tile low lt in
         let p = m.sent.parcel in
@@ -99,12 +96,12 @@ module _ (scene : Scene) (l : Layout) (depth : ℕ) (w v : World) (client : ℕ)
                 (ap (λ items. parcels_to tile items) m.sent.next ∙ this_tile tile p (v.clients client).left))
                 ∙ ap (λ (xs : List Parcel). k.lane.took ++ (xs ++ parcels_to tile (v.clients client).left)) (sym m.sent.appended);
           };
-          tally = m.tallied ∙ ap (λ t. tally_after t p) k.tally ∙ sym (tally_more (k.lane.took ++ w.parcels client tile) p)
-              ∙ ap tallied (append_assoc k.lane.took (w.parcels client tile) (p ∷ []))
-              ∙ ap (λ (xs : List Parcel). tallied (k.lane.took ++ xs)) (sym m.sent.appended);
+          tally = m.tallied ∙ ap (λ t. tally_after t p (looks_at scene l client tile p.place)) k.tally ∙ sym (counted_more scene l client tile (k.lane.took ++ w.parcels client tile) p)
+              ∙ ap (counted scene l client tile) (append_assoc k.lane.took (w.parcels client tile) (p ∷ []))
+              ∙ ap (λ (xs : List Parcel). counted scene l client tile (k.lane.took ++ xs)) (sym m.sent.appended);
         }
 
-    appends : (to : ℕ) → IsAppended l depth w client to v → OwnLanes h
+    appends : (to : ℕ) → IsAppended scene l depth w client to v → OwnLanes h
     appends to m = record {
       left = left_on (ToTile to m.sent.parcel) m.sent.next;
       parcels = at_one (λ tile. tile < tile_count l → IsParcelLane scene l client tile (v.clients client) (v.parcels client tile) (w.tiles tile)) to
@@ -115,7 +112,7 @@ module _ (scene : Scene) (l : Layout) (depth : ℕ) (w v : World) (client : ℕ)
       requests = unasked (ap (λ items. requests_in items) m.sent.next) m.sent.requests;
     }
 
-    steps : (answer : ClientMoved) → IsClientStep l depth w client answer v → OwnLanes h
+    steps : (answer : ClientMoved) → IsClientStep scene l depth w client answer v → OwnLanes h
     steps (client_moved.Appended tile) m = appends tile m
     steps client_moved.Requested m = asks m
     steps (client_moved.BlockedTile tile) m = idles m.idle

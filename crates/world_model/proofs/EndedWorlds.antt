@@ -25,9 +25,10 @@ use Rattle.order_model.specs.Standing.{IsDone, performed_in}
 use Rattle.order_model.specs.declared.record.Record.{Record}
 use Rattle.sync_manager.specs.Progress.{NoMoreComes}
 use Rattle.tile_model.specs.Scenes.{IsInRange}
+use Rattle.client_issue.specs.Clauses.{counted}
 use Rattle.world_model.specs.Laws.{HasLegalLogs, IsOver, IsRecordIn, ShowsFrames}
 use Rattle.world_model.specs.Runs.{AllHaveEnded}
-use Rattle.world_model.specs.Sound.{tallied, IsSound}
+use Rattle.world_model.specs.Sound.{IsSound}
 use Rattle.world_model.specs.World.{World, client_total}
 use Rattle.tile_model.proofs.ItemsComeFromLanes.{all_heard}
 use Rattle.world_model.proofs.WhatHasArrived.{has_arrived, journal_legal, goes_on}
@@ -111,9 +112,9 @@ module _ (scene : Scene) (l : Layout) (w : World) (h : IsSound scene l w) (done 
 
   -- ---- the tallies
 
-  pub tallies_whole : (client tile : ℕ) → client < client_total scene → tile < tile_count l → (w.clients client).tallies tile ≡ tallied (parcels_of scene l client tile)
+  pub tallies_whole : (client tile : ℕ) → client < client_total scene → tile < tile_count l → (w.clients client).tallies tile ≡ counted scene l client tile (parcels_of scene l client tile)
   tallies_whole client tile lc lt =
       let k = h.parcels client tile lc lt in
       let held = w.parcels client tile in
-      k.tally ∙ sym (ap tallied (k.lane.whole ∙ ap (λ items. k.lane.took ++ (held ++ parcels_to tile items)) (done.clients client lc)
+      k.tally ∙ sym (ap (counted scene l client tile) (k.lane.whole ∙ ap (λ items. k.lane.took ++ (held ++ parcels_to tile items)) (done.clients client lc)
       ∙ ap (λ (xs : List Parcel). k.lane.took ++ xs) (append-nil held)))

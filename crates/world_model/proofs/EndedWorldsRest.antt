@@ -86,7 +86,7 @@ module _ (scene : Scene) (l : Layout) where
     not_both true e f = cc
     not_both false e f = cc
 
-    client_last : (w v : World) (c : ℕ) (answer : ClientMoved) → (w.clients c).left ≡ [] → IsClientStep l depth w c answer v → answer ≡ client_moved.Ended
+    client_last : (w v : World) (c : ℕ) (answer : ClientMoved) → (w.clients c).left ≡ [] → IsClientStep scene l depth w c answer v → answer ≡ client_moved.Ended
     client_last w v c (client_moved.Appended tile) none s = absurd (no_item_left (w.clients c).left (v.clients c).left _ none s.sent.next)
     client_last w v c client_moved.Requested none s = absurd (no_item_left (w.clients c).left (v.clients c).left _ none s.sent.next)
     client_last w v c (client_moved.BlockedTile tile) none s = absurd (no_item_left (w.clients c).left s.rest _ none s.next)
@@ -148,7 +148,7 @@ module _ (scene : Scene) (l : Layout) where
         found moves w m.0 later i (omega arith) (same_on w v m.0 same (rest_changes_nothing scene l depth v m.0 move (last_rests move last.0) m.1)) m.2 last.1
 
     module _ (w : World) where
-      client_ends : (v after : World) (c : ℕ) (answer : ClientMoved) → answer ≡ client_moved.Ended → IsClientStep l depth v c answer after → (v.clients c).left ≡ []
+      client_ends : (v after : World) (c : ℕ) (answer : ClientMoved) → answer ≡ client_moved.Ended → IsClientStep scene l depth v c answer after → (v.clients c).left ≡ []
       client_ends v after c (client_moved.Appended tile) e s = absurd cc
       client_ends v after c client_moved.Requested e s = absurd cc
       client_ends v after c (client_moved.BlockedTile tile) e s = absurd cc

@@ -16,7 +16,6 @@ mod ManagersDoOneThing
 mod TilesDoOneThing
 mod OneScheduleHasOneRun
 mod FinishedRuns
-mod TalliesCount
 mod SequencesAreOrdered
 mod TilesWaitForNobody
 mod NothingStandsStill

@@ -126,7 +126,7 @@ module _ (scene : Scene) (l : Layout) (depth : ℕ) (w v : World) (well : IsWell
       ∙ ap (λ b. (most_entries scene - w.manager.delivered t + one_unless b) + (most_entries scene - length (w.tiles t).progress.learnt + one_unless (w.tiles t).progress.no_more)
       + (most_entries scene - performed_in (w.tiles t).progress.log) + total (λ client. length (parcels_of scene l client t) - (w.tiles t).progress.taken client) (client_total scene)) g
 
-  sends_one : (client : ℕ) (answer : ClientMoved) → (IsAtRest (ClientMove client answer) → ⊥) → IsClientStep l depth w client answer v → length (v.clients client).left + 1 ≡ length (w.clients client).left
+  sends_one : (client : ℕ) (answer : ClientMoved) → (IsAtRest (ClientMove client answer) → ⊥) → IsClientStep scene l depth w client answer v → length (v.clients client).left + 1 ≡ length (w.clients client).left
   sends_one client (client_moved.Appended tile) moving m = let e = ap length m.sent.next in omega (arith, e)
   sends_one client client_moved.Requested moving m = let e = ap length m.sent.next in omega (arith, e)
   sends_one client (client_moved.BlockedTile tile) moving m = absurd (moving (inl (tile, refl)))

@@ -16,7 +16,8 @@ use Rattle.sync_manager.specs.Progress.{ManagerProgress}
 use Rattle.sync_manager.specs.Promises.{grants_of, IsManagerRight, NewManagersAreRight}
 use Rattle.tile_model.specs.Items.{shown_frames, grants_heard}
 use Rattle.tile_model.specs.Laws.{NewTilesStand}
-use Rattle.world_model.specs.Sound.{tallied, IsTileSound, IsParcelLane, IsManagerSound, IsSound}
+use Rattle.client_issue.specs.Clauses.{counted}
+use Rattle.world_model.specs.Sound.{IsTileSound, IsParcelLane, IsManagerSound, IsSound}
 use Rattle.world_model.specs.World.{World, client_total, IsNewWorld}
 
 module _ (scene : Scene) (l : Layout) (w : World) (h : IsNewWorld scene l w) where
@@ -29,7 +30,7 @@ module _ (scene : Scene) (l : Layout) (w : World) (h : IsNewWorld scene l w) whe
       whole = sym ((split scene l client).parcels tile lt) ∙ ap (λ items. parcels_to tile items) (sym (h.left client lc))
           ∙ ap (λ (xs : List Parcel). xs ++ parcels_to tile (w.clients client).left) (sym (h.parcels client tile lc lt));
     };
-    tally = h.tallies client tile lc ∙ ap tallied (sym (h.parcels client tile lc lt));
+    tally = h.tallies client tile lc ∙ ap (counted scene l client tile) (sym (h.parcels client tile lc lt));
   }
 
   new_manager : SequencesAreSplit → NewManagersAreRight → IsManagerSound scene l w

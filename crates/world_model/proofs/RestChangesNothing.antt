@@ -34,7 +34,7 @@ use Rattle.world_model.proofs.LanesGoOn.{at_one}
 module _ (scene : Scene) (l : Layout) (depth : ℕ) (w v : World) where
   -- ---- a client
 
-  is_idle : (client : ℕ) (answer : ClientMoved) → IsAtRest (ClientMove client answer) → IsClientStep l depth w client answer v → IsIdle w client v
+  is_idle : (client : ℕ) (answer : ClientMoved) → IsAtRest (ClientMove client answer) → IsClientStep scene l depth w client answer v → IsIdle w client v
   is_idle client (client_moved.Appended tile) rest step = absurd (elim rest [ inl a ↦ no_tile a.0 a.1 | inr b ↦ elim b [ inl c ↦ cc | inr d ↦ cc ] ])
     where
       no_tile : (t : ℕ) → client_moved.Appended tile ≡ client_moved.BlockedTile t → ⊥

@@ -34,7 +34,7 @@ use Rattle.world_model.proofs.RestChangesNothing.{rest_changes_nothing, no_item}
 module _ (scene : Scene) (l : Layout) (depth : ℕ) where
   -- ---- what a move at rest says
 
-  client_rests : (w v : World) (client : ℕ) (answer : ClientMoved) → IsAtRest (ClientMove client answer) → IsClientStep l depth w client answer v → ClientRests l depth w client
+  client_rests : (w v : World) (client : ℕ) (answer : ClientMoved) → IsAtRest (ClientMove client answer) → IsClientStep scene l depth w client answer v → ClientRests l depth w client
   client_rests w v client (client_moved.Appended tile) rest m = absurd (elim rest [ inl a ↦ no_tile a.0 a.1 | inr b ↦ elim b [ inl c ↦ cc | inr d ↦ cc ] ])
     where
       no_tile : (t : ℕ) → client_moved.Appended tile ≡ client_moved.BlockedTile t → ⊥

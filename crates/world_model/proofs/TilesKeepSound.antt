@@ -21,8 +21,9 @@ use Rattle.tile_model.specs.Items.{Item, after_item, IsAwaited, IsItemOf, parcel
 use Rattle.tile_model.specs.Items.Item.{Nothing, Due, Granted, NoMore, Sent}
 use Rattle.tile_model.specs.Laws.{StepsStand, SwapsShowFrames}
 use Rattle.tile_model.specs.Scenes.{IsInRange, HasSides}
+use Rattle.client_issue.specs.Clauses.{counted}
 use Rattle.world_model.specs.Moves.{IsTileMove}
-use Rattle.world_model.specs.Sound.{IsEndOf, GoesOnTo, ArePartsOf, IsTileSound, IsParcelLane, IsSound, tallied}
+use Rattle.world_model.specs.Sound.{IsEndOf, GoesOnTo, ArePartsOf, IsTileSound, IsParcelLane, IsSound}
 use Rattle.world_model.specs.declared.moves.TileAnswer.{TileAnswer}
 use Rattle.world_model.specs.Tiles.{Tile}
 use Rattle.world_model.specs.World.{World, Client, client_total}
@@ -49,7 +50,7 @@ module _ (scene : Scene) (l : Layout) (depth : ℕ) (w v : World) (tile : ℕ) (
               ∙ ap (λ n. n + length (option_to_list o)) k.lane.count ∙ sym (length-append k.lane.took (option_to_list o));
           whole = takes o (parcels_of scene l c tile) k.lane.took (w.parcels c tile) (v.parcels c tile) (parcels_to tile (w.clients c).left) (m.parcel c lc) k.lane.whole;
         };
-        tally = k.tally ∙ ap tallied (sym (same_so_far o k.lane.took (w.parcels c tile) (v.parcels c tile) (m.parcel c lc)));
+        tally = k.tally ∙ ap (counted scene l c tile) (sym (same_so_far o k.lane.took (w.parcels c tile) (v.parcels c tile) (m.parcel c lc)));
       }
 
   grants_now : grants_of v.manager tile ≡ grants_heard (v.tiles tile).progress ++ v.grants tile

@@ -1,16 +1,14 @@
 -- Laws of the stepped cluster: over every schedule, its worlds are sound, and where all have ended they make a lawful record.
-use Rattle.std.specs.Prelude.{◌≡◌, ℕ, ◌+◌, ◌<◌, min, true, List, ◌++◌, length, map, Some, slice_get, pos}
+use Rattle.std.specs.Prelude.{◌≡◌, ℕ, ◌+◌, ◌<◌, true, List, ◌++◌, length, map, Some, slice_get, pos}
 use Rattle.std.specs.List.{AllByRecursion}
-use Rattle.rc_base.specs.Cluster.Parcels.{parcels_of, set_count}
+use Rattle.rc_base.specs.Cluster.Parcels.{parcels_of}
 use Rattle.rc_base.specs.Cluster.Tiles.{tile_count, tile_pixels}
 use Rattle.rc_base.specs.Drawing.Images.{Pixels}
 use Rattle.rc_base.specs.Drawing.Serial.{frame_pixel}
 use Rattle.rc_base.specs.Orders.Book.{waiting_in, IsBookOver}
 use Rattle.rc_base.specs.Orders.Journal.{IsLegal, waiting_of}
 use Rattle.rc_base.specs.Orders.Sync.{sync_lists_of}
-use Rattle.rc_base.specs.Outside.Causes.{last_count}
 use Rattle.rc_base.specs.declared.scene.Scene.{Scene}
-use Rattle.rc_base.specs.declared.state.Parcel.{Parcel}
 use Rattle.rc_base.specs.declared.window.Layout.{Layout}
 use Rattle.order_model.specs.Gathering.{HasArrived}
 use Rattle.order_model.specs.Log.{Replays}
@@ -19,10 +17,11 @@ use Rattle.order_model.specs.Sent.{jobs_of, IsRecordOf}
 use Rattle.order_model.specs.Standing.{IsUnderWay, IsDone}
 use Rattle.order_model.specs.declared.record.Record.{Record}
 use Rattle.tile_model.specs.Scenes.{IsInRange, HasSides}
+use Rattle.client_issue.specs.Clauses.{counted}
 use Rattle.world_model.specs.declared.moves.Move.{Move}
 use Rattle.world_model.specs.Moves.{IsMove, AreMoves, IsAtRest, IsLast}
 use Rattle.world_model.specs.Runs.{AllHaveEnded, actor_of, round_of, IsSteppedRun, IsFinishedRun, StandsStill}
-use Rattle.world_model.specs.Sound.{tallied, IsSound}
+use Rattle.world_model.specs.Sound.{IsSound}
 use Rattle.world_model.specs.World.{World, client_total, IsNewWorld}
 
 -- ---- the induction
@@ -164,7 +163,7 @@ abbrev pub EndedWorldsTallyAll : Type 0
 EndedWorldsTallyAll =
     (scene : Scene) (l : Layout) (w : World) → IsSound scene l w → AllHaveEnded scene l w
     → (client tile : ℕ) → client < client_total scene → tile < tile_count l
-    → (w.clients client).tallies tile ≡ tallied (parcels_of scene l client tile)
+    → (w.clients client).tallies tile ≡ counted scene l client tile (parcels_of scene l client tile)
 
 -- ---- every schedule
 
@@ -174,7 +173,7 @@ pub record IsWhole (scene : Scene) (l : Layout) (w : World) (kept : Record) : Ty
   pub frames : (tile : ℕ) → tile < tile_count l → ShowsFrames scene l kept tile (w.tiles tile).parts
   pub waiting : (client : ℕ) → waiting_in (sync_lists_of scene) w.manager.book client ≡ waiting_of (sync_lists_of scene) kept.journal client
   pub tallies : (client tile : ℕ) → client < client_total scene → tile < tile_count l
-      → (w.clients client).tallies tile ≡ tallied (parcels_of scene l client tile)
+      → (w.clients client).tallies tile ≡ counted scene l client tile (parcels_of scene l client tile)
 
 -- whatever the picks, the depth of the lanes and the layout
 abbrev pub FinishedRunsAreWhole : Type 0
@@ -208,10 +207,3 @@ abbrev pub NoRunStandsStill : Type 0
 NoRunStandsStill =
     (scene : Scene) (l : Layout) (depth rounds : ℕ) (picks : List ℕ) (moves last : List Move) (w : World) → IsInRange scene → HasSides scene.decl
     → 0 < depth → StandsStill scene l depth picks rounds moves last w → ⊥
-
--- ---- tallies
-
--- a tally counts the parcels, and the elements that they set; a count stands still at its type's end
-abbrev pub TalliesCount : Type 0
-TalliesCount =
-    (parcels : List Parcel) → ((tallied parcels).parcels ≡ min (length parcels) last_count) × ((tallied parcels).sets ≡ min (set_count parcels) last_count)

@@ -1,5 +1,6 @@
 -- The moves of the stepped cluster: an actor's step, what it takes of its lanes and appends to them, and its answer.
 use Rattle.std.specs.Prelude.{◌≡◌, ◌≢◌, ℕ, ◌<◌, List, [], ◌∷◌, ◌++◌, length, ◌⊎◌, Ok, MatchOption}
+use Rattle.rc_base.specs.Cluster.Looks.{looks_at}
 use Rattle.rc_base.specs.Cluster.Sending.{Sending, ToTile, ToManager}
 use Rattle.rc_base.specs.Cluster.Tiles.{tile_count}
 use Rattle.rc_base.specs.Orders.Sync.{sync_lists_of}
@@ -39,12 +40,12 @@ pub record IsIdle (w : World) (client : ℕ) (later : World) : Type 0 where
   pub sent : IsNothingSent (lanes_of w client) (lanes_of later client)
   pub tallies : AreTalliesKept w client later
 
-module _ (l : Layout) (depth : ℕ) where
+module _ (scene : Scene) (l : Layout) (depth : ℕ) where
   -- the next item goes to a tile's lane, and counts in the tile's tally
   pub record IsAppended (w : World) (client tile : ℕ) (later : World) : Type 0 where
     pub low : tile < tile_count l
     pub sent : IsParcelSent (lanes_of w client) (lanes_of later client) tile
-    pub tallied : (later.clients client).tallies tile ≡ tally_after ((w.clients client).tallies tile) sent.parcel
+    pub tallied : (later.clients client).tallies tile ≡ tally_after ((w.clients client).tallies tile) sent.parcel (looks_at scene l client tile sent.parcel.place)
     pub others : (other : ℕ) → other ≢ tile → (later.clients client).tallies other ≡ (w.clients client).tallies other
 
   -- the next item is for a tile whose lane is full
@@ -104,7 +105,7 @@ module _ (scene : Scene) (l : Layout) (depth : ℕ) where
   -- The client sends the next item of its sequence, unless its lane is full.
   pub record IsClientMove (w : World) (client : ℕ) (answer : ClientMoved) (later : World) : Type 0 where
     pub low : client < client_total scene
-    pub step : IsClientStep l depth w client answer later
+    pub step : IsClientStep scene l depth w client answer later
     pub only : OnlyClient scene l w client later
 
   -- The manager does what comes first, and takes and appends just that. A lane that it tried before was empty, and one that it is blocked at is full.

@@ -1,5 +1,5 @@
 -- What is true of every world that moves lead to: each lane was sent what was taken of it and what it holds, and each actor is right for that.
-use Rattle.std.specs.Prelude.{◌≡◌, ℕ, ◌+◌, ◌<◌, ◌≤◌, true, false, List, [], ◌++◌, length, fold, Some, slice_get, pos}
+use Rattle.std.specs.Prelude.{◌≡◌, ℕ, ◌+◌, ◌<◌, ◌≤◌, true, false, List, [], ◌++◌, length, Some, slice_get, pos}
 use Rattle.rc_base.specs.Cluster.Parcels.{parcels_of}
 use Rattle.rc_base.specs.Cluster.Sending.{Sending, parcels_to, requests_in, sent_by, requests_of}
 use Rattle.rc_base.specs.Cluster.Tiles.{tile_count, tile_pixels}
@@ -8,14 +8,13 @@ use Rattle.rc_base.specs.Drawing.Serial.{frame_pixel}
 use Rattle.rc_base.specs.Orders.Book.{IsLegalBook}
 use Rattle.rc_base.specs.Orders.Journal.{IsLegal}
 use Rattle.rc_base.specs.Orders.Sync.{sync_lists_of}
-use Rattle.rc_base.specs.declared.cluster.Tally.{Tally}
 use Rattle.rc_base.specs.declared.scene.Scene.{Scene}
 use Rattle.rc_base.specs.declared.state.Parcel.{Parcel}
 use Rattle.rc_base.specs.declared.sync.Entry.{Entry}
 use Rattle.rc_base.specs.declared.sync.Request.{Request}
 use Rattle.rc_base.specs.declared.sync.SyncLists.{SyncLists}
 use Rattle.rc_base.specs.declared.window.Layout.{Layout}
-use Rattle.client_issue.specs.Cores.{tally_after, no_tally}
+use Rattle.client_issue.specs.Clauses.{counted}
 use Rattle.order_model.specs.Board.{StandsFor}
 use Rattle.order_model.specs.Log.{Replays, recorded_order}
 use Rattle.order_model.specs.Sent.{jobs_of}
@@ -37,10 +36,6 @@ pub record IsLane {A : Type 0} (all : List A) (taken : ℕ) (held coming : List 
 -- what is left of a sequence is its end
 abbrev pub IsEndOf : List Sending → List Sending → Type 0
 IsEndOf items left = (sent : List Sending) × (items ≡ sent ++ left)
-
--- the tally of these parcels, counted one by one
-abbrev pub tallied : List Parcel → Tally
-tallied parcels = fold tally_after no_tally parcels
 
 -- ---- tiles
 
@@ -83,7 +78,7 @@ pub record IsManagerSound (scene : Scene) (l : Layout) (w : World) : Type 0 wher
 -- were taken, and those that the lane holds.
 pub record IsParcelLane (scene : Scene) (l : Layout) (client tile : ℕ) (c : Client) (held : List Parcel) (a : Tile) : Type 0 where
   pub lane : IsLane (parcels_of scene l client tile) (a.progress.taken client) held (parcels_to tile c.left)
-  pub tally : c.tallies tile ≡ tallied (lane.took ++ held)
+  pub tally : c.tallies tile ≡ counted scene l client tile (lane.took ++ held)
 
 -- A world is sound: what each client has still to send is the end of its sequence, each lane was sent what was taken of it and what it holds, and the
 -- manager and the tiles are right for what they took.

@@ -2,7 +2,7 @@
 ghost use Rattle.world_model.specs.Laws.{NewWorldsAreSound, MovesKeepWorldsSound, SchedulesKeepWorldsSound, SteppedRunsAreSound};
 ghost use Rattle.world_model.specs.Laws.{RunsGoOn, OneScheduleHasOneRun, SoundWorldsHaveLegalLogs, RestChangesNothing};
 ghost use Rattle.world_model.specs.Laws.{EndedWorldsAreOver, EndedWorldsAreLawful, EndedWorldsShowFrames, EndedWorldsWaitAlike, EndedWorldsTallyAll};
-ghost use Rattle.world_model.specs.Laws.{FinishedRunsAreWhole, FinishedRunsAreOne, FinishedRunsLeaveOneRecord, RoundsMoveSomebody, NoRunStandsStill, TalliesCount};
+ghost use Rattle.world_model.specs.Laws.{FinishedRunsAreWhole, FinishedRunsAreOne, FinishedRunsLeaveOneRecord, RoundsMoveSomebody, NoRunStandsStill};
 ghost use Rattle.world_model.specs.Laws.{RestsChangeNothing, EndedWorldsRest, LastRoundsTell};
 ghost use Rattle.world_model.specs.Work.{MovesLeaveLess, SchedulesLeaveLess, WorkIsLittle};
 
@@ -130,8 +130,3 @@ pub fn moves_leave_less()
     steps_stand();
     swaps_show_frames();
 }
-
-/// A tally counts parcels, and the elements that they set.
-pub fn tallies_count()
-    ensures { TalliesCount }
-{}

@@ -32,7 +32,8 @@ End
 Swap
 ";
 
-const LAZY_REPORT: &str = "tile 0 parcels 6 sets 3\ntile 1 parcels 5 sets 1\njournal 1\nframes 1\n";
+const LAZY_REPORT: &str =
+    "tile 0 parcels 6 sets 3 looks 46\ntile 1 parcels 5 sets 1 looks 31\njournal 1\nframes 1\n";
 
 // A barrier in an open block is refused, so nobody waits at it.
 pub(super) const BARRIER_IN_BLOCK: &[u8] = b"scene 1 1 1
@@ -50,17 +51,17 @@ Swap
 ";
 
 const BARRIER_REPORT: &str =
-    "client 0 fault INVALID_OPERATION at 2\ntile 0 parcels 5 sets 0\njournal 1\nframes 1\n";
+    "client 0 fault INVALID_OPERATION at 2\ntile 0 parcels 5 sets 0 looks 1\njournal 1\nframes 1\n";
 
 // A white frame, and then a unit that nobody gives.
 pub(super) const NO_UNIT: &[u8] =
     b"scene 1 1 1\nsemaphore 0\nclient\nClearColor 255 255 255 255\nClear 1\nSwap\nSemP 1\nSwap\n";
 
 const NO_UNIT_REPORT: &str =
-    "tile 0 parcels 5 sets 1\njournal 1\nframes 1\nstuck client 0 at 3 SemP 1\nrc: stuck\n";
+    "tile 0 parcels 5 sets 1 looks 15\njournal 1\nframes 1\nstuck client 0 at 3 SemP 1\nrc: stuck\n";
 
 const NO_UNIT_IN_ORDER: &str =
-    "tile 0 parcels 5 sets 1\njournal 1\nframes 1\norder 0 0 0\norder 0 0 1\norder 0 0 2\nstuck client 0 at 3 SemP 1\nrc: stuck\n";
+    "tile 0 parcels 5 sets 1 looks 15\njournal 1\nframes 1\norder 0 0 0\norder 0 0 1\norder 0 0 2\nstuck client 0 at 3 SemP 1\nrc: stuck\n";
 
 #[test]
 fn clusters_draw_and_report(rt: HostRuntime) {

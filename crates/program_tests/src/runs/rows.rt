@@ -10,7 +10,7 @@ use std::alloc::Global;
 const SWAP_ALONE: &[u8] = b"scene 1 1 1\nclient\nclient\nSwap\n";
 
 const SWAP_ALONE_REPORT: &str =
-    "tile 0 parcels 3 sets 0\njournal 0\nframes 0\nstuck client 1 at 0 Swap\nrc: stuck\n";
+    "tile 0 parcels 3 sets 0 looks 0\njournal 0\nframes 0\nstuck client 1 at 0 Swap\nrc: stuck\n";
 
 // A quad of two triangles, added to what is there: where the shared edge runs through a centre, the pixel is drawn once.
 const ADDED_QUAD: &[u8] = b"scene 1 4 4
@@ -59,20 +59,33 @@ End
 Swap
 ";
 
+// A Clear examines no image; the first draw samples the green texel, and the second one finds nothing pending.
+const LAZY_TEXTURE: &[u8] = b"scene 1 1 1
+client
+TexImage 1 1 1 00ff00ff
+Clear 1
+Enable 5
+Begin 0
+Vertex -65536 -65536 0 65536
+Vertex 196608 -65536 0 65536
+Vertex -65536 196608 0 65536
+End
+Begin 0
+Vertex -65536 -65536 0 65536
+Vertex 196608 -65536 0 65536
+Vertex -65536 196608 0 65536
+End
+Swap
+";
+
 // The lines of tiles that were sent as much, from 0 on; then the lines that follow.
-fn report(
-    rt: &impl Host,
-    alloc: Global,
-    tiles: u32,
-    parcels: u32,
-    sets: u32,
-    rest: &str,
-) -> Vec<u8> {
+fn report(rt: &impl Host, alloc: Global, tiles: u32, sent: (u32, u32, u32), rest: &str) -> Vec<u8> {
+    let (parcels, sets, looks) = sent;
     let mut lines = Vec::new(alloc);
     for tile in 0..tiles {
-        let line = format!(in alloc; "tile {tile} parcels {parcels} sets {sets}\n").expect(
-            rt, "memory",
-        );
+        let line = format!(in alloc;
+            "tile {tile} parcels {parcels} sets {sets} looks {looks}\n"
+        ).expect(rt, "memory");
         lines
             .extend_from_slice(line.as_bytes())
             .expect(rt, "memory");
@@ -107,29 +120,38 @@ type Row<'a> = (
     &'a [u8],
     u32,
     (u8, u8, u8),
+    u32,
     (u32, u32, u32),
     &'a str,
 );
 
 // The job leaves a frame of one colour, and as much is sent to each tile.
 fn draws(rt: &impl Host, alloc: Global, row: Row) -> bool {
-    let (job, text, header, pixels, colour, (tiles, parcels, sets), rest) = row;
+    let (job, text, header, pixels, colour, tiles, sent, rest) = row;
     let left = run_text(rt, alloc, job, text, &[]);
     let frame = filled(rt, alloc, header, pixels, colour);
-    let lines = report(rt, alloc, tiles, parcels, sets, rest);
+    let lines = report(rt, alloc, tiles, sent, rest);
     left.is(0, frame.as_slice(), lines.as_slice())
+}
+
+// The job tells that as much was sent to the one tile, for one frame.
+fn tells(rt: &impl Host, alloc: Global, job: &[&str], text: &[u8], sent: (u32, u32, u32)) -> bool {
+    let left = run_text(rt, alloc, job, text, &[]);
+    let lines = report(rt, alloc, 1, sent, "journal 1\nframes 1\n");
+    left.notes.bytes() == lines.as_slice()
 }
 
 #[test]
 fn frames_of_one_colour(rt: HostRuntime) {
-    let rows: [Row; 5] = [
+    let rows: [Row; 6] = [
         (
             &["render"],
             ADDED_QUAD,
             b"P6\n4 4\n255\n",
             16,
             (0x64, 0x64, 0x64),
-            (1, 3, 2),
+            1,
+            (3, 2, 15),
             "journal 1\nframes 1\n",
         ),
         (
@@ -138,7 +160,8 @@ fn frames_of_one_colour(rt: HostRuntime) {
             b"P6\n6 6\n255\n",
             36,
             (0, 0, 255),
-            (9, 3, 0),
+            9,
+            (3, 0, 1),
             "journal 1\nframes 1\n",
         ),
         (
@@ -147,7 +170,8 @@ fn frames_of_one_colour(rt: HostRuntime) {
             b"P6\n1 1\n255\n",
             1,
             (0, 0, 0),
-            (1, 2, 0),
+            1,
+            (2, 0, 0),
             "journal 1\nframes 1\n",
         ),
         (
@@ -156,7 +180,8 @@ fn frames_of_one_colour(rt: HostRuntime) {
             b"P6\n8 2\n255\n",
             16,
             (0, 255, 0),
-            (16, 8, 3),
+            16,
+            (8, 3, 13),
             "journal 2\nframes 1\n",
         ),
         (
@@ -165,12 +190,41 @@ fn frames_of_one_colour(rt: HostRuntime) {
             b"P6\n8 2\n255\n",
             16,
             (0, 255, 0),
-            (16, 8, 3),
+            16,
+            (8, 3, 13),
             "journal 2\nframes 1\n",
+        ),
+        (
+            &["render"],
+            LAZY_TEXTURE,
+            b"P6\n1 1\n255\n",
+            1,
+            (0, 255, 0),
+            1,
+            (5, 2, 56),
+            "journal 1\nframes 1\n",
         ),
     ];
     for row in rows {
         assert!(rt; draws(&rt, rt.alloc(), row));
+    }
+}
+
+// Both clusters tell the same of a scene, whatever the depth of their lanes.
+#[test]
+fn each_cluster_tells_as_many_looks(rt: HostRuntime) {
+    let jobs: [&[&str]; 6] = [
+        &["render", "--depth", "1"],
+        &["render", "--depth", "2"],
+        &["render", "--depth", "16"],
+        &["simulate", "--depth", "1", "--seed", "5"],
+        &["simulate", "--depth", "2", "--seed", "6"],
+        &["simulate", "--depth", "16", "--seed", "7"],
+    ];
+    for job in jobs {
+        assert!(rt; tells(&rt, rt.alloc(), job, LAZY_TEXTURE, (5, 2, 56)));
+        assert!(rt; tells(&rt, rt.alloc(), job, ADDED_QUAD, (3, 2, 15)));
+        assert!(rt; tells(&rt, rt.alloc(), job, ONE_TRIANGLE, (3, 0, 1)));
     }
 }
 
@@ -187,9 +241,8 @@ fn a_corner_is_cleared_by_its_tile(rt: HostRuntime) {
         &rt,
         rt.alloc(),
         7,
-        2,
-        0,
-        "tile 7 parcels 3 sets 3\njournal 1\nframes 1\n",
+        (2, 0, 0),
+        "tile 7 parcels 3 sets 3 looks 20\njournal 1\nframes 1\n",
     );
     assert!(rt; left.is(0, CORNER_FRAME, lines.as_slice()));
 }
@@ -215,7 +268,7 @@ fn first_taker(kept: &Record) -> Option<u8> {
 fn clients_blend_in_the_order_of_their_units(rt: HostRuntime) {
     let scene = run_on(&rt, rt.alloc(), &["pack"], BLENDED_IN_TURN, &[]);
     let job = ["render", "--tiles", "2x1", "--depth", "1"];
-    let lines = report(&rt, rt.alloc(), 2, 10, 4, "journal 5\nframes 1\n");
+    let lines = report(&rt, rt.alloc(), 2, (10, 4, 30), "journal 5\nframes 1\n");
     for _ in 0..50u32 {
         let left = run_on(&rt, rt.alloc(), &job, scene.image.bytes(), &[]);
         let kept = left.kept.as_ref().expect(&rt, "a record");

@@ -5,7 +5,7 @@ use Rattle.rc_base.specs.declared.scene.Decl.{Decl}
 use Rattle.rc_base.specs.declared.state.Parcel.{Parcel}
 use Rattle.state_update.specs.Knowledge.{Knows}
 use Rattle.client_issue.specs.Sequence.{alone}
-use Rattle.client_issue.proofs.Firsts.{first_left, no_waits, no_parcels}
+use Rattle.client_issue.proofs.Firsts.{first_left, none_pending, no_waits, no_parcels}
 use Rattle.client_issue.proofs.first.first_sender.Goals as goal
 
 pub returns-clause-sending : goal.returns-clause-sending
@@ -25,6 +25,7 @@ returns-clause-sending c =
           ∣ subst (λ (ps : List Parcel). Knows c.in_ok-tracker.tracker tile (told d ps)) (sym (no_parcels scene c.args.layout.now tile))
           (subst (λ (x : Decl). Knows c.in_ok-tracker.tracker tile (told x [])) (sym c.in_ok-copy.ensures)
           (c.trackers_follow_parcels.ensures.first c.in_ok-tracker.tracker tile c.args.decl.now (c.in_ok-tracker.ensures.told tile lt))) ∣₁;
+      marked = λ tile e lt few. c.in_ok-tracker.ensures.clean tile e ∙ sym (none_pending scene c.args.layout.now tile e);
       pending = tt;
       asking = λ w e. absurd cc;
     }

@@ -7,10 +7,10 @@ pub returns-in-Begin : goal.returns-in-Begin
 returns-in-Begin c = c.is_code.ensures ∙ sym (ap has_codes c.in-Begin.is)
 
 pub returns-in-Enable : goal.returns-in-Enable
-returns-in-Enable c = c.is_code-in-Enable.ensures ∙ sym (ap has_codes c.in-Enable.is)
+returns-in-Enable c = c.is_capability.ensures ∙ sym (ap has_codes c.in-Enable.is)
 
 pub returns-in-Disable : goal.returns-in-Disable
-returns-in-Disable c = c.is_code-in-Disable.ensures ∙ sym (ap has_codes c.in-Disable.is)
+returns-in-Disable c = c.is_capability-in-Disable.ensures ∙ sym (ap has_codes c.in-Disable.is)
 
 pub returns-in-MatrixMode : goal.returns-in-MatrixMode
 returns-in-MatrixMode c = c.is_code-in-MatrixMode.ensures ∙ sym (ap has_codes c.in-MatrixMode.is)

@@ -7,7 +7,7 @@ use Rattle.render_core.proofs.report.tile_line.Goals as goal
 
 -- the line piece by piece
 pieces : (tile : ℕ) (tally : Tally)
-    → codes "tile " ++ (decimal tile ++ (codes " parcels " ++ (decimal tally.parcels ++ (codes " sets " ++ (decimal tally.sets ++ codes "\n"))))) ≡ line_of_tile tile tally
+    → codes "tile " ++ (decimal tile ++ (codes " parcels " ++ (decimal tally.parcels ++ (codes " sets " ++ (decimal tally.sets ++ (codes " looks " ++ (decimal tally.looks ++ codes "\n"))))))) ≡ line_of_tile tile tally
 pieces tile tally = simp append_assoc
 
 pub returns : goal.returns

@@ -7,7 +7,6 @@ collect-requires c = can_collect record {
   over = c.ended_worlds_are_over.ensures;
   frames = c.ended_worlds_are_whole.ensures.frames;
   tallies = c.ended_worlds_are_whole.ensures.tallies;
-  counts = c.tallies_count.ensures;
   recorded = c.done_runs_are_recorded.ensures;
 } c.args.decl.now c.args.cluster c.requires
 
@@ -17,6 +16,5 @@ returns c = is_gathered record {
   over = c.ended_worlds_are_over.ensures;
   frames = c.ended_worlds_are_whole.ensures.frames;
   tallies = c.ended_worlds_are_whole.ensures.tallies;
-  counts = c.tallies_count.ensures;
   recorded = c.done_runs_are_recorded.ensures;
 } c.args.decl.now c.args.cluster _ c.in_ok-kept.ensures

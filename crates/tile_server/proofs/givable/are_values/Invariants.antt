@@ -1,7 +1,7 @@
 use Rattle.std.proofs.Common.{◌≡◌, drop}
 use Rattle.std.specs.List.{list_all}
 use Rattle.rc_base.specs.declared.state.ElementSet.{ElementSet}
-use Rattle.tile_model.specs.Givable.{is_value_of}
+use Rattle.element_table.specs.Values.{is_value_of}
 use Rattle.tile_server.proofs.givable.are_values.Given as goal
 
 -- the sets so far are right, so the answer is that of what is left

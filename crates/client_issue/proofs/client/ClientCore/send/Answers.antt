@@ -17,9 +17,10 @@ returns-in-Ok-clause-step g c =
     let u = c.count_parcel.new.self in
     let t = c.in-Some-Parcel.tile in
     let p = c.in-Some-Parcel.parcel in
+    let k = c.in-Some-Parcel.looks in
     let e = c.count_parcel.ensures in
-    let was : s.ready ≡ Some (item.Parcel t p) = sym c.take.ensures.value ∙ c.in-Some-Parcel.is ∙ ap (λ (i : Item). Some i) c.in-Some-Parcel.field-0-is in
-    let tallied = e.tallied p (sym c.len-sets.ensures) in (
+    let was : s.ready ≡ Some (item.Parcel t p k) = sym c.take.ensures.value ∙ c.in-Some-Parcel.is ∙ ap (λ (i : Item). Some i) c.in-Some-Parcel.field-0-is in
+    let tallied = e.tallied p (sym c.len-sets.ensures) (sym ((sound s).looked (item.Parcel t p k) was)) in (
       Appends t p,
       refl,
       refl,
@@ -28,13 +29,13 @@ returns-in-Ok-clause-step g c =
         short = e.short;
         ample = λ loss. absurd cc;
         next = (
-          for_tile s t p was,
-          taken s.sender s.ready c.take.new.self s.ends s.short (item.Parcel t p) was c.take.ensures.after
+          for_tile s t p k was,
+          taken s.sender s.ready c.take.new.self s.ends s.short (item.Parcel t p k) was c.take.ensures.after
               ∙ (λ i. ToTile t p ∷ left_by (sym e.sender i) (sym e.waits i) (sym e.ends i) (sym e.short i)),
         );
         issued = λ _.
             (λ i. (e.sender i).issued)
-            ∙ pinned s.short s.sender.issued (issued_up_to (length s.sender.stream) (Appends t p)) (λ ample. (sound s).last ample (item.Parcel t p) was);
+            ∙ pinned s.short s.sender.issued (issued_up_to (length s.sender.stream) (Appends t p)) (λ ample. (sound s).last ample (item.Parcel t p k) was);
         tallied = record { counted = tallied.counted; others = tallied.others };
       },
       got g.P.Outlet.sent g.P.Outlet.full_seen g.P.Outlet.full c.args.tiles.now c.append.new.lanes c.from.result t c.from.ensures c.append.ensures.others p
@@ -47,7 +48,8 @@ returns-in-Err-clause-step g c =
     let s = c.args.self.now in
     let t = c.in-Some-Parcel.tile in
     let p = c.in-Some-Parcel.parcel in
-    let was : s.ready ≡ Some (item.Parcel t p) = sym c.take.ensures.value ∙ c.in-Some-Parcel.is ∙ ap (λ (i : Item). Some i) c.in-Some-Parcel.field-0-is in (
+    let k = c.in-Some-Parcel.looks in
+    let was : s.ready ≡ Some (item.Parcel t p k) = sym c.take.ensures.value ∙ c.in-Some-Parcel.is ∙ ap (λ (i : Item). Some i) c.in-Some-Parcel.field-0-is in (
       FindsTileFull t p,
       refl,
       refl,
@@ -56,11 +58,11 @@ returns-in-Err-clause-step g c =
         short = refl;
         ample = λ loss. absurd cc;
         next = (
-          for_tile s t p was,
-          record { rest = _; next = taken s.sender s.ready c.take.new.self s.ends s.short (item.Parcel t p) was c.take.ensures.after },
-          put_back s.sender s.ready s.ends s.short (item.Parcel t p) (item.Parcel t c.in-Err.parcel) was (ap (λ (q : Parcel). item.Parcel t q) c.in-Err.ensures.handed_back),
+          for_tile s t p k was,
+          record { rest = _; next = taken s.sender s.ready c.take.new.self s.ends s.short (item.Parcel t p k) was c.take.ensures.after },
+          put_back s.sender s.ready s.ends s.short (item.Parcel t p k) (item.Parcel t c.in-Err.parcel k) was (ap (λ (q : Parcel). item.Parcel t q k) c.in-Err.ensures.handed_back),
         );
-        issued = λ _. pinned s.short s.sender.issued (issued_up_to (length s.sender.stream) (FindsTileFull t p)) (λ ample. (sound s).last ample (item.Parcel t p) was);
+        issued = λ _. pinned s.short s.sender.issued (issued_up_to (length s.sender.stream) (FindsTileFull t p)) (λ ample. (sound s).last ample (item.Parcel t p k) was);
         tallied = λ tile. refl;
       },
       found_full g.P.Outlet.sent g.P.Outlet.full_seen g.P.Outlet.full c.args.tiles.now c.append.new.lanes c.from.result t c.from.ensures c.append.ensures.others

@@ -1,15 +1,21 @@
-use Rattle.std.proofs.Common.{◌∙◌, ◌<◌, ◌∷◌, Some, ap, subst, sym, arith, refl}
+use Rattle.std.proofs.Common.{◌≡◌, ◌∙◌, ℕ, ◌+◌, ◌<◌, ◌∷◌, Some, ap, subst, sym, arith, refl}
 use Rattle.std.specs.declared.option.Option.{Option}
 use Rattle.rc_base.specs.Cluster.Sending.{ToTile}
 use Rattle.rc_base.specs.declared.state.Act.{Act}
+use Rattle.state_update.specs.Knowledge.{pending}
+use Rattle.client_issue.specs.Acts.{act_looks}
 use Rattle.client_issue.specs.Sequence.{IsSendingWith, left_of}
 use Rattle.client_issue.specs.declared.pending.Pending.{Pending}
-use Rattle.client_issue.proofs.ParcelGiven.{bound_texture, IsGiven, given_all, given_one, left_last, left_more, parcel_by}
+use Rattle.client_issue.proofs.ParcelGiven.{bound_texture, IsGiven, given_all, given_one, left_last, left_more, looks_of_parcel, parcel_by, settled}
 use Rattle.client_issue.proofs.sender.Sender.give_parcel.Goals as goal
 
 pub sets_with-requires-clause-bound : goal.sets_with-requires-clause-bound
 sets_with-requires-clause-bound c =
     bound_texture c.args.self.now (Some c.args.pending) c.contexts_of_streams_are_valid.ensures c.valid_contexts_have_their_texture.ensures c.requires.sending
+
+pub sets_with-requires-clause-settled : goal.sets_with-requires-clause-settled
+sets_with-requires-clause-settled c =
+    settled c.args.self.now c.args.pending c.streams_go_on_by_issue.ensures.next c.elements_that_are_not_pending_were_told.ensures c.known_values_are_alike.ensures c.requires.sending
 
 facts : (c : goal.Then-next-self) → IsGiven c.args.self.now c.args.pending c.sets_with.new.tracker c.in_ok-sets.sets c.next_tile-next.result
 facts c = record {
@@ -23,6 +29,7 @@ facts c = record {
   sets_are = c.in_ok-sets.ensures.sets;
   told_now = c.in_ok-sets.ensures.told;
   others = c.in_ok-sets.ensures.others;
+  examined = c.in_ok-sets.ensures.pending;
 }
 
 more_facts : (c : goal.Joined-self) → IsGiven c.args.self.now c.args.pending c.sets_with.new.tracker c.in_ok-sets.sets c.next_tile-next.result
@@ -37,6 +44,7 @@ more_facts c = record {
   sets_are = c.in_ok-sets.ensures.sets;
   told_now = c.in_ok-sets.ensures.told;
   others = c.in_ok-sets.ensures.others;
+  examined = c.in_ok-sets.ensures.pending;
 }
 
 pub returns-then-next-self-clause-sending : goal.returns-then-next-self-clause-sending
@@ -74,3 +82,17 @@ returns-then-next-self-clause-tile c = omega (arith, c.requires.sending.count, c
 
 pub returns-clause-tile : goal.returns-clause-tile
 returns-clause-tile c = omega (arith, c.requires.sending.count, c.requires.sending.pending.tile)
+
+pub returns-then-next-self-clause-looked : goal.returns-then-next-self-clause-looked
+returns-then-next-self-clause-looked c =
+    let s = c.args.self.now in
+    let p = c.args.pending in
+    c.count-looks.ensures ∙ c.in_ok-sets.ensures.looked ∙ ap (λ (n : ℕ). n + act_looks (pending s.tracker p.tile) p.act) c.new-looks.ensures
+    ∙ (let e : 0 + act_looks (pending s.tracker p.tile) p.act ≡ act_looks (pending s.tracker p.tile) p.act = omega arith in e) ∙ looks_of_parcel s p c.requires.sending
+
+pub returns-clause-looked : goal.returns-clause-looked
+returns-clause-looked c =
+    let s = c.args.self.now in
+    let p = c.args.pending in
+    c.count-looks.ensures ∙ c.in_ok-sets.ensures.looked ∙ ap (λ (n : ℕ). n + act_looks (pending s.tracker p.tile) p.act) c.new-looks.ensures
+    ∙ (let e : 0 + act_looks (pending s.tracker p.tile) p.act ≡ act_looks (pending s.tracker p.tile) p.act = omega arith in e) ∙ looks_of_parcel s p c.requires.sending

@@ -1,0 +1,4 @@
+pub mod Rows
+pub mod KindsOfValues
+pub mod SameValues
+pub mod Capabilities

@@ -1,0 +1,87 @@
+//! What a parcel examines: the elements that are dirty for its tile.
+ghost use Rattle.std.specs.Prelude.{◌≡◌, ◌<◌, ◌≤◌, ◌+◌, ◌^◌, ◌++◌, [], IfOk, IsOk, OnOk, length, slice_index};
+ghost use Rattle.std.specs.List.{flat_map, range_with_len};
+ghost use Rattle.element_table.specs.Groups.{group_start};
+ghost use Rattle.rc_base.specs.Contexts.Elements.{element_count, group_sizes};
+ghost use Rattle.state_update.specs.Knowledge.{CleanElementsAreNotSet, IsPrivateName, element_looks, element_sets, looks_from, sets_by};
+
+use crate::told::Told;
+use dirty_bits::{Dirty, Looks};
+use element_table::group_start;
+use gl_context::Context;
+use rc_base::out_of_memory::OutOfMemory;
+use rc_base::state::Sets;
+use std::alloc::Global;
+
+/// What is read before a parcel: its context, the private texture whose image it examines, what its tile was told, and the dirty bits.
+#[derive(Drop)]
+pub struct Examination<'a> {
+    pub alloc: Global,
+    pub context: &'a Context,
+    pub image: Option<u8>,
+    pub told: &'a Told,
+    pub dirty: &'a Dirty,
+    pub tile: u8,
+}
+
+impl<'a> Examination<'a> {
+    // Looks at an element, and adds it where it is dirty and differs.
+    fn add_element(
+        &self,
+        sets: &mut Sets,
+        element: u8,
+        looks: &mut Looks,
+    ) -> Result<(), OutOfMemory>
+        requires element { element < element_count }
+        requires named { IsPrivateName self.now.image }
+        requires server { self.now.tile < 32 }
+        requires clean { CleanElementsAreNotSet self.now.dirty.now self.now.tile self.now.told.now self.now.context.now self.now.image }
+        requires room { looks.old < 2 ^ 63 }
+        ensures added { OnOk result (sets.new ≡ sets.old ++ element_sets self.now.told.now self.now.context.now self.now.image element) }
+        ensures quiet { element_sets self.now.told.now self.now.context.now self.now.image element ≡ [] → IsOk result }
+        ensures looked { looks.new ≡ looks.old + 1 }
+    {
+        if !self.dirty.is_dirty(element, self.tile, looks) {
+            return Ok(());
+        }
+        self.told
+            .add_element(sets, self.alloc, self.context, self.image, element)
+    }
+
+    // Looks at a group, and at its elements where one of them is dirty.
+    fn add_group(&self, sets: &mut Sets, group: u8, looks: &mut Looks) -> Result<(), OutOfMemory>
+        requires group { group < length group_sizes }
+        requires named { IsPrivateName self.now.image }
+        requires server { self.now.tile < 32 }
+        requires clean { CleanElementsAreNotSet self.now.dirty.now self.now.tile self.now.told.now self.now.context.now self.now.image }
+        requires room { looks.old + 256 ≤ 2 ^ 63 }
+        ensures added { OnOk result (sets.new ≡ sets.old ++ flat_map (element_sets self.now.told.now self.now.context.now self.now.image) (range_with_len (group_start group) (slice_index group_sizes group))) }
+        ensures quiet { flat_map (element_sets self.now.told.now self.now.context.now self.now.image) (range_with_len (group_start group) (slice_index group_sizes group)) ≡ [] → IsOk result }
+        ensures looked { OnOk result (looks.new ≡ looks.old + 1 + element_looks self.now.dirty.now self.now.tile group) }
+    {
+        if !self.dirty.group_dirty(group, self.tile, looks) {
+            return Ok(());
+        }
+        for element in group_start(group)..group_start(group + 1) {
+            self.add_element(sets, element, looks)?;
+        }
+        Ok(())
+    }
+
+    /// The elements that are dirty and differ, in the order of their numbers.
+    pub fn sets(&self, looks: &mut Looks) -> Result<Sets, OutOfMemory>
+        requires named { IsPrivateName self.now.image }
+        requires server { self.now.tile < 32 }
+        requires clean { CleanElementsAreNotSet self.now.dirty.now self.now.tile self.now.told.now self.now.context.now self.now.image }
+        requires room { looks.old < 2 ^ 62 + 1 }
+        ensures sets { IfOk result (λ sets. sets ≡ sets_by self.now.told.now self.now.context.now self.now.image) }
+        ensures quiet { sets_by self.now.told.now self.now.context.now self.now.image ≡ [] → IsOk result }
+        ensures looked { OnOk result (looks.new ≡ looks.old + length group_sizes + looks_from self.now.dirty.now self.now.tile 0) }
+    {
+        let mut sets = Sets::new(self.alloc);
+        for group in 0..9 {
+            self.add_group(&mut sets, group, looks)?;
+        }
+        Ok(sets)
+    }
+}
