@@ -10,7 +10,7 @@ use Rattle.std.proofs.lemmas.Grind.{flat_map-append}
 use Rattle.std.proofs.lemmas.List.Concat.{flat_map-cons}
 use Rattle.std.proofs.lemmas.List.Sums.{sum_by-append, count_by-le-length}
 use Rattle.rc_base.specs.declared.command.Command.{Command}
-use Rattle.cmd_pack.specs.declared.fault.Form.TheVariants.{BadCount, UnknownOpcode, Truncated}
+use Rattle.cmd_pack.specs.declared.fault.Form.TheVariants.{BadCount, Unknown, Truncated}
 use Rattle.cmd_pack.specs.declared.fault.ReadError.{ReadError}
 use Rattle.cmd_pack.specs.declared.fault.ReadError.TheVariants as errors
 use Rattle.rc_base.specs.Formats.Limits.{is_swap_command, swaps_in}
@@ -162,7 +162,7 @@ front_fails bytes cs rest errors.Memory front some h = tt
 front_fails bytes cs rest (errors.Form (BadCount left)) front some h =
     let size : length bytes ≡ length (flat_map packet front.packets) + length rest = ap length front.parts ∙ length-append (flat_map packet front.packets) rest in
     (rest, record { packets = front.packets; each = front.each; parts = front.parts }, h.0, omega (arith, size, h.1))
-front_fails bytes cs rest (errors.Form (UnknownOpcode left)) front some h =
+front_fails bytes cs rest (errors.Form (Unknown left)) front some h =
     let size : length bytes ≡ length (flat_map packet front.packets) + length rest = ap length front.parts ∙ length-append (flat_map packet front.packets) rest in
     let inner : length rest ≡ length (half h.count) + (length h.names + length (h.byte ∷ h.rest)) =
     ap length h.parts ∙ length-append (half h.count) (h.names ++ h.byte ∷ h.rest) ∙ ap (λ (k : ℕ). length (half h.count) + k) (length-append h.names (h.byte ∷ h.rest)) in

@@ -12,3 +12,10 @@ pub mod PartsArePayloads
 pub mod PartsReadAsFields
 pub mod SpelledOrFaulty
 pub mod PacketsKept
+pub mod Parsers
+pub mod ParcelParsers
+pub mod ParcelsAreRead
+pub mod OneParcel
+pub mod TimesInTurn
+pub mod VertexBytes
+pub mod ShortVertices

@@ -8,7 +8,7 @@ use Rattle.std.proofs.lemmas.List.{append-nil}
 use Rattle.std.proofs.lemmas.List.Concat.{flat_map-cons}
 use Rattle.rc_base.specs.declared.command.Command.{Command}
 use Rattle.cmd_pack.specs.declared.fault.Form.{Form}
-use Rattle.cmd_pack.specs.declared.fault.Form.TheVariants.{BadCount, UnknownOpcode}
+use Rattle.cmd_pack.specs.declared.fault.Form.TheVariants.{BadCount, Unknown}
 use Rattle.cmd_pack.specs.declared.fault.PackFault.{PackFault}
 use Rattle.cmd_pack.specs.declared.fault.PackFault.TheVariants as faults
 use Rattle.rc_base.specs.declared.command.Opcode.{Opcode}
@@ -68,12 +68,12 @@ name_known : (b : ℕ) (rest : List ℕ) (o : Opcode) → opcode_of_byte b ≡ S
 unfolding read_opcode
 name_known b rest o e = rw e refl
 
-name_unknown : (b : ℕ) (rest : List ℕ) → opcode_of_byte b ≡ None → read_opcode (b ∷ rest) ≡ Err (UnknownOpcode (length (b ∷ rest)))
+name_unknown : (b : ℕ) (rest : List ℕ) → opcode_of_byte b ≡ None → read_opcode (b ∷ rest) ≡ Err (Unknown (length (b ∷ rest)))
 unfolding read_opcode
 name_unknown b rest e = rw e refl
 
 names_broken : (n : ℕ) (names : List ℕ) (b : ℕ) (rest : List ℕ) → length names < n → AllByRecursion IsOpcode names → opcode_of_byte b ≡ None
-    → read_opcodes n (names ++ b ∷ rest) ≡ Err (UnknownOpcode (length (b ∷ rest)))
+    → read_opcodes n (names ++ b ∷ rest) ≡ Err (Unknown (length (b ∷ rest)))
 unfolding read_opcodes
 names_broken zero names b rest few each unknown = absurd (omega arith)
 names_broken (suc n) [] b rest few each unknown = rw (name_unknown b rest unknown) refl
@@ -99,7 +99,7 @@ bad_is : (rest : List ℕ) (h : HasBadCount rest) → read_packet rest ≡ faile
 unfolding read_packet
 bad_is rest h = ap read_packet h.parts ∙ rw (count_bad h.count h.rest h.fits h.bad) refl
 
-unknown_is : (rest : List ℕ) (left : ℕ) (h : HasUnknown rest left) → read_packet rest ≡ failed (UnknownOpcode (length (h.byte ∷ h.rest)))
+unknown_is : (rest : List ℕ) (left : ℕ) (h : HasUnknown rest left) → read_packet rest ≡ failed (Unknown (length (h.byte ∷ h.rest)))
 unfolding read_packet
 unknown_is rest left h =
     let none : opcode_of_byte h.byte ≡ None = none_from_unknown h.byte (opcode_of_byte h.byte) refl h.unknown in
@@ -131,7 +131,7 @@ bad_none : (rest : List ℕ) → HasBadCount rest → NoPacket rest
 bad_none rest h = failing_is_none rest (BadCount (length (half h.count ++ h.rest))) (bad_is rest h)
 
 unknown_none : (rest : List ℕ) (left : ℕ) → HasUnknown rest left → NoPacket rest
-unknown_none rest left h = failing_is_none rest (UnknownOpcode (length (h.byte ∷ h.rest))) (unknown_is rest left h)
+unknown_none rest left h = failing_is_none rest (Unknown (length (h.byte ∷ h.rest))) (unknown_is rest left h)
 
 behind_none : (bytes rest : List ℕ) (cs : List Command) → Behind bytes rest → SpellsStream bytes cs → 0 < length rest → ((p : List Command) (after : List ℕ) → IsPacket p → rest ≡ packet p ++ after → ⊥) → ⊥
 behind_none bytes rest cs h s some none =
@@ -206,15 +206,15 @@ unknown_or_cut r s left same h cut =
 bad_or_unknown : (r s : List ℕ) (left : ℕ) → r ≡ s → HasBadCount r → HasUnknown s left → ⊥
 bad_or_unknown r s left same h k =
     let one : read_packet s ≡ failed (BadCount (length (half h.count ++ h.rest))) = ap read_packet (sym same) ∙ bad_is r h in
-    let two : read_packet s ≡ failed (UnknownOpcode (length (k.byte ∷ k.rest))) = unknown_is s left k in
-    let both : failed (BadCount (length (half h.count ++ h.rest))) ≡ failed (UnknownOpcode (length (k.byte ∷ k.rest))) = sym one ∙ two in
+    let two : read_packet s ≡ failed (Unknown (length (k.byte ∷ k.rest))) = unknown_is s left k in
+    let both : failed (BadCount (length (half h.count ++ h.rest))) ≡ failed (Unknown (length (k.byte ∷ k.rest))) = sym one ∙ two in
     absurd cc
 
 one_left : (r s : List ℕ) (left other : ℕ) → r ≡ s → HasUnknown r left → HasUnknown s other → left ≡ other
 one_left r s left other same h k =
-    let one : read_packet s ≡ failed (UnknownOpcode (length (h.byte ∷ h.rest))) = ap read_packet (sym same) ∙ unknown_is r left h in
-    let two : read_packet s ≡ failed (UnknownOpcode (length (k.byte ∷ k.rest))) = unknown_is s other k in
-    let both : failed (UnknownOpcode (length (h.byte ∷ h.rest))) ≡ failed (UnknownOpcode (length (k.byte ∷ k.rest))) = sym one ∙ two in
+    let one : read_packet s ≡ failed (Unknown (length (h.byte ∷ h.rest))) = ap read_packet (sym same) ∙ unknown_is r left h in
+    let two : read_packet s ≡ failed (Unknown (length (k.byte ∷ k.rest))) = unknown_is s other k in
+    let both : failed (Unknown (length (h.byte ∷ h.rest))) ≡ failed (Unknown (length (k.byte ∷ k.rest))) = sym one ∙ two in
     let lengths : length (h.byte ∷ h.rest) ≡ length (k.byte ∷ k.rest) = cc in
     h.left_is ∙ lengths ∙ sym k.left_is
 

@@ -13,12 +13,12 @@ use Rattle.rc_base.specs.declared.command.Opcode.TheVariants.{Swap}
 use Rattle.rc_base.specs.Formats.Commands.{AreBytes, IsCommand, opcode_of}
 use Rattle.rc_base.specs.Formats.Spelling.{payload, opcode_byte, half, packet, IsPacket}
 use Rattle.cmd_pack.specs.declared.fault.Form.{Form}
-use Rattle.cmd_pack.specs.declared.fault.Form.TheVariants.{BadCount, UnknownOpcode, Truncated}
+use Rattle.cmd_pack.specs.declared.fault.Form.TheVariants.{BadCount, Unknown, Truncated}
 use Rattle.cmd_pack.specs.Faults.{IsOpcode, HasBadCount, HasUnknown, IsCut, FailsAsPacket}
-use Rattle.cmd_pack.specs.Reading.{◌>>=◌, read_unsigned}
+use Rattle.cmd_pack.specs.Reading.{◌>>=◌, known, read_unsigned}
 use Rattle.command_table.specs.Opcodes.{opcode_of_byte}
 use Rattle.rc_base.specs.Formats.Commands.{opcode_number}
-use Rattle.cmd_pack.specs.Packets.{read_command, read_payloads, known, read_opcode, read_opcodes, read_count, read_packet}
+use Rattle.cmd_pack.specs.Packets.{read_command, read_payloads, read_opcode, read_opcodes, read_count, read_packet}
 use Rattle.cmd_pack.proofs.Codec.{AreBytes-behind, bind_ok, bind_err, ok_no_err}
 use Rattle.cmd_pack.proofs.NumberCodecs.{guard_err, number_codec, wide16}
 use Rattle.command_table.proofs.ByOpcode.{byte_of_number, number_of_byte}
@@ -30,7 +30,7 @@ guard_known : (o : Option Opcode) (left : ℕ) (x : Opcode) → known o left ≡
 guard_known None left x e = absurd cc
 guard_known (Some o) left x e = cc
 
-known_fails : (o : Option Opcode) (left : ℕ) (f : Form) → known o left ≡ Err f → (o ≡ None) × (f ≡ UnknownOpcode left)
+known_fails : (o : Option Opcode) (left : ℕ) (f : Form) → known o left ≡ Err f → (o ≡ None) × (f ≡ Unknown left)
 known_fails None left f e = (refl, cc)
 known_fails (Some o) left f e = absurd cc
 
@@ -82,7 +82,7 @@ pub record NamesBroken (n : ℕ) (bytes : List ℕ) (f : Form) : Type 0 where
   pub few : length names < n
   pub unknown : opcode_of_byte byte ≡ None
   pub parts : bytes ≡ map opcode_number names ++ byte ∷ rest
-  pub is : f ≡ UnknownOpcode (length (byte ∷ rest))
+  pub is : f ≡ Unknown (length (byte ∷ rest))
 
 abbrev swaps : ℕ → List Opcode
 swaps zero = []
@@ -92,7 +92,7 @@ length-swaps : (n : ℕ) → length (swaps n) ≡ n
 length-swaps zero = refl
 length-swaps (suc n) = ap suc (length-swaps n)
 
-name_fails : (b : ℕ) (bs : List ℕ) (f : Form) → read_opcode (b ∷ bs) ≡ Err f → (opcode_of_byte b ≡ None) × (f ≡ UnknownOpcode (length (b ∷ bs)))
+name_fails : (b : ℕ) (bs : List ℕ) (f : Form) → read_opcode (b ∷ bs) ≡ Err f → (opcode_of_byte b ≡ None) × (f ≡ Unknown (length (b ∷ bs)))
 unfolding read_opcode
 name_fails b bs f e = elim (bind_err (known (opcode_of_byte b) (length (b ∷ bs))) (λ o. Ok (o, bs)) f e) [
   | inl early ↦ known_fails (opcode_of_byte b) (length (b ∷ bs)) f early

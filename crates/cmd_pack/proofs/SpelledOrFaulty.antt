@@ -6,7 +6,7 @@ use Rattle.rc_base.specs.declared.command.Command.{Command}
 use Rattle.rc_base.specs.Formats.Commands.{AreBytes}
 use Rattle.rc_base.specs.Formats.Spelling.{packet, SpellsStream}
 use Rattle.cmd_pack.specs.declared.fault.Form.{Form}
-use Rattle.cmd_pack.specs.declared.fault.Form.TheVariants.{BadCount, UnknownOpcode, Truncated}
+use Rattle.cmd_pack.specs.declared.fault.Form.TheVariants.{BadCount, Unknown, Truncated}
 use Rattle.cmd_pack.specs.declared.fault.ReadError.TheVariants as errors
 use Rattle.cmd_pack.specs.declared.fault.PackFault.{PackFault}
 use Rattle.cmd_pack.specs.Faults.{FailsAsStream, IsFault, pack_fault}
@@ -20,7 +20,7 @@ SpelledOrFaulty bytes = ((commands : List Command) × SpellsStream bytes command
 
 is_fault : (f : Form) (size : ℕ) → IsFault (pack_fault (errors.Form f) size)
 is_fault (BadCount left) size = tt
-is_fault (UnknownOpcode left) size = tt
+is_fault (Unknown left) size = tt
 is_fault Truncated size = tt
 
 -- packet by packet

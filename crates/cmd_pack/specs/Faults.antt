@@ -6,7 +6,7 @@ use Rattle.rc_base.specs.declared.command.Opcode.{Opcode}
 use Rattle.rc_base.specs.Formats.Commands.{AreBytes, table_row}
 use Rattle.rc_base.specs.Formats.Spelling.{half, packet, IsPacket, SpellsStream}
 use Rattle.cmd_pack.specs.declared.fault.Form.{Form}
-use Rattle.cmd_pack.specs.declared.fault.Form.TheVariants.{BadCount, UnknownOpcode, Truncated}
+use Rattle.cmd_pack.specs.declared.fault.Form.TheVariants.{BadCount, Unknown, Truncated}
 use Rattle.cmd_pack.specs.declared.fault.ReadError.{ReadError}
 use Rattle.cmd_pack.specs.declared.fault.ReadError.TheVariants as errors
 use Rattle.cmd_pack.specs.declared.fault.PackFault.{PackFault}
@@ -49,7 +49,7 @@ pub record IsCut (bytes : List ℕ) : Type 0 where
 -- the fault of bytes that don't begin with a packet, its place told by how many bytes stand from there on
 abbrev pub FailsAsPacket : List ℕ → Form → Type 0
 FailsAsPacket bytes (BadCount left) = HasBadCount bytes × (left ≡ length bytes)
-FailsAsPacket bytes (UnknownOpcode left) = HasUnknown bytes left
+FailsAsPacket bytes (Unknown left) = HasUnknown bytes left
 FailsAsPacket bytes Truncated = IsCut bytes
 
 -- the same of an error that may be want of memory
@@ -74,7 +74,7 @@ FailsAsStream bytes faults.OutOfMemory = Unit {0}
 abbrev pub pack_fault : ReadError → ℕ → PackFault
 pack_fault errors.Memory len = faults.OutOfMemory
 pack_fault (errors.Form (BadCount left)) len = faults.BadCount (len - left)
-pack_fault (errors.Form (UnknownOpcode left)) len = faults.UnknownOpcode (len - left)
+pack_fault (errors.Form (Unknown left)) len = faults.UnknownOpcode (len - left)
 pack_fault (errors.Form Truncated) len = faults.Truncated len
 
 -- a fault of the bytes

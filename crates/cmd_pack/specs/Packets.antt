@@ -1,5 +1,5 @@
 -- Reading packets from the left, with the first fault that is met. A fault's place is told by how many bytes stand from there on.
-use Rattle.std.specs.Prelude.{◌≡◌, ℕ, zero, suc, ◌*◌, ◌≤◌, Bool, true, false, List, [], ◌∷◌, ◌++◌, length, Option, Some, None, Result, Ok, Err, nat_lt, nat_le, ◌==◌, ◌||◌, if◌then◌else◌}
+use Rattle.std.specs.Prelude.{◌≡◌, ℕ, zero, suc, ◌*◌, ◌≤◌, Bool, true, false, List, [], ◌∷◌, ◌++◌, length, Result, Ok, Err, nat_lt, nat_le, ◌==◌, ◌||◌, if◌then◌else◌}
 use Rattle.std.specs.Int.{w16}
 use Rattle.rc_base.specs.declared.command.Command.{Command}
 use Rattle.rc_base.specs.declared.command.Opcode.{Opcode}
@@ -15,8 +15,8 @@ use Rattle.cmd_pack.specs.declared.fault.ReadError.{ReadError}
 use Rattle.cmd_pack.specs.declared.reading.Counts.{Counts}
 use Rattle.cmd_pack.specs.declared.reading.Decoded.{Decoded}
 use Rattle.cmd_pack.specs.declared.fault.Form.{Form}
-use Rattle.cmd_pack.specs.declared.fault.Form.TheVariants.{BadCount, UnknownOpcode}
-use Rattle.cmd_pack.specs.Reading.{◌>>=◌, Fails, sized, both, convert, read_byte, read_unsigned, read_word, read_words, take_bytes}
+use Rattle.cmd_pack.specs.declared.fault.Form.TheVariants.{BadCount}
+use Rattle.cmd_pack.specs.Reading.{◌>>=◌, Fails, sized, both, convert, known, read_byte, read_unsigned, read_word, read_words, take_bytes}
 
 -- ---- fields
 
@@ -50,10 +50,6 @@ read_payloads (o ∷ os) bytes = do
   Ok (first.0 ∷ others.0, others.1)
 
 -- ---- opcodes
-
-abbrev pub known : Option Opcode → ℕ → Result Opcode Form
-known None left = Err (UnknownOpcode left)
-known (Some o) left = Ok o
 
 unfoldable pub read_opcode : List ℕ → Result (Opcode × List ℕ) Form
 read_opcode bytes = do

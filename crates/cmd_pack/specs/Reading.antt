@@ -1,8 +1,8 @@
 -- Reading from the left, with the first fault that is met: readers as functions of the bytes, and how they are put together.
-use Rattle.std.specs.Prelude.{◌≡◌, ℕ, ℤ, zero, suc, List, [], ◌∷◌, ◌++◌, length, take, drop, Result, Ok, Err, nat_lt, if◌then◌else◌}
+use Rattle.std.specs.Prelude.{◌≡◌, ℕ, ℤ, zero, suc, List, [], ◌∷◌, ◌++◌, length, take, drop, Option, Some, None, Result, Ok, Err, nat_lt, if◌then◌else◌}
 use Rattle.std.specs.Int.{Width, w32, byte_len, from_le_bytes, cast_signed}
 use Rattle.cmd_pack.specs.declared.fault.Form.{Form}
-use Rattle.cmd_pack.specs.declared.fault.Form.TheVariants.{Truncated}
+use Rattle.cmd_pack.specs.declared.fault.Form.TheVariants.{Truncated, Unknown}
 use Rattle.cmd_pack.specs.declared.fault.ReadError.{ReadError}
 use Rattle.cmd_pack.specs.declared.fault.ReadError.TheVariants as errors
 
@@ -38,6 +38,11 @@ both p q = sized p (λ _. q)
 -- the value that is made of what was read
 abbrev pub convert : {A B : Type 0} → (A → B) → (List ℕ → Result (A × List ℕ) Form) → List ℕ → Result (B × List ℕ) Form
 convert f p bytes = p bytes >>= λ x. Ok (f x.0, x.1)
+
+-- what a byte stands for, if it stands for anything
+abbrev pub known : {L : Type 0} → Option L → ℕ → Result L Form
+known None left = Err (Unknown left)
+known (Some l) left = Ok l
 
 -- what was read before, and what is still read
 abbrev pub with_front : {A : Type 0} → List A → Result (List A × List ℕ) Form → Result (List A × List ℕ) Form

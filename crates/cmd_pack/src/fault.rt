@@ -6,13 +6,13 @@ ghost use Rattle.cmd_pack.specs.declared.fault.PackFault.TheVariants as fault;
 use std::alloc::{AllocError, AllocFailed};
 use thiserror::Error;
 
-/// What is wrong with the bytes at hand. A place is told by how many bytes stand from there on, so that a reader of a part needs no offset.
+/// What is wrong with the bytes at hand, of packets or of a parcel. A place is told by how many bytes stand from there on, so that a reader of a part needs no offset.
 #[derive(Clone, Copy, Debug, PartialEq, Eq)]
 pub enum Form {
     /// A packet's count is 0 or more than 1,024.
     BadCount { left: usize },
-    /// A byte in an opcode's place stands for no command.
-    UnknownOpcode { left: usize },
+    /// A byte stands for nothing: for no command, where an opcode is due, or for no element, act, operation or flag.
+    Unknown { left: usize },
     /// The bytes end too early.
     Truncated,
 }

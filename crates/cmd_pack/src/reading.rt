@@ -47,7 +47,7 @@ fn read_opcode(bytes: &[u8]) -> Result<(Opcode, &[u8]), Form>
     let (byte, rest) = read_byte(bytes)?;
     match opcode_from(byte) {
         Some(opcode) => Ok((opcode, rest)),
-        None => Err(Form::UnknownOpcode { left: bytes.len() }),
+        None => Err(Form::Unknown { left: bytes.len() }),
     }
 }
 
@@ -154,7 +154,7 @@ fn fault_at(error: ReadError, len: usize) -> PackFault
         ReadError::Form(Form::BadCount { left }) => PackFault::BadCount {
             at: len.saturating_sub(left),
         },
-        ReadError::Form(Form::UnknownOpcode { left }) => PackFault::UnknownOpcode {
+        ReadError::Form(Form::Unknown { left }) => PackFault::UnknownOpcode {
             at: len.saturating_sub(left),
         },
         ReadError::Form(Form::Truncated) => PackFault::Truncated { at: len },

@@ -14,14 +14,16 @@ use rc_base::command::{Bytes, Command, Commands, NumberRange};
 use rc_base::out_of_memory::OutOfMemory;
 use std::alloc::Global;
 
-fn write_bytes(out: &mut Bytes, bytes: &[u8]) -> Result<(), OutOfMemory>
+/// Adds bytes as they stand.
+pub(crate) fn write_bytes(out: &mut Bytes, bytes: &[u8]) -> Result<(), OutOfMemory>
     ensures added { OnOk result (out.new ≡ out.old ++ bytes.now) }
     ensures typed { OnOk result (AreBytes bytes.now) }
 {
     Ok(out.extend_from_slice(bytes)?)
 }
 
-fn write_half(out: &mut Bytes, number: u16) -> Result<(), OutOfMemory>
+/// Adds a number of 16 bits, its low byte first.
+pub(crate) fn write_half(out: &mut Bytes, number: u16) -> Result<(), OutOfMemory>
     ensures added { OnOk result (out.new ≡ out.old ++ half number) }
 {
     write_bytes(out, &number.to_le_bytes())

@@ -1,4 +1,4 @@
-//! Tests of the crates of formats and contexts: ends, packets, scenes, images, and what commands leave.
+//! Tests of the crates of formats and contexts: ends, packets, parcels, scenes, images, and what commands leave.
 //!
 //! Each test calls public items alone, and stands here so that none of those crates is proved twice.
 #![tactic(auto)]
@@ -15,6 +15,8 @@ mod generated;
 mod images;
 #[cfg(test)]
 mod packets;
+#[cfg(test)]
+mod parcels;
 #[cfg(test)]
 mod scenes;
 #[cfg(test)]

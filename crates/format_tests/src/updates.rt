@@ -1,14 +1,21 @@
-//! Two tiles that are told in turn, by hand.
-ghost use Rattle.std.specs.Prelude.{◌≡◌, ◌<◌, IsTrue, length};
-ghost use Rattle.gl_context.specs.Arguments.{HasTexels};
+//! Two tiles that are told in turn, by hand, and what that costs in looks.
+ghost use Rattle.std.specs.Prelude.{◌≡◌, ℕ, ◌+◌, ◌<◌, ◌≤◌, ◌^◌, IsTrue, IsFalse};
+ghost use Rattle.gl_context.specs.Arguments.{HasName, HasTexels};
+ghost use Rattle.rc_base.specs.Contexts.Context.{edit_of, private_count};
+ghost use Rattle.rc_base.specs.Contexts.Elements.{marks};
+ghost use Rattle.rc_base.specs.Contexts.Issue.{issued};
+ghost use Rattle.format_tests.specs.Told.{AreTold};
 
-use gl_context::Context;
-use rc_base::command::{Command, Part, Texels};
-use rc_base::out_of_memory::OutOfMemory;
+use dirty_bits::Looks;
+use gl_context::laws::{commands_set_one_element, streams_go_on_by_issue};
+use gl_context::{Context, marks};
+use rc_base::command::{Command, Part, Rgba, Texels};
 use rc_base::scene::{Counts, Decl, Sizes, Units};
 use rc_base::state::{ElementValue, Sets};
 use state_update::Tracker;
+use state_update::laws::known_values_are_alike;
 use std::alloc::Global;
+use std::process::Abort;
 
 fn has_texels(command: &Command) -> bool
     ensures { IsTrue result → HasTexels command.now }
@@ -25,69 +32,32 @@ fn has_texels(command: &Command) -> bool
     }
 }
 
-// Whether the command was carried out or refused: it may be issued, and there was memory for it.
-fn is_issued(context: &mut Context, command: &Command) -> bool {
-    if !has_texels(command) {
-        return false;
+// Whether the element that the command sets is the same in each matrix mode.
+fn has_plain_mark(command: &Command) -> bool
+    ensures name { IsTrue result → HasName command.now }
+    ensures mode { IsTrue result → (mode : ℕ) → marks command.now mode ≡ marks command.now 0 }
+{
+    match command {
+        Command::LoadIdentity
+        | Command::LoadMatrix(_)
+        | Command::MultMatrix(_)
+        | Command::PopMatrix => false,
+        Command::TexImage { name, .. } => *name <= 64,
+        Command::TexPart(part) => part.name <= 64,
+        _ => true,
     }
+}
+
+// Whether each private texture may be written once more.
+fn has_room(context: &Context) -> bool
+    ensures { IsTrue result → (name : ℕ) → 0 < name → name ≤ private_count → edit_of context.now name + 1 < 2 ^ 32 }
+{
     for name in 1..65_u8 {
         if context.edit(name) == u32::MAX {
             return false;
         }
     }
-    context.issue(0, command).is_ok()
-}
-
-// The same of each of these commands.
-fn are_issued(context: &mut Context, commands: &[Command]) -> bool {
-    for command in commands {
-        if !is_issued(context, command) {
-            return false;
-        }
-    }
     true
-}
-
-// A capability turned on, or off.
-fn is_switched(context: &mut Context, capability: u8, on: bool) -> bool {
-    if on {
-        return is_issued(context, &Command::Enable { capability });
-    }
-    is_issued(context, &Command::Disable { capability })
-}
-
-// The scissor test turned on, and its box.
-fn is_scissored(context: &mut Context, area: [i32; 4]) -> bool {
-    is_switched(context, 0, true) && is_issued(context, &Command::Scissor { area })
-}
-
-// The sets of a tile, where the bound texture exists.
-fn told(tracker: &mut Tracker, context: &Context, tile: u8, draws: bool) -> Option<Sets>
-    requires { tile < length tracker.old }
-    ensures { length tracker.new ≡ length tracker.old }
-{
-    let [_, name] = context.state().binding;
-    if name == 0 || name > 64 {
-        return None;
-    }
-    tracker.update(context, tile, draws).ok()
-}
-
-const NONE: u8 = 99;
-
-// The elements of the first three sets, where there are no more.
-fn elements(sets: Option<Sets>) -> Option<[u8; 3]> {
-    let sets = sets?;
-    let at = |k: usize| -> u8 {
-        match sets.as_slice().get(k) {
-            Some(set) => set.element,
-            None => NONE,
-        }
-    };
-    if sets.len() > 3 {
-        return None;
-    }
-    Some([at(0), at(1), at(2)])
 }
 
 fn decl(alloc: Global) -> Decl {
@@ -101,89 +71,242 @@ fn decl(alloc: Global) -> Decl {
     }
 }
 
-#[test]
-fn a_blend_set_back_is_not_told_and_each_tile_is_told_in_its_time(rt: HostRuntime) {
-    let decl = decl(rt.alloc());
-    let mut context = Context::new(rt.alloc(), &decl).expect(&rt, "memory");
-    let mut tracker = Tracker::new(rt.alloc(), &decl, 2).expect(&rt, "memory");
-    assert!(rt; is_switched(&mut context, 3, true) && is_switched(&mut context, 3, false));
-    tracker.note(14);
-    let nothing = Some([NONE, NONE, NONE]);
-    assert!(rt; elements(told(&mut tracker, &context, 0, true)) == nothing);
-    assert!(rt; elements(told(&mut tracker, &context, 1, true)) == nothing);
-    assert!(rt; is_scissored(&mut context, [0, 0, 1, 1]));
-    assert!(rt; elements(told(&mut tracker, &context, 0, true)) == Some([4, 5, NONE]));
-    assert!(rt; is_switched(&mut context, 0, false));
-    assert!(rt; elements(told(&mut tracker, &context, 0, true)) == Some([4, NONE, NONE]));
-    assert!(rt; elements(told(&mut tracker, &context, 1, true)) == Some([5, NONE, NONE]));
-    assert!(rt; elements(told(&mut tracker, &context, 1, false)) == nothing);
+// Whether there was memory for the command.
+fn was_issued(context: &mut Context, command: &Command) -> bool
+    requires texels { HasTexels command.now }
+    requires room { (name : ℕ) → 0 < name → name ≤ private_count → edit_of context.old name + 1 < 2 ^ 32 }
+    ensures issued { IsTrue result → context.new ≡ issued context.old 0 command.now }
+    ensures same { IsFalse result → context.new ≡ context.old }
+{
+    match context.issue(0, command) {
+        Ok(_) => true,
+        Err(_) => false,
+    }
 }
 
-fn image(alloc: Global) -> Result<Command, OutOfMemory> {
-    Ok(Command::TexImage {
-        name: 2,
-        w: 1,
-        h: 1,
-        texels: Texels::from_slice(alloc, &[1, 2, 3, 4])?,
-    })
+// A client's context, what its two tiles were told, and the looks so far.
+#[derive(Drop)]
+struct Client {
+    context: Context,
+    tracker: Tracker,
+    looks: Looks,
 }
 
-fn texel(alloc: Global) -> Result<Command, OutOfMemory> {
-    Ok(Command::TexPart(Part {
-        name: 2,
-        x: 0,
-        y: 0,
-        w: 1,
-        h: 1,
-        texels: Texels::from_slice(alloc, &[5, 6, 7, 8])?,
-    }))
+impl Client {
+    fn new(rt: &impl Abort, alloc: Global) -> Client
+        ensures { AreTold result.tracker result.context }
+    {
+        commands_set_one_element();
+        streams_go_on_by_issue();
+        let decl = decl(alloc);
+        let context = Context::new(alloc, &decl).expect(rt, "memory");
+        let tracker = Tracker::new(alloc, &decl, 2).expect(rt, "memory");
+        Client {
+            context,
+            tracker,
+            looks: Looks::new(),
+        }
+    }
+
+    // Whether a command that sets an element was issued, and noted: there was memory for it.
+    fn is_issued(&mut self, command: &Command) -> bool
+        requires { AreTold self.old.tracker self.old.context }
+        ensures { AreTold self.new.tracker self.new.context }
+    {
+        commands_set_one_element();
+        if !has_texels(command) || !has_plain_mark(command) || !has_room(&self.context) {
+            return false;
+        }
+        let Some(element) = marks(command, 0) else {
+            return false;
+        };
+        if element > 85 {
+            return false;
+        }
+        if !was_issued(&mut self.context, command) {
+            return false;
+        }
+        self.tracker.note(element);
+        true
+    }
+
+    // The sets of a tile, where the bound texture exists.
+    fn told(&mut self, tile: u8, draws: bool) -> Option<Sets>
+        requires told { AreTold self.old.tracker self.old.context }
+        requires tile { tile < 2 }
+        ensures { AreTold self.new.tracker self.new.context }
+    {
+        known_values_are_alike();
+        let [_, name] = self.context.state().binding;
+        if name == 0 || name > 64 || self.looks.count() > 1_000_000 {
+            return None;
+        }
+        match self
+            .tracker
+            .update(&self.context, tile, draws, &mut self.looks)
+        {
+            Ok(sets) => Some(sets),
+            Err(_) => None,
+        }
+    }
 }
 
-// The image, bound and sampled.
-fn is_textured(alloc: Global, context: &mut Context) -> Result<bool, OutOfMemory> {
-    let bind = Command::BindTexture { kind: 0, name: 2 };
-    let commands = [image(alloc)?, bind, Command::Enable { capability: 5 }];
-    Ok(are_issued(context, &commands))
+const NONE: u8 = 99;
+
+// The elements of the first three sets, where there are no more.
+fn elements(sets: &Sets) -> Option<[u8; 3]> {
+    let at = |k: usize| -> u8 {
+        match sets.as_slice().get(k) {
+            Some(set) => set.element,
+            None => NONE,
+        }
+    };
+    if sets.len() > 3 {
+        return None;
+    }
+    Some([at(0), at(1), at(2)])
 }
 
-// A texel of it written anew.
-fn is_retouched(alloc: Global, context: &mut Context) -> Result<bool, OutOfMemory> {
-    let command = texel(alloc)?;
-    Ok(is_issued(context, &command))
-}
-
-// The edit number and the second byte of the image that is the only set, or the last of three.
-fn image_told(sets: &Option<Sets>) -> Option<(u8, u32, u8)> {
-    match sets {
-        Some(sets) => match sets.as_slice().last() {
-            Some(set) => match &set.value {
-                ElementValue::Image { edit, texels, .. } => match texels.as_slice().get(1) {
-                    Some(byte) => Some((set.element, *edit, *byte)),
-                    None => None,
-                },
-                _ => None,
+// The edit number and the second byte of the image that is the last set.
+fn image_told(sets: &Sets) -> Option<(u32, u8)> {
+    match sets.as_slice().last() {
+        Some(set) => match &set.value {
+            ElementValue::Image { edit, texels, .. } => match texels.as_slice().get(1) {
+                Some(byte) => Some((*edit, *byte)),
+                None => None,
             },
-            None => None,
+            _ => None,
         },
         None => None,
     }
 }
 
+impl Client {
+    // Whether a tile gets the sets of these elements, for so many looks.
+    fn tells(&mut self, tile: u8, draws: bool, wanted: [u8; 3], looks: u64) -> bool
+        requires told { AreTold self.old.tracker self.old.context }
+        requires tile { tile < 2 }
+        ensures { AreTold self.new.tracker self.new.context }
+    {
+        let before = self.looks.count();
+        match self.told(tile, draws) {
+            Some(sets) => {
+                elements(&sets) == Some(wanted) && self.looks.count().wrapping_sub(before) == looks
+            }
+            None => false,
+        }
+    }
+
+    // Whether a tile gets an image last, with this edit number and second byte, for so many looks.
+    fn tells_image(&mut self, tile: u8, edit: u32, byte: u8, looks: u64) -> bool
+        requires told { AreTold self.old.tracker self.old.context }
+        requires tile { tile < 2 }
+        ensures { AreTold self.new.tracker self.new.context }
+    {
+        let before = self.looks.count();
+        match self.told(tile, true) {
+            Some(sets) => {
+                image_told(&sets) == Some((edit, byte))
+                    && self.looks.count().wrapping_sub(before) == looks
+            }
+            None => false,
+        }
+    }
+
+    // Whether a capability was turned on, or off.
+    fn is_switched(&mut self, capability: u8, on: bool) -> bool
+        requires { AreTold self.old.tracker self.old.context }
+        ensures { AreTold self.new.tracker self.new.context }
+    {
+        if on {
+            return self.is_issued(&Command::Enable { capability });
+        }
+        self.is_issued(&Command::Disable { capability })
+    }
+
+    // Whether a texture of one texel was given, of these first two bytes.
+    fn is_painted(&mut self, rt: &impl Abort, alloc: Global, name: u8, bytes: [u8; 4]) -> bool
+        requires { AreTold self.old.tracker self.old.context }
+        ensures { AreTold self.new.tracker self.new.context }
+    {
+        let texels = Texels::from_slice(alloc, &bytes).expect(rt, "memory");
+        self.is_issued(&Command::TexImage {
+            name,
+            w: 1,
+            h: 1,
+            texels,
+        })
+    }
+
+    // Whether its texel was written anew.
+    fn is_retouched(&mut self, rt: &impl Abort, alloc: Global, name: u8, bytes: [u8; 4]) -> bool
+        requires { AreTold self.old.tracker self.old.context }
+        ensures { AreTold self.new.tracker self.new.context }
+    {
+        let texels = Texels::from_slice(alloc, &bytes).expect(rt, "memory");
+        self.is_issued(&Command::TexPart(Part {
+            name,
+            x: 0,
+            y: 0,
+            w: 1,
+            h: 1,
+            texels,
+        }))
+    }
+}
+
+const NOTHING: [u8; 3] = [NONE, NONE, NONE];
+
+const GREY: Rgba = Rgba {
+    r: 9,
+    g: 9,
+    b: 9,
+    a: 9,
+};
+
+#[test]
+fn a_blend_set_back_is_not_told_and_each_tile_is_told_in_its_time(rt: HostRuntime) {
+    let mut client = Client::new(&rt, rt.alloc());
+    assert!(rt; client.tells(0, true, NOTHING, 1) && client.tells(1, true, NOTHING, 1));
+    assert!(rt; client.is_switched(3, true) && client.is_switched(3, false));
+    assert!(rt; client.tells(0, true, NOTHING, 15) && client.tells(1, true, NOTHING, 15));
+    assert!(rt; client.is_switched(0, true));
+    assert!(rt; client.is_issued(&Command::Scissor { area: [0, 0, 1, 1] }));
+    assert!(rt; client.tells(0, true, [4, 5, NONE], 15));
+    assert!(rt; client.is_switched(0, false));
+    assert!(rt; client.tells(0, true, [4, NONE, NONE], 15));
+    assert!(rt; client.tells(1, true, [5, NONE, NONE], 15));
+    assert!(rt; client.tells(1, false, NOTHING, 1));
+}
+
 #[test]
 fn an_image_is_told_once_and_again_after_a_part(rt: HostRuntime) {
-    let decl = decl(rt.alloc());
-    let mut context = Context::new(rt.alloc(), &decl).expect(&rt, "memory");
-    let mut tracker = Tracker::new(rt.alloc(), &decl, 2).expect(&rt, "memory");
-    assert!(rt; is_textured(rt.alloc(), &mut context) == Ok(true));
-    let nothing = Some([NONE, NONE, NONE]);
-    assert!(rt; elements(told(&mut tracker, &context, 0, false)) == Some([19, 20, NONE]));
-    assert!(rt; image_told(&told(&mut tracker, &context, 0, true)) == Some((23, 1, 2)));
-    assert!(rt; elements(told(&mut tracker, &context, 0, true)) == nothing);
-    assert!(rt; is_retouched(rt.alloc(), &mut context) == Ok(true));
-    assert!(rt; elements(told(&mut tracker, &context, 0, false)) == nothing);
-    assert!(rt; image_told(&told(&mut tracker, &context, 0, true)) == Some((23, 2, 6)));
-    assert!(rt; elements(told(&mut tracker, &context, 1, true)) == Some([19, 20, 23]));
-    assert!(rt; is_retouched(rt.alloc(), &mut context) == Ok(true));
-    assert!(rt; is_switched(&mut context, 5, false));
-    assert!(rt; elements(told(&mut tracker, &context, 0, true)) == Some([19, NONE, NONE]));
+    let mut client = Client::new(&rt, rt.alloc());
+    assert!(rt; client.is_painted(&rt, rt.alloc(), 2, [1, 2, 3, 4]));
+    assert!(rt; client.is_issued(&Command::BindTexture { kind: 0, name: 2 }));
+    assert!(rt; client.is_switched(5, true));
+    assert!(rt; client.tells(0, false, [19, 20, NONE], 29));
+    assert!(rt; client.tells_image(0, 1, 2, 26));
+    assert!(rt; client.tells(0, true, NOTHING, 1));
+    assert!(rt; client.is_retouched(&rt, rt.alloc(), 2, [5, 6, 7, 8]));
+    assert!(rt; client.tells(0, false, NOTHING, 26));
+    assert!(rt; client.tells_image(0, 2, 6, 26));
+    assert!(rt; client.tells(1, true, [19, 20, 23], 29));
+    assert!(rt; client.is_retouched(&rt, rt.alloc(), 2, [9, 9, 9, 9]));
+    assert!(rt; client.is_switched(5, false));
+    assert!(rt; client.tells(0, true, [19, NONE, NONE], 29));
+    assert!(rt; client.tells(0, true, NOTHING, 26));
+}
+
+#[test]
+fn looks_are_those_of_groups_with_something_pending(rt: HostRuntime) {
+    let mut client = Client::new(&rt, rt.alloc());
+    assert!(rt; client.is_issued(&Command::ClearColor(GREY)));
+    assert!(rt; client.tells(0, false, [17, NONE, NONE], 15));
+    assert!(rt; client.is_painted(&rt, rt.alloc(), 1, [0, 255, 0, 255]));
+    assert!(rt; client.tells(0, false, NOTHING, 26));
+    assert!(rt; client.tells(1, false, [17, NONE, NONE], 31));
+    assert!(rt; client.is_switched(5, true));
+    assert!(rt; client.tells(0, true, [19, 22, NONE], 29));
+    assert!(rt; client.tells(0, true, NOTHING, 1));
 }

@@ -1,5 +1,5 @@
 -- Generated scenes are within the limits, and their commands' fields in their ranges.
-use Rattle.std.proofs.Common.{◌≡◌, ℕ, zero, suc, ◌+◌, ◌-◌, ◌*◌, ◌%◌, ◌<◌, ◌≤◌, Bool, true, false, cond, List, [], ◌∷◌, ◌++◌, length, map, None, refl, ◌∙◌, arith, length-append, le-leb, lit<, lit≤, Some}
+use Rattle.std.proofs.Common.{◌≡◌, ℕ, zero, suc, ◌+◌, ◌*◌, ◌%◌, ◌<◌, ◌≤◌, Bool, true, false, cond, List, [], ◌∷◌, ◌++◌, length, map, None, refl, ◌∙◌, arith, length-append, le-leb, lit<, lit≤, Some}
 use Rattle.std.specs.Prelude.{not, ◌&&◌, pos, ◌-ℤ◌, ◌==◌, FitsSigned, if◌then◌else◌}
 use Rattle.std.specs.Int.{w32}
 use Rattle.std.specs.List.{flat_map, range_with_len, AllByRecursion}

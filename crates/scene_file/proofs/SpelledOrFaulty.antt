@@ -38,7 +38,7 @@ faulty_by bytes (broken.Form kind left) f h = inr (kind, h.0, h.1)
 
 field_form : (f : Form) → IsForm (field_fault (errors.Form f))
 field_form (forms.BadCount left) = tt
-field_form (forms.UnknownOpcode left) = tt
+field_form (forms.Unknown left) = tt
 field_form forms.Truncated = tt
 
 stream_form : (f : PackFault) (size : ℕ) → IsFault f → IsForm (stream_fault f size)

@@ -38,7 +38,7 @@ size_of_text text after = omega (arith, length-append (stream_text text) after, 
 pub text_field : (bytes : List ℕ) (e : ReadError) → AreBytes bytes → Fails e (read_text bytes) → TextFailsBy bytes (field_fault e)
 text_field bytes errors.Memory fits h = tt
 text_field bytes (errors.Form (forms.BadCount left)) fits h = let a = (text_codec.maker.cut bytes (forms.BadCount left) fits h).0 in absurd cc
-text_field bytes (errors.Form (forms.UnknownOpcode left)) fits h = let a = (text_codec.maker.cut bytes (forms.UnknownOpcode left) fits h).0 in absurd cc
+text_field bytes (errors.Form (forms.Unknown left)) fits h = let a = (text_codec.maker.cut bytes (forms.Unknown left) fits h).0 in absurd cc
 text_field bytes (errors.Form forms.Truncated) fits h =
     let cut = (text_codec.maker.cut bytes forms.Truncated fits h).1 in
     inl (record { text = cut.value; fits = cut.fits.0; is_part = record { more = cut.more; parts = cut.whole; some = cut.some } }, refl)
@@ -124,7 +124,7 @@ cut_head bytes body parts cut = record {
 
 head_cut : (bytes body : List ℕ) (f : Form) → bytes ≡ magic ++ body → (f ≡ forms.Truncated) × CutOff head_text IsHead body → SceneFailsBy bytes (field_fault (errors.Form f))
 head_cut bytes body (forms.BadCount left) parts h = let a = h.0 in absurd cc
-head_cut bytes body (forms.UnknownOpcode left) parts h = let a = h.0 in absurd cc
+head_cut bytes body (forms.Unknown left) parts h = let a = h.0 in absurd cc
 head_cut bytes body forms.Truncated parts h = (length bytes, inl (cut_head bytes body parts h.1, refl), omega arith)
 
 pub head_fails : (bytes body : List ℕ) (e : ReadError) → AreBytes bytes → bytes ≡ magic ++ body → Fails e (read_head body) → SceneFailsBy bytes (field_fault e)

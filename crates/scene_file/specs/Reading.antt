@@ -59,7 +59,7 @@ read_text = convert second (sized (read_unsigned w32) take_bytes)
 -- a fault of a field of the header or of a stream's length
 abbrev pub form_fault : Form → Broken
 form_fault (forms.BadCount left) = broken.Form kinds.BadCount left
-form_fault (forms.UnknownOpcode left) = broken.Form kinds.UnknownOpcode left
+form_fault (forms.Unknown left) = broken.Form kinds.UnknownOpcode left
 form_fault forms.Truncated = broken.Form kinds.Truncated 0
 
 abbrev pub field_fault : ReadError → Broken

@@ -37,7 +37,7 @@ impl From<Form> for Broken {
     fn from(form: Form) -> Broken {
         let (kind, left) = match form {
             Form::BadCount { left } => (SceneKind::BadCount, left),
-            Form::UnknownOpcode { left } => (SceneKind::UnknownOpcode, left),
+            Form::Unknown { left } => (SceneKind::UnknownOpcode, left),
             Form::Truncated => (SceneKind::Truncated, 0),
         };
         Broken::Form { kind, left }

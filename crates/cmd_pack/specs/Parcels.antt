@@ -1,0 +1,4 @@
+-- Parcels as bytes.
+pub mod Spelling
+pub mod Reading
+pub mod Faults
