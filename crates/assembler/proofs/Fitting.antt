@@ -10,7 +10,7 @@ use Rattle.rc_base.specs.Drawing.Images.{rgb_of}
 use Rattle.rc_base.specs.Cluster.Tiles.{boundary_of, is_in_interval, tile_column, tile_count, tile_pixels, tile_row}
 use Rattle.rc_base.specs.declared.cluster.TilePart.{TilePart}
 use Rattle.rc_base.specs.declared.window.Layout.{Layout}
-use Rattle.assembler.specs.Parts.{AreParts, part_size}
+use Rattle.assembler.specs.Parts.{ArePartsOf, part_size}
 use Rattle.assembler.specs.Runs.{run_bytes}
 
 pub boundary_rises : (side parts i j : ℕ) → 0 < parts → i ≤ j → boundary_of side parts i ≤ boundary_of side parts j
@@ -24,6 +24,12 @@ first_boundary side parts = omega (arith, div-le_self (0 * side) parts, zero-mul
 
 pub last_boundary : (side parts : ℕ) → 0 < parts → boundary_of side parts parts ≡ side
 last_boundary side parts some = mul-div_cancel_left side some
+
+pub next_boundary : (side parts j : ℕ) → 0 < parts → boundary_of side parts j + part_size side parts j ≡ boundary_of side parts (j + 1)
+next_boundary side parts j some = omega (arith, boundary_rises side parts j (j + 1) some (omega arith))
+
+pub boundary_below : (side parts j : ℕ) → 0 < parts → j ≤ parts → boundary_of side parts j ≤ side
+boundary_below side parts j some le = omega (arith, boundary_rises side parts j parts some le, last_boundary side parts some)
 
 -- ---- tiles by their columns and rows
 
@@ -44,14 +50,14 @@ some_at (a ∷ l) zero lt = (a, refl)
 some_at (a ∷ l) (suc i) lt = some_at l i (omega arith)
 
 -- the part of a tile has room for each of its lines
-pub line_fits : (l : Layout) (parts : List TilePart) (row line column : ℕ) (p : TilePart) → AreParts l parts → row < l.rows → column < l.columns
+pub line_fits : (l : Layout) (parts : List TilePart) (row line column : ℕ) (p : TilePart) → ArePartsOf l parts → row < l.rows → column < l.columns
     → line < part_size l.height l.rows row → slice_get parts (row * l.columns + column) ≡ Some p
     → line * part_size l.width l.columns column + part_size l.width l.columns column ≤ length p.pixels
 line_fits l parts row line column p are few low below is =
     let wide = part_size l.width l.columns column in
     let high = part_size l.height l.rows row in
     let size : length p.pixels ≡ wide * high =
-    (are.each (row * l.columns + column) p is).2
+    are.size (row * l.columns + column) p is
     ∙ ap (λ (j : ℕ). part_size l.width l.columns j * part_size l.height l.rows (tile_row l (row * l.columns + column))) (column_is l row column low)
     ∙ ap (λ (j : ℕ). wide * part_size l.height l.rows j) (row_is l row column low) in
     let more : wide * (line + 1) ≤ wide * high = mul-le-mul_left wide (omega (arith, below)) in
@@ -75,7 +81,7 @@ read_at [] i a lt read = absurd (omega arith)
 read_at (b ∷ l) zero a lt read = ap (λ z. Some z) (sym read)
 read_at (b ∷ l) (suc i) a lt read = read_at l i a (omega arith) read
 
-pub part_read : (l : Layout) (parts : List TilePart) (row column : ℕ) (p : TilePart) → AreParts l parts → row < l.rows → column < l.columns
+pub part_read : (l : Layout) (parts : List TilePart) (row column : ℕ) (p : TilePart) → ArePartsOf l parts → row < l.rows → column < l.columns
     → p ≡ get_or parts (row * l.columns + column) p → slice_get parts (row * l.columns + column) ≡ Some p
 part_read l parts row column p are few low read =
     read_at parts (row * l.columns + column) p (let e = tile_below l row column low few in omega (arith, e, are.count)) read

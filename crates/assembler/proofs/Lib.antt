@@ -3,3 +3,7 @@ pub mod Fitting
 pub mod Whole
 pub mod Checked
 pub mod Shown
+pub mod Pictures
+pub mod Writing
+pub mod Waiting
+pub mod Underway

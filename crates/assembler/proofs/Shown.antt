@@ -10,7 +10,7 @@ use Rattle.rc_base.specs.Cluster.Tiles.{boundary_of, is_in_interval, tile_at, ti
 use Rattle.rc_base.specs.Drawing.Serial.{blank_pixel}
 use Rattle.rc_base.specs.declared.cluster.TilePart.{TilePart}
 use Rattle.rc_base.specs.declared.window.Layout.{Layout}
-use Rattle.assembler.specs.Parts.{AreParts, ShowPixels, pixels_of, place_in_part, shown, tile_height, tile_width}
+use Rattle.assembler.specs.Parts.{ArePartsOf, ShowPixels, pixels_of, place_in_part, shown, tile_height, tile_width}
 use Rattle.assembler.proofs.Fitting.{boundary_rises}
 use Rattle.assembler.proofs.Checked.{below_length}
 
@@ -84,10 +84,10 @@ place_below l tile x y p =
     let column : x - boundary_of l.width l.columns (tile_column l tile) < wide = omega (arith, p.across.low, p.across.high) in
     omega (arith, more, column)
 
-pub parts_show : (l : Layout) (parts : List TilePart) → 0 < l.columns → 0 < l.rows → AreParts l parts → ShowPixels l parts (shown l parts)
+pub parts_show : (l : Layout) (parts : List TilePart) → 0 < l.columns → 0 < l.rows → ArePartsOf l parts → ShowPixels l parts (shown l parts)
 parts_show l parts columns rows are tile x y p is has =
     let few : tile < tile_count l = (let k = below_length parts tile p is in omega (arith, k, are.count)) in
-    let size : length p.pixels ≡ tile_width l tile * tile_height l tile = (are.each tile p is).2 in
+    let size : length p.pixels ≡ tile_width l tile * tile_height l tile = are.size tile p is in
     let place = place_in_part l tile x y in
     let here : place < length p.pixels = (let k = place_below l tile x y (has_place l tile x y has) in omega (arith, k, size)) in
     stands_at p.pixels place blank_pixel here

@@ -10,7 +10,7 @@ use Rattle.rc_base.specs.Cluster.Tiles.{boundary_of, tile_column, tile_row}
 use Rattle.rc_base.specs.declared.cluster.TilePart.{TilePart}
 use Rattle.rc_base.specs.declared.window.Layout.{Layout}
 use Rattle.rc_base.specs.declared.window.Pixel.{Pixel}
-use Rattle.assembler.specs.Parts.{AreParts, ShowPixels, part_size, place_in_part}
+use Rattle.assembler.specs.Parts.{ArePartsOf, ShowPixels, part_size, place_in_part}
 use Rattle.assembler.specs.Runs.{all_bytes, line_bytes, run_bytes, tile_row_bytes}
 use Rattle.assembler.proofs.InTurn.{by_parts, down, down_by_parts, is_down, same_in_turn}
 use Rattle.assembler.proofs.Fitting.{boundary_rises, column_is, first_boundary, last_boundary, row_is, some_at, tile_below, tile_has}
@@ -32,7 +32,7 @@ run ps g at a (suc n) h =
     let t : a + (i + 1) ≡ (a + 1) + i = omega arith in
     rw (s, t) at (h (i + 1) (omega (arith, lt)))))
 
-module _ (l : Layout) (parts : List TilePart) (pixels : ℤ → ℤ → Pixel) (are : AreParts l parts) (show : ShowPixels l parts pixels) (some_columns : 0 < l.columns) (some_rows : 0 < l.rows) where
+module _ (l : Layout) (parts : List TilePart) (pixels : ℤ → ℤ → Pixel) (are : ArePartsOf l parts) (show : ShowPixels l parts pixels) (some_columns : 0 < l.columns) (some_rows : 0 < l.rows) where
   abbrev left : ℕ → ℕ
   left = boundary_of l.width l.columns
 

@@ -1,2 +1,7 @@
 pub mod Parts
 pub mod Runs
+pub mod Places
+pub mod Assembled
+pub mod Lent
+pub mod Laws
+pub mod Underway

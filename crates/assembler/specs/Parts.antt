@@ -2,9 +2,11 @@
 use Rattle.std.specs.Prelude.{◌≡◌, ℕ, ◌+◌, ◌-◌, ◌*◌, true, List, [], length, Some, slice_get, slice_index_or, ℤ, pos}
 use Rattle.std.specs.Option.{option_map_or}
 use Rattle.rc_base.specs.Numbers.{natural}
+use Rattle.rc_base.specs.Drawing.Images.{Pixels, rgb_bytes}
 use Rattle.rc_base.specs.Drawing.Serial.{blank_pixel}
 use Rattle.rc_base.specs.Cluster.Tiles.{boundary_of, tile_at, tile_column, tile_count, tile_pixels, tile_row}
 use Rattle.rc_base.specs.declared.cluster.TilePart.{TilePart}
+use Rattle.rc_base.specs.declared.image.Image.{Image}
 use Rattle.rc_base.specs.declared.window.Layout.{Layout}
 use Rattle.rc_base.specs.declared.window.Pixel.{Pixel}
 
@@ -23,6 +25,11 @@ pub record AreParts (l : Layout) (parts : List TilePart) : Type 0 where
   pub frame : ℕ
   pub count : length parts ≡ tile_count l
   pub each : (tile : ℕ) (p : TilePart) → slice_get parts tile ≡ Some p → (p.tile ≡ tile) × (p.frame ≡ frame) × (length p.pixels ≡ tile_width l tile * tile_height l tile)
+
+-- one part for each tile, in the order of the tiles, each with its tile's number of pixels
+pub record ArePartsOf (l : Layout) (parts : List TilePart) : Type 0 where
+  pub count : length parts ≡ tile_count l
+  pub size : (tile : ℕ) (p : TilePart) → slice_get parts tile ≡ Some p → length p.pixels ≡ tile_width l tile * tile_height l tile
 
 -- where a pixel of the window stands in the part of its tile: rows from the bottom, in each row from the left
 abbrev pub place_in_part : Layout → ℕ → ℕ → ℕ → ℕ
@@ -44,3 +51,17 @@ abbrev pub shown : Layout → List TilePart → ℤ → ℤ → Pixel
 shown l parts x y =
     let tile = tile_at l (natural x) (natural y) in
     slice_index_or (pixels_of parts tile) (place_in_part l tile (natural x) (natural y)) blank_pixel
+
+-- the image of these pixels of the window
+abbrev pub window_image : Layout → Pixels → Image
+window_image l pixels = record { width = l.width; height = l.height; rgb = rgb_bytes pixels l.width l.height }
+
+-- the image of parts: each pixel from its tile's part
+abbrev pub picture : Layout → List TilePart → Image
+picture l parts = window_image l (shown l parts)
+
+-- an image with the window's sides and their number of bytes
+pub record IsRoomFor (l : Layout) (image : Image) : Type 0 where
+  pub width : image.width ≡ l.width
+  pub height : image.height ≡ l.height
+  pub bytes : length image.rgb ≡ 3 * l.width * l.height

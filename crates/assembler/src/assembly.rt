@@ -4,9 +4,8 @@ ghost use Rattle.rc_base.specs.Drawing.Images.{rgb_bytes};
 ghost use Rattle.rc_base.specs.declared.window.Pixel.{Pixel};
 ghost use Rattle.assembler.specs.Parts.{AreParts, ShowPixels, shown};
 
-use crate::rows::add_rows;
+use crate::images::{blank_image, write_image};
 use rc_base::cluster::TilePart;
-use rc_base::command::Bytes;
 use rc_base::image::Image;
 use rc_base::out_of_memory::OutOfMemory;
 use rc_base::window::Layout;
@@ -23,13 +22,7 @@ pub fn assemble(alloc: Global, layout: &Layout, parts: &[TilePart]) -> Result<Im
     ensures bytes { IfOk result (λ m. m.rgb ≡ rgb_bytes (shown layout.now parts.now) layout.now.width layout.now.height) }
     ensures pixels { (pixels : ℤ → ℤ → Pixel) → ShowPixels layout.now parts.now pixels → IfOk result (λ m. m.rgb ≡ rgb_bytes pixels layout.now.width layout.now.height) }
 {
-    let Layout { width, height, .. } = *layout;
-    let count = 3 * (usize::from(width) * usize::from(height));
-    let mut rgb = Vec::with_capacity(alloc, count)?;
-    add_rows(&mut rgb, layout, parts)?;
-    Ok(Image {
-        width,
-        height,
-        rgb: Bytes::from_vec(rgb),
-    })
+    let mut image = blank_image(alloc, layout)?;
+    write_image(&mut image, layout, parts);
+    Ok(image)
 }

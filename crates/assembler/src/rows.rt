@@ -1,14 +1,13 @@
 //! The rows of an image, each in runs of one tile's pixels.
-ghost use Rattle.std.specs.Prelude.{◌≡◌, ◌+◌, ◌*◌, ◌<◌, ◌≤◌, ◌++◌, OnOk, length, take, drop};
-ghost use Rattle.std.specs.List.{flat_map, range_with_len};
+ghost use Rattle.std.specs.Prelude.{◌≡◌, ◌+◌, ◌*◌, ◌<◌, ◌≤◌, length, take, drop};
+ghost use Rattle.std.specs.List.{flat_map};
 ghost use Rattle.rc_base.specs.Drawing.Images.{rgb_of};
 ghost use Rattle.rc_base.specs.Cluster.Tiles.{boundary_of};
-ghost use Rattle.assembler.specs.Parts.{AreParts, part_size};
+ghost use Rattle.assembler.specs.Parts.{ArePartsOf, part_size};
 ghost use Rattle.assembler.specs.Runs.{all_bytes, line_bytes, run_bytes, tile_row_bytes};
 
 use rc_base::cluster::TilePart;
 use rc_base::command::Rgba;
-use rc_base::out_of_memory::OutOfMemory;
 use rc_base::window::{Layout, Pixel};
 
 // Where part `j` of a side begins.
@@ -28,31 +27,25 @@ pub(crate) fn size_of_part(side: u16, parts: u8, j: usize) -> usize
     boundary(side, parts, j + 1) - boundary(side, parts, j)
 }
 
-// How many bytes the colours of pixels have.
-fn byte_count(pixels: &[Pixel]) -> usize
-    ensures { result ≡ 3 * length pixels.now }
+// Writes the colours of pixels.
+fn copy_run(out: &mut [u8], pixels: &[Pixel])
+    requires { length out.old ≡ 3 * length pixels.now }
+    ensures { out.new ≡ flat_map rgb_of pixels.now }
 {
-    3 * pixels.len()
-}
-
-// Adds the colours of pixels.
-fn add_run(rgb: &mut Vec<u8>, pixels: &[Pixel]) -> Result<(), OutOfMemory>
-    ensures { OnOk result (rgb.new.items ≡ rgb.old.items ++ flat_map rgb_of pixels.now) }
-{
-    rgb.reserve(byte_count(pixels))?;
-    for pixel in pixels {
+    let _count = out.len();
+    for (i, pixel) in pixels.iter().enumerate() {
         let Rgba { r, g, b, .. } = pixel.color;
-        rgb.push_reserved(r);
-        rgb.push_reserved(g);
-        rgb.push_reserved(b);
+        out[3 * i] = r;
+        out[3 * i + 1] = g;
+        out[3 * i + 2] = b;
     }
-    Ok(())
 }
 
 // The pixels of one line of a part, from its bottom, which is so many pixels wide.
 fn line_of(part: &TilePart, wide: usize, line: usize) -> &[Pixel]
     requires { line * wide + wide ≤ length part.now.pixels }
-    ensures { result.now ≡ take wide (drop (line * wide) part.now.pixels) }
+    ensures run { result.now ≡ take wide (drop (line * wide) part.now.pixels) }
+    ensures size { length result.now ≡ wide }
 {
     let pixels = part.pixels.as_slice();
     let _count = pixels.len();
@@ -60,74 +53,76 @@ fn line_of(part: &TilePart, wide: usize, line: usize) -> &[Pixel]
     &pixels[from..from + wide]
 }
 
-// Adds what one tile has of a line of its row of tiles.
-fn add_part_line(
-    rgb: &mut Vec<u8>,
+// Writes what one tile has of a line of its row of tiles.
+fn write_part_line(
+    out: &mut [u8],
     layout: &Layout,
     parts: &[TilePart],
     row: usize,
     line: usize,
     column: usize,
-) -> Result<(), OutOfMemory>
-    requires parts { AreParts layout.now parts.now }
+)
+    requires parts { ArePartsOf layout.now parts.now }
     requires row { row < layout.now.rows }
     requires line { line < part_size layout.now.height layout.now.rows row }
     requires column { column < layout.now.columns }
-    ensures { OnOk result (rgb.new.items ≡ rgb.old.items ++ run_bytes layout.now parts.now row line column) }
+    requires room { length out.old ≡ 3 * part_size layout.now.width layout.now.columns column }
+    ensures { out.new ≡ run_bytes layout.now parts.now row line column }
 {
     let wide = size_of_part(layout.width, layout.columns, column);
     let part = &parts[row * usize::from(layout.columns) + column];
-    add_run(rgb, line_of(part, wide, line))
+    copy_run(out, line_of(part, wide, line));
 }
 
-// Adds a line of a row of tiles, from its bottom.
-#[tactic(auto, using(crate::proofs::InTurn::added, std::proofs::lemmas::List::append_assoc), unfolding(crate::specs::Runs::line_bytes))]
-fn add_line(
-    rgb: &mut Vec<u8>,
-    layout: &Layout,
-    parts: &[TilePart],
-    row: usize,
-    line: usize,
-) -> Result<(), OutOfMemory>
-    requires parts { AreParts layout.now parts.now }
+// Writes a line of a row of tiles, from its bottom.
+fn write_line(out: &mut [u8], layout: &Layout, parts: &[TilePart], row: usize, line: usize)
+    requires parts { ArePartsOf layout.now parts.now }
+    requires columns { 0 < layout.now.columns }
     requires row { row < layout.now.rows }
     requires line { line < part_size layout.now.height layout.now.rows row }
-    ensures { OnOk result (rgb.new.items ≡ rgb.old.items ++ line_bytes layout.now parts.now row line) }
+    requires room { length out.old ≡ 3 * layout.now.width }
+    ensures { out.new ≡ line_bytes layout.now parts.now row line }
 {
+    let mut from = 0;
     for column in 0..usize::from(layout.columns) {
-        add_part_line(rgb, layout, parts, row, line, column)?;
+        let to = from + 3 * size_of_part(layout.width, layout.columns, column);
+        write_part_line(&mut out[from..to], layout, parts, row, line, column);
+        from = to;
     }
-    Ok(())
 }
 
-// Adds a row of tiles, its lines from the top.
-#[tactic(auto, using(crate::proofs::InTurn::added, std::proofs::lemmas::List::append_assoc), unfolding(crate::specs::Runs::tile_row_bytes))]
-fn add_tile_row(
-    rgb: &mut Vec<u8>,
-    layout: &Layout,
-    parts: &[TilePart],
-    row: usize,
-) -> Result<(), OutOfMemory>
-    requires parts { AreParts layout.now parts.now }
+// Writes a row of tiles, its lines from the top.
+fn write_tile_row(out: &mut [u8], layout: &Layout, parts: &[TilePart], row: usize)
+    requires parts { ArePartsOf layout.now parts.now }
+    requires columns { 0 < layout.now.columns }
     requires row { row < layout.now.rows }
-    ensures { OnOk result (rgb.new.items ≡ rgb.old.items ++ tile_row_bytes layout.now parts.now row) }
+    requires room { length out.old ≡ 3 * layout.now.width * part_size layout.now.height layout.now.rows row }
+    ensures { out.new ≡ tile_row_bytes layout.now parts.now row }
 {
+    let wide = 3 * usize::from(layout.width);
     let high = size_of_part(layout.height, layout.rows, row);
+    let mut from = 0;
     for k in 0..high {
-        add_line(rgb, layout, parts, row, high - 1 - k)?;
+        let to = from + wide;
+        write_line(&mut out[from..to], layout, parts, row, high - 1 - k);
+        from = to;
     }
-    Ok(())
 }
 
-/// Adds the bytes of all rows of tiles, from the top.
-#[tactic(auto, using(crate::proofs::InTurn::added, std::proofs::lemmas::List::append_assoc), unfolding(crate::specs::Runs::all_bytes))]
-pub fn add_rows(rgb: &mut Vec<u8>, layout: &Layout, parts: &[TilePart]) -> Result<(), OutOfMemory>
-    requires parts { AreParts layout.now parts.now }
-    ensures { OnOk result (rgb.new.items ≡ rgb.old.items ++ all_bytes layout.now parts.now) }
+/// Writes the bytes of all rows of tiles, from the top.
+pub fn write_rows(out: &mut [u8], layout: &Layout, parts: &[TilePart])
+    requires parts { ArePartsOf layout.now parts.now }
+    requires columns { 0 < layout.now.columns }
+    requires rows { 0 < layout.now.rows }
+    requires room { length out.old ≡ 3 * layout.now.width * layout.now.height }
+    ensures { out.new ≡ all_bytes layout.now parts.now }
 {
+    let wide = 3 * usize::from(layout.width);
     let rows = usize::from(layout.rows);
+    let mut from = 0;
     for k in 0..rows {
-        add_tile_row(rgb, layout, parts, rows - 1 - k)?;
+        let to = from + wide * size_of_part(layout.height, layout.rows, rows - 1 - k);
+        write_tile_row(&mut out[from..to], layout, parts, rows - 1 - k);
+        from = to;
     }
-    Ok(())
 }

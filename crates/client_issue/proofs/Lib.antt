@@ -2,6 +2,7 @@ mod Giving
 mod Marking
 mod Issuing
 mod ParcelGiven
+mod Packable
 mod Requesting
 mod Ends
 mod Prepared

@@ -5,6 +5,7 @@ ghost use Rattle.rc_base.specs.Formats.Commands.{IsCommand};
 ghost use Rattle.rc_base.specs.Formats.Within.{IsWithin, IsLayoutFor};
 ghost use Rattle.rc_base.specs.Contexts.Issue.{stream_of};
 ghost use Rattle.rc_base.specs.Cluster.Tiles.{tile_count};
+ghost use Rattle.rc_base.specs.Cluster.Parcels.{end_parcel};
 ghost use Rattle.rc_base.specs.Cluster.Sending.{sent_by};
 ghost use Rattle.client_issue.specs.Cores.{IsClientOf, issued_of, layout_of, left_in, short_of, no_tally, tally_of_tile};
 ghost use Rattle.client_issue.specs.Sequence.{IsSending, alone, left_of, sent_from};
@@ -12,12 +13,14 @@ ghost use Rattle.client_issue.specs.Sequence.{IsSending, alone, left_of, sent_fr
 use crate::client::ClientCore;
 use crate::copies::{copy_of_decl, copy_of_stream};
 use crate::sender::Sender;
+use cmd_pack::{Packed, encode_parcel};
 use gl_context::Context;
 use gl_context::laws::streams_go_on_by_issue;
 use rc_base::cluster::Tally;
 use rc_base::command::{Command, Commands};
 use rc_base::out_of_memory::OutOfMemory;
 use rc_base::scene::{Decl, Scene};
+use rc_base::state::{Act, Parcel, Sets};
 use rc_base::sync::SyncOps;
 use rc_base::window::Layout;
 use state_update::Tracker;
@@ -76,6 +79,22 @@ fn no_tallies(alloc: Global, count: u8) -> Result<Vec<Tally>, OutOfMemory>
     Ok(tallies)
 }
 
+// The End parcels, one for each tile.
+fn end_parcels(alloc: Global, count: u8, place: u32) -> Result<Vec<Packed>, OutOfMemory>
+    ensures { IfOk result (λ v. v.items ≡ replicate count (end_parcel place)) }
+{
+    let parcel = Parcel {
+        place,
+        sets: Sets::new(alloc),
+        act: Act::End,
+    };
+    let mut ends = Vec::with_capacity(alloc, usize::from(count))?;
+    for _ in 0..count {
+        ends.push(encode_parcel(alloc, &parcel)?)?;
+    }
+    Ok(ends)
+}
+
 fn count_of(layout: &Layout) -> u8
     requires { tile_count layout.now ≤ 32 }
     ensures { result ≡ tile_count layout.now }
@@ -92,7 +111,7 @@ fn commands_of(scene: &Scene, client: u8) -> &[Command]
 
 impl ClientCore {
     /// The core of a client of a scene, with a copy of its commands, before its first step. The scene is within the limits, and the layout is
-    /// one for it with lanes of some depth. End parcels take no memory.
+    /// one for it with lanes of some depth. The End parcels are made here, so that later they take no memory.
     #[tactic(auto, unfolding(crate::specs::Sequence::IsSound))]
     pub fn new(
         alloc: Global,
@@ -114,11 +133,12 @@ impl ClientCore {
         let stream = copy_of_stream(alloc, commands)?;
         let sender = first_sender(alloc, &scene.decl, stream, layout, count)?;
         let tallies = no_tallies(alloc, count)?;
+        let last = end_parcels(alloc, count, commands.len() as u32)?;
         Ok(ClientCore {
-            alloc,
             sender,
             ready: None,
             ends: 0,
+            last,
             short: false,
             tallies,
         })

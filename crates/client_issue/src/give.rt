@@ -7,10 +7,10 @@ ghost use Rattle.client_issue.specs.Acts.{act_looks, act_sets, examines};
 ghost use Rattle.client_issue.specs.Sequence.{HasLooks, IsForTile, IsOfLast, IsOver, IsSame, IsSending, IsSendingWith, left_of, left_with, item_of, items_of, scene_of};
 
 use crate::acts::next_tile;
-use crate::copies::copy_of_act;
 use crate::item::Item;
 use crate::pending::Pending;
 use crate::sender::Sender;
+use cmd_pack::encode_parcel;
 use dirty_bits::Looks;
 use gl_context::Context;
 use gl_context::laws::{contexts_of_streams_are_valid, streams_go_on_by_issue};
@@ -53,7 +53,7 @@ fn sets_with(
 }
 
 impl Sender {
-    // The parcel for the next tile. The last tile gets the act itself, each other one a copy.
+    // The parcel for the next tile, packed.
     fn give_parcel(&mut self, pending: Pending) -> Result<Item, OutOfMemory>
         requires none { self.old.pending ≡ None }
         requires sending { IsSendingWith self.old (Some pending) }
@@ -88,29 +88,25 @@ impl Sender {
             tiles,
             ..
         } = pending;
+        let parcel = Parcel { place, sets, act };
+        let packed = encode_parcel(self.alloc, &parcel)?;
         if next == self.count {
-            let parcel = Parcel { place, sets, act };
             return Ok(Item::Parcel {
                 tile,
-                parcel,
+                parcel: packed,
                 looks,
             });
         }
-        let copy = copy_of_act(self.alloc, &act)?;
+        let Parcel { act, .. } = parcel;
         self.pending = Some(Pending {
             place,
             act,
             tiles,
             tile: next,
         });
-        let parcel = Parcel {
-            place,
-            sets,
-            act: copy,
-        };
         Ok(Item::Parcel {
             tile,
-            parcel,
+            parcel: packed,
             looks,
         })
     }

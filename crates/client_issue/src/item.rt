@@ -1,5 +1,5 @@
 //! An item of the sequence, and where it goes.
-use rc_base::state::Parcel;
+use cmd_pack::Packed;
 use rc_base::sync::Request;
 
 /// A parcel to a tile with the looks that it cost, or a request to the manager.
@@ -7,7 +7,7 @@ use rc_base::sync::Request;
 pub(crate) enum Item {
     Parcel {
         tile: u8,
-        parcel: Parcel,
+        parcel: Packed,
         looks: u64,
     },
     Request(Request),

@@ -2,8 +2,8 @@
 ghost use Rattle.client_issue.specs.Clauses.{ClientsAreUnderWay, ClientStepsOverLanesKeepTheClause, EndedClientsAreDone, NewClientsMeetTheirClause};
 ghost use Rattle.client_issue.specs.Laws.{SequencesAreSplit, ParcelsRiseAndEnd};
 
+use cmd_pack::Packed;
 use rc_base::lane::Outlet;
-use rc_base::state::Parcel;
 use rc_base::sync::Request;
 
 /// A client's sequence has for each tile of the layout exactly the client's parcels to it, and for the manager exactly its requests. The
@@ -22,6 +22,6 @@ pub fn clients_meet_their_clause()
 {}
 
 /// And it meets its clause after each step, by the contract of `ClientCore::step` alone.
-pub fn clients_meet_their_clause_over_lanes<P: Outlet<Parcel>, Q: Outlet<Request>>()
+pub fn clients_meet_their_clause_over_lanes<P: Outlet<Packed>, Q: Outlet<Request>>()
     ensures { ClientStepsOverLanesKeepTheClause P.sent P.full_seen P.full Q.sent Q.full_seen Q.full }
 {}

@@ -11,10 +11,10 @@ ghost use Rattle.client_issue.specs.Steps.{AreSent, IsClientStep, IsCutShort, Is
 use crate::client::ClientCore;
 use crate::item::Item;
 use crate::lanes::append;
+use cmd_pack::Packed;
 use rc_base::cluster::{ClientMoved, Tally};
 use rc_base::lane::Outlet;
 use rc_base::out_of_memory::OutOfMemory;
-use rc_base::state::{Act, Parcel, Sets};
 use rc_base::sync::Request;
 
 impl ClientCore {
@@ -42,11 +42,7 @@ impl ClientCore {
         if tile == self.sender.count {
             return Some(Item::Request(Request::End));
         }
-        let parcel = Parcel {
-            place: self.sender.stream.len() as u32,
-            sets: Sets::new(self.alloc),
-            act: Act::End,
-        };
+        let parcel = self.last.pop()?;
         Some(Item::Parcel {
             tile,
             parcel,
@@ -122,7 +118,7 @@ impl ClientCore {
 
     // Appends the item that is ready to its lane, or keeps it where that lane is full.
     #[tactic(auto, unfolding(crate::specs::Sequence::IsSound))]
-    fn send<P: Outlet<Parcel>, Q: Outlet<Request>>(
+    fn send<P: Outlet<Packed>, Q: Outlet<Request>>(
         &mut self,
         tiles: &mut [P],
         requests: &mut Q,
@@ -144,7 +140,7 @@ impl ClientCore {
                     looks,
                 },
             ) => {
-                let sets = parcel.sets.len();
+                let sets = parcel.set_count();
                 match append(tiles, usize::from(tile), parcel) {
                     Ok(()) => {
                         self.count_parcel(tile, sets, looks);
@@ -177,7 +173,7 @@ impl ClientCore {
     ///
     /// Where memory lacks for what a command gives, the core becomes short: it sends only its End parcels and its End request, for
     /// which it takes none.
-    pub fn step<P: Outlet<Parcel>, Q: Outlet<Request>>(
+    pub fn step<P: Outlet<Packed>, Q: Outlet<Request>>(
         &mut self,
         tiles: &mut [P],
         requests: &mut Q,

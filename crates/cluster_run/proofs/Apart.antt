@@ -46,17 +46,17 @@ module _ {R : Type 0} (cores : List ClientCore) (rows : List (Vec (LaneIn Parcel
 -- ---- tiles
 
 module _ {R : Type 0} (cores : List TileCore) (columns : List (Vec (LaneOut Parcel R) Global)) (grants : List (LaneOut Grant R))
-    (parts : List (Vec TilePart Global)) where
+    (parts : List (LaneIn TilePart R)) where
   pub no_tiles : cores ≡ [] → columns ≡ [] → grants ≡ [] → parts ≡ [] → AreOfTiles [] cores columns grants parts
   no_tiles a b c d = record { cores_are = none _ cores a; columns_are = none _ columns b; grants_are = none _ grants c; parts_are = none _ parts d }
 
   module _ (tasks : List (Task (TileWorker R))) (task : Task (TileWorker R)) (h : AreOfTiles tasks cores columns grants parts) where
     pub one_tile_more : {cores' : List TileCore} {columns' : List (Vec (LaneOut Parcel R) Global)} {grants' : List (LaneOut Grant R)}
-        {parts' : List (Vec TilePart Global)} → (task.worker.lost ≡ false) × (is_short task.worker.core ≡ false)
+        {parts' : List (LaneIn TilePart R)} → is_short task.worker.core ≡ false
         → cores' ≡ cores ++ task.worker.core ∷ [] → columns' ≡ columns ++ task.worker.clients ∷ [] → grants' ≡ grants ++ task.worker.grants ∷ []
         → parts' ≡ parts ++ task.worker.parts ∷ [] → AreOfTiles (tasks ++ task ∷ []) cores' columns' grants' parts'
     one_tile_more ample a b c d = record {
-      cores_are = more _ tasks task cores _ task.worker.core h.cores_are a (record { same = refl; ample = ample.1; kept = ample.0 });
+      cores_are = more _ tasks task cores _ task.worker.core h.cores_are a (record { same = refl; ample = ample });
       columns_are = more _ tasks task columns _ task.worker.clients h.columns_are b refl;
       grants_are = more _ tasks task grants _ task.worker.grants h.grants_are c refl;
       parts_are = more _ tasks task parts _ task.worker.parts h.parts_are d refl;

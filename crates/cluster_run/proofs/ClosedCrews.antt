@@ -1,6 +1,7 @@
 -- A crew that has ended, taken apart and with its lanes closed, is a closed cluster.
-use Rattle.std.proofs.Common.{◌≡◌, ◌<◌, ℕ, Bool, true, false, List, length, sym, ap, ◌∙◌, subst, arith}
-use Rattle.std.specs.Prelude.{slice_index_or, Vec}
+use Rattle.std.proofs.Common.{◌≡◌, ◌<◌, ℕ, Bool, true, false, List, [], ◌∷◌, ◌++◌, length, sym, ap, ◌∙◌, subst, arith, append-nil, zero, suc, refl}
+use Rattle.std.specs.Prelude.{slice_index_or, slice_get, option_to_list, None, Option, Vec}
+use Rattle.std.specs.Option.{option_map_or}
 use Rattle.std.specs.Global.{Global}
 use Rattle.rc_base.proofs.Paired.{some_item}
 use Rattle.rc_base.specs.Lists.{ArePaired, IsFront}
@@ -30,6 +31,8 @@ use Rattle.worker_crew.specs.declared.crew.Crew.{Crew}
 use Rattle.worker_crew.specs.declared.task.Task.{Task}
 use Rattle.cluster_run.specs.Apart.{AreOfClients, AreOfTiles}
 use Rattle.cluster_run.specs.Clusters.{LaneNames, IsEndedCluster}
+use Rattle.cluster_run.specs.Serving.{shown_in_lanes}
+use Rattle.cluster_run.specs.Tiles.{parts_of}
 use Rattle.cluster_run.specs.declared.cores.ClientParts.{ClientParts}
 use Rattle.cluster_run.specs.declared.cores.TileParts.{TileParts}
 use Rattle.cluster_run.specs.declared.workers.ClientWorker.{ClientWorker}
@@ -48,6 +51,12 @@ abbrev pub AreFronts : {R : Type 0} → List (Row R) → List (Column R) → Typ
 AreFronts {R} rows columns = (c t : ℕ) (d : Row R) (e : Column R) (a : LaneIn Parcel R) (b : LaneOut Parcel R) → c < length rows → t < length columns
     → IsFront (taken_of (slice_index_or (slice_index_or columns t e).items c b)) (sent_of (slice_index_or (slice_index_or rows c d).items t a))
 
+-- the lane of a tile's parts
+pub shown_at : {R : Type 0} (ends : List (LaneIn TilePart R)) (t : ℕ) (d : LaneIn TilePart R) → t < length ends → shown_in_lanes ends t ≡ sent_of (slice_index_or ends t d)
+shown_at [] t d low = absurd (omega (arith, low))
+shown_at (a ∷ ends) zero d low = refl
+shown_at (a ∷ ends) (suc t) d low = shown_at ends t d (omega (arith, low))
+
 -- ---- one worker
 
 module _ {R : Type 0} (scene : Scene) (l : Layout) where
@@ -63,12 +72,12 @@ module _ {R : Type 0} (scene : Scene) (l : Layout) where
 
   -- and of a tile's alike
   tile_had : (tile : ℕ) (d : LaneOut Parcel R) (core core' : TileCore) (column column' : Column R) (end end' : LaneOut Grant R)
-      (list list' : Vec TilePart Global) (ended : Bool) → core ≡ core' → column ≡ column' → end ≡ end' → list ≡ list' → ended ≡ true
-      → IsTileClause scene l tile core' (λ client. taken_of (slice_index_or column'.items client d)) (taken_of end') list'.items ended
-      → IsTileClause scene l tile core (λ client. taken_of (slice_index_or column.items client d)) (taken_of end) list.items true
-  tile_had tile d core core' column column' end end' list list' ended a b e p f h =
-      subst (λ (x : TileCore × Column R × LaneOut Grant R × Vec TilePart Global × Bool).
-      IsTileClause scene l tile x.0 (λ client. taken_of (slice_index_or x.1.items client d)) (taken_of x.2) x.3.items x.4)
+      (shown shown' : List TilePart) (ended : Bool) → core ≡ core' → column ≡ column' → end ≡ end' → shown ≡ shown' → ended ≡ true
+      → IsTileClause scene l tile core' (λ client. taken_of (slice_index_or column'.items client d)) (taken_of end') shown' ended
+      → IsTileClause scene l tile core (λ client. taken_of (slice_index_or column.items client d)) (taken_of end) shown true
+  tile_had tile d core core' column column' end end' shown shown' ended a b e p f h =
+      subst (λ (x : TileCore × Column R × LaneOut Grant R × List TilePart × Bool).
+      IsTileClause scene l tile x.0 (λ client. taken_of (slice_index_or x.1.items client d)) (taken_of x.2) x.3 x.4)
       (λ i. (sym a i, sym b i, sym e i, sym p i, f i)) h
 
 -- ---- the crew
@@ -145,6 +154,15 @@ module _ {R : Type 0} (scene : Scene) (l : Layout) (names : LaneNames) (tasks : 
         ap (λ (end : LaneOut Grant R). lane_out end) (tiles.grants_are.at t w d here) ∙ (ended.tile t w low).grants_are;
   }
 
+  pub showing_into : AreInto (tile_count l) names.parts of_tiles.parts.items
+  showing_into = record {
+    size = tiles.parts_are.count ∙ ended.tiles;
+    named = λ t d low.
+        let here = tile_low t low in
+        let w = some_item tasks.tiles.items t here in
+        ap (λ (end : LaneIn TilePart R). lane_in end) (tiles.parts_are.at t w d here) ∙ (ended.tile t w low).parts_are;
+  }
+
   pub asking_paired : NamedEndsArePaired Request R → ArePaired (λ i a b. lane_out b ≡ lane_in a) asking requests
   asking_paired law = law (length scene.streams) names.requests asking requests asking_into
       (subst (λ n. AreOutOf n names.requests requests) (scene_client_count scene) ended.manager.requests_are)
@@ -213,23 +231,33 @@ module _ {R : Type 0} (scene : Scene) (l : Layout) (names : LaneNames) (tasks : 
           ample = core.ample;
         }
 
-    tile_ended : (t : ℕ) (d : TileCore) (e : Vec TilePart Global) → t < tile_count l
-        → IsTileEnded scene l t (slice_index_or of_tiles.cores.items t d) (took t) (heard t) (slice_index_or of_tiles.parts.items t e).items
-    tile_ended t d e low =
+    -- what was sent by the lane of a tile's parts is all that it has shown
+    shown_is : (t : ℕ) (w : Task (TileWorker R)) → t < tile_count l → shown_in_lanes of_tiles.parts.items t ≡ parts_of (slice_index_or tasks.tiles.items t w).worker
+    shown_is t w low =
+        let here = tile_low t low in
+        let e = some_item of_tiles.parts.items t (let n = tiles.parts_are.count in omega (arith, n, here)) in
+        let task = slice_index_or tasks.tiles.items t w in
+        shown_at of_tiles.parts.items t e (let n = tiles.parts_are.count in omega (arith, n, here))
+        ∙ ap (λ (a : LaneIn TilePart R). sent_of a) (tiles.parts_are.at t w e here)
+        ∙ sym (append-nil (sent_of task.worker.parts))
+        ∙ ap (λ (o : Option TilePart). sent_of task.worker.parts ++ option_to_list o) (sym ((ended.tile t w low).none_waits (ended.tiles_end t w low)))
+
+    tile_ended : (t : ℕ) (d : TileCore) → t < tile_count l
+        → IsTileEnded scene l t (slice_index_or of_tiles.cores.items t d) (took t) (heard t) (shown_in_lanes of_tiles.parts.items t)
+    tile_ended t d low =
         let here = tile_low t low in
         let w = some_item tasks.tiles.items t here in
         let core = tiles.cores_are.at t w d here in
         record {
           clause = tile_had scene l t receiver _ _ _ _ _ _ _ _ _ core.same (tiles.columns_are.at t w a_column here) (tiles.grants_are.at t w hearer here)
-              (tiles.parts_are.at t w e here) (ended.tiles_end t w low) ((ended.tile t w low).clause receiver core.kept);
+              (shown_is t w low) (ended.tiles_end t w low) ((ended.tile t w low).clause receiver);
           ample = core.ample;
         }
 
-    pub closed : AreClosed scene l of_clients.cores.items tasks.manager.worker.core of_tiles.cores.items of_tiles.parts.items
+    pub closed : AreClosed scene l of_clients.cores.items tasks.manager.worker.core of_tiles.cores.items (shown_in_lanes of_tiles.parts.items)
     closed = record {
       client_total = clients.cores_are.count ∙ ended.clients;
       tile_total = tiles.cores_are.count ∙ ended.tiles;
-      part_total = tiles.parts_are.count ∙ ended.tiles;
       sent = sent;
       asked = asked;
       granted = granted;

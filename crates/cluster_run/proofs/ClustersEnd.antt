@@ -23,7 +23,7 @@ module _ {R : Type 0} where
         let n = h.tiles in
         let low' : t < length crew.tiles.items = omega arith in
         let first = some_item crew.tiles.items t low' in
-        (run.tiles.at t first w low').led scene l t (λ c. names.parcels c t) (names.grants t) (h.tile t first low);
+        (run.tiles.at t first w low').led scene l t (λ c. names.parcels c t) (names.grants t) (names.parts t) (h.tile t first low);
     tiles_end = λ t w low.
         let n = h.tiles in
         let low' : t < length crew.tiles.items = omega arith in

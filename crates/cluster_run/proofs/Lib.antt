@@ -5,3 +5,4 @@ mod NewCrews
 mod Apart
 mod ClosedCrews
 mod Runs
+mod Serving

@@ -1,9 +1,10 @@
 -- New workers with new lanes are a cluster.
-use Rattle.std.proofs.Common.{◌≡◌, ◌<◌, ℕ, List, [], length, get_or, sym, ap, ◌∙◌, subst, arith}
-use Rattle.std.specs.Prelude.{Vec}
+use Rattle.std.proofs.Common.{◌≡◌, ◌<◌, ℕ, List, [], ◌++◌, length, get_or, sym, ap, ◌∙◌, subst, arith}
+use Rattle.std.specs.Prelude.{Vec, option_to_list}
 use Rattle.std.specs.Global.{Global}
 use Rattle.rc_base.specs.Cluster.Tiles.{tile_count}
 use Rattle.rc_base.specs.Orders.Sync.{client_count, sync_lists_of}
+use Rattle.rc_base.specs.declared.cluster.TilePart.{TilePart}
 use Rattle.rc_base.specs.declared.scene.Scene.{Scene}
 use Rattle.rc_base.specs.declared.state.Parcel.{Parcel}
 use Rattle.rc_base.specs.declared.sync.Grant.{Grant}
@@ -21,17 +22,18 @@ use Rattle.lane_grid.specs.Grids.{IsNewGrid}
 use Rattle.worker_crew.specs.declared.crew.Crew.{Crew}
 use Rattle.cluster_run.specs.Clients.{IsClientWorker}
 use Rattle.cluster_run.specs.Managers.{IsManagerWorker}
-use Rattle.cluster_run.specs.Tiles.{IsTileWorker}
+use Rattle.cluster_run.specs.Tiles.{IsTileWorker, parts_of}
 use Rattle.cluster_run.specs.Clusters.{LaneNames, IsCluster}
-use Rattle.cluster_run.specs.NewWorkers.{AreNewClients, AreNewTiles, IsNewManager}
+use Rattle.cluster_run.specs.NewWorkers.{AreNewClients, AreNewTiles, AreUntaken, IsNewManager}
 use Rattle.cluster_run.specs.declared.workers.ClientWorker.{ClientWorker}
 use Rattle.cluster_run.specs.declared.workers.ManagerWorker.{ManagerWorker}
 use Rattle.cluster_run.specs.declared.workers.TileWorker.{TileWorker}
 
 module _ {R : Type 0} (scene : Scene) (l : Layout) (depth : ℕ) (ins : List (Vec (LaneIn Parcel R) Global)) (outs : List (Vec (LaneOut Parcel R) Global))
     (crew : Crew (ClientWorker R) (ManagerWorker R) (TileWorker R)) (requests : Vec (LaneOut Request R) Global) (grants : Vec (LaneIn Grant R) Global)
+    (parts : Vec (LaneOut TilePart R) Global)
     (some : 0 < length scene.streams) (some_tiles : 0 < tile_count l) (grid : IsNewGrid depth (length scene.streams) (tile_count l) ins outs)
-    (clients : AreNewClients scene l depth ins crew.clients.items requests.items) (tiles : AreNewTiles scene l depth outs crew.tiles.items grants.items)
+    (clients : AreNewClients scene l depth ins crew.clients.items requests.items) (tiles : AreNewTiles scene l depth outs crew.tiles.items grants.items parts.items)
     (manager : IsNewManager scene (tile_count l) requests grants crew.manager) where
   -- ---- something to name where there is no end
 
@@ -66,6 +68,7 @@ module _ {R : Type 0} (scene : Scene) (l : Layout) (depth : ℕ) (ins : List (Ve
     parcels = λ c t. lane_in (get_or (get_or ins c a_row).items t a_sender);
     requests = λ c. lane_in (get_or crew.clients.items c a_client).requests;
     grants = λ t. lane_out (get_or crew.tiles.items t a_tile).grants;
+    parts = λ t. lane_in (get_or crew.tiles.items t a_tile).parts;
   }
 
   -- ---- each worker
@@ -95,13 +98,15 @@ module _ {R : Type 0} (scene : Scene) (l : Layout) (depth : ℕ) (ins : List (Ve
       }
 
   new_tile_is : (t : ℕ) (w : TileWorker R) → t < tile_count l
-      → IsTileWorker scene l t (λ c. names_of.parcels c t) (names_of.grants t) (get_or crew.tiles.items t w)
+      → IsTileWorker scene l t (λ c. names_of.parcels c t) (names_of.grants t) (names_of.parts t) (get_or crew.tiles.items t w)
   new_tile_is t w low =
       let in_columns : t < length outs = (let n = grid.columns in omega (arith, n, low)) in
       let in_crew : t < length crew.tiles.items = omega (arith, tile_total, low) in
       let here = get_or crew.tiles.items t w in
       let new = tiles.workers_are.at t a_column w in_columns in
       let fresh = tiles.grants_are.at t w (some_item grants.items t (let n = tiles.grants_are.count in omega (arith, n, in_crew))) in_crew in
+      let shown = tiles.parts_are.at t w (some_item parts.items t (let n = tiles.parts_are.count in omega (arith, n, in_crew))) in_crew in
+      let unshown : parts_of here ≡ [] = ap (λ o. sent_of here.parts ++ option_to_list o) new.none_waits ∙ ap (λ xs. xs ++ []) shown.unsent in
       let untaken : (d : LaneOut Parcel R) (c : ℕ) → c < length scene.streams → taken_of (get_or here.clients.items c d) ≡ [] =
       λ d c below. subst (λ (v : Vec (LaneOut Parcel R) Global). taken_of (get_or v.items c d) ≡ []) (sym new.clients_are)
       (grid.fresh c t a_row a_column a_sender d below low).untaken in
@@ -113,10 +118,13 @@ module _ {R : Type 0} (scene : Scene) (l : Layout) (depth : ℕ) (ins : List (Ve
               named = λ c e below. (grid.fresh c t a_row a_column a_sender e below low).lane;
             };
         grants_are = ap (λ (v : TileWorker R). lane_out v.grants) (same_default crew.tiles.items t w a_tile in_crew);
-        clause = λ d none.
-            subst (λ heard. IsTileClause scene l t here.core (λ client. taken_of (get_or here.clients.items client d)) heard here.parts.items here.ended)
+        parts_are = ap (λ (v : TileWorker R). lane_in v.parts) (same_default crew.tiles.items t w a_tile in_crew);
+        clause = λ d.
+            subst (λ heard. IsTileClause scene l t here.core (λ client. taken_of (get_or here.clients.items client d)) heard (parts_of here) here.ended)
             (sym fresh.untaken)
-            (new.clause (λ client. taken_of (get_or here.clients.items client d)) (untaken d));
+            (subst (λ shown. IsTileClause scene l t here.core (λ client. taken_of (get_or here.clients.items client d)) [] shown here.ended) (sym unshown)
+            (new.clause (λ client. taken_of (get_or here.clients.items client d)) (untaken d)));
+        none_waits = λ _. new.none_waits;
       }
 
   request_total : length requests.items ≡ client_count (sync_lists_of scene)
@@ -147,7 +155,16 @@ module _ {R : Type 0} (scene : Scene) (l : Layout) (depth : ℕ) (ins : List (Ve
         (tiles.grants_are.at t a_tile e (omega (arith, tile_total, low))).unsent);
   }
 
-  pub new_crew_is : (names : LaneNames) × IsCluster scene l names crew
+  untaken_parts : AreUntaken (tile_count l) names_of.parts parts.items
+  untaken_parts = record {
+    named = record {
+      size = tiles.parts_are.count ∙ tile_total;
+      named = λ t b low. (tiles.parts_are.at t a_tile b (omega (arith, tile_total, low))).lane;
+    };
+    nothing = λ t b low. (tiles.parts_are.at t a_tile b (omega (arith, tile_total, low))).untaken;
+  }
+
+  pub new_crew_is : (names : LaneNames) × IsCluster scene l names crew × AreUntaken (tile_count l) names.parts parts.items
   new_crew_is = (
     names_of,
     record {
@@ -157,4 +174,5 @@ module _ {R : Type 0} (scene : Scene) (l : Layout) (depth : ℕ) (ins : List (Ve
       manager = new_manager_is;
       tile = new_tile_is;
     },
+    untaken_parts,
   )

@@ -1,44 +1,41 @@
 -- A run of a scene within the limits.
-use Rattle.std.proofs.Common.{◌≡◌, ◌<◌, ℕ, List, sym, ap, ◌∙◌, subst}
+use Rattle.std.proofs.Common.{◌≡◌, ◌<◌, ◌≤◌, ℕ, List, sym, ◌∙◌, subst}
+use Rattle.std.specs.Prelude.{Option}
 use Rattle.rc_base.specs.Cluster.Tiles.{tile_count}
-use Rattle.rc_base.specs.Drawing.Images.{Pixels}
-use Rattle.rc_base.specs.Formats.Netpbm.{p6_texts}
-use Rattle.rc_base.specs.Formats.Within.{IsWithin}
+use Rattle.rc_base.specs.Formats.Within.{IsWithin, IsLayoutFor}
+use Rattle.rc_base.specs.Outside.Ends.{Used}
+use Rattle.rc_base.specs.declared.cluster.Tally.{Tally}
 use Rattle.rc_base.specs.declared.cluster.TilePart.{TilePart}
-use Rattle.rc_base.specs.declared.image.Image.{Image}
 use Rattle.rc_base.specs.declared.scene.Scene.{Scene}
+use Rattle.rc_base.specs.declared.state.Fault.{Fault}
+use Rattle.rc_base.specs.declared.sync.Waiting.{Waiting}
 use Rattle.rc_base.specs.declared.window.Layout.{Layout}
-use Rattle.order_model.specs.Report.{frame_count, image_text_of, recorded_pixel}
+use Rattle.order_model.specs.Report.{image_text_of, recorded_pixel}
 use Rattle.order_model.specs.Scenes.{IsDrawableScene}
+use Rattle.order_model.specs.declared.record.Record.{Record}
 use Rattle.run_record.specs.Collected.{IsSmall, IsWholeRun}
-use Rattle.run_record.specs.declared.gather.Collected.{Collected}
-use Rattle.frame_out.specs.Frames.{frame_total, window_images, AreFrames, ShowFrames}
-use Rattle.frame_out.specs.Laws.{FramesOfScenesAreWritable, HasWindow, RecordedFramesHaveTheImageText, ShowRecord, WholeRunsShowFrames}
-use Rattle.frame_out.specs.Writing.{AreWritable}
+use Rattle.frame_out.specs.Laws.{FramesOfScenesAreWritable, HasWindow, WholeRunsAreWritten}
+use Rattle.frame_out.specs.Windows.{IsWindow}
+use Rattle.frame_out.specs.Writing.{IsWritten}
+use Rattle.frame_out.specs.declared.writing.Written.{Written}
+use Rattle.cluster_run.specs.Serving.{HasFinished}
 
 pub is_small : (scene : Scene) → IsDrawableScene scene → IsSmall scene
 is_small scene h = record { some = h.some; few = h.few; short = h.short }
 
--- ---- frames
+-- the sides of the window
+pub is_window : (scene : Scene) (l : Layout) → l.width ≡ scene.decl.width → l.height ≡ scene.decl.height → IsDrawableScene scene → IsWindow l
+is_window scene l w h can = record {
+  width = subst (λ (n : ℕ). (1 ≤ n) × (n ≤ 2048)) (sym w) can.width;
+  height = subst (λ (n : ℕ). (1 ≤ n) × (n ≤ 2048)) (sym h) can.height;
+}
 
--- of what was collected, the parts are lent to make the frames
-module _ (scene : Scene) (l : Layout) (x : Collected) (some : 0 < tile_count l)
-    (whole : IsWholeRun scene l x.kept x.tallies x.waiting x.faults x.parts) (shows : WholeRunsShowFrames) (lent : List TilePart) (same : lent ≡ x.parts) where
-  shown : ShowRecord scene l x.kept lent
-  shown = subst (ShowRecord scene l x.kept) (sym same) (shows scene l x.kept x.parts whole.frames some)
-
-  pub frames_shown : AreFrames l lent
-  frames_shown = shown.frames
-
-  module _ (frames : List Image) (drawn : (pixels : ℕ → Pixels) → ShowFrames l lent pixels → frames ≡ window_images l pixels (frame_total l lent)) where
-    -- the images are the record's
-    images : frames ≡ window_images l (recorded_pixel scene l x.kept) (frame_count x.kept.journal)
-    images = drawn (recorded_pixel scene l x.kept) shown.shown ∙ ap (window_images l (recorded_pixel scene l x.kept)) shown.count
-
-    module _ (seen : List Image) (is : seen ≡ frames) (window : HasWindow scene l) where
-      pub writable : FramesOfScenesAreWritable → IsWithin scene → AreWritable seen
-      writable law within =
-          subst AreWritable (sym (is ∙ images)) (law scene l x.kept.journal (recorded_pixel scene l x.kept) within.limits window whole.run.lawful.maximal.0)
-
-      pub text : RecordedFramesHaveTheImageText → p6_texts seen ≡ image_text_of scene l x.kept
-      text law = ap p6_texts (is ∙ images) ∙ law scene l x.kept window
+-- what a writer that has finished has written is the record's image text
+pub text_written : WholeRunsAreWritten → FramesOfScenesAreWritable → (scene : Scene) (l : Layout) (kept : Record) (tallies : List Tally) (waiting : Option Waiting)
+    (faults : List (List (ℕ × Fault))) (shown : ℕ → List TilePart) (image : Used) (written : Written) → IsWithin scene → HasWindow scene l → 0 < tile_count l
+    → IsWholeRun scene l kept tallies waiting faults shown → HasFinished l shown image written → IsWritten image (image_text_of scene l kept) written
+text_written law few scene l kept tallies waiting faults shown image written within window some whole h =
+    subst (IsWritten image (image_text_of scene l kept)) (sym h.is)
+    (law scene l kept shown h.took image h.writer whole.frames window some
+    (few scene l kept.journal (recorded_pixel scene l kept) within.limits window whole.run.lawful.maximal.0)
+    h.has h.fronts h.tile h.low h.missing h.all)

@@ -29,16 +29,15 @@ module _ {R : Type 0} where
     pub rows_are : ArePaired (λ client task row. row ≡ task.worker.tiles) tasks rows
     pub requests_are : ArePaired (λ client task end. end ≡ task.worker.requests) tasks requests
 
-  -- the core of a tile's worker, in which memory didn't lack, nor for a part
+  -- the core of a tile's worker, in which memory didn't lack
   pub record IsAmpleTile (tile : ℕ) (task : Task (TileWorker R)) (core : TileCore) : Type 0 where
     pub same : core ≡ task.worker.core
     pub ample : is_short core ≡ false
-    pub kept : task.worker.lost ≡ false
 
-  -- By tiles: their cores, none of them short, their lanes from the clients, and from the manager, and all parts that they have shown.
+  -- By tiles: their cores, none of them short, their lanes from the clients, from the manager, and of their parts.
   pub record AreOfTiles (tasks : List (Task (TileWorker R))) (cores : List TileCore) (columns : List (Vec (LaneOut Parcel R) Global))
-      (grants : List (LaneOut Grant R)) (parts : List (Vec TilePart Global)) : Type 0 where
+      (grants : List (LaneOut Grant R)) (parts : List (LaneIn TilePart R)) : Type 0 where
     pub cores_are : ArePaired IsAmpleTile tasks cores
     pub columns_are : ArePaired (λ tile task column. column ≡ task.worker.clients) tasks columns
     pub grants_are : ArePaired (λ tile task end. end ≡ task.worker.grants) tasks grants
-    pub parts_are : ArePaired (λ tile task list. list ≡ task.worker.parts) tasks parts
+    pub parts_are : ArePaired (λ tile task end. end ≡ task.worker.parts) tasks parts

@@ -14,11 +14,12 @@ use Rattle.cluster_run.specs.declared.workers.ClientWorker.{ClientWorker}
 use Rattle.cluster_run.specs.declared.workers.ManagerWorker.{ManagerWorker}
 use Rattle.cluster_run.specs.declared.workers.TileWorker.{TileWorker}
 
--- the names of the lanes: of parcels by client and tile, of requests by client, of grants by tile
+-- the names of the lanes: of parcels by client and tile, of requests by client, of grants and of parts by tile
 pub record LaneNames : Type 0 where
   pub parcels : ℕ → ℕ → List ℕ
   pub requests : ℕ → List ℕ
   pub grants : ℕ → List ℕ
+  pub parts : ℕ → List ℕ
 
 module _ {R : Type 0} where
   -- the workers of a scene on the tiles of a layout, with lanes of these names
@@ -29,7 +30,7 @@ module _ {R : Type 0} where
         → IsClientWorker scene l c (names.parcels c) (names.requests c) (slice_index_or crew.clients.items c w)
     pub manager : IsManagerWorker (sync_lists_of scene) (tile_count l) names.requests names.grants crew.manager
     pub tile : (t : ℕ) (w : TileWorker R) → t < tile_count l
-        → IsTileWorker scene l t (λ c. names.parcels c t) (names.grants t) (slice_index_or crew.tiles.items t w)
+        → IsTileWorker scene l t (λ c. names.parcels c t) (names.grants t) (names.parts t) (slice_index_or crew.tiles.items t w)
 
   -- and each has ended
   pub record IsEndedCluster (scene : Scene) (l : Layout) (names : LaneNames) (tasks : Crew (Task (ClientWorker R)) (Task (ManagerWorker R)) (Task (TileWorker R)))
@@ -42,7 +43,7 @@ module _ {R : Type 0} where
     pub manager : IsManagerWorker (sync_lists_of scene) (tile_count l) names.requests names.grants tasks.manager.worker
     pub manager_ends : tasks.manager.worker.ended ≡ true
     pub tile : (t : ℕ) (w : Task (TileWorker R)) → t < tile_count l
-        → IsTileWorker scene l t (λ c. names.parcels c t) (names.grants t) (slice_index_or tasks.tiles.items t w).worker
+        → IsTileWorker scene l t (λ c. names.parcels c t) (names.grants t) (names.parts t) (slice_index_or tasks.tiles.items t w).worker
     pub tiles_end : (t : ℕ) (w : Task (TileWorker R)) → t < tile_count l → (slice_index_or tasks.tiles.items t w).worker.ended ≡ true
 
   -- what a run of the crew makes of it

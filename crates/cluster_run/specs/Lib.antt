@@ -5,3 +5,4 @@ pub mod Clusters
 pub mod NewWorkers
 pub mod Apart
 pub mod Fronts
+pub mod Serving

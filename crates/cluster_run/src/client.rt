@@ -6,10 +6,10 @@ ghost use Rattle.cluster_run.specs.Clients.{ClientLeads};
 
 use crate::workers::{ClientWorker, has_ended};
 use client_issue::laws::clients_meet_their_clause_over_lanes;
+use cmd_pack::Packed;
 use rc_base::cluster::ClientMoved;
 use rc_base::gate::Actor;
 use rc_base::out_of_memory::OutOfMemory;
-use rc_base::state::Parcel;
 use rc_base::sync::Request;
 use std::sync::Wait;
 use tile_queues::LaneIn;
@@ -32,7 +32,7 @@ impl<R: Wait> ClientWorker<R> {
         ensures leads { ClientLeads self.old self.new }
         ensures ended { result ≡ attempt.Ended → self.new.ended ≡ true }
     {
-        clients_meet_their_clause_over_lanes::<LaneIn<Parcel, R>, LaneIn<Request, R>>();
+        clients_meet_their_clause_over_lanes::<LaneIn<Packed, R>, LaneIn<Request, R>>();
         let answer = self.core.step(&mut self.tiles, &mut self.requests);
         let attempt = attempt_of(answer);
         self.ended = has_ended(attempt);

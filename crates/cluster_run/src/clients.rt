@@ -7,9 +7,9 @@ ghost use Rattle.cluster_run.specs.NewWorkers.{IsNewClient, AreNewClients};
 use crate::workers::ClientWorker;
 use client_issue::ClientCore;
 use client_issue::laws::clients_meet_their_clause;
+use cmd_pack::Packed;
 use rc_base::out_of_memory::OutOfMemory;
 use rc_base::scene::Scene;
-use rc_base::state::Parcel;
 use rc_base::sync::Request;
 use rc_base::window::Layout;
 use std::alloc::Global;
@@ -28,7 +28,7 @@ fn new_client<R: Drop>(
     scene: &Scene,
     layout: &Layout,
     number: u8,
-    tiles: Vec<LaneIn<Parcel, R>>,
+    tiles: Vec<LaneIn<Packed, R>>,
     requests: LaneIn<Request, R>,
 ) -> Result<ClientWorker<R>, OutOfMemory>
     requires number { number < length scene.now.streams }
@@ -56,7 +56,7 @@ pub(crate) fn new_clients<R: Copy>(
     scene: &Scene,
     layout: &Layout,
     depth: usize,
-    rows: Vec<Vec<LaneIn<Parcel, R>>>,
+    rows: Vec<Vec<LaneIn<Packed, R>>>,
 ) -> Result<NewClients<R>, OutOfMemory>
     requires within { IsWithin scene.now }
     requires layout { (d : ℕ) × IsLayoutFor scene.now layout.now d }

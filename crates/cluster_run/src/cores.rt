@@ -1,18 +1,20 @@
-//! A crew that has ended, taken apart: its lanes are closed, and what is left is its cores and the tiles' parts.
-ghost use Rattle.std.specs.Prelude.{◌≡◌, ◌<◌, ◌||◌, vec_len, IfOk};
+//! A crew that has ended, taken apart: its lanes are closed, and what is left is its cores and the tiles' ends of the lanes of parts.
+ghost use Rattle.std.specs.Prelude.{◌<◌, vec_len, IfOk};
 ghost use Rattle.rc_base.specs.declared.scene.Scene.{Scene};
 ghost use Rattle.rc_base.specs.declared.window.Layout.{Layout};
-ghost use Rattle.tile_server.specs.Cores.{is_short};
+ghost use Rattle.rc_base.specs.Cluster.Tiles.{tile_count};
 ghost use Rattle.run_record.specs.Closed.{AreClosed};
+ghost use Rattle.lane_grid.specs.Names.{AreInto};
 ghost use Rattle.cluster_run.specs.Apart.{AreOfClients, AreOfTiles};
 ghost use Rattle.cluster_run.specs.Clusters.{LaneNames, IsEndedCluster};
+ghost use Rattle.cluster_run.specs.Serving.{shown_in_lanes};
 
 use crate::workers::{ClientWorker, ManagerWorker, TileWorker};
 use client_issue::ClientCore;
+use cmd_pack::Packed;
 use lane_grid::{close_all, close_list, named_ends_are_paired, named_rows_and_columns_are_a_grid};
 use rc_base::cluster::TilePart;
 use rc_base::out_of_memory::OutOfMemory;
-use rc_base::state::Parcel;
 use rc_base::sync::{Grant, Request};
 use std::alloc::Global;
 use sync_manager::ManagerCore;
@@ -20,20 +22,20 @@ use tile_queues::{LaneIn, LaneOut};
 use tile_server::TileCore;
 use worker_crew::{Crew, Task};
 
-/// The cores of a cluster that has ended, and the parts that each tile has shown.
+/// The cores of a cluster that has ended, and the ends by which the tiles have sent their parts.
 #[derive(Drop)]
-pub(crate) struct Cores {
+pub(crate) struct Cores<R> {
     pub(crate) clients: Vec<ClientCore>,
     pub(crate) manager: ManagerCore,
     pub(crate) tiles: Vec<TileCore>,
-    pub(crate) parts: Vec<Vec<TilePart>>,
+    pub(crate) parts: Vec<LaneIn<TilePart, R>>,
 }
 
 /// What the clients' workers had, clients rising.
 #[derive(Drop)]
 struct ClientParts<R> {
     cores: Vec<ClientCore>,
-    rows: Vec<Vec<LaneIn<Parcel, R>>>,
+    rows: Vec<Vec<LaneIn<Packed, R>>>,
     requests: Vec<LaneIn<Request, R>>,
 }
 
@@ -41,9 +43,9 @@ struct ClientParts<R> {
 #[derive(Drop)]
 struct TileParts<R> {
     cores: Vec<TileCore>,
-    columns: Vec<Vec<LaneOut<Parcel, R>>>,
+    columns: Vec<Vec<LaneOut<Packed, R>>>,
     grants: Vec<LaneOut<Grant, R>>,
-    parts: Vec<Vec<TilePart>>,
+    parts: Vec<LaneIn<TilePart, R>>,
 }
 
 /// Takes the clients' workers apart. Where memory lacked in one of them, it lacks here.
@@ -78,13 +80,6 @@ fn client_parts<R: Copy>(
     })
 }
 
-/// Whether memory lacked in a tile's worker: in its core, or for a part in its list.
-fn lacked_memory<R>(worker: &TileWorker<R>) -> bool
-    ensures { result ≡ worker.now.lost || is_short worker.now.core }
-{
-    worker.lost || worker.core.is_short()
-}
-
 /// Takes the tiles' workers apart. Where memory lacked in one of them, it lacks here.
 fn tile_parts<R: Copy>(
     alloc: Global,
@@ -95,42 +90,45 @@ fn tile_parts<R: Copy>(
     let mut cores = Vec::new(alloc);
     let mut columns = Vec::new(alloc);
     let mut grants = Vec::new(alloc);
-    let mut lists = Vec::new(alloc);
+    let mut parts = Vec::new(alloc);
     for task in tasks {
         let Task { worker, .. } = task;
-        if lacked_memory(&worker) {
-            return Err(OutOfMemory);
-        }
         let TileWorker {
             core,
             clients,
             grants: hearing,
-            parts,
+            parts: showing,
             ..
         } = worker;
+        if core.is_short() {
+            return Err(OutOfMemory);
+        }
         cores.push(core)?;
         columns.push(clients)?;
         grants.push(hearing)?;
-        lists.push(parts)?;
+        parts.push(showing)?;
     }
     Ok(TileParts {
         cores,
         columns,
         grants,
-        parts: lists,
+        parts,
     })
 }
 
-/// Takes a crew that has ended apart, and closes all its lanes. Where memory lacked in a worker there are no cores.
+/// Takes a crew that has ended apart, and closes all its lanes but those of parts. Where memory lacked in a worker there are no cores.
 pub(crate) fn cores_of<R: Copy>(
     alloc: Global,
     crew: Crew<Task<ClientWorker<R>>, Task<ManagerWorker<R>>, Task<TileWorker<R>>>,
-) -> Result<Cores, OutOfMemory>
+) -> Result<Cores<R>, OutOfMemory>
     requires some { (0 < vec_len crew.clients) × (0 < vec_len crew.tiles) }
     requires ended { (scene : Scene) × (l : Layout) × (names : LaneNames) × IsEndedCluster scene l names crew }
-    ensures { (scene : Scene) (l : Layout) (names : LaneNames) → IsEndedCluster scene l names crew → IfOk result (λ c. AreClosed scene l c.clients.items c.manager c.tiles.items c.parts.items) }
+    ensures closed { (scene : Scene) (l : Layout) (names : LaneNames) → IsEndedCluster scene l names crew
+        → IfOk result (λ c. AreClosed scene l c.clients.items c.manager c.tiles.items (shown_in_lanes c.parts.items)) }
+    ensures parts { (scene : Scene) (l : Layout) (names : LaneNames) → IsEndedCluster scene l names crew
+        → IfOk result (λ c. AreInto (tile_count l) names.parts c.parts.items) }
 {
-    named_rows_and_columns_are_a_grid::<Parcel, R>();
+    named_rows_and_columns_are_a_grid::<Packed, R>();
     named_ends_are_paired::<Request, R>();
     named_ends_are_paired::<Grant, R>();
     let Crew {

@@ -1,14 +1,16 @@
 //! The workers of a cluster that has moved nothing, and the lanes between them.
 ghost use Rattle.std.specs.Prelude.{◌≡◌, length, IfOk};
+ghost use Rattle.rc_base.specs.Cluster.Tiles.{tile_count};
 ghost use Rattle.rc_base.specs.Formats.Within.{IsWithin, IsLayoutFor};
 ghost use Rattle.cluster_run.specs.Clusters.{LaneNames, IsCluster};
-ghost use Rattle.cluster_run.specs.NewWorkers.{IsNewManager};
+ghost use Rattle.cluster_run.specs.NewWorkers.{AreUntaken, IsNewManager};
 
 use crate::clients::new_clients;
 use crate::tiles::new_tiles;
 use crate::workers::{ClientWorker, ManagerWorker, TileWorker};
 use lane_grid::lane_grid;
 use order_model::laws::scenes_within_limits;
+use rc_base::cluster::TilePart;
 use rc_base::out_of_memory::OutOfMemory;
 use rc_base::scene::Scene;
 use rc_base::sync::{Grant, Request};
@@ -44,18 +46,25 @@ fn new_manager<R: Drop>(
     })
 }
 
+/// The workers of a cluster, and the caller's ends of the lanes of parts, tiles rising.
+#[derive(Drop)]
+pub(crate) struct NewCrew<R> {
+    pub(crate) crew: Crew<ClientWorker<R>, ManagerWorker<R>, TileWorker<R>>,
+    pub(crate) parts: Vec<LaneOut<TilePart, R>>,
+}
+
 /// The workers of a scene on the tiles of a layout, before their first step, joined by new lanes of one depth: one from each client to each tile and to
-/// the manager, and one from the manager to each tile.
+/// the manager, one from the manager to each tile, and one from each tile to the caller.
 pub(crate) fn new_crew<R: Copy>(
     rt: R,
     alloc: Global,
     scene: &Scene,
     layout: &Layout,
     depth: usize,
-) -> Result<Crew<ClientWorker<R>, ManagerWorker<R>, TileWorker<R>>, OutOfMemory>
+) -> Result<NewCrew<R>, OutOfMemory>
     requires within { IsWithin scene.now }
     requires layout { IsLayoutFor scene.now layout.now depth }
-    ensures { IfOk result (λ crew. (names : LaneNames) × IsCluster scene.now layout.now names crew) }
+    ensures { IfOk result (λ new. (names : LaneNames) × IsCluster scene.now layout.now names new.crew × AreUntaken (tile_count layout.now) names.parts new.parts.items) }
 {
     scenes_within_limits();
     let tile_count = layout.columns * layout.rows;
@@ -69,9 +78,13 @@ pub(crate) fn new_crew<R: Copy>(
     let clients = new_clients(rt, alloc, scene, layout, depth, grid.ins)?;
     let tiles = new_tiles(rt, alloc, scene, layout, depth, grid.outs)?;
     let manager = new_manager(alloc, scene, tile_count, clients.requests, tiles.grants)?;
-    Ok(Crew {
+    let crew = Crew {
         clients: clients.workers,
         manager,
         tiles: tiles.workers,
+    };
+    Ok(NewCrew {
+        crew,
+        parts: tiles.parts,
     })
 }

@@ -6,6 +6,9 @@
 //! share. Where all have ended, each worker meets its clause with the lists of its own ends (`specs/Clusters`); closing a lane shows that what was
 //! taken of it is a front of what was sent to it, and from these fronts and the clauses `run_record` has the whole run.
 //!
+//! The parts of frames go from each tile to the caller, through a lane of their own; the caller writes each frame once all tiles have shown it, while the
+//! workers run (`specs/Serving`).
+//!
 //! This crate stands on the cores (`client_issue`, `sync_manager`, `tile_server`), on `tile_queues` and `lane_grid` for the lanes, on `worker_crew` for
 //! the threads, on `run_record` for the record, and on `frame_out` for its frames.
 #![tactic(auto)]
@@ -16,10 +19,12 @@ mod cores;
 mod crew;
 pub mod laws;
 mod manager;
+mod on_the_way;
 mod run;
 mod tile;
 mod tiles;
 mod workers;
+mod writing;
 
 pub use frame_out::Written;
 pub use run::{Run, run_threads};

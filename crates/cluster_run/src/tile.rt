@@ -1,18 +1,22 @@
 //! A tile's worker.
-ghost use Rattle.std.specs.Prelude.{◌≡◌, true, false, Ok, ◌++◌};
+ghost use Rattle.std.specs.Prelude.{◌≡◌, true, Ok, None, ◌++◌, option_to_list, IfOk};
 ghost use Rattle.rc_base.specs.declared.cluster.TileMoved.TheVariants as moved;
 ghost use Rattle.tile_server.specs.Clauses.{shown_in};
+ghost use Rattle.tile_queues.specs.Ends.{sent_of, lane_in};
 ghost use Rattle.worker_crew.specs.declared.worker.Attempt.TheVariants as attempt;
 ghost use Rattle.cluster_run.specs.Tiles.{TileLeads};
 
 use crate::workers::{TileWorker, has_ended};
+use cmd_pack::Packed;
 use rc_base::cluster::{TileMoved, TilePart};
 use rc_base::gate::Actor;
+use rc_base::items::Items;
+use rc_base::lane::Outlet;
 use rc_base::out_of_memory::OutOfMemory;
-use rc_base::state::Parcel;
 use rc_base::sync::Grant;
+use std::alloc::Global;
 use std::sync::Wait;
-use tile_queues::LaneOut;
+use tile_queues::{LaneIn, LaneOut};
 use tile_server::laws::tiles_meet_their_clause_over_lanes;
 use worker_crew::{Attempt, Worker};
 
@@ -27,28 +31,56 @@ fn attempt_of(answer: &Result<TileMoved, OutOfMemory>) -> Attempt
     }
 }
 
-/// The part that the step has shown goes into the list. Whether it was lost there.
-fn keep(parts: &mut Vec<TilePart>, answer: Result<TileMoved, OutOfMemory>) -> bool
-    ensures { result ≡ false → parts.new.items ≡ parts.old.items ++ shown_in answer }
+/// The part that a step has for the image: the one that it shows. Where memory lacked it is one without pixels, by which the image's writer learns
+/// of it.
+fn offered(alloc: Global, tile: u8, answer: Result<TileMoved, OutOfMemory>) -> Option<TilePart>
+    ensures { IfOk answer (λ did. option_to_list result ≡ shown_in (Ok did)) }
 {
     match answer {
-        Ok(TileMoved::Swapped(part)) => parts.push(part).is_err(),
-        _ => false,
+        Ok(TileMoved::Swapped(part)) => Some(part),
+        Ok(_) => None,
+        Err(OutOfMemory) => Some(TilePart {
+            tile,
+            frame: 0,
+            pixels: Items::new(alloc),
+        }),
+    }
+}
+
+/// Sends the part that waits. Whether none waits any more.
+fn put_held<R: Wait>(parts: &mut LaneIn<TilePart, R>, held: &mut Option<TilePart>) -> bool
+    ensures lane { lane_in parts.new ≡ lane_in parts.old }
+    ensures kept { sent_of parts.new ++ option_to_list held.new ≡ sent_of parts.old ++ option_to_list held.old }
+    ensures put { result ≡ true → held.new ≡ None }
+    ensures none { held.old ≡ None → held.new ≡ None }
+{
+    let Some(part) = held.take() else {
+        return true;
+    };
+    match parts.push(part) {
+        Ok(()) => true,
+        Err(part) => {
+            *held = Some(part);
+            false
+        }
     }
 }
 
 impl<R: Wait> TileWorker<R> {
-    /// Tries one step of the core over the worker's own lanes, and keeps the part that it shows.
+    /// Tries one step of the core over the worker's own lanes, and sends the part that it shows. A part that still waits goes first.
     fn advance(&mut self) -> Attempt
         ensures leads { TileLeads self.old self.new }
         ensures ended { result ≡ attempt.Ended → self.new.ended ≡ true }
     {
-        tiles_meet_their_clause_over_lanes::<LaneOut<Parcel, R>, LaneOut<Grant, R>>();
+        tiles_meet_their_clause_over_lanes::<LaneOut<Packed, R>, LaneOut<Grant, R>>();
+        if !put_held(&mut self.parts, &mut self.held) {
+            return Attempt::Blocked;
+        }
         let answer = self.core.step(&mut self.clients, &mut self.grants);
         let attempt = attempt_of(&answer);
         self.ended = has_ended(attempt);
-        let lost = keep(&mut self.parts, answer);
-        self.lost |= lost;
+        self.held = offered(self.alloc, self.number, answer);
+        let _sent = put_held(&mut self.parts, &mut self.held);
         attempt
     }
 }
@@ -61,9 +93,9 @@ impl<R: Wait> Worker for TileWorker<R> {
 
     ghost over = { λ w. w.ended ≡ true };
 
-    ghost stays = { λ a scene l tile took heard h. h };
+    ghost stays = { λ a scene l tile took heard shown h. h };
 
-    ghost goes_on = { λ a b c f g scene l tile took heard h. g scene l tile took heard (f scene l tile took heard h) };
+    ghost goes_on = { λ a b c f g scene l tile took heard shown h. g scene l tile took heard shown (f scene l tile took heard shown h) };
 
     fn actor(&self) -> Actor {
         Actor::Tile(self.number)

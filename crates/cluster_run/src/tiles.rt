@@ -4,9 +4,10 @@ ghost use Rattle.rc_base.specs.Cluster.Tiles.{tile_count};
 ghost use Rattle.cluster_run.specs.NewWorkers.{IsNewTile, AreNewTiles};
 
 use crate::workers::TileWorker;
+use cmd_pack::Packed;
+use rc_base::cluster::TilePart;
 use rc_base::out_of_memory::OutOfMemory;
 use rc_base::scene::Scene;
-use rc_base::state::Parcel;
 use rc_base::sync::Grant;
 use rc_base::window::Layout;
 use std::alloc::Global;
@@ -14,11 +15,12 @@ use tile_queues::{LaneIn, LaneOut, lane};
 use tile_server::TileCore;
 use tile_server::laws::tiles_meet_their_clause;
 
-/// The workers of all tiles, and the manager's ends of their lanes.
+/// The workers of all tiles, the manager's ends of their lanes, and the ends by which their parts are taken.
 #[derive(Drop)]
 pub(crate) struct NewTiles<R> {
     pub(crate) workers: Vec<TileWorker<R>>,
     pub(crate) grants: Vec<LaneIn<Grant, R>>,
+    pub(crate) parts: Vec<LaneOut<TilePart, R>>,
 }
 
 /// The worker of a tile that was sent nothing.
@@ -27,52 +29,63 @@ fn new_tile<R: Drop>(
     scene: &Scene,
     layout: &Layout,
     number: u8,
-    clients: Vec<LaneOut<Parcel, R>>,
+    clients: Vec<LaneOut<Packed, R>>,
     grants: LaneOut<Grant, R>,
+    parts: LaneIn<TilePart, R>,
 ) -> Result<TileWorker<R>, OutOfMemory>
     requires number { number < tile_count layout.now }
     requires few { length scene.now.streams ≤ 8 }
     requires lanes { length clients.items ≡ length scene.now.streams }
     ensures new { IfOk result (λ w. IsNewTile scene.now layout.now number clients w) }
     ensures grants { IfOk result (λ w. w.grants ≡ grants) }
+    ensures parts { IfOk result (λ w. w.parts ≡ parts) }
 {
     tiles_meet_their_clause();
     let client_count = scene.streams.len() as u8;
     let core = TileCore::new(alloc, &scene.decl, client_count, layout, number)?;
     Ok(TileWorker {
+        alloc,
         number,
         core,
         clients,
         grants,
-        parts: Vec::new(alloc),
-        lost: false,
+        parts,
+        held: None,
         ended: false,
     })
 }
 
-/// A worker for each column of ends, with a new lane from the manager.
+/// A worker for each column of ends, with a new lane from the manager, and one of its parts.
 pub(crate) fn new_tiles<R: Copy>(
     rt: R,
     alloc: Global,
     scene: &Scene,
     layout: &Layout,
     depth: usize,
-    columns: Vec<Vec<LaneOut<Parcel, R>>>,
+    columns: Vec<Vec<LaneOut<Packed, R>>>,
 ) -> Result<NewTiles<R>, OutOfMemory>
     requires few { length scene.now.streams ≤ 8 }
     requires depth { (1 ≤ depth) × (depth ≤ 16) }
     requires few_tiles { tile_count layout.now ≤ 32 }
     requires tiles { length columns.items ≡ tile_count layout.now }
     requires lanes { (t : ℕ) (d : _) → t < length columns.items → length (slice_index_or columns.items t d).items ≡ length scene.now.streams }
-    ensures { IfOk result (λ new. AreNewTiles scene.now layout.now depth columns.items new.workers.items new.grants.items) }
+    ensures { IfOk result (λ new. AreNewTiles scene.now layout.now depth columns.items new.workers.items new.grants.items new.parts.items) }
 {
     let mut workers = Vec::new(alloc);
     let mut grants = Vec::new(alloc);
+    let mut parts = Vec::new(alloc);
     for clients in columns {
         let number = workers.len() as u8;
-        let (sender, receiver) = lane(rt, alloc, depth)?;
-        workers.push(new_tile(alloc, scene, layout, number, clients, receiver)?)?;
+        let (sender, hearing) = lane(rt, alloc, depth)?;
+        let (showing, receiver) = lane(rt, alloc, depth)?;
+        let worker = new_tile(alloc, scene, layout, number, clients, hearing, showing)?;
+        workers.push(worker)?;
         grants.push(sender)?;
+        parts.push(receiver)?;
     }
-    Ok(NewTiles { workers, grants })
+    Ok(NewTiles {
+        workers,
+        grants,
+        parts,
+    })
 }

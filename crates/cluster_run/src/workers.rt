@@ -7,9 +7,10 @@ ghost use Rattle.tile_server.specs.Cores as tile;
 ghost use Rattle.worker_crew.specs.declared.worker.Attempt.TheVariants as answer;
 
 use client_issue::ClientCore;
+use cmd_pack::Packed;
 use rc_base::cluster::TilePart;
-use rc_base::state::Parcel;
 use rc_base::sync::{Grant, Request};
+use std::alloc::Global;
 use sync_manager::ManagerCore;
 use tile_queues::{LaneIn, LaneOut};
 use tile_server::TileCore;
@@ -20,7 +21,7 @@ use worker_crew::Attempt;
 pub struct ClientWorker<R> {
     pub(crate) number: u8,
     pub(crate) core: ClientCore,
-    pub(crate) tiles: Vec<LaneIn<Parcel, R>>,
+    pub(crate) tiles: Vec<LaneIn<Packed, R>>,
     pub(crate) requests: LaneIn<Request, R>,
     pub(crate) ended: bool,
     ghost lanes: { length tiles.items ≡ tile_count (client.layout_of core) },
@@ -37,16 +38,17 @@ pub struct ManagerWorker<R> {
     ghost tiles: { length grants.items ≡ manager.tiles_of core },
 }
 
-/// A tile's core with its lanes from the clients, clients rising, and from the manager, and the parts that it has shown. Where there was no memory
-/// for a part in the list, `lost` is set and the part dropped; the core goes on, so that nobody waits for the tile for ever.
+/// A tile's core with its lanes from the clients, clients rising, and from the manager, and the lane of the parts that it shows. A part that found that
+/// lane full waits in `held`; until there is room for it the core takes no step.
 #[derive(Drop)]
 pub struct TileWorker<R> {
+    pub(crate) alloc: Global,
     pub(crate) number: u8,
     pub(crate) core: TileCore,
-    pub(crate) clients: Vec<LaneOut<Parcel, R>>,
+    pub(crate) clients: Vec<LaneOut<Packed, R>>,
     pub(crate) grants: LaneOut<Grant, R>,
-    pub(crate) parts: Vec<TilePart>,
-    pub(crate) lost: bool,
+    pub(crate) parts: LaneIn<TilePart, R>,
+    pub(crate) held: Option<TilePart>,
     pub(crate) ended: bool,
     ghost lanes: { length clients.items ≡ tile.clients_of core },
 }

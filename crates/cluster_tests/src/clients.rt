@@ -8,6 +8,7 @@ ghost use Rattle.client_issue.specs.Cores.{layout_of};
 
 use bounds_bucket::layout;
 use client_issue::ClientCore;
+use cmd_pack::Packed;
 use rc_base::cluster::{ClientMoved, Tally};
 use rc_base::command::{Command, Commands};
 use rc_base::lane::{Inlet, Outlet};
@@ -75,12 +76,12 @@ fn draws(alloc: Global) -> Result<Commands, OutOfMemory>
 #[derive(Drop)]
 struct Run {
     core: ClientCore,
-    tiles: Vec<PlainLane<Parcel>>,
+    tiles: Vec<PlainLane<Packed>>,
     requests: PlainLane<Request>,
 }
 
 // So many lanes that hold at most `depth` parcels.
-fn lanes_of(alloc: Global, n: u8, depth: usize) -> Result<Vec<PlainLane<Parcel>>, OutOfMemory>
+fn lanes_of(alloc: Global, n: u8, depth: usize) -> Result<Vec<PlainLane<Packed>>, OutOfMemory>
     requires depth { (1 ≤ depth) × (depth ≤ 16) }
     ensures { IfOk result (λ lanes. length lanes.items ≡ n) }
 {
@@ -167,7 +168,7 @@ impl Run {
     {
         match self.tiles.get_mut(tile) {
             Some(lane) => {
-                let parcel = lane.pop()?;
+                let parcel = lane.pop()?.parcel().ok()?;
                 Some(parcel.place)
             }
             None => None,
@@ -308,10 +309,21 @@ struct Taken {
     blocked: u32,
 }
 
-// Takes an item from a lane, where it holds one.
-fn take<T: Drop>(lane: &mut PlainLane<T>, taken: &mut Vec<T>) -> Result<(), OutOfMemory> {
-    if let Some(item) = lane.pop() {
-        taken.push(item)?;
+// Takes a request from a lane, where it holds one.
+fn take_request(
+    lane: &mut PlainLane<Request>,
+    taken: &mut Vec<Request>,
+) -> Result<(), OutOfMemory> {
+    if let Some(request) = lane.pop() {
+        taken.push(request)?;
+    }
+    Ok(())
+}
+
+// Takes a parcel from a lane, where it holds one, and unpacks it.
+fn take_parcel(lane: &mut PlainLane<Packed>, taken: &mut Vec<Parcel>) -> Result<(), OutOfMemory> {
+    if let Some(packed) = lane.pop() {
+        taken.push(packed.parcel()?)?;
     }
     Ok(())
 }
@@ -334,15 +346,15 @@ impl Taken {
         if draw % 2 == 1
             && let Some(lane) = run.tiles.get_mut(0)
         {
-            take(lane, &mut self.left)?;
+            take_parcel(lane, &mut self.left)?;
         }
         if draw / 2 % 2 == 1
             && let Some(lane) = run.tiles.get_mut(1)
         {
-            take(lane, &mut self.right)?;
+            take_parcel(lane, &mut self.right)?;
         }
         if draw / 4 % 2 == 1 {
-            take(&mut run.requests, &mut self.requests)?;
+            take_request(&mut run.requests, &mut self.requests)?;
         }
         Ok(())
     }

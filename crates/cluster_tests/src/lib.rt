@@ -8,9 +8,13 @@ mod boxes;
 #[cfg(test)]
 mod clients;
 #[cfg(test)]
+mod frames;
+#[cfg(test)]
 mod managers;
 #[cfg(test)]
 mod orders;
+#[cfg(test)]
+mod packed;
 #[cfg(test)]
 mod parts;
 #[cfg(test)]

@@ -2,6 +2,7 @@
 ghost use Rattle.std.specs.Prelude.{◌≡◌, IfOk, length};
 ghost use Rattle.tile_server.specs.Cores.{clients_of};
 
+use cmd_pack::{Packed, encode_parcel, is_packable};
 use order_model::record::LogEntry;
 use rc_base::cluster::TileMoved;
 use rc_base::command::{Part, Rgba, Texels};
@@ -20,13 +21,13 @@ use tile_server::TileCore;
 #[derive(Drop)]
 struct Run {
     core: TileCore,
-    clients: Vec<PlainLane<Parcel>>,
+    clients: Vec<PlainLane<Packed>>,
     grants: PlainLane<Grant>,
     ghost lanes: { length clients.items ≡ clients_of core },
 }
 
 // Two lanes that hold one parcel.
-fn two_lanes(alloc: Global) -> Result<Vec<PlainLane<Parcel>>, OutOfMemory>
+fn two_lanes(alloc: Global) -> Result<Vec<PlainLane<Packed>>, OutOfMemory>
     ensures { IfOk result (λ lanes. length lanes.items ≡ 2) }
 {
     let mut lanes = Vec::new(alloc);
@@ -122,17 +123,26 @@ enum Event {
 }
 
 impl Run {
-    // Puts the parcel into the client's lane, if it is empty.
-    fn put(&mut self, client: usize, parcel: Parcel) -> bool {
+    // Packs the parcel and puts it into the client's lane, if that is empty.
+    fn put(&mut self, alloc: Global, client: usize, parcel: &Parcel) -> Result<bool, OutOfMemory> {
+        if !is_packable(parcel) {
+            return Ok(false);
+        }
+        let packed = encode_parcel(alloc, parcel)?;
         match self.clients.get_mut(client) {
-            Some(lane) => lane.push(parcel).is_ok(),
-            None => false,
+            Some(lane) => Ok(lane.push(packed).is_ok()),
+            None => Ok(false),
         }
     }
 
     // Steps once the parcel was put into the client's lane.
-    fn take(&mut self, client: usize, parcel: Parcel) -> Result<Outcome, OutOfMemory> {
-        self.put(client, parcel);
+    fn take(
+        &mut self,
+        alloc: Global,
+        client: usize,
+        parcel: &Parcel,
+    ) -> Result<Outcome, OutOfMemory> {
+        self.put(alloc, client, parcel)?;
         self.step()
     }
 
@@ -146,12 +156,12 @@ impl Run {
         match event {
             Event::Clear(client, place, color, mask) => {
                 let (sets, act) = clear(alloc, color, mask)?;
-                Ok(self.put(client, Parcel { place, sets, act }))
+                self.put(alloc, client, &Parcel { place, sets, act })
             }
             Event::Wait(client, place, op) => {
-                Ok(self.put(client, parcel(alloc, place, Act::Sync(op))))
+                self.put(alloc, client, &parcel(alloc, place, Act::Sync(op)))
             }
-            Event::End(client, place) => { Ok(self.put(client, parcel(alloc, place, Act::End))) }
+            Event::End(client, place) => self.put(alloc, client, &parcel(alloc, place, Act::End)),
             Event::Grant(grant) => Ok(self.grants.push(grant).is_ok()),
             Event::Step(told) => Ok(self.step()? == told),
         }
@@ -243,18 +253,18 @@ fn two_clients_clear_meet_and_swap(rt: HostRuntime) {
     assert!(rt; core.into_log().as_slice() == &log[..]);
 }
 
-// A texel that is written into shared texture 1.
-fn texel(alloc: Global, bytes: &[u8]) -> Result<Parcel, OutOfMemory> {
+// A texel that is written into this column of shared texture 1.
+fn texel(alloc: Global, x: u16) -> Result<Parcel, OutOfMemory> {
     Ok(Parcel {
         place: 0,
         sets: Sets::new(alloc),
         act: Act::Shared(Part {
             name: 1,
-            x: 0,
+            x,
             y: 0,
             w: 1,
             h: 1,
-            texels: Texels::from_slice(alloc, bytes)?,
+            texels: Texels::from_slice(alloc, &[10, 20, 30, 40])?,
         }),
     })
 }
@@ -299,18 +309,18 @@ fn triangle(alloc: Global, texture: u8) -> Result<Parcel, OutOfMemory> {
     })
 }
 
-// The right one of two pixels in the frame that is shown after a texel was written and the texture drawn, where the name is a declared one.
-fn drawn(rt: &impl Abort, alloc: Global, bytes: &[u8], texture: u8) -> Option<Pixel> {
+// The right one of two pixels in the frame that is shown after a texel was written into a texture of one column, and the texture of a name drawn.
+fn drawn(rt: &impl Abort, alloc: Global, x: u16, texture: u8) -> Option<Pixel> {
     let shared = Sizes::from_slice(alloc, &[[1, 1]]).expect(rt, "memory");
     let mut run = run_of(rt, alloc, shared);
-    let texel = texel(alloc, bytes).expect(rt, "memory");
-    run.take(0, texel).expect(rt, "memory");
+    let texel = texel(alloc, x).expect(rt, "memory");
+    run.take(alloc, 0, &texel).expect(rt, "memory");
     let triangle = triangle(alloc, texture).expect(rt, "memory");
-    run.take(0, triangle).expect(rt, "memory");
+    run.take(alloc, 0, &triangle).expect(rt, "memory");
     let swap = parcel(alloc, 2, Act::Sync(SyncOp::Swap));
-    run.take(0, swap).expect(rt, "memory");
+    run.take(alloc, 0, &swap).expect(rt, "memory");
     let swap = parcel(alloc, 0, Act::Sync(SyncOp::Swap));
-    run.take(1, swap).expect(rt, "memory");
+    run.take(alloc, 1, &swap).expect(rt, "memory");
     let granted = run.grants.push(Grant::Entry(Entry::Swap)).is_ok();
     run.step().expect(rt, "memory");
     match run.step().expect(rt, "memory") {
@@ -327,7 +337,7 @@ fn a_written_texture_is_drawn_where_its_name_is_declared(rt: HostRuntime) {
             depth: 16_777_215,
         })
     };
-    assert!(rt; drawn(&rt, rt.alloc(), &[10, 20, 30, 40], 1) == pixel(10, 20, 30, 40));
-    assert!(rt; drawn(&rt, rt.alloc(), &[10, 20, 30], 1) == pixel(0, 0, 0, 0));
-    assert!(rt; drawn(&rt, rt.alloc(), &[10, 20, 30, 40], 2) == pixel(0, 0, 0, 0));
+    assert!(rt; drawn(&rt, rt.alloc(), 0, 1) == pixel(10, 20, 30, 40));
+    assert!(rt; drawn(&rt, rt.alloc(), 1, 1) == pixel(0, 0, 0, 0));
+    assert!(rt; drawn(&rt, rt.alloc(), 0, 2) == pixel(0, 0, 0, 0));
 }

@@ -18,7 +18,7 @@ use Rattle.rc_base.specs.Formats.Netpbm.{p6_texts}
 use Rattle.rc_base.specs.declared.cluster.TilePart.{TilePart}
 use Rattle.rc_base.specs.declared.scene.Scene.{Scene}
 use Rattle.rc_base.specs.declared.window.Layout.{Layout}
-use Rattle.assembler.specs.Parts.{place_in_part, tile_height, tile_width}
+use Rattle.assembler.specs.Parts.{place_in_part, tile_height, tile_width, ShowPixels}
 use Rattle.bounds_bucket.specs.Tiles.{EachPixelHasOneTile}
 use Rattle.draw_device.specs.Devices.{pixel_index, rect_size}
 use Rattle.order_model.specs.Report.{frame_count, image_text_of, recorded_pixel, tile_order}
@@ -30,11 +30,11 @@ use Rattle.frame_out.specs.Laws.{RecordedFramesHaveTheImageText, WholeRunsShowFr
 
 -- ---- sides
 
-some_columns : (a b : ℕ) → 0 < a * b → 0 < a
+pub some_columns : (a b : ℕ) → 0 < a * b → 0 < a
 some_columns zero b some = absurd (omega (arith, some, zero-mul b))
 some_columns (suc a) b some = omega arith
 
-some_rows : (a b : ℕ) → 0 < a * b → 0 < b
+pub some_rows : (a b : ℕ) → 0 < a * b → 0 < b
 some_rows a zero some = absurd (omega (arith, some))
 some_rows a (suc b) some = omega arith
 
@@ -123,6 +123,19 @@ slice_get_slice xs a n i p within is =
     let there : get_or xs (a + i) p ≡ p = sym (get_or-drop a xs i p) ∙ sym (get_or-take n (drop a xs) i p low) ∙ get_or_from_slice_get (take n (drop a xs)) i p p is in
     (low, slice_get-get_or xs (a + i) p (omega (arith, low, within)) ∙ ap (λ (q : TilePart). Some q) there)
 
+-- parts of one frame, each with its tile's pixels of it, show the pixels of the window
+pub frame_shows : EachPixelHasOneTile → (scene : Scene) (l : Layout) (kept : Record) → 0 < tile_count l → (parts : List TilePart) (frame : ℕ)
+    → ((tile : ℕ) (p : TilePart) → slice_get parts tile ≡ Some p → (tile < tile_count l) × IsFramePart scene l (tile_order kept tile) tile frame p)
+    → ShowPixels l parts (recorded_pixel scene l kept frame)
+frame_shows one scene l kept some parts frame are tile x y p is has =
+    let columns = some_columns l.columns l.rows some in
+    let rows = some_rows l.columns l.rows some in
+    let got = are tile p is in
+    let place = has_place l tile x y has in
+    ap (slice_get p.pixels) (sym (place_is l columns rows tile x y place.left place.bottom))
+    ∙ got.1.pixel x y has
+    ∙ ap (λ (t : ℕ). Some (frame_pixel scene (tile_order kept t) frame (pos x) (pos y))) (sym (tile_is one l columns rows tile x y got.0 has))
+
 module _ (scene : Scene) (l : Layout) (kept : Record) (parts : List TilePart) (are : AreFrameParts scene l kept parts) (some : 0 < tile_count l) where
   -- as many frames as parts for each tile
   frames_are : frame_total l parts ≡ frame_count kept.journal
@@ -150,14 +163,7 @@ module _ (scene : Scene) (l : Layout) (kept : Record) (parts : List TilePart) (a
   }
 
   show_frames : EachPixelHasOneTile → ShowFrames l parts (recorded_pixel scene l kept)
-  show_frames one frame low tile x y p is has =
-      let columns = some_columns l.columns l.rows some in
-      let rows = some_rows l.columns l.rows some in
-      let got = part_is frame tile p low is in
-      let place = has_place l tile x y has in
-      ap (slice_get p.pixels) (sym (place_is l columns rows tile x y place.left place.bottom))
-      ∙ got.1.pixel x y has
-      ∙ ap (λ (t : ℕ). Some (frame_pixel scene (tile_order kept t) (frame + 1) (pos x) (pos y))) (sym (tile_is one l columns rows tile x y got.0 has))
+  show_frames one frame low = frame_shows one scene l kept some (frame_parts l parts frame) (frame + 1) (λ tile p is. part_is frame tile p low is)
 
 -- ---- as laws
 

@@ -2,3 +2,7 @@ pub mod Prefixes
 pub mod Texts
 pub mod FrameParts
 pub mod Writable
+pub mod WrittenMore
+pub mod PartsTaken
+pub mod WriterGoesOn
+pub mod RunsWritten

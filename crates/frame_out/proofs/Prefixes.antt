@@ -18,7 +18,7 @@ module _ (f : Image → List ℕ) (xs : List Image) (i : ℕ) where
   abbrev pub before : List ℕ
   before = flat_map f (take i xs)
 
-  whole : flat_map f xs ≡ before ++ flat_map f (drop i xs)
+  pub whole : flat_map f xs ≡ before ++ flat_map f (drop i xs)
   whole = ap (flat_map f) (sym (take-append-drop i xs)) ∙ flat_map-append f (take i xs) (drop i xs)
 
   pub front_is : before ≡ take (length before) (flat_map f xs)

@@ -24,7 +24,7 @@ unfolding row_bytes
 rows_whole pixels w y =
     length_alike (λ x. rgb_of (pixels (pos x) (pos y))) 3 (λ x. refl) (range_with_len 0 w) ∙ ap (λ (n : ℕ). 3 * n) (length-range_with_len 0 w)
 
-pixels_whole : (pixels : Pixels) (w h : ℕ) → length (rgb_bytes pixels w h) ≡ 3 * (w * h)
+pub pixels_whole : (pixels : Pixels) (w h : ℕ) → length (rgb_bytes pixels w h) ≡ 3 * (w * h)
 unfolding rgb_bytes
 pixels_whole pixels w h =
     let rows = length_alike (λ row. row_bytes pixels w (h - 1 - row)) (3 * w) (λ row. rows_whole pixels w (h - 1 - row)) (range_with_len 0 h) in

@@ -1,20 +1,26 @@
 -- Laws of the frames of runs.
-use Rattle.std.specs.Prelude.{◌≡◌, ℕ, ◌<◌, List, None}
+use Rattle.std.specs.Prelude.{◌≡◌, ℕ, ◌<◌, List, [], None}
 use Rattle.rc_base.specs.Cluster.Tiles.{tile_count}
 use Rattle.rc_base.specs.Drawing.Images.{Pixels}
 use Rattle.rc_base.specs.Formats.Limits.{limit_of}
 use Rattle.rc_base.specs.Formats.Netpbm.{p6_texts}
+use Rattle.rc_base.specs.Lists.{IsFront}
 use Rattle.rc_base.specs.Orders.Journal.{IsLegal}
 use Rattle.rc_base.specs.Orders.Sync.{sync_lists_of}
+use Rattle.rc_base.specs.Outside.Ends.{Used, IsCalm, Took}
 use Rattle.rc_base.specs.declared.cluster.TilePart.{TilePart}
 use Rattle.rc_base.specs.declared.scene.Scene.{Scene}
 use Rattle.rc_base.specs.declared.sync.Entry.{Entry}
 use Rattle.rc_base.specs.declared.window.Layout.{Layout}
 use Rattle.order_model.specs.Report.{frame_count, image_text_of, recorded_pixel}
 use Rattle.order_model.specs.declared.record.Record.{Record}
-use Rattle.run_record.specs.Told.{AreFrameParts}
+use Rattle.assembler.specs.Places.{in_place}
+use Rattle.assembler.specs.Assembled.{places_of}
+use Rattle.run_record.specs.Told.{AreFrameParts, HaveFrames}
 use Rattle.frame_out.specs.Frames.{frame_total, window_images, AreFrames, ShowFrames}
-use Rattle.frame_out.specs.Writing.{AreWritable}
+use Rattle.frame_out.specs.OnTheWay.{HasWritten, IsNewWriter, IsOnTheWay}
+use Rattle.frame_out.specs.Writing.{AreWritable, IsWritten}
+use Rattle.frame_out.specs.declared.on_the_way.FrameWriter.{FrameWriter}
 
 -- the layout is one of the scene's window
 pub record HasWindow (scene : Scene) (l : Layout) : Type 0 where
@@ -43,3 +49,20 @@ abbrev pub FramesOfScenesAreWritable : Type 0
 FramesOfScenesAreWritable =
     (scene : Scene) (l : Layout) (journal : List Entry) (pixels : ℕ → Pixels) → limit_of scene ≡ None → HasWindow scene l
     → IsLegal (sync_lists_of scene) journal → AreWritable (window_images l pixels (frame_count journal))
+
+-- A writer that was given fronts of the parts of a whole run, and found a tile's lane at its end, has written the record's image text: all of it, or up to
+-- the image's fault.
+abbrev pub WholeRunsAreWritten : Type 0
+WholeRunsAreWritten =
+    (scene : Scene) (l : Layout) (kept : Record) (shown took : ℕ → List TilePart) (image : Used) (w : FrameWriter)
+    → HaveFrames scene l kept shown → HasWindow scene l → 0 < tile_count l
+    → AreWritable (window_images l (recorded_pixel scene l kept) (frame_count kept.journal))
+    → HasWritten l image took w → ((tile : ℕ) → tile < tile_count l → IsFront (took tile) (shown tile))
+    → (tile : ℕ) → tile < tile_count l → in_place (places_of w.assembler) tile ≡ None → took tile ≡ shown tile
+    → IsWritten image (image_text_of scene l kept) w.written
+
+-- a new writer is on its way, with nothing taken and nothing written
+abbrev pub NewWritersAreOnTheWay : Type 0
+NewWritersAreOnTheWay =
+    (l : Layout) (image : Used) (took : ℕ → List TilePart) (w : FrameWriter) → IsNewWriter l w → Took image [] → IsCalm image
+    → ((tile : ℕ) → tile < tile_count l → took tile ≡ []) → IsOnTheWay l image took w

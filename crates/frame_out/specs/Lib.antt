@@ -1,3 +1,5 @@
 pub mod Frames
 pub mod Writing
+pub mod Windows
+pub mod OnTheWay
 pub mod Laws

@@ -1,6 +1,7 @@
 //! Laws of frames. Each function's contract is a law, and its body calls the laws that it follows from: there is nothing to compute.
-ghost use Rattle.frame_out.specs.Laws.{FramesOfScenesAreWritable, RecordedFramesHaveTheImageText, WholeRunsShowFrames};
+ghost use Rattle.frame_out.specs.Laws.{FramesOfScenesAreWritable, NewWritersAreOnTheWay, RecordedFramesHaveTheImageText, WholeRunsAreWritten, WholeRunsShowFrames};
 
+use assembler::parts_show_their_pixels;
 use bounds_bucket::each_pixel_has_one_tile;
 use order_model::laws::swaps_are_few;
 
@@ -17,4 +18,13 @@ pub fn frames_of_scenes_are_writable()
     ensures { FramesOfScenesAreWritable }
 {
     swaps_are_few();
+}
+
+/// A new writer of frames is on its way. One that was given the parts of a whole run, up to a tile's last, has written the record's image text.
+pub fn whole_runs_are_written()
+    ensures first { NewWritersAreOnTheWay }
+    ensures whole { WholeRunsAreWritten }
+{
+    each_pixel_has_one_tile();
+    parts_show_their_pixels();
 }

@@ -1,14 +1,15 @@
 //! Frames and texts, written to a sink.
-ghost use Rattle.std.specs.Prelude.{◌≡◌, ◌≤◌, IfOk, OnErr};
-ghost use Rattle.rc_base.specs.Formats.Netpbm.{p6_texts};
+ghost use Rattle.std.specs.Prelude.{◌≡◌, ◌+◌, ◌^◌, ◌<◌, ◌≤◌, ◌++◌, ℕ, false, List, length, IfOk, OnErr};
+ghost use Rattle.rc_base.specs.Formats.Netpbm.{p6_text, p6_texts};
 ghost use Rattle.rc_base.specs.Outside.Ends.{use_of, TookFront};
-ghost use Rattle.frame_out.specs.Writing.{AreWritable, IsWritten};
+ghost use Rattle.ppm_out.specs.Pictures.{IsWhole};
+ghost use Rattle.frame_out.specs.Writing.{written_more, AreWritable, HasGiven, IsCounted, IsWritten};
 
 use ppm_out::image_text;
 use rc_base::image::Image;
 use rc_base::out_of_memory::OutOfMemory;
 use rc_base::outside::Sink;
-use rc_base::transfer::write_all;
+use rc_base::transfer::{WriteFault, write_all};
 use std::alloc::Global;
 
 /// How much a sink took of what is due to it.
@@ -18,6 +19,59 @@ pub struct Written {
     pub bytes: u64,
     /// The sink failed behind them.
     pub fault: bool,
+}
+
+impl Written {
+    ghost use Rattle.std.specs.Prelude.{◌≡◌};
+
+    /// Nothing was written.
+    pub fn nothing() -> Written
+        ensures { result ≡ record { bytes = 0; fault = false } }
+    {
+        Written {
+            bytes: 0,
+            fault: false,
+        }
+    }
+
+    /// With one `write_all` more, of so many bytes.
+    fn with(self, size: usize, answer: Result<(), WriteFault>) -> Written
+        ensures { result ≡ written_more self size answer }
+    {
+        match answer {
+            Ok(()) => Written {
+                bytes: self.bytes.saturating_add(size as u64),
+                fault: false,
+            },
+            Err(fault) => Written {
+                bytes: self.bytes.saturating_add(fault.done as u64),
+                fault: true,
+            },
+        }
+    }
+}
+
+/// Writes the Netpbm P6 text of a frame by one `write_all`, behind what was written. Behind a fault nothing is offered. Where memory lacks for the text
+/// the image is given nothing.
+pub fn write_frame<K: Sink>(
+    alloc: Global,
+    image: &mut K,
+    frame: &Image,
+    written: Written,
+) -> Result<Written, OutOfMemory>
+    requires { IsWhole frame.now }
+    ensures written { IfOk result (λ more. (start : K) (text : List ℕ) → length text + length (p6_text frame.now) < 2 ^ 64
+        → IsCounted (use_of K.held K.faults start image.old) text written → IsCounted (use_of K.held K.faults start image.new) (text ++ p6_text frame.now) more) }
+    ensures given { IfOk result (λ more. HasGiven (K.held image.old) (K.held image.new) (p6_text frame.now) written more) }
+    ensures lacked { OnErr result (image.new ≡ image.old) }
+    ensures later { K.faults image.old ≤ K.faults image.new }
+{
+    if written.fault {
+        return Ok(written);
+    }
+    let text = image_text(alloc, frame)?;
+    let answer = write_all(image, text.as_slice());
+    Ok(written.with(text.len(), answer))
 }
 
 /// Writes the Netpbm P6 text of each frame, one `write_all` a frame. Behind a fault nothing more is offered. Where memory lacks for a text, the sink was
@@ -32,23 +86,11 @@ pub fn write_frames<K: Sink>(
     ensures front { OnErr result (TookFront (use_of K.held K.faults image.old image.new) (p6_texts frames.now)) }
     ensures later { K.faults image.old ≤ K.faults image.new }
 {
-    let mut bytes: u64 = 0;
+    let mut written = Written::nothing();
     for frame in frames {
-        let text = image_text(alloc, frame)?;
-        match write_all(image, text.as_slice()) {
-            Ok(()) => bytes += text.len() as u64,
-            Err(fault) => {
-                return Ok(Written {
-                    bytes: bytes + fault.done as u64,
-                    fault: true,
-                });
-            }
-        }
+        written = write_frame(alloc, image, frame, written)?;
     }
-    Ok(Written {
-        bytes,
-        fault: false,
-    })
+    Ok(written)
 }
 
 /// Writes a text by one `write_all`.

@@ -1,9 +1,10 @@
 -- Rows and columns of the ends of lanes.
 use Rattle.std.specs.Prelude.{◌≡◌, ◌<◌, ℕ, List, [], ◌∷◌, ◌++◌, Vec, length, slice_index_or}
 use Rattle.rc_base.specs.Lists.{IsFront}
-use Rattle.tile_queues.specs.Ends.{sent_of, taken_of, lane_in, lane_out, depth_of}
+use Rattle.tile_queues.specs.Ends.{sent_of, taken_of, lane_in, lane_out, sent_in, taken_in, lane_rest, depth_of}
 use Rattle.tile_queues.specs.declared.ends.LaneIn.{LaneIn}
 use Rattle.tile_queues.specs.declared.ends.LaneOut.{LaneOut}
+use Rattle.tile_queues.specs.declared.ends.Rest.{Rest}
 
 module _ {T R : Type 0} where
   -- the two ends of a new lane, which holds so many items at most
@@ -12,6 +13,18 @@ module _ {T R : Type 0} where
     pub deep : depth_of (lane_in a) ≡ depth
     pub unsent : sent_of a ≡ []
     pub untaken : taken_of b ≡ []
+
+  -- the lane of two ends that were brought together
+  pub record IsJoined (a : LaneIn T R) (b : LaneOut T R) (r : Rest T R) : Type 0 where
+    pub lane : lane_rest r ≡ lane_in a
+    pub sent : sent_in r ≡ sent_of a
+    pub taken : taken_in r ≡ taken_of b
+
+  -- the lane of the two ends at each place
+  pub record AreJoined (ins : List (LaneIn T R)) (outs : List (LaneOut T R)) (rests : List (Rest T R)) : Type 0 where
+    pub count : length rests ≡ length ins
+    pub at : (i : ℕ) (a : LaneIn T R) (b : LaneOut T R) (r : Rest T R) → i < length ins
+        → IsJoined (slice_index_or ins i a) (slice_index_or outs i b) (slice_index_or rests i r)
 
 module _ {T R A : Type 0} where
   -- the last of these receiving ends is of the sender's lane

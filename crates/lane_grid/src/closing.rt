@@ -1,10 +1,12 @@
 //! Closing the lanes from each of several senders to each of several receivers.
-ghost use Rattle.std.specs.Prelude.{◌≡◌, ◌<◌, ℕ, length, vec_len, slice_index_or};
+ghost use Rattle.std.specs.Prelude.{◌≡◌, ◌<◌, ◌≤◌, ℕ, length, vec_len, vec_capacity, slice_index_or, IfOk};
 ghost use Rattle.rc_base.specs.Lists.{ArePaired, IsFront};
 ghost use Rattle.tile_queues.specs.Ends.{sent_of, taken_of, lane_in, lane_out};
-ghost use Rattle.lane_grid.specs.Grids.{IsOpen, IsClosed, AreGrid};
+ghost use Rattle.lane_grid.specs.Grids.{IsOpen, IsClosed, AreJoined, AreGrid};
 
-use tile_queues::{LaneIn, LaneOut, close};
+use rc_base::out_of_memory::OutOfMemory;
+use std::alloc::Global;
+use tile_queues::{LaneIn, LaneOut, Rest, close};
 
 /// Closes a lane, whose receiving end is the last of these.
 fn close_last<T: Drop, R: Copy>(a: LaneIn<T, R>, outs: &mut Vec<LaneOut<T, R>>)
@@ -52,4 +54,40 @@ pub fn close_list<T: Drop, R: Copy>(ins: Vec<LaneIn<T, R>>, outs: &mut Vec<LaneO
     while let Some(a) = ins.pop() {
         close_last(a, outs);
     }
+}
+
+// Brings the ends of two lists together, and puts the lanes into the room that `rests` has.
+fn join_each<T: Drop, R: Copy>(
+    ins: Vec<LaneIn<T, R>>,
+    outs: Vec<LaneOut<T, R>>,
+    rests: Vec<Rest<T, R>>,
+) -> Vec<Rest<T, R>>
+    requires paired { ArePaired (λ i a b. lane_out b ≡ lane_in a) ins.items outs.items }
+    requires empty { vec_len rests ≡ 0 }
+    requires room { vec_len ins ≤ vec_capacity rests }
+    ensures { AreJoined ins.items outs.items result.items }
+{
+    let mut rests = rests;
+    let mut others = outs.into_iter();
+    for a in ins {
+        match others.next() {
+            Some(b) => rests.push_reserved(close(a, b)),
+            None => unreachable!(),
+        }
+    }
+    rests
+}
+
+/// Brings the ends of two lists together, each with the other list's at its place. Each lane comes out as an inlet, with what is left in it. Memory is
+/// taken before the first is closed.
+pub fn join_list<T: Drop, R: Copy>(
+    alloc: Global,
+    ins: Vec<LaneIn<T, R>>,
+    outs: Vec<LaneOut<T, R>>,
+) -> Result<Vec<Rest<T, R>>, OutOfMemory>
+    requires { ArePaired (λ i a b. lane_out b ≡ lane_in a) ins.items outs.items }
+    ensures { IfOk result (λ rests. AreJoined ins.items outs.items rests.items) }
+{
+    let rests = Vec::with_capacity(alloc, ins.len())?;
+    Ok(join_each(ins, outs, rests))
 }

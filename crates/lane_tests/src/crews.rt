@@ -214,8 +214,9 @@ impl<'a, 'b, K: Drop> Foreground<K> for Turns<'a, 'b, K> {
     ghost goes_on = { λ a b c f g. (g.0 ∙ f.0, g.1 ∙ f.1) };
 
     fn serve(&mut self) -> bool {
+        let moved = *self.left > 0;
         *self.left = self.left.saturating_sub(1);
-        *self.left == 0
+        moved
     }
 
     fn keep(&mut self, kept: K) {

@@ -1,6 +1,6 @@
 //! A grid of lanes, used and closed, and two lists of ends.
 
-use lane_grid::{Grid, close_all, close_list, lane_grid};
+use lane_grid::{Grid, close_all, close_list, join_list, lane_grid};
 use rc_base::lane::{Inlet, Outlet};
 use std::alloc::Global;
 use std::process::Abort;
@@ -77,4 +77,21 @@ fn closes_one<R: Copy + Abort>(rt: R, alloc: Global) -> bool {
 fn each_lane_is_closed(rt: HostRuntime) {
     assert!(rt; closes_each(rt, rt.alloc(), 3, 2));
     assert!(rt; closes_one(rt, rt.alloc()));
+}
+
+// Whether what was sent comes out where one lane was joined as two lists.
+fn joins_one<R: Wait + Copy + Abort>(rt: R, alloc: Global) -> bool {
+    let (mut sender, receiver) = lane::<Item, R>(rt, alloc, 1).expect(&rt, "memory");
+    let _sent = sender.push((5, 6));
+    let mut ins = Vec::new(alloc);
+    let mut outs = Vec::new(alloc);
+    ins.push(sender).expect(&rt, "memory");
+    outs.push(receiver).expect(&rt, "memory");
+    let mut rests = join_list(alloc, ins, outs).expect(&rt, "memory");
+    rests.len() == 1 && rests[0].pop() == Some((5, 6)) && rests[0].pop() == None
+}
+
+#[test]
+fn a_joined_lane_gives_what_is_left(rt: HostRuntime) {
+    assert!(rt; joins_one(rt, rt.alloc()));
 }

@@ -7,7 +7,7 @@ use std::process::Abort;
 use std::sync::Wait;
 use std::thread;
 use std::thread::Threads;
-use tile_queues::{LaneIn, LaneOut, close, lane};
+use tile_queues::{LaneIn, LaneOut, Rest, close, lane};
 
 #[test]
 fn a_lane_of_one_place_refuses_a_second_item(rt: HostRuntime) {
@@ -21,6 +21,35 @@ fn a_lane_of_one_place_refuses_a_second_item(rt: HostRuntime) {
     let mut rest = close(sender, receiver);
     assert!(rt; rest.next() == Some(7));
     assert!(rt; rest.next() == None);
+}
+
+// Whether an inlet gives these numbers, and then nothing any more.
+fn gives<I: Inlet<u32>>(inlet: &mut I, numbers: &[u32]) -> bool {
+    let mut right = true;
+    for number in numbers {
+        right &= inlet.pop() == Some(*number);
+    }
+    right && inlet.pop() == None && inlet.pop() == None
+}
+
+// The lane of two ends by which three numbers were sent and one was taken.
+fn two_left<R: Wait + Abort + Copy>(rt: R, alloc: Global) -> Rest<u32, R> {
+    let (mut sender, mut receiver) = lane(rt, alloc, 3).expect(&rt, "memory");
+    let _one = sender.push(1);
+    let _two = sender.push(2);
+    let _three = sender.push(3);
+    let _taken = receiver.pop();
+    close(sender, receiver)
+}
+
+#[test]
+fn a_closed_lane_is_an_inlet_that_gives_what_is_left(rt: HostRuntime) {
+    let mut rest = two_left(rt, rt.alloc());
+    assert!(rt; rest.refusals() == 0);
+    assert!(rt; gives(&mut rest, &[2, 3]));
+    assert!(rt; rest.refusals() == 2);
+    assert!(rt; rest.next() == None);
+    assert!(rt; rest.refusals() == 2);
 }
 
 // Whether a lane takes so many numbers and no more, and gives them in order and no more.

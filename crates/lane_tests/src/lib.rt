@@ -9,3 +9,5 @@ mod crews;
 mod grids;
 #[cfg(test)]
 mod lanes;
+#[cfg(test)]
+mod served;

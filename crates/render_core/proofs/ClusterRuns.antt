@@ -1,8 +1,5 @@
 -- What the stepped cluster leaves is its run: frames, report and ending.
-use Rattle.std.proofs.Common.{◌≡◌, ℕ, ◌<◌, List, None, Some, Ok, Err, inl, refl, sym, ap, subst, ◌∙◌}
-use Rattle.std.specs.Prelude.{IfErr}
-use Rattle.std.specs.Result.{IsErrAnd}
-use Rattle.std.specs.declared.result.Result.{Result}
+use Rattle.std.proofs.Common.{◌≡◌, ℕ, ◌<◌, List, None, Some, refl, sym, ap, subst, ◌∙◌}
 use Rattle.rc_base.specs.Cluster.Tiles.{tile_count}
 use Rattle.rc_base.specs.Drawing.Images.{Pixels}
 use Rattle.rc_base.specs.Formats.Limits.{limit_of}
@@ -19,22 +16,12 @@ use Rattle.run_record.specs.Told.{IsRun}
 use Rattle.step_core.specs.CoreRuns.{IsCoreRun, IsFinish}
 use Rattle.step_core.specs.Schedules.{WorldView, picks_of, IsRightFor}
 use Rattle.step_core.specs.declared.rounds.CoreRun.{CoreRun}
-use Rattle.step_core.specs.declared.rounds.FinishFault.{FinishFault}
-use Rattle.step_core.specs.declared.rounds.FinishFault.TheVariants.{OutOfMemory as Unfinished}
 use Rattle.render_core.specs.Due.{IsStepped}
 use Rattle.render_core.specs.Jobs.{layout_for}
-use Rattle.render_core.specs.Refusals.{IsClusterRefusal, IsFinishRefusal}
 use Rattle.render_core.specs.Reports.{IsAccount}
 use Rattle.render_core.specs.declared.cluster.Account.{Account}
-use Rattle.render_core.specs.declared.due.DueRefusal.{DueRefusal}
 use Rattle.render_core.specs.declared.job.Cluster.{Cluster}
 use Rattle.render_core.proofs.Recorded.{kept_permits}
-
--- a cluster that isn't brought to its end lacks memory
-pub if_lacking : (scene : Scene) (l : Layout) (depth : ℕ) (picks : List ℕ) (fault : FinishFault) {T : Type 0} (r : Result T DueRefusal)
-    → fault ≡ Unfinished → IsErrAnd r (IsFinishRefusal fault) → IfErr r (IsClusterRefusal scene l depth picks)
-if_lacking scene l depth picks fault (Ok x) e is = tt
-if_lacking scene l depth picks fault (Err refusal) e is = inl (subst (λ f. IsFinishRefusal f refusal) e is)
 
 -- what a world is brought to is what its scene, its layout, its depth and its picks are brought to
 pub finish_of : (scene : Scene) (l : Layout) (depth : ℕ) (picks : List ℕ) (world : WorldView) (run : CoreRun) → (world.scene ≡ scene) × (world.layout ≡ l) × (world.depth ≡ depth)

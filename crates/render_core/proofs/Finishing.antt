@@ -15,8 +15,8 @@ use Rattle.render_core.specs.declared.refusal.Refused.{Refused}
 use Rattle.render_core.specs.declared.run_job.Finish.{Finish}
 use Rattle.render_core.specs.declared.writing.Told.{Told}
 use Rattle.render_core.specs.Finishes.{IsFinished, IsJobless}
-use Rattle.render_core.specs.Jobs.{IsJob, IsLine}
-use Rattle.render_core.specs.Outcomes.{HasNotes, IsLeft, IsUnwritten, NoMemory, PartlyWritten, Ran, Usage}
+use Rattle.render_core.specs.Jobs.{ForJob, IsJob, IsLine}
+use Rattle.render_core.specs.Outcomes.{HasNotes, IsUnwritten, NoMemory, Ran, Usage}
 use Rattle.render_core.specs.Refusals.{refusal_status, IsCaused, IsConcluded, IsPerformed, IsRefusalTold}
 use Rattle.render_core.proofs.Endings.{cases_nil, ran_refused, ran_told, some_told}
 
@@ -40,7 +40,6 @@ never_done (Input (judging.MalformedText kind line)) e = omega (arith, e)
 never_done (Input (judging.PastLimit limit)) e = omega (arith, e)
 never_done (Input judging.OutOfMemory) e = omega (arith, e)
 never_done (Undue (undue.PastLimit limit)) e = omega (arith, e)
-never_done (Undue undue.Standstill) e = omega (arith, e)
 never_done (Undue undue.OutOfMemory) e = omega (arith, e)
 never_done (Image (writing.Fault done)) e = omega (arith, e)
 never_done (Image writing.OutOfMemory) e = omega (arith, e)
@@ -76,13 +75,13 @@ module _ (words : List (String Global)) (job : Job) (is : IsJob words job) (sour
       elim (refused_status notes r.refusal f.status finished.0) [ inl own ↦ left (λ six. free.2 (own ∙ six)) (λ seven. free.3 (own ∙ seven)) | inr seven ↦ absurd (free.3 seven) ]
 
   -- what is left of the image where there was no memory
-  pub left_by : {P : Type 0} (p : Result Told Refused) → IsFinished notes p f → OnErr p (P ⊎ PartlyWritten job source image) → f.status ≡ 7 → P ⊎ IsLeft words source image
-  left_by (Ok told) finished front seven =
+  pub left_by : {P : Type 0} (Q : Job → Type 0) (p : Result Told Refused) → IsFinished notes p f → OnErr p (P ⊎ Q job) → f.status ≡ 7 → P ⊎ ForJob words Q
+  left_by Q (Ok told) finished front seven =
       elim (told_status notes told f.status finished.0) [
         | inl done ↦ absurd (omega (arith, done, seven))
         | inr other ↦ elim other [ inl unnoted ↦ absurd (omega (arith, unnoted, seven)) | inr stuck ↦ absurd (omega (arith, stuck, seven)) ]
       ]
-  left_by (Err r) finished front seven = elim front [ inl same ↦ inl same | inr part ↦ inr (job, is, part) ]
+  left_by Q (Err r) finished front seven = elim front [ inl same ↦ inl same | inr part ↦ inr (job, is, part) ]
 
   -- notes to which nothing is due
   pub silent_by : {P : Type 0} (p : Result Told Refused) → IsFinished notes p f → IfOk p (IsPerformed job source image) → IfOk p (λ told. told.lines ≡ [] → P)

@@ -15,7 +15,7 @@ use Rattle.rc_base.specs.Outside.Ends.{Used, Failed, Took, TookFront}
 use Rattle.render_core.specs.Findings.{Finding, Long, Malformed, Outside, Sound, IsFinding, refused_with}
 use Rattle.render_core.specs.Jobs.{ForJob, HasScene, Holds, IsJob, cluster_of, origin_of}
 use Rattle.render_core.specs.Laws.{FindingsAreOne, OrderedRecordsShowOneImage}
-use Rattle.render_core.specs.Outcomes.{IsDue, Sent, Whole, Front, IsDone, IsUnnoted, IsStuck, IsRefused, Cause, SourceFailed, InputRefused, StoodStill, ImageFailed, Ran, Usage, Done, NotesFailed, Stuck, Refused, NoMemory, Answers, IsAnswered, IsHeadline, KeepsOrders, frames_text}
+use Rattle.render_core.specs.Outcomes.{IsDue, Sent, Whole, Front, IsDone, IsUnnoted, IsStuck, IsRefused, Cause, SourceFailed, InputRefused, ImageFailed, Ran, Usage, Done, NotesFailed, Stuck, Refused, NoMemory, Answers, IsAnswered, IsHeadline, KeepsOrders, frames_text}
 use Rattle.render_core.proofs.Endings.{same_job, found_in_taken, holds_calm, sent_whole, noted_whole}
 use Rattle.render_core.proofs.KeptOrders.{keeps_orders}
 
@@ -48,14 +48,13 @@ module _ (reading : OneReading) (findings : FindingsAreOne) (words : List (Strin
         (findings job judged.input finding judged.judged.finding (found_in_taken job source input judged.input holds_input judged.took finding found) judged.judged.is)
         (by_status job image notes status kept judged.judged.finding judged.judged.refused)
     refused line (ImageFailed is o due complete cut of) = absurd ((taken (ap refused_with (sound due.scene due.has))).0 cut.failed)
-    refused line (StoodStill is told still none) = answers (Sound still.scene) (sound still.scene still.has) (inr (is, still.stands))
 
     go : Ran words source image notes status kept → (status ≡ 7) ⊎ Answers job finding image notes status kept
     go (Usage is none told unkept) = absurd (none job is_job)
     go (Done is h) =
         let d = at (λ j. IsDone j source image notes kept) h in
         answers (Sound d.due.scene) (sound d.due.scene d.due.has)
-        (inl (record { o = d.o; due = d.due.due; given = d.given; told = d.told; status_is = is ∙ sym (ap ending_status d.complete); kept_is = d.kept_is }))
+        record { o = d.o; due = d.due.due; given = d.given; told = d.told; status_is = is ∙ sym (ap ending_status d.complete); kept_is = d.kept_is }
     go (NotesFailed is h) =
         let d = at (λ j. IsUnnoted j source image notes kept) h in absurd ((taken (ap refused_with (sound d.due.scene d.due.has))).1 d.failed)
     go (Stuck is h) =
@@ -64,14 +63,14 @@ module _ (reading : OneReading) (findings : FindingsAreOne) (words : List (Strin
         let calm = taken (ap refused_with same) in
         let sent = sent_whole image d.o d.lines calm.0 d.sent in
         answers (Sound d.due.scene) same
-        (inl (record {
+        record {
           o = d.o;
           due = d.due.due;
           given = sent.0;
           told = subst (Took notes) sent.1 (noted_whole notes d.lines calm.1 d.noted);
           status_is = is ∙ sym (ap ending_status d.stuck);
           kept_is = d.kept_is;
-        }))
+        }
     go (Refused h) = let r = at (λ j. IsRefused j source image notes status kept) h in refused r.line r.cause
     go (NoMemory is told unkept) = inl is
 
@@ -139,7 +138,6 @@ module _ (shows : OrderedRecordsShowOneImage) (words : List (String Global)) (so
       let below = cut.part in
       headline_of job is_job o due of (record { done = cut.done; part = omega (arith, below); given = cut.given })
       (λ h. absurd (not_whole 6 is (λ z. omega (arith, z)) (λ z. omega (arith, z)) h)) (λ five. absurd (omega (arith, is, five)))
-  of_cause job is_job line (StoodStill is told still none) = absurd cc
 
   of_ran : Ran words source image notes status (Some kept) → IsHeadline words source image status kept
   of_ran (Usage is none told unkept) = absurd cc

@@ -32,7 +32,7 @@ use Rattle.rc_base.specs.Outside.Ends.{Used, IsCalm, Took, TookInput, TookFront}
 use Rattle.render_core.specs.Findings.{Long}
 use Rattle.render_core.specs.Jobs.{origin_of, scene_limit, word_limit, Gives, IsUntouched, Takes}
 use Rattle.render_core.specs.Lines.{limit_line, image_fault_line}
-use Rattle.render_core.specs.Outcomes.{IsDue, PartlyWritten, Sent, Whole, Front, Cause, SourceFailed, InputRefused, StoodStill, ImageFailed}
+use Rattle.render_core.specs.Outcomes.{IsDue, PartlyWritten, Sent, Whole, Front, Cause, SourceFailed, InputRefused, ImageFailed}
 use Rattle.render_core.specs.Refusals.{IsRead, Came, IsRefusedInput, IsNoOutcome, IsToldOf, IsUntold, IsPerformed, IsCaused, IsRefusedUnwritten, input_status, input_line, kept_for, refusal_status, refusal_line}
 use Rattle.render_core.proofs.Judging.{judged_by_words, has_scene}
 
@@ -106,8 +106,6 @@ module _ (job : Job) (source : Used) (scene : Scene) (came : Came job source sce
   -- nothing is due
   pub undue_cause : (refusal : DueRefusal) → IsNoOutcome job scene refusal → IsRefusedUnwritten job source (Undue refusal)
   undue_cause (undue.PastLimit limit) first image = inl (InputRefused (judged_by_words job source scene came limit first) refl)
-  undue_cause undue.Standstill none image =
-      inl (StoodStill refl refl (record { scene = scene; has = has_scene job source scene came none.0; stands = none.1 }) refl)
   undue_cause undue.OutOfMemory none image = inr (refl, refl)
 
   pub due_of_scene : (o : Outcome) → word_limit job scene ≡ None → IsOutcome job scene o → IsDue job source o

@@ -1,5 +1,5 @@
 -- The picks of a seed, and the refusals of a job that runs a stepped cluster.
-use Rattle.std.proofs.Common.{◌≡◌, ℕ, ◌<◌, ◌%◌, inl, inr, Ok, Err, List, length, map, None, sym, subst, arith}
+use Rattle.std.proofs.Common.{◌≡◌, ℕ, ◌<◌, ◌%◌, Ok, Err, length, map, sym, subst, arith}
 use Rattle.std.specs.Prelude.{IfErr, slice_index_or}
 use Rattle.std.specs.declared.result.Result.{Result}
 use Rattle.std.specs.List.{range_with_len}
@@ -7,12 +7,10 @@ use Rattle.std.proofs.lemmas.List.FromFn.{length-map-range_with_len, get_or-map-
 use Rattle.std.proofs.Math.Nat.{mod-lt}
 use Rattle.rc_base.specs.Program.Generator.{pick_count, draw_of, picks_of}
 use Rattle.rc_base.specs.declared.scene.Scene.{Scene}
-use Rattle.rc_base.specs.declared.window.Layout.{Layout}
-use Rattle.render_core.specs.Due.{IsStandstill, Stands}
-use Rattle.render_core.specs.Jobs.{word_limit}
-use Rattle.render_core.specs.Refusals.{IsClusterRefusal, IsNoOutcome}
+use Rattle.render_core.specs.Refusals.{IsNoOutcome}
 use Rattle.render_core.specs.declared.due.Due.{Due}
 use Rattle.render_core.specs.declared.due.DueRefusal.{DueRefusal}
+use Rattle.render_core.specs.declared.due.DueRefusal.TheVariants as undue
 use Rattle.render_core.specs.declared.job.Job.{Job}
 
 -- ---- picks
@@ -32,13 +30,7 @@ picks_below seed actors some = drawn_below seed actors pick_count some
 
 -- ---- refusals
 
--- a job that the cluster refuses, where the cluster stands still as the job may
-module _ (job : Job) (scene : Scene) (l : Layout) (depth : ℕ) (picks : List ℕ) (asked : word_limit job scene ≡ None)
-    (stands : IsStandstill scene l depth picks → Stands job scene) where
-  refused_by : (refusal : DueRefusal) → IsClusterRefusal scene l depth picks refusal → IsNoOutcome job scene refusal
-  refused_by refusal (inl memory) = subst (IsNoOutcome job scene) (sym memory) tt
-  refused_by refusal (inr still) = subst (IsNoOutcome job scene) (sym still.0) (asked, stands still.1)
-
-  pub cluster_refused : (r : Result Due DueRefusal) → IfErr r (IsClusterRefusal scene l depth picks) → IfErr r (IsNoOutcome job scene)
-  cluster_refused (Ok due) h = tt
-  cluster_refused (Err refusal) h = refused_by refusal h
+-- a job that a cluster refuses lacks memory
+pub cluster_refused : (job : Job) (scene : Scene) (r : Result Due DueRefusal) → IfErr r (λ refusal. refusal ≡ undue.OutOfMemory) → IfErr r (IsNoOutcome job scene)
+cluster_refused job scene (Ok due) h = tt
+cluster_refused job scene (Err refusal) h = subst (IsNoOutcome job scene) (sym h) tt

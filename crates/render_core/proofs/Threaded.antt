@@ -5,7 +5,7 @@ use Rattle.std.specs.Global.{Global}
 use Rattle.std.specs.Str.{bytes_eq}
 use Rattle.std.specs.declared.option.Option.{Option}
 use Rattle.std.specs.declared.result.Result.{Result}
-use Rattle.std.specs.List.{flat_map}
+use Rattle.std.specs.List.{flat_map, AllByRecursion}
 use Rattle.std.specs.Option.{option_or}
 use Rattle.rc_base.specs.Formats.Limits.{limit_of, size_limit}
 use Rattle.rc_base.specs.Outside.Ends.{Used, TookFront}
@@ -13,6 +13,7 @@ use Rattle.rc_base.specs.Program.Words.{Setting, job_word, setting_words}
 use Rattle.rc_base.specs.declared.job.JobName.{JobName}
 use Rattle.rc_base.specs.declared.job.JobName.TheVariants as name
 use Rattle.rc_base.specs.declared.cluster.Tally.{Tally}
+use Rattle.rc_base.specs.declared.image.Image.{Image}
 use Rattle.rc_base.specs.declared.scene.Limit.{Limit}
 use Rattle.rc_base.specs.declared.scene.Scene.{Scene}
 use Rattle.rc_base.specs.declared.state.Fault.{Fault}
@@ -34,7 +35,7 @@ use Rattle.render_core.specs.declared.refusal.Refused.{Refused}
 use Rattle.render_core.specs.declared.writing.Told.{Told}
 use Rattle.render_core.specs.Due.{Outcome, IsRecorded, IsOutcome, ending_by, report_due}
 use Rattle.render_core.specs.Jobs.{IsJob, IsThreaded, cluster_limit, has_threads, job_in, layout_for, origin_of, threads_of, word_limit}
-use Rattle.render_core.specs.Outcomes.{IsDue, PartlyWritten}
+use Rattle.render_core.specs.Outcomes.{IsDue, PartlyShown, PartlyWritten}
 use Rattle.render_core.specs.Refusals.{refusal_status, Came, IsCaused, IsPerformed, IsToldOf, IsUntold, IsWell, IsWellRead}
 use Rattle.render_core.proofs.Judging.{has_scene}
 use Rattle.render_core.proofs.Performing.{front_of, partly_written, told_done, told_late, told_refused}
@@ -163,10 +164,16 @@ module _ (job : Job) (cluster : Cluster) (source image : Used) (scene : Scene) (
   }
 
   -- a run that lacked memory
-  pub front_given : GaveFront scene l image → PartlyWritten job source image
-  front_given gave =
-      partly_written job source image (outcome_by cluster scene gave.kept) (due_by gave.kept gave.lawful)
-      (subst (λ (t : Layout). TookFront image (image_text_of scene t gave.kept)) tiles gave.front)
+  pub front_given : GaveFront l image → PartlyShown job source image
+  front_given gave = record {
+    cluster = cluster;
+    threads = threads;
+    scene = scene;
+    has = has_scene job source scene came (words_asked job cluster scene threads well asked);
+    images = gave.images;
+    sides = subst (λ (t : Layout). AllByRecursion (λ (m : Image). (m.width ≡ t.width) × (m.height ≡ t.height)) gave.images) tiles gave.sides;
+    front = gave.front;
+  }
 
   module _ (kept : Record) (tallies : List Tally) (waiting : Option Waiting) (faults : List (List (ℕ × Fault))) (written : Written) (is : IsRun scene l kept tallies waiting faults)
       (given : IsWritten image (image_text_of scene l kept) written) where

@@ -19,7 +19,7 @@ use Rattle.order_model.specs.declared.record.Record.{Record}
 use Rattle.scene_file.specs.Written.{written}
 use Rattle.world_model.specs.Laws.{IsRecordIn}
 use Rattle.world_model.specs.declared.moves.Move.{Move}
-use Rattle.world_model.specs.Runs.{IsFinishedRun, StandsStill}
+use Rattle.world_model.specs.Runs.{IsFinishedRun}
 use Rattle.world_model.specs.World.{World}
 use Rattle.render_core.specs.Jobs.{layout_for, actors_for}
 use Rattle.render_core.specs.declared.due.Ending.{Ending}
@@ -76,14 +76,6 @@ pub record IsStepped (cluster : Cluster) (picks : List ℕ) (scene : Scene) (o :
   pub recorded : IsRecorded cluster scene o
   pub stepped : IsSteppedRecord scene (layout_for cluster scene) cluster.depth picks recorded.record_kept
 
--- a whole round of that run moves nobody, though somebody hasn't ended
-pub record IsStandstill (scene : Scene) (l : Layout) (depth : ℕ) (picks : List ℕ) : Type 0 where
-  pub rounds : ℕ
-  pub moves : List Move
-  pub last : List Move
-  pub world : World
-  pub still : StandsStill scene l depth picks rounds moves last world
-
 -- the picks of a seed for the cluster's actors
 abbrev pub seeded_picks : ℕ → Cluster → Scene → List ℕ
 seeded_picks seed cluster scene = picks_of seed (actors_for cluster scene)
@@ -118,10 +110,3 @@ IsOutcome Pack scene o = IsPacked scene o
 IsOutcome Unpack scene o = (o ≡ record { image = printed scene; notes = []; ending = Complete; kept = None }) × SpellsText o.image scene
 IsOutcome (Gen seed size) scene o = IsPacked scene o
 IsOutcome (Demo seed size cluster) scene o = IsRecorded cluster scene o
-
--- Nothing is due, since a whole round of the seeded cluster moved nobody, though an actor hadn't ended.
-pub record Stands (job : Job) (scene : Scene) : Type 0 where
-  pub seed : ℕ
-  pub cluster : Cluster
-  pub simulated : job ≡ Simulate seed cluster
-  pub still : IsStandstill scene (layout_for cluster scene) cluster.depth (seeded_picks seed cluster scene)

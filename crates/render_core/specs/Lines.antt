@@ -48,7 +48,3 @@ read_fault_line = codes "rc: read fault\n"
 -- there was no memory
 unfoldable pub memory_line : List ℕ
 memory_line = codes "rc: out of memory\n"
-
--- a round of the cluster moved nobody
-unfoldable pub standstill_line : List ℕ
-standstill_line = codes "rc: standstill\n"

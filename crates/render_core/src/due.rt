@@ -3,7 +3,7 @@ ghost use Rattle.std.specs.Prelude.{◌≡◌, [], false, Some, None, is_some, I
 ghost use Rattle.rc_base.specs.Formats.Limits.{limit_of};
 ghost use Rattle.render_core.specs.Due.{IsOutcome, IsPacked};
 ghost use Rattle.render_core.specs.Jobs.{cluster_limit, has_threads, layout_for, origin_of, word_limit};
-ghost use Rattle.render_core.specs.Refusals.{IsFinishRefusal, IsWell, IsWellRead, IsWritable, outcome_of, IsNoOutcome};
+ghost use Rattle.render_core.specs.Refusals.{IsWell, IsWellRead, IsWritable, outcome_of, IsNoOutcome};
 ghost use Rattle.render_core.specs.Reports.{IsDefault};
 ghost use Rattle.render_core.specs.declared.job.Form.TheVariants.{Bytes as OfBytes, Text as OfText};
 ghost use Rattle.render_core.specs.declared.job.Job.TheVariants.{Simulate as ToSimulate, Serial as ToSerial, Check as ToCheck, Unpack as ToUnpack};
@@ -30,7 +30,6 @@ use scene_file::write_scene;
 use scene_text::print_scene;
 use serial_render::{Survey, Turns, render_order, survey, turns_of};
 use std::alloc::{AllocError, Global};
-use step_core::FinishFault;
 
 /// What is due to the image.
 #[derive(Drop)]
@@ -67,8 +66,6 @@ pub(crate) struct Due {
 pub enum DueRefusal {
     /// The words ask for tiles or lanes that are outside their range in the scene's window.
     PastLimit(Limit),
-    /// A whole round of the cluster moved nobody, though an actor hadn't ended.
-    Standstill,
     /// There was no memory.
     OutOfMemory,
 }
@@ -78,17 +75,6 @@ impl From<OutOfMemory> for DueRefusal {
 
     fn from(_: OutOfMemory) -> DueRefusal {
         DueRefusal::OutOfMemory
-    }
-}
-
-impl From<FinishFault> for DueRefusal {
-    ghost from_gives = { λ fault refusal. IsFinishRefusal fault refusal };
-
-    fn from(fault: FinishFault) -> DueRefusal {
-        match fault {
-            FinishFault::Standstill { .. } => DueRefusal::Standstill,
-            FinishFault::OutOfMemory => DueRefusal::OutOfMemory,
-        }
     }
 }
 

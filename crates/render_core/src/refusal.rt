@@ -186,13 +186,12 @@ fn input_line(alloc: Global, refusal: InputRefusal) -> Result<String, AllocError
     }
 }
 
-#[tactic(auto, unfolding(crate::specs::Lines::standstill_line, crate::specs::Lines::memory_line))]
+#[tactic(auto, unfolding(crate::specs::Lines::memory_line))]
 fn due_line(alloc: Global, refusal: DueRefusal) -> Result<String, AllocError>
     ensures { IfOk result (λ line. string_bytes line ≡ due_line refusal) }
 {
     match refusal {
         DueRefusal::PastLimit(Limit { what, value }) => limit_line(alloc, what, value),
-        DueRefusal::Standstill => String::from_str(alloc, "rc: standstill\n"),
         DueRefusal::OutOfMemory => String::from_str(alloc, OUT_OF_MEMORY),
     }
 }
@@ -228,7 +227,6 @@ impl Refusal {
             | Refusal::Input(InputRefusal::OutOfMemory)
             | Refusal::Undue(DueRefusal::OutOfMemory)
             | Refusal::Image(ImageRefusal::OutOfMemory) => 7,
-            Refusal::Undue(DueRefusal::Standstill) => 9,
         }
     }
 

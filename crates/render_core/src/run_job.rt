@@ -3,7 +3,7 @@ ghost use Rattle.std.specs.Prelude.{◌≡◌, ◌≤◌, ◌⊎◌, [], IfErr, 
 ghost use Rattle.rc_base.specs.Outside.Ends.{use_of};
 ghost use Rattle.render_core.specs.Finishes.{IsFinished, IsJobless};
 ghost use Rattle.render_core.specs.Jobs.{IsJob, IsLine, IsThreaded, Reads};
-ghost use Rattle.render_core.specs.Outcomes.{Ran, IsAnswered, IsHeadline, KeepsOrders, IsUnwritten, IsLeft, HasNotes};
+ghost use Rattle.render_core.specs.Outcomes.{Ran, IsAnswered, IsHeadline, KeepsOrders, IsUnwritten, IsLeft, IsLeftByThreads, HasNotes};
 ghost use Rattle.render_core.specs.Refusals.{kept_for};
 ghost use Rattle.render_core.specs.declared.job.Job.{Job as AnyJob};
 
@@ -26,7 +26,7 @@ use std::thread::Threads;
 #[derive(Debug, PartialEq, Drop)]
 pub struct Finish {
     /// 0: the job is done. 1: the words are no job. 2: the source failed. 3: the source's bytes spell no scene. 4: a quantity is past its limit.
-    /// 5: a client waits for ever. 6: the image failed. 7: there was no memory. 8: the job is done, but the notes failed. 9: the cluster stood still.
+    /// 5: a client waits for ever. 6: the image failed. 7: there was no memory. 8: the job is done, but the notes failed.
     pub status: u8,
     /// The record of a cluster that came to its end: of `render`, `simulate` and `demo` with the statuses 0, 5, 6 and 8.
     pub kept: Option<Record>,
@@ -187,9 +187,9 @@ where
     ensures unread { ((job : AnyJob) → IsJob words.now job → Reads job → ⊥) → source.new ≡ source.old }
     // The image is untouched, save where the job is carried out, or where it failed or there was no memory.
     ensures untouched { IsUnwritten result.status → image.new ≡ image.old }
-    // Where there was no memory it was given a front of what is due.
+    // Where there was no memory it was given a front of what is due, or, by a job on threads, of frames that no record tells.
     ensures memory { result.status ≡ 7 → (image.new ≡ image.old)
-        ⊎ IsLeft words.now (use_of S.left S.faults source.old source.new)
+        ⊎ IsLeftByThreads words.now (use_of S.left S.faults source.old source.new)
         (use_of K.held K.faults image.old image.new) }
     // Notes to which nothing is due stay as they are.
     ensures silent { result.status ≡ 0 → (notes.new ≡ notes.old)

@@ -7,7 +7,7 @@ ghost use Rattle.rc_base.specs.declared.window.Layout.{Layout as AnyLayout};
 ghost use Rattle.run_record.specs.Told.{IsRun};
 ghost use Rattle.render_core.specs.Due.{ending_by, report_due};
 ghost use Rattle.render_core.specs.Jobs.{Reads, has_threads, origin_of, threads_of};
-ghost use Rattle.render_core.specs.Outcomes.{IsDue, PartlyWritten};
+ghost use Rattle.render_core.specs.Outcomes.{IsDue, PartlyShown, PartlyWritten};
 ghost use Rattle.render_core.specs.Refusals.{outcome_of, refusal_status, Came, IsWell, IsWritable, IsCaused, IsRefusedUnwritten, IsPerformed, IsToldOf, IsUntold};
 ghost use Rattle.render_core.specs.Reports.{IsSmallRun};
 
@@ -144,7 +144,8 @@ where
     ensures done { IfOk result (IsPerformed job (use_of S.left S.faults source.old source.new) (use_of K.held K.faults image.old image.new)) }
     ensures refused { IfErr result (λ r. IsCaused job (use_of S.left S.faults source.old source.new) (use_of K.held K.faults image.old image.new) r.refusal r.kept) }
     ensures untouched { IfErr result (λ r. refusal_status r.refusal ≢ 6 → refusal_status r.refusal ≢ 7 → image.new ≡ image.old) }
-    ensures part { OnErr result ((image.new ≡ image.old) ⊎ PartlyWritten job (use_of S.left S.faults source.old source.new) (use_of K.held K.faults image.old image.new)) }
+    ensures part { OnErr result ((image.new ≡ image.old) ⊎ PartlyWritten job (use_of S.left S.faults source.old source.new) (use_of K.held K.faults image.old image.new)
+        ⊎ PartlyShown job (use_of S.left S.faults source.old source.new) (use_of K.held K.faults image.old image.new)) }
     ensures unread { (Reads job → ⊥) → source.new ≡ source.old }
     ensures later_source { S.faults source.old ≤ S.faults source.new }
     ensures later_image { K.faults image.old ≤ K.faults image.new }

@@ -1,7 +1,6 @@
 -- From each core's own clause, with the lanes closed, to what holds of all of them.
 use Rattle.std.proofs.Common.{ℕ, ◌<◌, List, [], ◌∷◌, length, subst, arith}
-use Rattle.std.specs.Prelude.{slice_index_or, Vec}
-use Rattle.std.specs.Global.{Global}
+use Rattle.std.specs.Prelude.{slice_index_or}
 use Rattle.rc_base.specs.Lists.{IsFront}
 use Rattle.rc_base.specs.Cluster.Parcels.{parcels_of}
 use Rattle.rc_base.specs.Cluster.Tiles.{tile_count}
@@ -38,8 +37,8 @@ pub some_of : {A : Type 0} (xs : List A) (i : ℕ) → i < length xs → A
 some_of [] i lt = absurd (omega (arith, lt))
 some_of (x ∷ xs) i lt = x
 
-module _ (laws : ClosingLaws) (scene : Scene) (l : Layout) (clients : List ClientCore) (core : ManagerCore) (tiles : List TileCore) (parts : List (Vec TilePart Global))
-    (range : IsInRange scene) (sides : HasSides scene.decl) (h : AreClosed scene l clients core tiles parts) where
+module _ (laws : ClosingLaws) (scene : Scene) (l : Layout) (clients : List ClientCore) (core : ManagerCore) (tiles : List TileCore) (shown : ℕ → List TilePart)
+    (range : IsInRange scene) (sides : HasSides scene.decl) (h : AreClosed scene l clients core tiles shown) where
   client_done : (c : ℕ) (d : ClientCore) → c < length scene.streams → IsClientDone scene l c (slice_index_or clients c d) (h.sent c) (h.asked c)
   client_done c d lt = let e = h.client c d lt in laws.clients scene l c (slice_index_or clients c d) (h.sent c) (h.asked c) e.clause e.ample
 
@@ -60,12 +59,12 @@ module _ (laws : ClosingLaws) (scene : Scene) (l : Layout) (clients : List Clien
   journal_legal : IsLegal (sync_lists_of scene) h.managed.progress.book.journal
   journal_legal = laws.legal (sync_lists_of scene) h.managed.progress.book manager_done.arrived h.managed.stands.book.legal
 
-  tile_done : (t : ℕ) (d : TileCore) (e : Vec TilePart Global) → t < tile_count l
-      → IsTileFinished scene l t h.managed.progress.book.journal (slice_index_or tiles t d) (slice_index_or parts t e).items
-  tile_done t d e lt =
-      let x = h.tile t d e lt in
+  tile_done : (t : ℕ) (d : TileCore) → t < tile_count l
+      → IsTileFinished scene l t h.managed.progress.book.journal (slice_index_or tiles t d) (shown t)
+  tile_done t d lt =
+      let x = h.tile t d lt in
       let front : IsFront (h.heard t) (all_grants h.managed.progress.book.journal) = subst (λ (gs : List Grant). IsFront (h.heard t) gs) (manager_done.grants t lt) (h.grant_lanes t lt) in
-      let k = laws.tiles scene l t (slice_index_or tiles t d) (h.took t) (h.heard t) (slice_index_or parts t e).items h.managed.progress.book.journal range sides
+      let k = laws.tiles scene l t (slice_index_or tiles t d) (h.took t) (h.heard t) (shown t) h.managed.progress.book.journal range sides
       x.clause x.ample journal_legal (λ c lc. parcels_front c t lc lt) front in
       record {
         ample = x.ample;
@@ -76,11 +75,10 @@ module _ (laws : ClosingLaws) (scene : Scene) (l : Layout) (clients : List Clien
         frames = k.right.recorded;
       }
 
-  all_done : AreDone scene l clients core tiles parts
+  all_done : AreDone scene l clients core tiles shown
   all_done = record {
     client_total = h.client_total;
     tile_total = h.tile_total;
-    part_total = h.part_total;
     sent = record {
       at = λ c d lt.
           let lc : c < length scene.streams = subst (λ n. c < n) h.client_total lt in
@@ -96,4 +94,4 @@ module _ (laws : ClosingLaws) (scene : Scene) (l : Layout) (clients : List Clien
   }
 
 pub closed_done : ClosingLaws → ClosedRunsAreDone
-closed_done laws scene l clients core tiles parts range sides h = all_done laws scene l clients core tiles parts range sides h
+closed_done laws scene l clients core tiles shown range sides h = all_done laws scene l clients core tiles shown range sides h

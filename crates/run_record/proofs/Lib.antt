@@ -4,5 +4,5 @@ mod FewParcels
 mod TalliesSum
 mod ClientsBeyond
 mod ClosedRuns
-pub mod ShownAlike
+mod InFrames
 mod RecordedRuns

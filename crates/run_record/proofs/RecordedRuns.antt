@@ -1,13 +1,12 @@
 -- What is collected of cores that have ended is the run of their scene.
 use Rattle.std.proofs.Common.{◌≡◌, ℕ, ◌+◌, ◌*◌, ◌-◌, ◌^◌, ◌<◌, ◌≤◌, List, [], ◌++◌, length, Option, Some, None, inl, inr, sym, ap, ◌∙◌, subst, arith, append-nil}
-use Rattle.std.proofs.Math.Nat.{mul-le-mul_right}
+use Rattle.std.proofs.Math.Seq.{take-length}
 use Rattle.std.proofs.lemmas.Bool.{cases_lt}
 use Rattle.std.proofs.lemmas.List.{ext_get_or, get_or_past}
 use Rattle.std.proofs.lemmas.List.FromFn.{length-map-range_with_len, get_or-map-range_with_len}
 use Rattle.std.proofs.lemmas.Option.{slice_get-get_or, slice_get_within, get_or_from_slice_get}
 use Rattle.std.specs.List.{range_with_len}
-use Rattle.std.specs.Prelude.{map, sum, is_some, IfSome, slice_get, slice_index_or, Vec}
-use Rattle.std.specs.Global.{Global}
+use Rattle.std.specs.Prelude.{map, sum, take, is_some, IfSome, slice_get, slice_index_or}
 use Rattle.rc_base.specs.Cluster.Looks.{look_count}
 use Rattle.rc_base.specs.Cluster.Parcels.{parcels_of, set_count}
 use Rattle.rc_base.specs.Cluster.Tiles.{tile_count}
@@ -42,12 +41,10 @@ use Rattle.tile_server.specs.Laws.{IsFramePart}
 use Rattle.tile_server.specs.declared.tile_core.TileCore.{TileCore}
 use Rattle.run_record.specs.Closed.{AreDone, ClosedRunsAreDone}
 use Rattle.run_record.specs.Collected.{AreCollected, IsSmall, IsWholeRun, DoneRunsAreRecorded, ClosedRunsAreLawful}
-use Rattle.run_record.specs.Gathering.{AreEven}
-use Rattle.run_record.specs.Told.{AreFrameParts, AreTallies, AreFaults, IsWaiting}
+use Rattle.run_record.specs.Told.{AreTallies, AreFaults, HaveFrames, IsWaiting}
 use Rattle.run_record.proofs.ClientsBeyond.{stuck_by, someone_waits, none_refused}
 use Rattle.run_record.proofs.ClosedRuns.{some_of}
 use Rattle.run_record.proofs.FewParcels.{few_looks, few_parcels}
-use Rattle.run_record.proofs.ShownAlike.{even}
 use Rattle.run_record.proofs.TalliesSum.{whole_sum}
 
 -- the laws that are cited
@@ -56,10 +53,10 @@ pub record RecordingLaws : Type 0 where
   pub waiting : OverBooksWaitAlike
   pub swaps : SwapsAreFew
 
-module _ (laws : RecordingLaws) (scene : Scene) (l : Layout) (clients : List ClientCore) (core : ManagerCore) (tiles : List TileCore) (lists : List (Vec TilePart Global))
-    (kept : Record) (tallies : List Tally) (waiting : Option Waiting) (faults : List (List (ℕ × Fault))) (parts : List TilePart)
-    (small : IsSmall scene) (h : AreDone scene l clients core tiles lists)
-    (k : AreCollected scene.decl clients core tiles lists kept tallies waiting faults parts) where
+module _ (laws : RecordingLaws) (scene : Scene) (l : Layout) (clients : List ClientCore) (core : ManagerCore) (tiles : List TileCore) (shown : ℕ → List TilePart)
+    (kept : Record) (tallies : List Tally) (waiting : Option Waiting) (faults : List (List (ℕ × Fault)))
+    (small : IsSmall scene) (h : AreDone scene l clients core tiles shown)
+    (k : AreCollected scene.decl clients core tiles kept tallies waiting faults) where
   abbrev journal : List Entry
   journal = h.progress.book.journal
 
@@ -91,9 +88,6 @@ module _ (laws : RecordingLaws) (scene : Scene) (l : Layout) (clients : List Cli
   core_at : (t : ℕ) → t < tile_count l → TileCore
   core_at t lt = some_of tiles t (let n = h.tile_total in omega (arith, n, lt))
 
-  list_at : (t : ℕ) → t < tile_count l → Vec TilePart Global
-  list_at t lt = some_of lists t (let n = h.part_total in omega (arith, n, lt))
-
   -- what is true of a tile by its progress
   record IsTold (t : ℕ) (p : Progress) : Type 0 where
     pub log : slice_get kept.logs t ≡ Some p.log
@@ -102,7 +96,7 @@ module _ (laws : RecordingLaws) (scene : Scene) (l : Layout) (clients : List Cli
 
   told : (t : ℕ) (lt : t < tile_count l) → (p : Progress) × IsTold t p
   told t lt =
-      let f = h.tile t (core_at t lt) (list_at t lt) lt in
+      let f = h.tile t (core_at t lt) lt in
       let here : t < length tiles = (let n = h.tile_total in omega (arith, n, lt)) in
       let m = k.logs.count in (
         f.progress,
@@ -128,9 +122,6 @@ module _ (laws : RecordingLaws) (scene : Scene) (l : Layout) (clients : List Cli
 
   -- ---- the parts
 
-  are_even : AreEven (frame_count journal) lists
-  are_even = even scene l clients core tiles lists h
-
   few_frames : frame_count kept.journal < 2 ^ 32 - 1
   few_frames =
       let a = laws.swaps scene kept.journal small.some lawful.maximal.0 in
@@ -144,10 +135,10 @@ module _ (laws : RecordingLaws) (scene : Scene) (l : Layout) (clients : List Cli
       ∙ ap (λ x. recorded_order (sync_lists_of scene) journal x) (get_or_from_slice_get kept.logs t log [] is ∙ sym (append-nil log)))
 
   -- a tile's parts are its frames
-  frame_at : (t k : ℕ) (part : TilePart) (lt : t < tile_count l) → slice_get (slice_index_or lists t (list_at t lt)).items k ≡ Some part → k + 1 < 2 ^ 32
+  frame_at : (t k : ℕ) (part : TilePart) (lt : t < tile_count l) → slice_get (shown t) k ≡ Some part → k + 1 < 2 ^ 32
       → IsFramePart scene l (tile_order kept t) t (k + 1) part
   frame_at t n part lt is low =
-      let f = h.tile t (core_at t lt) (list_at t lt) lt in
+      let f = h.tile t (core_at t lt) lt in
       let p = f.progress in
       let here : t < length tiles = (let c = h.tile_total in omega (arith, c, lt)) in
       let m = k.logs.count in
@@ -156,32 +147,19 @@ module _ (laws : RecordingLaws) (scene : Scene) (l : Layout) (clients : List Cli
       subst (λ names. IsFramePart scene l names t (n + 1) part) (order_is t p.log log)
       (f.frames.each [] (subst (λ log. Replays (sync_lists_of scene) journal (λ client. jobs_of scene l client t) log) (sym (append-nil p.log)) f.under_way.replays) n part is low)
 
-  in_frames : AreFrameParts scene l kept parts
-  in_frames =
-      let f = k.parts_are (frame_count journal) are_even in
-      let n : frame_count journal ≡ frame_count kept.journal = ap frame_count (sym journal_is) in
-      let t : length lists ≡ tile_count l = h.part_total in
-      let count : length parts ≡ frame_count kept.journal * tile_count l =
-      f.count ∙ ap (λ x. x * length lists) n ∙ ap (λ x. frame_count kept.journal * x) t in
-      record {
-        count = count;
-        each = λ frame tile part low is.
-            let within = slice_get_within parts (frame * tile_count l + tile) part is in
-            let less : frame < frame_count kept.journal = elim (cases_lt frame (frame_count kept.journal)) [
-              | inl lt ↦ lt
-              | inr ge ↦ absurd (let m = mul-le-mul_right {m = frame_count kept.journal} {n = frame} (tile_count l) ge in omega (arith, m, within, count))
-            ] in
-            let here : tile < length lists = omega (arith, t, low) in
-            let d = list_at tile low in
-            let list = (slice_index_or lists tile d).items in
-            let at : part ≡ slice_index_or list frame part =
-            sym (get_or_from_slice_get parts (frame * tile_count l + tile) part part is)
-            ∙ ap (λ x. slice_index_or parts (frame * x + tile) part) (sym t)
-            ∙ f.at frame tile d part (omega (arith, n, less)) here in
-            let inside : frame < length list = (let c = are_even.each tile d here in omega (arith, c, n, less)) in
-            let mine : slice_get list frame ≡ Some part = slice_get-get_or list frame part inside ∙ ap (λ x. Some x) (sym at) in
-            frame_at tile frame part low mine (let g = few_frames in omega (arith, g, less));
-      }
+  shown_all : (t : ℕ) → t < tile_count l → length (shown t) ≡ frame_count kept.journal
+  shown_all t lt =
+      let f = h.tile t (core_at t lt) lt in
+      f.frames.count ∙ ap (λ n. frame_count (take n f.progress.learnt)) f.done.performed ∙ ap frame_count (take-length f.progress.learnt ∙ f.done.learnt)
+      ∙ ap frame_count (sym journal_is)
+
+  have_frames : HaveFrames scene l kept shown
+  have_frames = record {
+    count = shown_all;
+    each = λ frame tile part low is.
+        let within = slice_get_within (shown tile) frame part is in
+        frame_at tile frame part low is (let g = few_frames in let c = shown_all tile low in omega (arith, g, c, within));
+  }
 
   -- ---- the tallies
 
@@ -259,16 +237,16 @@ module _ (laws : RecordingLaws) (scene : Scene) (l : Layout) (clients : List Cli
       at_each None x = tt
       at_each (Some w) x = λ client. x (sync_lists_of scene) h.progress.book h.stands.book client ∙ alike client
 
-  whole_run : IsWholeRun scene l kept tallies waiting faults parts
+  whole_run : IsWholeRun scene l kept tallies waiting faults shown
   whole_run = record {
     run = record { lawful = lawful; tallies_are = tallies_are; waiting_is = is_waiting; faults_are = faults_are };
-    frames = in_frames;
+    frames = have_frames;
   }
 
 pub done_recorded : RecordingLaws → DoneRunsAreRecorded
-done_recorded laws scene l clients core tiles lists kept tallies waiting faults parts small h k =
-    whole_run laws scene l clients core tiles lists kept tallies waiting faults parts small h k
+done_recorded laws scene l clients core tiles shown kept tallies waiting faults small h k =
+    whole_run laws scene l clients core tiles shown kept tallies waiting faults small h k
 
 pub closed_lawful : ClosedRunsAreDone → DoneRunsAreRecorded → ClosedRunsAreLawful
-closed_lawful closed recorded scene l clients core tiles lists kept tallies waiting faults parts small range sides h k =
-    recorded scene l clients core tiles lists kept tallies waiting faults parts small (closed scene l clients core tiles lists range sides h) k
+closed_lawful closed recorded scene l clients core tiles shown kept tallies waiting faults small range sides h k =
+    recorded scene l clients core tiles shown kept tallies waiting faults small (closed scene l clients core tiles shown range sides h) k

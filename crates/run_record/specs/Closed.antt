@@ -1,6 +1,5 @@
 -- Clusters in which all have ended, with what was sent to each lane and what was taken of it.
-use Rattle.std.specs.Prelude.{◌≡◌, ℕ, ◌<◌, true, false, List, length, slice_index_or, Vec}
-use Rattle.std.specs.Global.{Global}
+use Rattle.std.specs.Prelude.{◌≡◌, ℕ, ◌<◌, true, false, List, length, slice_index_or}
 use Rattle.rc_base.specs.Lists.{IsFront}
 use Rattle.rc_base.specs.Cluster.Parcels.{parcels_of}
 use Rattle.rc_base.specs.Cluster.Tiles.{tile_count}
@@ -41,12 +40,11 @@ pub record IsTileEnded (scene : Scene) (l : Layout) (this_tile : ℕ) (core : Ti
   pub clause : IsTileClause scene l this_tile core took heard parts true
   pub ample : is_short core ≡ false
 
--- All cores of a scene have ended, none of them is short, and each meets its clause over the lists of its own lanes. Of each lane a front of what was
--- sent to it was taken.
-pub record AreClosed (scene : Scene) (l : Layout) (clients : List ClientCore) (core : ManagerCore) (tiles : List TileCore) (parts : List (Vec TilePart Global)) : Type 0 where
+-- All cores of a scene have ended, none of them is short, and each meets its clause over the lists of its own lanes and the parts that it has shown. Of
+-- each lane a front of what was sent to it was taken.
+pub record AreClosed (scene : Scene) (l : Layout) (clients : List ClientCore) (core : ManagerCore) (tiles : List TileCore) (shown : ℕ → List TilePart) : Type 0 where
   pub client_total : length clients ≡ length scene.streams
   pub tile_total : length tiles ≡ tile_count l
-  pub part_total : length parts ≡ tile_count l
   -- what was sent: by clients and tiles, by clients, by tiles
   pub sent : ℕ → ℕ → List Parcel
   pub asked : ℕ → List Request
@@ -58,8 +56,7 @@ pub record AreClosed (scene : Scene) (l : Layout) (clients : List ClientCore) (c
   pub client : (client : ℕ) (d : ClientCore) → client < length scene.streams → IsClientEnded scene l client (slice_index_or clients client d) (sent client) (asked client)
   pub managed : IsManagerClause (sync_lists_of scene) (tile_count l) core received granted true
   pub ample : is_manager_short core ≡ false
-  pub tile : (tile : ℕ) (d : TileCore) (e : Vec TilePart Global) → tile < tile_count l
-      → IsTileEnded scene l tile (slice_index_or tiles tile d) (took tile) (heard tile) (slice_index_or parts tile e).items
+  pub tile : (tile : ℕ) (d : TileCore) → tile < tile_count l → IsTileEnded scene l tile (slice_index_or tiles tile d) (took tile) (heard tile) (shown tile)
   pub parcel_lanes : (client tile : ℕ) → client < length scene.streams → tile < tile_count l → IsFront (took tile client) (sent client tile)
   pub request_lanes : (client : ℕ) → client < length scene.streams → IsFront (received client) (asked client)
   pub grant_lanes : (tile : ℕ) → tile < tile_count l → IsFront (heard tile) (granted tile)
@@ -77,10 +74,9 @@ pub record IsTileFinished (scene : Scene) (l : Layout) (this_tile : ℕ) (journa
 
 -- The cores of a scene have ended: the clients have sent all, and counted it; the book of the manager is over, and what arrived are fronts of the scene's
 -- operations; the tiles are done with its journal, and have shown the frames.
-pub record AreDone (scene : Scene) (l : Layout) (clients : List ClientCore) (core : ManagerCore) (tiles : List TileCore) (parts : List (Vec TilePart Global)) : Type 0 where
+pub record AreDone (scene : Scene) (l : Layout) (clients : List ClientCore) (core : ManagerCore) (tiles : List TileCore) (shown : ℕ → List TilePart) : Type 0 where
   pub client_total : length clients ≡ length scene.streams
   pub tile_total : length tiles ≡ tile_count l
-  pub part_total : length parts ≡ tile_count l
   pub sent : HaveSent scene l clients
   pub tallies : (client tile : ℕ) (d : ClientCore) → client < length clients → tile < tile_count l
       → tally_of_tile (slice_index_or clients client d) tile ≡ counted scene l client tile (parcels_of scene l client tile)
@@ -88,10 +84,10 @@ pub record AreDone (scene : Scene) (l : Layout) (clients : List ClientCore) (cor
   pub stands : IsManagerProgressOf (sync_lists_of scene) core progress
   pub arrived : HasArrived (sync_lists_of scene) progress.book
   pub over : IsBookOver (sync_lists_of scene) progress.book
-  pub tile : (tile : ℕ) (d : TileCore) (e : Vec TilePart Global) → tile < tile_count l
-      → IsTileFinished scene l tile progress.book.journal (slice_index_or tiles tile d) (slice_index_or parts tile e).items
+  pub tile : (tile : ℕ) (d : TileCore) → tile < tile_count l
+      → IsTileFinished scene l tile progress.book.journal (slice_index_or tiles tile d) (shown tile)
 
 -- no induction over steps of several actors is made: each has its own clause, and the lanes are closed one by one
 abbrev pub ClosedRunsAreDone : Type 0
-ClosedRunsAreDone = (scene : Scene) (l : Layout) (clients : List ClientCore) (core : ManagerCore) (tiles : List TileCore) (parts : List (Vec TilePart Global))
-    → IsInRange scene → HasSides scene.decl → AreClosed scene l clients core tiles parts → AreDone scene l clients core tiles parts
+ClosedRunsAreDone = (scene : Scene) (l : Layout) (clients : List ClientCore) (core : ManagerCore) (tiles : List TileCore) (shown : ℕ → List TilePart)
+    → IsInRange scene → HasSides scene.decl → AreClosed scene l clients core tiles shown → AreDone scene l clients core tiles shown

@@ -1,7 +1,8 @@
 -- What is gathered of each actor, by its number.
-use Rattle.std.specs.Prelude.{◌≡◌, ℕ, ◌+◌, ◌*◌, ◌<◌, min, false, List, [], length, slice_index_or, Vec}
+use Rattle.std.specs.Prelude.{◌≡◌, ℕ, ◌+◌, ◌*◌, ◌<◌, min, false, List, [], length, slice_get, slice_index_or, Vec}
 use Rattle.std.specs.Global.{Global}
 use Rattle.std.specs.List.{sum_by}
+use Rattle.std.specs.Option.{option_map_or}
 use Rattle.rc_base.specs.Contexts.Issue.{faults_of}
 use Rattle.rc_base.specs.Orders.Sync.{sync_row_of}
 use Rattle.rc_base.specs.Outside.Causes.{last_count}
@@ -55,6 +56,10 @@ pub record AreSums (cores : List ClientCore) (tiles : ℕ) (sums : List Tally) :
   pub each : (scene : Scene) (l : Layout) → HaveSent scene l cores → (tile : ℕ) → tile < tiles → IsSum cores tile (slice_index_or sums tile client.no_tally)
 
 -- ---- parts
+
+-- the parts in a tile's list
+abbrev pub shown_by : List (Vec TilePart Global) → ℕ → List TilePart
+shown_by lists tile = option_map_or (λ (list : Vec TilePart Global). list.items) (slice_get lists tile) []
 
 -- each tile has a part of so many frames
 pub record AreEven (frames : ℕ) (lists : List (Vec TilePart Global)) : Type 0 where

@@ -25,6 +25,12 @@ pub record AreFrameParts (scene : Scene) (l : Layout) (kept : Record) (parts : L
   pub each : (frame tile : ℕ) (part : TilePart) → tile < tile_count l → slice_get parts (frame * tile_count l + tile) ≡ Some part
       → IsFramePart scene l (tile_order kept tile) tile (frame + 1) part
 
+-- Each tile has shown one part for each frame: its pixels of that frame in the order that its log records.
+pub record HaveFrames (scene : Scene) (l : Layout) (kept : Record) (shown : ℕ → List TilePart) : Type 0 where
+  pub count : (tile : ℕ) → tile < tile_count l → length (shown tile) ≡ frame_count kept.journal
+  pub each : (frame tile : ℕ) (part : TilePart) → tile < tile_count l → slice_get (shown tile) frame ≡ Some part
+      → IsFramePart scene l (tile_order kept tile) tile (frame + 1) part
+
 -- For each tile the numbers of parcels and of sets that all clients sent to it, and of the looks that these cost, those beyond a place where a client
 -- waits for ever among them.
 pub record AreTallies (scene : Scene) (l : Layout) (tallies : List Tally) : Type 0 where

@@ -5,6 +5,7 @@ ghost use Rattle.std.specs.declared.collections.VecDeque.{VecDeque};
 ghost use Rattle.rc_base.specs.declared.cluster.TilePart.{TilePart};
 ghost use Rattle.run_record.specs.Frames.{AreTakenBelow, IsQueueOf};
 ghost use Rattle.rc_base.specs.Lists.{ArePaired};
+ghost use Rattle.run_record.specs.Collected.{AreShownAlike};
 ghost use Rattle.run_record.specs.Gathering.{AreEven, AreInFrames};
 
 use rc_base::cluster::{Parts, TilePart};
@@ -12,8 +13,8 @@ use rc_base::out_of_memory::OutOfMemory;
 use std::alloc::Global;
 use std::collections::VecDeque;
 
-/// How many parts the first tile has.
-pub fn frames_in(lists: &[Vec<TilePart>]) -> usize
+// How many parts the first tile has.
+fn frames_in(lists: &[Vec<TilePart>]) -> usize
     ensures { (frames : ℕ) → AreEven frames lists.now → 0 < length lists.now → result ≡ frames }
 {
     match lists.first() {
@@ -51,12 +52,8 @@ fn take_frame(
     Ok(())
 }
 
-/// The parts, frames rising and in each the tiles rising. Each tile has one of so many frames.
-pub fn in_frames(
-    alloc: Global,
-    lists: Vec<Vec<TilePart>>,
-    frames: usize,
-) -> Result<Parts, OutOfMemory>
+// The parts, frames rising and in each the tiles rising. Each tile has one of so many frames.
+fn in_frames(alloc: Global, lists: Vec<Vec<TilePart>>, frames: usize) -> Result<Parts, OutOfMemory>
     requires { AreEven frames lists.items }
     ensures { IfOk result (λ parts. AreInFrames frames lists.items parts) }
 {
@@ -66,4 +63,13 @@ pub fn in_frames(
         take_frame(&mut queues, &mut parts)?;
     }
     Ok(Parts::from_vec(parts))
+}
+
+/// The parts that tiles have shown, frames rising and in each the tiles rising. There is a tile, and each tile has shown as many frames.
+pub fn parts_in_frames(alloc: Global, lists: Vec<Vec<TilePart>>) -> Result<Parts, OutOfMemory>
+    requires { AreShownAlike lists.items }
+    ensures { (frames : ℕ) → AreEven frames lists.items → IfOk result (λ parts. AreInFrames frames lists.items parts) }
+{
+    let frames = frames_in(lists.as_slice());
+    in_frames(alloc, lists, frames)
 }

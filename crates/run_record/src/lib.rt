@@ -10,4 +10,5 @@ mod gather;
 mod kept;
 pub mod laws;
 
+pub use frames::parts_in_frames;
 pub use gather::{Collected, collect};

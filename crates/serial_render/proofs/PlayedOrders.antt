@@ -30,13 +30,14 @@ use Rattle.rc_base.specs.declared.window.Rect.{Rect}
 use Rattle.textures.specs.Images.{texture_image}
 use Rattle.textures.specs.Stores.{HasTexels}
 use Rattle.gl_context.specs.Valid.{IsValidContext}
+use Rattle.draw_acts.specs.Stored.{IsWritable, set_after}
 use Rattle.draw_device.specs.Conditions.{shared_of}
 use Rattle.draw_device.specs.Devices.{DeviceView, EachTakes, pixel_of}
 use Rattle.order_model.proofs.RunsOfNames.{IsRun, bump}
 use Rattle.order_model.proofs.StandsInLists.{in_append, stands_right}
 use Rattle.serial_render.specs.Clients.{client_after, AreIssued}
 use Rattle.serial_render.specs.Shown.{swaps_before, IsPlayable, picture_after, images_of, IsShown}
-use Rattle.serial_render.specs.Steps.{window_of, Holds, IsWritable, set_after}
+use Rattle.serial_render.specs.Steps.{window_of, Holds}
 use Rattle.serial_render.specs.declared.client.Client.{Client}
 use Rattle.serial_render.proofs.DrawnCommands.{same_drawn, effect_is, texels_next}
 use Rattle.serial_render.proofs.PaintedOrders.{swaps_step, textures_push, picture_push, frame_is}

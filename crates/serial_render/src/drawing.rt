@@ -2,24 +2,18 @@
 ghost use Rattle.std.specs.Prelude.{◌≡◌, ℕ, ◌+◌, ◌<◌, ◌≤◌, length, max, Some, IfOk, OnOk, slice_get};
 ghost use Rattle.rc_base.specs.Formats.Within.{IsWithin};
 ghost use Rattle.rc_base.specs.Drawing.Images.{Pixels};
-ghost use Rattle.rc_base.specs.Drawing.PixelStep.{effect_step};
-ghost use Rattle.rc_base.specs.declared.command.Part.{Part};
-ghost use Rattle.rc_base.specs.declared.state.Effect.TheVariants as eff;
-ghost use Rattle.textures.specs.Images.{texture_image};
-ghost use Rattle.draw_device.specs.Conditions.{IsDrawable, IsClearable, shared_of};
-ghost use Rattle.draw_device.specs.Devices.{IsDeviceRect, EachTakes};
+ghost use Rattle.draw_device.specs.Devices.{IsDeviceRect};
 ghost use Rattle.serial_render.specs.Clients.{AreIssued};
 ghost use Rattle.serial_render.specs.Shown.{IsPlayable, IsShown, images_of};
-ghost use Rattle.serial_render.specs.Steps.{Holds, IsWritable, set_after, window_of};
+ghost use Rattle.serial_render.specs.Steps.{Holds, window_of};
 
 use crate::client::{Client, clients_of, issue_name};
 use crate::image::image_of;
+use draw_acts::carry_out;
 use draw_device::Device;
-use gl_context::Context;
 use rc_base::image::Frames;
 use rc_base::out_of_memory::OutOfMemory;
 use rc_base::scene::{Decl, Scene};
-use rc_base::state::Effect;
 use rc_base::sync::Name;
 use rc_base::window::Rect;
 use std::alloc::Global;
@@ -58,23 +52,6 @@ pub(crate) fn show_up_to(
     Ok(())
 }
 
-// What a command does beyond its context: a block and a Clear change the device, and a part is written into a shared texture.
-fn carry_out(effect: &Effect, context: &Context, device: &mut Device, shared: &mut SharedSet)
-    requires drawable { IsDrawable context.now.state context.now.images shared.old }
-    requires clearable { IsClearable context.now.state }
-    requires writable { (part : Part) → effect.now ≡ eff.Shared part → IsWritable part shared.old }
-    ensures rect { device.new.rect ≡ device.old.rect }
-    ensures drawn { EachTakes (effect_step context.now.state (texture_image context.now.images) (shared_of shared.old) effect.now) device.old device.new }
-    ensures shared { shared.new ≡ set_after effect.now shared.old }
-{
-    match effect {
-        Effect::Block(block) => device.draw(context.state(), block, context.private(), shared),
-        Effect::Clear(mask) => device.clear(context.state(), *mask),
-        Effect::Shared(part) => shared.write(part),
-        Effect::Quiet | Effect::Refused(_) | Effect::Sync(_) => {}
-    }
-}
-
 /// What an order leaves: the clients, the pixels of the window, and a frame for each Swap that a name lies beyond.
 #[derive(Drop)]
 pub(crate) struct Played {
@@ -104,7 +81,14 @@ pub(crate) fn play(alloc: Global, scene: &Scene, order: &[Name]) -> Result<Playe
             clients[client].swaps,
         )?;
         let effect = issue_name(&mut clients, scene, *name)?;
-        carry_out(&effect, &clients[client].context, &mut device, &mut shared);
+        let context = &clients[client].context;
+        carry_out(
+            &effect,
+            context.state(),
+            context.private(),
+            &mut device,
+            &mut shared,
+        );
     }
     Ok(Played {
         clients,

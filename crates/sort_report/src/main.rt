@@ -1,7 +1,7 @@
-//! The program that issues and sorts the clients of a scene, one after the other, and tells what went to each tile: for benchmarks.
+//! The program that issues and sorts the clients of a scene, one after the other, and tells what went to each tile, in parcels and in bytes: for benchmarks.
 //!
 //! Standard input is a scene in bytes, the two words are columns and rows of tiles. The lanes are emptied as they are appended to, so nothing is held
-//! up, and no tile carries anything out. Stands on `scene_file`, `bounds_bucket` and `client_issue`.
+//! up, and no tile carries anything out. Stands on `scene_file`, `cmd_pack`, `bounds_bucket` and `client_issue`.
 #![tactic(auto)]
 
 mod sorting;
@@ -10,7 +10,7 @@ ghost use Rattle.std.specs.Prelude.{◌≡◌, IfOk};
 ghost use Rattle.rc_base.specs.Formats.Within.{IsWithin, IsLayoutFor};
 ghost use Rattle.rc_base.specs.declared.scene.Scene.{Scene as AnyScene};
 
-use crate::sorting::{DEPTH, Sorting};
+use crate::sorting::{DEPTH, Sorting, Sum};
 use bounds_bucket::layout;
 use rc_base::cluster::Tally;
 use rc_base::out_of_memory::OutOfMemory;
@@ -61,15 +61,18 @@ fn cut(width: u16, height: u16, columns: u64, rows: u64) -> Result<Layout, Scene
 }
 
 // What the clients send to each tile.
-fn sums(alloc: Global, scene: &Scene, layout: &Layout) -> Result<Vec<Tally>, Refusal>
+fn sums(alloc: Global, scene: &Scene, layout: &Layout) -> Result<Vec<Sum>, Refusal>
     requires within { IsWithin scene.now }
     requires layout { IsLayoutFor scene.now layout.now 16 }
 {
     let mut sums = Vec::new(alloc);
-    let none = Tally {
-        parcels: 0,
-        sets: 0,
-        looks: 0,
+    let none = Sum {
+        tally: Tally {
+            parcels: 0,
+            sets: 0,
+            looks: 0,
+        },
+        bytes: 0,
     };
     let count = usize::from(layout.columns) * usize::from(layout.rows);
     sums.resize(count, none).map_err(OutOfMemory::from)?;
@@ -94,8 +97,12 @@ fn report(rt: &HostRuntime) -> Result<(), Refusal> {
             parcels,
             sets,
             looks,
-        } = *sum;
-        if println!(rt; "tile {tile} parcels {parcels} sets {sets} looks {looks}").is_err() {
+        } = sum.tally;
+        let bytes = sum.bytes;
+        let line = println!(rt;
+            "tile {tile} parcels {parcels} sets {sets} looks {looks} bytes {bytes}"
+        );
+        if line.is_err() {
             return Err(Refusal::Output);
         }
     }

@@ -1,11 +1,12 @@
 -- One element of a list is written.
-use Rattle.std.proofs.Common.{◌≡◌, ℕ, ◌<◌, List, length, Option, None, Some, Ok, Err, refl, sym, ap, ◌∙◌, subst, get_or-set_same, get_or-set_other, length-set}
-use Rattle.std.specs.Prelude.{slice_index_or, slice_set, IfOk, MatchOption, Result, Vec}
+use Rattle.std.proofs.Common.{◌≡◌, ℕ, ◌<◌, List, length, sym, ap, ◌∙◌, subst, get_or-set_same, get_or-set_other, length-set}
+use Rattle.std.specs.Prelude.{slice_index_or, slice_set, Result, Vec}
 use Rattle.std.specs.Global.{Global}
 use Rattle.std.proofs.lemmas.Option.{slice_get-get_or}
 use Rattle.rc_base.specs.declared.cluster.ClientMoved.{ClientMoved}
 use Rattle.rc_base.specs.declared.cluster.TileMoved.{TileMoved}
 use Rattle.rc_base.specs.declared.cluster.TilePart.{TilePart}
+use Rattle.rc_base.specs.declared.out_of_memory.OutOfMemory.{OutOfMemory}
 use Rattle.rc_base.specs.declared.plain_lane.PlainLane.{PlainLane}
 use Rattle.rc_base.specs.declared.state.Parcel.{Parcel}
 use Rattle.rc_base.specs.declared.sync.Grant.{Grant}
@@ -14,8 +15,8 @@ use Rattle.client_issue.specs.declared.client.ClientCore.{ClientCore}
 use Rattle.tile_server.specs.declared.tile_core.TileCore.{TileCore}
 use Rattle.step_core.specs.Changes.{IsClientStepped, IsTileStepped, ArePartsKept}
 use Rattle.rc_base.specs.declared.cluster.ClientMoved.TheVariants as client_moved
-use Rattle.world_model.specs.declared.moves.TileAnswer.{TileAnswer}
-use Rattle.step_core.specs.Ports.{where_appended, giver_of, IsCarried, IsChanged, IsChangedIn, IsFewer, AreFewer}
+use Rattle.step_core.specs.Ports.{where_appended, IsCarried, IsChanged}
+use Rattle.step_core.specs.Settling.{AreSettled}
 use Rattle.step_core.specs.declared.port.Port.{Port}
 
 pub same_default : {A : Type 0} (xs : List A) (n : ℕ) (d e : A) → n < length xs → slice_index_or xs n d ≡ slice_index_or xs n e
@@ -29,15 +30,11 @@ changed xs n x y lt is = record {
   others = λ i d ne. get_or-set_other xs n i y d ne;
 }
 
-pub on_ok : {A E : Type 0} (r : Result A E) (P : A → Type 0) → ((a : A) → r ≡ Ok a → P a) → IfOk r P
-on_ok (Ok a) P f = f a refl
-on_ok (Err e) P f = tt
-
 pub changed_at : {A : Type 0} (xs : List A) (n : ℕ) (d y : A) → n < length xs → IsChanged n (slice_index_or xs n d) y xs (slice_set xs n y)
 changed_at xs n d y lt = changed xs n (slice_index_or xs n d) y lt (same_default xs n d (slice_index_or xs n d) lt)
 
 -- with other names for the lists
-pub stepped_at : (tile : ℕ) (m : TileMoved) (cores cores1 cores' cores1' : List TileCore)
+pub stepped_at : (tile : ℕ) (m : Result TileMoved OutOfMemory) (cores cores1 cores' cores1' : List TileCore)
     (rows rows1 rows' rows1' : List (Vec (PlainLane Parcel) Global)) (lanes lanes1 lanes' lanes1' : List (PlainLane Grant))
     → cores ≡ cores1 → cores' ≡ cores1' → rows ≡ rows1 → rows' ≡ rows1' → lanes ≡ lanes1 → lanes' ≡ lanes1'
     → IsTileStepped tile m cores cores' rows rows' lanes lanes' → IsTileStepped tile m cores1 cores1' rows1 rows1' lanes1 lanes1'
@@ -55,7 +52,7 @@ kept_at tile m lists lists1 lists' lists1' a a' h =
     subst (λ (x : List (Vec TilePart Global)). ArePartsKept tile m x lists1') a
     (subst (λ (x : List (Vec TilePart Global)). ArePartsKept tile m lists x) a' h)
 
-pub client_at : (number : ℕ) (m : ClientMoved) (cores cores1 cores' cores1' : List ClientCore)
+pub client_at : (number : ℕ) (m : Result ClientMoved OutOfMemory) (cores cores1 cores' cores1' : List ClientCore)
     (ports ports1 ports' ports1' : List (Vec Port Global)) (lanes lanes1 lanes' lanes1' : List (PlainLane Request)) → cores ≡ cores1
     → cores' ≡ cores1' → ports ≡ ports1 → ports' ≡ ports1' → lanes ≡ lanes1 → lanes' ≡ lanes1'
     → IsClientStepped number m cores cores' ports ports' lanes lanes' → IsClientStepped number m cores1 cores1' ports1 ports1' lanes1 lanes1'
@@ -98,17 +95,9 @@ rows_count number (client_moved.BlockedTile tile) ports ports' rows rows' h = ap
 rows_count number client_moved.BlockedRequest ports ports' rows rows' h = ap length h.1
 rows_count number client_moved.Ended ports ports' rows rows' h = ap length h.1
 
-pub fewer_at : (tile : ℕ) (answer : TileAnswer) (ports ports1 ports' ports1' : List (Vec Port Global)) → ports ≡ ports1 → ports' ≡ ports1'
-    → AreFewer tile answer ports ports' → AreFewer tile answer ports1 ports1'
-fewer_at tile answer ports ports1 ports' ports1' a a' h =
-    subst (λ (x : List (Vec Port Global)). AreFewer tile answer x ports1') a
-    (subst (λ (x : List (Vec Port Global)). AreFewer tile answer ports x) a' h)
-
-fewer_by : (o : Option ℕ) (tile : ℕ) (ports ports' : List (Vec Port Global)) → MatchOption o (ports' ≡ ports)
-    (λ client. (port : Port) × (port' : Port) × IsChangedIn client tile port port' ports ports' × IsFewer port port') → length ports' ≡ length ports
-fewer_by None tile ports ports' h = ap length h
-fewer_by (Some client) tile ports ports' h = h.2.rows_changed.count
-
-pub fewer_count : (tile : ℕ) (answer : TileAnswer) (ports ports' : List (Vec Port Global)) → AreFewer tile answer ports ports'
-    → length ports' ≡ length ports
-fewer_count tile answer ports ports' h = fewer_by (giver_of answer) tile ports ports' h
+pub settled_at : (tile : ℕ) (ports ports1 ports' ports1' : List (Vec Port Global)) (lanes lanes1 : List (PlainLane Parcel)) → ports ≡ ports1 → ports' ≡ ports1'
+    → lanes ≡ lanes1 → AreSettled tile ports ports' lanes → AreSettled tile ports1 ports1' lanes1
+settled_at tile ports ports1 ports' ports1' lanes lanes1 a a' b h =
+    subst (λ (x : List (Vec Port Global)). AreSettled tile x ports1' lanes1) a
+    (subst (λ (x : List (Vec Port Global)). AreSettled tile ports x lanes1) a'
+    (subst (λ (x : List (PlainLane Parcel)). AreSettled tile ports ports' x) b h))

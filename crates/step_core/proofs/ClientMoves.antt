@@ -1,5 +1,5 @@
--- A step of a client's core over its ports, with what it appended carried to the tile's end, is a move of the client.
-use Rattle.std.proofs.Common.{◌≡◌, ◌≢◌, ℕ, ◌<◌, List, [], ◌∷◌, ◌++◌, length, Option, None, Some, Ok, refl, sym, ap, ◌∙◌, subst, arith}
+-- A step of a client's core over its ports, with what it appended carried to the tile's end, is a turn of the client, whether it is short, becomes so, or isn't.
+use Rattle.std.proofs.Common.{◌≡◌, ◌≢◌, ℕ, ◌<◌, List, [], ◌∷◌, ◌++◌, length, Option, None, Some, Ok, Err, refl, sym, ap, ◌∙◌, subst, arith}
 use Rattle.std.specs.Prelude.{option_to_list, slice_index_or, Result}
 use Rattle.rc_base.specs.declared.out_of_memory.OutOfMemory.{OutOfMemory}
 use Rattle.rc_base.specs.Cluster.Lanes.{EachLane}
@@ -13,15 +13,17 @@ use Rattle.rc_base.specs.declared.scene.Scene.{Scene}
 use Rattle.rc_base.specs.declared.state.Parcel.{Parcel}
 use Rattle.rc_base.specs.declared.sync.Request.{Request}
 use Rattle.rc_base.specs.declared.window.Layout.{Layout}
-use Rattle.client_issue.specs.Cores.{left_in, layout_of, tally_of_tile, tally_after}
+use Rattle.client_issue.specs.Cores.{left_in, layout_of, short_of, tally_of_tile, tally_after}
 use Rattle.client_issue.specs.Cores as client_issue
 use Rattle.client_issue.specs.Deeds.{ClientDeed, answer_of}
 use Rattle.client_issue.specs.Deeds.ClientDeed.{Appends, Requests, FindsTileFull, FindsManagerFull, Finishes, Loses}
 use Rattle.client_issue.specs.Steps.{HasGot, IsFoundFull, IsLaneAlone, ComesNext}
 use Rattle.client_issue.specs.declared.client.ClientCore.{ClientCore}
 use Rattle.tile_model.specs.Items.{with_at}
-use Rattle.world_model.specs.Moves.{IsClientStep, IsIdle}
-use Rattle.world_model.specs.World.{Client}
+use Rattle.world_model.specs.Moves.{IsClientStep, IsIdle, OnlyClient}
+use Rattle.world_model.specs.Turns.{IsStepOf}
+use Rattle.world_model.specs.Turns.Turn.{ClientTurn}
+use Rattle.world_model.specs.World.{Client, client_total}
 use Rattle.world_model.specs.World.{World as Model}
 use Rattle.client_issue.proofs.Tallies.{looks_are}
 use Rattle.step_core.specs.Changes.{IsClientCoreStep, IsSameDepth}
@@ -46,7 +48,7 @@ later_of w number own = record w {
 }
 
 abbrev pub seen : ClientCore → Client
-seen core = record { left = left_in core; tallies = tally_of_tile core }
+seen core = record { left = left_in core; tallies = tally_of_tile core; short = short_of core }
 
 none_waits : {T : Type 0} (o : Option T) → option_to_list o ≡ [] → o ≡ None
 none_waits None e = refl
@@ -65,6 +67,11 @@ first_same a b c d e = cc
 
 second_same : (a b c d : ℕ) → ◌≡◌ {A = List ℕ} (a ∷ b ∷ []) (c ∷ d ∷ []) → b ≡ d
 second_same a b c d e = cc
+
+-- what is appended in a step in which memory lacks is what is appended where nothing is left: nothing
+abbrev pub moved_in : Result ClientMoved OutOfMemory → ClientMoved
+moved_in (Ok m) = m
+moved_in (Err error) = moved.Ended
 
 -- as many items stand at the tile, and at most so many may
 pub record IsCounted (depth : ℕ) (items : List Parcel) (port : Port) : Type 0 where
@@ -256,19 +263,64 @@ module _ (scene : Scene) (l : Layout) (depth number : ℕ) (w : Model) (core cor
       step = (sym c.left ∙ nothing, idle _ refl (still ∙ sym nothing) tallies);
     }
 
-  answered : (m m' : ClientMoved) → ◌≡◌ {A = Result ClientMoved OutOfMemory} (Ok m') (Ok m) → Does m' → Does m
-  answered m m' e d = subst Does (ok_is m' m e) d
-    where
-      ok_is : (a b : ClientMoved) → ◌≡◌ {A = Result ClientMoved OutOfMemory} (Ok a) (Ok b) → a ≡ b
-      ok_is a b e = cc
+  -- ---- answered or not
 
-  pub does : (deed : ClientDeed) (m : ClientMoved) → answer_of deed ≡ Ok m → IsClientCoreStep deed core core' row row' lane lane' → Does m
-  does (Appends t p) m e s =
-      answered m (moved.Appended t) e (appends s.same_ports s.lane_depth t p s.step.next.0 s.step.next.1 s.step.tallied s.sent s.requested)
-  does (Requests r) m e s = answered m moved.Requested e (requests s.same_ports s.lane_depth r s.step.next s.step.tallied s.sent s.requested)
-  does (FindsTileFull t p) m e s = answered m (moved.BlockedTile t) e
+  short_now : (own : Own) → own.client ≡ seen core' → ((later_of w number own).clients number).short ≡ short_of core'
+  short_now own e = ap (λ (x : Client). x.short) (with_here w.clients number own.client ∙ e)
+
+  -- what a step leaves of the client and its lanes is a turn of the model, where nothing else is changed
+  pub record Turns (r : Result ClientMoved OutOfMemory) : Type 0 where
+    pub own : Own
+    pub client : own.client ≡ seen core'
+    pub requests : IsLaneOf depth own.requests lane'
+    pub ports : where_appended (moved_in r) (HasAppended (tile_count l) (w.parcels number) own.parcels row')
+        (HasNotAppended (tile_count l) (w.parcels number) own.parcels row')
+    pub turn : number < client_total scene → OnlyClient scene l w number (later_of w number own)
+        → IsStepOf scene l depth w (ClientTurn number r) (later_of w number own)
+
+  answered : (m : ClientMoved) → short_of core' ≡ short_of core → Does m → Turns (Ok m)
+  answered m still d = record {
+    own = d.own;
+    client = d.client;
+    requests = d.requests;
+    ports = d.ports;
+    turn = λ low only. record { low = low; step = d.step; short = short_now d.own d.client ∙ still ∙ c.short; only = only };
+  }
+
+  -- memory lacks, and nothing is sent
+  loses : (whose : client_issue.IsClientOf core' scene number l) → IsClientCoreStep Loses core core' row row' lane lane' → Turns (Err (record {}))
+  loses whose s =
+      let own : Own = record { client = seen core'; parcels = w.parcels number; requests = w.requests number } in
+      let left = s.step.next.ends scene number l whose in
+      record {
+        own = own;
+        client = refl;
+        requests = same_lane s.same_ports s.lane_depth s.requested;
+        ports = record { now_is = refl; none = none_sent s.same_ports s.lane_depth s.sent };
+        turn = λ low only. record {
+          low = low;
+          ample = sym c.short ∙ (s.step.ample refl).ample;
+          short = short_now own refl ∙ s.step.short;
+          dropped = s.step.next.dropped;
+          before = sym c.left ∙ s.step.next.left ∙ ap (λ xs. s.step.next.dropped ++ xs) left;
+          left = client_now own refl ∙ left;
+          parcels = λ tile lt. ap (λ (f : ℕ → List Parcel). f tile) (with_here w.parcels number own.parcels);
+          requests = with_here w.requests number own.requests;
+          only = only;
+        };
+      }
+
+  turns_by : (deed : ClientDeed) → client_issue.IsClientOf core' scene number l → IsClientCoreStep deed core core' row row' lane lane' → Turns (answer_of deed)
+  turns_by (Appends t p) whose s =
+      answered (moved.Appended t) s.step.short (appends s.same_ports s.lane_depth t p s.step.next.0 s.step.next.1 s.step.tallied s.sent s.requested)
+  turns_by (Requests r) whose s = answered moved.Requested s.step.short (requests s.same_ports s.lane_depth r s.step.next s.step.tallied s.sent s.requested)
+  turns_by (FindsTileFull t p) whose s = answered (moved.BlockedTile t) s.step.short
       (blocked_tile s.same_ports s.lane_depth t p s.step.next.0 s.step.next.1 s.step.next.2 s.step.tallied s.sent s.requested)
-  does (FindsManagerFull r) m e s = answered m moved.BlockedRequest e
+  turns_by (FindsManagerFull r) whose s = answered moved.BlockedRequest s.step.short
       (blocked_request s.same_ports s.lane_depth r s.step.next.0 s.step.next.1 s.step.tallied s.sent s.requested)
-  does Finishes m e s = answered m moved.Ended e (ends s.same_ports s.lane_depth s.step.next.0 s.step.next.1 s.step.tallied s.sent s.requested)
-  does Loses m e s = absurd cc
+  turns_by Finishes whose s = answered moved.Ended s.step.short (ends s.same_ports s.lane_depth s.step.next.0 s.step.next.1 s.step.tallied s.sent s.requested)
+  turns_by Loses whose s = loses whose s
+
+  pub turns : (deed : ClientDeed) (r : Result ClientMoved OutOfMemory) → answer_of deed ≡ r → client_issue.IsClientOf core' scene number l
+      → IsClientCoreStep deed core core' row row' lane lane' → Turns r
+  turns deed r e whose s = subst Turns e (turns_by deed whose s)

@@ -1,5 +1,5 @@
 -- A cluster whose cores have done nothing, and whose lanes are empty, is seen as a new world of the model.
-use Rattle.std.proofs.Common.{◌≡◌, ℕ, ◌<◌, List, [], length, refl, sym, ap, arith}
+use Rattle.std.proofs.Common.{◌≡◌, ℕ, ◌<◌, false, List, [], length, refl, sym, ap, arith}
 use Rattle.std.specs.Prelude.{slice_index_or, Vec}
 use Rattle.std.specs.Global.{Global}
 use Rattle.std.proofs.lemmas.List.FromFn.{length-map-range_with_len}
@@ -37,7 +37,7 @@ unfolding sync_lists_of
 scene_units scene = refl
 
 abbrev new_tile : ℕ → TileCore → Tile
-new_tile clients core = record { progress = tile_standing.new_progress clients; next = 0; board = board_of core; parts = [] }
+new_tile clients core = record { progress = tile_standing.new_progress clients; next = 0; board = board_of core; parts = []; short = false }
 
 no_parts : (l : Layout) (tile : ℕ) (parts : List TilePart) → parts ≡ [] → ArePartsOf l tile [] parts
 no_parts l tile parts none = record { count = ap length none; at = λ k e d lt few. absurd (omega arith) }
@@ -49,11 +49,11 @@ tile_is scene l i core other same h = record {
   clients = h.clients_are;
   layout = h.layout;
   number_of = h.number_is;
-  ample = h.ample;
+  short = h.ample;
   progress = h.progress;
   next = h.rotation;
-  board = ap board_of (sym same);
-  shown = refl;
+  board = λ ample. ap board_of (sym same);
+  shown = λ ample. refl;
 }
 
 pub first_view : (scene : Scene) (l : Layout) (depth : ℕ) (world : Cluster) → IsLaidOut l
@@ -86,24 +86,29 @@ first_view scene l depth world laid clients manager_clients manager_tiles progre
       new = record {
         left = λ client low. refl;
         tallies = λ client tile low. refl;
+        ample = λ client low. refl;
         manager = refl;
-        tiles = λ tile lt. record { progress = refl; next = refl; board = (tiles tile d lt).board; parts = refl };
+        tiles = λ tile lt. record { progress = refl; next = refl; board = (tiles tile d lt).board; parts = refl; ample = refl };
         parcels = λ client tile low lt. refl;
         requests = λ client low. refl;
         grants = λ tile lt. refl;
       };
       view = record {
-        clients = clients;
-        manager = record { clients = manager_clients; tiles = manager_tiles; ample = sym p.short; progress = p };
-        tiles = record {
-          count = count;
-          at = λ i e lt. tile_is scene l i (slice_index_or world.tiles.items i e) (slice_index_or world.tiles.items i d)
-              (same_default world.tiles.items i d e (omega arith)) (tiles i e lt);
+        seen = record {
+          clients = clients;
+          manager = record { clients = manager_clients; tiles = manager_tiles; progress = p };
+          tiles = record {
+            count = count;
+            at = λ i e lt. tile_is scene l i (slice_index_or world.tiles.items i e) (slice_index_or world.tiles.items i d)
+                (same_default world.tiles.items i d e (omega arith)) (tiles i e lt);
+          };
+          parcels = rows;
+          ports = ports;
+          requests = requests;
+          grants = grants;
+          lists = part_count;
         };
-        parcels = rows;
-        ports = ports;
-        requests = requests;
-        grants = grants;
+        ample = record { clients = λ client low. refl; manager = refl; tiles = λ tile lt. refl };
         parts = record { count = part_count; at = λ i e lt. no_parts l i (slice_index_or world.parts.items i e).items (parts i e lt) };
       };
     }

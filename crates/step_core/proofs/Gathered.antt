@@ -1,8 +1,9 @@
 -- What is collected of a cluster in which all have ended is what its run leaves.
-use Rattle.std.proofs.Common.{◌≡◌, ℕ, ◌+◌, ◌<◌, List, [], ◌∷◌, length, Some, refl, ap, ◌∙◌, subst, arith}
+use Rattle.std.proofs.Common.{◌≡◌, ℕ, ◌+◌, ◌<◌, List, [], ◌∷◌, length, Option, Some, refl, sym, ap, ◌∙◌, subst, arith}
 use Rattle.std.proofs.lemmas.List.FromFn.{length-map-range_with_len, get_or-map-range_with_len}
 use Rattle.std.proofs.lemmas.Option.{slice_get-get_or, slice_get_within, get_or_from_slice_get}
 use Rattle.std.specs.List.{range_with_len}
+use Rattle.std.specs.Option.{option_map_or}
 use Rattle.std.specs.Prelude.{map, slice_index_or, Vec}
 use Rattle.std.specs.Global.{Global}
 use Rattle.rc_base.specs.Cluster.Tiles.{tile_count}
@@ -17,8 +18,8 @@ use Rattle.order_model.specs.declared.record.LogEntry.{LogEntry}
 use Rattle.order_model.specs.declared.record.Record.{Record}
 use Rattle.tile_server.specs.declared.tile_core.TileCore.{TileCore}
 use Rattle.run_record.specs.Closed.{AreDone, IsTileFinished}
-use Rattle.run_record.specs.Collected.{AreCollected, AreShownAlike, IsSmall, IsWholeRun, DoneRunsAreRecorded}
-use Rattle.run_record.specs.Gathering.{AreEven, HaveSent}
+use Rattle.run_record.specs.Collected.{AreCollected, AreShownAlike, IsSmall, IsWholeRun, DoneRunsAreRecorded, FramesAreInOrder}
+use Rattle.run_record.specs.Gathering.{AreEven, AreInFrames, HaveSent, shown_by}
 use Rattle.world_model.specs.Laws.{SteppedRunsAreSound, EndedWorldsAreOver, EndedWorldsShowFrames, EndedWorldsTallyAll, IsOver, IsRecordIn}
 use Rattle.world_model.specs.Sound.{IsSound}
 use Rattle.world_model.proofs.JournalsGoOn.{goes_on_to_itself}
@@ -35,6 +36,7 @@ pub record GatherLaws : Type 0 where
   pub frames : EndedWorldsShowFrames
   pub tallies : EndedWorldsTallyAll
   pub recorded : DoneRunsAreRecorded
+  pub ordered : FramesAreInOrder
 
 -- a list with an element isn't empty
 some_of : {A : Type 0} (xs : List A) (i : ℕ) → i < length xs → A
@@ -88,9 +90,9 @@ module _ (laws : GatherLaws) (scene : Scene) (l : Layout) (world : Cluster) (h :
   have_sent : HaveSent scene l world.clients.items
   have_sent = record {
     at = λ i d lt.
-        let low : i < length scene.streams = (let a = h.view.clients.count in omega (arith, a, lt)) in
-        let one = h.view.clients.at i d low in
-        record { whose = one.whose; ample = one.ample; all = one.left ∙ h.ended.clients i low };
+        let low : i < length scene.streams = (let a = h.view.seen.clients.count in omega (arith, a, lt)) in
+        let one = h.view.seen.clients.at i d low in
+        record { whose = one.whose; ample = one.short ∙ h.view.ample.clients i low; all = one.left ∙ h.ended.clients i low };
   }
 
   -- ---- all are done
@@ -101,16 +103,16 @@ module _ (laws : GatherLaws) (scene : Scene) (l : Layout) (world : Cluster) (h :
   over : IsOver scene l h.model
   over = laws.over scene l h.model h.runnable.commands sound h.ended
 
-  tile_finished : (t : ℕ) (d : TileCore) (e : Vec TilePart Global) → t < tile_count l
+  list_finished : (t : ℕ) (d : TileCore) (e : Vec TilePart Global) → t < tile_count l
       → IsTileFinished scene l t journal (slice_index_or world.tiles.items t d) (slice_index_or world.parts.items t e).items
-  tile_finished t d e lt =
-      let core = h.view.tiles.at t d lt in
+  list_finished t d e lt =
+      let core = h.view.seen.tiles.at t d lt in
       let shown = h.view.parts.at t e lt in
       let tile = sound.tiles t lt in
       let pixels = (h.model.tiles t).parts in
       let list = (slice_index_or world.parts.items t e).items in
       record {
-        ample = core.ample;
+        ample = core.short ∙ h.view.ample.tiles t lt;
         progress = (h.model.tiles t).progress;
         stands = core.progress;
         under_way = over.under_way t lt;
@@ -134,49 +136,63 @@ module _ (laws : GatherLaws) (scene : Scene) (l : Layout) (world : Cluster) (h :
         };
       }
 
-  all_done : AreDone scene l world.clients.items world.manager world.tiles.items world.parts.items
+  -- the parts in the tile's list
+  shown_is : (t : ℕ) (e : Vec TilePart Global) → t < tile_count l → shown_by world.parts.items t ≡ (slice_index_or world.parts.items t e).items
+  shown_is t e lt = ap (λ (o : Option (Vec TilePart Global)). option_map_or (λ (list : Vec TilePart Global). list.items) o [])
+      (slice_get-get_or world.parts.items t e (let c = h.view.parts.count in omega (arith, c, lt)))
+
+  tile_finished : (t : ℕ) (d : TileCore) → t < tile_count l
+      → IsTileFinished scene l t journal (slice_index_or world.tiles.items t d) (shown_by world.parts.items t)
+  tile_finished t d lt =
+      let e = some_of world.parts.items t (let c = h.view.parts.count in omega (arith, c, lt)) in
+      subst (λ (ps : List TilePart). IsTileFinished scene l t journal (slice_index_or world.tiles.items t d) ps) (sym (shown_is t e lt)) (list_finished t d e lt)
+
+  all_done : AreDone scene l world.clients.items world.manager world.tiles.items (shown_by world.parts.items)
   all_done = record {
-    client_total = h.view.clients.count;
-    tile_total = h.view.tiles.count;
-    part_total = h.view.parts.count;
+    client_total = h.view.seen.clients.count;
+    tile_total = h.view.seen.tiles.count;
     sent = have_sent;
     tallies = λ client tile d lt low.
-        let here : client < length scene.streams = (let a = h.view.clients.count in omega (arith, a, lt)) in
-        (h.view.clients.at client d here).tallies tile ∙ laws.tallies scene l h.model sound h.ended client tile here low;
+        let here : client < length scene.streams = (let a = h.view.seen.clients.count in omega (arith, a, lt)) in
+        (h.view.seen.clients.at client d here).tallies tile ∙ laws.tallies scene l h.model sound h.ended client tile here low;
     progress = h.model.manager;
-    stands = h.view.manager.progress;
+    stands = h.view.seen.manager.progress;
     arrived = over.arrived;
     over = over.over;
     tile = tile_finished;
   }
 
-  module _ (decl : Decl) (run : CoreRun) (same : decl ≡ scene.decl) (k : AreCollected decl world.clients.items world.manager world.tiles.items world.parts.items run.kept run.tallies run.waiting run.faults run.parts) where
-    whole : IsWholeRun scene l run.kept run.tallies run.waiting run.faults run.parts
-    whole = laws.recorded scene l world.clients.items world.manager world.tiles.items world.parts.items run.kept run.tallies run.waiting run.faults run.parts small all_done
-        (subst (λ (x : Decl). AreCollected x world.clients.items world.manager world.tiles.items world.parts.items run.kept run.tallies run.waiting run.faults run.parts) same k)
+  module _ (decl : Decl) (run : CoreRun) (same : decl ≡ scene.decl) (k : AreCollected decl world.clients.items world.manager world.tiles.items run.kept run.tallies run.waiting run.faults)
+      (p : (frames : ℕ) → AreEven frames world.parts.items → AreInFrames frames world.parts.items run.parts) where
+    whole : IsWholeRun scene l run.kept run.tallies run.waiting run.faults (shown_by world.parts.items)
+    whole = laws.recorded scene l world.clients.items world.manager world.tiles.items (shown_by world.parts.items) run.kept run.tallies run.waiting run.faults small all_done
+        (subst (λ (x : Decl). AreCollected x world.clients.items world.manager world.tiles.items run.kept run.tallies run.waiting run.faults) same k)
 
     record_in : IsRecordIn scene l h.model run.kept
     record_in =
-        let all = h.view.tiles.count in
+        let all = h.view.seen.tiles.count in
         let m = k.logs.count in
         record {
           syncs = whole.run.lawful.lists;
-          journal = k.journal (sync_lists_of scene) h.model.manager h.view.manager.progress;
+          journal = k.journal (sync_lists_of scene) h.model.manager h.view.seen.manager.progress;
           count = m ∙ all;
           logs = λ t lt.
               let here : t < length world.tiles.items = omega (arith, all, lt) in
               let d = some_of world.tiles.items t here in
-              let core = h.view.tiles.at t d lt in
+              let core = h.view.seen.tiles.at t d lt in
               slice_get-get_or run.kept.logs t [] (omega (arith, m, here))
               ∙ ap (λ log. Some log) (k.logs.at t d [] here (h.model.tiles t).progress core.progress);
         }
+
+    frames : AreInFrames (frame_count run.kept.journal) world.parts.items run.parts
+    frames = subst (λ js. AreInFrames (frame_count js) world.parts.items run.parts) (sym record_in.journal) (p (frame_count h.model.manager.book.journal) even)
 
     pub gathered : IsRecordIn scene l h.model run.kept × IsCoreRun scene l run
     gathered = (
       record_in,
       record {
         lawful = whole.run.lawful;
-        parts = whole.frames;
+        parts = laws.ordered scene l run.kept world.parts.items run.parts whole.frames h.view.parts.count frames;
         tallies = whole.run.tallies_are;
         waiting = whole.run.waiting_is;
         faults = whole.run.faults_are;
@@ -187,6 +203,6 @@ pub can_collect : (laws : GatherLaws) (decl : Decl) (world : Cluster) → IsAtEn
 can_collect laws decl world e = collectable laws e.scene e.l world e.has_run
 
 pub is_gathered : (laws : GatherLaws) (decl : Decl) (world : Cluster) (run : CoreRun)
-    → AreCollected decl world.clients.items world.manager world.tiles.items world.parts.items run.kept run.tallies run.waiting run.faults run.parts
-    → IsGathered decl world run
-is_gathered laws decl world run k scene l same h = gathered laws scene l world h decl run same k
+    → AreCollected decl world.clients.items world.manager world.tiles.items run.kept run.tallies run.waiting run.faults
+    → ((frames : ℕ) → AreEven frames world.parts.items → AreInFrames frames world.parts.items run.parts) → IsGathered decl world run
+is_gathered laws decl world run k p scene l same h = gathered laws scene l world h decl run same k p

@@ -8,9 +8,11 @@ pub mod FirstViews
 pub mod ClientMoves
 mod Carrying
 mod ClientWorlds
-mod GivingWay
+mod Settling
+mod Settled
 pub mod ManagerMoves
 pub mod TileDeeds
+mod ShortDeeds
 pub mod TileMoves
 pub mod Runs
 mod RoundsGoOn

@@ -1,27 +1,28 @@
 -- A round grows by one step after the other, and says whether somebody moved.
-use Rattle.std.proofs.Common.{◌≡◌, ℕ, ◌+◌, List, [], ◌∷◌, ◌++◌, length, map, refl, sym, ap, ◌∙◌, subst, arith, inr}
+use Rattle.std.proofs.Common.{◌≡◌, ℕ, ◌+◌, List, [], ◌∷◌, ◌++◌, length, map, true, false, Ok, Err, refl, sym, ap, ◌∙◌, subst, arith, inr, true≢false}
 use Rattle.std.proofs.lemmas.List.{map-append}
 use Rattle.std.proofs.lemmas.List.FromFn.{map-range_with_len_more}
 use Rattle.std.specs.List.{range_with_len, AllByRecursion}
 use Rattle.rc_base.specs.Cluster.Tiles.{tile_count}
+use Rattle.rc_base.specs.declared.out_of_memory.OutOfMemory.{OutOfMemory}
 use Rattle.rc_base.specs.declared.scene.Scene.{Scene}
 use Rattle.rc_base.specs.declared.window.Layout.{Layout}
 use Rattle.world_model.specs.declared.moves.Move.{Move}
-use Rattle.world_model.specs.Moves.{IsMove, AreMoves, IsAtRest, IsLast}
-use Rattle.world_model.specs.declared.moves.Move.TheVariants.{Client as ClientMove, Manager as ManagerMove, Tile as TileMove}
-use Rattle.world_model.specs.Runs.{actor_of}
+use Rattle.world_model.specs.Laws.{AmpleTurnsAreMoves}
+use Rattle.world_model.specs.Turns.{Turn, AreTurns, IsLastTurn, IsResting, IsTurn, number_of, turn_of}
+use Rattle.world_model.specs.Turns.Turn.{ClientTurn, ManagerTurn, TileTurn}
 use Rattle.world_model.specs.World.{client_total}
 use Rattle.world_model.specs.World.{World as Model}
 use Rattle.step_core.specs.Rounds.{round_with, IsRound, IsRoundOf, IsRoundBelow, Rounds}
 use Rattle.step_core.specs.Actors.{said_of}
-use Rattle.step_core.specs.Steps.{IsSaid, Steps}
-use Rattle.step_core.specs.Worlds.{IsSeen}
+use Rattle.step_core.specs.Steps.{Attempts, IsTurnSaid, Turns}
+use Rattle.step_core.specs.Worlds.{IsSeen, IsSeenAs}
 use Rattle.step_core.specs.declared.actor.Stepped.{Stepped}
 use Rattle.step_core.specs.declared.actor.Stepped.TheVariants as stepped
 use Rattle.step_core.specs.declared.round.Round.{Round}
 use Rattle.step_core.specs.declared.round.Round.TheVariants.{Moved, Still, Ended}
 use Rattle.step_core.specs.declared.cluster.Cluster.{Cluster}
-use Rattle.step_core.proofs.Said.{tells}
+use Rattle.step_core.proofs.Said.{tells, rests, lasts}
 
 -- ---- lists
 
@@ -53,69 +54,154 @@ range_more n =
 
 -- ---- what it says
 
-pub last_rests : (move : Move) → IsLast move → IsAtRest move
-last_rests (ClientMove client answer) last = inr (inr last)
-last_rests (ManagerMove answer) last = inr (inr last)
-last_rests (TileMove tile answer) last = inr last
+last_rests : (turn : Turn) → IsLastTurn turn → IsResting turn
+last_rests (ClientTurn client (Ok answer)) last = inr (inr last)
+last_rests (ClientTurn client (Err error)) last = last
+last_rests (ManagerTurn (Ok answer)) last = inr (inr last)
+last_rests (ManagerTurn (Err error)) last = last
+last_rests (TileTurn tile (Ok answer)) last = inr last
+last_rests (TileTurn tile (Err error)) last = last
 
-pub all_rest : (moves : List Move) → AllByRecursion IsLast moves → AllByRecursion IsAtRest moves
-all_rest moves h = all_by IsLast IsAtRest last_rests moves h
+pub all_rest : (turns : List Turn) → AllByRecursion IsLastTurn turns → AllByRecursion IsResting turns
+all_rest turns h = all_by IsLastTurn IsResting last_rests turns h
 
-moved_now : (moves : List Move) (move : Move) → (IsAtRest move → ⊥) → AllByRecursion IsAtRest (moves ++ move ∷ []) → ⊥
-moved_now moves move moves_it all = moves_it (at_end IsAtRest moves move all)
+has_moved : (turns : List Turn) (turn : Turn) → (IsResting turn → ⊥) → AllByRecursion IsResting (turns ++ turn ∷ []) → ⊥
+has_moved turns turn k all = k (at_end IsResting turns turn all)
 
-has_moved : (moves : List Move) (move : Move) → IsSaid move stepped.Moved → AllByRecursion IsAtRest (moves ++ move ∷ []) → ⊥
-has_moved moves move k all = k.rest.0 (at_end IsAtRest moves move all) refl
+-- what is said of a move is said of its turn
+said_so : (move : Move) → IsTurnSaid (turn_of move) (said_of move)
+said_so move =
+    let k = tells move in
+    record {
+      moves = λ e rest. k.rest.0 ((rests move).0 rest) e;
+      rests = λ f. (rests move).1 (k.rest.1 f);
+      last = λ e. (lasts move).1 (k.last.1 e);
+      goes_on = λ f last. f (k.last.0 ((lasts move).0 last));
+    }
 
-waits_rests : (move : Move) → IsSaid move stepped.Waits → IsAtRest move
-waits_rests move k = k.rest.1 (λ e. cc)
+moved_said : (turn : Turn) → (IsResting turn → ⊥) → IsTurnSaid turn stepped.Moved
+moved_said turn moves = record {
+  moves = λ e. moves;
+  rests = λ f. absurd (f refl);
+  last = λ e. absurd cc;
+  goes_on = λ f last. moves (last_rests turn last);
+}
 
-waits_on : (move : Move) → IsSaid move stepped.Waits → IsLast move → ⊥
-waits_on move k last = let e = k.last.0 last in cc
+tells_more : (round : Round) (said : Stepped) (turns : List Turn) (turn : Turn) → IsRound round turns → IsTurnSaid turn said → IsRound (round_with round said) (turns ++ turn ∷ [])
+tells_more Moved stepped.Moved turns turn h k = has_moved turns turn (k.moves refl)
+tells_more Moved stepped.Waits turns turn h k = λ all. h (all_front IsResting turns turn all)
+tells_more Moved stepped.Ended turns turn h k = λ all. h (all_front IsResting turns turn all)
+tells_more Still stepped.Moved turns turn h k = has_moved turns turn (k.moves refl)
+tells_more Still stepped.Waits turns turn h k =
+    (all_with IsResting turns turn h.0 (k.rests (λ e. cc)), λ all. h.1 (all_front IsLastTurn turns turn all))
+tells_more Still stepped.Ended turns turn h k =
+    (all_with IsResting turns turn h.0 (k.rests (λ e. cc)), λ all. h.1 (all_front IsLastTurn turns turn all))
+tells_more Ended stepped.Moved turns turn h k = has_moved turns turn (k.moves refl)
+tells_more Ended stepped.Waits turns turn h k =
+    (all_with IsResting turns turn (all_rest turns h) (k.rests (λ e. cc)), λ all. k.goes_on (λ e. cc) (at_end IsLastTurn turns turn all))
+tells_more Ended stepped.Ended turns turn h k = all_with IsLastTurn turns turn h (k.last refl)
 
-ended_last : (move : Move) → IsSaid move stepped.Ended → IsLast move
-ended_last move k = k.last.1 refl
+-- ---- its turns
 
-tells_more : (round : Round) (said : Stepped) (moves : List Move) (move : Move) → IsRound round moves → IsSaid move said → IsRound (round_with round said) (moves ++ move ∷ [])
-tells_more Moved stepped.Moved moves move h k = has_moved moves move k
-tells_more Moved stepped.Waits moves move h k = λ all. h (all_front IsAtRest moves move all)
-tells_more Moved stepped.Ended moves move h k = λ all. h (all_front IsAtRest moves move all)
-tells_more Still stepped.Moved moves move h k = has_moved moves move k
-tells_more Still stepped.Waits moves move h k =
-    (all_with IsAtRest moves move h.0 (waits_rests move k), λ all. h.1 (all_front IsLast moves move all))
-tells_more Still stepped.Ended moves move h k =
-    (all_with IsAtRest moves move h.0 (last_rests move (ended_last move k)), λ all. h.1 (all_front IsLast moves move all))
-tells_more Ended stepped.Moved moves move h k = has_moved moves move k
-tells_more Ended stepped.Waits moves move h k =
-    (all_with IsAtRest moves move (all_rest moves h) (waits_rests move k), λ all. waits_on move k (at_end IsLast moves move all))
-tells_more Ended stepped.Ended moves move h k = all_with IsLast moves move h (ended_last move k)
-
--- ---- its moves
-
-pub moves_with : (scene : Scene) (l : Layout) (depth : ℕ) (moves : List Move) (move : Move) (a b c : Model) → AreMoves scene l depth a moves b
-    → IsMove scene l depth b move c → AreMoves scene l depth a (moves ++ move ∷ []) c
-moves_with scene l depth [] move a b c h k = (c, subst (λ w. IsMove scene l depth w move c) h k, refl)
-moves_with scene l depth (m ∷ moves) move a b c h k = (h.0, h.1, moves_with scene l depth moves move h.0 b c h.2 k)
+turns_with : (scene : Scene) (l : Layout) (depth : ℕ) (turns : List Turn) (turn : Turn) (a b c : Model) → AreTurns scene l depth a turns b
+    → IsTurn scene l depth b turn c → AreTurns scene l depth a (turns ++ turn ∷ []) c
+turns_with scene l depth [] turn a b c h k = (c, subst (λ w. IsTurn scene l depth w turn c) h k, refl)
+turns_with scene l depth (m ∷ turns) turn a b c h k = (h.0, h.1, turns_with scene l depth turns turn h.0 b c h.2 k)
 
 pub round_begins : (before : Cluster) → IsRoundBelow 0 before Ended before
-round_begins before = record { each = λ scene l depth w view. record { moves = []; later = w; actors = refl; moved = refl; view = view; tells = tt } }
-
-pub round_goes_on : (n : ℕ) (before now after : Cluster) (round : Round) (move : Move) → IsRoundBelow n before round now → Steps n now move after
-    → IsRoundBelow (n + 1) before (round_with round (said_of move)) after
-round_goes_on n before now after round move h step = record {
-  each = λ scene l depth w view.
-      let a = h.each scene l depth w view in
-      let s = step scene l depth a.later a.view in
-      record {
-        moves = a.moves ++ move ∷ [];
-        later = s.later;
-        actors = map-append (actor_of scene) a.moves (move ∷ []) ∙ ap (λ xs. xs ++ actor_of scene move ∷ []) a.actors
-            ∙ ap (λ k. range_with_len 0 n ++ k ∷ []) s.actor ∙ sym (range_more n);
-        moved = moves_with scene l depth a.moves move w a.later s.later a.moved s.moved;
-        view = s.view;
-        tells = tells_more round (said_of move) a.moves move a.tells (tells move);
-      };
+round_begins before = record {
+  each = λ scene l depth w view. record {
+    turns = [];
+    later = w;
+    actors = refl;
+    turned = refl;
+    view = view;
+    tells = tt;
+    kept = λ lacking. record { lacking = lacking; ample = λ all. all; parts = λ all shown. shown };
+  };
 }
+
+-- what the cluster notes isn't seen
+seen_noted : (scene : Scene) (l : Layout) (depth : ℕ) (after : Cluster) (w : Model) → IsSeenAs scene l depth after w
+    → IsSeenAs scene l depth (record after { lacking = true }) w
+seen_noted scene l depth after w v = record {
+  clients = v.clients;
+  manager = v.manager;
+  tiles = v.tiles;
+  parcels = v.parcels;
+  ports = v.ports;
+  requests = v.requests;
+  grants = v.grants;
+  lists = v.lists;
+}
+
+-- ---- one step
+
+-- it was answered
+pub attempts : AmpleTurnsAreMoves → (n : ℕ) (before after : Cluster) (move : Move) (said : Stepped) → said ≡ said_of move → Turns n before (Ok move) after
+    → after.lacking ≡ before.lacking → Attempts n before said after
+attempts law n before after move said is step same scene l depth w view =
+    let s = step scene l depth w view in
+    record {
+      turn = s.turn;
+      later = s.later;
+      turned = s.turned;
+      actor = s.actor;
+      tells = subst (λ x. IsTurnSaid s.turn x) (sym is) (subst (λ t. IsTurnSaid t (said_of move)) (sym s.tells) (said_so move));
+      view = s.view;
+      kept = λ lacking. record {
+        lacking = sym same ∙ lacking;
+        ample = λ all. (law scene l depth w s.later move all (subst (λ t. IsTurn scene l depth w t s.later) s.tells s.turned)).1;
+        parts = s.parts;
+      };
+    }
+
+-- memory lacked in it
+pub lacks : (n : ℕ) (before after : Cluster) (error : OutOfMemory) → Turns n before (Err error) after
+    → Attempts n before stepped.Moved (record after { lacking = true })
+lacks n before after error step scene l depth w view =
+    let s = step scene l depth w view in
+    record {
+      turn = s.turn;
+      later = s.later;
+      turned = s.turned;
+      actor = s.actor;
+      tells = moved_said s.turn s.tells;
+      view = seen_noted scene l depth after s.later s.view;
+      kept = λ lacking. absurd (true≢false lacking);
+    }
+
+-- ---- and one after the other
+
+module _ (n : ℕ) (before now after : Cluster) (round : Round) (said : Stepped) (h : IsRoundBelow n before round now) (step : Attempts n now said after) where
+  actors_more : (scene : Scene) (turns : List Turn) (turn : Turn) → map (number_of scene) turns ≡ range_with_len 0 n → number_of scene turn ≡ n
+      → map (number_of scene) (turns ++ turn ∷ []) ≡ range_with_len 0 (n + 1)
+  actors_more scene turns turn e f =
+      map-append (number_of scene) turns (turn ∷ []) ∙ ap (λ xs. xs ++ number_of scene turn ∷ []) e
+      ∙ ap (λ k. range_with_len 0 n ++ k ∷ []) f ∙ sym (range_more n)
+
+  pub round_goes_on : IsRoundBelow (n + 1) before (round_with round said) after
+  round_goes_on = record {
+    each = λ scene l depth w view.
+        let a = h.each scene l depth w view in
+        let s = step scene l depth a.later a.view in
+        record {
+          turns = a.turns ++ s.turn ∷ [];
+          later = s.later;
+          actors = actors_more scene a.turns s.turn a.actors s.actor;
+          turned = turns_with scene l depth a.turns s.turn w a.later s.later a.turned s.turned;
+          view = s.view;
+          tells = tells_more round said a.turns s.turn a.tells s.tells;
+          kept = λ lacking.
+              let k = s.kept lacking in
+              let was = a.kept k.lacking in
+              record {
+                lacking = was.lacking;
+                ample = λ all. k.ample (was.ample all);
+                parts = λ all shown. k.parts (was.ample all) (was.parts all shown);
+              };
+        };
+  }
 
 -- ---- it goes on, and over all actors
 
@@ -139,4 +225,4 @@ pub all_actors : (before after : Cluster) (round : Round) (n : ℕ) → n ≡ le
 all_actors before after round n e h scene l depth w view =
     let whole : n ≡ client_total scene + 1 + tile_count l =
     (let c = view.clients.count in let t = view.tiles.count in omega (arith, e, c, t)) in
-    subst (λ k. IsRoundOf scene l depth k w round after) whole (h.each scene l depth w view)
+    subst (λ k. IsRoundOf scene l depth k w before round after) whole (h.each scene l depth w view)

@@ -1,5 +1,5 @@
 -- A stepped run and one more move is a stepped run of one more pick; what a world is seen as where one leads.
-use Rattle.std.proofs.Common.{◌≡◌, ℕ, ◌<◌, List, [], ◌∷◌, ◌++◌, length, Some, refl, sym, ap, ◌∙◌, subst, arith}
+use Rattle.std.proofs.Common.{◌≡◌, ℕ, ◌<◌, List, [], ◌∷◌, ◌++◌, length, Some, Ok, refl, sym, ap, ◌∙◌, subst, arith}
 use Rattle.std.proofs.lemmas.List.{length-map}
 use Rattle.std.proofs.lemmas.Option.{slice_get-get_or, slice_get-map, slice_get_within}
 use Rattle.std.specs.Prelude.{map, option_map}
@@ -13,9 +13,11 @@ use Rattle.order_model.specs.Sent.{jobs_of}
 use Rattle.order_model.specs.declared.record.LogEntry.{LogEntry}
 use Rattle.tile_server.specs.Cores.{log_of}
 use Rattle.tile_server.specs.declared.tile_core.TileCore.{TileCore}
-use Rattle.world_model.specs.Laws.{SoundWorldsHaveLegalLogs, SteppedRunsAreSound}
+use Rattle.world_model.specs.Laws.{AmpleTurnsAreMoves, SoundWorldsHaveLegalLogs, SteppedRunsAreSound}
 use Rattle.world_model.specs.Moves.{AreMoves, IsMove}
 use Rattle.world_model.specs.Runs.{actor_of}
+use Rattle.world_model.specs.Turns.{IsTurn, number_of, turn_of}
+use Rattle.world_model.specs.declared.moves.Move.TheVariants.{Client as ClientMove, Manager as ManagerMove, Tile as TileMove}
 use Rattle.world_model.specs.World.{World as Model}
 use Rattle.world_model.specs.declared.moves.Move.{Move}
 use Rattle.step_core.specs.NewWorlds.{IsNew}
@@ -23,7 +25,7 @@ use Rattle.step_core.specs.Runnable.{HasActors, IsDepth, IsLaidOut}
 use Rattle.order_model.specs.Scenes.{IsRunnable}
 use Rattle.step_core.specs.Runs.{IsRunOf, seen_as}
 use Rattle.step_core.specs.Schedules.{WorldView, IsRightFor, IsLegalIn}
-use Rattle.step_core.specs.Steps.{Steps}
+use Rattle.step_core.specs.Steps.{Turns}
 use Rattle.step_core.specs.Worlds.{IsSeen}
 use Rattle.step_core.specs.declared.cluster.Cluster.{Cluster}
 use Rattle.step_core.proofs.Lanes.{first_of_some}
@@ -39,6 +41,11 @@ module _ (scene : Scene) (l : Layout) (depth : ℕ) where
   actors_more [] move = refl
   actors_more (m ∷ moves) move = ap (λ (xs : List ℕ). actor_of scene m ∷ xs) (actors_more moves move)
 
+  pub number_is : (move : Move) → number_of scene (turn_of move) ≡ actor_of scene move
+  number_is (ClientMove client answer) = refl
+  number_is (ManagerMove answer) = refl
+  number_is (TileMove tile answer) = refl
+
   pub first_run : (cluster : Cluster) → IsNew scene l depth cluster → IsRunOf scene l depth [] [] cluster
   first_run cluster h = record {
     model = h.model;
@@ -46,26 +53,27 @@ module _ (scene : Scene) (l : Layout) (depth : ℕ) where
     view = h.view;
   }
 
-  pub one_more : (picks more : List ℕ) (pick : ℕ) (before after : Cluster) (moves : List Move) (move : Move) → more ≡ picks ++ pick ∷ []
-      → IsRunOf scene l depth picks moves before → Steps pick before move after → IsRunOf scene l depth more (moves ++ move ∷ []) after
-  one_more picks more pick before after moves move e h steps =
-      let s = steps scene l depth h.model h.view in
+  pub one_more : AmpleTurnsAreMoves → (picks more : List ℕ) (pick : ℕ) (before after : Cluster) (moves : List Move) (move : Move) → more ≡ picks ++ pick ∷ []
+      → IsRunOf scene l depth picks moves before → Turns pick before (Ok move) after → IsRunOf scene l depth more (moves ++ move ∷ []) after
+  one_more law picks more pick before after moves move e h steps =
+      let s = steps scene l depth h.model h.view.seen in
+      let done = law scene l depth h.model s.later move h.view.ample (subst (λ t. IsTurn scene l depth h.model t s.later) s.tells s.turned) in
       record {
         model = s.later;
         run = record {
           first = h.run.first;
           new = h.run.new;
           actors = actors_more moves move ∙ ap (λ (xs : List ℕ). xs ++ actor_of scene move ∷ []) h.run.actors
-              ∙ ap (λ n. picks ++ n ∷ []) s.actor ∙ sym e;
-          leads = moves_more h.run.first h.model s.later moves move h.run.leads s.moved;
+              ∙ ap (λ n. picks ++ n ∷ []) (sym (number_is move) ∙ ap (number_of scene) (sym s.tells) ∙ s.actor) ∙ sym e;
+          leads = moves_more h.run.first h.model s.later moves move h.run.leads done.0;
         };
-        view = s.view;
+        view = record { seen = s.view; ample = done.1; parts = s.parts h.view.ample h.view.parts };
       }
 
   pub is_seen : (picks : List ℕ) (moves : List Move) (cluster : Cluster) → IsRunnable scene l depth → IsRunOf scene l depth picks moves cluster
       → IsSeen cluster
   is_seen picks moves cluster can h =
-      record { scene = scene; l = l; depth = depth; model = h.model; view = h.view; few = can.few; few_tiles = can.few_tiles }
+      record { scene = scene; l = l; depth = depth; model = h.model; view = h.view.seen; few = can.few; few_tiles = can.few_tiles }
 
   pub its_own : (picks : List ℕ) (moves : List Move) (cluster : Cluster) → IsRunOf scene l depth picks moves cluster
       → IsRunOf scene l depth (map (actor_of scene) moves) moves cluster
@@ -76,13 +84,13 @@ module _ (scene : Scene) (l : Layout) (depth : ℕ) where
   right_for picks moves cluster h = record {
     model = h.model;
     run = h.run;
-    journal = h.view.manager.progress.book.journal;
-    count = length-map cluster.tiles.items log_of ∙ h.view.tiles.count;
+    journal = h.view.seen.manager.progress.book.journal;
+    count = length-map cluster.tiles.items log_of ∙ h.view.seen.tiles.count;
     logs = λ tile lt.
-        let n = h.view.tiles.count in
+        let n = h.view.seen.tiles.count in
         let within : tile < length cluster.tiles.items = omega (arith, n, lt) in
         let d : TileCore = first_of_some cluster.tiles.items tile within in
-        let core = h.view.tiles.at tile d lt in
+        let core = h.view.seen.tiles.at tile d lt in
         slice_get-map log_of cluster.tiles.items tile ∙ ap (option_map log_of) (slice_get-get_or cluster.tiles.items tile d within)
         ∙ ap (λ log. Some log) (sym core.progress.ledger.log);
   }

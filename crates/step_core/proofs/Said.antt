@@ -9,12 +9,16 @@ use Rattle.world_model.specs.declared.moves.TileAnswer.{TileAnswer}
 use Rattle.world_model.specs.declared.moves.TileAnswer.TheVariants.{Performed, Swapped, Learnt, Took, Held, Closed, Dropped, Blocked}
 use Rattle.world_model.specs.declared.moves.TileAnswer.TheVariants.{Ended as NothingLeft}
 use Rattle.world_model.specs.declared.moves.Move.{Move}
+use Rattle.std.specs.Prelude.{Result, Ok}
+use Rattle.rc_base.specs.declared.out_of_memory.OutOfMemory.{OutOfMemory}
 use Rattle.world_model.specs.Moves.{IsAtRest, IsLast}
+use Rattle.world_model.specs.Turns.{IsResting, IsLastTurn, turn_of}
+use Rattle.world_model.specs.Turns.Turn.{TileTurn}
 use Rattle.step_core.specs.Actors.{client_said, manager_said, tile_said, said_of}
 use Rattle.rc_base.specs.declared.scene.Scene.{Scene}
 use Rattle.rc_base.specs.declared.window.Layout.{Layout}
 use Rattle.world_model.specs.World.{World as Model}
-use Rattle.step_core.specs.Steps.{IsSaid, IsStep}
+use Rattle.step_core.specs.Steps.{IsSaid, IsTurned}
 use Rattle.step_core.specs.declared.cluster.Cluster.{Cluster}
 use Rattle.step_core.specs.declared.actor.Stepped.{Stepped}
 use Rattle.step_core.specs.declared.actor.Stepped.TheVariants.{Moved, Waits, Ended}
@@ -66,8 +70,25 @@ tells (ClientMove client answer) = client_tells client answer
 tells (ManagerMove answer) = manager_tells answer
 tells (TileMove tile answer) = tile_tells tile answer
 
--- a step of an actor of the same number with the same move
-pub told : (scene : Scene) (l : Layout) (depth : ℕ) (w : Model) (after : Cluster) (move made : Move) (number number' : ℕ) → number ≡ number'
-    → made ≡ move → IsStep scene l depth number w made after → IsStep scene l depth number' w move after
-told scene l depth w after move made number number' e f h =
-    subst (λ n. IsStep scene l depth n w move after) e (subst (λ m. IsStep scene l depth number w m after) f h)
+-- a step of an actor of the same number with the same answer
+pub told : (scene : Scene) (l : Layout) (depth : ℕ) (w : Model) (before after : Cluster) (r made : Result Move OutOfMemory) (number number' : ℕ) → number ≡ number'
+    → made ≡ r → IsTurned scene l depth number w made before after → IsTurned scene l depth number' w r before after
+told scene l depth w before after r made number number' e f h =
+    subst (λ n. IsTurned scene l depth n w r before after) e (subst (λ (x : Result Move OutOfMemory). IsTurned scene l depth number w x before after) f h)
+
+-- ---- turns
+
+-- a move's turn is at rest where the move is
+pub rests : (move : Move) → (IsResting (turn_of move) → IsAtRest move) × (IsAtRest move → IsResting (turn_of move))
+rests (ClientMove client answer) = (λ h. h, λ h. h)
+rests (ManagerMove answer) = (λ h. h, λ h. h)
+rests (TileMove tile answer) = (λ h. h, λ h. h)
+
+pub lasts : (move : Move) → (IsLastTurn (turn_of move) → IsLast move) × (IsLast move → IsLastTurn (turn_of move))
+lasts (ClientMove client answer) = (λ h. h, λ h. h)
+lasts (ManagerMove answer) = (λ h. h, λ h. h)
+lasts (TileMove tile answer) = (λ h. h, λ h. h)
+
+-- a tile that shows a part has moved
+pub swap_moves : (tile : ℕ) → IsResting (TileTurn tile (Ok Swapped)) → ⊥
+swap_moves tile h = (tile_tells tile Swapped).rest.0 h refl

@@ -2,6 +2,7 @@
 use Rattle.std.proofs.Common.{◌≡◌, ◌≢◌, ◌⊎◌, ℕ, ◌+◌, ◌==◌, Bool, true, false, not, ◌&&◌, List, [], ◌∷◌, ◌++◌, length, None, Ok, inl, inr, refl, sym, ap, ◌∙◌, arith, eqb-true, length-append}
 use Rattle.std.specs.Prelude.{Result}
 use Rattle.std.proofs.lemmas.Bool.{cases_Bool}
+use Rattle.cmd_pack.specs.Parcels.Spelling.{is_end}
 use Rattle.rc_base.specs.Drawing.Images.{Pixels}
 use Rattle.rc_base.specs.declared.cluster.TileMoved.{TileMoved}
 use Rattle.rc_base.specs.declared.cluster.TileMoved.TheVariants as moved
@@ -15,11 +16,13 @@ use Rattle.rc_base.specs.declared.sync.Grant.TheVariants as grant
 use Rattle.order_model.specs.Standing.{Progress, performed_in}
 use Rattle.tile_model.specs.Acts.{is_work}
 use Rattle.tile_model.specs.Items.{Item, after_act, after_item, shown_frames, IsAwaited, parcel_taken, grant_taken}
+use Rattle.tile_model.specs.Short.{IsFinished}
 use Rattle.tile_model.specs.Items.Item.{Nothing, Due, Granted, NoMore, Sent}
 use Rattle.step_core.proofs.ShownFrames.{after_swap, after_other, after_learnt, after_worked}
-use Rattle.tile_server.specs.Deeds.{item_of, answer_of, is_end, is_wait, taken_of, granted_of, next_after, IsNextDeed, IsFinished, IsFoundEmpty, IsUnheard}
+use Rattle.tile_server.specs.Deeds.{item_of, answer_of, is_wait, taken_of, granted_of, next_after, IsNextDeed, IsFoundEmpty, IsUnheard}
 use Rattle.tile_server.specs.declared.deed.TileDeed.{TileDeed}
-use Rattle.tile_server.specs.declared.deed.TileDeed.TheVariants.{Performs, Shows, Fails, Learns, Works, Holds, Closes, Drops, Loses, Rests, Finishes}
+use Rattle.tile_server.specs.declared.deed.TileDeed.TheVariants.{Performs, Shows, Fails, Learns, Takes, Rests, Finishes}
+use Rattle.tile_server.specs.declared.deed.Taking.TheVariants.{Works, Holds, Closes, Drops, Loses}
 use Rattle.world_model.specs.Tiles as model
 use Rattle.world_model.specs.Tiles.{Tile, without_pixels, answer_to_act, answer_to_entry, parts_after, HasEnded, IsTileAnswer, IsUndue, FindsNoGrant, FindsNoParcel}
 use Rattle.world_model.specs.declared.moves.TileAnswer.TheVariants.{Performed as DonePerformed, Took as DoneTook, Held as DoneHeld, Closed as DoneClosed, Dropped as DoneDropped}
@@ -33,11 +36,7 @@ same_taken (Shows part) i = refl
 same_taken Fails i = refl
 same_taken (Learns (grant.Entry e)) i = refl
 same_taken (Learns grant.NoMore) i = refl
-same_taken (Works client parcel) i = refl
-same_taken (Holds client parcel) i = refl
-same_taken (Closes client parcel) i = refl
-same_taken (Drops client parcel) i = refl
-same_taken (Loses client parcel) i = refl
+same_taken (Takes client parcel how) i = refl
 same_taken Rests i = refl
 same_taken Finishes i = refl
 
@@ -47,11 +46,7 @@ same_granted (Shows part) = refl
 same_granted Fails = refl
 same_granted (Learns (grant.Entry e)) = refl
 same_granted (Learns grant.NoMore) = refl
-same_granted (Works client parcel) = refl
-same_granted (Holds client parcel) = refl
-same_granted (Closes client parcel) = refl
-same_granted (Drops client parcel) = refl
-same_granted (Loses client parcel) = refl
+same_granted (Takes client parcel how) = refl
 same_granted Rests = refl
 same_granted Finishes = refl
 
@@ -61,11 +56,7 @@ same_next next (Shows part) = refl
 same_next next Fails = refl
 same_next next (Learns (grant.Entry e)) = refl
 same_next next (Learns grant.NoMore) = refl
-same_next next (Works client parcel) = omega arith
-same_next next (Holds client parcel) = omega arith
-same_next next (Closes client parcel) = omega arith
-same_next next (Drops client parcel) = omega arith
-same_next next (Loses client parcel) = omega arith
+same_next next (Takes client parcel how) = omega arith
 same_next next Rests = refl
 same_next next Finishes = refl
 
@@ -77,11 +68,7 @@ awaits p (Shows part) h = h.1
 awaits p Fails h = tt
 awaits p (Learns (grant.Entry e)) h = h.1
 awaits p (Learns grant.NoMore) h = h.1
-awaits p (Works client parcel) h = (h.take.low, h.take.asked)
-awaits p (Holds client parcel) h = (h.0.low, h.0.asked)
-awaits p (Closes client parcel) h = (h.0.low, h.0.asked)
-awaits p (Drops client parcel) h = (h.0.low, h.0.asked)
-awaits p (Loses client parcel) h = (h.take.low, h.take.asked)
+awaits p (Takes client parcel how) h = (h.0.low, h.0.asked)
 awaits p Rests h = tt
 awaits p Finishes h = tt
 
@@ -89,15 +76,11 @@ pub is_undue : (p : Progress) (deed : TileDeed) (m : TileMoved) → answer_of de
 is_undue p (Performs e) m ok h = tt
 is_undue p (Shows part) m ok h = tt
 is_undue p Fails m ok h = absurd cc
-is_undue p (Learns (grant.Entry e)) m ok h = λ e _ due. h.0 refl e due
-is_undue p (Learns grant.NoMore) m ok h = λ e _ due. h.0 refl e due
-is_undue p (Works client parcel) m ok h = λ e _ due. h.take.undue refl e due
-is_undue p (Holds client parcel) m ok h = λ e _ due. h.0.undue refl e due
-is_undue p (Closes client parcel) m ok h = λ e _ due. h.0.undue refl e due
-is_undue p (Drops client parcel) m ok h = λ e _ due. h.0.undue refl e due
-is_undue p (Loses client parcel) m ok h = absurd cc
-is_undue p Rests m ok h = λ e _ due. h.0 refl e due
-is_undue p Finishes m ok h = λ e _ due. h.0 refl e due
+is_undue p (Learns (grant.Entry e)) m ok h = h.0
+is_undue p (Learns grant.NoMore) m ok h = h.0
+is_undue p (Takes client parcel how) m ok h = h.0.undue
+is_undue p Rests m ok h = h.0
+is_undue p Finishes m ok h = h.0
 
 -- ---- lanes that were found empty
 
@@ -108,11 +91,7 @@ finds_no_parcel a next (Shows part) m i same ok h = absurd h
 finds_no_parcel a next Fails m i same ok h = absurd cc
 finds_no_parcel a next (Learns (grant.Entry e)) m i same ok h = absurd h
 finds_no_parcel a next (Learns grant.NoMore) m i same ok h = absurd h
-finds_no_parcel a next (Works client parcel) m i same ok h = rw same h
-finds_no_parcel a next (Holds client parcel) m i same ok h = rw same h
-finds_no_parcel a next (Closes client parcel) m i same ok h = rw same h
-finds_no_parcel a next (Drops client parcel) m i same ok h = rw same h
-finds_no_parcel a next (Loses client parcel) m i same ok h = absurd cc
+finds_no_parcel a next (Takes client parcel how) m i same ok h = rw same h
 finds_no_parcel a next Rests m i same ok h = h
 finds_no_parcel a next Finishes m i same ok h = h
 
@@ -122,26 +101,18 @@ finds_no_grant p (Shows part) m ok h = absurd h
 finds_no_grant p Fails m ok h = absurd cc
 finds_no_grant p (Learns (grant.Entry e)) m ok h = absurd h
 finds_no_grant p (Learns grant.NoMore) m ok h = absurd h
-finds_no_grant p (Works client parcel) m ok h = h
-finds_no_grant p (Holds client parcel) m ok h = h
-finds_no_grant p (Closes client parcel) m ok h = h
-finds_no_grant p (Drops client parcel) m ok h = h
-finds_no_grant p (Loses client parcel) m ok h = absurd cc
+finds_no_grant p (Takes client parcel how) m ok h = h
 finds_no_grant p Rests m ok h = h
 finds_no_grant p Finishes m ok h = h
 
-pub none_granted : (p : Progress) (deed : TileDeed) → IsUnheard false p deed → granted_of deed ≡ None
-none_granted p (Performs e) h = absurd h
-none_granted p (Shows part) h = absurd h
-none_granted p Fails h = absurd h
-none_granted p (Learns g) h = absurd h
-none_granted p (Works client parcel) h = refl
-none_granted p (Holds client parcel) h = refl
-none_granted p (Closes client parcel) h = refl
-none_granted p (Drops client parcel) h = refl
-none_granted p (Loses client parcel) h = refl
-none_granted p Rests h = refl
-none_granted p Finishes h = refl
+pub none_granted : (short : Bool) (p : Progress) (deed : TileDeed) → IsUnheard short p deed → granted_of deed ≡ None
+none_granted short p (Performs e) h = absurd h
+none_granted short p (Shows part) h = absurd h
+none_granted short p Fails h = absurd h
+none_granted short p (Learns g) h = absurd h
+none_granted short p (Takes client parcel how) h = refl
+none_granted short p Rests h = refl
+none_granted short p Finishes h = refl
 
 -- ---- the answer
 
@@ -190,7 +161,7 @@ over_no_more : (no_more performed : Bool) → (no_more && performed) ≡ true �
 over_no_more true performed h = refl
 over_no_more false performed h = absurd cc
 
-finished : (p : Progress) → HasEnded p → IsFinished false p
+pub finished : (p : Progress) → HasEnded p → IsFinished false p
 finished p h = record { no_more = over_no_more p.no_more (performed_in p.log == length p.learnt) h.over; performed = λ _. h.over; closed = h.closed }
 
 pub answers : (p : Progress) (deed : TileDeed) (m : TileMoved) → answer_of deed ≡ Ok m → IsNextDeed false p deed
@@ -200,12 +171,12 @@ answers p (Shows part) m ok h = answer_is (moved.Swapped part) m ok
 answers p Fails m ok h = absurd cc
 answers p (Learns (grant.Entry e)) m ok h = answer_is moved.Learnt m ok
 answers p (Learns grant.NoMore) m ok h = answer_is moved.Learnt m ok
-answers p (Works client parcel) m ok h = answer_is (moved.Took client) m ok ∙ sym (worked (p.held client) client parcel.act h.free h.work)
-answers p (Holds client parcel) m ok h = answer_is (moved.Held client) m ok ∙ sym (waited (p.held client) client parcel.act h.2 h.3)
-answers p (Closes client parcel) m ok h = answer_is (moved.Closed client) m ok ∙ sym (closed (p.held client) client parcel.act h.1)
-answers p (Drops client parcel) m ok h = answer_is (moved.Dropped client) m ok
-    ∙ sym (dropped (p.held client) client parcel.act (is_held (p.held client) h.1) h.2)
-answers p (Loses client parcel) m ok h = absurd cc
+answers p (Takes client parcel Works) m ok h = answer_is (moved.Took client) m ok ∙ sym (worked (p.held client) client parcel.act h.1.1 h.1.2)
+answers p (Takes client parcel Holds) m ok h = answer_is (moved.Held client) m ok ∙ sym (waited (p.held client) client parcel.act h.1.1 h.1.2)
+answers p (Takes client parcel Closes) m ok h = answer_is (moved.Closed client) m ok ∙ sym (closed (p.held client) client parcel.act h.1)
+answers p (Takes client parcel Drops) m ok h = answer_is (moved.Dropped client) m ok
+    ∙ sym (dropped (p.held client) client parcel.act (is_held (p.held client) h.1.0) h.1.1)
+answers p (Takes client parcel Loses) m ok h = absurd cc
 answers p Rests m ok h = inr (answer_is moved.Blocked m ok, λ ended. h.1 (finished p ended))
 answers p Finishes m ok h = inl (answer_is moved.Ended m ok, record { over = h.1.performed refl; closed = h.1.closed })
 
@@ -232,15 +203,15 @@ shows_or_not p (Learns (grant.Entry e)) m pixels shown parts ok h = inr
     (refl, ap (λ (x : TileMoved). with_shown x parts) (let same : m ≡ moved.Learnt = cc in same))
 shows_or_not p (Learns grant.NoMore) m pixels shown parts ok h = inr
     (refl, ap (λ (x : TileMoved). with_shown x parts) (let same : m ≡ moved.Learnt = cc in same))
-shows_or_not p (Works client parcel) m pixels shown parts ok h = inr
+shows_or_not p (Takes client parcel Works) m pixels shown parts ok h = inr
     (refl, ap (λ (x : TileMoved). with_shown x parts) (let same : m ≡ moved.Took client = cc in same))
-shows_or_not p (Holds client parcel) m pixels shown parts ok h = inr
+shows_or_not p (Takes client parcel Holds) m pixels shown parts ok h = inr
     (refl, ap (λ (x : TileMoved). with_shown x parts) (let same : m ≡ moved.Held client = cc in same))
-shows_or_not p (Closes client parcel) m pixels shown parts ok h = inr
+shows_or_not p (Takes client parcel Closes) m pixels shown parts ok h = inr
     (refl, ap (λ (x : TileMoved). with_shown x parts) (let same : m ≡ moved.Closed client = cc in same))
-shows_or_not p (Drops client parcel) m pixels shown parts ok h = inr
+shows_or_not p (Takes client parcel Drops) m pixels shown parts ok h = inr
     (refl, ap (λ (x : TileMoved). with_shown x parts) (let same : m ≡ moved.Dropped client = cc in same))
-shows_or_not p (Loses client parcel) m pixels shown parts ok h = absurd cc
+shows_or_not p (Takes client parcel Loses) m pixels shown parts ok h = absurd cc
 shows_or_not p Rests m pixels shown parts ok h = inr (refl, ap (λ (x : TileMoved). with_shown x parts) (let same : m ≡ moved.Blocked = cc in same))
 shows_or_not p Finishes m pixels shown parts ok h = inr (refl, ap (λ (x : TileMoved). with_shown x parts) (let same : m ≡ moved.Ended = cc in same))
 

@@ -1,8 +1,8 @@
--- A step of a tile's core over lanes that are seen as the model's is a move of the tile.
-use Rattle.std.proofs.Common.{◌≡◌, ℕ, ◌+◌, ◌<◌, ◌^◌, ◌==◌, Bool, false, cond, List, [], ◌∷◌, ◌++◌, length, Option, Some, None, Ok, inl, inr, refl, sym, ap, ◌∙◌, subst, arith, length-append}
-use Rattle.std.specs.Prelude.{IfSome, MatchOption, slice_index_or, Vec}
+-- A step of a tile's core over lanes that are seen as the model's is a turn of the tile, whether it is short, becomes so, or isn't.
+use Rattle.std.proofs.Common.{◌≡◌, ℕ, ◌+◌, ◌<◌, ◌^◌, Bool, true, false, cond, List, [], ◌∷◌, ◌++◌, length, Option, Ok, Err, inl, inr, refl, sym, ap, ◌∙◌, subst, arith, length-append, true≢false}
+use Rattle.std.specs.Prelude.{MatchOption, slice_index_or, Result, Vec}
 use Rattle.std.specs.Global.{Global}
-use Rattle.std.proofs.lemmas.Bool.{cases_lt}
+use Rattle.std.proofs.lemmas.Bool.{cases_Bool, cases_lt}
 use Rattle.std.proofs.Math.ListN.{get_or-append}
 use Rattle.std.proofs.Math.Seq.{get_or-append_seam}
 use Rattle.rc_base.specs.Cluster.PlainLanes.{held}
@@ -10,6 +10,7 @@ use Rattle.rc_base.specs.Cluster.Tiles.{tile_count}
 use Rattle.rc_base.specs.Drawing.Images.{Pixels}
 use Rattle.rc_base.specs.declared.cluster.TileMoved.{TileMoved}
 use Rattle.rc_base.specs.declared.cluster.TilePart.{TilePart}
+use Rattle.rc_base.specs.declared.out_of_memory.OutOfMemory.{OutOfMemory}
 use Rattle.rc_base.specs.declared.plain_lane.PlainLane.{PlainLane}
 use Rattle.rc_base.specs.declared.scene.Decl.{Decl}
 use Rattle.rc_base.specs.declared.scene.Scene.{Scene}
@@ -19,27 +20,32 @@ use Rattle.rc_base.specs.declared.window.Layout.{Layout}
 use Rattle.order_model.specs.Board.{Board}
 use Rattle.order_model.specs.Standing.{Progress}
 use Rattle.tile_model.specs.Boards.{IsDrawn}
-use Rattle.tile_model.specs.Items.{Item, after_item, shown_frames, with_at}
+use Rattle.tile_model.specs.Items.{Item, grant_taken, parcel_taken, shown_frames, with_at}
 use Rattle.tile_server.specs.Boards as boards
-use Rattle.tile_server.specs.Cores.{board_of, next_of, is_short, IsProgressOf, IsShown}
-use Rattle.tile_server.specs.Deeds.{item_of, answer_of, taken_of, granted_of, progress_after, IsFoundEmpty, IsNextDeed, IsUnheard}
+use Rattle.tile_server.specs.Cores.{board_of, next_of, is_short, IsShown}
+use Rattle.tile_server.specs.Deeds.{item_of, answer_of, is_loss, taken_of, granted_of, progress_after, IsFoundEmpty, IsNextDeed, IsUnheard}
 use Rattle.tile_server.specs.declared.deed.TileDeed.{TileDeed}
-use Rattle.tile_server.specs.declared.deed.TileDeed.TheVariants.{Performs, Shows, Fails, Learns, Works, Holds, Closes, Drops, Loses, Rests, Finishes}
 use Rattle.tile_server.specs.declared.tile_core.TileCore.{TileCore}
-use Rattle.world_model.specs.Moves.{IsTileMove}
+use Rattle.world_model.specs.Moves.{IsTileMove, OnlyTile}
+use Rattle.world_model.specs.Turns.{AreAmple, IsResting, IsShortTileMove, IsStepOf, IsTileLoss, IsTurn}
+use Rattle.world_model.specs.Turns.Turn.{TileTurn}
+use Rattle.world_model.specs.declared.moves.TileAnswer.{TileAnswer}
+use Rattle.world_model.specs.declared.moves.TileAnswer.TheVariants.{Swapped}
 use Rattle.world_model.specs.declared.moves.Move.TheVariants.{Tile as TileMove}
 use Rattle.world_model.specs.Tiles.{Tile, next_after, parts_after, without_pixels, IsTileStep}
 use Rattle.world_model.specs.World.{client_total}
 use Rattle.world_model.specs.World.{World as Model}
 use Rattle.step_core.specs.Changes.{IsTileStepped, ArePartsKept, with_shown}
-use Rattle.step_core.specs.Worlds.{IsViewOf, IsTileOf, IsPartOf, ArePartsOf, AreLanesOf, IsLaneOf}
-use Rattle.step_core.specs.Steps.{IsStep}
+use Rattle.step_core.specs.Worlds.{AreShown, IsSeenAs, IsTileOf, IsPartOf, ArePartsOf, AreLanesOf, IsLaneOf}
+use Rattle.step_core.specs.Settling.{AreSettled, CanSettle}
+use Rattle.step_core.specs.Steps.{IsTurned}
 use Rattle.step_core.specs.declared.cluster.Cluster.{Cluster}
-use Rattle.step_core.specs.Ports.{giver_of, AreFewer, HasPlace}
 use Rattle.step_core.specs.declared.port.Port.{Port}
-use Rattle.step_core.proofs.GivingWay.{gives, low_giver, has_places, fewer_ports}
+use Rattle.step_core.proofs.Said.{swap_moves}
+use Rattle.step_core.proofs.Settled.{can_settle, settled_ports}
 use Rattle.step_core.proofs.Fits.{view_fits}
-use Rattle.step_core.proofs.Lanes.{at_one, with_here, with_other, rest_of, rest_was, at_item, none_taken, not_itself, lanes_give, lanes_gave, lanes_empty, lanes_as, lanes_one, lane_gives}
+use Rattle.step_core.proofs.Lanes.{at_one, with_here, with_other, rest_of, rest_was, at_item, none_taken, lanes_give, lanes_gave, lanes_empty, lanes_as, lanes_one, lane_gives}
+use Rattle.step_core.proofs.ShortDeeds.{answers_short, awaits_short, finds_no_grant_short, finds_no_parcel_short, loses, may_lose, no_grant_lost, no_loss, none_there}
 use Rattle.step_core.proofs.TileDeeds.{same_taken, same_granted, same_next, awaits, is_undue, finds_no_parcel, finds_no_grant, none_granted, answers, shows_or_not, shown_after}
 
 -- ---- the parts that are shown
@@ -86,37 +92,27 @@ parts_go_on l tile p b shown parts parts' deed m ok next is count kept h = elim 
 
 -- ---- the tile and the world after it
 
-abbrev pub tile_after : Tile → TileDeed → TileCore → Tile
-tile_after a deed core = record {
-  progress = after_item a.progress (item_of deed);
+-- a tile that is short, or becomes so, keeps its board and parts as they were
+abbrev pub tile_after : Bool → Tile → TileDeed → TileCore → Tile
+tile_after short a deed core = record {
+  progress = progress_after short a.progress deed;
   next = next_after a.next (item_of deed);
-  board = board_of core;
-  parts = parts_after (item_of deed) a.board.pixel a.parts;
+  board = cond short a.board (board_of core);
+  parts = cond short a.parts (parts_after (item_of deed) a.board.pixel a.parts);
+  short = short;
 }
 
 abbrev pub later_of : Model → ℕ → TileDeed → TileCore → Model
 later_of w tile deed core = record w {
-  tiles = with_at w.tiles tile (tile_after (w.tiles tile) deed core);
+  tiles = with_at w.tiles tile (tile_after (is_short core) (w.tiles tile) deed core);
   parcels = λ client. with_at (w.parcels client) tile (rest_of (taken_of deed client) (w.parcels client tile));
   grants = with_at w.grants tile (rest_of (granted_of deed) (w.grants tile));
 }
 
-off : {A : Type 0} (x : A) (b : Bool) → b ≡ false → cond b (Some x) None ≡ None
-off x b e = rw e refl
-
--- where it finds a client's lane empty, it takes nothing of it
-none_there : (p : Progress) (next : ℕ) (deed : TileDeed) (i : ℕ) → IsFoundEmpty false p next deed i → taken_of deed i ≡ None
-none_there p next (Performs e) i h = absurd h
-none_there p next (Shows part) i h = absurd h
-none_there p next Fails i h = absurd h
-none_there p next (Learns g) i h = absurd h
-none_there p next (Works client parcel) i h = off parcel (i == client) (not_itself next client i h.0)
-none_there p next (Holds client parcel) i h = off parcel (i == client) (not_itself next client i h.0)
-none_there p next (Closes client parcel) i h = off parcel (i == client) (not_itself next client i h.0)
-none_there p next (Drops client parcel) i h = off parcel (i == client) (not_itself next client i h.0)
-none_there p next (Loses client parcel) i h = off parcel (i == client) (not_itself next client i h.0)
-none_there p next Rests i h = refl
-none_there p next Finishes i h = refl
+-- what the step answers
+abbrev pub answer_in : Result TileMoved OutOfMemory → Result TileAnswer OutOfMemory
+answer_in (Ok m) = Ok (without_pixels m)
+answer_in (Err error) = Err error
 
 drawn_at : (decl decl' : Decl) (l l' : Layout) (tile tile' : ℕ) (p : Progress) (item : Item) (b b' now : Board) → decl ≡ decl' → l ≡ l'
     → tile ≡ tile' → b ≡ b'
@@ -130,12 +126,14 @@ shown_at : (l l' : Layout) (tile tile' : ℕ) (p : Progress) (b b' : Board) (dee
 shown_at l l' tile tile' p b b' deed e f g x =
     subst (λ (y : Layout). IsShown y tile' p b' deed) e (subst (λ y. IsShown l y p b' deed) f (subst (λ (y : Board). IsShown l tile p y deed) g x))
 
-module _ (scene : Scene) (l : Layout) (depth tile : ℕ) (before : Cluster) (w : Model) (m : TileMoved) (tiles : Vec TileCore Global)
-    (parcels : Vec (Vec (PlainLane Parcel) Global) Global)
-    (grants : Vec (PlainLane Grant) Global) (parts : Vec (Vec TilePart Global) Global) (v : IsViewOf scene l depth before w)
+still_false : (loss short : Bool) → cond loss true short ≡ false → short ≡ false
+still_false true short e = absurd (true≢false e)
+still_false false short e = e
+
+module _ (scene : Scene) (l : Layout) (depth tile : ℕ) (before : Cluster) (w : Model) (r : Result TileMoved OutOfMemory) (tiles : Vec TileCore Global)
+    (parcels : Vec (Vec (PlainLane Parcel) Global) Global) (grants : Vec (PlainLane Grant) Global) (v : IsSeenAs scene l depth before w)
     (low : tile < tile_count l)
-    (s : IsTileStepped tile m before.tiles.items tiles.items before.parcels.items parcels.items before.grants.items grants.items)
-    (kept : ArePartsKept tile m before.parts.items parts.items) where
+    (s : IsTileStepped tile r before.tiles.items tiles.items before.parcels.items parcels.items before.grants.items grants.items) where
   abbrev was : Tile
   was = w.tiles tile
 
@@ -153,48 +151,186 @@ module _ (scene : Scene) (l : Layout) (depth tile : ℕ) (before : Cluster) (w :
   lane_is : IsLaneOf depth (w.grants tile) s.lane
   lane_is = subst (λ (x : PlainLane Grant). IsLaneOf depth (w.grants tile) x) (s.lanes_changed.was s.lane) (v.grants.at tile s.lane low)
 
-  short_is : is_short s.core' ≡ false
-  short_is = s.step.ample ∙ core_is.ample
+  next_is : IsNextDeed (is_short s.core) was.progress s.deed
+  next_is = s.step.step.first was.progress core_is.progress
 
-  next_is : IsNextDeed false was.progress s.deed
-  next_is = subst (λ b. IsNextDeed b was.progress s.deed) core_is.ample (s.step.step.first was.progress core_is.progress)
+  next_so : (b : Bool) → is_short s.core ≡ b → IsNextDeed b was.progress s.deed
+  next_so b e = subst (λ b. IsNextDeed b was.progress s.deed) e next_is
 
-  core_after : IsTileOf scene l tile (tile_after was s.deed s.core') s.core'
+  -- where the core isn't short after the step, it wasn't before
+  was_ample : is_short s.core' ≡ false → is_short s.core ≡ false
+  was_ample e = still_false (is_loss s.deed) (is_short s.core) (sym s.step.step.short ∙ e)
+
+  core_after : IsTileOf scene l tile (tile_after (is_short s.core') was s.deed s.core') s.core'
   core_after = record {
     decl = s.step.step.same.decl ∙ core_is.decl;
     clients = s.step.step.same.clients ∙ core_is.clients;
     layout = s.step.step.same.layout ∙ core_is.layout;
     number_of = s.step.step.same.tile ∙ core_is.number_of;
-    ample = short_is;
-    progress = subst (λ b. IsProgressOf s.core' (progress_after b was.progress s.deed)) short_is (s.step.step.after was.progress core_is.progress);
+    short = refl;
+    progress = s.step.step.after was.progress core_is.progress;
     next = s.step.step.rotation ∙ same_next (next_of s.core) s.deed ∙ ap (λ n. next_after n (item_of s.deed)) core_is.next;
-    board = refl;
-    shown = shown_after was.progress (item_of s.deed) was.board.pixel was.parts (awaits was.progress s.deed next_is) core_is.shown;
+    board = λ ample. rw ample refl;
+    shown = λ ample. (let whole = was_ample ample in
+        rw ample (shown_after was.progress (item_of s.deed) was.board.pixel was.parts (awaits was.progress s.deed (next_so false whole)) (core_is.shown (sym core_is.short ∙ whole))));
   }
 
   row_after : AreLanesOf depth (client_total scene) (λ client. rest_of (taken_of s.deed client) (w.parcels client tile)) s.row'.items
   row_after = lanes_give depth (client_total scene) (λ client. w.parcels client tile) s.row.items s.row'.items row_is s.step.row_depths
       (taken_of s.deed) s.step.taken
 
-  parts_after_it : (d : Vec TilePart Global)
-      → ArePartsOf l tile (parts_after (item_of s.deed) was.board.pixel was.parts) (slice_index_or parts.items tile d).items
-  parts_after_it d =
-      parts_go_on l tile was.progress was.board was.parts (slice_index_or before.parts.items tile d).items (slice_index_or parts.items tile d).items
-      s.deed m s.answered next_is
-      (shown_at _ _ _ _ was.progress _ _ s.deed core_is.layout core_is.number_of core_is.board (s.step.step.shown was.progress core_is.progress))
-      core_is.shown (kept.here d) (v.parts.at tile d low)
+  row_now : (d : Vec (PlainLane Parcel) Global) → AreLanesOf depth (client_total scene) (λ client. later.parcels client tile) (slice_index_or parcels.items tile d).items
+  row_now d = subst (λ (x : Vec (PlainLane Parcel) Global). AreLanesOf depth (client_total scene) (λ client. later.parcels client tile) x.items)
+      (sym (s.rows_changed.is d))
+      (lanes_as depth (client_total scene) _ (λ client. later.parcels client tile) s.row'.items (λ client low. with_here (w.parcels client) tile _) row_after)
 
-  -- the ports that the tile's answer may change are there
-  pub places : IfSome (giver_of (without_pixels m)) (λ client. HasPlace client tile before.ports.items)
-  places = has_places depth (client_total scene) (tile_count l) tile w.parcels before.ports.items low v.ports (giver_of (without_pixels m))
-      (subst (λ n. IfSome (giver_of (without_pixels m)) (λ client. client < n)) (core_is.progress.ledger.count ∙ core_is.clients)
-      (low_giver was.progress s.deed m s.answered (awaits was.progress s.deed next_is)))
+  -- the ports to the tile may be settled
+  pub settles : (d : Vec (PlainLane Parcel) Global) → CanSettle tile before.ports.items (slice_index_or parcels.items tile d).items
+  settles d = can_settle depth (client_total scene) (tile_count l) tile w.parcels later.parcels before.ports.items
+      (slice_index_or parcels.items tile d).items low v.ports (row_now d)
 
-  module _ (ports : Vec (Vec Port Global) Global) (fewer : AreFewer tile (without_pixels m) before.ports.items ports.items) where
+  -- ---- the turn
+
+  tile_now : (b : Bool) → is_short s.core' ≡ b → later.tiles tile ≡ tile_after b was s.deed s.core'
+  tile_now b e = with_here w.tiles tile (tile_after (is_short s.core') was s.deed s.core') ∙ ap (λ b. tile_after b was s.deed s.core') e
+
+  only_tile : OnlyTile scene l w tile later
+  only_tile = record {
+    clients = λ client low. refl;
+    manager = refl;
+    tiles = λ i lt ne. with_other w.tiles tile _ i ne;
+    parcels = λ client i low lt ne. with_other (w.parcels client) tile _ i ne;
+    requests = λ client low. refl;
+    grants = λ i lt ne. with_other w.grants tile _ i ne;
+  }
+
+  parcel_now : (client : ℕ) → client < client_total scene
+      → MatchOption (parcel_taken (item_of s.deed) client) (later.parcels client tile ≡ w.parcels client tile)
+      (λ p. w.parcels client tile ≡ p ∷ later.parcels client tile)
+  parcel_now client low_client =
+      subst (λ (o : Option Parcel). MatchOption o (later.parcels client tile ≡ w.parcels client tile)
+      (λ p. w.parcels client tile ≡ p ∷ later.parcels client tile)) (same_taken s.deed client)
+      (subst (λ (x : List Parcel). MatchOption (taken_of s.deed client) (x ≡ w.parcels client tile) (λ p. w.parcels client tile ≡ p ∷ x))
+      (sym (with_here (w.parcels client) tile _))
+      (lanes_gave depth (client_total scene) (λ i. w.parcels i tile) s.row.items s.row'.items row_is s.step.row_depths (taken_of s.deed)
+      s.step.taken client low_client))
+
+  no_parcel_there : (b : Bool) → is_short s.core ≡ b → (client : ℕ) → client < client_total scene
+      → IsFoundEmpty b was.progress (next_of s.core) s.deed client → w.parcels client tile ≡ []
+  no_parcel_there b e client low_client found =
+      lanes_empty depth (client_total scene) (λ i. w.parcels i tile) s.row.items s.row'.items row_is s.step.row_depths (taken_of s.deed)
+      s.step.taken client low_client
+      (none_there b was.progress (next_of s.core) s.deed client found)
+      (λ d. ((s.step.empty was.progress core_is.progress).at client d (let e = row_is.count in omega (arith, e, low_client))
+      (subst (λ b. IsFoundEmpty b was.progress (next_of s.core) s.deed client) (sym e) found)).1)
+
+  grant_gave : MatchOption (granted_of s.deed) (rest_of (granted_of s.deed) (w.grants tile) ≡ w.grants tile) (λ g. w.grants tile ≡ g ∷ rest_of (granted_of s.deed) (w.grants tile))
+  grant_gave = rest_was (granted_of s.deed) (w.grants tile) (held s.lane')
+      (at_item (granted_of s.deed) (w.grants tile) (held s.lane) (held s.lane') lane_is.holds s.step.heard)
+
+  grant_now : MatchOption (grant_taken (item_of s.deed)) (later.grants tile ≡ w.grants tile) (λ g. w.grants tile ≡ g ∷ later.grants tile)
+  grant_now = subst (λ (o : Option Grant). MatchOption o (later.grants tile ≡ w.grants tile) (λ g. w.grants tile ≡ g ∷ later.grants tile))
+      (same_granted s.deed)
+      (subst (λ (x : List Grant). MatchOption (granted_of s.deed) (x ≡ w.grants tile) (λ g. w.grants tile ≡ g ∷ x))
+      (sym (with_here w.grants tile _)) grant_gave)
+
+  no_grant_there : (b : Bool) → is_short s.core ≡ b → IsUnheard b was.progress s.deed → w.grants tile ≡ []
+  no_grant_there b e unheard =
+      let bare = (s.step.unheard was.progress core_is.progress (subst (λ b. IsUnheard b was.progress s.deed) (sym e) unheard)).1 in
+      sym (none_taken (granted_of s.deed) (w.grants tile) (held s.lane') (none_granted b was.progress s.deed unheard)
+      (at_item (granted_of s.deed) (w.grants tile) (held s.lane) (held s.lane') lane_is.holds s.step.heard)) ∙ bare
+
+  -- a tile that isn't short
+  tile_moves : (m : TileMoved) → answer_of s.deed ≡ Ok m → is_short s.core ≡ false → IsTileMove scene l depth w tile (without_pixels m) later
+  tile_moves m answered ample =
+      let next = next_so false ample in
+      let whole : is_short s.core' ≡ false = s.step.step.short ∙ ap (λ b. cond b true (is_short s.core)) (no_loss s.deed m answered) ∙ ample in
+      let board = core_is.board (sym core_is.short ∙ ample) in
+      let step : IsTileStep scene.decl l tile (item_of s.deed) was (tile_after false was s.deed s.core') = record {
+        ample = sym core_is.short ∙ ample;
+        still_ample = sym ample ∙ core_is.short;
+        awaited = awaits was.progress s.deed next;
+        undue = is_undue was.progress s.deed m answered next;
+        progress = refl;
+        next = refl;
+        board = drawn_at _ _ _ _ _ _ was.progress (item_of s.deed) _ _ (board_of s.core') core_is.decl core_is.layout core_is.number_of board
+            (s.step.step.drawn was.progress core_is.progress whole);
+        parts = refl;
+      } in
+      record {
+        low = low;
+        item = item_of s.deed;
+        answered = answers was.progress s.deed m answered next;
+        step = subst (λ (x : Tile). IsTileStep scene.decl l tile (item_of s.deed) was x) (sym (tile_now false whole)) step;
+        parcel = parcel_now;
+        no_parcel = λ client low_client found.
+            no_parcel_there false ample client low_client (finds_no_parcel was (next_of s.core) s.deed m client core_is.next answered found);
+        grant = grant_now;
+        no_grant = λ found. no_grant_there false ample (finds_no_grant was.progress s.deed m answered found);
+        only = only_tile;
+      }
+
+  -- one that is
+  tile_drops : (m : TileMoved) → answer_of s.deed ≡ Ok m → is_short s.core ≡ true → IsShortTileMove scene l depth w tile (without_pixels m) later
+  tile_drops m answered short =
+      let next = next_so true short in
+      let kept = no_loss s.deed m answered in
+      let still : is_short s.core' ≡ true = s.step.step.short ∙ ap (λ b. cond b true (is_short s.core)) kept ∙ short in
+      let now = tile_now true still in
+      record {
+        low = low;
+        short = sym core_is.short ∙ short;
+        still_short = ap (λ (x : Tile). x.short) now;
+        item = item_of s.deed;
+        answered = answers_short was.progress s.deed m answered next;
+        awaited = awaits_short was.progress s.deed kept next;
+        progress = ap (λ (x : Tile). x.progress) now;
+        next = ap (λ (x : Tile). x.next) now;
+        board = ap (λ (x : Tile). x.board) now;
+        parts = ap (λ (x : Tile). x.parts) now;
+        parcel = parcel_now;
+        no_parcel = λ client low_client found.
+            no_parcel_there true short client low_client (finds_no_parcel_short was (next_of s.core) s.deed m client core_is.next answered found);
+        grant = grant_now;
+        no_grant = λ found. no_grant_there true short (finds_no_grant_short was.progress s.deed m answered found);
+        only = only_tile;
+      }
+
+  -- and one that becomes short
+  tile_loses : (e : OutOfMemory) → answer_of s.deed ≡ Err e → IsTileLoss scene l depth w tile later
+  tile_loses e answered =
+      let loss = loses s.deed e answered in
+      let ample = s.step.step.ample loss in
+      let next = next_so false ample in
+      let now = tile_now true (s.step.step.short ∙ ap (λ b. cond b true (is_short s.core)) loss) in
+      let none = no_grant_lost was.progress s.deed loss next in
+      record {
+        low = low;
+        ample = sym core_is.short ∙ ample;
+        short = ap (λ (x : Tile). x.short) now;
+        item = item_of s.deed;
+        may = may_lose was.progress s.deed loss next;
+        progress = ap (λ (x : Tile). x.progress) now;
+        next = ap (λ (x : Tile). x.next) now;
+        parcel = parcel_now;
+        grant = with_here w.grants tile _ ∙ ap (λ (o : Option Grant). rest_of o (w.grants tile)) none;
+        only = only_tile;
+      }
+
+  turn_by : (r : Result TileMoved OutOfMemory) → answer_of s.deed ≡ r → IsStepOf scene l depth w (TileTurn tile (answer_in r)) later
+  turn_by (Ok m) answered = elim (cases_Bool (is_short s.core)) [
+    | inl short ↦ inr (tile_drops m answered short)
+    | inr ample ↦ inl (tile_moves m answered ample)
+  ]
+  turn_by (Err e) answered = tile_loses e answered
+
+  module _ (ports : Vec (Vec Port Global) Global) (parts : Vec (Vec TilePart Global) Global) (lanes : List (PlainLane Parcel))
+      (lanes_are : (d : Vec (PlainLane Parcel) Global) → lanes ≡ (slice_index_or parcels.items tile d).items)
+      (settled : AreSettled tile before.ports.items ports.items lanes) (count : length parts.items ≡ length before.parts.items) where
     abbrev after : Cluster
     after = record before { tiles = tiles; parcels = parcels; grants = grants; parts = parts; ports = ports }
 
-    view_after : IsViewOf scene l depth after later
+    view_after : IsSeenAs scene l depth after later
     view_after = record {
       clients = v.clients;
       manager = v.manager;
@@ -202,102 +338,96 @@ module _ (scene : Scene) (l : Layout) (depth tile : ℕ) (before : Cluster) (w :
         count = s.cores_changed.count ∙ v.tiles.count;
         at = at_one (λ i. (d : TileCore) → i < tile_count l → IsTileOf scene l i (later.tiles i) (slice_index_or tiles.items i d)) tile
             (λ d lt. subst (λ (x : Tile). IsTileOf scene l tile x (slice_index_or tiles.items tile d))
-            (sym (with_here w.tiles tile (tile_after was s.deed s.core')))
-            (subst (λ (x : TileCore). IsTileOf scene l tile (tile_after was s.deed s.core') x) (sym (s.cores_changed.is d)) core_after))
+            (sym (with_here w.tiles tile (tile_after (is_short s.core') was s.deed s.core')))
+            (subst (λ (x : TileCore). IsTileOf scene l tile (tile_after (is_short s.core') was s.deed s.core') x) (sym (s.cores_changed.is d)) core_after))
             (λ i ne d lt. subst (λ (x : Tile). IsTileOf scene l i x (slice_index_or tiles.items i d))
-            (sym (with_other w.tiles tile (tile_after was s.deed s.core') i ne))
+            (sym (with_other w.tiles tile (tile_after (is_short s.core') was s.deed s.core') i ne))
             (subst (λ (x : TileCore). IsTileOf scene l i (w.tiles i) x) (sym (s.cores_changed.others i d ne)) (v.tiles.at i d lt)));
       };
       parcels = record {
         count = s.rows_changed.count ∙ v.parcels.count;
         at = at_one (λ i. (d : Vec (PlainLane Parcel) Global) → i < tile_count l
             → AreLanesOf depth (client_total scene) (λ client. later.parcels client i) (slice_index_or parcels.items i d).items) tile
-            (λ d lt. subst (λ (x : Vec (PlainLane Parcel) Global). AreLanesOf depth (client_total scene) (λ client. later.parcels client tile)
-            x.items) (sym (s.rows_changed.is d))
-            (lanes_as depth (client_total scene) _ (λ client. later.parcels client tile) s.row'.items
-            (λ client low. with_here (w.parcels client) tile _) row_after))
+            (λ d lt. row_now d)
             (λ i ne d lt. subst (λ (x : Vec (PlainLane Parcel) Global). AreLanesOf depth (client_total scene) (λ client. later.parcels client i)
             x.items) (sym (s.rows_changed.others i d ne))
             (lanes_as depth (client_total scene) (λ client. w.parcels client i) (λ client. later.parcels client i)
             (slice_index_or before.parcels.items i d).items
             (λ client low. with_other (w.parcels client) tile _ i ne) (v.parcels.at i d lt)));
       };
-      ports = fewer_ports depth (client_total scene) (tile_count l) tile w.parcels before.ports.items low v.ports (taken_of s.deed)
-          (lanes_gave depth (client_total scene) (λ i. w.parcels i tile) s.row.items s.row'.items row_is s.step.row_depths (taken_of s.deed) s.step.taken)
-          (giver_of (without_pixels m)) ports.items (gives s.deed m s.answered) fewer;
+      ports = settled_ports depth (client_total scene) (tile_count l) tile w.parcels later.parcels before.ports.items lanes low v.ports
+          (subst (λ xs. AreLanesOf depth (client_total scene) (λ client. later.parcels client tile) xs) (sym (lanes_are s.row)) (row_now s.row))
+          ports.items settled (λ client t lt ne. with_other (w.parcels client) tile _ t ne);
       requests = v.requests;
       grants = lanes_one depth (tile_count l) tile w.grants (rest_of (granted_of s.deed) (w.grants tile)) s.lane s.lane' before.grants.items
           grants.items v.grants s.lanes_changed
           (lane_gives depth (granted_of s.deed) (w.grants tile) s.lane s.lane' lane_is s.step.lane_depth s.step.heard);
-      parts = record {
-        count = kept.count ∙ v.parts.count;
-        at = at_one (λ i. (d : Vec TilePart Global) → i < tile_count l
-            → ArePartsOf l i ((later.tiles i).parts) (slice_index_or parts.items i d).items) tile
-            (λ d lt. subst (λ (x : Tile). ArePartsOf l tile x.parts (slice_index_or parts.items tile d).items)
-            (sym (with_here w.tiles tile (tile_after was s.deed s.core'))) (parts_after_it d))
-            (λ i ne d lt. subst (λ (x : Tile). ArePartsOf l i x.parts (slice_index_or parts.items i d).items)
-            (sym (with_other w.tiles tile (tile_after was s.deed s.core') i ne))
-            (subst (λ (x : Vec TilePart Global). ArePartsOf l i (w.tiles i).parts x.items) (sym (kept.others i d ne)) (v.parts.at i d lt)));
-      };
+      lists = count ∙ v.lists;
     }
 
-    tile_step : IsTileStep scene.decl l tile (item_of s.deed) was (tile_after was s.deed s.core')
-    tile_step = record {
-      awaited = awaits was.progress s.deed next_is;
-      undue = is_undue was.progress s.deed m s.answered next_is;
-      progress = refl;
-      next = refl;
-      board = drawn_at _ _ _ _ _ _ was.progress (item_of s.deed) _ _ (board_of s.core') core_is.decl core_is.layout core_is.number_of core_is.board
-          (s.step.step.drawn was.progress core_is.progress short_is);
-      parts = refl;
-    }
+    turned : IsTurn scene l depth w (TileTurn tile (answer_in r)) later
+    turned = record { step = turn_by r s.answered; fit = view_fits scene l depth after later view_after }
 
-    tile_moves : IsTileMove scene l depth w tile (without_pixels m) later
-    tile_moves = record {
-      low = low;
-      item = item_of s.deed;
-      answered = answers was.progress s.deed m s.answered next_is;
-      step = subst (λ (x : Tile). IsTileStep scene.decl l tile (item_of s.deed) was x) (sym (with_here w.tiles tile (tile_after was s.deed s.core')))
-          tile_step;
-      parcel = λ client low_client.
-          subst (λ (o : Option Parcel). MatchOption o (later.parcels client tile ≡ w.parcels client tile)
-          (λ p. w.parcels client tile ≡ p ∷ later.parcels client tile)) (same_taken s.deed client)
-          (subst (λ (x : List Parcel). MatchOption (taken_of s.deed client) (x ≡ w.parcels client tile) (λ p. w.parcels client tile ≡ p ∷ x))
-          (sym (with_here (w.parcels client) tile _))
-          (lanes_gave depth (client_total scene) (λ i. w.parcels i tile) s.row.items s.row'.items row_is s.step.row_depths (taken_of s.deed)
-          s.step.taken client low_client));
-      no_parcel = λ client low_client found.
-          let found_so = finds_no_parcel was (next_of s.core) s.deed m client core_is.next s.answered found in
-          lanes_empty depth (client_total scene) (λ i. w.parcels i tile) s.row.items s.row'.items row_is s.step.row_depths (taken_of s.deed)
-          s.step.taken client low_client
-          (none_there was.progress (next_of s.core) s.deed client found_so)
-          (λ d. ((s.step.empty was.progress core_is.progress).at client d (let e = row_is.count in omega arith)
-          (subst (λ b. IsFoundEmpty b was.progress (next_of s.core) s.deed client) (sym core_is.ample) found_so)).1);
-      grant = subst (λ (o : Option Grant). MatchOption o (later.grants tile ≡ w.grants tile) (λ g. w.grants tile ≡ g ∷ later.grants tile))
-          (same_granted s.deed)
-          (subst (λ (x : List Grant). MatchOption (granted_of s.deed) (x ≡ w.grants tile) (λ g. w.grants tile ≡ g ∷ x))
-          (sym (with_here w.grants tile _))
-          (rest_was (granted_of s.deed) (w.grants tile) (held s.lane')
-          (at_item (granted_of s.deed) (w.grants tile) (held s.lane) (held s.lane') lane_is.holds s.step.heard)));
-      no_grant = λ found.
-          let unheard = finds_no_grant was.progress s.deed m s.answered found in
-          let bare = (s.step.unheard was.progress core_is.progress (subst (λ b. IsUnheard b was.progress s.deed) (sym core_is.ample) unheard)).1 in
-          sym (none_taken (granted_of s.deed) (w.grants tile) (held s.lane') (none_granted was.progress s.deed unheard)
-          (at_item (granted_of s.deed) (w.grants tile) (held s.lane) (held s.lane') lane_is.holds s.step.heard)) ∙ bare;
-      only = record {
-        clients = λ client low. refl;
-        manager = refl;
-        tiles = λ i lt ne. with_other w.tiles tile _ i ne;
-        parcels = λ client i low lt ne. with_other (w.parcels client) tile _ i ne;
-        requests = λ client low. refl;
-        grants = λ i lt ne. with_other w.grants tile _ i ne;
-      };
-    }
+    -- ---- the parts
 
-    pub tile_steps : IsStep scene l depth (client_total scene + 1 + tile) w (TileMove tile (without_pixels m)) after
-    tile_steps = record {
+    parts_after_it : (m : TileMoved) → answer_of s.deed ≡ Ok m → AreAmple scene l w → AreShown scene l w.tiles before.parts.items
+        → ArePartsKept tile m before.parts.items parts.items → AreShown scene l later.tiles parts.items
+    parts_after_it m answered all shown kept =
+        let ample : is_short s.core ≡ false = core_is.short ∙ all.tiles tile low in
+        let whole : is_short s.core' ≡ false = s.step.step.short ∙ ap (λ b. cond b true (is_short s.core)) (no_loss s.deed m answered) ∙ ample in
+        let board = core_is.board (sym core_is.short ∙ ample) in
+        let here : (d : Vec TilePart Global) → ArePartsOf l tile (parts_after (item_of s.deed) was.board.pixel was.parts) (slice_index_or parts.items tile d).items =
+        λ d. parts_go_on l tile was.progress was.board was.parts (slice_index_or before.parts.items tile d).items (slice_index_or parts.items tile d).items
+        s.deed m answered (next_so false ample)
+        (shown_at _ _ _ _ was.progress _ _ s.deed core_is.layout core_is.number_of board (s.step.step.shown was.progress core_is.progress))
+        (core_is.shown (sym core_is.short ∙ ample)) (kept.here d) (shown.at tile d low) in
+        record {
+          count = kept.count ∙ shown.count;
+          at = at_one (λ i. (d : Vec TilePart Global) → i < tile_count l
+              → ArePartsOf l i ((later.tiles i).parts) (slice_index_or parts.items i d).items) tile
+              (λ d lt. subst (λ (x : Tile). ArePartsOf l tile x.parts (slice_index_or parts.items tile d).items) (sym (tile_now false whole)) (here d))
+              (λ i ne d lt. subst (λ (x : Tile). ArePartsOf l i x.parts (slice_index_or parts.items i d).items)
+              (sym (with_other w.tiles tile (tile_after (is_short s.core') was s.deed s.core') i ne))
+              (subst (λ (x : Vec TilePart Global). ArePartsOf l i (w.tiles i).parts x.items) (sym (kept.others i d ne)) (shown.at i d lt)));
+        }
+
+    -- ---- what the step answers
+
+    abbrev number : ℕ
+    number = client_total scene + 1 + tile
+
+    pub tile_steps : (m : TileMoved) → r ≡ Ok m → ArePartsKept tile m before.parts.items parts.items
+        → IsTurned scene l depth number w (Ok (TileMove tile (without_pixels m))) before after
+    tile_steps m is kept = record {
+      turn = TileTurn tile (answer_in r);
       later = later;
-      moved = record { step = tile_moves; fit = view_fits scene l depth after later view_after };
+      turned = turned;
       actor = refl;
+      tells = ap (λ (r : Result TileMoved OutOfMemory). TileTurn tile (answer_in r)) is;
       view = view_after;
+      parts = λ all shown. parts_after_it m (s.answered ∙ is) all shown kept;
+    }
+
+    -- there is no memory to keep the part
+    pub tile_lets_go : (m : TileMoved) (e : OutOfMemory) → r ≡ Ok m → without_pixels m ≡ Swapped → IsTurned scene l depth number w (Err e) before after
+    tile_lets_go m e is swap = record {
+      turn = TileTurn tile (answer_in r);
+      later = later;
+      turned = turned;
+      actor = refl;
+      tells = λ rest. swap_moves tile (subst (λ (a : TileAnswer). IsResting (TileTurn tile (Ok a))) swap
+          (subst (λ (r : Result TileMoved OutOfMemory). IsResting (TileTurn tile (answer_in r))) is rest));
+      view = view_after;
+      parts = tt;
+    }
+
+    pub tile_lacks : (e : OutOfMemory) → r ≡ Err e → IsTurned scene l depth number w (Err e) before after
+    tile_lacks e is = record {
+      turn = TileTurn tile (answer_in r);
+      later = later;
+      turned = turned;
+      actor = refl;
+      tells = λ rest. subst (λ (r : Result TileMoved OutOfMemory). IsResting (TileTurn tile (answer_in r))) is rest;
+      view = view_after;
+      parts = tt;
     }

@@ -1,24 +1,24 @@
 -- What a step makes of one core and of its lanes, among the others.
-use Rattle.std.specs.Prelude.{◌≡◌, ◌≢◌, ℕ, ◌++◌, ◌∷◌, [], List, length, slice_index_or, Ok, Vec}
+use Rattle.std.specs.Prelude.{◌≡◌, ◌≢◌, ℕ, ◌++◌, ◌∷◌, [], List, length, slice_index_or, Result, Vec}
 use Rattle.std.specs.Global.{Global}
 use Rattle.rc_base.specs.Cluster.Lanes.{EachLane}
 use Rattle.rc_base.specs.Cluster.PlainLanes.{held, depth_of}
 use Rattle.rc_base.specs.declared.cluster.TileMoved.{TileMoved}
 use Rattle.rc_base.specs.declared.cluster.TileMoved.TheVariants as tile_moved
 use Rattle.rc_base.specs.declared.cluster.TilePart.{TilePart}
+use Rattle.rc_base.specs.declared.out_of_memory.OutOfMemory.{OutOfMemory}
 use Rattle.rc_base.specs.declared.plain_lane.PlainLane.{PlainLane}
 use Rattle.rc_base.specs.declared.state.Parcel.{Parcel}
 use Rattle.rc_base.specs.declared.sync.Grant.{Grant}
 use Rattle.rc_base.specs.declared.cluster.ClientMoved.{ClientMoved}
 use Rattle.rc_base.specs.declared.sync.Request.{Request}
-use Rattle.client_issue.specs.Cores as client
 use Rattle.client_issue.specs.Deeds.{ClientDeed}
 use Rattle.client_issue.specs.Deeds.{answer_of as client_answer}
 use Rattle.client_issue.specs.Steps.{AreSent, IsClientStep, IsRequested}
 use Rattle.client_issue.specs.declared.client.ClientCore.{ClientCore}
 use Rattle.step_core.specs.Ports.{waiting, IsFull, IsSamePort, IsChanged}
 use Rattle.step_core.specs.declared.port.Port.{Port}
-use Rattle.tile_server.specs.Cores.{is_short, IsTileStep, AreTaken, AreFoundEmpty, IsHeard, IsCountedUnheard}
+use Rattle.tile_server.specs.Cores.{IsTileStep, AreTaken, AreFoundEmpty, IsHeard, IsCountedUnheard}
 use Rattle.tile_server.specs.Deeds.{answer_of}
 use Rattle.tile_server.specs.declared.deed.TileDeed.{TileDeed}
 use Rattle.tile_server.specs.declared.tile_core.TileCore.{TileCore}
@@ -29,7 +29,6 @@ IsSameDepth x y = ◌≡◌ {A = List ℕ} (depth_of y ∷ []) (depth_of x ∷ [
 
 -- a step of a tile's core over plain lanes
 pub record IsTileCoreStep (deed : TileDeed) (core core' : TileCore) (row row' : List (PlainLane Parcel)) (lane lane' : PlainLane Grant) : Type 0 where
-  pub ample : is_short core' ≡ is_short core
   pub row_depths : EachLane (λ i x y. IsSameDepth x y) row row'
   pub lane_depth : IsSameDepth lane lane'
   pub step : IsTileStep core deed core'
@@ -38,11 +37,11 @@ pub record IsTileCoreStep (deed : TileDeed) (core core' : TileCore) (row row' : 
   pub heard : IsHeard (λ x r y. held x ≡ r ∷ held y) (λ x y. held y ≡ held x) deed lane lane'
   pub unheard : IsCountedUnheard (λ x. x.empty_seen) (λ x. held x ≡ []) core deed lane lane'
 
--- a tile's core took a step, among the others
-pub record IsTileStepped (tile : ℕ) (m : TileMoved) (cores cores' : List TileCore) (rows rows' : List (Vec (PlainLane Parcel) Global))
+-- a tile's core took a step, which was answered so, among the others
+pub record IsTileStepped (tile : ℕ) (r : Result TileMoved OutOfMemory) (cores cores' : List TileCore) (rows rows' : List (Vec (PlainLane Parcel) Global))
     (lanes lanes' : List (PlainLane Grant)) : Type 0 where
   pub deed : TileDeed
-  pub answered : answer_of deed ≡ Ok m
+  pub answered : answer_of deed ≡ r
   pub core : TileCore
   pub core' : TileCore
   pub row : Vec (PlainLane Parcel) Global
@@ -76,18 +75,17 @@ pub record ArePartsKept (tile : ℕ) (m : TileMoved) (lists lists' : List (Vec T
 
 -- a step of a client's core over its ports and a plain lane
 pub record IsClientCoreStep (deed : ClientDeed) (core core' : ClientCore) (row row' : List Port) (lane lane' : PlainLane Request) : Type 0 where
-  pub ample : client.short_of core' ≡ client.short_of core
   pub same_ports : EachLane (λ i x y. IsSamePort x y) row row'
   pub lane_depth : IsSameDepth lane lane'
   pub step : IsClientStep core deed core'
   pub sent : AreSent waiting (λ x. x.full_seen) IsFull deed row row'
   pub requested : IsRequested held (λ x. x.full_seen) (λ x. length (held x) ≡ depth_of x) deed lane lane'
 
--- a client's core took a step, among the others
-pub record IsClientStepped (number : ℕ) (m : ClientMoved) (cores cores' : List ClientCore) (ports ports' : List (Vec Port Global))
+-- a client's core took a step, which was answered so, among the others
+pub record IsClientStepped (number : ℕ) (r : Result ClientMoved OutOfMemory) (cores cores' : List ClientCore) (ports ports' : List (Vec Port Global))
     (lanes lanes' : List (PlainLane Request)) : Type 0 where
   pub deed : ClientDeed
-  pub answered : client_answer deed ≡ Ok m
+  pub answered : client_answer deed ≡ r
   pub core : ClientCore
   pub core' : ClientCore
   pub row : Vec Port Global

@@ -1,4 +1,5 @@
 pub mod Ports
+pub mod Settling
 pub mod Actors
 pub mod Changes
 pub mod Worlds

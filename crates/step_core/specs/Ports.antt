@@ -1,13 +1,11 @@
 -- Clients' ends of lanes: what was appended and isn't carried to the tile's end yet, and how many items stand there.
-use Rattle.std.specs.Prelude.{◌≡◌, ◌≢◌, ℕ, ◌+◌, ◌-◌, ◌<◌, List, ◌∷◌, ◌++◌, [], Option, Some, None, length, option_to_list, slice_index_or, MatchOption, Vec}
+use Rattle.std.specs.Prelude.{◌≡◌, ◌≢◌, ℕ, ◌+◌, ◌<◌, List, ◌∷◌, ◌++◌, [], Some, None, length, option_to_list, slice_index_or, Vec}
 use Rattle.std.specs.Global.{Global}
 use Rattle.rc_base.specs.Cluster.PlainLanes.{held, depth_of}
 use Rattle.rc_base.specs.declared.cluster.ClientMoved.{ClientMoved}
 use Rattle.rc_base.specs.declared.cluster.ClientMoved.TheVariants as client_moved
 use Rattle.rc_base.specs.declared.plain_lane.PlainLane.{PlainLane}
 use Rattle.rc_base.specs.declared.state.Parcel.{Parcel}
-use Rattle.world_model.specs.declared.moves.TileAnswer.{TileAnswer}
-use Rattle.world_model.specs.declared.moves.TileAnswer.TheVariants.{Performed, Swapped, Learnt, Took, Held, Closed, Dropped, Blocked, Ended}
 use Rattle.step_core.specs.declared.port.Port.{Port}
 
 -- x stood at this number, and y stands there now; all else is as it was
@@ -55,12 +53,6 @@ pub record IsCarriedOver (port port' : Port) (lane lane' : PlainLane Parcel) : T
   pub lane_depth : depth_of lane' ≡ depth_of lane
   pub carried : (item : Parcel) → port.sent ≡ Some item → (held lane' ≡ held lane ++ item ∷ []) × (port'.count ≡ port.count + 1)
 
--- one item fewer stands at the tile
-pub record IsFewer (port port' : Port) : Type 0 where
-  pub sent : port'.sent ≡ port.sent
-  pub count : port'.count ≡ port.count - 1
-  pub depth : port'.depth ≡ port.depth
-
 -- ---- after a client's step
 
 -- the client's port to the tile tells of the tile's end
@@ -98,22 +90,3 @@ where_appended client_moved.Requested here else = else
 where_appended (client_moved.BlockedTile tile) here else = else
 where_appended client_moved.BlockedRequest here else = else
 where_appended client_moved.Ended here else = else
-
--- ---- after a tile's step
-
--- the client of which the tile took a parcel, by its answer
-abbrev pub giver_of : TileAnswer → Option ℕ
-giver_of Performed = None
-giver_of Swapped = None
-giver_of Learnt = None
-giver_of (Took client) = Some client
-giver_of (Held client) = Some client
-giver_of (Closed client) = Some client
-giver_of (Dropped client) = Some client
-giver_of Blocked = None
-giver_of Ended = None
-
--- the port of that client to the tile tells so
-abbrev pub AreFewer : ℕ → TileAnswer → List (Vec Port Global) → List (Vec Port Global) → Type 0
-AreFewer tile answer ports ports' = MatchOption (giver_of answer) (ports' ≡ ports)
-    (λ client. (port : Port) × (port' : Port) × IsChangedIn client tile port port' ports ports' × IsFewer port port')

@@ -1,19 +1,21 @@
 -- What a round of one step for each actor comes to, and how far rounds have led.
-use Rattle.std.specs.Prelude.{◌≡◌, ℕ, ◌+◌, ◌<◌, ◌^◌, List, ◌++◌, map}
+use Rattle.std.specs.Prelude.{◌≡◌, ℕ, ◌+◌, ◌<◌, ◌^◌, false, List, ◌++◌, map}
 use Rattle.std.specs.List.{range_with_len, AllByRecursion}
 use Rattle.rc_base.specs.Cluster.Tiles.{tile_count}
 use Rattle.rc_base.specs.declared.scene.Decl.{Decl}
 use Rattle.rc_base.specs.declared.scene.Scene.{Scene}
 use Rattle.rc_base.specs.declared.window.Layout.{Layout}
 use Rattle.world_model.specs.declared.moves.Move.{Move}
-use Rattle.world_model.specs.Moves.{AreMoves, IsAtRest, IsLast}
-use Rattle.world_model.specs.Runs.{AllHaveEnded, actor_of, rounds_of, IsSteppedRun}
+use Rattle.world_model.specs.Flowing.{IsFlowing}
+use Rattle.world_model.specs.Runs.{AllHaveEnded, rounds_of, IsSteppedRun}
+use Rattle.world_model.specs.Turns.{Turn, AreAmple, AreTurns, IsLastTurn, IsResting, number_of}
 use Rattle.world_model.specs.World.{client_total}
 use Rattle.world_model.specs.World.{World as Model}
-use Rattle.world_model.specs.Work.{work_left}
+use Rattle.world_model.specs.Work.{work_in}
 use Rattle.order_model.specs.Scenes.{IsRunnable}
 use Rattle.step_core.specs.Schedules.{WorldView, picks_of}
-use Rattle.step_core.specs.Worlds.{IsViewOf}
+use Rattle.step_core.specs.Steps.{IsKept}
+use Rattle.step_core.specs.Worlds.{AreShown, IsSeenAs, IsViewOf}
 use Rattle.step_core.specs.declared.actor.Stepped.{Stepped}
 use Rattle.step_core.specs.declared.actor.Stepped.TheVariants as stepped
 use Rattle.step_core.specs.declared.round.Round.{Round}
@@ -33,44 +35,53 @@ round_with Ended stepped.Waits = Still
 round_with Ended stepped.Ended = Ended
 
 -- somebody moved; nobody moved, and somebody has something left to do; nobody has anything left to do
-abbrev pub IsRound : Round → List Move → Type 0
-IsRound Moved moves = AllByRecursion IsAtRest moves → ⊥
-IsRound Still moves = AllByRecursion IsAtRest moves × (AllByRecursion IsLast moves → ⊥)
-IsRound Ended moves = AllByRecursion IsLast moves
+abbrev pub IsRound : Round → List Turn → Type 0
+IsRound Moved turns = AllByRecursion IsResting turns → ⊥
+IsRound Still turns = AllByRecursion IsResting turns × (AllByRecursion IsLastTurn turns → ⊥)
+IsRound Ended turns = AllByRecursion IsLastTurn turns
 
--- One move of each of the first n actors, rising, of the world that the cluster was seen as, to one that it is seen as.
-pub record IsRoundOf (scene : Scene) (l : Layout) (depth n : ℕ) (w : Model) (round : Round) (after : Cluster) : Type 0 where
-  pub moves : List Move
+-- One turn of each of the first n actors, rising, in the world that the cluster was seen as, to one that it is seen as.
+pub record IsRoundOf (scene : Scene) (l : Layout) (depth n : ℕ) (w : Model) (before : Cluster) (round : Round) (after : Cluster) : Type 0 where
+  pub turns : List Turn
   pub later : Model
-  pub actors : map (actor_of scene) moves ≡ range_with_len 0 n
-  pub moved : AreMoves scene l depth w moves later
-  pub view : IsViewOf scene l depth after later
-  pub tells : IsRound round moves
+  pub actors : map (number_of scene) turns ≡ range_with_len 0 n
+  pub turned : AreTurns scene l depth w turns later
+  pub view : IsSeenAs scene l depth after later
+  pub tells : IsRound round turns
+  pub kept : after.lacking ≡ false → IsKept scene l w later before after
 
 -- whatever world the cluster was seen as
 pub record IsRoundBelow (n : ℕ) (before : Cluster) (round : Round) (after : Cluster) : Type 0 where
-  pub each : (scene : Scene) (l : Layout) (depth : ℕ) (w : Model) → IsViewOf scene l depth before w → IsRoundOf scene l depth n w round after
+  pub each : (scene : Scene) (l : Layout) (depth : ℕ) (w : Model) → IsSeenAs scene l depth before w → IsRoundOf scene l depth n w before round after
 
 -- a round of all actors
 abbrev pub Rounds : Cluster → Round → Cluster → Type 0
 Rounds before round after =
-    (scene : Scene) (l : Layout) (depth : ℕ) (w : Model) → IsViewOf scene l depth before w
-    → IsRoundOf scene l depth (client_total scene + 1 + tile_count l) w round after
+    (scene : Scene) (l : Layout) (depth : ℕ) (w : Model) → IsSeenAs scene l depth before w
+    → IsRoundOf scene l depth (client_total scene + 1 + tile_count l) w before round after
 
--- The cluster is seen as where the picks and so many rounds lead, and fewer rounds end it nowhere.
-pub record IsReached (scene : Scene) (l : Layout) (depth : ℕ) (picks : List ℕ) (rounds : ℕ) (world : Cluster) : Type 0 where
+-- The world is where the picks and so many rounds lead, and fewer rounds end it nowhere.
+pub record IsReached (scene : Scene) (l : Layout) (depth : ℕ) (picks : List ℕ) (rounds : ℕ) (model : Model) : Type 0 where
   pub moves : List Move
-  pub model : Model
   pub run : IsSteppedRun scene l depth (picks ++ rounds_of scene l rounds) moves model
-  pub view : IsViewOf scene l depth world model
   pub fewest : (n : ℕ) (some : List Move) (v : Model) → n < rounds → IsSteppedRun scene l depth (picks ++ rounds_of scene l n) some v
       → AllHaveEnded scene l v → ⊥
 
--- So many rounds behind a world's moves lead to the cluster, and each of them left less to do.
+-- nobody is short in it, and the parts are kept
+pub record IsWhole (world : WorldView) (rounds : ℕ) (cluster : Cluster) (model : Model) : Type 0 where
+  pub reached : IsReached world.scene world.layout world.depth (picks_of world) rounds model
+  pub ample : AreAmple world.scene world.layout model
+  pub parts : AreShown world.scene world.layout model.tiles cluster.parts.items
+
+-- The cluster is seen as a world in which all that was sent stands somewhere, and each of so many rounds left less to do. Where memory hasn't lacked
+-- in them, they lead there from where the world's moves lead.
 pub record IsOnTheWay (world : WorldView) (rounds : ℕ) (cluster : Cluster) : Type 0 where
   pub runnable : IsRunnable world.scene world.layout world.depth
-  pub reached : IsReached world.scene world.layout world.depth (picks_of world) rounds cluster
-  pub less : rounds + work_left world.scene world.layout reached.model < 2 ^ 40
+  pub model : Model
+  pub view : IsSeenAs world.scene world.layout world.depth cluster model
+  pub flowing : IsFlowing world.scene world.layout model
+  pub less : rounds + work_in world.scene world.layout model < 2 ^ 40
+  pub whole : cluster.lacking ≡ false → IsWhole world rounds cluster model
 
 -- The cluster is seen as where a run of a scene leads in which all have ended.
 pub record HasRun (scene : Scene) (l : Layout) (cluster : Cluster) : Type 0 where

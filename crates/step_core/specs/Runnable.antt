@@ -32,7 +32,7 @@ pub record HasActors (scene : Scene) : Type 0 where
 
 -- a client that has sent nothing
 abbrev pub new_client : Scene → Layout → ℕ → Client
-new_client scene l client = record { left = sent_by scene l client; tallies = λ tile. no_tally }
+new_client scene l client = record { left = sent_by scene l client; tallies = λ tile. no_tally; short = false }
 
 -- the core of a tile that has done nothing
 pub record IsNewTileCore (decl : Decl) (clients : ℕ) (l : Layout) (number : ℕ) (core : TileCore) : Type 0 where

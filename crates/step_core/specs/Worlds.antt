@@ -20,6 +20,7 @@ use Rattle.tile_model.specs.Items.{shown_frames}
 use Rattle.tile_server.specs.Cores as tile
 use Rattle.tile_server.specs.declared.tile_core.TileCore.{TileCore}
 use Rattle.world_model.specs.Tiles.{Tile}
+use Rattle.world_model.specs.Turns.{AreAmple}
 use Rattle.world_model.specs.World.{Client, client_total}
 use Rattle.world_model.specs.World.{World as Model}
 use Rattle.step_core.specs.declared.cluster.Cluster.{Cluster}
@@ -82,14 +83,13 @@ pub record ArePartsOf (l : Layout) (this_tile : ℕ) (shown : List Pixels) (part
 module _ (scene : Scene) (l : Layout) where
   pub record IsClientOf (number : ℕ) (c : Client) (core : ClientCore) : Type 0 where
     pub whose : client.IsClientOf core scene number l
-    pub ample : client.short_of core ≡ false
+    pub short : client.short_of core ≡ c.short
     pub left : client.left_in core ≡ c.left
     pub tallies : (tile : ℕ) → client.tally_of_tile core tile ≡ c.tallies tile
 
   pub record IsManagerOf (p : ManagerProgress) (core : ManagerCore) : Type 0 where
     pub clients : manager.clients_of core ≡ client_total scene
     pub tiles : manager.tiles_of core ≡ tile_count l
-    pub ample : manager.is_short core ≡ false
     pub progress : manager.IsProgressOf (sync_lists_of scene) core p
 
   pub record IsTileOf (number : ℕ) (a : Tile) (core : TileCore) : Type 0 where
@@ -97,12 +97,12 @@ module _ (scene : Scene) (l : Layout) where
     pub clients : tile.clients_of core ≡ client_total scene
     pub layout : tile.layout_of core ≡ l
     pub number_of : tile.tile_of core ≡ number
-    pub ample : tile.is_short core ≡ false
+    pub short : tile.is_short core ≡ a.short
     pub progress : tile.IsProgressOf core a.progress
     pub next : tile.next_of core ≡ a.next
-    pub board : tile.board_of core ≡ a.board
-    -- it has shown a frame for each Swap that it has performed
-    pub shown : length a.parts ≡ shown_frames a.progress
+    -- a tile that isn't short has its board, and has shown a frame for each Swap that it has performed
+    pub board : a.short ≡ false → tile.board_of core ≡ a.board
+    pub shown : a.short ≡ false → length a.parts ≡ shown_frames a.progress
 
   pub record AreClientsOf (cs : ℕ → Client) (cores : List ClientCore) : Type 0 where
     pub count : length cores ≡ client_total scene
@@ -118,8 +118,8 @@ module _ (scene : Scene) (l : Layout) where
 
 -- ---- all of it
 
--- The cluster is seen as the model's world: its lanes hold at most `depth` items.
-pub record IsViewOf (scene : Scene) (l : Layout) (depth : ℕ) (world : Cluster) (w : Model) : Type 0 where
+-- The cluster is seen as the model's world, whoever is short in it: its lanes hold at most `depth` items.
+pub record IsSeenAs (scene : Scene) (l : Layout) (depth : ℕ) (world : Cluster) (w : Model) : Type 0 where
   pub clients : AreClientsOf scene l w.clients world.clients.items
   pub manager : IsManagerOf scene l w.manager world.manager
   pub tiles : AreTilesOf scene l w.tiles world.tiles.items
@@ -127,6 +127,12 @@ pub record IsViewOf (scene : Scene) (l : Layout) (depth : ℕ) (world : Cluster)
   pub ports : ArePortsOf depth (client_total scene) (tile_count l) w.parcels world.ports.items
   pub requests : AreLanesOf depth (client_total scene) w.requests world.requests.items
   pub grants : AreLanesOf depth (tile_count l) w.grants world.grants.items
+  pub lists : length world.parts.items ≡ tile_count l
+
+-- and nobody is short, and the parts are those that the tiles have shown
+pub record IsViewOf (scene : Scene) (l : Layout) (depth : ℕ) (world : Cluster) (w : Model) : Type 0 where
+  pub seen : IsSeenAs scene l depth world w
+  pub ample : AreAmple scene l w
   pub parts : AreShown scene l w.tiles world.parts.items
 
 -- it is seen as some world of the model, of no more actors than a scene may have
@@ -135,6 +141,6 @@ pub record IsSeen (world : Cluster) : Type 0 where
   pub l : Layout
   pub depth : ℕ
   pub model : Model
-  pub view : IsViewOf scene l depth world model
+  pub view : IsSeenAs scene l depth world model
   pub few : client_total scene ≤ 8
   pub few_tiles : tile_count l ≤ 32

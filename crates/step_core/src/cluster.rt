@@ -1,33 +1,35 @@
 //! The actors and their lanes.
 use crate::first::{new_clients, new_lanes, new_lists, new_ports, new_rows, new_tiles};
+use crate::landing::Landing;
 use crate::port::Port;
 use client_issue::ClientCore;
 use rc_base::cluster::TilePart;
 use rc_base::out_of_memory::OutOfMemory;
 use rc_base::plain_lane::PlainLane;
 use rc_base::scene::Scene;
-use rc_base::state::Parcel;
 use rc_base::sync::{Grant, Request};
 use rc_base::window::Layout;
 use std::alloc::Global;
 use sync_manager::manager::ManagerCore;
 use tile_server::TileCore;
 
-/// A cluster for one scene: its clients, its manager, a tile for each tile of the layout, the lanes between them, and the parts of frames that
-/// the tiles have shown.
+/// A cluster for one scene: its clients, its manager, a tile for each tile of the layout, the lanes between them, the parts of frames that the
+/// tiles have shown, and whether memory has lacked.
 #[derive(Drop)]
 pub(crate) struct Cluster {
     pub(crate) clients: Vec<ClientCore>,
     pub(crate) manager: ManagerCore,
     pub(crate) tiles: Vec<TileCore>,
     // of each tile one lane from each client
-    pub(crate) parcels: Vec<Vec<PlainLane<Parcel>>>,
+    pub(crate) parcels: Vec<Vec<Landing>>,
     // of each client its ends of these
     pub(crate) ports: Vec<Vec<Port>>,
     pub(crate) requests: Vec<PlainLane<Request>>,
     pub(crate) grants: Vec<PlainLane<Grant>>,
     // of each tile
     pub(crate) parts: Vec<Vec<TilePart>>,
+    // memory has lacked in a step of a round
+    pub(crate) lacking: bool,
 }
 
 impl Cluster {
@@ -69,6 +71,7 @@ impl Cluster {
             requests,
             grants,
             parts,
+            lacking: false,
         })
     }
 }

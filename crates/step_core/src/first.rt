@@ -1,21 +1,22 @@
 //! A cluster before its first step.
-ghost use Rattle.std.specs.Prelude.{◌≡◌, ℕ, ◌<◌, ◌≤◌, List, [], length, slice_index_or, IfOk, Vec};
+ghost use Rattle.std.specs.Prelude.{◌≡◌, ℕ, ◌<◌, ◌≤◌, [], length, slice_index_or, IfOk, Vec};
 ghost use Rattle.std.specs.Global.{Global};
 ghost use Rattle.rc_base.specs.Cluster.Tiles.{tile_count};
 ghost use Rattle.rc_base.specs.Formats.Within.{IsWithin, IsLayoutFor};
 ghost use Rattle.rc_base.specs.declared.cluster.TilePart.{TilePart};
+ghost use Rattle.rc_base.specs.declared.state.Parcel.{Parcel};
 ghost use Rattle.tile_server.specs.declared.tile_core.TileCore.{TileCore};
 ghost use Rattle.world_model.specs.World.{client_total};
 ghost use Rattle.step_core.specs.Runnable.{IsDepth, IsNewTileCore, new_client};
 ghost use Rattle.step_core.specs.Worlds.{AreClientsOf, AreLanesOf, ArePortsOf, AreRowsOf, IsPortRow};
 
+use crate::landing::Landing;
 use crate::port::Port;
 use client_issue::ClientCore;
 use rc_base::cluster::TilePart;
 use rc_base::out_of_memory::OutOfMemory;
 use rc_base::plain_lane::PlainLane;
 use rc_base::scene::{Decl, Scene};
-use rc_base::state::Parcel;
 use rc_base::window::Layout;
 use std::alloc::Global;
 use tile_server::TileCore;
@@ -36,19 +37,31 @@ pub(crate) fn new_lanes<T: Drop>(
     Ok(lanes)
 }
 
-/// So many rows of empty lanes.
+/// So many empty lanes from clients.
+fn new_landings(alloc: Global, count: usize, depth: usize) -> Result<Vec<Landing>, OutOfMemory>
+    requires { IsDepth depth }
+    ensures { IfOk result (λ lanes. AreLanesOf {T = Parcel} depth count (λ i. []) lanes.items) }
+{
+    let mut lanes = Vec::new(alloc);
+    for _ in 0..count {
+        lanes.push(Landing::new(alloc, depth)?)?;
+    }
+    Ok(lanes)
+}
+
+/// So many rows of them.
 pub(crate) fn new_rows(
     alloc: Global,
     clients: usize,
     tiles: usize,
     depth: usize,
-) -> Result<Vec<Vec<PlainLane<Parcel>>>, OutOfMemory>
+) -> Result<Vec<Vec<Landing>>, OutOfMemory>
     requires { IsDepth depth }
     ensures { IfOk result (λ rows. AreRowsOf depth clients tiles (λ client tile. []) rows.items) }
 {
     let mut rows = Vec::new(alloc);
     for _ in 0..tiles {
-        rows.push(new_lanes(alloc, clients, depth)?)?;
+        rows.push(new_landings(alloc, clients, depth)?)?;
     }
     Ok(rows)
 }

@@ -7,8 +7,8 @@ use crate::cluster::Cluster;
 use crate::rounds::CoreRun;
 use rc_base::out_of_memory::OutOfMemory;
 use rc_base::scene::Decl;
-use run_record::laws::done_runs_are_recorded;
-use run_record::{Collected, collect};
+use run_record::laws::{done_runs_are_recorded, frames_are_in_order};
+use run_record::{Collected, collect, parts_in_frames};
 use std::alloc::Global;
 use world_model::laws::{
     ended_worlds_are_over, ended_worlds_are_whole, schedules_keep_worlds_sound,
@@ -23,6 +23,7 @@ pub(crate) fn gather(alloc: Global, decl: &Decl, cluster: Cluster) -> Result<Cor
     ended_worlds_are_over();
     ended_worlds_are_whole();
     done_runs_are_recorded();
+    frames_are_in_order();
     let Cluster {
         clients,
         manager,
@@ -30,13 +31,13 @@ pub(crate) fn gather(alloc: Global, decl: &Decl, cluster: Cluster) -> Result<Cor
         parts,
         ..
     } = cluster;
+    let parts = parts_in_frames(alloc, parts)?;
     let Collected {
         kept,
-        parts,
         tallies,
         waiting,
         faults,
-    } = collect(alloc, decl, clients, manager, tiles, parts)?;
+    } = collect(alloc, decl, clients, manager, tiles)?;
     Ok(CoreRun {
         kept,
         parts,

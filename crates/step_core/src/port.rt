@@ -2,13 +2,13 @@
 ghost use Rattle.std.specs.Prelude.{◌≤◌, ◌<◌};
 ghost use Rattle.std.specs.Option.{ForSome};
 
+use cmd_pack::Packed;
 use rc_base::lane::Outlet;
-use rc_base::state::Parcel;
 
 /// It holds what was appended until that is carried to the tile's end, and knows how many items stand there.
 #[derive(Drop)]
 pub(crate) struct Port {
-    pub(crate) sent: Option<Parcel>,
+    pub(crate) sent: Option<Packed>,
     pub(crate) count: usize,
     pub(crate) depth: usize,
     pub(crate) full_seen: u64,
@@ -17,7 +17,7 @@ pub(crate) struct Port {
 }
 
 impl Port {
-    ghost use Rattle.std.specs.Prelude.{◌≡◌, ◌+◌, ◌-◌, ◌<◌, IfSome, IfNone, None, Some};
+    ghost use Rattle.std.specs.Prelude.{◌≡◌, ◌+◌, ◌<◌, ◌≤◌, IfSome, IfNone, None, Some};
 
     /// Nothing was appended, and nothing stands at the tile.
     pub(crate) fn new(depth: usize) -> Port
@@ -34,7 +34,7 @@ impl Port {
     }
 
     /// What was appended, to be carried to the tile's end. It counts as standing there.
-    pub(crate) fn take(&mut self) -> Option<Parcel>
+    pub(crate) fn take(&mut self) -> Option<Packed>
         ensures sent { result ≡ self.old.sent }
         ensures left { self.new.sent ≡ None }
         ensures depth { self.new.depth ≡ self.old.depth }
@@ -48,17 +48,19 @@ impl Port {
         sent
     }
 
-    /// The tile took an item.
-    pub(crate) fn give_way(&mut self)
-        ensures sent { self.new.sent ≡ self.old.sent }
-        ensures count { self.new.count ≡ self.old.count - 1 }
+    /// So many items stand at the tile.
+    pub(crate) fn settle(&mut self, count: usize)
+        requires empty { self.old.sent ≡ None }
+        requires fits { count ≤ self.old.depth }
+        ensures sent { self.new.sent ≡ None }
+        ensures count { self.new.count ≡ count }
         ensures depth { self.new.depth ≡ self.old.depth }
     {
-        self.count = self.count.saturating_sub(1);
+        self.count = count;
     }
 }
 
-impl Outlet<Parcel> for Port {
+impl Outlet<Packed> for Port {
     ghost use Rattle.std.specs.Prelude.{◌≡◌, [], ◌∷◌, ◌++◌, ◌≤◌, OnOk, IfErr, None, option_to_list};
     ghost use Rattle.rc_base.specs.Outside.Causes.{Rose};
 
@@ -70,7 +72,7 @@ impl Outlet<Parcel> for Port {
 
     ghost full = { λ p. p.sent ≡ None → p.count ≡ p.depth };
 
-    fn push(&mut self, item: Parcel) -> Result<(), Parcel>
+    fn push(&mut self, item: Packed) -> Result<(), Packed>
         ensures lane { (self.new.depth ∷ self.new.count ∷ []) ≡ (self.old.depth ∷ self.old.count ∷ []) }
         ensures later { self.old.full_seen ≤ self.new.full_seen }
         ensures appended { OnOk result (option_to_list self.new.sent ≡ option_to_list self.old.sent ++ item ∷ []) }

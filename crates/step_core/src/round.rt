@@ -2,6 +2,7 @@
 use crate::actor::{Stepped, outcome_of};
 use crate::cluster::Cluster;
 use rc_base::out_of_memory::OutOfMemory;
+use world_model::laws::ample_turns_are_moves;
 
 /// What steps came to.
 #[derive(Clone, Copy)]
@@ -43,19 +44,36 @@ impl Round {
 }
 
 impl Cluster {
-    ghost use Rattle.std.specs.Prelude.{IfOk};
+    ghost use Rattle.std.specs.Prelude.{◌+◌, ◌<◌, length};
     ghost use Rattle.step_core.specs.Rounds.{Rounds};
+    ghost use Rattle.step_core.specs.Steps.{Attempts};
     ghost use Rattle.step_core.specs.Worlds.{IsSeen};
 
-    /// One step of each actor, rising.
-    pub(crate) fn round(&mut self) -> Result<Round, OutOfMemory>
+    /// One step of the actor of this number. Where memory lacks, it has moved, and the cluster notes that memory has lacked.
+    fn attempt(&mut self, number: usize) -> Stepped
+        requires seen { IsSeen self.old }
+        requires number { number < length self.old.clients.items + 1 + length self.old.tiles.items }
+        ensures { Attempts number self.old result self.new }
+    {
+        ample_turns_are_moves();
+        match self.step(number) {
+            Ok(made) => outcome_of(made),
+            Err(OutOfMemory) => {
+                self.lacking = true;
+                Stepped::Moved
+            }
+        }
+    }
+
+    /// One step of each actor, rising, also behind one that lacks memory.
+    pub(crate) fn round(&mut self) -> Round
         requires { IsSeen self.old }
-        ensures { IfOk result (λ round. Rounds self.old round self.new) }
+        ensures { Rounds self.old result self.new }
     {
         let mut round = Round::Ended;
         for number in 0..self.actors() {
-            round = round.with(outcome_of(self.step(number)?));
+            round = round.with(self.attempt(number));
         }
-        Ok(round)
+        round
     }
 }

@@ -12,7 +12,9 @@ use rc_base::out_of_memory::OutOfMemory;
 use rc_base::scene::Scene;
 use rc_base::window::Layout;
 use std::alloc::Global;
-use world_model::laws::{schedules_keep_worlds_sound, sound_worlds_have_legal_logs};
+use world_model::laws::{
+    ample_turns_are_moves, schedules_keep_worlds_sound, sound_worlds_have_legal_logs,
+};
 
 /// The cluster of a scene on the tiles of a layout, with lanes that hold `depth` items, after one step of each picked actor in turn. The clients
 /// have the numbers from 0, then comes the manager, then the tiles. A step of an actor that waits or has ended changes nothing.
@@ -33,6 +35,7 @@ pub fn run_schedule(
     scenes_within_limits();
     schedules_keep_worlds_sound();
     sound_worlds_have_legal_logs();
+    ample_turns_are_moves();
     let mut cluster = Cluster::new(alloc, scene, layout, depth)?;
     let mut moves = Vec::with_capacity(alloc, picks.len())?;
     for pick in picks {

@@ -71,11 +71,22 @@ impl PrivateSet {
         ensures ok { OnOk result (self.new ≡ with_name self.old name (Some (picture w h texels.now))) }
         ensures err { OnErr result (self.new ≡ self.old) }
     {
-        let index = usize::from(name) - 1;
-        let mut texture = Texture::empty(self.alloc);
-        texture.set_image(w, h, texels)?;
-        self.textures[index] = texture;
+        let copy = Texels::from_slice(self.alloc, texels.as_slice())?;
+        self.put(name, w, h, copy);
         Ok(())
+    }
+
+    /// Gives a texture an image, without memory: its texels are moved.
+    #[tactic(auto, using(crate::proofs::Names::with_name_below))]
+    pub fn put(&mut self, name: u8, w: u16, h: u16, texels: Texels)
+        requires low { 0 < name }
+        requires high { name ≤ private_count }
+        requires whole { length texels ≡ 4 * (w * h) }
+        ensures { self.new ≡ with_name self.old name (Some (picture w h texels)) }
+    {
+        let mut texture = Texture::empty(self.alloc);
+        texture.put_image(w, h, texels);
+        self.textures[usize::from(name) - 1] = texture;
     }
 
     /// Writes a part of a texture's image, without memory.

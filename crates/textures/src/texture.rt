@@ -90,9 +90,16 @@ impl Texture {
         ensures ok { OnOk result (self.new ≡ Some (picture w h texels.now)) }
         ensures err { OnErr result (self.new ≡ self.old) }
     {
-        let texels = Texels::from_slice(self.alloc, texels.as_slice())?;
-        self.image = Some(Image { w, h, texels });
+        self.put_image(w, h, Texels::from_slice(self.alloc, texels.as_slice())?);
         Ok(())
+    }
+
+    /// Gives the texture an image, without memory: its texels are moved.
+    pub fn put_image(&mut self, w: u16, h: u16, texels: Texels)
+        requires whole { length texels ≡ 4 * (w * h) }
+        ensures { self.new ≡ Some (picture w h texels) }
+    {
+        self.image = Some(Image { w, h, texels });
     }
 
     /// Writes a part of the image, without memory. The part's name has no bearing on it.

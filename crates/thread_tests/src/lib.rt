@@ -1,9 +1,11 @@
-//! Tests of the cluster on threads: that gates choose which client a tile takes first, that clients run at once, and many runs in which nothing is
-//! ordered.
+//! Tests of the cluster on threads: that gates choose which client a tile takes first, that clients run at once, that frames
+//! go out while later ones are drawn, and many runs in which nothing is ordered.
 //!
 //! Each test calls public items alone, and stands here so that none of those crates is proved twice.
 #![tactic(auto)]
 
+#[cfg(test)]
+mod early;
 #[cfg(test)]
 mod gates;
 #[cfg(test)]

@@ -1,6 +1,7 @@
 //! Runs of `render` on ends in memory.
 use rc_base::gate::{Gate, OpenGate};
 use rc_base::in_memory::{MemSink, MemSource};
+use rc_base::outside::Sink;
 use render_core::{Finish, run};
 use std::alloc::Global;
 use std::process::Abort;
@@ -43,20 +44,35 @@ pub(crate) fn left_by<G: Gate, R>(
 where
     R: Abort + Threads + Wait + Copy + Send + Sync + Drop,
 {
+    let mut image = sink(&rt, alloc);
+    let finish = finish_on(rt, alloc, job, bytes, &mut image, gate);
+    Left { finish, image }
+}
+
+/// How the job of the words ends with a scene's bytes and this image.
+pub(crate) fn finish_on<G: Gate, K: Sink, R>(
+    rt: R,
+    alloc: Global,
+    job: &[&str],
+    bytes: &[u8],
+    image: &mut K,
+    gate: &G,
+) -> Finish
+where
+    R: Abort + Threads + Wait + Copy + Send + Sync + Drop,
+{
     let words = words(&rt, alloc, job);
     let mut from = source(&rt, alloc, bytes);
-    let mut image = sink(&rt, alloc);
     let mut notes = sink(&rt, alloc);
-    let finish = run(
+    run(
         rt,
         alloc,
         words.as_slice(),
         &mut from,
-        &mut image,
+        image,
         &mut notes,
         gate,
-    );
-    Left { finish, image }
+    )
 }
 
 /// The bytes of the scene of a text.

@@ -1,5 +1,6 @@
 pub mod Acts
 pub mod Scenes
+pub mod Short
 pub mod Items
 pub mod Lazy
 pub mod Givable

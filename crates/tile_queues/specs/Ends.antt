@@ -23,6 +23,18 @@ module _ {T R : Type 0} where
   abbrev pub lane_out : LaneOut T R → List ℕ
   lane_out b = name_of b.pass
 
+  -- all that was ever popped of a lane, by its receiving end or from its rest
+  abbrev pub taken_in : Rest T R → List T
+  taken_in r = (view r.pass).taken
+
+  -- all that was ever pushed into the lane of a rest
+  abbrev pub sent_in : Rest T R → List T
+  sent_in r = (view r.pass).sent
+
+  -- the lane of a rest
+  abbrev pub lane_rest : Rest T R → List ℕ
+  lane_rest r = name_of r.pass
+
   -- what is still to come
   abbrev pub rest_of : Rest T R → List T
   rest_of r = left_of (view r.pass)

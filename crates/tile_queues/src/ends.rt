@@ -35,12 +35,14 @@ pub struct LaneOut<T, R> {
     ghost takes: { (view pass).takes ≡ true },
 }
 
-/// What was left in a lane when its two ends were brought together.
+/// A lane after its two ends were brought together, with what was left in it then. It gives this as an inlet does, and is at its end once it has given
+/// all: what was taken is then all that was sent.
 #[derive(Drop)]
 pub struct Rest<T, R> {
     pub(crate) rt: R,
     pub(crate) queue: Arc<Line<T>, Global>,
     pub(crate) pass: Pass<T, History<T>>,
+    pub(crate) empty_seen: u64,
     ghost ours: { IsPassOf (arc_value queue) pass },
     ghost sends: { (view pass).sends ≡ true },
     ghost takes: { (view pass).takes ≡ true },

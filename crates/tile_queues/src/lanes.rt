@@ -1,8 +1,8 @@
 //! Making a lane, what is done at its ends, and bringing them together.
 ghost use Rattle.std.specs.Prelude.{◌≡◌, ℕ, true, List, [], ◌∷◌, ◌++◌, ◌<◌, ◌≤◌, length, IfOk, IfSome, IfNone};
 ghost use Rattle.crossbeam_queue.specs.Passes.{view, ruled_capacity, IsPassOf, IsSamePass};
-ghost use Rattle.tile_queues.specs.Ends.{sent_of, taken_of, lane_in, lane_out, rest_of, depth_of};
-ghost use Rattle.tile_queues.specs.Rule.{new_pass, sender_pass, receiver_pass, left_of};
+ghost use Rattle.tile_queues.specs.Ends.{sent_of, taken_of, lane_in, lane_out, rest_of, taken_in, sent_in, lane_rest, depth_of};
+ghost use Rattle.tile_queues.specs.Rule.{new_pass, sender_pass, receiver_pass, Takes, left_of};
 
 use crate::ends::{LaneIn, LaneOut, Rest};
 use crate::rule::{Depth, Draining, History, Joining, Line, Parting, Sending, Taking};
@@ -159,6 +159,9 @@ pub fn close<T: Drop, R: Copy>(a: LaneIn<T, R>, b: LaneOut<T, R>) -> Rest<T, R>
     requires { lane_out b ≡ lane_in a }
     ensures order { sent_of a ≡ taken_of b ++ rest_of result }
     ensures held { length (rest_of result) ≤ depth_of (lane_in a) }
+    ensures taken { taken_in result ≡ taken_of b }
+    ensures sent { sent_in result ≡ sent_of a }
+    ensures lane { lane_rest result ≡ lane_in a }
 {
     let LaneIn {
         rt,
@@ -169,7 +172,12 @@ pub fn close<T: Drop, R: Copy>(a: LaneIn<T, R>, b: LaneOut<T, R>) -> Rest<T, R>
     let LaneOut { pass: other, .. } = b;
     queue.absorb::<Joining>(&mut pass, other);
     queue.learn_as::<Draining>(&mut pass);
-    Rest { rt, queue, pass }
+    Rest {
+        rt,
+        queue,
+        pass,
+        empty_seen: 0,
+    }
 }
 
 // Takes the next of what was sent and not taken, by the pass that knows of both.
@@ -177,21 +185,63 @@ fn drain<T, R: Wait>(rt: &R, line: &Line<T>, pass: &mut Pass<T, History<T>>) -> 
     requires queue { IsPassOf line.now pass.old }
     requires both { ((view pass.old).sends ≡ true) × ((view pass.old).takes ≡ true) }
     requires ordered { (view pass.old).sent ≡ (view pass.old).taken ++ left_of (view pass.old) }
-    ensures queue { IsPassOf line.now pass.new }
+    ensures queue { IsSamePass pass.old pass.new }
     ensures both { ((view pass.new).sends ≡ true) × ((view pass.new).takes ≡ true) }
     ensures ordered { (view pass.new).sent ≡ (view pass.new).taken ++ left_of (view pass.new) }
     ensures some { IfSome result (λ x. left_of (view pass.old) ≡ x ∷ left_of (view pass.new)) }
     ensures none { IfNone result ((left_of (view pass.old) ≡ []) × (left_of (view pass.new) ≡ [])) }
+    ensures given { IfSome result (λ x. Takes (view pass.old) x (view pass.new)) }
+    ensures same { IfNone result (view pass.new ≡ view pass.old) }
 {
     line.pop_as::<Draining, R>(rt, pass)
 }
 
+impl<T, R> Rest<T, R> {
+    /// How often it was asked at its end.
+    pub fn refusals(&self) -> u64
+        ensures { result ≡ self.now.empty_seen }
+    {
+        self.empty_seen
+    }
+}
+
 impl<T: Drop, R: Wait> Rest<T, R> {
-    /// The next item that was sent and not taken, or none where all were given.
+    /// The next item that was sent and not taken, or none where all were given. It counts nothing.
     pub fn next(&mut self) -> Option<T>
+        ensures lane { lane_rest self.new ≡ lane_rest self.old }
+        ensures count { self.new.empty_seen ≡ self.old.empty_seen }
+        ensures sent { sent_in self.new ≡ sent_in self.old }
+        ensures given { IfSome result (λ x. taken_in self.new ≡ taken_in self.old ++ x ∷ []) }
+        ensures same { IfNone result (taken_in self.new ≡ taken_in self.old) }
+        ensures whole { IfNone result (taken_in self.new ≡ sent_in self.new) }
         ensures some { IfSome result (λ x. rest_of self.old ≡ x ∷ rest_of self.new) }
         ensures none { IfNone result ((rest_of self.old ≡ []) × (rest_of self.new ≡ [])) }
     {
         drain(&self.rt, &self.queue, &mut self.pass)
+    }
+}
+
+impl<T: Drop, R: Wait> Inlet<T> for Rest<T, R> {
+    ghost use Rattle.std.specs.Prelude.{◌≡◌, [], ◌∷◌, ◌++◌, refl};
+    ghost use Rattle.tile_queues.specs.Ends.{taken_in, sent_in, lane_rest};
+
+    ghost gave = { λ r x s. (taken_in s ≡ taken_in r ++ x ∷ []) × (sent_in s ≡ sent_in r) };
+
+    ghost same = { λ r s. (taken_in s ≡ taken_in r) × (sent_in s ≡ sent_in r) };
+
+    ghost empty_seen = { λ r. r.empty_seen };
+
+    ghost lane_of = { lane_rest };
+
+    ghost bare = { λ r. taken_in r ≡ sent_in r };
+
+    ghost same_here = { λ a. (refl, refl) };
+
+    fn pop(&mut self) -> Option<T> {
+        let next = self.next();
+        if next.is_none() {
+            self.empty_seen = self.empty_seen.saturating_add(1);
+        }
+        next
     }
 }

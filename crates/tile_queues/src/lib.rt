@@ -2,7 +2,7 @@
 //!
 //! A lane is `crossbeam_queue`'s ruled bounded queue under one rule, which `specs/Rule.antt` states with its six kinds of step: what was sent is
 //! what was taken, and then what the lane holds. `LaneIn` is an `Outlet` and `LaneOut` an `Inlet` of `rc_base::lane`. `close` brings the two ends
-//! together, and hands out the rest. This crate stands on rc_base.
+//! together, and hands out the rest, which is an `Inlet` too. This crate stands on rc_base.
 #![tactic(auto)]
 
 pub mod ends;

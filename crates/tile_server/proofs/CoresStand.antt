@@ -10,7 +10,7 @@ use Rattle.tile_server.specs.Cores.{board_of, layout_of, tile_of, IsProgressOf}
 use Rattle.tile_server.specs.Deeds.{item_of, progress_after, IsNextDeed}
 use Rattle.tile_server.specs.Laws.{FinishedCoresAreDone, NewCoresStand, ShownPartsAreFrames, StepsKeepStanding}
 use Rattle.tile_server.specs.declared.deed.TileDeed.{TileDeed}
-use Rattle.tile_server.specs.declared.deed.TileDeed.TheVariants.{Performs, Shows, Fails, Learns, Works, Holds, Closes, Drops, Loses, Rests, Finishes}
+use Rattle.tile_server.specs.declared.deed.TileDeed.TheVariants.{Performs, Shows, Fails, Learns, Takes, Rests, Finishes}
 
 -- the item of a deed is awaited
 pub awaited : (p : Progress) (deed : TileDeed) → IsNextDeed false p deed → IsAwaited p (item_of deed)
@@ -19,11 +19,7 @@ awaited p (Shows part) h = h.1
 awaited p Fails h = tt
 awaited p (Learns (grant.Entry e)) h = h.1
 awaited p (Learns grant.NoMore) h = h.1
-awaited p (Works client parcel) h = (h.take.low, h.take.asked)
-awaited p (Holds client parcel) h = (h.0.low, h.0.asked)
-awaited p (Closes client parcel) h = (h.0.low, h.0.asked)
-awaited p (Drops client parcel) h = (h.0.low, h.0.asked)
-awaited p (Loses client parcel) h = (h.take.low, h.take.asked)
+awaited p (Takes client parcel how) h = (h.0.low, h.0.asked)
 awaited p Rests h = tt
 awaited p Finishes h = tt
 

@@ -22,13 +22,13 @@ use Rattle.rc_base.specs.declared.command.Part.{Part}
 use Rattle.rc_base.specs.declared.scene.Decl.{Decl}
 use Rattle.rc_base.specs.declared.state.Act.{Act}
 use Rattle.rc_base.specs.declared.state.Act.TheVariants as act
-use Rattle.rc_base.specs.declared.state.ElementSet.{ElementSet}
 use Rattle.rc_base.specs.declared.state.Effect.{Effect}
 use Rattle.rc_base.specs.declared.state.Effect.TheVariants as eff
 use Rattle.rc_base.specs.declared.window.Pixel.{Pixel}
 use Rattle.rc_base.specs.Contexts.Context.{default_state}
 use Rattle.rc_base.specs.declared.state.Parcel.{Parcel}
 use Rattle.rc_base.specs.declared.window.Layout.{Layout}
+use Rattle.draw_acts.specs.Stored.{IsWritable, set_after}
 use Rattle.draw_device.specs.Conditions.{IsClearable, shared_of}
 use Rattle.draw_device.specs.Devices.{DeviceView, EachTakes, pixel_of}
 use Rattle.textures.specs.Images.{HasTexelIfAny, texture_image, with_texture_part}
@@ -38,7 +38,7 @@ use Rattle.tile_model.specs.Boards.{HasSets, IsCarriedOut}
 use Rattle.element_table.specs.Values.{has_sides, is_binding, is_depth}
 use Rattle.tile_model.specs.Givable.{is_givable, is_givable_act, is_shared_part}
 use Rattle.tile_server.specs.Kepts.{kept_of, AreFit, IsFit, is_set_value}
-use Rattle.tile_server.specs.Works.{IsRectOf, IsWritable, set_after, texels_in}
+use Rattle.tile_server.specs.Works.{IsRectOf, texels_in}
 use Rattle.tile_server.specs.declared.kept.KeptClient.{KeptClient}
 
 -- ---- a set of shared textures, and its texels
@@ -179,13 +179,21 @@ module _ (d : Decl) (set : List (Option Picture)) (has : HasTexels d.shared (tex
         inside = rw (has.each part.name named.0 named.1) (leb-true _ _ inside.0, leb-true _ _ inside.1);
       }
 
+  -- the part that an act writes
+  pub act_writable : (a : Act) (part : Part) → is_givable_act d a ≡ true → effect_by a ≡ eff.Shared part → IsWritable part set
+  act_writable (act.Draw block) part is e = absurd cc
+  act_writable (act.Clear mask) part is e = absurd cc
+  act_writable (act.Shared other) part is e = let same : other ≡ part = cc in subst (λ (q : Part). IsWritable q set) same (part_writable other is)
+  act_writable (act.Sync op) part is e = absurd cc
+  act_writable act.End part is e = absurd cc
+
   module _ (stores : WrittenPartsAreStored) where
     part_stored : (part : Part) → is_shared_part d part ≡ true → HasTexels d.shared (stored d.shared (eff.Shared part) (texels_in set)) (with_texture_part set part)
     part_stored part is =
         let w = part_writable part is in
         stores d.shared (texels_in set) set part has w.low (subst (λ (n : ℕ). part.name ≤ n) has.count w.high) w.whole w.inside
 
-    pub whole_after : (a : Act) → is_givable_act d a ≡ true → HasTexels d.shared (texels_in (set_after a set)) (set_after a set)
+    pub whole_after : (a : Act) → is_givable_act d a ≡ true → HasTexels d.shared (texels_in (set_after (effect_by a) set)) (set_after (effect_by a) set)
     whole_after (act.Draw block) is = has
     whole_after (act.Clear mask) is = has
     whole_after (act.Shared part) is = own_texels d.shared (stored d.shared (eff.Shared part) (texels_in set)) (with_texture_part set part) (part_stored part is)
@@ -200,7 +208,7 @@ module _ (d : Decl) (set : List (Option Picture)) (has : HasTexels d.shared (tex
         ap (λ (b : Bool). if b && (nat_lt 0 part.w && nat_lt 0 part.h) then (with_part (shared_picture d.shared (texels_in set) name) part).texels else texels_in set name) (ne_eqb part.name name other)
         ∙ none_past set name (subst (λ (n : ℕ). 0 < name → name ≤ n → ⊥) (sym has.count) beyond)
 
-    pub stored_after : (a : Act) → is_givable_act d a ≡ true → (name : ℕ) → texels_in (set_after a set) name ≡ stored d.shared (effect_by a) (texels_in set) name
+    pub stored_after : (a : Act) → is_givable_act d a ≡ true → (name : ℕ) → texels_in (set_after (effect_by a) set) name ≡ stored d.shared (effect_by a) (texels_in set) name
     stored_after (act.Draw block) is name = refl
     stored_after (act.Clear mask) is name = refl
     stored_after (act.Shared part) is name =
@@ -249,7 +257,7 @@ board_with d kept set device = record {
 carried_here : (d : Decl) (l : Layout) (client tile : ℕ) (parcel : Parcel) (kept : List KeptClient) (k k' : KeptClient) (set set' : List (Option Picture)) (device device' : DeviceView)
     → slice_get kept client ≡ Some k → IsRectOf l tile device.rect → HasTexels d.shared (texels_in set) set → WrittenPartsAreStored
     → is_givable_act d parcel.act ≡ true → HasSets parcel.sets (kept_of k) (kept_of k') → IsFit d (kept_of k')
-    → EachTakes (effect_step k'.state (texture_image k'.images) (shared_of set) (effect_by parcel.act)) device device' → set' ≡ set_after parcel.act set
+    → EachTakes (effect_step k'.state (texture_image k'.images) (shared_of set) (effect_by parcel.act)) device device' → set' ≡ set_after (effect_by parcel.act) set
     → IsCarriedOut d l client tile parcel (board_with d kept set device) (board_with d (slice_set kept client k') set' device')
 carried_here d l client tile parcel kept k k' set set' device device' at place has stores givable made fit drawn wrote = record {
   kept = subst (λ (o : Option KeptClient). HasSets parcel.sets (option_map_or kept_of o first) (option_map_or kept_of (slice_get (slice_set kept client k') client) first)) (sym at)
@@ -272,7 +280,7 @@ carried_here d l client tile parcel kept k k' set set' device device' at place h
 pub carried_out : (d : Decl) (l : Layout) (client tile : ℕ) (parcel : Parcel) (kept : List KeptClient) (i : ℕ) (k k' : KeptClient) (set set' : List (Option Picture)) (device device' : DeviceView)
     → i ≡ client → slice_get kept i ≡ Some k → IsRectOf l tile device.rect → HasTexels d.shared (texels_in set) set → WrittenPartsAreStored
     → is_givable_act d parcel.act ≡ true → HasSets parcel.sets (kept_of k) (kept_of k') → IsFit d (kept_of k')
-    → EachTakes (effect_step k'.state (texture_image k'.images) (shared_of set) (effect_by parcel.act)) device device' → set' ≡ set_after parcel.act set
+    → EachTakes (effect_step k'.state (texture_image k'.images) (shared_of set) (effect_by parcel.act)) device device' → set' ≡ set_after (effect_by parcel.act) set
     → IsCarriedOut d l client tile parcel (board_with d kept set device) (board_with d (slice_set kept i k') set' device')
 carried_out d l client tile parcel kept i k k' set set' device device' same at place has stores givable made fit drawn wrote =
     subst (λ (n : ℕ). IsCarriedOut d l client tile parcel (board_with d kept set device) (board_with d (slice_set kept n k') set' device')) (sym same)
@@ -283,12 +291,10 @@ carried_out d l client tile parcel kept i k k' set set' device device' same at p
 pub kept_at : (kept : List KeptClient) (i client : ℕ) (k : KeptClient) → i ≡ client → client < length kept → k ≡ get_or kept i k → slice_get kept i ≡ Some k
 kept_at kept i client k same low at = slice_get_read kept (length kept) i k refl (subst (λ (n : ℕ). n < length kept) (sym same) low) at
 
--- after the sets of a parcel, all of them or some, what is kept of the client is fit
-pub still_fit : (d : Decl) (parcel : Parcel) (kept : List KeptClient) (i : ℕ) (k k' : KeptClient) (sets : List ElementSet) → is_givable d parcel ≡ true → sets ≡ parcel.sets
-    → slice_get kept i ≡ Some k → AreFit d kept → ((e : Decl) → list_all (is_set_value e) sets ≡ true → IsFit e (kept_of k) → IsFit e (kept_of k')) → IsFit d (kept_of k')
-still_fit d parcel kept i k k' sets given same at fit later =
-    later d (subst (λ (xs : List ElementSet). list_all (is_set_value d) xs ≡ true) (sym same) (and_parts (list_all (is_set_value d) parcel.sets) (is_givable_act d parcel.act) given).0)
-    (fit.each i k at)
+-- after the sets of a parcel what is kept of the client is fit
+pub still_fit : (d : Decl) (parcel : Parcel) (kept : List KeptClient) (i : ℕ) (k k' : KeptClient) → is_givable d parcel ≡ true
+    → slice_get kept i ≡ Some k → AreFit d kept → ((e : Decl) → list_all (is_set_value e) parcel.sets ≡ true → IsFit e (kept_of k) → IsFit e (kept_of k')) → IsFit d (kept_of k')
+still_fit d parcel kept i k k' given at fit later = later d (and_parts (list_all (is_set_value d) parcel.sets) (is_givable_act d parcel.act) given).0 (fit.each i k at)
 
 pub act_given : (d : Decl) (parcel : Parcel) → is_givable d parcel ≡ true → is_givable_act d parcel.act ≡ true
 act_given d parcel given = (and_parts (list_all (is_set_value d) parcel.sets) (is_givable_act d parcel.act) given).1

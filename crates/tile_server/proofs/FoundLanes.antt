@@ -4,10 +4,12 @@ use Rattle.rc_base.specs.Cluster.Lanes.{EachLane, IsAsked, IsEarlier}
 use Rattle.rc_base.specs.declared.state.Parcel.{Parcel}
 use Rattle.order_model.specs.Standing.{Progress}
 use Rattle.tile_server.specs.Cores.{clients_of, is_short, next_of, IsProgressOf}
-use Rattle.tile_server.specs.Deeds.{asks, IsFoundEmpty}
-use Rattle.tile_server.specs.Tasks.{asks_in, IsTaking}
+use Rattle.tile_model.specs.Short.{asks}
+use Rattle.tile_server.specs.Deeds.{IsFoundEmpty}
+use Rattle.tile_server.specs.Tasks.{asks_in}
+use Rattle.tile_server.specs.declared.deed.Taking.{Taking}
 use Rattle.tile_server.specs.declared.deed.TileDeed.{TileDeed}
-use Rattle.tile_server.specs.declared.deed.TileDeed.TheVariants.{Rests, Finishes}
+use Rattle.tile_server.specs.declared.deed.TileDeed.TheVariants.{Takes, Rests, Finishes}
 use Rattle.tile_server.specs.declared.tile_core.TileCore.{TileCore}
 use Rattle.tile_server.proofs.TileSteps.{asks_is}
 
@@ -18,12 +20,11 @@ module _ {I : Type 0} (R : I → I → Type 0) (before after : List I) (core : T
   is_asked i lt t = wanted i (subst (λ n. i < n) lanes lt) ∙ asks_is core p h i ∙ t
 
   -- a parcel of a client was taken
-  pub passed : (deed : TileDeed) (client : ℕ) (parcel : Parcel) → IsTaking deed client parcel
-      → EachLane (λ i a b. IsEarlier (next_of core) client i → IsAsked asked i → R a b) before after
-      → EachLane (λ i a b. IsFoundEmpty (is_short core) p (next_of core) deed i → R a b) before after
-  passed deed client parcel taking e = record {
+  pub passed : (client : ℕ) (parcel : Parcel) (how : Taking) → EachLane (λ i a b. IsEarlier (next_of core) client i → IsAsked asked i → R a b) before after
+      → EachLane (λ i a b. IsFoundEmpty (is_short core) p (next_of core) (Takes client parcel how) i → R a b) before after
+  passed client parcel how e = record {
     count = e.count;
-    at = λ i x lt found. let f = taking.found (is_short core) p (next_of core) i found in e.at i x lt f.0 (is_asked i lt f.1);
+    at = λ i x lt found. e.at i x lt found.0 (is_asked i lt found.1);
   }
 
   -- no client has a parcel

@@ -1,11 +1,7 @@
 -- Sets of elements: what one makes of what is kept of a client, and several, one after the other.
-use Rattle.std.proofs.Common.{◌≡◌, ℕ, zero, suc, ◌+◌, ◌*◌, ◌<◌, ◌==◌, ◌&&◌, Bool, true, List, [], ◌∷◌, fold, length, get_or, drop, Some, None, Ok, Err, refl, sym, ap, ◌∙◌, subst, arith, inl, inr, eqb-true, eq-eqb, ne_eqb, ltb-true}
-use Rattle.std.specs.Prelude.{nat_le, nat_lt, slice_index_or, OnOk, OnErr, slice_set, if◌then◌else◌, unwrap_or}
-use Rattle.std.specs.List.{list_all}
+use Rattle.std.proofs.Common.{◌≡◌, ℕ, zero, suc, ◌*◌, ◌<◌, ◌==◌, ◌&&◌, Bool, true, List, [], ◌∷◌, fold, length, Some, None, refl, sym, ap, ◌∙◌, subst, arith, inl, inr, eqb-true, eq-eqb, ne_eqb, ltb-true}
+use Rattle.std.specs.Prelude.{nat_le, nat_lt, slice_index_or, slice_set, if◌then◌else◌, unwrap_or}
 use Rattle.std.specs.declared.option.Option.{Option}
-use Rattle.std.specs.declared.result.Result.{Result}
-use Rattle.std.proofs.Math.Seq.{drop-cons}
-use Rattle.std.proofs.lemmas.List.Sums.{AllPass-from_list_all}
 use Rattle.std.proofs.lemmas.Bool.{and_parts, cases_eq}
 use Rattle.std.proofs.lemmas.Grind.{get_or-set_at}
 use Rattle.std.proofs.lemmas.List.{get_or-set_other}
@@ -173,21 +169,10 @@ module _ (d : Decl) (x : ElementSet) (a b : Kept) (is : is_set_value d x ≡ tru
         (kept_value (λ v. is_value_of d 20 v ≡ true) 20 (omega arith) (subst (λ (v : ElementValue). is_value_of d 20 v ≡ true) (sym (binding_value a.state)) fit.binding) (at_element 20));
   }
 
--- however an image's set ends, there are as many textures
-pub same_count : {T E : Type 0} (r : Result T E) (before now : List (Option Picture)) (name : ℕ) (v : Option Picture) → length before ≡ private_count
-    → OnOk r (now ≡ with_name before name v) → OnErr r (now ≡ before) → length now ≡ private_count
-same_count (Ok x) before now name v count made none = ap length made ∙ length_with_name before name v ∙ count
-same_count (Err e) before now name v count made none = ap length none ∙ count
-
--- ---- sets in a list
-
-pub some_value : (d : Decl) (sets : List ElementSet) (i : ℕ) (x : ElementSet) → list_all (is_set_value d) sets ≡ true → i < length sets → x ≡ get_or sets i x → is_set_value d x ≡ true
-some_value d sets i x all low at = subst (λ (y : ElementSet). is_set_value d y ≡ true) (sym at) (AllPass-from_list_all (is_set_value d) sets all i x low)
-
-pub next_set : (sets : List ElementSet) (i : ℕ) (x : ElementSet) → i < length sets → x ≡ get_or sets i x → drop i sets ≡ x ∷ drop (i + 1) sets
-next_set sets i x low at =
-    let next : suc i ≡ i + 1 = omega arith in
-    subst (λ (n : ℕ). drop i sets ≡ x ∷ drop n sets) next (subst (λ (y : ElementSet). drop i sets ≡ y ∷ drop (suc i) sets) (sym at) (drop-cons sets i x low))
+-- with an image there are as many textures
+pub same_count : (before now : List (Option Picture)) (name : ℕ) (v : Option Picture) → length before ≡ private_count → now ≡ with_name before name v
+    → length now ≡ private_count
+same_count before now name v count made = ap length made ∙ length_with_name before name v ∙ count
 
 -- ---- a value that is no image's
 

@@ -11,19 +11,23 @@ use Rattle.rc_base.specs.declared.state.Parcel.{Parcel}
 use Rattle.rc_base.specs.declared.sync.Entry.{Entry}
 use Rattle.rc_base.specs.declared.sync.Entry.TheVariants.{Swap}
 use Rattle.rc_base.specs.declared.sync.Grant.TheVariants as grant
+use Rattle.cmd_pack.specs.Parcels.Spelling.{is_end}
 use Rattle.order_model.specs.Standing.{Progress, performed_in, is_over}
 use Rattle.tile_model.specs.Acts.{is_work}
 use Rattle.tile_model.specs.Boards.{is_carried_out}
 use Rattle.tile_model.specs.Givable.{is_givable}
 use Rattle.tile_model.specs.Items.{after_act, after_end, after_entry, after_no_more, after_parcel, after_performed, after_wait, after_work, shown_frames, IsAwaited}
 use Rattle.tile_model.specs.Items.Item.{Due}
+use Rattle.tile_model.specs.Short.{asks, listens, NothingIsDue}
 use Rattle.tile_server.specs.Boards.{board_in, IsPartOf, IsSameTile}
 use Rattle.tile_server.specs.Cores.{board_of, clients_of, decl_of, is_short, layout_of, tile_of, IsProgressOf, IsSameCore, IsTileStep}
-use Rattle.tile_server.specs.Deeds.{answer_of, asks, is_end, is_wait, listens, progress_after, MayTake, NothingIsDue}
+use Rattle.tile_server.specs.Deeds.{answer_of, is_wait, progress_after, taking_answer, is_lost, MayTake}
 use Rattle.tile_server.specs.Ledgers.{closed_in, held_in, is_over_in, IsKnownOf, IsLedgerOf, IsLedgerStep, IsSameLedger, IsWholeLedger}
 use Rattle.tile_server.specs.Tasks.{asks_in, listens_in, next_frame, IsDueIn, IsFreeIn, IsWorked, MayTakeIn, NothingIsDueIn}
+use Rattle.tile_server.specs.declared.deed.Taking.{Taking}
+use Rattle.tile_server.specs.declared.deed.Taking.TheVariants.{Works, Holds, Closes, Drops, Loses}
 use Rattle.tile_server.specs.declared.deed.TileDeed.{TileDeed}
-use Rattle.tile_server.specs.declared.deed.TileDeed.TheVariants.{Performs, Shows, Fails, Learns, Works, Holds, Closes, Drops, Loses, Rests, Finishes}
+use Rattle.tile_server.specs.declared.deed.TileDeed.TheVariants.{Performs, Shows, Fails, Learns, Takes, Rests, Finishes}
 use Rattle.tile_server.specs.declared.ledger.Ledger.{Ledger}
 use Rattle.tile_server.specs.declared.tile_core.TileCore.{TileCore}
 use Rattle.tile_server.proofs.FramesGoOn.{after_swap, after_other, after_learnt, after_worked}
@@ -330,7 +334,7 @@ module _ (core later : TileCore) where
     pub closed_step : MayTakeIn core client → is_end parcel.act ≡ true → later.canvas ≡ core.canvas → later.frames ≡ core.frames
         → later.short ≡ core.short
         → clients_of later ≡ clients_of core → ((b : Bool) → IsLedgerStep b core.ledger (λ p. after_end p client) b later.ledger)
-        → IsTileStep core (Closes client parcel) later
+        → IsTileStep core (Takes client parcel Closes) later
     closed_step take end canvas frames short clients step = record {
       same = same_core canvas clients;
       short = short;
@@ -346,20 +350,20 @@ module _ (core later : TileCore) where
       shown = λ p h part is. absurd cc;
     }
       where
-        closes : (b : Bool) (p : Progress) → progress_after b p (Closes client parcel) ≡ after_end p client
+        closes : (b : Bool) (p : Progress) → progress_after b p (Takes client parcel Closes) ≡ after_end p client
         closes true p = rw end refl
         closes false p = end_after p client parcel.act parcel.place end
 
     pub held_step : IsFreeIn core client → is_wait parcel.act ≡ true → later.canvas ≡ core.canvas → later.frames ≡ core.frames
         → later.short ≡ core.short
-        → IsLedgerStep false core.ledger (λ p. after_wait p client) false later.ledger → IsTileStep core (Holds client parcel) later
+        → IsLedgerStep false core.ledger (λ p. after_wait p client) false later.ledger → IsTileStep core (Takes client parcel Holds) later
     held_step free wait canvas frames short step = record {
       same = same_core canvas step.clients;
       short = short;
       ample = λ l. absurd (true≢false (sym l));
       rotation = next ∙ add-one client;
-      first = λ p h. (may_take core p h client free.take, free.ample, unheld p h, wait);
-      after = λ p h. subst (λ b. IsProgressOf later (progress_after b p (Holds client parcel))) (sym (short ∙ free.ample))
+      first = λ p h. (may_take core p h client free.take, (free.ample, unheld p h, wait));
+      after = λ p h. subst (λ b. IsProgressOf later (progress_after b p (Takes client parcel Holds))) (sym (short ∙ free.ample))
           (subst (IsProgressOf later) (sym (wait_after p client parcel.act parcel.place wait (unheld p h)))
           (ample_after (λ p. after_wait p client) p free.ample (short ∙ free.ample) step h (λ low. frames ∙ h.frames free.ample low)));
       drawn = λ p h ample. let not = not_work (decl_of core) p client parcel (wait_no_work parcel.act wait) in
@@ -372,13 +376,13 @@ module _ (core later : TileCore) where
 
     pub dropped_step : MayTakeIn core client → (is_short core ≡ true) ⊎ (held_in core.ledger client ≡ true) → is_end parcel.act ≡ false
         → later.canvas ≡ core.canvas → later.frames ≡ core.frames
-        → later.short ≡ core.short → later.ledger ≡ core.ledger → IsTileStep core (Drops client parcel) later
+        → later.short ≡ core.short → later.ledger ≡ core.ledger → IsTileStep core (Takes client parcel Drops) later
     dropped_step take why more canvas frames short ledger = record {
       same = same_core canvas (ap (λ (l : Ledger). l.clients) ledger);
       short = short;
       ample = λ l. absurd (true≢false (sym l));
       rotation = next ∙ add-one client;
-      first = λ p h. (may_take core p h client take, held_so p h core.short refl why, more);
+      first = λ p h. (may_take core p h client take, (held_so p h core.short refl why, more));
       after = λ p h. subst (IsProgressOf later) (sym (drops p h later.short short)) record {
         ledger = subst (λ b. IsLedgerOf b later.ledger (after_parcel p client)) (sym short)
             (subst (λ l. IsLedgerOf core.short l (after_parcel p client)) (sym ledger) (parcel_ledger core.short core.ledger p client h.ledger));
@@ -400,7 +404,7 @@ module _ (core later : TileCore) where
         held_so p h true is y = inl is
         held_so p h false is y = inr (holds p h is y)
 
-        drops : (p : Progress) → IsProgressOf core p → (b : Bool) → b ≡ core.short → progress_after b p (Drops client parcel) ≡ after_parcel p client
+        drops : (p : Progress) → IsProgressOf core p → (b : Bool) → b ≡ core.short → progress_after b p (Takes client parcel Drops) ≡ after_parcel p client
         drops p h true is = rw more refl
         drops p h false is = drop_after p client parcel.act parcel.place more (holds p h (sym is) why)
 
@@ -411,14 +415,14 @@ module _ (core later : TileCore) where
       unheld p h = (whole core p h free.ample).held client ∙ free.free
 
       pub worked_step : IsWorked core client parcel later → later.frames ≡ core.frames → later.short ≡ core.short
-          → IsTileStep core (Works client parcel) later
+          → IsTileStep core (Takes client parcel Works) later
       worked_step done frames short = record {
         same = record { decl = tile.decl; clients = done.ledger.clients; layout = tile.layout; tile = tile.tile };
         short = short;
         ample = λ l. absurd (true≢false (sym l));
         rotation = next ∙ add-one client;
-        first = λ p h. record { take = may_take core p h client free.take; ample = free.ample; free = unheld p h; work = work };
-        after = λ p h. subst (λ b. IsProgressOf later (progress_after b p (Works client parcel))) (sym (short ∙ free.ample))
+        first = λ p h. (may_take core p h client free.take, (free.ample, unheld p h, work));
+        after = λ p h. subst (λ b. IsProgressOf later (progress_after b p (Takes client parcel Works))) (sym (short ∙ free.ample))
             (subst (IsProgressOf later) (sym (work_after p client parcel.act parcel.place work (unheld p h)))
             (ample_after (λ p. after_work p client parcel.place) p free.ample (short ∙ free.ample) done.ledger h
             (let same = after_worked p client parcel.place in λ low. frames ∙ h.frames free.ample (omega (arith, same, low)) ∙ sym same)));
@@ -428,28 +432,46 @@ module _ (core later : TileCore) where
         shown = λ p h part is. absurd cc;
       }
 
-      pub lost_step : IsSameLedger core.ledger later.ledger → later.short ≡ true → IsTileStep core (Loses client parcel) later
-      lost_step same short = record {
-        same = record { decl = tile.decl; clients = same.clients; layout = tile.layout; tile = tile.tile };
-        short = short;
-        ample = λ l. free.ample;
-        rotation = next ∙ add-one client;
-        first = λ p h. record { take = may_take core p h client free.take; ample = free.ample; free = unheld p h; work = work };
-        after = λ p h. subst (λ b. IsProgressOf later (progress_after b p (Loses client parcel))) (sym short)
-            (subst (IsProgressOf later) (sym (loses p)) record {
-              ledger = subst (λ b. IsLedgerOf b later.ledger (after_parcel p client)) (sym short)
-                  (parcel_ledger true later.ledger p client
-                  (same_ledger true core.ledger later.ledger p same (short_ledger core.short core.ledger p h.ledger)));
-              frames = λ ample. absurd (true≢false (sym short ∙ ample));
-            });
-        drawn = λ p h ample. absurd (true≢false (sym short ∙ ample));
-        shown = λ p h part is. absurd cc;
-      }
-        where
-          loses : (p : Progress) → progress_after true p (Loses client parcel) ≡ after_parcel p client
-          loses p = rw (work_no_end parcel.act work) refl
+    -- a parcel that is lost
+
+    pub lost_step : IsFreeIn core client → is_end parcel.act ≡ false → IsSameTile core.canvas later.canvas → IsSameLedger core.ledger later.ledger
+        → later.short ≡ true → IsTileStep core (Takes client parcel Loses) later
+    lost_step free more tile same short = record {
+      same = record { decl = tile.decl; clients = same.clients; layout = tile.layout; tile = tile.tile };
+      short = short;
+      ample = λ l. free.ample;
+      rotation = next ∙ add-one client;
+      first = λ p h. (may_take core p h client free.take, (free.ample, (whole core p h free.ample).held client ∙ free.free, more));
+      after = λ p h. subst (λ b. IsProgressOf later (progress_after b p (Takes client parcel Loses))) (sym short)
+          (subst (IsProgressOf later) (sym (loses p)) record {
+            ledger = subst (λ b. IsLedgerOf b later.ledger (after_parcel p client)) (sym short)
+                (parcel_ledger true later.ledger p client
+                (same_ledger true core.ledger later.ledger p same (short_ledger core.short core.ledger p h.ledger)));
+            frames = λ ample. absurd (true≢false (sym short ∙ ample));
+          });
+      drawn = λ p h ample. absurd (true≢false (sym short ∙ ample));
+      shown = λ p h part is. absurd cc;
+    }
+      where
+        loses : (p : Progress) → progress_after true p (Takes client parcel Loses) ≡ after_parcel p client
+        loses p = rw more refl
 
 -- ---- what the answer says of memory
+
+lost_short : (client : ℕ) (how : Taking) (before now : Bool) → (is_lost how ≡ true → before ≡ false) → now ≡ cond (is_lost how) true before
+    → OnErr (taking_answer client how) ((before ≡ false) × (now ≡ true))
+lost_short client Works before now ample short = tt
+lost_short client Holds before now ample short = tt
+lost_short client Closes before now ample short = tt
+lost_short client Drops before now ample short = tt
+lost_short client Loses before now ample short = (ample refl, short)
+
+taken_short : (client : ℕ) (how : Taking) (before now : Bool) → now ≡ cond (is_lost how) true before → OnOk (taking_answer client how) (now ≡ before)
+taken_short client Works before now short = short
+taken_short client Holds before now short = short
+taken_short client Closes before now short = short
+taken_short client Drops before now short = short
+taken_short client Loses before now short = tt
 
 pub err_short : (core later : TileCore) (deed : TileDeed) → IsTileStep core deed later
     → OnErr (answer_of deed) ((is_short core ≡ false) × (is_short later ≡ true))
@@ -457,11 +479,7 @@ err_short core later (Performs e) h = tt
 err_short core later (Shows part) h = tt
 err_short core later Fails h = (h.ample refl, h.short)
 err_short core later (Learns g) h = tt
-err_short core later (Works client parcel) h = tt
-err_short core later (Holds client parcel) h = tt
-err_short core later (Closes client parcel) h = tt
-err_short core later (Drops client parcel) h = tt
-err_short core later (Loses client parcel) h = (h.ample refl, h.short)
+err_short core later (Takes client parcel how) h = lost_short client how (is_short core) (is_short later) h.ample h.short
 err_short core later Rests h = tt
 err_short core later Finishes h = tt
 
@@ -470,10 +488,6 @@ ok_short core later (Performs e) h = h.short
 ok_short core later (Shows part) h = h.short
 ok_short core later Fails h = tt
 ok_short core later (Learns g) h = h.short
-ok_short core later (Works client parcel) h = h.short
-ok_short core later (Holds client parcel) h = h.short
-ok_short core later (Closes client parcel) h = h.short
-ok_short core later (Drops client parcel) h = h.short
-ok_short core later (Loses client parcel) h = tt
+ok_short core later (Takes client parcel how) h = taken_short client how (is_short core) (is_short later) h.short
 ok_short core later Rests h = h.short
 ok_short core later Finishes h = h.short

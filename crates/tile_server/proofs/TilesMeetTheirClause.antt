@@ -25,16 +25,19 @@ use Rattle.order_model.specs.declared.record.LogEntry.{LogEntry}
 use Rattle.order_model.specs.declared.record.LogEntry.TheVariants.{Performed}
 use Rattle.tile_model.specs.Items.{after_item, shown_frames, grants_heard, parcel_taken, grant_taken, IsAwaited, IsItemOf}
 use Rattle.tile_model.specs.Items.Item.{Due, Sent}
+use Rattle.tile_model.specs.Short.{IsFinished}
 use Rattle.tile_model.specs.Laws.{ShowFrames, SwapsShowAddedNames, SwapsShowFrames}
 use Rattle.tile_model.proofs.ItemsComeFromLanes.{listens, heard_open, heard_after, next_sent, all_heard, taken_after}
 use Rattle.tile_model.proofs.ShownFrames.{ShowsNothing, not_shown, one_shown, act_shows, learns_shows, get_push}
 use Rattle.tile_server.specs.Boards.{IsPartOf}
 use Rattle.tile_server.specs.Clauses.{shown_in, added_names, AreFrames, NewTilesMeetTheirClause, TileStepsKeepTheClause, TileStepsOverLanesKeepTheClause, EndedTilesAreDone}
 use Rattle.tile_server.specs.Cores.{board_of, is_short, layout_of, tile_of, IsProgressOf, IsShown}
-use Rattle.tile_server.specs.Deeds.{answer_of, granted_of, taken_of, item_of, is_loss, progress_after, IsFinished, IsNextDeed}
+use Rattle.tile_server.specs.Deeds.{answer_of, granted_of, taken_of, taking_answer, item_of, is_loss, progress_after, IsNextDeed}
 use Rattle.tile_server.specs.Laws.{NewCoresStand, StepsKeepStanding, IsTileOf, IsFramePart}
+use Rattle.tile_server.specs.declared.deed.Taking.{Taking}
+use Rattle.tile_server.specs.declared.deed.Taking.TheVariants.{Works, Holds, Closes, Drops, Loses}
 use Rattle.tile_server.specs.declared.deed.TileDeed.{TileDeed}
-use Rattle.tile_server.specs.declared.deed.TileDeed.TheVariants.{Performs, Shows, Fails, Learns, Works, Holds, Closes, Drops, Loses, Rests, Finishes}
+use Rattle.tile_server.specs.declared.deed.TileDeed.TheVariants.{Performs, Shows, Fails, Learns, Takes, Rests, Finishes}
 use Rattle.tile_server.specs.declared.tile_core.TileCore.{TileCore}
 use Rattle.tile_server.proofs.CoresStand.{awaited, ample_before, over_performed}
 
@@ -59,11 +62,7 @@ same_taken (Shows part) i = refl
 same_taken Fails i = refl
 same_taken (Learns (grant.Entry e)) i = refl
 same_taken (Learns grant.NoMore) i = refl
-same_taken (Works client parcel) i = refl
-same_taken (Holds client parcel) i = refl
-same_taken (Closes client parcel) i = refl
-same_taken (Drops client parcel) i = refl
-same_taken (Loses client parcel) i = refl
+same_taken (Takes client parcel how) i = refl
 same_taken Rests i = refl
 same_taken Finishes i = refl
 
@@ -73,13 +72,24 @@ same_granted (Shows part) = refl
 same_granted Fails = refl
 same_granted (Learns (grant.Entry e)) = refl
 same_granted (Learns grant.NoMore) = refl
-same_granted (Works client parcel) = refl
-same_granted (Holds client parcel) = refl
-same_granted (Closes client parcel) = refl
-same_granted (Drops client parcel) = refl
-same_granted (Loses client parcel) = refl
+same_granted (Takes client parcel how) = refl
 same_granted Rests = refl
 same_granted Finishes = refl
+
+-- a taking shows no part, and doesn't end the tile
+no_part : (client : ℕ) (how : Taking) → shown_in (taking_answer client how) ≡ []
+no_part client Works = refl
+no_part client Holds = refl
+no_part client Closes = refl
+no_part client Drops = refl
+no_part client Loses = refl
+
+no_end : (client : ℕ) (how : Taking) → taking_answer client how ≢ Ok moved.Ended
+no_end client Works is = absurd cc
+no_end client Holds is = absurd cc
+no_end client Closes is = absurd cc
+no_end client Drops is = absurd cc
+no_end client Loses is = absurd cc
 
 -- only where nothing is left to do the step says so
 finished : (deed : TileDeed) → answer_of deed ≡ Ok moved.Ended → deed ≡ Finishes
@@ -87,11 +97,7 @@ finished (Performs e) is = absurd cc
 finished (Shows part) is = absurd cc
 finished Fails is = absurd cc
 finished (Learns g) is = absurd cc
-finished (Works client parcel) is = absurd cc
-finished (Holds client parcel) is = absurd cc
-finished (Closes client parcel) is = absurd cc
-finished (Drops client parcel) is = absurd cc
-finished (Loses client parcel) is = absurd cc
+finished (Takes client parcel how) is = absurd (no_end client how is)
 finished Rests is = absurd cc
 finished Finishes is = refl
 
@@ -119,11 +125,7 @@ module _ (scene : Scene) (l : Layout) (tile : ℕ) (journal : List Entry) (p : P
   fits Fails a count is fronts front = tt
   fits (Learns (grant.Entry e)) a count is fronts front = entry_fits e a is front
   fits (Learns grant.NoMore) a count is fronts front = tt
-  fits (Works client parcel) a count is fronts front = sent_fits client parcel (count client a.0) (fronts client a.0)
-  fits (Holds client parcel) a count is fronts front = sent_fits client parcel (count client a.0) (fronts client a.0)
-  fits (Closes client parcel) a count is fronts front = sent_fits client parcel (count client a.0) (fronts client a.0)
-  fits (Drops client parcel) a count is fronts front = sent_fits client parcel (count client a.0) (fronts client a.0)
-  fits (Loses client parcel) a count is fronts front = sent_fits client parcel (count client a.0) (fronts client a.0)
+  fits (Takes client parcel how) a count is fronts front = sent_fits client parcel (count client a.0) (fronts client a.0)
   fits Rests a count is fronts front = tt
   fits Finishes a count is fronts front = tt
 
@@ -196,11 +198,9 @@ module _ (order : SyncLists → List Entry → List LogEntry → List Name) (sce
     parts_go_on Fails next shown = parts_stay p (nothing_shown p p refl)
     parts_go_on (Learns (grant.Entry e)) next shown = parts_stay (after_item p (item_of (Learns (grant.Entry e)))) (learns_shows p e (let same = (listens p next.1).1 in omega (arith, same)))
     parts_go_on (Learns grant.NoMore) next shown = parts_stay (after_item p (item_of (Learns grant.NoMore))) record { more = []; log = sym (append-nil p.log); frames = refl }
-    parts_go_on (Works client parcel) next shown = parts_stay (after_item p (Sent client parcel)) (act_shows p client parcel.act parcel.place)
-    parts_go_on (Holds client parcel) next shown = parts_stay (after_item p (Sent client parcel)) (act_shows p client parcel.act parcel.place)
-    parts_go_on (Closes client parcel) next shown = parts_stay (after_item p (Sent client parcel)) (act_shows p client parcel.act parcel.place)
-    parts_go_on (Drops client parcel) next shown = parts_stay (after_item p (Sent client parcel)) (act_shows p client parcel.act parcel.place)
-    parts_go_on (Loses client parcel) next shown = parts_stay (after_item p (Sent client parcel)) (act_shows p client parcel.act parcel.place)
+    parts_go_on (Takes client parcel how) next shown =
+        subst (λ (xs : List TilePart). AreFrames order scene l tile journal (after_item p (Sent client parcel)) (parts ++ xs)) (sym (no_part client how))
+        (parts_stay (after_item p (Sent client parcel)) (act_shows p client parcel.act parcel.place))
     parts_go_on Rests next shown = parts_stay p (nothing_shown p p refl)
     parts_go_on Finishes next shown = parts_stay p (nothing_shown p p refl)
 

@@ -23,8 +23,9 @@ use Rattle.order_model.specs.declared.record.LogEntry.{LogEntry}
 use Rattle.tile_model.specs.Boards.{IsNewBoard}
 use Rattle.tile_model.specs.Items.{grants_heard, shown_frames}
 use Rattle.tile_model.specs.Scenes.{HasSides, IsInRange}
+use Rattle.tile_model.specs.Short.{IsFinished}
 use Rattle.tile_server.specs.Cores.{board_of, clients_of, decl_of, is_short, layout_of, tile_of, IsProgressOf, IsTileStep, AreTaken, IsHeard}
-use Rattle.tile_server.specs.Deeds.{answer_of, granted_of, taken_of, IsFinished}
+use Rattle.tile_server.specs.Deeds.{answer_of, granted_of, taken_of}
 use Rattle.tile_server.specs.Laws.{IsTileOf, IsFramePart}
 use Rattle.tile_server.specs.declared.deed.TileDeed.{TileDeed}
 use Rattle.tile_server.specs.declared.tile_core.TileCore.{TileCore}

@@ -1,6 +1,5 @@
 -- What a tile's core does next, by what it stores.
-use Rattle.std.specs.Prelude.{◌≡◌, ℕ, ◌+◌, ◌<◌, ◌==◌, ◌&&◌, ◌||◌, not, min, Bool, true, false, cond, Some, None, is_none}
-use Rattle.rc_base.specs.Cluster.Lanes.{IsEarlier}
+use Rattle.std.specs.Prelude.{◌≡◌, ℕ, ◌+◌, ◌<◌, ◌&&◌, ◌||◌, not, min, Bool, true, false, cond, Some, None, is_none}
 use Rattle.rc_base.specs.declared.state.Parcel.{Parcel}
 use Rattle.rc_base.specs.declared.sync.Entry.{Entry}
 use Rattle.order_model.specs.Standing.{Progress}
@@ -9,7 +8,7 @@ use Rattle.tile_model.specs.Givable.{is_givable}
 use Rattle.tile_model.specs.Items.{after_work}
 use Rattle.tile_server.specs.Boards.{IsSameTile}
 use Rattle.tile_server.specs.Cores.{board_of, clients_of, decl_of, layout_of, tile_of}
-use Rattle.tile_server.specs.Deeds.{asks, granted_of, taken_of, IsFoundEmpty, IsUnheard}
+use Rattle.tile_server.specs.Deeds.{granted_of, taken_of, IsFoundEmpty, IsUnheard}
 use Rattle.tile_server.specs.Ledgers.{closed_in, held_in, is_over_in, HoldsAll, IsLedgerStep}
 use Rattle.tile_server.specs.declared.deed.TileDeed.{TileDeed}
 use Rattle.tile_server.specs.declared.tile_core.TileCore.{TileCore}
@@ -73,12 +72,6 @@ pub record IsAlike (core later : TileCore) : Type 0 where
   pub short : later.short ≡ core.short
 
 -- ---- lanes
-
--- the parcel is what is taken of the client, and nothing else is taken
-pub record IsTaking (deed : TileDeed) (client : ℕ) (parcel : Parcel) : Type 0 where
-  pub taken : (i : ℕ) → taken_of deed i ≡ cond (i == client) (Some parcel) None
-  pub found : (short : Bool) (p : Progress) (next i : ℕ) → IsFoundEmpty short p next deed i → IsEarlier next client i × (asks short p i ≡ true)
-  pub grants : granted_of deed ≡ None
 
 -- no client's lane gives anything, or is found empty
 pub record LeavesClients (deed : TileDeed) : Type 0 where

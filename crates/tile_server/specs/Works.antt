@@ -1,17 +1,13 @@
--- What a tile draws on, and what its work needs and makes of it.
-use Rattle.std.specs.Prelude.{◌≡◌, ℕ, ◌*◌, ◌<◌, ◌≤◌, ◌≤ℤ◌, List, length, Option, None, pos, replicate, slice_get, Some}
+-- What a tile draws on.
+use Rattle.std.specs.Prelude.{◌≡◌, ℕ, ◌≤ℤ◌, List, length, Option, None, pos, replicate, slice_get, Some}
 use Rattle.rc_base.specs.Pictures.{Picture}
 use Rattle.rc_base.specs.Cluster.Tiles.{is_in_rect, tile_pixels, tile_rectangle}
 use Rattle.rc_base.specs.Contexts.Context.{private_count}
 use Rattle.rc_base.specs.Drawing.Texel.{SharedTexels}
-use Rattle.rc_base.specs.declared.command.Part.{Part}
-use Rattle.rc_base.specs.declared.state.Act.{Act}
-use Rattle.rc_base.specs.declared.state.Act.TheVariants as act
 use Rattle.rc_base.specs.declared.state.State.{State}
 use Rattle.rc_base.specs.declared.window.Layout.{Layout}
 use Rattle.rc_base.specs.declared.window.Rect.{Rect}
 use Rattle.draw_device.specs.Conditions.{shared_of}
-use Rattle.textures.specs.Images.{LiesInside, texture_image, with_texture_part}
 use Rattle.tile_server.specs.declared.kept.KeptClient.{KeptClient}
 
 -- the rectangle is the tile's, and has its pixels
@@ -37,20 +33,3 @@ pub record AreNew (first : State) (count : ℕ) (kept : List KeptClient) : Type 
   pub clients : length kept ≡ count
   pub state : (client : ℕ) (k : KeptClient) → slice_get kept client ≡ Some k → k.state ≡ first
   pub images : (client : ℕ) (k : KeptClient) → slice_get kept client ≡ Some k → k.images ≡ replicate private_count None
-
--- ---- work
-
--- the part names one of the textures, lies inside it, and has bytes for its texels
-pub record IsWritable (part : Part) (set : List (Option Picture)) : Type 0 where
-  pub low : 0 < part.name
-  pub high : part.name ≤ length set
-  pub whole : length part.texels ≡ 4 * (part.w * part.h)
-  pub inside : LiesInside part (texture_image set part.name)
-
--- the shared textures after an act
-abbrev pub set_after : Act → List (Option Picture) → List (Option Picture)
-set_after (act.Draw block) set = set
-set_after (act.Clear mask) set = set
-set_after (act.Shared part) set = with_texture_part set part
-set_after (act.Sync op) set = set
-set_after act.End set = set

@@ -35,7 +35,7 @@ pub struct Canvas {
 }
 
 impl Canvas {
-    ghost use Rattle.std.specs.Prelude.{◌≡◌, ◌<◌, true, false, IfOk, OnOk, OnErr};
+    ghost use Rattle.std.specs.Prelude.{◌≡◌, ◌<◌, true, false, IfOk};
     ghost use Rattle.rc_base.specs.Cluster.Tiles.{tile_count};
     ghost use Rattle.tile_model.specs.Acts.{is_work};
     ghost use Rattle.tile_model.specs.Boards.{IsCarriedOut, IsNewBoard};
@@ -70,30 +70,29 @@ impl Canvas {
         })
     }
 
-    /// Makes the parcel's sets in what is kept of its client, and with that draws, clears or writes a shared texture. A parcel that no scene can
-    /// give changes nothing.
-    pub fn carry_out(&mut self, client: u8, parcel: &Parcel) -> Result<(), OutOfMemory>
+    /// Makes the parcel's sets in what is kept of its client, and with that draws, clears or writes a shared texture. Its parts are moved, so this takes
+    /// no memory. A parcel that no scene can give changes nothing.
+    pub fn carry_out(&mut self, client: u8, parcel: Parcel)
         requires client { client < canvas_clients self.old }
-        requires work { is_work parcel.now.act ≡ true }
+        requires work { is_work parcel.act ≡ true }
         ensures same { IsSameTile self.old self.new }
-        ensures done { OnOk result (is_givable self.old.decl parcel.now ≡ true → IsCarriedOut self.old.decl self.old.layout client self.old.tile parcel.now (board_in self.old) (board_in self.new)) }
-        ensures ignored { OnOk result (is_givable self.old.decl parcel.now ≡ false → board_in self.new ≡ board_in self.old) }
-        ensures lacked { OnErr result (is_givable self.old.decl parcel.now ≡ true) }
+        ensures done { is_givable self.old.decl parcel ≡ true → IsCarriedOut self.old.decl self.old.layout client self.old.tile parcel (board_in self.old) (board_in self.new) }
+        ensures ignored { is_givable self.old.decl parcel ≡ false → board_in self.new ≡ board_in self.old }
     {
         sets_have_stored_texels();
-        if !is_givable(&self.decl, parcel) {
-            return Ok(());
+        if !is_givable(&self.decl, &parcel) {
+            return;
         }
         let client = usize::from(client);
-        self.kept[client].apply_all(parcel.sets.as_slice())?;
+        let Parcel { sets, act, .. } = parcel;
+        self.kept[client].apply_all(sets);
         work(
             &mut self.hw,
             &self.kept[client],
-            &parcel.act,
+            act,
             &mut self.device,
             &mut self.shared,
         );
-        Ok(())
     }
 
     /// A copy of the pixels, as the tile's part of a frame.

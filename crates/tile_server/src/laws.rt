@@ -3,9 +3,9 @@ ghost use Rattle.order_model.specs.Gathering.{GatheringIsLawful};
 ghost use Rattle.tile_server.specs.Clauses.{NewTilesMeetTheirClause, TileStepsKeepTheClause, TileStepsOverLanesKeepTheClause, EndedTilesAreDone};
 ghost use Rattle.tile_server.specs.Laws.{FinishedCoresAreDone, NewCoresStand, ShownPartsAreFrames, StepsKeepStanding};
 
+use cmd_pack::Packed;
 use order_model::laws as order_laws;
 use rc_base::lane::Inlet;
-use rc_base::state::Parcel;
 use rc_base::sync::Grant;
 use tile_model::laws::{new_tiles_stand, steps_stand, swaps_show_frames};
 
@@ -55,7 +55,7 @@ pub fn tiles_meet_their_clause()
 }
 
 /// So it does over lanes, by the contract of `TileCore::step` alone.
-pub fn tiles_meet_their_clause_over_lanes<I: Inlet<Parcel>, J: Inlet<Grant>>()
+pub fn tiles_meet_their_clause_over_lanes<I: Inlet<Packed>, J: Inlet<Grant>>()
     ensures { TileStepsOverLanesKeepTheClause I.gave I.same J.gave J.same }
 {
     tiles_meet_their_clause();

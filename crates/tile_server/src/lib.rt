@@ -15,5 +15,5 @@ mod sets;
 mod tile_core;
 mod work;
 
-pub use deed::TileDeed;
+pub use deed::{Taking, TileDeed};
 pub use tile_core::TileCore;

@@ -1,11 +1,12 @@
 //! A tile's core: its steps.
 ghost use Rattle.std.specs.Prelude.{◌≡◌, ◌≤◌};
 ghost use Rattle.tile_server.specs.Boards.{canvas_clients};
-ghost use Rattle.tile_server.specs.Deeds.{is_end, is_wait};
+ghost use Rattle.tile_server.specs.Deeds.{is_wait};
 
 use crate::canvas::Canvas;
-use crate::deed::{TileDeed, answer};
+use crate::deed::{Taking, TileDeed, answer};
 use crate::ledger::Ledger;
+use cmd_pack::Packed;
 use order_model::record::Log;
 use rc_base::cluster::{TileMoved, TilePart};
 use rc_base::lane::Inlet;
@@ -34,16 +35,18 @@ impl TileCore {
     ghost use Rattle.std.specs.Prelude.{◌≡◌, ◌≢◌, ◌⊎◌, ◌≤◌, ◌<◌, ◌||◌, ℕ, true, false, None, length, slice_index_or, IfOk, OnOk, OnErr, IfSome, IfNone, IsTrue};
     ghost use Rattle.rc_base.specs.Cluster.Lanes.{EachLane};
     ghost use Rattle.rc_base.specs.Cluster.Tiles.{tile_count};
+    ghost use Rattle.cmd_pack.specs.Parcels.Spelling.{is_end};
     ghost use Rattle.order_model.specs.Standing.{Progress, new_progress};
     ghost use Rattle.tile_model.specs.Acts.{is_work};
     ghost use Rattle.tile_model.specs.Boards.{IsNewBoard};
+    ghost use Rattle.rc_base.specs.declared.state.Parcel.{Parcel};
     ghost use Rattle.rc_base.specs.declared.sync.Entry.{Entry};
     ghost use Rattle.rc_base.specs.declared.sync.Entry.TheVariants.{Swap};
     ghost use Rattle.rc_base.specs.declared.sync.Grant.TheVariants as grant;
     ghost use Rattle.tile_server.specs.Boards.{IsPartOf};
-    ghost use Rattle.tile_server.specs.Deeds.{answer_of, granted_of, is_end, is_wait};
+    ghost use Rattle.tile_server.specs.Deeds.{answer_of, granted_of, is_wait};
     ghost use Rattle.tile_server.specs.Ledgers.{held_in, is_over_in, IsSameLedger};
-    ghost use Rattle.tile_server.specs.Tasks.{asks_in, listens_in, next_frame, IsAlike, IsDueIn, IsFinishedIn, IsFreeIn, IsTaking, IsWorked, LeavesClients, LeavesGrants, MayTakeIn, NothingIsDueIn};
+    ghost use Rattle.tile_server.specs.Tasks.{asks_in, listens_in, next_frame, IsAlike, IsDueIn, IsFinishedIn, IsFreeIn, IsWorked, LeavesClients, LeavesGrants, MayTakeIn, NothingIsDueIn};
     ghost use Rattle.tile_server.specs.declared.deed.TileDeed.TheVariants as deed;
     ghost use Rattle.tile_server.specs.Cores.{board_of, clients_of, decl_of, is_short, layout_of, next_of, tile_of, IsProgressOf, IsSameCore, IsTileStep, AreTaken, AreFoundEmpty, IsHeard, IsCountedUnheard};
     ghost use Rattle.tile_server.specs.declared.deed.TileDeed.{TileDeed};
@@ -254,92 +257,116 @@ impl TileCore {
     // ---- parcels
 
     /// The work is carried out and logged.
-    fn work(&mut self, client: u8, parcel: &Parcel) -> Result<(), OutOfMemory>
+    fn work(&mut self, client: u8, parcel: Parcel) -> Result<(), OutOfMemory>
         requires client { client < clients_of self.old }
-        requires work { is_work parcel.now.act ≡ true }
+        requires work { is_work parcel.act ≡ true }
         ensures alike { IsAlike self.old self.new }
-        ensures worked { OnOk result (IsWorked self.old client parcel.now self.new) }
+        ensures worked { OnOk result (IsWorked self.old client parcel self.new) }
         ensures ledger { OnErr result (IsSameLedger self.old.ledger self.new.ledger) }
     {
-        self.canvas.carry_out(client, parcel)?;
-        self.ledger.log_work(client, parcel.place)
+        let place = parcel.place;
+        self.canvas.carry_out(client, parcel);
+        self.ledger.log_work(client, place)
     }
 
     /// Work of the client is carried out, or lost where memory lacks.
-    fn take_work(&mut self, client: u8, parcel: Parcel) -> TileDeed
+    fn take_work(&mut self, client: u8, parcel: Parcel) -> Taking
         requires free { IsFreeIn self.old client }
         requires work { is_work parcel.act ≡ true }
-        ensures step { IsTileStep self.old result self.new }
-        ensures taken { IsTaking result client parcel }
+        ensures { IsTileStep self.old (deed.Takes client parcel result) self.new }
     {
-        match self.work(client, &parcel) {
+        match self.work(client, parcel) {
             Ok(()) => {
                 self.next = client + 1;
-                TileDeed::Works { client, parcel }
+                Taking::Works
             }
             Err(OutOfMemory) => {
                 self.short = true;
                 self.next = client + 1;
-                TileDeed::Loses { client, parcel }
+                Taking::Loses
             }
         }
     }
 
     /// The client is held at its operation.
-    fn hold(&mut self, client: u8, parcel: Parcel) -> TileDeed
+    fn hold(&mut self, client: u8) -> Taking
         requires free { IsFreeIn self.old client }
-        requires wait { is_wait parcel.act ≡ true }
-        ensures step { IsTileStep self.old result self.new }
-        ensures taken { IsTaking result client parcel }
+        ensures { (parcel : Parcel) → is_wait parcel.act ≡ true → IsTileStep self.old (deed.Takes client parcel result) self.new }
     {
         self.ledger.hold(client);
         self.next = client + 1;
-        TileDeed::Holds { client, parcel }
+        Taking::Holds
+    }
+
+    /// The parcel, which was read, holds its client or is carried out.
+    fn serve(&mut self, client: u8, parcel: Parcel) -> Taking
+        requires free { IsFreeIn self.old client }
+        requires more { is_end parcel.act ≡ false }
+        ensures { IsTileStep self.old (deed.Takes client parcel result) self.new }
+    {
+        if is_wait(&parcel.act) {
+            return self.hold(client);
+        }
+        self.take_work(client, parcel)
+    }
+
+    /// A parcel is lost, since memory lacks for reading it.
+    fn lose(&mut self, client: u8) -> Taking
+        requires free { IsFreeIn self.old client }
+        ensures { (parcel : Parcel) → is_end parcel.act ≡ false → IsTileStep self.old (deed.Takes client parcel result) self.new }
+    {
+        self.short = true;
+        self.next = client + 1;
+        Taking::Loses
+    }
+
+    /// A parcel of a client that isn't held is read.
+    fn open(&mut self, client: u8, parcel: &Packed) -> Taking
+        requires free { IsFreeIn self.old client }
+        requires more { is_end parcel.now.act ≡ false }
+        ensures { IsTileStep self.old (deed.Takes client parcel.now result) self.new }
+    {
+        match parcel.parcel() {
+            Ok(read) => self.serve(client, read),
+            Err(OutOfMemory) => self.lose(client),
+        }
     }
 
     /// The client is closed.
-    fn close(&mut self, client: u8, parcel: Parcel) -> TileDeed
-        requires take { MayTakeIn self.old client }
-        requires end { is_end parcel.act ≡ true }
-        ensures step { IsTileStep self.old result self.new }
-        ensures taken { IsTaking result client parcel }
+    fn close(&mut self, client: u8) -> Taking
+        requires { MayTakeIn self.old client }
+        ensures { (parcel : Parcel) → is_end parcel.act ≡ true → IsTileStep self.old (deed.Takes client parcel result) self.new }
     {
         self.ledger.close(client);
         self.next = client + 1;
-        TileDeed::Closes { client, parcel }
+        Taking::Closes
     }
 
-    /// The parcel is dropped.
-    fn drop_parcel(&mut self, client: u8, parcel: Parcel) -> TileDeed
+    /// A parcel is dropped.
+    fn drop_parcel(&mut self, client: u8) -> Taking
         requires take { MayTakeIn self.old client }
         requires dropped { (is_short self.old ≡ true) ⊎ (held_in self.old.ledger client ≡ true) }
-        requires more { is_end parcel.act ≡ false }
-        ensures step { IsTileStep self.old result self.new }
-        ensures taken { IsTaking result client parcel }
+        ensures { (parcel : Parcel) → is_end parcel.act ≡ false → IsTileStep self.old (deed.Takes client parcel result) self.new }
     {
         self.next = client + 1;
-        TileDeed::Drops { client, parcel }
+        Taking::Drops
     }
 
-    /// A parcel of the client was taken.
-    fn receive(&mut self, client: u8, parcel: Parcel) -> TileDeed
+    /// A parcel of the client was taken. An End and a parcel that is dropped aren't read, so memory can't lack for them.
+    fn receive(&mut self, client: u8, parcel: &Packed) -> Taking
         requires { MayTakeIn self.old client }
-        ensures step { IsTileStep self.old result self.new }
-        ensures taken { IsTaking result client parcel }
+        ensures { IsTileStep self.old (deed.Takes client parcel.now result) self.new }
     {
-        if is_end(&parcel.act) {
-            return self.close(client, parcel);
+        if parcel.is_end() {
+            return self.close(client);
         }
         if self.short {
-            return self.drop_parcel(client, parcel);
+            return self.drop_parcel(client);
         }
         if self.ledger.is_held(client) {
-            return self.drop_parcel(client, parcel);
+            return self.drop_parcel(client);
         }
-        if is_wait(&parcel.act) {
-            return self.hold(client, parcel);
-        }
-        self.take_work(client, parcel)
+        self.open(client, parcel)
     }
 
     /// No client has a parcel in its lane.
@@ -358,7 +385,7 @@ impl TileCore {
     // ---- a step
 
     /// Takes a parcel.
-    fn take<I: Inlet<Parcel>>(&mut self, clients: &mut [I]) -> TileDeed
+    fn take<I: Inlet<Packed>>(&mut self, clients: &mut [I]) -> TileDeed
         requires lanes { length clients.old ≡ clients_of self.old }
         requires undue { NothingIsDueIn self.old }
         ensures step { IsTileStep self.old result self.new }
@@ -369,13 +396,21 @@ impl TileCore {
     {
         let asks = self.asked();
         match take_in_rotation(clients, &asks, self.next as usize) {
-            Some((client, parcel)) => self.receive(client as u8, parcel),
+            Some((client, parcel)) => {
+                let client = client as u8;
+                let how = self.receive(client, &parcel);
+                TileDeed::Takes {
+                    client,
+                    parcel,
+                    how,
+                }
+            }
             None => self.rest(),
         }
     }
 
     /// Takes a grant, and where none is there a parcel.
-    fn hear<I: Inlet<Parcel>, J: Inlet<Grant>>(
+    fn hear<I: Inlet<Packed>, J: Inlet<Grant>>(
         &mut self,
         clients: &mut [I],
         grants: &mut J,
@@ -400,7 +435,7 @@ impl TileCore {
         }
     }
 
-    fn act<I: Inlet<Parcel>, J: Inlet<Grant>>(
+    fn act<I: Inlet<Packed>, J: Inlet<Grant>>(
         &mut self,
         clients: &mut [I],
         grants: &mut J,
@@ -434,9 +469,9 @@ impl TileCore {
     ///    that was taken from, at first from client 0. Work is carried out and logged, an operation holds its client, and End closes it. Once
     ///    nothing will be performed any more, parcels are taken of held clients too, and dropped up to their End.
     ///
-    /// Where memory lacks, a parcel that was taken is dropped and the tile becomes short: it takes and drops parcels up to each client's End, and
-    /// grants until no more comes.
-    pub fn step<I: Inlet<Parcel>, J: Inlet<Grant>>(
+    /// A parcel is read only where it is no End and isn't dropped. Where memory lacks, a parcel that was taken is dropped and the tile becomes short: it
+    /// takes and drops parcels up to each client's End, and grants until no more comes.
+    pub fn step<I: Inlet<Packed>, J: Inlet<Grant>>(
         &mut self,
         clients: &mut [I],
         grants: &mut J,
@@ -455,16 +490,6 @@ impl TileCore {
             × IsCountedUnheard J.empty_seen J.bare self.old did grants.old grants.new }
     {
         answer(self.act(clients, grants))
-    }
-}
-
-/// The act is the client's last.
-fn is_end(act: &Act) -> bool
-    ensures { result ≡ is_end act.now }
-{
-    match act {
-        Act::End => true,
-        _ => false,
     }
 }
 

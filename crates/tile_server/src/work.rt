@@ -3,45 +3,43 @@ ghost use Rattle.std.specs.Prelude.{◌≡◌};
 ghost use Rattle.rc_base.specs.Cluster.Parcels.{effect_by};
 ghost use Rattle.rc_base.specs.Drawing.PixelStep.{effect_step};
 ghost use Rattle.rc_base.specs.declared.command.Part.{Part};
-ghost use Rattle.rc_base.specs.declared.state.Act.TheVariants as acts;
+ghost use Rattle.rc_base.specs.declared.state.Effect.TheVariants as eff;
 ghost use Rattle.textures.specs.Images.{texture_image};
 ghost use Rattle.draw_device.specs.Conditions.{IsDrawable, IsClearable, shared_of};
 ghost use Rattle.draw_device.specs.Devices.{EachTakes};
-ghost use Rattle.tile_server.specs.Works.{IsWritable, set_after};
+ghost use Rattle.draw_acts.specs.Stored.{IsWritable, set_after};
 
 use crate::kept::KeptClient;
 use context_switch::switch;
+use draw_acts::{carry_out, effect_of};
 use draw_device::Device;
-use rc_base::state::{Act, State};
+use rc_base::state::{Act, Effect, State};
 use textures::SharedSet;
 
-/// Does what an act asks, with what is kept of its client: a block and a Clear change the device, once the state that it draws with is the client's, and a
-/// part is written into a shared texture. An operation and End change nothing.
+/// Does what an act asks, with what is kept of its client: before a block and a Clear the state that the device draws with becomes the client's.
 pub(crate) fn work(
     hw: &mut State,
     kept: &KeptClient,
-    act: &Act,
+    act: Act,
     device: &mut Device,
     shared: &mut SharedSet,
 )
     requires drawable { IsDrawable kept.now.state kept.now.images shared.old }
     requires clearable { IsClearable kept.now.state }
-    requires writable { (part : Part) → act.now ≡ acts.Shared part → IsWritable part shared.old }
+    requires writable { (part : Part) → effect_by act ≡ eff.Shared part → IsWritable part shared.old }
     ensures rect { device.new.rect ≡ device.old.rect }
-    ensures drawn { EachTakes (effect_step kept.now.state (texture_image kept.now.images) (shared_of shared.old) (effect_by act.now))
+    ensures drawn { EachTakes (effect_step kept.now.state (texture_image kept.now.images) (shared_of shared.old) (effect_by act))
         device.old device.new }
-    ensures shared { shared.new ≡ set_after act.now shared.old }
+    ensures shared { shared.new ≡ set_after (effect_by act) shared.old }
 {
-    match act {
-        Act::Draw(block) => {
+    let effect = effect_of(act);
+    match &effect {
+        Effect::Block(_) | Effect::Clear(_) => {
             switch(hw, &kept.state);
-            device.draw(hw, block, &kept.images, shared)
+            carry_out(&effect, hw, &kept.images, device, shared)
         }
-        Act::Clear(mask) => {
-            switch(hw, &kept.state);
-            device.clear(hw, *mask)
+        Effect::Shared(_) | Effect::Sync(_) | Effect::Quiet | Effect::Refused(_) => {
+            carry_out(&effect, &kept.state, &kept.images, device, shared)
         }
-        Act::Shared(part) => shared.write(part),
-        Act::Sync(_) | Act::End => {}
     }
 }

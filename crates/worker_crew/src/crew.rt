@@ -1,16 +1,16 @@
 //! All workers of a cluster: started, stepped where they came back, joined.
-ghost use Rattle.std.specs.Prelude.{◌≡◌, List, ◌≤◌, ◌<◌, ℕ, true, vec_len, vec_capacity, IsTrue, slice_index_or};
+ghost use Rattle.std.specs.Prelude.{◌≡◌, List, ◌≤◌, ◌<◌, ℕ, true, vec_len, vec_capacity, slice_index_or};
 ghost use Rattle.rc_base.specs.Lists.{ArePaired};
 ghost use Rattle.worker_crew.specs.Tasks.{AreStarted, HaveAllEnded, GoOn, StartedGoOn, IsTask, IsStarted, HasEnded};
 
+use crate::pause::Pause;
 use crate::start::{Started, joined, start_with};
-use crate::task::{Task, attempt};
+use crate::task::{Task, Turned, attempt};
 use crate::worker::Worker;
 use crossbeam_utils::CachePadded;
 use rc_base::gate::Gate;
 use std::sync::Wait;
 use std::sync::atomic::AtomicBool;
-use std::thread;
 use std::thread::{Scope, Threads};
 
 /// The three kinds of worker of a cluster, or what they became.
@@ -44,34 +44,25 @@ pub fn start_all<'s, E, W: Worker + Drop + Send + 's, G: Gate, R: Wait + Copy + 
     started
 }
 
-/// Tries one step. Whether the task has ended.
-pub fn turn_task<W: Worker, G: Gate>(gate: &G, task: &mut Task<W>) -> bool
-    ensures kept { (w : W) → IsTask W.leads W.over w task.old → IsTask W.leads W.over w task.new }
-    ensures ended { IsTrue result → task.new.ended ≡ true }
-{
-    attempt(gate, task);
-    task.ended
-}
-
-/// Tries one step of a worker that came back. Whether it has ended.
-pub fn turn_one<W: Worker, G: Gate>(gate: &G, started: &mut Started<W>) -> bool
+/// Tries one step of a worker that came back.
+pub fn turn_one<W: Worker, G: Gate>(gate: &G, started: &mut Started<W>) -> Turned
     ensures { (w : W) → IsStarted W.leads W.over w started.old → IsStarted W.leads W.over w started.new }
 {
     match started {
-        Ok(_) => true,
-        Err(task) => turn_task(gate, task),
+        Ok(_) => Turned::nobody(),
+        Err(task) => attempt(gate, task),
     }
 }
 
-/// Tries one step of each worker that came back. Whether all of these have ended.
-pub fn turn_started<W: Worker, G: Gate>(gate: &G, started: &mut Vec<Started<W>>) -> bool
+/// Tries one step of each worker that came back.
+pub fn turn_started<W: Worker, G: Gate>(gate: &G, started: &mut Vec<Started<W>>) -> Turned
     ensures { StartedGoOn W.leads W.over started.old.items started.new.items }
 {
-    let mut quiet = true;
+    let mut all = Turned::nobody();
     for i in 0..started.len() {
-        quiet &= turn_one(gate, &mut started[i]);
+        all = all.and(turn_one(gate, &mut started[i]));
     }
-    quiet
+    all
 }
 
 /// Waits for the end of each thread, and puts what comes back into the room that `tasks` has.
@@ -91,16 +82,16 @@ pub fn join_all<W: Worker + Drop, R: Threads>(
     tasks
 }
 
-/// Tries one step of each that hasn't ended. Whether all have.
-pub fn turn_tasks<W: Worker, G: Gate>(gate: &G, tasks: &mut Vec<Task<W>>) -> bool
+/// Tries one step of each that hasn't ended.
+pub fn turn_tasks<W: Worker, G: Gate>(gate: &G, tasks: &mut Vec<Task<W>>) -> Turned
     ensures kept { GoOn W.leads W.over tasks.old.items tasks.new.items }
-    ensures quiet { IsTrue result → (i : ℕ) (d : Task W) → i < vec_len tasks.new → (slice_index_or tasks.new.items i d).ended ≡ true }
+    ensures ended { result.ended ≡ true → (i : ℕ) (d : Task W) → i < vec_len tasks.new → (slice_index_or tasks.new.items i d).ended ≡ true }
 {
-    let mut quiet = true;
+    let mut all = Turned::nobody();
     for i in 0..tasks.len() {
-        quiet &= turn_task(gate, &mut tasks[i]);
+        all = all.and(attempt(gate, &mut tasks[i]));
     }
-    quiet
+    all
 }
 
 /// Waits for the end of each thread, and steps what came back until all have ended.
@@ -142,13 +133,14 @@ fn settle<A: Worker, B: Worker, C: Worker, G: Gate, R: Wait>(
     ensures manager_ends { crew.new.manager.ended ≡ true }
     ensures tiles_end { (i : ℕ) (d : Task C) → i < vec_len crew.new.tiles → (slice_index_or crew.new.tiles.items i d).ended ≡ true }
 {
+    let mut pause = Pause::new();
     for _ in rt.forever() {
         let clients = turn_tasks(gate, &mut crew.clients);
-        let manager = turn_task(gate, &mut crew.manager);
+        let manager = attempt(gate, &mut crew.manager);
         let tiles = turn_tasks(gate, &mut crew.tiles);
-        if clients && manager && tiles {
+        if clients.ended && manager.ended && tiles.ended {
             break;
         }
-        thread::yield_now();
+        pause.after(rt, clients.moved || manager.moved || tiles.moved);
     }
 }

@@ -9,7 +9,7 @@ pub trait Foreground<K> {
     /// It before what the threads hand back is kept, what that is, and it after that.
     ghost keeps: { Self → K → Self → Type 0 };
 
-    /// One turn of the caller's own work. Whether nothing of it is left.
+    /// One turn of the caller's own work. Whether anything moved in it; where nothing did, it is asked again while threads run.
     fn serve(&mut self) -> bool
         ensures { served self.old self.new };
 
@@ -40,7 +40,7 @@ impl<K: Drop> Foreground<K> for Idle {
     ghost goes_on = { λ a b c f g. tt };
 
     fn serve(&mut self) -> bool {
-        true
+        false
     }
 
     fn keep(&mut self, kept: K) {

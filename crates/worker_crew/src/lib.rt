@@ -2,12 +2,13 @@
 //!
 //! A worker is an actor of a cluster that is stepped until it has ended: by a thread, or, where no thread could be made for it, by the caller, in
 //! rotation with the others that came back. What each step of a worker keeps is known of it at its end, and it is known that it has ended; so what
-//! was said of each worker before the threads began is said of it after they were joined. While the threads run the caller has work of its own, the
-//! foreground. Which actors these are is not known here. This crate stands on rc_base.
+//! was said of each worker before the threads began is said of it after they were joined. Until the last of the threads has ended the caller has work
+//! of its own, the foreground. Which actors these are is not known here. This crate stands on rc_base.
 #![tactic(auto)]
 
 mod crew;
 mod foreground;
+mod pause;
 mod ready;
 mod run;
 mod scope;
@@ -18,7 +19,7 @@ mod worker;
 pub use crew::Crew;
 pub use foreground::Foreground;
 pub use ready::{Ready, prepare};
-pub use run::run_to_end;
+pub use run::{run_beside, run_to_end};
 pub use scope::run_in_scope;
 pub use task::Task;
 pub use worker::{Attempt, Worker};

@@ -1,11 +1,11 @@
-//! A crew's run, with nothing for the caller to do meanwhile.
-ghost use Rattle.std.specs.Prelude.{IfOk};
+//! A crew's run, with a foreground or with nothing for the caller to do meanwhile.
+ghost use Rattle.std.specs.Prelude.{◌≡◌, IfOk, OnOk, OnErr};
 ghost use Rattle.worker_crew.specs.Crews.{HaveEnded};
 
 use crate::crew::Crew;
-use crate::foreground::Idle;
+use crate::foreground::{Foreground, Idle};
 use crate::ready::{Ready, prepare};
-use crate::scope::run_crew;
+use crate::scope::{run_crew, run_in_scope};
 use crate::task::Task;
 use crate::worker::Worker;
 use crossbeam_utils::CachePadded;
@@ -73,4 +73,30 @@ where
     let flags = new_flags(alloc, count.saturating_add(1))?;
     let ready = prepare(alloc, crew)?;
     Ok(run_with(rt, gate, &flags, ready))
+}
+
+/// Runs a crew to its end, each worker in a thread of its own where one can be made, and serves the foreground meanwhile, which keeps what became of
+/// the crew. All memory is taken before the first start.
+pub fn run_beside<A, B, C, J, G, R>(
+    rt: R,
+    alloc: Global,
+    gate: &G,
+    crew: Crew<A, B, C>,
+    foreground: &mut J,
+) -> Result<(), OutOfMemory>
+where
+    A: Worker + Drop + Send,
+    B: Worker + Drop + Send,
+    C: Worker + Drop + Send,
+    J: Foreground<Crew<Task<A>, Task<B>, Task<C>>>,
+    G: Gate,
+    R: Threads + Wait + Copy + Send,
+    ensures run { OnOk result ((m : J) × (tasks : _) × J.served foreground.old m × HaveEnded A.leads A.over B.leads B.over C.leads C.over crew tasks × J.keeps m tasks foreground.new) }
+    ensures lacked { OnErr result (foreground.new ≡ foreground.old) }
+{
+    let count = crew.clients.len().saturating_add(crew.tiles.len());
+    let flags = new_flags(alloc, count.saturating_add(1))?;
+    let ready = prepare(alloc, crew)?;
+    run_in_scope(rt, gate, &flags, ready, foreground);
+    Ok(())
 }

@@ -5,6 +5,7 @@ ghost use Rattle.worker_crew.specs.Tasks.{IsStarted, StartedGoOn};
 
 use crate::crew::{Crew, join_crew, start_all, turn_one, turn_started};
 use crate::foreground::Foreground;
+use crate::pause::Pause;
 use crate::ready::Ready;
 use crate::start::{Started, start_with};
 use crate::task::Task;
@@ -12,11 +13,21 @@ use crate::worker::Worker;
 use crossbeam_utils::CachePadded;
 use rc_base::gate::Gate;
 use std::sync::Wait;
-use std::sync::atomic::AtomicBool;
+use std::sync::atomic::{AtomicBool, Ordering};
 use std::thread;
 use std::thread::{Scope, Threads};
 
-/// Serves the foreground and steps what came back, in turns, until nothing of the foreground is left and all that came back have ended.
+/// Whether the flag of each of so many workers is set. Then no thread takes a step any more.
+fn all_set(flags: &[CachePadded<AtomicBool>], workers: usize) -> bool {
+    let mut all = true;
+    for flag in flags.iter().take(workers) {
+        all &= flag.load(Ordering::SeqCst);
+    }
+    all
+}
+
+/// Serves the foreground and steps what came back, in turns, until each thread has ended, each that came back has too, and then nothing of the
+/// foreground is left. The flags are read before the turn is served: what was sent by the thread that ended last is there for this turn.
 fn attend<
     A: Worker,
     B: Worker,
@@ -24,21 +35,32 @@ fn attend<
     J: Foreground<Crew<Task<A>, Task<B>, Task<C>>>,
     G: Gate,
     R: Wait,
->(rt: &R, gate: &G, crew: &mut Crew<Started<A>, Started<B>, Started<C>>, foreground: &mut J)
+>(
+    rt: &R,
+    gate: &G,
+    flags: &[CachePadded<AtomicBool>],
+    crew: &mut Crew<Started<A>, Started<B>, Started<C>>,
+    foreground: &mut J,
+)
     ensures clients { StartedGoOn A.leads A.over crew.old.clients.items crew.new.clients.items }
     ensures manager { (w : B) → IsStarted B.leads B.over w crew.old.manager → IsStarted B.leads B.over w crew.new.manager }
     ensures tiles { StartedGoOn C.leads C.over crew.old.tiles.items crew.new.tiles.items }
     ensures served { J.served foreground.old foreground.new }
 {
+    let others = crew.clients.len().saturating_add(crew.tiles.len());
+    let workers = others.saturating_add(1);
+    let mut pause = Pause::new();
     for _ in rt.forever() {
+        let threads_ended = all_set(flags, workers);
         let served = foreground.serve();
         let clients = turn_started(gate, &mut crew.clients);
         let manager = turn_one(gate, &mut crew.manager);
         let tiles = turn_started(gate, &mut crew.tiles);
-        if served && clients && manager && tiles {
+        let turned = clients.and(manager).and(tiles);
+        if threads_ended && turned.ended && !served {
             break;
         }
-        thread::yield_now();
+        pause.after(rt, turned.moved || served);
     }
 }
 
@@ -82,7 +104,7 @@ where
             tiles,
         ),
     };
-    attend(&rt, gate, &mut started, foreground);
+    attend(&rt, gate, flags, &mut started, foreground);
     join_crew(&rt, gate, started, client_tasks, tile_tasks)
 }
 

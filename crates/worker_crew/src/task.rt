@@ -2,12 +2,12 @@
 ghost use Rattle.std.specs.Prelude.{◌≡◌, true, false, IsTrue};
 ghost use Rattle.worker_crew.specs.Tasks.{IsTask};
 
+use crate::pause::Pause;
 use crate::worker::{Attempt, Worker};
 use rc_base::gate::Gate;
 use std::snapshot::Snapshot;
 use std::sync::Wait;
 use std::sync::atomic::{AtomicBool, Ordering};
-use std::thread;
 use std::thread::Promise;
 
 /// A worker, the number of steps that it has moved, and whether it has ended.
@@ -41,24 +41,55 @@ impl<W: Worker> Promise<Task<W>> for Kept<W> {
     ghost kept_by = { λ p r. (w : W) → IsTask W.leads W.over w p.0.value → IsTask W.leads W.over w r };
 }
 
-/// Passes the gate and tries one step, unless the task has ended. Whether the worker moved, or has ended.
-pub fn attempt<W: Worker, G: Gate>(gate: &G, task: &mut Task<W>) -> bool
-    ensures { (w : W) → IsTask W.leads W.over w task.old → IsTask W.leads W.over w task.new }
-{
-    if task.ended {
-        return true;
+/// What a turn came to: whether anything moved in it, and whether all whose turn it was have ended.
+#[derive(Clone, Copy, Drop)]
+pub struct Turned {
+    pub moved: bool,
+    pub ended: bool,
+}
+
+impl Turned {
+    /// The turn of nobody.
+    pub fn nobody() -> Turned
+        ensures { result ≡ record { moved = false; ended = true } }
+    {
+        Turned {
+            moved: false,
+            ended: true,
+        }
     }
-    gate.pass(task.worker.actor(), task.moves);
-    match task.worker.step() {
-        Attempt::Moved => {
-            task.moves = task.moves.saturating_add(1);
-            true
+
+    /// This turn and another.
+    pub fn and(self, other: Turned) -> Turned
+        ensures { result.ended ≡ true → (self.ended ≡ true) × (other.ended ≡ true) }
+    {
+        Turned {
+            moved: self.moved || other.moved,
+            ended: self.ended && other.ended,
         }
-        Attempt::Blocked => false,
-        Attempt::Ended => {
-            task.ended = true;
-            true
+    }
+}
+
+/// Passes the gate and tries one step, unless the task has ended.
+pub fn attempt<W: Worker, G: Gate>(gate: &G, task: &mut Task<W>) -> Turned
+    ensures kept { (w : W) → IsTask W.leads W.over w task.old → IsTask W.leads W.over w task.new }
+    ensures ended { result.ended ≡ task.new.ended }
+{
+    let mut moved = false;
+    if !task.ended {
+        gate.pass(task.worker.actor(), task.moves);
+        match task.worker.step() {
+            Attempt::Moved => {
+                task.moves = task.moves.saturating_add(1);
+                moved = true;
+            }
+            Attempt::Blocked => (),
+            Attempt::Ended => task.ended = true,
         }
+    }
+    Turned {
+        moved,
+        ended: task.ended,
     }
 }
 
@@ -77,18 +108,19 @@ fn work_unless<W: Worker, G: Gate, R: Wait + Copy>(
     if held_back {
         return task;
     }
+    let mut pause = Pause::new();
     for _ in rt.forever() {
-        if task.ended {
+        let turned = attempt(gate, &mut task);
+        if turned.ended {
             break;
         }
-        if !attempt(gate, &mut task) {
-            thread::yield_now();
-        }
+        pause.after(&rt, turned.moved);
     }
     task
 }
 
-/// Steps a task to its end, unless the flag is set, which is read first.
+/// Steps a task to its end, unless the flag is set, which is read first. The flag is set at the end, after the last step, so that who finds it set
+/// finds all that was sent.
 pub fn work<W: Worker, G: Gate, R: Wait + Copy>(
     rt: R,
     gate: &G,
@@ -97,5 +129,7 @@ pub fn work<W: Worker, G: Gate, R: Wait + Copy>(
 ) -> Task<W>
     ensures { (w : W) → IsTask W.leads W.over w task → IsTask W.leads W.over w result }
 {
-    work_unless(flag.load(Ordering::SeqCst), rt, gate, task)
+    let task = work_unless(flag.load(Ordering::SeqCst), rt, gate, task);
+    flag.store(true, Ordering::SeqCst);
+    task
 }

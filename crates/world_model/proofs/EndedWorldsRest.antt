@@ -37,10 +37,11 @@ use Rattle.world_model.proofs.RestChangesNothing.{rest_changes_nothing, no_item}
 module _ (scene : Scene) (l : Layout) where
   -- ---- worlds that are the same
 
-  same_self : (w : World) → IsSameWorld scene l w w
+  pub same_self : (w : World) → IsSameWorld scene l w w
   same_self w = record {
     left = λ c lc. refl;
     tallies = λ c t lc. refl;
+    short = λ c lc. refl;
     manager = refl;
     tiles = λ t lt. refl;
     parcels = λ c t lc lt. refl;
@@ -48,10 +49,11 @@ module _ (scene : Scene) (l : Layout) where
     grants = λ t lt. refl;
   }
 
-  same_on : (w v u : World) → IsSameWorld scene l w v → IsSameWorld scene l v u → IsSameWorld scene l w u
+  pub same_on : (w v u : World) → IsSameWorld scene l w v → IsSameWorld scene l v u → IsSameWorld scene l w u
   same_on w v u a b = record {
     left = λ c lc. b.left c lc ∙ a.left c lc;
     tallies = λ c t lc. b.tallies c t lc ∙ a.tallies c t lc;
+    short = λ c lc. b.short c lc ∙ a.short c lc;
     manager = b.manager ∙ a.manager;
     tiles = λ t lt. b.tiles t lt ∙ a.tiles t lt;
     parcels = λ c t lc lt. b.parcels c t lc lt ∙ a.parcels c t lc lt;
@@ -86,7 +88,7 @@ module _ (scene : Scene) (l : Layout) where
     not_both true e f = cc
     not_both false e f = cc
 
-    client_last : (w v : World) (c : ℕ) (answer : ClientMoved) → (w.clients c).left ≡ [] → IsClientStep scene l depth w c answer v → answer ≡ client_moved.Ended
+    pub client_last : (w v : World) (c : ℕ) (answer : ClientMoved) → (w.clients c).left ≡ [] → IsClientStep scene l depth w c answer v → answer ≡ client_moved.Ended
     client_last w v c (client_moved.Appended tile) none s = absurd (no_item_left (w.clients c).left (v.clients c).left _ none s.sent.next)
     client_last w v c client_moved.Requested none s = absurd (no_item_left (w.clients c).left (v.clients c).left _ none s.sent.next)
     client_last w v c (client_moved.BlockedTile tile) none s = absurd (no_item_left (w.clients c).left s.rest _ none s.next)
@@ -96,7 +98,7 @@ module _ (scene : Scene) (l : Layout) where
     same_answer : (r : Result ManagerMoved OutOfMemory) (a b : ManagerMoved) → r ≡ Ok a → r ≡ Ok b → b ≡ a
     same_answer r a b e f = cc
 
-    tile_last : (p : Progress) (item : Item) (answer : TileAnswer) → HasEnded p → IsAwaited p item → IsTileAnswer p item answer → answer ≡ Ended
+    pub tile_last : (p : Progress) (item : Item) (answer : TileAnswer) → HasEnded p → IsAwaited p item → IsTileAnswer p item answer → answer ≡ Ended
     tile_last p Nothing answer h a (inl is) = is.0
     tile_last p Nothing answer h a (inr is) = absurd (is.1 h)
     tile_last p (Due e) answer h a is =
@@ -148,7 +150,7 @@ module _ (scene : Scene) (l : Layout) where
         found moves w m.0 later i (omega arith) (same_on w v m.0 same (rest_changes_nothing scene l depth v m.0 move (last_rests move last.0) m.1)) m.2 last.1
 
     module _ (w : World) where
-      client_ends : (v after : World) (c : ℕ) (answer : ClientMoved) → answer ≡ client_moved.Ended → IsClientStep scene l depth v c answer after → (v.clients c).left ≡ []
+      pub client_ends : (v after : World) (c : ℕ) (answer : ClientMoved) → answer ≡ client_moved.Ended → IsClientStep scene l depth v c answer after → (v.clients c).left ≡ []
       client_ends v after c (client_moved.Appended tile) e s = absurd cc
       client_ends v after c client_moved.Requested e s = absurd cc
       client_ends v after c (client_moved.BlockedTile tile) e s = absurd cc
@@ -164,7 +166,7 @@ module _ (scene : Scene) (l : Layout) where
           by (ManagerMove answer) m last e = absurd (omega (arith, e, lc))
           by (TileMove t answer) m last e = absurd (omega (arith, e, lc))
 
-      deed_ends : (deed : ManagerDeed) → answer_of deed ≡ Ok manager_moved.Ended → deed ≡ Finishes
+      pub deed_ends : (deed : ManagerDeed) → answer_of deed ≡ Ok manager_moved.Ended → deed ≡ Finishes
       deed_ends (Delivers tile g) e = absurd (let x = same_answer (answer_of (Delivers tile g)) (manager_moved.Delivered tile) manager_moved.Ended refl e in cc)
       deed_ends (FindsFull tile) e = absurd (let x = same_answer (answer_of (FindsFull tile)) (manager_moved.BlockedGrant tile) manager_moved.Ended refl e in cc)
       deed_ends (Grants entry) e = absurd (let x = same_answer (answer_of (Grants entry)) manager_moved.Granted manager_moved.Ended refl e in cc)
@@ -187,7 +189,7 @@ module _ (scene : Scene) (l : Layout) where
               (subst (λ d. IsNextDeed (sync_lists_of scene) (tile_count l) f.before.manager d) deed m.step.next)
           by (TileMove t answer) m last e = absurd (omega (arith, e))
 
-      has_ended : (p : Progress) (answer : TileAnswer) → answer ≡ Ended → IsTileAnswer p Nothing answer → HasEnded p
+      pub has_ended : (p : Progress) (answer : TileAnswer) → answer ≡ Ended → IsTileAnswer p Nothing answer → HasEnded p
       has_ended p answer e (inl is) = is.1
       has_ended p answer e (inr is) = absurd (let x = sym e ∙ is.0 in cc)
 

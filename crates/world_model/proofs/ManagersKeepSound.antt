@@ -34,7 +34,7 @@ use Rattle.world_model.proofs.JournalsGoOn.{tile_goes_on}
 
 module _ (syncs : SyncLists) (tiles : ℕ) (d : ManagerProgress) where
   -- it is not short, since the step answered
-  stays_ample : (deed : ManagerDeed) (answer : ManagerMoved) → answer_of deed ≡ Ok answer → (progress_after syncs d deed).short ≡ d.short
+  pub stays_ample : (deed : ManagerDeed) (answer : ManagerMoved) → answer_of deed ≡ Ok answer → (progress_after syncs d deed).short ≡ d.short
   stays_ample (Delivers tile (grant_item.Entry e)) answer is = refl
   stays_ample (Delivers tile grant_item.NoMore) answer is = refl
   stays_ample (FindsFull tile) answer is = refl
@@ -46,7 +46,7 @@ module _ (syncs : SyncLists) (tiles : ℕ) (d : ManagerProgress) where
   stays_ample FindsNoneLeft answer is = refl
   stays_ample Finishes answer is = refl
 
-  stays_legal : BooksStayLegal → (deed : ManagerDeed) → IsNextDeed syncs tiles d deed → IsLegalBook syncs d.book → IsLegalBook syncs (progress_after syncs d deed).book
+  pub stays_legal : BooksStayLegal → (deed : ManagerDeed) → IsNextDeed syncs tiles d deed → IsLegalBook syncs d.book → IsLegalBook syncs (progress_after syncs d deed).book
   stays_legal books (Delivers tile (grant_item.Entry e)) next h = h
   stays_legal books (Delivers tile grant_item.NoMore) next h = h
   stays_legal books (FindsFull tile) next h = h
@@ -81,7 +81,7 @@ module _ (syncs : SyncLists) (tiles : ℕ) (d : ManagerProgress) where
   beyond c client le lt = off c client (λ e. omega (arith, e, le, lt))
 
   -- nothing is taken of a client that doesn't exist
-  none_beyond : (deed : ManagerDeed) → IsNextDeed syncs tiles d deed → (c : ℕ) → client_count syncs ≤ c → taken_of deed c ≡ None
+  pub none_beyond : (deed : ManagerDeed) → IsNextDeed syncs tiles d deed → (c : ℕ) → client_count syncs ≤ c → taken_of deed c ≡ None
   none_beyond (Delivers tile g) next c le = refl
   none_beyond (FindsFull tile) next c le = refl
   none_beyond (Grants e) next c le = refl

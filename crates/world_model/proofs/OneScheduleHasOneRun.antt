@@ -5,7 +5,7 @@ use Rattle.rc_base.specs.declared.window.Layout.{Layout}
 use Rattle.client_issue.specs.Laws.{SequencesAreSplit}
 use Rattle.order_model.specs.Laws.{GrantsAreLawful}
 use Rattle.sync_manager.specs.Promises.{NewManagersAreRight}
-use Rattle.tile_model.specs.Laws.{NewTilesStand, LegalEntriesHaveClients}
+use Rattle.tile_model.specs.Laws.{NewTilesStand}
 use Rattle.tile_model.specs.Scenes.{IsInRange, HasSides}
 use Rattle.world_model.specs.Laws.{AreAlike, OneScheduleHasOneRun}
 use Rattle.world_model.specs.declared.moves.Move.{Move}
@@ -34,7 +34,6 @@ new_alike scene l w v h k = record {
 -- the laws that are cited
 pub record StepsAreOne : Type 0 where
   pub lawful : GrantsAreLawful
-  pub entries : LegalEntriesHaveClients
 
 module _ (scene : Scene) (l : Layout) (depth : ℕ) (laws : StepsAreOne) where
   one_move : (w v w' v' : World) (move other : Move) → IsSound scene l w → AreAlike scene l w w' → IsMove scene l depth w move v → IsMove scene l depth w' other v'
@@ -52,7 +51,7 @@ module _ (scene : Scene) (l : Layout) (depth : ℕ) (laws : StepsAreOne) where
   one_move w v w' v' (TileMove t x) (ManagerMove y) sound h m m' e = absurd (omega (arith, e))
   one_move w v w' v' (TileMove t x) (TileMove k y) sound h m m' e =
       let same : k ≡ t = omega (arith, e) in
-      let r = tile_alike scene l depth w v w' v' t x y sound h m.step (subst (λ n. IsTileMove scene l depth w' n y v') same m'.step) laws.entries in
+      let r = tile_alike scene l depth w v w' v' t x y sound h m.step (subst (λ n. IsTileMove scene l depth w' n y v') same m'.step) in
       (ap (λ n. TileMove n y) same ∙ ap (λ a. TileMove t a) r.0, r.1)
 
   one_run : ActorsAreRight → IsInRange scene → HasSides scene.decl → (moves others : List Move) (w v w' v' : World) → IsSound scene l w → AreAlike scene l w w'

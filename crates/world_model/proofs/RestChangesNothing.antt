@@ -47,13 +47,14 @@ module _ (scene : Scene) (l : Layout) (depth : ℕ) (w v : World) where
   is_idle client client_moved.BlockedRequest rest step = step.idle
   is_idle client client_moved.Ended rest step = step.1
 
-  client_rests : (client : ℕ) (answer : ClientMoved) → IsAtRest (ClientMove client answer) → IsClientMove scene l depth w client answer v → IsSameWorld scene l w v
+  pub client_rests : (client : ℕ) (answer : ClientMoved) → IsAtRest (ClientMove client answer) → IsClientMove scene l depth w client answer v → IsSameWorld scene l w v
   client_rests client answer rest m =
       let idle = is_idle client answer rest m.step in
       record {
         left = at_one (λ c. c < client_total scene → (v.clients c).left ≡ (w.clients c).left) client (λ lc. idle.sent.left) (λ c ne lc. ap (λ (k : Client). k.left) (m.only.clients c lc ne));
         tallies = at_one (λ c. (tile : ℕ) → c < client_total scene → (v.clients c).tallies tile ≡ (w.clients c).tallies tile) client
             (λ tile lc. idle.tallies tile) (λ c ne tile lc. ap (λ (k : Client). k.tallies tile) (m.only.clients c lc ne));
+        short = at_one (λ c. c < client_total scene → (v.clients c).short ≡ (w.clients c).short) client (λ lc. m.short) (λ c ne lc. ap (λ (k : Client). k.short) (m.only.clients c lc ne));
         manager = m.only.manager;
         tiles = m.only.tiles;
         parcels = at_one (λ c. (tile : ℕ) → c < client_total scene → tile < tile_count l → v.parcels c tile ≡ w.parcels c tile) client
@@ -104,12 +105,13 @@ module _ (scene : Scene) (l : Layout) (depth : ℕ) (w v : World) where
   is_still d FindsNoneLeft answer rest e = record { after = refl; taken = λ client. refl; sent = λ tile. refl }
   is_still d Finishes answer rest e = record { after = refl; taken = λ client. refl; sent = λ tile. refl }
 
-  manager_rests : (answer : ManagerMoved) → IsAtRest (ManagerMove answer) → IsManagerMove scene l depth w answer v → IsSameWorld scene l w v
+  pub manager_rests : (answer : ManagerMoved) → IsAtRest (ManagerMove answer) → IsManagerMove scene l depth w answer v → IsSameWorld scene l w v
   manager_rests answer rest m =
       let s = is_still w.manager m.deed answer rest m.answered in
       record {
         left = λ c lc. ap (λ (k : Client). k.left) (m.only.clients c lc);
         tallies = λ c tile lc. ap (λ (k : Client). k.tallies tile) (m.only.clients c lc);
+        short = λ c lc. ap (λ (k : Client). k.short) (m.only.clients c lc);
         manager = m.manager ∙ s.after;
         tiles = m.only.tiles;
         parcels = m.only.parcels;
@@ -161,20 +163,25 @@ module _ (scene : Scene) (l : Layout) (depth : ℕ) (w v : World) where
   no_item p NoMore answer is rest = absurd (learnt_answers answer is rest)
   no_item p (Sent client parcel) answer is rest = absurd (act_answers (p.held client) client parcel.act answer is rest)
 
-  same_tile : (tile : ℕ) (a b : Tile) → IsTileStep scene.decl l tile Nothing a b → b ≡ a
-  same_tile tile a b s =
-      ap (λ (p : Progress). record { progress = p; next = b.next; board = b.board; parts = b.parts }) s.progress
-      ∙ ap (λ (n : ℕ). record { progress = a.progress; next = n; board = b.board; parts = b.parts }) s.next
-      ∙ ap (λ (d : Board). record { progress = a.progress; next = a.next; board = d; parts = b.parts }) s.board
-      ∙ ap (λ (xs : List Pixels). record { progress = a.progress; next = a.next; board = a.board; parts = xs }) s.parts
+  pub equal_tiles : (a b : Tile) → b.progress ≡ a.progress → b.next ≡ a.next → b.board ≡ a.board → b.parts ≡ a.parts → b.short ≡ a.short → b ≡ a
+  equal_tiles a b progress next board parts short =
+      ap (λ (p : Progress). record { progress = p; next = b.next; board = b.board; parts = b.parts; short = b.short }) progress
+      ∙ ap (λ (n : ℕ). record { progress = a.progress; next = n; board = b.board; parts = b.parts; short = b.short }) next
+      ∙ ap (λ (d : Board). record { progress = a.progress; next = a.next; board = d; parts = b.parts; short = b.short }) board
+      ∙ ap (λ (xs : List Pixels). record { progress = a.progress; next = a.next; board = a.board; parts = xs; short = b.short }) parts
+      ∙ ap (λ (y : Bool). record { progress = a.progress; next = a.next; board = a.board; parts = a.parts; short = y }) short
 
-  tile_rests : (tile : ℕ) (answer : TileAnswer) → IsAtRest (TileMove tile answer) → IsTileMove scene l depth w tile answer v → IsSameWorld scene l w v
+  same_tile : (tile : ℕ) (a b : Tile) → IsTileStep scene.decl l tile Nothing a b → b ≡ a
+  same_tile tile a b s = equal_tiles a b s.progress s.next s.board s.parts s.still_ample
+
+  pub tile_rests : (tile : ℕ) (answer : TileAnswer) → IsAtRest (TileMove tile answer) → IsTileMove scene l depth w tile answer v → IsSameWorld scene l w v
   tile_rests tile answer rest m =
       let none = no_item (w.tiles tile).progress m.item answer m.answered rest in
       let step = subst (λ i. IsTileStep scene.decl l tile i (w.tiles tile) (v.tiles tile)) none m.step in
       record {
         left = λ c lc. ap (λ (k : Client). k.left) (m.only.clients c lc);
         tallies = λ c t lc. ap (λ (k : Client). k.tallies t) (m.only.clients c lc);
+        short = λ c lc. ap (λ (k : Client). k.short) (m.only.clients c lc);
         manager = m.only.manager;
         tiles = at_one (λ t. t < tile_count l → v.tiles t ≡ w.tiles t) tile (λ lt. same_tile tile (w.tiles tile) (v.tiles tile) step) (λ t ne lt. m.only.tiles t lt ne);
         parcels = λ c. at_one (λ t. c < client_total scene → t < tile_count l → v.parcels c t ≡ w.parcels c t) tile

@@ -1,8 +1,7 @@
--- A round in which nobody moves says of each actor that it can't move, so all have ended.
-use Rattle.std.proofs.Common.{◌≡◌, ℕ, zero, suc, ◌+◌, ◌<◌, ◌≤◌, List, [], ◌∷◌, ◌++◌, length, map, inl, inr, refl, sym, ap, ◌∙◌, subst, arith}
-use Rattle.std.proofs.lemmas.Bool.{cases_lt}
-use Rattle.std.specs.List.{range_with_len, AllByRecursion}
-use Rattle.std.specs.Prelude.{Ok}
+-- A round in which nobody moves, whoever is short, says of each actor that it can't move, so all have ended.
+use Rattle.std.proofs.Common.{◌≡◌, ◌⊎◌, ℕ, ◌+◌, ◌<◌, true, false, List, [], length, map, inl, inr, refl, sym, ap, ◌∙◌, subst, arith, true≢false}
+use Rattle.std.specs.List.{AllByRecursion}
+use Rattle.std.specs.Prelude.{Ok, Err}
 use Rattle.rc_base.specs.Cluster.Tiles.{tile_count}
 use Rattle.rc_base.specs.Orders.Sync.{client_count, sync_lists_of}
 use Rattle.rc_base.specs.declared.cluster.ClientMoved.{ClientMoved}
@@ -13,23 +12,27 @@ use Rattle.rc_base.specs.declared.scene.Scene.{Scene}
 use Rattle.rc_base.specs.declared.sync.Grant.{Grant}
 use Rattle.rc_base.specs.declared.sync.Grant.TheVariants as grant_item
 use Rattle.rc_base.specs.declared.window.Layout.{Layout}
-use Rattle.client_issue.specs.Laws.{ParcelsRiseAndEnd}
-use Rattle.order_model.specs.Standing.{is_listening, is_asked}
 use Rattle.order_model.proofs.SceneListsAreWellFormed.{scene_client_count}
 use Rattle.sync_manager.specs.Progress.{ManagerProgress, IsReceiving, IsDraining, IsGrantDue, may_arrive, IsNextDeed, IsFoundFull, IsFoundEmpty, answer_of}
 use Rattle.sync_manager.specs.declared.deed.ManagerDeed.{ManagerDeed}
 use Rattle.sync_manager.specs.declared.deed.ManagerDeed.TheVariants.{Delivers, FindsFull, Grants, Receives, Loses, FindsNoRequest, Drops, FindsNoneLeft, Finishes}
-use Rattle.tile_model.specs.Laws.{MembersAreClients, LegalEntriesHaveClients}
-use Rattle.world_model.specs.Laws.{IsSameWorld, SteppedRunsAreSound, RoundsMoveSomebody, NoRunStandsStill}
-use Rattle.world_model.specs.declared.moves.Move.{Move}
-use Rattle.world_model.specs.Moves.{IsAtRest, IsClientStep, IsTileMove, IsMove, AreMoves}
-use Rattle.world_model.specs.declared.moves.Move.TheVariants.{Client as ClientMove, Manager as ManagerMove, Tile as TileMove}
-use Rattle.world_model.specs.Runs.{actor_of, round_of, rounds_of, AllHaveEnded}
-use Rattle.world_model.specs.declared.moves.TileAnswer.{TileAnswer}
-use Rattle.world_model.specs.Tiles.{Tile, NothingIsDue, IsUndue, HasEnded, FindsNoGrant, FindsNoParcel}
+use Rattle.tile_model.specs.Items.Item.{NoMore}
+use Rattle.tile_model.specs.Laws.{MembersAreClients}
+use Rattle.tile_model.specs.Short.{asks, listens, IsFinished, NothingIsDue}
+use Rattle.world_model.specs.Laws.{IsSameWorld, RoundsMoveSomebody}
+use Rattle.world_model.specs.Moves.{IsAtRest, IsClientStep, IsTileMove}
+use Rattle.world_model.specs.Runs.{round_of}
+use Rattle.world_model.specs.Short.{FindsNoGrantShort, FindsNoParcelShort}
+use Rattle.world_model.specs.Tiles.{Tile, IsUndue, FindsNoGrant, FindsNoParcel}
+use Rattle.world_model.specs.Turns.{Turn, IsShortTileMove, IsTurn, AreTurns, IsResting, number_of, AllHaveStopped}
+use Rattle.world_model.specs.Turns.Turn.{ClientTurn, ManagerTurn, TileTurn}
 use Rattle.world_model.specs.World.{World, client_total}
-use Rattle.world_model.proofs.NothingStandsStill.{ClientRests, TileRests, ManagerRests, AllRest, nothing_stands_still}
-use Rattle.world_model.proofs.RestChangesNothing.{rest_changes_nothing, no_item}
+use Rattle.world_model.specs.declared.moves.Move.TheVariants.{Client as ClientMove, Manager as ManagerMove, Tile as TileMove}
+use Rattle.world_model.specs.declared.moves.TileAnswer.{TileAnswer}
+use Rattle.world_model.specs.declared.moves.TileAnswer.TheVariants.{Ended}
+use Rattle.world_model.proofs.RestChangesNothing.{no_item}
+use Rattle.world_model.proofs.RestingRounds.{no_short_item, all_keep, all_known, find, Exists}
+use Rattle.world_model.proofs.SomebodyCanMove.{ClientRests, TileRests, ManagerRests, AllRest, somebody_can_move}
 
 module _ (scene : Scene) (l : Layout) (depth : ℕ) where
   -- ---- what a move at rest says
@@ -100,34 +103,41 @@ module _ (scene : Scene) (l : Layout) (depth : ℕ) where
   tile_rests : (w v : World) (tile : ℕ) (answer : TileAnswer) → IsAtRest (TileMove tile answer) → IsTileMove scene l depth w tile answer v → TileRests scene w tile
   tile_rests w v tile answer rest m =
       let none = no_item scene l depth w v (w.tiles tile).progress m.item answer m.answered rest in
+      let ample = m.step.ample in
       record {
-        undue = subst (λ i. IsUndue (w.tiles tile).progress i) none m.step.undue;
-        no_grant = λ listening. subst (λ i. FindsNoGrant (w.tiles tile).progress i → w.grants tile ≡ []) none m.no_grant listening;
-        no_parcel = λ c lc asked. subst (λ i. FindsNoParcel (w.tiles tile) i c → w.parcels c tile ≡ []) none (m.no_parcel c lc) asked;
+        undue = λ still. subst (λ i. IsUndue (w.tiles tile).progress i) none m.step.undue refl;
+        no_grant = λ listening. subst (λ i. FindsNoGrant (w.tiles tile).progress i → w.grants tile ≡ []) none m.no_grant (rw ample at listening);
+        no_parcel = λ c lc asked. subst (λ i. FindsNoParcel (w.tiles tile) i c → w.parcels c tile ≡ []) none (m.no_parcel c lc) (rw ample at asked);
+      }
+
+  short_rests : (w v : World) (tile : ℕ) (answer : TileAnswer) → IsAtRest (TileMove tile answer) → IsShortTileMove scene l depth w tile answer v → TileRests scene w tile
+  short_rests w v tile answer rest m =
+      let none = no_short_item scene l depth (w.tiles tile).progress m.item answer m.answered rest in
+      let short = m.short in
+      record {
+        undue = λ ample. absurd (true≢false (sym short ∙ ample));
+        no_grant = λ listening. subst (λ i. FindsNoGrantShort (w.tiles tile).progress i → w.grants tile ≡ []) none m.no_grant (rw short at listening);
+        no_parcel = λ c lc asked. subst (λ i. FindsNoParcelShort (w.tiles tile) i c → w.parcels c tile ≡ []) none (m.no_parcel c lc) (rw short at asked);
       }
 
   -- ---- of each move of a round, by one world
 
-  abbrev RestsAt : World → Move → Type 0
-  RestsAt w (ClientMove client answer) = ClientRests l depth w client
-  RestsAt w (ManagerMove answer) = ManagerRests scene l depth w
-  RestsAt w (TileMove tile answer) = (tile < tile_count l) × TileRests scene w tile
+  abbrev RestsAt : World → Turn → Type 0
+  RestsAt w (ClientTurn client answer) = ClientRests l depth w client
+  RestsAt w (ManagerTurn answer) = ManagerRests scene l depth w
+  RestsAt w (TileTurn tile answer) = TileRests scene w tile
 
-  rests_at : (w v : World) (m : Move) → IsAtRest m → IsMove scene l depth w m v → RestsAt w m
-  rests_at w v (ClientMove client answer) rest m = client_rests w v client answer rest m.step.step
-  rests_at w v (ManagerMove answer) rest m = manager_rests w m.step.deed answer rest m.step.answered m.step.next m.step.empty m.step.full
-  rests_at w v (TileMove tile answer) rest m = (m.step.low, tile_rests w v tile answer rest m.step)
-
-  -- the client of a move exists
-  abbrev Exists : Move → Type 0
-  Exists (ClientMove client answer) = client < client_total scene
-  Exists (ManagerMove answer) = Unit {0}
-  Exists (TileMove tile answer) = Unit {0}
-
-  exists : (w v : World) (m : Move) → IsMove scene l depth w m v → Exists m
-  exists w v (ClientMove client answer) m = m.step.low
-  exists w v (ManagerMove answer) m = tt
-  exists w v (TileMove tile answer) m = tt
+  rests_at : (w v : World) (m : Turn) → IsResting m → IsTurn scene l depth w m v → RestsAt w m
+  rests_at w v (ClientTurn client (Ok answer)) rest m = client_rests w v client answer rest m.step.step
+  rests_at w v (ClientTurn client (Err error)) rest m = absurd rest
+  rests_at w v (ManagerTurn (Ok answer)) rest m = manager_rests w m.step.deed answer rest m.step.answered m.step.next m.step.empty m.step.full
+  rests_at w v (ManagerTurn (Err error)) rest m = absurd rest
+  rests_at w v (TileTurn tile (Ok answer)) rest m = by m.step
+    where
+      by : IsTileMove scene l depth w tile answer v ⊎ IsShortTileMove scene l depth w tile answer v → TileRests scene w tile
+      by (inl t) = tile_rests w v tile answer rest t
+      by (inr t) = short_rests w v tile answer rest t
+  rests_at w v (TileTurn tile (Err error)) rest m = absurd rest
 
   client_before : (w v : World) (client : ℕ) → client < client_total scene → IsSameWorld scene l w v → ClientRests l depth v client → ClientRests l depth w client
   client_before w v client lc s (inl none) = inl (sym (s.left client lc) ∙ none)
@@ -158,96 +168,58 @@ module _ (scene : Scene) (l : Layout) (depth : ℕ) where
 
   tile_before : (w v : World) (tile : ℕ) → tile < tile_count l → IsSameWorld scene l w v → TileRests scene v tile → TileRests scene w tile
   tile_before w v tile lt s b =
-      let e = ap (λ (a : Tile). a.progress) (s.tiles tile lt) in
+      let e = s.tiles tile lt in
       record {
-        undue = subst (λ p. NothingIsDue p) e b.undue;
-        no_grant = λ listening. sym (s.grants tile lt) ∙ b.no_grant (ap is_listening e ∙ listening);
-        no_parcel = λ c lc asked. sym (s.parcels c tile lc lt) ∙ b.no_parcel c lc (ap (λ p. is_asked p c) e ∙ asked);
+        undue = subst (λ (a : Tile). NothingIsDue a.short a.progress) e b.undue;
+        no_grant = λ listening. sym (s.grants tile lt) ∙ b.no_grant (ap (λ (a : Tile). listens a.short a.progress) e ∙ listening);
+        no_parcel = λ c lc asked. sym (s.parcels c tile lc lt) ∙ b.no_parcel c lc (ap (λ (a : Tile). asks a.short a.progress c) e ∙ asked);
       }
 
-  before : (w v : World) (m : Move) → Exists m → IsSameWorld scene l w v → RestsAt v m → RestsAt w m
-  before w v (ClientMove client answer) lc s b = client_before w v client lc s b
-  before w v (ManagerMove answer) lc s b = manager_before w v s b
-  before w v (TileMove tile answer) lc s b = (b.0, tile_before w v tile b.0 s b.1)
+  before : (w v : World) (m : Turn) → Exists scene l depth m → IsSameWorld scene l w v → RestsAt v m → RestsAt w m
+  before w v (ClientTurn client answer) lc s b = client_before w v client lc s b
+  before w v (ManagerTurn answer) lc s b = manager_before w v s b
+  before w v (TileTurn tile answer) lt s b = tile_before w v tile lt s b
 
-  abbrev Known : World → Move → Type 0
-  Known w m = Exists m × RestsAt w m
-
-  all_before : (w v : World) (moves : List Move) → IsSameWorld scene l w v → AllByRecursion (Known v) moves → AllByRecursion (Known w) moves
-  all_before w v [] s h = tt
-  all_before w v (m ∷ moves) s h = ((h.0.0, before w v m h.0.0 s h.0.1), all_before w v moves s h.1)
-
-  all_known : (w v : World) (moves : List Move) → AllByRecursion IsAtRest moves → AreMoves scene l depth w moves v → AllByRecursion (Known w) moves
-  all_known w v [] rest h = tt
-  all_known w v (m ∷ moves) rest h = (
-    (exists w h.0 m h.1, rests_at w h.0 m rest.0 h.1),
-    all_before w h.0 moves (rest_changes_nothing scene l depth w h.0 m rest.0 h.1) (all_known h.0 v moves rest.1 h.2),
-  )
+  abbrev Known : World → Turn → Type 0
+  Known w m = Exists scene l depth m × RestsAt w m
 
   -- ---- each actor has a move in the round
 
-  find : (P : Move → Type 0) (moves : List Move) (from n : ℕ) → map (actor_of scene) moves ≡ range_with_len from n → AllByRecursion P moves → (k : ℕ) → from ≤ k → k < from + n
-      → (m : Move) × P m × (actor_of scene m ≡ k)
-  find P moves from zero e h k le lt = absurd (omega (arith, le, lt))
-  find P [] from (suc n) e h k le lt = absurd cc
-  find P (m ∷ moves) from (suc n) e h k le lt =
-      let head : actor_of scene m ≡ from = cc in
-      let tail : map (actor_of scene) moves ≡ range_with_len (from + 1) n = cc in
-      elim (cases_lt from k) [
-        | inl less ↦ find P moves (from + 1) n tail h.1 k (omega (arith, less)) (omega (arith, lt))
-        | inr ge ↦ (m, h.0, head ∙ (let same : from ≡ k = omega (arith, le, ge) in same))
-      ]
+  client_of : (w : World) (c : ℕ) → c < client_total scene → (m : Turn) → Known w m → number_of scene m ≡ c → ClientRests l depth w c
+  client_of w c lc (ClientTurn client answer) k e = subst (λ i. ClientRests l depth w i) e k.1
+  client_of w c lc (ManagerTurn answer) k e = absurd (omega (arith, lc, e))
+  client_of w c lc (TileTurn tile answer) k e = absurd (omega (arith, lc, e))
 
-  client_of : (w : World) (c : ℕ) → c < client_total scene → (m : Move) → Known w m → actor_of scene m ≡ c → ClientRests l depth w c
-  client_of w c lc (ClientMove client answer) k e = subst (λ i. ClientRests l depth w i) e k.1
-  client_of w c lc (ManagerMove answer) k e = absurd (omega (arith, lc, e))
-  client_of w c lc (TileMove tile answer) k e = absurd (omega (arith, lc, e))
+  manager_of : (w : World) (m : Turn) → Known w m → number_of scene m ≡ client_total scene → ManagerRests scene l depth w
+  manager_of w (ClientTurn client answer) k e = absurd (let lc = k.0 in omega (arith, lc, e))
+  manager_of w (ManagerTurn answer) k e = k.1
+  manager_of w (TileTurn tile answer) k e = absurd (omega (arith, e))
 
-  manager_of : (w : World) (m : Move) → Known w m → actor_of scene m ≡ client_total scene → ManagerRests scene l depth w
-  manager_of w (ClientMove client answer) k e = absurd (let lc = k.0 in omega (arith, lc, e))
-  manager_of w (ManagerMove answer) k e = k.1
-  manager_of w (TileMove tile answer) k e = absurd (omega (arith, e))
+  tile_of : (w : World) (t : ℕ) (m : Turn) → Known w m → number_of scene m ≡ client_total scene + 1 + t → TileRests scene w t
+  tile_of w t (ClientTurn client answer) k e = absurd (let lc = k.0 in omega (arith, lc, e))
+  tile_of w t (ManagerTurn answer) k e = absurd (omega (arith, e))
+  tile_of w t (TileTurn tile answer) k e = let same : tile ≡ t = omega (arith, e) in subst (λ i. TileRests scene w i) same k.1
 
-  tile_of : (w : World) (t : ℕ) (m : Move) → Known w m → actor_of scene m ≡ client_total scene + 1 + t → TileRests scene w t
-  tile_of w t (ClientMove client answer) k e = absurd (let lc = k.0 in omega (arith, lc, e))
-  tile_of w t (ManagerMove answer) k e = absurd (omega (arith, e))
-  tile_of w t (TileMove tile answer) k e = let same : tile ≡ t = omega (arith, e) in subst (λ i. TileRests scene w i) same k.1.1
-
-  all_rest : (w v : World) (round : List Move) → map (actor_of scene) round ≡ round_of scene l → AllByRecursion IsAtRest round → AreMoves scene l depth w round v → AllRest scene l depth w
+  all_rest : (w v : World) (round : List Turn) → map (number_of scene) round ≡ round_of scene l → AllByRecursion IsResting round → AreTurns scene l depth w round v → AllRest scene l depth w
   all_rest w v round e rest h =
-      let known = all_known w v round rest h in
+      let known = all_known scene l depth IsResting RestsAt (λ m rests. rests) rests_at before w v round rest h in
       let n = client_total scene + 1 + tile_count l in
-      let pick : (k : ℕ) → k < n → (m : Move) × Known w m × (actor_of scene m ≡ k) = λ k lt. find (Known w) round 0 n e known k (omega arith) (omega (arith, lt)) in
+      let pick : (k : ℕ) → k < n → (m : Turn) × Known w m × (number_of scene m ≡ k) = λ k lt. find scene l depth (Known w) round 0 n e known k (omega arith) (omega (arith, lt)) in
       record {
         clients = λ c lc. let m = pick c (omega (arith, lc)) in client_of w c lc m.0 m.1 m.2;
         manager = let m = pick (client_total scene) (omega arith) in manager_of w m.0 m.1 m.2;
         tiles = λ t lt. let m = pick (client_total scene + 1 + t) (omega (arith, lt)) in tile_of w t m.0 m.1 m.2;
       }
 
-  -- ---- the round changes nothing
+-- all have stopped in a world that is the same
+pub stopped_on : (scene : Scene) (l : Layout) (w v : World) → IsSameWorld scene l w v → AllHaveStopped scene l w → AllHaveStopped scene l v
+stopped_on scene l w v s h = record {
+  clients = λ c lc. s.left c lc ∙ h.clients c lc;
+  manager = subst (λ (d : ManagerProgress). IsNextDeed (sync_lists_of scene) (tile_count l) d Finishes) (sym s.manager) h.manager;
+  tiles = λ t lt. subst (λ (a : Tile). IsFinished a.short a.progress) (sym (s.tiles t lt)) (h.tiles t lt);
+}
 
-  ended_on : (w v : World) → IsSameWorld scene l w v → AllHaveEnded scene l w → AllHaveEnded scene l v
-  ended_on w v s h = record {
-    clients = λ c lc. s.left c lc ∙ h.clients c lc;
-    manager = subst (λ (d : ManagerProgress). IsNextDeed (sync_lists_of scene) (tile_count l) d Finishes) (sym s.manager) h.manager;
-    tiles = λ t lt. subst (λ (a : Tile). HasEnded a.progress) (sym (s.tiles t lt)) (h.tiles t lt);
-  }
-
-  all_ended_on : (w v : World) (moves : List Move) → AllByRecursion IsAtRest moves → AreMoves scene l depth w moves v → AllHaveEnded scene l w → AllHaveEnded scene l v
-  all_ended_on w v [] rest h e = subst (AllHaveEnded scene l) (sym h) e
-  all_ended_on w v (m ∷ moves) rest h e = all_ended_on h.0 v moves rest.1 h.2 (ended_on w h.0 (rest_changes_nothing scene l depth w h.0 m rest.0 h.1) e)
-
--- the laws that are cited
-pub record TilesAreFed : Type 0 where
-  pub members : MembersAreClients
-  pub entries : LegalEntriesHaveClients
-  pub ends : ParcelsRiseAndEnd
-
-pub rounds_move : TilesAreFed → RoundsMoveSomebody
-rounds_move laws scene l depth round w later pos sound actors moves rest =
-    all_ended_on scene l depth w later round rest moves
-    (nothing_stands_still laws.members laws.entries laws.ends scene l depth pos w sound (all_rest scene l depth w later round actors rest moves))
-
-pub no_standstill : TilesAreFed → SteppedRunsAreSound → NoRunStandsStill
-no_standstill laws sound scene l depth rounds picks moves last w range sides pos s =
-    s.unended (rounds_move laws scene l depth last s.before w pos (sound scene l depth (picks ++ rounds_of scene l rounds) moves s.before range sides s.run) s.actors s.round s.nobody)
+pub rounds_move : MembersAreClients → RoundsMoveSomebody
+rounds_move members scene l depth round w later pos flows actors turns rest =
+    let h = somebody_can_move members scene l depth pos w flows (all_rest scene l depth w later round actors rest turns) in
+    stopped_on scene l w later (all_keep scene l depth w later round rest turns) h

@@ -10,47 +10,18 @@ use Rattle.rc_base.specs.Cluster.Sending.{Sending, ToTile, ToManager, parcels_to
 use Rattle.rc_base.specs.Cluster.Tiles.{tile_count}
 use Rattle.rc_base.specs.Orders.Sync.{wait_of}
 use Rattle.rc_base.specs.declared.scene.Scene.{Scene}
-use Rattle.rc_base.specs.declared.state.Act.{Act}
 use Rattle.rc_base.specs.declared.state.Act.TheVariants as act
 use Rattle.rc_base.specs.declared.state.Effect.{Effect}
 use Rattle.rc_base.specs.declared.state.Effect.TheVariants as eff
 use Rattle.rc_base.specs.declared.state.ElementValue.{ElementValue}
 use Rattle.rc_base.specs.declared.state.Parcel.{Parcel}
-use Rattle.rc_base.specs.declared.sync.Request.{Request}
 use Rattle.rc_base.specs.declared.sync.Request.TheVariants as request
 use Rattle.rc_base.specs.declared.sync.WaitAt.{WaitAt}
 use Rattle.rc_base.specs.declared.window.Layout.{Layout}
+use Rattle.world_model.specs.Flowing.{wait_by, waits, asks}
+use Rattle.world_model.proofs.OrderlySequences.{waits_append, asks_append, to_append, in_append}
 
--- ---- operations among parcels and requests
-
-abbrev pub wait_by : Act → ℕ
-wait_by (act.Draw block) = 0
-wait_by (act.Clear mask) = 0
-wait_by (act.Shared part) = 0
-wait_by (act.Sync op) = 1
-wait_by act.End = 0
-
-abbrev pub ask_by : Request → ℕ
-ask_by (request.Op place op) = 1
-ask_by request.End = 0
-
-abbrev pub waits : List Parcel → ℕ
-waits [] = 0
-waits (p ∷ ps) = wait_by p.act + waits ps
-
-abbrev pub asks : List Request → ℕ
-asks [] = 0
-asks (r ∷ rs) = ask_by r + asks rs
-
-pub waits_append : (ps qs : List Parcel) → waits (ps ++ qs) ≡ waits ps + waits qs
-waits_append [] qs = omega arith
-waits_append (p ∷ ps) qs = let h = waits_append ps qs in omega (arith, h)
-
-pub asks_append : (rs qs : List Request) → asks (rs ++ qs) ≡ asks rs + asks qs
-asks_append [] qs = omega arith
-asks_append (r ∷ rs) qs = let h = asks_append rs qs in omega (arith, h)
-
--- ---- and among the items of a sequence
+-- ---- operations among the items of a sequence
 
 module _ (tile : ℕ) where
   abbrev pub told_waits : List Sending → ℕ
@@ -68,21 +39,8 @@ module _ (tile : ℕ) where
   AreOrdered [] = Unit {0}
   AreOrdered (x ∷ items) = (told_waits (x ∷ items) ≤ told_asks (x ∷ items)) × (IsTo x → told_asks (x ∷ items) ≤ told_waits (x ∷ items)) × AreOrdered items
 
-  to_append : (xs ys : List Sending) → parcels_to tile (xs ++ ys) ≡ parcels_to tile xs ++ parcels_to tile ys
-  to_append [] ys = refl
-  to_append (ToTile k p ∷ xs) ys = elim (cases_Bool (tile == k)) [
-    | inl t ↦ rw t (ap (λ ps. p ∷ ps) (to_append xs ys))
-    | inr f ↦ rw f (to_append xs ys)
-  ]
-  to_append (ToManager r ∷ xs) ys = to_append xs ys
-
-  in_append : (xs ys : List Sending) → requests_in (xs ++ ys) ≡ requests_in xs ++ requests_in ys
-  in_append [] ys = refl
-  in_append (ToTile k p ∷ xs) ys = in_append xs ys
-  in_append (ToManager r ∷ xs) ys = ap (λ rs. r ∷ rs) (in_append xs ys)
-
   waits_of : (xs ys : List Sending) → told_waits (xs ++ ys) ≡ told_waits xs + told_waits ys
-  waits_of xs ys = ap waits (to_append xs ys) ∙ waits_append (parcels_to tile xs) (parcels_to tile ys)
+  waits_of xs ys = ap waits (to_append tile xs ys) ∙ waits_append (parcels_to tile xs) (parcels_to tile ys)
 
   asks_of : (xs ys : List Sending) → told_asks (xs ++ ys) ≡ told_asks xs + told_asks ys
   asks_of xs ys = ap asks (in_append xs ys) ∙ asks_append (requests_in xs) (requests_in ys)
@@ -233,3 +191,24 @@ module _ (scene : Scene) (l : Layout) (client tile : ℕ) (low : tile < tile_cou
   pub sequence_ordered : AreOrdered tile (sent_by scene l client)
   unfolding sent_by
   sequence_ordered = let z = last_ordered in before_ordered (length (stream_of scene client)) (sent_last scene l client) z.0 z.1
+
+  before_same : (n : ℕ) → told_waits tile (sent_before scene l client n) ≡ told_asks tile (sent_before scene l client n)
+  unfolding sent_before
+  before_same zero = refl
+  before_same (suc n) =
+      let h = before_same n in
+      let a = (at_ordered n).1 in
+      let w = waits_of tile (sent_before scene l client n) (sent_at scene l client n) in
+      let q = asks_of tile (sent_before scene l client n) (sent_at scene l client n) in
+      omega (arith, h, a, w, q)
+
+  -- in all the tile gets as many operations as the manager
+  pub sequence_same : told_waits tile (sent_by scene l client) ≡ told_asks tile (sent_by scene l client)
+  unfolding sent_by
+  sequence_same =
+      let n = length (stream_of scene client) in
+      let h = before_same n in
+      let a = last_ordered.1 in
+      let w = waits_of tile (sent_before scene l client n) (sent_last scene l client) in
+      let q = asks_of tile (sent_before scene l client n) (sent_last scene l client) in
+      omega (arith, h, a, w, q)

@@ -1,5 +1,5 @@
 -- What a tile does next is determined by how far it is and by what its lanes hold.
-use Rattle.std.proofs.Common.{◌≡◌, ℕ, ◌==◌, ◌<◌, true, List, [], ◌∷◌, Some, slice_get, inl, inr, refl, sym, ap, ◌∙◌, subst, eqb-true}
+use Rattle.std.proofs.Common.{◌≡◌, ℕ, ◌==◌, ◌<◌, true, false, List, [], ◌∷◌, Some, inl, inr, refl, sym, ap, ◌∙◌, subst, eqb-true}
 use Rattle.std.proofs.lemmas.Bool.{cases_Bool}
 use Rattle.std.specs.Prelude.{MatchOption}
 use Rattle.rc_base.specs.Cluster.Lanes.{IsEarlier}
@@ -11,28 +11,26 @@ use Rattle.rc_base.specs.declared.sync.Entry.{Entry}
 use Rattle.rc_base.specs.declared.sync.Grant.{Grant}
 use Rattle.rc_base.specs.declared.sync.Grant.TheVariants as grant_item
 use Rattle.rc_base.specs.declared.window.Layout.{Layout}
-use Rattle.order_model.specs.Standing.{Progress, IsUnderWay, performed_in, is_asked}
+use Rattle.order_model.specs.Standing.{Progress, IsUnderWay, is_asked}
 use Rattle.order_model.specs.Sent.{jobs_of}
 use Rattle.order_model.proofs.SceneListsAreWellFormed.{scene_client_count}
-use Rattle.tile_model.specs.Items.{Item, after_item, IsAwaited, has_clients, parcel_taken, grant_taken}
+use Rattle.tile_model.specs.Items.{Item, after_item, IsAwaited, parcel_taken, grant_taken}
 use Rattle.tile_model.specs.Items.Item.{Nothing, Due, Granted, NoMore, Sent}
-use Rattle.tile_model.specs.Laws.{LegalEntriesHaveClients}
+use Rattle.tile_model.specs.Short.{NothingIsDue}
 use Rattle.world_model.specs.Laws.{AreAlike}
 use Rattle.world_model.specs.Moves.{IsTileMove}
 use Rattle.world_model.specs.Sound.{IsSound}
 use Rattle.world_model.specs.declared.moves.TileAnswer.{TileAnswer}
 use Rattle.world_model.specs.Tiles.{Tile, next_after, IsUndue, FindsNoGrant, FindsNoParcel, IsTileAnswer}
 use Rattle.world_model.specs.World.{World, Client, client_total}
-use Rattle.tile_model.proofs.ItemsComeFromLanes.{get_front}
 use Rattle.world_model.proofs.LanesGoOn.{self, at_one, same_rest, is_first}
 use Rattle.world_model.proofs.ManagersDoOneThing.{one_earlier}
-use Rattle.world_model.proofs.WhatHasArrived.{journal_legal, goes_on}
+use Rattle.world_model.proofs.WhatHasArrived.{goes_on}
 
 -- ---- two items over the same lanes
 
 module _ (a : Tile) (clients : ℕ) (parcels : ℕ → List Parcel) (grants : List Grant)
-    (exist : (c : ℕ) → c < a.progress.count → c < clients)
-    (known : (e : Entry) → slice_get a.progress.learnt (performed_in a.progress.log) ≡ Some e → has_clients a.progress.count e ≡ true) where
+    (exist : (c : ℕ) → c < a.progress.count → c < clients) where
   -- what was taken was first in its lane, and each lane that was tried before is empty
   pub record IsDone (item : Item) : Type 0 where
     pub awaited : IsAwaited a.progress item
@@ -52,8 +50,8 @@ module _ (a : Tile) (clients : ℕ) (parcels : ℕ → List Parcel) (grants : Li
   no_parcel_left c x i e = not_bare x (sent c x i).0 (parcels c) (sent c x i).1 e
 
   -- an entry that is due comes first
-  due_first : (e : Entry) → IsDone (Due e) → ((f : Entry) → has_clients a.progress.count f ≡ true → IsAwaited a.progress (Due f) → ⊥) → ⊥
-  due_first e i undue = undue e (known e i.awaited.0) i.awaited
+  due_first : (e : Entry) → IsDone (Due e) → NothingIsDue false a.progress → ⊥
+  due_first e i undue = undue refl e i.awaited
 
   same_entry : (e f : Entry) → Some f ≡ Some e → f ≡ e
   same_entry e f h = cc
@@ -137,15 +135,8 @@ module _ (scene : Scene) (l : Layout) (depth : ℕ) (w v w' v' : World) (tile : 
   exist : (c : ℕ) → c < a.progress.count → c < client_total scene
   exist c low = subst (λ n. c < n) (way.count ∙ scene_client_count scene) low
 
-  known : LegalEntriesHaveClients → (e : Entry) → slice_get a.progress.learnt (performed_in a.progress.log) ≡ Some e → has_clients a.progress.count e ≡ true
-  known legal e is =
-      let k = performed_in a.progress.log in
-      ap (λ n. has_clients n e) way.count
-      ∙ legal (sync_lists_of scene) w.manager.book.journal k e (journal_legal scene l w sound)
-      (ap (λ js. slice_get js k) way.learnt.1 ∙ get_front a.progress.learnt way.learnt.0 k e is)
-
-  here : (legal : LegalEntriesHaveClients) → IsDone a (client_total scene) (λ c. w.parcels c tile) (w.grants tile) exist (known legal) m.item
-  here legal = record {
+  here : IsDone a (client_total scene) (λ c. w.parcels c tile) (w.grants tile) exist m.item
+  here = record {
     awaited = m.step.awaited;
     undue = m.step.undue;
     parcel = λ c lc. is_first (parcel_taken m.item c) (w.parcels c tile) (w.parcels c tile) (v.parcels c tile) refl (m.parcel c lc);
@@ -154,8 +145,8 @@ module _ (scene : Scene) (l : Layout) (depth : ℕ) (w v w' v' : World) (tile : 
     no_grant = m.no_grant;
   }
 
-  there : (legal : LegalEntriesHaveClients) → IsDone a (client_total scene) (λ c. w.parcels c tile) (w.grants tile) exist (known legal) m'.item
-  there legal =
+  there : IsDone a (client_total scene) (λ c. w.parcels c tile) (w.grants tile) exist m'.item
+  there =
       let e = h.progress tile m.low in
       record {
         awaited = subst (λ p. IsAwaited p m'.item) e m'.step.awaited;
@@ -166,12 +157,12 @@ module _ (scene : Scene) (l : Layout) (depth : ℕ) (w v w' v' : World) (tile : 
         no_grant = λ found. sym (h.grants tile m.low) ∙ m'.no_grant (subst (λ p. FindsNoGrant p m'.item) (sym e) found);
       }
 
-  same_item : LegalEntriesHaveClients → m'.item ≡ m.item
-  same_item legal = one_item a (client_total scene) (λ c. w.parcels c tile) (w.grants tile) exist (known legal) m.item m'.item (here legal) (there legal)
+  same_item : m'.item ≡ m.item
+  same_item = one_item a (client_total scene) (λ c. w.parcels c tile) (w.grants tile) exist m.item m'.item here there
 
-  pub tile_alike : LegalEntriesHaveClients → (answer' ≡ answer) × AreAlike scene l v v'
-  tile_alike legal =
-      let same = same_item legal in
+  pub tile_alike : (answer' ≡ answer) × AreAlike scene l v v'
+  tile_alike =
+      let same = same_item in
       let e = h.progress tile m.low in (
         one_answer a.progress m.item answer answer' m.answered (subst (λ p. IsTileAnswer p m.item answer') e (subst (λ i. IsTileAnswer (w'.tiles tile).progress i answer') same m'.answered)),
         record {

@@ -20,8 +20,10 @@ use Rattle.tile_model.specs.Scenes.{IsInRange, HasSides}
 use Rattle.client_issue.specs.Clauses.{counted}
 use Rattle.world_model.specs.declared.moves.Move.{Move}
 use Rattle.world_model.specs.Moves.{IsMove, AreMoves, IsAtRest, IsLast}
-use Rattle.world_model.specs.Runs.{AllHaveEnded, actor_of, round_of, IsSteppedRun, IsFinishedRun, StandsStill}
+use Rattle.world_model.specs.Flowing.{IsFlowing}
+use Rattle.world_model.specs.Runs.{AllHaveEnded, actor_of, round_of, IsSteppedRun, IsFinishedRun}
 use Rattle.world_model.specs.Sound.{IsSound}
+use Rattle.world_model.specs.Turns.{Turn, IsTurn, AreTurns, IsResting, IsLastTurn, turn_of, number_of, AllHaveStopped, AreAmple}
 use Rattle.world_model.specs.World.{World, client_total, IsNewWorld}
 
 -- ---- the induction
@@ -85,6 +87,7 @@ SoundWorldsHaveLegalLogs = (scene : Scene) (l : Layout) (w : World) → IsSound 
 pub record IsSameWorld (scene : Scene) (l : Layout) (w later : World) : Type 0 where
   pub left : (client : ℕ) → client < client_total scene → (later.clients client).left ≡ (w.clients client).left
   pub tallies : (client tile : ℕ) → client < client_total scene → (later.clients client).tallies tile ≡ (w.clients client).tallies tile
+  pub short : (client : ℕ) → client < client_total scene → (later.clients client).short ≡ (w.clients client).short
   pub manager : later.manager ≡ w.manager
   pub tiles : (tile : ℕ) → tile < tile_count l → later.tiles tile ≡ w.tiles tile
   pub parcels : (client tile : ℕ) → client < client_total scene → tile < tile_count l → later.parcels client tile ≡ w.parcels client tile
@@ -195,15 +198,86 @@ FinishedRunsLeaveOneRecord =
     → IsInRange scene → HasSides scene.decl → IsFinishedRun scene l depth picks rounds moves w → IsFinishedRun scene l depth picks count others v
     → IsRecordIn scene l w kept → IsRecordIn scene l v other → other ≡ kept
 
+-- ---- whoever is short
+
+abbrev pub NewWorldsFlow : Type 0
+NewWorldsFlow = (scene : Scene) (l : Layout) (w : World) → IsNewWorld scene l w → IsFlowing scene l w
+
+-- a turn of whichever actor, short or not, and one in which memory lacks, leaves a flowing world flowing
+abbrev pub TurnsKeepWorldsFlowing : Type 0
+TurnsKeepWorldsFlowing =
+    (scene : Scene) (l : Layout) (depth : ℕ) (w later : World) (turn : Turn) → IsFlowing scene l w → IsTurn scene l depth w turn later → IsFlowing scene l later
+
+-- and so do turns one after the other
+abbrev pub RoundsKeepWorldsFlowing : Type 0
+RoundsKeepWorldsFlowing =
+    (scene : Scene) (l : Layout) (depth : ℕ) (w later : World) (turns : List Turn) → IsFlowing scene l w → AreTurns scene l depth w turns later
+    → IsFlowing scene l later
+
+-- so the worlds of stepped runs flow, and nobody is short in them
+abbrev pub SteppedRunsFlow : Type 0
+SteppedRunsFlow =
+    (scene : Scene) (l : Layout) (depth : ℕ) (picks : List ℕ) (moves : List Move) (w : World) → IsSteppedRun scene l depth picks moves w
+    → IsFlowing scene l w × AreAmple scene l w
+
+-- ---- moves and turns
+
+-- a move is a turn that answers without want of memory
+abbrev pub MovesAreTurns : Type 0
+MovesAreTurns = (scene : Scene) (l : Layout) (depth : ℕ) (w later : World) (move : Move) → IsMove scene l depth w move later → IsTurn scene l depth w (turn_of move) later
+
+-- and where nobody is short such a turn is a move, after which nobody is short
+abbrev pub AmpleTurnsAreMoves : Type 0
+AmpleTurnsAreMoves =
+    (scene : Scene) (l : Layout) (depth : ℕ) (w later : World) (move : Move) → AreAmple scene l w → IsTurn scene l depth w (turn_of move) later
+    → IsMove scene l depth w move later × AreAmple scene l later
+
+-- Where nobody is short, nobody was before, and no turn that led there lacked memory: they are moves.
+abbrev pub TurnsToAmpleWorldsAreMoves : Type 0
+TurnsToAmpleWorldsAreMoves =
+    (scene : Scene) (l : Layout) (depth : ℕ) (w later : World) (turns : List Turn) → AreTurns scene l depth w turns later → AreAmple scene l later
+    → AreAmple scene l w × ((moves : List Move) × (turns ≡ map turn_of moves) × AreMoves scene l depth w moves later)
+
+-- where nobody is short, all have stopped where all have ended
+abbrev pub AmpleWorldsEnd : Type 0
+AmpleWorldsEnd = (scene : Scene) (l : Layout) (w : World) → AreAmple scene l w → AllHaveStopped scene l w → AllHaveEnded scene l w
+
+-- ---- turns that move nothing
+
+-- the turn of an actor that is blocked or has ended changes nothing
+abbrev pub RestingTurnsChangeNothing : Type 0
+RestingTurnsChangeNothing =
+    (scene : Scene) (l : Layout) (depth : ℕ) (w later : World) (turn : Turn) → IsResting turn → IsTurn scene l depth w turn later → IsSameWorld scene l w later
+
+-- and so do turns one after the other that move nothing
+abbrev pub RestingRoundsChangeNothing : Type 0
+RestingRoundsChangeNothing =
+    (scene : Scene) (l : Layout) (depth : ℕ) (w later : World) (turns : List Turn) → AllByRecursion IsResting turns → AreTurns scene l depth w turns later
+    → IsSameWorld scene l w later
+
+-- where all have stopped, each actor's turns say so, and change nothing
+abbrev pub StoppedWorldsRest : Type 0
+StoppedWorldsRest =
+    (scene : Scene) (l : Layout) (depth : ℕ) (w later : World) (turns : List Turn) → AllHaveStopped scene l w → AreTurns scene l depth w turns later
+    → AllByRecursion IsLastTurn turns × IsSameWorld scene l w later
+
+-- and where each turn of a round says so, all had stopped before it, and have after it
+abbrev pub LastTurnsTell : Type 0
+LastTurnsTell =
+    (scene : Scene) (l : Layout) (depth : ℕ) (w later : World) (turns : List Turn) → map (number_of scene) turns ≡ round_of scene l
+    → AreTurns scene l depth w turns later → AllByRecursion IsLastTurn turns → AllHaveStopped scene l w × AllHaveStopped scene l later
+
 -- ---- no standstill
 
--- a whole round moves somebody until all have ended, for every depth above 0
+-- a whole round moves somebody until all have stopped, for every depth above 0, whoever is short
 abbrev pub RoundsMoveSomebody : Type 0
 RoundsMoveSomebody =
-    (scene : Scene) (l : Layout) (depth : ℕ) (round : List Move) (w later : World) → 0 < depth → IsSound scene l w
-    → map (actor_of scene) round ≡ round_of scene l → AreMoves scene l depth w round later → AllByRecursion IsAtRest round → AllHaveEnded scene l later
+    (scene : Scene) (l : Layout) (depth : ℕ) (round : List Turn) (w later : World) → 0 < depth → IsFlowing scene l w
+    → map (number_of scene) round ≡ round_of scene l → AreTurns scene l depth w round later → AllByRecursion IsResting round → AllHaveStopped scene l later
 
+-- so nothing stands still, whatever turns led there from a new world
 abbrev pub NoRunStandsStill : Type 0
 NoRunStandsStill =
-    (scene : Scene) (l : Layout) (depth rounds : ℕ) (picks : List ℕ) (moves last : List Move) (w : World) → IsInRange scene → HasSides scene.decl
-    → 0 < depth → StandsStill scene l depth picks rounds moves last w → ⊥
+    (scene : Scene) (l : Layout) (depth : ℕ) (turns round : List Turn) (first w later : World) → 0 < depth → IsNewWorld scene l first
+    → AreTurns scene l depth first turns w → map (number_of scene) round ≡ round_of scene l → AreTurns scene l depth w round later
+    → AllByRecursion IsResting round → AllHaveStopped scene l later

@@ -2,6 +2,9 @@ pub mod Tiles
 pub mod World
 pub mod Moves
 pub mod Runs
+pub mod Short
+pub mod Turns
 pub mod Sound
+pub mod Flowing
 pub mod Work
 pub mod Laws

@@ -1,5 +1,5 @@
 -- The moves of the stepped cluster: an actor's step, what it takes of its lanes and appends to them, and its answer.
-use Rattle.std.specs.Prelude.{◌≡◌, ◌≢◌, ℕ, ◌<◌, List, [], ◌∷◌, ◌++◌, length, ◌⊎◌, Ok, MatchOption}
+use Rattle.std.specs.Prelude.{◌≡◌, ◌≢◌, ℕ, ◌<◌, List, [], ◌∷◌, ◌++◌, length, ◌⊎◌, Result, Ok, MatchOption}
 use Rattle.rc_base.specs.Cluster.Looks.{looks_at}
 use Rattle.rc_base.specs.Cluster.Sending.{Sending, ToTile, ToManager}
 use Rattle.rc_base.specs.Cluster.Tiles.{tile_count}
@@ -8,6 +8,7 @@ use Rattle.rc_base.specs.declared.cluster.ClientMoved.{ClientMoved}
 use Rattle.rc_base.specs.declared.cluster.ClientMoved.TheVariants as client_moved
 use Rattle.rc_base.specs.declared.cluster.ManagerMoved.{ManagerMoved}
 use Rattle.rc_base.specs.declared.cluster.ManagerMoved.TheVariants as manager_moved
+use Rattle.rc_base.specs.declared.out_of_memory.OutOfMemory.{OutOfMemory}
 use Rattle.rc_base.specs.declared.scene.Scene.{Scene}
 use Rattle.rc_base.specs.declared.state.Parcel.{Parcel}
 use Rattle.rc_base.specs.declared.sync.Request.{Request}
@@ -106,12 +107,13 @@ module _ (scene : Scene) (l : Layout) (depth : ℕ) where
   pub record IsClientMove (w : World) (client : ℕ) (answer : ClientMoved) (later : World) : Type 0 where
     pub low : client < client_total scene
     pub step : IsClientStep scene l depth w client answer later
+    pub short : (later.clients client).short ≡ (w.clients client).short
     pub only : OnlyClient scene l w client later
 
   -- The manager does what comes first, and takes and appends just that. A lane that it tried before was empty, and one that it is blocked at is full.
-  pub record IsManagerMove (w : World) (answer : ManagerMoved) (later : World) : Type 0 where
+  pub record IsManagerStep (w : World) (answer : Result ManagerMoved OutOfMemory) (later : World) : Type 0 where
     pub deed : ManagerDeed
-    pub answered : answer_of deed ≡ Ok answer
+    pub answered : answer_of deed ≡ answer
     pub next : IsNextDeed (sync_lists_of scene) (tile_count l) w.manager deed
     pub manager : later.manager ≡ progress_after (sync_lists_of scene) w.manager deed
     pub taken : (client : ℕ) → client < client_total scene
@@ -120,6 +122,9 @@ module _ (scene : Scene) (l : Layout) (depth : ℕ) where
     pub sent : (tile : ℕ) → tile < tile_count l → later.grants tile ≡ w.grants tile ++ sent_to deed tile
     pub full : (tile : ℕ) → tile < tile_count l → IsFoundFull deed tile → length (w.grants tile) ≡ depth
     pub only : OnlyManager scene l w later
+
+  abbrev pub IsManagerMove : World → ManagerMoved → World → Type 0
+  IsManagerMove w answer later = IsManagerStep w (Ok answer) later
 
   -- The tile does its step with the item that comes first, which comes from its lane. A lane that it tried before was empty.
   pub record IsTileMove (w : World) (tile : ℕ) (answer : TileAnswer) (later : World) : Type 0 where

@@ -1,6 +1,6 @@
 -- Stepped runs: from a new world, one move for each pick of an actor; and when they have ended.
 use Rattle.std.specs.Prelude.{◌≡◌, ℕ, zero, suc, ◌+◌, ◌<◌, List, [], ◌++◌, map}
-use Rattle.std.specs.List.{range_with_len, AllByRecursion}
+use Rattle.std.specs.List.{range_with_len}
 use Rattle.rc_base.specs.Cluster.Tiles.{tile_count}
 use Rattle.rc_base.specs.Orders.Sync.{sync_lists_of}
 use Rattle.rc_base.specs.declared.scene.Scene.{Scene}
@@ -8,7 +8,7 @@ use Rattle.rc_base.specs.declared.window.Layout.{Layout}
 use Rattle.sync_manager.specs.Progress.{IsNextDeed}
 use Rattle.sync_manager.specs.declared.deed.ManagerDeed.TheVariants.{Finishes}
 use Rattle.world_model.specs.declared.moves.Move.{Move}
-use Rattle.world_model.specs.Moves.{AreMoves, IsAtRest}
+use Rattle.world_model.specs.Moves.{AreMoves}
 use Rattle.world_model.specs.declared.moves.Move.TheVariants.{Client as ClientMove, Manager as ManagerMove, Tile as TileMove}
 use Rattle.world_model.specs.Tiles.{HasEnded}
 use Rattle.world_model.specs.World.{World, client_total, IsNewWorld}
@@ -46,12 +46,3 @@ module _ (scene : Scene) (l : Layout) (depth : ℕ) where
     pub run : IsSteppedRun (picks ++ rounds_of scene l rounds) moves w
     pub ended : AllHaveEnded scene l w
     pub fewest : (n : ℕ) (some : List Move) (v : World) → n < rounds → IsSteppedRun (picks ++ rounds_of scene l n) some v → AllHaveEnded scene l v → ⊥
-
-  -- The picks, and behind them rounds of which the last moved nobody, though not all have ended.
-  pub record StandsStill (picks : List ℕ) (rounds : ℕ) (moves last : List Move) (w : World) : Type 0 where
-    pub before : World
-    pub run : IsSteppedRun (picks ++ rounds_of scene l rounds) moves before
-    pub actors : map (actor_of scene) last ≡ round_of scene l
-    pub round : AreMoves scene l depth before last w
-    pub nobody : AllByRecursion IsAtRest last
-    pub unended : AllHaveEnded scene l w → ⊥

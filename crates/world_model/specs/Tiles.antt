@@ -1,5 +1,5 @@
 -- A tile with its board in the stepped cluster: what a step makes of it, what the step takes of its lanes, and what it answers.
-use Rattle.std.specs.Prelude.{◌≡◌, ℕ, ◌+◌, ◌<◌, Bool, true, cond, List, [], ◌∷◌, ◌++◌, ◌⊎◌}
+use Rattle.std.specs.Prelude.{◌≡◌, ℕ, ◌+◌, ◌<◌, Bool, true, false, cond, List, [], ◌∷◌, ◌++◌, ◌⊎◌}
 use Rattle.rc_base.specs.Cluster.Lanes.{IsEarlier}
 use Rattle.rc_base.specs.Drawing.Images.{Pixels}
 use Rattle.rc_base.specs.declared.cluster.TileMoved.{TileMoved}
@@ -13,17 +13,20 @@ use Rattle.rc_base.specs.declared.window.Layout.{Layout}
 use Rattle.order_model.specs.Board.{Board}
 use Rattle.order_model.specs.Standing.{Progress, new_progress, is_over, is_listening, is_asked}
 use Rattle.tile_model.specs.Boards.{IsNewBoard, IsDrawn}
-use Rattle.tile_model.specs.Items.{Item, after_item, IsAwaited, has_clients}
+use Rattle.tile_model.specs.Items.{Item, after_item, IsAwaited}
 use Rattle.tile_model.specs.Items.Item.{Nothing, Due, Granted, NoMore, Sent}
+use Rattle.tile_model.specs.Short.{NothingIsDue}
 use Rattle.world_model.specs.declared.moves.TileAnswer.{TileAnswer}
 use Rattle.world_model.specs.declared.moves.TileAnswer.TheVariants.{Performed, Swapped, Learnt, Took, Held, Closed, Dropped, Blocked, Ended}
 
--- how far it is, the client with which its rotation goes on, its board, and the pixels that it has shown, one part for each frame
+-- how far it is, the client with which its rotation goes on, its board, the pixels that it has shown, one part for each frame, and whether memory
+-- has lacked
 pub record Tile : Type 0 where
   pub progress : Progress
   pub next : ℕ
   pub board : Board
   pub parts : List Pixels
+  pub short : Bool
 
 -- a tile of so many clients that has done nothing
 pub record IsNewTile (decl : Decl) (l : Layout) (clients tile : ℕ) (a : Tile) : Type 0 where
@@ -31,6 +34,7 @@ pub record IsNewTile (decl : Decl) (l : Layout) (clients tile : ℕ) (a : Tile) 
   pub next : a.next ≡ 0
   pub board : IsNewBoard decl l tile a.board
   pub parts : a.parts ≡ []
+  pub ample : a.short ≡ false
 
 -- ---- what an item makes of it
 
@@ -56,20 +60,18 @@ parts_after (Granted e) pixels parts = parts
 parts_after NoMore pixels parts = parts
 parts_after (Sent client parcel) pixels parts = parts
 
--- no entry of clients can be performed
-abbrev pub NothingIsDue : Progress → Type 0
-NothingIsDue p = (e : Entry) → has_clients p.count e ≡ true → IsAwaited p (Due e) → ⊥
-
 -- an entry that can be performed comes first
 abbrev pub IsUndue : Progress → Item → Type 0
-IsUndue p Nothing = NothingIsDue p
+IsUndue p Nothing = NothingIsDue false p
 IsUndue p (Due e) = Unit {0}
-IsUndue p (Granted e) = NothingIsDue p
-IsUndue p NoMore = NothingIsDue p
-IsUndue p (Sent client parcel) = NothingIsDue p
+IsUndue p (Granted e) = NothingIsDue false p
+IsUndue p NoMore = NothingIsDue false p
+IsUndue p (Sent client parcel) = NothingIsDue false p
 
--- A step with an item that the tile awaits.
+-- A step of a tile that isn't short, with an item that it awaits.
 pub record IsTileStep (decl : Decl) (l : Layout) (tile : ℕ) (item : Item) (a b : Tile) : Type 0 where
+  pub ample : a.short ≡ false
+  pub still_ample : b.short ≡ a.short
   pub awaited : IsAwaited a.progress item
   pub undue : IsUndue a.progress item
   pub progress : b.progress ≡ after_item a.progress item

@@ -1,5 +1,5 @@
 -- The stepped cluster as it stands between two steps: how far each actor is, and what each lane holds. Nothing of code is in it.
-use Rattle.std.specs.Prelude.{◌≡◌, ℕ, ◌<◌, ◌≤◌, List, [], length}
+use Rattle.std.specs.Prelude.{◌≡◌, ℕ, ◌<◌, ◌≤◌, Bool, false, List, [], length}
 use Rattle.rc_base.specs.Cluster.Sending.{Sending, sent_by}
 use Rattle.rc_base.specs.Cluster.Tiles.{tile_count}
 use Rattle.rc_base.specs.declared.cluster.Tally.{Tally}
@@ -13,10 +13,11 @@ use Rattle.client_issue.specs.Turns.{ClientLanes}
 use Rattle.sync_manager.specs.Progress.{ManagerProgress, new_progress}
 use Rattle.world_model.specs.Tiles.{Tile, IsNewTile}
 
--- what it has still to send of its sequence, and by tiles the tallies of what it sent
+-- what it has still to send, by tiles the tallies of what it sent, and whether memory has lacked
 pub record Client : Type 0 where
   pub left : List Sending
   pub tallies : ℕ → Tally
+  pub short : Bool
 
 -- The actors by their numbers, and the items that the lanes hold: parcels by client and tile, requests by client, grants by tile.
 pub record World : Type 0 where
@@ -40,6 +41,7 @@ module _ (scene : Scene) (l : Layout) where
   pub record IsNewWorld (w : World) : Type 0 where
     pub left : (client : ℕ) → client < client_total scene → (w.clients client).left ≡ sent_by scene l client
     pub tallies : (client tile : ℕ) → client < client_total scene → (w.clients client).tallies tile ≡ no_tally
+    pub ample : (client : ℕ) → client < client_total scene → (w.clients client).short ≡ false
     pub manager : w.manager ≡ new_progress
     pub tiles : (tile : ℕ) → tile < tile_count l → IsNewTile scene.decl l (client_total scene) tile (w.tiles tile)
     pub parcels : (client tile : ℕ) → client < client_total scene → tile < tile_count l → w.parcels client tile ≡ []

@@ -4,7 +4,10 @@ ghost use Rattle.world_model.specs.Laws.{RunsGoOn, OneScheduleHasOneRun, SoundWo
 ghost use Rattle.world_model.specs.Laws.{EndedWorldsAreOver, EndedWorldsAreLawful, EndedWorldsShowFrames, EndedWorldsWaitAlike, EndedWorldsTallyAll};
 ghost use Rattle.world_model.specs.Laws.{FinishedRunsAreWhole, FinishedRunsAreOne, FinishedRunsLeaveOneRecord, RoundsMoveSomebody, NoRunStandsStill};
 ghost use Rattle.world_model.specs.Laws.{RestsChangeNothing, EndedWorldsRest, LastRoundsTell};
-ghost use Rattle.world_model.specs.Work.{MovesLeaveLess, SchedulesLeaveLess, WorkIsLittle};
+ghost use Rattle.world_model.specs.Laws.{NewWorldsFlow, TurnsKeepWorldsFlowing, RoundsKeepWorldsFlowing, SteppedRunsFlow};
+ghost use Rattle.world_model.specs.Laws.{MovesAreTurns, AmpleTurnsAreMoves, TurnsToAmpleWorldsAreMoves, AmpleWorldsEnd};
+ghost use Rattle.world_model.specs.Laws.{RestingTurnsChangeNothing, RestingRoundsChangeNothing, StoppedWorldsRest, LastTurnsTell};
+ghost use Rattle.world_model.specs.Work.{TurnsLeaveLess, TurnsLeaveNoMore, RoundsLeaveLess, NewWorldsHaveLittleToDo, SteppedRunsHaveLittleToDo};
 
 use client_issue::laws::sends_are_parcels;
 use order_model::laws::{
@@ -41,7 +44,6 @@ pub fn one_schedule_has_one_run()
     books_stay_legal();
     grants_are_exact();
     managers_are_right();
-    entries_have_clients();
     new_tiles_stand();
     steps_stand();
     swaps_show_frames();
@@ -108,25 +110,62 @@ pub fn finished_runs_leave_one_record()
     finished_runs_are_whole();
 }
 
-/// Nothing stands still: a whole round moves somebody until all have ended, for lanes of every depth above 0. An operation's parcels go to all tiles
-/// before its request goes to the manager, so a tile that knows an entry has what it needs to perform it.
+/// Whoever is short, and whoever becomes so: the worlds flow. A new world does, each turn leaves a flowing world flowing, and so do any turns one after
+/// the other. A move is a turn, so the worlds of stepped runs flow too, and nobody is short in them.
+pub fn turns_keep_worlds_flowing()
+    ensures first { NewWorldsFlow }
+    ensures next { TurnsKeepWorldsFlowing }
+    ensures all { RoundsKeepWorldsFlowing }
+    ensures moves { MovesAreTurns }
+    ensures runs { SteppedRunsFlow }
+{
+    sends_are_parcels();
+    books_stay_legal();
+    managers_are_right();
+}
+
+/// Where nobody is short, the turns that answer without want of memory are the moves. Where nobody is short after some turns, nobody was before them,
+/// and they are moves. All have ended in such a world where all have stopped.
+pub fn ample_turns_are_moves()
+    ensures next { AmpleTurnsAreMoves }
+    ensures all { TurnsToAmpleWorldsAreMoves }
+    ensures ended { AmpleWorldsEnd }
+{}
+
+/// The turn of an actor that is blocked or has ended leaves all actors and lanes as they were.
+pub fn resting_turns_change_nothing()
+    ensures { RestingTurnsChangeNothing }
+{}
+
+/// So do turns of such actors one after the other. All have stopped exactly where each turn of a round says so; no turn moves anything then.
+pub fn stopped_worlds_rest()
+    ensures still { RestingRoundsChangeNothing }
+    ensures stopped { StoppedWorldsRest }
+    ensures told { LastTurnsTell }
+{
+    managers_are_right();
+}
+
+/// Nothing stands still: a whole round moves somebody until all have stopped, for lanes of every depth above 0, whoever is short. It is shown by
+/// counts of operations: each goes to all tiles before its request goes to the manager, so a tile that knows an entry has what it needs for it.
 pub fn rounds_move_somebody()
     ensures round { RoundsMoveSomebody }
     ensures run { NoRunStandsStill }
 {
-    sends_are_parcels();
     entries_have_clients();
-    schedules_keep_worlds_sound();
+    turns_keep_worlds_flowing();
 }
 
-/// Each move that isn't at rest leaves less to do, and so do moves of which one isn't. Of a scene within the limits there is little to do.
-pub fn moves_leave_less()
-    ensures one { MovesLeaveLess }
-    ensures all { SchedulesLeaveLess }
-    ensures little { WorkIsLittle }
+/// Each turn that isn't at rest leaves less to do, and no turn leaves more; so turns leave less of which one isn't at rest. A new world of a scene
+/// within the limits has fewer than 2^40 things to do, and so have the worlds of its runs.
+pub fn turns_leave_less()
+    ensures less { TurnsLeaveLess }
+    ensures no_more { TurnsLeaveNoMore }
+    ensures all { RoundsLeaveLess }
+    ensures first { NewWorldsHaveLittleToDo }
+    ensures runs { SteppedRunsHaveLittleToDo }
 {
+    sends_are_parcels();
     books_stay_legal();
     managers_are_right();
-    steps_stand();
-    swaps_show_frames();
 }

@@ -197,6 +197,23 @@ fn twenty_seeds_draw_what_the_serial_renderer_draws(rt: HostRuntime) {
     }
 }
 
+// Two scenes on lanes of one item.
+const ON_SHORT_LANES: [Case; 2] = [
+    (BLENDED_IN_TURN, "2x1", "1"),
+    (SHARED_BEHIND_A_BARRIER, "8x2", "1"),
+];
+
+#[test]
+fn no_seed_of_a_hundred_stands_still(rt: HostRuntime) {
+    for case in ON_SHORT_LANES {
+        let scene = run_on(&rt, rt.alloc(), &["pack"], case.0, &[]);
+        for seed in 0..100u32 {
+            let left = run_by(&rt, rt.alloc(), scene.image.bytes(), case, seed);
+            assert!(rt; left.status == 0);
+        }
+    }
+}
+
 // Whether the journal permits the order that each tile of the record tells.
 fn permits(alloc: Global, scene: &Scene, kept: &Record) -> Result<bool, OutOfMemory>
     requires { IsWithin scene.now }

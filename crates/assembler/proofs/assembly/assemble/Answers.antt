@@ -1,21 +1,10 @@
-use Rattle.std.proofs.Common.{ℕ, ◌++◌, List, ap, ◌∙◌}
-use Rattle.assembler.specs.Runs.{all_bytes}
-use Rattle.assembler.specs.Parts.{shown}
-use Rattle.assembler.proofs.Shown.{parts_show}
-use Rattle.assembler.proofs.Whole.{rows_are}
+use Rattle.std.proofs.Common.{ap, ◌∙◌}
+use Rattle.rc_base.specs.declared.image.Image.{Image}
+use Rattle.assembler.proofs.Pictures.{are_parts_of, shows_pixels}
 use Rattle.assembler.proofs.assembly.assemble.Goals as goal
 
 pub returns-clause-pixels : goal.returns-clause-pixels
 returns-clause-pixels c = λ pixels show.
-    c.from_vec.ensures
-    ∙ c.in_ok-add_rows.ensures
-    ∙ ap (λ (l : List ℕ). l ++ all_bytes c.args.layout.now c.args.parts.now) c.in_ok-rgb.ensures.items
-    ∙ rows_are c.args.layout.now c.args.parts.now pixels c.requires.parts show c.requires.columns c.requires.rows
-
-pub returns-clause-bytes : goal.returns-clause-bytes
-returns-clause-bytes c =
-    c.from_vec.ensures
-    ∙ c.in_ok-add_rows.ensures
-    ∙ ap (λ (l : List ℕ). l ++ all_bytes c.args.layout.now c.args.parts.now) c.in_ok-rgb.ensures.items
-    ∙ rows_are c.args.layout.now c.args.parts.now (shown c.args.layout.now c.args.parts.now) c.requires.parts
-    (parts_show c.args.layout.now c.args.parts.now c.requires.columns c.requires.rows c.requires.parts) c.requires.columns c.requires.rows
+    let l = c.args.layout.now in
+    let parts = c.args.parts.now in
+    ap (λ (m : Image). m.rgb) (c.write_image.ensures.shown ∙ shows_pixels l parts pixels c.requires.columns c.requires.rows (are_parts_of l parts c.requires.parts) show)

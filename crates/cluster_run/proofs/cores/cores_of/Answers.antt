@@ -4,7 +4,7 @@ use Rattle.std.specs.Global.{Global}
 use Rattle.rc_base.specs.declared.state.Parcel.{Parcel}
 use Rattle.lane_grid.specs.Grids.{AreGrid}
 use Rattle.tile_queues.specs.declared.ends.LaneOut.{LaneOut}
-use Rattle.cluster_run.proofs.ClosedCrews.{AreFronts, asking_paired, closed, grid, hearing_paired}
+use Rattle.cluster_run.proofs.ClosedCrews.{AreFronts, asking_paired, closed, grid, hearing_paired, showing_into}
 use Rattle.cluster_run.proofs.cores.cores_of.Goals as goal
 
 pub close_all-requires : goal.close_all-requires
@@ -27,8 +27,8 @@ close_list-requires-2 g c =
     hearing_paired of.0 of.1 of.2 c.args.crew of.3 c.in_ok-clients.field-0 c.in_ok-clients.ensures c.in_ok-tiles.field-0 c.in_ok-tiles.ensures
     c.named_ends_are_paired-2.ensures
 
-pub returns : goal.returns
-returns g c scene l names ended =
+pub returns-clause-closed : goal.returns-clause-closed
+returns-clause-closed g c scene l names ended =
     let clients = c.in_ok-clients.field-0 in
     let n = c.args.crew.clients.ok.0 in
     let m = c.args.crew.tiles.ok.0 in
@@ -40,3 +40,7 @@ returns g c scene l names ended =
     (subst (λ (columns : List (Vec (LaneOut Parcel g.row.R.Denot) Global)). AreFronts clients.rows.items columns) c.deref_mut.ensures.value
     (λ i t d e a b low t_low. c.close_all.ensures i t d e a b (omega (arith, low, rows)) t_low))
     c.close_list.ensures c.close_list-2.ensures
+
+pub returns-clause-parts : goal.returns-clause-parts
+returns-clause-parts g c scene l names ended =
+    showing_into scene l names c.args.crew ended c.in_ok-clients.field-0 c.in_ok-clients.ensures c.in_ok-tiles.field-0 c.in_ok-tiles.ensures

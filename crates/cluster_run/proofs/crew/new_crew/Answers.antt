@@ -15,4 +15,4 @@ returns g c =
     (subst (λ m. IsNewGrid c.args.depth c.len.result m ins outs) c.from.ensures c.in_ok-grid.ensures) in
     new_crew_is scene l c.args.depth ins outs
     (record { clients = c.in_ok-clients.clients.workers; manager = c.in_ok-manager.manager; tiles = c.in_ok-tiles.tiles.workers })
-    c.in_ok-clients.clients.requests c.in_ok-tiles.tiles.grants can.some can.some_tiles grid c.in_ok-clients.ensures c.in_ok-tiles.ensures c.in_ok-manager.ensures
+    c.in_ok-clients.clients.requests c.in_ok-tiles.tiles.grants c.in_ok-tiles.tiles.parts can.some can.some_tiles grid c.in_ok-clients.ensures c.in_ok-tiles.ensures c.in_ok-manager.ensures

@@ -1,5 +1,77 @@
+use Rattle.std.proofs.Common.{◌≡◌, ◌<◌, length, arith, ap, ◌∙◌}
+use Rattle.frame_out.proofs.FrameParts.{some_columns, some_rows}
+use Rattle.frame_out.proofs.Prefixes.{on_err}
+use Rattle.cluster_run.proofs.Runs.{is_window}
+use Rattle.cluster_run.proofs.Serving.{front_since, nothing_given, out_still, since_then}
 use Rattle.cluster_run.proofs.run.run_threads.Goals as goal
 
-pub gather-requires-clause-tiles : goal.gather-requires-clause-tiles
-gather-requires-clause-tiles g c =
-    (c.scenes_within_limits.ensures.runnable c.args.scene.now c.args.layout.now c.args.depth c.requires.within c.requires.layout).some_tiles
+pub returns-in_err-crew-clause-front : goal.returns-in_err-crew-clause-front
+returns-in_err-crew-clause-front g c =
+    on_err c.from_residual.result (nothing_given g.K.Sink.held g.K.Sink.faults c.args.layout.now c.args.image.now)
+
+pub new-requires-clause-columns : goal.new-requires-clause-columns
+new-requires-clause-columns g c =
+    let l = c.args.layout.now in
+    some_columns l.columns l.rows (c.scenes_within_limits.ensures.runnable c.args.scene.now l c.args.depth c.requires.within c.requires.layout).some_tiles
+
+pub new-requires-clause-rows : goal.new-requires-clause-rows
+new-requires-clause-rows g c =
+    let l = c.args.layout.now in
+    some_rows l.columns l.rows (c.scenes_within_limits.ensures.runnable c.args.scene.now l c.args.depth c.requires.within c.requires.layout).some_tiles
+
+pub new-requires-clause-window : goal.new-requires-clause-window
+new-requires-clause-window g c =
+    is_window c.args.scene.now c.args.layout.now c.requires.layout.width c.requires.layout.height (c.scenes_within_limits.ensures.drawable c.args.scene.now c.requires.within)
+
+pub new-requires-clause-lanes : goal.new-requires-clause-lanes
+new-requires-clause-lanes g c = c.in_ok-crew.ensures.2.named.size
+
+pub returns-in_err-frames-clause-front : goal.returns-in_err-frames-clause-front
+returns-in_err-frames-clause-front g c =
+    on_err c.from_residual-in_err-frames.result (nothing_given g.K.Sink.held g.K.Sink.faults c.args.layout.now c.args.image.now)
+
+pub returns-in_err-ended-clause-front : goal.returns-in_err-ended-clause-front
+returns-in_err-ended-clause-front g c =
+    let l = c.args.layout.now in
+    let can = c.scenes_within_limits.ensures.runnable c.args.scene.now l c.args.depth c.requires.within c.requires.layout in
+    let made = c.in_ok-crew.ensures in
+    let frames = c.in_ok-frames.frames in
+    on_err c.from_residual-in_err-ended.result
+    (front_since g.K.Sink.held g.K.Sink.faults l c.whole_runs_are_written.ensures.first c.args.image.now frames c.in_ok-frames.ensures.new made.0.parts _
+    (ap (λ v. v.items) c.in_ok-frames.ensures.lanes) made.2 c.run_crew.new.frames c.run_crew.new.image c.in_err-ended.ensures.served can.some_tiles)
+
+pub complete-requires-clause-some : goal.complete-requires-clause-some
+complete-requires-clause-some g c =
+    let scene = c.args.scene.now in
+    let l = c.args.layout.now in
+    let can = c.scenes_within_limits.ensures.runnable scene l c.args.depth c.requires.within c.requires.layout in
+    let made = c.in_ok-crew.ensures in
+    let is = c.clusters_end.ensures scene l made.0 c.in_ok-crew.field-0.crew c.in_ok-ended.ended made.1 c.in_ok-ended.ensures.ended in
+    let clients = c.in_ok-ended.ended.clients.ok.0 in
+    let tiles = c.in_ok-ended.ended.tiles.ok.0 in
+    (omega (arith, clients, is.clients, can.some), omega (arith, tiles, is.tiles, can.some_tiles))
+
+pub complete-requires-clause-ended : goal.complete-requires-clause-ended
+complete-requires-clause-ended g c =
+    let scene = c.args.scene.now in
+    let l = c.args.layout.now in
+    let made = c.in_ok-crew.ensures in (
+      made.0,
+      c.clusters_end.ensures scene l made.0 c.in_ok-crew.field-0.crew c.in_ok-ended.ended made.1 c.in_ok-ended.ensures.ended,
+      out_still g.K.Sink.held g.K.Sink.faults l c.whole_runs_are_written.ensures.first c.args.image.now c.in_ok-frames.frames c.in_ok-frames.ensures.new made.0.parts _
+          (ap (λ v. v.items) c.in_ok-frames.ensures.lanes) made.2 c.run_crew.new.frames c.run_crew.new.image c.in_ok-ended.ensures.served,
+    )
+
+pub returns-clause-written : goal.returns-clause-written
+returns-clause-written g c =
+    let made = c.in_ok-crew.ensures in
+    c.complete.ensures.written c.args.image.now
+    (since_then g.K.Sink.held g.K.Sink.faults c.args.layout.now c.whole_runs_are_written.ensures.first c.args.image.now c.in_ok-frames.frames c.in_ok-frames.ensures.new
+    made.0.parts _ (ap (λ v. v.items) c.in_ok-frames.ensures.lanes) made.2 c.run_crew.new.frames c.run_crew.new.image c.in_ok-ended.ensures.served)
+
+pub returns-clause-front : goal.returns-clause-front
+returns-clause-front g c =
+    let made = c.in_ok-crew.ensures in
+    on_err c.complete.result (c.complete.ensures.front c.args.image.now
+    (since_then g.K.Sink.held g.K.Sink.faults c.args.layout.now c.whole_runs_are_written.ensures.first c.args.image.now c.in_ok-frames.frames c.in_ok-frames.ensures.new
+    made.0.parts _ (ap (λ v. v.items) c.in_ok-frames.ensures.lanes) made.2 c.run_crew.new.frames c.run_crew.new.image c.in_ok-ended.ensures.served))

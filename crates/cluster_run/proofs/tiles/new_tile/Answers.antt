@@ -11,8 +11,8 @@ returns-clause-new g c =
     record {
       number_is = refl;
       clients_are = refl;
+      none_waits = refl;
       clause = λ took none.
-          c.tiles_meet_their_clause.ensures.first c.args.scene.now c.args.layout.now c.args.number core took [] c.new-2.result.items
-          made.decl made.layout made.tile (made.clients ∙ count) (subst (λ n. IsProgressOf core (new_progress n)) count made.progress) made.board none refl
-          c.new-2.ensures.items;
+          c.tiles_meet_their_clause.ensures.first c.args.scene.now c.args.layout.now c.args.number core took [] []
+          made.decl made.layout made.tile (made.clients ∙ count) (subst (λ n. IsProgressOf core (new_progress n)) count made.progress) made.board none refl refl;
     }

@@ -1,59 +1,31 @@
-use Rattle.std.proofs.Common.{◌≡◌, ◌+◌, ◌<◌, inr, refl, get_or, List, ℕ, length, take, ap, subst, ◌∙◌, arith}
-use Rattle.std.specs.Io.KnownBytes.{Appends}
-use Rattle.rc_base.specs.Outside.Causes.{Rose, risen}
-use Rattle.rc_base.proofs.Known.{Appends-then}
-use Rattle.rc_base.specs.Formats.Netpbm.{p6_text}
-use Rattle.frame_out.proofs.Prefixes.{on_err, before, before_most, front_is, one_within, part_is, part_below}
+use Rattle.std.proofs.Common.{◌≡◌, ◌+◌, ◌<◌, ◌^◌, ◌++◌, List, ℕ, length, take, drop, sym, ap, subst, ◌∙◌, arith}
+use Rattle.rc_base.specs.Formats.Netpbm.{p6_text, p6_texts}
+use Rattle.rc_base.specs.Outside.Ends.{use_of, TookFront}
+use Rattle.frame_out.specs.Writing.{IsCounted}
+use Rattle.frame_out.proofs.Prefixes.{on_err, one_within, whole}
 use Rattle.frame_out.proofs.Texts.{texts_short}
+use Rattle.frame_out.proofs.WrittenMore.{front_of, texts_next}
 use Rattle.frame_out.proofs.writing.write_frames.Goals as goal
 
-pub overflow_add-bytes : goal.overflow_add-bytes
-overflow_add-bytes g c =
+pub loop-frame-preserved : goal.loop-frame-preserved
+loop-frame-preserved g c =
     let xs = c.args.frames.now in
     let i = c.loop-frame.frame-index in
     let x = c.frame-item.result in
-    let size = ap length (c.in_ok-text.ensures.text ∙ ap p6_text c.frame-item.is) in
-    omega (arith, size, c.len.ensures, one_within p6_text xs i x c.loop-frame-test.true, texts_short xs c.requires.whole, c.requires.few, c.loop-frame.invariant.count)
+    let text : p6_texts (take (i + 1) xs) ≡ p6_texts (take i xs) ++ p6_text x =
+    texts_next xs i x c.loop-frame-test.true ∙ ap (λ (t : List ℕ). p6_texts (take i xs) ++ t) (sym (ap p6_text c.frame-item.is)) in
+    let size = ap length (ap p6_text c.frame-item.is) in
+    let few : length (p6_texts (take i xs)) + length (p6_text x) < 2 ^ 64 =
+    omega (arith, size, one_within p6_text xs i x c.loop-frame-test.true, texts_short xs c.requires.whole, c.requires.few) in
+    subst (λ (t : List ℕ). IsCounted (use_of g.K.Sink.held g.K.Sink.faults c.args.image.now c.write_frame.new.image) t c.in_ok-written.written) (sym text)
+    (c.in_ok-written.ensures.written c.args.image.now (p6_texts (take i xs)) few c.loop-frame.invariant)
 
-pub overflow_add-result : goal.overflow_add-result
-overflow_add-result g c =
+pub returns-in_err-written-clause-front : goal.returns-in_err-written-clause-front
+returns-in_err-written-clause-front g c =
     let xs = c.args.frames.now in
     let i = c.loop-frame.frame-index in
-    let x = c.frame-item.result in
-    let size = ap length (c.as_slice.ensures ∙ c.in_ok-text.ensures.text ∙ ap p6_text c.frame-item.is) in
-    let part = c.in-Err.ensures.part.0 in
-    omega (arith, size, part, one_within p6_text xs i x c.loop-frame-test.true, texts_short xs c.requires.whole, c.requires.few, c.loop-frame.invariant.count)
-
-pub returns-in_err-text-clause-front : goal.returns-in_err-text-clause-front
-returns-in_err-text-clause-front g c =
-    let xs = c.args.frames.now in
-    let i = c.loop-frame.frame-index in
-    on_err c.from_residual.result (record {
-      done = length (before p6_text xs i);
-      part = before_most p6_text xs i;
-      given = subst (Appends (g.K.Sink.held c.args.image.now) (g.K.Sink.held c.loop-frame.image)) (front_is p6_text xs i) c.loop-frame.invariant.given;
-    })
-
-pub returns-in-Err-clause-written : goal.returns-in-Err-clause-written
-returns-in-Err-clause-written g c =
-    let xs = c.args.frames.now in
-    let i = c.loop-frame.frame-index in
-    let done = c.in-Err.fault.done in
-    let old = g.K.Sink.held c.args.image.now in
-    let between = g.K.Sink.held c.loop-frame.image in
-    let new = g.K.Sink.held c.write_all.new.sink in
-    let x = c.frame-item.result in
-    let text : c.as_slice.result.now ≡ p6_text (get_or xs i x) = c.as_slice.ensures ∙ c.in_ok-text.ensures.text ∙ ap p6_text c.frame-item.is in
-    let within : done < length (p6_text (get_or xs i x)) = subst (λ (l : List ℕ). done < length l) text c.in-Err.ensures.part.0 in
-    let part : Appends between new (take done (p6_text (get_or xs i x))) = subst (λ (l : List ℕ). Appends between new (take done l)) text c.in-Err.ensures.part.1 in
-    let both = Appends-then old between new (before p6_text xs i) (take done (p6_text (get_or xs i x))) c.loop-frame.invariant.given part in
-    let count : c.loop-frame.bytes + done ≡ length (before p6_text xs i) + done = ap (λ (n : ℕ). n + done) c.loop-frame.invariant.count in
-    let faults = g.K.Sink.faults c.write_all.new.sink in
-    let rose = subst (λ (n : ℕ). Rose n faults) c.loop-frame.invariant.same c.in-Err.ensures.cause.failed in
-    let once = subst (λ (n : ℕ). faults ≡ risen n) c.loop-frame.invariant.same c.in-Err.ensures.cause.once in
-    inr (
-      refl,
-      record { rose = rose; once = once },
-      rw count (part_below p6_text xs i x done c.loop-frame-test.true within),
-      rw count (subst (Appends old new) (part_is p6_text xs i x done c.loop-frame-test.true within) both),
-    )
+    let before = use_of g.K.Sink.held g.K.Sink.faults c.args.image.now c.loop-frame.image in
+    let front : TookFront before (p6_texts xs) =
+    subst (TookFront before) (sym (whole p6_text xs i)) (front_of before (p6_texts (take i xs)) (p6_texts (drop i xs)) c.loop-frame.written c.loop-frame.invariant) in
+    on_err c.from_residual.result
+    (subst (λ im. TookFront (use_of g.K.Sink.held g.K.Sink.faults c.args.image.now im) (p6_texts xs)) (sym c.in_err-written.ensures.lacked) front)

@@ -9,7 +9,7 @@ use Rattle.frame_out.specs.Frames.{frame_total, window_images, AreFrames, ShowFr
 use Rattle.step_core.specs.CoreRuns.{IsFinish}
 use Rattle.render_core.specs.Jobs.{layout_for}
 use Rattle.render_core.proofs.Recorded.{layout_fits, layout_within, scene_within}
-use Rattle.render_core.proofs.ClusterRuns.{are_writable, finish_of, if_lacking, is_stepped, run_of, text_is}
+use Rattle.render_core.proofs.ClusterRuns.{are_writable, finish_of, is_stepped, run_of, text_is}
 use Rattle.render_core.proofs.cluster.cluster_due.Goals as goal
 
 pub run_schedule-requires-clause-within : goal.run_schedule-requires-clause-within
@@ -22,11 +22,6 @@ pub run_schedule-requires-clause-picks : goal.run_schedule-requires-clause-picks
 run_schedule-requires-clause-picks c =
     subst (λ (l : Layout). (i : ℕ) → i < length c.args.picks.now → slice_index_or c.args.picks.now i 0 < length c.args.scene.now.streams + 1 + tile_count l) (sym c.requires.tiles)
     c.requires.picks
-
-pub returns-in_err-kept-clause-refused : goal.returns-in_err-kept-clause-refused
-returns-in_err-kept-clause-refused c =
-    if_lacking c.args.scene.now (layout_for c.args.cluster c.args.scene.now) c.args.cluster.depth c.args.picks.now c.in_err-kept.field-0.0 c.from_residual-in_err-kept.result
-    c.in_err-kept.ensures.lacking c.from_residual-in_err-kept.ensures.1
 
 pub frames_of-requires-clause-some_tiles : goal.frames_of-requires-clause-some_tiles
 frames_of-requires-clause-some_tiles c =

@@ -1,12 +1,12 @@
-use Rattle.std.proofs.Common.{◌≡◌, ℕ, ◌+◌, ◌≤◌, ◌<◌, List, length, refl, sym, ap, ◌∙◌, subst, arith}
-use Rattle.std.specs.Prelude.{IfErr, IfOk, slice_index_or}
+use Rattle.std.proofs.Common.{◌≡◌, ℕ, ◌+◌, ◌≤◌, ◌<◌, List, length, sym, ap, ◌∙◌, subst, arith}
+use Rattle.std.specs.Prelude.{IfOk, slice_index_or}
 use Rattle.rc_base.specs.Cluster.Tiles.{tile_count}
 use Rattle.rc_base.specs.Program.Generator.{picks_of}
 use Rattle.rc_base.specs.declared.window.Layout.{Layout}
-use Rattle.render_core.specs.Due.{IsStepped, IsOutcome, seeded_picks}
+use Rattle.render_core.specs.Due.{IsStepped, IsOutcome}
 use Rattle.render_core.specs.Jobs.{actors_for, layout_for}
 use Rattle.render_core.specs.declared.job.Job.TheVariants.{Simulate}
-use Rattle.render_core.specs.Refusals.{IsClusterRefusal, outcome_of}
+use Rattle.render_core.specs.Refusals.{outcome_of}
 use Rattle.rc_base.proofs.WithinLimits.{clients_within, tiles_within}
 use Rattle.render_core.proofs.Picked.{cluster_refused, picks_below}
 use Rattle.render_core.proofs.Recorded.{layout_within}
@@ -39,11 +39,4 @@ returns-clause-outcome c =
     subst (λ (p : List ℕ). IfOk c.cluster_due.result (λ due. IsStepped c.args.cluster p scene (outcome_of due))) picks c.cluster_due.ensures.outcome
 
 pub returns-clause-refused : goal.returns-clause-refused
-returns-clause-refused c =
-    let scene = c.args.scene.now in
-    let cluster = c.args.cluster in
-    let actors : c.actor_count.result ≡ actors_for cluster scene = c.actor_count.ensures ∙ ap (λ (l : Layout). length scene.streams + 1 + tile_count l) c.in-Ok.ensures.1 in
-    let picks : c.as_slice.result.now ≡ seeded_picks c.args.seed cluster scene = c.as_slice.ensures.value ∙ c.in_ok-picks.ensures ∙ ap (picks_of c.args.seed) actors in
-    cluster_refused (Simulate c.args.seed cluster) scene (layout_for cluster scene) cluster.depth (seeded_picks c.args.seed cluster scene) c.in-Ok.ensures.0
-    (λ still. record { seed = c.args.seed; cluster = cluster; simulated = refl; still = still }) c.cluster_due.result
-    (subst (λ (p : List ℕ). IfErr c.cluster_due.result (IsClusterRefusal scene (layout_for cluster scene) cluster.depth p)) picks c.cluster_due.ensures.refused)
+returns-clause-refused c = cluster_refused (Simulate c.args.seed c.args.cluster) c.args.scene.now c.cluster_due.result c.cluster_due.ensures.refused

@@ -1,7 +1,8 @@
-use Rattle.std.proofs.Common.{◌≡◌, [], subst}
+use Rattle.std.proofs.Common.{◌≡◌, ◌⊎◌, [], subst}
 use Rattle.std.specs.Prelude.{IfOk}
 use Rattle.rc_base.specs.Outside.Ends.{use_of}
 use Rattle.render_core.specs.Finishes.{IsFinished}
+use Rattle.render_core.specs.Outcomes.{PartlyShown, PartlyWritten}
 use Rattle.render_core.proofs.Finishing.{jobless, left_by, ran_by, silent_by}
 use Rattle.render_core.proofs.Headline.{answered, headline, permits}
 use Rattle.render_core.proofs.run_job.run.Goals as goal
@@ -56,7 +57,8 @@ returns-clause-memory g c =
     let image = use_of g.K.Sink.held g.K.Sink.faults c.args.image.now c.perform_in_threads-performed.new.image in
     let notes = use_of g.N.Sink.held g.N.Sink.faults c.args.notes.now c.finish_of.new.notes in
     let finished = subst (λ n. IsFinished (use_of g.N.Sink.held g.N.Sink.faults n c.finish_of.new.notes) c.perform_in_threads-performed.result c.finish_of.result) c.in-Ok.ensures.unnoted c.finish_of.ensures.finished in
-    left_by c.args.words.now c.in-Ok.job c.in-Ok.ensures.job source image notes c.finish_of.result c.perform_in_threads-performed.result finished c.perform_in_threads-performed.ensures.part
+    left_by c.args.words.now c.in-Ok.job c.in-Ok.ensures.job source image notes c.finish_of.result (λ job. PartlyWritten job source image ⊎ PartlyShown job source image)
+    c.perform_in_threads-performed.result finished c.perform_in_threads-performed.ensures.part
 
 pub returns-clause-silent : goal.returns-clause-silent
 returns-clause-silent g c =

@@ -2,7 +2,7 @@ use Rattle.std.proofs.Common.{◌≡◌, ◌⊎◌, inl, inr, None, sym, subst}
 use Rattle.std.specs.declared.option.Option.{Option}
 use Rattle.rc_base.specs.Outside.Ends.{use_of}
 use Rattle.order_model.specs.declared.record.Record.{Record}
-use Rattle.render_core.specs.Outcomes.{PartlyWritten}
+use Rattle.render_core.specs.Outcomes.{PartlyShown, PartlyWritten}
 use Rattle.render_core.specs.Refusals.{IsCaused}
 use Rattle.render_core.specs.declared.due.DueRefusal.TheVariants as undue
 use Rattle.render_core.specs.declared.refusal.Refusal.{Refusal}
@@ -67,16 +67,13 @@ returns-in-Ok-run_threads-clause-part g c =
     let source = use_of g.S.Source.left g.S.Source.faults c.args.source.now c.scene_for.new.source in
     let image = use_of g.K.Sink.held g.K.Sink.faults c.args.image.now c.run_threads.new.image in
     let run = c.in-Ok-run_threads.run' in
-    on_err c.told_run.result {P = (c.run_threads.new.image ≡ c.args.image.now) ⊎ PartlyWritten c.args.job source image} (inr (run_given c.args.job c.args.cluster source image c.in-Ok.scene c.requires c.in-Ok.ensures.came c.in-Ok.ensures.well c.in-Ok.ensures.within c.scene_lists_are_well_formed.ensures
+    on_err c.told_run.result {P = (c.run_threads.new.image ≡ c.args.image.now) ⊎ PartlyWritten c.args.job source image ⊎ PartlyShown c.args.job source image} (inr (inl (run_given c.args.job c.args.cluster source image c.in-Ok.scene c.requires c.in-Ok.ensures.came c.in-Ok.ensures.well c.in-Ok.ensures.within c.scene_lists_are_well_formed.ensures
     c.records_of_scenes.ensures.orders c.in-Ok-layout_of.layout c.in-Ok-layout_of.ensures.0 c.in-Ok-layout_of.ensures.1 run.kept run.tallies run.waiting run.faults run.written
-    c.in-Ok-run_threads.ensures.run c.in-Ok-run_threads.ensures.written))
+    c.in-Ok-run_threads.ensures.run c.in-Ok-run_threads.ensures.written)))
 
 pub returns-clause-part : goal.returns-clause-part
 returns-clause-part g c =
     let source = use_of g.S.Source.left g.S.Source.faults c.args.source.now c.scene_for.new.source in
     let image = use_of g.K.Sink.held g.K.Sink.faults c.args.image.now c.run_threads.new.image in
-    elim c.in-Err-run_threads.ensures.front [
-      | inl same ↦ inl same
-      | inr gave ↦ inr (front_given c.args.job c.args.cluster source image c.in-Ok.scene c.requires c.in-Ok.ensures.came c.in-Ok.ensures.well c.in-Ok.ensures.within c.scene_lists_are_well_formed.ensures
-          c.records_of_scenes.ensures.orders c.in-Ok-layout_of.layout c.in-Ok-layout_of.ensures.0 c.in-Ok-layout_of.ensures.1 gave)
-    ]
+    inr (inr (front_given c.args.job c.args.cluster source image c.in-Ok.scene c.requires c.in-Ok.ensures.came c.in-Ok.ensures.well c.in-Ok.ensures.within c.scene_lists_are_well_formed.ensures
+    c.records_of_scenes.ensures.orders c.in-Ok-layout_of.layout c.in-Ok-layout_of.ensures.0 c.in-Ok-layout_of.ensures.1 c.in-Err-run_threads.ensures.front))

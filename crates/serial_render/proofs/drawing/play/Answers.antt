@@ -1,14 +1,18 @@
-use Rattle.std.proofs.Common.{◌≡◌, ℕ, ◌+◌, List, length, take, drop, ◌∙◌, ap, sym, subst, arith}
+use Rattle.std.proofs.Common.{◌≡◌, ℕ, ◌+◌, List, Option, length, take, drop, ◌∙◌, ap, sym, subst, arith}
 use Rattle.std.specs.Prelude.{slice_index_or, max}
 use Rattle.std.proofs.lemmas.Option.{slice_get-get_or}
 use Rattle.rc_base.specs.Cluster.Tiles.{is_in_rect}
 use Rattle.rc_base.specs.Contexts.Issue.{context_after}
+use Rattle.rc_base.specs.Drawing.PixelStep.{effect_step}
 use Rattle.rc_base.specs.Drawing.Serial.{textures_after, frame_pixel}
+use Rattle.rc_base.specs.Pictures.{Picture}
+use Rattle.rc_base.specs.declared.state.State.{State}
 use Rattle.rc_base.specs.declared.sync.Name.{Name}
 use Rattle.rc_base.specs.declared.window.Rect.{Rect}
+use Rattle.textures.specs.Images.{texture_image}
 use Rattle.textures.proofs.Stored.{blank}
 use Rattle.gl_context.proofs.ValidContexts.{valid}
-use Rattle.draw_device.specs.Conditions.{IsDrawable, IsClearable}
+use Rattle.draw_device.specs.Conditions.{IsDrawable, IsClearable, shared_of}
 use Rattle.draw_device.specs.Devices.{pixel_of}
 use Rattle.order_model.proofs.ScenesWithinLimits.{within_has_sides}
 use Rattle.serial_render.specs.Clients.{AreIssued, client_after}
@@ -73,8 +77,10 @@ carry_out-requires-clause-drawable c =
     let lt = is_client s n.client n.place next.1 in
     let found = c.index-in-loop-name.ensures ∙ ap (λ (k : ℕ). slice_index_or c.issue_name.new.clients.items k c.index-in-loop-name.result.now) c.from-client.ensures in
     let now = client_now s n c.loop-name.clients.items c.issue_name.new.clients.items c.index-in-loop-name.result.now (omega (arith, lt, c.loop-name.invariant.clients.count)) c.in_ok-effect.ensures.clients found in
-    subst (λ (x : Client). IsDrawable x.context.state x.context.images c.loop-name.shared) (sym now)
-    (drawable s.decl (context_after s n.client (n.place + 1)) (textures_after s (take i c.args.order.now)) c.loop-name.shared (valid s c.requires.within.commands n.client (n.place + 1)) c.loop-name.invariant.texels (within_has_sides s c.requires.within))
+    subst (λ (v : State). IsDrawable v c.private.result.now c.loop-name.shared) (sym c.state.ensures)
+    (subst (λ (v : List (Option Picture)). IsDrawable c.index-in-loop-name.result.now.context.state v c.loop-name.shared) (sym c.private.ensures)
+    (subst (λ (x : Client). IsDrawable x.context.state x.context.images c.loop-name.shared) (sym now)
+    (drawable s.decl (context_after s n.client (n.place + 1)) (textures_after s (take i c.args.order.now)) c.loop-name.shared (valid s c.requires.within.commands n.client (n.place + 1)) c.loop-name.invariant.texels (within_has_sides s c.requires.within))))
 
 pub carry_out-requires-clause-clearable : goal.carry_out-requires-clause-clearable
 carry_out-requires-clause-clearable c =
@@ -85,7 +91,7 @@ carry_out-requires-clause-clearable c =
     let lt = is_client s n.client n.place next.1 in
     let found = c.index-in-loop-name.ensures ∙ ap (λ (k : ℕ). slice_index_or c.issue_name.new.clients.items k c.index-in-loop-name.result.now) c.from-client.ensures in
     let now = client_now s n c.loop-name.clients.items c.issue_name.new.clients.items c.index-in-loop-name.result.now (omega (arith, lt, c.loop-name.invariant.clients.count)) c.in_ok-effect.ensures.clients found in
-    subst (λ (x : Client). IsClearable x.context.state) (sym now) (clearable s n.client (n.place + 1))
+    subst (λ (v : State). IsClearable v) (sym c.state.ensures) (subst (λ (x : Client). IsClearable x.context.state) (sym now) (clearable s n.client (n.place + 1)))
 
 pub carry_out-requires-clause-writable : goal.carry_out-requires-clause-writable
 carry_out-requires-clause-writable c part is =
@@ -133,6 +139,9 @@ loop-name-preserved c =
       shown = subst (λ (l : List Name). IsShown s order l c.carry_out.new.device new) (sym parts.1)
           (shown_next s order done rest n d c.carry_out.new.device old new c.requires.playable parts.0 inv.shown count images c.carry_out.ensures.rect
           (λ x y inside. c.carry_out.ensures.drawn x y inside
+          ∙ ap (λ (v : State). effect_step v (texture_image c.private.result.now) (shared_of c.loop-name.shared) c.in_ok-effect.effect x y (pixel_of d x y)) c.state.ensures
+          ∙ ap (λ (v : List (Option Picture)). effect_step c.index-in-loop-name.result.now.context.state (texture_image v) (shared_of c.loop-name.shared) c.in_ok-effect.effect x y (pixel_of d x y))
+          c.private.ensures
           ∙ step_is s n _ (textures_after s done) c.loop-name.shared c.index-in-loop-name.result.now.context c.in_ok-effect.effect x y (pixel_of d x y) (some_command s n.client n.place next.1)
           (ap (λ (z : Client). z.context) now) c.in_ok-effect.ensures.effect (valid s c.requires.within.commands n.client (n.place + 1)) inv.texels));
     }

@@ -1,9 +1,9 @@
-use Rattle.std.proofs.Common.{List, sym, ◌∙◌, subst}
+use Rattle.std.proofs.Common.{List, sym, subst}
 use Rattle.std.specs.Prelude.{slice_index_or}
 use Rattle.std.specs.Vec.{with_items}
 use Rattle.step_core.specs.Changes.{IsClientCoreStep}
 use Rattle.step_core.specs.declared.port.Port.{Port}
-use Rattle.step_core.proofs.Changes.{changed_at, on_ok}
+use Rattle.step_core.proofs.Changes.{changed_at}
 use Rattle.step_core.proofs.Lanes.{items_are}
 use Rattle.step_core.proofs.clients.step_of_client.Goals as goal
 
@@ -17,9 +17,7 @@ returns c =
     let row = slice_index_or c.args.ports.now c.args.client c.index-ports-client.result in
     let given = c.deref_mut.result.now in
     let left = c.step.new.tiles in
-    on_ok c.step.result _ (λ m is.
     let core : IsClientCoreStep e.step.0 a b given left g h = record {
-      ample = rw is at e.ample;
       same_ports = e.tile_lanes;
       lane_depth = e.request_lane;
       step = e.step.2;
@@ -30,7 +28,7 @@ returns c =
     c.deref_mut.ensures.value core in
     record {
       deed = e.step.0;
-      answered = sym e.step.1 ∙ is;
+      answered = sym e.step.1;
       core = a;
       core' = b;
       row = row;
@@ -42,4 +40,4 @@ returns c =
       lanes_changed = changed_at c.args.lanes.now c.args.client c.index-lanes-client.result h c.requires.lane;
       step = subst (λ (xs : List Port). IsClientCoreStep e.step.0 a b row.items xs g h)
           (sym (items_are row left first.same_ports.count)) first;
-    })
+    }

@@ -15,7 +15,7 @@ loop-client-preserved c =
       at = each_more (λ i y. IsClientOf s l i (new_client s l i) y) c.loop-client.client xs _ x c.in_ok-push.ensures.items
           c.loop-client.invariant.count c.loop-client.invariant.at record {
             whose = e.whose;
-            ample = e.short;
+            short = e.short;
             left = e.left;
             tallies = e.tallies;
           };

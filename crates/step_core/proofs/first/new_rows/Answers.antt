@@ -6,10 +6,10 @@ use Rattle.step_core.proofs.first.new_rows.Goals as goal
 pub loop-preserved : goal.loop-preserved
 loop-preserved c =
     let xs = c.loop.rows.items in
-    let x = c.in_ok-new_lanes.field-0 in
+    let x = c.in_ok-new_landings.field-0 in
     record {
       count = count_more c.loop.counter xs _ x c.in_ok-push.ensures.items c.loop.invariant.count;
       at = each_more (λ i y. AreLanesOf c.args.depth c.args.clients (λ client. []) y.items) c.loop.counter xs _ x c.in_ok-push.ensures.items
           c.loop.invariant.count c.loop.invariant.at
-          c.in_ok-new_lanes.ensures;
+          c.in_ok-new_landings.ensures;
     }

@@ -41,8 +41,8 @@ loop-pick-preserved c =
     let more : take (i + 1) picks ≡ take i picks ++ get_or picks i 0 ∷ [] = rw add-one (take-suc picks i 0 (omega (arith, c.loop-pick-test.true))) in
     subst (λ (moves : List Move). IsRunOf c.args.scene.now c.args.layout.now c.args.depth (take (i + 1) picks) moves c.step.new.self)
     (sym c.in_ok-push.ensures.items)
-    (one_more c.args.scene.now c.args.layout.now c.args.depth (take i picks) (take (i + 1) picks) (get_or picks i 0) c.loop-pick.cluster
-    c.step.new.self c.loop-pick.moves.items c.in_ok-step.field-0 more c.loop-pick.invariant c.in_ok-step.ensures)
+    (one_more c.args.scene.now c.args.layout.now c.args.depth c.ample_turns_are_moves.ensures.next (take i picks) (take (i + 1) picks) (get_or picks i 0)
+    c.loop-pick.cluster c.step.new.self c.loop-pick.moves.items c.in_ok-step.field-0 more c.loop-pick.invariant c.in_ok-step.ensures.turn)
 
 pub returns-clause-right : goal.returns-clause-right
 returns-clause-right c =

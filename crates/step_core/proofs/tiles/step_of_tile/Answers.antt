@@ -1,10 +1,10 @@
-use Rattle.std.proofs.Common.{List, sym, ◌∙◌, subst}
+use Rattle.std.proofs.Common.{List, sym, subst}
 use Rattle.std.specs.Prelude.{slice_index_or}
 use Rattle.std.specs.Vec.{with_items}
 use Rattle.rc_base.specs.declared.plain_lane.PlainLane.{PlainLane}
 use Rattle.rc_base.specs.declared.state.Parcel.{Parcel}
 use Rattle.step_core.specs.Changes.{IsTileCoreStep}
-use Rattle.step_core.proofs.Changes.{changed_at, on_ok}
+use Rattle.step_core.proofs.Changes.{changed_at}
 use Rattle.step_core.proofs.Lanes.{items_are}
 use Rattle.step_core.proofs.tiles.step_of_tile.Goals as goal
 
@@ -18,9 +18,7 @@ returns c =
     let row = slice_index_or c.args.rows.now c.args.tile c.index-rows-tile.result in
     let given = c.deref_mut.result.now in
     let left = c.step.new.clients in
-    on_ok c.step.result _ (λ m is.
     let core : IsTileCoreStep e.step.0 a b given left g h = record {
-      ample = rw is at e.ample;
       row_depths = e.client_lanes;
       lane_depth = e.grant_lane;
       step = e.step.2;
@@ -33,7 +31,7 @@ returns c =
     c.deref_mut.ensures.value core in
     record {
       deed = e.step.0;
-      answered = sym e.step.1 ∙ is;
+      answered = sym e.step.1;
       core = a;
       core' = b;
       row = row;
@@ -45,4 +43,4 @@ returns c =
       lanes_changed = changed_at c.args.lanes.now c.args.tile c.index-lanes-tile.result h c.requires.lane;
       step = subst (λ (xs : List (PlainLane Parcel)). IsTileCoreStep e.step.0 a b row.items xs g h)
           (sym (items_are row left first.row_depths.count)) first;
-    })
+    }

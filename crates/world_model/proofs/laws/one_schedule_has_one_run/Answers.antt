@@ -4,7 +4,6 @@ use Rattle.world_model.proofs.laws.one_schedule_has_one_run.Goals as goal
 pub returns : goal.returns
 returns c = one_schedule record {
   lawful = c.grants_are_exact.ensures.lawful;
-  entries = c.entries_have_clients.ensures.legal;
 } record {
   books = c.books_stay_legal.ensures.legal;
   managers = c.managers_are_right.ensures.step;

@@ -20,7 +20,7 @@ returns-in-Ok-clause-step g c =
     let k = c.in-Some-Parcel.looks in
     let e = c.count_parcel.ensures in
     let was : s.ready ≡ Some (item.Parcel t p k) = sym c.take.ensures.value ∙ c.in-Some-Parcel.is ∙ ap (λ (i : Item). Some i) c.in-Some-Parcel.field-0-is in
-    let tallied = e.tallied p (sym c.len-sets.ensures) (sym ((sound s).looked (item.Parcel t p k) was)) in (
+    let tallied = e.tallied p (sym c.set_count-sets.ensures) (sym ((sound s).looked (item.Parcel t p k) was)) in (
       Appends t p,
       refl,
       refl,

@@ -1,12 +1,14 @@
 use Rattle.std.proofs.Common.{◌≡◌, ◌∙◌, ℕ, ◌+◌, ◌<◌, ◌∷◌, Some, ap, subst, sym, arith, refl}
 use Rattle.std.specs.declared.option.Option.{Option}
+use Rattle.rc_base.specs.Cluster.Looks.{looks_at}
 use Rattle.rc_base.specs.Cluster.Sending.{ToTile}
-use Rattle.rc_base.specs.declared.state.Act.{Act}
+use Rattle.rc_base.specs.declared.state.Parcel.{Parcel}
 use Rattle.state_update.specs.Knowledge.{pending}
 use Rattle.client_issue.specs.Acts.{act_looks}
-use Rattle.client_issue.specs.Sequence.{IsSendingWith, left_of}
+use Rattle.client_issue.specs.Sequence.{IsSendingWith, left_of, scene_of}
 use Rattle.client_issue.specs.declared.pending.Pending.{Pending}
-use Rattle.client_issue.proofs.ParcelGiven.{bound_texture, IsGiven, given_all, given_one, left_last, left_more, looks_of_parcel, parcel_by, settled}
+use Rattle.client_issue.proofs.Packable.{packable}
+use Rattle.client_issue.proofs.ParcelGiven.{bound_texture, IsGiven, given_all, given_one, left_last, left_more, looks_of_parcel, settled}
 use Rattle.client_issue.proofs.sender.Sender.give_parcel.Goals as goal
 
 pub sets_with-requires-clause-bound : goal.sets_with-requires-clause-bound
@@ -17,65 +19,90 @@ pub sets_with-requires-clause-settled : goal.sets_with-requires-clause-settled
 sets_with-requires-clause-settled c =
     settled c.args.self.now c.args.pending c.streams_go_on_by_issue.ensures.next c.elements_that_are_not_pending_were_told.ensures c.known_values_are_alike.ensures c.requires.sending
 
-facts : (c : goal.Then-next-self) → IsGiven c.args.self.now c.args.pending c.sets_with.new.tracker c.in_ok-sets.sets c.next_tile-next.result
-facts c = record {
-  law = c.streams_go_on_by_issue.ensures.next;
-  follow = c.trackers_follow_parcels.ensures.next;
-  sending = c.requires.sending;
-  low = c.next_tile-next.ensures.low;
-  high = c.next_tile-next.ensures.high;
-  none = c.next_tile-next.ensures.none;
-  count = c.in_ok-sets.ensures.count;
-  sets_are = c.in_ok-sets.ensures.sets;
-  told_now = c.in_ok-sets.ensures.told;
-  others = c.in_ok-sets.ensures.others;
-  examined = c.in_ok-sets.ensures.pending;
-}
-
-more_facts : (c : goal.Joined-self) → IsGiven c.args.self.now c.args.pending c.sets_with.new.tracker c.in_ok-sets.sets c.next_tile-next.result
-more_facts c = record {
-  law = c.streams_go_on_by_issue.ensures.next;
-  follow = c.trackers_follow_parcels.ensures.next;
-  sending = c.requires.sending;
-  low = c.next_tile-next.ensures.low;
-  high = c.next_tile-next.ensures.high;
-  none = c.next_tile-next.ensures.none;
-  count = c.in_ok-sets.ensures.count;
-  sets_are = c.in_ok-sets.ensures.sets;
-  told_now = c.in_ok-sets.ensures.told;
-  others = c.in_ok-sets.ensures.others;
-  examined = c.in_ok-sets.ensures.pending;
-}
-
 pub returns-then-next-self-clause-sending : goal.returns-then-next-self-clause-sending
 returns-then-next-self-clause-sending c =
+    let given : IsGiven c.args.self.now c.args.pending c.sets_with.new.tracker c.in_ok-sets.sets c.next_tile-next.result = record {
+      law = c.streams_go_on_by_issue.ensures.next;
+      follow = c.trackers_follow_parcels.ensures.next;
+      sending = c.requires.sending;
+      low = c.next_tile-next.ensures.low;
+      high = c.next_tile-next.ensures.high;
+      none = c.next_tile-next.ensures.none;
+      count = c.in_ok-sets.ensures.count;
+      sets_are = c.in_ok-sets.ensures.sets;
+      told_now = c.in_ok-sets.ensures.told;
+      others = c.in_ok-sets.ensures.others;
+      examined = c.in_ok-sets.ensures.pending;
+    } in
     let s = c.args.self.now in
     subst (λ (o : Option Pending). IsSendingWith (record s { tracker = c.sets_with.new.tracker; pending = o }) o) (sym c.requires.none)
-    (given_all s c.args.pending c.sets_with.new.tracker c.in_ok-sets.sets c.next_tile-next.result (facts c) c.if-next-self.true)
+    (given_all s c.args.pending c.sets_with.new.tracker c.in_ok-sets.sets c.next_tile-next.result given c.if-next-self.true)
 
 pub returns-then-next-self-clause-left : goal.returns-then-next-self-clause-left
 returns-then-next-self-clause-left c =
+    let given : IsGiven c.args.self.now c.args.pending c.sets_with.new.tracker c.in_ok-sets.sets c.next_tile-next.result = record {
+      law = c.streams_go_on_by_issue.ensures.next;
+      follow = c.trackers_follow_parcels.ensures.next;
+      sending = c.requires.sending;
+      low = c.next_tile-next.ensures.low;
+      high = c.next_tile-next.ensures.high;
+      none = c.next_tile-next.ensures.none;
+      count = c.in_ok-sets.ensures.count;
+      sets_are = c.in_ok-sets.ensures.sets;
+      told_now = c.in_ok-sets.ensures.told;
+      others = c.in_ok-sets.ensures.others;
+      examined = c.in_ok-sets.ensures.pending;
+    } in
     let s = c.args.self.now in
     let p = c.args.pending in
-    left_last s p c.sets_with.new.tracker c.in_ok-sets.sets c.next_tile-next.result (facts c) c.if-next-self.true
-    ∙ ap (λ (o : Option Pending). ToTile p.tile (parcel_by p c.in_ok-sets.sets) ∷ left_of (record s { tracker = c.sets_with.new.tracker; pending = o })) (sym c.requires.none)
+    left_last s p c.sets_with.new.tracker c.in_ok-sets.sets c.next_tile-next.result given c.if-next-self.true
+    ∙ (λ i. ToTile p.tile (sym c.in_ok-packed.ensures i) ∷ left_of (record s { tracker = c.sets_with.new.tracker; pending = sym c.requires.none i }))
 
 pub returns-clause-sending : goal.returns-clause-sending
 returns-clause-sending c =
+    let given : IsGiven c.args.self.now c.args.pending c.sets_with.new.tracker c.in_ok-sets.sets c.next_tile-next.result = record {
+      law = c.streams_go_on_by_issue.ensures.next;
+      follow = c.trackers_follow_parcels.ensures.next;
+      sending = c.requires.sending;
+      low = c.next_tile-next.ensures.low;
+      high = c.next_tile-next.ensures.high;
+      none = c.next_tile-next.ensures.none;
+      count = c.in_ok-sets.ensures.count;
+      sets_are = c.in_ok-sets.ensures.sets;
+      told_now = c.in_ok-sets.ensures.told;
+      others = c.in_ok-sets.ensures.others;
+      examined = c.in_ok-sets.ensures.pending;
+    } in
     let s = c.args.self.now in
     let n = c.next_tile-next.result in
     let e = c.if-next-self.false in
     let h = c.next_tile-next.ensures.high in
     let less : n < s.count = omega (arith, e, h) in
-    given_one s c.args.pending c.sets_with.new.tracker c.in_ok-sets.sets n (more_facts c) less (c.next_tile-next.ensures.found less) (record c.args.pending { tile = n }) refl
+    given_one s c.args.pending c.sets_with.new.tracker c.in_ok-sets.sets n given less (c.next_tile-next.ensures.found less) (record c.args.pending { tile = n }) refl
 
 pub returns-clause-left : goal.returns-clause-left
 returns-clause-left c =
+    let given : IsGiven c.args.self.now c.args.pending c.sets_with.new.tracker c.in_ok-sets.sets c.next_tile-next.result = record {
+      law = c.streams_go_on_by_issue.ensures.next;
+      follow = c.trackers_follow_parcels.ensures.next;
+      sending = c.requires.sending;
+      low = c.next_tile-next.ensures.low;
+      high = c.next_tile-next.ensures.high;
+      none = c.next_tile-next.ensures.none;
+      count = c.in_ok-sets.ensures.count;
+      sets_are = c.in_ok-sets.ensures.sets;
+      told_now = c.in_ok-sets.ensures.told;
+      others = c.in_ok-sets.ensures.others;
+      examined = c.in_ok-sets.ensures.pending;
+    } in
     let s = c.args.self.now in
     let p = c.args.pending in
-    left_more s p c.sets_with.new.tracker c.in_ok-sets.sets c.next_tile-next.result (more_facts c)
-    ∙ ap (λ (a : Act). ToTile p.tile (record { place = p.place; sets = c.in_ok-sets.sets; act = a }) ∷ left_of (record s { tracker = c.sets_with.new.tracker; pending = Some (record p { tile = c.next_tile-next.result }) }))
-    (sym c.in_ok-copy.ensures)
+    left_more s p c.sets_with.new.tracker c.in_ok-sets.sets c.next_tile-next.result given
+    ∙ ap (λ (q : Parcel). ToTile p.tile q ∷ left_of (record s { tracker = c.sets_with.new.tracker; pending = Some (record p { tile = c.next_tile-next.result }) }))
+    (sym c.in_ok-packed.ensures)
+
+pub encode_parcel-requires : goal.encode_parcel-requires
+encode_parcel-requires c = packable c.args.self.now c.args.pending c.in_ok-sets.sets c.requires.sending c.in_ok-sets.ensures.sets
 
 pub returns-then-next-self-clause-tile : goal.returns-then-next-self-clause-tile
 returns-then-next-self-clause-tile c = omega (arith, c.requires.sending.count, c.requires.sending.pending.tile)
@@ -89,6 +116,7 @@ returns-then-next-self-clause-looked c =
     let p = c.args.pending in
     c.count-looks.ensures ∙ c.in_ok-sets.ensures.looked ∙ ap (λ (n : ℕ). n + act_looks (pending s.tracker p.tile) p.act) c.new-looks.ensures
     ∙ (let e : 0 + act_looks (pending s.tracker p.tile) p.act ≡ act_looks (pending s.tracker p.tile) p.act = omega arith in e) ∙ looks_of_parcel s p c.requires.sending
+    ∙ ap (λ (q : Parcel). looks_at (scene_of s) s.layout 0 p.tile q.place) (sym c.in_ok-packed.ensures)
 
 pub returns-clause-looked : goal.returns-clause-looked
 returns-clause-looked c =
@@ -96,3 +124,4 @@ returns-clause-looked c =
     let p = c.args.pending in
     c.count-looks.ensures ∙ c.in_ok-sets.ensures.looked ∙ ap (λ (n : ℕ). n + act_looks (pending s.tracker p.tile) p.act) c.new-looks.ensures
     ∙ (let e : 0 + act_looks (pending s.tracker p.tile) p.act ≡ act_looks (pending s.tracker p.tile) p.act = omega arith in e) ∙ looks_of_parcel s p c.requires.sending
+    ∙ ap (λ (q : Parcel). looks_at (scene_of s) s.layout 0 p.tile q.place) (sym c.in_ok-packed.ensures)

@@ -1,32 +1,76 @@
-use Rattle.std.proofs.Common.{◌≡◌, ℕ, Bool, true, false, ap, sym, ◌∙◌, ◌++◌, List, length, take, drop, subst, refl, true≢false, ◌||◌}
-use Rattle.std.specs.Prelude.{slice_index_or}
+use Rattle.std.proofs.Common.{◌≡◌, ℕ, Bool, true, false, ap, sym, ◌∙◌, ◌++◌, List, [], length, take, drop, subst, refl, true≢false, Ok, Err, append-nil, append_assoc}
+use Rattle.std.specs.Prelude.{slice_index_or, option_to_list, Option, None, Some, Result, IfOk, OnErr}
+use Rattle.rc_base.specs.declared.cluster.TileMoved.{TileMoved}
 use Rattle.rc_base.specs.declared.cluster.TilePart.{TilePart}
+use Rattle.rc_base.specs.declared.out_of_memory.OutOfMemory.{OutOfMemory}
 use Rattle.rc_base.specs.declared.scene.Scene.{Scene}
 use Rattle.rc_base.specs.declared.state.Parcel.{Parcel}
 use Rattle.rc_base.specs.declared.sync.Grant.{Grant}
 use Rattle.rc_base.specs.declared.window.Layout.{Layout}
 use Rattle.rc_base.proofs.Paired.{after_slice}
 use Rattle.tile_server.specs.Clauses.{IsTileClause, shown_in}
+use Rattle.tile_server.specs.Cores.{is_short}
 use Rattle.tile_server.specs.Deeds.{answer_of}
 use Rattle.tile_server.specs.declared.tile_core.TileCore.{TileCore}
-use Rattle.tile_queues.specs.Ends.{taken_of}
+use Rattle.tile_queues.specs.Ends.{sent_of, taken_of}
 use Rattle.tile_queues.specs.declared.ends.LaneOut.{LaneOut}
 use Rattle.lane_grid.specs.Names.{AreOutOf}
+use Rattle.rc_base.specs.declared.cluster.TileMoved.TheVariants as moved
+use Rattle.cluster_run.specs.Tiles.{parts_of}
 use Rattle.cluster_run.proofs.Named.{out_goes_on}
 use Rattle.cluster_run.proofs.workers.TileWorker.advance.Goals as goal
-
-neither : (a b : Bool) → (a || b) ≡ false → (a ≡ false) × (b ≡ false)
-neither true b e = absurd (true≢false e)
-neither false b e = (refl, e)
 
 -- the core's clause over these ends and parts
 abbrev Holds : {R : Type 0} → Scene → Layout → ℕ → LaneOut Parcel R → TileCore → List (LaneOut Parcel R) → List Grant → List TilePart → Bool → Type 0
 Holds scene l tile d core ends heard parts ended = IsTileClause scene l tile core (λ client. taken_of (slice_index_or ends client d)) heard parts ended
 
+-- a core that is short promises nothing of its parts
+short_any : (scene : Scene) (l : Layout) (tile : ℕ) (core : TileCore) (took : ℕ → List Parcel) (heard : List Grant) (parts parts' : List TilePart) (ended : Bool)
+    → is_short core ≡ true → IsTileClause scene l tile core took heard parts ended → IsTileClause scene l tile core took heard parts' ended
+short_any scene l tile core took heard parts parts' ended short h = record {
+  decl = h.decl;
+  layout = h.layout;
+  tile = h.tile;
+  clients = h.clients;
+  whole = λ ample. absurd (true≢false (sym short ∙ ample));
+}
+
+-- what a step offers is what it shows, unless the core is short now
+module _ (scene : Scene) (l : Layout) (tile : ℕ) (core : TileCore) (took : ℕ → List Parcel) (heard : List Grant) (ended : Bool) (parts : List TilePart) (o : Option TilePart) where
+  offers : (answer : Result TileMoved OutOfMemory) → IfOk answer (λ did. option_to_list o ≡ shown_in (Ok did)) → (OnErr answer (is_short core ≡ true))
+      → IsTileClause scene l tile core took heard (parts ++ shown_in answer) ended → IsTileClause scene l tile core took heard (parts ++ option_to_list o) ended
+  offers (Ok did) is short h = subst (λ (ps : List TilePart). IsTileClause scene l tile core took heard (parts ++ ps) ended) (sym is) h
+  offers (Err lack) is short h = short_any scene l tile core took heard _ _ ended short h
+
+none_of : (o : Option TilePart) → option_to_list o ≡ [] → o ≡ None
+none_of None e = refl
+none_of (Some p) e = absurd cc
+
+short_now : (A B : Type 0) (answer : Result TileMoved OutOfMemory) → OnErr answer (A × B) → OnErr answer B
+short_now A B (Ok did) h = tt
+short_now A B (Err lack) h = h.1
+
+none_offered : (answer : Result TileMoved OutOfMemory) (o : Option TilePart) → answer ≡ Ok moved.Ended → IfOk answer (λ did. option_to_list o ≡ shown_in (Ok did)) → o ≡ None
+none_offered answer o is h = none_of o (subst (λ (r : Result TileMoved OutOfMemory). IfOk r (λ did. option_to_list o ≡ shown_in (Ok did))) is h)
+
+pub returns-then-not-put_held-clause-leads : goal.returns-then-not-put_held-clause-leads
+returns-then-not-put_held-clause-leads g c scene l tile took heard shown h =
+    let w = c.args.self.now in
+    let put = c.put_held.ensures in
+    record {
+      number_is = h.number_is;
+      clients_are = h.clients_are;
+      grants_are = h.grants_are;
+      parts_are = put.lane ∙ h.parts_are;
+      clause = λ d. subst (λ ps. Holds scene l tile d w.core w.clients.items (taken_of w.grants) ps w.ended) (sym put.kept) (h.clause d);
+      none_waits = λ is. put.none (h.none_waits is);
+    }
+
 pub returns-clause-leads : goal.returns-clause-leads
-returns-clause-leads g c scene l tile took heard h =
+returns-clause-leads g c scene l tile took heard shown h =
     let step = c.step-answer.ensures in
     let told = step.step in
+    let answer = c.step-answer.result in
     let w = c.args.self.now in
     let later = c.step-answer.new.self in
     let heard' = c.step-answer.new.grants in
@@ -37,18 +81,29 @@ returns-clause-leads g c scene l tile took heard h =
     let xs_are = c.deref_mut.ensures.value in
     let left = after_slice w.clients.len xs' w.clients.items w.clients.ok.0 (step.client_lanes.count ∙ ap length xs_are) in
     let ends_left = take w.clients.len (xs' ++ drop (length xs') w.clients.items) in
+    let put = c.put_held.ensures in
+    let sent = c.put_held-sent.ensures in
+    let offer = c.offered.result in
+    let over : ended ≡ true → answer ≡ Ok moved.Ended = λ is. c.attempt_of-attempt.ensures (c.has_ended-self.ensures.only is) in
     record {
       number_is = h.number_is;
       clients_are = subst (λ ends. AreOutOf n took ends) (sym left)
           (out_goes_on n took xs xs' (subst (λ ends. AreOutOf n took ends) (sym xs_are) h.clients_are) step.client_lanes);
       grants_are = step.grant_lane ∙ h.grants_are;
-      clause = λ d none.
-          let both = neither w.lost c.keep-lost.result none in
-          let before = subst (λ ends. Holds scene l tile d w.core ends (taken_of w.grants) w.parts.items w.ended) (sym xs_are) (h.clause d both.0) in
+      parts_are = sent.lane ∙ put.lane ∙ h.parts_are;
+      clause = λ d.
+          let before = subst (λ ends. Holds scene l tile d w.core ends (taken_of w.grants) (parts_of w) w.ended) (sym xs_are) (h.clause d) in
           let after = c.tiles_meet_their_clause_over_lanes.ensures taken_of taken_of (λ a b x gave. gave) (λ a b same. same) (λ a b x gave. gave) (λ a b same. same)
-          scene l tile w.core told.0 later d xs xs' w.grants heard' w.parts.items w.ended ended
-          (ap length xs_are ∙ w.lanes) before told.2 told.3 told.5 (λ is. sym told.1 ∙ c.attempt_of-attempt.ensures (c.has_ended-self.ensures.only is)) in
-          let parts = c.keep-lost.ensures both.1 ∙ ap (λ r. w.parts.items ++ shown_in r) told.1 in
+          scene l tile w.core told.0 later d xs xs' w.grants heard' (parts_of w) w.ended ended
+          (ap length xs_are ∙ w.lanes) before told.2 told.3 told.5 (λ is. sym told.1 ∙ over is) in
+          let shows = subst (λ r. Holds scene l tile d later xs' (taken_of heard') (parts_of w ++ shown_in r) ended) (sym told.1) after in
+          let offered = offers scene l tile later (λ client. taken_of (slice_index_or xs' client d)) (taken_of heard') ended (parts_of w) offer answer
+          c.offered.ensures (short_now _ _ answer step.out_of_memory) shows in
+          let first : sent_of c.put_held.new.parts ≡ parts_of w =
+          sym (append-nil (sent_of c.put_held.new.parts))
+          ∙ ap (λ (o : Option TilePart). sent_of c.put_held.new.parts ++ option_to_list o) (sym (put.put c.if-not-put_held.false)) ∙ put.kept in
+          let parts = sent.kept ∙ ap (λ ps. ps ++ option_to_list offer) first in
           subst (λ ps. Holds scene l tile d later ends_left (taken_of heard') ps ended) (sym parts)
-          (subst (λ ends. Holds scene l tile d later ends (taken_of heard') (w.parts.items ++ shown_in (answer_of told.0)) ended) (sym left) after);
+          (subst (λ ends. Holds scene l tile d later ends (taken_of heard') (parts_of w ++ option_to_list offer) ended) (sym left) offered);
+      none_waits = λ is. sent.none (none_offered answer offer (over is) c.offered.ensures);
     }

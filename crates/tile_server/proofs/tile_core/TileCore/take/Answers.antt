@@ -5,7 +5,7 @@ use Rattle.tile_server.proofs.tile_core.TileCore.take.Goals as goal
 pub returns-in-Some-clause-empty : goal.returns-in-Some-clause-empty
 returns-in-Some-clause-empty g c = λ p h.
     passed (λ a b. Rose (g.I.Inlet.empty_seen a) (g.I.Inlet.empty_seen b) × g.I.Inlet.bare b) c.args.clients.now c.take_in_rotation.new.lanes c.args.self.now p h c.requires.lanes
-    c.asked-asks.result c.asked-asks.ensures c.receive.result c.in-Some.client c.in-Some.parcel c.receive.ensures.taken c.in-Some.ensures.passed
+    c.asked-asks.result c.asked-asks.ensures c.in-Some.client c.in-Some.parcel c.receive-how.result c.in-Some.ensures.passed
 
 pub returns-in-None-clause-empty : goal.returns-in-None-clause-empty
 returns-in-None-clause-empty g c = λ p h.

@@ -1,0 +1,37 @@
+//! The image of one frame, written over one that stands.
+ghost use Rattle.std.specs.Prelude.{◌≡◌, ◌<◌, ◌*◌, length, IfOk};
+ghost use Rattle.assembler.specs.Parts.{ArePartsOf, IsRoomFor, picture};
+
+use crate::rows::write_rows;
+use rc_base::cluster::TilePart;
+use rc_base::command::Bytes;
+use rc_base::image::Image;
+use rc_base::out_of_memory::OutOfMemory;
+use rc_base::window::Layout;
+use std::alloc::Global;
+
+/// A black image of the window.
+pub fn blank_image(alloc: Global, layout: &Layout) -> Result<Image, OutOfMemory>
+    ensures { IfOk result (IsRoomFor layout.now) }
+{
+    let Layout { width, height, .. } = *layout;
+    let mut rgb = Vec::new(alloc);
+    rgb.resize(3 * usize::from(width) * usize::from(height), 0)?;
+    Ok(Image {
+        width,
+        height,
+        rgb: Bytes::from_vec(rgb),
+    })
+}
+
+/// Writes the image of parts over one of the same size.
+pub fn write_image(image: &mut Image, layout: &Layout, parts: &[TilePart])
+    requires parts { ArePartsOf layout.now parts.now }
+    requires columns { 0 < layout.now.columns }
+    requires rows { 0 < layout.now.rows }
+    requires room { IsRoomFor layout.now image.old }
+    ensures shown { image.new ≡ picture layout.now parts.now }
+    ensures sides { IsRoomFor layout.now image.new }
+{
+    write_rows(image.rgb.as_mut_slice(), layout, parts);
+}

@@ -1,0 +1,254 @@
+-- A writer of frames stays on its way with each call.
+use Rattle.std.proofs.Common.{◌≡◌, ℕ, ◌+◌, ◌<◌, ◌^◌, true, false, List, [], ◌∷◌, ◌++◌, length, take, map, Some, None, inl, inr, refl, sym, ap, ◌∙◌, subst, arith, length-append, append-nil, true≢false}
+use Rattle.std.specs.Prelude.{option_to_list, slice_index_or, Option}
+use Rattle.std.specs.Io.KnownBytes.{Appends}
+use Rattle.std.specs.List.{AllByRecursion}
+use Rattle.std.proofs.Math.Seq.{take-append-add}
+use Rattle.std.proofs.lemmas.Bool.{cases_Bool}
+use Rattle.std.proofs.lemmas.Grind.{flat_map-append}
+use Rattle.rc_base.specs.Cluster.Tiles.{tile_count}
+use Rattle.rc_base.specs.Formats.Netpbm.{p6_text, p6_texts}
+use Rattle.rc_base.specs.Outside.Ends.{Used}
+use Rattle.rc_base.specs.declared.cluster.TilePart.{TilePart}
+use Rattle.rc_base.specs.declared.image.Image.{Image}
+use Rattle.rc_base.specs.declared.window.Layout.{Layout}
+use Rattle.rc_base.proofs.Known.{Appends-then}
+use Rattle.assembler.specs.Assembled.{layout_of, places_of, short_of, IsAssembled, IsWhole as IsComplete}
+use Rattle.assembler.specs.Parts.{picture, shown, ArePartsOf}
+use Rattle.assembler.specs.Places.{in_place, AreFound, IsFound, IsTaken}
+use Rattle.assembler.specs.declared.places.Assembler.{Assembler}
+use Rattle.ppm_out.specs.Pictures.{IsWhole}
+use Rattle.frame_out.specs.Laws.{NewWritersAreOnTheWay}
+use Rattle.rc_base.specs.Cluster.Lanes.{EachLane}
+use Rattle.frame_out.specs.OnTheWay.{Follows, parts_in, GaveImages, GivesOne, IsMissing, IsOnTheWay}
+use Rattle.frame_out.specs.Windows.{IsWindow}
+use Rattle.frame_out.specs.Writing.{HasGiven, IsCounted}
+use Rattle.frame_out.specs.declared.on_the_way.FrameWriter.{FrameWriter}
+use Rattle.frame_out.specs.declared.writing.Written.{Written}
+use Rattle.frame_out.proofs.PartsTaken.{all_more, found_grows, map_more, none_in, parts_more, place_is}
+use Rattle.frame_out.proofs.Texts.{texts_short}
+use Rattle.frame_out.proofs.Writable.{pixels_whole}
+use Rattle.frame_out.proofs.WrittenMore.{used}
+
+-- ---- texts
+
+texts_more : (images : List Image) (image : Image) → p6_texts (images ++ image ∷ []) ≡ p6_texts images ++ p6_text image
+texts_more images image = flat_map-append p6_text images (image ∷ []) ∙ ap (λ (xs : List ℕ). p6_texts images ++ xs) (append-nil (p6_text image))
+
+picture_whole : (l : Layout) → IsWindow l → (parts : List TilePart) → IsWhole (picture l parts)
+picture_whole l window parts = record { width = window.width; height = window.height; pixels = pixels_whole (shown l parts) l.width l.height }
+
+pictures_whole : (l : Layout) → IsWindow l → (frames : List (List TilePart)) → AllByRecursion IsWhole (map (picture l) frames)
+pictures_whole l window [] = tt
+pictures_whole l window (parts ∷ frames) = (picture_whole l window parts, pictures_whole l window frames)
+
+count_map : {A B : Type 0} (f : A → B) (xs : List A) → length (map f xs) ≡ length xs
+count_map f [] = refl
+count_map f (x ∷ xs) = let h = count_map f xs in omega (arith, h)
+
+-- ---- the image
+
+-- one image more was written, up to a fault
+module _ (l : Layout) (a b c : Option (List ℕ)) (fa fb fc : ℕ) (old new : Written) (image : Image) (sides : (image.width ≡ l.width) × (image.height ≡ l.height))
+    (given : HasGiven b c (p6_text image) old new) (h : GaveImages l (used a b fa fb) old) where
+  images_more : GaveImages l (used a c fa fc) new
+  images_more = elim (cases_Bool old.fault) [
+    | inl fault ↦
+        let none = given.none fault in record {
+          images = h.images;
+          sides = h.sides;
+          front = record { done = h.front.done; part = h.front.part; given = subst (λ (o : Option (List ℕ)). Appends a o (take h.front.done (p6_texts h.images))) (sym none.0) h.front.given };
+          all = λ e. absurd (true≢false (sym fault ∙ ap (λ (w : Written). w.fault) (sym none.1) ∙ e));
+        }
+    | inr no_fault ↦
+        let text = texts_more h.images image in
+        let front = given.front no_fault in
+        let took = h.all no_fault in record {
+          images = h.images ++ image ∷ [];
+          sides = all_more (λ (m : Image). (m.width ≡ l.width) × (m.height ≡ l.height)) h.images image h.sides sides;
+          front = record {
+            done = length (p6_texts h.images) + front.0;
+            part = (let n = ap length text ∙ length-append (p6_texts h.images) (p6_text image) in let low = front.1 in omega (arith, n, low));
+            given = subst (Appends a c) (sym (ap (take (length (p6_texts h.images) + front.0)) text ∙ take-append-add (p6_texts h.images) (p6_text image) front.0))
+                (Appends-then a b c (p6_texts h.images) (take front.0 (p6_text image)) took front.2);
+          };
+          all = λ e. subst (Appends a c) (sym text) (Appends-then a b c (p6_texts h.images) (p6_text image) took (given.all e).1);
+        }
+  ]
+
+-- ---- a call
+
+module _ {I : Type 0} (gave : I → TilePart → I → Type 0) (same : I → I → Type 0) (empty_seen : I → ℕ) (bare : I → Type 0) (taken : I → List TilePart)
+    (f : Follows gave same taken) (l : Layout) (d : I) (lanes lanes' : List I) (count : length lanes ≡ tile_count l) where
+  abbrev took : List I → ℕ → List TilePart
+  took ls tile = taken (slice_index_or ls tile d)
+
+  took_more : (base : ℕ → List TilePart) (places found : List (Option TilePart)) → AreFound gave same empty_seen bare places lanes found lanes'
+      → ((tile : ℕ) → tile < tile_count l → took lanes tile ≡ base tile ++ option_to_list (in_place places tile))
+      → (tile : ℕ) → tile < tile_count l → took lanes' tile ≡ base tile ++ option_to_list (in_place found tile)
+  took_more base places found h e tile low =
+      found_grows gave same empty_seen bare taken f (in_place places tile) (in_place found tile) (slice_index_or lanes tile d) (slice_index_or lanes' tile d) (base tile)
+      (h.at tile d (omega (arith, count, low))) (e tile low)
+
+  -- no frame was completed
+  pub waits : (e : Used) (w w' : FrameWriter) → IsAssembled gave same empty_seen bare w.assembler lanes None w'.assembler lanes'
+      → w'.written ≡ w.written → w'.lacking ≡ w.lacking → IsOnTheWay l e (took lanes) w → IsOnTheWay l e (took lanes') w'
+  waits e w w' k written lacking h = record {
+    layout_is = k.layout ∙ h.layout_is;
+    given = subst (GaveImages l e) (sym written) h.given;
+    whole = λ ample some. elim (cases_Bool (short_of w.assembler)) [
+      | inl was ↦ absurd (true≢false (sym ((k.refused was).short) ∙ ample))
+      | inr was ↦
+          let a = k.whole was in
+          let x = h.whole was (sym lacking ∙ some) in
+          elim a.comes [
+            | inl u ↦ record {
+              frames = x.frames;
+              sizes = x.sizes;
+              took_is = λ tile low. took_more (parts_in x.frames) (places_of w.assembler) a.found a.each x.took_is tile low
+                  ∙ ap (λ (ps : List (Option TilePart)). parts_in x.frames tile ++ option_to_list (in_place ps tile)) (sym u.places);
+              written = λ few. subst (IsCounted e (p6_texts (map (picture l) x.frames))) (sym written) (x.written few);
+            }
+            | inr s ↦ absurd (true≢false (sym s.short ∙ ample))
+          ]
+    ];
+  }
+
+  -- a frame was completed, and not written, since memory lacked
+  pub passes : (e : Used) (w w' : FrameWriter) (image : Image) → IsAssembled gave same empty_seen bare w.assembler lanes (Some image) w'.assembler lanes'
+      → w'.written ≡ w.written → w'.lacking ≡ true → IsOnTheWay l e (took lanes) w → IsOnTheWay l e (took lanes') w'
+  passes e w w' image k written lacking h = record {
+    layout_is = k.layout ∙ h.layout_is;
+    given = subst (GaveImages l e) (sym written) h.given;
+    whole = λ ample some. absurd (true≢false (sym lacking ∙ some));
+  }
+
+  -- a frame was completed and written
+  module _ (a b c : Option (List ℕ)) (fa fb fc : ℕ) (w w' : FrameWriter) (image : Image) (window : IsWindow (layout_of w.assembler))
+      (k : IsAssembled gave same empty_seen bare w.assembler lanes (Some image) w'.assembler lanes')
+      (counts : (text : List ℕ) → length text + length (p6_text image) < 2 ^ 64 → IsCounted (used a b fa fb) text w.written → IsCounted (used a c fa fc) (text ++ p6_text image) w'.written)
+      (given : HasGiven b c (p6_text image) w.written w'.written) (lacking : w'.lacking ≡ w.lacking) (h : IsOnTheWay l (used a b fa fb) (took lanes) w) where
+    was_ample : short_of w.assembler ≡ false
+    was_ample = elim (cases_Bool (short_of w.assembler)) [
+      | inl was ↦ absurd (let e : Some image ≡ None = (k.refused was).none in cc)
+      | inr was ↦ was
+    ]
+
+    complete : IsComplete (layout_of w.assembler) (k.whole was_ample).found image w'.assembler
+    complete = (k.whole was_ample).comes
+
+    sides : (image.width ≡ l.width) × (image.height ≡ l.height)
+    sides = (
+      ap (λ (m : Image). m.width) complete.shown ∙ ap (λ (x : Layout). x.width) h.layout_is,
+      ap (λ (m : Image). m.height) complete.shown ∙ ap (λ (x : Layout). x.height) h.layout_is,
+    )
+
+    image_is : image ≡ picture l complete.parts
+    image_is = complete.shown ∙ ap (λ (x : Layout). picture x complete.parts) h.layout_is
+
+    pub writes : IsOnTheWay l (used a c fa fc) (took lanes') w'
+    writes = record {
+      layout_is = k.layout ∙ h.layout_is;
+      given = images_more l a b c fa fb fc w.written w'.written image sides given h.given;
+      whole = λ ample some.
+          let x = h.whole was_ample (sym lacking ∙ some) in
+          let y = k.whole was_ample in
+          let win : IsWindow l = subst IsWindow h.layout_is window in
+          record {
+            frames = x.frames ++ complete.parts ∷ [];
+            sizes = all_more (ArePartsOf l) x.frames complete.parts x.sizes (subst (λ (z : Layout). ArePartsOf z complete.parts) h.layout_is complete.sizes);
+            took_is = λ tile low.
+                took_more (parts_in x.frames) (places_of w.assembler) y.found y.each x.took_is tile low
+                ∙ ap (λ (o : Option TilePart). parts_in x.frames tile ++ option_to_list o) (ap (λ (ps : List (Option TilePart)). in_place ps tile) complete.all ∙ place_is complete.parts tile)
+                ∙ sym (parts_more x.frames complete.parts tile)
+                ∙ sym (append-nil (parts_in (x.frames ++ complete.parts ∷ []) tile))
+                ∙ ap (λ (o : Option TilePart). parts_in (x.frames ++ complete.parts ∷ []) tile ++ option_to_list o)
+                (sym (ap (λ (ps : List (Option TilePart)). in_place ps tile) complete.places ∙ none_in (tile_count (layout_of w.assembler)) tile));
+            written = λ few.
+                let n = length-append x.frames (complete.parts ∷ []) in
+                let m = count_map (picture l) x.frames in
+                let fits = texts_short (map (picture l) x.frames) (pictures_whole l win x.frames) in
+                let one = texts_short (image ∷ []) (subst IsWhole (sym image_is) (picture_whole l win complete.parts), tt) in
+                let one_is = ap length (append-nil (p6_text image)) in
+                let text : p6_texts (map (picture l) (x.frames ++ complete.parts ∷ [])) ≡ p6_texts (map (picture l) x.frames) ++ p6_text image =
+                ap p6_texts (map_more (picture l) x.frames complete.parts) ∙ texts_more (map (picture l) x.frames) (picture l complete.parts)
+                ∙ ap (λ (m : Image). p6_texts (map (picture l) x.frames) ++ p6_text m) (sym image_is) in
+                subst (λ (t : List ℕ). IsCounted (used a c fa fc) t w'.written) (sym text)
+                (counts (p6_texts (map (picture l) x.frames)) (omega (arith, fits, one, one_is, m, n, few)) (x.written (omega (arith, n, few))));
+          };
+    }
+
+-- ---- what is missing
+
+module _ {I : Type 0} (gave : I → TilePart → I → Type 0) (same : I → I → Type 0) (empty_seen : I → ℕ) (bare : I → Type 0) (lanes lanes' : List I) where
+  -- where no frame was completed, and no tile was short, a part is missing
+  pub is_missing : (w w' : FrameWriter) → length lanes ≡ tile_count (layout_of w.assembler)
+      → IsAssembled gave same empty_seen bare w.assembler lanes None w'.assembler lanes' → short_of w'.assembler ≡ false → IsMissing bare w' lanes'
+  is_missing w w' count k ample = elim (cases_Bool (short_of w.assembler)) [
+    | inl was ↦ absurd (true≢false (sym ((k.refused was).short) ∙ ample))
+    | inr was ↦
+        let a = k.whole was in
+        elim a.comes [
+          | inl u ↦ record {
+            tile = u.gap.tile;
+            low = subst (λ (x : Layout). u.gap.tile < tile_count x) (sym k.layout) u.gap.low;
+            place = ap (λ (ps : List (Option TilePart)). in_place ps u.gap.tile) u.places ∙ u.gap.missing;
+            empty = λ e. found_bare (in_place (places_of w.assembler) u.gap.tile) (in_place a.found u.gap.tile) _ _
+                (a.each.at u.gap.tile e (let low = u.gap.low in omega (arith, count, low))) u.gap.missing;
+          }
+          | inr s ↦ absurd (true≢false (sym s.short ∙ ample))
+        ]
+  ]
+    where
+      found_bare : (place found : Option TilePart) (x y : I) → IsFound gave same empty_seen bare place x found y → found ≡ None → bare y
+      found_bare (Some p) found x y h none = absurd (let e = h.0 in cc)
+      found_bare None (Some p) x y h none = absurd cc
+      found_bare None None x y h none = h.1.1
+
+-- ---- each lane
+
+module _ {I : Type 0} (gave : I → TilePart → I → Type 0) (same : I → I → Type 0) (empty_seen : I → ℕ) (bare : I → Type 0) (here : (a : I) → same a a) where
+  taken_one : (part : Option TilePart) (a b : I) → IsTaken gave same empty_seen bare a part b → GivesOne gave same a b
+  taken_one (Some p) a b h = inr (p, h)
+  taken_one None a b h = inl h.0
+
+  found_one : (place found : Option TilePart) (a b : I) → IsFound gave same empty_seen bare place a found b → GivesOne gave same a b
+  found_one (Some p) found a b h = inl (subst (same a) (sym h.1) (here a))
+  found_one None found a b h = taken_one found a b h
+
+  -- of each lane at most one part was taken, whether the assembler was short or not; as many lanes are there as before
+  pub each_one : (w w' : Assembler) (lanes lanes' : List I) (result : Option Image) → length lanes' ≡ length lanes
+      → IsAssembled gave same empty_seen bare w lanes result w' lanes' → EachLane (λ i a b. GivesOne gave same a b) lanes lanes'
+  each_one w w' lanes lanes' result count k = elim (cases_Bool (short_of w)) [
+    | inl was ↦ let r = k.refused was in record {
+      count = count;
+      at = λ i d lt. let x = r.each.at i d lt in taken_one x.part (slice_index_or lanes i d) (slice_index_or lanes' i d) x.taken;
+    }
+    | inr was ↦ let a = k.whole was in record {
+      count = count;
+      at = λ i d lt. found_one (in_place (places_of w) i) (in_place a.found i) (slice_index_or lanes i d) (slice_index_or lanes' i d) (a.each.at i d lt);
+    }
+  ]
+
+-- ---- a new writer
+
+pub new_writers : NewWritersAreOnTheWay
+new_writers l image took w new none calm empty = record {
+  layout_is = new.assembler_is.layout;
+  given = record {
+    images = [];
+    sides = tt;
+    front = record { done = 0; part = omega arith; given = none };
+    all = λ _. none;
+  };
+  whole = λ ample some. record {
+    frames = [];
+    sizes = tt;
+    took_is = λ tile low. empty tile low
+        ∙ ap (λ (o : Option TilePart). option_to_list o) (sym (ap (λ (ps : List (Option TilePart)). in_place ps tile) new.assembler_is.places ∙ none_in (tile_count l) tile));
+    written = λ few. record {
+      is = inl (ap (λ (x : Written). x.fault) new.written, none, calm);
+      count = λ _. ap (λ (x : Written). x.bytes) new.written;
+    };
+  };
+}

@@ -1,0 +1,74 @@
+-- Frames that are put together and written while their parts still come, from lanes or from what is left of them.
+use Rattle.std.specs.Prelude.{◌≡◌, ℕ, ◌^◌, ◌<◌, ◌≤◌, ◌⊎◌, false, List, ◌∷◌, [], ◌++◌, length, map, slice_get, slice_index_or, option_to_list, None}
+use Rattle.std.specs.List.{flat_map, AllByRecursion}
+use Rattle.rc_base.specs.Cluster.Tiles.{tile_count}
+use Rattle.rc_base.specs.Formats.Netpbm.{p6_texts}
+use Rattle.rc_base.specs.Outside.Ends.{Used, Took, TookFront}
+use Rattle.rc_base.specs.declared.cluster.TilePart.{TilePart}
+use Rattle.rc_base.specs.declared.image.Image.{Image}
+use Rattle.rc_base.specs.declared.window.Layout.{Layout}
+use Rattle.assembler.specs.Parts.{picture, ArePartsOf}
+use Rattle.assembler.specs.Assembled.{layout_of, places_of, short_of, IsNewAssembler}
+use Rattle.assembler.specs.Places.{in_place}
+use Rattle.frame_out.specs.Writing.{IsCounted}
+use Rattle.frame_out.specs.declared.on_the_way.FrameWriter.{FrameWriter}
+use Rattle.frame_out.specs.declared.writing.Written.{Written}
+
+-- ---- frames
+
+-- the parts of a tile in frames, each of which has a part for each tile
+abbrev pub parts_in : List (List TilePart) → ℕ → List TilePart
+parts_in frames tile = flat_map (λ (parts : List TilePart). option_to_list (slice_get parts tile)) frames
+
+-- What was taken of the tiles: for each frame that is complete one part of each tile, and then the part that is in the tile's place.
+pub record HasWritten (l : Layout) (image : Used) (took : ℕ → List TilePart) (w : FrameWriter) : Type 0 where
+  pub frames : List (List TilePart)
+  pub sizes : AllByRecursion (ArePartsOf l) frames
+  pub took_is : (tile : ℕ) → tile < tile_count l → took tile ≡ parts_in frames tile ++ option_to_list (in_place (places_of w.assembler) tile)
+  -- the texts of the complete frames were written, up to a fault of the image
+  pub written : length frames ≤ 2 ^ 32 → IsCounted image (p6_texts (map (picture l) frames)) w.written
+
+-- the image was given the texts of some images of the window's sides, or a front of them where it failed
+pub record GaveImages (l : Layout) (image : Used) (written : Written) : Type 0 where
+  pub images : List Image
+  pub sides : AllByRecursion (λ (m : Image). (m.width ≡ l.width) × (m.height ≡ l.height)) images
+  pub front : TookFront image (p6_texts images)
+  pub all : written.fault ≡ false → Took image (p6_texts images)
+
+-- A writer of frames for a layout, what the image was given since a moment, and what was taken of the tiles since then. Once a tile was short, or memory
+-- lacked for a text, it writes no more.
+pub record IsOnTheWay (l : Layout) (image : Used) (took : ℕ → List TilePart) (w : FrameWriter) : Type 0 where
+  pub layout_is : layout_of w.assembler ≡ l
+  pub given : GaveImages l image w.written
+  pub whole : short_of w.assembler ≡ false → w.lacking ≡ false → HasWritten l image took w
+
+-- nothing was taken, and nothing written
+pub record IsNewWriter (l : Layout) (w : FrameWriter) : Type 0 where
+  pub assembler_is : IsNewAssembler l w.assembler
+  pub written : w.written ≡ record { bytes = 0; fault = false }
+  pub ample : w.lacking ≡ false
+
+-- ---- lanes
+
+-- what lanes gave, by a meaning that grows by each item that they give
+pub record Follows {I : Type 0} (gave : I → TilePart → I → Type 0) (same : I → I → Type 0) (taken : I → List TilePart) : Type 0 where
+  pub grows : (a b : I) (x : TilePart) → gave a x b → taken b ≡ taken a ++ x ∷ []
+  pub stays : (a b : I) → same a b → taken b ≡ taken a
+
+-- Whatever was taken, the writer is on its way with that, and what it takes now.
+abbrev pub GoesOn : {I K : Type 0} → (I → TilePart → I → Type 0) → (I → I → Type 0) → (K → K → Used) → FrameWriter → List I → K → FrameWriter → List I → K → Type 0
+GoesOn {I} {K} gave same used before lanes image after lanes' image' =
+    (taken : I → List TilePart) (l : Layout) (start : K) (d : I) → Follows gave same taken
+    → IsOnTheWay l (used start image) (λ tile. taken (slice_index_or lanes tile d)) before
+    → IsOnTheWay l (used start image') (λ tile. taken (slice_index_or lanes' tile d)) after
+
+-- a lane that gave nothing, or one part
+abbrev pub GivesOne : {I : Type 0} → (I → TilePart → I → Type 0) → (I → I → Type 0) → I → I → Type 0
+GivesOne gave same a b = same a b ⊎ ((part : TilePart) × gave a part b)
+
+-- a tile's part is missing, and its lane was found empty
+pub record IsMissing {I : Type 0} (bare : I → Type 0) (w : FrameWriter) (lanes : List I) : Type 0 where
+  pub tile : ℕ
+  pub low : tile < tile_count (layout_of w.assembler)
+  pub place : in_place (places_of w.assembler) tile ≡ None
+  pub empty : (d : I) → bare (slice_index_or lanes tile d)
