@@ -6,6 +6,7 @@ pub mod Judging
 pub mod Made
 pub mod OneImage
 pub mod Endings
+pub mod FirstRefusals
 pub mod Finishing
 pub mod Headline
 pub mod ReportLines

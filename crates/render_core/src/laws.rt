@@ -1,6 +1,6 @@
-//! Laws on what a job finds in its input and on what is due for a scene. Each function's contract is a law, and its body calls the laws that it follows
-//! from: there is nothing to compute.
-ghost use Rattle.render_core.specs.Laws.{FindingsAreOne, OneOutcomeIsDue, KeptOrdersArePermitted, OrderedRecordsShowOneImage};
+//! Laws on what a job finds in its input, on what is due for a scene, and on the order in which a job is refused. Each function's contract is a law,
+//! and its body calls the laws that it follows from: there is nothing to compute.
+ghost use Rattle.render_core.specs.Laws.{FindingsAreOne, OneOutcomeIsDue, KeptOrdersArePermitted, OrderedRecordsShowOneImage, RefusalsComeInOrder};
 
 use order_model::laws::{runs_show_one_image, scene_lists_are_well_formed};
 use scene_file::laws::{bytes_spell_one_scene, generated_scenes_are_within_limits};
@@ -38,3 +38,9 @@ pub fn ordered_records_show_one_image()
     generated_scenes_are_within_limits();
     runs_show_one_image();
 }
+
+/// A run that found memory ends with the status of what refused its job first: the words, the source, what was taken of it, a client that waits for
+/// ever, the image, or the notes. All that comes before went well.
+pub fn refusals_come_in_order()
+    ensures { RefusalsComeInOrder }
+{}
