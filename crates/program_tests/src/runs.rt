@@ -1,6 +1,7 @@
 //! Runs on sources and sinks in memory.
 mod clusters;
 mod ends;
+mod faults;
 mod formats;
 mod generated;
 mod hostile;
@@ -14,7 +15,7 @@ ghost use Rattle.std.specs.Prelude.{◌<◌};
 use order_model::record::Record;
 use rc_base::gate::OpenGate;
 use rc_base::in_memory::{MemSink, MemSource};
-use rc_base::outside::Source;
+use rc_base::outside::{Sink, Source};
 use rc_base::transfer::read_all;
 use render_core::{Finish, run};
 use std::alloc::Global;
@@ -42,9 +43,6 @@ const CLEAR_IN_BLOCK: [u8; 24] = [
 const END_THEN_MODE_3: [u8; 22] = [
     0x52, 0x43, 0x53, 0x31, 1, 0, 1, 0, 1, 0, 0, 0, 6, 0, 0, 0, 3, 0, 2, 1, 0x24, 3,
 ];
-
-// A window of 1 by 1, and two clients that do nothing.
-const TWO_SILENT: &[u8] = b"RCS1\x01\0\x01\0\x02\0\0\0\0\0\0\0\0\0\0\0";
 
 // One black pixel.
 const BLACK_PIXEL: &[u8] = b"P6\n1 1\n255\n\0\0\0";
@@ -86,13 +84,13 @@ fn words(rt: &impl Host, alloc: Global, words: &[&str]) -> Vec<String> {
 }
 
 // How a run on these ends ends. Its contract says nothing, so that a test is proved without that of `run`.
-fn finish_on<S: Source>(
+fn finish_on<S: Source, K: Sink, N: Sink>(
     rt: &impl Host,
     alloc: Global,
     job: &[&str],
     source: &mut S,
-    image: &mut MemSink,
-    notes: &mut MemSink,
+    image: &mut K,
+    notes: &mut N,
 ) -> Finish {
     let words = words(rt, alloc, job);
     run(
@@ -147,6 +145,14 @@ fn source_of(rt: &impl Host, alloc: Global, input: &[u8], fails: &[u64]) -> MemS
     MemSource::new(alloc, input, 7, fails).expect(rt, "memory")
 }
 
+// Whether these bytes are what the source has left.
+fn has_left<S: Source>(alloc: Global, source: &mut S, rest: &[u8]) -> bool {
+    match read_all(alloc, source) {
+        Ok(bytes) => bytes.as_slice() == rest,
+        Err(_) => false,
+    }
+}
+
 // What a run leaves, where the puts of the image that fail have these numbers.
 fn run_on(rt: &impl Host, alloc: Global, job: &[&str], input: &[u8], fails: &[u64]) -> Left {
     left_on(
@@ -163,36 +169,6 @@ fn run_on(rt: &impl Host, alloc: Global, job: &[&str], input: &[u8], fails: &[u6
 fn run_text(rt: &impl Host, alloc: Global, job: &[&str], text: &[u8], fails: &[u64]) -> Left {
     let scene = run_on(rt, alloc, &["pack"], text, &[]);
     run_on(rt, alloc, job, scene.image.bytes(), fails)
-}
-
-#[test]
-fn jobs_write_what_is_due(rt: HostRuntime) {
-    let rows = [
-        (
-            "render",
-            RED_CLEAR.as_slice(),
-            RED_FRAME,
-            "tile 0 parcels 3 sets 1 looks 15\njournal 1\nframes 1\n",
-        ),
-        (
-            "render",
-            CLEAR_ALONE.as_slice(),
-            b"".as_slice(),
-            "tile 0 parcels 2 sets 1 looks 15\njournal 0\nframes 0\n",
-        ),
-        (
-            "render",
-            TWO_SILENT,
-            b"".as_slice(),
-            "tile 0 parcels 2 sets 0 looks 0\njournal 0\nframes 0\n",
-        ),
-        ("pack", RED_CLEAR_TEXT, RED_CLEAR.as_slice(), ""),
-        ("unpack", RED_CLEAR.as_slice(), RED_CLEAR_TEXT, ""),
-    ];
-    for (job, input, due, report) in rows {
-        let left = run_on(&rt, rt.alloc(), &[job], input, &[]);
-        assert!(rt; left.is(0, due, report.as_bytes()));
-    }
 }
 
 #[test]
@@ -216,12 +192,6 @@ fn refusals_tell_kind_and_place(rt: HostRuntime) {
     let mut trailing = Vec::from_slice(rt.alloc(), &RED_CLEAR).expect(&rt, "memory");
     trailing.push(0).expect(&rt, "memory");
     let rows = [
-        (
-            "render",
-            &RED_CLEAR[..25],
-            3,
-            "rc: malformed Truncated at 25\n",
-        ),
         (
             "render",
             trailing.as_slice(),
@@ -277,57 +247,6 @@ fn words_past_their_limits_are_refused(rt: HostRuntime) {
 }
 
 #[test]
-fn a_failing_image_keeps_eight_bytes(rt: HostRuntime) {
-    let left = run_on(&rt, rt.alloc(), &["render"], &RED_CLEAR, &[3]);
-    assert!(rt;
-        left.is(
-            6,
-            b"P6\n2 2\n2".as_slice(),
-            b"rc: image fault after 8 bytes\n".as_slice()
-        )
-    );
-}
-
-#[test]
-fn a_text_is_offered_once(rt: HostRuntime) {
-    let rows = [
-        ("render", RED_CLEAR.as_slice(), RED_FRAME),
-        ("pack", RED_CLEAR_TEXT, RED_CLEAR.as_slice()),
-        ("unpack", RED_CLEAR.as_slice(), RED_CLEAR_TEXT),
-    ];
-    for (job, input, due) in rows {
-        let source = source_of(&rt, rt.alloc(), input, &[]);
-        let left = left_on(
-            &rt,
-            rt.alloc(),
-            &[job],
-            source,
-            sink(&rt, rt.alloc(), 64, &[2]),
-            sink(&rt, rt.alloc(), 64, &[]),
-        );
-        assert!(rt; left.status == 0 && left.image.bytes() == due);
-    }
-}
-
-#[test]
-fn a_failing_source_keeps_its_bytes(rt: HostRuntime) {
-    for job in ["render", "pack", "unpack"] {
-        let source = source_of(&rt, rt.alloc(), &RED_CLEAR, &[1]);
-        let mut left = left_on(
-            &rt,
-            rt.alloc(),
-            &[job],
-            source,
-            sink(&rt, rt.alloc(), 4, &[]),
-            sink(&rt, rt.alloc(), 64, &[]),
-        );
-        assert!(rt; left.is(2, b"", b"rc: read fault\n"));
-        let rest = read_all(rt.alloc(), &mut left.source).expect(&rt, "the rest");
-        assert!(rt; rest.as_slice() == RED_CLEAR.as_slice());
-    }
-}
-
-#[test]
 fn refused_commands_are_noted(rt: HostRuntime) {
     let rows = [
         (
@@ -343,62 +262,6 @@ fn refused_commands_are_noted(rt: HostRuntime) {
         let left = run_on(&rt, rt.alloc(), &["render"], input, &[]);
         assert!(rt; left.is(0, BLACK_PIXEL, lines.as_bytes()));
     }
-}
-
-#[test]
-fn failing_notes_leave_the_image_whole(rt: HostRuntime) {
-    let rows = [
-        (
-            "render",
-            CLEAR_IN_BLOCK.as_slice(),
-            1,
-            8,
-            BLACK_PIXEL,
-            b"".as_slice(),
-        ),
-        (
-            "render",
-            CLEAR_IN_BLOCK.as_slice(),
-            2,
-            8,
-            BLACK_PIXEL,
-            b"client 0".as_slice(),
-        ),
-        (
-            "unpack",
-            RED_CLEAR.as_slice(),
-            1,
-            0,
-            RED_CLEAR_TEXT,
-            b"".as_slice(),
-        ),
-    ];
-    for (job, input, fails, due, given, noted) in rows {
-        let source = source_of(&rt, rt.alloc(), input, &[]);
-        let left = left_on(
-            &rt,
-            rt.alloc(),
-            &[job],
-            source,
-            sink(&rt, rt.alloc(), 4, &[]),
-            sink(&rt, rt.alloc(), 8, &[fails]),
-        );
-        assert!(rt; left.is(due, given, noted));
-    }
-}
-
-#[test]
-fn failing_notes_change_no_refusal(rt: HostRuntime) {
-    let source = source_of(&rt, rt.alloc(), &RED_CLEAR, &[]);
-    let left = left_on(
-        &rt,
-        rt.alloc(),
-        &["draw"],
-        source,
-        sink(&rt, rt.alloc(), 4, &[]),
-        sink(&rt, rt.alloc(), 4, &[2]),
-    );
-    assert!(rt; left.is(1, b"", b"rc: "));
 }
 
 #[test]

@@ -1,9 +1,12 @@
-//! What no clause sees of a run: which calls of its ends it makes.
-ghost use Rattle.std.specs.Prelude.{◌<◌};
+//! What no clause sees of a run: which calls of its ends it makes, and in which sequence.
+ghost use Rattle.std.specs.Prelude.{None};
 
-use super::{Host, Left, RED_CLEAR, RED_CLEAR_TEXT, RED_FRAME, left_on, sink, source_of, words};
+use super::{
+    Host, RED_CLEAR, RED_CLEAR_TEXT, RED_FRAME, finish_on, has_left, sink, source_of, words,
+};
 use rc_base::gate::{Actor, Gate};
-use rc_base::in_memory::{MemSink, MemSource};
+use rc_base::in_memory::QuietSource;
+use rc_base::outside::{Failed, Sink, Source};
 use render_core::run;
 use std::alloc::Global;
 use std::sync::atomic::{AtomicU64, Ordering};
@@ -56,52 +59,163 @@ fn jobs_without_threads_pass_no_gate(rt: HostRuntime) {
     }
 }
 
-// What a run leaves whose source gives 64 bytes a take, and whose calls of these numbers fail.
-fn left_with(
-    rt: &impl Host,
-    alloc: Global,
-    job: &str,
-    input: &[u8],
-    takes: &[u64],
-    puts: &[u64],
-) -> Left {
-    left_on(
-        rt,
-        alloc,
-        &[job],
-        MemSource::new(alloc, input, 64, takes).expect(rt, "memory"),
-        sink(rt, alloc, 4, puts),
-        sink(rt, alloc, 64, &[]),
-    )
+// A source that ends, and goes on behind its end, as a terminal does. So it can't tell its bytes.
+#[derive(Drop)]
+struct Terminal {
+    before: QuietSource,
+    behind: QuietSource,
+    has_ended: bool,
 }
 
-// The first take gives all, and the second one the end.
-#[test]
-fn nothing_is_taken_behind_the_end(rt: HostRuntime) {
-    let rows = [
-        ("render", RED_CLEAR.as_slice(), RED_FRAME),
-        ("serial", RED_CLEAR.as_slice(), RED_FRAME),
-        ("check", RED_CLEAR.as_slice(), b"".as_slice()),
-        ("pack", RED_CLEAR_TEXT, RED_CLEAR.as_slice()),
-        ("unpack", RED_CLEAR.as_slice(), RED_CLEAR_TEXT),
-    ];
-    for (job, input, due) in rows {
-        let left = left_with(&rt, rt.alloc(), job, input, &[3], &[]);
-        assert!(rt; left.status == 0 && left.image.bytes() == due);
+impl Source for Terminal {
+    ghost left = { λ _. None };
+
+    ghost faults = { λ _. 0 };
+
+    fn take(&mut self, into: &mut [u8]) -> Result<usize, Failed> {
+        if self.has_ended {
+            return self.behind.take(into);
+        }
+        let count = self.before.take(into)?;
+        self.has_ended = count == 0;
+        Ok(count)
     }
 }
 
-// The sink would take the rest, if it were offered again.
+// A job, what its source gives before its end and behind it, and the status, image and notes that are left.
+type Row<'a> = (&'a [&'a str], &'a [u8], &'a [u8], u8, &'a [u8], &'a [u8]);
+
+// Whether a run leaves this, and all that its source has behind the end.
+fn stops_at_the_end(rt: &impl Host, alloc: Global, row: Row) -> bool {
+    let (job, before, behind, status, image, notes) = row;
+    let mut source = Terminal {
+        before: QuietSource::new(alloc, before, 1).expect(rt, "memory"),
+        behind: QuietSource::new(alloc, behind, 64).expect(rt, "memory"),
+        has_ended: false,
+    };
+    let mut given = sink(rt, alloc, 1, &[]);
+    let mut told = sink(rt, alloc, 1, &[]);
+    let finish = finish_on(rt, alloc, job, &mut source, &mut given, &mut told);
+    finish.status == status
+        && given.bytes() == image
+        && told.bytes() == notes
+        && source.has_ended
+        && has_left(alloc, &mut source.behind, behind)
+}
+
+// With what comes behind it each of these inputs would be another one: two scenes, a whole scene, two swaps.
 #[test]
-fn nothing_is_put_behind_a_refused_put(rt: HostRuntime) {
-    let rows = [
-        ("render", RED_CLEAR.as_slice(), b"P6\n2".as_slice()),
-        ("serial", RED_CLEAR.as_slice(), b"P6\n2".as_slice()),
-        ("pack", RED_CLEAR_TEXT, b"RCS1".as_slice()),
-        ("unpack", RED_CLEAR.as_slice(), b"scen".as_slice()),
+fn an_input_ends_at_its_first_end(rt: HostRuntime) {
+    let scene = RED_CLEAR.as_slice();
+    let report = b"tile 0 parcels 3 sets 1 looks 15\njournal 1\nframes 1\n".as_slice();
+    let short = b"journal 1\nframes 1\n".as_slice();
+    let cut = b"rc: malformed Truncated at 25\n".as_slice();
+    let none = b"".as_slice();
+    let rows: [Row; 10] = [
+        (&["render"], scene, scene, 0, RED_FRAME, report),
+        (&["render"], &scene[..25], &scene[25..], 3, none, cut),
+        (
+            &["simulate", "--seed", "1"],
+            scene,
+            scene,
+            0,
+            RED_FRAME,
+            report,
+        ),
+        (&["serial"], scene, scene, 0, RED_FRAME, short),
+        (&["check"], scene, scene, 0, none, short),
+        (
+            &["check"],
+            none,
+            scene,
+            3,
+            none,
+            b"rc: malformed Truncated at 0\n",
+        ),
+        (&["pack"], RED_CLEAR_TEXT, b"Swap\n", 0, scene, none),
+        (
+            &["pack"],
+            none,
+            RED_CLEAR_TEXT,
+            3,
+            none,
+            b"rc: malformed NoScene at 1\n",
+        ),
+        (&["unpack"], scene, b"\0", 0, RED_CLEAR_TEXT, none),
+        (&["unpack"], &scene[..25], &scene[25..], 3, none, cut),
     ];
-    for (job, input, front) in rows {
-        let left = left_with(&rt, rt.alloc(), job, input, &[], &[2]);
-        assert!(rt; left.is(6, front, b"rc: image fault after 4 bytes\n".as_slice()));
+    for row in rows {
+        assert!(rt; stops_at_the_end(&rt, rt.alloc(), row));
+    }
+}
+
+// An image that takes one byte a put, and counts them where the notes see it.
+#[derive(Drop)]
+struct CountingImage<'a> {
+    taken: &'a AtomicU64,
+}
+
+impl<'a> Sink for CountingImage<'a> {
+    ghost held = { λ _. None };
+
+    ghost faults = { λ _. 0 };
+
+    fn put(&mut self, piece: &[u8]) -> Result<usize, Failed> {
+        self.taken.fetch_add(1, Ordering::SeqCst);
+        Ok(piece.len().min(1))
+    }
+}
+
+// Notes that remember how much the image had taken when they were first called.
+#[derive(Drop)]
+struct WatchingNotes<'a> {
+    image: &'a AtomicU64,
+    begun: Option<u64>,
+}
+
+impl<'a> Sink for WatchingNotes<'a> {
+    ghost held = { λ _. None };
+
+    ghost faults = { λ _. 0 };
+
+    fn put(&mut self, piece: &[u8]) -> Result<usize, Failed> {
+        if self.begun == None {
+            self.begun = Some(self.image.load(Ordering::SeqCst));
+        }
+        Ok(piece.len())
+    }
+}
+
+// How much the image had taken when the notes were first called, and how much it took in all.
+fn taken(rt: &impl Host, alloc: Global, job: &[&str], input: &[u8]) -> (Option<u64>, u64) {
+    let count = AtomicU64::new(0);
+    let mut source = source_of(rt, alloc, input, &[]);
+    let mut image = CountingImage { taken: &count };
+    let mut notes = WatchingNotes {
+        image: &count,
+        begun: None,
+    };
+    let _ = finish_on(rt, alloc, job, &mut source, &mut image, &mut notes);
+    (notes.begun, count.load(Ordering::SeqCst))
+}
+
+#[test]
+fn notes_begin_behind_the_whole_image(rt: HostRuntime) {
+    let rows: [(&[&str], &[u8], Option<u64>, u64); 7] = [
+        (&["render"], RED_CLEAR.as_slice(), Some(23), 23),
+        (
+            &["simulate", "--seed", "1"],
+            RED_CLEAR.as_slice(),
+            Some(23),
+            23,
+        ),
+        (&["serial"], RED_CLEAR.as_slice(), Some(23), 23),
+        (&["check"], RED_CLEAR.as_slice(), Some(0), 0),
+        (&["pack"], RED_CLEAR_TEXT, None, 26),
+        (&["unpack"], RED_CLEAR.as_slice(), None, 55),
+        (&["unpack"], RED_CLEAR_TEXT, Some(0), 0),
+    ];
+    for (job, input, begun, whole) in rows {
+        assert!(rt; taken(&rt, rt.alloc(), job, input) == (begun, whole));
     }
 }

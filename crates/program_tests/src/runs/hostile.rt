@@ -1,5 +1,5 @@
 //! Inputs made to be hard: of just the most bytes and of one more, of lengths and pictures that are announced and missing, of endless lines.
-use super::{Host, RED_CLEAR, finish_on, run_on, sink};
+use super::{Host, finish_on, run_on, sink};
 use rc_base::in_memory::QuietSource;
 use std::alloc::Global;
 use std::process::Abort;
@@ -87,20 +87,6 @@ fn a_text_of_spaces_has_no_scene(rt: HostRuntime) {
 
 #[test]
 fn what_is_announced_has_to_come(rt: HostRuntime) {
-    let mut long = RED_CLEAR;
-    for place in 12..16 {
-        long[place] = 0xff;
-    }
-    assert!(rt;
-        refuses(
-            &rt,
-            rt.alloc(),
-            "render",
-            &long,
-            3,
-            "rc: malformed Truncated at 26\n"
-        )
-    );
     // One stream of 8 bytes: a packet of one TexImage, with a picture of 65535 by 65535 and not one texel.
     let picture =
         b"RCS1\x01\x00\x01\x00\x01\x00\x00\x00\x08\x00\x00\x00\x01\x00\x1e\x01\xff\xff\xff\xff";

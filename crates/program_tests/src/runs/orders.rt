@@ -199,13 +199,3 @@ fn a_thousand_units_are_given(rt: HostRuntime) {
     let left = run_text(&rt, rt.alloc(), &["serial"], text.as_slice(), &[]);
     assert!(rt; left.is(0, BLACK_PIXEL, b"journal 1026\nframes 1\n".as_slice()));
 }
-
-// What a failing image leaves of a stuck run: the report, and the fault's line behind it.
-const FAULT_BEHIND_STUCK: &str =
-    "journal 1\nframes 1\nstuck client 0 at 3 SemP 1\nrc: stuck\nrc: image fault after 8 bytes\n";
-
-#[test]
-fn a_stuck_run_tells_that_its_image_failed(rt: HostRuntime) {
-    let left = run_text(&rt, rt.alloc(), &["serial"], NO_UNIT, &[3]);
-    assert!(rt; left.is(5, b"P6\n1 1\n2".as_slice(), FAULT_BEHIND_STUCK.as_bytes()));
-}
