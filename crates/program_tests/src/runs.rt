@@ -29,11 +29,6 @@ const RED_CLEAR: [u8; 26] = [
     255, 1,
 ];
 
-// The same without Swap.
-const CLEAR_ALONE: [u8; 25] = [
-    0x52, 0x43, 0x53, 0x31, 2, 0, 2, 0, 1, 0, 0, 0, 9, 0, 0, 0, 2, 0, 0x16, 0x18, 255, 0, 0, 255, 1,
-];
-
 // A window of 1 by 1: `Begin 0; Clear 1; End; Swap`. Nothing is cleared while a block is open.
 const CLEAR_IN_BLOCK: [u8; 24] = [
     0x52, 0x43, 0x53, 0x31, 1, 0, 1, 0, 1, 0, 0, 0, 8, 0, 0, 0, 4, 0, 1, 0x18, 2, 0x24, 0, 1,
@@ -153,22 +148,22 @@ fn has_left<S: Source>(alloc: Global, source: &mut S, rest: &[u8]) -> bool {
     }
 }
 
-// What a run leaves, where the puts of the image that fail have these numbers.
-fn run_on(rt: &impl Host, alloc: Global, job: &[&str], input: &[u8], fails: &[u64]) -> Left {
+// What a run leaves where no end fails.
+fn run_on(rt: &impl Host, alloc: Global, job: &[&str], input: &[u8]) -> Left {
     left_on(
         rt,
         alloc,
         job,
         source_of(rt, alloc, input, &[]),
-        sink(rt, alloc, 4, fails),
+        sink(rt, alloc, 4, &[]),
         sink(rt, alloc, 64, &[]),
     )
 }
 
 // What a job leaves of the scene of a text.
-fn run_text(rt: &impl Host, alloc: Global, job: &[&str], text: &[u8], fails: &[u64]) -> Left {
-    let scene = run_on(rt, alloc, &["pack"], text, &[]);
-    run_on(rt, alloc, job, scene.image.bytes(), fails)
+fn run_text(rt: &impl Host, alloc: Global, job: &[&str], text: &[u8]) -> Left {
+    let scene = run_on(rt, alloc, &["pack"], text);
+    run_on(rt, alloc, job, scene.image.bytes())
 }
 
 #[test]
@@ -182,7 +177,7 @@ fn other_words_are_usage(rt: HostRuntime) {
         &["Check"],
     ];
     for row in rows {
-        let left = run_on(&rt, rt.alloc(), row, &RED_CLEAR, &[]);
+        let left = run_on(&rt, rt.alloc(), row, &RED_CLEAR);
         assert!(rt; left.is(1, b"".as_slice(), b"rc: usage\n".as_slice()));
     }
 }
@@ -224,7 +219,7 @@ fn refusals_tell_kind_and_place(rt: HostRuntime) {
         ),
     ];
     for (job, input, due, line) in rows {
-        let left = run_on(&rt, rt.alloc(), &[job], input, &[]);
+        let left = run_on(&rt, rt.alloc(), &[job], input);
         assert!(rt; left.is(due, b"".as_slice(), line.as_bytes()));
     }
 }
@@ -241,7 +236,7 @@ fn words_past_their_limits_are_refused(rt: HostRuntime) {
         ),
     ];
     for (job, line) in rows {
-        let left = run_on(&rt, rt.alloc(), job, &RED_CLEAR, &[]);
+        let left = run_on(&rt, rt.alloc(), job, &RED_CLEAR);
         assert!(rt; left.is(4, b"".as_slice(), line.as_bytes()));
     }
 }
@@ -259,7 +254,7 @@ fn refused_commands_are_noted(rt: HostRuntime) {
         ),
     ];
     for (input, lines) in rows {
-        let left = run_on(&rt, rt.alloc(), &["render"], input, &[]);
+        let left = run_on(&rt, rt.alloc(), &["render"], input);
         assert!(rt; left.is(0, BLACK_PIXEL, lines.as_bytes()));
     }
 }
@@ -270,7 +265,7 @@ fn cut_scenes_are_truncated(rt: HostRuntime) {
         let line = format!(in rt.alloc(); "rc: malformed Truncated at {cut}\n").expect(
             &rt, "memory",
         );
-        let left = run_on(&rt, rt.alloc(), &["render"], &RED_CLEAR[..cut], &[]);
+        let left = run_on(&rt, rt.alloc(), &["render"], &RED_CLEAR[..cut]);
         assert!(rt; left.is(3, b"".as_slice(), line.as_bytes()));
     }
 }

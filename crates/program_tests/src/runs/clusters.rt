@@ -87,7 +87,7 @@ fn clusters_draw_and_report(rt: HostRuntime) {
         (&["render", "--order"], NO_UNIT, 5, white, NO_UNIT_IN_ORDER),
     ];
     for (job, text, due, frames, report) in rows {
-        let left = run_text(&rt, rt.alloc(), job, text, &[]);
+        let left = run_text(&rt, rt.alloc(), job, text);
         assert!(rt; left.is(due, frames, report.as_bytes()));
     }
 }

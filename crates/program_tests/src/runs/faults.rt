@@ -4,9 +4,7 @@
 //! By one byte a call the red clear is 27 takes, of which the last one finds the end, its frame is 23 puts, and its report 52.
 ghost use Rattle.std.specs.Prelude.{◌<◌};
 
-use super::{
-    CLEAR_ALONE, Host, Left, RED_CLEAR, RED_CLEAR_TEXT, RED_FRAME, has_left, left_on, sink,
-};
+use super::{Host, Left, RED_CLEAR, RED_CLEAR_TEXT, RED_FRAME, has_left, left_on, sink};
 use rc_base::in_memory::MemSource;
 use rc_base::transfer::read_all;
 use std::alloc::Global;
@@ -19,6 +17,11 @@ struct Row {
     image: &'static [u8],
     notes: &'static [u8],
 }
+
+// The red clear without Swap.
+const CLEAR_ALONE: [u8; 25] = [
+    0x52, 0x43, 0x53, 0x31, 2, 0, 2, 0, 1, 0, 0, 0, 9, 0, 0, 0, 2, 0, 0x16, 0x18, 255, 0, 0, 255, 1,
+];
 
 const RED_REPORT: &[u8] = b"tile 0 parcels 3 sets 1 looks 15\njournal 1\nframes 1\n";
 
@@ -236,7 +239,8 @@ const EIGHT_SILENT: &[u8] =
 
 const WHITE_PIXEL: &[u8] = b"P6\n1 1\n255\n\xff\xff\xff";
 
-// A job, its input, the calls that fail, and what is left by ends of one byte a call: the status, image and notes, and how much of the input was taken.
+// A job, its input, the calls that fail, and what is left by ends of one byte a call: the status, image and notes, and how much of the input was
+// taken.
 type Case = (
     &'static str,
     &'static [u8],

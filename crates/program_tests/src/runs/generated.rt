@@ -49,7 +49,7 @@ fn sizes_outside_their_range_are_refused(rt: HostRuntime) {
         ),
     ];
     for (job, line) in rows {
-        let left = run_on(&rt, rt.alloc(), job, b"", &[]);
+        let left = run_on(&rt, rt.alloc(), job, b"");
         assert!(rt; left.is(4, b"".as_slice(), line.as_bytes()));
     }
 }
@@ -63,12 +63,12 @@ fn leaves(
     image: &[u8],
     notes: &[u8],
 ) -> bool {
-    run_on(rt, alloc, job, input, &[]).is(0, image, notes)
+    run_on(rt, alloc, job, input).is(0, image, notes)
 }
 
 // Whether the scene of these bytes is drawn by each job: one image, and one report of the two clusters.
 fn has_one_image(rt: &impl Host, alloc: Global, bytes: &[u8]) -> bool {
-    let render = run_on(rt, alloc, &["render", "--tiles", "8x4"], bytes, &[]);
+    let render = run_on(rt, alloc, &["render", "--tiles", "8x4"], bytes);
     let image = render.image.bytes();
     let stepped = ["simulate", "--seed", "3", "--tiles", "8x4"];
     render.status == 0
@@ -107,7 +107,7 @@ fn a_generated_scene_has_one_image(rt: HostRuntime) {
 
 // Whether a scene's text is read again as that scene.
 fn is_read_again(rt: &impl Host, alloc: Global, bytes: &[u8]) -> bool {
-    let text = run_on(rt, alloc, &["unpack"], bytes, &[]);
+    let text = run_on(rt, alloc, &["unpack"], bytes);
     text.status == 0 && leaves(rt, alloc, &["pack"], text.image.bytes(), bytes, b"")
 }
 
@@ -134,7 +134,7 @@ const DEMO: [&str; 9] = [
 
 // A thousand rounds on sixteen tiles: each client, the manager and each tile is a thread, and each run shows and tells the same, as does `serial`.
 fn is_the_same(rt: &impl Host, alloc: Global, scene: &[u8]) -> bool {
-    let first = run_on(rt, alloc, &DEMO[..7], b"", &[]);
+    let first = run_on(rt, alloc, &DEMO[..7], b"");
     let image = first.image.bytes();
     let notes = first.notes.bytes();
     let narrow = [

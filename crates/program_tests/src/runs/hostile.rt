@@ -220,6 +220,6 @@ fn nine_frames_of_the_largest_window_are_too_many(rt: HostRuntime) {
     let eight =
         b"RCS1\x00\x08\x00\x08\x01\x00\x00\x00\x0a\x00\x00\x00\x08\x00\x24\x24\x24\x24\x24\x24\x24\x24";
     let text = repeated(&rt, rt.alloc(), front, b"Swap\n", 8);
-    let left = run_on(&rt, rt.alloc(), &["unpack"], eight, &[]);
+    let left = run_on(&rt, rt.alloc(), &["unpack"], eight);
     assert!(rt; left.is(0, text.as_slice(), b"".as_slice()));
 }

@@ -179,15 +179,15 @@ fn scene_of(rt: &impl Host, alloc: Global, row: Row) -> Vec<u8>
 
 // Whether a run of the scene's bytes is whole, and shows what the serial renderer shows.
 fn shows(rt: &impl Host, alloc: Global, job: &[&str], bytes: &[u8], serial: &Left) -> bool {
-    let left = run_on(rt, alloc, job, bytes, &[]);
+    let left = run_on(rt, alloc, job, bytes);
     left.status == 0 && left.image.bytes() == serial.image.bytes()
 }
 
 // Whether the scene is drawn alike by the serial renderer, by clusters of several tiles and depths, and on several schedules.
 fn is_one_image(rt: &impl Host, alloc: Global, text: &[u8]) -> bool {
-    let packed = run_on(rt, alloc, &["pack"], text, &[]);
+    let packed = run_on(rt, alloc, &["pack"], text);
     let bytes = packed.image.bytes();
-    let serial = run_on(rt, alloc, &["serial"], bytes, &[]);
+    let serial = run_on(rt, alloc, &["serial"], bytes);
     if serial.status != 0 || serial.image.bytes().is_empty() {
         return false;
     }
@@ -265,12 +265,12 @@ Swap
 
 // Whether two seeds give two images.
 fn has_two_images(rt: &impl Host, alloc: Global, text: &[u8]) -> bool {
-    let packed = run_on(rt, alloc, &["pack"], text, &[]);
-    let serial = run_on(rt, alloc, &["serial"], packed.image.bytes(), &[]);
+    let packed = run_on(rt, alloc, &["pack"], text);
+    let serial = run_on(rt, alloc, &["serial"], packed.image.bytes());
     for seed in 0..40u32 {
         let seed = format!(in alloc; "{seed}").expect(rt, "memory");
         let job = ["simulate", "--seed", seed.as_str()];
-        let left = run_on(rt, alloc, &job, packed.image.bytes(), &[]);
+        let left = run_on(rt, alloc, &job, packed.image.bytes());
         if left.status == 0 && left.image.bytes() != serial.image.bytes() {
             return true;
         }

@@ -147,7 +147,7 @@ fn orders_are_drawn_and_reported(rt: HostRuntime) {
         ("check", BARRIER_IN_BLOCK, 0, b"".as_slice(), refused),
     ];
     for (job, text, due, frames, report) in rows {
-        let left = run_text(&rt, rt.alloc(), &[job], text, &[]);
+        let left = run_text(&rt, rt.alloc(), &[job], text);
         assert!(rt; left.is(due, frames, report.as_bytes()));
     }
 }
@@ -182,7 +182,7 @@ fn units_are_handed_on(rt: HostRuntime) {
         ),
     ];
     for (job, text, due, frames, report) in rows {
-        let left = run_text(&rt, rt.alloc(), &[job], text, &[]);
+        let left = run_text(&rt, rt.alloc(), &[job], text);
         assert!(rt; left.is(due, frames, report.as_bytes()));
     }
 }
@@ -196,6 +196,6 @@ fn a_thousand_units_are_given(rt: HostRuntime) {
         text.extend_from_slice(b"SemV 1\n").expect(&rt, "memory");
     }
     text.extend_from_slice(b"Swap\n").expect(&rt, "memory");
-    let left = run_text(&rt, rt.alloc(), &["serial"], text.as_slice(), &[]);
+    let left = run_text(&rt, rt.alloc(), &["serial"], text.as_slice());
     assert!(rt; left.is(0, BLACK_PIXEL, b"journal 1026\nframes 1\n".as_slice()));
 }

@@ -128,7 +128,7 @@ type Row<'a> = (
 // The job leaves a frame of one colour, and as much is sent to each tile.
 fn draws(rt: &impl Host, alloc: Global, row: Row) -> bool {
     let (job, text, header, pixels, colour, tiles, sent, rest) = row;
-    let left = run_text(rt, alloc, job, text, &[]);
+    let left = run_text(rt, alloc, job, text);
     let frame = filled(rt, alloc, header, pixels, colour);
     let lines = report(rt, alloc, tiles, sent, rest);
     left.is(0, frame.as_slice(), lines.as_slice())
@@ -136,7 +136,7 @@ fn draws(rt: &impl Host, alloc: Global, row: Row) -> bool {
 
 // The job tells that as much was sent to the one tile, for one frame.
 fn tells(rt: &impl Host, alloc: Global, job: &[&str], text: &[u8], sent: (u32, u32, u32)) -> bool {
-    let left = run_text(rt, alloc, job, text, &[]);
+    let left = run_text(rt, alloc, job, text);
     let lines = report(rt, alloc, 1, sent, "journal 1\nframes 1\n");
     left.notes.bytes() == lines.as_slice()
 }
@@ -235,7 +235,6 @@ fn a_corner_is_cleared_by_its_tile(rt: HostRuntime) {
         rt.alloc(),
         &["render", "--tiles", "4x2"],
         CORNER_CLEARED,
-        &[],
     );
     let lines = report(
         &rt,
@@ -249,7 +248,7 @@ fn a_corner_is_cleared_by_its_tile(rt: HostRuntime) {
 
 #[test]
 fn a_swap_alone_is_stuck(rt: HostRuntime) {
-    let left = run_text(&rt, rt.alloc(), &["render"], SWAP_ALONE, &[]);
+    let left = run_text(&rt, rt.alloc(), &["render"], SWAP_ALONE);
     assert!(rt; left.is(5, b"", SWAP_ALONE_REPORT.as_bytes()));
 }
 
@@ -266,11 +265,11 @@ fn first_taker(kept: &Record) -> Option<u8> {
 // Whoever takes the unit first draws first, in both tiles.
 #[test]
 fn clients_blend_in_the_order_of_their_units(rt: HostRuntime) {
-    let scene = run_on(&rt, rt.alloc(), &["pack"], BLENDED_IN_TURN, &[]);
+    let scene = run_on(&rt, rt.alloc(), &["pack"], BLENDED_IN_TURN);
     let job = ["render", "--tiles", "2x1", "--depth", "1"];
     let lines = report(&rt, rt.alloc(), 2, (10, 4, 30), "journal 5\nframes 1\n");
     for _ in 0..50u32 {
-        let left = run_on(&rt, rt.alloc(), &job, scene.image.bytes(), &[]);
+        let left = run_on(&rt, rt.alloc(), &job, scene.image.bytes());
         let kept = left.kept.as_ref().expect(&rt, "a record");
         let frame = match first_taker(kept) {
             Some(0) => b"P6\n2 1\n255\n\x40\0\x80\x40\0\x80",

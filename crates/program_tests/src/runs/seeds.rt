@@ -172,14 +172,14 @@ fn run_by(rt: &impl Host, alloc: Global, bytes: &[u8], case: Case, seed: u32) ->
         "--tiles",
         tiles,
     ];
-    run_on(rt, alloc, &job, bytes, &[])
+    run_on(rt, alloc, &job, bytes)
 }
 
 // How many of twenty seeds give what the serial renderer gives.
 fn alike(rt: &impl Host, alloc: Global, case: Case) -> u32 {
-    let scene = run_on(rt, alloc, &["pack"], case.0, &[]);
+    let scene = run_on(rt, alloc, &["pack"], case.0);
     let bytes = scene.image.bytes();
-    let serial = run_on(rt, alloc, &["serial"], bytes, &[]);
+    let serial = run_on(rt, alloc, &["serial"], bytes);
     let mut count: u32 = 0;
     for seed in 0..20u32 {
         let left = run_by(rt, alloc, bytes, case, seed);
@@ -206,7 +206,7 @@ const ON_SHORT_LANES: [Case; 2] = [
 #[test]
 fn no_seed_of_a_hundred_stands_still(rt: HostRuntime) {
     for case in ON_SHORT_LANES {
-        let scene = run_on(&rt, rt.alloc(), &["pack"], case.0, &[]);
+        let scene = run_on(&rt, rt.alloc(), &["pack"], case.0);
         for seed in 0..100u32 {
             let left = run_by(&rt, rt.alloc(), scene.image.bytes(), case, seed);
             assert!(rt; left.status == 0);
@@ -247,7 +247,7 @@ fn keeps_orders(rt: &impl Host, alloc: Global, bytes: &[u8], seed: u32) -> bool 
         "--tiles",
         "2x1",
     ];
-    let left = run_on(rt, alloc, &job, bytes, &[]);
+    let left = run_on(rt, alloc, &job, bytes);
     match &left.kept {
         Some(kept) => permits(alloc, &scene, kept).expect(rt, "memory"),
         None => false,
@@ -256,7 +256,7 @@ fn keeps_orders(rt: &impl Host, alloc: Global, bytes: &[u8], seed: u32) -> bool 
 
 #[test]
 fn recorded_orders_are_permitted(rt: HostRuntime) {
-    let scene = run_on(&rt, rt.alloc(), &["pack"], BLENDED_IN_TURN, &[]);
+    let scene = run_on(&rt, rt.alloc(), &["pack"], BLENDED_IN_TURN);
     for seed in 0..20u32 {
         assert!(rt; keeps_orders(&rt, rt.alloc(), scene.image.bytes(), seed));
     }
@@ -276,7 +276,7 @@ fn times(text: &[u8], part: &[u8]) -> usize {
 #[test]
 fn each_tile_tells_its_order(rt: HostRuntime) {
     let job = ["simulate", "--seed", "0", "--tiles", "2x1", "--order"];
-    let left = run_text(&rt, rt.alloc(), &job, BLENDED_AT_ONCE, &[]);
+    let left = run_text(&rt, rt.alloc(), &job, BLENDED_AT_ONCE);
     assert!(rt; left.status == 0);
     assert!(rt; times(left.notes.bytes(), b"order 0 ") == 18);
     assert!(rt; times(left.notes.bytes(), b"order 1 ") == 18);
