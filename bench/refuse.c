@@ -1,8 +1,10 @@
-/* Refuses one allocation of a program: the one whose number, counted from 1 over all its threads, stands in REFUSE. The count is kept in the file that
-   REFUSED names, since a program may end without a last word. refuse.py preloads it. */
+/* Refuses one allocation of a program: the one whose number, counted from 1 over all its threads, stands in REFUSE. How many allocations were asked for and
+   how many threads were started and joined is kept in the file that COUNTS names, since a program may end without a last word. refuse.py preloads it. */
 #define _GNU_SOURCE
+#include <dlfcn.h>
 #include <errno.h>
 #include <fcntl.h>
+#include <pthread.h>
 #include <stdatomic.h>
 #include <stdlib.h>
 #include <sys/mman.h>
@@ -13,24 +15,33 @@ void *__libc_calloc(size_t count, size_t size);
 void *__libc_realloc(void *old, size_t size);
 void *__libc_memalign(size_t alignment, size_t size);
 
-static atomic_long *made;
+struct counts {
+    atomic_long asked, started, joined;
+};
+
+static struct counts *counts;
 static long refused;
+static int (*create)(pthread_t *, const pthread_attr_t *, void *(*)(void *), void *);
+static int (*join)(pthread_t, void **);
 
 __attribute__((constructor)) static void begin(void) {
-    const char *number = getenv("REFUSE"), *name = getenv("REFUSED");
+    /* Looked up before anything is counted, since the look-up may allocate. */
+    create = (int (*)(pthread_t *, const pthread_attr_t *, void *(*)(void *), void *))dlsym(RTLD_NEXT, "pthread_create");
+    join = (int (*)(pthread_t, void **))dlsym(RTLD_NEXT, "pthread_join");
+    const char *number = getenv("REFUSE"), *name = getenv("COUNTS");
     int file = number && name ? open(name, O_RDWR | O_CREAT | O_TRUNC, 0600) : -1;
-    if (file < 0 || ftruncate(file, sizeof(atomic_long)) != 0)
+    if (file < 0 || ftruncate(file, sizeof(struct counts)) != 0)
         return;
-    void *place = mmap(NULL, sizeof(atomic_long), PROT_READ | PROT_WRITE, MAP_SHARED, file, 0);
+    void *place = mmap(NULL, sizeof(struct counts), PROT_READ | PROT_WRITE, MAP_SHARED, file, 0);
     close(file);
     if (place == MAP_FAILED)
         return;
     refused = atol(number);
-    made = place;
+    counts = place;
 }
 
 static int is_refused(void) {
-    if (!made || atomic_fetch_add(made, 1) + 1 != refused)
+    if (!counts || atomic_fetch_add(&counts->asked, 1) + 1 != refused)
         return 0;
     errno = ENOMEM;
     return 1;
@@ -51,4 +62,18 @@ int posix_memalign(void **place, size_t alignment, size_t size) {
         return ENOMEM;
     *place = __libc_memalign(alignment, size);
     return *place ? 0 : ENOMEM;
+}
+
+int pthread_create(pthread_t *thread, const pthread_attr_t *attributes, void *(*begin_at)(void *), void *argument) {
+    int fault = create(thread, attributes, begin_at, argument);
+    if (!fault && counts)
+        atomic_fetch_add(&counts->started, 1);
+    return fault;
+}
+
+int pthread_join(pthread_t thread, void **result) {
+    int fault = join(thread, result);
+    if (!fault && counts)
+        atomic_fetch_add(&counts->joined, 1);
+    return fault;
 }

@@ -1,53 +1,100 @@
 #!/usr/bin/env python3
 """Runs the built program once for each allocation of a small run, and refuses that one allocation.
 
-    refuse.py [PROGRAM] [SCENE] [WORD ..]       the words are `render --tiles 2x1 --depth 1` where none are given
+    refuse.py [PROGRAM] [SCENE] [WORD ..]       examples/shared-texture.rcs by `render --tiles 2x1 --depth 1` where none are given
+    refuse.py --simulate [PROGRAM]              examples/producer-consumer.rcs and shared-texture.rcs by `simulate --seed 1 --depth 1`
 
-Each run has to end by itself, within ten seconds, and with one of these: all that is due and the status of a run with memory (what was refused wasn't
-needed: a thread that isn't made is no want of memory, its actor is stepped by the caller); or status 7 with `rc: out of memory` or nothing in the
-notes, and an image that is a front of what is due. Where the threads' schedule decides what is drawn, any image of the scene's frames counts as a whole
-one, so give a scene that is ordered. The program is built by `cd crates/render_cli && rt run -- render < ../../examples/red.rcs > /dev/null`.
+Each run has to end by itself, within ten seconds, with every thread joined that it started, and with one of these:
+- 0 (or the status of a run with memory), with the whole image and the whole notes: what was refused wasn't needed. So it is where a thread can't be made:
+  its actor is stepped by the caller.
+- 7, with `rc: out of memory` in the notes and a front of the image that is due.
+Where the threads' schedule decides what is drawn a right run may have another image than the one with memory, so give a scene that is ordered.
+
+The last line tells how many allocations were refused, how many of these runs ended with 7 and how many with 0 (with another status where the run with memory
+has that), and how many hung. A line before it tells how many threads the run with memory starts, and in how few and how many runs. A run that isn't as
+it has to be has a line with the number of its allocation, and the status is 1. The program is built by
+`cd crates/render_cli && rt run -- render < ../../examples/red.rcs > /dev/null`.
 """
-import collections
 import os
+import pathlib
+import struct
 import subprocess
 import sys
 import tempfile
 
-here = os.path.dirname(os.path.abspath(__file__))
-program = sys.argv[1] if len(sys.argv) > 1 else os.path.join(here, "../crates/render_cli/out/render_cli")
-scene = sys.argv[2] if len(sys.argv) > 2 else os.path.join(here, "../examples/producer-consumer.rcs")
-words = sys.argv[3:] or ["render", "--tiles", "2x1", "--depth", "1"]
+HERE = pathlib.Path(__file__).resolve().parent
+EXAMPLES = HERE.parent / "examples"
+SECONDS = 10
 
 
-def run(library, number, count):
-    """What a run leaves in which this allocation is refused: status, image, notes."""
-    environment = dict(os.environ, LD_PRELOAD=library, REFUSE=str(number), REFUSED=count)
-    with open(scene, "rb") as source:
-        done = subprocess.run([program, *words], stdin=source, capture_output=True, env=environment, timeout=10)
-    return done.returncode, done.stdout, done.stderr
+class Runs:
+    """Runs of the program with these words on a scene, in each of which one allocation is refused."""
+
+    def __init__(self, work, program, scene, words):
+        self.library, self.counts = work / "refuse.so", work / "counts"
+        self.command, self.scene = [program, *words], scene
+        subprocess.run(["cc", "-O2", "-shared", "-fPIC", "-o", self.library, HERE / "refuse.c", "-ldl"], check=True)
+
+    def run(self, number):
+        """What a run leaves in which this allocation is refused: status, image and notes; allocations, threads started, threads joined."""
+        environment = dict(os.environ, LD_PRELOAD=str(self.library), REFUSE=str(number), COUNTS=str(self.counts))
+        with open(self.scene, "rb") as source:
+            done = subprocess.run(self.command, stdin=source, capture_output=True, env=environment, timeout=SECONDS, check=False)
+        return (done.returncode, done.stdout, done.stderr), struct.unpack("3l", self.counts.read_bytes())
+
+
+def fault_of(end, whole, started, joined):
+    """What is wrong with a run, or None."""
+    status, image, notes = end
+    if started != joined:
+        return f"{started} threads were started and {joined} joined"
+    if end == whole or status == 7 and notes == b"rc: out of memory\n" and whole[1].startswith(image):
+        return None
+    return f"status {status}, {len(image)} bytes of image, notes {notes!r}"
+
+
+def refuse_each(runs):
+    """Refuses each allocation in turn, prints what came, and tells whether all is right."""
+    whole, (allocations, started, _) = runs.run(0)
+    ends, hung, threads, wrong = {7: 0, whole[0]: 0}, 0, [], 0
+    for number in range(1, allocations + 1):
+        try:
+            end, (_, begun, joined) = runs.run(number)
+        except subprocess.TimeoutExpired:
+            print(f"refuse.py: with allocation {number} refused the program didn't end")
+            hung += 1
+            continue
+        fault = fault_of(end, whole, begun, joined)
+        if fault:
+            print(f"refuse.py: with allocation {number} refused: {fault}")
+            wrong += 1
+            continue
+        threads.append(begun)
+        ends[end[0]] += 1
+    fewer = sum(1 for count in threads if count < started)
+    print(f"{started} threads with memory, each joined; {fewer} runs with fewer threads, all of theirs joined")
+    print(f"{allocations} allocations refused, {ends[7]} ended with 7, {ends[whole[0]]} with {whole[0]}, {hung} hung")
+    return not hung and not wrong
 
 
 def main():
+    words = sys.argv[1:]
+    simulate = words[:1] == ["--simulate"]
+    if simulate:
+        words = words[1:]
+    program = words[0] if words else str(HERE.parent / "crates/render_cli/out/render_cli")
+    if simulate:
+        tries = [(EXAMPLES / name, ["simulate", "--seed", "1", "--depth", "1"]) for name in ("producer-consumer.rcs", "shared-texture.rcs")]
+    else:
+        scene = pathlib.Path(words[1]) if len(words) > 1 else EXAMPLES / "shared-texture.rcs"
+        tries = [(scene, words[2:] or ["render", "--tiles", "2x1", "--depth", "1"])]
+    right = True
     with tempfile.TemporaryDirectory() as work:
-        library, count = os.path.join(work, "refuse.so"), os.path.join(work, "count")
-        subprocess.run(["cc", "-O2", "-shared", "-fPIC", "-o", library, os.path.join(here, "refuse.c")], check=True)
-        whole = run(library, 0, count)
-        with open(count, "rb") as file:
-            allocations = int.from_bytes(file.read(), sys.byteorder)
-        ends = collections.Counter()
-        for number in range(1, allocations + 1):
-            try:
-                status, image, notes = run(library, number, count)
-            except subprocess.TimeoutExpired:
-                sys.exit(f"refuse.py: with allocation {number} refused the program didn't end")
-            if (status, image, notes) == whole:
-                ends["as with memory"] += 1
-            elif status == 7 and notes in (b"", b"rc: out of memory\n") and whole[1].startswith(image):
-                ends["status 7"] += 1
-            else:
-                sys.exit(f"refuse.py: with allocation {number} refused: status {status}, {len(image)} bytes of image, notes {notes!r}")
-        print(f"{allocations} allocations, each refused once: " + ", ".join(f"{times} ended {end}" for end, times in sorted(ends.items())))
+        for scene, job in tries:
+            print(f"{scene.name} by {' '.join(job)}")
+            right = refuse_each(Runs(pathlib.Path(work), program, scene, job)) and right
+    sys.exit(0 if right else 1)
 
 
-main()
+if __name__ == "__main__":
+    main()

@@ -1,0 +1,170 @@
+"""A second reader of scene bytes, and a writer, by docs/scene-format.md alone: hostile.py and limits.py compare the program with it.
+
+`read` gives the Scene that bytes spell, or raises Refused with the status and the line that the program owes. A command is a tuple of its opcode, its
+numbers and its texels.
+"""
+import struct
+
+LONGEST = 33_554_432
+MOST_COMMANDS, MOST_PIXELS = 1_048_576, 33_554_432
+
+# Each opcode's name and the layout of its numbers, as `struct` writes it. The texels of a picture follow its numbers, the last two of which are its sides.
+COMMANDS = {
+    0x01: ("Begin", "B"), 0x02: ("End", ""), 0x03: ("Vertex", "4i"), 0x04: ("Color", "4B"), 0x05: ("TexCoord", "2i"), 0x06: ("Enable", "B"),
+    0x07: ("Disable", "B"), 0x08: ("MatrixMode", "B"), 0x09: ("LoadIdentity", ""), 0x0A: ("LoadMatrix", "16i"), 0x0B: ("MultMatrix", "16i"),
+    0x0C: ("PushMatrix", ""), 0x0D: ("PopMatrix", ""), 0x0E: ("Viewport", "4i"), 0x0F: ("DepthRange", "2i"), 0x10: ("Scissor", "4i"),
+    0x11: ("AlphaFunc", "2B"), 0x12: ("DepthFunc", "B"), 0x13: ("DepthMask", "B"), 0x14: ("BlendFunc", "2B"), 0x15: ("ColorMask", "4B"),
+    0x16: ("ClearColor", "4B"), 0x17: ("ClearDepth", "i"), 0x18: ("Clear", "B"), 0x19: ("CullFace", "B"), 0x1A: ("FrontFace", "B"),
+    0x1B: ("BindTexture", "2B"), 0x1C: ("TexEnv", "B"), 0x1D: ("TexWrap", "2B"), 0x1E: ("TexImage", "B2H"), 0x1F: ("TexPart", "B4H"),
+    0x20: ("SharedImage", "B4H"), 0x21: ("Barrier", "B"), 0x22: ("SemP", "B"), 0x23: ("SemV", "B"), 0x24: ("Swap", ""),
+}
+OPCODES = {name: opcode for opcode, (name, _) in COMMANDS.items()}
+LAYOUTS = {opcode: struct.Struct("<" + layout) for opcode, (_, layout) in COMMANDS.items()}
+BEGIN, END, CLEAR, SHARED_IMAGE, BARRIER, SEM_P, SEM_V, SWAP = (
+    OPCODES[name] for name in ("Begin", "End", "Clear", "SharedImage", "Barrier", "SemP", "SemV", "Swap")
+)
+PICTURES = (OPCODES["TexImage"], OPCODES["TexPart"], SHARED_IMAGE)
+
+
+class Refused(Exception):
+    """The bytes are refused with this status and this line."""
+
+    def __init__(self, status, line):
+        super().__init__(line)
+        self.status, self.line = status, f"rc: {line}\n".encode()
+
+
+class Scene:
+    """What the bytes of a scene say."""
+
+    def __init__(self, width, height, shared, barriers, semaphores, streams):
+        self.width, self.height = width, height
+        self.shared, self.barriers, self.semaphores, self.streams = shared, barriers, semaphores, streams
+
+
+def malformed(kind, at):
+    return Refused(3, f"malformed {kind} at {at}")
+
+
+class Reader:
+    """Takes bytes from the left, up to an end."""
+
+    def __init__(self, data):
+        self.data, self.at, self.end = data, 0, len(data)
+        self.counts = []  # place and length of each count and length that was read
+
+    def take(self, size):
+        if self.end - self.at < size:
+            raise malformed("Truncated", self.end)
+        self.at += size
+        return self.data[self.at - size:self.at]
+
+    def number(self, layout):
+        self.counts.append((self.at, struct.calcsize("<" + layout)))
+        return struct.unpack("<" + layout, self.take(self.counts[-1][1]))[0]
+
+
+def read_spelled(reader):
+    """The scene that the bytes spell, whatever its quantities are."""
+    data = reader.data
+    for at, letter in enumerate(b"RCS1"):
+        if at < len(data) and data[at] != letter:
+            raise malformed("BadMagic", at)
+        reader.take(1)
+    width, height = reader.number("H"), reader.number("H")
+    clients, shared, barriers, semaphores = (reader.number("B") for _ in range(4))
+    shared = [(reader.number("H"), reader.number("H")) for _ in range(shared)]
+    barriers = [reader.number("B") for _ in range(barriers)]
+    semaphores = [reader.number("H") for _ in range(semaphores)]
+    streams = [read_stream(reader) for _ in range(clients)]
+    if reader.at < len(data):
+        raise malformed("Trailing", reader.at)
+    return Scene(width, height, shared, barriers, semaphores, streams)
+
+
+def read_stream(reader):
+    whole = reader.end
+    length = reader.number("I")
+    if whole - reader.at < length:
+        raise malformed("Truncated", whole)
+    reader.end = reader.at + length
+    commands = []
+    while reader.at < reader.end:
+        commands += read_packet(reader)
+    reader.end = whole
+    return commands
+
+
+def read_packet(reader):
+    at = reader.at
+    count = reader.number("H")
+    if not 1 <= count <= 1024:
+        raise malformed("BadCount", at)
+    opcodes = reader.data[reader.at:min(reader.at + count, reader.end)]
+    for i, opcode in enumerate(opcodes):
+        if opcode not in COMMANDS:
+            raise malformed("UnknownOpcode", reader.at + i)
+    reader.take(count)
+    return [read_command(reader, opcode) for opcode in opcodes]
+
+
+def read_command(reader, opcode):
+    numbers = LAYOUTS[opcode].unpack(reader.take(LAYOUTS[opcode].size))
+    texels = reader.take(4 * numbers[-2] * numbers[-1]) if opcode in PICTURES else b""
+    return opcode, numbers, texels
+
+
+def judge(scene):
+    """Raises the first quantity outside its range."""
+    frames = min((sum(1 for command in stream if command[0] == SWAP) for stream in scene.streams), default=0)
+    quantities = [("width", scene.width, 1, 2048), ("height", scene.height, 1, 2048), ("clients", len(scene.streams), 1, 8)]
+    quantities += [("shared textures", len(scene.shared), 0, 16)]
+    quantities += [("shared side", side, 1, 65535) for size in scene.shared for side in size]
+    quantities += [("shared texels", sum(w * h for w, h in scene.shared), 0, 1_048_576), ("barriers", len(scene.barriers), 0, 64)]
+    quantities += [("barrier count", count, 1, 8) for count in scene.barriers]
+    quantities += [("semaphores", len(scene.semaphores), 0, 64), ("commands", sum(map(len, scene.streams)), 0, MOST_COMMANDS)]
+    quantities += [("frames", frames, 0, MOST_COMMANDS), ("pixels", frames * scene.width * scene.height, 0, MOST_PIXELS)]
+    for name, value, least, most in quantities:
+        if not least <= value <= most:
+            raise Refused(4, f"limit {name} {value}")
+
+
+def read(data):
+    """The scene that the bytes spell, where its quantities are within their ranges."""
+    if len(data) > LONGEST:
+        raise Refused(4, f"limit scene bytes {LONGEST + 1}")
+    scene = read_spelled(Reader(data))
+    judge(scene)
+    return scene
+
+
+def places(data):
+    """Place and length of each count and length, as far as the bytes are read."""
+    reader = Reader(data)
+    try:
+        read_spelled(reader)
+    except Refused:
+        pass
+    return [(at, size) for at, size in reader.counts if at + size <= len(data)]
+
+
+def command(name, *numbers, texels=b""):
+    return OPCODES[name], numbers, texels
+
+
+def packet(commands):
+    payloads = b"".join(LAYOUTS[opcode].pack(*numbers) + texels for opcode, numbers, texels in commands)
+    return struct.pack("<H", len(commands)) + bytes(opcode for opcode, _, _ in commands) + payloads
+
+
+def stream_bytes(commands, most=1024):
+    return b"".join(packet(commands[i:i + most]) for i in range(0, len(commands), most))
+
+
+def scene_bytes(scene, most=1024):
+    """The bytes of a scene, with packets of so many commands."""
+    head = struct.pack("<HHBBBB", scene.width, scene.height, len(scene.streams), len(scene.shared), len(scene.barriers), len(scene.semaphores))
+    head += b"".join(struct.pack("<HH", *size) for size in scene.shared) + bytes(scene.barriers)
+    head += b"".join(struct.pack("<H", units) for units in scene.semaphores)
+    streams = [stream_bytes(commands, most) for commands in scene.streams]
+    return b"RCS1" + head + b"".join(struct.pack("<I", len(stream)) + stream for stream in streams)
