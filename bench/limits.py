@@ -15,7 +15,7 @@ import sys
 import tempfile
 import time
 
-from scene_bytes import LONGEST, MOST_COMMANDS, Scene, command, scene_bytes
+from scene_forms import LONGEST, MOST_COMMANDS, Scene, command, scene_bytes
 
 HERE = pathlib.Path(__file__).resolve().parent
 SWAP, CLEAR = command("Swap"), command("Clear", 3)

@@ -1,8 +1,9 @@
-"""A second reader of scene bytes, and a writer, by docs/scene-format.md alone: hostile.py and limits.py compare the program with it.
+"""A second reader of scenes and a writer, in bytes and as text, by docs/scene-format.md alone: hostile.py compares the program with it.
 
-`read` gives the Scene that bytes spell, or raises Refused with the status and the line that the program owes. A command is a tuple of its opcode, its
-numbers and its texels.
+`read` and `read_text` give the Scene that bytes or a text spell, or raise Refused with the status and the line that the program owes. A command is a tuple
+of its opcode, its numbers and its texels.
 """
+import re
 import struct
 
 LONGEST = 33_554_432
@@ -168,3 +169,102 @@ def scene_bytes(scene, most=1024):
     head += b"".join(struct.pack("<H", units) for units in scene.semaphores)
     streams = [stream_bytes(commands, most) for commands in scene.streams]
     return b"RCS1" + head + b"".join(struct.pack("<I", len(stream)) + stream for stream in streams)
+
+
+# ---- text
+
+# What begins a line: its rank, the ranks of lines that may have come before it, and its numbers.
+DECLARED = {"scene": (1, (0, 0), "BHH"), "shared": (2, (1, 2), "HH"), "barrier": (3, (1, 3), "B"), "semaphore": (4, (1, 4), "H"), "client": (5, (1, 5), "")}
+RANGES = {"B": (0, 255), "H": (0, 65535), "i": (-2147483648, 2147483647)}
+
+
+def letters(layout):
+    """One letter for each number."""
+    return re.sub(r"(\d+)(\w)", lambda match: match[2] * int(match[1]), layout)
+
+
+def number_of(word, letter):
+    """The number of a word, or None where it isn't one of this range."""
+    if not re.fullmatch(r"-?[0-9]{1,10}", word):
+        return None
+    least, most = RANGES[letter]
+    return int(word) if least <= int(word) <= most else None
+
+
+def read_line(scene, rank, line):
+    """Reads a line into the scene, and gives its rank; or raises the kind of its fault."""
+    if not all(0x20 <= byte <= 0x7E for byte in line):
+        raise ValueError("NotText")
+    words = line.decode().split(" ")
+    words = [word for word in words if word]
+    if line.startswith(b"#") or not words:
+        return rank
+    name, rest = words[0], words[1:]
+    if name not in DECLARED and name not in OPCODES:
+        raise ValueError("UnknownWord")
+    own, (least, most), layout = DECLARED.get(name) or (5, (5, 5), COMMANDS[OPCODES[name]][1])
+    if not least <= rank <= most:
+        raise ValueError("OutOfPlace")
+    numbers = read_numbers(name, rest, letters(layout))
+    texels = read_texels(numbers, rest[len(numbers):])
+    if name in OPCODES:
+        scene.streams[-1].append((OPCODES[name], tuple(numbers), texels))
+    elif name == "scene":
+        scene.width, scene.height = numbers[1:]
+    elif name == "client":
+        scene.streams.append([])
+    else:
+        {"shared": scene.shared, "barrier": scene.barriers, "semaphore": scene.semaphores}[name].append(numbers[0] if len(numbers) == 1 else tuple(numbers))
+    return own
+
+
+def read_numbers(name, rest, layout):
+    """The numbers of a line, where it has as many words as are due."""
+    count = len(layout)
+    numbers = [number_of(word, letter) for word, letter in zip(rest, layout)]
+    more = (0, 0)
+    if OPCODES.get(name) in PICTURES and len(numbers) == count:
+        w, h = numbers[-2:]
+        more = (0, 1) if w is None or h is None else (1, 1) if w * h else (0, 0)
+    if not more[0] <= len(rest) - count <= more[1]:
+        raise ValueError("WrongCount")
+    if None in numbers or name == "scene" and numbers[0] != 1:
+        raise ValueError("BadNumber")
+    return numbers
+
+
+def read_texels(numbers, rest):
+    if not rest:
+        return b""
+    if len(rest[0]) != 8 * numbers[-2] * numbers[-1] or not re.fullmatch(r"[0-9a-fA-F]*", rest[0]):
+        raise ValueError("BadHex")
+    return bytes.fromhex(rest[0])
+
+
+def read_text(text):
+    """The scene that a text spells, where its quantities are within their ranges."""
+    if len(text) > LONGEST:
+        raise Refused(4, f"limit scene bytes {LONGEST + 1}")
+    scene, rank = Scene(0, 0, [], [], [], []), 0
+    lines = text.split(b"\n")
+    lines = [line.removesuffix(b"\r") for line in lines[:-1]] + ([lines[-1]] if lines[-1] else [])
+    for number, line in enumerate(lines, 1):
+        try:
+            rank = read_line(scene, rank, line)
+        except ValueError as fault:
+            raise malformed(fault, number) from None
+    if rank == 0:
+        raise malformed("NoScene", 1)
+    judge(scene)
+    return scene
+
+
+def scene_text(scene):
+    """The text of a scene, as `unpack` writes it."""
+    lines = [f"scene 1 {scene.width} {scene.height}"] + [f"shared {w} {h}" for w, h in scene.shared]
+    lines += [f"barrier {count}" for count in scene.barriers] + [f"semaphore {units}" for units in scene.semaphores]
+    for commands in scene.streams:
+        lines.append("client")
+        for opcode, numbers, texels in commands:
+            lines.append(" ".join([COMMANDS[opcode][0], *map(str, numbers), *([texels.hex()] if texels else [])]))
+    return "".join(line + "\n" for line in lines).encode()
