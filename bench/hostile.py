@@ -11,9 +11,10 @@ Input N of a seed is the same at each run.
 Each run of the program has at most 10 seconds and 2 GB of address space, and has to end by itself with a status that its job has.
 - What the bytes of a scene spell, and with which line other bytes are refused, is read off by scene_forms.py, and `render`, `simulate`, `serial`, `check` and
   `unpack` have to agree with it: the status, the one line, and an empty image. So has `pack` of a text: the line, or the bytes.
-- Of a sound scene `unpack` has to write its text, and `pack` of that the scene's bytes in packets of 1,024 commands; each report is a report, each image has
-  the size of the frames that its report tells, and `check` tells what `serial` does. Where `render`, `simulate` and `serial` all end with 0, their reports
-  agree. Where no client takes a unit and each barrier that is named counts all clients, all three ends and the last lines are computed.
+- Of a sound scene `unpack` has to write its text, and `pack` of that the scene's bytes in packets of 1,024 commands; each report is a report and tells the
+  refused commands that scene_faults.py finds, each image has the size of the frames that its report tells, and `check` tells what `serial` does. Where
+  `render`, `simulate` and `serial` all end with 0, their reports agree. Where no client takes a unit and each barrier that is named counts all clients, the
+  ends of all three and the last lines of their reports are computed.
 - Where the scene is ordered, `render`, `simulate` and `serial` give one image.
 
 Ordered is judged by conditions that are sufficient, and not necessary: the scene has one client; or no client takes a unit, each barrier that is named
@@ -39,11 +40,13 @@ import sys
 import tempfile
 import time
 
+import scene_faults
 import scene_forms
-from scene_forms import BARRIER, BEGIN, CLEAR, COMMANDS, END, PICTURES, SEM_P, SEM_V, SHARED_IMAGE, SWAP, Refused
+from scene_forms import COMMANDS, PICTURES, Refused
 
 HERE = pathlib.Path(__file__).resolve().parent
 SECONDS, MEMORY = 10, 2 << 30
+MEETINGS = ("Barrier", "Swap")
 LARGEST_EXAMPLE = 4000
 
 # A `;` stands for the end of a line.
@@ -54,8 +57,8 @@ FAN = "Begin 2;Vertex 0 0 0 65536;Vertex 60000 0 100 65536;Color 255 0 0 255;Ver
 MATRIX = "65536 0 0 0 0 32768 0 0 0 0 65536 0 1000 -2000 0 65536"
 TINY = (
     # every command that sets state, and every command that draws
-    f"scene 1 9 7;client;Enable 0;Scissor 1 1 6 5;Viewport -1 0 9 8;DepthRange 100 60000;ClearColor 20 40 60 80;ClearDepth 50000;Clear 3;Enable 2;DepthFunc 3;"
-    f"{STRIP};DepthMask 0;Enable 4;CullFace 1;FrontFace 1;{FAN};Disable 4;Enable 3;BlendFunc 6 7;ColorMask 1 1 0 1;Enable 1;AlphaFunc 4 20;{STRIP};"
+    "scene 1 9 7;client;Enable 0;Scissor 1 1 6 5;Viewport -1 0 9 8;DepthRange 100 60000;ClearColor 20 40 60 80;ClearDepth 50000;Clear 3;Enable 2;"
+    f"DepthFunc 3;{STRIP};DepthMask 0;Enable 4;CullFace 1;FrontFace 1;{FAN};Disable 4;Enable 3;BlendFunc 6 7;ColorMask 1 1 0 1;Enable 1;AlphaFunc 4 20;{STRIP};"
     f"MatrixMode 1;LoadMatrix {MATRIX};PushMatrix;MultMatrix {MATRIX};{FAN};PopMatrix;MatrixMode 0;LoadIdentity;Color 1 2 3 4;{FULL};Swap;Disable 0;{FULL};Swap",
     # private textures
     f"scene 1 8 8;client;TexImage 1 2 2 ff0000ff00ff00ff0000ffffffffff80;TexPart 1 1 0 1 1 10203040;Enable 5;TexEnv 1;TexWrap 0 1;{STRIP};"
@@ -94,8 +97,9 @@ WORDS = (-2147483648, -2147483647, -1048577, -65537, -65536, -65535, -32769, -32
          16777215, 2147483647)
 TEXT_NUMBERS = (b"-0", b"-1", b"00", b"01", b"255", b"256", b"65535", b"65536", b"2147483647", b"2147483648", b"-2147483648", b"-2147483649",
                 b"9999999999", b"10000000000", b"00000000001", b"+1", b"1.", b"0x1", b"-", b"--1", b"1e3", b"18446744073709551616")
-TEXT_PIECES = (b"", b" ", b"   ", b"#", b"# x", b" #", b"\r", b"\t", b"\x00", b"\x7f", b"\xc3\xa9", b"scene 1 2 2", b"shared 1 1", b"barrier 1", b"semaphore 9",
-               b"client", b"Client", b"End", b"Swap", b"SWAP", b"Clear 1", b"Begin", b"SharedImage 1 0 0 1 1 0102030g", b"TexImage 1 1 1 01020304 0", b"Vertex 1 2 3")
+TEXT_PIECES = (b"", b" ", b"   ", b"#", b"# x", b" #", b"\r", b"\t", b"\x00", b"\x7f", b"\xc3\xa9", b"scene 1 2 2", b"shared 1 1", b"barrier 1",
+               b"semaphore 9", b"client", b"Client", b"End", b"Swap", b"SWAP", b"Clear 1", b"Begin", b"SharedImage 1 0 0 1 1 0102030g",
+               b"TexImage 1 1 1 01020304 0", b"Vertex 1 2 3")
 
 # ---- inputs
 
@@ -271,22 +275,17 @@ def make_input(seed, number, scenes, texts):
 
 
 def walk(scene, commands):
-    """The operations of a stream that are accepted, as place, opcode and numbers, and between which meetings something may be drawn."""
-    names = {BARRIER: len(scene.barriers), SEM_P: len(scene.semaphores), SEM_V: len(scene.semaphores)}
-    is_open, meetings, operations, rounds = False, 0, [], set()
-    for place, (opcode, numbers, _) in enumerate(commands):
-        if is_open:
-            if opcode == END:
-                is_open = False
-                rounds.add(meetings)
-        elif opcode == BEGIN:
-            is_open = numbers[0] <= 2
-        elif opcode in (CLEAR, SHARED_IMAGE):
+    """Of a stream: the faults, by place and name; the operations, as place, name and numbers; and between which meetings something may be drawn."""
+    meetings, faults, operations, rounds = 0, [], [], set()
+    for place, name, numbers, fault in scene_faults.issue(scene, commands):
+        if fault:
+            faults.append((place, fault))
+        elif name in ("End", "Clear", "SharedImage"):
             rounds.add(meetings)
-        elif opcode == SWAP or opcode in names and 1 <= numbers[0] <= names[opcode]:
-            operations.append((place, opcode, numbers))
-            meetings += opcode in (BARRIER, SWAP)
-    return operations, rounds
+        elif name in ("Barrier", "SemP", "SemV", "Swap"):
+            operations.append((place, name, numbers))
+            meetings += name in MEETINGS
+    return faults, operations, rounds
 
 
 class Due:
@@ -294,29 +293,29 @@ class Due:
 
     def __init__(self, scene):
         walks = [walk(scene, commands) for commands in scene.streams]
-        operations = list(itertools.chain.from_iterable(ops for ops, _ in walks))
-        clients = len(walks)
+        self.faults = "".join(f"client {client} fault {name} at {place}\n" for client, (faults, _, _) in enumerate(walks) for place, name in faults)
+        clients, operations = len(walks), [operation for _, own, _ in walks for operation in own]
         # No client takes a unit, and each barrier that is named counts all clients.
-        self.is_full = all(opcode != SEM_P and (opcode != BARRIER or scene.barriers[numbers[0] - 1] == clients) for _, opcode, numbers in operations)
-        meetings = [[op for op in ops if op[1] in (BARRIER, SWAP)] for ops, _ in walks]
-        met = sum(1 for _ in itertools.takewhile(lambda ops: len({op[1:] for op in ops}) == 1, zip(*meetings)))
-        self.frames = sum(1 for _, opcode, _ in meetings[0][:met] if opcode == SWAP)
-        self.lines = self.last_lines(walks, meetings, met)
-        rounds = [{r for r in drawn if r <= met} for _, drawn in walks]
+        self.is_full = all(name != "SemP" and (name != "Barrier" or scene.barriers[n[0] - 1] == clients) for _, name, n in operations)
+        meetings = [[operation for operation in own if operation[1] in MEETINGS] for _, own, _ in walks]
+        met = sum(1 for _ in itertools.takewhile(lambda row: len({operation[1:] for operation in row}) == 1, zip(*meetings)))
+        self.lines = last_lines(walks, meetings, met)
+        rounds = [{r for r in drawn if r <= met} for _, _, drawn in walks]
         self.is_ordered = clients == 1 or self.is_full and sum(map(len, rounds)) == len(set().union(*rounds))
-        self.draws_alone = sum(1 for _, drawn in walks if drawn) <= 1
+        self.draws_alone = sum(1 for _, _, drawn in walks if drawn) <= 1
 
-    def last_lines(self, walks, meetings, met):
-        """The lines behind those of tiles, where the scene is full."""
-        gives = 0
-        for (operations, _), own in zip(walks, meetings):
-            end = own[met][0] if met < len(own) else float("inf")
-            gives += sum(1 for place, opcode, _ in operations if opcode == SEM_V and place < end)
-        lines = [f"journal {met + gives}", f"frames {self.frames}"]
-        waiting = [(client, own[met]) for client, own in enumerate(meetings) if met < len(own)]
-        for client, (place, opcode, numbers) in waiting:
-            lines.append(f"stuck client {client} at {place} " + " ".join([COMMANDS[opcode][0], *map(str, numbers)]))
-        return lines + (["rc: stuck"] if waiting else [])
+
+def last_lines(walks, meetings, met):
+    """The lines behind those of tiles of a full scene, of whose meetings so many come about."""
+    gives = 0
+    for (_, operations, _), own in zip(walks, meetings):
+        end = own[met][0] if met < len(own) else float("inf")
+        gives += sum(1 for place, name, _ in operations if name == "SemV" and place < end)
+    lines = [f"journal {met + gives}", f"frames {sum(1 for _, name, _ in meetings[0][:met] if name == 'Swap')}"]
+    waiting = [(client, own[met]) for client, own in enumerate(meetings) if met < len(own)]
+    for client, (place, name, numbers) in waiting:
+        lines.append(f"stuck client {client} at {place} " + " ".join([name, *map(str, numbers)]))
+    return lines + (["rc: stuck"] if waiting else [])
 
 
 # ---- judging
@@ -372,12 +371,14 @@ def expect(due, words, data):
         demand(value == wanted, f"{name} {shown!r} for {meant!r} (status {end[0]}, notes {end[2][:200]!r})", words, data)
 
 
-def judge_run(words, data, scene, tiles, statuses):
+def judge_run(words, data, scene, tiles, due):
     """A job that draws a sound scene: its status, its image, and its report by parts."""
+    statuses = (5 if due.lines[-1] == "rc: stuck" else 0,) if due.is_full else (0, 5)
     status, image, notes = run(words, data)
     told = REPORT.fullmatch(notes.decode("latin-1"))
     demand(status in statuses and told, f"status {status}, notes {notes[:300]!r}", words, data)
     demand((status == 5) == bool(told["stuck"]), f"status {status} with these notes: {notes[:300]!r}", words, data)
+    demand(told["faults"] == due.faults, f"it tells the faults {told['faults'][:300]!r} for {due.faults[:300]!r}", words, data)
     demand(told["tiles"].count("\n") == tiles, f"the report doesn't tell of {tiles} tiles", words, data)
     head = f"P6\n{scene.width} {scene.height}\n255\n".encode()
     size = len(head) + 3 * scene.width * scene.height
@@ -401,14 +402,13 @@ def judge_sound(rng, data, scene):
     """A sound scene: the status of `render`, and whether the images were compared."""
     due = Due(scene)
     render, simulate, tiles = choose_words(rng, scene)
-    statuses = (5 if due.lines[-1] == "rc: stuck" else 0,) if due.is_full else (0, 5)
-    ends = [judge_run(words, data, scene, count, statuses) for words, count in ((render, tiles), (simulate, tiles), (["serial"], 0))]
+    ends = [judge_run(words, data, scene, count, due) for words, count in ((render, tiles), (simulate, tiles), (["serial"], 0))]
     (status, image, told), (_, stepped, steps), (ended, drawn, serial) = ends
     expect((ended, b"", serial[0].encode()), ["check"], data)
     all_done = all(end[0] == 0 for end in ends)
     if all_done or due.is_full:
         for words, (_, _, other) in ((render, ends[0]), (simulate, ends[1])):
-            same = all(other[part] == serial[part] for part in ("faults", "last", "stuck"))
+            same = all(other[part] == serial[part] for part in ("last", "stuck"))
             demand(same, f"its report isn't that of `serial`: {other[0][:300]!r} and {serial[0][:300]!r}", words, data)
         demand(told["tiles"] == steps["tiles"], "`render` and `simulate` tell the tiles otherwise", render, data)
     if due.is_full:

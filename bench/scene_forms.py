@@ -21,10 +21,8 @@ COMMANDS = {
 }
 OPCODES = {name: opcode for opcode, (name, _) in COMMANDS.items()}
 LAYOUTS = {opcode: struct.Struct("<" + layout) for opcode, (_, layout) in COMMANDS.items()}
-BEGIN, END, CLEAR, SHARED_IMAGE, BARRIER, SEM_P, SEM_V, SWAP = (
-    OPCODES[name] for name in ("Begin", "End", "Clear", "SharedImage", "Barrier", "SemP", "SemV", "Swap")
-)
-PICTURES = (OPCODES["TexImage"], OPCODES["TexPart"], SHARED_IMAGE)
+SWAP = OPCODES["Swap"]
+PICTURES = tuple(OPCODES[name] for name in ("TexImage", "TexPart", "SharedImage"))
 
 
 class Refused(Exception):
