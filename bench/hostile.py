@@ -59,7 +59,8 @@ TINY = (
     # every command that sets state, and every command that draws
     "scene 1 9 7;client;Enable 0;Scissor 1 1 6 5;Viewport -1 0 9 8;DepthRange 100 60000;ClearColor 20 40 60 80;ClearDepth 50000;Clear 3;Enable 2;"
     f"DepthFunc 3;{STRIP};DepthMask 0;Enable 4;CullFace 1;FrontFace 1;{FAN};Disable 4;Enable 3;BlendFunc 6 7;ColorMask 1 1 0 1;Enable 1;AlphaFunc 4 20;{STRIP};"
-    f"MatrixMode 1;LoadMatrix {MATRIX};PushMatrix;MultMatrix {MATRIX};{FAN};PopMatrix;MatrixMode 0;LoadIdentity;Color 1 2 3 4;{FULL};Swap;Disable 0;{FULL};Swap",
+    f"MatrixMode 1;LoadMatrix {MATRIX};PushMatrix;MultMatrix {MATRIX};{FAN};PopMatrix;MatrixMode 0;LoadIdentity;Color 1 2 3 4;{FULL};Swap;Disable 0;{FULL};"
+    "Swap",
     # private textures
     f"scene 1 8 8;client;TexImage 1 2 2 ff0000ff00ff00ff0000ffffffffff80;TexPart 1 1 0 1 1 10203040;Enable 5;TexEnv 1;TexWrap 0 1;{STRIP};"
     f"TexImage 64 1 3 0102030405060708090a0b0c;BindTexture 0 64;TexEnv 0;TexWrap 1 0;Enable 3;BlendFunc 8 5;{STRIP};Swap;TexPart 64 0 0 0 0;{FULL};Swap",

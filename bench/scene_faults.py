@@ -45,7 +45,7 @@ class Context:
 
     def fault(self, name, n):
         """The first rule that a command breaks, or None."""
-        if (self.vertices is None) == (name in ("Vertex", "End")) or self.vertices is not None and name not in IN_BLOCKS:
+        if name in ("Vertex", "End") if self.vertices is None else name not in IN_BLOCKS:
             return "INVALID_OPERATION"
         if any(code >= count for code, count in zip(n, CODES.get(name, ()))):
             return "INVALID_ENUM"
