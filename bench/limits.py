@@ -109,7 +109,7 @@ def scene_of_size(size):
 
 # What is limited, the scene at its edge in words, the function that makes it, the number at the edge, and the words of `render`.
 EDGES = (
-    ("width and height 2048", "2048 by 2048, a triangle over the whole window", width, 2048, "--tiles 4x4"),
+    ("width 2048", "2048 by 2048, a triangle over the whole window", width, 2048, "--tiles 4x4"),
     ("height 2048", "the same", height, 2048, "--tiles 4x4"),
     ("8 clients", "four frames, a barrier and a clear of each client in each", clients, 8, "--tiles 4x4"),
     ("16 shared textures", "of 256 by 256 texels, each written once", shared_textures, 16, "--tiles 4x4"),
