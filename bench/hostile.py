@@ -8,7 +8,8 @@ bits are flipped, bytes set, put in and taken out, spans doubled and moved, coun
 commands of a scene, commands are dropped, doubled, moved, taken from another scene, and their numbers set to edge values; in texts also words and lines.
 Input N of a seed is the same at each run.
 
-Each run of the program has at most 10 seconds and 2 GB of address space, and has to end by itself with a status that its job has.
+Each run of the program has at most 10 seconds and 2 GB of address space, which is ample (but C's malloc reserves 64 MB for each of many threads, so it is
+told to do so for two). It has to end by itself with a status that its job has.
 - What the bytes of a scene spell, and with which line other bytes are refused, is read off by scene_forms.py, and `render`, `simulate`, `serial`, `check` and
   `unpack` have to agree with it: the status, the one line, and an empty image. So has `pack` of a text: the line, or the bytes.
 - Of a sound scene `unpack` has to write its text, and `pack` of that the scene's bytes in packets of 1,024 commands; each report is a report and tells the
@@ -454,6 +455,7 @@ def begin(program, folder, scenes, texts):
     """What a worker needs: what inputs are made of, a folder of its own, and limits, which its runs take over."""
     global PROGRAM, WORK, SCENES, TEXTS
     PROGRAM, WORK, SCENES, TEXTS = program, pathlib.Path(tempfile.mkdtemp(dir=folder)), scenes, texts
+    os.environ["MALLOC_ARENA_MAX"] = "2"
     resource.setrlimit(resource.RLIMIT_AS, (MEMORY, MEMORY))
     resource.setrlimit(resource.RLIMIT_CORE, (0, 0))
     signal.signal(signal.SIGALRM, out_of_time)

@@ -9,6 +9,7 @@ The tables of the page are told by their first rows:
 - `text | line | why`: a text that `pack` has to refuse so.
 - `commands | line | rule`: the commands of a client, of which `pack`, and then `check`, `serial`, `simulate` and `render`, have to tell this fault and no
   other.
+- `text | line | waits for`: a text whose scene leaves a client waiting, of which the same four have to tell this line and end with 5.
 - `command | status | last line`: a line of a shell, run by `bash` in a copy of examples/, with the status and the last line of its notes.
 
 In bytes, texts and commands `(..)*N` is N times what is in the brackets; in texts and commands `;` ends a line, and `\\x09` is the byte 09. Every kind of
@@ -29,10 +30,10 @@ HERE = pathlib.Path(__file__).resolve().parent
 PAGE = HERE.parent / "docs/scene-format.md"
 EXAMPLES = HERE.parent / "examples"
 READING = (["render"], ["simulate", "--seed", "1"], ["serial"], ["check"], ["unpack"])
-DRAWING = (["render", "--tiles", "1x1"], ["simulate", "--seed", "1"], ["serial"], ["check"])
+DRAWING = (["render"], ["simulate", "--seed", "1"], ["serial"], ["check"])
 HEAD = b"scene 1 1 1\nshared 1 1\nbarrier 1\nsemaphore 0\nclient\n"
 KINDS = """BadMagic BadCount UnknownOpcode Truncated Trailing NotText UnknownWord OutOfPlace WrongCount BadNumber BadHex NoScene INVALID_ENUM INVALID_VALUE
-    INVALID_OPERATION STACK_OVERFLOW STACK_UNDERFLOW usage read stuck image""".split()
+    INVALID_OPERATION STACK_OVERFLOW STACK_UNDERFLOW usage read stuck image out""".split()
 LIMITS = ("scene bytes", "width", "height", "clients", "shared textures", "shared side", "shared texels", "barriers", "barrier count", "semaphores", "commands",
           "pixels", "tile columns", "tile rows", "tiles", "depth", "size")
 
@@ -89,15 +90,16 @@ def try_text(program, cell, line):
     refused(program, ["pack"], text_of(cell), line, cell)
 
 
-def try_commands(program, cell, line):
-    status, scene, notes = run(program, ["pack"], HEAD + text_of(cell))
+def try_scene(program, text, due, told_of):
+    """The jobs that issue commands have to end with this status and lines, of those that are asked for."""
+    status, scene, notes = run(program, ["pack"], text)
     if (status, notes) != (0, ""):
-        fail(f"pack of {cell!r}", (status, notes), (0, ""))
+        fail(f"pack of {text!r}", (status, notes), (0, ""))
     for words in DRAWING:
         status, _, notes = run(program, words, scene)
-        told = [told for told in notes.splitlines() if " fault " in told]
-        if (status, told) != (0, [line]):
-            fail(f"{words[0]} of {cell!r}", (status, told), (0, [line]))
+        got = status, [line for line in notes.splitlines() if told_of in line]
+        if got != due:
+            fail(f"{words[0]} of {text!r}", got, due)
 
 
 def try_shell(program, folder, cell, status, line):
@@ -119,7 +121,9 @@ def try_table(program, folder, head, rows):
             try_bytes(program, row[0], row[2])
             try_text(program, row[1], row[2])
         elif head == ("commands", "line", "rule"):
-            try_commands(program, *row[:2])
+            try_scene(program, HEAD + text_of(row[0]), (0, [row[1]]), " fault ")
+        elif head == ("text", "line", "waits for"):
+            try_scene(program, text_of(row[0]), (5, [row[1], "rc: stuck"]), "stuck")
         elif head == ("command", "status", "last line"):
             try_shell(program, folder, *row)
         else:
@@ -131,7 +135,7 @@ def missing(found):
     """The kinds of faults, the limits and the statuses of which the tables have no example."""
     cells = " \n".join(cell for _, rows in found for row in rows for cell in row) + " \n"
     kinds = [kind for kind in KINDS if not re.search(rf"(^|\s)(rc: (malformed )?{kind}|client 0 fault {kind})\s", cells)]
-    statuses = [status for status in "123456 8".replace(" ", "") if not any(status in row for head, rows in found if head[0] == "command" for row in rows)]
+    statuses = [status for status in "12345678" if not any(row[1] == status for head, rows in found if head[0] == "command" for row in rows)]
     return kinds + [limit for limit in LIMITS if not re.search(rf"rc: limit {limit} \d", cells)] + statuses
 
 

@@ -11,10 +11,11 @@ Each run has to end by itself, within ten seconds, with every thread joined that
 Where the threads' schedule decides what is drawn a right run may have another image than the one with memory, so give a scene that is ordered.
 
 The last line tells how many allocations were refused, how many of these runs ended with 7 and how many with 0 (with another status where the run with memory
-has that), and how many hung. A line before it tells how many threads the run with memory starts, and in how few and how many runs. A run that isn't as
-it has to be has a line with the number of its allocation, and the status is 1. The program is built by
+has that), and how many hung. The line before it tells of threads. Which allocation is the Nth depends on the threads' schedule, so these numbers may change a
+little from run to run. A run that isn't as it has to be has a line with the number of its allocation, and the status is 1. The program is built by
 `cd crates/render_cli && rt run -- render < ../../examples/red.rcs > /dev/null`.
 """
+import collections
 import os
 import pathlib
 import struct
@@ -56,7 +57,7 @@ def fault_of(end, whole, started, joined):
 def refuse_each(runs):
     """Refuses each allocation in turn, prints what came, and tells whether all is right."""
     whole, (allocations, started, _) = runs.run(0)
-    ends, hung, threads, wrong = {7: 0, whole[0]: 0}, 0, [], 0
+    ends, hung, lacked, wrong = collections.Counter(), 0, 0, 0
     for number in range(1, allocations + 1):
         try:
             end, (_, begun, joined) = runs.run(number)
@@ -68,11 +69,10 @@ def refuse_each(runs):
         if fault:
             print(f"refuse.py: with allocation {number} refused: {fault}")
             wrong += 1
-            continue
-        threads.append(begun)
         ends[end[0]] += 1
-    fewer = sum(1 for count in threads if count < started)
-    print(f"{started} threads with memory, each joined; {fewer} runs with fewer threads, all of theirs joined")
+        lacked += end[0] == whole[0] and begun < started
+    if started:
+        print(f"{started} threads with memory; {lacked} of the runs that ended with {whole[0]} had fewer")
     print(f"{allocations} allocations refused, {ends[7]} ended with 7, {ends[whole[0]]} with {whole[0]}, {hung} hung")
     return not hung and not wrong
 
