@@ -5,7 +5,7 @@ use Rattle.std.specs.declared.option.Option.{Option}
 use Rattle.std.specs.List.{list_any, range_with_len}
 use Rattle.std.proofs.lemmas.Int.{ints}
 use Rattle.std.proofs.Math.Nat.{zero-mul, mod-lt, div-lt_iff_lt-mul, mul-div_cancel_left}
-use Rattle.rc_base.specs.Cluster.Tiles.{tile_count, boundary_of, is_amid, kept_corners, interval_of, tile_column, tile_row, some_pixel, is_in_rect, is_in_box, rect_meets, meets_tile}
+use Rattle.rc_base.specs.Cluster.Tiles.{tile_count, boundary_of, is_amid, interval_of, tile_column, tile_row, some_pixel, is_in_rect, rect_meets, kept_corners, is_in_box, meets_tile}
 use Rattle.rc_base.specs.Drawing.Cover.{centre, is_in_area, is_in_scissor}
 use Rattle.rc_base.specs.Drawing.Touch.{touches}
 use Rattle.rc_base.specs.declared.state.Block.{Block}

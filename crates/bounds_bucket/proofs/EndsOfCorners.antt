@@ -1,19 +1,20 @@
 -- The least and greatest coordinates of corners.
-use Rattle.std.proofs.Common.{◌≡◌, ℕ, suc, ℤ, subst, Bool, true, false, List, [], ◌∷◌, ◌++◌, Some, None, refl, sym, ap, ◌∙◌, arith}
+use Rattle.std.proofs.Common.{◌≡◌, ℕ, suc, ℤ, subst, Bool, true, false, List, [], ◌∷◌, ◌++◌, Some, None, refl, sym, ap, ◌∙◌, arith, length}
 use Rattle.std.specs.Prelude.{◌||◌, int_le}
 use Rattle.std.specs.declared.option.Option.{Option}
 use Rattle.std.specs.Int.{int_min, int_max}
-use Rattle.std.specs.List.{list_any, All}
+use Rattle.std.specs.List.{list_any, All, flat_map}
 use Rattle.std.proofs.lemmas.List.Folds.{list_any-append}
+use Rattle.std.proofs.lemmas.Grind.{flat_map-append}
 use Rattle.rc_base.specs.Drawing.Cover.{corner}
-use Rattle.rc_base.specs.Drawing.Kept.{kept_of, kept_triangle}
+use Rattle.rc_base.specs.declared.state.Block.{Block}
 use Rattle.rc_base.specs.declared.state.State.{State}
-use Rattle.rc_base.specs.declared.state.Vertex.{Vertex}
 use Rattle.rc_base.specs.declared.window.WindowVertex.{WindowVertex}
-use Rattle.bounds_bucket.specs.Extents.{some_low, some_high, low_at, high_at, AreEnds, AreEndsOfBoth, IsGrown, SpansAllBut, corners_of, corners_from}
+use Rattle.bounds_bucket.specs.Extents.{low_at, high_at, AreEnds, AreEndsOfBoth, IsGrown, SpansAllBut, AreCorners, corners_from}
 use Rattle.bounds_bucket.specs.declared.extent.Ends.{Ends}
 use Rattle.bounds_bucket.specs.declared.extent.Extent.{Extent}
-use Rattle.geometry.proofs.Oriented.{kept}
+use Rattle.rc_base.specs.Drawing.Pieces.{kept_corners_of}
+use Rattle.rc_base.specs.Cluster.Tiles.{corners_in}
 use Rattle.bounds_bucket.proofs.WholeNumbers.{min_le, le_max, or_thrice, or_same}
 
 low_of : (e a b c : ℤ) → e ≡ int_min (int_min a b) c → (p : ℤ) → int_le e p ≡ (int_le a p || (int_le b p || (int_le c p || false)))
@@ -54,13 +55,6 @@ grown_by_none o = record {
   top = λ p. or_right_is (high_at o (λ (e : Extent). e.up) p) false refl;
 }
 
--- the extent has the ends of these corners
-pub record AreCorners (e : Extent) (v : List WindowVertex) : Type 0 where
-  pub left : (p : ℤ) → int_le e.across.least p ≡ some_low v (λ (a : WindowVertex). a.x) p
-  pub right : (p : ℤ) → int_le p e.across.greatest ≡ some_high v (λ (a : WindowVertex). a.x) p
-  pub bottom : (p : ℤ) → int_le e.up.least p ≡ some_low v (λ (a : WindowVertex). a.y) p
-  pub top : (p : ℤ) → int_le p e.up.greatest ≡ some_high v (λ (a : WindowVertex). a.y) p
-
 pub grown_first : (e : Extent) (v : List WindowVertex) → AreCorners e v → IsGrown v None (Some e)
 grown_first e v h = record { left = h.left; right = h.right; bottom = h.bottom; top = h.top }
 
@@ -91,29 +85,58 @@ spans_more corners others all before after h g = record {
 pub spans_none : (all : List WindowVertex) → SpansAllBut all all None
 spans_none all = record { left = λ p. refl; right = λ p. refl; bottom = λ p. refl; top = λ p. refl }
 
--- ---- the corners of a kept triangle
+-- ---- the corners of a triangle
 
-pub corners_span : (s : State) (a b c : Vertex) (v : List WindowVertex) (e : Extent) → kept_of s a b c ≡ Some v
+three_corners : (v : List WindowVertex) → length v ≡ 3 → v ≡ corner v 0 ∷ corner v 1 ∷ corner v 2 ∷ []
+three_corners [] e = absurd (omega (arith, e))
+three_corners (a ∷ []) e = absurd (omega (arith, e))
+three_corners (a ∷ b ∷ []) e = absurd (omega (arith, e))
+three_corners (a ∷ b ∷ c ∷ []) e = refl
+three_corners (a ∷ b ∷ c ∷ d ∷ v) e = absurd (omega (arith, e))
+
+pub corners_span : (v : List WindowVertex) (e : Extent) → length v ≡ 3
     → AreEnds e.across (corner v 0).x (corner v 1).x (corner v 2).x → AreEnds e.up (corner v 0).y (corner v 1).y (corner v 2).y → AreCorners e v
-corners_span s a b c v e h =
-    kept (λ (w : List WindowVertex). AreEnds e.across (corner w 0).x (corner w 1).x (corner w 2).x → AreEnds e.up (corner w 0).y (corner w 1).y (corner w 2).y → AreCorners e w)
-    s a b c v h (λ area x y. record { left = x.low; right = x.high; bottom = y.low; top = y.high }) (λ area x y. record { left = x.low; right = x.high; bottom = y.low; top = y.high })
+corners_span v e n x y =
+    subst (λ (w : List WindowVertex). AreCorners e w) (sym (three_corners v n)) (record { left = x.low; right = x.high; bottom = y.low; top = y.high })
 
--- one more triangle of a block
-pub one_more : (s : State) (vs : List Vertex) (t : List ℕ) (rest more : List (List ℕ)) (all : List WindowVertex) (before after : Option Extent)
-    → rest ≡ t ∷ more → SpansAllBut (corners_from s vs rest) all before → IsGrown (corners_of (kept_triangle s vs t)) before after
-    → SpansAllBut (corners_from s vs more) all after
-one_more s vs t rest more all before after e h g =
-    spans_more (corners_of (kept_triangle s vs t)) (corners_from s vs more) all before after
-    (subst (λ (ts : List (List ℕ)). SpansAllBut (corners_from s vs ts) all before) e h) g
+-- ---- the kept triangles of a block
 
-pub no_more : (s : State) (vs : List Vertex) (rest : List (List ℕ)) (all : List WindowVertex) (o : Option Extent)
-    → rest ≡ [] → SpansAllBut (corners_from s vs rest) all o → SpansAllBut [] all o
-no_more s vs rest all o e h = subst (λ (ts : List (List ℕ)). SpansAllBut (corners_from s vs ts) all o) e h
+in_both : (us vs : List (List WindowVertex)) → corners_in (us ++ vs) ≡ corners_in us ++ corners_in vs
+in_both us vs = flat_map-append (λ (v : List WindowVertex). v) us vs
+
+pub grown_none : (o : Option Extent) → IsGrown (corners_in []) o o
+grown_none o = grown_by_none o
+
+pub grown_one : (v : List WindowVertex) (before after : Option Extent) → IsGrown v before after → IsGrown (corners_in (v ∷ [])) before after
+grown_one v before after g = subst (λ (w : List WindowVertex). IsGrown w before after) (sym (append_nil v)) g
+  where
+    append_nil : (xs : List WindowVertex) → xs ++ [] ≡ xs
+    append_nil [] = refl
+    append_nil (x ∷ xs) = ap (λ ys. x ∷ ys) (append_nil xs)
+
+grows_twice : (one two before mid after : Bool) → mid ≡ (before || one) → after ≡ (mid || two) → after ≡ (before || (one || two))
+grows_twice one two before mid after h k = k ∙ ap (λ (t : Bool). t || two) h ∙ or_assoc before one two
+
+pub grown_both : (us vs : List (List WindowVertex)) (before mid after : Option Extent)
+    → IsGrown (corners_in us) before mid → IsGrown (corners_in vs) mid after → IsGrown (corners_in (us ++ vs)) before after
+grown_both us vs before mid after g h = subst (λ (w : List WindowVertex). IsGrown w before after) (sym (in_both us vs)) (record {
+  left = λ p. grows_twice _ _ _ _ _ (g.left p) (h.left p) ∙ ap (λ (t : Bool). low_at before (λ (e : Extent). e.across) p || t) (sym (list_any-append (λ (v : WindowVertex). int_le v.x p) (corners_in us) (corners_in vs)));
+  right = λ p. grows_twice _ _ _ _ _ (g.right p) (h.right p) ∙ ap (λ (t : Bool). high_at before (λ (e : Extent). e.across) p || t) (sym (list_any-append (λ (v : WindowVertex). int_le p v.x) (corners_in us) (corners_in vs)));
+  bottom = λ p. grows_twice _ _ _ _ _ (g.bottom p) (h.bottom p) ∙ ap (λ (t : Bool). low_at before (λ (e : Extent). e.up) p || t) (sym (list_any-append (λ (v : WindowVertex). int_le v.y p) (corners_in us) (corners_in vs)));
+  top = λ p. grows_twice _ _ _ _ _ (g.top p) (h.top p) ∙ ap (λ (t : Bool). high_at before (λ (e : Extent). e.up) p || t) (sym (list_any-append (λ (v : WindowVertex). int_le p v.y) (corners_in us) (corners_in vs)));
+})
+
+-- one more triple of a block's vertices
+pub one_more : (s : State) (block : Block) (t : List ℕ) (rest more : List (List ℕ)) (all : List WindowVertex) (before after : Option Extent)
+    → rest ≡ t ∷ more → SpansAllBut (corners_from s block rest) all before → IsGrown (corners_in (kept_corners_of s block t)) before after
+    → SpansAllBut (corners_from s block more) all after
+one_more s block t rest more all before after e h g =
+    spans_more (corners_in (kept_corners_of s block t)) (corners_from s block more) all before after
+    (subst (λ (w : List WindowVertex). SpansAllBut w all before) (ap (corners_from s block) e ∙ in_both (kept_corners_of s block t) (flat_map (kept_corners_of s block) more)) h) g
+
+pub no_more : (s : State) (block : Block) (rest : List (List ℕ)) (all : List WindowVertex) (o : Option Extent)
+    → rest ≡ [] → SpansAllBut (corners_from s block rest) all o → SpansAllBut [] all o
+no_more s block rest all o e h = subst (λ (ts : List (List ℕ)). SpansAllBut (corners_from s block ts) all o) e h
 
 pub all_rest : (P : List ℕ → Type 0) (t : List ℕ) (rest more : List (List ℕ)) → rest ≡ t ∷ more → All P rest → All P more
 all_rest P t rest more e all k d lt = (rw e at all) (suc k) d (omega arith)
-
-pub by_kept : (s : State) (vs : List Vertex) (t : List ℕ) (v : List WindowVertex) (before after : Option Extent)
-    → kept_triangle s vs t ≡ Some v → IsGrown v before after → IsGrown (corners_of (kept_triangle s vs t)) before after
-by_kept s vs t v before after e h = subst (λ (o : Option (List WindowVertex)). IsGrown (corners_of o) before after) (sym e) h

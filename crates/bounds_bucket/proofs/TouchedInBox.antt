@@ -1,26 +1,22 @@
 -- The covered pixels of kept triangles lie between their corners.
-use Rattle.std.proofs.Common.{◌≡◌, ℕ, ℤ, pos, ◌<ℤ◌, ◌≤ℤ◌, Bool, true, false, ◌&&◌, List, [], ◌∷◌, ◌++◌, Some, None, refl, ◌∙◌, arith, inl, inr}
-use Rattle.std.specs.Prelude.{◌||◌, int_le, length, slice_index}
-use Rattle.std.specs.declared.option.Option.{Option}
-use Rattle.std.specs.Option.{option_map_or}
+use Rattle.std.proofs.Common.{◌≡◌, ℤ, pos, ◌<ℤ◌, ◌≤ℤ◌, Bool, true, false, ◌&&◌, List, [], ◌∷◌, ◌++◌, refl, ◌∙◌, arith, inl, inr}
+use Rattle.std.specs.Prelude.{◌||◌, int_le}
 use Rattle.std.specs.Int.{int_min, int_max}
-use Rattle.std.specs.List.{list_any, flat_map}
+use Rattle.std.specs.List.{list_any, AllByRecursion}
 use Rattle.std.proofs.lemmas.Int.{ints, int_min_is, int_max_is}
 use Rattle.std.proofs.lemmas.Bool.{and_parts, cases_Bool, or_left, or_right}
 use Rattle.std.proofs.lemmas.List.Folds.{list_any-append}
-use Rattle.geometry.proofs.Oriented.{kept}
+use Rattle.geometry.proofs.EachKept.{each_kept}
 use Rattle.raster.specs.Between.{IsBetween, CoverLiesInBounds}
 use Rattle.rc_base.specs.Drawing.Cover.{triangle_area, is_inside, covers, centre, is_in_area, is_in_scissor}
-use Rattle.rc_base.specs.Drawing.Kept.{three, kept_of, vertex_at, kept_triangle}
-use Rattle.rc_base.specs.Drawing.Window.{window_of}
-use Rattle.rc_base.specs.Cluster.Tiles.{kept_corners, is_in_box}
+use Rattle.rc_base.specs.Drawing.Kept.{three}
+use Rattle.rc_base.specs.Drawing.Pieces.{kept_triangles}
+use Rattle.rc_base.specs.Cluster.Tiles.{corners_in, kept_corners, is_in_box}
 use Rattle.rc_base.specs.Drawing.Touch.{touches}
-use Rattle.rc_base.specs.Drawing.Triangles.{triangles_of}
 use Rattle.rc_base.specs.declared.state.Block.{Block}
 use Rattle.rc_base.specs.declared.state.Effect.{Effect}
 use Rattle.rc_base.specs.declared.state.Effect.TheVariants as eff
 use Rattle.rc_base.specs.declared.state.State.{State}
-use Rattle.rc_base.specs.declared.state.Vertex.{Vertex}
 use Rattle.rc_base.specs.declared.window.WindowVertex.{WindowVertex}
 
 -- ---- one of three corners isn't above a number, where the least isn't
@@ -98,40 +94,29 @@ covered bounds s a b c px py area h =
       area = parts.1;
     }
 
--- by the triangle of the block
-abbrev corners_of : Option (List WindowVertex) → List WindowVertex
-corners_of o = option_map_or (λ v. v) o []
+-- each of some triangles has its covered pixels in its box
+abbrev BoxesItsPixels : State → ℤ → ℤ → List WindowVertex → Type 0
+BoxesItsPixels s px py v = covers s v px py ≡ true → IsBoxed s v px py
 
-abbrev covers_by : State → ℤ → ℤ → Option (List WindowVertex) → Bool
-covers_by s px py o = option_map_or (λ v. covers s v px py) o false
-
-first_covers : CoverLiesInBounds → (s : State) (a b c : Vertex) (px py : ℤ) (o : Option (List WindowVertex)) → kept_of s a b c ≡ o → covers_by s px py o ≡ true → IsBoxed s (corners_of o) px py
-first_covers bounds s a b c px py None e h = absurd cc
-first_covers bounds s a b c px py (Some v) e h =
-    kept (λ (w : List WindowVertex). covers s w px py ≡ true → IsBoxed s w px py) s a b c v e
-    (covered bounds s (window_of s a) (window_of s b) (window_of s c) px py) (covered bounds s (window_of s a) (window_of s c) (window_of s b) px py) h
-
--- one of a block's triangles covers the pixel
-some_covers : CoverLiesInBounds → (s : State) (vs : List Vertex) (px py : ℤ) (ts : List (List ℕ))
-    → list_any (λ t. covers_by s px py (kept_triangle s vs t)) ts ≡ true → IsBoxed s (flat_map (λ t. corners_of (kept_triangle s vs t)) ts) px py
-some_covers bounds s vs px py [] h = absurd cc
-some_covers bounds s vs px py (t ∷ ts) h =
-    let corners = corners_of (kept_triangle s vs t) in
-    let others = flat_map (λ u. corners_of (kept_triangle s vs u)) ts in
-    elim (cases_Bool (covers_by s px py (kept_triangle s vs t))) [
+-- one of them covers the pixel
+some_covers : (s : State) (px py : ℤ) (vs : List (List WindowVertex)) → AllByRecursion (BoxesItsPixels s px py) vs
+    → list_any (λ v. covers s v px py) vs ≡ true → IsBoxed s (corners_in vs) px py
+some_covers s px py [] all h = absurd cc
+some_covers s px py (v ∷ vs) all h =
+    elim (cases_Bool (covers s v px py)) [
       | inl yes' ↦
-          let box = first_covers bounds s (vertex_at vs (slice_index t 0)) (vertex_at vs (slice_index t 1)) (vertex_at vs (slice_index t 2)) px py (kept_triangle s vs t) refl yes' in
+          let box = all.0 yes' in
           record {
-            across = amid_left corners others (λ (v : WindowVertex). v.x) (centre px) box.across;
-            up = amid_left corners others (λ (v : WindowVertex). v.y) (centre py) box.up;
+            across = amid_left v (corners_in vs) (λ (a : WindowVertex). a.x) (centre px) box.across;
+            up = amid_left v (corners_in vs) (λ (a : WindowVertex). a.y) (centre py) box.up;
             area = box.area;
           }
       | inr no' ↦
-          let rest : list_any (λ u. covers_by s px py (kept_triangle s vs u)) ts ≡ true = rw no' at h in
-          let box = some_covers bounds s vs px py ts rest in
+          let rest : list_any (λ u. covers s u px py) vs ≡ true = rw no' at h in
+          let box = some_covers s px py vs all.1 rest in
           record {
-            across = amid_right corners others (λ (v : WindowVertex). v.x) (centre px) box.across;
-            up = amid_right corners others (λ (v : WindowVertex). v.y) (centre py) box.up;
+            across = amid_right v (corners_in vs) (λ (a : WindowVertex). a.x) (centre px) box.across;
+            up = amid_right v (corners_in vs) (λ (a : WindowVertex). a.y) (centre py) box.up;
             area = box.area;
           }
     ]
@@ -143,6 +128,6 @@ boxed s block px py box = rw (box.across.low, box.across.high, box.up.low, box.u
 pub touched : CoverLiesInBounds → (s : State) (effect : Effect) (px py : ℤ) → touches s effect px py ≡ true → is_in_box s effect px py ≡ true
 unfolding touches is_in_box
 touched bounds s (eff.Block block) px py h =
-    boxed s block px py (some_covers bounds s block.vertices px py (triangles_of block.mode (length block.vertices)) h)
+    boxed s block px py (some_covers s px py (kept_triangles s block) (each_kept (BoxesItsPixels s px py) (λ a b c area k. covered bounds s a b c px py area k) s block) h)
 touched bounds s (eff.Clear mask) px py h = h
 touched bounds s effect px py h = absurd cc

@@ -1,7 +1,7 @@
 -- The box of what a command draws, in a window.
 use Rattle.std.specs.Prelude.{◌≡◌, ℕ, ◌<◌, Bool, true, false, ◌&&◌, ℤ, pos, Option, MatchOption}
 use Rattle.rc_base.specs.Drawing.Touch.{touches}
-use Rattle.rc_base.specs.Cluster.Tiles.{tile_count, tile_pixels, is_in_rect, is_in_box, rect_meets, meets_tile}
+use Rattle.rc_base.specs.Cluster.Tiles.{is_in_box, meets_tile, tile_count, tile_pixels, is_in_rect, rect_meets}
 use Rattle.rc_base.specs.declared.state.Effect.{Effect}
 use Rattle.rc_base.specs.declared.state.State.{State}
 use Rattle.rc_base.specs.declared.window.Layout.{Layout}

@@ -3,10 +3,11 @@ use Rattle.std.specs.Prelude.{◌≡◌, ℕ, Bool, false, ◌||◌, ◌&&◌, L
 use Rattle.std.specs.List.{list_any, flat_map}
 use Rattle.std.specs.Option.{option_map_or}
 use Rattle.rc_base.specs.Drawing.Cover.{centre}
-use Rattle.rc_base.specs.Drawing.Kept.{kept_triangle}
+use Rattle.rc_base.specs.declared.state.Block.{Block}
 use Rattle.rc_base.specs.declared.state.State.{State}
-use Rattle.rc_base.specs.declared.state.Vertex.{Vertex}
 use Rattle.rc_base.specs.declared.window.WindowVertex.{WindowVertex}
+use Rattle.rc_base.specs.Drawing.Pieces.{kept_corners_of}
+use Rattle.rc_base.specs.Cluster.Tiles.{corners_in}
 use Rattle.bounds_bucket.specs.declared.extent.Ends.{Ends}
 use Rattle.bounds_bucket.specs.declared.extent.Extent.{Extent}
 
@@ -39,9 +40,9 @@ Spans corners o = SpansAllBut [] corners o
 abbrev pub corners_of : Option (List WindowVertex) → List WindowVertex
 corners_of o = option_map_or (λ v. v) o []
 
--- the corners of some of a block's triangles that are kept
-abbrev pub corners_from : State → List Vertex → List (List ℕ) → List WindowVertex
-corners_from s vs ts = flat_map (λ t. corners_of (kept_triangle s vs t)) ts
+-- the corners of the kept triangles of some of a block's triples of vertices
+abbrev pub corners_from : State → Block → List (List ℕ) → List WindowVertex
+corners_from s block ts = corners_in (flat_map (kept_corners_of s block) ts)
 
 -- an extent after corners were added to it
 pub record IsGrown (corners : List WindowVertex) (before after : Option Extent) : Type 0 where
@@ -67,3 +68,10 @@ is_between e p = int_le e.least (centre p) && int_le (centre p) e.greatest
 -- the centre of a pixel lies in the extent
 abbrev pub is_within : Extent → ℤ → ℤ → Bool
 is_within e x y = is_between e.across x && is_between e.up y
+
+-- the extent has the ends of these corners
+pub record AreCorners (e : Extent) (v : List WindowVertex) : Type 0 where
+  pub left : (p : ℤ) → int_le e.across.least p ≡ some_low v (λ (a : WindowVertex). a.x) p
+  pub right : (p : ℤ) → int_le p e.across.greatest ≡ some_high v (λ (a : WindowVertex). a.x) p
+  pub bottom : (p : ℤ) → int_le e.up.least p ≡ some_low v (λ (a : WindowVertex). a.y) p
+  pub top : (p : ℤ) → int_le p e.up.greatest ≡ some_high v (λ (a : WindowVertex). a.y) p

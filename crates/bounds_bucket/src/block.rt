@@ -1,15 +1,17 @@
 //! What the kept triangles of a block span.
-ghost use Rattle.std.specs.Prelude.{◌≡◌, length, None, Some, ℤ};
+ghost use Rattle.std.specs.Prelude.{◌≡◌, ◌<◌, ◌++◌, length, option_to_list, None, Some, ℤ};
 ghost use Rattle.std.specs.Int.{int_min, int_max};
 ghost use Rattle.rc_base.specs.Drawing.Cover.{corner};
-ghost use Rattle.rc_base.specs.Drawing.Kept.{kept_triangle};
-ghost use Rattle.rc_base.specs.Cluster.Tiles.{kept_corners};
+ghost use Rattle.rc_base.specs.Drawing.Kept.{kept_whole};
+ghost use Rattle.rc_base.specs.Cluster.Tiles.{kept_corners, corners_in};
+ghost use Rattle.geometry.specs.Pieces.{found};
+ghost use Rattle.rc_base.specs.Drawing.Triangles.{cut_modes};
 ghost use Rattle.geometry.specs.Items.{AreBelow};
-ghost use Rattle.bounds_bucket.specs.Extents.{AreEnds, AreEndsOfBoth, IsGrown, Spans, corners_of};
+ghost use Rattle.bounds_bucket.specs.Extents.{AreEnds, AreEndsOfBoth, IsGrown, Spans};
 
 use crate::extent::{Ends, Extent};
-use geometry::{VertexCache, triangles};
-use rc_base::state::{Block, State};
+use geometry::{Pieces, VertexCache, pieces, triangles, vertices_at};
+use rc_base::state::{Block, CUT_MODES, State};
 use rc_base::triangle::WindowTriangle;
 
 fn least_of(a: i32, b: i32, c: i32) -> i32
@@ -45,6 +47,7 @@ fn both(a: Ends, b: Ends) -> Ends
 fn extent_of(tri: &WindowTriangle) -> Extent
     ensures across { AreEnds result.across (corner tri.now.v 0).x (corner tri.now.v 1).x (corner tri.now.v 2).x }
     ensures up { AreEnds result.up (corner tri.now.v 0).y (corner tri.now.v 1).y (corner tri.now.v 2).y }
+    ensures three { length tri.now.v ≡ 3 }
 {
     Extent {
         across: ends_of(tri.v[0].x, tri.v[1].x, tri.v[2].x),
@@ -62,25 +65,48 @@ fn joined(a: Extent, b: Extent) -> Extent
     }
 }
 
-// Adds the corners of a triangle, where it is kept.
-fn grown(extent: Option<Extent>, cache: &mut VertexCache<'_>, corners: [usize; 3]) -> Option<Extent>
-    requires { AreBelow (length cache.old.vertices.now) corners }
-    ensures state { cache.new.state.now ≡ cache.old.state.now }
-    ensures vertices { cache.new.vertices.now ≡ cache.old.vertices.now }
-    ensures grown { IsGrown (corners_of (kept_triangle cache.old.state.now cache.old.vertices.now corners)) extent result }
+// Adds the corners of a triangle.
+fn with_triangle(extent: Option<Extent>, tri: &WindowTriangle) -> Option<Extent>
+    ensures { IsGrown tri.now.v extent result }
 {
-    let Some(tri) = cache.triangle(corners) else {
-        return extent;
-    };
-    let more = extent_of(&tri);
+    let more = extent_of(tri);
     match extent {
         None => Some(more),
         Some(e) => Some(joined(e, more)),
     }
 }
 
-/// What the corners of all kept triangles of a block span; none where it has no kept triangle.
-pub(crate) fn block_extent(state: &State, block: &Block) -> Option<Extent>
+// Adds the corners of a triangle, if there is one.
+fn with_found(extent: Option<Extent>, tri: &Option<WindowTriangle>) -> Option<Extent>
+    ensures { IsGrown (corners_in (found tri.now)) extent result }
+{
+    match tri {
+        None => extent,
+        Some(t) => with_triangle(extent, t),
+    }
+}
+
+// Adds the corners of a triangle of vertices, where it is kept.
+fn grown(extent: Option<Extent>, cache: &mut VertexCache<'_>, corners: [usize; 3]) -> Option<Extent>
+    requires { AreBelow (length cache.old.vertices.now) corners }
+    ensures state { cache.new.state.now ≡ cache.old.state.now }
+    ensures vertices { cache.new.vertices.now ≡ cache.old.vertices.now }
+    ensures grown { IsGrown (corners_in (option_to_list (kept_whole cache.old.state.now cache.old.vertices.now corners))) extent result }
+{
+    let tri = cache.triangle(corners);
+    with_found(extent, &tri)
+}
+
+// The same of the pieces of a triangle.
+fn grown_by_pieces(extent: Option<Extent>, given: &Pieces) -> Option<Extent>
+    ensures { IsGrown (corners_in (found given.now.first ++ found given.now.second)) extent result }
+{
+    with_found(with_found(extent, &given.first), &given.second)
+}
+
+// What the corners of a block span in a mode whose triangles aren't cut.
+fn whole_extent(state: &State, block: &Block) -> Option<Extent>
+    requires { block.now.mode < cut_modes }
     ensures { Spans (kept_corners state.now block.now) result }
 {
     let mut cache = VertexCache::new(state, block.vertices.as_slice());
@@ -89,4 +115,31 @@ pub(crate) fn block_extent(state: &State, block: &Block) -> Option<Extent>
         extent = grown(extent, &mut cache, corners);
     }
     extent
+}
+
+// The same of any mode, each triangle by its pieces.
+fn cut_extent(state: &State, block: &Block) -> Option<Extent>
+    ensures { Spans (kept_corners state.now block.now) result }
+{
+    let mut extent = None;
+    'cuts: for corners in triangles(block) {
+        let given = pieces(
+            state,
+            block.mode,
+            &vertices_at(block.vertices.as_slice(), corners),
+        );
+        extent = grown_by_pieces(extent, &given);
+    }
+    extent
+}
+
+/// What the corners of all kept triangles of a block span; none where it has no kept triangle.
+pub(crate) fn block_extent(state: &State, block: &Block) -> Option<Extent>
+    ensures { Spans (kept_corners state.now block.now) result }
+{
+    if block.mode < CUT_MODES {
+        whole_extent(state, block)
+    } else {
+        cut_extent(state, block)
+    }
 }

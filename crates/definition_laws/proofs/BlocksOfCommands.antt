@@ -7,7 +7,7 @@ use Rattle.rc_base.specs.Contexts.Faults.{fault_of}
 use Rattle.rc_base.specs.Numbers.{product_of}
 use Rattle.rc_base.specs.Pictures.{with_part, Picture}
 use Rattle.rc_base.specs.Contexts.Context.{identity}
-use Rattle.rc_base.specs.Contexts.Issue.{context_after, command_at, effect_at, effect_of, issued, issued_next, carried_out, with_top, with_below, with_image, with_vertex, last_of, front_of}
+use Rattle.rc_base.specs.Contexts.Issue.{context_after, command_at, effect_at, effect_of, issued, issued_next, carried_out, with_top, with_below, with_image, with_vertex, last_of, front_of, block_mode}
 use Rattle.std.specs.Option.{option_map_or}
 use Rattle.std.specs.Prelude.{ℤ}
 use Rattle.rc_base.specs.declared.state.Effect.TheVariants as eff
@@ -24,7 +24,7 @@ use Rattle.definition_laws.specs.Blocks.{IsAccepted, IsBlockBefore, vertex_by, v
 
 -- what an accepted command does to the open block: Begin opens one, End closes it, Vertex adds to it, and the others leave it
 pub data Change (x : ClientContext) (c : Command) (after : Option Block) : Type 0 where
-  Opens : (mode : ℕ) → c ≡ cmd.Begin mode → after ≡ Some (record { mode = mode; vertices = [] }) → Change x c after
+  Opens : (mode : ℕ) → c ≡ cmd.Begin mode → after ≡ Some (record { mode = block_mode x.version mode; vertices = [] }) → Change x c after
   Closes : after ≡ None → Change x c after
   Adds : (b : Block) → x.block ≡ Some b → after ≡ Some (record b { vertices = b.vertices ++ vertex_by x c }) → Change x c after
   Leaves : after ≡ x.block → vertex_by x c ≡ [] → Change x c after
@@ -68,6 +68,45 @@ refused_adds x c f h = refl
 no_begin : (x : ClientContext) (b : Block) (mode : ℕ) → x.block ≡ Some b → fault_of x (cmd.Begin mode) ≡ None → ⊥
 no_begin x b mode open_block h = let q = rw open_block at h in cc
 
+-- ---- the version of a context is its scene's
+
+either_version : (b : Bool) (x y : ClientContext) (v : ℕ) → x.version ≡ v → y.version ≡ v → (if b then x else y).version ≡ v
+either_version true x y v p q = p
+either_version false x y v p q = q
+
+top_version : (x : ClientContext) (m : Mat4) → (with_top x m).version ≡ x.version
+top_version x m = either_version (x.matrix_mode == 0) (record x { state = record x.state { modelview = m } }) (record x { state = record x.state { projection = m } }) x.version refl refl
+
+below_version : (x : ClientContext) (ms : List Mat4) → (with_below x ms).version ≡ x.version
+below_version x ms = either_version (x.matrix_mode == 0) (record x { modelviews = ms }) (record x { projections = ms }) x.version refl refl
+
+part_version : (x : ClientContext) (part : Part) (o : Option Picture) → (option_map_or (λ (image : Picture). with_image x part.name (with_part image part)) o x).version ≡ x.version
+part_version x part None = refl
+part_version x part (Some image) = refl
+
+carried_version : (x : ClientContext) (c : Command) → (carried_out x c).version ≡ x.version
+carried_version x cmd.LoadIdentity = top_version x identity
+carried_version x (cmd.LoadMatrix m) = top_version x m
+carried_version x (cmd.MultMatrix m) = top_version x (record { m = product_of (top x).m m.m })
+carried_version x cmd.PushMatrix = below_version x (below x ++ top x ∷ [])
+carried_version x cmd.PopMatrix = below_version (with_top x (last_of (below x))) (front_of (below x)) ∙ top_version x (last_of (below x))
+carried_version x (cmd.TexPart part) = part_version x part (private_image x part.name)
+carried_version x c = refl
+
+issued_version : (x : ClientContext) (n : ℕ) (c : Command) (f : Option Fault) → fault_of x c ≡ f → (issued x n c).version ≡ x.version
+unfolding issued
+issued_version x n c None e = rw e (carried_version x c)
+issued_version x n c (Some f) e = rw e refl
+
+next_version : (x : ClientContext) (n : ℕ) (o : Option Command) → (issued_next x n o).version ≡ x.version
+next_version x n None = refl
+next_version x n (Some c) = issued_version x n c (fault_of x c) refl
+
+version_is : (scene : Scene) (client n : ℕ) → (context_after scene client n).version ≡ scene.decl.version
+unfolding context_after default_context
+version_is scene client zero = refl
+version_is scene client (suc n) = next_version (context_after scene client n) n (command_at scene client n) ∙ version_is scene client n
+
 -- one more command that opens no block
 further : (scene : Scene) (client n : ℕ) (b block : Block) → (context_after scene client n).block ≡ Some b → IsBlockBefore scene client n b
     → block.mode ≡ b.mode → block.vertices ≡ b.vertices ++ vertex_if (context_after scene client n) (command_at scene client n)
@@ -76,7 +115,9 @@ further scene client n b block is_open so_far mode vertices = record {
   begin = so_far.begin;
   count = suc so_far.count;
   before = omega (arith, so_far.before);
-  opened = subst (λ (m : ℕ). IsAccepted scene client so_far.begin (cmd.Begin m)) (sym mode) so_far.opened;
+  kind = so_far.kind;
+  opened = so_far.opened;
+  mode = mode ∙ so_far.mode;
   last = λ k m above below accepted.
       elim (cases_lt k n) [
         | inl less ↦ so_far.last k m above less accepted
@@ -103,11 +144,13 @@ SoFar scene client n = (b : Block) → (context_after scene client n).block ≡ 
 by_change : (scene : Scene) (client n : ℕ) (block : Block) (c : Command) → command_at scene client n ≡ Some c → fault_of (context_after scene client n) c ≡ None
     → SoFar scene client n → (after : Option Block) → after ≡ Some block → Change (context_after scene client n) c after → IsBlockBefore scene client (suc n) block
 by_change scene client n block c e accepted so_far after now (Opens mode is_begin a) =
-    let same : record { mode = mode; vertices = [] } ≡ block = cc in
+    let same : record { mode = block_mode (context_after scene client n).version mode; vertices = [] } ≡ block = cc in
     subst (λ (b : Block). IsBlockBefore scene client (suc n) b) same (record {
       begin = n;
       count = 0;
       before = omega arith;
+      kind = mode;
+      mode = ap (λ (v : ℕ). block_mode v mode) (version_is scene client n);
       opened = (e ∙ ap (λ (d : Command). Some d) is_begin, subst (λ (d : Command). fault_of (context_after scene client n) d ≡ None) is_begin accepted);
       last = λ k m above below _. absurd (omega (arith, above, below));
       vertices = refl;

@@ -2,7 +2,7 @@
 use Rattle.std.specs.Prelude.{◌≡◌, ℕ, zero, suc, ◌+◌, ◌<◌, List, [], ◌∷◌, ◌++◌, Option, Some, None, is_none, if◌then◌else◌}
 use Rattle.rc_base.specs.Contexts.Context.{ClientContext}
 use Rattle.rc_base.specs.Contexts.Faults.{fault_of}
-use Rattle.rc_base.specs.Contexts.Issue.{context_after, command_at, effect_at}
+use Rattle.rc_base.specs.Contexts.Issue.{context_after, command_at, effect_at, block_mode}
 use Rattle.rc_base.specs.declared.command.Command.{Command}
 use Rattle.rc_base.specs.declared.command.Command.TheVariants as cmd
 use Rattle.rc_base.specs.declared.state.Block.{Block}
@@ -30,12 +30,15 @@ vertices_from scene client place zero = []
 vertices_from scene client place (suc n) =
     vertices_from scene client place n ++ vertex_if (context_after scene client (place + n)) (command_at scene client (place + n))
 
--- The block is that of the last accepted Begin before a place: its mode, and the vertices that were accepted since.
+-- The block is that of the last accepted Begin before a place: its mode, which is 16 more in a scene of version 2, and the vertices that were
+-- accepted since.
 pub record IsBlockBefore (scene : Scene) (client place : ℕ) (block : Block) : Type 0 where
   pub begin : ℕ
   pub count : ℕ
   pub before : begin + 1 + count ≡ place
-  pub opened : IsAccepted scene client begin (cmd.Begin block.mode)
+  pub kind : ℕ
+  pub opened : IsAccepted scene client begin (cmd.Begin kind)
+  pub mode : block.mode ≡ block_mode scene.decl.version kind
   pub last : (k mode : ℕ) → begin < k → k < place → IsAccepted scene client k (cmd.Begin mode) → ⊥
   pub vertices : block.vertices ≡ vertices_from scene client (begin + 1) count
 

@@ -6,7 +6,7 @@ use Rattle.std.proofs.lemmas.Int.{ints, int_min_is, int_max_is}
 use Rattle.std.proofs.lemmas.Bool.{cases_Bool}
 use Rattle.rc_base.specs.Pictures.{Picture}
 use Rattle.rc_base.specs.Drawing.Cover.{is_inside, triangle_area, centre}
-use Rattle.rc_base.specs.Drawing.Kept.{kept_triangle}
+use Rattle.rc_base.specs.Drawing.Kept.{kept_whole}
 use Rattle.rc_base.specs.declared.state.State.{State}
 use Rattle.rc_base.specs.declared.state.Vertex.{Vertex}
 use Rattle.rc_base.specs.declared.window.Pixel.{Pixel}
@@ -60,16 +60,16 @@ beside_empty bounds near part v n area beside y low high x left right =
 
 -- three vertices whose triangle isn't kept
 none_steps : (s : State) (picture : Option Picture) (vs : List Vertex) (t : List ℕ) (g : Extent) (old : List Pixel)
-    → kept_triangle s vs t ≡ None → IsStepped (corners_step s picture vs t) g old old
+    → kept_whole s vs t ≡ None → IsStepped (corners_step s picture vs t) g old old
 none_steps s picture vs t g old e = record { each = λ i j hi hj. sym (rw e refl) }
 
 -- three vertices whose triangle lies beside the part, where it is kept
 pub beside_steps : CoverLiesInBounds → (s : State) (picture : Option Picture) (vs : List Vertex) (t : List ℕ) (g : Extent) (part : Rect) (near : Surrounds) (old : List Pixel)
     → IsPartWhere (grid_rect g) part (is_let_through s) → AreSurrounds part near → IsBesideIfKept s vs t near
     → IsStepped (corners_step s picture vs t) g old old
-beside_steps bounds s picture vs t g part near old p n h = by (kept_triangle s vs t) refl
+beside_steps bounds s picture vs t g part near old p n h = by (kept_whole s vs t) refl
   where
-    by : (o : Option (List WindowVertex)) → kept_triangle s vs t ≡ o → IsStepped (corners_step s picture vs t) g old old
+    by : (o : Option (List WindowVertex)) → kept_whole s vs t ≡ o → IsStepped (corners_step s picture vs t) g old old
     by None e = none_steps s picture vs t g old e
     by (Some v) e =
         let b = h v e in

@@ -1,14 +1,13 @@
 -- What runs of pixels, spans, triangles and blocks leave of a grid of pixels: its lower left corner is the pixel (left, bottom) of the window.
-use Rattle.std.specs.Prelude.{◌≡◌, ℕ, ◌+◌, ◌*◌, ◌<◌, ◌≤◌, fold, length, List, Bool, true, ◌&&◌, if◌then◌else◌, Option, ℤ, pos, ◌≤ℤ◌, ◌<ℤ◌}
+use Rattle.std.specs.Prelude.{◌≡◌, ℕ, ◌+◌, ◌*◌, ◌<◌, ◌≤◌, fold, length, List, Bool, true, ◌&&◌, if◌then◌else◌, Option, ℤ, pos, ◌≤ℤ◌, ◌<ℤ◌, option_to_list}
 use Rattle.std.specs.Ordering.{int_eq}
 use Rattle.rc_base.specs.Pictures.{Picture}
-use Rattle.rc_base.specs.Drawing.Cover.{is_inside, covers}
+use Rattle.rc_base.specs.Drawing.Cover.{is_inside}
 use Rattle.rc_base.specs.Drawing.Fragment.{fragment_of}
-use Rattle.rc_base.specs.Drawing.Triangles.{triangles_of}
-use Rattle.rc_base.specs.Drawing.PixelStep.{fragment_step, triangle_step, cleared}
+use Rattle.rc_base.specs.Drawing.Kept.{kept_whole}
+use Rattle.rc_base.specs.Drawing.PixelStep.{fragment_step, cleared, triangle_step}
 use Rattle.draw_device.specs.declared.extent.Extent.{Extent}
 use Rattle.rc_base.specs.declared.command.Rgba.{Rgba}
-use Rattle.rc_base.specs.declared.state.Block.{Block}
 use Rattle.rc_base.specs.declared.state.State.{State}
 use Rattle.rc_base.specs.declared.state.Vertex.{Vertex}
 use Rattle.rc_base.specs.declared.triangle.WindowTriangle.{WindowTriangle}
@@ -33,7 +32,7 @@ grid_rect g = record { x0 = pos g.left; y0 = pos g.bottom; x1 = pos (g.left + g.
 
 -- a pixel after a triangle that is kept
 unfoldable pub covered_step : State → Option Picture → List WindowVertex → ℤ → ℤ → Pixel → Pixel
-covered_step s picture v x y old = if covers s v x y then fragment_step s picture (fragment_of v x y) old else old
+covered_step s picture v x y old = triangle_step s picture x y old v
 
 -- a pixel that the triangle covers, after its fragment
 abbrev pub fragment_pixel : State → Option Picture → List WindowVertex → ℤ → ℤ → Pixel → Pixel
@@ -103,14 +102,10 @@ pub record IsSteppedBelow (step : ℤ → ℤ → Pixel → Pixel) (g : Extent) 
       → pixel_at now (j * g.width + i) ≡ step (column_at g i) (row_at g j) (pixel_at old (j * g.width + i))
   pub rest : (i j : ℕ) → i < g.width → j < g.height → y ≤ℤ row_at g j → pixel_at now (j * g.width + i) ≡ pixel_at old (j * g.width + i)
 
--- a pixel after three vertices of a list, by their indices
+-- a pixel after kept triangles, one after the other
+abbrev pub triangles_step : State → Option Picture → List (List WindowVertex) → ℤ → ℤ → Pixel → Pixel
+triangles_step s picture ts x y old = fold (triangle_step s picture x y) old ts
+
+-- a pixel after three vertices of a list, by their indices, where their triangle is kept
 abbrev pub corners_step : State → Option Picture → List Vertex → List ℕ → ℤ → ℤ → Pixel → Pixel
-corners_step s picture vs t x y old = triangle_step s picture vs x y old t
-
--- a pixel after triangles of a list's vertices, one after the other
-abbrev pub triangles_step : State → Option Picture → List Vertex → List (List ℕ) → ℤ → ℤ → Pixel → Pixel
-triangles_step s picture vs ts x y old = fold (triangle_step s picture vs x y) old ts
-
--- the triangles of a block
-abbrev pub triangles_in : Block → List (List ℕ)
-triangles_in block = triangles_of block.mode (length block.vertices)
+corners_step s picture vs t = triangles_step s picture (option_to_list (kept_whole s vs t))

@@ -1,14 +1,19 @@
 //! A grid of pixels that stands in the window, and what spans, triangles and blocks make of it.
-ghost use Rattle.std.specs.Prelude.{◌≡◌, ℕ, ◌+◌, ◌*◌, ◌≤◌, length, replicate, pos, ◌≤ℤ◌, true, IfOk, IfSome};
+ghost use Rattle.std.specs.Prelude.{◌≡◌, ℕ, ◌+◌, ◌*◌, ◌<◌, ◌≤◌, ◌++◌, length, replicate, pos, ◌≤ℤ◌, true, Some, IfOk, IfSome, MatchOption};
 ghost use Rattle.rc_base.specs.Cluster.Tiles.{is_in_rect};
 ghost use Rattle.rc_base.specs.Drawing.PixelStep.{clear_step};
 ghost use Rattle.rc_base.specs.Drawing.Serial.{blank_pixel};
+ghost use Rattle.rc_base.specs.Drawing.Kept.{kept_whole};
+ghost use Rattle.rc_base.specs.Drawing.Pieces.{kept_corners_of, kept_triangles};
+ghost use Rattle.rc_base.specs.Drawing.Triangles.{cut_modes};
+ghost use Rattle.geometry.specs.Beside.{IsBesideIfKept};
 ghost use Rattle.geometry.specs.Items.{AreBelow};
+ghost use Rattle.geometry.specs.Pieces.{found};
 ghost use Rattle.raster.specs.Colors.{IsColorPlane};
 ghost use Rattle.raster.specs.Spans.{IsOnlyColumn};
 ghost use Rattle.textures.specs.Images.{HasTexelIfAny};
 ghost use Rattle.draw_device.specs.Clips.{IsPart, IsPartWhere, is_let_through};
-ghost use Rattle.draw_device.specs.Shapes.{IsCovered, IsSpanIn, AreRowsOf, IsCacheOf, fragment_pixel, IsStepped, span_step, covered_step, corners_step, triangles_step, triangles_in, grid_rect};
+ghost use Rattle.draw_device.specs.Shapes.{IsCovered, IsSpanIn, AreRowsOf, IsCacheOf, fragment_pixel, IsStepped, span_step, covered_step, corners_step, triangles_step, grid_rect};
 ghost use Rattle.draw_device.specs.Conditions.{IsClearable};
 ghost use Rattle.draw_device.specs.Columns.{IsOnlyRun};
 ghost use Rattle.draw_device.specs.Plans.{IsPaint, AreStored, AreFlat};
@@ -31,11 +36,11 @@ use crate::spare::Spare;
 use crate::stages::Stages;
 use crate::tests::Tests;
 use fragment_ops::clearing_of;
-use geometry::{VertexCache, surrounds_of, triangles};
+use geometry::{Pieces, Uncut, VertexCache, pieces, surrounds_of, triangles, vertices_at};
 use raster::{ColorPlane, Column, SpanIter, color_plane, cover_lies_in_bounds, flat_color, spans};
 use rc_base::command::Rgba;
 use rc_base::out_of_memory::OutOfMemory;
-use rc_base::state::{Block, State};
+use rc_base::state::{Block, CUT_MODES, State, Vertex};
 use rc_base::triangle::WindowTriangle;
 use rc_base::window::{Pixel, Pixels, Rect, Span};
 use std::alloc::Global;
@@ -335,6 +340,30 @@ impl Grid {
         self.draw_by_planes(block, tri, rows);
     }
 
+    // Draws the triangle of three vertices, where there is one: it is kept and doesn't lie beside the part.
+    fn draw_near(
+        &mut self,
+        setup: &BlockSetup<'_>,
+        tri: &Option<WindowTriangle>,
+        vertices: &[Vertex],
+        corners: [usize; 3],
+    )
+        requires grid { setup.now.extent ≡ self.old.extent }
+        requires near { MatchOption tri.now
+            (IsBesideIfKept setup.now.state.now vertices.now corners setup.now.near)
+            (λ t. kept_whole setup.now.state.now vertices.now corners ≡ Some t.v) }
+        ensures extent { self.new.extent ≡ self.old.extent }
+        ensures drawn { IsStepped (corners_step setup.now.state.now setup.now.texture.now vertices.now corners) self.old.extent (pixels_of self.old.colors.items self.old.depths.items) (pixels_of self.new.colors.items self.new.depths.items) }
+    {
+        let _vertices = vertices;
+        let _corners = corners;
+        cover_lies_in_bounds();
+        let Some(tri) = tri else {
+            return;
+        };
+        self.draw_triangle(setup, tri);
+    }
+
     // Draws the triangle of three vertices, where it is kept and doesn't lie beside the part.
     fn draw_corners(
         &mut self,
@@ -349,18 +378,91 @@ impl Grid {
         ensures extent { self.new.extent ≡ self.old.extent }
         ensures drawn { IsStepped (corners_step block.now.state.now block.now.texture.now cache.old.vertices.now corners) self.old.extent (pixels_of self.old.colors.items self.old.depths.items) (pixels_of self.new.colors.items self.new.depths.items) }
     {
-        cover_lies_in_bounds();
-        let Some(tri) = cache.triangle_near(corners, &block.near) else {
-            return;
-        };
-        self.draw_triangle(block, &tri);
+        let tri = cache.triangle_near(corners, &block.near);
+        self.draw_near(block, &tri, cache.vertices, corners);
     }
 
-    /// Draws the triangles of a block, one after the other, with the texture that the state samples.
+    // Draws the triangles of a block of a mode whose triangles aren't cut. A vertex that several triangles share is brought to the window once.
+    fn draw_whole(&mut self, setup: &BlockSetup<'_>, block: &Block)
+        requires mode { block.now.mode < cut_modes }
+        requires grid { setup.now.extent ≡ self.old.extent }
+        ensures extent { self.new.extent ≡ self.old.extent }
+        ensures drawn { IsStepped (triangles_step setup.now.state.now setup.now.texture.now (kept_triangles setup.now.state.now block.now)) self.old.extent (pixels_of self.old.colors.items self.old.depths.items) (pixels_of self.new.colors.items self.new.depths.items) }
+    {
+        let mut cache = VertexCache::new(setup.state, block.vertices.as_slice());
+        'draws: for corners in triangles(block) {
+            self.draw_corners(setup, &mut cache, corners);
+        }
+    }
+
+    // Draws a triangle, if there is one.
+    fn draw_found(&mut self, setup: &BlockSetup<'_>, tri: &Option<WindowTriangle>)
+        requires grid { setup.now.extent ≡ self.old.extent }
+        ensures extent { self.new.extent ≡ self.old.extent }
+        ensures drawn { IsStepped (triangles_step setup.now.state.now setup.now.texture.now (found tri.now)) self.old.extent (pixels_of self.old.colors.items self.old.depths.items) (pixels_of self.new.colors.items self.new.depths.items) }
+    {
+        if let Some(t) = tri {
+            self.draw_triangle(setup, t);
+        }
+    }
+
+    // Draws the pieces of a triangle, one after the other.
+    fn draw_pieces(&mut self, setup: &BlockSetup<'_>, given: &Pieces)
+        requires grid { setup.now.extent ≡ self.old.extent }
+        ensures extent { self.new.extent ≡ self.old.extent }
+        ensures drawn { IsStepped (triangles_step setup.now.state.now setup.now.texture.now (found given.now.first ++ found given.now.second)) self.old.extent (pixels_of self.old.colors.items self.old.depths.items) (pixels_of self.new.colors.items self.new.depths.items) }
+    {
+        self.draw_found(setup, &given.first);
+        self.draw_found(setup, &given.second);
+    }
+
+    // Draws the triangle of three vertices of a block of any mode, or its pieces where it may be cut.
+    fn draw_cut_corners(
+        &mut self,
+        setup: &BlockSetup<'_>,
+        block: &Block,
+        cache: &mut VertexCache<'_>,
+        corners: [usize; 3],
+    )
+        requires grid { setup.now.extent ≡ self.old.extent }
+        requires cache { IsCacheOf setup.now.state.now block.now.vertices cache.old }
+        requires corners { AreBelow (length block.now.vertices) corners }
+        ensures cache { IsCacheOf setup.now.state.now block.now.vertices cache.new }
+        ensures extent { self.new.extent ≡ self.old.extent }
+        ensures drawn { IsStepped (triangles_step setup.now.state.now setup.now.texture.now (kept_corners_of setup.now.state.now block.now corners)) self.old.extent (pixels_of self.old.colors.items self.old.depths.items) (pixels_of self.new.colors.items self.new.depths.items) }
+    {
+        match cache.uncut_near(corners, &setup.near) {
+            Uncut::Whole(tri) => {
+                self.draw_near(setup, &tri, block.vertices.as_slice(), corners);
+            }
+            Uncut::Unknown => {
+                let given = pieces(
+                    setup.state,
+                    block.mode,
+                    &vertices_at(block.vertices.as_slice(), corners),
+                );
+                self.draw_pieces(setup, &given);
+            }
+        }
+    }
+
+    // Draws the triangles of a block of any mode. Those that the near plane doesn't cut go the way of those that are drawn whole.
+    fn draw_cut(&mut self, setup: &BlockSetup<'_>, block: &Block)
+        requires grid { setup.now.extent ≡ self.old.extent }
+        ensures extent { self.new.extent ≡ self.old.extent }
+        ensures drawn { IsStepped (triangles_step setup.now.state.now setup.now.texture.now (kept_triangles setup.now.state.now block.now)) self.old.extent (pixels_of self.old.colors.items self.old.depths.items) (pixels_of self.new.colors.items self.new.depths.items) }
+    {
+        let mut cache = VertexCache::new(setup.state, block.vertices.as_slice());
+        'cuts: for corners in triangles(block) {
+            self.draw_cut_corners(setup, block, &mut cache, corners);
+        }
+    }
+
+    /// Draws the kept triangles of a block, one after the other, with the texture that the state samples.
     pub fn draw(&mut self, state: &State, texture: &Texture, block: &Block)
         requires { HasTexelIfAny texture.now }
         ensures extent { self.new.extent ≡ self.old.extent }
-        ensures drawn { IsStepped (triangles_step state.now texture.now block.now.vertices (triangles_in block.now)) self.old.extent (pixels_of self.old.colors.items self.old.depths.items) (pixels_of self.new.colors.items self.new.depths.items) }
+        ensures drawn { IsStepped (triangles_step state.now texture.now (kept_triangles state.now block.now)) self.old.extent (pixels_of self.old.colors.items self.old.depths.items) (pixels_of self.new.colors.items self.new.depths.items) }
     {
         let part = drawn_part(state, self.rect());
         let plan = plan_of(state);
@@ -372,9 +474,10 @@ impl Grid {
             part,
             near: surrounds_of(part),
         };
-        let mut cache = VertexCache::new(state, block.vertices.as_slice());
-        'draws: for corners in triangles(block) {
-            self.draw_corners(&setup, &mut cache, corners);
+        if block.mode < CUT_MODES {
+            self.draw_whole(&setup, block);
+        } else {
+            self.draw_cut(&setup, block);
         }
     }
 

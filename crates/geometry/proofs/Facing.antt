@@ -8,7 +8,7 @@ use Rattle.std.proofs.lemmas.Bool.Decides.{Decides-int_eq}
 use borrow.Author.Differences.{same_in, same_out, sum_is_lem, neg_is}
 use Rattle.rc_base.specs.Numbers.{Within, entry, is_within}
 use Rattle.rc_base.specs.Drawing.Cover.{triangle_area, IsInBounds}
-use Rattle.rc_base.specs.Drawing.Window.{clip_of, window_of, is_in_bounds, is_placed, place_bound, depth_bound}
+use Rattle.rc_base.specs.Drawing.Window.{clip_of, window_of, is_in_bounds, is_placed, is_placed_at, place_bound, depth_bound}
 use Rattle.rc_base.specs.Drawing.Kept.{three, is_culled, is_shown, oriented, is_kept, kept_of}
 use Rattle.geometry.specs.Placed.{IsPlace}
 use Rattle.fixed_math.proofs.Signs.{above_is, below_is, not_below_is, off}
@@ -21,7 +21,7 @@ pub within_fits : (n : ℕ) (z : ℤ) → n < 2 ^ 31 → is_within n z ≡ true 
 within_fits n z h e = grind (arith, ints)
 
 pub placed_is : (s : State) (v : Vertex) → pos 0 <ℤ entry (clip_of s v) 3 → is_placed s v ≡ is_in_bounds (window_of s v)
-unfolding is_placed
+unfolding is_placed is_placed_at window_of
 placed_is s v h = ap (λ t. t && is_in_bounds (window_of s v)) (above_is (entry (clip_of s v) 3) h)
 
 pub not_shown_flat : (s : State) (a : ℤ) → a ≡ pos 0 → is_shown s a ≡ false

@@ -27,7 +27,7 @@ turned P s a b c shown left right =
     let high : pos 0 <ℤ area = by_lt_z (pos 0) area (λ g. g) (λ g. absurd (apart (let k = above in omega (arith, ints, g, k)))) in
     subst P (sym (left_as_is a b c above)) (left high))
 
-kept_by : (P : List WindowVertex → Type 0) (s : State) (a b c : WindowVertex) (v : List WindowVertex) (t : Bool) → (t ≡ true → is_shown s (triangle_area (three a b c)) ≡ true)
+pub kept_by : (P : List WindowVertex → Type 0) (s : State) (a b c : WindowVertex) (v : List WindowVertex) (t : Bool) → (t ≡ true → is_shown s (triangle_area (three a b c)) ≡ true)
     → (if t then Some (oriented a b c) else None) ≡ Some v
     → (pos 0 <ℤ triangle_area (three a b c) → P (three a b c)) → (pos 0 <ℤ triangle_area (three a c b) → P (three a c b)) → P v
 kept_by P s a b c v true shown e left right =

@@ -6,7 +6,7 @@ use Rattle.std.proofs.lemmas.List.FromFn.{length-map-range_with_len, get_or-map-
 use Rattle.std.proofs.lemmas.List.{drop_more}
 use Rattle.std.proofs.Math.ListN.{drop_of_length-le}
 use Rattle.std.proofs.lemmas.Bool.Decides.{nat_tests}
-use Rattle.rc_base.specs.Drawing.Triangles.{triangles_of, separate, strip, fan}
+use Rattle.rc_base.specs.Drawing.Triangles.{triangles_of, separate, strip, fan, shape_of, triangles_in}
 use Rattle.geometry.specs.Items.{triple_at, rest_from, AreBelow}
 use Rattle.rc_base.specs.declared.state.Block.{Block}
 
@@ -77,15 +77,15 @@ strip_even i h = ap (λ t. if t then (i + 1) ∷ i ∷ (i + 2) ∷ [] else i ∷
     no : (k : ℕ) → (k ≡ 1 → ⊥) → (k == 1) ≡ false
     no k e = grind (arith, nat_tests)
 
-pub rest_done : (b : Block) (given : ℕ) → length (triangles_of b.mode (length b.vertices)) ≤ given → rest_from b given ≡ []
+pub rest_done : (b : Block) (given : ℕ) → length (triangles_in b) ≤ given → rest_from b given ≡ []
 unfolding rest_from
-rest_done b given h = drop_of_length-le (triangles_of b.mode (length b.vertices)) h
+rest_done b given h = drop_of_length-le (triangles_in b) h
 
-pub rest_step : (b : Block) (given : ℕ) → given < length (triangles_of b.mode (length b.vertices)) → rest_from b given ≡ triple_at b.mode (length b.vertices) given ∷ rest_from b (given + 1)
+pub rest_step : (b : Block) (given : ℕ) → given < length (triangles_in b) → rest_from b given ≡ triple_at (shape_of b.mode) (length b.vertices) given ∷ rest_from b (given + 1)
 unfolding rest_from triple_at
-rest_step b given h = drop_more (triangles_of b.mode (length b.vertices)) given [] h
+rest_step b given h = drop_more (triangles_in b) given [] h
 
-pub rest_whole : (b : Block) → rest_from b 0 ≡ triangles_of b.mode (length b.vertices)
+pub rest_whole : (b : Block) → rest_from b 0 ≡ triangles_in b
 unfolding rest_from
 rest_whole b = refl
 

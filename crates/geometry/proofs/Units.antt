@@ -2,7 +2,7 @@
 use Rattle.std.proofs.Common.{◌≡◌, ℤ, pos, ◌+ℤ◌, ◌-ℤ◌, ◌*ℤ◌, ◌∙◌, ap, refl, arith}
 use Rattle.std.proofs.lemmas.Int.{ints}
 use Rattle.rc_base.specs.Numbers.{entry, floor_quotient, transformed}
-use Rattle.rc_base.specs.Drawing.Window.{clip_of, axis_of, depth_of, window_of}
+use Rattle.rc_base.specs.Drawing.Window.{clip_of, axis_of, depth_of, window_of, window_at}
 use Rattle.rc_base.specs.declared.state.State.{State}
 use Rattle.rc_base.specs.declared.state.Vertex.{Vertex}
 use Rattle.fixed_math.specs.Bounds.{four}
@@ -45,5 +45,5 @@ pub unit_window : (s : State) (v : Vertex) → clip_of s v ≡ four v.pos → en
     → window_of s v ≡ vertex_with v (axis_of (entry s.viewport 0) (entry s.viewport 2) (entry v.pos 0) (pos 65536))
     (axis_of (entry s.viewport 1) (entry s.viewport 3) (entry v.pos 1) (pos 65536))
     (depth_of (entry s.depth_range 0) (entry s.depth_range 1) (entry v.pos 2) (pos 65536))
-unfolding window_of
+unfolding window_of window_at
 unit_window s v e w = rw (e, w) refl

@@ -1,7 +1,7 @@
 -- Triangles that lie beside a rectangle's pixels, all corners on one side.
 use Rattle.std.specs.Prelude.{◌≡◌, List, ℕ, ℤ, pos, ◌-ℤ◌, ◌<ℤ◌, ◌⊎◌, Some}
 use Rattle.rc_base.specs.Drawing.Cover.{centre, corner, triangle_area}
-use Rattle.rc_base.specs.Drawing.Kept.{kept_triangle}
+use Rattle.rc_base.specs.Drawing.Kept.{kept_whole}
 use Rattle.rc_base.specs.declared.state.State.{State}
 use Rattle.rc_base.specs.declared.state.Vertex.{Vertex}
 use Rattle.rc_base.specs.declared.window.Rect.{Rect}
@@ -35,4 +35,4 @@ AreBeside near v =
 
 -- where the triangle of three vertices is kept, it has an area, and lies beside
 abbrev pub IsBesideIfKept : State → List Vertex → List ℕ → Surrounds → Type 0
-IsBesideIfKept s vs t near = (v : List WindowVertex) → kept_triangle s vs t ≡ Some v → (pos 0 <ℤ triangle_area v) × AreBeside near v
+IsBesideIfKept s vs t near = (v : List WindowVertex) → kept_whole s vs t ≡ Some v → (pos 0 <ℤ triangle_area v) × AreBeside near v

@@ -1,9 +1,10 @@
 -- Vertices brought to the window, and the matrices that are not worth a product.
-use Rattle.std.specs.Prelude.{◌≡◌, ◌<◌, true, false, List, length, ℤ, Option, MatchOption}
-use Rattle.rc_base.specs.Numbers.{transformed}
+use Rattle.std.specs.Prelude.{◌≡◌, ◌<◌, true, false, List, length, slice_index, ℕ, ℤ, pos, int_le, Bool, ◌&&◌, Option, MatchOption}
+use Rattle.rc_base.specs.Numbers.{entry, is_within, transformed}
 use Rattle.rc_base.specs.Drawing.Cover.{IsInBounds}
 use Rattle.rc_base.specs.Drawing.Kept.{vertex_at}
-use Rattle.rc_base.specs.Drawing.Window.{is_placed, window_of}
+use Rattle.rc_base.specs.Drawing.Pieces.{clip_bound, near_w, is_cuttable, is_in_front}
+use Rattle.rc_base.specs.Drawing.Window.{clip_vertex, is_placed, window_of}
 use Rattle.rc_base.specs.declared.state.State.{State}
 use Rattle.rc_base.specs.declared.state.Vertex.{Vertex}
 use Rattle.rc_base.specs.declared.window.WindowVertex.{WindowVertex}
@@ -24,10 +25,26 @@ pub record AreIdentities (s : State) (i : Identities) : Type 0 where
 abbrev pub IsPlace : State → Vertex → Option WindowVertex → Type 0
 IsPlace s v place = MatchOption place (is_placed s v ≡ false) (λ p. (is_placed s v ≡ true) × (p ≡ window_of s v) × IsInBounds p)
 
--- the corner says where the vertex of its index stands
+-- the vertex is in front of the near plane, and none of its clip coordinates is too large to be cut
+unfoldable pub stands_in_front : State → Vertex → Bool
+stands_in_front s v = is_cuttable (clip_vertex s v) && is_in_front (clip_vertex s v)
+
+-- so are these clip coordinates
+abbrev pub AreInFront : List ℤ → Type 0
+AreInFront c =
+    (is_within clip_bound (entry c 0) ≡ true) × (is_within clip_bound (entry c 1) ≡ true) × (is_within clip_bound (entry c 2) ≡ true)
+    × (is_within clip_bound (entry c 3) ≡ true) × (int_le (pos near_w) (entry c 3) ≡ true)
+
+-- the corner says where the vertex of its index stands, and that it stands in front only where it does
 abbrev pub IsCorner : State → List Vertex → Corner → Type 0
-IsCorner s vs c = IsPlace s (vertex_at vs c.index) c.at
+IsCorner s vs c = IsPlace s (vertex_at vs c.index) c.at × (c.front ≡ true → stands_in_front s (vertex_at vs c.index) ≡ true)
 
 -- the same where there is such a vertex
 abbrev pub IsCached : State → List Vertex → Corner → Type 0
 IsCached s vs c = c.index < length vs → IsCorner s vs c
+
+-- all three vertices stand in front of the near plane, so that their triangle isn't cut
+abbrev pub AllStandInFront : State → List Vertex → List ℕ → Type 0
+AllStandInFront s vs t =
+    (stands_in_front s (vertex_at vs (slice_index t 0)) ≡ true) × (stands_in_front s (vertex_at vs (slice_index t 1)) ≡ true)
+    × (stands_in_front s (vertex_at vs (slice_index t 2)) ≡ true)

@@ -1,25 +1,36 @@
 //! The vertices of a block on their way to the window: a post-transform vertex cache, as graphics processors have it.
 ghost use Rattle.std.specs.Prelude.{◌≡◌, ◌<◌, ◌∷◌, [], length, slice_index, true, false, None, Some, MatchOption};
 ghost use Rattle.std.proofs.Props.{props};
-ghost use Rattle.rc_base.specs.Drawing.Kept.{is_kept, oriented, kept_triangle, vertex_at};
+ghost use Rattle.rc_base.specs.Drawing.Kept.{is_kept, oriented, kept_whole, vertex_at};
 ghost use Rattle.rc_base.specs.Drawing.Window.{window_of};
 ghost use Rattle.geometry.specs.Beside.{IsBesideIfKept};
+ghost use Rattle.geometry.specs.Uncut.{IsUncut};
 ghost use Rattle.geometry.specs.Items.{AreBelow};
 ghost use Rattle.geometry.specs.Placed.{AreIdentities, IsCorner, IsCached};
 
 use crate::identities::{Identities, identities_of};
 use crate::near::{Surrounds, are_beside};
-use crate::vertex::window_vertex;
+use crate::vertex::stand_of;
 use crate::window::assemble;
 use rc_base::state::{State, Vertex};
 use rc_base::triangle::WindowTriangle;
 use rc_base::window::WindowVertex;
 
-/// A vertex by its index, and where it stands in the window, if it does.
+/// A vertex by its index; where it stands in the window, if it does; and whether it is known to stand in front of the near plane.
 #[derive(Clone, Copy)]
 pub struct Corner {
     pub index: usize,
     pub at: Option<WindowVertex>,
+    pub front: bool,
+}
+
+/// What a cache tells of a triangle of a block whose triangles are cut at the near plane.
+#[derive(Clone, Copy)]
+pub enum Uncut {
+    /// All its vertices stand in front, so it is its own one piece: here it is, as `triangle_near` gives it.
+    Whole(Option<WindowTriangle>),
+    /// It may have to be cut.
+    Unknown,
 }
 
 /// Vertices that a state brings to the window. The corners of the triangle before are kept, so that a strip and a fan bring each of their
@@ -47,6 +58,7 @@ impl<'a> VertexCache<'a> {
         let none = Corner {
             index: vertices.len(),
             at: None,
+            front: false,
         };
         VertexCache {
             state,
@@ -65,9 +77,11 @@ impl<'a> VertexCache<'a> {
         ensures index { result.index ≡ index }
         ensures at { IsCorner self.now.state.now self.now.vertices.now result }
     {
+        let stand = stand_of(self.state, self.identities, &self.vertices[index]);
         Corner {
             index,
-            at: window_vertex(self.state, self.identities, &self.vertices[index]),
+            at: stand.at,
+            front: stand.front,
         }
     }
 
@@ -94,8 +108,8 @@ impl<'a> VertexCache<'a> {
         requires b { IsCorner self.now.state.now self.now.vertices.now b }
         requires c { IsCorner self.now.state.now self.now.vertices.now c }
         ensures { MatchOption result
-            (kept_triangle self.now.state.now self.now.vertices.now (a.index ∷ b.index ∷ c.index ∷ []) ≡ None)
-            (λ t. kept_triangle self.now.state.now self.now.vertices.now (a.index ∷ b.index ∷ c.index ∷ []) ≡ Some t.v) }
+            (kept_whole self.now.state.now self.now.vertices.now (a.index ∷ b.index ∷ c.index ∷ []) ≡ None)
+            (λ t. kept_whole self.now.state.now self.now.vertices.now (a.index ∷ b.index ∷ c.index ∷ []) ≡ Some t.v) }
     {
         self.kept(a, b, c)
     }
@@ -148,8 +162,8 @@ impl<'a> VertexCache<'a> {
         ensures state { self.new.state.now ≡ self.old.state.now }
         ensures vertices { self.new.vertices.now ≡ self.old.vertices.now }
         ensures triangle { MatchOption result
-            (kept_triangle self.old.state.now self.old.vertices.now corners ≡ None)
-            (λ t. kept_triangle self.old.state.now self.old.vertices.now corners ≡ Some t.v) }
+            (kept_whole self.old.state.now self.old.vertices.now corners ≡ None)
+            (λ t. kept_whole self.old.state.now self.old.vertices.now corners ≡ Some t.v) }
     {
         self.bring(corners);
         self.assembled(self.first, self.second, self.third)
@@ -163,12 +177,39 @@ impl<'a> VertexCache<'a> {
         ensures vertices { self.new.vertices.now ≡ self.old.vertices.now }
         ensures triangle { MatchOption result
             (IsBesideIfKept self.old.state.now self.old.vertices.now corners near.now)
-            (λ t. kept_triangle self.old.state.now self.old.vertices.now corners ≡ Some t.v) }
+            (λ t. kept_whole self.old.state.now self.old.vertices.now corners ≡ Some t.v) }
     {
         self.bring(corners);
+        self.brought_near(near)
+    }
+
+    // The triangle of the cache's three corners, unless it lies beside.
+    #[inline(always)]
+    fn brought_near(&self, near: &Surrounds) -> Option<WindowTriangle>
+        requires a { IsCorner self.now.state.now self.now.vertices.now self.now.first }
+        requires b { IsCorner self.now.state.now self.now.vertices.now self.now.second }
+        requires c { IsCorner self.now.state.now self.now.vertices.now self.now.third }
+        ensures { MatchOption result
+            (IsBesideIfKept self.now.state.now self.now.vertices.now (self.now.first.index ∷ self.now.second.index ∷ self.now.third.index ∷ []) near.now)
+            (λ t. kept_whole self.now.state.now self.now.vertices.now (self.now.first.index ∷ self.now.second.index ∷ self.now.third.index ∷ []) ≡ Some t.v) }
+    {
         if self.lies_beside(near) {
             return None;
         }
         self.assembled(self.first, self.second, self.third)
+    }
+
+    /// The same where all three vertices stand in front of the near plane, so that the triangle is cut in no block.
+    pub fn uncut_near(&mut self, corners: [usize; 3], near: &Surrounds) -> Uncut
+        requires { AreBelow (length self.old.vertices.now) corners }
+        ensures state { self.new.state.now ≡ self.old.state.now }
+        ensures vertices { self.new.vertices.now ≡ self.old.vertices.now }
+        ensures triangle { IsUncut self.old.state.now self.old.vertices.now corners near.now result }
+    {
+        self.bring(corners);
+        if self.first.front && self.second.front && self.third.front {
+            return Uncut::Whole(self.brought_near(near));
+        }
+        Uncut::Unknown
     }
 }

@@ -4,13 +4,21 @@
 #![tactic(auto)]
 
 mod cache;
+mod clipping;
+mod cut_triangle;
+mod cutting;
+mod fraction;
 mod identities;
+mod law;
 mod near;
 mod primitives;
 mod vertex;
 mod window;
 
-pub use cache::VertexCache;
+pub use cache::{Uncut, VertexCache};
+pub use cut_triangle::Pieces;
+pub use cutting::pieces;
+pub use law::uncut_triangles_are_their_piece;
 pub use near::{Surrounds, surrounds_of};
-pub use primitives::{TriangleIter, triangles};
+pub use primitives::{TriangleIter, triangles, vertices_at};
 pub use window::to_window;

@@ -1,11 +1,23 @@
 //! The triangles of a block, as triples of vertex indices.
-ghost use Rattle.std.specs.Prelude.{◌≡◌, ◌-◌, ◌/◌, ◌<◌, length};
+ghost use Rattle.std.specs.Prelude.{◌≡◌, ◌-◌, ◌/◌, ◌<◌, length, slice_index};
 ghost use Rattle.std.specs.Iterator.{YieldsFirst, item_count};
 ghost use Rattle.std.specs.List.{All};
-ghost use Rattle.rc_base.specs.Drawing.Triangles.{triangles_of, separate, strip, fan};
+ghost use Rattle.rc_base.specs.Drawing.Triangles.{triangles_of, separate, strip, fan, shape_of, triangles_in};
+ghost use Rattle.rc_base.specs.Drawing.Kept.{vertex_at};
 ghost use Rattle.geometry.specs.Items.{rest_from, triple_at, AreBelow};
 
-use rc_base::state::Block;
+use rc_base::state::{Block, CUT_MODES, Vertex};
+
+// What a block of a mode is.
+fn shape_of(mode: u8) -> u8
+    ensures { result ≡ shape_of mode }
+{
+    if mode < CUT_MODES {
+        mode
+    } else {
+        mode - CUT_MODES
+    }
+}
 
 // How many triangles `n` vertices make.
 fn count(mode: u8, n: usize) -> usize
@@ -75,10 +87,11 @@ impl Iterator for TriangleIter<'_> {
 
     fn next(&mut self) -> Option<[usize; 3]> {
         let n = self.block.vertices.len();
-        if self.given >= count(self.block.mode, n) {
+        let shape = shape_of(self.block.mode);
+        if self.given >= count(shape, n) {
             return None;
         }
-        let corners = triple(self.block.mode, n, self.given);
+        let corners = triple(shape, n, self.given);
         self.given += 1;
         Some(corners)
     }
@@ -87,8 +100,22 @@ impl Iterator for TriangleIter<'_> {
 /// The triangles of a block in their order: of triangles, a strip or a fan, as OpenGL makes them from the block's vertices. Vertices that are
 /// left over make none, and a block of another mode has none. Each index is that of a vertex.
 pub fn triangles(block: &Block) -> TriangleIter<'_>
-    ensures rest { rest_from result.block.now result.given ≡ triangles_of block.now.mode (length block.now.vertices) }
-    ensures indices { All (AreBelow (length block.now.vertices)) (triangles_of block.now.mode (length block.now.vertices)) }
+    ensures rest { rest_from result.block.now result.given ≡ triangles_in block.now }
+    ensures indices { All (AreBelow (length block.now.vertices)) (triangles_in block.now) }
 {
     TriangleIter { block, given: 0 }
+}
+
+/// Three vertices of a list, by their indices.
+pub fn vertices_at(vertices: &[Vertex], corners: [usize; 3]) -> [Vertex; 3]
+    requires { AreBelow (length vertices.now) corners }
+    ensures first { vertex_at result 0 ≡ vertex_at vertices.now (slice_index corners 0) }
+    ensures second { vertex_at result 1 ≡ vertex_at vertices.now (slice_index corners 1) }
+    ensures third { vertex_at result 2 ≡ vertex_at vertices.now (slice_index corners 2) }
+{
+    [
+        vertices[corners[0]],
+        vertices[corners[1]],
+        vertices[corners[2]],
+    ]
 }

@@ -2,9 +2,10 @@
 ghost use Rattle.std.specs.Prelude.{◌≡◌, ◌^◌, ◌+◌, ◌*◌, ◌<◌, ◌-◌, ℕ, neg_ℤ, pos, true, false, ◌+ℤ◌, ◌-ℤ◌, ◌*ℤ◌, ◌<ℤ◌, MatchOption};
 ghost use Rattle.rc_base.specs.Numbers.{Within, entry, is_within, is_between, floor_quotient, transformed};
 ghost use Rattle.rc_base.specs.Drawing.Cover.{IsInBounds};
+ghost use Rattle.rc_base.specs.Drawing.Pieces.{clip_bound};
 ghost use Rattle.rc_base.specs.Drawing.Window.{clip_of, axis_of, depth_of, window_of, is_in_bounds, is_placed, depth_most};
 ghost use Rattle.fixed_math.specs.Bounds.{AllWithin, four};
-ghost use Rattle.geometry.specs.Placed.{FixesVectors, AreIdentities, IsPlace};
+ghost use Rattle.geometry.specs.Placed.{FixesVectors, AreIdentities, AreInFront, IsPlace, stands_in_front};
 ghost use Rattle.geometry.specs.Vertices.{vertex_with};
 
 use crate::identities::Identities;
@@ -24,6 +25,19 @@ const DEPTH_MOST: i128 = 16_777_215;
 // One in 16.16 fixed point.
 const ONE: i32 = 65_536;
 
+/// Where the near plane stands: w is a 256th in 16.16 fixed point.
+pub(crate) const NEAR_W: i64 = 256;
+
+// The bound of the clip coordinates that are cut, so that products of them fit.
+const CLIP_BOUND: i128 = 70_368_744_177_664;
+
+/// A clip coordinate is small enough to be cut.
+pub(crate) fn is_small(z: i128) -> bool
+    ensures { result ≡ is_within clip_bound z }
+{
+    -CLIP_BOUND <= z && z <= CLIP_BOUND
+}
+
 // The product, or the vector itself where the matrix is known to be the identity.
 fn product(is_identity: bool, m: &Mat4, v: [i128; 4]) -> [i128; 4]
     requires identity { is_identity ≡ true → FixesVectors m.now.m }
@@ -35,7 +49,7 @@ fn product(is_identity: bool, m: &Mat4, v: [i128; 4]) -> [i128; 4]
 }
 
 #[tactic(auto, unfolding(rc_base::specs::Drawing::Window::clip_of))]
-fn clip(state: &State, identities: Identities, v: &Vertex) -> [i128; 4]
+pub(crate) fn clip(state: &State, identities: Identities, v: &Vertex) -> [i128; 4]
     requires { AreIdentities state.now identities }
     ensures value { result ≡ clip_of state.now v.now }
     ensures small { AllWithin (2 ^ 65) result }
@@ -73,7 +87,7 @@ fn short_quotient(n: i64, d: i64) -> i64
 }
 
 // The quotient rounded down, by 64 bits where they hold both numbers.
-fn quotient(n: i128, d: i128) -> i128
+pub(crate) fn quotient(n: i128, d: i128) -> i128
     requires { pos 0 <ℤ d }
     ensures value { result ≡ floor_quotient n d }
     ensures small { (b : ℕ) → Within b n → Within b result }
@@ -119,7 +133,7 @@ fn moved(origin: i32, q: i128) -> i128
 }
 
 #[tactic(auto, unfolding(rc_base::specs::Drawing::Window::axis_of))]
-fn axis(origin: i32, size: i32, x: i128, w: i128) -> i128
+pub(crate) fn axis(origin: i32, size: i32, x: i128, w: i128) -> i128
     requires positive { pos 0 <ℤ w }
     requires x { Within (2 ^ 65) x }
     requires w { Within (2 ^ 65) w }
@@ -171,7 +185,7 @@ fn scale_of(w: i128) -> i128
 }
 
 #[tactic(auto, unfolding(rc_base::specs::Drawing::Window::depth_of))]
-fn depth(near: i32, far: i32, z: i128, w: i128) -> i128
+pub(crate) fn depth(near: i32, far: i32, z: i128, w: i128) -> i128
     requires positive { pos 0 <ℤ w }
     requires z { Within (2 ^ 65) z }
     requires w { Within (2 ^ 65) w }
@@ -194,7 +208,7 @@ fn is_in(z: i128, bound: u32) -> bool
 
 // The vertex with these coordinates, where they are in bounds; the rest of it is `v`'s.
 #[inline(always)]
-fn narrow(v: &Vertex, x: i128, y: i128, z: i128) -> Option<WindowVertex>
+pub(crate) fn narrow(v: &Vertex, x: i128, y: i128, z: i128) -> Option<WindowVertex>
     ensures { MatchOption result
         (is_in_bounds (vertex_with v.now x y z) ≡ false)
         (λ p. (is_in_bounds (vertex_with v.now x y z) ≡ true) × (p ≡ vertex_with v.now x y z) × IsInBounds p) }
@@ -280,15 +294,36 @@ fn is_unit(identities: Identities, v: &Vertex) -> bool
     identities.modelview && identities.projection && v.pos[3] == ONE
 }
 
+// Whether a vertex is in front of the near plane, by its clip coordinates, and none of them is too large to be cut.
+fn are_in_front(c: &[i128; 4]) -> bool
+    ensures { result ≡ true → AreInFront c.now }
+{
+    is_small(c[0])
+        && is_small(c[1])
+        && is_small(c[2])
+        && is_small(c[3])
+        && c[3] >= i128::from(NEAR_W)
+}
+
+// The window coordinates of a vertex, and whether it is known to stand in front of the near plane.
+#[derive(Clone, Copy)]
+struct Place {
+    x: i128,
+    y: i128,
+    z: i128,
+    front: bool,
+}
+
 // Where a vertex stands in the window by any matrices, if it stands before the eye. It gives numbers, and the vertex is made of them where it is
 // kept, so that it isn't copied.
 #[inline(never)]
-#[tactic(auto, unfolding(rc_base::specs::Drawing::Window::is_placed, rc_base::specs::Drawing::Window::window_of))]
-fn any_place(state: &State, identities: Identities, v: &Vertex) -> Option<[i128; 3]>
+#[tactic(auto, unfolding(rc_base::specs::Drawing::Window::is_placed, rc_base::specs::Drawing::Window::is_placed_at, rc_base::specs::Drawing::Window::window_of, rc_base::specs::Drawing::Window::window_at))]
+fn any_place(state: &State, identities: Identities, v: &Vertex) -> Option<Place>
     requires { AreIdentities state.now identities }
     ensures { MatchOption result
         (is_placed state.now v.now ≡ false)
-        (λ p. (pos 0 <ℤ entry (clip_of state.now v.now) 3) × (vertex_with v.now (entry p 0) (entry p 1) (entry p 2) ≡ window_of state.now v.now)) }
+        (λ p. (pos 0 <ℤ entry (clip_of state.now v.now) 3) × (vertex_with v.now p.x p.y p.z ≡ window_of state.now v.now)
+        × (p.front ≡ true → stands_in_front state.now v.now ≡ true)) }
 {
     let c = clip(state, identities, v);
     if c[3] <= 0 {
@@ -297,7 +332,41 @@ fn any_place(state: &State, identities: Identities, v: &Vertex) -> Option<[i128;
     let x = axis(state.viewport[0], state.viewport[2], c[0], c[3]);
     let y = axis(state.viewport[1], state.viewport[3], c[1], c[3]);
     let z = depth(state.depth_range[0], state.depth_range[1], c[2], c[3]);
-    Some([x, y, z])
+    let front = are_in_front(&c);
+    Some(Place { x, y, z, front })
+}
+
+/// Where a vertex stands: in the window, if it stands before the eye and within the bounds of window coordinates; and whether it is known to stand
+/// in front of the near plane, with no clip coordinate too large to be cut.
+#[derive(Clone, Copy)]
+pub(crate) struct Stand {
+    pub at: Option<WindowVertex>,
+    pub front: bool,
+}
+
+/// Where a vertex stands.
+#[inline(always)]
+pub(crate) fn stand_of(state: &State, identities: Identities, v: &Vertex) -> Stand
+    requires { AreIdentities state.now identities }
+    ensures at { IsPlace state.now v.now result.at }
+    ensures front { result.front ≡ true → stands_in_front state.now v.now ≡ true }
+{
+    if is_unit(identities, v) {
+        return Stand {
+            at: unit_vertex(state, v),
+            front: are_in_front(&widen(&v.pos)),
+        };
+    }
+    let Some(place) = any_place(state, identities, v) else {
+        return Stand {
+            at: None,
+            front: false,
+        };
+    };
+    Stand {
+        at: narrow(v, place.x, place.y, place.z),
+        front: place.front,
+    }
 }
 
 /// The vertex in window coordinates, where it stands before the eye and within their bounds.
@@ -310,9 +379,5 @@ pub(crate) fn window_vertex(
     requires { AreIdentities state.now identities }
     ensures { IsPlace state.now v.now result }
 {
-    if is_unit(identities, v) {
-        return unit_vertex(state, v);
-    }
-    let [x, y, z] = any_place(state, identities, v)?;
-    narrow(v, x, y, z)
+    stand_of(state, identities, v).at
 }

@@ -14,7 +14,7 @@ use Rattle.rc_base.specs.Pictures.{Picture, with_part}
 use Rattle.rc_base.specs.Formats.Commands.{IsCommand, has_codes}
 use Rattle.rc_base.specs.Contexts.Context.{ClientContext, default_context, default_state, identity, top, private_image, edit_of, private_count}
 use Rattle.rc_base.specs.Contexts.Faults.{fault_of, is_name, vertex_most, image_side_most, stack_most, lies_inside}
-use Rattle.rc_base.specs.Contexts.Issue.{issued, issued_next, refused, carried_out, command_at, stream_of, context_after, with_state, with_top, with_capability, with_vertex, with_image, last_of, front_of}
+use Rattle.rc_base.specs.Contexts.Issue.{issued, issued_next, refused, carried_out, command_at, stream_of, context_after, with_state, with_top, with_capability, with_vertex, with_image, last_of, front_of, block_mode}
 use Rattle.rc_base.specs.Drawing.Texel.{bound_kind, bound_name}
 use Rattle.rc_base.specs.declared.command.Command.{Command}
 use Rattle.rc_base.specs.declared.command.Command.TheVariants as cmd
@@ -69,6 +69,7 @@ state_valid decl x s codes bound h = record {
   images = h.images;
   edits = h.edits;
   pictures = h.pictures;
+  version = h.version;
   shared = h.shared;
   barriers = h.barriers;
   semaphores = h.semaphores;
@@ -105,6 +106,7 @@ stacks_valid decl x ms ps a b h = record {
   images = h.images;
   edits = h.edits;
   pictures = h.pictures;
+  version = h.version;
   shared = h.shared;
   barriers = h.barriers;
   semaphores = h.semaphores;
@@ -142,7 +144,7 @@ pop_valid decl x h = elim (which (x.matrix_mode == 0)) [
 
 -- ---- blocks
 
-block_valid : (decl : Decl) (x : ClientContext) (o : Option Block) → ((b : Block) → o ≡ Some b → IsLegalBlock b) → IsValidContext decl x → IsValidContext decl (record x { block = o })
+block_valid : (decl : Decl) (x : ClientContext) (o : Option Block) → ((b : Block) → o ≡ Some b → IsLegalBlock x.version b) → IsValidContext decl x → IsValidContext decl (record x { block = o })
 block_valid decl x o block h = record {
   codes = h.codes;
   matrix_mode = h.matrix_mode;
@@ -153,21 +155,22 @@ block_valid decl x o block h = record {
   images = h.images;
   edits = h.edits;
   pictures = h.pictures;
+  version = h.version;
   shared = h.shared;
   barriers = h.barriers;
   semaphores = h.semaphores;
 }
 
-with_more : (x : ClientContext) (p : List ℤ) (o : Option Block) → ((b : Block) → o ≡ Some b → IsLegalBlock b)
+with_more : (x : ClientContext) (p : List ℤ) (o : Option Block) → ((b : Block) → o ≡ Some b → IsLegalBlock x.version b)
     → option_map_or (λ (b : Block). nat_lt (length b.vertices) vertex_most) o true ≡ true
-    → (b : Block) → option_map_or (λ (b : Block). Some (with_vertex x p b)) o None ≡ Some b → IsLegalBlock b
+    → (b : Block) → option_map_or (λ (b : Block). Some (with_vertex x p b)) o None ≡ Some b → IsLegalBlock x.version b
 with_more x p None legal room b e = absurd (cc)
 with_more x p (Some old) legal room b e =
     let was = legal old refl in
     let more = length-append old.vertices (record { pos = p; color = x.color; s = x.s; t = x.t } ∷ []) in
-    let now : IsLegalBlock (with_vertex x p old) = record { mode = was.mode; vertices = omega (arith, more, ltb-true (length old.vertices) vertex_most room) } in
+    let now : IsLegalBlock x.version (with_vertex x p old) = record { kind = was.kind; code = was.code; mode = was.mode; vertices = omega (arith, more, ltb-true (length old.vertices) vertex_most room) } in
     let same : with_vertex x p old ≡ b = cc in
-    subst IsLegalBlock same now
+    subst (IsLegalBlock x.version) same now
 
 -- ---- images
 
@@ -201,6 +204,7 @@ image_valid decl x name q legal h = record {
   images = length_with_name x.images name (Some q) ∙ h.images;
   edits = length_with_name x.edits name (edit_of x name + 1) ∙ h.edits;
   pictures = λ other p e. elim (written_or_before x name q other p e) [ inl same ↦ subst IsPrivateImage (sym same) legal | inr before ↦ h.pictures other p before ];
+  version = h.version;
   shared = h.shared;
   barriers = h.barriers;
   semaphores = h.semaphores;
@@ -229,8 +233,9 @@ part_valid decl x part (Some p) e texels inside h = image_valid decl x part.name
 carried : (decl : Decl) (x : ClientContext) (c : Command) → IsCommand c → fault_of x c ≡ None → IsValidContext decl x → IsValidContext decl (carried_out x c)
 carried decl x (cmd.Begin mode) i f h =
     let codes = (accepted x (cmd.Begin mode) f).codes in
-    block_valid decl x (Some (record { mode = mode; vertices = [] }))
-    (λ b e. let same : record { mode = mode; vertices = [] } ≡ b = cc in subst IsLegalBlock same (record { mode = codes; vertices = omega arith })) h
+    let opened : Block = record { mode = block_mode x.version mode; vertices = [] } in
+    block_valid decl x (Some opened)
+    (λ b e. let same : opened ≡ b = cc in subst (IsLegalBlock x.version) same (record { kind = mode; code = codes; mode = refl; vertices = omega arith })) h
 carried decl x cmd.End i f h = block_valid decl x None (λ b e. absurd (cc)) h
 carried decl x (cmd.Vertex p) i f h =
     block_valid decl x (option_map_or (λ (b : Block). Some (with_vertex x p b)) x.block None) (with_more x p x.block h.block (accepted x (cmd.Vertex p) f).values) h
@@ -292,6 +297,7 @@ carried decl x (cmd.MatrixMode mode) i f h = record {
   images = h.images;
   edits = h.edits;
   pictures = h.pictures;
+  version = h.version;
   shared = h.shared;
   barriers = h.barriers;
   semaphores = h.semaphores;
@@ -306,6 +312,7 @@ carried decl x c i f h = record {
   images = h.images;
   edits = h.edits;
   pictures = h.pictures;
+  version = h.version;
   shared = h.shared;
   barriers = h.barriers;
   semaphores = h.semaphores;
@@ -324,6 +331,7 @@ by_fault decl x place c (Some f) i e h = record {
   images = h.images;
   edits = h.edits;
   pictures = h.pictures;
+  version = h.version;
   shared = h.shared;
   barriers = h.barriers;
   semaphores = h.semaphores;
@@ -366,6 +374,7 @@ first decl = record {
   images = refl;
   edits = refl;
   pictures = λ name p e. absurd (none_first 64 name p e);
+  version = refl;
   shared = refl;
   barriers = refl;
   semaphores = refl;

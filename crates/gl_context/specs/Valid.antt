@@ -5,7 +5,7 @@ use Rattle.rc_base.specs.Pictures.{Picture}
 use Rattle.rc_base.specs.Formats.Commands.{IsCommand, has_codes}
 use Rattle.rc_base.specs.Contexts.Context.{ClientContext, private_count, private_image}
 use Rattle.rc_base.specs.Contexts.Faults.{vertex_most, image_side_most, stack_most, is_name}
-use Rattle.rc_base.specs.Contexts.Issue.{context_after}
+use Rattle.rc_base.specs.Contexts.Issue.{block_mode, context_after}
 use Rattle.rc_base.specs.Drawing.Texel.{bound_kind, bound_name, wrap_in_s, wrap_in_t}
 use Rattle.rc_base.specs.declared.command.Command.TheVariants as cmd
 use Rattle.rc_base.specs.declared.scene.Decl.{Decl}
@@ -24,9 +24,11 @@ pub record HasLegalCodes (s : State) : Type 0 where
   pub environment : has_codes (cmd.TexEnv (slice_index s.tex_mode 0)) ≡ true
   pub wraps : has_codes (cmd.TexWrap (wrap_in_s s) (wrap_in_t s)) ≡ true
 
--- an open block has a legal mode, and no more than the most vertices
-pub record IsLegalBlock (b : Block) : Type 0 where
-  pub mode : has_codes (cmd.Begin b.mode) ≡ true
+-- an open block of a scene of that version is of a legal kind, and has no more than the most vertices
+pub record IsLegalBlock (version : ℕ) (b : Block) : Type 0 where
+  pub kind : ℕ
+  pub code : has_codes (cmd.Begin kind) ≡ true
+  pub mode : b.mode ≡ block_mode version kind
   pub vertices : length b.vertices ≤ vertex_most
 
 -- the image of a private texture: sides from 1 to the longest, and four bytes for each texel
@@ -44,10 +46,11 @@ pub record IsValidContext (decl : Decl) (x : ClientContext) : Type 0 where
   -- with the top there are at most 32 matrices
   pub modelviews : length x.modelviews < stack_most
   pub projections : length x.projections < stack_most
-  pub block : (b : Block) → x.block ≡ Some b → IsLegalBlock b
+  pub block : (b : Block) → x.block ≡ Some b → IsLegalBlock x.version b
   pub images : length x.images ≡ private_count
   pub edits : length x.edits ≡ private_count
   pub pictures : (name : ℕ) (p : Picture) → private_image x name ≡ Some p → IsPrivateImage p
+  pub version : x.version ≡ decl.version
   pub shared : x.shared ≡ decl.shared
   pub barriers : x.barriers ≡ length decl.barriers
   pub semaphores : x.semaphores ≡ length decl.semaphores

@@ -3,7 +3,8 @@ ghost use Rattle.std.specs.Prelude.{◌≡◌, ◌≢◌, ℕ, ◌+◌, ◌<◌,
 ghost use Rattle.rc_base.specs.Lists.{with_name};
 ghost use Rattle.rc_base.specs.Contexts.Context.{default_context, top, below, private_image, edit_of, shared_sides, private_count};
 ghost use Rattle.rc_base.specs.Contexts.Faults.{is_in_place, has_values, has_image, part_fits, has_room, has_below, fault_of};
-ghost use Rattle.rc_base.specs.Contexts.Issue.{carried_out, done_by, issued, effect_of, with_top, with_below, with_image, last_of, front_of};
+ghost use Rattle.rc_base.specs.Contexts.Issue.{carried_out, done_by, issued, effect_of, with_top, with_below, with_image, last_of, front_of, block_mode};
+ghost use Rattle.rc_base.specs.Formats.Commands.{has_codes};
 ghost use Rattle.rc_base.specs.declared.command.Command.TheVariants as cmd;
 ghost use Rattle.textures.specs.Images.{LiesInside, picture};
 ghost use Rattle.gl_context.specs.Arguments.{HasTexels, product_asked};
@@ -17,7 +18,7 @@ use rc_base::cluster::FaultList;
 use rc_base::command::{Command, Mat4, Part, Rgba, Texels};
 use rc_base::out_of_memory::OutOfMemory;
 use rc_base::scene::{Decl, Sizes};
-use rc_base::state::{Block, Effect, Fault, State, Vertex, Vertices};
+use rc_base::state::{Block, CUT_MODES, Effect, Fault, State, Vertex, Vertices};
 use rc_base::sync::SyncOp;
 use std::alloc::Global;
 use std::marker::Model;
@@ -37,6 +38,7 @@ pub struct Context {
     block: Option<Block>,
     images: PrivateSet,
     edits: [u32; 64],
+    version: u8,
     shared: Sizes,
     barriers: usize,
     semaphores: usize,
@@ -59,6 +61,7 @@ impl Model for Context {
       block = a.block;
       images = a.images;
       edits = a.edits;
+      version = a.version;
       shared = a.shared;
       barriers = a.barriers;
       semaphores = a.semaphores;
@@ -89,6 +92,7 @@ impl Context {
             block: None,
             images: PrivateSet::new(alloc)?,
             edits: [0; 64],
+            version: decl.version,
             shared: Sizes::from_slice(alloc, decl.shared.as_slice())?,
             barriers: decl.barriers.len(),
             semaphores: decl.semaphores.len(),
@@ -347,7 +351,9 @@ impl Context {
         ensures err { OnErr result (self.new ≡ self.old) }
     {
         match command {
-            Command::Begin { mode } => self.block = Some(empty_block(self.alloc, *mode)),
+            Command::Begin { mode } => {
+                self.block = Some(empty_block(self.alloc, block_mode(self.version, *mode)));
+            }
             Command::Vertex { pos } => self.add_vertex(*pos)?,
             Command::Color(color) => self.color = *color,
             Command::TexCoord { s, t } => {
@@ -483,6 +489,14 @@ impl Context {
     {
         self.faults
     }
+}
+
+// The mode of the block that Begin opens.
+fn block_mode(version: u8, kind: u8) -> u8
+    requires { has_codes (cmd.Begin kind) ≡ true }
+    ensures { result ≡ block_mode version kind }
+{
+    if version == 2 { kind + CUT_MODES } else { kind }
 }
 
 // A block without vertices.

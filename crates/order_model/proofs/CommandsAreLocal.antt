@@ -1,55 +1,43 @@
 -- The commands of a scene change and read only what their footprints say.
-use Rattle.std.proofs.Common.{◌≡◌, ℕ, ◌==◌, Bool, true, false, List, [], ◌∷◌, fold, Option, Some, None, ℤ, inl, inr, refl, ap, ◌∙◌, if◌then◌else◌, eq-eqb, length, slice_index, ◌+◌, ◌<◌, ◌&&◌, nat_lt, cond, pos, sym, arith, ltb-true}
+use Rattle.std.proofs.Common.{◌≡◌, ℕ, ◌==◌, Bool, true, false, List, [], ◌∷◌, fold, Option, Some, ℤ, inl, inr, refl, ap, ◌∙◌, eq-eqb, slice_index, ◌+◌, ◌<◌, ◌&&◌, nat_lt, cond, pos, sym, arith, ltb-true}
 use Rattle.std.specs.Prelude.{slice_index}
 use Rattle.std.proofs.lemmas.Bool.{cases_Bool, and_parts, and_from, or_parts}
 use Rattle.std.proofs.lemmas.List.Folds.{list_any_at}
 use Rattle.std.proofs.lemmas.List.FromFn.{length-range_with_len, get_or-range_with_len}
 use Rattle.std.specs.List.{list_any, range_with_len}
-use Rattle.std.specs.Option.{option_map_or}
 use Rattle.rc_base.specs.Pictures.{Picture}
 use Rattle.rc_base.specs.Contexts.Context.{private_image, shared_sides}
 use Rattle.rc_base.specs.Contexts.Issue.{context_after, effect_at}
 use Rattle.rc_base.specs.Drawing.Cover.{covers}
-use Rattle.rc_base.specs.Drawing.Fragment.{fragment_of}
-use Rattle.rc_base.specs.Drawing.Kept.{kept_triangle}
-use Rattle.rc_base.specs.Drawing.PixelStep.{fragment_step, triangle_step, block_step, effect_step}
+use Rattle.rc_base.specs.Drawing.Pieces.{kept_triangles}
+use Rattle.rc_base.specs.Drawing.PixelStep.{triangle_step, block_step, effect_step}
 use Rattle.rc_base.specs.Drawing.Serial.{stored, pixel_step, textures_step}
 use Rattle.rc_base.specs.Drawing.Texel.{bound_kind, bound_name, sampled, SharedTexels, shared_picture, samples_shared}
 use Rattle.rc_base.specs.Drawing.Touch.{touches, may_sample, writes_shared}
-use Rattle.rc_base.specs.Drawing.Triangles.{triangles_of}
 use Rattle.rc_base.specs.Orders.Footprints.{is_in_window, touches_pixel, touches_some}
 use Rattle.rc_base.specs.declared.scene.Scene.{Scene}
 use Rattle.rc_base.specs.declared.state.Effect.{Effect}
 use Rattle.rc_base.specs.declared.state.Effect.TheVariants as eff
 use Rattle.rc_base.specs.declared.state.State.{State}
-use Rattle.rc_base.specs.declared.state.Vertex.{Vertex}
 use Rattle.rc_base.specs.declared.sync.Name.{Name}
 use Rattle.rc_base.specs.declared.window.Pixel.{Pixel}
 use Rattle.rc_base.specs.declared.window.WindowVertex.{WindowVertex}
 use Rattle.order_model.specs.Commuting.{IsLocal, drawing_of}
 
--- a triangle that doesn't cover the pixel
-one_triangle : (s : State) (picture : Option Picture) (vs : List Vertex) (x y : ℤ) (old : Pixel) (t : List ℕ)
-    → option_map_or (λ v. covers s v x y) (kept_triangle s vs t) false ≡ false → triangle_step s picture vs x y old t ≡ old
-one_triangle s picture vs x y old t h = go (kept_triangle s vs t) h
-  where
-    go : (o : Option (List WindowVertex)) → option_map_or (λ v. covers s v x y) o false ≡ false
-        → option_map_or (λ v. if covers s v x y then fragment_step s picture (fragment_of v x y) old else old) o old ≡ old
-    go None h = refl
-    go (Some v) h = rw h refl
-
-no_triangle : (s : State) (picture : Option Picture) (vs : List Vertex) (x y : ℤ) (ts : List (List ℕ)) (old : Pixel)
-    → list_any (λ t. option_map_or (λ v. covers s v x y) (kept_triangle s vs t) false) ts ≡ false → fold (triangle_step s picture vs x y) old ts ≡ old
-no_triangle s picture vs x y [] old h = refl
-no_triangle s picture vs x y (t ∷ ts) old h =
-    let k = or_parts _ _ h in
-    ap (λ p. fold (triangle_step s picture vs x y) p ts) (one_triangle s picture vs x y old t k.0) ∙ no_triangle s picture vs x y ts old k.1
+-- triangles that don't cover the pixel
+no_triangle : (s : State) (picture : Option Picture) (x y : ℤ) (vs : List (List WindowVertex)) (old : Pixel)
+    → list_any (λ v. covers s v x y) vs ≡ false → fold (triangle_step s picture x y) old vs ≡ old
+no_triangle s picture x y [] old h = refl
+no_triangle s picture x y (v ∷ vs) old h =
+    let k = or_parts (covers s v x y) (list_any (λ u. covers s u x y) vs) h in
+    let one : triangle_step s picture x y old v ≡ old = rw k.0 refl in
+    ap (λ p. fold (triangle_step s picture x y) p vs) one ∙ no_triangle s picture x y vs old k.1
 
 pub untouched_stays : (s : State) (privates : ℕ → Option Picture) (shareds : ℕ → Picture) (e : Effect) (px py : ℤ) (old : Pixel) → touches s e px py ≡ false
     → effect_step s privates shareds e px py old ≡ old
 unfolding touches block_step
 untouched_stays s privates shareds (eff.Block block) px py old h =
-    no_triangle s (sampled s privates shareds) block.vertices px py (triangles_of block.mode (length block.vertices)) old h
+    no_triangle s (sampled s privates shareds) px py (kept_triangles s block) old h
 untouched_stays s privates shareds (eff.Clear mask) px py old h = rw h refl
 untouched_stays s privates shareds eff.Quiet px py old h = refl
 untouched_stays s privates shareds (eff.Refused f) px py old h = refl

@@ -6,6 +6,7 @@ mod LaneBits
 mod BitsToSpan
 mod Convex
 mod SharedEdges
+mod NearEdges
 mod RowsToSpan
 mod Average
 mod CoverInBounds

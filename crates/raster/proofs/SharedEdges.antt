@@ -137,7 +137,7 @@ exactly_one p q c d e h k = rw (h, k, and_last p, and_last q) e
 
 pub no_double_cover_holds : NoDoubleCover
 unfolding covers
-no_double_cover_holds s s' a b c d e f v w i j x y kept other shared =
+no_double_cover_holds s s' block block' v w i j x y kept other shared =
     let one = no_double_edge_holds v w i j x y shared in (
       at_most_one (is_inside v x y) (is_inside w x y) (is_shown_at s x y) (is_shown_at s' x y) one,
       λ h k. exactly_one (is_inside v x y) (is_inside w x y) (is_shown_at s x y) (is_shown_at s' x y) one h k,

@@ -1,4 +1,5 @@
 pub mod SharedEdge
+pub mod NearEdges
 pub mod Spans
 pub mod Lanes
 pub mod Weights

@@ -1,9 +1,10 @@
 -- The law that a pixel on a common edge of two triangles belongs to exactly one of them.
-use Rattle.std.specs.Prelude.{◌≡◌, ◌≢◌, ℕ, zero, suc, ◌<◌, List, Bool, true, false, not, ◌&&◌, Some, ℤ, pos, ◌<ℤ◌}
+use Rattle.std.specs.Prelude.{◌≡◌, ◌≢◌, ℕ, zero, suc, ◌<◌, List, Bool, true, false, not, ◌&&◌, ℤ, pos, ◌<ℤ◌}
+use Rattle.rc_base.specs.Lists.{IsIn}
 use Rattle.rc_base.specs.Drawing.Cover.{edge_value, is_inside, centre, corner, is_in_area, is_in_scissor, covers}
-use Rattle.rc_base.specs.Drawing.Kept.{kept_of}
+use Rattle.rc_base.specs.Drawing.Pieces.{kept_triangles}
+use Rattle.rc_base.specs.declared.state.Block.{Block}
 use Rattle.rc_base.specs.declared.state.State.{State}
-use Rattle.rc_base.specs.declared.state.Vertex.{Vertex}
 use Rattle.rc_base.specs.declared.window.WindowVertex.{WindowVertex}
 
 -- the corner after corner k, going round
@@ -46,11 +47,11 @@ NoDoubleEdge =
 abbrev pub is_shown_at : State → ℤ → ℤ → Bool
 is_shown_at s x y = is_in_area s.viewport x y && is_in_scissor s x y
 
--- Of two triangles, each kept by its own state, at most one covers the pixel, and exactly one where it lies in both viewports and in each scissor
--- box that is on.
+-- Of two kept triangles of blocks, each by its own state, at most one covers the pixel, and exactly one where it lies in both viewports and in each
+-- scissor box that is on. A kept triangle may be a piece of one that is cut at the near plane.
 abbrev pub NoDoubleCover : Type 0
 NoDoubleCover =
-    (s s' : State) (a b c d e f : Vertex) (v w : List WindowVertex) (i j : ℕ) (x y : ℤ)
-    → kept_of s a b c ≡ Some v → kept_of s' d e f ≡ Some w → IsOnSharedEdge v i w j x y
+    (s s' : State) (block block' : Block) (v w : List WindowVertex) (i j : ℕ) (x y : ℤ)
+    → IsIn v (kept_triangles s block) → IsIn w (kept_triangles s' block') → IsOnSharedEdge v i w j x y
     → ((covers s v x y && covers s' w x y) ≡ false)
     × (is_shown_at s x y ≡ true → is_shown_at s' x y ≡ true → covers s v x y ≡ not (covers s' w x y))

@@ -11,7 +11,7 @@ use Rattle.std.proofs.lemmas.Option.{slice_get_cases}
 use Rattle.rc_base.specs.Lists.{at_name}
 use Rattle.rc_base.specs.Cluster.Tiles.{tile_count}
 use Rattle.rc_base.specs.Contexts.Issue.{stream_of}
-use Rattle.rc_base.specs.Formats.Limits.{Quantity, quantity, is_outside, first_outside, size_area, side, barrier_count, least_swaps, commands_in, limit_of, layout_limit}
+use Rattle.rc_base.specs.Formats.Limits.{Quantity, quantity, is_outside, first_outside, size_area, side, barrier_count, least_swaps, frame_pixels, commands_in, limit_of, layout_limit}
 use Rattle.rc_base.specs.Formats.Spelling.{IsSize}
 use Rattle.rc_base.specs.Formats.Within.{IsLayoutFor}
 use Rattle.rc_base.specs.declared.command.Command.{Command}
@@ -40,10 +40,14 @@ in_range what value least most inside = grind (arith, nat_tests, inside)
 abbrev commands : Scene → Quantity
 commands s = record { what = 11; value = commands_in s.streams; least = 0; most = 1048576 }
 
+abbrev frames : Scene → Quantity
+frames s = record { what = 12; value = least_swaps s.streams; least = 0; most = 1048576 }
+
+abbrev pixels : Scene → Quantity
+pixels s = record { what = 13; value = frame_pixels s; least = 0; most = 2147483648 }
+
 abbrev frames_on : Scene → List Quantity
-frames_on s =
-    record { what = 12; value = least_swaps s.streams; least = 0; most = 1048576 }
-    ∷ record { what = 13; value = least_swaps s.streams * (s.decl.width * s.decl.height); least = 0; most = 33554432 } ∷ []
+frames_on s = frames s ∷ (pixels s ∷ [])
 
 abbrev semaphores : Scene → Quantity
 semaphores s = record { what = 10; value = length s.decl.semaphores; least = 0; most = 64 }
@@ -145,10 +149,17 @@ module _ (scene : Scene) (within : limit_of scene ≡ None) where
   pub few_barriers : length scene.decl.barriers ≤ 64
   few_barriers = (in_range 8 (length scene.decl.barriers) 0 64 (first_within (barrier_number scene) (barriers_on scene) from_number).0).1
 
+  from_commands : first_outside (commands scene ∷ frames_on scene) ≡ None
+  from_commands =
+      (first_within (semaphores scene) (commands scene ∷ frames_on scene) (later_within (map barrier_count scene.decl.barriers) (semaphores_on scene) from_barriers)).1
+
   commands_within : commands_in scene.streams ≤ 1048576
-  commands_within =
-      let from_semaphores = later_within (map barrier_count scene.decl.barriers) (semaphores_on scene) from_barriers in
-      (in_range 11 (commands_in scene.streams) 0 1048576 (first_within (commands scene) (frames_on scene) (first_within (semaphores scene) (commands scene ∷ frames_on scene) from_semaphores).1).0).1
+  commands_within = (in_range 11 (commands_in scene.streams) 0 1048576 (first_within (commands scene) (frames_on scene) from_commands).0).1
+
+  -- each frame has its Swap of each client
+  pub few_frames : least_swaps scene.streams ≤ 1048576
+  few_frames =
+      (in_range 12 (least_swaps scene.streams) 0 1048576 (first_within (frames scene) (pixels scene ∷ []) (first_within (commands scene) (frames_on scene) from_commands).1).0).1
 
   -- each client has few commands
   pub few_commands : (client : ℕ) → length (stream_of scene client) < 2 ^ 32

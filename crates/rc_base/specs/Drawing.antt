@@ -2,6 +2,7 @@
 pub mod Triangles
 pub mod Window
 pub mod Kept
+pub mod Pieces
 pub mod Cover
 pub mod Fragment
 pub mod Texel

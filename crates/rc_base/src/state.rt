@@ -15,7 +15,10 @@ pub struct Vertex {
 /// The vertices of a block, in the order of issue.
 pub type Vertices = Items<Vertex>;
 
-/// A block of triangles (0), a strip (1) or a fan (2).
+/// The first mode of the blocks of scenes of version 2, whose triangles are cut at the near plane.
+pub const CUT_MODES: u8 = 16;
+
+/// A block of triangles (0), a strip (1) or a fan (2). In a scene of version 2 its mode is `CUT_MODES` more.
 #[derive(Clone, Debug, PartialEq, Drop)]
 pub struct Block {
     pub mode: u8,

@@ -33,6 +33,18 @@ pub struct WindowVertex {
     pub t: i32,
 }
 
+/// A vertex in homogeneous clip coordinates, 16.16 fixed point, with the colour and the texture coordinate that it brings.
+#[derive(Clone, Copy, Debug, PartialEq, Eq)]
+pub struct ClipVertex {
+    pub x: i64,
+    pub y: i64,
+    pub z: i64,
+    pub w: i64,
+    pub color: Rgba,
+    pub s: i32,
+    pub t: i32,
+}
+
 /// What a triangle brings to a pixel that it covers.
 #[derive(Clone, Copy, Debug, PartialEq, Eq)]
 pub struct Fragment {

@@ -2,7 +2,7 @@
 use Rattle.std.proofs.Common.{◌≡◌, ℕ, ◌≤◌, List, length, None, Some, refl, sym, ap, subst, arith, ◌∙◌}
 use Rattle.std.specs.Option.{option_or}
 use Rattle.std.specs.declared.option.Option.{Option}
-use Rattle.rc_base.specs.Formats.Limits.{limit_of, size_limit}
+use Rattle.rc_base.specs.Formats.Limits.{held_limit, limit_of, size_limit}
 use Rattle.rc_base.specs.Outside.Transfer.{byte_limit}
 use Rattle.rc_base.specs.declared.scene.Limit.{Limit}
 use Rattle.rc_base.specs.declared.scene.Scene.{Scene}
@@ -11,10 +11,11 @@ use Rattle.scene_text.specs.Laws.{OneScene}
 use Rattle.render_core.specs.declared.job.Form.{Form}
 use Rattle.render_core.specs.declared.job.Form.TheVariants.{Bytes, Text}
 use Rattle.render_core.specs.declared.job.Job.{Job}
+use Rattle.render_core.specs.declared.job.Job.TheVariants.{Render, Simulate, Serial, Check, Pack, Unpack, Gen, Demo}
 use Rattle.render_core.specs.declared.job.Origin.{Origin}
 use Rattle.render_core.specs.declared.job.Origin.TheVariants.{Read, Generated}
 use Rattle.rc_base.specs.Outside.Ends.{Used}
-use Rattle.render_core.specs.Jobs.{cluster_of, limit_for, origin_of, scene_limit, tile_limit, with_rounds, word_limit, Spells, Gives, HasScene}
+use Rattle.render_core.specs.Jobs.{cluster_limit, cluster_of, limit_for, origin_of, scene_limit, tile_limit, with_rounds, word_limit, Spells, Gives, HasScene}
 use Rattle.render_core.specs.Lines.{limit_line}
 use Rattle.render_core.specs.Findings.{Finding, Long, Malformed, Outside, Sound, TellsFault, IsJudged, Judged}
 use Rattle.render_core.specs.Laws.{FindingsAreOne}
@@ -42,10 +43,26 @@ rounds_within seed size first e = (neither first (size_limit size) e).1
 
 -- of the words tiles and lanes aren't
 pub tiles_within : (job : Job) (scene : Scene) → word_limit job scene ≡ None → tile_limit (cluster_of job) scene ≡ None
-tiles_within job scene e = go (origin_of job) e where
-  go : (origin : Origin) → with_rounds origin (tile_limit (cluster_of job) scene) ≡ None → tile_limit (cluster_of job) scene ≡ None
-  go (Read form) h = h
-  go (Generated seed size) h = (neither (tile_limit (cluster_of job) scene) (size_limit size) h).0
+tiles_within (Render cluster) scene e = e
+tiles_within (Simulate seed cluster) scene e = (neither (cluster_limit cluster scene) (held_limit scene) e).0
+tiles_within Serial scene e = refl
+tiles_within Check scene e = refl
+tiles_within Pack scene e = refl
+tiles_within Unpack scene e = refl
+tiles_within (Gen seed size) scene e = refl
+tiles_within (Demo seed size cluster) scene e = (neither (cluster_limit cluster scene) (size_limit size) e).0
+
+-- of a job that makes its scene, its tiles and lanes and then its rounds are judged
+pub made_words : (job : Job) (seed size : ℕ) (scene : Scene) → origin_of job ≡ Generated seed size
+    → word_limit job scene ≡ option_or (tile_limit (cluster_of job) scene) (size_limit size)
+made_words (Render cluster) seed size scene e = absurd cc
+made_words (Simulate other cluster) seed size scene e = absurd cc
+made_words Serial seed size scene e = absurd cc
+made_words Check seed size scene e = absurd cc
+made_words Pack seed size scene e = absurd cc
+made_words Unpack seed size scene e = absurd cc
+made_words (Gen other rounds) seed size scene e = ap (λ (origin : Origin). with_rounds origin None) e
+made_words (Demo other rounds cluster) seed size scene e = ap (λ (origin : Origin). with_rounds origin (cluster_limit cluster scene)) e
 
 -- where no scene within the limits is spelled and none outside, none is
 pub unspelled : (form : Form) (input : List ℕ) → ((s : Scene) → Spells form input s → limit_of s ≡ None → ⊥)

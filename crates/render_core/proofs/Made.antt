@@ -1,5 +1,5 @@
 -- What is known of a scene that is made.
-use Rattle.std.proofs.Common.{◌≡◌, ℕ, List, [], ◌∷◌, None, refl, sym, subst, arith}
+use Rattle.std.proofs.Common.{◌≡◌, ℕ, List, [], ◌∷◌, None, sym, subst, arith}
 use Rattle.std.specs.List.{AllByRecursion}
 use Rattle.rc_base.specs.declared.command.Command.{Command}
 use Rattle.rc_base.specs.declared.scene.Scene.{Scene}
@@ -41,7 +41,7 @@ streams_whole (cs ∷ css) h = (are_whole cs h.0, streams_whole css h.1)
 decl_made : (seed size : ℕ) → IsDecl (generated_scene seed size).decl
 unfolding generated_scene
 decl_made seed size = record {
-  version = refl;
+  version = (omega arith, omega arith);
   width = omega arith;
   height = omega arith;
   few_shared = omega arith;

@@ -12,6 +12,7 @@ use Rattle.rc_base.specs.Drawing.Serial.{frame_pixel}
 use Rattle.rc_base.specs.Formats.Limits.{limit_of, size_limit}
 use Rattle.rc_base.specs.Formats.Netpbm.{p6_text, p6_texts}
 use Rattle.rc_base.specs.Orders.Footprints.{IsOrderedScene}
+use Rattle.rc_base.specs.Program.Generator.{generated_scene}
 use Rattle.rc_base.specs.Orders.Order.{IsPermitted}
 use Rattle.rc_base.specs.Orders.Sync.{IsWellFormed, sync_lists_of}
 use Rattle.rc_base.specs.declared.image.Image.{Image}
@@ -25,13 +26,13 @@ use Rattle.order_model.specs.Sent.{IsRecordOf}
 use Rattle.order_model.specs.declared.record.Record.{Record}
 use Rattle.scene_file.specs.Generated.{GeneratedScenesAreWithin}
 use Rattle.render_core.specs.Due.{default_frames}
-use Rattle.render_core.specs.Jobs.{Gives, IsInput, cluster_of, layout_for, origin_of, scene_limit, tile_limit, with_rounds}
+use Rattle.render_core.specs.Jobs.{Gives, IsInput, cluster_limit, cluster_of, layout_for, origin_of, scene_limit, tile_limit, with_rounds, word_limit}
 use Rattle.render_core.specs.Laws.{OrderedRecordsShowOneImage}
 use Rattle.render_core.specs.Outcomes.{ShowsEveryPermittedOrder}
 use Rattle.render_core.specs.declared.job.Cluster.{Cluster}
 use Rattle.render_core.specs.declared.job.Job.{Job}
-use Rattle.render_core.specs.declared.job.Origin.{Origin}
-use Rattle.render_core.specs.declared.job.Origin.TheVariants.{Read, Generated}
+use Rattle.render_core.specs.declared.job.Job.TheVariants.{Render, Simulate, Serial, Check, Pack, Unpack, Gen, Demo}
+use Rattle.render_core.specs.declared.job.Origin.TheVariants.{Generated}
 use Rattle.render_core.proofs.Recorded.{layout_within}
 use Rattle.render_core.proofs.Judging.{rounds_within, tiles_within, within_both}
 use Rattle.rc_base.proofs.WithinLimits.{clients_within, counts_some, first_within, in_range, tiles_within as layout_tiles}
@@ -100,17 +101,27 @@ few_rounds : (size : ℕ) → size_limit size ≡ None → size ≤ 4096
 unfolding size_limit
 few_rounds size e = (in_range 18 size 1 4096 (first_within (record { what = 18; value = size; least = 1; most = 4096 }) [] e).0).1
 
-limits_of : GeneratedScenesAreWithin → (origin : Origin) (tiles : Option Limit) (input : List ℕ) (scene : Scene) → Gives origin input scene
-    → scene_limit origin scene ≡ None → with_rounds origin tiles ≡ None → limit_of scene ≡ None
-limits_of made (Read form) tiles input scene gives own words = own
-limits_of made (Generated seed size) tiles input scene gives own words =
-    subst (λ (s : Scene). limit_of s ≡ None) (sym gives) (made seed size (few_rounds size (rounds_within seed size tiles words))).limits
+made_within : GeneratedScenesAreWithin → (seed size : ℕ) (first : Option Limit) (scene : Scene) → scene ≡ generated_scene seed size
+    → with_rounds (Generated seed size) first ≡ None → limit_of scene ≡ None
+made_within made seed size first scene is words =
+    subst (λ (s : Scene). limit_of s ≡ None) (sym is) (made seed size (few_rounds size (rounds_within seed size first words))).limits
+
+limits_of : GeneratedScenesAreWithin → (job : Job) (input : List ℕ) (scene : Scene) → Gives (origin_of job) input scene
+    → scene_limit (origin_of job) scene ≡ None → word_limit job scene ≡ None → limit_of scene ≡ None
+limits_of made (Render cluster) input scene gives own words = own
+limits_of made (Simulate seed cluster) input scene gives own words = own
+limits_of made Serial input scene gives own words = own
+limits_of made Check input scene gives own words = own
+limits_of made Pack input scene gives own words = own
+limits_of made Unpack input scene gives own words = own
+limits_of made (Gen seed size) input scene gives own words = made_within made seed size None scene gives words
+limits_of made (Demo seed size cluster) input scene gives own words = made_within made seed size (cluster_limit cluster scene) scene gives words
 
 module _ (formed : SceneListsAreWellFormed) (made : GeneratedScenesAreWithin) (permitted : OrderedRunsShowOneImage) (default : FullOrderedRunsShowTheDefaultImage) where
   module _ (job : Job) (cluster : Cluster) (input : List ℕ) (scene : Scene) (kept : Record) (of : cluster_of job ≡ Some cluster) (is : IsInput job input scene)
       (lawful : IsRecordOf scene (layout_for cluster scene) kept) (ordered : IsOrderedScene scene kept.journal) where
     within : limit_of scene ≡ None
-    within = limits_of made (origin_of job) (tile_limit (cluster_of job) scene) input scene is.gives (within_both job scene is.within).0 (within_both job scene is.within).1
+    within = limits_of made job input scene is.gives (within_both job scene is.within).0 (within_both job scene is.within).1
 
     well : IsWellFormed (sync_lists_of scene)
     well = formed scene (clients_within scene within).0 (counts_some scene within)

@@ -6,7 +6,7 @@ use Rattle.std.specs.Global.{Global}
 use Rattle.rc_base.specs.declared.scene.Limit.{Limit}
 use Rattle.rc_base.specs.declared.scene.Scene.{Scene}
 use Rattle.rc_base.specs.declared.window.Layout.{Layout}
-use Rattle.rc_base.specs.Formats.Limits.{Quantity, layout_quantities, first_outside, limit_of, size_limit}
+use Rattle.rc_base.specs.Formats.Limits.{Quantity, layout_quantities, first_outside, held_limit, limit_of, size_limit}
 use Rattle.rc_base.specs.Formats.Spelling.{SpellsScene}
 use Rattle.rc_base.specs.Formats.Text.Read.{SpellsText}
 use Rattle.rc_base.specs.Cluster.Tiles.{tile_count}
@@ -153,8 +153,10 @@ abbrev pub with_rounds : Origin → Option Limit → Option Limit
 with_rounds (Read form) first = first
 with_rounds (Generated seed size) first = option_or first (size_limit size)
 
--- of the job's words: the tiles and the lanes, and then the rounds
+-- Of what the job asks for: the tiles and the lanes of its words, and then the rounds; or the pixels of all frames, where it holds them all at once.
 abbrev pub word_limit : Job → Scene → Option Limit
+word_limit (Simulate seed cluster) scene = option_or (cluster_limit cluster scene) (held_limit scene)
+word_limit Serial scene = held_limit scene
 word_limit job scene = with_rounds (origin_of job) (tile_limit (cluster_of job) scene)
 
 -- the first quantity outside its range of all that are judged for the job: the scene's, and then the words'

@@ -6,7 +6,7 @@ use Rattle.std.specs.List.{AllByRecursion}
 use Rattle.rc_base.specs.Formats.Commands.{IsCommand}
 use Rattle.rc_base.specs.Formats.Limits.{limit_of, size_limit}
 use Rattle.rc_base.specs.Formats.Netpbm.{p6_texts}
-use Rattle.rc_base.specs.Formats.Spelling.{IsDecl}
+use Rattle.rc_base.specs.Formats.Spelling.{IsDecl, IsVersion}
 use Rattle.rc_base.specs.Program.Generator.{generated_scene}
 use Rattle.rc_base.specs.declared.transfer.ReadAllFault.{ReadAllFault}
 use Rattle.rc_base.specs.declared.transfer.ReadAllFault.TheVariants as reading
@@ -110,10 +110,10 @@ pub record Came (job : Job) (source : Used) (scene : Scene) : Type 0 where
   pub gives : Gives (origin_of job) input scene
   pub within : scene_limit (origin_of job) scene ≡ None
 
--- what is known of a scene that was read: of bytes its fields are in their ranges, of a text its version is 1 and its pictures are whole
+-- what is known of a scene that was read: of bytes its fields are in their ranges, of a text its version is 1 or 2 and its pictures are whole
 abbrev pub IsWellRead : Form → Scene → Type 0
 IsWellRead Bytes scene = IsDecl scene.decl × AllByRecursion (AllByRecursion IsCommand) scene.streams
-IsWellRead Text scene = (scene.decl.version ≡ 1) × AllByRecursion AreWhole scene.streams
+IsWellRead Text scene = IsVersion scene.decl.version × AllByRecursion AreWhole scene.streams
 
 -- what is known of a scene that was made: its rounds are within their range, and all that is known of a scene that was read
 pub record IsMade (seed size : ℕ) (scene : Scene) : Type 0 where

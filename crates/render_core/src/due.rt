@@ -26,7 +26,7 @@ use rc_base::out_of_memory::OutOfMemory;
 use rc_base::scene::{Limit, Scene};
 use rc_base::sync::{Journal, Order, Waiting};
 use rc_base::window::Layout;
-use scene_file::write_scene;
+use scene_file::{check_held, write_scene};
 use scene_text::print_scene;
 use serial_render::{Survey, Turns, render_order, survey, turns_of};
 use std::alloc::{AllocError, Global};
@@ -64,7 +64,7 @@ pub(crate) struct Due {
 /// Why nothing is due for a scene.
 #[derive(Clone, Copy, Debug, PartialEq, Eq)]
 pub enum DueRefusal {
-    /// The words ask for tiles or lanes that are outside their range in the scene's window.
+    /// The words ask for tiles or lanes that are outside their range in the scene's window, or for a job that holds all frames at once, which are too large.
     PastLimit(Limit),
     /// There was no memory.
     OutOfMemory,
@@ -136,6 +136,9 @@ fn simulate(alloc: Global, scene: &Scene, seed: u64, cluster: Cluster) -> Result
         Ok(layout) => layout,
         Err(limit) => return Err(DueRefusal::PastLimit(limit)),
     };
+    if let Err(limit) = check_held(scene) {
+        return Err(DueRefusal::PastLimit(limit));
+    }
     let picks = picks_of(alloc, seed, actor_count(scene, &layout))?;
     cluster_due(alloc, scene, &layout, cluster, picks.as_slice())
 }
@@ -190,10 +193,14 @@ fn serial(alloc: Global, scene: &Scene) -> Result<Due, DueRefusal>
     requires well { IsWellRead OfBytes scene.now }
     requires within { limit_of scene.now ≡ None }
     ensures outcome { IfOk result (λ due. IsOutcome ToSerial scene.now (outcome_of due)) }
+    ensures within { IfOk result (λ due. word_limit ToSerial scene.now ≡ None) }
     ensures writable { IfOk result (λ due. IsWritable due.image) }
     ensures refused { IfErr result (IsNoOutcome ToSerial scene.now) }
 {
     frames_of_scenes_are_writable();
+    if let Err(limit) = check_held(scene) {
+        return Err(DueRefusal::PastLimit(limit));
+    }
     let DefaultRun {
         journal,
         order,

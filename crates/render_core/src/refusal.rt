@@ -133,6 +133,7 @@ fn limit_name(what: u8) -> &'static str
         16 => "tiles",
         17 => "depth",
         18 => "size",
+        19 => "held pixels",
         _ => "",
     }
 }

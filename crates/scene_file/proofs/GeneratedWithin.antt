@@ -133,7 +133,7 @@ abbrev table : ℕ → ℕ → ℕ → List Quantity
 table clients commands frames =
     quantity 2 256 1 2048 ∷ quantity 3 256 1 2048 ∷ quantity 4 clients 1 8 ∷ quantity 5 0 0 16 ∷ quantity 7 0 0 1048576 ∷ quantity 8 1 0 64
     ∷ quantity 9 8 1 8 ∷ quantity 10 0 0 64 ∷ quantity 11 commands 0 1048576 ∷ quantity 12 frames 0 1048576
-    ∷ quantity 13 (frames * (256 * 256)) 0 33554432 ∷ []
+    ∷ quantity 13 (frames * (256 * 256)) 0 2147483648 ∷ []
 
 table_fits : (commands : ℕ) → commands ≤ 1048576 → first_outside (table 8 commands 1) ≡ None
 table_fits commands few =

@@ -4,7 +4,7 @@ use Rattle.std.specs.List.{flat_map, AllByRecursion}
 use Rattle.std.specs.Int.{w16, w32}
 use Rattle.std.proofs.lemmas.List.Concat.{flat_map-cons}
 use Rattle.rc_base.specs.Formats.Commands.{AreBytes}
-use Rattle.rc_base.specs.Formats.Spelling.{half, long, size, IsDecl, IsSide, IsSize, IsCount, stream_text}
+use Rattle.rc_base.specs.Formats.Spelling.{half, long, size, IsVersion, IsDecl, IsSide, IsSize, IsCount, stream_text}
 use Rattle.cmd_pack.specs.declared.fault.Form.{Form}
 use Rattle.cmd_pack.proofs.Codec.{AreBytes-rest, Codec, sized_codec, convert_codec}
 use Rattle.cmd_pack.proofs.NumberCodecs.{IsByte, one_byte, byte_codec, number_codec, run_codec, IsRun, wide16, wide32}
@@ -79,8 +79,9 @@ head_text h =
     ++ ((h.clients ∷ length h.decl.shared ∷ length h.decl.barriers ∷ length h.decl.semaphores ∷ [])
     ++ (flat_map size h.decl.shared ++ (h.decl.barriers ++ flat_map half h.decl.semaphores))))
 
-pub record IsHead (h : Head) : Type 0 where
+pub record IsHead (v : ℕ) (h : Head) : Type 0 where
   pub decl : IsDecl h.decl
+  pub version : h.decl.version ≡ v
   pub clients : h.clients < 256
 
 abbrev IsFront : Front → Type 0
@@ -98,8 +99,9 @@ AreLists x y = AreTimes IsSize x.1.1.1.0 y.0 × (IsRun x.1.1.1.1.0 y.1.0 × AreT
 abbrev lists_text : Lists → List ℕ
 lists_text y = flat_map size y.0 ++ (y.1.0 ++ flat_map half y.1.1)
 
-head_same : (x : Front × Lists) → IsFront x.0 × AreLists x.0 x.1 → (head_text (make_head x) ≡ front_text x.0 ++ lists_text x.1) × IsHead (make_head x)
-head_same x fits =
+head_same : (version : ℕ) → IsVersion version → (x : Front × Lists) → IsFront x.0 × AreLists x.0 x.1
+    → (head_text (make_head version x) ≡ front_text x.0 ++ lists_text x.1) × IsHead version (make_head version x)
+head_same version is_version x fits =
     let few = fits.0.1.1.1 in
     let shared = fits.1.0 in
     let barriers = fits.1.1.0 in
@@ -107,7 +109,7 @@ head_same x fits =
       λ i. half x.0.0 ++ (half x.0.1.0 ++ ((x.0.1.1.0 ∷ shared.0 i ∷ barriers.0 i ∷ semaphores.0 i ∷ []) ++ lists_text x.1)),
       record {
         decl = record {
-          version = refl;
+          version = is_version;
           width = fits.0.0;
           height = fits.0.1.0;
           few_shared = omega (arith, shared.0, few.0);
@@ -117,30 +119,31 @@ head_same x fits =
           barriers = all_bytes x.1.1.0 barriers.1;
           semaphores = semaphores.1;
         };
+        version = refl;
         clients = fits.0.1.1.0;
       },
     )
 
-head_back : (h : Head) → IsHead h → (x : Front × Lists) × (IsFront x.0 × AreLists x.0 x.1) × (make_head x ≡ h)
-head_back h is =
+head_back : (version : ℕ) (h : Head) → IsHead version h → (x : Front × Lists) × (IsFront x.0 × AreLists x.0 x.1) × (make_head version x ≡ h)
+head_back version h is =
     let d = h.decl in (
       ((d.width, (d.height, (h.clients, (length d.shared, (length d.barriers, length d.semaphores))))), (d.shared, (d.barriers, d.semaphores))),
       (
         (is.decl.width, (is.decl.height, (is.clients, (is.decl.few_shared, (is.decl.few_barriers, is.decl.few_semaphores))))),
         ((refl, is.decl.shared), ((refl, are_bytes d.barriers is.decl.barriers), (refl, is.decl.semaphores))),
       ),
-      λ i. record { decl = record { version = sym is.decl.version i; width = d.width; height = d.height; shared = d.shared; barriers = d.barriers; semaphores = d.semaphores }; clients = h.clients },
+      λ i. record { decl = record { version = sym is.version i; width = d.width; height = d.height; shared = d.shared; barriers = d.barriers; semaphores = d.semaphores }; clients = h.clients },
     )
 
-pub head_codec : Codec read_head head_text IsHead
+pub head_codec : (version : ℕ) → IsVersion version → Codec (read_head version) head_text (IsHead version)
 unfolding read_head
-head_codec =
-    convert_codec make_head head_text IsHead
+head_codec version is_version =
+    convert_codec (make_head version) head_text (IsHead version)
     (sized_codec {s = front_text} {F = IsFront} {t = λ _ y. lists_text y} {G = AreLists}
     (sized_codec half_codec (λ _ _. sized_codec half_codec (λ _ _. sized_codec byte_codec (λ _ _. sized_codec byte_codec (λ _ _. sized_codec byte_codec (λ _ _. byte_codec))))))
     (λ x _. sized_codec (times_codec size_codec x.1.1.1.0) (λ _ _. sized_codec (run_codec x.1.1.1.1.0) (λ _ _. times_codec half_codec x.1.1.1.1.1))))
-    head_same
-    head_back
+    (head_same version is_version)
+    (head_back version)
 
 -- ---- a stream and its length
 

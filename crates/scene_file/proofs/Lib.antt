@@ -1,3 +1,4 @@
+mod Versions
 pub mod LeastSwaps
 pub mod LimitsByParts
 pub mod TimesInTurn

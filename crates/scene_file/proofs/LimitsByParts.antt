@@ -7,7 +7,7 @@ use Rattle.std.proofs.lemmas.Bool.{cond-true}
 use Rattle.rc_base.specs.declared.scene.Decl.{Decl}
 use Rattle.rc_base.specs.declared.scene.Limit.{Limit}
 use Rattle.rc_base.specs.declared.scene.Scene.{Scene}
-use Rattle.rc_base.specs.Formats.Limits.{Quantity, is_outside, first_outside, size_area, side, barrier_count, least_swaps, commands_in, limit_of}
+use Rattle.rc_base.specs.Formats.Limits.{held_limit, Quantity, is_outside, first_outside, size_area, side, barrier_count, least_swaps, commands_in, limit_of}
 use Rattle.scene_file.specs.Judging.{judged, or_else, one, window_part, judge_decl, stream_part, judge_parts, judge_scene}
 use Rattle.scene_file.specs.declared.reading.Counted.{Counted}
 use Rattle.scene_file.specs.Counting.{Counts}
@@ -52,6 +52,11 @@ pub judged_limit : (s : Scene) (r : Result (Unit {0}) Limit) → judged r ≡ ju
 judged_limit s (Ok u) h = limit_parts s ∙ sym h
 judged_limit s (Err l) h = limit_parts s ∙ sym h
 
+-- the same of what a scene's frames hold
+pub held_is : (s : Scene) (r : Result (Unit {0}) Limit) → judged r ≡ held_limit s → MatchResult r (λ _. held_limit s ≡ None) (λ l. held_limit s ≡ Some l)
+held_is s (Ok u) h = sym h
+held_is s (Err l) h = sym h
+
 -- ---- of a scene of which not all commands are stored
 
 -- what is told of a scene by its declaration, and the numbers of its clients, its commands and its frames
@@ -84,7 +89,7 @@ pub all_stored : (x : Counted) (s : Scene) → Counts x s → judge_parts x.scen
 all_stored x s c h =
     let d = x.scene.decl in
     let others : List Quantity = record { what = 12; value = x.frames; least = 0; most = 1048576 }
-    ∷ record { what = 13; value = x.frames * (d.width * d.height); least = 0; most = 33554432 } ∷ [] in
+    ∷ record { what = 13; value = x.frames * (d.width * d.height); least = 0; most = 2147483648 } ∷ [] in
     let streams = none_first (judge_decl d (length x.scene.streams)) (first_outside (stream_part d x.commands x.frames)) h in
     let commands = none_first (first_outside (one 11 x.commands 1048576)) (first_outside others) (sym (outside_append (one 11 x.commands 1048576) others) ∙ streams.1) in
     c.stored (single 11 x.commands 1048576 commands.0)

@@ -12,6 +12,7 @@ use Rattle.cmd_pack.specs.declared.fault.PackFault.TheVariants as faults
 use Rattle.cmd_pack.specs.Faults.{FailsAsStream, IsFault, FaultsAreOne}
 use Rattle.scene_file.specs.Faults.{Differs, IsCutHeader, IsCutText, HasFront, HasStreamFault, FailsAsText, FailsInStreams, HasTrailing, FailsAsScene}
 use Rattle.scene_file.proofs.HeaderCodec.{head_text}
+use Rattle.scene_file.proofs.Versions.{differs_by}
 use Rattle.scene_file.proofs.OneScene.{same_text, first_of, none_of, fronts, cut_header_none, cut_text_none, differs_none, text_none}
 
 -- ---- at a stream
@@ -104,13 +105,15 @@ differs_once letters bytes m n a b =
       | inr le ↦ elim (cases_lt n m) [ inl lt ↦ absurd (differs_within letters bytes n m b a lt) | inr ge ↦ omega arith ]
     ]
 
-differs_cut : (bytes : List ℕ) (at : ℕ) → Differs magic bytes at → IsCutHeader bytes → ⊥
+differs_cut : (bytes : List ℕ) (at : ℕ) → Differs (magic 1) bytes at × Differs (magic 2) bytes at → IsCutHeader bytes → ⊥
 differs_cut bytes at d cut =
-    differs_none magic (bytes ++ cut.is_part.more) at (head_text (record { decl = cut.decl; clients = cut.clients })) (differs_more magic bytes cut.is_part.more at d) cut.is_part.parts
+    let m = magic cut.decl.version in
+    differs_none m (bytes ++ cut.is_part.more) at (head_text (record { decl = cut.decl; clients = cut.clients })) (differs_more m bytes cut.is_part.more at (differs_by bytes at cut.decl.version cut.is_decl.version d)) cut.is_part.parts
 
-differs_front : (bytes rest : List ℕ) (at others : ℕ) → Differs magic bytes at → HasFront bytes rest others → ⊥
+differs_front : (bytes rest : List ℕ) (at others : ℕ) → Differs (magic 1) bytes at × Differs (magic 2) bytes at → HasFront bytes rest others → ⊥
 differs_front bytes rest at others d f =
-    differs_none magic bytes at (head_text (record { decl = f.decl; clients = length f.streams + others }) ++ (flat_map stream_text f.texts ++ rest)) d f.parts
+    differs_none (magic f.decl.version) bytes at (head_text (record { decl = f.decl; clients = length f.streams + others }) ++ (flat_map stream_text f.texts ++ rest))
+    (differs_by bytes at f.decl.version f.is_decl.version d) f.parts
 
 cut_front : (bytes rest : List ℕ) (others : ℕ) → IsCutHeader bytes → HasFront bytes rest others → ⊥
 cut_front bytes rest others cut f = cut_header_none bytes cut f.decl (length f.streams + others) (flat_map stream_text f.texts ++ rest) f.is_decl f.few f.parts
@@ -149,7 +152,7 @@ trailing_once bytes m n a b =
 -- ---- all of them
 
 data Case (bytes : List ℕ) (kind : SceneKind) (at : ℕ) : Type 0 where
-  letters : Differs magic bytes at → kind ≡ BadMagic → Case bytes kind at
+  letters : Differs (magic 1) bytes at × Differs (magic 2) bytes at → kind ≡ BadMagic → Case bytes kind at
   cut : IsCutHeader bytes → kind ≡ Truncated → at ≡ length bytes → Case bytes kind at
   streams : FailsInStreams bytes kind at → Case bytes kind at
   trailing : HasTrailing bytes at → kind ≡ Trailing → Case bytes kind at
@@ -163,7 +166,7 @@ case_of bytes Truncated at (inr h) = streams h
 case_of bytes Trailing at h = trailing h refl
 
 cases_once : FaultsAreOne → (bytes : List ℕ) (k l : SceneKind) (m n : ℕ) → Case bytes k m → Case bytes l n → (k ≡ l) × (m ≡ n)
-cases_once one bytes k l m n (letters a p) (letters b q) = (p ∙ sym q, differs_once magic bytes m n a b)
+cases_once one bytes k l m n (letters a p) (letters b q) = (p ∙ sym q, differs_once (magic 1) bytes m n a.0 b.0)
 cases_once one bytes k l m n (letters a p) (cut b q e) = absurd (differs_cut bytes m a b)
 cases_once one bytes k l m n (letters a p) (streams b) = absurd (differs_front bytes b.rest m (suc b.others) a b.front)
 cases_once one bytes k l m n (letters a p) (trailing b q) = absurd (differs_front bytes b.rest m 0 a b.front)

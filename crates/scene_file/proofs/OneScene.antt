@@ -21,6 +21,7 @@ use Rattle.scene_file.specs.declared.header.Head.{Head}
 use Rattle.scene_file.specs.Reading.{read_head}
 use Rattle.scene_file.specs.Faults.{Differs, IsCutHeader, IsCutText, HasFront, HasStreamFault, FailsAsText, FailsInStreams, FailsAsScene}
 use Rattle.scene_file.proofs.HeaderCodec.{head_text, head_codec}
+use Rattle.scene_file.proofs.Versions.{differs_by, same_version}
 
 -- ---- what stands at the front
 
@@ -49,9 +50,12 @@ head d n = record { decl = d; clients = n }
 pub same_header : (d e : Decl) (n m : ℕ) (x y : List ℕ) → header d n ++ x ≡ header e m ++ y → IsDecl d → n < 256 → IsDecl e → m < 256 → (d ≡ e) × (n ≡ m) × (x ≡ y)
 unfolding head
 same_header d e n m x y same p few q few2 =
+    let version = same_version d.version e.version p.version q.version (ap (λ (l : List ℕ). get_or l 3 0) same) in
+    let codec = head_codec d.version p.version in
     let behind : head_text (head d n) ++ x ≡ head_text (head e m) ++ y = ap (drop 4) same in
     let both : (let r : Result (Head × List ℕ) Form = Ok (head d n, x) in r) ≡ Ok (head e m, y) =
-    sym (head_codec.again (head d n) x (record { decl = p; clients = few })) ∙ ap read_head behind ∙ head_codec.again (head e m) y (record { decl = q; clients = few2 }) in
+    sym (codec.again (head d n) x (record { decl = p; version = refl; clients = few })) ∙ ap (read_head d.version) behind
+    ∙ codec.again (head e m) y (record { decl = q; version = sym version; clients = few2 }) in
     let pair : (let v : Head × List ℕ = (head d n, x) in v) ≡ (head e m, y) = cc in
     (ap (λ (v : Head × List ℕ). v.0.decl) pair, ap (λ (v : Head × List ℕ). v.0.clients) pair, ap (λ (v : Head × List ℕ). v.1) pair)
 
@@ -192,7 +196,7 @@ unfolding head
 scene_none bytes BadMagic at s h sp =
     let d = s.decl in
     let n = length s.streams in
-    differs_none magic bytes at (head_text (head d n) ++ flat_map stream_text sp.texts) h sp.parts
+    differs_none (magic d.version) bytes at (head_text (head d n) ++ flat_map stream_text sp.texts) (differs_by bytes at d.version sp.decl.version h) sp.parts
 scene_none bytes BadCount at s h sp = in_streams_none bytes BadCount at s h sp
 scene_none bytes UnknownOpcode at s h sp = in_streams_none bytes UnknownOpcode at s h sp
 scene_none bytes Truncated at s (inl cut) sp = cut_header_none bytes cut.0 s.decl (length s.streams) (flat_map stream_text sp.texts) sp.decl sp.few sp.parts

@@ -1,5 +1,5 @@
 -- Bytes spell a scene, or they have a fault.
-use Rattle.std.proofs.Common.{◌≡◌, ℕ, zero, suc, ◌+◌, ◌<◌, ◌⊎◌, inl, inr, List, [], ◌∷◌, ◌++◌, length, Result, Ok, Err, refl, ap, subst, arith}
+use Rattle.std.proofs.Common.{◌≡◌, ℕ, zero, suc, ◌+◌, ◌<◌, ◌⊎◌, inl, inr, List, [], ◌∷◌, ◌++◌, length, Result, Ok, Err, refl, ap, subst, arith, ◌∙◌}
 use Rattle.std.proofs.lemmas.Bool.{cases_eq}
 use Rattle.rc_base.specs.declared.command.Command.{Command}
 use Rattle.rc_base.specs.declared.scene.Decl.{Decl}
@@ -7,7 +7,7 @@ use Rattle.rc_base.specs.declared.scene.Scene.{Scene}
 use Rattle.rc_base.specs.declared.scene.SceneKind.{SceneKind}
 use Rattle.rc_base.specs.declared.scene.SceneKind.TheVariants.{BadMagic, Truncated, Trailing}
 use Rattle.rc_base.specs.Formats.Commands.{AreBytes}
-use Rattle.rc_base.specs.Formats.Spelling.{magic, stream_text, SpellsScene}
+use Rattle.rc_base.specs.Formats.Spelling.{IsVersion, letters, digit, magic, stream_text, SpellsScene}
 use Rattle.cmd_pack.specs.declared.fault.Form.{Form}
 use Rattle.cmd_pack.specs.declared.fault.Form.TheVariants as forms
 use Rattle.cmd_pack.specs.declared.fault.ReadError.TheVariants as errors
@@ -22,7 +22,7 @@ use Rattle.scene_file.specs.declared.fault.Broken.TheVariants as broken
 use Rattle.scene_file.specs.Reading.{read_head, read_text, field_fault, stream_fault}
 use Rattle.scene_file.specs.Faults.{IsPartOf, Differs, FailsAsScene, SceneFailsBy}
 use Rattle.scene_file.proofs.HeaderCodec.{head_text, head_codec, text_codec}
-use Rattle.scene_file.proofs.StreamsInTurn.{Stage, letters_fail, head_fails, stage_none, stage_more, stage_fails, stage_trailing, stage_done, text_field, text_found, text_fails}
+use Rattle.scene_file.proofs.StreamsInTurn.{Stage, differs_both, digits_differ, letters_part, letters_whole, letters_fail, head_fails, stage_none, stage_more, stage_fails, stage_trailing, stage_done, text_field, text_found, text_fails}
 
 abbrev pub SpelledOrFaulty : List ℕ → Type 0
 SpelledOrFaulty bytes = ((scene : Scene) × SpellsScene bytes scene) ⊎ ((kind : SceneKind) × (at : ℕ) × FailsAsScene bytes kind at)
@@ -101,18 +101,30 @@ onward (suc more) bytes d n i css rest fits count s = next (read_text rest) refl
               (stage_fails bytes d n i css rest (stream_fault failed.0 (length rest)) s less (text_fails rest x.0 x.1 failed.0 fits read failed.2))
         ]
 
-headed : (bytes body : List ℕ) → AreBytes bytes → bytes ≡ magic ++ body → (r : Result (Head × List ℕ) Form) → read_head body ≡ r → SpelledOrFaulty bytes
-headed bytes body fits parts (Err f) read = faulty_by bytes (field_fault (errors.Form f)) (field_form f) (head_fails bytes body (errors.Form f) fits parts read)
-headed bytes body fits parts (Ok x) read =
-    let inner : AreBytes body = AreBytes-behind magic body (subst AreBytes parts fits) in
-    let t = head_codec.maker.takes body x.0 x.1 inner read in
-    onward x.0.clients bytes x.0.decl x.0.clients 0 [] x.1 (AreBytes-behind (head_text x.0) x.1 (subst AreBytes t.0 inner)) (omega arith) (stage_none bytes body x.0 x.1 fits parts read)
+headed : (version : ℕ) → IsVersion version → (bytes body : List ℕ) → AreBytes bytes → bytes ≡ magic version ++ body
+    → (r : Result (Head × List ℕ) Form) → read_head version body ≡ r → SpelledOrFaulty bytes
+headed version is bytes body fits parts (Err f) read = faulty_by bytes (field_fault (errors.Form f)) (field_form f) (head_fails version is bytes body (errors.Form f) fits parts read)
+headed version is bytes body fits parts (Ok x) read =
+    let inner : AreBytes body = AreBytes-behind (magic version) body (subst AreBytes parts fits) in
+    let t = (head_codec version is).maker.takes body x.0 x.1 inner read in
+    onward x.0.clients bytes x.0.decl x.0.clients 0 [] x.1 (AreBytes-behind (head_text x.0) x.1 (subst AreBytes t.0 inner)) (omega arith) (stage_none version is bytes body x.0 x.1 fits parts read)
+
+-- the digit behind the letters
+by_digit : (bytes body : List ℕ) → AreBytes bytes → bytes ≡ letters ++ body → SpelledOrFaulty bytes
+by_digit bytes [] fits parts = let f = letters_fail bytes (broken.Form Truncated 0) (letters_whole bytes parts, refl) in inr (Truncated, f.0, f.1)
+by_digit bytes (b ∷ body) fits parts = elim (cases_eq b (digit 1)) [
+  | inl one ↦ headed 1 (omega arith, omega arith) bytes body fits (parts ∙ ap (λ (d : ℕ). letters ++ d ∷ body) one) (read_head 1 body) refl
+  | inr not_one ↦ elim (cases_eq b (digit 2)) [
+    | inl two ↦ headed 2 (omega arith, omega arith) bytes body fits (parts ∙ ap (λ (d : ℕ). letters ++ d ∷ body) two) (read_head 2 body) refl
+    | inr not_two ↦ inr (BadMagic, 3, digits_differ bytes body b parts not_one not_two)
+  ]
+]
 
 pub spelled_or_faulty : (bytes : List ℕ) → AreBytes bytes → SpelledOrFaulty bytes
-spelled_or_faulty bytes fits = elim (begins magic bytes) [
-  | inl x ↦ headed bytes x.0 fits x.1 (read_head x.0) refl
+spelled_or_faulty bytes fits = elim (begins letters bytes) [
+  | inl x ↦ by_digit bytes x.0 fits x.1
   | inr y ↦ elim y [
-    | inl part ↦ let f = letters_fail bytes (broken.Form Truncated 0) (part, refl) in inr (Truncated, f.0, f.1)
-    | inr d ↦ inr (BadMagic, d.0, d.1)
+    | inl part ↦ let f = letters_fail bytes (broken.Form Truncated 0) (letters_part bytes part, refl) in inr (Truncated, f.0, f.1)
+    | inr d ↦ inr (BadMagic, d.0, differs_both bytes d.0 d.1)
   ]
 ]

@@ -1,5 +1,5 @@
 -- The reader of a scene, between two streams.
-use Rattle.std.proofs.Common.{Bool, true, false, eqb, ◌≡◌, ℕ, suc, ◌+◌, ◌-◌, ◌<◌, ◌≤◌, ◌^◌, inl, inr, List, [], ◌∷◌, ◌++◌, length, Ok, refl, sym, ap, subst, ◌∙◌, append_assoc, arith, length-append}
+use Rattle.std.proofs.Common.{Bool, true, false, eqb, ◌≡◌, ℕ, suc, ◌+◌, ◌-◌, ◌<◌, ◌≤◌, ◌^◌, inl, inr, List, [], ◌∷◌, ◌++◌, length, Ok, refl, sym, ap, subst, ◌∙◌, append_assoc, arith, length-append, ◌≤◌, ◌<◌, get_or}
 use Rattle.std.specs.List.{flat_map}
 use Rattle.std.proofs.lemmas.Bool.Decides.{nat_tests}
 use Rattle.std.proofs.lemmas.List.{append-nil}
@@ -10,7 +10,7 @@ use Rattle.rc_base.specs.declared.scene.Decl.{Decl}
 use Rattle.rc_base.specs.declared.scene.SceneKind.{SceneKind}
 use Rattle.rc_base.specs.declared.scene.SceneKind.TheVariants.{BadMagic, BadCount, UnknownOpcode, Truncated, Trailing}
 use Rattle.rc_base.specs.Formats.Commands.{AreBytes}
-use Rattle.rc_base.specs.Formats.Spelling.{long, magic, header, IsDecl, stream_text, SpellStreams, SpellsStream, SpellsScene}
+use Rattle.rc_base.specs.Formats.Spelling.{long, IsVersion, letters, digit, magic, header, IsDecl, stream_text, SpellStreams, SpellsStream, SpellsScene}
 use Rattle.cmd_pack.specs.declared.fault.Form.{Form}
 use Rattle.cmd_pack.specs.declared.fault.Form.TheVariants as forms
 use Rattle.cmd_pack.specs.declared.fault.ReadError.{ReadError}
@@ -26,7 +26,7 @@ use Rattle.scene_file.specs.declared.header.Head.{Head}
 use Rattle.scene_file.specs.declared.fault.Broken.{Broken}
 use Rattle.scene_file.specs.declared.fault.Broken.TheVariants as broken
 use Rattle.scene_file.specs.Reading.{read_head, read_text, field_fault, stream_fault}
-use Rattle.scene_file.specs.Faults.{IsPartOf, IsCutHeader, IsFirstText, HasFront, HasStreamFault, FailsAsText, FailsInStreams, HasTrailing, LettersFailBy, TextFailsBy, SceneFailsBy}
+use Rattle.scene_file.specs.Faults.{IsPartOf, IsCutHeader, IsFirstText, HasFront, HasStreamFault, FailsAsText, FailsInStreams, HasTrailing, MagicFailsBy, TextFailsBy, SceneFailsBy, Differs, LettersFailBy}
 use Rattle.scene_file.specs.Counting.{DecodesFirst}
 use Rattle.scene_file.proofs.HeaderCodec.{head_text, IsHead, head_codec, text_codec}
 
@@ -80,7 +80,7 @@ no_decl = record { version = 1; width = 0; height = 0; shared = []; barriers = [
 no_decl_is : IsDecl no_decl
 unfolding no_decl
 no_decl_is = record {
-  version = refl;
+  version = (omega arith, omega arith);
   width = omega arith;
   height = omega arith;
   few_shared = omega arith;
@@ -91,17 +91,79 @@ no_decl_is = record {
   semaphores = tt;
 }
 
-cut_letters : (bytes : List ℕ) → IsPartOf magic bytes → IsCutHeader bytes
+-- ---- the letters and the digit
+
+-- what differs from the letters differs from each magic
+differs_longer : (ls more bytes : List ℕ) (at : ℕ) → Differs ls bytes at → Differs (ls ++ more) bytes at
+differs_longer ls more bytes at d = record {
+  front = d.front;
+  letter = d.letter;
+  others = d.others ++ more;
+  byte = d.byte;
+  rest = d.rest;
+  letters_are = ap (λ (l : List ℕ). l ++ more) d.letters_are ∙ append_assoc d.front (d.letter ∷ d.others) more;
+  parts = d.parts;
+  differs = d.differs;
+  place = d.place;
+}
+
+pub differs_both : (bytes : List ℕ) (at : ℕ) → Differs letters bytes at → Differs (magic 1) bytes at × Differs (magic 2) bytes at
+differs_both bytes at d = (differs_longer letters (digit 1 ∷ []) bytes at d, differs_longer letters (digit 2 ∷ []) bytes at d)
+
+-- another byte than the digits stands behind the letters
+differs_digit : (bytes rest : List ℕ) (version byte : ℕ) → bytes ≡ letters ++ byte ∷ rest → (byte ≡ digit version → ⊥) → Differs (magic version) bytes 3
+differs_digit bytes rest version byte parts ne = record {
+  front = letters;
+  letter = digit version;
+  others = [];
+  byte = byte;
+  rest = rest;
+  letters_are = refl;
+  parts = parts;
+  differs = ne;
+  place = refl;
+}
+
+pub digits_differ : (bytes rest : List ℕ) (byte : ℕ) → bytes ≡ letters ++ byte ∷ rest → (byte ≡ digit 1 → ⊥) → (byte ≡ digit 2 → ⊥) → Differs (magic 1) bytes 3 × Differs (magic 2) bytes 3
+digits_differ bytes rest byte parts one two = (differs_digit bytes rest 1 byte parts one, differs_digit bytes rest 2 byte parts two)
+
+-- the bytes end among the letters, or behind them
+pub letters_part : (bytes : List ℕ) → IsPartOf letters bytes → IsPartOf (magic 1) bytes
+letters_part bytes h = part_before letters bytes (digit 1 ∷ []) h
+
+pub letters_whole : (bytes : List ℕ) → bytes ≡ letters → IsPartOf (magic 1) bytes
+letters_whole bytes e = record { more = digit 1 ∷ []; parts = ap (λ (l : List ℕ). l ++ digit 1 ∷ []) e; some = omega arith }
+
+-- a fault among the letters
+pub magic_fails : (bytes : List ℕ) (b : Broken) → LettersFailBy letters bytes b → MagicFailsBy bytes b
+magic_fails bytes broken.Memory h = absurd h
+magic_fails bytes (broken.Form BadMagic left) h = (h.0, differs_both bytes h.0 h.1, h.2)
+magic_fails bytes (broken.Form BadCount left) h = absurd h
+magic_fails bytes (broken.Form UnknownOpcode left) h = absurd h
+magic_fails bytes (broken.Form Truncated left) h = (letters_part bytes h.0, h.1)
+magic_fails bytes (broken.Form Trailing left) h = absurd h
+
+-- no byte behind the letters, or another one than the digits
+pub letters_end : (bytes rest : List ℕ) → bytes ≡ letters ++ rest → length rest < 1 → IsPartOf (magic 1) bytes
+letters_end bytes [] e low = letters_whole bytes e
+letters_end bytes (b ∷ rest) e low = absurd (omega (arith, low))
+
+pub digit_fails : (bytes rest : List ℕ) → bytes ≡ letters ++ rest → 1 ≤ length rest → (get_or rest 0 0 ≡ digit 1 → ⊥) → (get_or rest 0 0 ≡ digit 2 → ⊥)
+    → (at : ℕ) × (Differs (magic 1) bytes at × Differs (magic 2) bytes at) × (at + length rest ≡ length bytes)
+digit_fails bytes [] e some one two = absurd (omega (arith, some))
+digit_fails bytes (b ∷ rest) e some one two = (3, digits_differ bytes rest b e one two, omega (arith, ap length e))
+
+cut_letters : (bytes : List ℕ) → IsPartOf (magic 1) bytes → IsCutHeader bytes
 unfolding no_decl
 cut_letters bytes h = record {
   decl = no_decl;
   clients = 0;
   is_decl = no_decl_is;
   few = omega arith;
-  is_part = part_before magic bytes (head_text (record { decl = no_decl; clients = 0 })) h;
+  is_part = part_before (magic 1) bytes (head_text (record { decl = no_decl; clients = 0 })) h;
 }
 
-pub letters_fail : (bytes : List ℕ) (b : Broken) → LettersFailBy magic bytes b → SceneFailsBy bytes b
+pub letters_fail : (bytes : List ℕ) (b : Broken) → MagicFailsBy bytes b → SceneFailsBy bytes b
 letters_fail bytes broken.Memory h = absurd h
 letters_fail bytes (broken.Form BadMagic left) h = h
 letters_fail bytes (broken.Form BadCount left) h = absurd h
@@ -109,27 +171,29 @@ letters_fail bytes (broken.Form UnknownOpcode left) h = absurd h
 letters_fail bytes (broken.Form Truncated left) h = (length bytes, inl (cut_letters bytes h.0, refl), omega (arith, h.1))
 letters_fail bytes (broken.Form Trailing left) h = absurd h
 
-cut_head : (bytes body : List ℕ) → bytes ≡ magic ++ body → CutOff head_text IsHead body → IsCutHeader bytes
-cut_head bytes body parts cut = record {
+cut_head : (version : ℕ) (bytes body : List ℕ) → bytes ≡ magic version ++ body → CutOff head_text (IsHead version) body → IsCutHeader bytes
+cut_head version bytes body parts cut = record {
   decl = cut.value.decl;
   clients = cut.value.clients;
   is_decl = cut.fits.decl;
   few = cut.fits.clients;
   is_part = record {
     more = cut.more;
-    parts = ap (λ (l : List ℕ). l ++ cut.more) parts ∙ append_assoc magic body cut.more ∙ ap (λ (l : List ℕ). magic ++ l) cut.whole;
+    parts = ap (λ (l : List ℕ). l ++ cut.more) parts ∙ append_assoc (magic version) body cut.more ∙ ap (λ (l : List ℕ). magic version ++ l) cut.whole
+        ∙ ap (λ (v : ℕ). magic v ++ head_text cut.value) (sym cut.fits.version);
     some = cut.some;
   };
 }
 
-head_cut : (bytes body : List ℕ) (f : Form) → bytes ≡ magic ++ body → (f ≡ forms.Truncated) × CutOff head_text IsHead body → SceneFailsBy bytes (field_fault (errors.Form f))
-head_cut bytes body (forms.BadCount left) parts h = let a = h.0 in absurd cc
-head_cut bytes body (forms.Unknown left) parts h = let a = h.0 in absurd cc
-head_cut bytes body forms.Truncated parts h = (length bytes, inl (cut_head bytes body parts h.1, refl), omega arith)
+head_cut : (version : ℕ) (bytes body : List ℕ) (f : Form) → bytes ≡ magic version ++ body → (f ≡ forms.Truncated) × CutOff head_text (IsHead version) body → SceneFailsBy bytes (field_fault (errors.Form f))
+head_cut version bytes body (forms.BadCount left) parts h = let a = h.0 in absurd cc
+head_cut version bytes body (forms.Unknown left) parts h = let a = h.0 in absurd cc
+head_cut version bytes body forms.Truncated parts h = (length bytes, inl (cut_head version bytes body parts h.1, refl), omega arith)
 
-pub head_fails : (bytes body : List ℕ) (e : ReadError) → AreBytes bytes → bytes ≡ magic ++ body → Fails e (read_head body) → SceneFailsBy bytes (field_fault e)
-head_fails bytes body errors.Memory fits parts h = tt
-head_fails bytes body (errors.Form f) fits parts h = head_cut bytes body f parts (head_codec.maker.cut body f (AreBytes-behind magic body (subst AreBytes parts fits)) h)
+pub head_fails : (version : ℕ) → IsVersion version → (bytes body : List ℕ) (e : ReadError) → AreBytes bytes → bytes ≡ magic version ++ body
+    → Fails e (read_head version body) → SceneFailsBy bytes (field_fault e)
+head_fails version is bytes body errors.Memory fits parts h = tt
+head_fails version is bytes body (errors.Form f) fits parts h = head_cut version bytes body f parts ((head_codec version is).maker.cut body f (AreBytes-behind (magic version) body (subst AreBytes parts fits)) h)
 
 -- a header, and then streams that spell these commands, and the rest
 pub record Stage (bytes : List ℕ) (decl : Decl) (clients count : ℕ) (streams : List (List Command)) (rest : List ℕ) : Type 0 where
@@ -140,16 +204,18 @@ pub record Stage (bytes : List ℕ) (decl : Decl) (clients count : ℕ) (streams
   pub each : SpellStreams texts streams
   pub parts : bytes ≡ header decl clients ++ (flat_map stream_text texts ++ rest)
 
-pub stage_none : (bytes body : List ℕ) (h : Head) (rest : List ℕ) → AreBytes bytes → bytes ≡ magic ++ body → read_head body ≡ Ok (h, rest) → Stage bytes h.decl h.clients 0 [] rest
-stage_none bytes body h rest fits parts read =
-    let t = head_codec.maker.takes body h rest (AreBytes-behind magic body (subst AreBytes parts fits)) read in
+pub stage_none : (version : ℕ) → IsVersion version → (bytes body : List ℕ) (h : Head) (rest : List ℕ) → AreBytes bytes → bytes ≡ magic version ++ body
+    → read_head version body ≡ Ok (h, rest) → Stage bytes h.decl h.clients 0 [] rest
+stage_none version is bytes body h rest fits parts read =
+    let t = (head_codec version is).maker.takes body h rest (AreBytes-behind (magic version) body (subst AreBytes parts fits)) read in
     record {
       texts = [];
       counted = refl;
       is_decl = t.1.decl;
       few = t.1.clients;
       each = tt;
-      parts = parts ∙ ap (λ (l : List ℕ). magic ++ l) t.0 ∙ sym (append_assoc magic (head_text h) rest);
+      parts = parts ∙ ap (λ (l : List ℕ). magic version ++ l) t.0 ∙ sym (append_assoc (magic version) (head_text h) rest)
+          ∙ ap (λ (v : ℕ). (magic v ++ head_text h) ++ rest) (sym t.1.version);
     }
 
 spell_more : (ts : List (List ℕ)) (css : List (List Command)) (t : List ℕ) (cs : List Command) → SpellStreams ts css → SpellsStream t cs → length t < 2 ^ 32 → SpellStreams (ts ++ t ∷ []) (css ++ cs ∷ [])

@@ -80,13 +80,13 @@ within s h =
     }
 
 -- a header, piece by piece
-pub header_put : (d : Decl) (n : ℕ) (old a b c e f g h w x k u : List ℕ) (s : List (List ℕ)) (p q r : ℕ)
-    → a ≡ old ++ magic → b ≡ a ++ w → c ≡ b ++ x → e ≡ c ++ (n ∷ p ∷ q ∷ r ∷ []) → f ≡ e ++ flat_map size s → g ≡ f ++ k
-    → w ≡ half d.width → x ≡ half d.height → p ≡ length d.shared → q ≡ length d.barriers → r ≡ length d.semaphores → s ≡ d.shared → k ≡ d.barriers → u ≡ d.semaphores
+pub header_put : (d : Decl) (n : ℕ) (old m a b c e f g h w x k u : List ℕ) (s : List (List ℕ)) (p q r : ℕ)
+    → a ≡ old ++ m → b ≡ a ++ w → c ≡ b ++ x → e ≡ c ++ (n ∷ p ∷ q ∷ r ∷ []) → f ≡ e ++ flat_map size s → g ≡ f ++ k
+    → m ≡ magic d.version → w ≡ half d.width → x ≡ half d.height → p ≡ length d.shared → q ≡ length d.barriers → r ≡ length d.semaphores → s ≡ d.shared → k ≡ d.barriers → u ≡ d.semaphores
     → h ≡ g ++ flat_map half u → h ≡ old ++ header d n
-header_put d n old a b c e f g h w x k u s p q r pa pb pc pe pf pg ew ex ep eq er es ek eu ph =
-    seven old a b c e f g h magic w x (n ∷ p ∷ q ∷ r ∷ []) (flat_map size s) k (flat_map half u) pa pb pc pe pf pg ph
-    ∙ (λ i. old ++ (magic ++ (ew i ++ (ex i ++ ((n ∷ ep i ∷ eq i ∷ er i ∷ []) ++ (flat_map size (es i) ++ (ek i ++ flat_map half (eu i))))))))
+header_put d n old m a b c e f g h w x k u s p q r pa pb pc pe pf pg em ew ex ep eq er es ek eu ph =
+    seven old a b c e f g h m w x (n ∷ p ∷ q ∷ r ∷ []) (flat_map size s) k (flat_map half u) pa pb pc pe pf pg ph
+    ∙ (λ i. old ++ (em i ++ (ew i ++ (ex i ++ ((n ∷ ep i ∷ eq i ∷ er i ∷ []) ++ (flat_map size (es i) ++ (ek i ++ flat_map half (eu i))))))))
 
 -- what holds of each element holds of all
 pub all_from : {A : Type 0} (P : A → Type 0) (xs : List A) (d : A) → ((k : ℕ) → k < length xs → P (get_or xs k d)) → AllByRecursion P xs

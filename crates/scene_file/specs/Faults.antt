@@ -101,7 +101,7 @@ pub record HasTrailing (bytes : List ℕ) (at : ℕ) : Type 0 where
 
 -- Why the bytes spell no scene, and where.
 abbrev pub FailsAsScene : List ℕ → SceneKind → ℕ → Type 0
-FailsAsScene bytes BadMagic at = Differs magic bytes at
+FailsAsScene bytes BadMagic at = Differs (magic 1) bytes at × Differs (magic 2) bytes at
 FailsAsScene bytes BadCount at = FailsInStreams bytes BadCount at
 FailsAsScene bytes UnknownOpcode at = FailsInStreams bytes UnknownOpcode at
 FailsAsScene bytes Truncated at = (IsCutHeader bytes × (at ≡ length bytes)) ⊎ FailsInStreams bytes Truncated at
@@ -135,6 +135,15 @@ LettersFailBy letters bytes (broken.Form BadCount left) = ⊥
 LettersFailBy letters bytes (broken.Form UnknownOpcode left) = ⊥
 LettersFailBy letters bytes (broken.Form Truncated left) = IsPartOf letters bytes × (left ≡ 0)
 LettersFailBy letters bytes (broken.Form Trailing left) = ⊥
+
+-- the same of the letters and the digit of a version
+abbrev pub MagicFailsBy : List ℕ → Broken → Type 0
+MagicFailsBy bytes broken.Memory = ⊥
+MagicFailsBy bytes (broken.Form BadMagic left) = (at : ℕ) × (Differs (magic 1) bytes at × Differs (magic 2) bytes at) × (at + left ≡ length bytes)
+MagicFailsBy bytes (broken.Form BadCount left) = ⊥
+MagicFailsBy bytes (broken.Form UnknownOpcode left) = ⊥
+MagicFailsBy bytes (broken.Form Truncated left) = IsPartOf (magic 1) bytes × (left ≡ 0)
+MagicFailsBy bytes (broken.Form Trailing left) = ⊥
 
 abbrev pub TextFailsBy : List ℕ → Broken → Type 0
 TextFailsBy bytes broken.Memory = Unit {0}

@@ -40,7 +40,7 @@ abbrev pub stream_part : Decl → ℕ → ℕ → List Quantity
 stream_part d commands frames =
     record { what = 11; value = commands; least = 0; most = 1048576 }
     ∷ record { what = 12; value = frames; least = 0; most = 1048576 }
-    ∷ record { what = 13; value = frames * (d.width * d.height); least = 0; most = 33554432 } ∷ []
+    ∷ record { what = 13; value = frames * (d.width * d.height); least = 0; most = 2147483648 } ∷ []
 
 -- the parts in the order of the table, of so many clients with so many commands and frames
 abbrev pub judge_parts : Decl → ℕ → ℕ → ℕ → Option Limit

@@ -34,16 +34,16 @@ read_size = convert make_size (both read_half read_half)
 abbrev pub Front : Type 0
 Front = ℕ × (ℕ × (ℕ × (ℕ × (ℕ × ℕ))))
 
-abbrev pub make_head : Front × (List (List ℕ) × (List ℕ × List ℕ)) → Head
-make_head x = record {
-  decl = record { version = 1; width = x.0.0; height = x.0.1.0; shared = x.1.0; barriers = x.1.1.0; semaphores = x.1.1.1 };
+abbrev pub make_head : ℕ → Front × (List (List ℕ) × (List ℕ × List ℕ)) → Head
+make_head version x = record {
+  decl = record { version = version; width = x.0.0; height = x.0.1.0; shared = x.1.0; barriers = x.1.1.0; semaphores = x.1.1.1 };
   clients = x.0.1.1.0;
 }
 
 -- what stands between the magic and the streams
-unfoldable pub read_head : List ℕ → Result (Head × List ℕ) Form
-read_head =
-    convert make_head
+unfoldable pub read_head : ℕ → List ℕ → Result (Head × List ℕ) Form
+read_head version =
+    convert (make_head version)
     (sized (both read_half (both read_half (both read_byte (both read_byte (both read_byte read_byte)))))
     (λ x. both (read_times read_size x.1.1.1.0) (both (take_bytes x.1.1.1.1.0) (read_times read_half x.1.1.1.1.1))))
 

@@ -4,7 +4,7 @@ use Rattle.std.specs.List.{flat_map, AllByRecursion}
 use Rattle.rc_base.specs.declared.command.Command.{Command}
 use Rattle.rc_base.specs.declared.scene.Scene.{Scene}
 use Rattle.rc_base.specs.Formats.Limits.{limit_of}
-use Rattle.rc_base.specs.Formats.Spelling.{header, stream_text, encoded, SpellsStream}
+use Rattle.rc_base.specs.Formats.Spelling.{IsVersion, header, stream_text, encoded, SpellsStream}
 use Rattle.cmd_pack.specs.Texels.{IsWhole}
 
 -- the header, and then each stream's packets behind their length
@@ -25,7 +25,7 @@ IsEncoded commands = SpellsStream (encoded commands) commands
 
 -- a scene that can be written
 pub record IsWritable (s : Scene) : Type 0 where
-  pub version : s.decl.version ≡ 1
+  pub version : IsVersion s.decl.version
   pub within : limit_of s ≡ None
   pub texels : AllByRecursion AreWhole s.streams
   pub short : AllByRecursion IsShort s.streams

@@ -1,9 +1,9 @@
 //! The header of a scene.
 ghost use Rattle.std.specs.Prelude.{◌≡◌, ◌++◌, IfOk, IfErr};
 ghost use Rattle.cmd_pack.specs.Reading.{Gives, Reads};
-ghost use Rattle.rc_base.specs.Formats.Spelling.{magic};
+ghost use Rattle.rc_base.specs.Formats.Spelling.{IsVersion, magic};
 ghost use Rattle.scene_file.specs.Reading.{read_half, read_size, read_times, read_head};
-ghost use Rattle.scene_file.specs.Faults.{LettersFailBy};
+ghost use Rattle.scene_file.specs.Faults.{LettersFailBy, MagicFailsBy};
 
 use crate::fault::Broken;
 use cmd_pack::fault::{Form, ReadError};
@@ -18,8 +18,16 @@ pub struct Head {
     pub clients: u8,
 }
 
-/// The letters RCS1, with which a scene begins.
-pub const MAGIC: [u8; 4] = [0x52, 0x43, 0x53, 0x31];
+/// The letters RCS, with which a scene begins. The digit of its version follows.
+pub const LETTERS: [u8; 3] = [0x52, 0x43, 0x53];
+
+/// The letters and the digit with which a scene of this version begins.
+pub fn magic_of(version: u8) -> [u8; 4]
+    ensures { result ≡ magic version }
+{
+    let digit = if version == 2 { 0x32 } else { 0x31 };
+    [0x52, 0x43, 0x53, digit]
+}
 
 /// What stands behind these letters.
 pub fn read_letters<'a>(letters: &[u8], bytes: &'a [u8]) -> Result<&'a [u8], Broken>
@@ -47,6 +55,32 @@ pub fn read_letters<'a>(letters: &[u8], bytes: &'a [u8]) -> Result<&'a [u8], Bro
         }
     }
     Ok(rest)
+}
+
+/// The version of a scene by its digit, and what stands behind it.
+pub fn read_magic(bytes: &[u8]) -> Result<(u8, &[u8]), Broken>
+    ensures found { IfOk result (λ x. IsVersion x.0 × (bytes.now ≡ magic x.0 ++ x.1.now)) }
+    ensures fails { IfErr result (MagicFailsBy bytes.now) }
+{
+    let rest = read_letters(&LETTERS, bytes)?;
+    match rest {
+        [] => Err(Broken::Form {
+            kind: SceneKind::Truncated,
+            left: 0,
+        }),
+        [digit, after @ ..] => {
+            if *digit == 0x31 {
+                return Ok((1, after));
+            }
+            if *digit == 0x32 {
+                return Ok((2, after));
+            }
+            Err(Broken::Form {
+                kind: SceneKind::BadMagic,
+                left: rest.len(),
+            })
+        }
+    }
 }
 
 #[tactic(auto, unfolding(crate::specs::Reading::read_size))]
@@ -86,8 +120,8 @@ fn read_units(alloc: Global, count: u8, bytes: &[u8]) -> Result<(Units, &[u8]), 
 
 /// What the header says behind its letters, and the bytes behind the header.
 #[tactic(auto, unfolding(crate::specs::Reading::read_head))]
-pub fn read_head(alloc: Global, bytes: &[u8]) -> Result<(Head, &[u8]), ReadError>
-    ensures { Gives (λ x. (x.0, x.1.now)) result (read_head bytes.now) }
+pub fn read_head(alloc: Global, version: u8, bytes: &[u8]) -> Result<(Head, &[u8]), ReadError>
+    ensures { Gives (λ x. (x.0, x.1.now)) result (read_head version bytes.now) }
 {
     let (width, rest) = read_half(bytes)?;
     let (height, rest) = read_half(rest)?;
@@ -100,7 +134,7 @@ pub fn read_head(alloc: Global, bytes: &[u8]) -> Result<(Head, &[u8]), ReadError
     let barriers = Counts::from_slice(alloc, barriers)?;
     let (semaphores, rest) = read_units(alloc, semaphores, rest)?;
     let decl = Decl {
-        version: 1,
+        version,
         width,
         height,
         shared,

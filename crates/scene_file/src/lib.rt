@@ -14,6 +14,6 @@ mod writing;
 
 pub use fault::SceneFault;
 pub use generator::{generate, next_state};
-pub use limits::{check_limits, clients_beyond, commands_beyond};
+pub use limits::{check_held, check_limits, clients_beyond, commands_beyond};
 pub use reading::read_scene;
 pub use writing::write_scene;

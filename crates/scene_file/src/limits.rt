@@ -2,7 +2,7 @@
 ghost use Rattle.rc_base.specs.declared.scene.Scene.{Scene as AnyScene};
 ghost use Rattle.std.specs.Prelude.{◌≡◌, ◌<◌, ◌≤◌, ◌*◌, ◌∷◌, ◌++◌, [], map, length, sum_by, MatchResult, OnOk, Some, None};
 ghost use Rattle.std.specs.List.{flat_map};
-ghost use Rattle.rc_base.specs.Formats.Limits.{first_outside, limit_of, size_area, side, barrier_count, is_swap_command, swaps_in, least_swaps, commands_in};
+ghost use Rattle.rc_base.specs.Formats.Limits.{first_outside, held_limit, limit_of, size_area, side, barrier_count, is_swap_command, swaps_in, least_swaps, commands_in};
 ghost use Rattle.scene_file.specs.Judging.{judged, window_part, judge_counts, judge_decl, stream_part, judge_parts, judge_scene};
 
 use rc_base::command::{Command, Commands};
@@ -127,12 +127,7 @@ fn judge_streams(decl: &Decl, commands: u64, frames: u64) -> Result<(), Limit>
 {
     judge(11, commands, 0, MOST_COMMANDS)?;
     judge(12, frames, 0, 1_048_576)?;
-    judge(
-        13,
-        frames * (decl.width as u64 * decl.height as u64),
-        0,
-        33_554_432,
-    )
+    judge(13, frame_pixels(decl, frames), 0, 2_147_483_648)
 }
 
 /// The first quantity outside its range of a scene with this declaration and so many clients, commands and frames.
@@ -165,6 +160,25 @@ pub fn check_limits(scene: &Scene) -> Result<(), Limit>
     ensures { MatchResult result (λ _. limit_of scene.now ≡ None) (λ l. limit_of scene.now ≡ Some l) }
 {
     judge_scene(scene)
+}
+
+fn frame_pixels(decl: &Decl, frames: u64) -> u64
+    requires width { decl.now.width ≤ 2048 }
+    requires height { decl.now.height ≤ 2048 }
+    requires frames { frames ≤ 1048576 }
+    ensures { result ≡ frames * (decl.now.width * decl.now.height) }
+{
+    frames * (decl.width as u64 * decl.height as u64)
+}
+
+/// The pixels of all frames, where they are too many to be held at once, by the numbers of the table of limits (`docs/scene-format.md`). It takes no
+/// memory.
+pub fn check_held(scene: &Scene) -> Result<(), Limit>
+    requires { limit_of scene.now ≡ None }
+    ensures { MatchResult result (λ _. held_limit scene.now ≡ None) (λ l. held_limit scene.now ≡ Some l) }
+{
+    let frames = count_frames(scene.streams.as_slice()) as u64;
+    judge(19, frame_pixels(&scene.decl, frames), 0, 33_554_432)
 }
 
 /// The first quantity outside its range of a scene with this declaration and too many clients, whatever their commands are.

@@ -14,7 +14,7 @@ ghost use Rattle.scene_file.specs.Faults.{TextFailsBy, SceneFailsBy, FailsAsScen
 ghost use Rattle.scene_file.specs.Counting.{DecodesFirst, Counts, SpellsCounted, frames_with};
 
 use crate::fault::{Broken, SceneFault, fault_at, in_stream};
-use crate::header::{Head, MAGIC, read_head, read_letters};
+use crate::header::{Head, read_head, read_magic};
 use crate::limits::check_counted;
 use cmd_pack::decode_within;
 use cmd_pack::fault::Form;
@@ -81,8 +81,8 @@ fn read_spelled(alloc: Global, bytes: &[u8]) -> Result<Counted, Broken>
     ensures found { IfOk result (SpellsCounted bytes.now) }
     ensures fails { IfErr result (SceneFailsBy bytes.now) }
 {
-    let body = read_letters(&MAGIC, bytes)?;
-    let (Head { decl, clients }, body) = read_head(alloc, body)?;
+    let (version, body) = read_magic(bytes)?;
+    let (Head { decl, clients }, body) = read_head(alloc, version, body)?;
     let mut streams = Streams::new(alloc);
     let mut commands = 0;
     let mut frames = 0;

@@ -2,10 +2,10 @@
 ghost use Rattle.std.specs.Prelude.{◌≡◌, ◌≤◌, ◌<◌, ◌++◌, ◌^◌, [], ◌∷◌, length, IfOk, OnOk, None};
 ghost use Rattle.rc_base.specs.Formats.Limits.{limit_of};
 ghost use Rattle.std.specs.List.{flat_map, AllByRecursion};
-ghost use Rattle.rc_base.specs.Formats.Spelling.{half, long, size, header, stream_text, encoded, IsSide, IsSize, SpellsScene};
+ghost use Rattle.rc_base.specs.Formats.Spelling.{half, long, size, header, stream_text, encoded, IsSide, IsSize, IsVersion, SpellsScene};
 ghost use Rattle.scene_file.specs.Written.{written, AreWhole, IsShort, IsEncoded};
 
-use crate::header::MAGIC;
+use crate::header::magic_of;
 use cmd_pack::encode;
 use rc_base::command::{Bytes, Commands};
 use rc_base::out_of_memory::OutOfMemory;
@@ -39,7 +39,7 @@ fn put_header(bytes: &mut Bytes, decl: &Decl, clients: u8) -> Result<(), OutOfMe
     ensures added { OnOk result (bytes.new ≡ bytes.old ++ header decl.now clients) }
     ensures fits { OnOk result (AllByRecursion IsSize decl.now.shared × AllByRecursion IsSide decl.now.semaphores) }
 {
-    bytes.extend_from_slice(&MAGIC)?;
+    bytes.extend_from_slice(&magic_of(decl.version))?;
     bytes.extend_from_slice(&decl.width.to_le_bytes())?;
     bytes.extend_from_slice(&decl.height.to_le_bytes())?;
     bytes.extend_from_slice(&[
@@ -81,7 +81,7 @@ pub fn write_scene(alloc: Global, scene: &Scene) -> Result<Bytes, OutOfMemory>
     requires { limit_of scene.now ≡ None }
     ensures exact { IfOk result (λ bytes. bytes ≡ written scene.now) }
     // Where each picture has four bytes for each texel, they are read again as this scene.
-    ensures spelled { IfOk result (λ bytes. scene.now.decl.version ≡ 1 → AllByRecursion AreWhole scene.now.streams → SpellsScene bytes scene.now) }
+    ensures spelled { IfOk result (λ bytes. IsVersion scene.now.decl.version → AllByRecursion AreWhole scene.now.streams → SpellsScene bytes scene.now) }
 {
     let streams = scene.streams.as_slice();
     let mut bytes = Bytes::new(alloc);

@@ -16,7 +16,7 @@ use Rattle.rc_base.specs.declared.text.LineName.{LineName}
 use Rattle.rc_base.specs.declared.text.LineName.TheVariants as line
 use Rattle.rc_base.specs.declared.command.NumberRange.{NumberRange}
 use Rattle.rc_base.specs.Formats.Commands.{AreBytes, IsCommand, opcode_of}
-use Rattle.rc_base.specs.Formats.Spelling.{IsDecl, IsSize, IsSide, IsCount}
+use Rattle.rc_base.specs.Formats.Spelling.{IsDecl, IsSize, IsSide, IsCount, IsVersion}
 use Rattle.rc_base.specs.Formats.Text.Statements.{Statement, word_of, line_ranges, window_statement, shared_statement, barrier_statement, semaphore_statement, command_statement, client_statements, decl_statements, scene_statements}
 use Rattle.rc_base.specs.Formats.Text.Printed.{hex_digit, hex_byte, texel_words, argument_words, after_space, printed_line, printed}
 use Rattle.rc_base.specs.Numbers.{is_between}
@@ -216,10 +216,16 @@ good_append : (xs ys : List Statement) → AllGood xs → AllGood ys → AllGood
 good_append [] ys h k = k
 good_append (x ∷ xs) ys h k = (h.0, good_append xs ys h.1 k)
 
+in_versions : (v : ℕ) → IsVersion v → is_between (pos 1) (pos 2) (pos v) ≡ true
+in_versions zero h = absurd (omega (arith, h.0))
+in_versions (suc zero) h = refl
+in_versions (suc (suc zero)) h = refl
+in_versions (suc (suc (suc v))) h = absurd (omega (arith, h.1))
+
 good_window : (d : Decl) → IsDecl d → IsGood (window_statement d)
 good_window d h =
-    let v = ready_byte d.version (omega (arith, h.version)) in
-    let right : has_version line.Scene (pos d.version ∷ pos d.width ∷ pos d.height ∷ []) ≡ true = ap (λ (n : ℕ). is_between (pos 1) (pos 1) (pos n)) h.version in
+    let v = ready_byte d.version (omega (arith, h.version.1)) in
+    let right : has_version line.Scene (pos d.version ∷ pos d.width ∷ pos d.height ∷ []) ≡ true = in_versions d.version h.version in
     let w = ready_half d.width h.width in
     let t = ready_half d.height h.height in
     record {

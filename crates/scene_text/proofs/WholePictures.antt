@@ -10,6 +10,7 @@ use Rattle.std.specs.Option.{option_map}
 use Rattle.std.specs.Str.Lines.{lines}
 use Rattle.cmd_pack.specs.Texels.{HaveTexels, IsWhole}
 use Rattle.std.proofs.lemmas.Bool.{and_parts}
+use Rattle.rc_base.specs.Formats.Spelling.{IsVersion}
 use Rattle.rc_base.specs.declared.command.Command.{Command}
 use Rattle.rc_base.specs.declared.command.Opcode.{Opcode}
 use Rattle.rc_base.specs.declared.command.Opcode.TheVariants as op
@@ -249,29 +250,29 @@ whole_streams (cs ∷ streams) h =
 
 -- ---- the version
 
-one : (v : ℕ) → is_between (pos 1) (pos 1) (pos v) ≡ true → v ≡ 1
-one v e =
-    let ends = and_parts (leb 1 v) (leb v 1) e in
-    omega (arith, leb-true 1 v ends.0, leb-true v 1 ends.1)
+one_or_two : (v : ℕ) → is_between (pos 1) (pos 2) (pos v) ≡ true → IsVersion v
+one_or_two v e =
+    let ends = and_parts (leb 1 v) (leb v 2) e in
+    (omega (arith, leb-true 1 v ends.0), omega (arith, leb-true v 2 ends.1))
 
-version_read : (rest : List (List ℕ)) (o : Option (List ℤ)) (d : Decl) → with_numbers line.Scene rest o ≡ Ok (window_statement d) → d.version ≡ 1
+version_read : (rest : List (List ℕ)) (o : Option (List ℤ)) (d : Decl) → with_numbers line.Scene rest o ≡ Ok (window_statement d) → IsVersion d.version
 version_read rest None d e = absurd cc
 version_read rest (Some zs) d e =
     elim (which (has_version line.Scene zs)) [
       | inl t ↦
           let read : with_texels line.Scene rest zs ≡ Ok (window_statement d) = rw t at e in
           let same = same_numbers line.Scene rest zs (pos d.version ∷ (pos d.width ∷ (pos d.height ∷ []))) [] read in
-          one d.version (subst (λ (l : List ℤ). has_version line.Scene l ≡ true) same t)
+          one_or_two d.version (subst (λ (l : List ℤ). has_version line.Scene l ≡ true) same t)
       | inr f ↦ let none = rw f at e in absurd cc
     ]
 
-version : (ws : List (List ℕ)) (d : Decl) → arguments_say line.Scene ws ≡ Ok (window_statement d) → d.version ≡ 1
+version : (ws : List (List ℕ)) (d : Decl) → arguments_say line.Scene ws ≡ Ok (window_statement d) → IsVersion d.version
 unfolding arguments_say
 version ws d e =
     let numbers = numbers_of (line_ranges line.Scene) (take 3 ws) in
     version_read (drop 3 ws) numbers d (counted line.Scene (is_counted line.Scene ws) numbers (drop 3 ws) (window_statement d) e).1
 
-pub whole_pictures : (text : List ℕ) (s : Scene) → SpellsText text s → (s.decl.version ≡ 1) × AllByRecursion (AllByRecursion IsWhole) s.streams
+pub whole_pictures : (text : List ℕ) (s : Scene) → SpellsText text s → IsVersion s.decl.version × AllByRecursion (AllByRecursion IsWhole) s.streams
 whole_pictures text s t =
     let each = all_said (spoken (lines text)) (scene_statements s) t.says in
     (version each.0.0 s.decl each.0.1, whole_streams s.streams (rest_said (decl_statements s.decl) (flat_map client_statements s.streams) each))

@@ -4,7 +4,7 @@ use Rattle.rc_base.specs.declared.scene.Scene.{Scene}
 use Rattle.std.specs.List.{AllByRecursion}
 use Rattle.cmd_pack.specs.Texels.{IsWhole}
 use Rattle.rc_base.specs.Formats.Commands.{IsCommand}
-use Rattle.rc_base.specs.Formats.Spelling.{IsDecl}
+use Rattle.rc_base.specs.Formats.Spelling.{IsDecl, IsVersion}
 use Rattle.rc_base.specs.Formats.Text.Printed.{printed}
 use Rattle.rc_base.specs.Formats.Text.Read.{SpellsText}
 use Rattle.rc_base.specs.Formats.Text.Faults.{text_fault}
@@ -25,6 +25,6 @@ NoFaultSpells = (text : List ℕ) → text_fault text ≡ None → (s : Scene) �
 abbrev pub PrintedSpells : Type 0
 PrintedSpells = (s : Scene) → IsDecl s.decl → AllByRecursion (AllByRecursion IsCommand) s.streams → SpellsText (printed s) s
 
--- a text that spells a scene says that it is of version 1, and has four bytes for each texel of its pictures
+-- a text that spells a scene says that it is of version 1 or 2, and has four bytes for each texel of its pictures
 abbrev pub WholePictures : Type 0
-WholePictures = (text : List ℕ) (s : Scene) → SpellsText text s → (s.decl.version ≡ 1) × AllByRecursion (AllByRecursion IsWhole) s.streams
+WholePictures = (text : List ℕ) (s : Scene) → SpellsText text s → IsVersion s.decl.version × AllByRecursion (AllByRecursion IsWhole) s.streams

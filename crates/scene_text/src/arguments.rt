@@ -59,7 +59,7 @@ fn has_version(name: LineName, numbers: &[i32]) -> bool
     ensures { result ≡ has_version name numbers.now }
 {
     match name {
-        LineName::Scene => 1 <= numbers[0] && numbers[0] <= 1,
+        LineName::Scene => 1 <= numbers[0] && numbers[0] <= 2,
         LineName::Shared
         | LineName::Barrier
         | LineName::Semaphore

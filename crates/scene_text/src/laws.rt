@@ -17,7 +17,7 @@ pub fn printed_texts_spell_their_scene()
     ensures { PrintedSpells }
 {}
 
-/// A scene that a text spells is of version 1 and has four bytes (r, g, b, a) for each texel of its pictures. Of all that bytes must meet to spell a
+/// A scene that a text spells is of version 1 or 2 and has four bytes (r, g, b, a) for each texel of its pictures. Of all that bytes must meet to spell a
 /// scene, these are what the type of a scene leaves open.
 pub fn texts_spell_whole_pictures()
     ensures { WholePictures }

@@ -1,5 +1,6 @@
 //! A scene from its text, line by line.
 ghost use Rattle.std.specs.Prelude.{◌≡◌, ◌⊎◌, ℕ, Some, None, Ok, Err, IfOk, IfErr, false};
+ghost use Rattle.rc_base.specs.Formats.Spelling.{IsVersion};
 ghost use Rattle.rc_base.specs.declared.scene.Limit.{Limit as AnyLimit};
 ghost use Rattle.rc_base.specs.declared.scene.Scene.{Scene as AnyScene};
 ghost use Rattle.rc_base.specs.declared.scene.TextKind.{TextKind as AnyKind};
@@ -187,7 +188,7 @@ fn parse_within(alloc: Global, text: &[u8]) -> Result<Scene, TextSceneFault>
 pub fn parse_scene(alloc: Global, text: &[u8]) -> Result<Scene, TextSceneFault>
     ensures found { IfOk result (λ s. SpellsText text.now s × (limit_of s ≡ None)) }
     // It can be written as bytes that spell it.
-    ensures whole { IfOk result (λ s. (s.decl.version ≡ 1) × AllByRecursion AreWhole s.streams) }
+    ensures whole { IfOk result (λ s. IsVersion s.decl.version × AllByRecursion AreWhole s.streams) }
     ensures fails { IfErr result (IsTextFault text.now) }
     ensures only { (s : AnyScene) → SpellsText text.now s → limit_of s ≡ None → (result ≡ Ok s) ⊎ (result ≡ Err TextSceneFault.OutOfMemory) }
     ensures told { (line : ℕ) (k : AnyKind) → text_fault text.now ≡ Some (line, k) → (result ≡ Err (TextSceneFault.Text line k)) ⊎ (result ≡ Err TextSceneFault.OutOfMemory) }

@@ -61,6 +61,17 @@ added_strip = scene_of 4 4 ((cmd.Enable 3 ∷ cmd.BlendFunc 1 1 ∷ cmd.Color (r
 abbrev pub corner_in_eye : Scene
 corner_in_eye = scene_of 1 1 ((cmd.Begin 0 ∷ at minus_one minus_one one ∷ at (pos 196608) minus_one one ∷ at minus_one (pos 196608) (pos 0) ∷ cmd.End ∷ cmd.Swap ∷ []) ∷ [])
 
+-- the same scene in version 2
+abbrev pub version_2 : Scene → Scene
+version_2 scene = record scene { decl = record scene.decl { version = 2 } }
+
+abbrev pub cut_corner : Scene
+cut_corner = version_2 corner_in_eye
+
+-- a triangle whose front is culled, in version 2
+abbrev pub culled_front : Scene
+culled_front = version_2 (scene_of 1 1 ((cmd.FrontFace 1 ∷ cmd.Enable 4 ∷ [] ++ full ++ cmd.Swap ∷ []) ∷ []))
+
 -- red, then green behind LESS, then blue behind LEQUAL, all of one depth, a frame each
 abbrev pub three_depths : Scene
 three_depths = scene_of 1 1 (

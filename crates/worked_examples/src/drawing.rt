@@ -5,7 +5,7 @@ ghost use Rattle.rc_base.specs.Contexts.Issue.{fault_at};
 ghost use Rattle.rc_base.specs.Drawing.Images.{frame_image};
 ghost use Rattle.rc_base.specs.Drawing.Serial.{frame_pixel};
 ghost use Rattle.rc_base.specs.Orders.Order.{names_from};
-ghost use Rattle.worked_examples.specs.Scenes.{added_strip, barrier_in_block, corner_in_eye, first_client_first, full_blue, half_triangle, red_clear, scissored_clear, second_client_first, textured_with, three_depths, two_blended, two_vertices};
+ghost use Rattle.worked_examples.specs.Scenes.{added_strip, barrier_in_block, corner_in_eye, cut_corner, culled_front, first_client_first, full_blue, half_triangle, red_clear, scissored_clear, second_client_first, textured_with, three_depths, two_blended, two_vertices};
 ghost use Rattle.rc_base.specs.declared.command.Command.TheVariants as cmd;
 ghost use Rattle.rc_base.specs.declared.state.Fault.TheVariants.{InvalidOperation};
 
@@ -34,6 +34,13 @@ pub fn a_shared_edge_is_blended_once()
 /// A triangle with a corner of w = 0 is dropped.
 pub fn a_corner_in_the_eye_drops_its_triangle()
     ensures { frame_pixel corner_in_eye (names_from 0 0 6) 1 (pos 0) (pos 0) ≡ record { color = rgba 0 0 0 0; depth = 16777215 } }
+{}
+
+/// The same triangle in a scene of version 2 is cut at the near plane into two pieces, of which the first covers the pixel. A piece is culled by its
+/// own facing.
+pub fn a_corner_in_the_eye_is_cut_off_in_version_2()
+    ensures cut { frame_pixel cut_corner (names_from 0 0 6) 1 (pos 0) (pos 0) ≡ record { color = rgba 255 255 255 255; depth = 16777215 } }
+    ensures culled { frame_pixel culled_front (names_from 0 0 8) 1 (pos 0) (pos 0) ≡ record { color = rgba 0 0 0 0; depth = 16777215 } }
 {}
 
 /// With the depth test on, a fragment of the stored depth fails LESS and passes LEQUAL. At z = 0 the depth is 8388607.

@@ -18,11 +18,11 @@ pub fn lines_have_their_places()
     ensures shared_first { text_fault (codes "scene 1 2 2\nbarrier 2\nshared 1 1\n") ≡ Some (3, OutOfPlace) }
 {}
 
-/// Words are counted before they are read. A version other than 1 and a side of 65536 are no numbers of their fields. A picture of no texel has
+/// Words are counted before they are read. A version other than 1 or 2 and a side of 65536 are no numbers of their fields. A picture of no texel has
 /// no word of texels.
 pub fn lines_have_their_numbers()
     ensures few { text_fault (codes "scene 2 2\n") ≡ Some (1, WrongCount) }
-    ensures version { text_fault (codes "scene 2 1 1\n") ≡ Some (1, BadNumber) }
+    ensures version { text_fault (codes "scene 3 1 1\n") ≡ Some (1, BadNumber) }
     ensures side { text_fault (codes "scene 1 1 65536\n") ≡ Some (1, BadNumber) }
     ensures minus { text_fault (codes "scene 1 1 1\nclient\nClear -1\n") ≡ Some (3, BadNumber) }
     ensures leading_zero { text_fault (codes "scene 01 1 1\n") ≡ None }

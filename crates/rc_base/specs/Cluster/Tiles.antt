@@ -1,9 +1,8 @@
 -- The tiles of a window, and which of them a command may touch.
-use Rattle.std.specs.Prelude.{ℕ, ◌+◌, ◌-◌, ◌*◌, ◌/◌, ◌%◌, ◌&&◌, nat_le, nat_lt, Bool, false, List, [], length, ℤ, pos, int_le, int_lt}
+use Rattle.std.specs.Prelude.{ℕ, ◌+◌, ◌-◌, ◌*◌, ◌/◌, ◌%◌, ◌&&◌, nat_le, nat_lt, Bool, false, List, ℤ, pos, int_le, int_lt}
 use Rattle.std.specs.List.{flat_map, list_any, range_with_len, find}
 use Rattle.std.specs.Option.{option_map_or}
-use Rattle.rc_base.specs.Drawing.Triangles.{triangles_of}
-use Rattle.rc_base.specs.Drawing.Kept.{kept_triangle}
+use Rattle.rc_base.specs.Drawing.Pieces.{kept_triangles}
 use Rattle.rc_base.specs.Drawing.Cover.{centre, is_in_area, is_in_scissor}
 use Rattle.rc_base.specs.declared.state.State.{State}
 use Rattle.rc_base.specs.declared.state.Block.{Block}
@@ -71,10 +70,13 @@ rect_meets l r tile = some_pixel l tile (is_in_rect r)
 
 -- ---- the box of a block or a Clear
 
+-- the corners of some triangles
+abbrev pub corners_in : List (List WindowVertex) → List WindowVertex
+corners_in vs = flat_map (λ v. v) vs
+
 -- the corners of all kept triangles of a block
 abbrev pub kept_corners : State → Block → List WindowVertex
-kept_corners s block =
-    flat_map (λ t. option_map_or (λ v. v) (kept_triangle s block.vertices t) []) (triangles_of block.mode (length block.vertices))
+kept_corners s block = corners_in (kept_triangles s block)
 
 -- a number lies between the least and the greatest of these: one isn't above it, and one isn't below it
 abbrev pub is_amid : List WindowVertex → (WindowVertex → ℤ) → ℤ → Bool

@@ -27,6 +27,8 @@ pub record ClientContext : Type 0 where
   -- the images of the private textures 1 to 64, and how often each was written
   pub images : List (Option Picture)
   pub edits : List ℕ
+  -- the version of the scene
+  pub version : ℕ
   -- what is declared: the sides of each shared texture, and how many barriers and semaphores there are
   pub shared : List (List ℕ)
   pub barriers : ℕ
@@ -115,6 +117,7 @@ default_context d = record {
   block = None;
   images = replicate private_count None;
   edits = replicate private_count 0;
+  version = d.version;
   shared = d.shared;
   barriers = length d.barriers;
   semaphores = length d.semaphores;

@@ -8,6 +8,7 @@ use Rattle.rc_base.specs.Lists.{with_name}
 use Rattle.rc_base.specs.Pictures.{Picture, with_part}
 use Rattle.rc_base.specs.Contexts.Context.{ClientContext, identity, default_context, top, below, private_image, edit_of}
 use Rattle.rc_base.specs.Contexts.Faults.{fault_of}
+use Rattle.rc_base.specs.Drawing.Triangles.{cut_modes}
 use Rattle.rc_base.specs.declared.command.Mat4.{Mat4}
 use Rattle.rc_base.specs.declared.state.Block.{Block}
 use Rattle.rc_base.specs.declared.state.State.{State}
@@ -77,11 +78,15 @@ with_vertex x p b = record b { vertices = b.vertices ++ record { pos = p; color 
 abbrev pub with_image : ClientContext → ℕ → Picture → ClientContext
 with_image x name image = record x { images = with_name x.images name (Some image); edits = with_name x.edits name (edit_of x name + 1) }
 
+-- the mode of a block that Begin opens: its argument, and 16 more in a scene of version 2
+abbrev pub block_mode : ℕ → ℕ → ℕ
+block_mode version kind = if version == 2 then kind + cut_modes else kind
+
 -- ---- one command
 
 -- The context after an accepted command. Clear, SharedImage and the operations of synchronisation leave it as it is.
 abbrev pub carried_out : ClientContext → Command → ClientContext
-carried_out x (cmd.Begin kind) = record x { block = Some (record { mode = kind; vertices = [] }) }
+carried_out x (cmd.Begin kind) = record x { block = Some (record { mode = block_mode x.version kind; vertices = [] }) }
 carried_out x cmd.End = record x { block = None }
 carried_out x (cmd.Vertex p) = record x { block = option_map_or (λ b. Some (with_vertex x p b)) x.block None }
 carried_out x (cmd.Color c) = record x { color = c }

@@ -3,10 +3,11 @@ use Rattle.std.specs.Prelude.{ℕ, slice_index, List, [], ◌∷◌, Bool, not, 
 use Rattle.std.specs.Ordering.{int_eq}
 use lib.ListN.{get_or}
 use Rattle.rc_base.specs.Colors.{rgba}
-use Rattle.rc_base.specs.Drawing.Window.{window_of, is_placed}
+use Rattle.rc_base.specs.Drawing.Window.{window_at, is_placed_at, window_of, is_placed}
 use Rattle.rc_base.specs.Drawing.Cover.{triangle_area}
 use Rattle.rc_base.specs.declared.state.State.{State}
 use Rattle.rc_base.specs.declared.state.Vertex.{Vertex}
+use Rattle.rc_base.specs.declared.window.ClipVertex.{ClipVertex}
 use Rattle.rc_base.specs.declared.window.WindowVertex.{WindowVertex}
 
 abbrev pub three : WindowVertex → WindowVertex → WindowVertex → List WindowVertex
@@ -28,12 +29,29 @@ is_shown s area = not (int_eq area (pos 0)) && not (is_culled s area)
 unfoldable pub oriented : WindowVertex → WindowVertex → WindowVertex → List WindowVertex
 oriented a b c = if int_lt (triangle_area (three a b c)) (pos 0) then three a c b else three a b c
 
+abbrev pub no_clip_vertex : ClipVertex
+no_clip_vertex = record { x = pos 0; y = pos 0; z = pos 0; w = pos 0; color = rgba 0 0 0 0; s = pos 0; t = pos 0 }
+
+-- point k of a polygon in clip coordinates
+abbrev pub point : List ClipVertex → ℕ → ClipVertex
+point p k = get_or p k no_clip_vertex
+
 -- A triangle isn't dropped: each corner stands before the eye and within the bounds, and it has an area and isn't culled.
+unfoldable pub is_kept_at : State → List ClipVertex → Bool
+is_kept_at s p =
+    is_placed_at s (point p 0) && (is_placed_at s (point p 1) && (is_placed_at s (point p 2)
+    && is_shown s (triangle_area (three (window_at s (point p 0)) (window_at s (point p 1)) (window_at s (point p 2))))))
+
+-- the corners of a kept triangle in window coordinates, counterclockwise
+unfoldable pub kept_at : State → List ClipVertex → Option (List WindowVertex)
+kept_at s p =
+    if is_kept_at s p then Some (oriented (window_at s (point p 0)) (window_at s (point p 1)) (window_at s (point p 2))) else None
+
+-- the same of three vertices as they are issued
 unfoldable pub is_kept : State → Vertex → Vertex → Vertex → Bool
 is_kept s a b c =
     is_placed s a && (is_placed s b && (is_placed s c && is_shown s (triangle_area (three (window_of s a) (window_of s b) (window_of s c)))))
 
--- the corners of a kept triangle in window coordinates, counterclockwise
 unfoldable pub kept_of : State → Vertex → Vertex → Vertex → Option (List WindowVertex)
 kept_of s a b c = if is_kept s a b c then Some (oriented (window_of s a) (window_of s b) (window_of s c)) else None
 
@@ -42,5 +60,5 @@ abbrev pub vertex_at : List Vertex → ℕ → Vertex
 vertex_at vs i = get_or vs i (record { pos = []; color = rgba 0 0 0 0; s = pos 0; t = pos 0 })
 
 -- the corners of a triangle of a block, by the indices of its vertices, where it is kept
-abbrev pub kept_triangle : State → List Vertex → List ℕ → Option (List WindowVertex)
-kept_triangle s vs t = kept_of s (vertex_at vs (slice_index t 0)) (vertex_at vs (slice_index t 1)) (vertex_at vs (slice_index t 2))
+abbrev pub kept_whole : State → List Vertex → List ℕ → Option (List WindowVertex)
+kept_whole s vs t = kept_of s (vertex_at vs (slice_index t 0)) (vertex_at vs (slice_index t 1)) (vertex_at vs (slice_index t 2))

@@ -1,23 +1,21 @@
 -- What a command does to one pixel.
-use Rattle.std.specs.Prelude.{ℕ, ◌+◌, ◌-◌, ◌/◌, ◌%◌, ◌==◌, ◌&&◌, ◌||◌, not, nat_lt, nat_le, min, Bool, true, false, List, length, fold, Option, Some, None, if◌then◌else◌, ℤ, pos, ◌*ℤ◌, slice_index, slice_index_or}
-use Rattle.std.specs.Option.{option_map_or}
+use Rattle.std.specs.Prelude.{ℕ, ◌+◌, ◌-◌, ◌/◌, ◌%◌, ◌==◌, ◌&&◌, ◌||◌, not, nat_lt, nat_le, min, Bool, true, false, List, fold, Option, Some, None, if◌then◌else◌, ℤ, pos, ◌*ℤ◌, slice_index, slice_index_or}
 use Rattle.rc_base.specs.Numbers.{fixed_one, floor_quotient, is_between, natural}
 use Rattle.rc_base.specs.Colors.{rgba, prod}
 use Rattle.rc_base.specs.Pictures.{Picture}
-use Rattle.rc_base.specs.Drawing.Triangles.{triangles_of}
 use Rattle.rc_base.specs.Drawing.Window.{depth_most}
-use Rattle.rc_base.specs.Drawing.Kept.{kept_triangle}
+use Rattle.rc_base.specs.Drawing.Pieces.{kept_triangles}
 use Rattle.rc_base.specs.Drawing.Cover.{covers, is_in_scissor}
 use Rattle.rc_base.specs.Drawing.Fragment.{fragment_of}
 use Rattle.rc_base.specs.Drawing.Texel.{sampled, texel_of, wrap_in_s, wrap_in_t}
 use Rattle.rc_base.specs.declared.command.Rgba.{Rgba}
 use Rattle.rc_base.specs.declared.state.State.{State}
-use Rattle.rc_base.specs.declared.state.Vertex.{Vertex}
 use Rattle.rc_base.specs.declared.state.Block.{Block}
 use Rattle.rc_base.specs.declared.state.Effect.{Effect}
 use Rattle.rc_base.specs.declared.state.Effect.TheVariants as eff
 use Rattle.rc_base.specs.declared.window.Pixel.{Pixel}
 use Rattle.rc_base.specs.declared.window.Fragment.{Fragment}
+use Rattle.rc_base.specs.declared.window.WindowVertex.{WindowVertex}
 
 -- ---- fragment stages, in their order
 
@@ -100,15 +98,13 @@ fragment_step s picture f old =
 
 -- ---- commands
 
--- a pixel after a triangle: its fragment goes through the stages where the triangle is kept and covers the pixel
-abbrev pub triangle_step : State → Option Picture → List Vertex → ℤ → ℤ → Pixel → List ℕ → Pixel
-triangle_step s picture vs x y old t =
-    option_map_or (λ v. if covers s v x y then fragment_step s picture (fragment_of v x y) old else old) (kept_triangle s vs t) old
+-- a pixel after a kept triangle: its fragment goes through the stages where the triangle covers the pixel
+abbrev pub triangle_step : State → Option Picture → ℤ → ℤ → Pixel → List WindowVertex → Pixel
+triangle_step s picture x y old v = if covers s v x y then fragment_step s picture (fragment_of v x y) old else old
 
--- a pixel after a block: its triangles are drawn one after the other
+-- a pixel after a block: its kept triangles are drawn one after the other
 unfoldable pub block_step : State → Option Picture → Block → ℤ → ℤ → Pixel → Pixel
-block_step s picture block x y old =
-    fold (triangle_step s picture block.vertices x y) old (triangles_of block.mode (length block.vertices))
+block_step s picture block x y old = fold (triangle_step s picture x y) old (kept_triangles s block)
 
 -- the clear depth as it is stored
 abbrev pub cleared_depth : State → ℕ

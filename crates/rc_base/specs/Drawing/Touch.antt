@@ -1,9 +1,7 @@
 -- Which pixels a command touches, and which shared textures it samples and writes, whatever later tests say.
-use Rattle.std.specs.Prelude.{ℕ, ◌==◌, ◌&&◌, nat_lt, Bool, false, length, ℤ}
+use Rattle.std.specs.Prelude.{ℕ, ◌==◌, ◌&&◌, nat_lt, Bool, false, ℤ}
 use Rattle.std.specs.List.{list_any}
-use Rattle.std.specs.Option.{option_map_or}
-use Rattle.rc_base.specs.Drawing.Triangles.{triangles_of}
-use Rattle.rc_base.specs.Drawing.Kept.{kept_triangle}
+use Rattle.rc_base.specs.Drawing.Pieces.{kept_triangles}
 use Rattle.rc_base.specs.Drawing.Cover.{covers, is_in_scissor}
 use Rattle.rc_base.specs.Drawing.Texel.{samples_shared}
 use Rattle.rc_base.specs.declared.state.State.{State}
@@ -13,8 +11,7 @@ use Rattle.rc_base.specs.declared.state.Effect.TheVariants as eff
 
 -- a kept triangle of the block covers the pixel
 abbrev pub block_touches : State → Block → ℤ → ℤ → Bool
-block_touches s block x y =
-    list_any (λ t. option_map_or (λ v. covers s v x y) (kept_triangle s block.vertices t) false) (triangles_of block.mode (length block.vertices))
+block_touches s block x y = list_any (λ v. covers s v x y) (kept_triangles s block)
 
 -- what a command does touches the pixel of the window: by the cover of a block, or the area of a Clear
 unfoldable pub touches : State → Effect → ℤ → ℤ → Bool

@@ -3,6 +3,7 @@ use Rattle.std.specs.Prelude.{ℕ, List, Bool, ◌&&◌, ◌^◌, ℤ, pos, ◌+
 use Rattle.rc_base.specs.Numbers.{floor_quotient, is_within, entry, transformed}
 use Rattle.rc_base.specs.declared.state.State.{State}
 use Rattle.rc_base.specs.declared.state.Vertex.{Vertex}
+use Rattle.rc_base.specs.declared.window.ClipVertex.{ClipVertex}
 use Rattle.rc_base.specs.declared.window.WindowVertex.{WindowVertex}
 
 -- clip coordinates x, y, z, w: the position by the modelview and then by the projection matrix
@@ -21,18 +22,28 @@ depth_most = 16777215
 unfoldable pub depth_of : ℤ → ℤ → ℤ → ℤ → ℤ
 depth_of near far z w = floor_quotient (((far -ℤ near) *ℤ z +ℤ (near +ℤ far) *ℤ w) *ℤ pos depth_most) (pos 131072 *ℤ w)
 
+-- a vertex in clip coordinates
+abbrev pub clip_vertex : State → Vertex → ClipVertex
+clip_vertex s v = record {
+  x = entry (clip_of s v) 0;
+  y = entry (clip_of s v) 1;
+  z = entry (clip_of s v) 2;
+  w = entry (clip_of s v) 3;
+  color = v.color;
+  s = v.s;
+  t = v.t;
+}
+
 -- the vertex in window coordinates, where the clip coordinate w is above 0
-unfoldable pub window_of : State → Vertex → WindowVertex
-window_of s v =
-    let clip = clip_of s v in
-    record {
-      x = axis_of (entry s.viewport 0) (entry s.viewport 2) (entry clip 0) (entry clip 3);
-      y = axis_of (entry s.viewport 1) (entry s.viewport 3) (entry clip 1) (entry clip 3);
-      z = depth_of (entry s.depth_range 0) (entry s.depth_range 1) (entry clip 2) (entry clip 3);
-      color = v.color;
-      s = v.s;
-      t = v.t;
-    }
+unfoldable pub window_at : State → ClipVertex → WindowVertex
+window_at s c = record {
+  x = axis_of (entry s.viewport 0) (entry s.viewport 2) c.x c.w;
+  y = axis_of (entry s.viewport 1) (entry s.viewport 3) c.y c.w;
+  z = depth_of (entry s.depth_range 0) (entry s.depth_range 1) c.z c.w;
+  color = c.color;
+  s = c.s;
+  t = c.t;
+}
 
 -- the bounds of window coordinates: of places in sixteenths of a pixel, and of depths
 abbrev pub place_bound : ℕ
@@ -45,5 +56,12 @@ abbrev pub is_in_bounds : WindowVertex → Bool
 is_in_bounds v = is_within place_bound v.x && (is_within place_bound v.y && is_within depth_bound v.z)
 
 -- the vertex stands before the eye and within the bounds
+unfoldable pub is_placed_at : State → ClipVertex → Bool
+is_placed_at s c = int_lt (pos 0) c.w && is_in_bounds (window_at s c)
+
+-- the same of vertices as they are issued
+unfoldable pub window_of : State → Vertex → WindowVertex
+window_of s v = window_at s (clip_vertex s v)
+
 unfoldable pub is_placed : State → Vertex → Bool
-is_placed s v = int_lt (pos 0) (entry (clip_of s v) 3) && is_in_bounds (window_of s v)
+is_placed s v = is_placed_at s (clip_vertex s v)

@@ -55,6 +55,10 @@ least_swaps (s ∷ (t ∷ ts)) = min (swaps_in s) (least_swaps (t ∷ ts))
 abbrev pub commands_in : List (List Command) → ℕ
 commands_in streams = sum_by length streams
 
+-- the pixels of all frames
+abbrev pub frame_pixels : Scene → ℕ
+frame_pixels s = least_swaps s.streams * (s.decl.width * s.decl.height)
+
 -- ---- the table
 
 abbrev pub quantities : Scene → List Quantity
@@ -63,7 +67,11 @@ quantities s =
     ++ (map side (flat_map (λ size. size) s.decl.shared)
     ++ (quantity 7 (sum_by size_area s.decl.shared) 0 1048576 ∷ quantity 8 (length s.decl.barriers) 0 64 ∷ (map barrier_count s.decl.barriers
     ++ (quantity 10 (length s.decl.semaphores) 0 64 ∷ quantity 11 (commands_in s.streams) 0 1048576 ∷ quantity 12 (least_swaps s.streams) 0 1048576
-    ∷ quantity 13 (least_swaps s.streams * (s.decl.width * s.decl.height)) 0 33554432 ∷ []))))
+    ∷ quantity 13 (frame_pixels s) 0 2147483648 ∷ []))))
+
+-- the same pixels where all frames are held at once
+unfoldable pub held_limit : Scene → Option Limit
+held_limit s = first_outside (quantity 19 (frame_pixels s) 0 33554432 ∷ [])
 
 -- the first quantity of a scene outside its range, or none
 unfoldable pub limit_of : Scene → Option Limit
@@ -91,7 +99,7 @@ abbrev pub limit_names : List (List ℕ)
 limit_names =
     codes "scene bytes" ∷ codes "width" ∷ codes "height" ∷ codes "clients" ∷ codes "shared textures" ∷ codes "shared side" ∷ codes "shared texels"
     ∷ codes "barriers" ∷ codes "barrier count" ∷ codes "semaphores" ∷ codes "commands" ∷ codes "frames" ∷ codes "pixels"
-    ∷ codes "tile columns" ∷ codes "tile rows" ∷ codes "tiles" ∷ codes "depth" ∷ codes "size" ∷ []
+    ∷ codes "tile columns" ∷ codes "tile rows" ∷ codes "tiles" ∷ codes "depth" ∷ codes "size" ∷ codes "held pixels" ∷ []
 
 abbrev pub limit_name : ℕ → List ℕ
 limit_name what = unwrap_or (at_name limit_names what) []

@@ -1,8 +1,9 @@
 -- How bytes spell a scene: relations on whole lists of bytes and of commands.
-use Rattle.std.specs.Prelude.{◌≡◌, ℕ, ℤ, ◌*◌, ◌<◌, ◌≤◌, ◌^◌, List, [], ◌∷◌, ◌++◌, length, map, take, drop}
+use Rattle.std.specs.Prelude.{◌≡◌, ℕ, ℤ, ◌*◌, ◌==◌, if◌then◌else◌, ◌<◌, ◌≤◌, ◌^◌, List, [], ◌∷◌, ◌++◌, length, map, take, drop}
 use Rattle.std.specs.List.{flat_map, range_with_len, AllByRecursion}
 use Rattle.std.specs.Int.{w16, w32, to_le_bytes, cast_unsigned, div_ceil}
 use Rattle.rc_base.specs.declared.command.Command.{Command}
+use Rattle.rc_base.specs.declared.command.Opcode.{Opcode}
 use Rattle.rc_base.specs.declared.scene.Decl.{Decl}
 use Rattle.rc_base.specs.declared.scene.Scene.{Scene}
 use Rattle.rc_base.specs.Formats.Commands.{Kind, Value, Fields, IsCommand, opcode_of, opcode_number, kinds_of, fields_of}
@@ -44,22 +45,44 @@ payload c = field_bytes (kinds_of (opcode_of c)) (fields_of c)
 abbrev pub opcode_byte : Command → ℕ
 opcode_byte c = opcode_number (opcode_of c)
 
+-- A set of commands as packets spell them: each command's opcode and the byte that stands for it, the bytes of its fields, and that these are in
+-- their ranges.
+pub record CommandSet (C O : Type 0) : Type 1 where
+  pub opcode : C → O
+  pub number : O → ℕ
+  pub fields : C → List ℕ
+  pub IsOne : C → Type 0
+
+-- the commands of the table
+abbrev pub plain_set : CommandSet Command Opcode
+plain_set = record { opcode = opcode_of; number = opcode_number; fields = payload; IsOne = IsCommand }
+
 -- a count, that many opcodes, and that many payloads in the same order
-abbrev pub packet : List Command → List ℕ
-packet commands = half (length commands) ++ (map opcode_byte commands ++ flat_map payload commands)
+abbrev pub packet_of : {C O : Type 0} → CommandSet C O → List C → List ℕ
+packet_of set commands = half (length commands) ++ (map (λ c. set.number (set.opcode c)) commands ++ flat_map set.fields commands)
 
 -- commands that make one packet
-pub record IsPacket (commands : List Command) : Type 0 where
+pub record IsPacketOf {C O : Type 0} (set : CommandSet C O) (commands : List C) : Type 0 where
   pub some : 1 ≤ length commands
   pub most : length commands ≤ 1024
-  pub each : AllByRecursion IsCommand commands
+  pub each : AllByRecursion set.IsOne commands
 
 -- The bytes of a stream are packets one after the other, and these are their commands. A list of commands may be spelled in several ways.
-pub record SpellsStream (bytes : List ℕ) (commands : List Command) : Type 0 where
-  pub packets : List (List Command)
-  pub each : AllByRecursion IsPacket packets
-  pub parts : bytes ≡ flat_map packet packets
+pub record SpellsStreamOf {C O : Type 0} (set : CommandSet C O) (bytes : List ℕ) (commands : List C) : Type 0 where
+  pub packets : List (List C)
+  pub each : AllByRecursion (IsPacketOf set) packets
+  pub parts : bytes ≡ flat_map (packet_of set) packets
   pub whole : commands ≡ flat_map (λ p. p) packets
+
+-- the same of the commands of the table
+abbrev pub packet : List Command → List ℕ
+packet commands = packet_of plain_set commands
+
+abbrev pub IsPacket : List Command → Type 0
+IsPacket commands = IsPacketOf plain_set commands
+
+abbrev pub SpellsStream : List ℕ → List Command → Type 0
+SpellsStream bytes commands = SpellsStreamOf plain_set bytes commands
 
 -- the commands of a packet, where each packet before it has 1,024
 abbrev pub packet_commands : List Command → ℕ → List Command
@@ -74,9 +97,21 @@ encoded commands = flat_map (λ i. packet (packet_commands commands i)) (range_w
 
 -- ---- scenes
 
--- the letters RCS1
-abbrev pub magic : List ℕ
-magic = 0x52 ∷ 0x43 ∷ 0x53 ∷ 0x31 ∷ []
+-- the versions of a scene
+abbrev pub IsVersion : ℕ → Type 0
+IsVersion version = (1 ≤ version) × (version ≤ 2)
+
+-- the letters RCS
+abbrev pub letters : List ℕ
+letters = 0x52 ∷ 0x43 ∷ 0x53 ∷ []
+
+-- the digit of a version; every other number is written as version 1
+abbrev pub digit : ℕ → ℕ
+digit version = if version == 2 then 0x32 else 0x31
+
+-- the letters RCS1 of version 1, or RCS2
+abbrev pub magic : ℕ → List ℕ
+magic version = letters ++ digit version ∷ []
 
 -- width and height of a shared texture
 abbrev pub size : List ℕ → List ℕ
@@ -85,7 +120,7 @@ size sides = flat_map half sides
 -- the window, the number of streams, and what is declared
 abbrev pub header : Decl → ℕ → List ℕ
 header d clients =
-    magic ++ (half d.width ++ (half d.height
+    magic d.version ++ (half d.width ++ (half d.height
     ++ ((clients ∷ length d.shared ∷ length d.barriers ∷ length d.semaphores ∷ [])
     ++ (flat_map size d.shared ++ (d.barriers ++ flat_map half d.semaphores)))))
 
@@ -100,7 +135,7 @@ IsCount n = n < 256
 
 -- each field of a declaration is in its range
 pub record IsDecl (d : Decl) : Type 0 where
-  pub version : d.version ≡ 1
+  pub version : IsVersion d.version
   pub width : d.width < 2 ^ 16
   pub height : d.height < 2 ^ 16
   pub few_shared : length d.shared < 256

@@ -1,4 +1,5 @@
 use Rattle.std.proofs.Common.{length}
+use Rattle.rc_base.specs.Drawing.Triangles.{shape_of}
 use Rattle.geometry.proofs.Triples.{rest_whole, indices_below}
 use Rattle.geometry.proofs.primitives.triangles.Goals as goal
 
@@ -6,4 +7,4 @@ pub returns-clause-rest : goal.returns-clause-rest
 returns-clause-rest c = rest_whole c.args.block.now
 
 pub returns-clause-indices : goal.returns-clause-indices
-returns-clause-indices c = indices_below c.args.block.now.mode (length c.args.block.now.vertices)
+returns-clause-indices c = indices_below (shape_of c.args.block.now.mode) (length c.args.block.now.vertices)

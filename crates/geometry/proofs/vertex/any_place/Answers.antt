@@ -2,13 +2,14 @@ use Rattle.std.proofs.Common.{◌≡◌, to_z-of_z, to_z, of_z, FitsSigned, ◌<
 use Rattle.std.proofs.lemmas.Int.{ints}
 use mir.Syntax.{w128}
 use Rattle.rc_base.specs.Numbers.{entry}
-use Rattle.rc_base.specs.Drawing.Window.{window_of, clip_of}
+use Rattle.rc_base.specs.Drawing.Window.{window_of, window_at, clip_of}
 use Rattle.geometry.specs.Vertices.{vertex_with}
 use Rattle.rc_base.specs.declared.window.WindowVertex.{WindowVertex}
+use Rattle.geometry.proofs.Fronts.{stands}
 use Rattle.geometry.proofs.vertex.any_place.Goals as goal
 
 pub returns : goal.returns
-unfolding window_of
+unfolding window_of window_at
 returns c =
     let s = c.args.state.now in
     let v = c.args.v.now in
@@ -17,4 +18,4 @@ returns c =
     let f : FitsSigned w128 (entry c.clip-c.result 3) = search rules in
     let g : pos 0 <ℤ entry c.clip-c.result 3 = omega (arith, ints) in
     let h : pos 0 <ℤ entry (clip_of s v) 3 = subst (λ (l : List ℤ). pos 0 <ℤ entry l 3) c.clip-c.ensures.value g in
-    (h, q)
+    (h, q, λ yes'. stands s v c.clip-c.result c.clip-c.ensures.value (c.are_in_front-front.ensures yes'))

@@ -142,9 +142,9 @@ abbrev pub with_texels : LineName → List (List ℕ) → List ℤ → Result St
 with_texels name [] numbers = Ok (statement name numbers [])
 with_texels name (w ∷ ws) numbers = or_fault kind.BadHex (option_map (statement name numbers) (spelled_texels (picture_area numbers) w))
 
--- the first number of a scene's line is the version of the format, which is 1
+-- the first number of a scene's line is the version of the format, which is 1 or 2
 abbrev pub has_version : LineName → List ℤ → Bool
-has_version line.Scene numbers = is_between (pos 1) (pos 1) (entry numbers 0)
+has_version line.Scene numbers = is_between (pos 1) (pos 2) (entry numbers 0)
 has_version line.Shared numbers = true
 has_version line.Barrier numbers = true
 has_version line.Semaphore numbers = true

@@ -4,21 +4,21 @@ use Rattle.scene_file.proofs.StreamsInTurn.{letters_fail, head_fails, stage_none
 use Rattle.scene_file.proofs.CommandsCounted.{progress_none, progress_more, progress_done}
 use Rattle.scene_file.proofs.reading.read_spelled.Goals as goal
 
-pub returns-in_err-body-clause-fails : goal.returns-in_err-body-clause-fails
-returns-in_err-body-clause-fails c =
+pub returns-in_err-version-clause-fails : goal.returns-in_err-version-clause-fails
+returns-in_err-version-clause-fails c =
     let p = err_from_is_err_and c.from_residual.result c.from_residual.ensures.1 in
-    rw (p.1, p.2) (letters_fail c.args.bytes.now c.in_err-body.field-0.0 c.in_err-body.ensures.fails)
+    rw (p.1, p.2) (letters_fail c.args.bytes.now c.in_err-version.field-0.0 c.in_err-version.ensures.fails)
 
 pub returns-in_err-decl-clause-fails : goal.returns-in_err-decl-clause-fails
 returns-in_err-decl-clause-fails c =
     let p = err_from_is_err_and c.from_residual-in_err-decl.result c.from_residual-in_err-decl.ensures.1 in
-    rw (p.1, p.2) (head_fails c.args.bytes.now c.in_ok-body.body.now c.in_err-decl.field-0.0 (λ i. omega (arith, c.type_inv.bytes i)) c.in_ok-body.ensures.found c.in_err-decl.ensures)
+    rw (p.1, p.2) (head_fails c.in_ok-version.version c.in_ok-version.ensures.found.0 c.args.bytes.now c.in_ok-version.body.now c.in_err-decl.field-0.0 (λ i. omega (arith, c.type_inv.bytes i)) c.in_ok-version.ensures.found.1 c.in_err-decl.ensures)
 
 pub loop-init : goal.loop-init
 loop-init c =
     rw c.new-streams.ensures
     (progress_none c.args.bytes.now c.in_ok-decl.field-0-0.decl c.in_ok-decl.field-0-0.clients c.in_ok-decl.body.now
-    (stage_none c.args.bytes.now c.in_ok-body.body.now c.in_ok-decl.field-0-0 c.in_ok-decl.body.now (λ i. omega (arith, c.type_inv.bytes i)) c.in_ok-body.ensures.found c.in_ok-decl.ensures))
+    (stage_none c.in_ok-version.version c.in_ok-version.ensures.found.0 c.args.bytes.now c.in_ok-version.body.now c.in_ok-decl.field-0-0 c.in_ok-decl.body.now (λ i. omega (arith, c.type_inv.bytes i)) c.in_ok-version.ensures.found.1 c.in_ok-decl.ensures))
 
 pub returns-in_err-decoded-clause-fails : goal.returns-in_err-decoded-clause-fails
 returns-in_err-decoded-clause-fails c =

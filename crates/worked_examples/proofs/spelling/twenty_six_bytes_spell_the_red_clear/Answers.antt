@@ -17,7 +17,7 @@ one_stream = record {
 }
 
 declared : IsDecl red_clear.decl
-declared = record { version = refl; width = omega arith; height = omega arith; few_shared = omega arith; few_barriers = omega arith; few_semaphores = omega arith; shared = tt; barriers = tt; semaphores = tt }
+declared = record { version = (omega arith, omega arith); width = omega arith; height = omega arith; few_shared = omega arith; few_barriers = omega arith; few_semaphores = omega arith; shared = tt; barriers = tt; semaphores = tt }
 
 pub returns : goal.returns
 returns c = record {

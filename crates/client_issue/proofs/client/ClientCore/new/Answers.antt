@@ -1,5 +1,7 @@
-use Rattle.std.proofs.Common.{◌≡◌, ◌∙◌, ◌++◌, ◌<◌, ◌≤◌, ◌^◌, List, length, get_or, ap, sym, subst}
+use Rattle.std.proofs.Common.{◌≡◌, ◌∙◌, ◌++◌, ◌-◌, ◌<◌, ◌≤◌, ◌^◌, List, length, get_or, ap, sym, subst, arith}
+use Rattle.std.specs.Prelude.{replicate}
 use Rattle.std.specs.List.{AllByRecursion}
+use Rattle.rc_base.specs.Cluster.Parcels.{end_parcel}
 use Rattle.rc_base.specs.Formats.Commands.{IsCommand}
 use Rattle.rc_base.specs.Contexts.Issue.{stream_of}
 use Rattle.rc_base.specs.declared.cluster.Tally.{Tally}
@@ -37,3 +39,10 @@ returns-clause-left c =
 pub returns-clause-tallies : goal.returns-clause-tallies
 unfolding tally_in
 returns-clause-tallies c tile = ap (λ (ts : List Tally). get_or ts tile no_tally) c.in_ok-tallies.ensures ∙ no_tally_in _ tile
+
+pub invariant_of-result-clause-prepared : goal.invariant_of-result-clause-prepared
+invariant_of-result-clause-prepared c =
+    let h = c.in_ok-sender.ensures in
+    let count : c.in_ok-sender.sender.count - 0 ≡ c.count_of-count.result = omega (arith, h.count) in
+    let stream : c.in_ok-sender.sender.stream ≡ c.commands_of-commands.result.now = h.stream ∙ c.in_ok-stream.ensures in
+    c.in_ok-last.ensures ∙ sym (λ i. replicate (count i) (end_parcel (length (stream i))))
