@@ -13,16 +13,16 @@ const IDENTITY: Mat4 = Mat4 {
     ],
 };
 
-const BLACK: Rgba = Rgba {
+pub(crate) const BLACK: Rgba = Rgba {
     r: 0,
     g: 0,
     b: 0,
     a: 0,
 };
 
-const ONE: i32 = 65_536;
+pub(crate) const ONE: i32 = 65_536;
 
-fn state(viewport: [i32; 4], cull_on: bool) -> State {
+pub(crate) fn state(viewport: [i32; 4], cull_on: bool) -> State {
     State {
         modelview: IDENTITY,
         projection: IDENTITY,
@@ -50,7 +50,7 @@ fn state(viewport: [i32; 4], cull_on: bool) -> State {
 }
 
 // A vertex in 16.16 clip coordinates.
-fn at(x: i32, y: i32, w: i32) -> Vertex {
+pub(crate) fn at(x: i32, y: i32, w: i32) -> Vertex {
     Vertex {
         pos: [x, y, 0, w],
         color: BLACK,
@@ -87,6 +87,13 @@ fn blocks_have_their_triangles(rt: HostRuntime) {
         (2, 4, Some((0, 2, 3))),
         (1, 2, None),
         (3, 9, None),
+        // The same in scenes of version 2, and modes that no scene gives.
+        (16, 8, Some((3, 4, 5))),
+        (17, 4, Some((2, 1, 3))),
+        (18, 4, Some((0, 2, 3))),
+        (19, 8, None),
+        (32, 8, None),
+        (255, 8, None),
     ] {
         assert!(rt; second(rt.alloc(), mode, count) == Ok(want));
     }

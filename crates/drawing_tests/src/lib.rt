@@ -12,6 +12,8 @@ mod coverage;
 #[cfg(test)]
 mod fragments;
 #[cfg(test)]
+mod near;
+#[cfg(test)]
 mod products;
 #[cfg(test)]
 mod rectangles;
@@ -19,3 +21,5 @@ mod rectangles;
 mod stages;
 #[cfg(test)]
 mod texels;
+#[cfg(test)]
+mod walls;

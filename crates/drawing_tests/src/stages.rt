@@ -19,17 +19,17 @@ use textures::{PrivateSet, SharedSet, Texture};
 
 // The stages that are on. A texture has its environment, and its wraps in s and in t.
 #[derive(Clone, Copy)]
-struct Stages {
-    texture: Option<[u8; 3]>,
-    alpha: Option<[u8; 2]>,
-    depth: Option<u8>,
-    depth_mask: bool,
-    blend: Option<[u8; 2]>,
-    mask: [bool; 4],
+pub(crate) struct Stages {
+    pub(crate) texture: Option<[u8; 3]>,
+    pub(crate) alpha: Option<[u8; 2]>,
+    pub(crate) depth: Option<u8>,
+    pub(crate) depth_mask: bool,
+    pub(crate) blend: Option<[u8; 2]>,
+    pub(crate) mask: [bool; 4],
 }
 
 // None at all.
-const PLAIN: Stages = Stages {
+pub(crate) const PLAIN: Stages = Stages {
     texture: None,
     alpha: None,
     depth: None,
@@ -47,7 +47,7 @@ fn identity() -> Mat4 {
 }
 
 // A window of 16 by 4, and private texture 1.
-fn state(stages: Stages) -> State {
+pub(crate) fn state(stages: Stages) -> State {
     State {
         modelview: identity(),
         projection: identity(),
@@ -74,7 +74,7 @@ fn state(stages: Stages) -> State {
     }
 }
 
-fn rgba(r: u8, g: u8, b: u8, a: u8) -> Rgba {
+pub(crate) fn rgba(r: u8, g: u8, b: u8, a: u8) -> Rgba {
     Rgba { r, g, b, a }
 }
 
@@ -144,7 +144,7 @@ fn has_texel(texture: &Texture) -> bool
 }
 
 // Whether the state draws without a texture, or with a private one that has a texel.
-fn is_drawable(state: &State, privates: &PrivateSet, shareds: &SharedSet) -> bool
+pub(crate) fn is_drawable(state: &State, privates: &PrivateSet, shareds: &SharedSet) -> bool
     ensures { IsTrue result → IsDrawable state.now privates.now shareds.now }
 {
     if !state.texture_on {

@@ -15,8 +15,13 @@ const ONE: i32 = 65_536;
 
 // A context of a window of 2 by 1 pixels, with one shared texture of 3 by 2, two barriers and one semaphore.
 fn fresh(alloc: Global) -> Result<Context, OutOfMemory> {
+    fresh_in(alloc, 1)
+}
+
+// The same in a scene of this version.
+fn fresh_in(alloc: Global, version: u8) -> Result<Context, OutOfMemory> {
     let decl = Decl {
-        version: 1,
+        version,
         width: 2,
         height: 1,
         shared: Sizes::from_slice(alloc, &[[3, 2]])?,
@@ -178,6 +183,31 @@ fn is_refused(context: &mut Context, twin: &Context, command: &Command, fault: F
 // Whether End makes a block of this mode and so many vertices.
 fn is_block(context: &mut Context, due: Option<(u8, usize)>) -> bool {
     drawn_block(&issue(context, 0, &Command::End)) == due
+}
+
+// Mode and number of vertices of a block without any, which is begun with this argument in a scene of this version.
+fn empty_block(alloc: Global, version: u8, kind: u8) -> Option<(u8, usize)> {
+    let mut context = fresh_in(alloc, version).ok()?;
+    if !is_quiet(&mut context, &Command::Begin { mode: kind }) {
+        return None;
+    }
+    drawn_block(&issue(&mut context, 0, &Command::End))
+}
+
+// The argument keeps its codes.
+#[test]
+fn blocks_of_version_2_have_modes_of_their_own(rt: HostRuntime) {
+    for (version, kind, due) in [
+        (1, 0, Some((0, 0))),
+        (1, 2, Some((2, 0))),
+        (2, 0, Some((16, 0))),
+        (2, 1, Some((17, 0))),
+        (2, 2, Some((18, 0))),
+        (2, 3, None),
+        (2, 16, None),
+    ] {
+        assert!(rt; empty_block(rt.alloc(), version, kind) == due);
+    }
 }
 
 // All commands but Vertex, Color, TexCoord and End, with arguments that are right outside a block.

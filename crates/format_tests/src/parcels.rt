@@ -14,6 +14,12 @@ const DRAW: &[u8] = b"\x02\x01\x00\x00\x00\x00\x01\x01\x00\
         \x01\x02\x03\x04\
         \x04\x03\x02\x01\xfe\xff\xff\xff";
 
+// The same of a scene of version 2.
+const CUT_DRAW: &[u8] = b"\x02\x01\x00\x00\x00\x00\x11\x01\x00\
+        \x01\x00\x00\x00\xff\xff\xff\xff\x00\x00\x01\x00\x00\x00\x00\x80\
+        \x01\x02\x03\x04\
+        \x04\x03\x02\x01\xfe\xff\xff\xff";
+
 const CLEAR: &[u8] = b"\x02\x01\x00\x00\x00\x01\x03";
 
 const SHARED: &[u8] =
@@ -138,7 +144,7 @@ fn the_first_parcel_of_a_red_clear_has_twelve_bytes(rt: HostRuntime) {
     assert!(rt; fault_of(rt.alloc(), &RED_CLEAR[..11]) == Some(ParcelFault::Truncated { at: 11 }));
 }
 
-fn is_draw_spelled(alloc: Global) -> bool {
+fn is_draw_spelled(alloc: Global, mode: u8, bytes: &[u8]) -> bool {
     let vertex = Vertex {
         pos: [1, -1, 65536, -2147483648],
         color: Rgba {
@@ -151,7 +157,7 @@ fn is_draw_spelled(alloc: Global) -> bool {
         t: -2,
     };
     match Vertices::from_slice(alloc, &[vertex]) {
-        Ok(vertices) => is_act_spelled(alloc, Act::Draw(Block { mode: 1, vertices }), DRAW),
+        Ok(vertices) => is_act_spelled(alloc, Act::Draw(Block { mode, vertices }), bytes),
         Err(_) => false,
     }
 }
@@ -175,7 +181,8 @@ fn is_part_spelled(alloc: Global) -> bool {
 
 #[test]
 fn each_act_is_spelled_and_read(rt: HostRuntime) {
-    assert!(rt; is_draw_spelled(rt.alloc()));
+    assert!(rt; is_draw_spelled(rt.alloc(), 1, DRAW));
+    assert!(rt; is_draw_spelled(rt.alloc(), 17, CUT_DRAW));
     assert!(rt; is_act_spelled(rt.alloc(), Act::Clear(3), CLEAR));
     assert!(rt; is_part_spelled(rt.alloc()));
     assert!(rt; is_act_spelled(rt.alloc(), Act::Sync(SyncOp::Barrier(1)), BARRIER));

@@ -1,6 +1,9 @@
 use rc_base::command::{Command, Rgba};
 use rc_base::scene::{Scene, SceneKind};
 use scene_file::{SceneFault, read_scene, write_scene};
+use scene_text::{parse_scene, print_scene};
+use std::alloc::Global;
+use std::process::Abort;
 
 /// A window of 2 by 2, and one stream: a red clear colour, a clear of the colours, a swap.
 const RED: [u8; 26] = [
@@ -26,9 +29,9 @@ fn comes_back(rt: &HostRuntime, bytes: &[u8]) -> bool {
     }
 }
 
-fn is_red(scene: &Scene) -> bool {
+fn is_red(scene: &Scene, version: u8) -> bool {
     let decl = &scene.decl;
-    if decl.version != 1 || decl.width != 2 || decl.height != 2 || decl.shared.len() != 0 {
+    if decl.version != version || decl.width != 2 || decl.height != 2 || decl.shared.len() != 0 {
         return false;
     }
     match scene.streams.as_slice() {
@@ -52,13 +55,38 @@ fn is_red(scene: &Scene) -> bool {
     }
 }
 
+/// Whether the bytes with this digit behind the letters are read as the scene in this version, and written again as they stand.
+fn is_red_in(rt: &HostRuntime, digit: u8, version: u8) -> bool {
+    let mut bytes = RED;
+    bytes[3] = digit;
+    match read_scene(rt.alloc(), &bytes) {
+        Ok(scene) => is_red(&scene, version) && comes_back(rt, &bytes),
+        Err(_) => false,
+    }
+}
+
 #[test]
 fn red_scene_is_read_and_written(rt: HostRuntime) {
-    match read_scene(rt.alloc(), &RED) {
-        Ok(scene) => assert!(rt; is_red(&scene)),
-        Err(_) => assert!(rt; false),
+    for (digit, version) in [(0x31, 1), (0x32, 2)] {
+        assert!(rt; is_red_in(&rt, digit, version));
     }
-    assert!(rt; comes_back(&rt, &RED));
+}
+
+/// Whether a text is spelled by these bytes as well: each is read and written as the other.
+fn are_one_scene(rt: &impl Abort, alloc: Global, text: &[u8], bytes: &[u8]) -> bool {
+    let parsed = parse_scene(alloc, text).expect(rt, "a scene");
+    let written = write_scene(alloc, &parsed).expect(rt, "memory");
+    let read = read_scene(alloc, bytes).expect(rt, "a scene");
+    let printed = print_scene(alloc, &read).expect(rt, "memory");
+    written.as_slice() == bytes && printed.as_slice() == text
+}
+
+#[test]
+fn a_scene_of_version_2_goes_there_and_back(rt: HostRuntime) {
+    let mut bytes = RED;
+    bytes[3] = 0x32;
+    let text = b"scene 2 2 2\nclient\nClearColor 255 0 0 255\nClear 1\nSwap\n";
+    assert!(rt; are_one_scene(&rt, rt.alloc(), text, &bytes));
 }
 
 #[test]
@@ -83,6 +111,15 @@ fn each_fault_stands_at_its_place(rt: HostRuntime) {
         scene[place] = bytes[0];
         scene[place + 1] = bytes[1];
         assert!(rt; fails(&rt, &scene, SceneFault::Malformed { kind, at }));
+    }
+    for digit in [0x30, 0x33, 0x34] {
+        let mut scene = RED;
+        scene[3] = digit;
+        let fault = SceneFault::Malformed {
+            kind: SceneKind::BadMagic,
+            at: 3,
+        };
+        assert!(rt; fails(&rt, &scene, fault));
     }
     let mut longer = Vec::from_slice(rt.alloc(), &RED).expect(&rt, "memory");
     longer.push(0).expect(&rt, "memory");

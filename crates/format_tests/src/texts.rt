@@ -73,7 +73,8 @@ fn a_text_needs_its_lines_in_order(rt: HostRuntime) {
     assert!(rt; fails_with(&rt, b"\n# nothing\n", 1, TextKind::NoScene));
     assert!(rt; fails_with(&rt, b"client", 1, TextKind::OutOfPlace));
     assert!(rt; fails_with(&rt, b"scene 1 2 2\nSwap", 2, TextKind::OutOfPlace));
-    assert!(rt; fails_with(&rt, b"scene 2 2 2", 1, TextKind::BadNumber));
+    assert!(rt; fails_with(&rt, b"scene 0 2 2", 1, TextKind::BadNumber));
+    assert!(rt; fails_with(&rt, b"scene 3 2 2", 1, TextKind::BadNumber));
     assert!(rt;
         parse_scene(rt.alloc(), b"scene 1 0 2\nclient")
             == Err(TextSceneFault::Limit { what: 2, value: 0 })

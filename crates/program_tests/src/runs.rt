@@ -200,6 +200,12 @@ fn refusals_tell_kind_and_place(rt: HostRuntime) {
             "rc: malformed BadMagic at 2\n",
         ),
         (
+            "render",
+            b"RCS4\x02\0\x02\0\x01\0\0\0\x0a\0\0\0\x03\0\x16\x18\x24\xff\0\0\xff\x01".as_slice(),
+            3,
+            "rc: malformed BadMagic at 3\n",
+        ),
+        (
             "pack",
             b"scene 1 2 2\nclient\nClera 1\n".as_slice(),
             3,

@@ -1,5 +1,5 @@
 //! Inputs made to be hard: of just the most bytes and of one more, of lengths and pictures that are announced and missing, of endless lines.
-use super::{Host, finish_on, run_on, sink};
+use super::{Host, finish_on, sink};
 use rc_base::in_memory::QuietSource;
 use std::alloc::Global;
 use std::process::Abort;
@@ -20,13 +20,25 @@ fn repeated(rt: &impl Abort, alloc: Global, front: &[u8], word: &[u8], times: us
     text
 }
 
-// A run of the job that ends with this status and notes this line, and whose image stays empty.
-fn refuses(rt: &impl Host, alloc: Global, job: &str, input: &[u8], status: u8, line: &str) -> bool {
+// A run with these words that ends with this status and notes these lines, and whose image stays empty.
+fn notes(
+    rt: &impl Host,
+    alloc: Global,
+    job: &[&str],
+    input: &[u8],
+    status: u8,
+    lines: &str,
+) -> bool {
     let mut source = QuietSource::new(alloc, input, 1048576).expect(rt, "memory");
     let mut image = sink(rt, alloc, 64, &[]);
     let mut notes = sink(rt, alloc, 64, &[]);
-    let finish = finish_on(rt, alloc, &[job], &mut source, &mut image, &mut notes);
-    finish.status == status && image.bytes().is_empty() && notes.bytes() == line.as_bytes()
+    let finish = finish_on(rt, alloc, job, &mut source, &mut image, &mut notes);
+    finish.status == status && image.bytes().is_empty() && notes.bytes() == lines.as_bytes()
+}
+
+// A run of the job that refuses its input with this status and line.
+fn refuses(rt: &impl Host, alloc: Global, job: &str, input: &[u8], status: u8, line: &str) -> bool {
+    notes(rt, alloc, &[job], input, status, line)
 }
 
 #[test]
@@ -191,35 +203,47 @@ fn lines_of_a_million_words_are_told(rt: HostRuntime) {
     );
 }
 
+// The scene of so many Swaps in a window of 2048 by 2048.
+fn swaps(rt: &impl Abort, alloc: Global, count: u16) -> Vec<u8> {
+    let front = b"RCS1\x00\x08\x00\x08\x01\x00\x00\x00";
+    let mut bytes = Vec::from_slice(alloc, front).expect(rt, "memory");
+    let length = u32::from(count).saturating_add(2);
+    bytes
+        .extend_from_slice(&length.to_le_bytes())
+        .expect(rt, "memory");
+    bytes
+        .extend_from_slice(&count.to_le_bytes())
+        .expect(rt, "memory");
+    for _ in 0..count {
+        bytes.push(0x24).expect(rt, "memory");
+    }
+    bytes
+}
+
+// `serial` and `simulate` hold all frames at once, up to eight of the largest window; a scene may have 512 of them.
 #[test]
-fn nine_frames_of_the_largest_window_are_too_many(rt: HostRuntime) {
-    let front = b"scene 1 2048 2048\nclient\n";
-    let nine = repeated(&rt, rt.alloc(), front, b"Swap\n", 9);
-    assert!(rt;
-        refuses(
-            &rt,
-            rt.alloc(),
-            "pack",
-            nine.as_slice(),
+fn frames_of_the_largest_window_are_counted(rt: HostRuntime) {
+    let rows: [(&[&str], u16, u8, &str); 7] = [
+        (&["check"], 9, 0, "journal 9\nframes 9\n"),
+        (&["serial"], 9, 4, "rc: limit held pixels 37748736\n"),
+        (
+            &["simulate", "--seed", "1"],
+            9,
             4,
-            "rc: limit pixels 37748736\n"
-        )
-    );
-    let nine =
-        b"RCS1\x00\x08\x00\x08\x01\x00\x00\x00\x0b\x00\x00\x00\x09\x00\x24\x24\x24\x24\x24\x24\x24\x24\x24";
-    assert!(rt;
-        refuses(
-            &rt,
-            rt.alloc(),
-            "render",
-            nine,
+            "rc: limit held pixels 37748736\n",
+        ),
+        (
+            &["simulate", "--seed", "1", "--depth", "17"],
+            9,
             4,
-            "rc: limit pixels 37748736\n"
-        )
-    );
-    let eight =
-        b"RCS1\x00\x08\x00\x08\x01\x00\x00\x00\x0a\x00\x00\x00\x08\x00\x24\x24\x24\x24\x24\x24\x24\x24";
-    let text = repeated(&rt, rt.alloc(), front, b"Swap\n", 8);
-    let left = run_on(&rt, rt.alloc(), &["unpack"], eight);
-    assert!(rt; left.is(0, text.as_slice(), b"".as_slice()));
+            "rc: limit depth 17\n",
+        ),
+        (&["check"], 512, 0, "journal 512\nframes 512\n"),
+        (&["check"], 513, 4, "rc: limit pixels 2151677952\n"),
+        (&["serial"], 513, 4, "rc: limit pixels 2151677952\n"),
+    ];
+    for (job, count, status, lines) in rows {
+        let scene = swaps(&rt, rt.alloc(), count);
+        assert!(rt; notes(&rt, rt.alloc(), job, scene.as_slice(), status, lines));
+    }
 }

@@ -55,17 +55,27 @@ const ROWS: [Row; 30] = [
 // Tiles and a depth to run a scene with.
 const RUNS: [(&str, &str); 4] = [("1x1", "8"), ("2x1", "1"), ("3x2", "3"), ("8x4", "16")];
 
+// Whether the scene of so many clients is of version 2.
+fn is_of_version_2(clients: u32) -> bool {
+    clients % 2 == 1
+}
+
 fn add(rt: &impl Host, text: &mut Vec<u8>, line: &str) {
     text.extend_from_slice(line.as_bytes()).expect(rt, "memory");
 }
 
-// A triangle over the whole viewport.
-fn add_triangle(rt: &impl Host, text: &mut Vec<u8>) {
+// A triangle over the whole viewport. In a scene of version 2 it has a corner behind the eye, and two pieces that meet across the viewport.
+fn add_triangle(rt: &impl Host, text: &mut Vec<u8>, clients: u32) {
     add(
         rt,
         text,
-        "Begin 0\nVertex -65536 -65536 0 65536\nVertex 196608 -65536 0 65536\nVertex -65536 196608 0 65536\nEnd\n",
+        "Begin 0\nVertex -65536 -65536 0 65536\nVertex 196608 -65536 0 65536\n",
     );
+    if is_of_version_2(clients) {
+        add(rt, text, "Vertex 65536 327680 0 -65536\nEnd\n");
+    } else {
+        add(rt, text, "Vertex -65536 196608 0 65536\nEnd\n");
+    }
 }
 
 // A client's colour in a round, half transparent.
@@ -92,7 +102,7 @@ fn add_band(
     let line = format!(in alloc; "Scissor {left} 0 2 8\n").expect(rt, "memory");
     add(rt, text, line.as_str());
     add_color(rt, alloc, text, client, round);
-    add_triangle(rt, text);
+    add_triangle(rt, text, clients);
 }
 
 // A client that blends in a band in each round, and ends the round with this operation.
@@ -131,7 +141,7 @@ fn add_relay(rt: &impl Host, alloc: Global, text: &mut Vec<u8>, row: Row, client
         let take = format!(in alloc; "SemP {own}\n").expect(rt, "memory");
         add(rt, text, take.as_str());
         add_color(rt, alloc, text, client, round);
-        add_triangle(rt, text);
+        add_triangle(rt, text, clients);
         let texel = client.wrapping_mul(29).wrapping_add(round) % 90;
         let texel = texel.wrapping_add(10);
         let write = format!(in alloc; "SharedImage 1 0 0 1 1 {texel}ff{texel}c0\n").expect(
@@ -148,7 +158,12 @@ fn scene_of(rt: &impl Host, alloc: Global, row: Row) -> Vec<u8>
     requires { 0 < row.1 }
 {
     let (pattern, clients, _) = row;
-    let mut text = Vec::from_slice(alloc, b"scene 1 16 8\n").expect(rt, "memory");
+    let mut text = Vec::new(alloc);
+    if is_of_version_2(clients) {
+        add(rt, &mut text, "scene 2 16 8\n");
+    } else {
+        add(rt, &mut text, "scene 1 16 8\n");
+    }
     match pattern {
         Pattern::Bands => {
             let line = format!(in alloc; "barrier {clients}\n").expect(rt, "memory");

@@ -59,6 +59,30 @@ End
 Swap
 ";
 
+// The same in version 2: it is cut at the near plane, and what is in front of it covers the window.
+const CUT: &[u8] = b"scene 2 1 1
+client
+Begin 0
+Vertex -65536 -65536 0 65536
+Vertex 196608 -65536 0 65536
+Vertex -65536 196608 0 0
+End
+Swap
+";
+
+// In version 2, a triangle whose back is seen, and backs are culled.
+const CULLED: &[u8] = b"scene 2 1 1
+client
+FrontFace 1
+Enable 4
+Begin 0
+Vertex -65536 -65536 0 65536
+Vertex 196608 -65536 0 65536
+Vertex -65536 196608 0 65536
+End
+Swap
+";
+
 // A Clear examines no image; the first draw samples the green texel, and the second one finds nothing pending.
 const LAZY_TEXTURE: &[u8] = b"scene 1 1 1
 client
@@ -143,7 +167,7 @@ fn tells(rt: &impl Host, alloc: Global, job: &[&str], text: &[u8], sent: (u32, u
 
 #[test]
 fn frames_of_one_colour(rt: HostRuntime) {
-    let rows: [Row; 6] = [
+    let rows: [Row; 8] = [
         (
             &["render"],
             ADDED_QUAD,
@@ -167,6 +191,26 @@ fn frames_of_one_colour(rt: HostRuntime) {
         (
             &["render"],
             DROPPED,
+            b"P6\n1 1\n255\n",
+            1,
+            (0, 0, 0),
+            1,
+            (2, 0, 0),
+            "journal 1\nframes 1\n",
+        ),
+        (
+            &["render"],
+            CUT,
+            b"P6\n1 1\n255\n",
+            1,
+            (255, 255, 255),
+            1,
+            (3, 0, 1),
+            "journal 1\nframes 1\n",
+        ),
+        (
+            &["render"],
+            CULLED,
             b"P6\n1 1\n255\n",
             1,
             (0, 0, 0),
