@@ -6,6 +6,8 @@
     make.py orrery > orrery.txt
     make.py lanterns > lanterns.txt
     make.py courtyard > courtyard.txt
+    make.py road > road.txt
+    make.py road 1 > road-1.txt     the same in version 1, for the picture in docs/drawing.md
 
 A vertex's x and y go from -65536 at the left and bottom edge of the window to 65536 at the right and top edge: 16.16 fixed point.
 """
@@ -374,11 +376,172 @@ def courtyard():
     return lines + ["Swap"]
 
 
+# half of the road's width, how wide the kerbs beside it are, and how high the eye stands above it
+HALF, KERB, EYE = 0.42, 0.07, 0.42
+# the view: how far a unit goes across and upward in the window where it is seen from the distance of one, and how high the horizon lies
+ACROSS, UPWARD, HORIZON = 1.0, 1.5, 0.2
+# nothing nearer than this is shown: its depth would lie before the depth range
+NEAREST = 0.05
+
+
+def bend(z):
+    """Where the middle of the road lies at a distance: straight at first, and then to the right."""
+    return 0.02 * max(0.0, z - 1.5) ** 2
+
+
+def hill(z):
+    """How high the land stands at a distance."""
+    return 0.9 * (1 - math.cos(min(max(0.0, z - 4), 14) * math.pi / 14)) / 2
+
+
+def hazy(color, z):
+    """A colour that goes over into the air's with the distance."""
+    share = 1 - math.exp(-max(0.0, z) / 24)
+    return tuple(round(c + (h - c) * share) for c, h in zip(color, (232, 178, 140)))
+
+
+def places(mode, color, corners):
+    """A block of one colour with corners in the world: to the right, up, ahead."""
+    c = [f"Color {color[0]} {color[1]} {color[2]} {color[3] if len(color) > 3 else 255}", f"Begin {mode}"]
+    return c + [f"Vertex {fixed(x)} {fixed(y)} {fixed(z)} {ONE}" for x, y, z in corners] + ["End"]
+
+
+def lane(left, right, near, far, color, lift=0.0):
+    """A piece of ground between two lines beside the middle of the road."""
+    lines = [near + (far - near) * i / 4 for i in range(5)] if near > 1.4 else [near, far]
+    return places(STRIP, hazy(color, near), [(bend(z) + x, hill(z) + lift, z) for z in lines for x in (left, right)])
+
+
+def slab(x, low, high, near, far, color):
+    """An upright face beside the road, along it."""
+    return places(STRIP, hazy(color, near), [(bend(z) + x, hill(z) + y, z) for z in (near, far) for y in (low, high)])
+
+
+def upright(x, z, wide, low, high, color):
+    """An upright face that is turned to the viewer."""
+    return places(STRIP, hazy(color, z), [(bend(z) + x + i * wide / 2, hill(z) + y, z) for y in (low, high) for i in (-1, 1)])
+
+
+def spruce(x, z, tall):
+    """A tree: a trunk, and three tiers that are lit from the left."""
+    lines = upright(x, z, 0.05 * tall, 0, 0.3 * tall, (70, 48, 36))
+    foot, middle = hill(z), bend(z) + x
+    for low, high, wide in ((0.18, 0.6, 0.24), (0.4, 0.8, 0.18), (0.6, 1, 0.12)):
+        for side, color in ((-1, (104, 112, 50)), (1, (34, 58, 42))):
+            lines += places(
+                TRIANGLES,
+                hazy(color, z),
+                [(middle, foot + high * tall, z), (middle + side * wide * tall, foot + low * tall, z), (middle, foot + (low - 0.03) * tall, z)],
+            )
+    return lines
+
+
+def road(version=2):
+    width, height = 480, 320
+    view = [ACROSS, 0, 0, 0, 0, UPWARD, 0, 0, 0, HORIZON, 1, 1, 0, -UPWARD * EYE, -2 * NEAREST, 0]
+    lines = [
+        "# A road that runs under the eye, with kerbs, a wall, a fence and wires beside and above the viewer: long pieces that begin behind the eye and",
+        "# end before it. In version 2 they are cut at the near plane; in version 1 each of them is left out whole.",
+        "# All of it lies so near to the line of sight that its crossings with the near plane stay within the bound of window coordinates.",
+        "# Made by make.py. As bytes: render_cli pack < road.txt > road.rcs",
+        f"scene {version} {width} {height}",
+        "client",
+        "ClearColor 70 92 48 255",
+        "Clear 3",
+        "# the sky",
+    ]
+    lines += bands([(fixed(1), (44, 62, 120)), (fixed(0.62), (120, 110, 160)), (fixed(0.36), (236, 160, 120)), (fixed(HORIZON), (255, 214, 150))])
+    lines.append("# the sun, and the light around it")
+    x, y = -0.46, 0.34
+    for size, middle, rim in ((0.34, (255, 226, 160), None), (0.075, (255, 252, 226), (255, 238, 180))):
+        lines += ["Enable 3", "BlendFunc 6 7", f"Begin {FAN}", f"Color {middle[0]} {middle[1]} {middle[2]} {255 if rim else 170}", f"Vertex {fixed(x)} {fixed(y)} 0 {ONE}"]
+        edge = rim or middle
+        lines.append(f"Color {edge[0]} {edge[1]} {edge[2]} {255 if rim else 0}")
+        for i in range(33):
+            a = 2 * math.pi * i / 32
+            lines.append(f"Vertex {fixed(x + size * math.cos(a))} {fixed(y + size * width / height * math.sin(a))} 0 {ONE}")
+        lines += ["End", "Disable 3"]
+    lines.append("# mountains far away")
+    for corners in (
+        [(-1.1, 0.2, (196, 142, 140)), (-0.1, 0.2, (206, 150, 140)), (-0.72, 0.5, (150, 112, 140))],
+        [(-0.6, 0.2, (206, 150, 140)), (0.5, 0.2, (196, 140, 136)), (0.12, 0.44, (142, 104, 136))],
+        [(0.1, 0.2, (200, 144, 138)), (1.2, 0.2, (186, 132, 134)), (0.66, 0.58, (122, 92, 132))],
+    ):
+        lines += block(TRIANGLES, [(fixed(x), fixed(y), color) for x, y, color in corners])
+    lines += [
+        "# From here on places are in the world: to the right, up, and ahead. The projection makes w the distance.",
+        "MatrixMode 1",
+        "LoadMatrix " + " ".join(str(fixed(v)) for v in view),
+        "Clear 2",
+        "Enable 2",
+        "# the land: bands before the viewer, none of which reaches the near plane",
+    ]
+    edges = [0.3, 0.9, 1.5, 2.2, 3, 4, 5.2, 6.6, 8.2, 10, 12, 14.5, 18, 23]
+    for i, (near, far) in enumerate(zip(edges, edges[1:])):
+        green = (104, 124, 58) if i % 2 else (92, 112, 52)
+        lines += places(STRIP, hazy(green, near), [(side * (6 + 3 * z), hill(z) - 0.02, z) for z in (near, far) for side in (-1, 1)])
+    lines.append("# the road; its nearest piece begins behind the viewer")
+    joints = [-1.5, 1.5, 2.4, 3.4, 4.6, 6, 7.6, 9.4, 11.4, 13.6, 16, 18]
+    for i, (near, far) in enumerate(zip(joints, joints[1:])):
+        lines += lane(-HALF, HALF, near, far, (84, 82, 90) if i % 2 else (90, 88, 96))
+    lines.append("# kerbs, and the line in the middle")
+    lengths = [-1.2] + [0.75 + 0.55 * i for i in range(30)]
+    for i, (near, far) in enumerate(zip(lengths, lengths[1:])):
+        tone = (226, 220, 212) if i % 2 else (186, 62, 52)
+        for side in (-1, 1):
+            lines += lane(*sorted((side * HALF, side * (HALF + KERB))), near, far, tone, 0.004)
+            lines += slab(side * HALF, -0.01, 0.004, near, far, tuple(c * 3 // 4 for c in tone))
+    for i in range(12):
+        near, far = ((-0.9, 1.0) if i == 0 else (0.3 + 1.3 * i, 1.0 + 1.3 * i))
+        lines += lane(-0.018, 0.018, near, far, (240, 226, 170), 0.006)
+    lines.append("# a wall of stones to the left")
+    for course in range(3):
+        stones = [-1.3 - 0.35 * (course % 2)] + [0.95 + 0.3 * (course % 2) + 0.62 * i for i in range(14)]
+        for i, (near, far) in enumerate(zip(stones, stones[1:])):
+            tone = 150 + (37 * i + 53 * course) % 44
+            lines += slab(-0.72, 0.1 * course, 0.1 * course + 0.094, near, far, (tone, tone - 10, tone - 26))
+    capstones = [-1.6] + [1.1 + 0.9 * i for i in range(10)]
+    for i, (near, far) in enumerate(zip(capstones, capstones[1:])):
+        tone = 206 - 14 * (i % 2)
+        lines += lane(-0.86, -0.7, near, far, (tone, tone - 12, tone - 34), 0.3)
+    lines.append("# a fence to the right: posts and rails")
+    posts = [-0.5] + [1.1 + 1.1 * i for i in range(9)]
+    for near, far in zip(posts, posts[1:]):
+        for low in (0.12, 0.26):
+            lines += slab(0.68, low, low + 0.035, near, far, (150, 104, 66))
+            lines += lane(0.68, 0.7, near, far, (196, 146, 96), low + 0.035)
+    for z in posts[1:]:
+        lines += upright(0.7, z - 0.01, 0.045, 0, 0.36, (120, 80, 52))
+    lines.append("# poles, and two wires that go over the viewer's head")
+    poles = [-1.2, 2.3, 5.8, 9.3]
+    for z in poles[1:]:
+        lines += upright(0.9, z, 0.05, 0, 1.5, (74, 56, 48)) + upright(0.9, z - 0.01, 0.34, 1.36, 1.4, (74, 56, 48))
+    for x in (0.76, 1.04):
+        for near, far in zip(poles, poles[1:]):
+            for i in range(6):
+                ends = [near + (far - near) * (i + k) / 6 for k in (0, 1)]
+                sag = [1.42 - 0.5 * ((i + k) / 6) * (1 - (i + k) / 6) for k in (0, 1)]
+                lines += places(
+                    STRIP, (52, 44, 52), [(bend(z) + x, hill(z) + y + up, z) for z, y in zip(ends, sag) for up in (0, 0.012)]
+                )
+    lines.append("# trees on both sides")
+    for x, z, tall in (
+        (-1.5, 3.2, 1.5), (-2.3, 4.6, 1.9), (-1.3, 5.4, 1.4), (-3.4, 6, 2.2), (-1.9, 7.4, 1.8), (-1.2, 9, 1.5), (-3, 10, 2), (-1.6, 12, 1.7),
+        (1.9, 4.1, 1.7), (2.5, 6.3, 2), (1.7, 7.7, 1.5), (3.4, 8.6, 2.2), (1.5, 10.6, 1.6), (2.4, 13, 1.8), (-2.4, 15, 2), (1.8, 16, 2),
+    ):
+        lines += spruce(x, z, tall)
+    lines += ["# shadows, which darken what stands there", "Enable 3", "BlendFunc 6 7", "DepthMask 0"]
+    for near, far, left, right in ((0.55, 0.75, -0.72, 0.7), (2.1, 2.2, -0.3, 0.9), (3.3, 3.6, -0.6, 0.5), (5.2, 5.7, -0.5, 0.4)):
+        lines += places(STRIP, (24, 22, 46, 96), [(bend(z) + x, hill(z) + 0.012, z + 0.12 * (x - left)) for z in (near, far) for x in (left, right)])
+    return lines + ["Swap"]
+
+
 def main():
-    made = {"sunset": sunset, "wheel": wheel, "orrery": orrery, "lanterns": lanterns, "courtyard": courtyard}.get(sys.argv[1] if len(sys.argv) == 2 else "")
-    if made is None:
+    words = sys.argv[1:]
+    made = {"sunset": sunset, "wheel": wheel, "orrery": orrery, "lanterns": lanterns, "courtyard": courtyard, "road": road}.get(words[0] if words else "")
+    if made is None or words[1:] not in ([], ["1"]) or (words[1:] and made is not road):
         sys.exit(__doc__)
-    print("\n".join(made()))
+    print("\n".join(made(*map(int, words[1:]))))
 
 
 main()
