@@ -15,7 +15,8 @@ told to do so for two). It has to end by itself with a status that its job has.
 - Of a sound scene `unpack` has to write its text, and `pack` of that the scene's bytes in packets of 1,024 commands; each report is a report and tells the
   refused commands that scene_faults.py finds, each image has the size of the frames that its report tells, and `check` tells what `serial` does. Where
   `render`, `simulate` and `serial` all end with 0, their reports agree. Where no client takes a unit and each barrier that is named counts all clients, the
-  ends of all three and the last lines of their reports are computed.
+  ends of all three and the last lines of their reports are computed. Where the frames are more than `serial` and `simulate` hold, these two have to say so,
+  and `render` isn't run.
 - Where the scene is ordered, `render`, `simulate` and `serial` give one image.
 
 Ordered is judged by conditions that are sufficient, and not necessary: the scene has one client; or no client takes a unit, each barrier that is named
@@ -88,6 +89,13 @@ TINY = (
     # commands that are refused
     "scene 1 3 2;barrier 1;semaphore 3;client;Vertex 1 2 3 4;End;PopMatrix;Begin 3;Begin 0;Clear 1;Swap;Barrier 1;SemP 1;End;Clear 4;Barrier 2;SemV 0;Enable 6;"
     "TexPart 1 0 0 1 1 01020304;TexImage 65 1 1 01020304;TexImage 1 0 1;SharedImage 1 0 0 0 0;Scissor 0 0 -1 0;Viewport 0 0 2049 1;Swap",
+    # triangles of version 2 that the near plane cuts: a corner in the eye, one behind it, both by strips, and one that is culled
+    f"scene 2 8 6;client;Begin 0;Vertex -65536 -65536 0 65536;Vertex 196608 -65536 0 65536;Vertex -65536 196608 0 0;End;Enable 3;BlendFunc 6 7;Color 200 40 9 90;"
+    "Begin 1;Vertex -65536 -65536 0 65536;Vertex 65536 -65536 0 40000;Vertex -65536 65536 0 -300;Vertex 65536 65536 9 255;Vertex 0 3 0 256;Vertex 9 0 0 -65536;"
+    f"End;Enable 4;FrontFace 1;{STRIP};{FAN};Swap",
+    # and clients of version 2 who take turns
+    f"scene 2 5 4;shared 2 2;barrier 2;client;{STRIP};Barrier 1;SharedImage 1 0 0 1 2 0102030405060708;Barrier 1;Swap;client;Barrier 1;Barrier 1;Enable 5;"
+    "BindTexture 1 1;Begin 2;TexCoord 0 0;Vertex 0 0 0 65536;TexCoord 65536 9;Vertex 60000 0 0 -9000;Vertex 0 60000 0 65536;Vertex -60000 0 0 300;End;Swap",
     # eight clients, most of them with little
     f"scene 1 16 9;barrier 8;client;{FULL};Barrier 1;Swap" + ";client;Barrier 1;Swap" * 6 + f";client;Barrier 1;{FAN};Swap",
 )
@@ -404,6 +412,11 @@ def judge_sound(rng, data, scene):
     """A sound scene: the status of `render`, and whether the images were compared."""
     due = Due(scene)
     render, simulate, tiles = choose_words(rng, scene)
+    if scene.pixels() > scene_forms.MOST_HELD:
+        # What holds all frames at once refuses them, and to write them takes long.
+        for words in (simulate, ["serial"]):
+            expect((4, b"", f"rc: limit held pixels {scene.pixels()}\n".encode()), words, data)
+        return 4, False
     ends = [judge_run(words, data, scene, count, due) for words, count in ((render, tiles), (simulate, tiles), (["serial"], 0))]
     (status, image, told), (_, stepped, steps), (ended, drawn, serial) = ends
     expect((ended, b"", serial[0].encode()), ["check"], data)

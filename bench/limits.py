@@ -92,7 +92,7 @@ def vertices(count):
 
 
 def pixels(frames):
-    return one_client(2048, 2048, [c for i in range(frames) for c in (command("ClearColor", 30 * i, 40, 200, 255), CLEAR, SWAP)])
+    return one_client(2048, 2048, [c for i in range(frames) for c in (command("ClearColor", 30 * i % 256, 40, 200, 255), CLEAR, SWAP)])
 
 
 def scene_of_size(size):
@@ -119,9 +119,12 @@ EDGES = (
     ("1,048,576 commands", "one client, all but six of them set a colour", commands, MOST_COMMANDS, "--tiles 4x4"),
     ("1,048,576 commands", "one client, all but one of them give or take a unit", operations, MOST_COMMANDS, "--tiles 4x4"),
     ("16,383 vertices in a block", "a strip over a window of 1024 by 768", vertices, 16_383, "--tiles 4x4"),
-    ("33,554,432 pixels", "8 frames of 2048 by 2048, each cleared", pixels, 8, "--tiles 4x4"),
+    ("33,554,432 held pixels", "8 frames of 2048 by 2048, each cleared", pixels, 8, "--tiles 4x4"),
+    ("2,147,483,648 pixels", "512 frames of 2048 by 2048, each cleared", pixels, 512, "--tiles 4x4"),
     ("33,554,432 input bytes", "eight writes of a shared texture of 1024 by 1024", scene_of_size, LONGEST, "--tiles 4x4"),
 )
+# `serial` holds all frames at once, and takes fewer of them.
+PAST_SERIAL = ("2,147,483,648 pixels",)
 # The same for words: words at the edge, and words past it, on this scene.
 WORDS = (
     ("8 columns of tiles", "--tiles 8x1", "--tiles 9x1"),
@@ -169,7 +172,7 @@ def main():
         for name, scene, make, edge, words in EDGES:
             made(path, make, edge)
             render, drawn = cells(program, ["render", *words.split()], path)
-            serial, done = cells(program, ["serial"], path)
+            serial, done = ("| |", True) if name in PAST_SERIAL else cells(program, ["serial"], path)
             status, _, _, notes = run(program, ["serial"], made(path, make, edge + 1))
             line = notes.splitlines()[0]
             right = right and drawn and done and (status == 4 or "fault" in line)

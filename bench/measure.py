@@ -113,6 +113,8 @@ def main():
         print(f"{name:<48} {result[0]:7.3f} s  {result[1]:7.1f} MB  status {result[2]}", flush=True)
 
     show("2048 by 2048, 8 clears and 8 swaps", run("serial", path("clears")))
+    for frames in ("9", "200"):
+        show(f"2048 by 2048, {frames} clears and swaps, render", run("render", path("clears", "2048", frames)))
     four = path("usual", "4")
     size = os.path.getsize(four) / 1e6
     read = run("render", path("usual", "4", "unread"))
@@ -131,11 +133,33 @@ def main():
     commands, unread = run("check", path("commands")), run("render", path("commands", "unread"))
     show("1,048,576 commands, check", commands)
     print(f"reading them : checking them = 1 : {(commands[0] - unread[0]) / unread[0]:.1f}")
+    version_ratios()
     state_ratios()
     cluster_ratios()
     thread_ratios()
     if os.path.exists(sorter):
         sort_ratios()
+
+
+def ratio(first, second):
+    """What drawing the second scene takes to drawing the first one. The two take turns, since clocks vary."""
+    read = [run("serial", path(*words, "unread"))[0] for words in (first, second)]
+    drawn = [[], []]
+    for _ in range(5):
+        for seconds, words in zip(drawn, (first, second)):
+            seconds.append(run("serial", path(*words, "noswap"))[0])
+    one, other = (max(min(seconds) - before, 1e-9) for seconds, before in zip(drawn, read))
+    return other / one
+
+
+def version_ratios():
+    """What version 2 takes where no triangle crosses the near plane, and what it takes where half of them do."""
+    print("\ndrawing as version 2, without a crossing, to version 1:", end="")
+    for name in ("usual", "small", "depth", "plain", "fill"):
+        print(f" {name} {ratio((name,), (name, 'v2')):.2f}", end="", flush=True)
+    print(f"\n100,000 triangles of which half cross the near plane, to as many in front of it: near to front {ratio(('front',), ('near',)):.2f}")
+    seconds = [clocked([program, "render", "--tiles", "4x4"], path(name))[1] for name in ("front", "near")]
+    print(f"the same on a cluster of 4x4, all processors together: {seconds[1] / seconds[0]:.2f}", flush=True)
 
 
 def state_ratios():

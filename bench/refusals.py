@@ -35,7 +35,7 @@ HEAD = b"scene 1 1 1\nshared 1 1\nbarrier 1\nsemaphore 0\nclient\n"
 KINDS = """BadMagic BadCount UnknownOpcode Truncated Trailing NotText UnknownWord OutOfPlace WrongCount BadNumber BadHex NoScene INVALID_ENUM INVALID_VALUE
     INVALID_OPERATION STACK_OVERFLOW STACK_UNDERFLOW usage read stuck image out""".split()
 LIMITS = ("scene bytes", "width", "height", "clients", "shared textures", "shared side", "shared texels", "barriers", "barrier count", "semaphores", "commands",
-          "pixels", "tile columns", "tile rows", "tiles", "depth", "size")
+          "pixels", "tile columns", "tile rows", "tiles", "depth", "size", "held pixels")
 
 
 def tables():

@@ -7,7 +7,8 @@ import re
 import struct
 
 LONGEST = 33_554_432
-MOST_COMMANDS, MOST_PIXELS = 1_048_576, 33_554_432
+MOST_COMMANDS, MOST_PIXELS, MOST_HELD = 1_048_576, 2_147_483_648, 33_554_432
+VERSIONS = (1, 2)
 
 # Each opcode's name and the layout of its numbers, as `struct` writes it. The texels of a picture follow its numbers, the last two of which are its sides.
 COMMANDS = {
@@ -36,9 +37,16 @@ class Refused(Exception):
 class Scene:
     """What the bytes of a scene say."""
 
-    def __init__(self, width, height, shared, barriers, semaphores, streams):
-        self.width, self.height = width, height
+    def __init__(self, width, height, shared, barriers, semaphores, streams, version=1):
+        self.version, self.width, self.height = version, width, height
         self.shared, self.barriers, self.semaphores, self.streams = shared, barriers, semaphores, streams
+
+    def frames(self):
+        return min((sum(1 for command in stream if command[0] == SWAP) for stream in self.streams), default=0)
+
+    def pixels(self):
+        """Those of all frames."""
+        return self.frames() * self.width * self.height
 
 
 def malformed(kind, at):
@@ -66,10 +74,11 @@ class Reader:
 def read_spelled(reader):
     """The scene that the bytes spell, whatever its quantities are."""
     data = reader.data
-    for at, letter in enumerate(b"RCS1"):
-        if at < len(data) and data[at] != letter:
+    for at, letters in enumerate((b"R", b"C", b"S", b"12")):
+        if at < len(data) and data[at] not in letters:
             raise malformed("BadMagic", at)
         reader.take(1)
+    version = data[3] - ord("0")
     width, height = reader.number("H"), reader.number("H")
     clients, shared, barriers, semaphores = (reader.number("B") for _ in range(4))
     shared = [(reader.number("H"), reader.number("H")) for _ in range(shared)]
@@ -78,7 +87,7 @@ def read_spelled(reader):
     streams = [read_stream(reader) for _ in range(clients)]
     if reader.at < len(data):
         raise malformed("Trailing", reader.at)
-    return Scene(width, height, shared, barriers, semaphores, streams)
+    return Scene(width, height, shared, barriers, semaphores, streams, version)
 
 
 def read_stream(reader):
@@ -115,14 +124,13 @@ def read_command(reader, opcode):
 
 def judge(scene):
     """Raises the first quantity outside its range."""
-    frames = min((sum(1 for command in stream if command[0] == SWAP) for stream in scene.streams), default=0)
     quantities = [("width", scene.width, 1, 2048), ("height", scene.height, 1, 2048), ("clients", len(scene.streams), 1, 8)]
     quantities += [("shared textures", len(scene.shared), 0, 16)]
     quantities += [("shared side", side, 1, 65535) for size in scene.shared for side in size]
     quantities += [("shared texels", sum(w * h for w, h in scene.shared), 0, 1_048_576), ("barriers", len(scene.barriers), 0, 64)]
     quantities += [("barrier count", count, 1, 8) for count in scene.barriers]
     quantities += [("semaphores", len(scene.semaphores), 0, 64), ("commands", sum(map(len, scene.streams)), 0, MOST_COMMANDS)]
-    quantities += [("frames", frames, 0, MOST_COMMANDS), ("pixels", frames * scene.width * scene.height, 0, MOST_PIXELS)]
+    quantities += [("frames", scene.frames(), 0, MOST_COMMANDS), ("pixels", scene.pixels(), 0, MOST_PIXELS)]
     for name, value, least, most in quantities:
         if not least <= value <= most:
             raise Refused(4, f"limit {name} {value}")
@@ -166,7 +174,7 @@ def scene_bytes(scene, most=1024):
     head += b"".join(struct.pack("<HH", *size) for size in scene.shared) + bytes(scene.barriers)
     head += b"".join(struct.pack("<H", units) for units in scene.semaphores)
     streams = [stream_bytes(commands, most) for commands in scene.streams]
-    return b"RCS1" + head + b"".join(struct.pack("<I", len(stream)) + stream for stream in streams)
+    return b"RCS%d" % scene.version + head + b"".join(struct.pack("<I", len(stream)) + stream for stream in streams)
 
 
 # ---- text
@@ -208,7 +216,7 @@ def read_line(scene, rank, line):
     if name in OPCODES:
         scene.streams[-1].append((OPCODES[name], tuple(numbers), texels))
     elif name == "scene":
-        scene.width, scene.height = numbers[1:]
+        scene.version, scene.width, scene.height = numbers
     elif name == "client":
         scene.streams.append([])
     else:
@@ -226,7 +234,7 @@ def read_numbers(name, rest, layout):
         more = (0, 1) if w is None or h is None else (1, 1) if w * h else (0, 0)
     if not more[0] <= len(rest) - count <= more[1]:
         raise ValueError("WrongCount")
-    if None in numbers or name == "scene" and numbers[0] != 1:
+    if None in numbers or name == "scene" and numbers[0] not in VERSIONS:
         raise ValueError("BadNumber")
     return numbers
 
@@ -259,7 +267,7 @@ def read_text(text):
 
 def scene_text(scene):
     """The text of a scene, as `unpack` writes it."""
-    lines = [f"scene 1 {scene.width} {scene.height}"] + [f"shared {w} {h}" for w, h in scene.shared]
+    lines = [f"scene {scene.version} {scene.width} {scene.height}"] + [f"shared {w} {h}" for w, h in scene.shared]
     lines += [f"barrier {count}" for count in scene.barriers] + [f"semaphore {units}" for units in scene.semaphores]
     for commands in scene.streams:
         lines.append("client")

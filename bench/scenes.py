@@ -11,6 +11,9 @@
     tested              the same with the depth test, each window nearer than the one before.
     blended             the same, blended by SRC_ALPHA, ONE_MINUS_SRC_ALPHA.
     small [TRIANGLES]   1024 by 768, one frame of 100,000 triangles of 8 by 8 pixels, a colour for each.
+    near [TRIANGLES]    version 2, 1024 by 768, one frame of 100,000 triangles of 8 by 9 pixels, a colour for each. Every other one crosses the near plane;
+                        what is in front of it is in turn a triangle, and a parallelogram of the same area, which is two pieces.
+    front [TRIANGLES]   the same triangles, all in front of the near plane: what they show has the same size at the same places.
     ways                no scene, but the names of the states that `way` draws in, one a line.
     way N               1024 by 768, 40 full windows of four colours in the Nth of these states: no stage, each pair of blend factors, each function
                         of both tests, colour masks, and the same with a texture.
@@ -20,7 +23,8 @@
     gives [CLIENTS] [N] 8 by 8, CLIENTS (8) clients of N (8,192) operations that give a unit and wait for nobody, and no frame: what synchronisation costs.
     commands [N]        one client, N (1,048,576) commands in all: semaphore operations in pairs, the swap last.
 
-Words after these: `noswap` leaves the swaps out, so nothing is written; `nodraw` puts all vertices at one place, so nothing is covered.
+Words after these: `noswap` leaves the swaps out, so nothing is written; `nodraw` puts all vertices at one place, so nothing is covered; `v2` makes the scene
+one of version 2.
 """
 import random
 import struct
@@ -46,8 +50,8 @@ def begin(mode):
 END_COMMAND = (END, b"")
 
 
-def vertex(x, y, z=0):
-    return VERTEX, struct.pack("<4i", x, y, z, ONE)
+def vertex(x, y, z=0, w=ONE):
+    return VERTEX, struct.pack("<4i", x, y, z, w)
 
 
 def color(r, g, b, a=255):
@@ -89,8 +93,8 @@ class Corners:
     def __init__(self, draw):
         self.draw = draw
 
-    def at(self, x, y, z=0):
-        return vertex(x, y, z) if self.draw else vertex(0, 0)
+    def at(self, x, y, z=0, w=ONE):
+        return vertex(x, y, z, w) if self.draw else vertex(0, 0, 0, w)
 
 
 def strip(rng, y, corners):
@@ -213,6 +217,42 @@ def small(numbers, swap, corners):
     return one_client(1024, 768, commands, swap)
 
 
+# The near plane stands at w = 256, so an edge from w = 512 to w = 0 crosses it in its middle: from (x, y, 512) to (p, q, 0) at ((x + p) / 2, (y + q) / 2, 256),
+# which is seen (p, q) / 512 of the half window beside (x, y, 512).
+FRONT, BEHIND = 512, 0
+
+
+def crossing_triangle(number, x, y, wide, high):
+    """The corners of a triangle that crosses the near plane, and shows a right triangle or a parallelogram of so many 512ths of the half window."""
+    if number % 2 == 0:
+        return [(x, y, FRONT), (wide, 0, BEHIND), (0, high, BEHIND)]
+    return [(x, y, FRONT), (x + wide, y, FRONT), (0, high // 2, BEHIND)]
+
+
+def mixed(crosses):
+    """Small triangles, every other one across the near plane where `crosses` says so."""
+
+    def make(numbers, swap, corners):
+        count = numbers[0] if numbers else 100_000
+        rng = random.Random(7)
+        # 8 by 9 pixels, at even places, so that crossings are exact
+        wide, high = 8, 12
+        commands = []
+        for first in range(0, count, 5000):
+            commands.append(begin(TRIANGLES))
+            for number in range(first, min(first + 5000, count)):
+                x, y = rng.randrange(-FRONT, FRONT - wide, 2), rng.randrange(-FRONT, FRONT - high, 2)
+                places = [(x, y, FRONT), (x + wide, y, FRONT), (x, y + high, FRONT)]
+                if crosses and number % 2 == 0:
+                    places = crossing_triangle(number // 2, x, y, wide, high)
+                commands.append(any_color(rng))
+                commands += [corners.at(px, py, 0, w) for px, py, w in places]
+            commands.append(END_COMMAND)
+        return one_client(1024, 768, commands, swap)
+
+    return make
+
+
 # Which of depth test, blending and texturing are on; depth function; blend factors; environment.
 STATES = [
     ((), 1, (1, 0), 0),
@@ -287,6 +327,8 @@ SCENES = {
     "blended": windows([byte_fields(ENABLE, BLEND), byte_fields(BLEND_FUNC, SRC_ALPHA, ONE_MINUS_SRC_ALPHA)], FOUR),
     "way": way,
     "small": small,
+    "near": mixed(True),
+    "front": mixed(False),
     "state": state,
     "depth": depth,
     "clears": clears,
@@ -297,7 +339,7 @@ SCENES = {
 
 def main():
     words = sys.argv[1:]
-    options = {word for word in words if word in ("noswap", "nodraw")}
+    options = {word for word in words if word in ("noswap", "nodraw", "v2")}
     words = [word for word in words if word not in options]
     if not words or words[0] not in [*SCENES, "ways"] or not all(word.isdigit() for word in words[1:]):
         sys.exit(__doc__)
@@ -305,6 +347,9 @@ def main():
         print("\n".join(name for name, _, _ in state_table()))
         return
     data = SCENES[words[0]](list(map(int, words[1:])), "noswap" not in options, Corners("nodraw" not in options))
+    if "v2" in options or words[0] in ("near", "front"):
+        # the digit of the version; all else is spelled as in version 1
+        data = data[:3] + b"2" + data[4:]
     sys.stdout.buffer.write(data)
 
 
