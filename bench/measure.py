@@ -139,6 +139,17 @@ def main():
     thread_ratios()
     if os.path.exists(sorter):
         sort_ratios()
+    depth_ratios()
+
+
+def depth_ratios():
+    """What putting layers together by depth takes to drawing in one order, by the clock and in processor seconds."""
+    print()
+    for name in ("apart", "frames"):
+        serial, last = (clocked([program, word], path(name)) for word in ("serial", "last"))
+        for word, told in (("serial", serial), ("last", last)):
+            print(f"{name}, {word:<40} {told[0]:7.3f} s by the clock  {told[1]:7.3f} s of processors  status {told[2]}", flush=True)
+        print(f"{name}, serial : last = 1 : {last[0] / serial[0]:.2f} by the clock, 1 : {last[1] / serial[1]:.2f} of processors")
 
 
 def ratio(first, second):
@@ -236,7 +247,21 @@ def sort_ratios():
         seconds, _, status = best_of([sorter, str(columns), str(rows)], scene)
         told = f"{(seconds - read) / read:.2f}" if status == 0 else f"status {status}"
         print(f"  {columns}x{rows} {told}", end="", flush=True)
+    print("\nissuing and sorting as version 2 to version 1, 8x4:", end="")
+    for name in ("usual", "turned", "small", "lone"):
+        print(f" {name} {sort_ratio(name):.2f}", end="", flush=True)
     print()
+
+
+def sort_ratio(name):
+    """What issuing and sorting a scene as one of version 2 takes to version 1. The runs take turns, since clocks vary."""
+    read = [best_of([sorter, "8", "4"], path(name, *words, "unread"))[0] for words in ((), ("v2",))]
+    sorted_ = [[], []]
+    for _ in range(5):
+        for seconds, words in zip(sorted_, ((), ("v2",))):
+            seconds.append(best_of([sorter, "8", "4"], path(name, *words))[0])
+    one, other = (max(min(seconds) - before, 1e-9) for seconds, before in zip(sorted_, read))
+    return other / one
 
 
 main()

@@ -4,12 +4,13 @@
     refusals.py [PROGRAM]
 
 The tables of the page are told by their first rows:
-- `bytes | line | why` and `bytes | text | line`: bytes in hexadecimal digits, which `render`, `simulate`, `serial`, `check` and `unpack` have to refuse with
-  that line alone; and a text, which `pack` has to.
+- `bytes | line | why` and `bytes | text | line`: bytes in hexadecimal digits, which each job that reads bytes has to refuse with that line alone; and a text, which `pack` has to.
 - `text | line | why`: a text that `pack` has to refuse so.
-- `commands | line | rule`: the commands of a client, of which `pack`, and then `check`, `serial`, `simulate` and `render`, have to tell this fault and no
-  other.
-- `text | line | waits for`: a text whose scene leaves a client waiting, of which the same four have to tell this line and end with 5.
+- `commands | line | rule`: the commands of a client, of which `pack`, and then `check`, `race`, `serial`, `simulate` and `render`, have to tell this
+  fault and no other.
+- `text | line | waits for`: a text whose scene leaves a client waiting, of which the same five have to tell this line and end with 5.
+- `text | line | what nothing orders`: a text of whose scene `race` has to tell this line and end with 11.
+- `text | line | what keeps it from that`: a text whose scene `last` has to refuse with this line alone and with 12.
 - `command | status | last line`: a line of a shell, run by `bash` in a copy of examples/, with the status and the last line of its notes.
 
 In bytes, texts and commands `(..)*N` is N times what is in the brackets; in texts and commands `;` ends a line, and `\\x09` is the byte 09. Every kind of
@@ -29,8 +30,8 @@ import tempfile
 HERE = pathlib.Path(__file__).resolve().parent
 PAGE = HERE.parent / "docs/scene-format.md"
 EXAMPLES = HERE.parent / "examples"
-READING = (["render"], ["simulate", "--seed", "1"], ["serial"], ["check"], ["unpack"])
-DRAWING = (["render"], ["simulate", "--seed", "1"], ["serial"], ["check"])
+READING = (["render"], ["simulate", "--seed", "1"], ["serial"], ["last"], ["check"], ["race"], ["unpack"])
+DRAWING = (["render"], ["simulate", "--seed", "1"], ["serial"], ["check"], ["race"])
 HEAD = b"scene 1 1 1\nshared 1 1\nbarrier 1\nsemaphore 0\nclient\n"
 KINDS = """BadMagic BadCount UnknownOpcode Truncated Trailing NotText UnknownWord OutOfPlace WrongCount BadNumber BadHex NoScene INVALID_ENUM INVALID_VALUE
     INVALID_OPERATION STACK_OVERFLOW STACK_UNDERFLOW usage read stuck image out""".split()
@@ -102,6 +103,15 @@ def try_scene(program, text, due, told_of):
             fail(f"{words[0]} of {text!r}", got, due)
 
 
+def try_judged(program, job, text, due):
+    """The job has to end with this status and this last line, and to show nothing."""
+    _, scene, _ = run(program, ["pack"], text)
+    status, image, notes = run(program, [job], scene)
+    got = status, image, notes.splitlines()[-1:]
+    if got != due:
+        fail(f"{job} of {text!r}", got, due)
+
+
 def try_shell(program, folder, cell, status, line):
     done = subprocess.run(["bash", "-c", cell], cwd=folder, env={"program": program, "PATH": "/usr/bin:/bin"}, stdin=subprocess.DEVNULL,
                           stdout=subprocess.DEVNULL, stderr=subprocess.PIPE, timeout=60, check=False)
@@ -124,6 +134,10 @@ def try_table(program, folder, head, rows):
             try_scene(program, HEAD + text_of(row[0]), (0, [row[1]]), " fault ")
         elif head == ("text", "line", "waits for"):
             try_scene(program, text_of(row[0]), (5, [row[1], "rc: stuck"]), "stuck")
+        elif head == ("text", "line", "what nothing orders"):
+            try_judged(program, "race", text_of(row[0]), (11, b"", [row[1]]))
+        elif head == ("text", "line", "what keeps it from that"):
+            try_judged(program, "last", text_of(row[0]), (12, b"", [row[1]]))
         elif head == ("command", "status", "last line"):
             try_shell(program, folder, *row)
         else:
@@ -135,7 +149,7 @@ def missing(found):
     """The kinds of faults, the limits and the statuses of which the tables have no example."""
     cells = " \n".join(cell for _, rows in found for row in rows for cell in row) + " \n"
     kinds = [kind for kind in KINDS if not re.search(rf"(^|\s)(rc: (malformed )?{kind}|client 0 fault {kind})\s", cells)]
-    statuses = [status for status in "12345678" if not any(row[1] == status for head, rows in found if head[0] == "command" for row in rows)]
+    statuses = [status for status in "1 2 3 4 5 6 7 8 11 12".split() if not any(row[1] == status for head, rows in found if head[0] == "command" for row in rows)]
     return kinds + [limit for limit in LIMITS if not re.search(rf"rc: limit {limit} \d", cells)] + statuses
 
 

@@ -5,12 +5,16 @@
 
     usual [CLIENTS]     1024 by 768, 20 frames. With one client four strips of 5,002 vertices a frame, a colour before each vertex; with more, one
                         such strip for each client, and a barrier of all clients before each swap.
+    turned [CLIENTS]    `usual` under a modelview matrix that turns it by 3 degrees.
+    apart [CLIENTS]     `usual` with 4 clients, with the depth test and without barriers: a scene for `last`. Each frame begins with a clear.
+    frames [N]          8 by 8, eight clients, N (1,000) frames of one triangle each with the depth test: a scene for `last`.
     fill                1024 by 768, 40 full windows, each a textured square of four colours that is blended over what stands (MODULATE, REPEAT).
     plain               1024 by 768, 100 full windows of one colour: what a covered pixel costs.
     smooth              the same with colours that are interpolated.
     tested              the same with the depth test, each window nearer than the one before.
     blended             the same, blended by SRC_ALPHA, ONE_MINUS_SRC_ALPHA.
     small [TRIANGLES]   1024 by 768, one frame of 100,000 triangles of 8 by 8 pixels, a colour for each.
+    lone [TRIANGLES]    the same, each triangle a block of its own: what sorting a block takes at least.
     near [TRIANGLES]    version 2, 1024 by 768, one frame of 100,000 triangles of 8 by 9 pixels, a colour for each. Every other one crosses the near plane;
                         what is in front of it is in turn a triangle, and a parallelogram of the same area, which is two pieces.
     front [TRIANGLES]   the same triangles, all in front of the near plane: what they show has the same size at the same places.
@@ -30,7 +34,7 @@ import random
 import struct
 import sys
 
-BEGIN, END, VERTEX, COLOR, TEX_COORD, ENABLE, DISABLE = 1, 2, 3, 4, 5, 6, 7
+BEGIN, END, VERTEX, COLOR, TEX_COORD, ENABLE, DISABLE, LOAD_MATRIX = 1, 2, 3, 4, 5, 6, 7, 0x0A
 ALPHA_FUNC, DEPTH_FUNC, BLEND_FUNC, COLOR_MASK, CLEAR_COLOR, CLEAR = 0x11, 0x12, 0x14, 0x15, 0x16, 0x18
 TEX_ENV, TEX_WRAP, TEX_IMAGE, BARRIER, SEM_P, SEM_V, SWAP = 0x1C, 0x1D, 0x1E, 0x21, 0x22, 0x23, 0x24
 TRIANGLES, STRIP = 0, 1
@@ -97,30 +101,70 @@ class Corners:
         return vertex(x, y, z, w) if self.draw else vertex(0, 0, 0, w)
 
 
-def strip(rng, y, corners):
+def strip(rng, y, corners, z=0):
     """A zigzag from the left to the right edge, 5,002 vertices."""
     commands = [begin(STRIP)]
     for i in range(5002):
         x = -ONE + (2 * ONE * i) // 5001
-        commands += [any_color(rng), corners.at(x, y + (i % 2) * 12000 + rng.randrange(2000))]
+        commands += [any_color(rng), corners.at(x, y + (i % 2) * 12000 + rng.randrange(2000), z)]
     return commands + [END_COMMAND]
 
 
-def usual(numbers, swap, corners):
-    clients = numbers[0] if numbers else 1
+def strips(setup):
+    """Strips over the window, behind some commands."""
+
+    def make(numbers, swap, corners):
+        clients = numbers[0] if numbers else 1
+        streams = []
+        for c in range(clients):
+            rng = random.Random(c)
+            commands = list(setup)
+            for frame in range(20):
+                for row in range(4) if clients == 1 else [c]:
+                    commands += strip(rng, -60000 + (row * 28000 + frame * 900) % 110000, corners)
+                if clients > 1:
+                    commands.append(byte_fields(BARRIER, 1))
+                if swap:
+                    commands.append((SWAP, b""))
+            streams.append(commands)
+        return scene(1024, 768, streams, [clients] if clients > 1 else [])
+
+    return make
+
+
+# Columns of a turn by 3 degrees.
+TURN = struct.pack("<16i", 65446, 3430, 0, 0, -3430, 65446, 0, 0, 0, 0, ONE, 0, 0, 0, 0, ONE)
+
+
+def apart(numbers, swap, corners):
     streams = []
-    for c in range(clients):
+    for c in range(numbers[0] if numbers else 4):
         rng = random.Random(c)
-        commands = []
+        commands = [byte_fields(ENABLE, DEPTH_TEST)]
         for frame in range(20):
-            for row in range(4) if clients == 1 else [c]:
-                commands += strip(rng, -60000 + (row * 28000 + frame * 900) % 110000, corners)
-            if clients > 1:
-                commands.append(byte_fields(BARRIER, 1))
+            if c == 0:
+                commands.append(byte_fields(CLEAR, 3))
+            commands += strip(rng, -60000 + (c * 28000 + frame * 900) % 110000, corners, rng.randrange(-60000, 60000))
             if swap:
                 commands.append((SWAP, b""))
         streams.append(commands)
-    return scene(1024, 768, streams, [clients] if clients > 1 else [])
+    return scene(1024, 768, streams)
+
+
+def frames(numbers, swap, corners):
+    streams = []
+    for c in range(8):
+        rng = random.Random(c)
+        commands = [byte_fields(ENABLE, DEPTH_TEST)]
+        for _ in range(numbers[0] if numbers else 1000):
+            if c == 0:
+                commands.append(byte_fields(CLEAR, 3))
+            commands += [any_color(rng), begin(TRIANGLES)]
+            commands += [corners.at(*(rng.randrange(-ONE, ONE) for _ in range(3))) for _ in range(3)] + [END_COMMAND]
+            if swap:
+                commands.append((SWAP, b""))
+        streams.append(commands)
+    return scene(8, 8, streams)
 
 
 def window(corners, colors, z=0, texture=False):
@@ -203,18 +247,23 @@ def way(numbers, swap, corners):
     return one_client(1024, 768, commands, swap)
 
 
-def small(numbers, swap, corners):
-    count = numbers[0] if numbers else 100_000
-    rng = random.Random(7)
-    wide, high = 16 * ONE // 1024, 16 * ONE // 768
-    commands = []
-    for first in range(0, count, 5000):
-        commands.append(begin(TRIANGLES))
-        for _ in range(min(5000, count - first)):
-            x, y = rng.randrange(-ONE, ONE - wide), rng.randrange(-ONE, ONE - high)
-            commands += [any_color(rng), corners.at(x, y), corners.at(x + wide, y), corners.at(x, y + high)]
-        commands.append(END_COMMAND)
-    return one_client(1024, 768, commands, swap)
+def triangles_of(a_block):
+    """Small triangles, so many a block."""
+
+    def make(numbers, swap, corners):
+        count = numbers[0] if numbers else 100_000
+        rng = random.Random(7)
+        wide, high = 16 * ONE // 1024, 16 * ONE // 768
+        commands = []
+        for first in range(0, count, a_block):
+            commands.append(begin(TRIANGLES))
+            for _ in range(min(a_block, count - first)):
+                x, y = rng.randrange(-ONE, ONE - wide), rng.randrange(-ONE, ONE - high)
+                commands += [any_color(rng), corners.at(x, y), corners.at(x + wide, y), corners.at(x, y + high)]
+            commands.append(END_COMMAND)
+        return one_client(1024, 768, commands, swap)
+
+    return make
 
 
 # The near plane stands at w = 256, so an edge from w = 512 to w = 0 crosses it in its middle: from (x, y, 512) to (p, q, 0) at ((x + p) / 2, (y + q) / 2, 256),
@@ -319,14 +368,18 @@ def gives(numbers, swap, corners):
 
 
 SCENES = {
-    "usual": usual,
+    "usual": strips([]),
+    "turned": strips([(LOAD_MATRIX, TURN)]),
+    "apart": apart,
+    "frames": frames,
     "fill": fill,
     "plain": windows([], [(40, 90, 200)]),
     "smooth": windows([], FOUR),
     "tested": windows([byte_fields(ENABLE, DEPTH_TEST)], FOUR, nearer=True),
     "blended": windows([byte_fields(ENABLE, BLEND), byte_fields(BLEND_FUNC, SRC_ALPHA, ONE_MINUS_SRC_ALPHA)], FOUR),
     "way": way,
-    "small": small,
+    "small": triangles_of(5000),
+    "lone": triangles_of(1),
     "near": mixed(True),
     "front": mixed(False),
     "state": state,

@@ -8,6 +8,7 @@
     make.py courtyard > courtyard.txt
     make.py road > road.txt
     make.py road 1 > road-1.txt     the same in version 1, for the picture in docs/drawing.md
+    make.py links > links.txt
 
 A vertex's x and y go from -65536 at the left and bottom edge of the window to 65536 at the right and top edge: 16.16 fixed point.
 """
@@ -376,6 +377,55 @@ def courtyard():
     return lines + ["Swap"]
 
 
+def turned(point, by):
+    """A point after a turn around the x axis and then one around the y axis."""
+    (x, y, z), (a, b) = point, by
+    y, z = y * math.cos(a) - z * math.sin(a), y * math.sin(a) + z * math.cos(a)
+    return x * math.cos(b) + z * math.sin(b), y, z * math.cos(b) - x * math.sin(b)
+
+
+def ring(middle, upright, by, color):
+    """A ring of strips, lit from the upper left: each strip goes once around the tube."""
+    across, along, radius, tube = 20, 40, 0.42, 0.13
+    lines = []
+
+    def vertex(i, j):
+        u, v = 2 * math.pi * i / along, 2 * math.pi * j / across
+        normal = math.cos(v) * math.cos(u), math.cos(v) * math.sin(u), math.sin(v)
+        point = tuple(radius * c + tube * n for c, n in zip((math.cos(u), math.sin(u), 0), normal))
+        if upright:
+            point, normal = ((p[0], -p[2], p[1]) for p in (point, normal))
+        place = turned((point[0] + middle, point[1], point[2]), by)
+        n = turned(normal, by)
+        light = 0.28 + 0.72 * max(0.0, (-0.5 * n[0] + 0.6 * n[1] - 0.62 * n[2]))
+        shine = max(0.0, (-0.3 * n[0] + 0.37 * n[1] - 0.88 * n[2])) ** 24
+        tone = tuple(min(255, round(c * light + 150 * shine)) for c in color)
+        return [f"Color {tone[0]} {tone[1]} {tone[2]} 255", f"Vertex {fixed(0.8 * place[0])} {fixed(1.2 * place[1])} {fixed(place[2])} {ONE}"]
+
+    for i in range(along):
+        lines.append(f"Begin {STRIP}")
+        for j in range(across + 1):
+            lines += vertex(i, j) + vertex(i + 1, j)
+        lines.append("End")
+    return lines
+
+
+def links():
+    by = (0.5, -0.6)
+    lines = [
+        "# Two links of a chain, each drawn by a client of its own. Nothing is ordered but the swap: depth decides at each pixel whose link is seen, so the",
+        "# clients can draw apart and be put together.",
+        "# Made by make.py. As bytes: render_cli pack < links.txt > links.rcs",
+        "scene 1 240 160",
+        "client",
+        "ClearColor 28 34 52 255",
+        "Clear 3",
+        "Enable 2",
+    ]
+    lines += ring(-0.26, False, by, (226, 160, 60)) + ["Swap", "client", "Enable 2"]
+    return lines + ring(0.26, True, by, (84, 150, 214)) + ["Swap"]
+
+
 # half of the road's width, how wide the kerbs beside it are, and how high the eye stands above it
 HALF, KERB, EYE = 0.42, 0.07, 0.42
 # the view: how far a unit goes across and upward in the window where it is seen from the distance of one, and how high the horizon lies
@@ -538,7 +588,7 @@ def road(version=2):
 
 def main():
     words = sys.argv[1:]
-    made = {"sunset": sunset, "wheel": wheel, "orrery": orrery, "lanterns": lanterns, "courtyard": courtyard, "road": road}.get(words[0] if words else "")
+    made = {"sunset": sunset, "wheel": wheel, "orrery": orrery, "lanterns": lanterns, "courtyard": courtyard, "road": road, "links": links}.get(words[0] if words else "")
     if made is None or words[1:] not in ([], ["1"]) or (words[1:] and made is not road):
         sys.exit(__doc__)
     print("\n".join(made(*map(int, words[1:]))))

@@ -5,9 +5,10 @@ use Rattle.std.specs.declared.option.Option.{Option}
 use Rattle.std.specs.List.{list_any, range_with_len}
 use Rattle.std.proofs.lemmas.Int.{ints}
 use Rattle.std.proofs.Math.Nat.{zero-mul, mod-lt, div-lt_iff_lt-mul, mul-div_cancel_left}
-use Rattle.rc_base.specs.Cluster.Tiles.{tile_count, boundary_of, is_amid, interval_of, tile_column, tile_row, some_pixel, is_in_rect, rect_meets, kept_corners, is_in_box, meets_tile}
+use Rattle.rc_base.specs.Cluster.Tiles.{tile_count, boundary_of, is_amid, interval_of, tile_column, tile_row, some_pixel, is_in_rect, rect_meets, kept_corners, is_in_window_box, is_in_box, meets_tile}
 use Rattle.rc_base.specs.Drawing.Cover.{centre, is_in_area, is_in_scissor}
 use Rattle.rc_base.specs.Drawing.Touch.{touches}
+use Rattle.rc_base.specs.Drawing.Triangles.{cut_modes}
 use Rattle.rc_base.specs.declared.state.Block.{Block}
 use Rattle.rc_base.specs.declared.state.Effect.{Effect}
 use Rattle.rc_base.specs.declared.state.Effect.TheVariants as eff
@@ -20,6 +21,7 @@ use Rattle.bounds_bucket.specs.Extents.{Spans, is_within}
 use Rattle.bounds_bucket.specs.Ranges.{IsPartWhere, HasPixels}
 use Rattle.bounds_bucket.specs.Boxes.{is_boxed, IsBox, IsEmptyBox, IsBoxIfAny, HoldsTouched, whole_window, MeetsSameTiles}
 use Rattle.bounds_bucket.proofs.WholeNumbers.{le_in, lt_in, and_last}
+use Rattle.bounds_bucket.proofs.ObjectRects.{window_is}
 use Rattle.bounds_bucket.proofs.OneTile.{boundary_rises}
 
 pub touched_by : (s : State) (effect : Effect) (window : Rect) (o : Option Rect) → ((x y : ℤ) → touches s effect x y ≡ true → is_in_box s effect x y ≡ true) → IsBoxIfAny s effect window o → HoldsTouched s effect window o
@@ -146,20 +148,21 @@ amid_is s block e h x y =
     sym (λ i. (a i && b i) && (c i && d i))
 
 -- the window cut by an extent, the viewport and the scissor box is the box of a block
-pub block_boxed : (s : State) (block : Block) (e : Extent) (window a b r : Rect) → Spans (kept_corners s block) (Some e)
+pub block_boxed : (s : State) (block : Block) (e : Extent) (window a b r : Rect) → block.mode < cut_modes → Spans (kept_corners s block) (Some e)
     → IsPartWhere window (is_within e) a → IsPartWhere a (is_in_area s.viewport) b → IsPartWhere b (is_in_scissor s) r
     → (x y : ℤ) → is_in_rect r x y ≡ is_boxed s (eff.Block block) window x y
-unfolding is_in_box
-block_boxed s block e window a b r h p q t x y =
+unfolding is_in_window_box
+block_boxed s block e window a b r mode h p q t x y =
     t x y ∙ ap (λ (u : Bool). u && is_in_scissor s x y) (q x y ∙ ap (λ (u : Bool). u && is_in_area s.viewport x y) (p x y))
     ∙ and_last (is_in_rect window x y) (is_within e x y) (is_in_area s.viewport x y) (is_in_scissor s x y)
     ∙ ap (λ (u : Bool). is_in_rect window x y && (u && (is_in_area s.viewport x y && is_in_scissor s x y))) (amid_is s block e h x y)
+    ∙ ap (λ (u : Bool). is_in_rect window x y && u) (sym (window_is s block x y mode))
 
 -- a block without kept triangles has no box
-pub block_unboxed : (s : State) (block : Block) (window : Rect) → Spans (kept_corners s block) None → IsEmptyBox s (eff.Block block) window
-unfolding is_in_box
-block_unboxed s block window h x y =
-    rw (h.left (centre x)) (and_no (is_in_rect window x y))
+pub block_unboxed : (s : State) (block : Block) (window : Rect) → block.mode < cut_modes → Spans (kept_corners s block) None → IsEmptyBox s (eff.Block block) window
+unfolding is_in_window_box
+block_unboxed s block window mode h x y =
+    ap (λ (u : Bool). is_in_rect window x y && u) (window_is s block x y mode) ∙ rw (h.left (centre x)) (and_no (is_in_rect window x y))
   where
     and_no : (b : Bool) → (b && false) ≡ false
     and_no true = refl

@@ -114,18 +114,6 @@ grown_one v before after g = subst (λ (w : List WindowVertex). IsGrown w before
     append_nil [] = refl
     append_nil (x ∷ xs) = ap (λ ys. x ∷ ys) (append_nil xs)
 
-grows_twice : (one two before mid after : Bool) → mid ≡ (before || one) → after ≡ (mid || two) → after ≡ (before || (one || two))
-grows_twice one two before mid after h k = k ∙ ap (λ (t : Bool). t || two) h ∙ or_assoc before one two
-
-pub grown_both : (us vs : List (List WindowVertex)) (before mid after : Option Extent)
-    → IsGrown (corners_in us) before mid → IsGrown (corners_in vs) mid after → IsGrown (corners_in (us ++ vs)) before after
-grown_both us vs before mid after g h = subst (λ (w : List WindowVertex). IsGrown w before after) (sym (in_both us vs)) (record {
-  left = λ p. grows_twice _ _ _ _ _ (g.left p) (h.left p) ∙ ap (λ (t : Bool). low_at before (λ (e : Extent). e.across) p || t) (sym (list_any-append (λ (v : WindowVertex). int_le v.x p) (corners_in us) (corners_in vs)));
-  right = λ p. grows_twice _ _ _ _ _ (g.right p) (h.right p) ∙ ap (λ (t : Bool). high_at before (λ (e : Extent). e.across) p || t) (sym (list_any-append (λ (v : WindowVertex). int_le p v.x) (corners_in us) (corners_in vs)));
-  bottom = λ p. grows_twice _ _ _ _ _ (g.bottom p) (h.bottom p) ∙ ap (λ (t : Bool). low_at before (λ (e : Extent). e.up) p || t) (sym (list_any-append (λ (v : WindowVertex). int_le v.y p) (corners_in us) (corners_in vs)));
-  top = λ p. grows_twice _ _ _ _ _ (g.top p) (h.top p) ∙ ap (λ (t : Bool). high_at before (λ (e : Extent). e.up) p || t) (sym (list_any-append (λ (v : WindowVertex). int_le p v.y) (corners_in us) (corners_in vs)));
-})
-
 -- one more triple of a block's vertices
 pub one_more : (s : State) (block : Block) (t : List ℕ) (rest more : List (List ℕ)) (all : List WindowVertex) (before after : Option Extent)
     → rest ≡ t ∷ more → SpansAllBut (corners_from s block rest) all before → IsGrown (corners_in (kept_corners_of s block t)) before after

@@ -6,3 +6,12 @@ mod EndsOfCorners
 mod Cutting
 mod BoxTiles
 mod BitSets
+mod Centred
+mod Corners
+mod Places
+mod Fronts
+mod Hulls
+mod Runs
+mod Unmoved
+mod InObjectBox
+mod ObjectRects

@@ -4,20 +4,23 @@ use Rattle.std.specs.Prelude.{◌||◌, int_le}
 use Rattle.std.specs.Int.{int_min, int_max}
 use Rattle.std.specs.List.{list_any, AllByRecursion}
 use Rattle.std.proofs.lemmas.Int.{ints, int_min_is, int_max_is}
-use Rattle.std.proofs.lemmas.Bool.{and_parts, cases_Bool, or_left, or_right}
+use Rattle.std.proofs.lemmas.Bool.{and_parts, cases_Bool, cases_lt, or_left, or_right}
 use Rattle.std.proofs.lemmas.List.Folds.{list_any-append}
 use Rattle.geometry.proofs.EachKept.{each_kept}
 use Rattle.raster.specs.Between.{IsBetween, CoverLiesInBounds}
 use Rattle.rc_base.specs.Drawing.Cover.{triangle_area, is_inside, covers, centre, is_in_area, is_in_scissor}
 use Rattle.rc_base.specs.Drawing.Kept.{three}
 use Rattle.rc_base.specs.Drawing.Pieces.{kept_triangles}
-use Rattle.rc_base.specs.Cluster.Tiles.{corners_in, kept_corners, is_in_box}
-use Rattle.rc_base.specs.Drawing.Touch.{touches}
+use Rattle.rc_base.specs.Drawing.Triangles.{cut_modes}
+use Rattle.rc_base.specs.Cluster.Tiles.{corners_in, kept_corners, is_in_window_box, is_in_box}
+use Rattle.rc_base.specs.Drawing.Touch.{block_touches, touches}
 use Rattle.rc_base.specs.declared.state.Block.{Block}
 use Rattle.rc_base.specs.declared.state.Effect.{Effect}
 use Rattle.rc_base.specs.declared.state.Effect.TheVariants as eff
 use Rattle.rc_base.specs.declared.state.State.{State}
 use Rattle.rc_base.specs.declared.window.WindowVertex.{WindowVertex}
+use Rattle.bounds_bucket.proofs.InObjectBox.{touched_in}
+use Rattle.bounds_bucket.proofs.ObjectRects.{object_is, window_is}
 
 -- ---- one of three corners isn't above a number, where the least isn't
 
@@ -121,13 +124,21 @@ some_covers s px py (v ∷ vs) all h =
           }
     ]
 
-boxed : (s : State) (block : Block) (px py : ℤ) → IsBoxed s (kept_corners s block) px py → is_in_box s (eff.Block block) px py ≡ true
-unfolding is_in_box
+boxed : (s : State) (block : Block) (px py : ℤ) → IsBoxed s (kept_corners s block) px py → is_in_window_box s block px py ≡ true
+unfolding is_in_window_box
 boxed s block px py box = rw (box.across.low, box.across.high, box.up.low, box.up.high) box.area
+
+block_touched : CoverLiesInBounds → (s : State) (block : Block) (px py : ℤ) → block_touches s block px py ≡ true → is_in_box s (eff.Block block) px py ≡ true
+block_touched bounds s block px py h =
+    elim (cases_lt block.mode cut_modes) [
+      | inl early ↦
+          window_is s block px py early
+          ∙ boxed s block px py (some_covers s px py (kept_triangles s block) (each_kept (BoxesItsPixels s px py) (λ a b c area k. covered bounds s a b c px py area k) s block) h)
+      | inr late ↦ object_is s block px py late ∙ touched_in bounds s block px py late h
+    ]
 
 pub touched : CoverLiesInBounds → (s : State) (effect : Effect) (px py : ℤ) → touches s effect px py ≡ true → is_in_box s effect px py ≡ true
 unfolding touches is_in_box
-touched bounds s (eff.Block block) px py h =
-    boxed s block px py (some_covers s px py (kept_triangles s block) (each_kept (BoxesItsPixels s px py) (λ a b c area k. covered bounds s a b c px py area k) s block) h)
+touched bounds s (eff.Block block) px py h = block_touched bounds s block px py h
 touched bounds s (eff.Clear mask) px py h = h
 touched bounds s effect px py h = absurd cc

@@ -1,5 +1,5 @@
-//! What the kept triangles of a block span.
-ghost use Rattle.std.specs.Prelude.{◌≡◌, ◌<◌, ◌++◌, length, option_to_list, None, Some, ℤ};
+//! What the kept triangles of a block of version 1 span.
+ghost use Rattle.std.specs.Prelude.{◌≡◌, ◌<◌, length, option_to_list, None, Some, ℤ};
 ghost use Rattle.std.specs.Int.{int_min, int_max};
 ghost use Rattle.rc_base.specs.Drawing.Cover.{corner};
 ghost use Rattle.rc_base.specs.Drawing.Kept.{kept_whole};
@@ -10,8 +10,8 @@ ghost use Rattle.geometry.specs.Items.{AreBelow};
 ghost use Rattle.bounds_bucket.specs.Extents.{AreEnds, AreEndsOfBoth, IsGrown, Spans};
 
 use crate::extent::{Ends, Extent};
-use geometry::{Pieces, VertexCache, pieces, triangles, vertices_at};
-use rc_base::state::{Block, CUT_MODES, State};
+use geometry::{VertexCache, triangles};
+use rc_base::state::{Block, State};
 use rc_base::triangle::WindowTriangle;
 
 fn least_of(a: i32, b: i32, c: i32) -> i32
@@ -97,15 +97,8 @@ fn grown(extent: Option<Extent>, cache: &mut VertexCache<'_>, corners: [usize; 3
     with_found(extent, &tri)
 }
 
-// The same of the pieces of a triangle.
-fn grown_by_pieces(extent: Option<Extent>, given: &Pieces) -> Option<Extent>
-    ensures { IsGrown (corners_in (found given.now.first ++ found given.now.second)) extent result }
-{
-    with_found(with_found(extent, &given.first), &given.second)
-}
-
-// What the corners of a block span in a mode whose triangles aren't cut.
-fn whole_extent(state: &State, block: &Block) -> Option<Extent>
+/// What the corners of all kept triangles of a block span, in a mode whose triangles aren't cut; none where it has no kept triangle.
+pub(crate) fn block_extent(state: &State, block: &Block) -> Option<Extent>
     requires { block.now.mode < cut_modes }
     ensures { Spans (kept_corners state.now block.now) result }
 {
@@ -115,31 +108,4 @@ fn whole_extent(state: &State, block: &Block) -> Option<Extent>
         extent = grown(extent, &mut cache, corners);
     }
     extent
-}
-
-// The same of any mode, each triangle by its pieces.
-fn cut_extent(state: &State, block: &Block) -> Option<Extent>
-    ensures { Spans (kept_corners state.now block.now) result }
-{
-    let mut extent = None;
-    'cuts: for corners in triangles(block) {
-        let given = pieces(
-            state,
-            block.mode,
-            &vertices_at(block.vertices.as_slice(), corners),
-        );
-        extent = grown_by_pieces(extent, &given);
-    }
-    extent
-}
-
-/// What the corners of all kept triangles of a block span; none where it has no kept triangle.
-pub(crate) fn block_extent(state: &State, block: &Block) -> Option<Extent>
-    ensures { Spans (kept_corners state.now block.now) result }
-{
-    if block.mode < CUT_MODES {
-        whole_extent(state, block)
-    } else {
-        cut_extent(state, block)
-    }
 }

@@ -1,6 +1,7 @@
 //! The box of a block and of a Clear.
-ghost use Rattle.std.specs.Prelude.{◌≡◌, ℕ, ℤ, pos, ◌&&◌, ◌+ℤ◌, ◌<ℤ◌, ◌≤ℤ◌, int_le, int_lt, MatchOption, false};
+ghost use Rattle.std.specs.Prelude.{◌≡◌, ℕ, ℤ, pos, ◌&&◌, ◌+ℤ◌, ◌<◌, ◌<ℤ◌, ◌≤ℤ◌, ◌≤◌, int_le, int_lt, MatchOption, true, false};
 ghost use Rattle.rc_base.specs.Cluster.Tiles.{is_in_rect};
+ghost use Rattle.rc_base.specs.Drawing.Triangles.{cut_modes};
 ghost use Rattle.rc_base.specs.Drawing.Cover.{centre, is_in_area, is_in_scissor};
 ghost use Rattle.rc_base.specs.declared.state.Effect.TheVariants as eff;
 ghost use Rattle.bounds_bucket.specs.Ranges.{is_among, IsPartWhere, HasPixels};
@@ -10,8 +11,9 @@ ghost use Rattle.bounds_bucket.specs.Boxes.{IsBoxIfAny, HoldsTouched, MeetsSameT
 use crate::block::block_extent;
 use crate::extent::{Ends, Extent};
 use crate::law::touched_pixels_lie_in_the_box;
+use crate::object::object_box;
 use crate::range::{Range, columns_of, larger, rows_of, smaller};
-use rc_base::state::{Block, State};
+use rc_base::state::{Block, CUT_MODES, State};
 use rc_base::window::Rect;
 
 // The first row or column whose centre is not below `least`.
@@ -69,7 +71,8 @@ fn cut(range: Range, low: i32, size: i32) -> Range
     }
 }
 
-fn rect_of(columns: Range, rows: Range) -> Rect
+/// A rectangle by its columns and rows.
+pub(crate) fn rect_of(columns: Range, rows: Range) -> Rect
     ensures { result ≡ record { x0 = columns.from; y0 = rows.from; x1 = columns.end; y1 = rows.end } }
 {
     Rect {
@@ -90,8 +93,8 @@ fn centred(rect: Rect, extent: Extent) -> Rect
     )
 }
 
-// The part of a rectangle that lies in the area x, y, w, h.
-fn part_in(rect: Rect, area: [i32; 4]) -> Rect
+/// The part of a rectangle that lies in the area x, y, w, h.
+pub(crate) fn part_in(rect: Rect, area: [i32; 4]) -> Rect
     ensures { IsPartWhere rect (is_in_area area) result }
 {
     rect_of(
@@ -100,8 +103,8 @@ fn part_in(rect: Rect, area: [i32; 4]) -> Rect
     )
 }
 
-// The part of a rectangle that the scissor box lets through, where it is on.
-fn scissored(state: &State, rect: Rect) -> Rect
+/// The part of a rectangle that the scissor box lets through, where it is on.
+pub(crate) fn scissored(state: &State, rect: Rect) -> Rect
     ensures { IsPartWhere rect (is_in_scissor state.now) result }
 {
     if !state.scissor_on {
@@ -110,8 +113,8 @@ fn scissored(state: &State, rect: Rect) -> Rect
     part_in(rect, state.scissor)
 }
 
-// The rectangle, where it has a pixel.
-fn some_rect(rect: Rect) -> Option<Rect>
+/// The rectangle, where it has a pixel.
+pub(crate) fn some_rect(rect: Rect) -> Option<Rect>
     ensures { MatchOption result ((x y : ℤ) → is_in_rect rect x y ≡ false) (λ r. (r ≡ rect) × HasPixels rect) }
 {
     if rect.x0 < rect.x1 && rect.y0 < rect.y1 {
@@ -121,19 +124,39 @@ fn some_rect(rect: Rect) -> Option<Rect>
     }
 }
 
-/// The box of a block: the pixels of the window whose centres lie between the least and the greatest corner of the block's kept triangles,
-/// ends included, and which lie in the viewport and, where it is on, in the scissor box. `None` exactly where there is none. Each pixel of
-/// the window that the block touches lies in its box.
+// The block is one of version 2, whose triangles are cut at the near plane.
+fn is_cut(block: &Block) -> bool
+    ensures late { result ≡ true → cut_modes ≤ block.now.mode }
+    ensures early { result ≡ false → block.now.mode < cut_modes }
+{
+    block.mode >= CUT_MODES
+}
+
+// The box of a block of version 1: in window space.
+fn window_box(state: &State, block: &Block, window: Rect) -> Option<Rect>
+    requires { block.now.mode < cut_modes }
+    ensures { IsBoxIfAny state.now (eff.Block block.now) window result }
+{
+    let Some(extent) = block_extent(state, block) else {
+        return None;
+    };
+    some_rect(scissored(state, part_in(centred(window, extent), state.viewport)))
+}
+
+/// The box of a block. Of version 1 it is the pixels of the window whose centres lie between the least and the greatest corner of the block's
+/// kept triangles, ends included, and which lie in the viewport and, where it is on, in the scissor box. Of version 2 the corners are those that
+/// interval arithmetic makes of the bounding box of the vertices' positions in object space; where that comes nearer than the near plane, the
+/// whole viewport is taken. `None` exactly where there is no such pixel. Each pixel of the window that the block touches lies in its box.
 pub fn block_box(state: &State, block: &Block, window: Rect) -> Option<Rect>
     ensures exact { IsBoxIfAny state.now (eff.Block block.now) window result }
     ensures touched { HoldsTouched state.now (eff.Block block.now) window result }
     ensures tiles { MeetsSameTiles state.now (eff.Block block.now) window result }
 {
     touched_pixels_lie_in_the_box();
-    let Some(extent) = block_extent(state, block) else {
-        return None;
-    };
-    some_rect(scissored(state, part_in(centred(window, extent), state.viewport)))
+    if is_cut(block) {
+        return object_box(state, block, window);
+    }
+    window_box(state, block, window)
 }
 
 /// The box of a Clear: the pixels of the window, in the scissor box where it is on. `None` exactly where there is none. Each pixel of the

@@ -8,9 +8,13 @@ mod bits;
 mod block;
 mod boxes;
 mod extent;
+mod hull;
 mod law;
 mod limits;
+mod object;
 mod range;
+mod reach;
+mod standing;
 mod tiles;
 
 pub use boxes::{block_box, clear_box};

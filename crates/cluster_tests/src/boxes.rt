@@ -6,6 +6,7 @@ use rc_base::scene::Limit;
 use rc_base::state::{Block, State, Vertex, Vertices};
 use rc_base::window::{Layout, Rect};
 use std::alloc::Global;
+use std::process::Abort;
 
 fn rect(x0: i32, y0: i32, x1: i32, y1: i32) -> Rect {
     Rect { x0, y0, x1, y1 }
@@ -155,4 +156,85 @@ fn a_large_triangle_meets_tiles_without_its_vertices(rt: HostRuntime) {
     assert!(rt; block_box(&scissored, &small, window) == None);
     assert!(rt; clear_box(&scissored, rect(0, 0, 5, 8)) == Some(rect(2, 0, 5, 4)));
     assert!(rt; clear_box(&state(true, [8, 0, 1, 1]), window) == None);
+}
+
+const CORNER: [i32; 4] = [0, 0, 0, 65_536];
+
+const RIGHT: [i32; 4] = [16_384, 0, 0, 65_536];
+
+const ABOVE: [i32; 4] = [0, 16_384, 0, 65_536];
+
+const FAR: [i32; 4] = [65_536, 65_536, 0, 65_536];
+
+// The box of a block of these vertices in a window of 8 by 8. Backs are culled.
+fn box_of(
+    rt: &impl Abort,
+    alloc: Global,
+    mode: u8,
+    positions: &[[i32; 4]],
+    viewport: [i32; 4],
+) -> Option<Rect> {
+    let mut vertices = Vertices::new(alloc);
+    for pos in positions {
+        let vertex = Vertex {
+            pos: *pos,
+            color: Rgba {
+                r: 255,
+                g: 255,
+                b: 255,
+                a: 255,
+            },
+            s: 0,
+            t: 0,
+        };
+        vertices.push(vertex).expect(rt, "memory");
+    }
+    let state = State {
+        viewport,
+        ..state(false, [0; 4])
+    };
+    block_box(&state, &Block { mode, vertices }, rect(0, 0, 8, 8))
+}
+
+// The pixel that the small triangle covers.
+const ONE_PIXEL: Option<Rect> = Some(Rect {
+    x0: 4,
+    y0: 4,
+    x1: 5,
+    y1: 5,
+});
+
+// A culled triangle has a box in version 2 alone. Vertices that are left over widen none, and without a triangle there is none.
+#[test]
+fn the_vertices_of_triangles_make_a_box_in_version_2(rt: HostRuntime) {
+    let rows: [(u8, &[[i32; 4]], Option<Rect>); 7] = [
+        (0, &[CORNER, ABOVE, RIGHT], None),
+        (16, &[CORNER, ABOVE, RIGHT], ONE_PIXEL),
+        (16, &[CORNER, RIGHT, ABOVE, FAR, FAR], ONE_PIXEL),
+        (17, &[CORNER, RIGHT, ABOVE, FAR], Some(rect(4, 4, 8, 8))),
+        (18, &[CORNER, RIGHT, ABOVE, FAR], Some(rect(4, 4, 8, 8))),
+        (18, &[CORNER, FAR], None),
+        (19, &[CORNER, RIGHT, ABOVE], None),
+    ];
+    for (mode, positions, want) in rows {
+        assert!(rt; box_of(&rt, rt.alloc(), mode, positions, [0, 0, 8, 8]) == want);
+    }
+}
+
+// Where w is a 256th at each corner the triangle is divided as ever. Below it the box is the viewport; one of a side below 0 has no pixel.
+#[test]
+fn a_box_near_the_eye_is_the_viewport(rt: HostRuntime) {
+    let near: &[[i32; 4]] = &[CORNER, RIGHT, [0, 16_384, 0, 255]];
+    let at_it: &[[i32; 4]] = &[[0, 0, 0, 256], [64, 0, 0, 256], [0, 64, 0, 256]];
+    let rows: [(&[[i32; 4]], [i32; 4], Option<Rect>); 6] = [
+        (near, [0, 0, 8, 8], Some(rect(0, 0, 8, 8))),
+        (near, [2, 1, 3, 4], Some(rect(2, 1, 5, 5))),
+        (at_it, [0, 0, 8, 8], ONE_PIXEL),
+        (at_it, [0, 0, -8, 8], None),
+        (at_it, [0, 0, 8, -1], None),
+        (at_it, [0, 0, 0, 8], None),
+    ];
+    for (positions, viewport, want) in rows {
+        assert!(rt; box_of(&rt, rt.alloc(), 16, positions, viewport) == want);
+    }
 }

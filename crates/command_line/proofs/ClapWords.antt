@@ -2,8 +2,8 @@
 use Rattle.std.specs.Prelude.{◌≡◌, ℕ, ◌==◌, Bool, true, false, List, [], ◌∷◌, ◌++◌, Option, Some, None, codes, option_map, is_some, ◌||◌, if◌then◌else◌}
 use Rattle.std.proofs.Common.{refl, ap, subst, ◌∙◌}
 use Rattle.std.specs.Str.{bytes_eq}
-use Rattle.rc_base.specs.declared.job.OptionName.{OptionName}
-use Rattle.rc_base.specs.declared.job.OptionName.TheVariants.{Tiles, Depth, Order, Seed, Size}
+use Rattle.command_line.specs.declared.job.OptionName.{OptionName}
+use Rattle.command_line.specs.declared.job.OptionName.TheVariants.{Tiles, Depth, Order, Seed, Size}
 use Rattle.clap.specs.Walk.{Held, Row, Rule, Text, Walk, option, has_row, reading_by, with_values, without, walk_from, walked, settled, reacted, nothing_held}
 use Rattle.clap.specs.Simple.{Shape, built, is_simple, filled}
 use Rattle.clap.specs.Faults.{turn_fault, settle_fault, is_simple_and_free}

@@ -1,8 +1,8 @@
 -- The options that must be there.
 use Rattle.std.proofs.Common.{◌≡◌, Bool, true, false, List, [], ◌∷◌, IsTrue, inl, inr, subst, sym, ◌∙◌, refl}
 use Rattle.rc_base.specs.Lists.{IsIn}
-use Rattle.rc_base.specs.declared.job.OptionName.{OptionName}
-use Rattle.rc_base.specs.declared.job.OptionName.TheVariants.{Seed, Size}
+use Rattle.command_line.specs.declared.job.OptionName.{OptionName}
+use Rattle.command_line.specs.declared.job.OptionName.TheVariants.{Seed, Size}
 use Rattle.command_line.specs.declared.seen.Seen.{Seen}
 use Rattle.command_line.specs.Reads.{has}
 

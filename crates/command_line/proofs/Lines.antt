@@ -4,11 +4,11 @@ use Rattle.std.specs.Str.{bytes_eq}
 use Rattle.std.proofs.Common.{◌≡◌, ◌≢◌, ℕ, true, false, List, [], ◌∷◌, ◌++◌, ◌⊎◌, inl, inr, Option, None, Some, if◌then◌else◌, map, sym, ap, subst, ◌∙◌, refl}
 use Rattle.std.specs.List.{flat_map, AllByRecursion}
 use Rattle.rc_base.specs.Lists.{IsIn, NoRepeat}
-use Rattle.rc_base.specs.declared.job.JobName.{JobName}
-use Rattle.rc_base.specs.declared.job.OptionName.{OptionName}
-use Rattle.rc_base.specs.Program.Words.{Setting, option_of, options_of, options_due, setting_words, job_word, IsSetting, IsCommandLine}
-use Rattle.rc_base.specs.declared.job.OptionName.TheVariants.{Tiles, Depth, Order, Seed, Size}
-use Rattle.rc_base.specs.declared.job.JobName.TheVariants.{Render, Simulate, Serial, Check, Pack, Unpack, Gen, Demo}
+use Rattle.command_line.specs.declared.job.JobName.{JobName}
+use Rattle.command_line.specs.declared.job.OptionName.{OptionName}
+use Rattle.command_line.specs.Words.{Setting, option_of, options_of, options_due, setting_words, job_word, IsSetting, IsCommandLine}
+use Rattle.command_line.specs.declared.job.OptionName.TheVariants.{Tiles, Depth, Order, Seed, Size}
+use Rattle.command_line.specs.declared.job.JobName.TheVariants.{Render, Simulate, Serial, Last, Check, Race, Pack, Unpack, Gen, Demo}
 use Rattle.command_line.proofs.Reading.{one_reading}
 use Rattle.command_line.specs.declared.seen.Seen.{Seen}
 use Rattle.command_line.specs.Begins.{Begins}
@@ -144,7 +144,9 @@ job_in w =
     if bytes_eq w (codes "render") then Some Render
     else if bytes_eq w (codes "simulate") then Some Simulate
     else if bytes_eq w (codes "serial") then Some Serial
+    else if bytes_eq w (codes "last") then Some Last
     else if bytes_eq w (codes "check") then Some Check
+    else if bytes_eq w (codes "race") then Some Race
     else if bytes_eq w (codes "pack") then Some Pack
     else if bytes_eq w (codes "unpack") then Some Unpack
     else if bytes_eq w (codes "gen") then Some Gen
@@ -155,7 +157,9 @@ job_found : (job : JobName) → job_in (job_word job) ≡ Some job
 job_found Render = refl
 job_found Simulate = refl
 job_found Serial = refl
+job_found Last = refl
 job_found Check = refl
+job_found Race = refl
 job_found Pack = refl
 job_found Unpack = refl
 job_found Gen = refl

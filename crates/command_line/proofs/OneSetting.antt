@@ -4,10 +4,10 @@ use Rattle.std.proofs.Common.{◌≡◌, ℕ, List, [], ◌∷◌, ◌++◌, Opt
 use Rattle.std.specs.Str.{bytes_eq}
 use Rattle.std.specs.Fmt.{decimal}
 use Rattle.std.proofs.lemmas.Fmt.{decimal_injective}
-use Rattle.rc_base.specs.declared.job.OptionName.{OptionName}
-use Rattle.rc_base.specs.Program.Words.{Setting, option_of, setting_words}
-use Rattle.rc_base.specs.declared.job.OptionName.TheVariants.{Tiles, Depth, Order, Seed, Size}
-use Rattle.rc_base.specs.Program.Words.Setting.{TilesOf, DepthOf, WithOrder, SeedOf, SizeOf}
+use Rattle.command_line.specs.declared.job.OptionName.{OptionName}
+use Rattle.command_line.specs.Words.{Setting, option_of, setting_words}
+use Rattle.command_line.specs.declared.job.OptionName.TheVariants.{Tiles, Depth, Order, Seed, Size}
+use Rattle.command_line.specs.Words.Setting.{TilesOf, DepthOf, WithOrder, SeedOf, SizeOf}
 use Rattle.command_line.specs.Begins.{Begins}
 use Rattle.command_line.proofs.Numbers.{same_tiles}
 

@@ -1,8 +1,8 @@
 -- Settings in turn.
 use Rattle.std.proofs.Common.{◌≡◌, ◌≢◌, ℕ, ◌<◌, List, [], ◌∷◌, ◌++◌, Option, None, Some, MatchOption, length, sym, ap, subst, ◌∙◌, refl, arith}
-use Rattle.rc_base.specs.declared.job.JobName.{JobName}
-use Rattle.rc_base.specs.Program.Words.{Setting, option_of, setting_words}
-use Rattle.rc_base.specs.Program.Words.Setting.{TilesOf, DepthOf, WithOrder, SeedOf, SizeOf}
+use Rattle.command_line.specs.declared.job.JobName.{JobName}
+use Rattle.command_line.specs.Words.{Setting, option_of, setting_words}
+use Rattle.command_line.specs.Words.Setting.{TilesOf, DepthOf, WithOrder, SeedOf, SizeOf}
 use Rattle.command_line.specs.declared.seen.Seen.{Seen}
 use Rattle.command_line.specs.Begins.{Begins}
 use Rattle.command_line.specs.Reads.{Reads, IsFree, with_option}

@@ -7,9 +7,9 @@ use Rattle.clap.specs.declared.error.Error.{Error}
 use Rattle.std.specs.List.{AllByRecursion}
 use Rattle.std.specs.Fmt.{decimal}
 use Rattle.std.proofs.lemmas.Fmt.{decimal_injective}
-use Rattle.rc_base.specs.Program.Words.{Setting, IsSetting, tiles_in, depth_in, order_in, seed_in, size_in}
-use Rattle.rc_base.specs.declared.job.OptionName.TheVariants.{Tiles, Depth, Seed, Size}
-use Rattle.rc_base.specs.Program.Words.Setting.{TilesOf, DepthOf, WithOrder, SeedOf, SizeOf}
+use Rattle.command_line.specs.Words.{Setting, IsSetting, tiles_in, depth_in, order_in, seed_in, size_in}
+use Rattle.command_line.specs.declared.job.OptionName.TheVariants.{Tiles, Depth, Seed, Size}
+use Rattle.command_line.specs.Words.Setting.{TilesOf, DepthOf, WithOrder, SeedOf, SizeOf}
 use Rattle.command_line.specs.Lines.{ReadsNumber, ReadsTiles}
 use Rattle.command_line.specs.Texts.{text_in}
 use Rattle.command_line.proofs.Numbers.{same_tiles}

@@ -1,7 +1,7 @@
 -- The options as a command of `clap`.
 use Rattle.std.specs.Prelude.{[], ◌∷◌, Some, true, codes}
-use Rattle.rc_base.specs.declared.job.OptionName.{OptionName}
-use Rattle.rc_base.specs.declared.job.OptionName.TheVariants.{Tiles, Depth, Order, Seed, Size}
+use Rattle.command_line.specs.declared.job.OptionName.{OptionName}
+use Rattle.command_line.specs.declared.job.OptionName.TheVariants.{Tiles, Depth, Order, Seed, Size}
 use Rattle.clap.specs.Walk.{Rule, Text}
 use Rattle.clap.specs.Simple.{App, new_app, new_rule, on_top}
 use Rattle.clap.specs.declared.builder.action.ArgAction.TheVariants.{SetTrue}

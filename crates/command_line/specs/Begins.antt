@@ -1,7 +1,7 @@
 -- The setting that words begin with.
 use Rattle.std.specs.Prelude.{◌≡◌, ℕ, List, ◌++◌}
-use Rattle.rc_base.specs.declared.job.OptionName.{OptionName}
-use Rattle.rc_base.specs.Program.Words.{Setting, IsSetting, option_of, setting_words}
+use Rattle.command_line.specs.declared.job.OptionName.{OptionName}
+use Rattle.command_line.specs.Words.{Setting, IsSetting, option_of, setting_words}
 
 -- the words are those of the setting, and then the rest
 pub record Begins (words : List (List ℕ)) (s : Setting) (rest : List (List ℕ)) : Type 0 where

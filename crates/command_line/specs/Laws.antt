@@ -1,7 +1,7 @@
 -- Laws on command lines.
 use Rattle.std.specs.Prelude.{◌≡◌, ℕ, List}
-use Rattle.rc_base.specs.declared.job.JobName.{JobName}
-use Rattle.rc_base.specs.Program.Words.{Setting, IsCommandLine}
+use Rattle.command_line.specs.declared.job.JobName.{JobName}
+use Rattle.command_line.specs.Words.{Setting, IsCommandLine}
 
 -- words are the line of at most one job, and of one list of settings
 abbrev pub OneReading : Type 0

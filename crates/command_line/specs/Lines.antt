@@ -1,7 +1,7 @@
 -- What a line is read as.
 use Rattle.std.specs.Prelude.{◌≡◌, ℕ, ◌<◌, ◌^◌, ◌++◌, List, Option, None, Some, codes}
 use Rattle.std.specs.Fmt.{decimal}
-use Rattle.rc_base.specs.Program.Words.{Setting, IsCommandLine, tiles_in, depth_in, order_in, seed_in, size_in}
+use Rattle.command_line.specs.Words.{Setting, IsCommandLine, tiles_in, depth_in, order_in, seed_in, size_in}
 use Rattle.command_line.specs.declared.line.CommandLine.{CommandLine}
 use Rattle.command_line.specs.declared.values.Settings.{Settings}
 

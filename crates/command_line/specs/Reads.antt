@@ -1,10 +1,10 @@
 -- What is read of words, setting by setting.
 use Rattle.std.specs.Prelude.{◌≡◌, ℕ, Bool, true, false, List, [], ◌∷◌}
 use Rattle.rc_base.specs.Lists.{IsIn}
-use Rattle.rc_base.specs.declared.job.JobName.{JobName}
-use Rattle.rc_base.specs.declared.job.OptionName.{OptionName}
-use Rattle.rc_base.specs.Program.Words.{Setting, option_of, options_of}
-use Rattle.rc_base.specs.declared.job.OptionName.TheVariants.{Tiles, Depth, Order, Seed, Size}
+use Rattle.command_line.specs.declared.job.JobName.{JobName}
+use Rattle.command_line.specs.declared.job.OptionName.{OptionName}
+use Rattle.command_line.specs.Words.{Setting, option_of, options_of}
+use Rattle.command_line.specs.declared.job.OptionName.TheVariants.{Tiles, Depth, Order, Seed, Size}
 use Rattle.command_line.specs.declared.seen.Seen.{Seen}
 use Rattle.command_line.specs.Begins.{Begins}
 

@@ -4,10 +4,10 @@ use Rattle.std.specs.List.{flat_map, AllByRecursion}
 use Rattle.std.specs.Str.{bytes_eq}
 use Rattle.std.specs.Fmt.{decimal}
 use Rattle.rc_base.specs.Lists.{NoRepeat}
-use Rattle.rc_base.specs.declared.job.OptionName.{OptionName}
-use Rattle.rc_base.specs.Program.Words.{Setting, IsSetting, option_of, setting_words, order_in}
-use Rattle.rc_base.specs.declared.job.OptionName.TheVariants.{Tiles, Depth, Order, Seed, Size}
-use Rattle.rc_base.specs.Program.Words.Setting.{TilesOf, DepthOf, WithOrder, SeedOf, SizeOf}
+use Rattle.command_line.specs.declared.job.OptionName.{OptionName}
+use Rattle.command_line.specs.Words.{Setting, IsSetting, option_of, setting_words, order_in}
+use Rattle.command_line.specs.declared.job.OptionName.TheVariants.{Tiles, Depth, Order, Seed, Size}
+use Rattle.command_line.specs.Words.Setting.{TilesOf, DepthOf, WithOrder, SeedOf, SizeOf}
 use Rattle.clap.specs.Words.{found_of, first_value, one_text}
 use Rattle.clap.specs.declared.parser.matches.ArgMatches.{ArgMatches}
 

@@ -1,10 +1,48 @@
-//! The jobs, their words, and the options that they take.
+//! The jobs by their names, their words, and the options that they take.
 ghost use Rattle.std.specs.Prelude.{◌≡◌, ◌↔◌, IsTrue, MatchOption};
 ghost use Rattle.rc_base.specs.Lists.{IsIn};
-ghost use Rattle.rc_base.specs.declared.job.JobName.{JobName as SpelledJob};
-ghost use Rattle.rc_base.specs.Program.Words.{job_word, options_of};
+ghost use Rattle.command_line.specs.declared.job.JobName.{JobName as SpelledJob};
+ghost use Rattle.command_line.specs.Words.{job_word, options_of};
 
-use rc_base::job::{JobName, OptionName};
+/// What the program is asked to do, as its first word names it.
+#[derive(Clone, Copy, Debug, PartialEq, Eq)]
+pub enum JobName {
+    /// Scene bytes to the frames of a cluster, and a report.
+    Render,
+    /// The same of a cluster whose first steps are drawn from a seed.
+    Simulate,
+    /// Scene bytes to the frames of the serial renderer.
+    Serial,
+    /// Scene bytes to the same frames, put together of clients that are drawn apart.
+    Last,
+    /// Scene bytes to a report alone.
+    Check,
+    /// Scene bytes to a report of commands that nothing orders.
+    Race,
+    /// The text of a scene to its bytes.
+    Pack,
+    /// The bytes of a scene to its text.
+    Unpack,
+    /// A seed to the bytes of a scene.
+    Gen,
+    /// A seed to the frames of a cluster, and a report.
+    Demo,
+}
+
+/// An option of a command line.
+#[derive(Clone, Copy, Debug, PartialEq, Eq)]
+pub enum OptionName {
+    /// The columns and rows of tiles.
+    Tiles,
+    /// How many items each lane holds.
+    Depth,
+    /// The report tells each tile's order.
+    Order,
+    /// The number that picks or scenes are drawn from.
+    Seed,
+    /// The rounds of a generated scene.
+    Size,
+}
 
 /// The job that the word names.
 pub(crate) fn job_named(word: &str) -> Option<JobName>
@@ -14,7 +52,9 @@ pub(crate) fn job_named(word: &str) -> Option<JobName>
         "render" => Some(JobName::Render),
         "simulate" => Some(JobName::Simulate),
         "serial" => Some(JobName::Serial),
+        "last" => Some(JobName::Last),
         "check" => Some(JobName::Check),
+        "race" => Some(JobName::Race),
         "pack" => Some(JobName::Pack),
         "unpack" => Some(JobName::Unpack),
         "gen" => Some(JobName::Gen),

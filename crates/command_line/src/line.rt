@@ -1,18 +1,17 @@
 //! Whole lines.
 ghost use Rattle.std.specs.Prelude.{◌≡◌, ◌↔◌, ℕ, List, IfOk, OnErr, IfNone, IfSome, MatchOption, map, string_bytes};
-ghost use Rattle.rc_base.specs.declared.job.JobName.{JobName as SpelledJob};
-ghost use Rattle.rc_base.specs.Program.Words.{Setting as Spelled, IsCommandLine};
+ghost use Rattle.command_line.specs.declared.job.JobName.{JobName as SpelledJob};
+ghost use Rattle.command_line.specs.Words.{Setting as Spelled, IsCommandLine};
 ghost use Rattle.clap.specs.Words.{kind_of};
 ghost use Rattle.command_line.specs.Lines.{AreValues, IsLineOf};
 ghost use Rattle.command_line.specs.Texts.{AreSettings};
 
-use crate::job::job_named;
+use crate::job::{JobName, job_named};
 use crate::matches::option_matches;
 use crate::seen::{Seen, has_due, read};
 use crate::values::{Settings, settings_of};
 use clap::Error;
 use clap::error::ErrorKind;
-use rc_base::job::JobName;
 use rc_base::out_of_memory::OutOfMemory;
 use std::alloc::Global;
 

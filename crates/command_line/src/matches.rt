@@ -1,6 +1,6 @@
 //! The options of a line as `clap` reads them.
 ghost use Rattle.std.specs.Prelude.{◌≡◌, ℕ, List, IfOk, IfErr, map, string_bytes};
-ghost use Rattle.rc_base.specs.Program.Words.{Setting as Spelled};
+ghost use Rattle.command_line.specs.Words.{Setting as Spelled};
 ghost use Rattle.clap.specs.Words.{app_of, kind_of};
 ghost use Rattle.command_line.specs.App.{line_app};
 ghost use Rattle.command_line.specs.Texts.{AreSettings, HasTexts};

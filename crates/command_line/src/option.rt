@@ -1,10 +1,10 @@
 //! An option and its value, by their words.
 ghost use Rattle.std.specs.Prelude.{◌≡◌, ◌∷◌, [], ℕ, List, MatchOption, map, string_bytes};
-ghost use Rattle.rc_base.specs.Program.Words.{Setting, IsSetting, setting_words};
+ghost use Rattle.command_line.specs.Words.{Setting, IsSetting, setting_words};
 ghost use Rattle.command_line.specs.Begins.{Begins, BeginsWith, IsSettingOf};
 
+use crate::job::OptionName;
 use crate::number::{number, tiles};
-use rc_base::job::OptionName;
 
 // The option of this name, which has this value.
 fn option_with(name: &str, value: &str) -> Option<OptionName>

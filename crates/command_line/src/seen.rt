@@ -1,14 +1,13 @@
 //! The words of a line's options, one option after another.
 ghost use Rattle.std.specs.Prelude.{◌≡◌, ◌↔◌, ℕ, List, true, false, IsTrue, MatchOption, map, string_bytes};
 ghost use Rattle.rc_base.specs.Lists.{IsIn};
-ghost use Rattle.rc_base.specs.declared.job.OptionName.{OptionName as SpelledOption};
-ghost use Rattle.rc_base.specs.Program.Words.{Setting as Spelled, options_due};
+ghost use Rattle.command_line.specs.declared.job.OptionName.{OptionName as SpelledOption};
+ghost use Rattle.command_line.specs.Words.{Setting as Spelled, options_due};
 ghost use Rattle.command_line.specs.declared.seen.Seen.{Seen as AnySeen};
 ghost use Rattle.command_line.specs.Reads.{Reads, IsFree, has, with_option};
 
-use crate::job::is_taken;
+use crate::job::{JobName, OptionName, is_taken};
 use crate::option::first_option;
-use rc_base::job::{JobName, OptionName};
 
 /// The options that the words had so far.
 #[derive(Clone, Copy)]

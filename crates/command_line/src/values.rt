@@ -2,7 +2,7 @@
 ghost use Rattle.std.specs.Prelude.{◌≡◌, ℕ, ◌<◌, ◌^◌, ◌++◌, List, None, Some, codes, option_map};
 ghost use Rattle.std.specs.List.{AllByRecursion};
 ghost use Rattle.std.specs.Fmt.{decimal};
-ghost use Rattle.rc_base.specs.Program.Words.{Setting as Spelled, IsSetting};
+ghost use Rattle.command_line.specs.Words.{Setting as Spelled, IsSetting};
 ghost use Rattle.command_line.specs.Lines.{AreValues, ReadsNumber, ReadsTiles};
 ghost use Rattle.command_line.specs.Texts.{HasTexts};
 

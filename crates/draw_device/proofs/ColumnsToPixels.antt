@@ -17,7 +17,7 @@ use Rattle.raster.specs.declared.color.ColorRamp.{ColorRamp}
 use Rattle.raster.specs.declared.column.Column.{Column}
 use Rattle.fragment_ops.specs.DepthTests.{pixel}
 use Rattle.draw_device.specs.Pixels.{pixel_at, color_at, depth_at, pixels_of}
-use Rattle.draw_device.specs.Clips.{IsPartWhere, is_let_through}
+use Rattle.raster.specs.Clips.{IsPartWhere, is_let_through}
 use Rattle.draw_device.specs.Columns.{place_in, column_fragment, IsColumnCovered, IsColumnStepped, IsColumnColored, IsColumnDrawn, IsRiseAt, IsOnlyRun, column_of}
 use Rattle.draw_device.specs.Loops.{HasDepths, StoresColor}
 use Rattle.draw_device.specs.Plans.{AreStored}

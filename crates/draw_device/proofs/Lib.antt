@@ -1,4 +1,3 @@
-mod Clipping
 mod Lists
 mod Runs
 mod SpansToPixels
@@ -8,3 +7,4 @@ mod Steps
 mod ColumnsToPixels
 mod Beside
 mod Codes
+mod NearerPixels

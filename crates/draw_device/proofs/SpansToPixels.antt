@@ -13,7 +13,7 @@ use Rattle.rc_base.specs.declared.window.Rect.{Rect}
 use Rattle.rc_base.specs.declared.window.Pixel.{Pixel}
 use Rattle.raster.specs.Spans.{in_span, IsNextSpan, IsRowSpan, AreEmptyRows}
 use Rattle.draw_device.specs.Pixels.{pixel_at}
-use Rattle.draw_device.specs.Clips.{IsPartWhere, is_let_through}
+use Rattle.raster.specs.Clips.{IsPartWhere, is_let_through}
 use Rattle.draw_device.specs.Shapes.{column_at, row_at, grid_rect, span_has, span_step, fragment_pixel, cleared_pixel, covered_step, IsRowStepped, IsStepped, IsSteppedBelow, IsSpanIn, IsCovered}
 use Rattle.draw_device.specs.declared.extent.Extent.{Extent}
 

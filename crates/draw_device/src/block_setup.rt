@@ -2,7 +2,7 @@
 ghost use Rattle.std.proofs.Props.{props};
 ghost use Rattle.geometry.specs.Beside.{AreSurrounds};
 ghost use Rattle.textures.specs.Images.{HasTexelIfAny};
-ghost use Rattle.draw_device.specs.Clips.{IsPartWhere, is_let_through};
+ghost use Rattle.raster.specs.Clips.{IsPartWhere, is_let_through};
 ghost use Rattle.draw_device.specs.Plans.{IsPlan, IsPlan-prop, HasTexelIfAny-prop};
 ghost use Rattle.draw_device.specs.Shapes.{grid_rect};
 

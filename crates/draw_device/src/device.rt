@@ -2,12 +2,13 @@
 ghost use Rattle.std.specs.Prelude.{◌≡◌, ℕ, ℤ, pos, ◌+ℤ◌, ◌-ℤ◌, ◌≤ℤ◌, length, IfOk, true, None, Option};
 ghost use Rattle.rc_base.specs.Pictures.{Picture};
 ghost use Rattle.rc_base.specs.Cluster.Tiles.{is_in_rect};
+ghost use Rattle.rc_base.specs.Drawing.Nearer.{nearer};
 ghost use Rattle.rc_base.specs.Drawing.PixelStep.{effect_step};
 ghost use Rattle.rc_base.specs.Drawing.Serial.{blank_pixel};
 ghost use Rattle.rc_base.specs.declared.state.Effect.TheVariants as eff;
 ghost use Rattle.textures.specs.Images.{texture_image};
 ghost use Rattle.draw_device.specs.Conditions.{IsDrawable, IsClearable, sampled_of, shared_of};
-ghost use Rattle.draw_device.specs.Devices.{IsDeviceRect, EachTakes, rect_size, pixel_of};
+ghost use Rattle.draw_device.specs.Devices.{IsDeviceRect, EachTakes, rect_size, pixel_index, pixel_of};
 ghost use Rattle.draw_device.specs.Pixels.{color_at, pixel_at};
 
 use crate::extent::Extent;
@@ -115,6 +116,16 @@ impl Device {
             → EachTakes (effect_step state.now privates shareds (eff.Clear mask)) self.old self.new }
     {
         self.grid.clear(state, mask);
+    }
+
+    /// Each pixel of the rectangle becomes the one at its place of a layer, where that one is nearer. The layer has the rectangle's pixels, row by
+    /// row from the lowest, each row from the left.
+    pub fn take_nearer(&mut self, layer: &[Pixel])
+        requires { length layer.now ≡ rect_size self.old.rect }
+        ensures rect { self.new.rect ≡ self.old.rect }
+        ensures nearer { EachTakes (λ x y old. nearer old (pixel_at layer.now (pixel_index self.old.rect x y))) self.old self.new }
+    {
+        self.grid.take_nearer(layer);
     }
 
     /// The pixel of the rectangle at a column and a row of the window.

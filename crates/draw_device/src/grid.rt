@@ -12,7 +12,7 @@ ghost use Rattle.geometry.specs.Pieces.{found};
 ghost use Rattle.raster.specs.Colors.{IsColorPlane};
 ghost use Rattle.raster.specs.Spans.{IsOnlyColumn};
 ghost use Rattle.textures.specs.Images.{HasTexelIfAny};
-ghost use Rattle.draw_device.specs.Clips.{IsPart, IsPartWhere, is_let_through};
+ghost use Rattle.raster.specs.Clips.{IsPart, IsPartWhere, is_let_through};
 ghost use Rattle.draw_device.specs.Shapes.{IsCovered, IsSpanIn, AreRowsOf, IsCacheOf, fragment_pixel, IsStepped, span_step, covered_step, corners_step, triangles_step, grid_rect};
 ghost use Rattle.draw_device.specs.Conditions.{IsClearable};
 ghost use Rattle.draw_device.specs.Columns.{IsOnlyRun};
@@ -23,7 +23,6 @@ ghost use Rattle.draw_device.specs.Pixels.{pixel_at, pixels_of};
 use crate::block_setup::BlockSetup;
 use crate::clear_setup::ClearSetup;
 use crate::clears::clear_row;
-use crate::clip::{drawn_part, scissored};
 use crate::column_run::ColumnRun;
 use crate::columns::{color_rise, fill_column, is_few, step_column};
 use crate::extent::Extent;
@@ -37,7 +36,10 @@ use crate::stages::Stages;
 use crate::tests::Tests;
 use fragment_ops::clearing_of;
 use geometry::{Pieces, Uncut, VertexCache, pieces, surrounds_of, triangles, vertices_at};
-use raster::{ColorPlane, Column, SpanIter, color_plane, cover_lies_in_bounds, flat_color, spans};
+use raster::{
+    ColorPlane, Column, SpanIter, color_plane, cover_lies_in_bounds, drawn_part, flat_color,
+    scissored, spans,
+};
 use rc_base::command::Rgba;
 use rc_base::out_of_memory::OutOfMemory;
 use rc_base::state::{Block, CUT_MODES, State, Vertex};
@@ -321,6 +323,7 @@ impl Grid {
     }
 
     // Draws a triangle in the part of the grid's rectangle that lets it through.
+    #[inline(always)]
     fn draw_triangle(&mut self, block: &BlockSetup<'_>, tri: &WindowTriangle)
         requires grid { block.now.extent ≡ self.old.extent }
         ensures extent { self.new.extent ≡ self.old.extent }
@@ -341,6 +344,7 @@ impl Grid {
     }
 
     // Draws the triangle of three vertices, where there is one: it is kept and doesn't lie beside the part.
+    #[inline(always)]
     fn draw_near(
         &mut self,
         setup: &BlockSetup<'_>,
@@ -395,7 +399,8 @@ impl Grid {
         }
     }
 
-    // Draws a triangle, if there is one.
+    // Draws a triangle, if there is one. It is compiled for itself: few triangles are cut, and the loop of those that aren't has the drawing in line.
+    #[inline(never)]
     fn draw_found(&mut self, setup: &BlockSetup<'_>, tri: &Option<WindowTriangle>)
         requires grid { setup.now.extent ≡ self.old.extent }
         ensures extent { self.new.extent ≡ self.old.extent }
@@ -435,7 +440,7 @@ impl Grid {
             Uncut::Whole(tri) => {
                 self.draw_near(setup, &tri, block.vertices.as_slice(), corners);
             }
-            Uncut::Unknown => {
+            Uncut::No => {
                 let given = pieces(
                     setup.state,
                     block.mode,

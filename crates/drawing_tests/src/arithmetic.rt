@@ -1,5 +1,7 @@
 //! Values computed by hand.
-use fixed_math::{apply, centre_of, delta, edge, floor_div, widen};
+ghost use Rattle.std.specs.Prelude.{◌≡◌};
+
+use fixed_math::{Interval, apply, centre_of, delta, edge, floor_div, quotient, row_over, widen};
 use rc_base::command::{Mat4, Rgba};
 use rc_base::window::WindowVertex;
 
@@ -62,4 +64,54 @@ fn a_point_on_the_left_of_an_edge_is_above_0(rt: HostRuntime) {
     assert!(rt; edge(&a, &b, 8, 8) == 512);
     assert!(rt; edge(&a, &b, 24, 8) == 0);
     assert!(rt; edge(&b, &a, 8, 8) == -512);
+}
+
+fn between(lo: i128, hi: i128) -> Interval
+    ensures lo { result.lo ≡ lo }
+    ensures hi { result.hi ≡ hi }
+{
+    Interval { lo, hi }
+}
+
+#[test]
+fn the_identity_gives_intervals_back(rt: HostRuntime) {
+    let identity = Mat4 {
+        m: [
+            65536, 0, 0, 0, 0, 65536, 0, 0, 0, 0, 65536, 0, 0, 0, 0, 65536,
+        ],
+    };
+    let b = [
+        between(-3, 5),
+        between(7, 7),
+        between(-65536, -1),
+        between(0, 65536),
+    ];
+    assert!(rt; row_over(&identity, 0, &b) == b[0]);
+    assert!(rt; row_over(&identity, 1, &b) == b[1]);
+    assert!(rt; row_over(&identity, 2, &b) == b[2]);
+    assert!(rt; row_over(&identity, 3, &b) == b[3]);
+}
+
+// Half of x taken from y: the ends change places.
+#[test]
+fn a_negative_entry_exchanges_the_ends(rt: HostRuntime) {
+    let m = Mat4 {
+        m: [
+            65536, -32768, 0, 0, 0, 65536, 0, 0, 0, 0, 65536, 0, 0, 0, 0, 65536,
+        ],
+    };
+    let b = [
+        between(-3, 5),
+        between(10, 20),
+        between(0, 0),
+        between(0, 0),
+    ];
+    assert!(rt; row_over(&m, 1, &b) == between(7, 21));
+}
+
+#[test]
+fn quotients_of_intervals_round_down(rt: HostRuntime) {
+    assert!(rt; quotient(between(-7, 7), between(2, 3)) == between(-4, 3));
+    assert!(rt; quotient(between(-7, -4), between(2, 3)) == between(-4, -2));
+    assert!(rt; quotient(between(4, 7), between(2, 3)) == between(1, 3));
 }

@@ -6,6 +6,8 @@
 #[cfg(test)]
 mod arithmetic;
 #[cfg(test)]
+mod boxed;
+#[cfg(test)]
 mod corners;
 #[cfg(test)]
 mod coverage;

@@ -97,7 +97,7 @@ fn uncut(w: i32, x0: i32, x1: i32) -> Option<bool> {
     });
     match cache.uncut_near([0, 1, 2], &near) {
         Uncut::Whole(tri) => Some(tri.is_some()),
-        Uncut::Unknown => None,
+        Uncut::No => None,
     }
 }
 

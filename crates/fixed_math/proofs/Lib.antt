@@ -1,3 +1,4 @@
 pub mod Signed
 pub mod Signs
 pub mod Areas
+pub mod IntervalEnds

@@ -2,9 +2,10 @@ pub mod PiecesKept
 mod Sharing
 mod Beside
 mod Facing
-mod Triples
+pub mod Triples
 mod Units
 mod Fronts
 pub mod Identity
 pub mod Oriented
 pub mod EachKept
+pub mod Outside

@@ -22,7 +22,7 @@ of_fan : (m n : ℕ) → m ≡ 2 → triangles_of m n ≡ map fan (range_with_le
 unfolding triangles_of
 of_fan m n h = ap (λ k. triangles_of k n) h
 
-of_none : (m n : ℕ) → 2 < m → triangles_of m n ≡ []
+pub of_none : (m n : ℕ) → 2 < m → triangles_of m n ≡ []
 unfolding triangles_of
 of_none m n h = rw (no 0 (omega arith), no 1 (omega arith), no 2 (omega arith)) refl
   where
@@ -104,7 +104,7 @@ strip_below n i h = by (i % 2 == 1)
     by false = three_below i (i + 1) (i + 2) n (omega arith) (omega arith) (omega arith)
 
 -- what holds of f at each number below k holds of each element
-all_mapped : (P : List ℕ → Type 0) (f : ℕ → List ℕ) (k : ℕ) → ((i : ℕ) → i < k → P (f i)) → All P (map f (range_with_len 0 k))
+pub all_mapped : (P : List ℕ → Type 0) (f : ℕ → List ℕ) (k : ℕ) → ((i : ℕ) → i < k → P (f i)) → All P (map f (range_with_len 0 k))
 all_mapped P f k h i d l =
     let b : i < k = subst (λ m. i < m) (length-map-range_with_len f 0 k) l in
     subst P (sym (get_or-map-range_with_len f 0 k i i d b (omega arith))) (h i b)

@@ -29,15 +29,17 @@ IsPlace s v place = MatchOption place (is_placed s v ≡ false) (λ p. (is_place
 unfoldable pub stands_in_front : State → Vertex → Bool
 stands_in_front s v = is_cuttable (clip_vertex s v) && is_in_front (clip_vertex s v)
 
--- so are these clip coordinates
-abbrev pub AreInFront : List ℤ → Type 0
-AreInFront c =
-    (is_within clip_bound (entry c 0) ≡ true) × (is_within clip_bound (entry c 1) ≡ true) × (is_within clip_bound (entry c 2) ≡ true)
-    × (is_within clip_bound (entry c 3) ≡ true) × (int_le (pos near_w) (entry c 3) ≡ true)
+-- none of these clip coordinates is too large to be cut
+unfoldable pub are_small : List ℤ → Bool
+are_small c = is_within clip_bound (entry c 0) && (is_within clip_bound (entry c 1) && (is_within clip_bound (entry c 2) && is_within clip_bound (entry c 3)))
 
--- the corner says where the vertex of its index stands, and that it stands in front only where it does
+-- and they are in front of the near plane
+unfoldable pub are_in_front : List ℤ → Bool
+are_in_front c = are_small c && int_le (pos near_w) (entry c 3)
+
+-- the corner says where the vertex of its index stands, and whether it stands in front
 abbrev pub IsCorner : State → List Vertex → Corner → Type 0
-IsCorner s vs c = IsPlace s (vertex_at vs c.index) c.at × (c.front ≡ true → stands_in_front s (vertex_at vs c.index) ≡ true)
+IsCorner s vs c = IsPlace s (vertex_at vs c.index) c.at × (c.front ≡ stands_in_front s (vertex_at vs c.index))
 
 -- the same where there is such a vertex
 abbrev pub IsCached : State → List Vertex → Corner → Type 0

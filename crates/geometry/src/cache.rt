@@ -16,7 +16,7 @@ use rc_base::state::{State, Vertex};
 use rc_base::triangle::WindowTriangle;
 use rc_base::window::WindowVertex;
 
-/// A vertex by its index; where it stands in the window, if it does; and whether it is known to stand in front of the near plane.
+/// A vertex by its index; where it stands in the window, if it does; and whether it stands in front of the near plane.
 #[derive(Clone, Copy)]
 pub struct Corner {
     pub index: usize,
@@ -29,8 +29,8 @@ pub struct Corner {
 pub enum Uncut {
     /// All its vertices stand in front, so it is its own one piece: here it is, as `triangle_near` gives it.
     Whole(Option<WindowTriangle>),
-    /// It may have to be cut.
-    Unknown,
+    /// One of its vertices doesn't stand in front, so that it may have to be cut.
+    No,
 }
 
 /// Vertices that a state brings to the window. The corners of the triangle before are kept, so that a strip and a fan bring each of their
@@ -210,6 +210,6 @@ impl<'a> VertexCache<'a> {
         if self.first.front && self.second.front && self.third.front {
             return Uncut::Whole(self.brought_near(near));
         }
-        Uncut::Unknown
+        Uncut::No
     }
 }

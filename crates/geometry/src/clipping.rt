@@ -8,7 +8,8 @@ ghost use Rattle.geometry.specs.Fractions.{IsBetweenEnds};
 
 use crate::fraction::Fraction;
 use crate::identities::Identities;
-use crate::vertex::{NEAR_W, clip, is_small, quotient};
+use crate::vertex::{NEAR_W, clip, is_small};
+use fixed_math::floor_div;
 use rc_base::command::Rgba;
 use rc_base::state::{State, Vertex};
 use rc_base::window::ClipVertex;
@@ -89,7 +90,7 @@ fn share(difference: i64, fraction: Fraction) -> i64
     ensures value { result ≡ floor_quotient (difference *ℤ fraction.part) fraction.whole }
     ensures between { IsBetweenEnds (pos 0) difference result }
 {
-    quotient(
+    floor_div(
         product(difference, fraction.part),
         i128::from(fraction.whole),
     ) as i64

@@ -1,5 +1,6 @@
 //! Which of a state's matrices move no vector.
-ghost use Rattle.std.specs.Prelude.{◌≡◌, true};
+ghost use Rattle.std.specs.Prelude.{◌≡◌, ◌↔◌, IsTrue, true};
+ghost use Rattle.rc_base.specs.Contexts.Context.{identity};
 ghost use Rattle.geometry.specs.Placed.{FixesVectors, AreIdentities};
 
 use rc_base::command::Mat4;
@@ -18,8 +19,10 @@ pub struct Identities {
     pub projection: bool,
 }
 
-fn is_identity(m: &Mat4) -> bool
-    ensures { result ≡ true → FixesVectors m.now.m }
+/// Whether a matrix is the identity, which moves no vector.
+pub fn is_identity(m: &Mat4) -> bool
+    ensures identity { IsTrue result ↔ m.now.m ≡ identity.m }
+    ensures fixes { result ≡ true → FixesVectors m.now.m }
 {
     *m == IDENTITY
 }

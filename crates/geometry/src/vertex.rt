@@ -1,11 +1,11 @@
 //! Where a vertex stands in the window.
-ghost use Rattle.std.specs.Prelude.{◌≡◌, ◌^◌, ◌+◌, ◌*◌, ◌<◌, ◌-◌, ℕ, neg_ℤ, pos, true, false, ◌+ℤ◌, ◌-ℤ◌, ◌*ℤ◌, ◌<ℤ◌, MatchOption};
-ghost use Rattle.rc_base.specs.Numbers.{Within, entry, is_within, is_between, floor_quotient, transformed};
+ghost use Rattle.std.specs.Prelude.{◌≡◌, ◌^◌, ◌+◌, ◌*◌, ◌<◌, ◌-◌, ℕ, pos, true, false, ◌+ℤ◌, ◌-ℤ◌, ◌*ℤ◌, ◌<ℤ◌, MatchOption};
+ghost use Rattle.rc_base.specs.Numbers.{Within, entry, is_within, floor_quotient, transformed};
 ghost use Rattle.rc_base.specs.Drawing.Cover.{IsInBounds};
 ghost use Rattle.rc_base.specs.Drawing.Pieces.{clip_bound};
 ghost use Rattle.rc_base.specs.Drawing.Window.{clip_of, axis_of, depth_of, window_of, is_in_bounds, is_placed, depth_most};
 ghost use Rattle.fixed_math.specs.Bounds.{AllWithin, four};
-ghost use Rattle.geometry.specs.Placed.{FixesVectors, AreIdentities, AreInFront, IsPlace, stands_in_front};
+ghost use Rattle.geometry.specs.Placed.{FixesVectors, AreIdentities, IsPlace, are_small, are_in_front, stands_in_front};
 ghost use Rattle.geometry.specs.Vertices.{vertex_with};
 
 use crate::identities::Identities;
@@ -26,7 +26,7 @@ const DEPTH_MOST: i128 = 16_777_215;
 const ONE: i32 = 65_536;
 
 /// Where the near plane stands: w is a 256th in 16.16 fixed point.
-pub(crate) const NEAR_W: i64 = 256;
+pub const NEAR_W: i64 = 256;
 
 // The bound of the clip coordinates that are cut, so that products of them fit.
 const CLIP_BOUND: i128 = 70_368_744_177_664;
@@ -56,49 +56,6 @@ pub(crate) fn clip(state: &State, identities: Identities, v: &Vertex) -> [i128; 
 {
     let eye = product(identities.modelview, &state.modelview, widen(&v.pos));
     product(identities.projection, &state.projection, eye)
-}
-
-// A number of 64 bits.
-fn is_short(n: i128) -> bool
-    ensures { result ≡ is_between (neg_ℤ (pos (2 ^ 63))) (pos (2 ^ 63 - 1)) n }
-{
-    -9_223_372_036_854_775_808 <= n && n <= 9_223_372_036_854_775_807
-}
-
-fn shortened(n: i128) -> i64
-    requires { is_between (neg_ℤ (pos (2 ^ 63))) (pos (2 ^ 63 - 1)) n ≡ true }
-    ensures { result ≡ n }
-{
-    n as i64
-}
-
-// The divisors of places and depths where w is one are named: to divide by a known power of two is a shift.
-fn short_quotient(n: i64, d: i64) -> i64
-    requires { pos 0 <ℤ d }
-    ensures { result ≡ floor_quotient n d }
-{
-    if d == 131_072 {
-        n.div_euclid(131_072)
-    } else if d == 8_589_934_592 {
-        n.div_euclid(8_589_934_592)
-    } else {
-        n.div_euclid(d)
-    }
-}
-
-// The quotient rounded down, by 64 bits where they hold both numbers.
-pub(crate) fn quotient(n: i128, d: i128) -> i128
-    requires { pos 0 <ℤ d }
-    ensures value { result ≡ floor_quotient n d }
-    ensures small { (b : ℕ) → Within b n → Within b result }
-{
-    if !is_short(n) {
-        return floor_div(n, d);
-    }
-    if !is_short(d) {
-        return floor_div(n, d);
-    }
-    i128::from(short_quotient(shortened(n), shortened(d)))
 }
 
 fn plus(x: i128, w: i128) -> i128
@@ -139,7 +96,7 @@ pub(crate) fn axis(origin: i32, size: i32, x: i128, w: i128) -> i128
     requires w { Within (2 ^ 65) w }
     ensures { result ≡ axis_of origin size x w }
 {
-    let whole = quotient(scaled(plus(x, w), size), double(w));
+    let whole = floor_div(scaled(plus(x, w), size), double(w));
     moved(origin, whole)
 }
 
@@ -195,7 +152,7 @@ pub(crate) fn depth(near: i32, far: i32, z: i128, w: i128) -> i128
         weighed(between(near, far), z),
         weighed(together(near, far), w),
     );
-    quotient(sum, scale_of(w))
+    floor_div(sum, scale_of(w))
 }
 
 fn is_in(z: i128, bound: u32) -> bool
@@ -248,9 +205,9 @@ fn unit_moved(origin: i32, scaled: i64) -> i64
     16 * i64::from(origin) + scaled.div_euclid(8_192)
 }
 
-// A window coordinate where w is one.
+/// A window coordinate in sixteenths of a pixel, from a clip coordinate, where w is one.
 #[tactic(auto, unfolding(rc_base::specs::Drawing::Window::axis_of))]
-fn unit_axis(origin: i32, size: i32, x: i32) -> i64
+pub fn unit_axis(origin: i32, size: i32, x: i32) -> i64
     ensures { result ≡ axis_of origin size x (pos 65536) }
 {
     unit_moved(origin, unit_scaled(size, x))
@@ -294,18 +251,32 @@ fn is_unit(identities: Identities, v: &Vertex) -> bool
     identities.modelview && identities.projection && v.pos[3] == ONE
 }
 
-// Whether a vertex is in front of the near plane, by its clip coordinates, and none of them is too large to be cut.
-fn are_in_front(c: &[i128; 4]) -> bool
-    ensures { result ≡ true → AreInFront c.now }
+// Whether no clip coordinate is too large to be cut.
+#[tactic(auto, unfolding(crate::specs::Placed::are_small))]
+fn are_small(c: &[i128; 4]) -> bool
+    ensures { result ≡ are_small c.now }
 {
-    is_small(c[0])
-        && is_small(c[1])
-        && is_small(c[2])
-        && is_small(c[3])
-        && c[3] >= i128::from(NEAR_W)
+    if !is_small(c[0]) {
+        return false;
+    }
+    if !is_small(c[1]) {
+        return false;
+    }
+    if !is_small(c[2]) {
+        return false;
+    }
+    is_small(c[3])
 }
 
-// The window coordinates of a vertex, and whether it is known to stand in front of the near plane.
+// Whether a vertex is in front of the near plane, by its clip coordinates, and none of them is too large to be cut.
+#[tactic(auto, unfolding(crate::specs::Placed::are_in_front))]
+fn are_in_front(c: &[i128; 4]) -> bool
+    ensures { result ≡ are_in_front c.now }
+{
+    are_small(c) && c[3] >= i128::from(NEAR_W)
+}
+
+// The window coordinates of a vertex, and whether it stands in front of the near plane.
 #[derive(Clone, Copy)]
 struct Place {
     x: i128,
@@ -321,9 +292,9 @@ struct Place {
 fn any_place(state: &State, identities: Identities, v: &Vertex) -> Option<Place>
     requires { AreIdentities state.now identities }
     ensures { MatchOption result
-        (is_placed state.now v.now ≡ false)
+        ((is_placed state.now v.now ≡ false) × (stands_in_front state.now v.now ≡ false))
         (λ p. (pos 0 <ℤ entry (clip_of state.now v.now) 3) × (vertex_with v.now p.x p.y p.z ≡ window_of state.now v.now)
-        × (p.front ≡ true → stands_in_front state.now v.now ≡ true)) }
+        × (p.front ≡ stands_in_front state.now v.now)) }
 {
     let c = clip(state, identities, v);
     if c[3] <= 0 {
@@ -336,8 +307,8 @@ fn any_place(state: &State, identities: Identities, v: &Vertex) -> Option<Place>
     Some(Place { x, y, z, front })
 }
 
-/// Where a vertex stands: in the window, if it stands before the eye and within the bounds of window coordinates; and whether it is known to stand
-/// in front of the near plane, with no clip coordinate too large to be cut.
+/// Where a vertex stands: in the window, if it stands before the eye and within the bounds of window coordinates; and whether it stands in front of
+/// the near plane, with no clip coordinate too large to be cut.
 #[derive(Clone, Copy)]
 pub(crate) struct Stand {
     pub at: Option<WindowVertex>,
@@ -349,7 +320,7 @@ pub(crate) struct Stand {
 pub(crate) fn stand_of(state: &State, identities: Identities, v: &Vertex) -> Stand
     requires { AreIdentities state.now identities }
     ensures at { IsPlace state.now v.now result.at }
-    ensures front { result.front ≡ true → stands_in_front state.now v.now ≡ true }
+    ensures front { result.front ≡ stands_in_front state.now v.now }
 {
     if is_unit(identities, v) {
         return Stand {

@@ -1,7 +1,7 @@
 pub mod StandsInLists
 mod RisingNumbers
 mod CommutingNames
-mod MemberCounts
+pub mod MemberCounts
 pub mod ClientsBeyond
 mod PrefixesAreLegal
 pub mod GrantsAreExact
@@ -13,7 +13,7 @@ pub mod BooksStayLegal
 pub mod RunsOfNames
 pub mod PermittedAsRuns
 pub mod OrdersBySteps
-mod SpreadIsRun
+pub mod SpreadIsRun
 pub mod AddedNames
 pub mod StepsArePermitted
 mod DefaultOrderIsPermitted
@@ -29,13 +29,14 @@ pub mod CommandsAreLocal
 mod OrderedScenesDrawAlike
 mod OrderedScenesHaveOneFrame
 mod RunsShowOneImage
-mod UsedOperations
+pub mod UsedOperations
 mod CountedNames
-mod RecordedByCounts
-mod SpotsOfNames
-mod RisingPlaces
+pub mod RecordedByCounts
+pub mod SpotsOfNames
+pub mod RisingPlaces
 mod UnitsByWalks
-mod UnitsInTurn
+pub mod UnitsInTurn
+pub mod NamesInTurn
 mod PartedPairs
 mod CheckedOrders
 mod SwapsAreFew

@@ -13,7 +13,7 @@ pub mod record;
 mod recorded;
 mod spots;
 mod units;
-mod walk;
+pub mod walk;
 
 pub use permitted::is_permitted;
 pub use record::{Log, LogEntry, Logs, Record};

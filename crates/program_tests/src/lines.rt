@@ -1,6 +1,5 @@
 //! Lines that are taken with their values, and lines that are refused.
-use command_line::{CommandLine, Settings, command_line};
-use rc_base::job::JobName;
+use command_line::{CommandLine, JobName, Settings, command_line};
 use rc_base::out_of_memory::OutOfMemory;
 use std::alloc::Global;
 
@@ -23,10 +22,12 @@ fn line_of(alloc: Global, words: &[&str]) -> Result<Option<CommandLine>, OutOfMe
 
 #[test]
 fn lines_are_taken(rt: HostRuntime) {
-    let cases: [(&[&str], JobName, Settings); 10] = [
+    let cases: [(&[&str], JobName, Settings); 12] = [
         (&["render"], JobName::Render, DEFAULTS),
         (&["serial"], JobName::Serial, DEFAULTS),
         (&["check"], JobName::Check, DEFAULTS),
+        (&["race"], JobName::Race, DEFAULTS),
+        (&["last"], JobName::Last, DEFAULTS),
         (&["pack"], JobName::Pack, DEFAULTS),
         (&["unpack"], JobName::Unpack, DEFAULTS),
         (
@@ -90,7 +91,7 @@ fn lines_are_taken(rt: HostRuntime) {
 
 #[test]
 fn other_words_are_refused(rt: HostRuntime) {
-    let cases: [&[&str]; 29] = [
+    let cases: [&[&str]; 30] = [
         &[],
         &[""],
         &["rende"],
@@ -117,6 +118,7 @@ fn other_words_are_refused(rt: HostRuntime) {
         &["render", "--tiles", "04x1"],
         &["render", "--seed", "1"],
         &["serial", "--order"],
+        &["race", "--order"],
         &["simulate"],
         &["simulate", "--seed", "1", "--size", "1"],
         &["gen", "--seed", "1"],

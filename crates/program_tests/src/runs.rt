@@ -1,12 +1,15 @@
 //! Runs on sources and sinks in memory.
+mod apart;
 mod clusters;
 mod ends;
 mod faults;
+mod first_races;
 mod formats;
 mod generated;
 mod hostile;
 mod ordered;
 mod orders;
+mod races;
 mod rows;
 mod seeds;
 

@@ -19,3 +19,5 @@ mod WordQuotients
 mod Affine
 mod OneColumn
 mod Flat
+mod Clipping
+pub mod Beside

@@ -13,3 +13,4 @@ pub mod Slopes
 pub mod Ways
 pub mod Runs
 pub mod Colors
+pub mod Clips

@@ -8,6 +8,7 @@
 
 mod bounds;
 mod byte_plane;
+mod clip;
 mod color;
 mod column;
 mod columns;
@@ -27,6 +28,7 @@ mod turns;
 mod ways;
 mod word_plane;
 
+pub use clip::{drawn_part, scissored};
 pub use color::{ColorPlane, ColorRamp, color_plane, flat_color, has_depths};
 pub use column::Column;
 pub use coverage::{covers, spans};

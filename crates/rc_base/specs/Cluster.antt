@@ -1,4 +1,5 @@
 -- The tiles of a window, and what each client sends to each of them.
+pub mod ObjectBox
 pub mod Tiles
 pub mod Parcels
 pub mod Looks

@@ -7,6 +7,7 @@ pub mod Cover
 pub mod Fragment
 pub mod Texel
 pub mod PixelStep
+pub mod Nearer
 pub mod Touch
 pub mod Serial
 pub mod Images

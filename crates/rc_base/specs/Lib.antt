@@ -1,4 +1,5 @@
 pub mod Numbers
+pub mod Intervals
 pub mod Lists
 pub mod Colors
 pub mod Pictures

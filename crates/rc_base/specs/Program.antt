@@ -1,3 +1,2 @@
 -- What the program is asked for, and the scenes and schedules that it makes itself.
-pub mod Words
 pub mod Generator

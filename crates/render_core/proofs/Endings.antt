@@ -7,10 +7,11 @@ use Rattle.std.proofs.lemmas.Bool.{cases_lt}
 use Rattle.std.proofs.lemmas.List.{append-nil}
 use Rattle.std.specs.Io.KnownBytes.{Consumes, IsAtEnd}
 use Rattle.rc_base.specs.Outside.Transfer.{byte_limit}
-use Rattle.rc_base.specs.declared.job.JobName.{JobName}
+use Rattle.command_line.specs.declared.job.JobName.{JobName}
 use Rattle.command_line.specs.Laws.{OneReading}
 use Rattle.order_model.specs.declared.record.Record.{Record}
-use Rattle.render_core.specs.declared.due.Ending.TheVariants.{Complete, Stuck as EndsStuck}
+use Rattle.render_core.specs.declared.due.Ending.{Ending}
+use Rattle.render_core.specs.declared.due.Ending.TheVariants.{Complete, Stuck as EndsStuck, RaceFound as EndsRaceFound}
 use Rattle.render_core.specs.declared.job.Job.{Job}
 use Rattle.render_core.specs.declared.job.Origin.{Origin}
 use Rattle.render_core.specs.declared.job.Origin.TheVariants.{Read, Generated}
@@ -18,10 +19,10 @@ use Rattle.render_core.specs.declared.refusal.Refusal.{Refusal}
 use Rattle.render_core.specs.declared.writing.Told.{Told}
 use Rattle.render_core.specs.Due.{Outcome}
 use Rattle.rc_base.specs.Outside.Ends.{Used, Failed, IsCalm, Took, Noted, TookInput}
-use Rattle.render_core.specs.Findings.{Finding, Long, Malformed, Outside, Sound, IsFinding}
+use Rattle.render_core.specs.Findings.{Finding, Long, Malformed, Outside, Unsuited, Sound, IsFinding}
 use Rattle.render_core.specs.Jobs.{Holds, IsJob, Reads, Takes, job_in, origin_of}
 use Rattle.render_core.specs.Lines.{memory_line}
-use Rattle.render_core.specs.Outcomes.{Sent, Whole, Front, IsDone, IsUnnoted, IsStuck, Cause, Ran, Done, NotesFailed, Stuck, Refused, NoMemory, HasNotes}
+use Rattle.render_core.specs.Outcomes.{Sent, Whole, Front, IsDone, IsUnnoted, IsReported, Cause, Ran, Done, NotesFailed, Stuck, RaceFound, Refused, NoMemory, HasNotes}
 use Rattle.render_core.specs.Refusals.{refusal_status, refusal_line, kept_for, IsCaused, IsRefusalTold, IsPerformed, IsConcluded}
 
 -- ---- the words name one job
@@ -74,6 +75,7 @@ module _ (job : Job) (source : Used) (given input : List ℕ) where
     ]
     found_in_read Malformed h = whole Malformed h.0 h
     found_in_read (Outside limit) h = whole (Outside limit) h.0 h
+    found_in_read (Unsuited name) h = whole (Unsuited name) h.0 h
     found_in_read (Sound scene) h = whole (Sound scene) h.short h
 
   by_origin : (origin : Origin) → Holds origin source given → Takes origin source input → (finding : Finding) → IsFinding job given finding → IsFinding job input finding
@@ -162,16 +164,17 @@ module _ (words : List (String Global)) (source image notes : Used) where
             kept_is = performed.sent.kept;
           }
 
-      stuck_by : performed.o.ending ≡ EndsStuck → Noted notes told.lines → IsStuck job source image notes told.kept
-      stuck_by stuck noted =
-          record { o = performed.o; due = performed.due; stuck = stuck; lines = told.lines; sent = performed.sent.sent; noted = noted; kept_is = performed.sent.kept }
+      reported_by : (ending : Ending) → performed.o.ending ≡ ending → Noted notes told.lines → IsReported ending job source image notes told.kept
+      reported_by ending ends noted =
+          record { o = performed.o; due = performed.due; ends = ends; lines = told.lines; sent = performed.sent.sent; noted = noted; kept_is = performed.sent.kept }
 
       -- how the notes took what is left to tell decides the status
       pub ran_told : (status : ℕ) → IsConcluded notes told status → Ran words source image notes status told.kept
       ran_told status (inl done) = Done done.0 (job, is, done_by (sym performed.sent.ending ∙ done.1) done.2 done.3)
       ran_told status (inr (inl unnoted)) =
           NotesFailed unnoted.0 (job, is, unnoted_by (sym performed.sent.ending ∙ unnoted.1) unnoted.2 unnoted.3.0 unnoted.3.1 unnoted.3.2)
-      ran_told status (inr (inr stuck)) = Stuck stuck.0 (job, is, stuck_by (sym performed.sent.ending ∙ stuck.1) stuck.2)
+      ran_told status (inr (inr (inl stuck))) = Stuck stuck.0 (job, is, reported_by EndsStuck (sym performed.sent.ending ∙ stuck.1) stuck.2)
+      ran_told status (inr (inr (inr raced))) = RaceFound raced.0 (job, is, reported_by EndsRaceFound (sym performed.sent.ending ∙ raced.1) raced.2)
 
       -- notes to which something is due
       pub some_told : (status : ℕ) → IsConcluded notes told status → status ≡ 0 → 0 < length told.lines → HasNotes words source image notes told.kept
@@ -180,4 +183,5 @@ module _ (words : List (String Global)) (source image notes : Used) where
           let complete = sym performed.sent.ending ∙ done.1 in
           (job, is, (done_by complete done.2 done.3, subst (λ (l : List ℕ). 0 < length l) (whole_of complete).2 some))
       some_told status (inr (inl unnoted)) zero some = let is = unnoted.0 in absurd (omega (arith, is, zero))
-      some_told status (inr (inr stuck)) zero some = let is = stuck.0 in absurd (omega (arith, is, zero))
+      some_told status (inr (inr (inl stuck))) zero some = let is = stuck.0 in absurd (omega (arith, is, zero))
+      some_told status (inr (inr (inr raced))) zero some = let is = raced.0 in absurd (omega (arith, is, zero))

@@ -7,8 +7,8 @@ use Rattle.rc_base.specs.Outside.Ends.{Used}
 use Rattle.order_model.specs.declared.record.Record.{Record}
 use Rattle.render_core.specs.declared.job.Job.{Job}
 use Rattle.render_core.specs.Jobs.{ForJob, IsJob}
-use Rattle.render_core.specs.Laws.{FirstRefusal, Unread, Unfit, Waiting, Unwritten, Untold, Unrefused}
-use Rattle.render_core.specs.Outcomes.{Cause, SourceFailed, InputRefused, ImageFailed, Ran, Usage, Done, NotesFailed, Stuck, Refused, NoMemory}
+use Rattle.render_core.specs.Laws.{FirstRefusal, Unread, Unfit, Waiting, Racing, Unwritten, Untold, Unrefused}
+use Rattle.render_core.specs.Outcomes.{Cause, SourceFailed, InputRefused, ImageFailed, Ran, Usage, Done, NotesFailed, Stuck, RaceFound, Refused, NoMemory}
 
 by_cause : (job : Job) (source image notes : Used) (status : ℕ) (line : List ℕ) (kept : Option Record) → Cause job source image status line kept
     → FirstRefusal job source image notes status kept
@@ -27,7 +27,9 @@ in_order words source image notes status kept (NotesFailed is named) =
     let untold = named.2 in
     inr (inr (named.0, named.1, Untold is untold.o untold.due untold.complete untold.kept_is untold.calm_image untold.failed))
 in_order words source image notes status kept (Stuck is named) =
-    let stuck = named.2 in inr (inr (named.0, named.1, Waiting is stuck.o stuck.due stuck.stuck stuck.kept_is))
+    let stuck = named.2 in inr (inr (named.0, named.1, Waiting is stuck.o stuck.due stuck.ends stuck.kept_is))
+in_order words source image notes status kept (RaceFound is named) =
+    let raced = named.2 in inr (inr (named.0, named.1, Racing is raced.o raced.due raced.ends raced.kept_is))
 in_order words source image notes status kept (Refused named) =
     let refused = named.2 in
     inr (inr (named.0, named.1, by_cause named.0 source image notes status refused.line kept refused.cause))

@@ -9,13 +9,15 @@ use Rattle.command_line.specs.Laws.{OneReading}
 use Rattle.order_model.specs.declared.record.Record.{Record}
 use Rattle.render_core.specs.declared.job.Cluster.{Cluster}
 use Rattle.render_core.specs.declared.job.Job.{Job}
-use Rattle.render_core.specs.declared.job.Job.TheVariants.{Render, Simulate, Serial, Check, Pack, Unpack, Gen, Demo}
+use Rattle.render_core.specs.declared.job.Job.TheVariants.{Render, Simulate, Serial, Last, Check, Race, Pack, Unpack, Gen, Demo}
+use Rattle.render_core.specs.declared.due.Ending.{Ending}
+use Rattle.render_core.specs.declared.due.Ending.TheVariants.{Stuck as EndsStuck, RaceFound as EndsRaceFound}
 use Rattle.render_core.specs.Due.{Outcome, IsRecorded, IsOutcome, ending_status}
 use Rattle.rc_base.specs.Outside.Ends.{Used, Failed, Took, TookFront}
-use Rattle.render_core.specs.Findings.{Finding, Long, Malformed, Outside, Sound, IsFinding, refused_with}
+use Rattle.render_core.specs.Findings.{Finding, Long, Malformed, Outside, Unsuited, Sound, IsFinding, refused_with}
 use Rattle.render_core.specs.Jobs.{ForJob, HasScene, Holds, IsJob, cluster_of, origin_of}
 use Rattle.render_core.specs.Laws.{FindingsAreOne, OrderedRecordsShowOneImage}
-use Rattle.render_core.specs.Outcomes.{IsDue, Sent, Whole, Front, IsDone, IsUnnoted, IsStuck, IsRefused, Cause, SourceFailed, InputRefused, ImageFailed, Ran, Usage, Done, NotesFailed, Stuck, Refused, NoMemory, Answers, IsAnswered, IsHeadline, KeepsOrders, frames_text}
+use Rattle.render_core.specs.Outcomes.{IsDue, Sent, Whole, Front, IsDone, IsUnnoted, IsReported, IsRefused, Cause, SourceFailed, InputRefused, ImageFailed, Ran, Usage, Done, NotesFailed, Stuck, RaceFound, Refused, NoMemory, Answers, IsAnswered, IsHeadline, KeepsOrders, frames_text}
 use Rattle.render_core.proofs.Endings.{same_job, found_in_taken, holds_calm, sent_whole, noted_whole}
 use Rattle.render_core.proofs.KeptOrders.{keeps_orders}
 
@@ -27,6 +29,7 @@ by_status : (job : Job) (image notes : Used) (status : ℕ) (kept : Option Recor
 by_status job image notes status kept Long e = sym (ap (λ (o : Option ℕ). unwrap_or o 0) e)
 by_status job image notes status kept Malformed e = sym (ap (λ (o : Option ℕ). unwrap_or o 0) e)
 by_status job image notes status kept (Outside limit) e = sym (ap (λ (o : Option ℕ). unwrap_or o 0) e)
+by_status job image notes status kept (Unsuited name) e = sym (ap (λ (o : Option ℕ). unwrap_or o 0) e)
 by_status job image notes status kept (Sound scene) e = absurd cc
 
 module _ (reading : OneReading) (findings : FindingsAreOne) (words : List (String Global)) (source image notes : Used) (status : ℕ) (kept : Option Record) where
@@ -49,16 +52,9 @@ module _ (reading : OneReading) (findings : FindingsAreOne) (words : List (Strin
         (by_status job image notes status kept judged.judged.finding judged.judged.refused)
     refused line (ImageFailed is o due complete cut of) = absurd ((taken (ap refused_with (sound due.scene due.has))).0 cut.failed)
 
-    go : Ran words source image notes status kept → (status ≡ 7) ⊎ Answers job finding image notes status kept
-    go (Usage is none told unkept) = absurd (none job is_job)
-    go (Done is h) =
-        let d = at (λ j. IsDone j source image notes kept) h in
-        answers (Sound d.due.scene) (sound d.due.scene d.due.has)
-        record { o = d.o; due = d.due.due; given = d.given; told = d.told; status_is = is ∙ sym (ap ending_status d.complete); kept_is = d.kept_is }
-    go (NotesFailed is h) =
-        let d = at (λ j. IsUnnoted j source image notes kept) h in absurd ((taken (ap refused_with (sound d.due.scene d.due.has))).1 d.failed)
-    go (Stuck is h) =
-        let d = at (λ j. IsStuck j source image notes kept) h in
+    reported : (ending : Ending) → status ≡ ending_status ending → IsReported ending job source image notes kept
+        → (status ≡ 7) ⊎ Answers job finding image notes status kept
+    reported ending is d =
         let same = sound d.due.scene d.due.has in
         let calm = taken (ap refused_with same) in
         let sent = sent_whole image d.o d.lines calm.0 d.sent in
@@ -68,9 +64,20 @@ module _ (reading : OneReading) (findings : FindingsAreOne) (words : List (Strin
           due = d.due.due;
           given = sent.0;
           told = subst (Took notes) sent.1 (noted_whole notes d.lines calm.1 d.noted);
-          status_is = is ∙ sym (ap ending_status d.stuck);
+          status_is = is ∙ sym (ap ending_status d.ends);
           kept_is = d.kept_is;
         }
+
+    go : Ran words source image notes status kept → (status ≡ 7) ⊎ Answers job finding image notes status kept
+    go (Usage is none told unkept) = absurd (none job is_job)
+    go (Done is h) =
+        let d = at (λ j. IsDone j source image notes kept) h in
+        answers (Sound d.due.scene) (sound d.due.scene d.due.has)
+        record { o = d.o; due = d.due.due; given = d.given; told = d.told; status_is = is ∙ sym (ap ending_status d.complete); kept_is = d.kept_is }
+    go (NotesFailed is h) =
+        let d = at (λ j. IsUnnoted j source image notes kept) h in absurd ((taken (ap refused_with (sound d.due.scene d.due.has))).1 d.failed)
+    go (Stuck is h) = reported EndsStuck is (at (λ j. IsReported EndsStuck j source image notes kept) h)
+    go (RaceFound is h) = reported EndsRaceFound is (at (λ j. IsReported EndsRaceFound j source image notes kept) h)
     go (Refused h) = let r = at (λ j. IsRefused j source image notes status kept) h in refused r.line r.cause
     go (NoMemory is told unkept) = inl is
 
@@ -86,7 +93,9 @@ unfolding IsOutcome
 recorded (Render cluster) scene o kept e h = (cluster, refl, h)
 recorded (Simulate seed cluster) scene o kept e h = (cluster, refl, h.recorded)
 recorded Serial scene o kept e h = let none : Some kept ≡ None = e ∙ ap (λ (a : Outcome). a.kept) h in absurd cc
+recorded Last scene o kept e h = let none : Some kept ≡ None = e ∙ ap (λ (a : Outcome). a.kept) h in absurd cc
 recorded Check scene o kept e h = let none : Some kept ≡ None = e ∙ ap (λ (a : Outcome). a.kept) h in absurd cc
+recorded Race scene o kept e h = let none : Some kept ≡ None = e ∙ ap (λ (a : Outcome). a.kept) h.due in absurd cc
 recorded Pack scene o kept e h = let none : Some kept ≡ None = e ∙ ap (λ (a : Outcome). a.kept) h.0 in absurd cc
 recorded Unpack scene o kept e h = let none : Some kept ≡ None = e ∙ ap (λ (a : Outcome). a.kept) h.0 in absurd cc
 recorded (Gen seed size) scene o kept e h = let none : Some kept ≡ None = e ∙ ap (λ (a : Outcome). a.kept) h.0 in absurd cc
@@ -149,6 +158,10 @@ module _ (shows : OrderedRecordsShowOneImage) (words : List (String Global)) (so
       let d = h.2 in
       headline_of h.0 h.1 d.o d.due d.kept_is (sent_front d.o d.lines d.sent) (λ z. absurd (not_whole 5 is (λ y. omega (arith, y)) (λ y. omega (arith, y)) z))
       (λ five calm. (sent_whole image d.o d.lines calm d.sent).0)
+  of_ran (RaceFound is h) =
+      let d = h.2 in
+      headline_of h.0 h.1 d.o d.due d.kept_is (sent_front d.o d.lines d.sent) (λ z. absurd (not_whole 11 is (λ y. omega (arith, y)) (λ y. omega (arith, y)) z))
+      (λ five. absurd (omega (arith, is, five)))
   of_ran (Refused h) = of_cause h.0 h.1 h.2.line h.2.cause
   of_ran (NoMemory is told unkept) = absurd cc
 

@@ -1,23 +1,26 @@
 -- From what a reader answers to what the job finds in its input.
-use Rattle.std.proofs.Common.{◌≡◌, ℕ, ◌≤◌, List, length, None, Some, refl, sym, ap, subst, arith, ◌∙◌}
+use Rattle.std.proofs.Common.{◌≡◌, ℕ, ◌<◌, ◌≤◌, inl, inr, true, false, List, length, None, Some, refl, sym, ap, ap₂, subst, arith, ◌∙◌}
+use Rattle.std.proofs.lemmas.Bool.{cases_lt}
 use Rattle.std.specs.Option.{option_or}
 use Rattle.std.specs.declared.option.Option.{Option}
 use Rattle.rc_base.specs.Formats.Limits.{held_limit, limit_of, size_limit}
 use Rattle.rc_base.specs.Outside.Transfer.{byte_limit}
 use Rattle.rc_base.specs.declared.scene.Limit.{Limit}
 use Rattle.rc_base.specs.declared.scene.Scene.{Scene}
+use Rattle.rc_base.specs.declared.sync.Name.{Name}
 use Rattle.scene_file.specs.Laws.{ScenesAreOne}
 use Rattle.scene_text.specs.Laws.{OneScene}
+use Rattle.sort_last.specs.Offends.{offends, IsFirstOffence}
 use Rattle.render_core.specs.declared.job.Form.{Form}
 use Rattle.render_core.specs.declared.job.Form.TheVariants.{Bytes, Text}
 use Rattle.render_core.specs.declared.job.Job.{Job}
-use Rattle.render_core.specs.declared.job.Job.TheVariants.{Render, Simulate, Serial, Check, Pack, Unpack, Gen, Demo}
+use Rattle.render_core.specs.declared.job.Job.TheVariants.{Render, Simulate, Serial, Last, Check, Race, Pack, Unpack, Gen, Demo}
 use Rattle.render_core.specs.declared.job.Origin.{Origin}
 use Rattle.render_core.specs.declared.job.Origin.TheVariants.{Read, Generated}
 use Rattle.rc_base.specs.Outside.Ends.{Used}
-use Rattle.render_core.specs.Jobs.{cluster_limit, cluster_of, limit_for, origin_of, scene_limit, tile_limit, with_rounds, word_limit, Spells, Gives, HasScene}
-use Rattle.render_core.specs.Lines.{limit_line}
-use Rattle.render_core.specs.Findings.{Finding, Long, Malformed, Outside, Sound, TellsFault, IsJudged, Judged}
+use Rattle.render_core.specs.Jobs.{cluster_limit, cluster_of, limit_for, origin_of, scene_limit, tile_limit, with_rounds, word_limit, Spells, Gives, HasScene, IsFor, IsNotFor}
+use Rattle.render_core.specs.Lines.{limit_line, not_last_line}
+use Rattle.render_core.specs.Findings.{Finding, Long, Malformed, Outside, Unsuited, Sound, TellsFault, IsJudged, Judged}
 use Rattle.render_core.specs.Laws.{FindingsAreOne}
 use Rattle.render_core.specs.Refusals.{Came}
 
@@ -46,7 +49,9 @@ pub tiles_within : (job : Job) (scene : Scene) → word_limit job scene ≡ None
 tiles_within (Render cluster) scene e = e
 tiles_within (Simulate seed cluster) scene e = (neither (cluster_limit cluster scene) (held_limit scene) e).0
 tiles_within Serial scene e = refl
+tiles_within Last scene e = refl
 tiles_within Check scene e = refl
+tiles_within Race scene e = refl
 tiles_within Pack scene e = refl
 tiles_within Unpack scene e = refl
 tiles_within (Gen seed size) scene e = refl
@@ -58,7 +63,9 @@ pub made_words : (job : Job) (seed size : ℕ) (scene : Scene) → origin_of job
 made_words (Render cluster) seed size scene e = absurd cc
 made_words (Simulate other cluster) seed size scene e = absurd cc
 made_words Serial seed size scene e = absurd cc
+made_words Last seed size scene e = absurd cc
 made_words Check seed size scene e = absurd cc
+made_words Race seed size scene e = absurd cc
 made_words Pack seed size scene e = absurd cc
 made_words Unpack seed size scene e = absurd cc
 made_words (Gen other rounds) seed size scene e = ap (λ (origin : Origin). with_rounds origin None) e
@@ -83,6 +90,56 @@ abbrev past : Option Limit → Finding
 past None = Long
 past (Some limit) = Outside limit
 
+-- ---- a job isn't for a scene by one command, and is for no such scene
+
+module _ (scene : Scene) where
+  first_client : (n m : Name) → IsFirstOffence scene n → IsFirstOffence scene m → n.client < m.client → ⊥
+  first_client n m a b less = let none : true ≡ false = sym a.is ∙ b.clients n.client n.place less in cc
+
+  same_client : (n m : Name) → IsFirstOffence scene n → IsFirstOffence scene m → n.client ≡ m.client
+  same_client n m a b = elim (cases_lt n.client m.client) [
+    | inl less ↦ absurd (first_client n m a b less)
+    | inr more ↦ elim (cases_lt m.client n.client) [ inl less ↦ absurd (first_client m n b a less) | inr most ↦ omega (arith, more, most) ]
+  ]
+
+  first_place : (n m : Name) → IsFirstOffence scene n → IsFirstOffence scene m → n.client ≡ m.client → n.place < m.place → ⊥
+  first_place n m a b client less =
+      let none : true ≡ false = sym a.is ∙ ap (λ (c : ℕ). offends scene c n.place) client ∙ b.places n.place less in cc
+
+  same_place : (n m : Name) → IsFirstOffence scene n → IsFirstOffence scene m → n.client ≡ m.client → n.place ≡ m.place
+  same_place n m a b client = elim (cases_lt n.place m.place) [
+    | inl less ↦ absurd (first_place n m a b client less)
+    | inr more ↦ elim (cases_lt m.place n.place) [ inl less ↦ absurd (first_place m n b a (sym client) less) | inr most ↦ omega (arith, more, most) ]
+  ]
+
+  same_offence : (n m : Name) → IsFirstOffence scene n → IsFirstOffence scene m → n ≡ m
+  same_offence n m a b =
+      let client = same_client n m a b in ap₂ (λ (c p : ℕ). record { client = c; place = p }) client (same_place n m a b client)
+
+same_keeper : (job : Job) (scene : Scene) (n m : Name) → IsNotFor job scene n → IsNotFor job scene m → n ≡ m
+same_keeper Last scene n m a b = same_offence scene n m a b
+same_keeper (Render cluster) scene n m a b = absurd a
+same_keeper (Simulate seed cluster) scene n m a b = absurd a
+same_keeper Serial scene n m a b = absurd a
+same_keeper Check scene n m a b = absurd a
+same_keeper Race scene n m a b = absurd a
+same_keeper Pack scene n m a b = absurd a
+same_keeper Unpack scene n m a b = absurd a
+same_keeper (Gen seed size) scene n m a b = absurd a
+same_keeper (Demo seed size cluster) scene n m a b = absurd a
+
+never_both : (job : Job) (scene : Scene) (n : Name) → IsNotFor job scene n → IsFor job scene → ⊥
+never_both Last scene n not is = let none : true ≡ false = sym not.is ∙ is n.client n.place in cc
+never_both (Render cluster) scene n not is = not
+never_both (Simulate seed cluster) scene n not is = not
+never_both Serial scene n not is = not
+never_both Check scene n not is = not
+never_both Race scene n not is = not
+never_both Pack scene n not is = not
+never_both Unpack scene n not is = not
+never_both (Gen seed size) scene n not is = not
+never_both (Demo seed size cluster) scene n not is = not
+
 module _ (bytes : ScenesAreOne) (text : OneScene) where
   same_limit : (job : Job) (input : List ℕ) (s t : Scene) (a b : Option Limit) → Gives (origin_of job) input s → Gives (origin_of job) input t
       → limit_for job s ≡ a → limit_for job t ≡ b → a ≡ b
@@ -92,18 +149,35 @@ module _ (bytes : ScenesAreOne) (text : OneScene) where
   findings_one job input Long Long a b = refl
   findings_one job input Long Malformed a b = let short = b.0 in absurd (omega (arith, a, short))
   findings_one job input Long (Outside m) a b = let short = b.0 in absurd (omega (arith, a, short))
+  findings_one job input Long (Unsuited m) a b = let short = b.0 in absurd (omega (arith, a, short))
   findings_one job input Long (Sound t) a b = let short = b.short in absurd (omega (arith, a, short))
   findings_one job input Malformed Long a b = let short = a.0 in absurd (omega (arith, b, short))
   findings_one job input Malformed Malformed a b = refl
   findings_one job input Malformed (Outside m) a b = absurd (a.1 b.1.0 b.1.1)
+  findings_one job input Malformed (Unsuited m) a b = absurd (a.1 b.1.0 b.1.1)
   findings_one job input Malformed (Sound t) a b = absurd (a.1 t b.gives)
   findings_one job input (Outside l) Long a b = let short = a.0 in absurd (omega (arith, b, short))
   findings_one job input (Outside l) Malformed a b = absurd (b.1 a.1.0 a.1.1)
   findings_one job input (Outside l) (Outside m) a b = ap past (same_limit job input a.1.0 b.1.0 (Some l) (Some m) a.1.1 b.1.1 a.1.2 b.1.2)
+  findings_one job input (Outside l) (Unsuited m) a b =
+      let none : Some l ≡ None = same_limit job input a.1.0 b.1.0 (Some l) None a.1.1 b.1.1 a.1.2 b.1.2 in absurd cc
+  findings_one job input (Unsuited n) Long a b = let short = a.0 in absurd (omega (arith, b, short))
+  findings_one job input (Unsuited n) Malformed a b = absurd (b.1 a.1.0 a.1.1)
+  findings_one job input (Unsuited n) (Outside m) a b =
+      let none : Some m ≡ None = same_limit job input b.1.0 a.1.0 (Some m) None b.1.1 a.1.1 b.1.2 a.1.2 in absurd cc
+  findings_one job input (Unsuited n) (Unsuited m) a b =
+      let same = one_given bytes text (origin_of job) input b.1.0 a.1.0 b.1.1 a.1.1 in
+      ap Unsuited (same_keeper job a.1.0 n m a.1.3 (subst (λ (s : Scene). IsNotFor job s m) same b.1.3))
+  findings_one job input (Unsuited n) (Sound t) a b =
+      let same = one_given bytes text (origin_of job) input t a.1.0 b.gives a.1.1 in
+      absurd (never_both job a.1.0 n a.1.3 (subst (IsFor job) same b.suits))
   findings_one job input (Outside l) (Sound t) a b =
       let none : Some l ≡ None = same_limit job input a.1.0 t (Some l) None a.1.1 b.gives a.1.2 b.within in absurd cc
   findings_one job input (Sound s) Long a b = let short = a.short in absurd (omega (arith, b, short))
   findings_one job input (Sound s) Malformed a b = absurd (b.1 s a.gives)
+  findings_one job input (Sound s) (Unsuited m) a b =
+      let same = one_given bytes text (origin_of job) input s b.1.0 a.gives b.1.1 in
+      absurd (never_both job b.1.0 m b.1.3 (subst (IsFor job) same a.suits))
   findings_one job input (Sound s) (Outside m) a b =
       let none : Some m ≡ None = same_limit job input b.1.0 s (Some m) None b.1.1 a.gives b.1.2 a.within in absurd cc
   findings_one job input (Sound s) (Sound t) a b = ap Sound (one_given bytes text (origin_of job) input s t a.gives b.gives)
@@ -134,9 +208,23 @@ module _ (job : Job) (source : Used) (scene : Scene) (came : Came job source sce
     judged = judged_past job came.input came.short scene limit came.gives (words_next job scene came.within ∙ first);
   }
 
-  pub has_scene : word_limit job scene ≡ None → HasScene job source scene
-  has_scene asked = record {
-    input = came.input;
-    took = came.took;
-    is = record { short = came.short; gives = came.gives; within = words_next job scene came.within ∙ asked };
-  }
+  module _ (asked : word_limit job scene ≡ None) where
+    -- the job isn't for the scene
+    pub judged_unsuited : (name : Name) → IsNotFor job scene name → Judged job source 12 (not_last_line name)
+    judged_unsuited name not = record {
+      input = came.input;
+      took = came.took;
+      judged = record {
+        finding = Unsuited name;
+        is = (came.short, (scene, came.gives, words_next job scene came.within ∙ asked, not));
+        refused = refl;
+        told = refl;
+      };
+    }
+
+    pub has_scene : IsFor job scene → HasScene job source scene
+    has_scene suits = record {
+      input = came.input;
+      took = came.took;
+      is = record { short = came.short; gives = came.gives; within = words_next job scene came.within ∙ asked; suits = suits };
+    }

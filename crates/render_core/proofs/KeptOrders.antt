@@ -8,7 +8,7 @@ use Rattle.rc_base.specs.declared.sync.SyncLists.{SyncLists}
 use Rattle.order_model.specs.Report.{tile_order}
 use Rattle.order_model.specs.declared.record.Record.{Record}
 use Rattle.render_core.specs.declared.job.Cluster.{Cluster}
-use Rattle.render_core.specs.declared.job.Job.TheVariants.{Render, Simulate, Serial, Check, Pack, Unpack, Gen, Demo}
+use Rattle.render_core.specs.declared.job.Job.TheVariants.{Render, Simulate, Serial, Last, Check, Race, Pack, Unpack, Gen, Demo}
 use Rattle.render_core.specs.Due.{Outcome, IsRecorded, IsOutcome}
 use Rattle.render_core.specs.Laws.{KeptOrdersArePermitted}
 use Rattle.render_core.specs.Outcomes.{KeepsOrders}
@@ -32,7 +32,9 @@ unfolding IsOutcome
 kept_orders (Render cluster) scene o h = keeps_some cluster scene o h
 kept_orders (Simulate seed cluster) scene o h = keeps_some cluster scene o h.recorded
 kept_orders Serial scene o h = keeps_none o _ refl h
+kept_orders Last scene o h = keeps_none o _ refl h
 kept_orders Check scene o h = keeps_none o _ refl h
+kept_orders Race scene o h = keeps_none o _ refl h.due
 kept_orders Pack scene o h = keeps_none o _ refl h.0
 kept_orders Unpack scene o h = keeps_none o _ refl h.0
 kept_orders (Gen seed size) scene o h = keeps_none o _ refl h.0

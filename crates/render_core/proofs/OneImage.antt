@@ -31,7 +31,7 @@ use Rattle.render_core.specs.Laws.{OrderedRecordsShowOneImage}
 use Rattle.render_core.specs.Outcomes.{ShowsEveryPermittedOrder}
 use Rattle.render_core.specs.declared.job.Cluster.{Cluster}
 use Rattle.render_core.specs.declared.job.Job.{Job}
-use Rattle.render_core.specs.declared.job.Job.TheVariants.{Render, Simulate, Serial, Check, Pack, Unpack, Gen, Demo}
+use Rattle.render_core.specs.declared.job.Job.TheVariants.{Render, Simulate, Serial, Last, Check, Race, Pack, Unpack, Gen, Demo}
 use Rattle.render_core.specs.declared.job.Origin.TheVariants.{Generated}
 use Rattle.render_core.proofs.Recorded.{layout_within}
 use Rattle.render_core.proofs.Judging.{rounds_within, tiles_within, within_both}
@@ -111,7 +111,9 @@ limits_of : GeneratedScenesAreWithin → (job : Job) (input : List ℕ) (scene :
 limits_of made (Render cluster) input scene gives own words = own
 limits_of made (Simulate seed cluster) input scene gives own words = own
 limits_of made Serial input scene gives own words = own
+limits_of made Last input scene gives own words = own
 limits_of made Check input scene gives own words = own
+limits_of made Race input scene gives own words = own
 limits_of made Pack input scene gives own words = own
 limits_of made Unpack input scene gives own words = own
 limits_of made (Gen seed size) input scene gives own words = made_within made seed size None scene gives words

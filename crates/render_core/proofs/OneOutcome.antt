@@ -1,16 +1,22 @@
 -- What is due for a scene is one thing.
 use Rattle.std.proofs.Common.{◌≡◌, ℕ, false, true, List, None, sym, ap, ◌∙◌}
 use Rattle.rc_base.specs.Formats.Limits.{limit_of}
+use Rattle.rc_base.specs.Orders.Footprints.{footprint_of}
+use Rattle.rc_base.specs.Orders.Order.{default_order}
+use Rattle.rc_base.specs.Orders.Sync.{sync_lists_of}
 use Rattle.rc_base.specs.declared.scene.Scene.{Scene}
+use Rattle.order_model.specs.Laws.{DefaultJournalIsMaximal, DefaultOrdersArePermitted, SceneListsAreWellFormed}
+use Rattle.race_check.specs.Laws.{EachOrderHasOneVerdict}
 use Rattle.tile_model.specs.Laws.{LimitsGiveSides}
 use Rattle.tile_model.specs.Scenes.{IsInRange, HasSides}
 use Rattle.world_model.specs.Laws.{FinishedRunsLeaveOneRecord}
 use Rattle.render_core.specs.declared.job.Cluster.{Cluster}
 use Rattle.render_core.specs.declared.job.Job.{Job}
-use Rattle.render_core.specs.declared.job.Job.TheVariants.{Render, Simulate, Serial, Check, Pack, Unpack, Gen, Demo}
-use Rattle.render_core.specs.Due.{Outcome, IsStepped, IsOutcome, seeded_picks}
+use Rattle.render_core.specs.declared.job.Job.TheVariants.{Render, Simulate, Serial, Last, Check, Race, Pack, Unpack, Gen, Demo}
+use Rattle.render_core.specs.Due.{Outcome, IsStepped, IsOutcome, IsRaced, journal_of, raced, seeded_picks}
 use Rattle.render_core.specs.Jobs.{has_threads, layout_for, origin_of}
 use Rattle.render_core.specs.Refusals.{IsWell}
+use Rattle.rc_base.proofs.WithinLimits.{clients_within, counts_some}
 use Rattle.render_core.proofs.Recorded.{is_by_record, outcome_by}
 
 same_due : (o other x : Outcome) → o ≡ x → other ≡ x → other ≡ o
@@ -25,15 +31,28 @@ module _ (cluster : Cluster) (scene : Scene) where
       a.recorded.record_kept b.recorded.record_kept ranged sides a.stepped.finished b.stepped.finished a.stepped.record_of b.stepped.record_of in
       is_by_record cluster scene other b.recorded ∙ ap (outcome_by cluster scene) same ∙ sym (is_by_record cluster scene o a.recorded)
 
-pub one_outcome : FinishedRunsLeaveOneRecord → LimitsGiveSides → (job : Job) (scene : Scene) (o other : Outcome) → has_threads job ≡ false
+-- the default order of a scene within the limits is permitted, so it has one verdict
+module _ (verdicts : EachOrderHasOneVerdict) (formed : SceneListsAreWellFormed) (maximal : DefaultJournalIsMaximal) (permits : DefaultOrdersArePermitted) where
+  pub one_raced : (scene : Scene) → limit_of scene ≡ None → (o other : Outcome) → IsRaced scene o → IsRaced scene other → other ≡ o
+  one_raced scene within o other a b =
+      let syncs = sync_lists_of scene in
+      let well = formed scene (clients_within scene within).0 (counts_some scene within) in
+      let permitted = permits syncs (journal_of scene) well (maximal syncs well).0 in
+      let same : b.told ≡ a.told = verdicts syncs (journal_of scene) (footprint_of scene) (default_order syncs (journal_of scene)) permitted b.told a.told b.is a.is in
+      b.due ∙ ap (raced scene) same ∙ sym a.due
+
+pub one_outcome : FinishedRunsLeaveOneRecord → LimitsGiveSides → ((scene : Scene) → limit_of scene ≡ None → (o other : Outcome) → IsRaced scene o → IsRaced scene other → other ≡ o)
+    → (job : Job) (scene : Scene) (o other : Outcome) → has_threads job ≡ false
     → IsWell (origin_of job) scene → limit_of scene ≡ None → IsOutcome job scene o → IsOutcome job scene other → other ≡ o
 unfolding IsOutcome
-one_outcome law give (Render cluster) scene o other alone well within h k = let same : true ≡ false = alone in absurd cc
-one_outcome law give (Simulate seed cluster) scene o other alone well within h k =
+one_outcome law give one (Render cluster) scene o other alone well within h k = let same : true ≡ false = alone in absurd cc
+one_outcome law give one (Simulate seed cluster) scene o other alone well within h k =
     one_cluster cluster scene (seeded_picks seed cluster scene) law well.1 (give scene well.0 within) o other h k
-one_outcome law give Serial scene o other alone well within h k = same_due o other _ h k
-one_outcome law give Check scene o other alone well within h k = same_due o other _ h k
-one_outcome law give Pack scene o other alone well within h k = same_due o other _ h.0 k.0
-one_outcome law give Unpack scene o other alone well within h k = same_due o other _ h.0 k.0
-one_outcome law give (Gen seed size) scene o other alone well within h k = same_due o other _ h.0 k.0
-one_outcome law give (Demo seed size cluster) scene o other alone well within h k = let same : true ≡ false = alone in absurd cc
+one_outcome law give one Serial scene o other alone well within h k = same_due o other _ h k
+one_outcome law give one Last scene o other alone well within h k = same_due o other _ h k
+one_outcome law give one Check scene o other alone well within h k = same_due o other _ h k
+one_outcome law give one Race scene o other alone well within h k = one scene within o other h k
+one_outcome law give one Pack scene o other alone well within h k = same_due o other _ h.0 k.0
+one_outcome law give one Unpack scene o other alone well within h k = same_due o other _ h.0 k.0
+one_outcome law give one (Gen seed size) scene o other alone well within h k = same_due o other _ h.0 k.0
+one_outcome law give one (Demo seed size cluster) scene o other alone well within h k = let same : true ≡ false = alone in absurd cc

@@ -1,7 +1,7 @@
 -- From the steps of a job to what it left.
 use Rattle.std.proofs.Common.{◌≡◌, ℕ, ◌+◌, ◌≤◌, ◌⊎◌, inl, inr, Bool, true, false, List, [], ◌++◌, length, Ok, Err, None, refl, sym, ap, ◌∙◌, subst, arith}
 use Rattle.std.specs.declared.option.Option.{Option}
-use Rattle.std.specs.Prelude.{◌==◌, ◌≢◌, IfErr, IfOk, MatchResult, if◌then◌else◌}
+use Rattle.std.specs.Prelude.{◌==◌, ◌≢◌, IfErr, IfOk, OnErr, MatchResult, if◌then◌else◌}
 use Rattle.std.specs.declared.result.Result.{Result}
 use Rattle.std.specs.Io.KnownBytes.{Consumes, IsAtEnd}
 use Rattle.std.proofs.Math.Seq.{take-length}
@@ -14,7 +14,7 @@ use Rattle.rc_base.specs.declared.transfer.ReadAllFault.TheVariants.{ReadFault, 
 use Rattle.render_core.specs.declared.due.DueRefusal.{DueRefusal}
 use Rattle.render_core.specs.declared.due.DueRefusal.TheVariants as undue
 use Rattle.render_core.specs.declared.due.Ending.{Ending}
-use Rattle.render_core.specs.declared.due.Ending.TheVariants.{Complete, Stuck}
+use Rattle.render_core.specs.declared.due.Ending.TheVariants.{Complete}
 use Rattle.render_core.specs.declared.job.Form.{Form}
 use Rattle.render_core.specs.declared.job.Job.{Job}
 use Rattle.render_core.specs.declared.job.Origin.{Origin}
@@ -30,11 +30,11 @@ use Rattle.frame_out.specs.declared.writing.Written.{Written}
 use Rattle.render_core.specs.Due.{Outcome, IsOutcome}
 use Rattle.rc_base.specs.Outside.Ends.{Used, IsCalm, Took, TookInput, TookFront}
 use Rattle.render_core.specs.Findings.{Long}
-use Rattle.render_core.specs.Jobs.{origin_of, scene_limit, word_limit, Gives, IsUntouched, Takes}
+use Rattle.render_core.specs.Jobs.{origin_of, scene_limit, word_limit, Gives, IsFor, IsUntouched, Takes}
 use Rattle.render_core.specs.Lines.{limit_line, image_fault_line}
 use Rattle.render_core.specs.Outcomes.{IsDue, PartlyWritten, Sent, Whole, Front, Cause, SourceFailed, InputRefused, ImageFailed}
 use Rattle.render_core.specs.Refusals.{IsRead, Came, IsRefusedInput, IsNoOutcome, IsToldOf, IsUntold, IsPerformed, IsCaused, IsRefusedUnwritten, input_status, input_line, kept_for, refusal_status, refusal_line}
-use Rattle.render_core.proofs.Judging.{judged_by_words, has_scene}
+use Rattle.render_core.proofs.Judging.{judged_by_words, judged_unsuited, has_scene}
 
 -- no record is kept where there is none
 pub kept_none : (status : ℕ) → kept_for status None ≡ None
@@ -106,10 +106,11 @@ module _ (job : Job) (source : Used) (scene : Scene) (came : Came job source sce
   -- nothing is due
   pub undue_cause : (refusal : DueRefusal) → IsNoOutcome job scene refusal → IsRefusedUnwritten job source (Undue refusal)
   undue_cause (undue.PastLimit limit) first image = inl (InputRefused (judged_by_words job source scene came limit first) refl)
+  undue_cause (undue.NotLast name) not image = inl (InputRefused (judged_unsuited job source scene came not.0 name not.1) refl)
   undue_cause undue.OutOfMemory none image = inr (refl, refl)
 
-  pub due_of_scene : (o : Outcome) → word_limit job scene ≡ None → IsOutcome job scene o → IsDue job source o
-  due_of_scene o asked due = record { scene = scene; has = has_scene job source scene came asked; due = due }
+  pub due_of_scene : (o : Outcome) → word_limit job scene ≡ None → IsFor job scene → IsOutcome job scene o → IsDue job source o
+  due_of_scene o asked suits due = record { scene = scene; has = has_scene job source scene came asked suits; due = due }
 
 -- ---- its image
 
@@ -127,13 +128,13 @@ module _ (job : Job) (source image : Used) (o : Outcome) (due : IsDue job source
     pub performed_of : (told : Told) → IsToldOf o.notes o.ending o.kept written told → IsPerformed job source image told
     performed_of told of = record { o = o; due = due; sent = record { sent = go is of.lines; ending = of.ending_is; kept = of.kept_is } } where
       go : IsWritten image o.image written
-          → ((written.fault ≡ false) × (told.lines ≡ o.notes)) ⊎ ((written.fault ≡ true) × (o.ending ≡ Stuck) × (told.lines ≡ o.notes ++ image_fault_line written.bytes))
+          → ((written.fault ≡ false) × (told.lines ≡ o.notes)) ⊎ ((written.fault ≡ true) × (o.ending ≢ Complete) × (told.lines ≡ o.notes ++ image_fault_line written.bytes))
           → Sent image o told.lines
       go (inl whole) (inl plain) = Whole whole.1 whole.2 plain.1
       go (inl whole) (inr cut) = let both : true ≡ false = sym cut.0 ∙ whole.0 in absurd cc
       go (inr part) (inl plain) = let both : true ≡ false = sym part.0 ∙ plain.0 in absurd cc
       go (inr part) (inr cut) =
-          Front (λ complete. let both : Complete ≡ Stuck = sym complete ∙ cut.1 in cc)
+          Front cut.1
           (record { failed = part.1; done = written.bytes; part = part.2; given = part.3; lines_are = cut.2 })
 
     pub untold_cause : (refused : Refused) → IsUntold o.ending o.kept written refused → IsCaused job source image refused.refusal refused.kept
@@ -182,3 +183,14 @@ module _ (job : Job) (source image : Used) (o : Outcome) (due : IsDue job source
 pub untold_status : {ending : Ending} {kept : Option Record} {written : Written} (refused : Refused) → IsUntold ending kept written refused
     → (refusal_status refused.refusal ≡ 7) ⊎ (refusal_status refused.refusal ≡ 6)
 untold_status refused untold = elim untold.why [ inl memory ↦ inl (ap refusal_status memory) | inr cut ↦ inr (ap refusal_status cut.2) ]
+
+-- ---- what is left of the image, as callers tell it
+
+pub or_part : (P Q : Type 0) (r : Result Told Refused) → OnErr r Q → OnErr r (P ⊎ Q)
+or_part P Q (Ok told) h = tt
+or_part P Q (Err refused) h = inr h
+
+pub or_shown : (P Q R : Type 0) (r : Result Told Refused) → OnErr r (P ⊎ Q) → OnErr r (P ⊎ Q ⊎ R)
+or_shown P Q R (Ok told) h = tt
+or_shown P Q R (Err refused) (inl h) = inl h
+or_shown P Q R (Err refused) (inr h) = inr (inl h)

@@ -15,9 +15,8 @@ use Rattle.rc_base.specs.declared.state.Fault.{Fault}
 use Rattle.rc_base.specs.declared.sync.Entry.{Entry}
 use Rattle.rc_base.specs.declared.sync.WaitAt.{WaitAt}
 use Rattle.rc_base.specs.declared.sync.Waiting.{Waiting}
-use Rattle.order_model.specs.Report.{fault_line, client_faults, fault_lines, count_lines, stuck_line, client_stuck, stuck_lines, is_stuck, short_report_of}
-use Rattle.render_core.specs.declared.due.Ending.TheVariants.{Complete, Stuck}
-use Rattle.render_core.specs.Due.{journal_of, default_ending}
+use Rattle.order_model.specs.Report.{fault_line, client_faults, fault_lines, count_lines, stuck_line, client_stuck, stuck_lines, is_stuck}
+use Rattle.render_core.specs.Due.{report_with}
 use Rattle.render_core.specs.Reports.{lines_of_faults, lines_of_stuck, AreOf}
 
 range_more : (a n : ℕ) → range_with_len a (n + 1) ≡ range_with_len a n ++ (a + n) ∷ []
@@ -87,14 +86,9 @@ module _ (scene : Scene) (faults : List (List (ℕ × Fault))) (journal : List E
       ap (λ (l : List ℕ). l ++ codes "rc: stuck\n") (waits ∙ ap (λ (n : ℕ). flat_map (client_stuck (sync_lists_of scene) journal) (range_with_len 0 n)) count)
       ∙ sym (ap (λ (b : Bool). flat_map (client_stuck (sync_lists_of scene) journal) (range_with_len 0 (client_count (sync_lists_of scene))) ++ (if b then codes "rc: stuck\n" else [])) stuck)
 
-  pub report_told : (waiting : Option Waiting) → AreOf scene faults journal waiting
-      → lines_of_faults faults ++ count_lines journal ++ lines_of_stuck waiting (length faults) ≡ short_report_of scene journal
-  unfolding short_report_of
-  report_told waiting are =
-      ap (λ (l : List ℕ). l ++ count_lines journal ++ lines_of_stuck waiting (length faults)) (faults_told are.clients are.faults_are)
-      ∙ ap (λ (l : List ℕ). fault_lines scene ++ count_lines journal ++ l) (stuck_told waiting are)
-
-pub ending_told : (scene : Scene) (waiting : Option Waiting) → (IsSome waiting ↔ (is_stuck (sync_lists_of scene) (journal_of scene) ≡ true))
-    → (if is_some waiting then Stuck else Complete) ≡ default_ending scene
-unfolding default_ending
-ending_told scene waiting h = ap (λ (b : Bool). if b then Stuck else Complete) (is_stuck_of scene (journal_of scene) waiting h)
+  pub report_told : (waiting : Option Waiting) → AreOf scene faults journal waiting → (told : List ℕ)
+      → lines_of_faults faults ++ count_lines journal ++ told ++ lines_of_stuck waiting (length faults) ≡ report_with told scene journal
+  unfolding report_with
+  report_told waiting are told =
+      ap (λ (l : List ℕ). l ++ count_lines journal ++ told ++ lines_of_stuck waiting (length faults)) (faults_told are.clients are.faults_are)
+      ∙ ap (λ (l : List ℕ). fault_lines scene ++ count_lines journal ++ told ++ l) (stuck_told waiting are)

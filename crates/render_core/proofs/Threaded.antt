@@ -1,4 +1,4 @@
--- Jobs whose actors are threads of their own.
+-- Jobs that start threads.
 use Rattle.std.proofs.Common.{◌≡◌, ◌≢◌, ℕ, ◌⊎◌, Bool, true, false, List, [], ◌∷◌, map, inl, inr, None, Some, refl, sym, ap, ◌∙◌, subst}
 use Rattle.std.specs.Prelude.{String, IfErr, IfOk, MatchResult, slice_get, string_bytes, unwrap_or, codes}
 use Rattle.std.specs.Global.{Global}
@@ -8,10 +8,10 @@ use Rattle.std.specs.declared.result.Result.{Result}
 use Rattle.std.specs.List.{flat_map, AllByRecursion}
 use Rattle.std.specs.Option.{option_or}
 use Rattle.rc_base.specs.Formats.Limits.{limit_of, size_limit}
-use Rattle.rc_base.specs.Outside.Ends.{Used, TookFront}
-use Rattle.rc_base.specs.Program.Words.{Setting, job_word, setting_words}
-use Rattle.rc_base.specs.declared.job.JobName.{JobName}
-use Rattle.rc_base.specs.declared.job.JobName.TheVariants as name
+use Rattle.rc_base.specs.Outside.Ends.{Used}
+use Rattle.command_line.specs.Words.{Setting, job_word, setting_words}
+use Rattle.command_line.specs.declared.job.JobName.{JobName}
+use Rattle.command_line.specs.declared.job.JobName.TheVariants as name
 use Rattle.rc_base.specs.declared.cluster.Tally.{Tally}
 use Rattle.rc_base.specs.declared.image.Image.{Image}
 use Rattle.rc_base.specs.declared.scene.Limit.{Limit}
@@ -30,11 +30,11 @@ use Rattle.run_record.specs.Told.{IsRun}
 use Rattle.render_core.specs.declared.job.Cluster.{Cluster}
 use Rattle.render_core.specs.declared.job.Form.TheVariants.{Bytes}
 use Rattle.render_core.specs.declared.job.Job.{Job}
-use Rattle.render_core.specs.declared.job.Job.TheVariants.{Render, Simulate, Serial, Check, Pack, Unpack, Gen, Demo}
+use Rattle.render_core.specs.declared.job.Job.TheVariants.{Render, Simulate, Serial, Last, Check, Race, Pack, Unpack, Gen, Demo}
 use Rattle.render_core.specs.declared.refusal.Refused.{Refused}
 use Rattle.render_core.specs.declared.writing.Told.{Told}
 use Rattle.render_core.specs.Due.{Outcome, IsRecorded, IsOutcome, ending_by, report_due}
-use Rattle.render_core.specs.Jobs.{IsJob, IsThreaded, cluster_limit, has_threads, job_in, layout_for, origin_of, threads_of, word_limit}
+use Rattle.render_core.specs.Jobs.{IsFor, IsJob, IsThreaded, Reads, ShowsNothing, cluster_limit, starts_threads, job_in, layout_for, origin_of, threads_of, word_limit}
 use Rattle.render_core.specs.Outcomes.{IsDue, PartlyShown, PartlyWritten}
 use Rattle.render_core.specs.Refusals.{refusal_status, Came, IsCaused, IsPerformed, IsToldOf, IsUntold, IsWell, IsWellRead}
 use Rattle.render_core.proofs.Judging.{has_scene}
@@ -49,31 +49,39 @@ first_word words job settings parts = ap (λ (ws : List (List ℕ)). slice_get w
 
 -- a job's first word tells whether it is one
 abbrev AreThreads : List ℕ → Type 0
-AreThreads word = (word ≡ job_word name.Render) ⊎ (word ≡ job_word name.Demo)
+AreThreads word = (word ≡ job_word name.Render) ⊎ ((word ≡ job_word name.Demo) ⊎ (word ≡ job_word name.Last))
 
-other_word : (w : List ℕ) → bytes_eq w (codes "render") ≡ false → bytes_eq w (codes "demo") ≡ false → AreThreads w → ⊥
-other_word w render demo (inl same) = let none : false ≡ true = sym render ∙ ap (λ (v : List ℕ). bytes_eq v (codes "render")) same in absurd cc
-other_word w render demo (inr same) = let none : false ≡ true = sym demo ∙ ap (λ (v : List ℕ). bytes_eq v (codes "demo")) same in absurd cc
+no_word : (w other : List ℕ) → bytes_eq w other ≡ false → bytes_eq other other ≡ true → w ≡ other → ⊥
+no_word w other differs own same = let none : false ≡ true = sym differs ∙ (ap (λ (v : List ℕ). bytes_eq v other) same ∙ own) in absurd cc
 
-told_by : (job_name : JobName) (settings : List Setting) → AreThreads (job_word job_name) → has_threads (job_in job_name settings) ≡ true
+other_word : (w : List ℕ) → bytes_eq w (codes "render") ≡ false → bytes_eq w (codes "demo") ≡ false → bytes_eq w (codes "last") ≡ false → AreThreads w → ⊥
+other_word w render demo last (inl same) = no_word w (codes "render") render refl same
+other_word w render demo last (inr (inl same)) = no_word w (codes "demo") demo refl same
+other_word w render demo last (inr (inr same)) = no_word w (codes "last") last refl same
+
+told_by : (job_name : JobName) (settings : List Setting) → AreThreads (job_word job_name) → starts_threads (job_in job_name settings) ≡ true
 told_by name.Render settings same = refl
-told_by name.Simulate settings same = absurd (other_word (codes "simulate") refl refl same)
-told_by name.Serial settings same = absurd (other_word (codes "serial") refl refl same)
-told_by name.Check settings same = absurd (other_word (codes "check") refl refl same)
-told_by name.Pack settings same = absurd (other_word (codes "pack") refl refl same)
-told_by name.Unpack settings same = absurd (other_word (codes "unpack") refl refl same)
-told_by name.Gen settings same = absurd (other_word (codes "gen") refl refl same)
+told_by name.Simulate settings same = absurd (other_word (codes "simulate") refl refl refl same)
+told_by name.Serial settings same = absurd (other_word (codes "serial") refl refl refl same)
+told_by name.Last settings same = refl
+told_by name.Check settings same = absurd (other_word (codes "check") refl refl refl same)
+told_by name.Race settings same = absurd (other_word (codes "race") refl refl refl same)
+told_by name.Pack settings same = absurd (other_word (codes "pack") refl refl refl same)
+told_by name.Unpack settings same = absurd (other_word (codes "unpack") refl refl refl same)
+told_by name.Gen settings same = absurd (other_word (codes "gen") refl refl refl same)
 told_by name.Demo settings same = refl
 
-tells : (job_name : JobName) (settings : List Setting) → has_threads (job_in job_name settings) ≡ true → AreThreads (job_word job_name)
+tells : (job_name : JobName) (settings : List Setting) → starts_threads (job_in job_name settings) ≡ true → AreThreads (job_word job_name)
 tells name.Render settings threads = inl refl
 tells name.Simulate settings threads = let none : false ≡ true = threads in absurd cc
 tells name.Serial settings threads = let none : false ≡ true = threads in absurd cc
+tells name.Last settings threads = inr (inr refl)
 tells name.Check settings threads = let none : false ≡ true = threads in absurd cc
+tells name.Race settings threads = let none : false ≡ true = threads in absurd cc
 tells name.Pack settings threads = let none : false ≡ true = threads in absurd cc
 tells name.Unpack settings threads = let none : false ≡ true = threads in absurd cc
 tells name.Gen settings threads = let none : false ≡ true = threads in absurd cc
-tells name.Demo settings threads = inr refl
+tells name.Demo settings threads = inr (inl refl)
 
 module _ (words : List (String Global)) (job : Job) (is : IsJob words job) where
   first : slice_get (map string_bytes words) 0 ≡ Some (job_word is.name)
@@ -82,20 +90,41 @@ module _ (words : List (String Global)) (job : Job) (is : IsJob words job) where
   by_word : (word : List ℕ) → slice_get (map string_bytes words) 0 ≡ Some word → job_word is.name ≡ word
   by_word word named = ap (λ (o : Option (List ℕ)). unwrap_or o []) (sym first ∙ named)
 
-  pub threaded : IsThreaded words → has_threads job ≡ true
+  pub threaded : IsThreaded words → starts_threads job ≡ true
   threaded named =
-      subst (λ (j : Job). has_threads j ≡ true) is.asked
-      (told_by is.name is.settings (elim named [ inl render ↦ inl (by_word (job_word name.Render) render) | inr demo ↦ inr (by_word (job_word name.Demo) demo) ]))
+      subst (λ (j : Job). starts_threads j ≡ true) is.asked
+      (told_by is.name is.settings (elim named [
+        | inl render ↦ inl (by_word (job_word name.Render) render)
+        | inr (inl demo) ↦ inr (inl (by_word (job_word name.Demo) demo))
+        | inr (inr last) ↦ inr (inr (by_word (job_word name.Last) last))
+      ]))
 
-  pub alone : (IsThreaded words → ⊥) → has_threads job ≡ false
-  alone other = go (has_threads job) refl where
+  pub alone : (IsThreaded words → ⊥) → starts_threads job ≡ false
+  alone other = go (starts_threads job) refl where
     named : AreThreads (job_word is.name) → IsThreaded words
     named (inl render) = inl (first ∙ ap (λ (w : List ℕ). Some w) render)
-    named (inr demo) = inr (first ∙ ap (λ (w : List ℕ). Some w) demo)
+    named (inr (inl demo)) = inr (inl (first ∙ ap (λ (w : List ℕ). Some w) demo))
+    named (inr (inr last)) = inr (inr (first ∙ ap (λ (w : List ℕ). Some w) last))
 
-    go : (b : Bool) → has_threads job ≡ b → b ≡ false
-    go true e = absurd (other (named (tells is.name is.settings (ap has_threads is.asked ∙ e))))
+    go : (b : Bool) → starts_threads job ≡ b → b ≡ false
+    go true e = absurd (other (named (tells is.name is.settings (ap starts_threads is.asked ∙ e))))
     go false e = refl
+
+pub reads_last : Reads Last
+reads_last = (Bytes, refl)
+
+-- one without a cluster draws clients apart
+pub draws_apart : (job : Job) → starts_threads job ≡ true → threads_of job ≡ None → job ≡ Last
+draws_apart (Render cluster) threads none = absurd cc
+draws_apart (Simulate seed cluster) threads none = let no_threads : false ≡ true = threads in absurd cc
+draws_apart Serial threads none = let no_threads : false ≡ true = threads in absurd cc
+draws_apart Last threads none = refl
+draws_apart Check threads none = let no_threads : false ≡ true = threads in absurd cc
+draws_apart Race threads none = let no_threads : false ≡ true = threads in absurd cc
+draws_apart Pack threads none = let no_threads : false ≡ true = threads in absurd cc
+draws_apart Unpack threads none = let no_threads : false ≡ true = threads in absurd cc
+draws_apart (Gen seed size) threads none = let no_threads : false ≡ true = threads in absurd cc
+draws_apart (Demo seed size cluster) threads none = absurd cc
 
 -- ---- their limits, and what is due
 
@@ -108,7 +137,9 @@ pub words_past : (job : Job) (cluster : Cluster) (scene : Scene) (limit : Limit)
 words_past (Render own) cluster scene limit e past = ap (λ (c : Cluster). cluster_limit c scene) (the_cluster own cluster e) ∙ past
 words_past (Simulate seed own) cluster scene limit e past = absurd cc
 words_past Serial cluster scene limit e past = absurd cc
+words_past Last cluster scene limit e past = absurd cc
 words_past Check cluster scene limit e past = absurd cc
+words_past Race cluster scene limit e past = absurd cc
 words_past Pack cluster scene limit e past = absurd cc
 words_past Unpack cluster scene limit e past = absurd cc
 words_past (Gen seed size) cluster scene limit e past = absurd cc
@@ -121,7 +152,9 @@ pub words_asked : (job : Job) (cluster : Cluster) (scene : Scene) → threads_of
 words_asked (Render own) cluster scene e well asked = ap (λ (c : Cluster). cluster_limit c scene) (the_cluster own cluster e) ∙ asked
 words_asked (Simulate seed own) cluster scene e well asked = absurd cc
 words_asked Serial cluster scene e well asked = absurd cc
+words_asked Last cluster scene e well asked = absurd cc
 words_asked Check cluster scene e well asked = absurd cc
+words_asked Race cluster scene e well asked = absurd cc
 words_asked Pack cluster scene e well asked = absurd cc
 words_asked Unpack cluster scene e well asked = absurd cc
 words_asked (Gen seed size) cluster scene e well asked = absurd cc
@@ -133,18 +166,48 @@ pub read_or_made : (job : Job) (cluster : Cluster) (scene : Scene) → threads_o
 read_or_made (Render own) cluster scene e well = well
 read_or_made (Simulate seed own) cluster scene e well = absurd cc
 read_or_made Serial cluster scene e well = absurd cc
+read_or_made Last cluster scene e well = absurd cc
 read_or_made Check cluster scene e well = absurd cc
+read_or_made Race cluster scene e well = absurd cc
 read_or_made Pack cluster scene e well = absurd cc
 read_or_made Unpack cluster scene e well = absurd cc
 read_or_made (Gen seed size) cluster scene e well = absurd cc
 read_or_made (Demo seed size own) cluster scene e well = well.of_bytes
+
+-- its frames are shown
+pub shows_frames : (job : Job) (cluster : Cluster) → threads_of job ≡ Some cluster → ShowsNothing job → ⊥
+shows_frames (Render own) cluster e shows = shows
+shows_frames (Simulate seed own) cluster e shows = shows
+shows_frames Serial cluster e shows = shows
+shows_frames Last cluster e shows = shows
+shows_frames Check cluster e shows = absurd cc
+shows_frames Race cluster e shows = absurd cc
+shows_frames Pack cluster e shows = shows
+shows_frames Unpack cluster e shows = shows
+shows_frames (Gen seed size) cluster e shows = shows
+shows_frames (Demo seed size own) cluster e shows = shows
+
+-- it is for every scene
+threads_suit : (job : Job) (cluster : Cluster) (scene : Scene) → threads_of job ≡ Some cluster → IsFor job scene
+threads_suit (Render own) cluster scene e = tt
+threads_suit (Simulate seed own) cluster scene e = tt
+threads_suit Serial cluster scene e = tt
+threads_suit Last cluster scene e = absurd cc
+threads_suit Check cluster scene e = tt
+threads_suit Race cluster scene e = tt
+threads_suit Pack cluster scene e = tt
+threads_suit Unpack cluster scene e = tt
+threads_suit (Gen seed size) cluster scene e = tt
+threads_suit (Demo seed size own) cluster scene e = tt
 
 outcome_is : (job : Job) (cluster : Cluster) (scene : Scene) (o : Outcome) → threads_of job ≡ Some cluster → IsRecorded cluster scene o → IsOutcome job scene o
 unfolding IsOutcome
 outcome_is (Render own) cluster scene o e is = subst (λ (c : Cluster). IsRecorded c scene o) (sym (the_cluster own cluster e)) is
 outcome_is (Simulate seed own) cluster scene o e is = absurd cc
 outcome_is Serial cluster scene o e is = absurd cc
+outcome_is Last cluster scene o e is = absurd cc
 outcome_is Check cluster scene o e is = absurd cc
+outcome_is Race cluster scene o e is = absurd cc
 outcome_is Pack cluster scene o e is = absurd cc
 outcome_is Unpack cluster scene o e is = absurd cc
 outcome_is (Gen seed size) cluster scene o e is = absurd cc
@@ -158,7 +221,7 @@ module _ (job : Job) (cluster : Cluster) (source image : Used) (scene : Scene) (
   due_by : (kept : Record) → IsRecordOf scene l kept → IsDue job source (outcome_by cluster scene kept)
   due_by kept lawful = record {
     scene = scene;
-    has = has_scene job source scene came (words_asked job cluster scene threads well asked);
+    has = has_scene job source scene came (words_asked job cluster scene threads well asked) (threads_suit job cluster scene threads);
     due = outcome_is job cluster scene (outcome_by cluster scene kept) threads
         (recorded_by cluster scene formed permits within kept (subst (λ (t : Layout). IsRecordOf scene t kept) tiles lawful));
   }
@@ -169,7 +232,7 @@ module _ (job : Job) (cluster : Cluster) (source image : Used) (scene : Scene) (
     cluster = cluster;
     threads = threads;
     scene = scene;
-    has = has_scene job source scene came (words_asked job cluster scene threads well asked);
+    has = has_scene job source scene came (words_asked job cluster scene threads well asked) (threads_suit job cluster scene threads);
     images = gave.images;
     sides = subst (λ (t : Layout). AllByRecursion (λ (m : Image). (m.width ≡ t.width) × (m.height ≡ t.height)) gave.images) tiles gave.sides;
     front = gave.front;

@@ -1,11 +1,12 @@
 -- What is due for a scene, job by job.
-use Rattle.std.specs.Prelude.{◌≡◌, ℕ, ◌<◌, Bool, false, List, [], Option, Some, None, if◌then◌else◌}
+use Rattle.std.specs.Prelude.{◌≡◌, ℕ, ◌<◌, ◌++◌, Bool, false, List, [], Option, Some, None, if◌then◌else◌}
 use Rattle.rc_base.specs.Cluster.Tiles.{tile_count}
 use Rattle.rc_base.specs.Drawing.Images.{frame_images}
 use Rattle.rc_base.specs.Formats.Netpbm.{p6_texts}
 use Rattle.rc_base.specs.Formats.Spelling.{SpellsScene}
 use Rattle.rc_base.specs.Formats.Text.Printed.{printed}
 use Rattle.rc_base.specs.Formats.Text.Read.{SpellsText}
+use Rattle.rc_base.specs.Orders.Footprints.{footprint_of}
 use Rattle.rc_base.specs.Orders.Order.{IsPermitted, default_journal, default_order}
 use Rattle.rc_base.specs.Orders.Sync.{sync_lists_of}
 use Rattle.rc_base.specs.Program.Generator.{picks_of}
@@ -13,20 +14,24 @@ use Rattle.rc_base.specs.declared.image.Image.{Image}
 use Rattle.rc_base.specs.declared.scene.Scene.{Scene}
 use Rattle.rc_base.specs.declared.sync.Entry.{Entry}
 use Rattle.rc_base.specs.declared.window.Layout.{Layout}
-use Rattle.order_model.specs.Report.{frame_count, image_text_of, is_stuck, report_text_of, short_report_of, tile_order}
+use Rattle.order_model.specs.Report.{count_lines, fault_lines, frame_count, image_text_of, is_stuck, report_text_of, short_report_of, stuck_lines, tile_order}
 use Rattle.order_model.specs.Sent.{IsRecordOf}
 use Rattle.order_model.specs.declared.record.Record.{Record}
+use Rattle.race_check.specs.Races.{IsVerdict}
+use Rattle.race_check.specs.declared.verdict.Verdict.{Verdict}
+use Rattle.race_check.specs.declared.verdict.Verdict.TheVariants as verdict
 use Rattle.scene_file.specs.Written.{written}
 use Rattle.world_model.specs.Laws.{IsRecordIn}
 use Rattle.world_model.specs.declared.moves.Move.{Move}
 use Rattle.world_model.specs.Runs.{IsFinishedRun}
 use Rattle.world_model.specs.World.{World}
 use Rattle.render_core.specs.Jobs.{layout_for, actors_for}
+use Rattle.render_core.specs.Lines.{race_line}
 use Rattle.render_core.specs.declared.due.Ending.{Ending}
-use Rattle.render_core.specs.declared.due.Ending.TheVariants.{Complete, Stuck}
+use Rattle.render_core.specs.declared.due.Ending.TheVariants.{Complete, Stuck, RaceFound}
 use Rattle.render_core.specs.declared.job.Cluster.{Cluster}
 use Rattle.render_core.specs.declared.job.Job.{Job}
-use Rattle.render_core.specs.declared.job.Job.TheVariants.{Render, Simulate, Serial, Check, Pack, Unpack, Gen, Demo}
+use Rattle.render_core.specs.declared.job.Job.TheVariants.{Render, Simulate, Serial, Last, Check, Race, Pack, Unpack, Gen, Demo}
 
 -- bytes to the image, bytes to the notes, how the run ends that writes them, and of a cluster the record that is kept
 pub record Outcome : Type 0 where
@@ -39,6 +44,7 @@ pub record Outcome : Type 0 where
 abbrev pub ending_status : Ending → ℕ
 ending_status Complete = 0
 ending_status Stuck = 5
+ending_status RaceFound = 11
 
 -- stuck exactly where the journal leaves a client waiting
 abbrev pub ending_by : Scene → List Entry → Ending
@@ -93,6 +99,43 @@ default_frames scene = frame_images scene (default_order (sync_lists_of scene) (
 unfoldable pub default_ending : Scene → Ending
 default_ending scene = ending_by scene (journal_of scene)
 
+-- these frames, and the short report by the default journal
+abbrev pub drawn_in_order : Scene → Outcome
+drawn_in_order scene =
+    record { image = p6_texts (default_frames scene); notes = short_report_of scene (journal_of scene); ending = default_ending scene; kept = None }
+
+-- the short report by a journal, with these lines before those of who waits
+unfoldable pub report_with : List ℕ → Scene → List Entry → List ℕ
+report_with told scene journal = fault_lines scene ++ count_lines journal ++ told ++ stuck_lines (sync_lists_of scene) journal
+
+-- ---- of what synchronisation orders
+
+-- of every two conflicting commands one is before the other, or these are the first of the default order that race
+abbrev pub IsVerdictOn : Scene → Verdict → Type 0
+IsVerdictOn scene v =
+    IsVerdict (sync_lists_of scene) (journal_of scene) (default_order (sync_lists_of scene) (journal_of scene)) (footprint_of scene) v
+
+-- where nobody waits, a race is what is found
+abbrev pub found_by : Verdict → Ending
+found_by verdict.Ordered = Complete
+found_by (verdict.Race first second spot) = RaceFound
+
+abbrev pub race_ending : Scene → Verdict → Ending
+race_ending scene v = if is_stuck (sync_lists_of scene) (journal_of scene) then Stuck else found_by v
+
+-- what is due by a verdict: nothing for the image, and the verdict in the short report
+abbrev pub raced : Scene → Verdict → Outcome
+raced scene v =
+    record { image = []; notes = report_with (race_line v) scene (journal_of scene); ending = race_ending scene v; kept = None }
+
+-- what is due where it is asked which commands race
+pub record IsRaced (scene : Scene) (o : Outcome) : Type 0 where
+  pub told : Verdict
+  pub is : IsVerdictOn scene told
+  pub due : o ≡ raced scene told
+
+-- ---- of formats
+
 -- the scene's bytes, which spell it, and nothing for the notes
 abbrev pub IsPacked : Scene → Outcome → Type 0
 IsPacked scene o = (o ≡ record { image = written scene; notes = []; ending = Complete; kept = None }) × SpellsScene o.image scene
@@ -103,9 +146,10 @@ IsPacked scene o = (o ≡ record { image = written scene; notes = []; ending = C
 unfoldable pub IsOutcome : Job → Scene → Outcome → Type 0
 IsOutcome (Render cluster) scene o = IsRecorded cluster scene o
 IsOutcome (Simulate seed cluster) scene o = IsStepped cluster (seeded_picks seed cluster scene) scene o
-IsOutcome Serial scene o =
-    o ≡ record { image = p6_texts (default_frames scene); notes = short_report_of scene (journal_of scene); ending = default_ending scene; kept = None }
+IsOutcome Serial scene o = o ≡ drawn_in_order scene
+IsOutcome Last scene o = o ≡ drawn_in_order scene
 IsOutcome Check scene o = o ≡ record { image = []; notes = short_report_of scene (journal_of scene); ending = default_ending scene; kept = None }
+IsOutcome Race scene o = IsRaced scene o
 IsOutcome Pack scene o = IsPacked scene o
 IsOutcome Unpack scene o = (o ≡ record { image = printed scene; notes = []; ending = Complete; kept = None }) × SpellsText o.image scene
 IsOutcome (Gen seed size) scene o = IsPacked scene o

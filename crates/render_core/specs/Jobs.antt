@@ -1,24 +1,26 @@
 -- The jobs of the program: the words that name them, where their scenes come from, and what limits them.
-use Rattle.std.specs.Prelude.{◌≡◌, ℕ, ◌+◌, ◌≤◌, ◌⊎◌, Bool, List, [], Option, Some, None, is_some, length, map, slice_get, string_bytes}
+use Rattle.std.specs.Prelude.{◌≡◌, ℕ, ◌+◌, ◌≤◌, ◌⊎◌, Bool, true, List, [], Option, Some, None, is_some, length, map, slice_get, string_bytes}
 use Rattle.std.specs.Option.{option_or}
 use Rattle.std.specs.declared.string.String.{String}
 use Rattle.std.specs.Global.{Global}
 use Rattle.rc_base.specs.declared.scene.Limit.{Limit}
 use Rattle.rc_base.specs.declared.scene.Scene.{Scene}
+use Rattle.rc_base.specs.declared.sync.Name.{Name}
 use Rattle.rc_base.specs.declared.window.Layout.{Layout}
 use Rattle.rc_base.specs.Formats.Limits.{Quantity, layout_quantities, first_outside, held_limit, limit_of, size_limit}
 use Rattle.rc_base.specs.Formats.Spelling.{SpellsScene}
 use Rattle.rc_base.specs.Formats.Text.Read.{SpellsText}
 use Rattle.rc_base.specs.Cluster.Tiles.{tile_count}
 use Rattle.rc_base.specs.Outside.Transfer.{byte_limit}
-use Rattle.rc_base.specs.declared.job.JobName.{JobName}
-use Rattle.rc_base.specs.Program.Words.{Setting, IsCommandLine, job_word, tiles_in, depth_in, order_in, seed_in, size_in}
-use Rattle.rc_base.specs.declared.job.JobName.TheVariants.{Render as render_name, Simulate as simulate_name, Serial as serial_name, Check as check_name, Pack as pack_name, Unpack as unpack_name, Gen as gen_name, Demo as demo_name}
+use Rattle.command_line.specs.declared.job.JobName.{JobName}
+use Rattle.command_line.specs.Words.{Setting, IsCommandLine, job_word, tiles_in, depth_in, order_in, seed_in, size_in}
+use Rattle.command_line.specs.declared.job.JobName.TheVariants.{Render as render_name, Simulate as simulate_name, Serial as serial_name, Last as last_name, Check as check_name, Race as race_name, Pack as pack_name, Unpack as unpack_name, Gen as gen_name, Demo as demo_name}
 use Rattle.rc_base.specs.Outside.Ends.{Used, Failed, TookInput}
 use Rattle.rc_base.specs.Program.Generator.{generated_scene}
+use Rattle.sort_last.specs.Offends.{IsComposable, IsFirstOffence}
 use Rattle.render_core.specs.declared.job.Cluster.{Cluster}
 use Rattle.render_core.specs.declared.job.Job.{Job}
-use Rattle.render_core.specs.declared.job.Job.TheVariants.{Render, Simulate, Serial, Check, Pack, Unpack, Gen, Demo}
+use Rattle.render_core.specs.declared.job.Job.TheVariants.{Render, Simulate, Serial, Last, Check, Race, Pack, Unpack, Gen, Demo}
 use Rattle.render_core.specs.declared.job.Form.{Form}
 use Rattle.render_core.specs.declared.job.Form.TheVariants.{Bytes, Text}
 use Rattle.render_core.specs.declared.job.Origin.{Origin}
@@ -36,7 +38,9 @@ abbrev pub job_in : JobName → List Setting → Job
 job_in render_name settings = Render (cluster_in settings)
 job_in simulate_name settings = Simulate (seed_in settings) (cluster_in settings)
 job_in serial_name settings = Serial
+job_in last_name settings = Last
 job_in check_name settings = Check
+job_in race_name settings = Race
 job_in pack_name settings = Pack
 job_in unpack_name settings = Unpack
 job_in gen_name settings = Gen (seed_in settings) (size_in settings)
@@ -74,10 +78,22 @@ threads_of _ = None
 abbrev pub has_threads : Job → Bool
 has_threads job = is_some (threads_of job)
 
--- the first word is that of such a job
+-- it starts threads: those of such a cluster, or those that draw its clients apart
+abbrev pub starts_threads : Job → Bool
+starts_threads Last = true
+starts_threads job = has_threads job
+
+-- the first word is that of a job that starts threads
 abbrev pub IsThreaded : List (String Global) → Type 0
 IsThreaded words =
-    (slice_get (map string_bytes words) 0 ≡ Some (job_word render_name)) ⊎ (slice_get (map string_bytes words) 0 ≡ Some (job_word demo_name))
+    (slice_get (map string_bytes words) 0 ≡ Some (job_word render_name))
+    ⊎ ((slice_get (map string_bytes words) 0 ≡ Some (job_word demo_name)) ⊎ (slice_get (map string_bytes words) 0 ≡ Some (job_word last_name)))
+
+-- nothing is due to its image
+abbrev pub ShowsNothing : Job → Type 0
+ShowsNothing Check = Unit {0}
+ShowsNothing Race = Unit {0}
+ShowsNothing _ = ⊥
 
 -- ---- where a job's scene comes from
 
@@ -86,7 +102,9 @@ abbrev pub origin_of : Job → Origin
 origin_of (Render cluster) = Read Bytes
 origin_of (Simulate seed cluster) = Read Bytes
 origin_of Serial = Read Bytes
+origin_of Last = Read Bytes
 origin_of Check = Read Bytes
+origin_of Race = Read Bytes
 origin_of Pack = Read Text
 origin_of Unpack = Read Bytes
 origin_of (Gen seed size) = Generated seed size
@@ -157,19 +175,33 @@ with_rounds (Generated seed size) first = option_or first (size_limit size)
 abbrev pub word_limit : Job → Scene → Option Limit
 word_limit (Simulate seed cluster) scene = option_or (cluster_limit cluster scene) (held_limit scene)
 word_limit Serial scene = held_limit scene
+word_limit Last scene = held_limit scene
 word_limit job scene = with_rounds (origin_of job) (tile_limit (cluster_of job) scene)
 
 -- the first quantity outside its range of all that are judged for the job: the scene's, and then the words'
 abbrev pub limit_for : Job → Scene → Option Limit
 limit_for job scene = option_or (scene_limit (origin_of job) scene) (word_limit job scene)
 
+-- ---- the scenes that a job is for
+
+-- the job is for the scene: where clients are drawn apart none of their commands may keep them from that
+abbrev pub IsFor : Job → Scene → Type 0
+IsFor Last scene = IsComposable scene
+IsFor _ scene = Unit {0}
+
+-- it isn't, and this is the first command that keeps the scene's clients from being drawn apart
+abbrev pub IsNotFor : Job → Scene → Name → Type 0
+IsNotFor Last scene name = IsFirstOffence scene name
+IsNotFor _ scene name = ⊥
+
 -- ---- the scene of a run
 
--- the input gives this scene, and no quantity is outside its range
+-- the input gives this scene, no quantity is outside its range, and the job is for it
 pub record IsInput (job : Job) (input : List ℕ) (scene : Scene) : Type 0 where
   pub short : length input ≤ byte_limit
   pub gives : Gives (origin_of job) input scene
   pub within : limit_for job scene ≡ None
+  pub suits : IsFor job scene
 
 -- the job's scene came from the source
 pub record HasScene (job : Job) (source : Used) (scene : Scene) : Type 0 where

@@ -12,7 +12,7 @@ use Rattle.order_model.specs.Sent.{IsRecordOf}
 use Rattle.order_model.specs.declared.record.Record.{Record}
 use Rattle.render_core.specs.declared.job.Cluster.{Cluster}
 use Rattle.render_core.specs.declared.job.Job.{Job}
-use Rattle.render_core.specs.declared.due.Ending.TheVariants.{Complete, Stuck}
+use Rattle.render_core.specs.declared.due.Ending.TheVariants.{Complete, Stuck, RaceFound}
 use Rattle.render_core.specs.Due.{Outcome, IsOutcome}
 use Rattle.render_core.specs.Findings.{Finding, IsFinding, refused_with}
 use Rattle.render_core.specs.Jobs.{ForJob, IsInput, IsJob, Reads, Takes, cluster_of, has_threads, layout_for, origin_of}
@@ -46,11 +46,13 @@ OrderedRecordsShowOneImage =
 pub data FirstRefusal (job : Job) (source image notes : Used) (status : ℕ) (kept : Option Record) : Type 0 where
   -- the source failed
   Unread : status ≡ 2 → Reads job → Failed source → FirstRefusal job source image notes status kept
-  -- it was read, and what was taken of it is refused: 3 or 4
+  -- it was read, and what was taken of it is refused: 3, 4 or 12
   Unfit : (input : List ℕ) (finding : Finding) → Takes (origin_of job) source input → IsFinding job input finding → refused_with finding ≡ Some status
       → FirstRefusal job source image notes status kept
   -- a client of the scene waits for ever, whatever became of image and notes
   Waiting : status ≡ 5 → (o : Outcome) → IsDue job source o → o.ending ≡ Stuck → kept ≡ o.kept → FirstRefusal job source image notes status kept
+  -- nobody waits, and two commands race, whatever became of the notes
+  Racing : status ≡ 11 → (o : Outcome) → IsDue job source o → o.ending ≡ RaceFound → kept ≡ o.kept → FirstRefusal job source image notes status kept
   -- nobody waits, and the image failed, whatever became of the notes
   Unwritten : status ≡ 6 → (o : Outcome) → IsDue job source o → o.ending ≡ Complete → kept ≡ o.kept → Failed image
       → FirstRefusal job source image notes status kept

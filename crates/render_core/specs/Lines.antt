@@ -1,11 +1,17 @@
 -- The lines of the notes.
-use Rattle.std.specs.Prelude.{ℕ, List, ◌++◌, codes}
+use Rattle.std.specs.Prelude.{ℕ, List, [], ◌∷◌, ◌++◌, codes}
 use Rattle.std.specs.Fmt.{decimal}
 use Rattle.rc_base.specs.Formats.Limits.{limit_name}
 use Rattle.rc_base.specs.declared.scene.SceneKind.{SceneKind}
 use Rattle.rc_base.specs.declared.scene.SceneKind.TheVariants as scene_kind
 use Rattle.rc_base.specs.declared.scene.TextKind.{TextKind}
 use Rattle.rc_base.specs.declared.scene.TextKind.TheVariants as text_kind
+use Rattle.rc_base.specs.declared.sync.Name.{Name}
+use Rattle.order_model.specs.Report.{joined_line}
+use Rattle.race_check.specs.declared.verdict.Spot.{Spot}
+use Rattle.race_check.specs.declared.verdict.Spot.TheVariants.{Pixel, Shared}
+use Rattle.race_check.specs.declared.verdict.Verdict.{Verdict}
+use Rattle.race_check.specs.declared.verdict.Verdict.TheVariants.{Ordered, Race}
 
 -- what bytes have that spell no scene
 abbrev pub scene_kind_name : SceneKind → List ℕ
@@ -33,6 +39,10 @@ malformed_line kind at = codes "rc: malformed " ++ (kind ++ (codes " at " ++ (de
 unfoldable pub limit_line : ℕ → ℕ → List ℕ
 limit_line what value = codes "rc: limit " ++ (limit_name what ++ (codes " " ++ (decimal value ++ codes "\n")))
 
+-- the first command that keeps a scene's clients from being drawn apart, by its client and its place
+unfoldable pub not_last_line : Name → List ℕ
+not_last_line name = codes "rc: not for last " ++ (decimal name.client ++ (codes " " ++ (decimal name.place ++ codes "\n")))
+
 -- how many bytes the image took before it failed
 unfoldable pub image_fault_line : ℕ → List ℕ
 image_fault_line done = codes "rc: image fault after " ++ (decimal done ++ codes " bytes\n")
@@ -48,3 +58,15 @@ read_fault_line = codes "rc: read fault\n"
 -- there was no memory
 unfoldable pub memory_line : List ℕ
 memory_line = codes "rc: out of memory\n"
+
+-- where two commands touch the same
+abbrev pub spot_text : Spot → List ℕ
+spot_text (Pixel x y) = codes "pixel " ++ (decimal x ++ (codes " " ++ decimal y))
+spot_text (Shared texture) = codes "shared " ++ decimal texture
+
+-- the two commands that race, by their clients and their places, and where
+abbrev pub race_line : Verdict → List ℕ
+race_line Ordered = codes "race none\n"
+race_line (Race first second spot) = joined_line
+    (codes "race " ∷ decimal first.client ∷ codes " " ∷ decimal first.place ∷ codes " " ∷ decimal second.client ∷ codes " " ∷ decimal second.place
+    ∷ codes " " ∷ spot_text spot ∷ [])

@@ -16,11 +16,12 @@ use Rattle.order_model.specs.Sent.{IsRecordOf}
 use Rattle.order_model.specs.declared.record.Record.{Record}
 use Rattle.render_core.specs.declared.job.Cluster.{Cluster}
 use Rattle.render_core.specs.declared.job.Job.{Job}
-use Rattle.render_core.specs.declared.due.Ending.TheVariants.{Complete, Stuck as EndsStuck}
+use Rattle.render_core.specs.declared.due.Ending.{Ending}
+use Rattle.render_core.specs.declared.due.Ending.TheVariants.{Complete, Stuck as EndsStuck, RaceFound as EndsRaceFound}
 use Rattle.render_core.specs.Due.{Outcome, IsOutcome, default_frames, ending_status}
 use Rattle.rc_base.specs.Outside.Ends.{Used, Failed, IsCalm, Took, TookFront, Noted}
 use Rattle.rc_base.specs.declared.image.Image.{Image}
-use Rattle.render_core.specs.Findings.{Finding, Long, Malformed, Outside, Sound, IsFinding, Judged, refused_with}
+use Rattle.render_core.specs.Findings.{Finding, Long, Malformed, Outside, Unsuited, Sound, IsFinding, Judged, refused_with}
 use Rattle.render_core.specs.Jobs.{Holds, IsJob, ForJob, HasScene, Reads, cluster_of, layout_for, origin_of, threads_of}
 use Rattle.render_core.specs.Lines.{image_fault_line, usage_line, read_fault_line, memory_line}
 
@@ -91,11 +92,12 @@ pub record IsUnnoted (job : Job) (source image notes : Used) (kept : Option Reco
   pub told : Took notes (take done o.notes)
   pub kept_is : kept ≡ o.kept
 
--- a client of its scene waits for ever: the image was given what is due, or a front of it where it failed, and the notes the report
-pub record IsStuck (job : Job) (source image notes : Used) (kept : Option Record) : Type 0 where
+-- It is carried out, and ends otherwise than complete: a client of its scene waits for ever, or a race was found. The image was given what is due, or
+-- a front of it where it failed, and the notes the report.
+pub record IsReported (ending : Ending) (job : Job) (source image notes : Used) (kept : Option Record) : Type 0 where
   pub o : Outcome
   pub due : IsDue job source o
-  pub stuck : o.ending ≡ EndsStuck
+  pub ends : o.ending ≡ ending
   pub lines : List ℕ
   pub sent : Sent image o lines
   pub noted : Noted notes lines
@@ -105,7 +107,7 @@ pub record IsStuck (job : Job) (source image notes : Used) (kept : Option Record
 pub data Cause (job : Job) (source image : Used) (status : ℕ) (line : List ℕ) (kept : Option Record) : Type 0 where
   -- the source failed, which the job reads
   SourceFailed : Reads job → status ≡ 2 → line ≡ read_fault_line → Failed source → kept ≡ None → Cause job source image status line kept
-  -- the input spells no scene, or input, scene or words have something outside the limits: 3 or 4
+  -- the input spells no scene; input, scene or words have something outside the limits; or the job isn't for the scene: 3, 4 or 12
   InputRefused : Judged job source status line → kept ≡ None → Cause job source image status line kept
   -- the image failed before it had taken all that is due
   ImageFailed : status ≡ 6 → (o : Outcome) → IsDue job source o → o.ending ≡ Complete → CutOff image o [] line → kept ≡ o.kept
@@ -123,11 +125,12 @@ pub record IsRefused (job : Job) (source image notes : Used) (status : ℕ) (kep
 pub data Ran (words : List (String Global)) (source image notes : Used) (status : ℕ) (kept : Option Record) : Type 0 where
   -- the words are no job
   Usage : status ≡ 1 → ((job : Job) → IsJob words job → ⊥) → Noted notes usage_line → kept ≡ None → Ran words source image notes status kept
-  -- the job is done; done but for its notes; or a client waits for ever
+  -- the job is done; done but for its notes; a client waits for ever; or nobody waits, and a race was found
   Done : status ≡ 0 → ForJob words (λ job. IsDone job source image notes kept) → Ran words source image notes status kept
   NotesFailed : status ≡ 8 → ForJob words (λ job. IsUnnoted job source image notes kept) → Ran words source image notes status kept
-  Stuck : status ≡ 5 → ForJob words (λ job. IsStuck job source image notes kept) → Ran words source image notes status kept
-  -- the job is refused: 2, 3, 4 or 6, by its cause
+  Stuck : status ≡ 5 → ForJob words (λ job. IsReported EndsStuck job source image notes kept) → Ran words source image notes status kept
+  RaceFound : status ≡ 11 → ForJob words (λ job. IsReported EndsRaceFound job source image notes kept) → Ran words source image notes status kept
+  -- the job is refused: 2, 3, 4, 6 or 12, by its cause
   Refused : ForJob words (λ job. IsRefused job source image notes status kept) → Ran words source image notes status kept
   -- there was no memory
   NoMemory : status ≡ 7 → Noted notes memory_line → kept ≡ None → Ran words source image notes status kept
@@ -148,6 +151,7 @@ abbrev pub Answers : Job → Finding → Used → Used → ℕ → Option Record
 Answers job Long image notes status kept = status ≡ 4
 Answers job Malformed image notes status kept = status ≡ 3
 Answers job (Outside limit) image notes status kept = status ≡ 4
+Answers job (Unsuited name) image notes status kept = status ≡ 12
 Answers job (Sound scene) image notes status kept = IsWhole job scene image notes status kept
 
 -- Where the source tells its bytes and doesn't fail, what the job finds in them is answered, or there was no memory; of a job that makes its scene

@@ -1,5 +1,5 @@
 -- What the steps of a job leave: the refusals of each with their statuses and their lines, and what is due.
-use Rattle.std.specs.Prelude.{◌≡◌, ℕ, ◌<◌, ◌≤◌, ◌==◌, ◌⊎◌, true, false, List, ◌++◌, length, take, Option, Some, None, if◌then◌else◌}
+use Rattle.std.specs.Prelude.{◌≡◌, ◌≢◌, ℕ, ◌<◌, ◌≤◌, ◌==◌, ◌⊎◌, true, false, List, [], ◌++◌, length, take, Option, Some, None, if◌then◌else◌}
 use Rattle.rc_base.specs.Outside.Transfer.{byte_limit}
 use Rattle.order_model.specs.declared.record.Record.{Record}
 use Rattle.std.specs.List.{AllByRecursion}
@@ -14,6 +14,8 @@ use Rattle.rc_base.specs.declared.scene.Scene.{Scene}
 use Rattle.frame_out.specs.Writing.{AreWritable}
 use Rattle.frame_out.specs.declared.writing.Written.{Written}
 use Rattle.scene_file.specs.Written.{AreWhole}
+use Rattle.sort_last.specs.declared.last.LastFault.{LastFault}
+use Rattle.sort_last.specs.declared.last.LastFault.TheVariants as apart
 use Rattle.render_core.specs.declared.job.Job.{Job}
 use Rattle.render_core.specs.declared.job.Form.{Form}
 use Rattle.render_core.specs.declared.job.Form.TheVariants.{Bytes, Text}
@@ -23,7 +25,7 @@ use Rattle.render_core.specs.declared.due.DueImage.TheVariants.{Frames, OneText}
 use Rattle.render_core.specs.declared.due.DueRefusal.{DueRefusal}
 use Rattle.render_core.specs.declared.due.DueRefusal.TheVariants as undue
 use Rattle.render_core.specs.declared.due.Ending.{Ending}
-use Rattle.render_core.specs.declared.due.Ending.TheVariants.{Complete, Stuck}
+use Rattle.render_core.specs.declared.due.Ending.TheVariants.{Complete, Stuck, RaceFound}
 use Rattle.render_core.specs.declared.refusal.InputRefusal.{InputRefusal}
 use Rattle.render_core.specs.declared.refusal.InputRefusal.TheVariants as judging
 use Rattle.render_core.specs.declared.refusal.ImageRefusal.{ImageRefusal}
@@ -37,8 +39,8 @@ use Rattle.render_core.specs.declared.job.Origin.TheVariants.{Read, Generated}
 use Rattle.render_core.specs.Due.{Outcome}
 use Rattle.rc_base.specs.Outside.Ends.{Used, Failed, IsCalm, Took, Noted}
 use Rattle.render_core.specs.Findings.{IsJudged}
-use Rattle.render_core.specs.Jobs.{origin_of, scene_limit, word_limit, Spells, Gives, Takes}
-use Rattle.render_core.specs.Lines.{scene_kind_name, text_kind_name, malformed_line, limit_line, image_fault_line, read_fault_line, memory_line}
+use Rattle.render_core.specs.Jobs.{origin_of, scene_limit, word_limit, Spells, Gives, Takes, IsNotFor}
+use Rattle.render_core.specs.Lines.{scene_kind_name, text_kind_name, malformed_line, limit_line, not_last_line, image_fault_line, read_fault_line, memory_line}
 use Rattle.render_core.specs.Outcomes.{Sent, IsDue, Cause}
 
 -- ---- statuses and lines
@@ -75,10 +77,12 @@ image_line writing.OutOfMemory = memory_line
 
 abbrev pub due_status : DueRefusal → ℕ
 due_status (undue.PastLimit limit) = 4
+due_status (undue.NotLast name) = 12
 due_status undue.OutOfMemory = 7
 
 abbrev pub due_line : DueRefusal → List ℕ
 due_line (undue.PastLimit limit) = limit_line limit.what limit.value
+due_line (undue.NotLast name) = not_last_line name
 due_line undue.OutOfMemory = memory_line
 
 -- the status of a refusal
@@ -145,20 +149,31 @@ abbrev pub IsWritable : DueImage → Type 0
 IsWritable (Frames images) = AreWritable images
 IsWritable (OneText bytes) = Unit {0}
 
+-- nothing is due to the image
+abbrev pub IsBlank : DueImage → Type 0
+IsBlank (Frames images) = ⊥
+IsBlank (OneText bytes) = bytes ≡ []
+
 -- what was made of a scene, as contracts see it
 abbrev pub outcome_of : Due → Outcome
 outcome_of due = record { image = due_text due.image; notes = due.notes; ending = due.ending; kept = due.kept }
 
--- The words ask for what is outside its range in the scene's window, or there was no memory.
+-- why nothing is due where clients aren't drawn apart
+abbrev pub refusal_of : LastFault → DueRefusal
+refusal_of (apart.NotLast client place) = undue.NotLast (record { client = client; place = place })
+refusal_of apart.OutOfMemory = undue.OutOfMemory
+
+-- The words ask for what is outside its range in the scene's window, the job isn't for the scene, or there was no memory.
 abbrev pub IsNoOutcome : Job → Scene → DueRefusal → Type 0
 IsNoOutcome job scene (undue.PastLimit limit) = word_limit job scene ≡ Some limit
+IsNoOutcome job scene (undue.NotLast name) = (word_limit job scene ≡ None) × IsNotFor job scene name
 IsNoOutcome job scene undue.OutOfMemory = Unit {0}
 
 -- ---- writing
 
--- Of what was made of a scene this is left to tell, where the image took so much of it. A fault of the image adds a line to what is stuck.
+-- Of what was made of a scene this is left to tell, where the image took so much of it. A fault of the image adds a line to what isn't complete.
 pub record IsToldOf (notes : List ℕ) (ending : Ending) (kept : Option Record) (written : Written) (told : Told) : Type 0 where
-  pub lines : ((written.fault ≡ false) × (told.lines ≡ notes)) ⊎ ((written.fault ≡ true) × (ending ≡ Stuck) × (told.lines ≡ notes ++ image_fault_line written.bytes))
+  pub lines : ((written.fault ≡ false) × (told.lines ≡ notes)) ⊎ ((written.fault ≡ true) × (ending ≢ Complete) × (told.lines ≡ notes ++ image_fault_line written.bytes))
   pub ending_is : told.ending ≡ ending
   pub kept_is : told.kept ≡ kept
 
@@ -185,7 +200,8 @@ abbrev pub IsConcluded : Used → Told → ℕ → Type 0
 IsConcluded notes told status =
     ((status ≡ 0) × (told.ending ≡ Complete) × Took notes told.lines × IsCalm notes)
     ⊎ (((status ≡ 8) × (told.ending ≡ Complete) × Failed notes × ((n : ℕ) × (n < length told.lines) × Took notes (take n told.lines)))
-    ⊎ ((status ≡ 5) × (told.ending ≡ Stuck) × Noted notes told.lines))
+    ⊎ (((status ≡ 5) × (told.ending ≡ Stuck) × Noted notes told.lines)
+    ⊎ ((status ≡ 11) × (told.ending ≡ RaceFound) × Noted notes told.lines)))
 
 -- ---- refusals
 

@@ -6,7 +6,7 @@ use Rattle.std.specs.Fmt.{decimal}
 use Rattle.rc_base.specs.Cluster.Tiles.{tile_count}
 use Rattle.rc_base.specs.Contexts.Issue.{faults_of}
 use Rattle.rc_base.specs.Formats.Limits.{limit_of}
-use Rattle.rc_base.specs.Orders.Journal.{IsLegal, waiting_of}
+use Rattle.rc_base.specs.Orders.Journal.{IsMaximal, waiting_of}
 use Rattle.rc_base.specs.Orders.Order.{IsPermitted, default_order}
 use Rattle.rc_base.specs.Orders.Sync.{sync_lists_of}
 use Rattle.rc_base.specs.declared.cluster.Tally.{Tally}
@@ -17,10 +17,10 @@ use Rattle.rc_base.specs.declared.sync.WaitAt.{WaitAt}
 use Rattle.rc_base.specs.declared.sync.Waiting.{Waiting}
 use Rattle.rc_base.specs.declared.window.Layout.{Layout}
 use Rattle.client_issue.specs.Cores.{no_tally}
-use Rattle.order_model.specs.Report.{count_lines, fault_line, is_stuck, joined_line, order_line, short_report_of, stuck_line, tile_order}
+use Rattle.order_model.specs.Report.{count_lines, fault_line, is_stuck, joined_line, order_line, stuck_line, tile_order}
 use Rattle.order_model.specs.declared.record.Record.{Record}
 use Rattle.run_record.specs.Told.{IsRun}
-use Rattle.render_core.specs.Due.{ending_by, journal_of, default_ending, report_due}
+use Rattle.render_core.specs.Due.{ending_by, journal_of, report_due}
 use Rattle.render_core.specs.declared.cluster.Account.{Account}
 use Rattle.render_core.specs.declared.due.DefaultRun.{DefaultRun}
 
@@ -63,13 +63,14 @@ pub record AreOf (scene : Scene) (faults : List (List (ℕ × Fault))) (journal 
   pub stuck : IsSome waiting ↔ (is_stuck (sync_lists_of scene) journal ≡ true)
   pub waits : IfSome waiting (λ w. (client : ℕ) → slice_index_or w.at client None ≡ waiting_of (sync_lists_of scene) journal client)
 
--- The default journal, its order, which it permits, the short report, and whether a client waits for ever.
+-- The scene's lists, the default journal, which is maximal, its order, which it permits, the refused commands, and who is left waiting.
 pub record IsDefault (scene : Scene) (run : DefaultRun) : Type 0 where
+  pub syncs : run.syncs ≡ sync_lists_of scene
   pub journal : run.journal ≡ journal_of scene
   pub order : run.order ≡ default_order (sync_lists_of scene) (journal_of scene)
-  pub notes : run.notes ≡ short_report_of scene (journal_of scene)
-  pub ending : run.ending ≡ default_ending scene
-  pub legal : IsLegal (sync_lists_of scene) run.journal
+  pub are : AreOf scene run.faults run.journal run.waiting
+  pub few : length run.faults ≤ 8
+  pub maximal : IsMaximal (sync_lists_of scene) run.journal
   pub permitted : IsPermitted (sync_lists_of scene) run.journal run.order
 
 -- ---- of a cluster

@@ -1,13 +1,12 @@
 //! The jobs, and the words that name them.
 ghost use Rattle.std.specs.Prelude.{◌≡◌, ◌↔◌, ◌⊎◌, List, IfOk, IsTrue, OnErr, MatchOption};
-ghost use Rattle.rc_base.specs.Program.Words.{Setting as Spelled, job_word};
-ghost use Rattle.rc_base.specs.declared.job.JobName.TheVariants.{Render as SpelledRender, Demo as SpelledDemo};
+ghost use Rattle.command_line.specs.Words.{Setting as Spelled, job_word};
+ghost use Rattle.command_line.specs.declared.job.JobName.TheVariants.{Render as SpelledRender, Demo as SpelledDemo, Last as SpelledLast};
 ghost use Rattle.command_line.specs.Lines.{AreValues};
 ghost use Rattle.render_core.specs.Jobs.{IsJob, IsLine, IsThreaded, cluster_in, cluster_of, job_in, origin_of, threads_of};
 ghost use Rattle.render_core.specs.declared.job.Job.{Job as AnyJob};
 
-use command_line::{CommandLine, Settings, command_line, lines_have_one_reading};
-use rc_base::job::JobName;
+use command_line::{CommandLine, JobName, Settings, command_line, lines_have_one_reading};
 use rc_base::out_of_memory::OutOfMemory;
 use std::alloc::Global;
 
@@ -32,8 +31,12 @@ pub enum Job {
     },
     /// Scene bytes to the frames of the scene's default order, as images, and a short report.
     Serial,
+    /// The same frames, put together by depth of clients that are drawn apart on threads, and the same report.
+    Last,
     /// Scene bytes to the short report alone.
     Check,
+    /// Scene bytes to the short report with two commands that nothing orders, where there are such.
+    Race,
     /// The text of a scene to its bytes.
     Pack,
     /// The bytes of a scene to its text.
@@ -76,7 +79,9 @@ impl Job {
             Job::Render(cluster) | Job::Demo { cluster, .. } => Some(cluster),
             Job::Simulate { .. }
             | Job::Serial
+            | Job::Last
             | Job::Check
+            | Job::Race
             | Job::Pack
             | Job::Unpack
             | Job::Gen { .. } => None,
@@ -90,7 +95,13 @@ impl Job {
         match self {
             Job::Render(cluster) | Job::Simulate { cluster, .. } | Job::Demo { cluster, .. } =>
                 Some(cluster),
-            Job::Serial | Job::Check | Job::Pack | Job::Unpack | Job::Gen { .. } => None,
+            Job::Serial
+            | Job::Last
+            | Job::Check
+            | Job::Race
+            | Job::Pack
+            | Job::Unpack
+            | Job::Gen { .. } => None,
         }
     }
 
@@ -99,8 +110,13 @@ impl Job {
         ensures { result ≡ origin_of self }
     {
         match self {
-            Job::Render(_) | Job::Simulate { .. } | Job::Serial | Job::Check | Job::Unpack =>
-                Origin::Read(Form::Bytes),
+            Job::Render(_)
+            | Job::Simulate { .. }
+            | Job::Serial
+            | Job::Last
+            | Job::Check
+            | Job::Race
+            | Job::Unpack => Origin::Read(Form::Bytes),
             Job::Pack => Origin::Read(Form::Text),
             Job::Gen { seed, size } | Job::Demo { seed, size, .. } => Origin::Generated {
                 seed,
@@ -132,7 +148,9 @@ fn job_on(line: CommandLine) -> Job
             cluster: cluster_asked(line.settings),
         },
         JobName::Serial => Job::Serial,
+        JobName::Last => Job::Last,
         JobName::Check => Job::Check,
+        JobName::Race => Job::Race,
         JobName::Pack => Job::Pack,
         JobName::Unpack => Job::Unpack,
         JobName::Gen => Job::Gen {
@@ -147,14 +165,14 @@ fn job_on(line: CommandLine) -> Job
     }
 }
 
-// The word is that of a job whose actors are threads of their own.
+// The word is that of a job that starts threads.
 fn names_threads(word: &str) -> bool
-    ensures { IsTrue result ↔ ((word.now ≡ job_word SpelledRender) ⊎ (word.now ≡ job_word SpelledDemo)) }
+    ensures { IsTrue result ↔ ((word.now ≡ job_word SpelledRender) ⊎ ((word.now ≡ job_word SpelledDemo) ⊎ (word.now ≡ job_word SpelledLast))) }
 {
-    matches!(word, "render" | "demo")
+    matches!(word, "render" | "demo" | "last")
 }
 
-/// The first word is that of a job whose actors are threads of their own.
+/// The first word is that of a job that starts threads.
 pub(crate) fn is_threaded(words: &[String]) -> bool
     ensures { IsTrue result ↔ IsThreaded words.now }
 {

@@ -2,7 +2,11 @@
 //! and its body calls the laws that it follows from: there is nothing to compute.
 ghost use Rattle.render_core.specs.Laws.{FindingsAreOne, OneOutcomeIsDue, KeptOrdersArePermitted, OrderedRecordsShowOneImage, RefusalsComeInOrder};
 
-use order_model::laws::{runs_show_one_image, scene_lists_are_well_formed};
+use order_model::laws::{
+    default_journal_is_maximal, default_orders_are_permitted, runs_show_one_image,
+    scene_lists_are_well_formed,
+};
+use race_check::laws::each_order_has_one_verdict;
 use scene_file::laws::{bytes_spell_one_scene, generated_scenes_are_within_limits};
 use scene_text::texts_spell_one_scene;
 use tile_model::laws::parcels_are_givable;
@@ -22,6 +26,10 @@ pub fn one_outcome_is_due()
 {
     parcels_are_givable();
     finished_runs_leave_one_record();
+    each_order_has_one_verdict();
+    scene_lists_are_well_formed();
+    default_journal_is_maximal();
+    default_orders_are_permitted();
 }
 
 /// Each order that a kept record tells is one that its journal permits: it keeps each client's order, every barrier and every semaphore grant.

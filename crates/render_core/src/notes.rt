@@ -64,5 +64,6 @@ pub(crate) fn conclude<N: Sink>(notes: &mut N, told: &Told) -> u8
             Err(_) => 8,
         },
         Ending::Stuck => 5,
+        Ending::RaceFound => 11,
     }
 }

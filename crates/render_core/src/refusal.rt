@@ -1,13 +1,14 @@
 //! Why a job is refused: the refusals of its steps, with their statuses and the lines that tell them.
 ghost use Rattle.std.specs.Prelude.{◌≡◌, IfOk, string_bytes};
 ghost use Rattle.rc_base.specs.Formats.Limits.{limit_name};
-ghost use Rattle.render_core.specs.Lines.{scene_kind_name, text_kind_name, malformed_line, limit_line, image_fault_line};
+ghost use Rattle.render_core.specs.Lines.{scene_kind_name, text_kind_name, malformed_line, limit_line, not_last_line, image_fault_line};
 ghost use Rattle.render_core.specs.Refusals.{reading_status, reading_line, input_status, input_line, image_status, image_line, due_line, refusal_status, refusal_line};
 ghost use Rattle.render_core.specs.declared.refusal.Refusal.TheVariants.{Reading as OfReading, Input as OfInput, Undue as OfUndue, Image as OfImage};
 
 use crate::due::DueRefusal;
 use order_model::record::Record;
 use rc_base::scene::{Limit, SceneKind, TextKind};
+use rc_base::sync::Name;
 use rc_base::transfer::ReadAllFault;
 use std::alloc::{AllocError, Global};
 
@@ -153,6 +154,14 @@ fn limit_line(alloc: Global, what: u8, value: u64) -> Result<String, AllocError>
     format!(in alloc; "rc: limit {name} {value}\n")
 }
 
+#[tactic(auto, unfolding(crate::specs::Lines::not_last_line))]
+fn not_last_line(alloc: Global, name: Name) -> Result<String, AllocError>
+    ensures { IfOk result (λ line. string_bytes line ≡ not_last_line name) }
+{
+    let Name { client, place } = name;
+    format!(in alloc; "rc: not for last {client} {place}\n")
+}
+
 #[tactic(auto, unfolding(crate::specs::Lines::image_fault_line))]
 pub(crate) fn image_fault_line(alloc: Global, done: u64) -> Result<String, AllocError>
     ensures { IfOk result (λ line. string_bytes line ≡ image_fault_line done) }
@@ -193,6 +202,7 @@ fn due_line(alloc: Global, refusal: DueRefusal) -> Result<String, AllocError>
 {
     match refusal {
         DueRefusal::PastLimit(Limit { what, value }) => limit_line(alloc, what, value),
+        DueRefusal::NotLast(name) => not_last_line(alloc, name),
         DueRefusal::OutOfMemory => String::from_str(alloc, OUT_OF_MEMORY),
     }
 }
@@ -224,6 +234,7 @@ impl Refusal {
             | Refusal::Input(InputRefusal::PastLimit(_))
             | Refusal::Undue(DueRefusal::PastLimit(_)) => 4,
             Refusal::Image(ImageRefusal::Fault { .. }) => 6,
+            Refusal::Undue(DueRefusal::NotLast(_)) => 12,
             Refusal::Reading(ReadAllFault::OutOfMemory)
             | Refusal::Input(InputRefusal::OutOfMemory)
             | Refusal::Undue(DueRefusal::OutOfMemory)

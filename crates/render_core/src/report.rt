@@ -4,10 +4,13 @@ ghost use Rattle.std.specs.List.{flat_map};
 ghost use Rattle.std.specs.Option.{option_map_or};
 ghost use Rattle.rc_base.specs.Orders.Sync.{client_count};
 ghost use Rattle.order_model.specs.Report.{fault_name as name_of_fault, fault_line as line_of_fault, frame_count as count_of_frames, count_lines as lines_of_counts, op_text as text_of_op, order_line as line_of_order, stuck_line as line_of_stuck, tile_order as order_of_tile};
+ghost use Rattle.race_check.specs.declared.verdict.Verdict.TheVariants.{Race as IsRace};
+ghost use Rattle.render_core.specs.Lines.{race_line as line_of_race, spot_text as text_of_spot};
 ghost use Rattle.render_core.specs.Reports.{line_of_tile, lines_of_faults, lines_of_orders, lines_of_run, lines_of_stuck, lines_of_tiles, lines_of_waiting};
 
 use order_model::record::Record;
 use order_model::tile_order;
+use race_check::{Spot, Verdict};
 use rc_base::cluster::{FaultList, Tally};
 use rc_base::command::Bytes;
 use rc_base::out_of_memory::OutOfMemory;
@@ -156,22 +159,61 @@ fn stuck_lines(
     }
 }
 
-/// The short report, by a journal: each client's refused commands, the numbers of entries and frames, and who is left waiting.
+/// The short report, by a journal: each client's refused commands, the numbers of entries and frames, what else is told, and who is left waiting.
 pub(crate) fn short_report(
     alloc: Global,
     faults: &[FaultList],
     journal: &[Entry],
+    told: &[u8],
     waiting: &Option<Waiting>,
 ) -> Result<Bytes, AllocError>
     requires { length faults.now ≤ 8 }
-    ensures { IfOk result (λ lines. lines ≡ lines_of_faults faults.now ++ lines_of_counts journal.now ++ lines_of_stuck waiting.now (length faults.now)) }
+    ensures { IfOk result (λ lines. lines
+        ≡ lines_of_faults faults.now ++ lines_of_counts journal.now ++ told.now ++ lines_of_stuck waiting.now (length faults.now)) }
 {
     let mut lines = fault_lines(alloc, faults)?;
     let counts = count_lines(alloc, journal)?;
     let stuck = stuck_lines(alloc, waiting, faults.len())?;
     lines.extend_from_slice(counts.as_bytes())?;
+    lines.extend_from_slice(told)?;
     lines.append(stuck)?;
     Ok(lines)
+}
+
+// Where two commands touch the same.
+fn spot_text(alloc: Global, spot: Spot) -> Result<String, AllocError>
+    ensures { IfOk result (λ text. string_bytes text ≡ text_of_spot spot) }
+{
+    match spot {
+        Spot::Pixel { x, y } => format!(in alloc; "pixel {x} {y}"),
+        Spot::Shared(texture) => format!(in alloc; "shared {texture}"),
+    }
+}
+
+// The line of two commands that race.
+fn pair_line(alloc: Global, first: Name, second: Name, spot: Spot) -> Result<String, AllocError>
+    ensures { IfOk result (λ line. string_bytes line ≡ line_of_race (IsRace first second spot)) }
+{
+    let Name { client, place } = first;
+    let other = second.client;
+    let behind = second.place;
+    let spot = spot_text(alloc, spot)?;
+    let spot = spot.as_str();
+    format!(in alloc; "race {client} {place} {other} {behind} {spot}\n")
+}
+
+/// The line of a verdict.
+pub(crate) fn race_line(alloc: Global, verdict: &Verdict) -> Result<String, AllocError>
+    ensures { IfOk result (λ line. string_bytes line ≡ line_of_race verdict.now) }
+{
+    match *verdict {
+        Verdict::Ordered => String::from_str(alloc, "race none\n"),
+        Verdict::Race {
+            first,
+            second,
+            spot,
+        } => pair_line(alloc, first, second, spot),
+    }
 }
 
 // ---- clusters

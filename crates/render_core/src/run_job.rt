@@ -2,7 +2,7 @@
 ghost use Rattle.std.specs.Prelude.{◌≡◌, ◌≤◌, ◌⊎◌, [], IfErr, IfOk, IfSome, OnOk};
 ghost use Rattle.rc_base.specs.Outside.Ends.{use_of};
 ghost use Rattle.render_core.specs.Finishes.{IsFinished, IsJobless};
-ghost use Rattle.render_core.specs.Jobs.{IsJob, IsLine, IsThreaded, Reads};
+ghost use Rattle.render_core.specs.Jobs.{ForJob, IsJob, IsLine, IsThreaded, Reads, ShowsNothing};
 ghost use Rattle.render_core.specs.Outcomes.{Ran, IsAnswered, IsHeadline, KeepsOrders, IsUnwritten, IsLeft, IsLeftByThreads, HasNotes};
 ghost use Rattle.render_core.specs.Refusals.{kept_for};
 ghost use Rattle.render_core.specs.declared.job.Job.{Job as AnyJob};
@@ -26,7 +26,8 @@ use std::thread::Threads;
 #[derive(Debug, PartialEq, Drop)]
 pub struct Finish {
     /// 0: the job is done. 1: the words are no job. 2: the source failed. 3: the source's bytes spell no scene. 4: a quantity is past its limit.
-    /// 5: a client waits for ever. 6: the image failed. 7: there was no memory. 8: the job is done, but the notes failed.
+    /// 5: a client waits for ever. 6: the image failed. 7: there was no memory. 8: the job is done, but the notes failed. 11: nobody waits, and two
+    /// commands race. 12: the scene's clients can't be drawn apart.
     pub status: u8,
     /// The record of a cluster that came to its end: of `render`, `simulate` and `demo` with the statuses 0, 5, 6 and 8.
     pub kept: Option<Record>,
@@ -90,7 +91,7 @@ fn finish_of<N: Sink>(alloc: Global, notes: &mut N, performed: Result<Told, Refu
     }
 }
 
-/// Carries out the job that the words name, as `run` does, where their first one is neither `render` nor `demo`. It starts no thread and waits for
+/// Carries out the job that the words name, as `run` does, where their first one is none of `render`, `demo` and `last`. It starts no thread and waits for
 /// nobody, so it returns.
 pub fn run_alone<S: Source, K: Sink, N: Sink>(
     alloc: Global,
@@ -120,6 +121,8 @@ pub fn run_alone<S: Source, K: Sink, N: Sink>(
     ensures unread { ((job : AnyJob) → IsJob words.now job → Reads job → ⊥) → source.new ≡ source.old }
     // The image is untouched, save where the job is carried out, or where it failed or there was no memory.
     ensures untouched { IsUnwritten result.status → image.new ≡ image.old }
+    // A job that shows nothing leaves it alone, whatever the status.
+    ensures blank { ForJob words.now ShowsNothing → image.new ≡ image.old }
     // Where there was no memory it was given a front of what is due.
     ensures memory { result.status ≡ 7 → (image.new ≡ image.old)
         ⊎ IsLeft words.now (use_of S.left S.faults source.old source.new)
@@ -150,11 +153,13 @@ pub fn run_alone<S: Source, K: Sink, N: Sink>(
 /// `render` and `simulate` read scene bytes and run the scene on a cluster of tiles. They write a Netpbm P6 image for each frame, and note the report.
 /// For `render` each client, the manager and each tile is a thread of its own, and each passes the gate before each attempt of a step; the call
 /// returns once all have ended. `demo` does the same with the scene of its seed, and leaves its source alone. For `simulate` one thread steps them: 4,096 steps that its seed draws, and then rounds. `serial` writes the frames of
-/// the scene's default order, and notes the short report by its default journal; `check` writes nothing, and notes the same. `pack` reads the text of
+/// the scene's default order, and notes the short report by its default journal; `last` does the same by layers, one of each
+/// client, that threads draw apart and that are put together by depth, where no command of the scene keeps its clients from that: else the status is 12. `check` writes nothing, and notes the same. `race` writes nothing too, and notes with it
+/// whether synchronisation orders every two conflicting commands of that order, or the first two that race: then the status is 11, unless a client waits. `pack` reads the text of
 /// a scene and writes its bytes, `unpack` reads bytes and writes the text, and `gen` writes the bytes of the
 /// scene of its seed, and leaves its source alone; they note nothing. Where the journal leaves a client waiting the run is
 /// stuck: the report says who waits, and the status is 5. A job that is refused is told in one line in the notes, which else stay as they are. A fault
-/// of the notes changes the status of a job that is done, and no other. All jobs but `render` and `demo` are those of
+/// of the notes changes the status of a job that is done, and no other. All jobs but `render`, `demo` and `last` are those of
 /// `run_alone`.
 pub fn run<S: Source, K: Sink, N: Sink, G: Gate, R>(
     rt: R,
@@ -187,6 +192,8 @@ where
     ensures unread { ((job : AnyJob) → IsJob words.now job → Reads job → ⊥) → source.new ≡ source.old }
     // The image is untouched, save where the job is carried out, or where it failed or there was no memory.
     ensures untouched { IsUnwritten result.status → image.new ≡ image.old }
+    // A job that shows nothing leaves it alone, whatever the status.
+    ensures blank { ForJob words.now ShowsNothing → image.new ≡ image.old }
     // Where there was no memory it was given a front of what is due, or, by a job on threads, of frames that no record tells.
     ensures memory { result.status ≡ 7 → (image.new ≡ image.old)
         ⊎ IsLeftByThreads words.now (use_of S.left S.faults source.old source.new)
@@ -211,10 +218,6 @@ where
         Ok(job) => job,
         Err(finish) => return finish,
     };
-    let cluster = match job.threads() {
-        Some(cluster) => cluster,
-        None => unreachable!(),
-    };
-    let performed = perform_in_threads(rt, alloc, job, cluster, source, image, gate);
+    let performed = perform_in_threads(rt, alloc, job, source, image, gate);
     finish_of(alloc, notes, performed)
 }

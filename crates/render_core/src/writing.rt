@@ -1,9 +1,9 @@
 //! What is due, written: to the image each frame's text, or the one text, by one `write_all`; and what is then left to tell.
-ghost use Rattle.std.specs.Prelude.{◌≡◌, ◌≤◌, ◌++◌, IfOk, IfErr, OnErr};
+ghost use Rattle.std.specs.Prelude.{◌≡◌, ◌≤◌, ◌++◌, [], IfOk, IfErr, OnErr};
 ghost use Rattle.rc_base.specs.Outside.Ends.{use_of, TookFront};
 ghost use Rattle.frame_out.specs.Writing.{IsWritten};
 ghost use Rattle.render_core.specs.Lines.{image_fault_line};
-ghost use Rattle.render_core.specs.Refusals.{IsWritable, IsToldOf, IsUntold, due_text};
+ghost use Rattle.render_core.specs.Refusals.{IsBlank, IsWritable, IsToldOf, IsUntold, due_text};
 ghost use Rattle.render_core.specs.declared.refusal.Refusal.TheVariants.{Image as OfImage};
 
 use crate::due::{DueImage, Ending};
@@ -25,7 +25,19 @@ pub(crate) struct Told {
     pub(crate) kept: Option<Record>,
 }
 
-/// Writes what is due to the image. Where memory lacks the image was given a front of it.
+// Writes a text, if there is one.
+fn write_some<K: Sink>(image: &mut K, text: &[u8]) -> Written
+    ensures written { IsWritten (use_of K.held K.faults image.old image.new) text.now result }
+    ensures blank { text.now ≡ [] → image.new ≡ image.old }
+    ensures later { K.faults image.old ≤ K.faults image.new }
+{
+    if text.is_empty() {
+        return Written::nothing();
+    }
+    write_text(image, text)
+}
+
+/// Writes what is due to the image. Where memory lacks the image was given a front of it, and where nothing is due it isn't called.
 pub(crate) fn write_due<K: Sink>(
     alloc: Global,
     image: &mut K,
@@ -34,11 +46,12 @@ pub(crate) fn write_due<K: Sink>(
     requires { IsWritable due.now }
     ensures written { IfOk result (IsWritten (use_of K.held K.faults image.old image.new) (due_text due.now)) }
     ensures front { OnErr result (TookFront (use_of K.held K.faults image.old image.new) (due_text due.now)) }
+    ensures blank { IsBlank due.now → image.new ≡ image.old }
     ensures later { K.faults image.old ≤ K.faults image.new }
 {
     match due {
         DueImage::Frames(frames) => write_frames(alloc, image, frames.as_slice()),
-        DueImage::OneText(text) => Ok(write_text(image, text.as_slice())),
+        DueImage::OneText(text) => Ok(write_some(image, text.as_slice())),
     }
 }
 
@@ -61,8 +74,8 @@ pub(crate) fn untold(refusal: ImageRefusal, kept: Option<Record>) -> Refused
     }
 }
 
-/// What is left to tell, where the image took so much of what is due to it. A fault of the image cuts off a job that would be done; to one that is
-/// stuck it adds a line.
+/// What is left to tell, where the image took so much of what is due to it. A fault of the image cuts off a job that would be done; to what is told of
+/// another it adds a line.
 pub(crate) fn told_of(
     alloc: Global,
     notes: Bytes,
@@ -87,7 +100,7 @@ pub(crate) fn told_of(
             },
             kept,
         )),
-        Ending::Stuck => match with_fault(alloc, notes, written.bytes) {
+        Ending::Stuck | Ending::RaceFound => match with_fault(alloc, notes, written.bytes) {
             Ok(lines) => Ok(Told {
                 lines,
                 ending,

@@ -1,4 +1,3 @@
-pub mod IssuedCommands
 pub mod SurveyedStreams
 pub mod ImageBytes
 pub mod PixelIndex

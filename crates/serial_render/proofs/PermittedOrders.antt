@@ -1,24 +1,16 @@
 -- An order that a legal journal permits can be carried out.
-use Rattle.std.proofs.Common.{◌≡◌, ℕ, ◌+◌, List, [], ◌∷◌, ◌++◌, Some, take, drop, refl, sym, subst, arith, inl, inr}
+use Rattle.std.proofs.Common.{◌≡◌, ℕ, ◌+◌, List, Some, arith}
 use Rattle.std.specs.Prelude.{slice_get}
-use Rattle.rc_base.specs.Lists.{IsIn}
 use Rattle.rc_base.specs.Orders.Journal.{IsLegal, reach_of}
 use Rattle.rc_base.specs.Orders.Order.{IsPermitted}
 use Rattle.rc_base.specs.Orders.Sync.{sync_lists_of}
 use Rattle.rc_base.specs.declared.scene.Scene.{Scene}
 use Rattle.rc_base.specs.declared.sync.Entry.{Entry}
 use Rattle.rc_base.specs.declared.sync.Name.{Name}
+use Rattle.order_model.proofs.NamesInTurn.{at_in, run_next}
 use Rattle.order_model.proofs.PermittedAsRuns.{run_of}
 use Rattle.serial_render.specs.Shown.{IsPlayable}
-use Rattle.serial_render.proofs.PlayedOrders.{order_at, run_next}
 use Rattle.serial_render.proofs.SwapsOfJournals.{place_of, swaps_parted}
-
-at_in : (o : List Name) (i : ℕ) (n : Name) → slice_get o i ≡ Some n → IsIn n o
-at_in o i n e = subst (λ (l : List Name). IsIn n l) (sym (order_at o i n e).0) (middle (take i o) (drop (i + 1) o))
-  where
-    middle : (u v : List Name) → IsIn n (u ++ n ∷ v)
-    middle [] v = inl refl
-    middle (m ∷ u) v = inr (middle u v)
 
 pub permitted_playable : (s : Scene) (js : List Entry) (order : List Name) → IsLegal (sync_lists_of s) js → IsPermitted (sync_lists_of s) js order → IsPlayable s order
 permitted_playable s js order legal permitted = record {

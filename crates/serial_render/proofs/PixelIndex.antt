@@ -24,17 +24,17 @@ from_zero n = grind (arith, ints)
 pub window_size : (w h : ℕ) → rect_size (window_of w h) ≡ w * h
 window_size w h = ap (λ (n : ℕ). n * natural (pos h -ℤ pos 0)) (from_zero w) ∙ ap (λ (n : ℕ). w * n) (from_zero h)
 
-index_is : (w h i j : ℕ) → pixel_index (window_of w h) (pos i) (pos j) ≡ j * w + i
+pub index_is : (w h i j : ℕ) → pixel_index (window_of w h) (pos i) (pos j) ≡ j * w + i
 unfolding pixel_index
 index_is w h i j =
     ap (λ (n : ℕ). n * natural (pos w -ℤ pos 0) + natural (pos i -ℤ pos 0)) (from_zero j)
     ∙ ap (λ (n : ℕ). j * n + natural (pos i -ℤ pos 0)) (from_zero w)
     ∙ ap (λ (n : ℕ). j * w + n) (from_zero i)
 
-in_window : (w h i j : ℕ) → i < w → j < h → is_in_rect (window_of w h) (pos i) (pos j) ≡ true
+pub in_window : (w h i j : ℕ) → i < w → j < h → is_in_rect (window_of w h) (pos i) (pos j) ≡ true
 in_window w h i j li lj = grind (arith, ints)
 
-pixel_is : (d : DeviceView) (w h i j : ℕ) → d.rect ≡ window_of w h → pixel_of d (pos i) (pos j) ≡ pixel_at d.pixels (j * w + i)
+pub pixel_is : (d : DeviceView) (w h i j : ℕ) → d.rect ≡ window_of w h → pixel_of d (pos i) (pos j) ≡ pixel_at d.pixels (j * w + i)
 unfolding pixel_of
 pixel_is d w h i j e = ap (λ (r : Rect). pixel_at d.pixels (pixel_index r (pos i) (pos j))) e ∙ ap (λ (k : ℕ). pixel_at d.pixels k) (index_is w h i j)
 

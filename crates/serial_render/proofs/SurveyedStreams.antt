@@ -23,14 +23,6 @@ unfolding waits_below
 one_more_wait s client place e is =
     ap (λ (f : Effect). waits_below s client place ++ wait_of place f) is ∙ sym (ap (waits_below s client) (add-one place))
 
--- one more number at the end
-pub map_more : {A : Type 0} (f : ℕ → A) (a n j : ℕ) → a + n ≡ j → map f (range_with_len a (n + 1)) ≡ map f (range_with_len a n) ++ f j ∷ []
-map_more f a n j e = ap (λ k. map f (range_with_len a k)) (add-one n) ∙ more f a n j e
-  where
-    more : {A : Type 0} (f : ℕ → A) (a n j : ℕ) → a + n ≡ j → map f (range_with_len a (suc n)) ≡ map f (range_with_len a n) ++ f j ∷ []
-    more f a zero j e = let same : a ≡ j = omega arith in ap (λ k. f k ∷ []) same
-    more f a (suc n) j e = ap (λ l. f a ∷ l) (more f (a + 1) n j (omega arith))
-
 pub lists_are : (s : Scene) (rows : List SyncRow) (counts units : List ℕ) → rows ≡ map (sync_row_of s) (range_with_len 0 (length s.streams))
     → counts ≡ s.decl.barriers → units ≡ s.decl.semaphores → record { clients = rows; counts = counts; units = units } ≡ sync_lists_of s
 unfolding sync_lists_of

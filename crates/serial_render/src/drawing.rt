@@ -3,11 +3,10 @@ ghost use Rattle.std.specs.Prelude.{◌≡◌, ℕ, ◌+◌, ◌<◌, ◌≤◌,
 ghost use Rattle.rc_base.specs.Formats.Within.{IsWithin};
 ghost use Rattle.rc_base.specs.Drawing.Images.{Pixels};
 ghost use Rattle.draw_device.specs.Devices.{IsDeviceRect};
-ghost use Rattle.serial_render.specs.Clients.{AreIssued};
+ghost use Rattle.stream_replay.specs.Clients.{AreIssued};
 ghost use Rattle.serial_render.specs.Shown.{IsPlayable, IsShown, images_of};
 ghost use Rattle.serial_render.specs.Steps.{Holds, window_of};
 
-use crate::client::{Client, clients_of, issue_name};
 use crate::image::image_of;
 use draw_acts::carry_out;
 use draw_device::Device;
@@ -17,10 +16,11 @@ use rc_base::scene::{Decl, Scene};
 use rc_base::sync::Name;
 use rc_base::window::Rect;
 use std::alloc::Global;
+use stream_replay::{Client, clients_of, issue_name};
 use textures::SharedSet;
 
-// The rectangle of the whole window.
-fn window(decl: &Decl) -> Rect
+/// The rectangle of the whole window.
+pub fn window(decl: &Decl) -> Rect
     ensures sides { result ≡ window_of decl.now.width decl.now.height }
     ensures lies { IsDeviceRect result }
 {
@@ -33,7 +33,7 @@ fn window(decl: &Decl) -> Rect
 }
 
 /// Adds images of the device until there are so many frames.
-pub(crate) fn show_up_to(
+pub fn show_up_to(
     alloc: Global,
     decl: &Decl,
     device: &Device,

@@ -6,7 +6,6 @@ ghost use Rattle.rc_base.specs.Orders.Sync.{wait_of, sync_row_of, sync_lists_of}
 ghost use Rattle.serial_render.specs.Turns.{CanTakeTurns};
 
 use crate::lists::Survey;
-use crate::replay::issue_at;
 use gl_context::Context;
 use rc_base::cluster::{FaultList, FaultLists};
 use rc_base::items::Items;
@@ -15,6 +14,7 @@ use rc_base::scene::Scene;
 use rc_base::state::Effect;
 use rc_base::sync::{SyncLists, SyncOps, SyncRow, SyncRows, WaitAt};
 use std::alloc::Global;
+use stream_replay::issue_at;
 
 // Adds the operation of synchronisation that a command gives.
 fn add_operation(ops: &mut SyncOps, place: u32, effect: &Effect) -> Result<(), OutOfMemory>

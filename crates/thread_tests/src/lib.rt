@@ -1,5 +1,5 @@
 //! Tests of the cluster on threads: that gates choose which client a tile takes first, that clients run at once, that frames
-//! go out while later ones are drawn, and many runs in which nothing is ordered.
+//! go out while later ones are drawn, and many runs in which nothing is ordered; and of clients that are drawn apart and put together by depth.
 //!
 //! Each test calls public items alone, and stands here so that none of those crates is proved twice.
 #![tactic(auto)]
@@ -8,6 +8,8 @@
 mod early;
 #[cfg(test)]
 mod gates;
+#[cfg(test)]
+mod layers;
 #[cfg(test)]
 mod racy;
 #[cfg(test)]

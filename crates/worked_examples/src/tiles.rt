@@ -2,7 +2,7 @@
 ghost use Rattle.std.specs.Prelude.{◌≡◌, [], ◌∷◌, false, map, true};
 ghost use Rattle.rc_base.specs.Cluster.Parcels.{parcels_of};
 ghost use Rattle.rc_base.specs.Cluster.Tiles.{boundary_of, tile_pixels};
-ghost use Rattle.worked_examples.specs.Scenes.{full_blue, layout_of, lazy_state, lazy_texture, scissor_sets, scissored_clear, tile_tally};
+ghost use Rattle.worked_examples.specs.Scenes.{culled_front, full_blue, layout_of, lazy_state, lazy_texture, scissor_sets, scissored_clear, tile_tally};
 ghost use Rattle.rc_base.specs.declared.state.Act.TheVariants as act;
 ghost use Rattle.rc_base.specs.declared.sync.SyncOp.TheVariants as op;
 
@@ -37,4 +37,9 @@ pub fn an_image_is_told_when_it_is_sampled()
 /// A triangle goes to a tile that has none of its vertices.
 pub fn a_large_triangle_goes_to_every_tile()
     ensures { tile_tally full_blue (layout_of 6 6 3 3) 8 ≡ record { parcels = 3; sets = 0; looks = 1 } }
+{}
+
+/// In a scene of version 2 a block is sorted by the bounding box of its vertices, so a triangle that is culled goes to its tile all the same.
+pub fn a_culled_triangle_of_version_2_goes_to_its_tile()
+    ensures { tile_tally culled_front (layout_of 1 1 1 1) 0 ≡ record { parcels = 3; sets = 2; looks = 15 } }
 {}

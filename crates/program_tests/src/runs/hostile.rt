@@ -220,12 +220,13 @@ fn swaps(rt: &impl Abort, alloc: Global, count: u16) -> Vec<u8> {
     bytes
 }
 
-// `serial` and `simulate` hold all frames at once, up to eight of the largest window; a scene may have 512 of them.
+// `serial`, `last` and `simulate` hold all frames at once, up to eight of the largest window; a scene may have 512 of them.
 #[test]
 fn frames_of_the_largest_window_are_counted(rt: HostRuntime) {
-    let rows: [(&[&str], u16, u8, &str); 7] = [
+    let rows: [(&[&str], u16, u8, &str); 8] = [
         (&["check"], 9, 0, "journal 9\nframes 9\n"),
         (&["serial"], 9, 4, "rc: limit held pixels 37748736\n"),
+        (&["last"], 9, 4, "rc: limit held pixels 37748736\n"),
         (
             &["simulate", "--seed", "1"],
             9,

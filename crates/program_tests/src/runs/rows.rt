@@ -13,7 +13,7 @@ const SWAP_ALONE_REPORT: &str =
     "tile 0 parcels 3 sets 0 looks 0\njournal 0\nframes 0\nstuck client 1 at 0 Swap\nrc: stuck\n";
 
 // A quad of two triangles, added to what is there: where the shared edge runs through a centre, the pixel is drawn once.
-const ADDED_QUAD: &[u8] = b"scene 1 4 4
+pub(super) const ADDED_QUAD: &[u8] = b"scene 1 4 4
 client
 Enable 3
 BlendFunc 1 1
@@ -29,6 +29,18 @@ Swap
 
 // A blue triangle over the whole window, of which no corner lies in eight of the nine tiles.
 const ONE_TRIANGLE: &[u8] = b"scene 1 6 6
+client
+Color 0 0 255 255
+Begin 0
+Vertex -65536 -65536 0 65536
+Vertex 196608 -65536 0 65536
+Vertex -65536 196608 0 65536
+End
+Swap
+";
+
+// The same in version 2, where the box of the block is that of its vertices.
+const ONE_TRIANGLE_OF_VERSION_2: &[u8] = b"scene 2 6 6
 client
 Color 0 0 255 255
 Begin 0
@@ -70,7 +82,7 @@ End
 Swap
 ";
 
-// In version 2, a triangle whose back is seen, and backs are culled.
+// In version 2, a triangle whose back is seen, and backs are culled. It is sent to the tile, where it is culled.
 const CULLED: &[u8] = b"scene 2 1 1
 client
 FrontFace 1
@@ -167,7 +179,7 @@ fn tells(rt: &impl Host, alloc: Global, job: &[&str], text: &[u8], sent: (u32, u
 
 #[test]
 fn frames_of_one_colour(rt: HostRuntime) {
-    let rows: [Row; 8] = [
+    let rows: [Row; 9] = [
         (
             &["render"],
             ADDED_QUAD,
@@ -181,6 +193,16 @@ fn frames_of_one_colour(rt: HostRuntime) {
         (
             &["render", "--tiles", "3x3"],
             ONE_TRIANGLE,
+            b"P6\n6 6\n255\n",
+            36,
+            (0, 0, 255),
+            9,
+            (3, 0, 1),
+            "journal 1\nframes 1\n",
+        ),
+        (
+            &["render", "--tiles", "3x3"],
+            ONE_TRIANGLE_OF_VERSION_2,
             b"P6\n6 6\n255\n",
             36,
             (0, 0, 255),
@@ -215,7 +237,7 @@ fn frames_of_one_colour(rt: HostRuntime) {
             1,
             (0, 0, 0),
             1,
-            (2, 0, 0),
+            (3, 2, 15),
             "journal 1\nframes 1\n",
         ),
         (

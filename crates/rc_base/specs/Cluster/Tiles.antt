@@ -1,9 +1,11 @@
 -- The tiles of a window, and which of them a command may touch.
-use Rattle.std.specs.Prelude.{ℕ, ◌+◌, ◌-◌, ◌*◌, ◌/◌, ◌%◌, ◌&&◌, nat_le, nat_lt, Bool, false, List, ℤ, pos, int_le, int_lt}
+use Rattle.std.specs.Prelude.{ℕ, ◌+◌, ◌-◌, ◌*◌, ◌/◌, ◌%◌, ◌&&◌, nat_le, nat_lt, Bool, false, List, ℤ, pos, int_le, int_lt, if◌then◌else◌}
 use Rattle.std.specs.List.{flat_map, list_any, range_with_len, find}
 use Rattle.std.specs.Option.{option_map_or}
+use Rattle.rc_base.specs.Drawing.Triangles.{cut_modes}
 use Rattle.rc_base.specs.Drawing.Pieces.{kept_triangles}
 use Rattle.rc_base.specs.Drawing.Cover.{centre, is_in_area, is_in_scissor}
+use Rattle.rc_base.specs.Cluster.ObjectBox.{is_in_object_box}
 use Rattle.rc_base.specs.declared.state.State.{State}
 use Rattle.rc_base.specs.declared.state.Block.{Block}
 use Rattle.rc_base.specs.declared.state.Effect.{Effect}
@@ -83,12 +85,18 @@ abbrev pub is_amid : List WindowVertex → (WindowVertex → ℤ) → ℤ → Bo
 is_amid corners coordinate p =
     list_any (λ v. int_le (coordinate v) p) corners && list_any (λ v. int_le p (coordinate v)) corners
 
--- The pixel of the window is in the box of what a command draws: its centre lies between the least and greatest corner of the kept
--- triangles, ends included, and it lies in the viewport and the scissor box. A Clear's box is the scissor box.
-unfoldable pub is_in_box : State → Effect → ℤ → ℤ → Bool
-is_in_box s (eff.Block block) x y =
+-- The pixel of the window is in the box of a block in window space: its centre lies between the least and greatest corner of the kept
+-- triangles, ends included, and it lies in the viewport and the scissor box.
+unfoldable pub is_in_window_box : State → Block → ℤ → ℤ → Bool
+is_in_window_box s block x y =
     (is_amid (kept_corners s block) (λ (v : WindowVertex). v.x) (centre x) && is_amid (kept_corners s block) (λ (v : WindowVertex). v.y) (centre y))
     && (is_in_area s.viewport x y && is_in_scissor s x y)
+
+-- The pixel of the window is in the box of what a command draws: of a block of version 1 in window space, of one of version 2 in object
+-- space. A Clear's box is the scissor box.
+unfoldable pub is_in_box : State → Effect → ℤ → ℤ → Bool
+is_in_box s (eff.Block block) x y =
+    if nat_lt block.mode cut_modes then is_in_window_box s block x y else is_in_object_box s block x y
 is_in_box s (eff.Clear mask) x y = is_in_scissor s x y
 is_in_box s eff.Quiet x y = false
 is_in_box s (eff.Refused fault) x y = false

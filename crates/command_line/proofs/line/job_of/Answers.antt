@@ -1,5 +1,5 @@
 use Rattle.std.proofs.Common.{◌≡◌, ℕ, List, ◌∷◌, map, length, take, drop, ◌-◌, string_bytes, sym, ap, subst, ◌∙◌, true}
-use Rattle.rc_base.specs.Program.Words.{job_word, IsCommandLine}
+use Rattle.command_line.specs.Words.{job_word, IsCommandLine}
 use Rattle.command_line.proofs.FirstWords.{front}
 use Rattle.command_line.proofs.Lines.{no_line, lacks_due, line_read, told}
 use Rattle.command_line.proofs.line.job_of.Goals as goal

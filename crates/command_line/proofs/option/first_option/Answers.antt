@@ -1,7 +1,7 @@
 use Rattle.std.proofs.Common.{◌≡◌, codes, ap, ◌∷◌, ◌∙◌, sym, List, ℕ, map, take, drop, length, ◌-◌, refl}
 use Rattle.std.specs.Cmp.Lexicographic.{bytes_decides}
 use Rattle.std.specs.Prelude.{string_bytes}
-use Rattle.rc_base.specs.Program.Words.Setting.{WithOrder}
+use Rattle.command_line.specs.Words.Setting.{WithOrder}
 use Rattle.command_line.proofs.FirstWords.{front}
 use Rattle.command_line.proofs.option.first_option.Goals as goal
 

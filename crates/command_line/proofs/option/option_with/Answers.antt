@@ -1,5 +1,5 @@
 use Rattle.std.proofs.Common.{◌<◌, ◌∷◌, [], List, ℕ, ap₂, sym, refl, rules}
-use Rattle.rc_base.specs.Program.Words.Setting.{TilesOf, DepthOf, SeedOf, SizeOf}
+use Rattle.command_line.specs.Words.Setting.{TilesOf, DepthOf, SeedOf, SizeOf}
 use Rattle.command_line.proofs.option.option_with.Goals as goal
 
 pub returns-in_ok-tiles-in-text : goal.returns-in_ok-tiles-in-text

@@ -14,13 +14,13 @@ unit_vertex-requires-clause-clip c =
     clip_fixed c.args.state.now c.args.v.now m p
 
 pub returns-then-is_unit-clause-front : goal.returns-then-is_unit-clause-front
-returns-then-is_unit-clause-front c yes' =
+returns-then-is_unit-clause-front c =
     let u = c.if-is_unit.true in
     let s = c.args.state.now in
     let v = c.args.v.now in
     let m = c.requires.modelview (c.is_unit.ensures.modelview u) in
     let p = c.requires.projection (c.is_unit.ensures.projection u) in
-    stands s v c.widen.result (c.widen.ensures.value ∙ sym (clip_fixed s v m p)) (c.are_in_front.ensures yes')
+    c.are_in_front.ensures ∙ stands s v c.widen.result (c.widen.ensures.value ∙ sym (clip_fixed s v m p))
 
 pub returns-clause-at : goal.returns-clause-at
 returns-clause-at c =

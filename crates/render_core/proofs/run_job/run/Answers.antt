@@ -2,8 +2,10 @@ use Rattle.std.proofs.Common.{◌≡◌, ◌⊎◌, [], subst}
 use Rattle.std.specs.Prelude.{IfOk}
 use Rattle.rc_base.specs.Outside.Ends.{use_of}
 use Rattle.render_core.specs.Finishes.{IsFinished}
+use Rattle.render_core.specs.Jobs.{ShowsNothing}
 use Rattle.render_core.specs.Outcomes.{PartlyShown, PartlyWritten}
-use Rattle.render_core.proofs.Finishing.{jobless, left_by, ran_by, silent_by}
+use Rattle.render_core.proofs.Endings.{same_job}
+use Rattle.render_core.proofs.Finishing.{jobless, left_alone, left_by, ran_by, silent_by, unwritten_by}
 use Rattle.render_core.proofs.Headline.{answered, headline, permits}
 use Rattle.render_core.proofs.run_job.run.Goals as goal
 
@@ -68,3 +70,22 @@ returns-clause-silent g c =
     let finished = subst (λ n. IsFinished (use_of g.N.Sink.held g.N.Sink.faults n c.finish_of.new.notes) c.perform_in_threads-performed.result c.finish_of.result) c.in-Ok.ensures.unnoted c.finish_of.ensures.finished in
     silent_by c.args.words.now c.in-Ok.job c.in-Ok.ensures.job source image notes c.finish_of.result c.perform_in_threads-performed.result finished c.perform_in_threads-performed.ensures.done
     (subst (λ n. IfOk c.perform_in_threads-performed.result (λ told. told.lines ≡ [] → c.finish_of.new.notes ≡ n)) c.in-Ok.ensures.unnoted c.finish_of.ensures.silent)
+
+pub returns-clause-untouched : goal.returns-clause-untouched
+returns-clause-untouched g c =
+    let source = use_of g.S.Source.left g.S.Source.faults c.args.source.now c.perform_in_threads-performed.new.source in
+    let image = use_of g.K.Sink.held g.K.Sink.faults c.args.image.now c.perform_in_threads-performed.new.image in
+    let notes = use_of g.N.Sink.held g.N.Sink.faults c.args.notes.now c.finish_of.new.notes in
+    let finished = subst (λ n. IsFinished (use_of g.N.Sink.held g.N.Sink.faults n c.finish_of.new.notes) c.perform_in_threads-performed.result c.finish_of.result) c.in-Ok.ensures.unnoted c.finish_of.ensures.finished in
+    unwritten_by c.args.words.now c.in-Ok.job c.in-Ok.ensures.job source image notes c.finish_of.result c.perform_in_threads-performed.result finished c.perform_in_threads-performed.ensures.done
+    c.perform_in_threads-performed.ensures.blank c.perform_in_threads-performed.ensures.untouched
+
+pub returns-clause-blank : goal.returns-clause-blank
+returns-clause-blank g c = λ h.
+    c.perform_in_threads-performed.ensures.blank
+    (subst ShowsNothing (same_job c.lines_have_one_reading.ensures c.args.words.now h.0 c.in-Ok.job h.1 c.in-Ok.ensures.job) h.2)
+
+pub returns-then-not-is_threaded-clause-memory : goal.returns-then-not-is_threaded-clause-memory
+returns-then-not-is_threaded-clause-memory g c = λ seven.
+    left_alone _ c.args.words.now (use_of g.S.Source.left g.S.Source.faults c.args.source.now c.run_alone.new.source)
+    (use_of g.K.Sink.held g.K.Sink.faults c.args.image.now c.run_alone.new.image) (c.run_alone.ensures.memory seven)

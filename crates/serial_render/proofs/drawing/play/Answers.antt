@@ -15,13 +15,15 @@ use Rattle.gl_context.proofs.ValidContexts.{valid}
 use Rattle.draw_device.specs.Conditions.{IsDrawable, IsClearable, shared_of}
 use Rattle.draw_device.specs.Devices.{pixel_of}
 use Rattle.order_model.proofs.ScenesWithinLimits.{within_has_sides}
-use Rattle.serial_render.specs.Clients.{AreIssued, client_after}
+use Rattle.stream_replay.specs.Clients.{AreIssued, client_after}
 use Rattle.serial_render.specs.Shown.{IsShown, swaps_before}
-use Rattle.serial_render.specs.declared.client.Client.{Client}
+use Rattle.stream_replay.specs.declared.client.Client.{Client}
 use Rattle.serial_render.proofs.ClearDepths.{clearable}
 use Rattle.serial_render.proofs.DrawnCommands.{drawable, writable}
-use Rattle.serial_render.proofs.IssuedCommands.{is_client}
-use Rattle.serial_render.proofs.PlayedOrders.{order_at, first_clients, clients_next, client_before, element_is, client_now, first_shown, frames_due, shown_next, step_is, texels_after, some_command}
+use Rattle.stream_replay.proofs.IssuedCommands.{is_client}
+use Rattle.order_model.proofs.NamesInTurn.{order_at}
+use Rattle.stream_replay.proofs.ClientsInTurn.{first_clients, clients_next, client_before, element_is, client_now, some_command}
+use Rattle.serial_render.proofs.PlayedOrders.{first_shown, frames_due, shown_next, step_is, texels_after}
 use Rattle.serial_render.proofs.drawing.play.Goals as goal
 
 abbrev none : Name

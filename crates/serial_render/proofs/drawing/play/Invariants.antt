@@ -1,7 +1,7 @@
 use Rattle.std.proofs.Common.{take}
 use Rattle.rc_base.specs.Drawing.Serial.{textures_after}
 use Rattle.textures.specs.Stores.{HasTexels}
-use Rattle.serial_render.specs.Clients.{AreIssued}
+use Rattle.stream_replay.specs.Clients.{AreIssued}
 use Rattle.serial_render.specs.Shown.{IsShown}
 use Rattle.serial_render.proofs.drawing.play.Given as goal
 

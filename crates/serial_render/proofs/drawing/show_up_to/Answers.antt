@@ -3,7 +3,7 @@ use Rattle.rc_base.specs.Drawing.Images.{image_from}
 use Rattle.rc_base.specs.declared.image.Image.{Image}
 use Rattle.serial_render.specs.Shown.{images_of}
 use Rattle.serial_render.proofs.PixelIndex.{holds_shows}
-use Rattle.serial_render.proofs.SurveyedStreams.{map_more}
+use Rattle.stream_replay.proofs.ListsGoOn.{map_more}
 use Rattle.serial_render.proofs.drawing.show_up_to.Goals as goal
 
 pub loop-preserved : goal.loop-preserved

@@ -8,7 +8,8 @@ use Rattle.rc_base.specs.declared.sync.SyncRow.{SyncRow}
 use Rattle.std.proofs.Common.{sym, subst}
 use Rattle.serial_render.specs.Turns.{CanTakeTurns}
 use Rattle.serial_render.proofs.DeclaredOperations.{takes_turns}
-use Rattle.serial_render.proofs.SurveyedStreams.{map_more, lists_are, faults_are, faults_count}
+use Rattle.stream_replay.proofs.ListsGoOn.{map_more}
+use Rattle.serial_render.proofs.SurveyedStreams.{lists_are, faults_are, faults_count}
 use Rattle.serial_render.proofs.streams.survey.Goals as goal
 
 pub loop-client-preserved : goal.loop-client-preserved

@@ -7,7 +7,7 @@ use Rattle.rc_base.specs.Drawing.PixelStep.{clear_step}
 use Rattle.rc_base.specs.declared.window.Rect.{Rect}
 use Rattle.rc_base.specs.declared.window.Span.{Span}
 use Rattle.draw_device.specs.Pixels.{pixels_of}
-use Rattle.draw_device.specs.Clips.{IsPartWhere}
+use Rattle.raster.specs.Clips.{IsPartWhere}
 use Rattle.draw_device.specs.Shapes.{row_at, grid_rect, cleared_pixel}
 use Rattle.draw_device.specs.declared.extent.Extent.{Extent}
 use Rattle.draw_device.proofs.Lists.{row_placed}

@@ -1,7 +1,7 @@
 use Rattle.std.proofs.Common.{◌≡◌, Some, rules, subst}
 use Rattle.rc_base.specs.Drawing.Kept.{kept_whole}
 use Rattle.geometry.specs.Beside.{IsBesideIfKept}
-use Rattle.draw_device.specs.Clips.{IsPartWhere, is_let_through}
+use Rattle.raster.specs.Clips.{IsPartWhere, is_let_through}
 use Rattle.draw_device.specs.Pixels.{pixels_of}
 use Rattle.draw_device.specs.Shapes.{grid_rect}
 use Rattle.draw_device.specs.declared.extent.Extent.{Extent}

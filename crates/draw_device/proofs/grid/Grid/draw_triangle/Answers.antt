@@ -1,5 +1,5 @@
 use Rattle.std.proofs.Common.{subst}
-use Rattle.draw_device.specs.Clips.{IsPartWhere, is_let_through}
+use Rattle.raster.specs.Clips.{IsPartWhere, is_let_through}
 use Rattle.draw_device.specs.Pixels.{pixels_of}
 use Rattle.draw_device.specs.Shapes.{grid_rect}
 use Rattle.draw_device.specs.declared.extent.Extent.{Extent}

@@ -1,0 +1,248 @@
+"""What a box in object space gives away: the parcels that the blocks of the example scenes make, by exact boxes and by boxes in object space, for each
+as a scene of version 2 (docs/cluster.md, 'Boxes'), and how many pixels more the boxes have.
+
+    python3 bench/boxes.py [--tiles 4x3] [SCENE ..]
+
+Where the program sort_report is built, the parcels that it tells of the scene as version 2 are compared with what is computed here, box by box, by the
+documents alone:
+    cd crates/sort_report && rt run -- 1 1 < ../../examples/red.rcs
+"""
+import argparse
+import pathlib
+import subprocess
+import sys
+
+import scene_forms
+from scene_forms import OPCODES
+
+HERE = pathlib.Path(__file__).resolve().parent
+PROGRAM = HERE.parent / "crates/sort_report/out/sort_report"
+ONE, NEAR_W, CLIP_BOUND = 65536, 256, 2**46
+PLACE_BOUND, DEPTH_BOUND, DEPTH_MOST = 2**20, 2**30, 16777215
+IDENTITY = [ONE if i % 5 == 0 else 0 for i in range(16)]
+SENT_TO_ALL = {OPCODES[name] for name in ("SharedImage", "Barrier", "SemP", "SemV", "Swap")}
+
+
+def applied(m, v):
+    """The matrix times the vector, each row rounded down."""
+    return [sum(m[4 * c + r] * v[c] for c in range(4)) // ONE for r in range(4)]
+
+
+def applied_over(m, b):
+    """The same of a vector of intervals."""
+    ends = [[(m[4 * c + r] * b[c][0], m[4 * c + r] * b[c][1]) for c in range(4)] for r in range(4)]
+    return [(sum(map(min, row)) // ONE, sum(map(max, row)) // ONE) for row in ends]
+
+
+def product(a, b):
+    return [n for c in range(4) for n in applied(a, b[4 * c : 4 * c + 4])]
+
+
+def quotient_over(n, d):
+    return (n[0] // d[1] if n[0] >= 0 else n[0] // d[0], n[1] // d[0] if n[1] >= 0 else n[1] // d[1])
+
+
+class Context:
+    """What a client has set, as far as boxes depend on it."""
+
+    def __init__(self, width, height):
+        self.matrices, self.mode = [[IDENTITY], [IDENTITY]], 0
+        self.viewport = self.scissor = (0, 0, width, height)
+        self.scissor_on = self.cull_on = False
+        self.cull_face, self.front_face = 1, 0
+        self.depth_range = (0, ONE)
+        self.shape, self.vertices = None, []
+
+    def issue(self, name, numbers):
+        """The shape and the vertices of a block that ends here. A scene whose commands are refused isn't for this reader."""
+        stack = self.matrices[self.mode]
+        if name == "Begin":
+            self.shape, self.vertices = numbers[0], []
+        elif name == "Vertex":
+            self.vertices.append(numbers)
+        elif name == "End":
+            return self.shape, self.vertices
+        elif name in ("Enable", "Disable"):
+            on = name == "Enable"
+            self.scissor_on, self.cull_on = (on if numbers[0] == 0 else self.scissor_on), (on if numbers[0] == 4 else self.cull_on)
+        elif name == "MatrixMode":
+            self.mode = numbers[0]
+        elif name == "LoadIdentity":
+            stack[-1] = IDENTITY
+        elif name == "LoadMatrix":
+            stack[-1] = list(numbers)
+        elif name == "MultMatrix":
+            stack[-1] = product(stack[-1], numbers)
+        elif name == "PushMatrix":
+            stack.append(stack[-1])
+        elif name == "PopMatrix":
+            stack.pop()
+        elif name == "Viewport":
+            self.viewport = numbers
+        elif name == "Scissor":
+            self.scissor = numbers
+        elif name == "DepthRange":
+            self.depth_range = numbers
+        elif name == "CullFace":
+            self.cull_face = numbers[0]
+        elif name == "FrontFace":
+            self.front_face = numbers[0]
+        return None
+
+    def place(self, c):
+        """A vertex in clip coordinates, in the window: sixteenths of a pixel. None where it drops its triangle."""
+        x, y, z, w = c
+        if w <= 0:
+            return None
+        left, bottom, width, height = self.viewport
+        near, far = self.depth_range
+        at = (16 * left + (x + w) * width * 16 // (2 * w), 16 * bottom + (y + w) * height * 16 // (2 * w))
+        depth = ((far - near) * z + (near + far) * w) * DEPTH_MOST // (131072 * w)
+        return at if max(map(abs, at)) <= PLACE_BOUND and abs(depth) <= DEPTH_BOUND else None
+
+    def is_shown(self, corners):
+        (ax, ay), (bx, by), (cx, cy) = corners
+        area = (bx - ax) * (cy - ay) - (by - ay) * (cx - ax)
+        front = area < 0 if self.front_face else area > 0
+        return area != 0 and not (self.cull_on and (self.cull_face == 2 or front == (self.cull_face == 0)))
+
+    def visible(self, box):
+        """The rectangle of pixels whose centres lie in the box, cut by the viewport and the scissor box."""
+        (x0, x1), (y0, y1) = box
+        rect = [-(-(x0 - 8) // 16), -(-(y0 - 8) // 16), (x1 - 8) // 16 + 1, (y1 - 8) // 16 + 1]
+        for x, y, w, h in [self.viewport] + [self.scissor] * self.scissor_on:
+            rect = [max(rect[0], x), max(rect[1], y), min(rect[2], x + w), min(rect[3], y + h)]
+        return rect
+
+    def exact(self, shape, vertices):
+        """The box of the kept pieces, which are what is drawn."""
+        clip = [applied(self.matrices[1][-1], applied(self.matrices[0][-1], v)) for v in vertices]
+        places = []
+        for triple in triangles(shape, len(vertices)):
+            for piece in pieces([clip[i] for i in triple]):
+                corners = [self.place(c) for c in piece]
+                if None not in corners and self.is_shown(corners):
+                    places += corners
+        if not places:
+            return None
+        xs, ys = [x for x, _ in places], [y for _, y in places]
+        return self.visible(((min(xs), max(xs)), (min(ys), max(ys))))
+
+    def over(self, shape, vertices):
+        """The box in object space, and whether it comes nearer than the near plane."""
+        standing = {i for triple in triangles(shape, len(vertices)) for i in triple}
+        if not standing:
+            return None, False
+        b = [(min(vertices[i][c] for i in standing), max(vertices[i][c] for i in standing)) for c in range(4)]
+        d = applied_over(self.matrices[1][-1], applied_over(self.matrices[0][-1], b))
+        w = d[3]
+        if w[0] < NEAR_W:
+            x, y, wide, high = self.viewport
+            return self.visible(((16 * x, 16 * (x + wide)), (16 * y, 16 * (y + high)))), True
+        box = []
+        for i in range(2):
+            origin, size = self.viewport[i], self.viewport[2 + i]
+            q = quotient_over(tuple((d[i][end] + w[end]) * size * 16 for end in range(2)), (2 * w[0], 2 * w[1]))
+            box.append((16 * origin + q[0], 16 * origin + q[1]))
+        return self.visible(box), False
+
+
+def triangles(shape, n):
+    if shape == 0:
+        return [(3 * i, 3 * i + 1, 3 * i + 2) for i in range(n // 3)]
+    if shape == 1:
+        return [(i + 1, i, i + 2) if i % 2 else (i, i + 1, i + 2) for i in range(n - 2)]
+    return [(0, i + 1, i + 2) for i in range(n - 2)]
+
+
+def pieces(corners):
+    """What is in front of the near plane, as triangles."""
+    if any(abs(n) > CLIP_BOUND for c in corners for n in c):
+        return []
+    polygon = []
+    for a, b in zip(corners, corners[1:] + corners[:1]):
+        if a[3] >= NEAR_W:
+            polygon.append(a)
+        if (a[3] >= NEAR_W) != (b[3] >= NEAR_W):
+            near, far = (a, b) if a[3] >= NEAR_W else (b, a)
+            polygon.append([p + (q - p) * (near[3] - NEAR_W) // (near[3] - far[3]) for p, q in zip(near, far)])
+    return [(polygon[0], polygon[i + 1], polygon[i + 2]) for i in range(len(polygon) - 2)]
+
+
+class Tiles:
+    def __init__(self, scene, columns, rows):
+        across, up = min(columns, scene.width), min(rows, scene.height)
+        self.columns = [(j * scene.width // across, (j + 1) * scene.width // across) for j in range(across)]
+        self.rows = [(j * scene.height // up, (j + 1) * scene.height // up) for j in range(up)]
+        self.count = across * up
+
+    def met(self, rect):
+        """How many tiles have a pixel of the rectangle, and how many pixels of the window are in it."""
+        if rect is None:
+            return 0, 0
+        x0, y0, x1, y1 = rect
+        wide = [min(x1, b) - max(x0, a) for a, b in self.columns]
+        high = [min(y1, b) - max(y0, a) for a, b in self.rows]
+        wide, high = [n for n in wide if n > 0], [n for n in high if n > 0]
+        return len(wide) * len(high), sum(wide) * sum(high)
+
+
+def counted(scene, tiles):
+    """Of all clients: blocks, those near the eye; and for exact boxes and boxes in object space, parcels of blocks and pixels; all other parcels."""
+    blocks = near = others = 0
+    parcels, pixels = [0, 0], [0, 0]
+    for stream in scene.streams:
+        context = Context(scene.width, scene.height)
+        for opcode, numbers, _ in stream:
+            name = scene_forms.COMMANDS[opcode][0]
+            block = context.issue(name, numbers)
+            if block is not None:
+                box, is_near = context.over(*block)
+                blocks, near = blocks + 1, near + is_near
+                for i, rect in enumerate((context.exact(*block), box)):
+                    met, covered = tiles.met(rect)
+                    parcels[i] += met
+                    pixels[i] += covered
+            elif name == "Clear":
+                window = [0, 0, scene.width, scene.height]
+                x, y, w, h = context.scissor if context.scissor_on else window
+                others += tiles.met([x, y, x + w, y + h])[0]
+            elif opcode in SENT_TO_ALL:
+                others += tiles.count
+        others += tiles.count
+    return blocks, near, parcels, pixels, others
+
+
+def told(data, tiles):
+    """The parcels that sort_report tells."""
+    words = [PROGRAM, str(len(tiles.columns)), str(len(tiles.rows))]
+    lines = subprocess.run(words, input=data, stdout=subprocess.PIPE, check=True).stdout.decode().splitlines()
+    return sum(int(line.split()[3]) for line in lines)
+
+
+def main():
+    parser = argparse.ArgumentParser(description=__doc__, formatter_class=argparse.RawDescriptionHelpFormatter)
+    parser.add_argument("--tiles", default="4x3", help="columns and rows of tiles (4x3)")
+    parser.add_argument("scenes", nargs="*", type=pathlib.Path, help="scene files (all of examples/)")
+    args = parser.parse_args()
+    columns, rows = (int(side) for side in args.tiles.split("x"))
+    built = PROGRAM.exists()
+    if not built:
+        print("sort_report isn't built: nothing is compared", file=sys.stderr)
+    print(f"{'scene':<18} {'blocks':>7} {'near':>5} {'exact':>8} {'object':>8} {'more':>6} {'all, more':>10} {'pixels, more':>13}")
+    for path in args.scenes or sorted((HERE.parent / "examples").glob("*.rcs")):
+        data = path.read_bytes()
+        data = data[:3] + b"2" + data[4:]
+        scene = scene_forms.read(data)
+        tiles = Tiles(scene, columns, rows)
+        blocks, near, (exact, over), (covered, boxed), others = counted(scene, tiles)
+        if not blocks:
+            continue
+        if built and told(data, tiles) != over + others:
+            sys.exit(f"{path.stem}: sort_report tells {told(data, tiles)} parcels, and not {over + others}")
+        more = [f"{n / max(d, 1) - 1:.1%}" for n, d in ((over, exact), (over + others, exact + others), (boxed, covered))]
+        print(f"{path.stem:<18} {blocks:>7} {near:>5} {exact:>8} {over:>8} {more[0]:>6} {more[1]:>10} {more[2]:>13}", flush=True)
+
+
+if __name__ == "__main__":
+    main()

@@ -1,0 +1,7 @@
+pub mod BeforeStands
+pub mod PlacesOfOperations
+pub mod JournalsGoOn
+pub mod ClocksOfEntries
+pub mod ChangesInTurn
+pub mod GatesOfMembers
+pub mod WalkedEntries

@@ -1,0 +1,4 @@
+pub mod Before
+pub mod Clocks
+pub mod Timelines
+pub mod Laws

@@ -1,0 +1,96 @@
+//! Vector clocks, kept as each client's changes.
+ghost use Rattle.std.specs.Prelude.{◌≡◌, ◌≢◌, ◌+◌, ◌<◌, ◌^◌, ℕ, max, length, slice_index, slice_index_or, [], IfOk, OnOk};
+ghost use Rattle.happens_before.specs.Clocks.{up_to, raised, only};
+ghost use Rattle.happens_before.specs.Timelines.{before_at, clock_of, AreChanges, AreOrdered, AreTimelines};
+ghost use Rattle.rc_base.specs.declared.sync.Name.{Name as AnyName};
+
+use rc_base::items::Items;
+use rc_base::out_of_memory::OutOfMemory;
+use rc_base::sync::Name;
+use std::alloc::Global;
+
+/// From this place on a client's names have these names of each client before them: so many, from place 0 on.
+#[derive(Clone, Copy)]
+pub struct Change {
+    pub from: u32,
+    pub before: [u32; 8],
+}
+
+/// The changes of each of eight clients, places rising.
+#[derive(Drop)]
+pub struct Timelines {
+    pub clients: Vec<Items<Change>>,
+}
+
+/// The greater number of each client.
+fn join(into: &mut [u32; 8], other: &[u32; 8])
+    ensures { (client : ℕ) → slice_index into.new client ≡ max (slice_index into.old client) (slice_index other.now client) }
+{
+    for client in 0..8usize {
+        into[client] = into[client].max(other[client]);
+    }
+}
+
+/// What is before a place, as the last change says that isn't behind it.
+fn before_at(changes: &[Change], place: u32) -> [u32; 8]
+    requires { (end : ℕ) × AreChanges 0 changes.now end }
+    ensures { result ≡ before_at changes.now place }
+{
+    let count = changes.partition_point(|change| change.from <= place);
+    if count == 0 {
+        return [0; 8];
+    }
+    changes[count - 1].before
+}
+
+impl Timelines {
+    /// Nothing is before any name but the earlier ones of its client.
+    pub fn new(alloc: Global) -> Result<Timelines, OutOfMemory>
+        ensures timelines { IfOk result (λ t. AreTimelines t.clients.items (λ c. 0)) }
+        ensures empty { IfOk result (λ t. (client : ℕ) → slice_index_or t.clients.items client [] ≡ []) }
+    {
+        let mut clients = Vec::new(alloc);
+        for _ in 0..8usize {
+            clients.push(Items::new(alloc))?;
+        }
+        Ok(Timelines { clients })
+    }
+
+    /// How many names of each client are before a client's name at a place, without the client's own.
+    pub fn before(&self, client: u8, place: u32) -> [u32; 8]
+        requires timelines { AreOrdered self.now.clients.items }
+        requires client { client < 8 }
+        ensures { result ≡ before_at (slice_index_or self.now.clients.items client []) place }
+    {
+        before_at(self.clients[client as usize].as_slice(), place)
+    }
+
+    /// Counts a name and what is before it.
+    pub fn count(&self, gate: &mut [u32; 8], name: Name)
+        requires timelines { AreOrdered self.now.clients.items }
+        requires client { name.client < 8 }
+        requires place { name.place + 1 < 2 ^ 32 }
+        ensures { (client : ℕ) → slice_index gate.new client ≡ max (slice_index gate.old client) (up_to (clock_of self.now.clients.items) name client) }
+    {
+        let before = self.before(name.client, name.place);
+        join(gate, &before);
+        let own = name.client as usize;
+        gate[own] = gate[own].max(name.place + 1);
+    }
+
+    /// From a place on, which lies at or behind all changes of the client, its names have these before them too.
+    pub fn raise(&mut self, client: u8, from: u32, gate: &[u32; 8]) -> Result<(), OutOfMemory>
+        requires timelines { AreOrdered self.old.clients.items }
+        requires client { client < 8 }
+        requires late { AreChanges 0 (slice_index_or self.old.clients.items client []) from }
+        ensures clock { OnOk result ((n : AnyName) (d : ℕ) → clock_of self.new.clients.items n d ≡ raised (clock_of self.old.clients.items) (only client from) (slice_index gate.now) n d) }
+        ensures changes { OnOk result (AreChanges 0 (slice_index_or self.new.clients.items client []) from) }
+        ensures others { OnOk result ((c : ℕ) → c ≢ client → slice_index_or self.new.clients.items c [] ≡ slice_index_or self.old.clients.items c []) }
+        ensures count { OnOk result (length self.new.clients.items ≡ 8) }
+    {
+        let mut before = self.before(client, from);
+        join(&mut before, gate);
+        self.clients[client as usize].push(Change { from, before })?;
+        Ok(())
+    }
+}

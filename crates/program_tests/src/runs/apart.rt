@@ -1,0 +1,138 @@
+//! Scenes whose clients are drawn apart and put together by depth, by `last`.
+use super::orders::BLENDED_IN_TURN;
+use super::rows::ADDED_QUAD;
+use super::{Host, left_on, run_on, run_text, sink, source_of};
+use rc_base::outside::Sink;
+use std::alloc::Global;
+
+// Two clients cover a pixel at one depth.
+const EQUALLY_NEAR: &[u8] = b"scene 1 1 1
+client
+Enable 2
+Color 255 0 0 255
+Begin 0
+Vertex -65536 -65536 0 65536
+Vertex 196608 -65536 0 65536
+Vertex -65536 196608 0 65536
+End
+Swap
+client
+Enable 2
+Color 0 0 255 255
+Begin 0
+Vertex -65536 -65536 0 65536
+Vertex 196608 -65536 0 65536
+Vertex -65536 196608 0 65536
+End
+Swap
+";
+
+// The same in two frames: the later client covers the pixel in the first one, the earlier client in the second one.
+const ONE_FRAME_EACH: &[u8] = b"scene 1 1 1
+client
+Enable 2
+Swap
+Color 255 0 0 255
+Begin 0
+Vertex -65536 -65536 0 65536
+Vertex 196608 -65536 0 65536
+Vertex -65536 196608 0 65536
+End
+Swap
+client
+Enable 2
+Color 0 0 255 255
+Begin 0
+Vertex -65536 -65536 0 65536
+Vertex 196608 -65536 0 65536
+Vertex -65536 196608 0 65536
+End
+Swap
+Swap
+";
+
+// A cleared frame and a nearer one over it, and then a client waits for a Swap that never comes; commands are refused on the way.
+const CLEARED_AND_STUCK: &[u8] = b"scene 1 1 1
+client
+End
+ClearColor 0 255 0 255
+Clear 3
+Swap
+client
+Enable 2
+Color 0 0 255 255
+Begin 0
+Vertex -65536 -65536 -65536 65536
+Vertex 196608 -65536 -65536 65536
+Vertex -65536 196608 -65536 65536
+End
+Swap
+Begin 3
+Swap
+";
+
+const CLEARED_AND_STUCK_REPORT: &str =
+    "client 0 fault INVALID_OPERATION at 0\nclient 1 fault INVALID_ENUM at 8\njournal 1\nframes 1\nstuck client 1 at 9 Swap\nrc: stuck\n";
+
+// A client that waits for ever, and behind that clears what isn't its own to clear.
+const CLEARED_BEHIND_ITS_REACH: &[u8] = b"scene 1 1 1\nclient\nclient\nSwap\nClear 1\nClear 1\n";
+
+#[test]
+fn layers_are_put_together_by_depth(rt: HostRuntime) {
+    let red = b"P6\n1 1\n255\n\xff\0\0".as_slice();
+    let blue = b"P6\n1 1\n255\n\0\0\xff".as_slice();
+    let blue_twice = b"P6\n1 1\n255\n\0\0\xffP6\n1 1\n255\n\0\0\xff".as_slice();
+    let rows = [
+        (EQUALLY_NEAR, 0, red, "journal 1\nframes 1\n"),
+        (ONE_FRAME_EACH, 0, blue_twice, "journal 2\nframes 2\n"),
+        (CLEARED_AND_STUCK, 5, blue, CLEARED_AND_STUCK_REPORT),
+        (ADDED_QUAD, 12, b"".as_slice(), "rc: not for last 0 8\n"),
+        (
+            BLENDED_IN_TURN,
+            12,
+            b"".as_slice(),
+            "rc: not for last 0 3\n",
+        ),
+        (
+            CLEARED_BEHIND_ITS_REACH,
+            12,
+            b"".as_slice(),
+            "rc: not for last 1 1\n",
+        ),
+    ];
+    for (text, due, frames, report) in rows {
+        let left = run_text(&rt, rt.alloc(), &["last"], text);
+        assert!(rt; left.is(due, frames, report.as_bytes()) && left.kept.is_none());
+    }
+}
+
+// The status of `last`, and how much image and notes hold, where the image fails at its second put of 4 bytes and the notes at theirs of 16.
+fn told_in_part(rt: &impl Host, alloc: Global, text: &[u8], fails: &[u64]) -> (u8, usize, usize) {
+    let scene = run_on(rt, alloc, &["pack"], text);
+    let left = left_on(
+        rt,
+        alloc,
+        &["last"],
+        source_of(rt, alloc, scene.image.bytes(), &[]),
+        sink(rt, alloc, 4, fails),
+        sink(rt, alloc, 16, &[2]),
+    );
+    (
+        left.status,
+        left.image.bytes().len(),
+        left.notes.bytes().len(),
+    )
+}
+
+#[test]
+fn failing_ends_change_no_more_than_those_of_other_jobs(rt: HostRuntime) {
+    let rows: [(&[u8], &[u64], (u8, usize, usize)); 4] = [
+        (ADDED_QUAD, &[], (12, 0, 16)),
+        (EQUALLY_NEAR, &[], (8, 14, 16)),
+        (EQUALLY_NEAR, &[2], (6, 4, 16)),
+        (CLEARED_AND_STUCK, &[2], (5, 4, 16)),
+    ];
+    for (text, fails, due) in rows {
+        assert!(rt; told_in_part(&rt, rt.alloc(), text, fails) == due);
+    }
+}

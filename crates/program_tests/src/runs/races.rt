@@ -1,0 +1,163 @@
+//! Scenes whose commands synchronisation orders, or leaves unordered, by `race`.
+use super::orders::{BLENDED_IN_TURN, PRODUCED_AND_CONSUMED};
+use super::seeds::{BLENDED_AT_ONCE, SHARED_BEHIND_A_BARRIER};
+use super::{CLEAR_IN_BLOCK, Host, left_on, run_on, run_text, sink, source_of};
+use rc_base::outside::Sink;
+use std::alloc::Global;
+
+// One client writes a shared texture, the other one draws with it, and no barrier stands between.
+const SHARED_AT_ONCE: &[u8] = b"scene 1 8 2
+shared 2 1
+client
+SharedImage 1 0 0 2 1 ff0000ff00ff00ff
+Swap
+client
+BindTexture 1 1
+Enable 5
+TexEnv 1
+TexCoord -1 0
+Begin 0
+Vertex -65536 -65536 0 65536
+Vertex 196608 -65536 0 65536
+Vertex -65536 196608 0 65536
+End
+Swap
+";
+
+// Client 0 meets client 1, and then at once client 2: what stands before the first meeting isn't before what stands behind the second one.
+const MEETINGS_IN_A_ROW: &[u8] = b"scene 1 1 1
+barrier 2
+barrier 2
+client
+Barrier 1
+Barrier 2
+Swap
+client
+Begin 0
+Vertex -65536 -65536 0 65536
+Vertex 196608 -65536 0 65536
+Vertex -65536 196608 0 65536
+End
+Barrier 1
+Swap
+client
+Barrier 2
+Begin 0
+Vertex -65536 -65536 0 65536
+Vertex 196608 -65536 0 65536
+Vertex -65536 196608 0 65536
+End
+Swap
+";
+
+// The same with a command of client 0 between its meetings, which both parts meet in.
+const COMMAND_BETWEEN_MEETINGS: &[u8] = b"scene 1 1 1
+barrier 2
+barrier 2
+client
+Barrier 1
+Color 1 2 3 4
+Barrier 2
+Swap
+client
+Clear 1
+Barrier 1
+Swap
+client
+Barrier 2
+Clear 1
+Swap
+";
+
+// Two clients clear a pixel, and then one of them waits for ever.
+const CLEARED_AND_STUCK: &[u8] = b"scene 1 1 1
+semaphore 0
+client
+Clear 1
+SemP 1
+client
+Clear 1
+End
+";
+
+const CLEARED_AND_STUCK_REPORT: &str =
+    "client 1 fault INVALID_OPERATION at 1\njournal 0\nframes 0\nrace 0 0 1 0 pixel 0 0\nstuck client 0 at 1 SemP 1\nrc: stuck\n";
+
+// A row that is stuck and has no race.
+const STUCK_ALONE: &[u8] = b"scene 1 1 1\nbarrier 2\nclient\nClear 1\nBarrier 1\n";
+
+#[test]
+fn races_are_told(rt: HostRuntime) {
+    let rows = [
+        (BLENDED_IN_TURN, 0, "journal 5\nframes 1\nrace none\n"),
+        (
+            BLENDED_AT_ONCE,
+            11,
+            "journal 1\nframes 1\nrace 0 7 1 7 pixel 0 0\n",
+        ),
+        (
+            SHARED_BEHIND_A_BARRIER,
+            0,
+            "journal 2\nframes 1\nrace none\n",
+        ),
+        (
+            SHARED_AT_ONCE,
+            11,
+            "journal 1\nframes 1\nrace 0 0 1 8 shared 1\n",
+        ),
+        (PRODUCED_AND_CONSUMED, 0, "journal 7\nframes 1\nrace none\n"),
+        (
+            MEETINGS_IN_A_ROW,
+            11,
+            "journal 3\nframes 1\nrace 1 4 2 5 pixel 0 0\n",
+        ),
+        (
+            COMMAND_BETWEEN_MEETINGS,
+            0,
+            "journal 3\nframes 1\nrace none\n",
+        ),
+        (CLEARED_AND_STUCK, 5, CLEARED_AND_STUCK_REPORT),
+        (
+            STUCK_ALONE,
+            5,
+            "journal 0\nframes 0\nrace none\nstuck client 0 at 1 Barrier 1\nrc: stuck\n",
+        ),
+    ];
+    for (text, due, report) in rows {
+        let left = run_text(&rt, rt.alloc(), &["race"], text);
+        assert!(rt; left.is(due, b"".as_slice(), report.as_bytes()) && left.kept.is_none());
+    }
+}
+
+#[test]
+fn refused_commands_are_told_before_the_race(rt: HostRuntime) {
+    let left = run_on(&rt, rt.alloc(), &["race"], &CLEAR_IN_BLOCK);
+    let report = b"client 0 fault INVALID_OPERATION at 1\njournal 1\nframes 1\nrace none\n";
+    assert!(rt; left.is(0, b"".as_slice(), report.as_slice()));
+}
+
+// The status of `race`, and how much the notes hold, where they fail at their second put of 16 bytes.
+fn told_in_part(rt: &impl Host, alloc: Global, text: &[u8]) -> (u8, usize) {
+    let scene = run_on(rt, alloc, &["pack"], text);
+    let left = left_on(
+        rt,
+        alloc,
+        &["race"],
+        source_of(rt, alloc, scene.image.bytes(), &[]),
+        sink(rt, alloc, 4, &[]),
+        sink(rt, alloc, 16, &[2]),
+    );
+    (left.status, left.notes.bytes().len())
+}
+
+#[test]
+fn a_race_stays_found_where_the_notes_fail(rt: HostRuntime) {
+    let rows = [
+        (BLENDED_AT_ONCE, 11),
+        (CLEARED_AND_STUCK, 5),
+        (BLENDED_IN_TURN, 8),
+    ];
+    for (text, due) in rows {
+        assert!(rt; told_in_part(&rt, rt.alloc(), text) == (due, 16));
+    }
+}

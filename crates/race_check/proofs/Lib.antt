@@ -1,0 +1,10 @@
+mod OneVerdict
+mod FoundFirst
+mod VisitedCells
+mod CellsTellLast
+mod RacesAreTold
+mod OrdersAreChecked
+mod TouchesInTurn
+mod TrianglesBeside
+mod CarriedUses
+mod ScenesInTurn

@@ -1,0 +1,5 @@
+pub mod Races
+pub mod Laws
+pub mod Finds
+pub mod Touches
+pub mod Uses

@@ -1,0 +1,52 @@
+-- What a name that touches pixels leaves of their cells, and what it finds.
+use Rattle.std.specs.Prelude.{◌≡◌, ℕ, ◌<◌, ◌&&◌, ◌||◌, Bool, List, pos, ◌≤ℤ◌}
+use Rattle.std.specs.List.{AllByRecursion, list_any}
+use Rattle.rc_base.specs.Cluster.Tiles.{is_in_rect}
+use Rattle.rc_base.specs.Drawing.Cover.{is_inside, is_in_scissor}
+use Rattle.rc_base.specs.Drawing.Touch.{block_touches}
+use Rattle.rc_base.specs.declared.state.Block.{Block}
+use Rattle.rc_base.specs.declared.state.State.{State}
+use Rattle.rc_base.specs.declared.window.Rect.{Rect}
+use Rattle.rc_base.specs.declared.window.WindowVertex.{WindowVertex}
+use Rattle.race_check.specs.Finds.{IsRunIn, offers, runs_have, runs_some, runs_visits, visit_finds, visit_marks}
+use Rattle.race_check.specs.declared.run.Run.{Run}
+use Rattle.race_check.specs.declared.visit.Seen.{Seen}
+use Rattle.race_check.specs.declared.visit.Visit.{Visit}
+
+-- the pixels of the window that pass a test are touched, run by run
+pub record IsTouch (has : ℕ → ℕ → Bool) (v : Visit) (old new : List (List ℕ)) (before after : Seen) : Type 0 where
+  pub runs : List Run
+  pub inside : AllByRecursion (IsRunIn v.width v.height) runs
+  pub exact : (x y : ℕ) → x < v.width → y < v.height → runs_have x y runs ≡ has x y
+  pub cells : new ≡ visit_marks v.name old (runs_visits v.width runs)
+  pub finds : after.best ≡ offers before.best (visit_finds v.name.client v.clock old (runs_visits v.width runs))
+  pub some : after.some ≡ (before.some || runs_some runs)
+
+-- the rectangle lies in the window
+pub record IsPartOf (width height : ℕ) (part : Rect) : Type 0 where
+  pub left : pos 0 ≤ℤ part.x0
+  pub right : part.x1 ≤ℤ pos width
+  pub bottom : pos 0 ≤ℤ part.y0
+  pub top : part.y1 ≤ℤ pos height
+
+abbrev pub window_rect : ℕ → ℕ → Rect
+window_rect width height = record { x0 = pos 0; y0 = pos 0; x1 = pos width; y1 = pos height }
+
+-- the triangle covers the pixel of the part
+abbrev pub triangle_has : List WindowVertex → Rect → ℕ → ℕ → Bool
+triangle_has v part x y = is_inside v (pos x) (pos y) && is_in_rect part (pos x) (pos y)
+
+-- one of the triangles does
+abbrev pub triangles_have : List (List WindowVertex) → Rect → ℕ → ℕ → Bool
+triangles_have vs part x y = list_any (λ v. triangle_has v part x y) vs
+
+-- the block touches the pixel
+abbrev pub block_has : State → Block → ℕ → ℕ → Bool
+block_has s block x y = block_touches s block (pos x) (pos y)
+
+abbrev pub part_has : Rect → ℕ → ℕ → Bool
+part_has part x y = is_in_rect part (pos x) (pos y)
+
+-- a Clear reaches the pixel
+abbrev pub clear_has : State → ℕ → ℕ → Bool
+clear_has s x y = is_in_scissor s (pos x) (pos y)

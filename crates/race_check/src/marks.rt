@@ -1,0 +1,129 @@
+//! The tables of a walk along an order: who touched each pixel last, and who wrote and who sampled each shared texture.
+ghost use Rattle.std.specs.Prelude.{◌≡◌, ◌+◌, ◌*◌, ◌<◌, ◌≤◌, ◌^◌, ◌||◌, ◌∷◌, nat_lt, ℕ, length, slice_index_or, [], None, Some, IfOk};
+ghost use Rattle.race_check.specs.Finds.{AreUnused, IsRunIn, offers, finds_in, mark, run_visits, visit_finds, visit_marks, written_finds, sampled_finds};
+
+use crate::cells::Cells;
+use crate::found::Found;
+use crate::run::Run;
+use crate::verdict::Spot;
+use crate::visit::{Seen, Visit};
+use rc_base::out_of_memory::OutOfMemory;
+use rc_base::sync::Name;
+use std::alloc::Global;
+
+// The index of a row's first pixel.
+fn row_start(width: u16, row: u16) -> usize
+    ensures { result ≡ row * width }
+{
+    row as usize * width as usize
+}
+
+// A name touches the pixels of a run: what it finds there is added.
+fn touch_pixels(pixels: &mut Cells, visit: &Visit, run: Run, best: Option<Found>) -> Option<Found>
+    requires client { visit.now.name.client < 8 }
+    requires place { visit.now.name.place + 1 < 2 ^ 32 }
+    requires order { run.from ≤ run.to }
+    requires inside { run.row * visit.now.width + run.to ≤ length pixels.old.cells.items }
+    ensures size { length pixels.new.cells.items ≡ length pixels.old.cells.items }
+    ensures pixels { pixels.new.cells.items ≡ visit_marks visit.now.name pixels.old.cells.items (run_visits visit.now.width run) }
+    ensures best { result ≡ offers best (visit_finds visit.now.name.client visit.now.clock pixels.old.cells.items (run_visits visit.now.width run)) }
+{
+    let mut best = best;
+    let start = row_start(visit.width, run.row);
+    for x in run.from..run.to {
+        let index = start + x as usize;
+        let spot = Spot::Pixel { x, y: run.row };
+        best = pixels.look(index, visit.name.client, &visit.clock, spot, best);
+        pixels.mark(index, visit.name);
+    }
+    best
+}
+
+/// A name touches the pixels of a run.
+pub fn touch_run(pixels: &mut Cells, visit: &Visit, run: Run, seen: Seen) -> Seen
+    requires client { visit.now.name.client < 8 }
+    requires place { visit.now.name.place + 1 < 2 ^ 32 }
+    requires order { run.from ≤ run.to }
+    requires inside { run.row * visit.now.width + run.to ≤ length pixels.old.cells.items }
+    ensures size { length pixels.new.cells.items ≡ length pixels.old.cells.items }
+    ensures pixels { pixels.new.cells.items ≡ visit_marks visit.now.name pixels.old.cells.items (run_visits visit.now.width run) }
+    ensures best { result.best ≡ offers seen.best (visit_finds visit.now.name.client visit.now.clock pixels.old.cells.items (run_visits visit.now.width run)) }
+    ensures some { result.some ≡ (seen.some || nat_lt run.from run.to) }
+{
+    Seen {
+        best: touch_pixels(pixels, visit, run, seen.best),
+        some: seen.some || run.from < run.to,
+    }
+}
+
+/// Of each pixel and client the last place that touched it, and of each shared texture and client the last that wrote it and the last that
+/// sampled it. The sides are in pixels; the pixels' cells stand row by row from the bottom.
+#[derive(Drop)]
+pub struct Marks {
+    pub width: u16,
+    pub height: u16,
+    pub pixels: Cells,
+    pub writers: Cells,
+    pub readers: Cells,
+}
+
+impl Marks {
+    /// Nothing is used.
+    pub fn new(alloc: Global, width: u16, height: u16) -> Result<Marks, OutOfMemory>
+        ensures width { IfOk result (λ m. m.width ≡ width) }
+        ensures height { IfOk result (λ m. m.height ≡ height) }
+        ensures pixels { IfOk result (λ m. AreUnused (height * width) m.pixels.cells.items) }
+        ensures writers { IfOk result (λ m. AreUnused 256 m.writers.cells.items) }
+        ensures readers { IfOk result (λ m. AreUnused 256 m.readers.cells.items) }
+    {
+        Ok(Marks {
+            width,
+            height,
+            pixels: Cells::new(alloc, row_start(width, height))?,
+            writers: Cells::new(alloc, 256)?,
+            readers: Cells::new(alloc, 256)?,
+        })
+    }
+
+    /// A name writes a shared texture.
+    pub fn write(&mut self, name: Name, clock: &[u32; 8], texture: u8) -> Option<Found>
+        requires client { name.client < 8 }
+        requires place { name.place + 1 < 2 ^ 32 }
+        requires writers { length self.old.writers.cells.items ≡ 256 }
+        requires readers { length self.old.readers.cells.items ≡ 256 }
+        ensures same { (self.new.width ≡ self.old.width) × (self.new.height ≡ self.old.height) × (self.new.pixels ≡ self.old.pixels) × (self.new.readers ≡ self.old.readers) }
+        ensures writers { self.new.writers.cells.items ≡ mark name self.old.writers.cells.items texture }
+        ensures best { result ≡ offers None (written_finds name.client clock.now self.old.writers.cells.items self.old.readers.cells.items (Some texture)) }
+    {
+        let index = texture as usize;
+        let spot = Spot::Shared(texture);
+        let written = self.writers.look(index, name.client, clock, spot, None);
+        let best = self.readers.look(index, name.client, clock, spot, written);
+        self.writers.mark(index, name);
+        best
+    }
+
+    /// A name samples a shared texture.
+    pub fn sample(
+        &mut self,
+        name: Name,
+        clock: &[u32; 8],
+        texture: u8,
+        best: Option<Found>,
+    ) -> Option<Found>
+        requires client { name.client < 8 }
+        requires place { name.place + 1 < 2 ^ 32 }
+        requires writers { length self.old.writers.cells.items ≡ 256 }
+        requires readers { length self.old.readers.cells.items ≡ 256 }
+        ensures same { (self.new.width ≡ self.old.width) × (self.new.height ≡ self.old.height) × (self.new.pixels ≡ self.old.pixels) × (self.new.writers ≡ self.old.writers) }
+        ensures readers { self.new.readers.cells.items ≡ mark name self.old.readers.cells.items texture }
+        ensures best { result ≡ offers best (sampled_finds name.client clock.now self.old.writers.cells.items (Some texture)) }
+    {
+        let index = texture as usize;
+        let found = self
+            .writers
+            .look(index, name.client, clock, Spot::Shared(texture), best);
+        self.readers.mark(index, name);
+        found
+    }
+}

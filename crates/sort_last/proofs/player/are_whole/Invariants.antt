@@ -1,0 +1,9 @@
+use Rattle.std.proofs.Common.{◌≡◌, ℕ, ◌<◌, true}
+use Rattle.std.specs.Prelude.{slice_index_or}
+use Rattle.sort_last.specs.declared.player.Player.{Player}
+use Rattle.sort_last.proofs.player.are_whole.Given as goal
+
+abbrev pub invariant-loop-client : goal.invariant-loop-client
+invariant-loop-client l = record {
+  each : (k : ℕ) (p : Player) → k < l.client → (slice_index_or l.players k p).whole ≡ true;
+}

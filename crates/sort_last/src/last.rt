@@ -1,0 +1,119 @@
+//! The frames of a scene, each client's part drawn apart.
+ghost use Rattle.std.specs.Prelude.{◌≡◌, ℕ, ◌↔◌, true, IfOk, IfErr, IfSome, IsSome};
+ghost use Rattle.rc_base.specs.Formats.Within.{IsWithin};
+ghost use Rattle.rc_base.specs.Drawing.Images.{frame_images};
+ghost use Rattle.rc_base.specs.Orders.Journal.{waiting_of};
+ghost use Rattle.rc_base.specs.Orders.Order.{default_journal, default_order};
+ghost use Rattle.rc_base.specs.Orders.Sync.{sync_lists_of};
+ghost use Rattle.sync_manager.specs.Stored.{wait_at};
+ghost use Rattle.order_model.specs.Report.{frame_count, is_stuck};
+ghost use Rattle.sort_last.specs.Offends.{IsComposable};
+ghost use Rattle.sort_last.specs.Runs.{IsLastFault};
+ghost use Rattle.sort_last.specs.declared.last.LastFault.TheVariants as fault;
+
+use crate::compose::draw_frames;
+use crate::offence::first_offence;
+use rc_base::image::Frames;
+use rc_base::out_of_memory::OutOfMemory;
+use rc_base::scene::Scene;
+use rc_base::sync::{Journal, SyncLists, Waiting};
+use serial_render::{Turns, swap_count, sync_lists, turns_of};
+use std::alloc::Global;
+use std::thread::Threads;
+
+/// Why a scene has no frames: a command keeps its clients from being drawn apart, the first such one, or there was no memory.
+#[derive(Clone, Copy, Debug, PartialEq, Eq)]
+pub enum LastFault {
+    NotLast { client: u8, place: u32 },
+    OutOfMemory,
+}
+
+impl From<OutOfMemory> for LastFault {
+    ghost from_gives = { λ _ e. e ≡ fault.OutOfMemory };
+
+    fn from(_: OutOfMemory) -> LastFault {
+        LastFault::OutOfMemory
+    }
+}
+
+/// The default journal, a frame for each of its Swaps, and where each client is left waiting, if one is.
+#[derive(Drop)]
+pub struct LastRun {
+    pub journal: Journal,
+    pub frames: Frames,
+    pub waiting: Option<Waiting>,
+}
+
+// The run of a scene whose clients can be drawn apart, by what its streams say of synchronisation.
+fn run(
+    rt: &(impl Threads + Sync),
+    alloc: Global,
+    scene: &Scene,
+    syncs: &SyncLists,
+) -> Result<LastRun, OutOfMemory>
+    requires within { IsWithin scene.now }
+    requires syncs { syncs.now ≡ sync_lists_of scene.now }
+    requires composable { IsComposable scene.now }
+    ensures journal { IfOk result (λ r. r.journal ≡ default_journal syncs.now) }
+    ensures frames { IfOk result (λ r. r.frames ≡ frame_images scene.now (default_order syncs.now r.journal) (frame_count r.journal)) }
+    ensures waiting { IfOk result (λ r. IsSome r.waiting ↔ (is_stuck syncs.now r.journal ≡ true)) }
+    ensures at { IfOk result (λ r. IfSome r.waiting (λ w. (client : ℕ) → wait_at w.at client ≡ waiting_of syncs.now r.journal client)) }
+{
+    let Turns {
+        journal,
+        waiting,
+        ..
+    } = turns_of(alloc, syncs)?;
+    let count = swap_count(journal.as_slice());
+    let frames = draw_frames(rt, alloc, scene, syncs, count)?;
+    Ok(LastRun {
+        journal,
+        frames,
+        waiting,
+    })
+}
+
+/// The same as `render_last` of a scene whose streams were surveyed.
+pub fn render_surveyed(
+    rt: &(impl Threads + Sync),
+    alloc: Global,
+    scene: &Scene,
+    syncs: &SyncLists,
+) -> Result<LastRun, LastFault>
+    requires within { IsWithin scene.now }
+    requires syncs { syncs.now ≡ sync_lists_of scene.now }
+    ensures class { IfOk result (λ r. IsComposable scene.now) }
+    ensures fault { IfErr result (λ f. IsLastFault scene.now f) }
+    ensures journal { IfOk result (λ r. r.journal ≡ default_journal syncs.now) }
+    ensures frames { IfOk result (λ r. r.frames ≡ frame_images scene.now (default_order syncs.now r.journal) (frame_count r.journal)) }
+    ensures waiting { IfOk result (λ r. IsSome r.waiting ↔ (is_stuck syncs.now r.journal ≡ true)) }
+    ensures at { IfOk result (λ r. IfSome r.waiting (λ w. (client : ℕ) → wait_at w.at client ≡ waiting_of syncs.now r.journal client)) }
+{
+    if let Some(name) = first_offence(rt, alloc, scene)? {
+        return Err(LastFault::NotLast {
+            client: name.client,
+            place: name.place,
+        });
+    }
+    let run = run(rt, alloc, scene, syncs)?;
+    Ok(run)
+}
+
+/// Each client draws each frame alone into a layer, in as many threads as there are processors, and the layers are put together by depth. The frames
+/// are those that the serial renderer shows in the default order.
+pub fn render_last(
+    rt: &(impl Threads + Sync),
+    alloc: Global,
+    scene: &Scene,
+) -> Result<LastRun, LastFault>
+    requires { IsWithin scene.now }
+    ensures class { IfOk result (λ r. IsComposable scene.now) }
+    ensures fault { IfErr result (λ f. IsLastFault scene.now f) }
+    ensures journal { IfOk result (λ r. r.journal ≡ default_journal (sync_lists_of scene.now)) }
+    ensures frames { IfOk result (λ r. r.frames ≡ frame_images scene.now (default_order (sync_lists_of scene.now) r.journal) (frame_count r.journal)) }
+    ensures waiting { IfOk result (λ r. IsSome r.waiting ↔ (is_stuck (sync_lists_of scene.now) r.journal ≡ true)) }
+    ensures at { IfOk result (λ r. IfSome r.waiting (λ w. (client : ℕ) → wait_at w.at client ≡ waiting_of (sync_lists_of scene.now) r.journal client)) }
+{
+    let syncs = sync_lists(alloc, scene)?;
+    render_surveyed(rt, alloc, scene, &syncs)
+}

@@ -1,0 +1,110 @@
+//! Layers, and putting them together.
+ghost use Rattle.std.specs.Prelude.{◌≡◌, ℕ, ◌<◌, ◌≤◌, length, map, fold, [], slice_index_or};
+ghost use Rattle.rc_base.specs.Drawing.Window.{depth_most};
+ghost use Rattle.rc_base.specs.Drawing.Nearer.{nearer};
+ghost use Rattle.sort_last.specs.Layers.{pixel_in, composite_of};
+ghost use Rattle.sort_last.specs.declared.layer.Layer.{Layer as TheLayer};
+
+use draw_device::nearer_of;
+use rayon::prelude::*;
+use rc_base::command::Rgba;
+use rc_base::window::{Pixel, Pixels};
+use std::alloc::Global;
+use std::thread::Threads;
+
+/// What one client draws of a frame, or several clients put together: the window's pixels, row by row from the lowest, each row from the left.
+///
+/// In a layer of a frame each depth is at most 16777215, and 16777215 only where nothing was drawn: there the colour is 0, 0, 0, 0. The law on the layer
+/// without pixels asks this of a layer; `composite` doesn't.
+#[derive(Drop)]
+pub struct Layer {
+    pub pixels: Pixels,
+}
+
+// A pixel where nothing was drawn.
+const BLANK: Pixel = Pixel {
+    color: Rgba {
+        r: 0,
+        g: 0,
+        b: 0,
+        a: 0,
+    },
+    depth: 16_777_215,
+};
+
+// The pixel at a place; where there is none, a blank one.
+fn pixel_at(pixels: &[Pixel], place: usize) -> Pixel
+    ensures { result ≡ pixel_in pixels.now place }
+{
+    match pixels.get(place) {
+        Some(pixel) => *pixel,
+        None => BLANK,
+    }
+}
+
+// Each pixel becomes the nearer one of itself and of that behind it.
+fn put_behind(front: &mut Vec<Pixel>, behind: &[Pixel])
+    ensures size { length front.new.items ≡ length front.old.items }
+    ensures each { (k : ℕ) → k < length front.old.items → pixel_in front.new.items k ≡ nearer (pixel_in front.old.items k) (pixel_in behind.now k) }
+{
+    for place in 0..front.len() {
+        front[place] = nearer_of(front[place], pixel_at(behind, place));
+    }
+}
+
+// Each pixel becomes the nearer one of that before it and of itself.
+fn put_before(behind: &mut Vec<Pixel>, front: &[Pixel])
+    ensures size { length behind.new.items ≡ length behind.old.items }
+    ensures each { (k : ℕ) → k < length behind.old.items → pixel_in behind.new.items k ≡ nearer (pixel_in front.now k) (pixel_in behind.old.items k) }
+{
+    for place in 0..behind.len() {
+        behind[place] = nearer_of(pixel_at(front, place), behind[place]);
+    }
+}
+
+/// Two layers put together, in the longer one's room: each pixel is b's where that is nearer, else a's. A pixel that one list lacks counts as blank.
+///
+/// It takes no memory. Sort-last rendering puts what its renderers drew together so (Molnar, Cox, Ellsworth and Fuchs, 1994).
+pub fn composite(a: Layer, b: Layer) -> Layer
+    ensures layer { result.pixels ≡ composite_of a.pixels b.pixels }
+    ensures pixels { (k : ℕ) → pixel_in result.pixels k ≡ nearer (pixel_in a.pixels k) (pixel_in b.pixels k) }
+{
+    let mut first = a.pixels.into_vec();
+    let mut second = b.pixels.into_vec();
+    if second.len() <= first.len() {
+        put_behind(&mut first, second.as_slice());
+        Layer {
+            pixels: Pixels::from_vec(first),
+        }
+    } else {
+        put_before(&mut second, first.as_slice());
+        Layer {
+            pixels: Pixels::from_vec(second),
+        }
+    }
+}
+
+/// Layers put together in their order, by as many threads as there are processors, in pieces of at least so many.
+pub(crate) fn merge(
+    rt: &(impl Threads + Sync),
+    alloc: Global,
+    layers: Vec<Layer>,
+    least: usize,
+) -> Layer
+    requires near { (i k : ℕ) → (pixel_in (slice_index_or layers.items i (record { pixels = [] })).pixels k).depth ≤ depth_most }
+    ensures { result.pixels ≡ fold composite_of [] (map (λ (l : TheLayer). l.pixels) layers.items) }
+{
+    layers.into_par_iter().with_min_len(least).reduce(
+        rt,
+        || -> Layer
+            ensures { result.pixels ≡ [] }
+        {
+            Layer {
+                pixels: Pixels::new(alloc),
+            }
+        },
+        |a: Layer, b: Layer| -> Layer
+            ensures { result.pixels ≡ composite_of a.pixels b.pixels }
+        { composite(a, b) },
+    )
+}

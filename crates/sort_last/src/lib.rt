@@ -1,0 +1,19 @@
+//! Composition by depth (sort-last rendering): each client draws each frame alone into a layer, and the layers are put together by depth.
+//!
+//! It is for scenes whose clients only swap, and whose blocks keep the nearest fragment. Which commands keep a scene from it is `specs::Offends`,
+//! what layers are is `specs::Layers`, and that their frames are those of one renderer in the default order is the law `layers_compose_to_frames`.
+//! Contexts are those of gl_context and stream_replay, pixels those of a `Device` of draw_device, the journal that of serial_render, and `rayon` has the
+//! threads.
+#![tactic(auto)]
+
+mod compose;
+mod last;
+mod laws;
+mod layer;
+mod offence;
+mod play;
+mod player;
+
+pub use last::{LastFault, LastRun, render_last, render_surveyed};
+pub use laws::{composite_is_associative, layers_compose_to_frames, layers_have_a_unit};
+pub use layer::{Layer, composite};

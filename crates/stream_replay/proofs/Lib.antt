@@ -1,0 +1,4 @@
+pub mod IssuedCommands
+pub mod AcceptedSwaps
+pub mod ListsGoOn
+pub mod ClientsInTurn

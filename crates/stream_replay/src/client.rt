@@ -1,0 +1,81 @@
+//! What is kept of a client while an order is carried out.
+ghost use Rattle.std.specs.Prelude.{◌≡◌, ℕ, ◌+◌, ◌<◌, length, map, Some, IfOk, OnOk, slice_get, slice_set};
+ghost use Rattle.std.specs.List.{range_with_len};
+ghost use Rattle.rc_base.specs.Formats.Within.{IsWithin};
+ghost use Rattle.rc_base.specs.Contexts.Issue.{stream_of, effect_at};
+ghost use Rattle.rc_base.specs.Drawing.Serial.{is_swap_effect};
+ghost use Rattle.stream_replay.specs.Clients.{client_after};
+
+use crate::replay::issue_at;
+use gl_context::Context;
+use rc_base::out_of_memory::OutOfMemory;
+use rc_base::scene::Scene;
+use rc_base::state::Effect;
+use rc_base::sync::{Name, SyncOp};
+use std::alloc::Global;
+
+/// A client's context, and how many of its Swaps were accepted.
+#[derive(Drop)]
+pub struct Client {
+    /// The context behind the client's commands so far.
+    pub context: Context,
+    /// How many Swaps among them were accepted.
+    pub swaps: usize,
+}
+
+fn is_swap(effect: &Effect) -> bool
+    ensures { result ≡ is_swap_effect effect.now }
+{
+    matches!(effect, Effect::Sync(SyncOp::Swap))
+}
+
+impl Client {
+    /// A client before its first command.
+    fn new(alloc: Global, scene: &Scene) -> Result<Client, OutOfMemory>
+        ensures { IfOk result (λ x. (client : ℕ) → x ≡ client_after scene.now client 0) }
+    {
+        Ok(Client {
+            context: Context::new(alloc, &scene.decl)?,
+            swaps: 0,
+        })
+    }
+
+    /// Issues the client's next command.
+    fn issue(&mut self, scene: &Scene, client: usize, place: usize) -> Result<Effect, OutOfMemory>
+        requires within { IsWithin scene.now }
+        requires inside { place < length (stream_of scene.now client) }
+        requires before { self.old ≡ client_after scene.now client place }
+        ensures client { OnOk result (self.new ≡ client_after scene.now client (place + 1)) }
+        ensures effect { IfOk result (λ e. e ≡ effect_at scene.now client place) }
+    {
+        let effect = issue_at(&mut self.context, scene, client, place)?;
+        self.swaps += usize::from(is_swap(&effect));
+        Ok(effect)
+    }
+}
+
+/// The clients of a scene before their first commands.
+pub fn clients_of(alloc: Global, scene: &Scene) -> Result<Vec<Client>, OutOfMemory>
+    ensures { IfOk result (λ v. v.items ≡ map (λ client. client_after scene.now client 0) (range_with_len 0 (length scene.now.streams))) }
+{
+    let mut clients = Vec::new(alloc);
+    for _ in 0..scene.streams.len() {
+        clients.push(Client::new(alloc, scene)?)?;
+    }
+    Ok(clients)
+}
+
+/// Issues the command of a name, the next one of its client.
+pub fn issue_name(
+    clients: &mut Vec<Client>,
+    scene: &Scene,
+    name: Name,
+) -> Result<Effect, OutOfMemory>
+    requires within { IsWithin scene.now }
+    requires inside { name.place < length (stream_of scene.now name.client) }
+    requires before { slice_get clients.old.items name.client ≡ Some (client_after scene.now name.client name.place) }
+    ensures clients { OnOk result (clients.new.items ≡ slice_set clients.old.items name.client (client_after scene.now name.client (name.place + 1))) }
+    ensures effect { IfOk result (λ e. e ≡ effect_at scene.now name.client name.place) }
+{
+    clients[usize::from(name.client)].issue(scene, usize::from(name.client), name.place as usize)
+}

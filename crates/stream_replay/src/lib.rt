@@ -1,0 +1,12 @@
+//! Clients' streams replayed: the context of each client behind the commands that an order has carried out.
+//!
+//! `issue_at` issues one command of one client and `issue_name` the command of a name, and each gives exactly the effect that `rc_base`'s definition of a
+//! stream gives at that place. Whatever goes along an order of a scene's commands stands on it: the serial renderer draws what it gives, and the
+//! race checker looks at what it touches. It stands on gl_context.
+#![tactic(auto)]
+
+mod client;
+mod replay;
+
+pub use client::{Client, clients_of, issue_name};
+pub use replay::issue_at;

@@ -1,0 +1,35 @@
+//! Commands of a scene, issued by client and place.
+ghost use Rattle.std.specs.Prelude.{◌≡◌, ◌+◌, ◌<◌, length, Some, IfOk, OnOk};
+ghost use Rattle.rc_base.specs.Formats.Within.{IsWithin};
+ghost use Rattle.rc_base.specs.Contexts.Issue.{stream_of, command_at, context_after, effect_at};
+
+use gl_context::Context;
+use rc_base::command::Command;
+use rc_base::out_of_memory::OutOfMemory;
+use rc_base::scene::Scene;
+use rc_base::state::Effect;
+
+/// The command of a client at a place.
+fn command_at(scene: &Scene, client: usize, place: usize) -> &Command
+    requires { place < length (stream_of scene.now client) }
+    ensures { command_at scene.now client place ≡ Some result.now }
+{
+    let commands = scene.streams.as_slice()[client].as_slice();
+    &commands[place]
+}
+
+/// Issues the command of a client at a place, where its commands before it were issued.
+pub fn issue_at(
+    context: &mut Context,
+    scene: &Scene,
+    client: usize,
+    place: usize,
+) -> Result<Effect, OutOfMemory>
+    requires within { IsWithin scene.now }
+    requires inside { place < length (stream_of scene.now client) }
+    requires before { context.old ≡ context_after scene.now client place }
+    ensures context { OnOk result (context.new ≡ context_after scene.now client (place + 1)) }
+    ensures effect { IfOk result (λ e. e ≡ effect_at scene.now client place) }
+{
+    context.issue(place as u32, command_at(scene, client, place))
+}

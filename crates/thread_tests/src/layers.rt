@@ -1,0 +1,300 @@
+//! Clients that are drawn apart and put together by depth: pictures by hand, scenes by chance beside the serial renderer, and commands that offend.
+use crate::rendering::{left_by, packed};
+use rc_base::command::Rgba;
+use rc_base::gate::OpenGate;
+use rc_base::image::Image;
+use rc_base::window::{Pixel, Pixels};
+use scene_file::read_scene;
+use sort_last::{LastFault, Layer, composite, render_last};
+use std::alloc::Global;
+use std::process::Abort;
+use std::sync::Wait;
+use std::thread::Threads;
+
+const ONE_PIXEL: &[u8] = b"scene 1 1 1\n";
+
+// A client whose blocks keep the nearest fragment.
+const CLIENT: &[u8] = b"client\nEnable 2\n";
+
+const RED: &[u8] = b"Color 255 0 0 255\n";
+
+const BLUE: &[u8] = b"Color 0 0 255 255\n";
+
+// A triangle over the whole window.
+const FULL: &[u8] = b"Begin 0
+Vertex -65536 -65536 0 65536
+Vertex 196608 -65536 0 65536
+Vertex -65536 196608 0 65536
+End
+";
+
+// The same, nearer to the eye.
+const NEARER: &[u8] = b"Begin 0
+Vertex -65536 -65536 -32768 65536
+Vertex 196608 -65536 -32768 65536
+Vertex -65536 196608 -32768 65536
+End
+";
+
+const SWAP: &[u8] = b"Swap\n";
+
+const CLEAR: &[u8] = b"Clear 3\n";
+
+// The parts of a text one after the other.
+fn text_of(rt: &impl Abort, alloc: Global, parts: &[&[u8]]) -> Vec<u8> {
+    let mut text = Vec::new(alloc);
+    for part in parts {
+        text.extend_from_slice(*part).expect(rt, "memory");
+    }
+    text
+}
+
+// What is told of a scene: where a command offends first, or how many frames there are, and whether a client waits.
+#[derive(Clone, Copy, PartialEq, Eq)]
+enum Told {
+    Offends(u8, u32),
+    Drawn(usize, bool),
+    NoMemory,
+}
+
+// The r, g, b bytes of the frames are these.
+fn are_shown(frames: &[Image], want: &[u8]) -> bool {
+    let mut at = 0;
+    for frame in frames {
+        let bytes = frame.rgb.as_slice();
+        let end = bytes.len().saturating_add(at);
+        if want.get(at..end) != Some(bytes) {
+            return false;
+        }
+        at = end;
+    }
+    at == want.len()
+}
+
+// What is told of the scene of a text whose frames show these bytes; of other frames, none.
+fn told_of<R>(rt: R, alloc: Global, parts: &[&[u8]], want: &[u8]) -> Option<Told>
+where
+    R: Abort + Threads + Wait + Copy + Send + Sync + Drop,
+{
+    let text = text_of(&rt, alloc, parts);
+    let bytes = packed(rt, alloc, text.as_slice());
+    let scene = read_scene(alloc, bytes.bytes()).expect(&rt, "a scene");
+    match render_last(&rt, alloc, &scene) {
+        Ok(run) => {
+            if are_shown(run.frames.as_slice(), want) && run.journal.len() == run.frames.len() {
+                Some(Told::Drawn(run.frames.len(), run.waiting.is_some()))
+            } else {
+                None
+            }
+        }
+        Err(LastFault::NotLast { client, place }) => Some(Told::Offends(client, place)),
+        Err(LastFault::OutOfMemory) => Some(Told::NoMemory),
+    }
+}
+
+#[test]
+fn of_equally_near_clients_the_first_stays(rt: HostRuntime) {
+    let parts = [ONE_PIXEL, CLIENT, RED, FULL, SWAP, CLIENT, BLUE, FULL, SWAP];
+    let told = told_of(rt, rt.alloc(), &parts, &[255, 0, 0]);
+    assert!(rt; told == Some(Told::Drawn(1, false)));
+}
+
+#[test]
+fn a_nearer_client_covers_the_first(rt: HostRuntime) {
+    let parts = [
+        ONE_PIXEL, CLIENT, RED, FULL, SWAP, CLIENT, BLUE, NEARER, SWAP,
+    ];
+    let told = told_of(rt, rt.alloc(), &parts, &[0, 0, 255]);
+    assert!(rt; told == Some(Told::Drawn(1, false)));
+}
+
+#[test]
+fn layers_are_of_one_frame(rt: HostRuntime) {
+    let parts = [
+        ONE_PIXEL, CLIENT, SWAP, RED, FULL, SWAP, CLIENT, BLUE, FULL, SWAP, SWAP,
+    ];
+    let told = told_of(rt, rt.alloc(), &parts, &[0, 0, 255, 0, 0, 255]);
+    assert!(rt; told == Some(Told::Drawn(2, false)));
+}
+
+#[test]
+fn clears_of_the_first_client_begin_a_frame(rt: HostRuntime) {
+    let parts = [
+        ONE_PIXEL, CLIENT, SWAP, CLEAR, RED, FULL, SWAP, CLIENT, BLUE, FULL, SWAP, SWAP,
+    ];
+    let told = told_of(rt, rt.alloc(), &parts, &[0, 0, 255, 255, 0, 0]);
+    assert!(rt; told == Some(Told::Drawn(2, false)));
+}
+
+#[test]
+fn a_client_with_a_swap_more_waits(rt: HostRuntime) {
+    let parts = [
+        ONE_PIXEL, CLIENT, RED, FULL, SWAP, SWAP, CLIENT, BLUE, FULL, SWAP,
+    ];
+    let told = told_of(rt, rt.alloc(), &parts, &[255, 0, 0]);
+    assert!(rt; told == Some(Told::Drawn(1, true)));
+}
+
+#[test]
+fn the_first_offending_command_is_named(rt: HostRuntime) {
+    let alloc = rt.alloc();
+    let rows: [(&[&[u8]], u8, u32); 9] = [
+        (&[CLIENT, RED, FULL, CLEAR], 0, 7),
+        (&[CLIENT, CLIENT, CLEAR], 1, 1),
+        (&[b"client\n", FULL, CLEAR], 0, 4),
+        (&[CLIENT, b"DepthMask 0\n", FULL], 0, 6),
+        (&[CLIENT, b"DepthFunc 3\n", FULL], 0, 6),
+        (&[CLIENT, b"Enable 3\n", FULL], 0, 6),
+        (&[CLIENT, b"ColorMask 1 1 1 0\n", FULL], 0, 6),
+        (
+            &[CLIENT, SWAP, SWAP, b"Disable 2\n", FULL, CLIENT, SWAP],
+            0,
+            8,
+        ),
+        (
+            &[CLIENT, SWAP, CLIENT, RED, FULL, SWAP, CLEAR, CLIENT, CLEAR],
+            1,
+            8,
+        ),
+    ];
+    for (parts, client, place) in rows {
+        let mut all = vec![in alloc; ONE_PIXEL].expect(&rt, "memory");
+        all.extend_from_slice(parts).expect(&rt, "memory");
+        let told = told_of(rt, alloc, all.as_slice(), &[]);
+        assert!(rt; told == Some(Told::Offends(client, place)));
+    }
+}
+
+#[test]
+fn synchronisation_offends(rt: HostRuntime) {
+    let alloc = rt.alloc();
+    let head: &[u8] = b"scene 1 1 1\nshared 1 1\nbarrier 1\nsemaphore 1\n";
+    for (line, place) in [
+        (b"Barrier 1\n".as_slice(), 1),
+        (b"SemP 1\n", 1),
+        (b"SemV 1\n", 1),
+        (b"SharedImage 1 0 0 1 1 01020304\n", 1),
+    ] {
+        let told = told_of(rt, alloc, &[head, CLIENT, line, SWAP], &[]);
+        assert!(rt; told == Some(Told::Offends(0, place)));
+    }
+}
+
+#[test]
+fn the_longer_layer_stays_long(rt: HostRuntime) {
+    let alloc = rt.alloc();
+    let color = Rgba {
+        r: 1,
+        g: 2,
+        b: 3,
+        a: 4,
+    };
+    let near = Pixel { color, depth: 5 };
+    let far = Pixel { color, depth: 9 };
+    let a = Pixels::from_slice(alloc, &[far]).expect(&rt, "memory");
+    let b = Pixels::from_slice(alloc, &[near, far]).expect(&rt, "memory");
+    let both = composite(Layer { pixels: a }, Layer { pixels: b });
+    assert!(rt; both.pixels.as_slice() == [near, far].as_slice());
+}
+
+const WIDTH: usize = 16;
+
+const HEIGHT: usize = 8;
+
+// The next number of a simple generator.
+fn next(state: u32) -> u32 {
+    state.wrapping_mul(1_664_525).wrapping_add(1_013_904_223)
+}
+
+// A coordinate between -1.5 and 1.5.
+fn coordinate(state: u32) -> i64 {
+    (state >> 8) as i64 % 196_608 - 98_304
+}
+
+fn add(rt: &impl Abort, text: &mut Vec<u8>, line: &[u8]) {
+    text.extend_from_slice(line).expect(rt, "memory");
+}
+
+// Adds a triangle by chance, and gives the generator's next state.
+fn add_triangle(rt: &impl Abort, alloc: Global, text: &mut Vec<u8>, from: u32) -> u32 {
+    let mut state = next(from);
+    let red = state >> 24;
+    state = next(state);
+    let green = state >> 24;
+    let color = format!(in alloc; "Color {red} {green} 128 255\nBegin 0\n").expect(rt, "memory");
+    add(rt, text, color.as_bytes());
+    for _ in 0..3 {
+        state = next(state);
+        let x = coordinate(state);
+        state = next(state);
+        let y = coordinate(state);
+        state = next(state);
+        let z = coordinate(state);
+        let vertex = format!(in alloc; "Vertex {x} {y} {z} 65536\n").expect(rt, "memory");
+        add(rt, text, vertex.as_bytes());
+    }
+    add(rt, text, b"End\n");
+    state
+}
+
+// Four clients that draw triangles by chance, and swap three times; the first one clears before its second and third frame.
+fn by_chance(rt: &impl Abort, alloc: Global, seed: u32) -> Vec<u8> {
+    let mut text = Vec::from_slice(alloc, b"scene 1 16 8\n").expect(rt, "memory");
+    let mut state = next(seed);
+    for client in 0..4u32 {
+        add(rt, &mut text, CLIENT);
+        for frame in 0..3u32 {
+            if client == 0 && frame != 0 {
+                add(rt, &mut text, CLEAR);
+            }
+            for _ in 0..3 {
+                state = add_triangle(rt, alloc, &mut text, state);
+            }
+            add(rt, &mut text, SWAP);
+        }
+    }
+    text
+}
+
+// The r, g, b bytes of a frame in the text of all.
+fn shown_in(image: &[u8], frame: usize) -> &[u8] {
+    let header = b"P6\n16 8\n255\n".len();
+    let size = 3 * WIDTH * HEIGHT;
+    let first = frame % 8 * (header + size) + header;
+    match image.get(first..first + size) {
+        Some(bytes) => bytes,
+        None => &[],
+    }
+}
+
+// The frames are those of the image.
+fn are_frames_of(frames: &[Image], image: &[u8]) -> bool {
+    let mut same = frames.len() == 3;
+    for frame in 0..frames.len() {
+        same &= frames[frame].rgb.as_slice() == shown_in(image, frame);
+    }
+    same
+}
+
+// The scene of a text shows what the serial renderer shows.
+fn is_serial<R>(rt: R, alloc: Global, text: &[u8]) -> bool
+where
+    R: Abort + Threads + Wait + Copy + Send + Sync + Drop,
+{
+    let bytes = packed(rt, alloc, text);
+    let serial = left_by(rt, alloc, &["serial"], bytes.bytes(), &OpenGate);
+    let scene = read_scene(alloc, bytes.bytes()).expect(&rt, "a scene");
+    match render_last(&rt, alloc, &scene) {
+        Ok(run) => are_frames_of(run.frames.as_slice(), serial.image.bytes()),
+        Err(_) => false,
+    }
+}
+
+#[test]
+fn scenes_by_chance_show_what_the_serial_renderer_shows(rt: HostRuntime) {
+    let alloc = rt.alloc();
+    for seed in 0..8u32 {
+        let text = by_chance(&rt, alloc, seed);
+        assert!(rt; is_serial(rt, alloc, text.as_slice()));
+    }
+}
