@@ -1,5 +1,5 @@
 """What a box in object space gives away: the parcels that the blocks of the example scenes make, by exact boxes and by boxes in object space, for each
-as a scene of version 2 (docs/cluster.md, 'Boxes'), and how many pixels more the boxes have.
+as a scene of version 2 (docs/cluster.md, 'Boxes'), and how many pixels more the boxes have. Of a scene with call lists that is its expansion.
 
     python3 bench/boxes.py [--tiles 4x3] [SCENE ..]
 
@@ -13,6 +13,7 @@ import subprocess
 import sys
 
 import scene_forms
+import scene_lists
 from scene_forms import OPCODES
 
 HERE = pathlib.Path(__file__).resolve().parent
@@ -231,7 +232,7 @@ def main():
         print("sort_report isn't built: nothing is compared", file=sys.stderr)
     print(f"{'scene':<18} {'blocks':>7} {'near':>5} {'exact':>8} {'object':>8} {'more':>6} {'all, more':>10} {'pixels, more':>13}")
     for path in args.scenes or sorted((HERE.parent / "examples").glob("*.rcs")):
-        data = path.read_bytes()
+        data = scene_lists.expanded(path.read_bytes())
         data = data[:3] + b"2" + data[4:]
         scene = scene_forms.read(data)
         tiles = Tiles(scene, columns, rows)

@@ -3,15 +3,19 @@
 
     hostile.py [PROGRAM] [--seeds 1,2,3] [--inputs 20000] [--jobs J] [--keep FOLDER] [--only SEED:N]
 
-A seed makes inputs out of sound scenes and texts: those of examples/ that are small, some that the program makes by `gen`, and the ones below. In bytes,
-bits are flipped, bytes set, put in and taken out, spans doubled and moved, counts and lengths set to edge values, scenes cut off and spliced; in the
-commands of a scene, commands are dropped, doubled, moved, taken from another scene, and their numbers set to edge values; in texts also words and lines.
+A seed makes inputs out of sound scenes and texts: those of examples/ that are small, some that the program makes by `gen`, the ones below, and these with call
+lists. In bytes, bits are flipped, bytes set, put in and taken out, spans doubled and moved, counts and lengths set to edge values, scenes cut off and spliced;
+in the commands of a scene, commands are dropped, doubled, moved, taken from another scene, recorded and called, and their numbers set to edge values; in texts also
+words and lines.
 Input N of a seed is the same at each run.
 
 Each run of the program has at most 10 seconds and 2 GB of address space, which is ample (but C's malloc reserves 64 MB for each of many threads, so it is
 told to do so for two). It has to end by itself with a status that its job has.
-- What the bytes of a scene spell, and with which line other bytes are refused, is read off by scene_forms.py, and `render`, `simulate`, `serial`, `check` and
-  `unpack` have to agree with it: the status, the one line, and an empty image. So has `pack` of a text: the line, or the bytes.
+- What the bytes of a scene spell, what its call lists mean, and with which line other bytes are refused, is read off by scene_forms.py and scene_lists.py, and
+  `render`, `simulate`, `serial`, `check` and `unpack` have to agree with it: the status, the one line, and an empty image. So has `pack` of a text: the line, or the
+  bytes.
+- A sound scene with call lists has the runs of its expansion as a scene of version 2, behind the lines of its refused list commands. `serial` draws both. One of
+  more than 20,000 commands, or with much to draw, is given to `check` alone.
 - Of a sound scene `unpack` has to write its text, and `pack` of that the scene's bytes in packets of 1,024 commands; each report is a report and tells the
   refused commands that scene_faults.py finds, each image has the size of the frames that its report tells, and `check` tells what `serial` does. Where
   `render`, `simulate` and `serial` all end with 0, their reports agree. Where no client takes a unit and each barrier that is named counts all clients, the
@@ -42,14 +46,18 @@ import sys
 import tempfile
 import time
 
+import list_scenes
 import scene_faults
 import scene_forms
-from scene_forms import COMMANDS, PICTURES, Refused
+import scene_lists
+from scene_forms import ALL_COMMANDS, DRAWN_VERSIONS, PICTURES, Refused
 
 HERE = pathlib.Path(__file__).resolve().parent
 SECONDS, MEMORY = 10, 2 << 30
 MEETINGS = ("Barrier", "Swap")
 LARGEST_EXAMPLE = 4000
+# What lists may give to a job that draws: so many commands, so many times the window's pixels, and so many bytes of texels.
+MOST_GIVEN, MOST_DRAWN, MOST_TEXELS = 20_000, 1 << 28, 1 << 22
 
 # A `;` stands for the end of a line.
 FULL = "Begin 0;Vertex -65536 -65536 0 65536;Vertex 196608 -65536 0 65536;Vertex -65536 196608 0 65536;End"
@@ -100,7 +108,7 @@ TINY = (
     f"scene 1 16 9;barrier 8;client;{FULL};Barrier 1;Swap" + ";client;Barrier 1;Swap" * 6 + f";client;Barrier 1;{FAN};Swap",
 )
 
-BYTES = (0, 1, 2, 3, 8, 9, 0x1E, 0x20, 0x21, 0x22, 0x23, 0x24, 0x25, 0x40, 0x41, 0x7F, 0x80, 0xFE, 0xFF)
+BYTES = (0, 1, 2, 3, 8, 9, 0x1E, 0x20, 0x21, 0x22, 0x23, 0x24, 0x25, 0x26, 0x27, 0x40, 0x41, 0x7F, 0x80, 0xFE, 0xFF)
 NUMBERS = {1: BYTES, 2: (0, 1, 2, 3, 8, 255, 256, 1023, 1024, 1025, 2047, 2048, 2049, 32767, 32768, 65535),
            4: (0, 1, 2, 3, 255, 65535, 65536, 0x7FFFFFFF, 0x80000000, 0xFFFFFFFE, 0xFFFFFFFF)}
 WORDS = (-2147483648, -2147483647, -1048577, -65537, -65536, -65535, -32769, -32768, -1, 0, 1, 15, 16, 32767, 32768, 65535, 65536, 65537, 131072, 1048576,
@@ -161,7 +169,7 @@ def change_numbers(rng, command):
     opcode, numbers, texels = command
     if not numbers:
         return command
-    layout, numbers, at = COMMANDS[opcode][1], list(numbers), rng.randrange(len(numbers))
+    layout, numbers, at = ALL_COMMANDS[opcode][1], list(numbers), rng.randrange(len(numbers))
     if layout.endswith("i"):
         numbers[at] = rng.choice(WORDS) if rng.randrange(2) else max(-2147483648, min(2147483647, numbers[at] + rng.randint(-70000, 70000)))
     elif layout.endswith("H") and at > 0:
@@ -177,6 +185,9 @@ def change_numbers(rng, command):
 def change_stream(rng, scene, other):
     """One change of a stream."""
     commands = rng.choice(scene.streams)
+    if scene.version == 3 and rng.randrange(3) == 0:
+        list_scenes.change_lists(rng, commands)
+        return
     kind = rng.randrange(7)
     first, last = span(rng, len(commands), 6)
     if kind == 0:
@@ -271,7 +282,9 @@ def make_input(seed, number, scenes, texts):
         return data, True
     data = rng.choice(scenes)
     if rng.randrange(4):
-        scene, other = scene_forms.read(data), scene_forms.read(rng.choice(scenes))
+        scene, other = (scene_forms.read(one, DRAWN_VERSIONS) for one in (data, rng.choice(scenes)))
+        if rng.randrange(12) == 0:
+            scene.version = rng.choice(DRAWN_VERSIONS)
         for _ in range(changes):
             change_scene(rng, scene, other)
         data = scene_forms.scene_bytes(scene, rng.choice((1, 2, 7, 1024)))
@@ -330,9 +343,10 @@ def last_lines(walks, meetings, met):
 
 # ---- judging
 
+LIST_FAULT = r"client [0-7] list fault (INVALID_VALUE|INVALID_OPERATION) at \d+\n"
 FAULT = r"client [0-7] fault (INVALID_ENUM|INVALID_VALUE|INVALID_OPERATION|STACK_OVERFLOW|STACK_UNDERFLOW) at \d+\n"
 STUCK = r"(stuck client [0-7] at \d+ (Swap|(Barrier|SemP) \d+)\n)+rc: stuck\n"
-REPORT = re.compile(rf"(?P<faults>({FAULT})*)(?P<tiles>(tile \d+ parcels \d+ sets \d+ looks \d+\n)*)"
+REPORT = re.compile(rf"(?P<lists>({LIST_FAULT})*)(?P<faults>({FAULT})*)(?P<tiles>(tile \d+ parcels \d+ sets \d+ looks \d+\n)*)"
                     rf"(?P<last>journal \d+\nframes (?P<frames>\d+)\n)(?P<orders>(order \d+ [0-7] \d+\n)*)(?P<stuck>({STUCK})?)")
 
 
@@ -381,13 +395,14 @@ def expect(due, words, data):
         demand(value == wanted, f"{name} {shown!r} for {meant!r} (status {end[0]}, notes {end[2][:200]!r})", words, data)
 
 
-def judge_run(words, data, scene, tiles, due):
+def judge_run(words, data, scene, tiles, due, list_lines):
     """A job that draws a sound scene: its status, its image, and its report by parts."""
     statuses = (5 if due.lines[-1] == "rc: stuck" else 0,) if due.is_full else (0, 5)
     status, image, notes = run(words, data)
     told = REPORT.fullmatch(notes.decode("latin-1"))
     demand(status in statuses and told, f"status {status}, notes {notes[:300]!r}", words, data)
     demand((status == 5) == bool(told["stuck"]), f"status {status} with these notes: {notes[:300]!r}", words, data)
+    demand(told["lists"] == list_lines, f"it tells the list faults {told['lists'][:300]!r} for {list_lines[:300]!r}", words, data)
     demand(told["faults"] == due.faults, f"it tells the faults {told['faults'][:300]!r} for {due.faults[:300]!r}", words, data)
     demand(told["tiles"].count("\n") == tiles, f"the report doesn't tell of {tiles} tiles", words, data)
     head = f"P6\n{scene.width} {scene.height}\n255\n".encode()
@@ -408,16 +423,22 @@ def choose_words(rng, scene):
     return render, ["simulate", "--seed", str(rng.randrange(1 << 64)), *tiles, "--depth", str(rng.choice((1, 2, 3)))], columns * rows
 
 
-def judge_sound(rng, data, scene):
-    """A sound scene: the status of `render`, and whether the images were compared."""
+def judge_sound(rng, data, scene, list_lines=""):
+    """A sound scene: the status of `render`, and whether the images were compared. Of one with call lists the scene is its expansion."""
     due = Due(scene)
+    if data[3:4] == b"3" and is_large(scene):
+        status, image, notes = run(["check"], data)
+        told = REPORT.fullmatch(notes.decode("latin-1"))
+        demand(status in (0, 5) and image == b"" and told, f"status {status}, notes {notes[:300]!r}", ["check"], data)
+        demand((told["lists"], told["faults"]) == (list_lines, due.faults), "it tells other faults", ["check"], data)
+        return status, False
     render, simulate, tiles = choose_words(rng, scene)
     if scene.pixels() > scene_forms.MOST_HELD:
         # What holds all frames at once refuses them, and to write them takes long.
         for words in (simulate, ["serial"]):
             expect((4, b"", f"rc: limit held pixels {scene.pixels()}\n".encode()), words, data)
         return 4, False
-    ends = [judge_run(words, data, scene, count, due) for words, count in ((render, tiles), (simulate, tiles), (["serial"], 0))]
+    ends = [judge_run(words, data, scene, count, due, list_lines) for words, count in ((render, tiles), (simulate, tiles), (["serial"], 0))]
     (status, image, told), (_, stepped, steps), (ended, drawn, serial) = ends
     expect((ended, b"", serial[0].encode()), ["check"], data)
     all_done = all(end[0] == 0 for end in ends)
@@ -432,21 +453,35 @@ def judge_sound(rng, data, scene):
     if compared:
         demand(image == drawn, "the scene is ordered, and the image isn't that of `serial`", render, data)
         demand(stepped == drawn, "the scene is ordered, and the image isn't that of `serial`", simulate, data)
-    text = scene_forms.scene_text(scene)
-    expect((0, text, b""), ["unpack"], data)
-    expect((0, scene_forms.scene_bytes(scene), b""), ["pack"], text)
+    text, plain = scene_forms.scene_text(scene), scene_forms.scene_bytes(scene)
+    expect((0, plain, b""), ["pack"], text)
+    if data[3:4] == b"3":
+        expect((ended, drawn, serial[0].removeprefix(list_lines).encode()), ["serial"], plain)
+    else:
+        expect((0, text, b""), ["unpack"], data)
     return status, compared
+
+
+def is_large(scene):
+    """An expansion that may take long to draw, or is too long for a text."""
+    given = sum(map(len, scene.streams))
+    texels = sum(len(texels) for stream in scene.streams for _, _, texels in stream)
+    return given > MOST_GIVEN or given * scene.width * scene.height > MOST_DRAWN or texels > MOST_TEXELS
 
 
 def judge_scene(rng, data):
     """Bytes that may spell a scene: the status of `render`, and whether images were compared."""
     try:
-        scene = scene_forms.read(data)
+        scene_forms.read(data)
     except Refused as refused:
-        for words in (["render", "--tiles", "2x2"], ["simulate", "--seed", "1", "--depth", "2"], ["serial"], ["check"], ["unpack"]):
+        expect((refused.status, b"", refused.line), ["unpack"], data)
+    try:
+        scene, list_lines = scene_lists.read(data)
+    except Refused as refused:
+        for words in (["render", "--tiles", "2x2"], ["simulate", "--seed", "1", "--depth", "2"], ["serial"], ["check"]):
             expect((refused.status, b"", refused.line), words, data)
         return refused.status, False
-    return judge_sound(rng, data, scene)
+    return judge_sound(rng, data, scene, list_lines)
 
 
 def judge_text(rng, text):
@@ -498,8 +533,10 @@ def sources(program):
         if done.returncode != 0:
             sys.exit(f"hostile.py: `{' '.join(words)}` of {text!r} ends with status {done.returncode}, {done.stderr!r}")
         scenes.append(done.stdout)
+    rng = random.Random(1)
+    lists = [scene_forms.scene_bytes(list_scenes.with_lists(rng, scene_forms.read_text(text), rng.randint(1, 6))) for text in tiny]
     # The tiny ones reach the most in the least time, so they stand twice as often.
-    return scenes + scenes[-len(made):], texts + 2 * tiny
+    return scenes + scenes[-len(made):] + lists, texts + 2 * tiny
 
 
 def show(name, difference, program, keep):

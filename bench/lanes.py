@@ -5,11 +5,13 @@ whole stream to every tile.
     python3 bench/lanes.py [--tiles 4x3]
 
 Bytes of parcels are those that spell them (docs/cluster.md, 'Parcels as bytes'), End parcels among them. A stream's bytes are those of the scene file
-behind its declarations.
+behind its declarations; of one with call lists, those of its expansion.
 """
 import argparse
 import pathlib
 import subprocess
+
+import scene_lists
 
 HERE = pathlib.Path(__file__).resolve().parent
 PROGRAM = HERE.parent / "crates/sort_report/out/sort_report"
@@ -44,7 +46,7 @@ def main():
     scenes = args.scenes or sorted((HERE.parent / "examples").glob("*.rcs"))
     print(f"{'scene':<18} {'parcels':>8} {'bytes':>10} {'streams':>9} {'to all':>11} {'':>6}")
     for path in scenes:
-        scene = path.read_bytes()
+        scene = scene_lists.expanded(path.read_bytes())
         width, height = int.from_bytes(scene[4:6], "little"), int.from_bytes(scene[6:8], "little")
         across, up = min(columns, width), min(rows, height)
         parcels, sent = sent_bytes(scene, across, up)

@@ -15,7 +15,9 @@ import sys
 import tempfile
 import time
 
+from lists import costing
 from scene_forms import LONGEST, MOST_COMMANDS, Scene, command, scene_bytes
+from scene_lists import MOST_COST
 
 HERE = pathlib.Path(__file__).resolve().parent
 SWAP, CLEAR = command("Swap"), command("Clear", 3)
@@ -107,6 +109,11 @@ def scene_of_size(size):
     return base
 
 
+def expansion(cost):
+    """A scene with lists of so much cost: a picture that a list gives over and over."""
+    return Scene(64, 64, [], [], [], [costing(cost)], 3)
+
+
 # What is limited, the scene at its edge in words, the function that makes it, the number at the edge, and the words of `render`.
 EDGES = (
     ("width 2048", "2048 by 2048, a triangle over the whole window", width, 2048, "--tiles 4x4"),
@@ -121,6 +128,7 @@ EDGES = (
     ("16,383 vertices in a block", "a strip over a window of 1024 by 768", vertices, 16_383, "--tiles 4x4"),
     ("33,554,432 held pixels", "8 frames of 2048 by 2048, each cleared", pixels, 8, "--tiles 4x4"),
     ("2,147,483,648 pixels", "512 frames of 2048 by 2048, each cleared", pixels, 512, "--tiles 4x4"),
+    ("67,108,864 of costs", "a list with a picture of 256 by 256 texels, called 255 times", expansion, MOST_COST, "--tiles 4x4"),
     ("33,554,432 input bytes", "eight writes of a shared texture of 1024 by 1024", scene_of_size, LONGEST, "--tiles 4x4"),
 )
 # `serial` holds all frames at once, and takes fewer of them.

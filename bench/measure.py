@@ -5,7 +5,8 @@ and in processor seconds. What reading takes is measured on the same scene with 
 and writing what the swaps add. Mesa prints its own seconds of drawing, those of all its threads together. Processor seconds are user and system time, so that
 what else the machine does counts little.
 
-Where the program sort_report is built (SORT_REPORT names another place), what issuing and sorting take is its run less the reading.
+Where the program sort_report is built (SORT_REPORT names another place), what issuing and sorting take is its run less the reading. Where BEFORE names a program
+that was built earlier, reading and drawing of scenes without lists and filters are compared with it.
 """
 import os
 import subprocess
@@ -133,6 +134,8 @@ def main():
     commands, unread = run("check", path("commands")), run("render", path("commands", "unread"))
     show("1,048,576 commands, check", commands)
     print(f"reading them : checking them = 1 : {(commands[0] - unread[0]) / unread[0]:.1f}")
+    list_ratios()
+    filter_ratios()
     version_ratios()
     state_ratios()
     cluster_ratios()
@@ -161,6 +164,44 @@ def ratio(first, second):
             seconds.append(run("serial", path(*words, "noswap"))[0])
     one, other = (max(min(seconds) - before, 1e-9) for seconds, before in zip(drawn, read))
     return other / one
+
+
+def in_turns(*runs, times=5):
+    """The least processor seconds of each of these runs, a program, its words and a scene. They take turns, since clocks vary."""
+    least = [float("inf")] * len(runs)
+    for _ in range(times):
+        for number, (which, words, scene) in enumerate(runs):
+            least[number] = min(least[number], best_of([which, *words.split()], scene)[0])
+    return least
+
+
+def list_ratios():
+    """What a command takes that a list gives, beside one that is read. Both scenes have a command too many, so they are refused behind that."""
+    count = 1_048_577
+    called, unread, written = in_turns((program, "check", path("called")), (program, "check", path("called", "unread")), (program, "check", path("written")))
+    expanding = max(called - unread, 1e-9)
+    print(f"\na command that a list gives {expanding / count * 1e9:.1f} ns, one that is read {written / count * 1e9:.1f} ns:", end="")
+    print(f" reading : expanding = 1 : {expanding / written:.2f}")
+    sizes = [os.path.getsize(path(name)) for name in ("called", "written")]
+    print(f"bytes of the scene with a list to those of its expansion = 1 : {sizes[1] / sizes[0]:.0f}", flush=True)
+
+
+FILTERS = ("recolour 255 255 255 255", "count", "cull", "drop TexPart", " ".join(["recolour 255 255 255 255"] * 16))
+
+
+def filter_ratios():
+    """What runs behind filters take that leave a scene as it is, to the same runs without; and runs without, to those of an earlier program."""
+    for name in ("usual", "small", "commands"):
+        for job in ("serial", "check") if name != "commands" else ("check",):
+            bare, *chains = in_turns(*((program, f"{filters} {job}", path(name)) for filters in ("", *FILTERS)))
+            told = "  ".join(f"{words} {seconds / bare:.2f}" for words, seconds in zip((*FILTERS[:-1], "16 of recolour"), chains))
+            print(f"{name}, {job} = 1 :  {told}", flush=True)
+    before = os.environ.get("BEFORE")
+    for name in ("usual", "small", "commands") if before else ():
+        for words, scene in (("reading", path(name, "unread")), ("all of check", path(name)), ("all of serial", path(name))):
+            job = "serial" if words == "all of serial" else "check"
+            earlier, now = in_turns((before, job, scene), (program, job, scene))
+            print(f"{name}, {words}: before : now = 1 : {now / earlier:.3f}", flush=True)
 
 
 def version_ratios():

@@ -5,9 +5,12 @@
 
 The tables of the page are told by their first rows:
 - `bytes | line | why` and `bytes | text | line`: bytes in hexadecimal digits, which each job that reads bytes has to refuse with that line alone; and a text, which `pack` has to.
+- `bytes of version 3 | line | why`: bytes that each job but `unpack` has to refuse so, and `unpack` because it doesn't know them.
 - `text | line | why`: a text that `pack` has to refuse so.
 - `commands | line | rule`: the commands of a client, of which `pack`, and then `check`, `race`, `serial`, `simulate` and `render`, have to tell this
   fault and no other.
+- `commands of version 3 | line | rule`: the commands of a client, list commands among them, of which each job but `unpack` has to tell this list fault, first
+  and no other.
 - `text | line | waits for`: a text whose scene leaves a client waiting, of which the same five have to tell this line and end with 5.
 - `text | line | what nothing orders`: a text of whose scene `race` has to tell this line and end with 11.
 - `text | line | what keeps it from that`: a text whose scene `last` has to refuse with this line alone and with 12.
@@ -27,16 +30,21 @@ import subprocess
 import sys
 import tempfile
 
+import scene_forms
+
 HERE = pathlib.Path(__file__).resolve().parent
 PAGE = HERE.parent / "docs/scene-format.md"
 EXAMPLES = HERE.parent / "examples"
 READING = (["render"], ["simulate", "--seed", "1"], ["serial"], ["last"], ["check"], ["race"], ["unpack"])
 DRAWING = (["render"], ["simulate", "--seed", "1"], ["serial"], ["check"], ["race"])
+# Those that know version 3, and how the one that doesn't refuses it.
+KNOWING, UNKNOWN = READING[:-1], "rc: malformed BadMagic at 3"
 HEAD = b"scene 1 1 1\nshared 1 1\nbarrier 1\nsemaphore 0\nclient\n"
 KINDS = """BadMagic BadCount UnknownOpcode Truncated Trailing NotText UnknownWord OutOfPlace WrongCount BadNumber BadHex NoScene INVALID_ENUM INVALID_VALUE
     INVALID_OPERATION STACK_OVERFLOW STACK_UNDERFLOW usage read stuck image out""".split()
 LIMITS = ("scene bytes", "width", "height", "clients", "shared textures", "shared side", "shared texels", "barriers", "barrier count", "semaphores", "commands",
-          "pixels", "tile columns", "tile rows", "tiles", "depth", "size", "held pixels")
+          "pixels", "tile columns", "tile rows", "tiles", "depth", "size", "held pixels", "expansion")
+LIST_KINDS = ("INVALID_VALUE", "INVALID_OPERATION")
 
 
 def tables():
@@ -87,6 +95,29 @@ def try_bytes(program, cell, line):
         refused(program, words, bytes.fromhex(repeated(cell)), line, cell)
 
 
+def try_list_bytes(program, cell, line):
+    for words in KNOWING:
+        refused(program, words, bytes.fromhex(repeated(cell)), line, cell)
+    refused(program, ["unpack"], bytes.fromhex(repeated(cell)), UNKNOWN, cell)
+
+
+def list_scene(text):
+    """The bytes of a scene of version 3 whose client has these commands."""
+    lines = [line.split() for line in text.decode().splitlines()]
+    stream = [scene_forms.command(name, *map(int, numbers)) for name, *numbers in lines]
+    return scene_forms.scene_bytes(scene_forms.Scene(1, 1, [], [], [], [stream], 3))
+
+
+def try_list_commands(program, text, line):
+    """The jobs that know version 3 have to tell this refused list command, before all else."""
+    for words in KNOWING:
+        status, image, notes = run(program, words, list_scene(text))
+        lines = notes.splitlines()
+        got = status, image, lines[:1], [line for line in lines[1:] if " list fault " in line]
+        if got != (0, b"", [line], []):
+            fail(f"{' '.join(words)} of {text!r}", got, (0, b"", [line], []))
+
+
 def try_text(program, cell, line):
     refused(program, ["pack"], text_of(cell), line, cell)
 
@@ -125,6 +156,10 @@ def try_table(program, folder, head, rows):
     for row in rows:
         if head == ("bytes", "line", "why"):
             try_bytes(program, *row[:2])
+        elif head == ("bytes of version 3", "line", "why"):
+            try_list_bytes(program, *row[:2])
+        elif head == ("commands of version 3", "line", "rule"):
+            try_list_commands(program, text_of(row[0]), row[1])
         elif head == ("text", "line", "why"):
             try_text(program, *row[:2])
         elif head == ("bytes", "text", "line"):
@@ -149,6 +184,7 @@ def missing(found):
     """The kinds of faults, the limits and the statuses of which the tables have no example."""
     cells = " \n".join(cell for _, rows in found for row in rows for cell in row) + " \n"
     kinds = [kind for kind in KINDS if not re.search(rf"(^|\s)(rc: (malformed )?{kind}|client 0 fault {kind})\s", cells)]
+    kinds += [f"list fault {kind}" for kind in LIST_KINDS if f"client 0 list fault {kind} at " not in cells]
     statuses = [status for status in "1 2 3 4 5 6 7 8 11 12".split() if not any(row[1] == status for head, rows in found if head[0] == "command" for row in rows)]
     return kinds + [limit for limit in LIMITS if not re.search(rf"rc: limit {limit} \d", cells)] + statuses
 

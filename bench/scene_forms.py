@@ -1,14 +1,15 @@
 """A second reader of scenes and a writer, in bytes and as text, by docs/scene-format.md alone: hostile.py compares the program with it.
 
 `read` and `read_text` give the Scene that bytes or a text spell, or raise Refused with the status and the line that the program owes. A command is a tuple
-of its opcode, its numbers and its texels.
+of its opcode, its numbers and its texels. A scene of version 3 has call lists: `read` judges what was read of it, and scene_lists.py what that means.
 """
 import re
 import struct
 
 LONGEST = 33_554_432
 MOST_COMMANDS, MOST_PIXELS, MOST_HELD = 1_048_576, 2_147_483_648, 33_554_432
-VERSIONS = (1, 2)
+# The versions that a text has, and `unpack`; and those of the jobs that draw or judge a scene.
+VERSIONS, DRAWN_VERSIONS = (1, 2), (1, 2, 3)
 
 # Each opcode's name and the layout of its numbers, as `struct` writes it. The texels of a picture follow its numbers, the last two of which are its sides.
 COMMANDS = {
@@ -20,8 +21,12 @@ COMMANDS = {
     0x1B: ("BindTexture", "2B"), 0x1C: ("TexEnv", "B"), 0x1D: ("TexWrap", "2B"), 0x1E: ("TexImage", "B2H"), 0x1F: ("TexPart", "B4H"),
     0x20: ("SharedImage", "B4H"), 0x21: ("Barrier", "B"), 0x22: ("SemP", "B"), 0x23: ("SemV", "B"), 0x24: ("Swap", ""),
 }
+# Those that version 3 has beside them.
+LIST_COMMANDS = {0x25: ("NewList", "B"), 0x26: ("EndList", ""), 0x27: ("CallList", "B")}
+ALL_COMMANDS = {**COMMANDS, **LIST_COMMANDS}
 OPCODES = {name: opcode for opcode, (name, _) in COMMANDS.items()}
-LAYOUTS = {opcode: struct.Struct("<" + layout) for opcode, (_, layout) in COMMANDS.items()}
+ALL_OPCODES = {name: opcode for opcode, (name, _) in ALL_COMMANDS.items()}
+LAYOUTS = {opcode: struct.Struct("<" + layout) for opcode, (_, layout) in ALL_COMMANDS.items()}
 SWAP = OPCODES["Swap"]
 PICTURES = tuple(OPCODES[name] for name in ("TexImage", "TexPart", "SharedImage"))
 
@@ -35,7 +40,7 @@ class Refused(Exception):
 
 
 class Scene:
-    """What the bytes of a scene say."""
+    """What the bytes of a scene say. One of version 3 has list commands in its streams, and no frames before these are expanded."""
 
     def __init__(self, width, height, shared, barriers, semaphores, streams, version=1):
         self.version, self.width, self.height = version, width, height
@@ -71,26 +76,27 @@ class Reader:
         return struct.unpack("<" + layout, self.take(self.counts[-1][1]))[0]
 
 
-def read_spelled(reader):
-    """The scene that the bytes spell, whatever its quantities are."""
+def read_spelled(reader, versions=VERSIONS):
+    """The scene that the bytes spell, whatever its quantities are; a reader knows some versions."""
     data = reader.data
-    for at, letters in enumerate((b"R", b"C", b"S", b"12")):
+    for at, letters in enumerate((b"R", b"C", b"S", "".join(map(str, versions)).encode())):
         if at < len(data) and data[at] not in letters:
             raise malformed("BadMagic", at)
         reader.take(1)
     version = data[3] - ord("0")
+    known = ALL_COMMANDS if version == 3 else COMMANDS
     width, height = reader.number("H"), reader.number("H")
     clients, shared, barriers, semaphores = (reader.number("B") for _ in range(4))
     shared = [(reader.number("H"), reader.number("H")) for _ in range(shared)]
     barriers = [reader.number("B") for _ in range(barriers)]
     semaphores = [reader.number("H") for _ in range(semaphores)]
-    streams = [read_stream(reader) for _ in range(clients)]
+    streams = [read_stream(reader, known) for _ in range(clients)]
     if reader.at < len(data):
         raise malformed("Trailing", reader.at)
     return Scene(width, height, shared, barriers, semaphores, streams, version)
 
 
-def read_stream(reader):
+def read_stream(reader, known):
     whole = reader.end
     length = reader.number("I")
     if whole - reader.at < length:
@@ -98,19 +104,19 @@ def read_stream(reader):
     reader.end = reader.at + length
     commands = []
     while reader.at < reader.end:
-        commands += read_packet(reader)
+        commands += read_packet(reader, known)
     reader.end = whole
     return commands
 
 
-def read_packet(reader):
+def read_packet(reader, known):
     at = reader.at
     count = reader.number("H")
     if not 1 <= count <= 1024:
         raise malformed("BadCount", at)
     opcodes = reader.data[reader.at:min(reader.at + count, reader.end)]
     for i, opcode in enumerate(opcodes):
-        if opcode not in COMMANDS:
+        if opcode not in known:
             raise malformed("UnknownOpcode", reader.at + i)
     reader.take(count)
     return [read_command(reader, opcode) for opcode in opcodes]
@@ -123,24 +129,31 @@ def read_command(reader, opcode):
 
 
 def judge(scene):
-    """Raises the first quantity outside its range."""
+    """Raises the first quantity outside its range of what is read."""
     quantities = [("width", scene.width, 1, 2048), ("height", scene.height, 1, 2048), ("clients", len(scene.streams), 1, 8)]
     quantities += [("shared textures", len(scene.shared), 0, 16)]
     quantities += [("shared side", side, 1, 65535) for size in scene.shared for side in size]
     quantities += [("shared texels", sum(w * h for w, h in scene.shared), 0, 1_048_576), ("barriers", len(scene.barriers), 0, 64)]
     quantities += [("barrier count", count, 1, 8) for count in scene.barriers]
     quantities += [("semaphores", len(scene.semaphores), 0, 64), ("commands", sum(map(len, scene.streams)), 0, MOST_COMMANDS)]
-    quantities += [("frames", scene.frames(), 0, MOST_COMMANDS), ("pixels", scene.pixels(), 0, MOST_PIXELS)]
+    judge_quantities(quantities + (frame_quantities(scene) if scene.version < 3 else []))
+
+
+def frame_quantities(scene):
+    return [("frames", scene.frames(), 0, MOST_COMMANDS), ("pixels", scene.pixels(), 0, MOST_PIXELS)]
+
+
+def judge_quantities(quantities):
     for name, value, least, most in quantities:
         if not least <= value <= most:
             raise Refused(4, f"limit {name} {value}")
 
 
-def read(data):
+def read(data, versions=VERSIONS):
     """The scene that the bytes spell, where its quantities are within their ranges."""
     if len(data) > LONGEST:
         raise Refused(4, f"limit scene bytes {LONGEST + 1}")
-    scene = read_spelled(Reader(data))
+    scene = read_spelled(Reader(data), versions)
     judge(scene)
     return scene
 
@@ -149,14 +162,14 @@ def places(data):
     """Place and length of each count and length, as far as the bytes are read."""
     reader = Reader(data)
     try:
-        read_spelled(reader)
+        read_spelled(reader, DRAWN_VERSIONS)
     except Refused:
         pass
     return [(at, size) for at, size in reader.counts if at + size <= len(data)]
 
 
 def command(name, *numbers, texels=b""):
-    return OPCODES[name], numbers, texels
+    return ALL_OPCODES[name], numbers, texels
 
 
 def packet(commands):

@@ -26,6 +26,9 @@
     clears [SIDE] [N]   SIDE by SIDE (2,048), N (8) clears and swaps.
     gives [CLIENTS] [N] 8 by 8, CLIENTS (8) clients of N (8,192) operations that give a unit and wait for nobody, and no frame: what synchronisation costs.
     commands [N]        one client, N (1,048,576) commands in all: semaphore operations in pairs, the swap last.
+    called [N]          version 3, one client, a list of a block of 1,022 colours and vertices, called until it gave N commands. With N as it is, 1,048,577, one
+                        more than there may be, the scene is refused as soon as it was expanded.
+    written [N]         version 2, the same commands without a list, so that the scene is refused as soon as it was read.
 
 Words after these: `noswap` leaves the swaps out, so nothing is written; `nodraw` puts all vertices at one place, so nothing is covered; `v2` makes the scene
 one of version 2.
@@ -37,6 +40,7 @@ import sys
 BEGIN, END, VERTEX, COLOR, TEX_COORD, ENABLE, DISABLE, LOAD_MATRIX = 1, 2, 3, 4, 5, 6, 7, 0x0A
 ALPHA_FUNC, DEPTH_FUNC, BLEND_FUNC, COLOR_MASK, CLEAR_COLOR, CLEAR = 0x11, 0x12, 0x14, 0x15, 0x16, 0x18
 TEX_ENV, TEX_WRAP, TEX_IMAGE, BARRIER, SEM_P, SEM_V, SWAP = 0x1C, 0x1D, 0x1E, 0x21, 0x22, 0x23, 0x24
+NEW_LIST, END_LIST, CALL_LIST = 0x25, 0x26, 0x27
 TRIANGLES, STRIP = 0, 1
 ALPHA_TEST, DEPTH_TEST, BLEND, TEXTURE = 1, 2, 3, 5
 SRC_ALPHA, ONE_MINUS_SRC_ALPHA = 6, 7
@@ -367,6 +371,23 @@ def gives(numbers, swap, corners):
     return scene(8, 8, [[byte_fields(SEM_V, 1)] * count] * clients, semaphores=[0])
 
 
+def listed(calls):
+    """A block that a list gives over and over, and so many commands more as are due; or the same commands written out."""
+
+    def make(numbers, swap, corners):
+        count = numbers[0] if numbers else 1_048_577
+        rng = random.Random(13)
+        block = [begin(STRIP)]
+        for _ in range(511):
+            block += [any_color(rng), corners.at(rng.randrange(-ONE, ONE), rng.randrange(-ONE, ONE))]
+        block.append(END_COMMAND)
+        times, rest = divmod(count, len(block))
+        recorded = [byte_fields(NEW_LIST, 1), *block, (END_LIST, b""), *[byte_fields(CALL_LIST, 1)] * times]
+        return scene(8, 8, [(recorded if calls else block * times) + [color(1, 2, 3)] * rest])
+
+    return make
+
+
 SCENES = {
     "usual": strips([]),
     "turned": strips([(LOAD_MATRIX, TURN)]),
@@ -387,7 +408,11 @@ SCENES = {
     "clears": clears,
     "gives": gives,
     "commands": commands_only,
+    "called": listed(True),
+    "written": listed(False),
 }
+# The scenes of another version than 1.
+VERSIONS = {"near": b"2", "front": b"2", "called": b"3", "written": b"2"}
 
 
 def main():
@@ -400,10 +425,9 @@ def main():
         print("\n".join(name for name, _, _ in state_table()))
         return
     data = SCENES[words[0]](list(map(int, words[1:])), "noswap" not in options, Corners("nodraw" not in options))
-    if "v2" in options or words[0] in ("near", "front"):
-        # the digit of the version; all else is spelled as in version 1
-        data = data[:3] + b"2" + data[4:]
-    sys.stdout.buffer.write(data)
+    # the digit of the version; all else is spelled as in version 1
+    digit = VERSIONS.get(words[0], b"2" if "v2" in options else b"1")
+    sys.stdout.buffer.write(data[:3] + digit + data[4:])
 
 
 main()

@@ -1,5 +1,5 @@
 #!/usr/bin/env python3
-"""Writes the texts of the examples that are computed.
+"""Writes the examples that are computed: their texts, and the bytes of the one that has none.
 
     make.py sunset > sunset.txt
     make.py wheel > wheel.txt
@@ -9,11 +9,18 @@
     make.py road > road.txt
     make.py road 1 > road-1.txt     the same in version 1, for the picture in docs/drawing.md
     make.py links > links.txt
+    make.py forest > forest.rcs     the bytes, since no text has call lists; how many they are is told on standard error
+    make.py forest 2 > forest-2.txt     what its lists mean, as a scene of version 2
 
 A vertex's x and y go from -65536 at the left and bottom edge of the window to 65536 at the right and top edge: 16.16 fixed point.
 """
 import math
+import pathlib
 import sys
+
+sys.path.append(str(pathlib.Path(__file__).resolve().parent.parent / "bench"))
+import scene_forms
+import scene_lists
 
 ONE = 65536
 
@@ -377,7 +384,7 @@ def courtyard():
     return lines + ["Swap"]
 
 
-def turned(point, by):
+def tilted(point, by):
     """A point after a turn around the x axis and then one around the y axis."""
     (x, y, z), (a, b) = point, by
     y, z = y * math.cos(a) - z * math.sin(a), y * math.sin(a) + z * math.cos(a)
@@ -395,8 +402,8 @@ def ring(middle, upright, by, color):
         point = tuple(radius * c + tube * n for c, n in zip((math.cos(u), math.sin(u), 0), normal))
         if upright:
             point, normal = ((p[0], -p[2], p[1]) for p in (point, normal))
-        place = turned((point[0] + middle, point[1], point[2]), by)
-        n = turned(normal, by)
+        place = tilted((point[0] + middle, point[1], point[2]), by)
+        n = tilted(normal, by)
         light = 0.28 + 0.72 * max(0.0, (-0.5 * n[0] + 0.6 * n[1] - 0.62 * n[2]))
         shine = max(0.0, (-0.3 * n[0] + 0.37 * n[1] - 0.88 * n[2])) ** 24
         tone = tuple(min(255, round(c * light + 150 * shine)) for c in color)
@@ -586,12 +593,225 @@ def road(version=2):
     return lines + ["Swap"]
 
 
+# ---- a forest: call lists
+
+# Of client 0: a tier of a spruce in two greens, the spruces, a stand of them, and mist. Of client 1: leaves, a crown, a birch, a tuft, and a patch of tufts.
+TIER, BLUE_TIER, SPRUCE, BLUE_SPRUCE, STAND, MIST = range(1, 7)
+LEAVES, CROWN, BIRCH, TUFT, PATCH = range(1, 6)
+# How high the eye stands, how far a unit goes across and upward in the window from the distance of one, and where the horizon lies.
+WOOD_EYE, WOOD_ACROSS, WOOD_UPWARD, WOOD_HORIZON = 0.62, 1.0, 1.5, -0.12
+HUES = {"gold": (246, 196, 64), "orange": (232, 132, 44), "red": (198, 70, 44), "green": (150, 172, 66)}
+
+
+def recorded(name, lines):
+    """A list of commands that are carried out where it is called."""
+    return [f"NewList {name}"] + lines + ["EndList"]
+
+
+def at(name, x, y, z, wide, high):
+    """A call of a list under a matrix of its own: stretched, and moved to a place."""
+    entries = [wide, 0, 0, 0, 0, high, 0, 0, 0, 0, wide, 0, x, y, z, 1]
+    return ["PushMatrix", "MultMatrix " + " ".join(str(fixed(e)) for e in entries), f"CallList {name}", "PopMatrix"]
+
+
+def painted(mode, corners):
+    """A block of places with a colour each."""
+    lines = [f"Begin {mode}"]
+    for place, color in corners:
+        alpha = color[3] if len(color) > 3 else 255
+        lines += [f"Color {color[0]} {color[1]} {color[2]} {alpha}", f"Vertex {fixed(place[0])} {fixed(place[1])} {fixed(place[2])} {ONE}"]
+    return lines + ["End"]
+
+
+def mixed(one, other, share):
+    return tuple(round(a + (b - a) * share) for a, b in zip(one, other))
+
+
+def tier(dark, lit):
+    """The half of a cone that is turned to the viewer, with a rim of boughs, lit from the left. It is one high, and reaches one to each side."""
+    corners = [((0, 1, 0), mixed(dark, lit, 0.25))]
+    for i in range(11):
+        angle = math.pi * (1.08 - 1.16 * i / 10)
+        long = 1 if i % 2 == 0 else 0.8
+        light = max(0.0, math.cos(angle - 0.78 * math.pi)) ** 1.5
+        corners.append(((long * math.cos(angle), -0.1 if i % 2 == 0 else 0.06, -0.5 * long * math.sin(angle)), mixed(dark, lit, light)))
+    return painted(FAN, corners)
+
+
+def spruce_of(name):
+    """A trunk, and six tiers on one another; it is one high."""
+    trunk = [((x, y, 0.02), (92, 66, 50) if x < 0 else (44, 32, 32)) for y in (0, 0.2) for x in (-0.018, 0.018)]
+    lines = painted(STRIP, trunk)
+    for low, high, wide in ((0.1, 0.42, 0.25), (0.24, 0.56, 0.22), (0.38, 0.69, 0.18), (0.52, 0.81, 0.14), (0.66, 0.92, 0.1), (0.79, 1, 0.06)):
+        lines += at(name, 0, low, 0, wide, high - low)
+    return lines
+
+
+def leaves(color):
+    """A ball of leaves: bright at the upper left, where the light falls."""
+    dark = tuple(round(c * 0.42) for c in (color[0], color[1] * 0.9, color[2] * 1.2))
+    corners = [((-0.25, 0.3, -0.6), mixed(color, (255, 248, 200), 0.35))]
+    for i in range(11):
+        angle = 2 * math.pi * i / 10
+        long = 1 if i % 2 == 0 else 0.93
+        light = 0.5 + 0.5 * math.cos(angle - 0.7 * math.pi)
+        corners.append(((long * math.cos(angle), long * math.sin(angle), 0), mixed(dark, color, light)))
+    return painted(FAN, corners)
+
+
+def crown():
+    """Balls of leaves around one another."""
+    lines = []
+    for x, y, z, size in (
+        (0, 0.62, 0.06, 0.19), (-0.17, 0.53, 0.02, 0.11), (0.18, 0.52, 0.03, 0.12), (-0.08, 0.46, 0, 0.1), (0.07, 0.45, -0.02, 0.11), (-0.2, 0.66, 0.01, 0.1),
+        (0.2, 0.66, 0.02, 0.1), (-0.1, 0.59, -0.05, 0.11), (0.09, 0.58, -0.06, 0.12), (-0.12, 0.77, 0, 0.12), (0.13, 0.78, 0.01, 0.11), (0, 0.7, -0.05, 0.12),
+        (-0.03, 0.86, -0.01, 0.11), (0.06, 0.9, 0, 0.09), (0, 0.97, 0.01, 0.07),
+    ):
+        lines += at(LEAVES, x, y, z, size, size)
+    return lines
+
+
+def birch():
+    """A white trunk with dark bands, and a crown of what leaves there are."""
+    corners = []
+    for i in range(9):
+        y, half = 0.08 * i, 0.018 - 0.0012 * i
+        tone = (236, 230, 220) if i % 2 else (206, 196, 186)
+        corners += [((-half, y, 0.03), tone), ((half, y, 0.03), tuple(round(c * 0.55) for c in tone))]
+        if i in (2, 4, 5):
+            corners += [((-half, y + 0.012, 0.03), (60, 52, 52)), ((half, y + 0.02, 0.03), (40, 36, 40))]
+    return painted(STRIP, corners) + [f"CallList {CROWN}"]
+
+
+def tuft():
+    """Blades of grass."""
+    corners = []
+    for x, y, lean in ((-0.4, 0.7, -0.3), (-0.2, 1, -0.1), (0, 0.85, 0.12), (0.2, 1.05, 0.3), (0.38, 0.66, 0.5), (-0.3, 0.5, 0.1), (0.1, 0.6, -0.3)):
+        corners += [((x - 0.06, 0, 0), (26, 44, 26)), ((x + 0.06, 0, 0), (40, 62, 30)), ((x + lean, y, 0), (186, 176, 84))]
+    return painted(TRIANGLES, corners)
+
+
+def many(name, places):
+    return [line for place in places for line in at(name, *place)]
+
+
+def view():
+    """Places in the world from here on, to the right, up and ahead; the projection makes w the distance. The depth test is on."""
+    entries = [WOOD_ACROSS, 0, 0, 0, 0, WOOD_UPWARD, 0, 0, 0, WOOD_HORIZON, 1, 1, 0, -WOOD_UPWARD * WOOD_EYE, -0.1, 0]
+    return ["MatrixMode 1", "LoadMatrix " + " ".join(str(fixed(e)) for e in entries), "MatrixMode 0", "Enable 2"]
+
+
+def trees(*places):
+    """Trees that stand on the ground, by their places to the right and ahead and their heights."""
+    return [(x, 0, z, tall, tall) for x, z, tall in places]
+
+
+def rows():
+    """The rows of the forest from the far end to the near one: spruces, birches by their leaves, and where the mist behind the row stands."""
+    far = trees(
+        (-9.5, 12.6, 3.2), (-8.2, 12.1, 3.7), (-7, 12.4, 3.1), (-4.9, 11.6, 3), (-3.6, 12.2, 3.5), (-2.6, 12.5, 2.6),
+        (2.6, 12.6, 2.7), (3.4, 12.3, 3.3), (5.2, 11.5, 3.1), (6.6, 12.4, 3.5), (7.6, 12, 3), (9, 12.5, 3.7),
+    )
+    middle = trees(
+        (-6.4, 8.2, 3.6), (-5.4, 7.9, 3.1), (-4.1, 7.5, 2.6), (-3.5, 8.3, 3.4), (-2.1, 7.8, 2.8),
+        (2.3, 7.5, 2.7), (2.9, 8.2, 3.3), (3.6, 7.9, 2.9), (5, 7.4, 3.2), (5.9, 8.1, 3.6), (6.6, 7.8, 3),
+    )
+    near = trees((-4.4, 5.2, 3.6), (-3.4, 4.7, 3.2), (-2.25, 5, 2.3), (2.45, 5.1, 2.9), (3.5, 4.7, 3.4), (4.3, 5.2, 2.7))
+    front = trees((-2.5, 2.9, 3.1), (2.75, 2.8, 3.4))
+    return (
+        (far, {"orange": trees((-6.2, 11.8, 2.6), (2.2, 12.4, 2.3)), "gold": trees((-2.2, 11.7, 2.4), (4.2, 11.9, 2.5))}, 14),
+        (middle, {"gold": trees((-3, 7.4, 2.3), (4.4, 7, 2.4)), "red": trees((1.6, 7.6, 1.9)), "green": trees((-4.6, 7.4, 2.1))}, 10),
+        (near, {"orange": trees((1.75, 4.6, 2)), "gold": trees((-1.65, 4.7, 2.1)), "red": trees((-2.9, 4.4, 1.9), (3.05, 4.4, 2))}, 6.2),
+        (front, {"gold": trees((1.85, 2.9, 2.1)), "orange": trees((-1.85, 2.8, 1.8))}, 3.8),
+    )
+
+
+def stream_side(z):
+    """Where the middle of the stream lies at a distance, and half of its width."""
+    return 0.5 * math.sin(0.55 * z + 0.4) - 0.2 * math.cos(1.1 * z), 0.2 + 0.012 * z
+
+
+def land():
+    """Sky, sun, hills, grass and a stream."""
+    lines = bands([(ONE, (70, 104, 168)), (fixed(0.5), (150, 168, 198)), (fixed(0.2), (240, 204, 176)), (fixed(WOOD_HORIZON), (255, 232, 190))])
+    lines.append("# the sun, and the light around it")
+    lines += ["Enable 3", "BlendFunc 6 7"]
+    for size, middle, rim in ((0.5, (255, 240, 190, 190), (255, 226, 170, 0)), (0.075, (255, 253, 236, 255), (255, 246, 214, 255))):
+        circle = [((-0.13 + size * math.cos(math.pi * i / 14), 0.26 + 1.5 * size * math.sin(math.pi * i / 14), 0), rim) for i in range(29)]
+        lines += painted(FAN, [((-0.13, 0.26, 0), middle)] + circle)
+    lines += ["Disable 3", "# hills far away"]
+    for left, right, top, high, tone in ((-1.2, -0.1, -0.7, 0.24, (176, 176, 196)), (0.05, 1.3, 0.62, 0.3, (168, 170, 194)), (-0.5, 0.7, 0.2, 0.1, (196, 188, 196))):
+        foot = WOOD_HORIZON - 0.02
+        lines += painted(TRIANGLES, [((left, foot, 0), (228, 208, 190)), ((right, foot, 0), (222, 202, 190)), ((top, high, 0), tone)])
+    lines += ["Clear 2"] + view() + ["# grass, from near to far, and a stream through it that shows the sky"]
+    edges = [0.55, 1, 1.6, 2.4, 3.4, 4.6, 6.2, 8.4, 11.5, 16, 30]
+    grass = lambda z: mixed((92, 104, 46), (222, 204, 176), min(1, z / 20) ** 0.8)
+    corners = [((side * 1.6 * z, 0, z), mixed(grass(z), (40, 60, 34), 0.3 if side > 0 else 0)) for z in edges for side in (-1, 1)]
+    lines += painted(STRIP, corners)
+    water = lambda z: mixed((110, 142, 176), (255, 232, 196), min(1, z / 9))
+    for wide, lift, tint in ((1.22, 0.003, lambda z: mixed((66, 62, 40), grass(z), 0.45)), (1, 0.006, water)):
+        bank = []
+        for i in range(40):
+            z = 0.6 * 1.092**i
+            middle, half = stream_side(z)
+            bank += [((middle + side * half * wide, lift, z), tint(z)) for side in (-1, 1)]
+        lines += painted(STRIP, bank)
+    return lines
+
+
+def forest_lists():
+    """The streams of the two clients."""
+    first = ["# client 0: land, mist and spruces", "ClearColor 255 232 190 255", "Clear 3"]
+    first += recorded(TIER, tier((16, 38, 34), (150, 170, 84))) + recorded(BLUE_TIER, tier((14, 34, 44), (116, 156, 136)))
+    first += recorded(SPRUCE, spruce_of(TIER)) + recorded(BLUE_SPRUCE, spruce_of(BLUE_TIER))
+    stand = trees((-1.9, 0.3, 2.5), (-1, 0.8, 2.9), (0.3, 0.5, 2.6), (1.9, 0.1, 2.4)), trees((-1.4, 0, 2.3), (-0.4, 0.2, 3.1), (0.9, 0, 2.8), (1.4, 0.6, 3.2))
+    first += recorded(STAND, many(SPRUCE, stand[0]) + many(BLUE_SPRUCE, stand[1]))
+    haze = [((x, y, 0), (250, 226, 192, alpha)) for y, alpha in ((-0.02, 0), (0.1, 130), (0.22, 96), (0.55, 0)) for x in (-1.2, 1.2)]
+    first += recorded(MIST, ["Enable 3", "DepthMask 0"] + painted(STRIP, haze) + ["DepthMask 1", "Disable 3"])
+    first += land() + ["# the wood behind"]
+    first += many(STAND, [(x, 0, z, 1, 1) for x, z in ((-14, 19), (-9.6, 18), (-4.6, 18.6), (4.4, 18.4), (9.2, 18), (13.8, 19), (0.4, 20.5))])
+    second = ["# client 1: birches and grass"] + recorded(CROWN, crown()) + recorded(BIRCH, birch()) + recorded(TUFT, tuft())
+    tufts = ((-0.3, 0.1, 0.1), (-0.12, 0, 0.13), (0.05, 0.15, 0.09), (0.2, 0.05, 0.12), (0.36, 0.2, 0.1))
+    second += recorded(PATCH, many(TUFT, [(x, 0, z, size, 1.3 * size) for x, z, size in tufts])) + view()
+    for spruces, birches, mist in rows():
+        first += many(MIST, [(0, 0, mist, mist, mist)])
+        first += many(SPRUCE, spruces[0::2]) + many(BLUE_SPRUCE, spruces[1::2]) + ["Barrier 1", "Barrier 1"]
+        second += ["Barrier 1"]
+        for hue, standing in birches.items():
+            second += recorded(LEAVES, leaves(HUES[hue])) + many(BIRCH, standing)
+        second += ["Barrier 1"]
+    grass = ((-1.5, 2.5), (-0.7, 2.3), (1.9, 2.2), (-1.1, 1.9), (1.5, 1.7), (-0.3, 1.7), (-1.2, 1.5), (-0.5, 1.3), (1.15, 1.25), (-0.85, 1.1), (-0.2, 1.1), (0.85, 1))
+    second += many(PATCH, [(x, 0, z, 1, 1) for x, z in grass])
+    return first + ["Swap"], second + ["Swap"]
+
+
+def forest(version=3):
+    """The bytes of the scene with call lists; of version 2 the text of what it means."""
+    words = [[line.split() for line in lines if not line.startswith("#")] for lines in forest_lists()]
+    streams = [[scene_forms.command(name, *map(int, numbers)) for name, *numbers in lines] for lines in words]
+    lists = scene_forms.Scene(480, 320, [], [2], [], streams, 3)
+    meant, faults = scene_lists.meaning(lists)
+    data, whole = scene_forms.scene_bytes(lists), scene_forms.scene_bytes(meant)
+    assert not faults and 10 * len(data) <= len(whole)
+    if version == 3:
+        given = sum(map(len, meant.streams))
+        print(f"{len(data)} bytes, {sum(map(len, streams))} commands; its expansion has {len(whole)} bytes, {given} commands", file=sys.stderr)
+        return data
+    return scene_forms.scene_text(meant)
+
+
+TEXTS = {"sunset": sunset, "wheel": wheel, "orrery": orrery, "lanterns": lanterns, "courtyard": courtyard, "road": road, "links": links}
+VERSIONS = {"road": ("1",), "forest": ("2",)}
+
+
 def main():
-    words = sys.argv[1:]
-    made = {"sunset": sunset, "wheel": wheel, "orrery": orrery, "lanterns": lanterns, "courtyard": courtyard, "road": road, "links": links}.get(words[0] if words else "")
-    if made is None or words[1:] not in ([], ["1"]) or (words[1:] and made is not road):
+    name, *version = sys.argv[1:] or [""]
+    if name not in [*TEXTS, "forest"] or version and (len(version) > 1 or version[0] not in VERSIONS.get(name, ())):
         sys.exit(__doc__)
-    print("\n".join(made(*map(int, words[1:]))))
+    if name == "forest":
+        sys.stdout.buffer.write(forest(*map(int, version)))
+    else:
+        print("\n".join(TEXTS[name](*map(int, version))))
 
 
 main()

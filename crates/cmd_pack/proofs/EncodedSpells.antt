@@ -7,6 +7,9 @@ use Rattle.std.proofs.lemmas.List.{take_more, flat_map_more, take-append-drop, d
 use Rattle.std.proofs.lemmas.List.Concat.{flat_map-cons}
 use Rattle.std.proofs.lemmas.List.Folds.{flat_map-map}
 use Rattle.std.proofs.Math.Seq.{take-add}
+use Rattle.rc_base.specs.Formats.Spelling.{plain_set}
+use Rattle.cmd_pack.specs.Packets.{plain_reader}
+use Rattle.cmd_pack.specs.PlainLaws.{plain_agrees}
 use Rattle.cmd_pack.proofs.DecodingProgress.{flat_more}
 use Rattle.rc_base.specs.declared.command.Command.{Command}
 use Rattle.rc_base.specs.Formats.Commands.{IsCommand}
@@ -98,7 +101,7 @@ next_packet cs i out new rest here h k =
     let place : 0 + i ≡ i = omega arith in
     let front : take (min (length rest) 1024) rest ≡ packet_commands cs i = take_min 1024 rest ∙ ap (take 1024) here in
     k ∙ ap (λ (l : List Command). out ++ packet l) front ∙ ap (λ (l : List ℕ). l ++ packet_of cs i) h
-    ∙ sym (flat_more (packet_of cs) (range_with_len 0 i) i) ∙ ap (flat_map (packet_of cs)) (sym (range_more 0 i ∙ ap (λ (k : ℕ). range_with_len 0 i ++ k ∷ []) place))
+    ∙ sym (flat_more plain_set plain_reader plain_agrees (packet_of cs) (range_with_len 0 i) i) ∙ ap (flat_map (packet_of cs)) (sym (range_more 0 i ∙ ap (λ (k : ℕ). range_with_len 0 i ++ k ∷ []) place))
 
 pub next_rest : (cs : List Command) (i : ℕ) (rest : List Command) → rest ≡ drop (1024 * i) cs → drop (min (length rest) 1024) rest ≡ drop (1024 * (i + 1)) cs
 next_rest cs i rest here =

@@ -1,7 +1,4 @@
-pub mod Codec
-pub mod NumberCodecs
 pub mod ReadsInTurn
-pub mod FieldCodecs
 pub mod PacketCodec
 pub mod DecodingProgress
 pub mod OneSpelling
@@ -12,6 +9,7 @@ pub mod PartsArePayloads
 pub mod PartsReadAsFields
 pub mod SpelledOrFaulty
 pub mod PacketsKept
+pub mod PlainStreams
 pub mod Parsers
 pub mod ParcelParsers
 pub mod ParcelsAreRead

@@ -20,7 +20,7 @@ use Rattle.cmd_pack.specs.Parcels.Spelling.{flag_byte, flag_bytes, color_bytes, 
 use Rattle.cmd_pack.specs.Parcels.Reading.{second, read_times, flag_from, read_flag, make_color, read_color, read_texels, make_image, make_matrix, read_value, element_from, make_set, read_set, make_vertex, read_vertex, make_part, read_part, op_from, zero_from, make_swap, read_op_name, read_op, act_tag_from, make_draw, read_vertices, nothing, make_end, read_act_body, read_act, make_parcel, read_sets, read_parcel, ActTag, OpKind}
 use Rattle.cmd_pack.specs.Parcels.Reading.OpKind.{BarrierKind, SemPKind, SemVKind, SwapKind}
 use Rattle.cmd_pack.specs.Parcels.Reading.ActTag.{DrawTag, ClearTag, SharedTag, SyncTag, EndTag}
-use Rattle.cmd_pack.proofs.NumberCodecs.{one_byte, IsByte, byte_codec, number_codec, wide16, wide32, word_codec, run_codec}
+use Rattle.cmd_pack.specs.NumberCodecs.{one_byte, IsByte, byte_codec, number_codec, wide16, wide32, word_codec, run_codec}
 use Rattle.cmd_pack.proofs.Parsers.{Reader, Parser, Tags, codec_parser, sized_parser, convert_parser, convert_reader, convert_again, tag_parser, times_parser, counted_parser, AreAll, counted_bytes, AreCounted}
 
 -- ---- numbers

@@ -11,7 +11,7 @@ use Rattle.cmd_pack.specs.Reading.{Fails}
 use Rattle.cmd_pack.specs.Parcels.Spelling.{IsParcel, SpellsParcel, parcel_bytes}
 use Rattle.cmd_pack.specs.Parcels.Reading.{read_parcel, parcel_in, parcel_or_end}
 use Rattle.cmd_pack.specs.Parcels.Faults.{BeginsParcel, IsCutParcel, HasUnknownTag, HasTrailing, FailsAsParcel, parcel_fault}
-use Rattle.cmd_pack.proofs.Codec.{CutOff}
+use Rattle.cmd_pack.specs.Codec.{CutOff}
 use Rattle.cmd_pack.proofs.Parsers.{HasUnknownByte}
 use Rattle.cmd_pack.proofs.ParcelParsers.{parcel_parser}
 

@@ -8,7 +8,7 @@ use Rattle.cmd_pack.specs.declared.fault.Form.{Form}
 use Rattle.cmd_pack.specs.declared.fault.Form.TheVariants.{BadCount, Unknown, Truncated}
 use Rattle.cmd_pack.specs.Reading.{◌>>=◌, sized, convert, known, cons}
 use Rattle.cmd_pack.specs.Parcels.Reading.{read_tag, second, read_times, counted}
-use Rattle.cmd_pack.proofs.Codec.{AreBytes-behind, bind_ok, bind_err, ok_no_err, CutOff, Codec}
+use Rattle.cmd_pack.specs.Codec.{AreBytes-behind, bind_ok, bind_err, ok_no_err, CutOff, Codec}
 
 -- the bytes before it begin a spelling, and reading fails at it whatever follows
 pub record HasUnknownByte {A : Type 0} (read : List ℕ → Result (A × List ℕ) Form) (spell : A → List ℕ) (Fits : A → Type 0) (bytes : List ℕ) (left : ℕ) : Type 0 where

@@ -21,8 +21,8 @@ use Rattle.cmd_pack.specs.declared.fault.ReadError.{ReadError}
 use Rattle.cmd_pack.specs.declared.fault.ReadError.TheVariants as errors
 use Rattle.cmd_pack.specs.Reading.{◌>>=◌, Fails, both, convert, cons, read_byte, read_unsigned, read_word, read_words, take_bytes}
 use Rattle.cmd_pack.specs.Packets.{make_picture, read_value, read_fields, read_command}
-use Rattle.cmd_pack.proofs.Codec.{Maker, AreBytes-behind}
-use Rattle.cmd_pack.proofs.NumberCodecs.{byte_codec, number_codec, wide16, word_codec}
+use Rattle.cmd_pack.specs.Codec.{Maker, AreBytes-behind}
+use Rattle.cmd_pack.specs.NumberCodecs.{byte_codec, number_codec, wide16, word_codec}
 use Rattle.cmd_pack.specs.Parts.{read_number, read_numbers, texel_count, read_parts}
 
 -- ---- runs

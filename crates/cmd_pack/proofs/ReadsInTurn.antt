@@ -4,12 +4,12 @@ use Rattle.std.proofs.lemmas.List.{append-nil, drop_more, drop_all}
 use Rattle.cmd_pack.specs.declared.fault.Form.{Form}
 use Rattle.cmd_pack.specs.declared.fault.ReadError.{ReadError}
 use Rattle.cmd_pack.specs.declared.fault.ReadError.TheVariants as errors
-use Rattle.rc_base.specs.declared.command.Opcode.{Opcode}
-use Rattle.rc_base.specs.declared.command.Command.{Command}
-use Rattle.cmd_pack.specs.Packets.{read_opcode, read_opcodes, read_command, read_payloads}
+use Rattle.cmd_pack.specs.Packets.{read_opcode, read_opcodes, read_payloads}
 use Rattle.rc_base.specs.declared.command.NumberRange.{NumberRange}
 use Rattle.cmd_pack.specs.Parts.{read_number, read_numbers}
 use Rattle.cmd_pack.specs.Reading.{◌>>=◌, Fails, with_front, convert, cons}
+use Rattle.rc_base.specs.Formats.Spelling.{CommandSet}
+use Rattle.cmd_pack.specs.Sets.{SetReader, Agrees}
 
 pub regroup : {A : Type 0} (front : List A) (a : A) (read : Result (List A × List ℕ) Form) → with_front front (read >>= λ x. Ok (a ∷ x.0, x.1)) ≡ with_front (front ++ a ∷ []) read
 regroup {A} front a (Ok x) = ap (λ (l : List A). Ok (l, x.1)) (simp append_assoc)
@@ -53,54 +53,55 @@ numbers_done front ranges i bytes total le so_far =
     let one : with_front front (read_numbers (drop i ranges) bytes) ≡ Ok (front, bytes) = rw (drop_all i ranges le) (ap (λ (l : List ℤ). Ok (l, bytes)) (append-nil front)) in
     sym so_far ∙ one
 
--- ---- names
+module _ {C O : Type 0} (set : CommandSet C O) (reader : SetReader C O) (laws : Agrees set reader) where
+  -- ---- names
 
-pub names_go_on : (front : List Opcode) (count i : ℕ) (bytes : List ℕ) (o : Opcode) (after : List ℕ) (total : Result (List Opcode × List ℕ) Form) → i < count → read_opcode bytes ≡ Ok (o, after)
-    → with_front front (read_opcodes (count - i) bytes) ≡ total → with_front (front ++ o ∷ []) (read_opcodes (count - (i + 1)) after) ≡ total
-unfolding read_opcodes
-names_go_on front count i bytes o after total lt h so_far =
-    let k : count - i ≡ suc (count - (i + 1)) = omega arith in
-    let one : with_front front (read_opcodes (count - i) bytes) ≡ with_front (front ++ o ∷ []) (read_opcodes (count - (i + 1)) after) = rw (k, h) (regroup front o (read_opcodes (count - (i + 1)) after)) in
-    sym one ∙ so_far
+  pub names_go_on : (front : List O) (count i : ℕ) (bytes : List ℕ) (o : O) (after : List ℕ) (total : Result (List O × List ℕ) Form) → i < count → read_opcode reader bytes ≡ Ok (o, after)
+      → with_front front (read_opcodes reader (count - i) bytes) ≡ total → with_front (front ++ o ∷ []) (read_opcodes reader (count - (i + 1)) after) ≡ total
+  unfolding read_opcodes
+  names_go_on front count i bytes o after total lt h so_far =
+      let k : count - i ≡ suc (count - (i + 1)) = omega arith in
+      let one : with_front front (read_opcodes reader (count - i) bytes) ≡ with_front (front ++ o ∷ []) (read_opcodes reader (count - (i + 1)) after) = rw (k, h) (regroup front o (read_opcodes reader (count - (i + 1)) after)) in
+      sym one ∙ so_far
 
-pub names_end : (e : ReadError) (front : List Opcode) (count i : ℕ) (bytes : List ℕ) (total : Result (List Opcode × List ℕ) Form) → i < count → Fails e (read_opcode bytes)
-    → with_front front (read_opcodes (count - i) bytes) ≡ total → Fails e total
-unfolding read_opcodes
-names_end errors.Memory front count i bytes total lt h so_far = tt
-names_end (errors.Form f) front count i bytes total lt h so_far =
-    let k : count - i ≡ suc (count - (i + 1)) = omega arith in
-    let one : with_front front (read_opcodes (count - i) bytes) ≡ Err f = rw (k, h) refl in
-    sym so_far ∙ one
+  pub names_end : (e : ReadError) (front : List O) (count i : ℕ) (bytes : List ℕ) (total : Result (List O × List ℕ) Form) → i < count → Fails e (read_opcode reader bytes)
+      → with_front front (read_opcodes reader (count - i) bytes) ≡ total → Fails e total
+  unfolding read_opcodes
+  names_end errors.Memory front count i bytes total lt h so_far = tt
+  names_end (errors.Form f) front count i bytes total lt h so_far =
+      let k : count - i ≡ suc (count - (i + 1)) = omega arith in
+      let one : with_front front (read_opcodes reader (count - i) bytes) ≡ Err f = rw (k, h) refl in
+      sym so_far ∙ one
 
-pub names_done : (front : List Opcode) (count i : ℕ) (bytes : List ℕ) (total : Result (List Opcode × List ℕ) Form) → count ≤ i → with_front front (read_opcodes (count - i) bytes) ≡ total → total ≡ Ok (front, bytes)
-unfolding read_opcodes
-names_done front count i bytes total le so_far =
-    let k : count - i ≡ 0 = omega arith in
-    let one : with_front front (read_opcodes (count - i) bytes) ≡ Ok (front, bytes) = rw k (ap (λ (l : List Opcode). Ok (l, bytes)) (append-nil front)) in
-    sym so_far ∙ one
+  pub names_done : (front : List O) (count i : ℕ) (bytes : List ℕ) (total : Result (List O × List ℕ) Form) → count ≤ i → with_front front (read_opcodes reader (count - i) bytes) ≡ total → total ≡ Ok (front, bytes)
+  unfolding read_opcodes
+  names_done front count i bytes total le so_far =
+      let k : count - i ≡ 0 = omega arith in
+      let one : with_front front (read_opcodes reader (count - i) bytes) ≡ Ok (front, bytes) = rw k (ap (λ (l : List O). Ok (l, bytes)) (append-nil front)) in
+      sym so_far ∙ one
 
--- ---- payloads
+  -- ---- payloads
 
-pub payloads_go_on : (front : List Command) (names : List Opcode) (i : ℕ) (d : Opcode) (bytes : List ℕ) (c : Command) (after : List ℕ) (total : Result (List Command × List ℕ) Form) → i < length names
-    → read_command (get_or names i d) bytes ≡ Ok (c, after)
-    → with_front front (read_payloads (drop i names) bytes) ≡ total → with_front (front ++ c ∷ []) (read_payloads (drop (i + 1) names) after) ≡ total
-unfolding read_payloads
-payloads_go_on front names i d bytes c after total lt h so_far =
-    let one : with_front front (read_payloads (drop i names) bytes) ≡ with_front (front ++ c ∷ []) (read_payloads (drop (i + 1) names) after) = rw (drop_more names i d lt, h) (regroup front c (read_payloads (drop (i + 1) names) after)) in
-    sym one ∙ so_far
+  pub payloads_go_on : (front : List C) (names : List O) (i : ℕ) (d : O) (bytes : List ℕ) (c : C) (after : List ℕ) (total : Result (List C × List ℕ) Form) → i < length names
+      → reader.read (get_or names i d) bytes ≡ Ok (c, after)
+      → with_front front (read_payloads reader (drop i names) bytes) ≡ total → with_front (front ++ c ∷ []) (read_payloads reader (drop (i + 1) names) after) ≡ total
+  unfolding read_payloads
+  payloads_go_on front names i d bytes c after total lt h so_far =
+      let one : with_front front (read_payloads reader (drop i names) bytes) ≡ with_front (front ++ c ∷ []) (read_payloads reader (drop (i + 1) names) after) = rw (drop_more names i d lt, h) (regroup front c (read_payloads reader (drop (i + 1) names) after)) in
+      sym one ∙ so_far
 
-pub payloads_end : (e : ReadError) (front : List Command) (names : List Opcode) (i : ℕ) (d : Opcode) (bytes : List ℕ) (total : Result (List Command × List ℕ) Form) → i < length names
-    → Fails e (read_command (get_or names i d) bytes)
-    → with_front front (read_payloads (drop i names) bytes) ≡ total → Fails e total
-unfolding read_payloads
-payloads_end errors.Memory front names i d bytes total lt h so_far = tt
-payloads_end (errors.Form f) front names i d bytes total lt h so_far =
-    let one : with_front front (read_payloads (drop i names) bytes) ≡ Err f = rw (drop_more names i d lt, h) refl in
-    sym so_far ∙ one
+  pub payloads_end : (e : ReadError) (front : List C) (names : List O) (i : ℕ) (d : O) (bytes : List ℕ) (total : Result (List C × List ℕ) Form) → i < length names
+      → Fails e (reader.read (get_or names i d) bytes)
+      → with_front front (read_payloads reader (drop i names) bytes) ≡ total → Fails e total
+  unfolding read_payloads
+  payloads_end errors.Memory front names i d bytes total lt h so_far = tt
+  payloads_end (errors.Form f) front names i d bytes total lt h so_far =
+      let one : with_front front (read_payloads reader (drop i names) bytes) ≡ Err f = rw (drop_more names i d lt, h) refl in
+      sym so_far ∙ one
 
-pub payloads_done : (front : List Command) (names : List Opcode) (i : ℕ) (bytes : List ℕ) (total : Result (List Command × List ℕ) Form) → length names ≤ i
-    → with_front front (read_payloads (drop i names) bytes) ≡ total → total ≡ Ok (front, bytes)
-unfolding read_payloads
-payloads_done front names i bytes total le so_far =
-    let one : with_front front (read_payloads (drop i names) bytes) ≡ Ok (front, bytes) = rw (drop_all i names le) (ap (λ (l : List Command). Ok (l, bytes)) (append-nil front)) in
-    sym so_far ∙ one
+  pub payloads_done : (front : List C) (names : List O) (i : ℕ) (bytes : List ℕ) (total : Result (List C × List ℕ) Form) → length names ≤ i
+      → with_front front (read_payloads reader (drop i names) bytes) ≡ total → total ≡ Ok (front, bytes)
+  unfolding read_payloads
+  payloads_done front names i bytes total le so_far =
+      let one : with_front front (read_payloads reader (drop i names) bytes) ≡ Ok (front, bytes) = rw (drop_all i names le) (ap (λ (l : List C). Ok (l, bytes)) (append-nil front)) in
+      sym so_far ∙ one

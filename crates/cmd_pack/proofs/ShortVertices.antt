@@ -9,8 +9,8 @@ use Rattle.cmd_pack.specs.declared.fault.Form.TheVariants.{Truncated}
 use Rattle.cmd_pack.specs.Reading.{◌>>=◌, sized, convert, cons, read_byte, read_unsigned, read_word}
 use Rattle.cmd_pack.specs.Parcels.Spelling.{color_bytes, vertex_bytes}
 use Rattle.cmd_pack.specs.Parcels.Reading.{read_times, make_color, read_color, make_vertex, read_vertex}
-use Rattle.cmd_pack.proofs.Codec.{bind_err, ok_no_err}
-use Rattle.cmd_pack.proofs.NumberCodecs.{guard_err, wide32}
+use Rattle.cmd_pack.specs.Codec.{bind_err, ok_no_err}
+use Rattle.cmd_pack.specs.NumberCodecs.{guard_err, wide32}
 use Rattle.cmd_pack.proofs.ParcelParsers.{vertex_parser}
 use Rattle.cmd_pack.proofs.VertexBytes.{four_words}
 

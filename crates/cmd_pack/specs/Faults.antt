@@ -1,10 +1,8 @@
 -- What is wrong with bytes that spell no list of commands, and at which place.
 use Rattle.std.specs.Prelude.{◌≡◌, ℕ, ◌+◌, ◌-◌, ◌<◌, ◌≤◌, ◌^◌, ◌⊎◌, List, ◌∷◌, ◌++◌, length}
 use Rattle.std.specs.List.{flat_map, AllByRecursion}
-use Rattle.rc_base.specs.declared.command.Command.{Command}
-use Rattle.rc_base.specs.declared.command.Opcode.{Opcode}
-use Rattle.rc_base.specs.Formats.Commands.{AreBytes, table_row}
-use Rattle.rc_base.specs.Formats.Spelling.{half, packet, IsPacket, SpellsStream}
+use Rattle.rc_base.specs.Formats.Commands.{AreBytes}
+use Rattle.rc_base.specs.Formats.Spelling.{CommandSet, plain_set, half, packet_of, IsPacketOf, SpellsStreamOf}
 use Rattle.cmd_pack.specs.declared.fault.Form.{Form}
 use Rattle.cmd_pack.specs.declared.fault.Form.TheVariants.{BadCount, Unknown, Truncated}
 use Rattle.cmd_pack.specs.declared.fault.ReadError.{ReadError}
@@ -13,8 +11,8 @@ use Rattle.cmd_pack.specs.declared.fault.PackFault.{PackFault}
 use Rattle.cmd_pack.specs.declared.fault.PackFault.TheVariants as faults
 
 -- a byte that stands for a command
-abbrev pub IsOpcode : ℕ → Type 0
-IsOpcode b = (o : Opcode) × ((table_row o).number ≡ b)
+abbrev pub IsOpcode : {C O : Type 0} → CommandSet C O → ℕ → Type 0
+IsOpcode {O = O} set b = (o : O) × (set.number o ≡ b)
 
 -- a count that no packet has
 pub record HasBadCount (bytes : List ℕ) : Type 0 where
@@ -25,50 +23,54 @@ pub record HasBadCount (bytes : List ℕ) : Type 0 where
   pub parts : bytes ≡ half count ++ rest
 
 -- a count and some opcodes, fewer than the count says, and then a byte that is none
-pub record HasUnknown (bytes : List ℕ) (left : ℕ) : Type 0 where
+pub record HasUnknown {C O : Type 0} (set : CommandSet C O) (bytes : List ℕ) (left : ℕ) : Type 0 where
   pub count : ℕ
   pub names : List ℕ
   pub byte : ℕ
   pub rest : List ℕ
   pub some : 1 ≤ count
   pub most : count ≤ 1024
-  pub each : AllByRecursion IsOpcode names
-  pub unknown : IsOpcode byte → ⊥
+  pub each : AllByRecursion (IsOpcode set) names
+  pub unknown : IsOpcode set byte → ⊥
   pub few : length names < count
   pub parts : bytes ≡ half count ++ (names ++ byte ∷ rest)
   pub left_is : left ≡ length (byte ∷ rest)
 
 -- a part of a packet, and not the whole
-pub record IsCut (bytes : List ℕ) : Type 0 where
-  pub commands : List Command
+pub record IsCut {C O : Type 0} (set : CommandSet C O) (bytes : List ℕ) : Type 0 where
+  pub commands : List C
   pub more : List ℕ
-  pub is_packet : IsPacket commands
-  pub whole : bytes ++ more ≡ packet commands
+  pub is_packet : IsPacketOf set commands
+  pub whole : bytes ++ more ≡ packet_of set commands
   pub some : 0 < length more
 
 -- the fault of bytes that don't begin with a packet, its place told by how many bytes stand from there on
-abbrev pub FailsAsPacket : List ℕ → Form → Type 0
-FailsAsPacket bytes (BadCount left) = HasBadCount bytes × (left ≡ length bytes)
-FailsAsPacket bytes (Unknown left) = HasUnknown bytes left
-FailsAsPacket bytes Truncated = IsCut bytes
+abbrev pub FailsAsPacket : {C O : Type 0} → CommandSet C O → List ℕ → Form → Type 0
+FailsAsPacket set bytes (BadCount left) = HasBadCount bytes × (left ≡ length bytes)
+FailsAsPacket set bytes (Unknown left) = HasUnknown set bytes left
+FailsAsPacket set bytes Truncated = IsCut set bytes
 
 -- the same of an error that may be want of memory
-abbrev pub FailsBy : List ℕ → ReadError → Type 0
-FailsBy bytes errors.Memory = Unit {0}
-FailsBy bytes (errors.Form f) = FailsAsPacket bytes f
+abbrev pub FailsBy : {C O : Type 0} → CommandSet C O → List ℕ → ReadError → Type 0
+FailsBy set bytes errors.Memory = Unit {0}
+FailsBy set bytes (errors.Form f) = FailsAsPacket set bytes f
 
 -- the bytes are packets, and then these
-pub record Behind (bytes rest : List ℕ) : Type 0 where
-  pub packets : List (List Command)
-  pub each : AllByRecursion IsPacket packets
-  pub parts : bytes ≡ flat_map packet packets ++ rest
+pub record Behind {C O : Type 0} (set : CommandSet C O) (bytes rest : List ℕ) : Type 0 where
+  pub packets : List (List C)
+  pub each : AllByRecursion (IsPacketOf set) packets
+  pub parts : bytes ≡ flat_map (packet_of set) packets ++ rest
 
 -- The fault of bytes that spell no list of commands: the first one from the left. Want of memory says nothing of the bytes.
+abbrev pub FailsAsStreamOf : {C O : Type 0} → CommandSet C O → List ℕ → PackFault → Type 0
+FailsAsStreamOf set bytes (faults.BadCount at) = (rest : List ℕ) × Behind set bytes rest × HasBadCount rest × (at + length rest ≡ length bytes)
+FailsAsStreamOf set bytes (faults.UnknownOpcode at) = (rest : List ℕ) × (left : ℕ) × Behind set bytes rest × HasUnknown set rest left × (at + left ≡ length bytes)
+FailsAsStreamOf set bytes (faults.Truncated at) = (rest : List ℕ) × Behind set bytes rest × (0 < length rest) × IsCut set rest × (at ≡ length bytes)
+FailsAsStreamOf set bytes faults.OutOfMemory = Unit {0}
+
+-- the same of the commands of the table
 abbrev pub FailsAsStream : List ℕ → PackFault → Type 0
-FailsAsStream bytes (faults.BadCount at) = (rest : List ℕ) × Behind bytes rest × HasBadCount rest × (at + length rest ≡ length bytes)
-FailsAsStream bytes (faults.UnknownOpcode at) = (rest : List ℕ) × (left : ℕ) × Behind bytes rest × HasUnknown rest left × (at + left ≡ length bytes)
-FailsAsStream bytes (faults.Truncated at) = (rest : List ℕ) × Behind bytes rest × (0 < length rest) × IsCut rest × (at ≡ length bytes)
-FailsAsStream bytes faults.OutOfMemory = Unit {0}
+FailsAsStream bytes fault = FailsAsStreamOf plain_set bytes fault
 
 -- the fault with its place, in bytes of which there are so many
 abbrev pub pack_fault : ReadError → ℕ → PackFault
@@ -87,15 +89,27 @@ IsFault faults.OutOfMemory = ⊥
 -- ---- laws
 
 -- a list that is spelled has no fault
-abbrev pub FaultsSpellNothing : Type 0
-FaultsSpellNothing = (bytes : List ℕ) (fault : PackFault) (commands : List Command) → FailsAsStream bytes fault → IsFault fault → SpellsStream bytes commands → ⊥
+abbrev pub FaultsSpellNothingOf : {C O : Type 0} → CommandSet C O → Type 0
+FaultsSpellNothingOf {C = C} set =
+    (bytes : List ℕ) (fault : PackFault) (commands : List C) → FailsAsStreamOf set bytes fault → IsFault fault → SpellsStreamOf set bytes commands → ⊥
 
 -- bytes have one fault at most
-abbrev pub FaultsAreOne : Type 0
-FaultsAreOne = (bytes : List ℕ) (one other : PackFault) → FailsAsStream bytes one → FailsAsStream bytes other → IsFault one → IsFault other → one ≡ other
+abbrev pub FaultsAreOneOf : {C O : Type 0} → CommandSet C O → Type 0
+FaultsAreOneOf set =
+    (bytes : List ℕ) (one other : PackFault) → FailsAsStreamOf set bytes one → FailsAsStreamOf set bytes other → IsFault one → IsFault other → one ≡ other
 
 -- bytes spell a list, or they have a fault
-abbrev pub SpellsOrFails : Type 0
-SpellsOrFails =
+abbrev pub SpellsOrFailsOf : {C O : Type 0} → CommandSet C O → Type 0
+SpellsOrFailsOf {C = C} set =
     (bytes : List ℕ) → AreBytes bytes
-    → ((commands : List Command) × SpellsStream bytes commands) ⊎ ((fault : PackFault) × IsFault fault × FailsAsStream bytes fault)
+    → ((commands : List C) × SpellsStreamOf set bytes commands) ⊎ ((fault : PackFault) × IsFault fault × FailsAsStreamOf set bytes fault)
+
+-- the same of the commands of the table
+abbrev pub FaultsSpellNothing : Type 0
+FaultsSpellNothing = FaultsSpellNothingOf plain_set
+
+abbrev pub FaultsAreOne : Type 0
+FaultsAreOne = FaultsAreOneOf plain_set
+
+abbrev pub SpellsOrFails : Type 0
+SpellsOrFails = SpellsOrFailsOf plain_set

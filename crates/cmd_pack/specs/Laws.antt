@@ -1,18 +1,27 @@
 -- Laws on the spelling of streams.
-use Rattle.std.specs.Prelude.{◌≡◌, ℕ, ◌+◌, ◌*◌, List, [], ◌∷◌, length}
+use Rattle.std.specs.Prelude.{◌≡◌, ℕ, ◌+◌, ◌*◌, List, [], ◌∷◌, length, map}
 use Rattle.std.specs.List.{AllByRecursion}
 use Rattle.rc_base.specs.declared.command.Command.{Command}
+use Rattle.rc_base.specs.declared.list_command.ListCommand.TheVariants as list
 use Rattle.rc_base.specs.Formats.Commands.{Kind, Value, Fields, IsCommand, opcode_of, kinds_of, fields_of}
 use Rattle.rc_base.specs.Formats.Commands.Kind.{Byte, Half, Word, Code, Bytes, Words, Image}
-use Rattle.rc_base.specs.Formats.Spelling.{payload, encoded, SpellsStream}
+use Rattle.rc_base.specs.Formats.Spelling.{CommandSet, plain_set, list_set, payload, encoded, SpellsStream, SpellsStreamOf}
 
 -- What is encoded spells the commands, so it is read again.
 abbrev pub EncodedIsRead : Type 0
 EncodedIsRead = (commands : List Command) → AllByRecursion IsCommand commands → SpellsStream (encoded commands) commands
 
--- No bytes spell two lists.
+-- No bytes spell two lists of commands of a set.
+abbrev pub SpellsOneListOf : {C O : Type 0} → CommandSet C O → Type 0
+SpellsOneListOf {C = C} set = (bytes : List ℕ) (one other : List C) → SpellsStreamOf set bytes one → SpellsStreamOf set bytes other → one ≡ other
+
+-- the same of the commands of the table
 abbrev pub SpellsOneList : Type 0
-SpellsOneList = (bytes : List ℕ) (one other : List Command) → SpellsStream bytes one → SpellsStream bytes other → one ≡ other
+SpellsOneList = SpellsOneListOf plain_set
+
+-- What bytes spell in the commands of the table they spell in the larger set too.
+abbrev pub PlainStreamsSpellThemselves : Type 0
+PlainStreamsSpellThemselves = (bytes : List ℕ) (commands : List Command) → SpellsStream bytes commands → SpellsStreamOf list_set bytes (map (λ c. list.Plain c) commands)
 
 -- the bytes of a field, without those of texels
 abbrev pub fixed_bytes : Kind → ℕ

@@ -1,5 +1,12 @@
 pub mod Reading
+pub mod Codec
+pub mod NumberCodecs
+pub mod FieldCodecs
+pub mod Sets
 pub mod Packets
+pub mod PlainLaws
+pub mod Lists
+pub mod ListLaws
 pub mod Faults
 pub mod Parts
 pub mod Texels

@@ -8,3 +8,5 @@ pub mod ClapRows
 pub mod ClapWords
 pub mod ClapLine
 pub mod ValuesRead
+pub mod FilterWords
+pub mod FilterLines

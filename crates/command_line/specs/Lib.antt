@@ -1,4 +1,5 @@
 pub mod Words
+pub mod Filters
 pub mod Values
 pub mod Begins
 pub mod Reads

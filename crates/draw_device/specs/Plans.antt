@@ -6,6 +6,7 @@ use Rattle.rc_base.specs.Drawing.Cover.{is_inside}
 use Rattle.rc_base.specs.Drawing.Fragment.{fragment_of}
 use Rattle.rc_base.specs.Drawing.PixelStep.{textured, written_color}
 use Rattle.rc_base.specs.Drawing.Texel.{wrap_in_s, wrap_in_t}
+use Rattle.rc_base.specs.Colors.{modulated}
 use Rattle.rc_base.specs.declared.command.Rgba.{Rgba}
 use Rattle.rc_base.specs.declared.state.State.{State}
 use Rattle.rc_base.specs.declared.window.WindowVertex.{WindowVertex}
@@ -18,7 +19,7 @@ use Rattle.textures.specs.declared.sampler.Sampler.{Sampler}
 use Rattle.fragment_ops.specs.AlphaTests.{IsAlphaTest}
 use Rattle.fragment_ops.specs.Blends.{IsBlending}
 use Rattle.fragment_ops.specs.DepthTests.{IsDepthTest}
-use Rattle.fragment_ops.specs.Shortcuts.{blends_over, blends_sum, modulated, writes_all}
+use Rattle.fragment_ops.specs.Shortcuts.{blends_over, blends_sum, writes_all}
 use Rattle.draw_device.specs.Loops.{StoresColor, HasDepths}
 use Rattle.draw_device.specs.declared.plan.Plan.{Plan}
 use Rattle.draw_device.specs.declared.paint.Paint.{Paint}

@@ -1,10 +1,10 @@
 //! A row of colours: those of a triangle's fragments after the texture stage.
 ghost use Rattle.std.specs.Prelude.{◌≡◌, ℕ, ◌≤◌, length, pos, true};
+ghost use Rattle.rc_base.specs.Colors.{modulated};
 ghost use Rattle.rc_base.specs.Drawing.PixelStep.{textured};
 ghost use Rattle.rc_base.specs.Drawing.Texel.{wrap_in_s, wrap_in_t};
 ghost use Rattle.rc_base.specs.declared.command.Rgba.{Rgba as AnyColor};
 ghost use Rattle.textures.specs.Samplers.{IsSampler};
-ghost use Rattle.fragment_ops.specs.Shortcuts.{modulated};
 ghost use Rattle.draw_device.specs.Pixels.{color_at};
 ghost use Rattle.draw_device.specs.Loops.{run_fragment, texel_for, IsRunCovered, IsColorAt, IsColorRun};
 ghost use Rattle.draw_device.specs.Plans.{AreTexels};

@@ -4,6 +4,8 @@
 #![tactic(auto)]
 
 #[cfg(test)]
+mod chains;
+#[cfg(test)]
 mod commands;
 #[cfg(test)]
 mod contexts;
@@ -13,6 +15,8 @@ mod ends;
 mod generated;
 #[cfg(test)]
 mod images;
+#[cfg(test)]
+mod lists;
 #[cfg(test)]
 mod packets;
 #[cfg(test)]

@@ -39,7 +39,3 @@ color_over c old = rgba (laid_over c.r old.r c.a) (laid_over c.g old.g c.a) (lai
 -- a colour and the stored one together
 unfoldable pub color_sum : Rgba → Rgba → Rgba
 color_sum c old = rgba (min 255 (c.r + old.r)) (min 255 (c.g + old.g)) (min 255 (c.b + old.b)) (min 255 (c.a + old.a))
-
--- the products of two colours' channels
-abbrev pub modulated : Rgba → Rgba → Rgba
-modulated c t = rgba (prod c.r t.r) (prod c.g t.g) (prod c.b t.b) (prod c.a t.a)

@@ -1,10 +1,10 @@
 //! Colours made of two: by a texel, and with the stored one.
 ghost use Rattle.std.specs.Prelude.{◌≡◌, ◌<◌, ℕ, true};
-ghost use Rattle.rc_base.specs.Colors.{rgba, prod};
+ghost use Rattle.rc_base.specs.Colors.{rgba, prod, modulated};
 ghost use Rattle.rc_base.specs.Drawing.PixelStep.{written_color};
 ghost use Rattle.rc_base.specs.declared.state.State.{State as AnyState};
 ghost use Rattle.fragment_ops.specs.Pairs.{pair_of};
-ghost use Rattle.fragment_ops.specs.Shortcuts.{blends_over, blends_sum, color_over, color_sum, modulated};
+ghost use Rattle.fragment_ops.specs.Shortcuts.{blends_over, blends_sum, color_over, color_sum};
 
 use crate::blend::sum;
 use crate::pairs::{products, scaled};

@@ -68,10 +68,18 @@ fault_name StackUnderflow = codes "STACK_UNDERFLOW"
 abbrev pub joined_line : List (List ℕ) → List ℕ
 joined_line parts = flat_map (λ (part : List ℕ). part) parts ++ codes "\n"
 
--- a refused command
+-- a refused command, with a word for what refused it
+abbrev pub refused_line : List ℕ → ℕ → ℕ × Fault → List ℕ
+refused_line word client fault =
+    joined_line (codes "client " ∷ decimal client ∷ word ∷ fault_name fault.1 ∷ codes " at " ∷ decimal fault.0 ∷ [])
+
+-- it is refused where it is issued
 abbrev pub fault_line : ℕ → ℕ × Fault → List ℕ
-fault_line client fault =
-    joined_line (codes "client " ∷ decimal client ∷ codes " fault " ∷ fault_name fault.1 ∷ codes " at " ∷ decimal fault.0 ∷ [])
+fault_line client fault = refused_line (codes " fault ") client fault
+
+-- or before that, among the call lists of its stream
+abbrev pub list_fault_line : ℕ → ℕ × Fault → List ℕ
+list_fault_line client fault = refused_line (codes " list fault ") client fault
 
 -- the faults of a client's whole stream, places rising
 abbrev pub client_faults : Scene → ℕ → List ℕ
@@ -134,13 +142,13 @@ stuck_lines syncs journal =
     flat_map (client_stuck syncs journal) (range_with_len 0 (client_count syncs))
     ++ (if is_stuck syncs journal then joined_line (codes "rc: stuck" ∷ []) else [])
 
--- The report of a run: faults, tiles, the journal's and the frames' numbers, the recorded orders where they are asked for, and who is left
--- waiting.
-unfoldable pub report_text_of : Scene → Layout → Record → Bool → List ℕ
-report_text_of scene l kept orders =
-    fault_lines scene ++ tile_lines scene l ++ count_lines kept.journal ++ (if orders then order_lines l kept else [])
+-- The report of a run: faults, tiles, the journal's and the frames' numbers, what else is told of it, the recorded orders where they are asked for,
+-- and who is left waiting.
+unfoldable pub report_text_of : Scene → Layout → Record → List ℕ → Bool → List ℕ
+report_text_of scene l kept told orders =
+    fault_lines scene ++ tile_lines scene l ++ count_lines kept.journal ++ told ++ (if orders then order_lines l kept else [])
     ++ stuck_lines kept.syncs kept.journal
 
 -- The report of a run without tiles, by a journal: no tile and no order is told.
-unfoldable pub short_report_of : Scene → List Entry → List ℕ
-short_report_of scene journal = fault_lines scene ++ count_lines journal ++ stuck_lines (sync_lists_of scene) journal
+unfoldable pub short_report_of : Scene → List Entry → List ℕ → List ℕ
+short_report_of scene journal told = fault_lines scene ++ count_lines journal ++ told ++ stuck_lines (sync_lists_of scene) journal

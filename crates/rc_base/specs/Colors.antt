@@ -12,3 +12,7 @@ color_of bytes = rgba (slice_index bytes 0) (slice_index bytes 1) (slice_index b
 -- the product of two channels, as parts of 255, rounded
 abbrev pub prod : ℕ → ℕ → ℕ
 prod a b = (a * b + 127) / 255
+
+-- the products of two colours' channels
+abbrev pub modulated : Rgba → Rgba → Rgba
+modulated c t = rgba (prod c.r t.r) (prod c.g t.g) (prod c.b t.b) (prod c.a t.a)

@@ -1,22 +1,69 @@
-//! The program: standard input is the source, standard output the image, standard error the notes, and the words are its arguments.
+//! The program: standard input is the source, standard output the image, standard error the notes, and the words are its arguments. Its chain has a member
+//! for each filter that they begin with.
 #![tactic(auto)]
 
+ghost use Rattle.std.specs.Prelude.{IfOk, map, string_bytes};
+ghost use Rattle.command_line.specs.Filters.{AreNamed};
+
 use rc_base::gate::OpenGate;
-use rc_base::outside::Sink;
+use rc_base::out_of_memory::OutOfMemory;
+use rc_base::outside::{Sink, Source};
 use rc_base::standard::{StdSink, StdSource};
 use rc_base::transfer::write_all;
-use render_core::{Finish, run};
+use render_core::{Finish, filters, run_filtered};
+use spu_chain::{CountSpu, CullSpu, DropSpu, RecolourSpu, Rules, Spu, SpuRule};
+use std::alloc::Global;
 use std::env;
 use std::io::ErrorKind;
 use std::process::ExitCode;
+use std::sync::Wait;
+use std::thread::Threads;
 
-// The status where there is no memory for the words.
+// The status where there is no memory for the words, or for the chain that they name.
 const OUT_OF_MEMORY: u8 = 7;
 
 // Tells that there is no memory for the words.
 fn without_memory<N: Sink>(notes: &mut N) -> ExitCode {
     let _ = write_all(notes, b"rc: out of memory\n");
     ExitCode::from(OUT_OF_MEMORY)
+}
+
+// The rules of the filters that the words begin with, and none where they name no chain.
+fn rules_of(alloc: Global, words: &[String]) -> Result<Rules, OutOfMemory>
+    ensures { IfOk result (AreNamed (map string_bytes words.now)) }
+{
+    match filters(alloc, words)? {
+        Some((rules, _)) => Ok(rules),
+        None => Ok(Rules::new(alloc)),
+    }
+}
+
+// The status of a run of the words on these ends, with a member for each filter that they begin with.
+fn status_of<S: Source, K: Sink, N: Sink, R>(
+    rt: R,
+    alloc: Global,
+    words: &[String],
+    source: &mut S,
+    image: &mut K,
+    notes: &mut N,
+) -> Result<u8, OutOfMemory>
+where
+    R: Threads + Wait + Copy + Send + Sync + Drop,
+{
+    let rules = rules_of(alloc, words)?;
+    let mut chain: Vec<Box<dyn Spu>> = Vec::new(alloc);
+    for rule in rules.as_slice() {
+        match *rule {
+            SpuRule::Recolour(tint) => chain.push(Box::new(alloc, RecolourSpu::new(tint))?)?,
+            SpuRule::Cull => chain.push(Box::new(alloc, CullSpu)?)?,
+            SpuRule::Drop(opcode) => chain.push(Box::new(alloc, DropSpu::new(opcode))?)?,
+            SpuRule::Count(count) => chain.push(Box::new(alloc, CountSpu::new(count))?)?,
+        }
+    }
+    let Finish { status, .. } = run_filtered(
+        rt, alloc, &mut chain, words, source, image, notes, &OpenGate,
+    );
+    Ok(status)
 }
 
 fn main(rt: HostRuntime) -> ExitCode {
@@ -40,14 +87,15 @@ fn main(rt: HostRuntime) -> ExitCode {
     }
     let mut source = StdSource::new(rt.stdin());
     let mut image = StdSink::new(rt.stdout());
-    let Finish { status, .. } = run(
+    match status_of(
         rt,
         alloc,
         words.as_slice(),
         &mut source,
         &mut image,
         &mut notes,
-        &OpenGate,
-    );
-    ExitCode::from(status)
+    ) {
+        Ok(status) => ExitCode::from(status),
+        Err(OutOfMemory) => without_memory(&mut notes),
+    }
 }

@@ -1,5 +1,5 @@
 -- The account of a cluster's run is that of its scene and its record.
-use Rattle.std.proofs.Common.{◌≡◌, ℕ, zero, suc, ◌+◌, ◌<◌, ◌≤◌, Bool, false, List, [], ◌++◌, length, None, refl, sym, ap, ap₂, ◌∙◌, arith}
+use Rattle.std.proofs.Common.{◌≡◌, ℕ, zero, suc, ◌+◌, ◌<◌, ◌≤◌, Bool, List, [], ◌++◌, length, None, refl, sym, ap, ap₂, ◌∙◌, arith, append_assoc}
 use Rattle.std.specs.Prelude.{is_some, slice_index_or, if◌then◌else◌}
 use Rattle.std.specs.declared.option.Option.{Option}
 use Rattle.std.specs.List.{flat_map, range_with_len}
@@ -14,9 +14,10 @@ use Rattle.rc_base.specs.declared.sync.Waiting.{Waiting}
 use Rattle.rc_base.specs.declared.window.Layout.{Layout}
 use Rattle.rc_base.proofs.WithinLimits.{clients_within}
 use Rattle.client_issue.specs.Cores.{no_tally}
-use Rattle.order_model.specs.Report.{count_lines, fault_lines, order_line, order_lines, report_text_of, stuck_lines, summed, tile_line, tile_lines, tile_order}
+use Rattle.order_model.specs.Report.{count_lines, fault_lines, order_line, order_lines, report_text_of, stuck_lines, tile_line, tile_lines, tile_order}
 use Rattle.order_model.specs.declared.record.Record.{Record}
 use Rattle.run_record.specs.Told.{IsRun}
+use Rattle.render_core.specs.declared.work.Work.{Work}
 use Rattle.render_core.specs.Due.{ending_by, report_due}
 use Rattle.render_core.specs.Reports.{AreOf, line_of_tile, lines_of_orders, lines_of_run, lines_of_stuck, lines_of_tiles}
 use Rattle.render_core.specs.declared.due.Ending.TheVariants.{Complete, Stuck}
@@ -28,6 +29,10 @@ same_in_range f g a (suc n) same =
     let here : a + 0 ≡ a = omega arith in
     ap₂ (λ (l r : List ℕ). l ++ r) (rw here at (same 0 (omega arith)))
     (same_in_range f g (a + 1) n (λ k lt. let e : a + (k + 1) ≡ (a + 1) + k = omega arith in rw e at (same (k + 1) (omega (arith, lt)))))
+
+-- the lines before a report, and those of the report
+joined : (a b c d e f g : List ℕ) → a ++ b ++ c ++ d ++ e ++ f ++ g ≡ a ++ (b ++ c ++ d ++ e ++ f ++ g)
+joined a b c d e f g = simp append_assoc
 
 module _ (scene : Scene) (l : Layout) (kept : Record) (tallies : List Tally) (waiting : Option Waiting) (faults : List (List (ℕ × Fault)))
     (is : IsRun scene l kept tallies waiting faults) where
@@ -63,14 +68,17 @@ module _ (scene : Scene) (l : Layout) (kept : Record) (tallies : List Tally) (wa
   waits_told : lines_of_stuck waiting (length faults) ≡ stuck_lines kept.syncs kept.journal
   waits_told = stuck_told scene faults kept.journal waiting are ∙ ap (λ (s : SyncLists). stuck_lines s kept.journal) (sym is.lawful.lists)
 
-  pub notes_told : (orders : Bool) → lines_of_run faults tallies kept waiting orders ≡ report_due scene l kept orders
+  pub notes_told : (work : Work) → work.scene ≡ scene → (orders : Bool) → lines_of_run work faults tallies kept waiting orders ≡ report_due work l kept orders
   unfolding report_text_of
-  notes_told orders =
-      ap (λ (x : List ℕ). x ++ lines_of_tiles tallies ++ count_lines kept.journal ++ (if orders then lines_of_orders kept else []) ++ lines_of_stuck waiting (length faults))
-      (faults_told scene faults kept.journal is.faults_are.clients is.faults_are.each)
-      ∙ ap (λ (x : List ℕ). fault_lines scene ++ x ++ count_lines kept.journal ++ (if orders then lines_of_orders kept else []) ++ lines_of_stuck waiting (length faults)) tiles_told
-      ∙ ap (λ (x : List ℕ). fault_lines scene ++ tile_lines scene l ++ count_lines kept.journal ++ (if orders then x else []) ++ lines_of_stuck waiting (length faults)) orders_told
-      ∙ ap (λ (x : List ℕ). fault_lines scene ++ tile_lines scene l ++ count_lines kept.journal ++ (if orders then order_lines l kept else []) ++ x) waits_told
+  notes_told work own orders =
+      ap (λ (x : List ℕ). work.refused ++ x ++ lines_of_tiles tallies ++ count_lines kept.journal ++ work.counted ++ (if orders then lines_of_orders kept else []) ++ lines_of_stuck waiting (length faults))
+      (faults_told scene faults kept.journal is.faults_are.clients is.faults_are.each ∙ ap fault_lines (sym own))
+      ∙ ap (λ (x : List ℕ). work.refused ++ fault_lines work.scene ++ x ++ count_lines kept.journal ++ work.counted ++ (if orders then lines_of_orders kept else []) ++ lines_of_stuck waiting (length faults))
+      (tiles_told ∙ ap (λ (s : Scene). tile_lines s l) (sym own))
+      ∙ ap (λ (x : List ℕ). work.refused ++ fault_lines work.scene ++ tile_lines work.scene l ++ count_lines kept.journal ++ work.counted ++ (if orders then x else []) ++ lines_of_stuck waiting (length faults)) orders_told
+      ∙ ap (λ (x : List ℕ). work.refused ++ fault_lines work.scene ++ tile_lines work.scene l ++ count_lines kept.journal ++ work.counted ++ (if orders then order_lines l kept else []) ++ x) waits_told
+      ∙ joined work.refused (fault_lines work.scene) (tile_lines work.scene l) (count_lines kept.journal) work.counted (if orders then order_lines l kept else [])
+      (stuck_lines kept.syncs kept.journal)
 
   -- ---- its ending
 

@@ -17,7 +17,8 @@ use Rattle.step_core.specs.CoreRuns.{IsCoreRun, IsFinish}
 use Rattle.step_core.specs.Schedules.{WorldView, picks_of, IsRightFor}
 use Rattle.step_core.specs.declared.rounds.CoreRun.{CoreRun}
 use Rattle.render_core.specs.Due.{IsStepped}
-use Rattle.render_core.specs.Jobs.{layout_for}
+use Rattle.render_core.specs.declared.work.Work.{Work}
+use Rattle.render_core.specs.Scenes.{layout_for}
 use Rattle.render_core.specs.Reports.{IsAccount}
 use Rattle.render_core.specs.declared.cluster.Account.{Account}
 use Rattle.render_core.specs.declared.job.Cluster.{Cluster}
@@ -58,16 +59,16 @@ module _ (cluster : Cluster) (scene : Scene) (run : CoreRun) (is : IsCoreRun sce
     text_is texts = ap p6_texts drawn ∙ texts scene l run.kept window
 
 -- all of it
-pub is_stepped : (cluster : Cluster) (picks : List ℕ) (scene : Scene) (run : CoreRun) → SceneListsAreWellFormed → RecordsOfScenesArePermitted → limit_of scene ≡ None
-    → IsFinish scene (layout_for cluster scene) cluster.depth picks run → (image : List ℕ) → image ≡ image_text_of scene (layout_for cluster scene) run.kept
-    → (account : Account) → IsAccount scene (layout_for cluster scene) run.kept cluster.orders account
-    → IsStepped cluster picks scene (record { image = image; notes = account.notes; ending = account.ending; kept = Some run.kept })
-is_stepped cluster picks scene run formed permits within is image image_is account told = record {
+pub is_stepped : (cluster : Cluster) (picks : List ℕ) (work : Work) (run : CoreRun) → SceneListsAreWellFormed → RecordsOfScenesArePermitted → limit_of work.scene ≡ None
+    → IsFinish work.scene (layout_for cluster work.scene) cluster.depth picks run → (image : List ℕ) → image ≡ image_text_of work.scene (layout_for cluster work.scene) run.kept
+    → (account : Account) → IsAccount work (layout_for cluster work.scene) run.kept cluster.orders account
+    → IsStepped cluster picks work (record { image = image; notes = account.notes; ending = account.ending; kept = Some run.kept })
+is_stepped cluster picks work run formed permits within is image image_is account told = record {
   recorded = record {
     record_kept = run.kept;
     kept = refl;
     lawful = is.run_of.lawful;
-    permitted = kept_permits cluster scene formed permits within run.kept is.run_of.lawful;
+    permitted = kept_permits cluster work formed permits within run.kept is.run_of.lawful;
     image = image_is;
     notes = told.notes;
     ending = told.ending;

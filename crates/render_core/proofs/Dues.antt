@@ -1,7 +1,6 @@
 -- What is made of a scene is what is due for it.
-use Rattle.std.proofs.Common.{◌≡◌, ℕ, List, [], ◌++◌, length, Bool, Option, None, refl, sym, ap, ap₂, ◌∙◌, subst, true, arith}
+use Rattle.std.proofs.Common.{◌≡◌, ℕ, List, [], length, Bool, Option, None, refl, sym, ap, ap₂, ◌∙◌, subst, true, arith}
 use Rattle.std.specs.Prelude.{◌↔◌, ◌≤◌, IsSome, IfSome, is_some, slice_index_or, if◌then◌else◌}
-use Rattle.std.proofs.lemmas.List.{append-nil}
 use Rattle.rc_base.specs.Contexts.Issue.{faults_of}
 use Rattle.rc_base.specs.Drawing.Images.{frame_images}
 use Rattle.rc_base.specs.Formats.Netpbm.{p6_texts}
@@ -17,35 +16,33 @@ use Rattle.rc_base.specs.declared.sync.Name.{Name}
 use Rattle.rc_base.specs.declared.sync.SyncLists.{SyncLists}
 use Rattle.rc_base.specs.declared.sync.Waiting.{Waiting}
 use Rattle.order_model.specs.Laws.{DefaultJournalIsMaximal, DefaultOrdersArePermitted}
-use Rattle.order_model.specs.Report.{count_lines, fault_lines, frame_count, is_stuck, short_report_of, stuck_lines}
+use Rattle.order_model.specs.Report.{frame_count, is_stuck}
+use Rattle.render_core.specs.declared.work.Work.{Work}
 use Rattle.render_core.specs.declared.due.DefaultRun.{DefaultRun}
 use Rattle.render_core.specs.declared.due.Ending.{Ending}
 use Rattle.render_core.specs.declared.due.Ending.TheVariants.{Complete, Stuck}
 use Rattle.race_check.specs.Races.{IsVerdict}
 use Rattle.race_check.specs.declared.verdict.Verdict.{Verdict}
 use Rattle.render_core.specs.declared.job.Job.TheVariants.{Serial, Last, Check, Race}
-use Rattle.render_core.specs.Due.{Outcome, IsOutcome, IsVerdictOn, drawn_in_order, default_ending, default_frames, found_by, journal_of, report_with}
+use Rattle.render_core.specs.Due.{Outcome, IsOutcome, IsVerdictOn, drawn_in_order, default_ending, default_frames, found_by, journal_of, short_due}
 use Rattle.render_core.specs.Lines.{race_line}
-use Rattle.render_core.specs.Reports.{lines_of_faults, lines_of_stuck, AreOf, IsDefault}
+use Rattle.render_core.specs.Reports.{lines_of_turns, AreOf, IsDefault}
 use Rattle.render_core.proofs.ReportLines.{report_told, is_stuck_of}
 
 -- what is due without a record
 abbrev pub plain : List ℕ → List ℕ → Ending → Outcome
 plain image notes ending = record { image = image; notes = notes; ending = ending; kept = None }
 
--- with no lines more the report is the short one
-short_is : (scene : Scene) (journal : List Entry) → report_with [] scene journal ≡ short_report_of scene journal
-unfolding report_with short_report_of
-short_is scene journal = ap (λ (l : List ℕ). l ++ stuck_lines (sync_lists_of scene) journal) (append-nil (fault_lines scene ++ count_lines journal))
-
 -- ---- what is due by the default journal
 
-module _ (scene : Scene) (faults : List (List (ℕ × Fault))) (journal : List Entry) (waiting : Option Waiting) (are : AreOf scene faults journal waiting)
-    (by_default : journal ≡ journal_of scene) where
+module _ (work : Work) (faults : List (List (ℕ × Fault))) (journal : List Entry) (waiting : Option Waiting) (are : AreOf work.scene faults journal waiting)
+    (by_default : journal ≡ journal_of work.scene) where
+  abbrev scene : Scene
+  scene = work.scene
+
   -- its report
-  pub told_with : (told notes : List ℕ) → notes ≡ lines_of_faults faults ++ count_lines journal ++ told ++ lines_of_stuck waiting (length faults)
-      → notes ≡ report_with told scene (journal_of scene)
-  told_with told notes e = e ∙ report_told scene faults journal waiting are told ∙ ap (report_with told scene) by_default
+  pub told_with : (told notes : List ℕ) → notes ≡ lines_of_turns work faults journal told waiting → notes ≡ short_due work told (journal_of scene)
+  told_with told notes e = e ∙ report_told work faults journal waiting are told ∙ ap (short_due work told) by_default
 
   stuck_is : is_some waiting ≡ is_stuck (sync_lists_of scene) (journal_of scene)
   stuck_is = is_stuck_of scene journal waiting are.stuck ∙ ap (is_stuck (sync_lists_of scene)) by_default
@@ -56,13 +53,13 @@ module _ (scene : Scene) (faults : List (List (ℕ × Fault))) (journal : List E
   ends_by free ending e = e ∙ ap (λ (b : Bool). if b then Stuck else free) stuck_is
 
   module _ (ending : Ending) (ending_is : ending ≡ (if is_some waiting then Stuck else Complete)) (notes : List ℕ)
-      (notes_are : notes ≡ report_with [] scene (journal_of scene)) where
-    pub shown : (image : List ℕ) → plain image notes ending ≡ plain image (short_report_of scene (journal_of scene)) (default_ending scene)
+      (notes_are : notes ≡ short_due work [] (journal_of scene)) where
+    pub shown : (image : List ℕ) → plain image notes ending ≡ plain image (short_due work [] (journal_of scene)) (default_ending scene)
     unfolding default_ending
-    shown image = ap₂ (plain image) (notes_are ∙ short_is scene (journal_of scene)) (ends_by Complete ending ending_is)
+    shown image = ap₂ (plain image) notes_are (ends_by Complete ending ending_is)
 
     pub drawn : (order : List Name) → order ≡ default_order (sync_lists_of scene) (journal_of scene) → (images : List Image)
-        → images ≡ frame_images scene order (frame_count journal) → plain (p6_texts images) notes ending ≡ drawn_in_order scene
+        → images ≡ frame_images scene order (frame_count journal) → plain (p6_texts images) notes ending ≡ drawn_in_order work
     unfolding default_frames
     drawn order order_is images are =
         let frames : images ≡ frame_images scene (default_order (sync_lists_of scene) (journal_of scene)) (frame_count (journal_of scene)) =
@@ -117,42 +114,44 @@ module _ (scene : Scene) (syncs : SyncLists) (same : syncs ≡ sync_lists_of sce
       }
 
     -- where clients are drawn apart
-    pub last_due : (images : List Image) → images ≡ frame_images scene (default_order syncs journal) (frame_count journal) → (notes : List ℕ)
-        → notes ≡ lines_of_faults faults ++ count_lines journal ++ [] ++ lines_of_stuck waiting (length faults) → (ending : Ending)
-        → ending ≡ (if is_some waiting then Stuck else Complete)
-        → IsOutcome Last scene (plain (p6_texts images) notes ending)
+    pub last_due : (work : Work) → work.scene ≡ scene → (images : List Image) → images ≡ frame_images scene (default_order syncs journal) (frame_count journal)
+        → (notes : List ℕ) → notes ≡ lines_of_turns work faults journal [] waiting → (ending : Ending)
+        → ending ≡ (if is_some waiting then Stuck else Complete) → IsOutcome Last work (plain (p6_texts images) notes ending)
     unfolding IsOutcome
-    last_due images are notes notes_are ending ending_is =
-        drawn scene faults journal waiting told_of by_lists ending ending_is notes (told_with scene faults journal waiting told_of by_lists [] notes notes_are)
-        (default_order syncs journal) (in_turn (default_order syncs journal) refl) images are
+    last_due work own images are notes notes_are ending ending_is =
+        let told = subst (λ (s : Scene). AreOf s faults journal waiting) (sym own) told_of in
+        let lists = subst (λ (s : Scene). journal ≡ journal_of s) (sym own) by_lists in
+        let turn = subst (λ (s : Scene). default_order syncs journal ≡ default_order (sync_lists_of s) (journal_of s)) (sym own) (in_turn (default_order syncs journal) refl) in
+        drawn work faults journal waiting told lists ending ending_is notes (told_with work faults journal waiting told lists [] notes notes_are)
+        (default_order syncs journal) turn images (subst (λ (s : Scene). images ≡ frame_images s (default_order syncs journal) (frame_count journal)) (sym own) are)
 
 -- ---- what is due by the default run
 
-module _ (scene : Scene) (run : DefaultRun) (is : IsDefault scene run) where
+module _ (work : Work) (run : DefaultRun) (is : IsDefault work.scene run) where
   module _ (ending : Ending) (ending_is : ending ≡ (if is_some run.waiting then Stuck else Complete)) (notes : List ℕ)
-      (notes_are : notes ≡ report_with [] scene (journal_of scene)) where
-    pub serial_due : (images : List Image) → images ≡ frame_images scene run.order (frame_count run.journal)
-        → IsOutcome Serial scene (plain (p6_texts images) notes ending)
+      (notes_are : notes ≡ short_due work [] (journal_of work.scene)) where
+    pub serial_due : (images : List Image) → images ≡ frame_images work.scene run.order (frame_count run.journal)
+        → IsOutcome Serial work (plain (p6_texts images) notes ending)
     unfolding IsOutcome
-    serial_due images are = drawn scene run.faults run.journal run.waiting is.are is.journal ending ending_is notes notes_are run.order is.order images are
+    serial_due images are = drawn work run.faults run.journal run.waiting is.are is.journal ending ending_is notes notes_are run.order is.order images are
 
-    pub check_due : IsOutcome Check scene (plain [] notes ending)
+    pub check_due : IsOutcome Check work (plain [] notes ending)
     unfolding IsOutcome
-    check_due = shown scene run.faults run.journal run.waiting is.are is.journal ending ending_is notes notes_are []
+    check_due = shown work run.faults run.journal run.waiting is.are is.journal ending ending_is notes notes_are []
 
   -- what is due where it is asked which commands race
-  module _ (v : Verdict) (found : IsVerdict (sync_lists_of scene) run.journal run.order (footprint_of scene) v) where
-    on_default : IsVerdictOn scene v
+  module _ (v : Verdict) (found : IsVerdict (sync_lists_of work.scene) run.journal run.order (footprint_of work.scene) v) where
+    on_default : IsVerdictOn work.scene v
     on_default =
-        subst (λ (o : List Name). IsVerdict (sync_lists_of scene) (journal_of scene) o (footprint_of scene) v) is.order
-        (subst (λ (j : List Entry). IsVerdict (sync_lists_of scene) j run.order (footprint_of scene) v) is.journal found)
+        subst (λ (o : List Name). IsVerdict (sync_lists_of work.scene) (journal_of work.scene) o (footprint_of work.scene) v) is.order
+        (subst (λ (j : List Entry). IsVerdict (sync_lists_of work.scene) j run.order (footprint_of work.scene) v) is.journal found)
 
-    pub race_due : (notes : List ℕ) → notes ≡ report_with (race_line v) scene (journal_of scene)
+    pub race_due : (notes : List ℕ) → notes ≡ short_due work (race_line v) (journal_of work.scene)
         → (ending : Ending) → ending ≡ (if is_some run.waiting then Stuck else found_by v)
-        → IsOutcome Race scene (plain [] notes ending)
+        → IsOutcome Race work (plain [] notes ending)
     unfolding IsOutcome
     race_due notes notes_are ending ending_is = record {
       told = v;
       is = on_default;
-      due = ap₂ (plain []) notes_are (ends_by scene run.faults run.journal run.waiting is.are is.journal (found_by v) ending ending_is);
+      due = ap₂ (plain []) notes_are (ends_by work run.faults run.journal run.waiting is.are is.journal (found_by v) ending ending_is);
     }

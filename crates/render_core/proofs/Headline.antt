@@ -1,11 +1,8 @@
 -- What follows from how a run ended: what the source holds decides it, and the headline.
 use Rattle.std.proofs.Common.{◌≡◌, ◌≢◌, ℕ, ◌≤◌, ◌⊎◌, inl, inr, List, length, take, None, Some, refl, sym, ap, subst, ◌∙◌, arith}
-use Rattle.std.specs.Prelude.{String, IfSome, unwrap_or}
-use Rattle.std.specs.Global.{Global}
+use Rattle.std.specs.Prelude.{IfSome, unwrap_or}
 use Rattle.std.specs.declared.option.Option.{Option}
 use Rattle.std.proofs.Math.Seq.{take-length}
-use Rattle.rc_base.specs.declared.scene.Scene.{Scene}
-use Rattle.command_line.specs.Laws.{OneReading}
 use Rattle.order_model.specs.declared.record.Record.{Record}
 use Rattle.render_core.specs.declared.job.Cluster.{Cluster}
 use Rattle.render_core.specs.declared.job.Job.{Job}
@@ -15,10 +12,12 @@ use Rattle.render_core.specs.declared.due.Ending.TheVariants.{Stuck as EndsStuck
 use Rattle.render_core.specs.Due.{Outcome, IsRecorded, IsOutcome, ending_status}
 use Rattle.rc_base.specs.Outside.Ends.{Used, Failed, Took, TookFront}
 use Rattle.render_core.specs.Findings.{Finding, Long, Malformed, Outside, Unsuited, Sound, IsFinding, refused_with}
-use Rattle.render_core.specs.Jobs.{ForJob, HasScene, Holds, IsJob, cluster_of, origin_of}
+use Rattle.render_core.specs.declared.work.Work.{Work}
+use Rattle.render_core.specs.Jobs.{ForTask, Task, cluster_of, origin_of}
+use Rattle.render_core.specs.Scenes.{HasWork, Holds}
 use Rattle.render_core.specs.Laws.{FindingsAreOne, OrderedRecordsShowOneImage}
 use Rattle.render_core.specs.Outcomes.{IsDue, Sent, Whole, Front, IsDone, IsUnnoted, IsReported, IsRefused, Cause, SourceFailed, InputRefused, ImageFailed, Ran, Usage, Done, NotesFailed, Stuck, RaceFound, Refused, NoMemory, Answers, IsAnswered, IsHeadline, KeepsOrders, frames_text}
-use Rattle.render_core.proofs.Endings.{same_job, found_in_taken, holds_calm, sent_whole, noted_whole}
+use Rattle.render_core.proofs.Endings.{found_in_taken, holds_calm, sent_whole, noted_whole}
 use Rattle.render_core.proofs.KeptOrders.{keeps_orders}
 
 -- ---- what the source holds decides the status
@@ -30,35 +29,35 @@ by_status job image notes status kept Long e = sym (ap (λ (o : Option ℕ). unw
 by_status job image notes status kept Malformed e = sym (ap (λ (o : Option ℕ). unwrap_or o 0) e)
 by_status job image notes status kept (Outside limit) e = sym (ap (λ (o : Option ℕ). unwrap_or o 0) e)
 by_status job image notes status kept (Unsuited name) e = sym (ap (λ (o : Option ℕ). unwrap_or o 0) e)
-by_status job image notes status kept (Sound scene) e = absurd cc
+by_status job image notes status kept (Sound work) e = absurd cc
 
-module _ (reading : OneReading) (findings : FindingsAreOne) (words : List (String Global)) (source image notes : Used) (status : ℕ) (kept : Option Record) where
-  module _ (job : Job) (input : List ℕ) (finding : Finding) (is_job : IsJob words job) (holds_input : Holds (origin_of job) source input)
-      (found : IsFinding job input finding) (taken : refused_with finding ≡ None → (Failed image → ⊥) × (Failed notes → ⊥)) where
-    at : (holds : Job → Type 0) → ForJob words holds → holds job
-    at holds h = subst holds (same_job reading words h.0 job h.1 is_job) h.2
+module _ (findings : FindingsAreOne) (asks : Task → Type 0) (one : (a b : Task) → asks a → asks b → a ≡ b) (source image notes : Used) (status : ℕ) (kept : Option Record) where
+  module _ (task : Task) (input : List ℕ) (finding : Finding) (is_task : asks task) (holds_input : Holds (origin_of task.job) source input)
+      (found : IsFinding task input finding) (taken : refused_with finding ≡ None → (Failed image → ⊥) × (Failed notes → ⊥)) where
+    at : (holds : Task → Type 0) → ForTask asks holds → holds task
+    at holds h = subst holds (one h.0 task h.1 is_task) h.2
 
-    sound : (scene : Scene) → HasScene job source scene → finding ≡ Sound scene
-    sound scene has = findings job has.input finding (Sound scene) (found_in_taken job source input has.input holds_input has.took finding found) has.is
+    sound : (work : Work) → HasWork task source work → finding ≡ Sound work
+    sound work has = findings task has.input finding (Sound work) (found_in_taken task source input has.input holds_input has.took finding found) has.is
 
-    answers : (other : Finding) → finding ≡ other → Answers job other image notes status kept → (status ≡ 7) ⊎ Answers job finding image notes status kept
-    answers other same h = inr (subst (λ (f : Finding). Answers job f image notes status kept) (sym same) h)
+    answers : (other : Finding) → finding ≡ other → Answers task.job other image notes status kept → (status ≡ 7) ⊎ Answers task.job finding image notes status kept
+    answers other same h = inr (subst (λ (f : Finding). Answers task.job f image notes status kept) (sym same) h)
 
-    refused : (line : List ℕ) → Cause job source image status line kept → (status ≡ 7) ⊎ Answers job finding image notes status kept
-    refused line (SourceFailed reads is told failed none) = absurd (holds_calm job source input reads holds_input failed)
+    refused : (line : List ℕ) → Cause task source image status line kept → (status ≡ 7) ⊎ Answers task.job finding image notes status kept
+    refused line (SourceFailed reads is told failed none) = absurd (holds_calm task source input reads holds_input failed)
     refused line (InputRefused judged none) =
         answers judged.judged.finding
-        (findings job judged.input finding judged.judged.finding (found_in_taken job source input judged.input holds_input judged.took finding found) judged.judged.is)
-        (by_status job image notes status kept judged.judged.finding judged.judged.refused)
-    refused line (ImageFailed is o due complete cut of) = absurd ((taken (ap refused_with (sound due.scene due.has))).0 cut.failed)
+        (findings task judged.input finding judged.judged.finding (found_in_taken task source input judged.input holds_input judged.took finding found) judged.judged.is)
+        (by_status task.job image notes status kept judged.judged.finding judged.judged.refused)
+    refused line (ImageFailed is o due complete cut of) = absurd ((taken (ap refused_with (sound due.work due.has))).0 cut.failed)
 
-    reported : (ending : Ending) → status ≡ ending_status ending → IsReported ending job source image notes kept
-        → (status ≡ 7) ⊎ Answers job finding image notes status kept
+    reported : (ending : Ending) → status ≡ ending_status ending → IsReported ending task source image notes kept
+        → (status ≡ 7) ⊎ Answers task.job finding image notes status kept
     reported ending is d =
-        let same = sound d.due.scene d.due.has in
+        let same = sound d.due.work d.due.has in
         let calm = taken (ap refused_with same) in
         let sent = sent_whole image d.o d.lines calm.0 d.sent in
-        answers (Sound d.due.scene) same
+        answers (Sound d.due.work) same
         record {
           o = d.o;
           due = d.due.due;
@@ -68,62 +67,62 @@ module _ (reading : OneReading) (findings : FindingsAreOne) (words : List (Strin
           kept_is = d.kept_is;
         }
 
-    go : Ran words source image notes status kept → (status ≡ 7) ⊎ Answers job finding image notes status kept
-    go (Usage is none told unkept) = absurd (none job is_job)
+    go : Ran asks source image notes status kept → (status ≡ 7) ⊎ Answers task.job finding image notes status kept
+    go (Usage is none told unkept) = absurd (none task is_task)
     go (Done is h) =
-        let d = at (λ j. IsDone j source image notes kept) h in
-        answers (Sound d.due.scene) (sound d.due.scene d.due.has)
+        let d = at (λ t. IsDone t source image notes kept) h in
+        answers (Sound d.due.work) (sound d.due.work d.due.has)
         record { o = d.o; due = d.due.due; given = d.given; told = d.told; status_is = is ∙ sym (ap ending_status d.complete); kept_is = d.kept_is }
     go (NotesFailed is h) =
-        let d = at (λ j. IsUnnoted j source image notes kept) h in absurd ((taken (ap refused_with (sound d.due.scene d.due.has))).1 d.failed)
-    go (Stuck is h) = reported EndsStuck is (at (λ j. IsReported EndsStuck j source image notes kept) h)
-    go (RaceFound is h) = reported EndsRaceFound is (at (λ j. IsReported EndsRaceFound j source image notes kept) h)
-    go (Refused h) = let r = at (λ j. IsRefused j source image notes status kept) h in refused r.line r.cause
+        let d = at (λ t. IsUnnoted t source image notes kept) h in absurd ((taken (ap refused_with (sound d.due.work d.due.has))).1 d.failed)
+    go (Stuck is h) = reported EndsStuck is (at (λ t. IsReported EndsStuck t source image notes kept) h)
+    go (RaceFound is h) = reported EndsRaceFound is (at (λ t. IsReported EndsRaceFound t source image notes kept) h)
+    go (Refused h) = let r = at (λ t. IsRefused t source image notes status kept) h in refused r.line r.cause
     go (NoMemory is told unkept) = inl is
 
-  pub answered : Ran words source image notes status kept → IsAnswered words source image notes status kept
-  answered ran job input finding is_job holds_input found taken = go job input finding is_job holds_input found taken ran
+  pub answered : Ran asks source image notes status kept → IsAnswered asks source image notes status kept
+  answered ran task input finding is_task holds_input found taken = go task input finding is_task holds_input found taken ran
 
 -- ---- the headline
 
 -- what is due with a record is a cluster's
-recorded : (job : Job) (scene : Scene) (o : Outcome) (kept : Record) → Some kept ≡ o.kept → IsOutcome job scene o
-    → (cluster : Cluster) × (cluster_of job ≡ Some cluster) × IsRecorded cluster scene o
+recorded : (job : Job) (work : Work) (o : Outcome) (kept : Record) → Some kept ≡ o.kept → IsOutcome job work o
+    → (cluster : Cluster) × (cluster_of job ≡ Some cluster) × IsRecorded cluster work o
 unfolding IsOutcome
-recorded (Render cluster) scene o kept e h = (cluster, refl, h)
-recorded (Simulate seed cluster) scene o kept e h = (cluster, refl, h.recorded)
-recorded Serial scene o kept e h = let none : Some kept ≡ None = e ∙ ap (λ (a : Outcome). a.kept) h in absurd cc
-recorded Last scene o kept e h = let none : Some kept ≡ None = e ∙ ap (λ (a : Outcome). a.kept) h in absurd cc
-recorded Check scene o kept e h = let none : Some kept ≡ None = e ∙ ap (λ (a : Outcome). a.kept) h in absurd cc
-recorded Race scene o kept e h = let none : Some kept ≡ None = e ∙ ap (λ (a : Outcome). a.kept) h.due in absurd cc
-recorded Pack scene o kept e h = let none : Some kept ≡ None = e ∙ ap (λ (a : Outcome). a.kept) h.0 in absurd cc
-recorded Unpack scene o kept e h = let none : Some kept ≡ None = e ∙ ap (λ (a : Outcome). a.kept) h.0 in absurd cc
-recorded (Gen seed size) scene o kept e h = let none : Some kept ≡ None = e ∙ ap (λ (a : Outcome). a.kept) h.0 in absurd cc
-recorded (Demo seed size cluster) scene o kept e h = (cluster, refl, h)
+recorded (Render cluster) work o kept e h = (cluster, refl, h)
+recorded (Simulate seed cluster) work o kept e h = (cluster, refl, h.recorded)
+recorded Serial work o kept e h = let none : Some kept ≡ None = e ∙ ap (λ (a : Outcome). a.kept) h in absurd cc
+recorded Last work o kept e h = let none : Some kept ≡ None = e ∙ ap (λ (a : Outcome). a.kept) h in absurd cc
+recorded Check work o kept e h = let none : Some kept ≡ None = e ∙ ap (λ (a : Outcome). a.kept) h in absurd cc
+recorded Race work o kept e h = let none : Some kept ≡ None = e ∙ ap (λ (a : Outcome). a.kept) h.due in absurd cc
+recorded Pack work o kept e h = let none : Some kept ≡ None = e ∙ ap (λ (a : Outcome). a.kept) h.0 in absurd cc
+recorded Unpack work o kept e h = let none : Some kept ≡ None = e ∙ ap (λ (a : Outcome). a.kept) h.0 in absurd cc
+recorded (Gen seed size) work o kept e h = let none : Some kept ≡ None = e ∙ ap (λ (a : Outcome). a.kept) h.0 in absurd cc
+recorded (Demo seed size cluster) work o kept e h = (cluster, refl, h)
 
 whole_front : (image : Used) (text : List ℕ) → Took image text → TookFront image text
 whole_front image text given = record { done = length text; part = omega arith; given = subst (Took image) (sym (take-length text)) given }
 
-module _ (shows : OrderedRecordsShowOneImage) (words : List (String Global)) (source image notes : Used) (status : ℕ) (kept : Record) where
-  module _ (job : Job) (is_job : IsJob words job) (o : Outcome) (due : IsDue job source o) (e : Some kept ≡ o.kept) where
+module _ (shows : OrderedRecordsShowOneImage) (asks : Task → Type 0) (source image notes : Used) (status : ℕ) (kept : Record) where
+  module _ (task : Task) (is_task : asks task) (o : Outcome) (due : IsDue task source o) (e : Some kept ≡ o.kept) where
     headline_of : TookFront image o.image → ((status ≡ 0) ⊎ (status ≡ 8) → Took image o.image) → (status ≡ 5 → (Failed image → ⊥) → Took image o.image)
-        → IsHeadline words source image status kept
-    headline_of front all unfailed = go (recorded job due.scene o kept e due.due) where
-      go : (cluster : Cluster) × (cluster_of job ≡ Some cluster) × IsRecorded cluster due.scene o → IsHeadline words source image status kept
+        → IsHeadline asks source image status kept
+    headline_of front all unfailed = go (recorded task.job due.work o kept e due.due) where
+      go : (cluster : Cluster) × (cluster_of task.job ≡ Some cluster) × IsRecorded cluster due.work o → IsHeadline asks source image status kept
       go (cluster, of, is) =
           let same : kept ≡ is.record_kept = ap (λ (k : Option Record). unwrap_or k kept) (e ∙ is.kept) in
-          let text : o.image ≡ frames_text cluster due.scene is.record_kept = is.image in
-          let one = shows job cluster due.has.input due.scene is.record_kept of due.has.is is.lawful in
-          subst (IsHeadline words source image status) (sym same)
+          let text : o.image ≡ frames_text cluster due.work.scene is.record_kept = is.image in
+          let one = shows task cluster due.has.input due.work is.record_kept of due.has.is is.lawful in
+          subst (IsHeadline asks source image status) (sym same)
           (record {
-            job = job;
-            named = is_job;
+            task = task;
+            named = is_task;
             cluster = cluster;
             clustered = of;
-            scene = due.scene;
+            work = due.work;
             has = due.has;
             lawful = is.lawful;
-            permitted = keeps_orders cluster due.scene o is;
+            permitted = keeps_orders cluster due.work o is;
             front =
                 subst (λ (t : List ℕ). (n : ℕ) × (n ≤ length t) × Took image (take n t)) text (front.done, front.part, front.given);
             whole = λ h. subst (Took image) text (all h);
@@ -140,15 +139,15 @@ module _ (shows : OrderedRecordsShowOneImage) (words : List (String Global)) (so
   sent_front o lines (Whole given calm same) = whole_front image o.image given
   sent_front o lines (Front short cut) = let below = cut.part in record { done = cut.done; part = omega (arith, below); given = cut.given }
 
-  of_cause : (job : Job) → IsJob words job → (line : List ℕ) → Cause job source image status line (Some kept) → IsHeadline words source image status kept
-  of_cause job is_job line (SourceFailed reads is told failed none) = absurd cc
-  of_cause job is_job line (InputRefused judged none) = absurd cc
-  of_cause job is_job line (ImageFailed is o due complete cut of) =
+  of_cause : (task : Task) → asks task → (line : List ℕ) → Cause task source image status line (Some kept) → IsHeadline asks source image status kept
+  of_cause task is_task line (SourceFailed reads is told failed none) = absurd cc
+  of_cause task is_task line (InputRefused judged none) = absurd cc
+  of_cause task is_task line (ImageFailed is o due complete cut of) =
       let below = cut.part in
-      headline_of job is_job o due of (record { done = cut.done; part = omega (arith, below); given = cut.given })
+      headline_of task is_task o due of (record { done = cut.done; part = omega (arith, below); given = cut.given })
       (λ h. absurd (not_whole 6 is (λ z. omega (arith, z)) (λ z. omega (arith, z)) h)) (λ five. absurd (omega (arith, is, five)))
 
-  of_ran : Ran words source image notes status (Some kept) → IsHeadline words source image status kept
+  of_ran : Ran asks source image notes status (Some kept) → IsHeadline asks source image status kept
   of_ran (Usage is none told unkept) = absurd cc
   of_ran (Done is h) =
       let d = h.2 in headline_of h.0 h.1 d.o d.due d.kept_is (whole_front image d.o.image d.given) (λ z. d.given) (λ five. absurd (omega (arith, is, five)))
@@ -165,12 +164,12 @@ module _ (shows : OrderedRecordsShowOneImage) (words : List (String Global)) (so
   of_ran (Refused h) = of_cause h.0 h.1 h.2.line h.2.cause
   of_ran (NoMemory is told unkept) = absurd cc
 
-module _ (shows : OrderedRecordsShowOneImage) (words : List (String Global)) (source image notes : Used) (status : ℕ) where
-  pub headline : (kept : Option Record) → Ran words source image notes status kept → IfSome kept (IsHeadline words source image status)
+module _ (shows : OrderedRecordsShowOneImage) (asks : Task → Type 0) (source image notes : Used) (status : ℕ) where
+  pub headline : (kept : Option Record) → Ran asks source image notes status kept → IfSome kept (IsHeadline asks source image status)
   headline None ran = tt
-  headline (Some kept) ran = of_ran shows words source image notes status kept ran
+  headline (Some kept) ran = of_ran shows asks source image notes status kept ran
 
   -- so the orders of a record that is kept are permitted
-  pub permits : (kept : Option Record) → Ran words source image notes status kept → IfSome kept KeepsOrders
+  pub permits : (kept : Option Record) → Ran asks source image notes status kept → IfSome kept KeepsOrders
   permits None ran = tt
-  permits (Some kept) ran = (of_ran shows words source image notes status kept ran).permitted
+  permits (Some kept) ran = (of_ran shows asks source image notes status kept ran).permitted

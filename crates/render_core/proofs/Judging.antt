@@ -1,44 +1,51 @@
--- From what a reader answers to what the job finds in its input.
-use Rattle.std.proofs.Common.{◌≡◌, ℕ, ◌<◌, ◌≤◌, inl, inr, true, false, List, length, None, Some, refl, sym, ap, ap₂, subst, arith, ◌∙◌}
+-- From what a reader answers to what the task finds in its input.
+use Rattle.std.proofs.Common.{◌≡◌, ℕ, ◌<◌, ◌≤◌, inl, inr, Bool, true, false, List, ◌∷◌, length, None, Some, refl, sym, ap, ap₂, subst, arith, ◌∙◌}
+use Rattle.std.specs.Prelude.{◌==◌, if◌then◌else◌}
 use Rattle.std.proofs.lemmas.Bool.{cases_lt}
 use Rattle.std.specs.Option.{option_or}
 use Rattle.std.specs.declared.option.Option.{Option}
 use Rattle.rc_base.specs.Formats.Limits.{held_limit, limit_of, size_limit}
+use Rattle.rc_base.specs.Formats.Spelling.{SpellsScene, digit}
 use Rattle.rc_base.specs.Outside.Transfer.{byte_limit}
 use Rattle.rc_base.specs.declared.scene.Limit.{Limit}
 use Rattle.rc_base.specs.declared.scene.Scene.{Scene}
 use Rattle.rc_base.specs.declared.sync.Name.{Name}
-use Rattle.scene_file.specs.Laws.{ScenesAreOne}
+use Rattle.scene_file.specs.Faults.{SpellsListScene}
+use Rattle.scene_file.specs.Laws.{FormsAreApart, ListScenesAreOne, ScenesAreOne}
+use Rattle.scene_file.specs.declared.list_scene.ListScene.{ListScene}
 use Rattle.scene_text.specs.Laws.{OneScene}
 use Rattle.sort_last.specs.Offends.{offends, IsFirstOffence}
 use Rattle.render_core.specs.declared.job.Form.{Form}
-use Rattle.render_core.specs.declared.job.Form.TheVariants.{Bytes, Text}
+use Rattle.render_core.specs.declared.job.Form.TheVariants.{Bytes, PlainBytes, Text}
 use Rattle.render_core.specs.declared.job.Job.{Job}
 use Rattle.render_core.specs.declared.job.Job.TheVariants.{Render, Simulate, Serial, Last, Check, Race, Pack, Unpack, Gen, Demo}
 use Rattle.render_core.specs.declared.job.Origin.{Origin}
 use Rattle.render_core.specs.declared.job.Origin.TheVariants.{Read, Generated}
+use Rattle.render_core.specs.declared.work.Meaning.{Meaning}
+use Rattle.render_core.specs.declared.work.Work.{Work}
 use Rattle.rc_base.specs.Outside.Ends.{Used}
-use Rattle.render_core.specs.Jobs.{cluster_limit, cluster_of, limit_for, origin_of, scene_limit, tile_limit, with_rounds, word_limit, Spells, Gives, HasScene, IsFor, IsNotFor}
+use Rattle.render_core.specs.Jobs.{Task, cluster_of, origin_of}
+use Rattle.render_core.specs.Scenes.{Found, Plain, Lists, cluster_limit, found_limit, limit_for, meant, scene_for, scene_limit, tile_limit, with_rounds, word_limit, work_for, Spells, Gives, HasWork, IsFor, IsNotFor}
 use Rattle.render_core.specs.Lines.{limit_line, not_last_line}
-use Rattle.render_core.specs.Findings.{Finding, Long, Malformed, Outside, Unsuited, Sound, TellsFault, IsJudged, Judged}
+use Rattle.render_core.specs.Findings.{Finding, Long, Malformed, Outside, Unsuited, Sound, BeginWithLists, TellsFault, IsJudged, Judged}
 use Rattle.render_core.specs.Laws.{FindingsAreOne}
 use Rattle.render_core.specs.Refusals.{Came}
 
 -- ---- limits: the scene's come first
 
-pub scene_first : (job : Job) (scene : Scene) (limit : Limit) → scene_limit (origin_of job) scene ≡ Some limit → limit_for job scene ≡ Some limit
-scene_first job scene limit e = ap (λ (l : Option Limit). option_or l (word_limit job scene)) e
+scene_first : (job : Job) (found : Found) (limit : Limit) → scene_limit (origin_of job) found ≡ Some limit → limit_for job found ≡ Some limit
+scene_first job found limit e = ap (λ (l : Option Limit). option_or l (word_limit job (meant found))) e
 
-pub words_next : (job : Job) (scene : Scene) → scene_limit (origin_of job) scene ≡ None → limit_for job scene ≡ word_limit job scene
-words_next job scene e = ap (λ (l : Option Limit). option_or l (word_limit job scene)) e
+words_next : (job : Job) (found : Found) → scene_limit (origin_of job) found ≡ None → limit_for job found ≡ word_limit job (meant found)
+words_next job found e = ap (λ (l : Option Limit). option_or l (word_limit job (meant found))) e
 
-neither : (a b : Option Limit) → option_or a b ≡ None → (a ≡ None) × (b ≡ None)
+pub neither : (a b : Option Limit) → option_or a b ≡ None → (a ≡ None) × (b ≡ None)
 neither None b e = (refl, e)
 neither (Some limit) b e = absurd cc
 
 -- where nothing is outside its range, neither the scene nor the words are
-pub within_both : (job : Job) (scene : Scene) → limit_for job scene ≡ None → (scene_limit (origin_of job) scene ≡ None) × (word_limit job scene ≡ None)
-within_both job scene e = neither (scene_limit (origin_of job) scene) (word_limit job scene) e
+pub within_both : (job : Job) (found : Found) → limit_for job found ≡ None → (scene_limit (origin_of job) found ≡ None) × (word_limit job (meant found) ≡ None)
+within_both job found e = neither (scene_limit (origin_of job) found) (word_limit job (meant found)) e
 
 -- nor are its rounds, where the scene is made
 pub rounds_within : (seed size : ℕ) (first : Option Limit) → with_rounds (Generated seed size) first ≡ None → size_limit size ≡ None
@@ -71,20 +78,49 @@ made_words Unpack seed size scene e = absurd cc
 made_words (Gen other rounds) seed size scene e = ap (λ (origin : Origin). with_rounds origin None) e
 made_words (Demo other rounds cluster) seed size scene e = ap (λ (origin : Origin). with_rounds origin (cluster_limit cluster scene)) e
 
--- where no scene within the limits is spelled and none outside, none is
-pub unspelled : (form : Form) (input : List ℕ) → ((s : Scene) → Spells form input s → limit_of s ≡ None → ⊥)
-    → ((s : Scene) (l : Limit) → Spells form input s → limit_of s ≡ Some l → ⊥) → (s : Scene) → Spells form input s → ⊥
-unspelled form input within outside s spelled = go (limit_of s) refl where
+-- where no scene of a kind is within the limits and none outside, there is none
+pub no_scene : (Is : Scene → Type 0) → ((s : Scene) → Is s → limit_of s ≡ None → ⊥) → ((s : Scene) (l : Limit) → Is s → limit_of s ≡ Some l → ⊥) → (s : Scene) → Is s → ⊥
+no_scene Is within outside s is = go (limit_of s) refl where
   go : (o : Option Limit) → limit_of s ≡ o → ⊥
-  go None e = within s spelled e
-  go (Some l) e = outside s l spelled e
+  go None e = within s is e
+  go (Some l) e = outside s l is e
+
+-- ---- bytes with call lists and without
+
+-- bytes that spell a scene with call lists begin so
+pub begins : (input : List ℕ) (s : ListScene) → SpellsListScene input s → BeginWithLists input
+begins input s is = (_, is.parts)
+
+fourth : List ℕ → ℕ
+fourth (a ∷ (b ∷ (c ∷ (d ∷ rest)))) = d
+fourth _ = 0
+
+digit_is : (version : ℕ) → digit version ≡ 0x33 → ⊥
+digit_is version e = go (version == 2) e where
+  go : (b : Bool) → (if b then 0x32 else 0x31) ≡ (let n : ℕ = 0x33 in n) → ⊥
+  go true e = omega (arith, e)
+  go false e = omega (arith, e)
+
+-- and those of a scene without don't
+pub never_begins : (input : List ℕ) (s : Scene) → SpellsScene input s → BeginWithLists input → ⊥
+unfolding fourth
+never_begins input s is begin = digit_is s.decl.version (ap fourth (sym is.parts) ∙ ap fourth begin.1)
 
 -- ---- an input is one thing
 
-one_given : ScenesAreOne → OneScene → (origin : Origin) (input : List ℕ) (s t : Scene) → Gives origin input s → Gives origin input t → s ≡ t
-one_given bytes text (Read Bytes) input s t a b = bytes input s t a b
-one_given bytes text (Read Text) input s t a b = text input s t a b
-one_given bytes text (Generated seed size) input s t a b = a ∙ sym b
+module _ (bytes : ScenesAreOne) (lists : ListScenesAreOne) (differ : FormsAreApart) (text : OneScene) where
+  one_given : (origin : Origin) (input : List ℕ) (s t : Found) → Gives origin input s → Gives origin input t → s ≡ t
+  one_given (Read Bytes) input (Plain s) (Plain t) a b = ap Plain (bytes input s t a b)
+  one_given (Read Bytes) input (Plain s) (Lists t) a b = absurd (differ input s t a b)
+  one_given (Read Bytes) input (Lists s) (Plain t) a b = absurd (differ input t s b a)
+  one_given (Read Bytes) input (Lists s) (Lists t) a b = ap Lists (lists input s t a b)
+  one_given (Read PlainBytes) input (Plain s) (Plain t) a b = ap Plain (bytes input s t a b)
+  one_given (Read PlainBytes) input (Plain s) (Lists t) a b = absurd b
+  one_given (Read PlainBytes) input (Lists s) t a b = absurd a
+  one_given (Read Text) input (Plain s) (Plain t) a b = ap Plain (text input s t a b)
+  one_given (Read Text) input (Plain s) (Lists t) a b = absurd b
+  one_given (Read Text) input (Lists s) t a b = absurd a
+  one_given (Generated seed size) input s t a b = a ∙ sym b
 
 abbrev past : Option Limit → Finding
 past None = Long
@@ -140,91 +176,100 @@ never_both Unpack scene n not is = not
 never_both (Gen seed size) scene n not is = not
 never_both (Demo seed size cluster) scene n not is = not
 
-module _ (bytes : ScenesAreOne) (text : OneScene) where
-  same_limit : (job : Job) (input : List ℕ) (s t : Scene) (a b : Option Limit) → Gives (origin_of job) input s → Gives (origin_of job) input t
-      → limit_for job s ≡ a → limit_for job t ≡ b → a ≡ b
-  same_limit job input s t a b given other is_a is_b = sym is_a ∙ ap (limit_for job) (one_given bytes text (origin_of job) input s t given other) ∙ is_b
+module _ (bytes : ScenesAreOne) (lists : ListScenesAreOne) (differ : FormsAreApart) (text : OneScene) where
+  module _ (task : Task) (input : List ℕ) where
+    same_found : (s t : Found) → Gives (origin_of task.job) input s → Gives (origin_of task.job) input t → s ≡ t
+    same_found s t a b = one_given bytes lists differ text (origin_of task.job) input s t a b
+
+    same_limit : (s t : Found) (a b : Option Limit) → Gives (origin_of task.job) input s → Gives (origin_of task.job) input t
+        → limit_for task.job s ≡ a → limit_for task.job t ≡ b → a ≡ b
+    same_limit s t a b given other is_a is_b = sym is_a ∙ ap (limit_for task.job) (same_found s t given other) ∙ is_b
+
+    -- a scene that a job isn't for is none that it is for
+    unsuited : (s t : Found) (name : Name) (work : Work) → Gives (origin_of task.job) input s → Gives (origin_of task.job) input t
+        → IsNotFor task.job (scene_for task (meant s)) name → work ≡ work_for task t → IsFor task.job work.scene → ⊥
+    unsuited s t name work a b not is suits =
+        let scene : work.scene ≡ scene_for task (meant s) = ap (λ (w : Work). w.scene) is ∙ ap (λ (f : Found). scene_for task (meant f)) (same_found t s b a) in
+        never_both task.job (scene_for task (meant s)) name not (subst (IsFor task.job) scene suits)
 
   pub findings_one : FindingsAreOne
-  findings_one job input Long Long a b = refl
-  findings_one job input Long Malformed a b = let short = b.0 in absurd (omega (arith, a, short))
-  findings_one job input Long (Outside m) a b = let short = b.0 in absurd (omega (arith, a, short))
-  findings_one job input Long (Unsuited m) a b = let short = b.0 in absurd (omega (arith, a, short))
-  findings_one job input Long (Sound t) a b = let short = b.short in absurd (omega (arith, a, short))
-  findings_one job input Malformed Long a b = let short = a.0 in absurd (omega (arith, b, short))
-  findings_one job input Malformed Malformed a b = refl
-  findings_one job input Malformed (Outside m) a b = absurd (a.1 b.1.0 b.1.1)
-  findings_one job input Malformed (Unsuited m) a b = absurd (a.1 b.1.0 b.1.1)
-  findings_one job input Malformed (Sound t) a b = absurd (a.1 t b.gives)
-  findings_one job input (Outside l) Long a b = let short = a.0 in absurd (omega (arith, b, short))
-  findings_one job input (Outside l) Malformed a b = absurd (b.1 a.1.0 a.1.1)
-  findings_one job input (Outside l) (Outside m) a b = ap past (same_limit job input a.1.0 b.1.0 (Some l) (Some m) a.1.1 b.1.1 a.1.2 b.1.2)
-  findings_one job input (Outside l) (Unsuited m) a b =
-      let none : Some l ≡ None = same_limit job input a.1.0 b.1.0 (Some l) None a.1.1 b.1.1 a.1.2 b.1.2 in absurd cc
-  findings_one job input (Unsuited n) Long a b = let short = a.0 in absurd (omega (arith, b, short))
-  findings_one job input (Unsuited n) Malformed a b = absurd (b.1 a.1.0 a.1.1)
-  findings_one job input (Unsuited n) (Outside m) a b =
-      let none : Some m ≡ None = same_limit job input b.1.0 a.1.0 (Some m) None b.1.1 a.1.1 b.1.2 a.1.2 in absurd cc
-  findings_one job input (Unsuited n) (Unsuited m) a b =
-      let same = one_given bytes text (origin_of job) input b.1.0 a.1.0 b.1.1 a.1.1 in
-      ap Unsuited (same_keeper job a.1.0 n m a.1.3 (subst (λ (s : Scene). IsNotFor job s m) same b.1.3))
-  findings_one job input (Unsuited n) (Sound t) a b =
-      let same = one_given bytes text (origin_of job) input t a.1.0 b.gives a.1.1 in
-      absurd (never_both job a.1.0 n a.1.3 (subst (IsFor job) same b.suits))
-  findings_one job input (Outside l) (Sound t) a b =
-      let none : Some l ≡ None = same_limit job input a.1.0 t (Some l) None a.1.1 b.gives a.1.2 b.within in absurd cc
-  findings_one job input (Sound s) Long a b = let short = a.short in absurd (omega (arith, b, short))
-  findings_one job input (Sound s) Malformed a b = absurd (b.1 s a.gives)
-  findings_one job input (Sound s) (Unsuited m) a b =
-      let same = one_given bytes text (origin_of job) input s b.1.0 a.gives b.1.1 in
-      absurd (never_both job b.1.0 m b.1.3 (subst (IsFor job) same a.suits))
-  findings_one job input (Sound s) (Outside m) a b =
-      let none : Some m ≡ None = same_limit job input b.1.0 s (Some m) None b.1.1 a.gives b.1.2 a.within in absurd cc
-  findings_one job input (Sound s) (Sound t) a b = ap Sound (one_given bytes text (origin_of job) input s t a.gives b.gives)
+  findings_one task input Long Long a b = refl
+  findings_one task input Long Malformed a b = let short = b.0 in absurd (omega (arith, a, short))
+  findings_one task input Long (Outside m) a b = let short = b.0 in absurd (omega (arith, a, short))
+  findings_one task input Long (Unsuited m) a b = let short = b.0 in absurd (omega (arith, a, short))
+  findings_one task input Long (Sound w) a b = let short = b.short in absurd (omega (arith, a, short))
+  findings_one task input Malformed Long a b = let short = a.0 in absurd (omega (arith, b, short))
+  findings_one task input Malformed Malformed a b = refl
+  findings_one task input Malformed (Outside m) a b = absurd (a.1 b.1.0 b.1.1)
+  findings_one task input Malformed (Unsuited m) a b = absurd (a.1 b.1.0 b.1.1)
+  findings_one task input Malformed (Sound w) a b = absurd (a.1 b.found b.gives)
+  findings_one task input (Outside l) Long a b = let short = a.0 in absurd (omega (arith, b, short))
+  findings_one task input (Outside l) Malformed a b = absurd (b.1 a.1.0 a.1.1)
+  findings_one task input (Outside l) (Outside m) a b = ap past (same_limit task input a.1.0 b.1.0 (Some l) (Some m) a.1.1 b.1.1 a.1.2 b.1.2)
+  findings_one task input (Outside l) (Unsuited m) a b =
+      let none : Some l ≡ None = same_limit task input a.1.0 b.1.0 (Some l) None a.1.1 b.1.1 a.1.2 b.1.2 in absurd cc
+  findings_one task input (Outside l) (Sound w) a b =
+      let none : Some l ≡ None = same_limit task input a.1.0 b.found (Some l) None a.1.1 b.gives a.1.2 b.within in absurd cc
+  findings_one task input (Unsuited n) Long a b = let short = a.0 in absurd (omega (arith, b, short))
+  findings_one task input (Unsuited n) Malformed a b = absurd (b.1 a.1.0 a.1.1)
+  findings_one task input (Unsuited n) (Outside m) a b =
+      let none : Some m ≡ None = same_limit task input b.1.0 a.1.0 (Some m) None b.1.1 a.1.1 b.1.2 a.1.2 in absurd cc
+  findings_one task input (Unsuited n) (Unsuited m) a b =
+      let same = same_found task input b.1.0 a.1.0 b.1.1 a.1.1 in
+      ap Unsuited (same_keeper task.job (scene_for task (meant a.1.0)) n m a.1.3 (subst (λ (s : Found). IsNotFor task.job (scene_for task (meant s)) m) same b.1.3))
+  findings_one task input (Unsuited n) (Sound w) a b = absurd (unsuited task input a.1.0 b.found n w a.1.1 b.gives a.1.3 b.is b.suits)
+  findings_one task input (Sound w) Long a b = let short = a.short in absurd (omega (arith, b, short))
+  findings_one task input (Sound w) Malformed a b = absurd (b.1 a.found a.gives)
+  findings_one task input (Sound w) (Outside m) a b =
+      let none : Some m ≡ None = same_limit task input b.1.0 a.found (Some m) None b.1.1 a.gives b.1.2 a.within in absurd cc
+  findings_one task input (Sound w) (Unsuited m) a b = absurd (unsuited task input b.1.0 a.found m w b.1.1 a.gives b.1.3 a.is a.suits)
+  findings_one task input (Sound v) (Sound w) a b =
+      ap Sound (a.is ∙ ap (work_for task) (same_found task input a.found b.found a.gives b.gives) ∙ sym b.is)
 
 -- ---- an input that is refused
 
-module _ (job : Job) (input : List ℕ) (short : length input ≤ byte_limit) where
-  pub judged_malformed : (line : List ℕ) → ((s : Scene) → Gives (origin_of job) input s → ⊥) → TellsFault (origin_of job) input line → IsJudged job input 3 line
+module _ (task : Task) (input : List ℕ) (short : length input ≤ byte_limit) where
+  pub judged_malformed : (line : List ℕ) → ((found : Found) → Gives (origin_of task.job) input found → ⊥) → TellsFault (origin_of task.job) input line
+      → IsJudged task input 3 line
   judged_malformed line none told = record { finding = Malformed; is = (short, none); refused = refl; told = told }
 
-  -- the first limit of a scene that the input gives
-  judged_past : (scene : Scene) (limit : Limit) → Gives (origin_of job) input scene → limit_for job scene ≡ Some limit
-      → IsJudged job input 4 (limit_line limit.what limit.value)
-  judged_past scene limit gives first = record { finding = Outside limit; is = (short, (scene, gives, first)); refused = refl; told = refl }
+  -- the first limit of what the input gives
+  judged_past : (found : Found) (limit : Limit) → Gives (origin_of task.job) input found → limit_for task.job found ≡ Some limit
+      → IsJudged task input 4 (limit_line limit.what limit.value)
+  judged_past found limit gives first = record { finding = Outside limit; is = (short, (found, gives, first)); refused = refl; told = refl }
 
-  pub judged_outside : (form : Form) → origin_of job ≡ Read form → (scene : Scene) (limit : Limit) → Spells form input scene → limit_of scene ≡ Some limit
-      → IsJudged job input 4 (limit_line limit.what limit.value)
-  judged_outside form reads scene limit spelled first =
-      judged_past scene limit (subst (λ (o : Origin). Gives o input scene) (sym reads) spelled)
-      (scene_first job scene limit (subst (λ (o : Origin). scene_limit o scene ≡ Some limit) (sym reads) first))
+  pub judged_outside : (form : Form) → origin_of task.job ≡ Read form → (found : Found) (limit : Limit) → Spells form input found → found_limit found ≡ Some limit
+      → IsJudged task input 4 (limit_line limit.what limit.value)
+  judged_outside form reads found limit spelled first =
+      judged_past found limit (subst (λ (o : Origin). Gives o input found) (sym reads) spelled)
+      (scene_first task.job found limit (subst (λ (o : Origin). scene_limit o found ≡ Some limit) (sym reads) first))
 
-module _ (job : Job) (source : Used) (scene : Scene) (came : Came job source scene) where
+module _ (task : Task) (source : Used) (x : Meaning) (came : Came task.job source x) where
   -- the words ask for what is outside its range in the scene's window
-  pub judged_by_words : (limit : Limit) → word_limit job scene ≡ Some limit → Judged job source 4 (limit_line limit.what limit.value)
+  pub judged_by_words : (limit : Limit) → word_limit task.job x.scene ≡ Some limit → Judged task source 4 (limit_line limit.what limit.value)
   judged_by_words limit first = record {
     input = came.input;
     took = came.took;
-    judged = judged_past job came.input came.short scene limit came.gives (words_next job scene came.within ∙ first);
+    judged =
+        judged_past task came.input came.short came.found limit came.gives
+        (words_next task.job came.found came.within ∙ ap (word_limit task.job) (sym came.means.scene) ∙ first);
   }
 
-  module _ (asked : word_limit job scene ≡ None) where
+  module _ (asked : word_limit task.job x.scene ≡ None) where
+    within : limit_for task.job came.found ≡ None
+    within = words_next task.job came.found came.within ∙ ap (word_limit task.job) (sym came.means.scene) ∙ asked
+
     -- the job isn't for the scene
-    pub judged_unsuited : (name : Name) → IsNotFor job scene name → Judged job source 12 (not_last_line name)
+    pub judged_unsuited : (name : Name) → IsNotFor task.job (scene_for task (meant came.found)) name → Judged task source 12 (not_last_line name)
     judged_unsuited name not = record {
       input = came.input;
       took = came.took;
-      judged = record {
-        finding = Unsuited name;
-        is = (came.short, (scene, came.gives, words_next job scene came.within ∙ asked, not));
-        refused = refl;
-        told = refl;
-      };
+      judged = record { finding = Unsuited name; is = (came.short, (came.found, came.gives, within, not)); refused = refl; told = refl };
     }
 
-    pub has_scene : IsFor job scene → HasScene job source scene
-    has_scene suits = record {
+    pub has_work : (work : Work) → work ≡ work_for task came.found → IsFor task.job work.scene → HasWork task source work
+    has_work work is suits = record {
       input = came.input;
       took = came.took;
-      is = record { short = came.short; gives = came.gives; within = words_next job scene came.within ∙ asked; suits = suits };
+      is = record { found = came.found; short = came.short; gives = came.gives; within = within; is = is; suits = suits };
     }

@@ -3,7 +3,7 @@ use Rattle.std.proofs.Common.{◌≡◌, None, refl, sym, ap, ◌∙◌, subst, 
 use Rattle.std.specs.Prelude.{IfSome}
 use Rattle.std.specs.declared.option.Option.{Option}
 use Rattle.rc_base.specs.Orders.Order.{IsPermitted}
-use Rattle.rc_base.specs.declared.scene.Scene.{Scene}
+use Rattle.render_core.specs.declared.work.Work.{Work}
 use Rattle.rc_base.specs.declared.sync.SyncLists.{SyncLists}
 use Rattle.order_model.specs.Report.{tile_order}
 use Rattle.order_model.specs.declared.record.Record.{Record}
@@ -16,7 +16,7 @@ use Rattle.render_core.specs.Outcomes.{KeepsOrders}
 keeps_none : (o x : Outcome) → x.kept ≡ None → o ≡ x → IfSome o.kept KeepsOrders
 keeps_none o x none e = subst (λ (k : Option Record). IfSome k KeepsOrders) (sym (ap (λ (a : Outcome). a.kept) e ∙ none)) tt
 
-module _ (cluster : Cluster) (scene : Scene) (o : Outcome) (is : IsRecorded cluster scene o) where
+module _ (cluster : Cluster) (work : Work) (o : Outcome) (is : IsRecorded cluster work o) where
   -- over the record's own lists, which are the scene's
   pub keeps_orders : KeepsOrders is.record_kept
   keeps_orders tile below =
@@ -29,13 +29,13 @@ module _ (cluster : Cluster) (scene : Scene) (o : Outcome) (is : IsRecorded clus
 
 pub kept_orders : KeptOrdersArePermitted
 unfolding IsOutcome
-kept_orders (Render cluster) scene o h = keeps_some cluster scene o h
-kept_orders (Simulate seed cluster) scene o h = keeps_some cluster scene o h.recorded
-kept_orders Serial scene o h = keeps_none o _ refl h
-kept_orders Last scene o h = keeps_none o _ refl h
-kept_orders Check scene o h = keeps_none o _ refl h
-kept_orders Race scene o h = keeps_none o _ refl h.due
-kept_orders Pack scene o h = keeps_none o _ refl h.0
-kept_orders Unpack scene o h = keeps_none o _ refl h.0
-kept_orders (Gen seed size) scene o h = keeps_none o _ refl h.0
-kept_orders (Demo seed size cluster) scene o h = keeps_some cluster scene o h
+kept_orders (Render cluster) work o h = keeps_some cluster work o h
+kept_orders (Simulate seed cluster) work o h = keeps_some cluster work o h.recorded
+kept_orders Serial work o h = keeps_none o _ refl h
+kept_orders Last work o h = keeps_none o _ refl h
+kept_orders Check work o h = keeps_none o _ refl h
+kept_orders Race work o h = keeps_none o _ refl h.due
+kept_orders Pack work o h = keeps_none o _ refl h.0
+kept_orders Unpack work o h = keeps_none o _ refl h.0
+kept_orders (Gen seed size) work o h = keeps_none o _ refl h.0
+kept_orders (Demo seed size cluster) work o h = keeps_some cluster work o h

@@ -26,7 +26,10 @@ use Rattle.order_model.specs.Sent.{IsRecordOf}
 use Rattle.order_model.specs.declared.record.Record.{Record}
 use Rattle.scene_file.specs.Generated.{GeneratedScenesAreWithin}
 use Rattle.render_core.specs.Due.{default_frames}
-use Rattle.render_core.specs.Jobs.{Gives, IsInput, cluster_limit, cluster_of, layout_for, origin_of, scene_limit, tile_limit, with_rounds, word_limit}
+use Rattle.spu_chain.specs.Laws.{FilteredStaysWithin}
+use Rattle.render_core.specs.declared.work.Work.{Work}
+use Rattle.render_core.specs.Jobs.{Task, cluster_of, origin_of}
+use Rattle.render_core.specs.Scenes.{Found, Gives, IsInput, cluster_limit, layout_for, meant, scene_for, scene_limit, tile_limit, with_rounds, word_limit}
 use Rattle.render_core.specs.Laws.{OrderedRecordsShowOneImage}
 use Rattle.render_core.specs.Outcomes.{ShowsEveryPermittedOrder}
 use Rattle.render_core.specs.declared.job.Cluster.{Cluster}
@@ -34,6 +37,7 @@ use Rattle.render_core.specs.declared.job.Job.{Job}
 use Rattle.render_core.specs.declared.job.Job.TheVariants.{Render, Simulate, Serial, Last, Check, Race, Pack, Unpack, Gen, Demo}
 use Rattle.render_core.specs.declared.job.Origin.TheVariants.{Generated}
 use Rattle.render_core.proofs.Recorded.{layout_within}
+use Rattle.render_core.proofs.Filtered.{filtered_tiles, filtered_within, meant_within}
 use Rattle.render_core.proofs.Judging.{rounds_within, tiles_within, within_both}
 use Rattle.rc_base.proofs.WithinLimits.{clients_within, counts_some, first_within, in_range, tiles_within as layout_tiles}
 
@@ -106,32 +110,48 @@ made_within : GeneratedScenesAreWithin → (seed size : ℕ) (first : Option Lim
 made_within made seed size first scene is words =
     subst (λ (s : Scene). limit_of s ≡ None) (sym is) (made seed size (few_rounds size (rounds_within seed size first words))).limits
 
-limits_of : GeneratedScenesAreWithin → (job : Job) (input : List ℕ) (scene : Scene) → Gives (origin_of job) input scene
-    → scene_limit (origin_of job) scene ≡ None → word_limit job scene ≡ None → limit_of scene ≡ None
-limits_of made (Render cluster) input scene gives own words = own
-limits_of made (Simulate seed cluster) input scene gives own words = own
-limits_of made Serial input scene gives own words = own
-limits_of made Last input scene gives own words = own
-limits_of made Check input scene gives own words = own
-limits_of made Race input scene gives own words = own
-limits_of made Pack input scene gives own words = own
-limits_of made Unpack input scene gives own words = own
-limits_of made (Gen seed size) input scene gives own words = made_within made seed size None scene gives words
-limits_of made (Demo seed size cluster) input scene gives own words = made_within made seed size (cluster_limit cluster scene) scene gives words
+limits_of : GeneratedScenesAreWithin → (job : Job) (input : List ℕ) (found : Found) → Gives (origin_of job) input found
+    → scene_limit (origin_of job) found ≡ None → word_limit job (meant found) ≡ None → limit_of (meant found) ≡ None
+limits_of made (Render cluster) input found gives own words = meant_within found own
+limits_of made (Simulate seed cluster) input found gives own words = meant_within found own
+limits_of made Serial input found gives own words = meant_within found own
+limits_of made Last input found gives own words = meant_within found own
+limits_of made Check input found gives own words = meant_within found own
+limits_of made Race input found gives own words = meant_within found own
+limits_of made Pack input found gives own words = meant_within found own
+limits_of made Unpack input found gives own words = meant_within found own
+limits_of made (Gen seed size) input found gives own words = made_within made seed size None (meant found) (ap meant gives) words
+limits_of made (Demo seed size cluster) input found gives own words = made_within made seed size (cluster_limit cluster (meant found)) (meant found) (ap meant gives) words
 
-module _ (formed : SceneListsAreWellFormed) (made : GeneratedScenesAreWithin) (permitted : OrderedRunsShowOneImage) (default : FullOrderedRunsShowTheDefaultImage) where
-  module _ (job : Job) (cluster : Cluster) (input : List ℕ) (scene : Scene) (kept : Record) (of : cluster_of job ≡ Some cluster) (is : IsInput job input scene)
-      (lawful : IsRecordOf scene (layout_for cluster scene) kept) (ordered : IsOrderedScene scene kept.journal) where
+module _ (formed : SceneListsAreWellFormed) (made : GeneratedScenesAreWithin) (stays : FilteredStaysWithin) (permitted : OrderedRunsShowOneImage) (default : FullOrderedRunsShowTheDefaultImage) where
+  module _ (task : Task) (cluster : Cluster) (input : List ℕ) (work : Work) (kept : Record) (of : cluster_of task.job ≡ Some cluster) (is : IsInput task input work)
+      (lawful : IsRecordOf work.scene (layout_for cluster work.scene) kept) (ordered : IsOrderedScene work.scene kept.journal) where
+    abbrev scene : Scene
+    scene = work.scene
+
+    limits : (scene_limit (origin_of task.job) is.found ≡ None) × (word_limit task.job (meant is.found) ≡ None)
+    limits = within_both task.job is.found is.within
+
+    scene_is : scene ≡ scene_for task (meant is.found)
+    scene_is = ap (λ (w : Work). w.scene) is.is
+
     within : limit_of scene ≡ None
-    within = limits_of made job input scene is.gives (within_both job scene is.within).0 (within_both job scene is.within).1
+    within =
+        subst (λ (s : Scene). limit_of s ≡ None) (sym scene_is)
+        (filtered_within task (meant is.found) stays (limits_of made task.job input is.found is.gives limits.0 limits.1))
 
     well : IsWellFormed (sync_lists_of scene)
     well = formed scene (clients_within scene within).0 (counts_some scene within)
 
+    -- the tiles of the words, in the window that the scene was found with
+    asked : cluster_limit cluster scene ≡ None
+    asked =
+        subst (λ (s : Scene). cluster_limit cluster s ≡ None) (sym scene_is)
+        (filtered_tiles task (meant is.found) cluster
+        (subst (λ (c : Option Cluster). tile_limit c (meant is.found) ≡ None) of (tiles_within task.job (meant is.found) limits.1)))
+
     some_tiles : 1 ≤ (layout_for cluster scene).columns * (layout_for cluster scene).rows
-    some_tiles =
-        (layout_tiles scene (layout_for cluster scene) cluster.depth
-        (layout_within cluster scene (subst (λ (c : Option Cluster). tile_limit c scene ≡ None) of (tiles_within job scene (within_both job scene is.within).1)))).0
+    some_tiles = (layout_tiles scene (layout_for cluster scene) cluster.depth (layout_within cluster scene asked)).0
 
     texts : (order : List Name) → IsPermitted (sync_lists_of scene) kept.journal order
         → image_text_of scene (layout_for cluster scene) kept ≡ p6_texts (frame_images scene order (frame_count kept.journal))
@@ -146,8 +166,8 @@ module _ (formed : SceneListsAreWellFormed) (made : GeneratedScenesAreWithin) (p
 
   pub one_image : OrderedRecordsShowOneImage
   unfolding default_frames
-  one_image job cluster input scene kept of is lawful ordered = (
-    shows job cluster input scene kept of is lawful ordered,
-    λ full. default scene (layout_for cluster scene) kept (well job cluster input scene kept of is lawful ordered)
-        (let least = some_tiles job cluster input scene kept of is lawful ordered in omega (arith, least)) full lawful ordered,
+  one_image task cluster input work kept of is lawful ordered = (
+    shows task cluster input work kept of is lawful ordered,
+    λ full. default work.scene (layout_for cluster work.scene) kept (well task cluster input work kept of is lawful ordered)
+        (let least = some_tiles task cluster input work kept of is lawful ordered in omega (arith, least)) full lawful ordered,
   )

@@ -1,19 +1,10 @@
--- The picks of a seed, and the refusals of a job that runs a stepped cluster.
-use Rattle.std.proofs.Common.{◌≡◌, ℕ, ◌<◌, ◌%◌, Ok, Err, length, map, sym, subst, arith}
-use Rattle.std.specs.Prelude.{IfErr, slice_index_or}
-use Rattle.std.specs.declared.result.Result.{Result}
+-- The picks of a seed.
+use Rattle.std.proofs.Common.{◌≡◌, ℕ, ◌<◌, ◌%◌, length, map, sym, subst, arith}
+use Rattle.std.specs.Prelude.{slice_index_or}
 use Rattle.std.specs.List.{range_with_len}
 use Rattle.std.proofs.lemmas.List.FromFn.{length-map-range_with_len, get_or-map-range_with_len}
 use Rattle.std.proofs.Math.Nat.{mod-lt}
 use Rattle.rc_base.specs.Program.Generator.{pick_count, draw_of, picks_of}
-use Rattle.rc_base.specs.declared.scene.Scene.{Scene}
-use Rattle.render_core.specs.Refusals.{IsNoOutcome}
-use Rattle.render_core.specs.declared.due.Due.{Due}
-use Rattle.render_core.specs.declared.due.DueRefusal.{DueRefusal}
-use Rattle.render_core.specs.declared.due.DueRefusal.TheVariants as undue
-use Rattle.render_core.specs.declared.job.Job.{Job}
-
--- ---- picks
 
 drawn_below : (seed actors count : ℕ) → 0 < actors → (i : ℕ) → i < length (map (λ (n : ℕ). draw_of seed n % actors) (range_with_len 0 count))
     → slice_index_or (map (λ (n : ℕ). draw_of seed n % actors) (range_with_len 0 count)) i 0 < actors
@@ -27,10 +18,3 @@ drawn_below seed actors count some i below =
 pub picks_below : (seed actors : ℕ) → 0 < actors → (i : ℕ) → i < length (picks_of seed actors) → slice_index_or (picks_of seed actors) i 0 < actors
 unfolding picks_of
 picks_below seed actors some = drawn_below seed actors pick_count some
-
--- ---- refusals
-
--- a job that a cluster refuses lacks memory
-pub cluster_refused : (job : Job) (scene : Scene) (r : Result Due DueRefusal) → IfErr r (λ refusal. refusal ≡ undue.OutOfMemory) → IfErr r (IsNoOutcome job scene)
-cluster_refused job scene (Ok due) h = tt
-cluster_refused job scene (Err refusal) h = subst (IsNoOutcome job scene) (sym h) tt

@@ -14,7 +14,8 @@ use Rattle.order_model.specs.Report.{image_text_of, tile_order}
 use Rattle.order_model.specs.Sent.{IsRecordOf}
 use Rattle.order_model.specs.declared.record.Record.{Record}
 use Rattle.render_core.specs.Due.{Outcome, IsRecorded, ending_by, report_due}
-use Rattle.render_core.specs.Jobs.{cluster_limit, layout_for}
+use Rattle.render_core.specs.declared.work.Work.{Work}
+use Rattle.render_core.specs.Scenes.{cluster_limit, layout_for}
 use Rattle.render_core.specs.Refusals.{IsWellRead}
 use Rattle.render_core.specs.declared.due.Ending.{Ending}
 use Rattle.render_core.specs.declared.job.Cluster.{Cluster}
@@ -33,25 +34,26 @@ module _ (cluster : Cluster) (scene : Scene) where
   pub layout_fits : (l : Layout) → cluster_limit cluster scene ≡ None → l ≡ layout_for cluster scene → IsLayoutFor scene l cluster.depth
   layout_fits l asked tiles = subst (λ (t : Layout). IsLayoutFor scene t cluster.depth) (sym tiles) (layout_within asked)
 
+module _ (cluster : Cluster) (work : Work) where
   abbrev pub outcome_by : Record → Outcome
   outcome_by kept = record {
-    image = image_text_of scene (layout_for cluster scene) kept;
-    notes = report_due scene (layout_for cluster scene) kept cluster.orders;
-    ending = ending_by scene kept.journal;
+    image = image_text_of work.scene (layout_for cluster work.scene) kept;
+    notes = report_due work (layout_for cluster work.scene) kept cluster.orders;
+    ending = ending_by work.scene kept.journal;
     kept = Some kept;
   }
 
-  pub is_by_record : (o : Outcome) (is : IsRecorded cluster scene o) → o ≡ outcome_by is.record_kept
+  pub is_by_record : (o : Outcome) (is : IsRecorded cluster work o) → o ≡ outcome_by is.record_kept
   is_by_record o is =
       ap (λ (l : List ℕ). record { image = l; notes = o.notes; ending = o.ending; kept = o.kept }) is.image
-      ∙ ap (λ (l : List ℕ). record { image = image_text_of scene (layout_for cluster scene) is.record_kept; notes = l; ending = o.ending; kept = o.kept }) is.notes
-      ∙ ap (λ (e : Ending). record { image = image_text_of scene (layout_for cluster scene) is.record_kept; notes = report_due scene (layout_for cluster scene) is.record_kept cluster.orders; ending = e; kept = o.kept }) is.ending
-      ∙ ap (λ (k : Option Record). record { image = image_text_of scene (layout_for cluster scene) is.record_kept; notes = report_due scene (layout_for cluster scene) is.record_kept cluster.orders; ending = ending_by scene is.record_kept.journal; kept = k }) is.kept
+      ∙ ap (λ (l : List ℕ). record { image = image_text_of work.scene (layout_for cluster work.scene) is.record_kept; notes = l; ending = o.ending; kept = o.kept }) is.notes
+      ∙ ap (λ (e : Ending). record { image = image_text_of work.scene (layout_for cluster work.scene) is.record_kept; notes = report_due work (layout_for cluster work.scene) is.record_kept cluster.orders; ending = e; kept = o.kept }) is.ending
+      ∙ ap (λ (k : Option Record). record { image = image_text_of work.scene (layout_for cluster work.scene) is.record_kept; notes = report_due work (layout_for cluster work.scene) is.record_kept cluster.orders; ending = ending_by work.scene is.record_kept.journal; kept = k }) is.kept
 
-  module _ (formed : SceneListsAreWellFormed) (permits : RecordsOfScenesArePermitted) (within : limit_of scene ≡ None) (kept : Record)
-      (lawful : IsRecordOf scene (layout_for cluster scene) kept) where
-    pub kept_permits : (tile : ℕ) → tile < tile_count (layout_for cluster scene) → IsPermitted (sync_lists_of scene) kept.journal (tile_order kept tile)
-    kept_permits = permits scene (layout_for cluster scene) kept (formed scene (clients_within scene within).0 (counts_some scene within)) lawful
+  module _ (formed : SceneListsAreWellFormed) (permits : RecordsOfScenesArePermitted) (within : limit_of work.scene ≡ None) (kept : Record)
+      (lawful : IsRecordOf work.scene (layout_for cluster work.scene) kept) where
+    pub kept_permits : (tile : ℕ) → tile < tile_count (layout_for cluster work.scene) → IsPermitted (sync_lists_of work.scene) kept.journal (tile_order kept tile)
+    kept_permits = permits work.scene (layout_for cluster work.scene) kept (formed work.scene (clients_within work.scene within).0 (counts_some work.scene within)) lawful
 
-    pub recorded_by : IsRecorded cluster scene (outcome_by kept)
+    pub recorded_by : IsRecorded cluster work (outcome_by kept)
     recorded_by = record { record_kept = kept; kept = refl; lawful = lawful; permitted = kept_permits; image = refl; notes = refl; ending = refl }

@@ -1,5 +1,5 @@
 -- The lines of reports, client by client.
-use Rattle.std.proofs.Common.{◌≡◌, ℕ, zero, suc, ◌+◌, inl, inr, Bool, true, false, List, [], ◌∷◌, ◌++◌, length, Option, None, Some, refl, sym, ap, ◌∙◌, arith}
+use Rattle.std.proofs.Common.{◌≡◌, ℕ, zero, suc, ◌+◌, inl, inr, Bool, true, false, List, [], ◌∷◌, ◌++◌, length, Option, None, Some, refl, sym, ap, ◌∙◌, arith, append_assoc}
 use Rattle.std.specs.Prelude.{◌↔◌, ◌||◌, IsSome, is_some, slice_index_or, codes, if◌then◌else◌}
 use Rattle.std.specs.List.{flat_map, range_with_len, list_any}
 use Rattle.std.specs.Option.{option_map_or}
@@ -15,9 +15,10 @@ use Rattle.rc_base.specs.declared.state.Fault.{Fault}
 use Rattle.rc_base.specs.declared.sync.Entry.{Entry}
 use Rattle.rc_base.specs.declared.sync.WaitAt.{WaitAt}
 use Rattle.rc_base.specs.declared.sync.Waiting.{Waiting}
-use Rattle.order_model.specs.Report.{fault_line, client_faults, fault_lines, count_lines, stuck_line, client_stuck, stuck_lines, is_stuck}
-use Rattle.render_core.specs.Due.{report_with}
-use Rattle.render_core.specs.Reports.{lines_of_faults, lines_of_stuck, AreOf}
+use Rattle.order_model.specs.Report.{fault_line, client_faults, fault_lines, count_lines, stuck_line, client_stuck, stuck_lines, is_stuck, short_report_of}
+use Rattle.render_core.specs.declared.work.Work.{Work}
+use Rattle.render_core.specs.Due.{short_due}
+use Rattle.render_core.specs.Reports.{lines_of_faults, lines_of_stuck, lines_of_turns, AreOf}
 
 range_more : (a n : ℕ) → range_with_len a (n + 1) ≡ range_with_len a n ++ (a + n) ∷ []
 range_more a zero = let e : a + 0 ≡ a = omega arith in rw e refl
@@ -86,9 +87,15 @@ module _ (scene : Scene) (faults : List (List (ℕ × Fault))) (journal : List E
       ap (λ (l : List ℕ). l ++ codes "rc: stuck\n") (waits ∙ ap (λ (n : ℕ). flat_map (client_stuck (sync_lists_of scene) journal) (range_with_len 0 n)) count)
       ∙ sym (ap (λ (b : Bool). flat_map (client_stuck (sync_lists_of scene) journal) (range_with_len 0 (client_count (sync_lists_of scene))) ++ (if b then codes "rc: stuck\n" else [])) stuck)
 
-  pub report_told : (waiting : Option Waiting) → AreOf scene faults journal waiting → (told : List ℕ)
-      → lines_of_faults faults ++ count_lines journal ++ told ++ lines_of_stuck waiting (length faults) ≡ report_with told scene journal
-  unfolding report_with
-  report_told waiting are told =
-      ap (λ (l : List ℕ). l ++ count_lines journal ++ told ++ lines_of_stuck waiting (length faults)) (faults_told are.clients are.faults_are)
-      ∙ ap (λ (l : List ℕ). fault_lines scene ++ count_lines journal ++ told ++ l) (stuck_told waiting are)
+-- the lines of a report without tiles are those of the scene and of the journal
+pub report_told : (work : Work) (faults : List (List (ℕ × Fault))) (journal : List Entry) (waiting : Option Waiting) → AreOf work.scene faults journal waiting → (told : List ℕ)
+    → lines_of_turns work faults journal told waiting ≡ short_due work told journal
+unfolding short_due short_report_of
+report_told work faults journal waiting are told =
+    ap (λ (l : List ℕ). work.refused ++ l ++ count_lines journal ++ work.counted ++ told ++ lines_of_stuck waiting (length faults))
+    (faults_told work.scene faults journal are.clients are.faults_are)
+    ∙ ap (λ (l : List ℕ). work.refused ++ fault_lines work.scene ++ count_lines journal ++ work.counted ++ told ++ l) (stuck_told work.scene faults journal waiting are)
+    ∙ joined work.refused (fault_lines work.scene) (count_lines journal) work.counted told (stuck_lines (sync_lists_of work.scene) journal)
+  where
+    joined : (a b c d e f : List ℕ) → a ++ b ++ c ++ d ++ e ++ f ≡ a ++ (b ++ c ++ (d ++ e) ++ f)
+    joined a b c d e f = simp append_assoc

@@ -1,20 +1,17 @@
 -- Jobs that start threads.
-use Rattle.std.proofs.Common.{◌≡◌, ◌≢◌, ℕ, ◌⊎◌, Bool, true, false, List, [], ◌∷◌, map, inl, inr, None, Some, refl, sym, ap, ◌∙◌, subst}
-use Rattle.std.specs.Prelude.{String, IfErr, IfOk, MatchResult, slice_get, string_bytes, unwrap_or, codes}
+use Rattle.std.proofs.Common.{◌≡◌, ◌≢◌, ℕ, ◌⊎◌, Bool, true, false, List, ◌∷◌, map, inl, inr, Ok, Err, None, Some, refl, sym, ap, ◌∙◌, subst}
+use Rattle.std.specs.Prelude.{String, IfErr, IfOk, MatchResult, slice_get, string_bytes, unwrap_or}
 use Rattle.std.specs.Global.{Global}
-use Rattle.std.specs.Str.{bytes_eq}
 use Rattle.std.specs.declared.option.Option.{Option}
 use Rattle.std.specs.declared.result.Result.{Result}
 use Rattle.std.specs.List.{flat_map, AllByRecursion}
-use Rattle.std.specs.Option.{option_or}
-use Rattle.rc_base.specs.Formats.Limits.{limit_of, size_limit}
+use Rattle.rc_base.specs.Formats.Limits.{limit_of}
 use Rattle.rc_base.specs.Outside.Ends.{Used}
 use Rattle.command_line.specs.Words.{Setting, job_word, setting_words}
 use Rattle.command_line.specs.declared.job.JobName.{JobName}
 use Rattle.command_line.specs.declared.job.JobName.TheVariants as name
 use Rattle.rc_base.specs.declared.cluster.Tally.{Tally}
 use Rattle.rc_base.specs.declared.image.Image.{Image}
-use Rattle.rc_base.specs.declared.scene.Limit.{Limit}
 use Rattle.rc_base.specs.declared.scene.Scene.{Scene}
 use Rattle.rc_base.specs.declared.state.Fault.{Fault}
 use Rattle.rc_base.specs.declared.sync.Waiting.{Waiting}
@@ -34,11 +31,13 @@ use Rattle.render_core.specs.declared.job.Job.TheVariants.{Render, Simulate, Ser
 use Rattle.render_core.specs.declared.refusal.Refused.{Refused}
 use Rattle.render_core.specs.declared.writing.Told.{Told}
 use Rattle.render_core.specs.Due.{Outcome, IsRecorded, IsOutcome, ending_by, report_due}
-use Rattle.render_core.specs.Jobs.{IsFor, IsJob, IsThreaded, Reads, ShowsNothing, cluster_limit, starts_threads, job_in, layout_for, origin_of, threads_of, word_limit}
-use Rattle.render_core.specs.Outcomes.{IsDue, PartlyShown, PartlyWritten}
-use Rattle.render_core.specs.Refusals.{refusal_status, Came, IsCaused, IsPerformed, IsToldOf, IsUntold, IsWell, IsWellRead}
-use Rattle.render_core.proofs.Judging.{has_scene}
-use Rattle.render_core.proofs.Performing.{front_of, partly_written, told_done, told_late, told_refused}
+use Rattle.spu_chain.specs.declared.rule.SpuRule.{SpuRule}
+use Rattle.render_core.specs.declared.work.Work.{Work}
+use Rattle.render_core.specs.Jobs.{IsJob, IsThreaded, cluster_of, Reads, ShowsNothing, Task, starts_threads, job_in, origin_of, threads_of}
+use Rattle.render_core.specs.Scenes.{IsFor, layout_for}
+use Rattle.render_core.specs.Outcomes.{HaveSeenAll, IsDue, PartlyShown, PartlyWritten}
+use Rattle.render_core.specs.Refusals.{refusal_status, Behind, IsCaused, IsPerformed, IsToldOf, IsUntold, IsWell, IsWellRead, IsWorkOf, LeftWith}
+use Rattle.render_core.proofs.Performing.{due_of_work, front_of, has_work_of, untold_status, partly_written, told_done, told_late, told_refused}
 use Rattle.render_core.proofs.Recorded.{outcome_by, recorded_by}
 
 -- ---- their words
@@ -50,26 +49,6 @@ first_word words job settings parts = ap (λ (ws : List (List ℕ)). slice_get w
 -- a job's first word tells whether it is one
 abbrev AreThreads : List ℕ → Type 0
 AreThreads word = (word ≡ job_word name.Render) ⊎ ((word ≡ job_word name.Demo) ⊎ (word ≡ job_word name.Last))
-
-no_word : (w other : List ℕ) → bytes_eq w other ≡ false → bytes_eq other other ≡ true → w ≡ other → ⊥
-no_word w other differs own same = let none : false ≡ true = sym differs ∙ (ap (λ (v : List ℕ). bytes_eq v other) same ∙ own) in absurd cc
-
-other_word : (w : List ℕ) → bytes_eq w (codes "render") ≡ false → bytes_eq w (codes "demo") ≡ false → bytes_eq w (codes "last") ≡ false → AreThreads w → ⊥
-other_word w render demo last (inl same) = no_word w (codes "render") render refl same
-other_word w render demo last (inr (inl same)) = no_word w (codes "demo") demo refl same
-other_word w render demo last (inr (inr same)) = no_word w (codes "last") last refl same
-
-told_by : (job_name : JobName) (settings : List Setting) → AreThreads (job_word job_name) → starts_threads (job_in job_name settings) ≡ true
-told_by name.Render settings same = refl
-told_by name.Simulate settings same = absurd (other_word (codes "simulate") refl refl refl same)
-told_by name.Serial settings same = absurd (other_word (codes "serial") refl refl refl same)
-told_by name.Last settings same = refl
-told_by name.Check settings same = absurd (other_word (codes "check") refl refl refl same)
-told_by name.Race settings same = absurd (other_word (codes "race") refl refl refl same)
-told_by name.Pack settings same = absurd (other_word (codes "pack") refl refl refl same)
-told_by name.Unpack settings same = absurd (other_word (codes "unpack") refl refl refl same)
-told_by name.Gen settings same = absurd (other_word (codes "gen") refl refl refl same)
-told_by name.Demo settings same = refl
 
 tells : (job_name : JobName) (settings : List Setting) → starts_threads (job_in job_name settings) ≡ true → AreThreads (job_word job_name)
 tells name.Render settings threads = inl refl
@@ -86,18 +65,6 @@ tells name.Demo settings threads = inr (inl refl)
 module _ (words : List (String Global)) (job : Job) (is : IsJob words job) where
   first : slice_get (map string_bytes words) 0 ≡ Some (job_word is.name)
   first = first_word (map string_bytes words) is.name is.settings is.line.parts
-
-  by_word : (word : List ℕ) → slice_get (map string_bytes words) 0 ≡ Some word → job_word is.name ≡ word
-  by_word word named = ap (λ (o : Option (List ℕ)). unwrap_or o []) (sym first ∙ named)
-
-  pub threaded : IsThreaded words → starts_threads job ≡ true
-  threaded named =
-      subst (λ (j : Job). starts_threads j ≡ true) is.asked
-      (told_by is.name is.settings (elim named [
-        | inl render ↦ inl (by_word (job_word name.Render) render)
-        | inr (inl demo) ↦ inr (inl (by_word (job_word name.Demo) demo))
-        | inr (inr last) ↦ inr (inr (by_word (job_word name.Last) last))
-      ]))
 
   pub alone : (IsThreaded words → ⊥) → starts_threads job ≡ false
   alone other = go (starts_threads job) refl where
@@ -126,40 +93,10 @@ draws_apart Unpack threads none = let no_threads : false ≡ true = threads in a
 draws_apart (Gen seed size) threads none = let no_threads : false ≡ true = threads in absurd cc
 draws_apart (Demo seed size cluster) threads none = absurd cc
 
--- ---- their limits, and what is due
+-- ---- what is due
 
 the_cluster : (cluster other : Cluster) → Some cluster ≡ Some other → cluster ≡ other
 the_cluster cluster other e = ap (λ (o : Option Cluster). unwrap_or o cluster) e
-
--- what its cluster's tiles and lanes have outside their ranges, its words have
-pub words_past : (job : Job) (cluster : Cluster) (scene : Scene) (limit : Limit) → threads_of job ≡ Some cluster → cluster_limit cluster scene ≡ Some limit
-    → word_limit job scene ≡ Some limit
-words_past (Render own) cluster scene limit e past = ap (λ (c : Cluster). cluster_limit c scene) (the_cluster own cluster e) ∙ past
-words_past (Simulate seed own) cluster scene limit e past = absurd cc
-words_past Serial cluster scene limit e past = absurd cc
-words_past Last cluster scene limit e past = absurd cc
-words_past Check cluster scene limit e past = absurd cc
-words_past Race cluster scene limit e past = absurd cc
-words_past Pack cluster scene limit e past = absurd cc
-words_past Unpack cluster scene limit e past = absurd cc
-words_past (Gen seed size) cluster scene limit e past = absurd cc
-words_past (Demo seed size own) cluster scene limit e past =
-    ap (λ (l : Option Limit). option_or l (size_limit size)) (ap (λ (c : Cluster). cluster_limit c scene) (the_cluster own cluster e) ∙ past)
-
--- where these have nothing, its words have nothing either: the rounds of a scene that was made are within their range
-pub words_asked : (job : Job) (cluster : Cluster) (scene : Scene) → threads_of job ≡ Some cluster → IsWell (origin_of job) scene → cluster_limit cluster scene ≡ None
-    → word_limit job scene ≡ None
-words_asked (Render own) cluster scene e well asked = ap (λ (c : Cluster). cluster_limit c scene) (the_cluster own cluster e) ∙ asked
-words_asked (Simulate seed own) cluster scene e well asked = absurd cc
-words_asked Serial cluster scene e well asked = absurd cc
-words_asked Last cluster scene e well asked = absurd cc
-words_asked Check cluster scene e well asked = absurd cc
-words_asked Race cluster scene e well asked = absurd cc
-words_asked Pack cluster scene e well asked = absurd cc
-words_asked Unpack cluster scene e well asked = absurd cc
-words_asked (Gen seed size) cluster scene e well asked = absurd cc
-words_asked (Demo seed size own) cluster scene e well asked =
-    ap (λ (l : Option Limit). option_or l (size_limit size)) (ap (λ (c : Cluster). cluster_limit c scene) (the_cluster own cluster e) ∙ asked) ∙ well.rounds
 
 -- its scene is what calls ask for
 pub read_or_made : (job : Job) (cluster : Cluster) (scene : Scene) → threads_of job ≡ Some cluster → IsWell (origin_of job) scene → IsWellRead Bytes scene
@@ -173,6 +110,19 @@ read_or_made Pack cluster scene e well = absurd cc
 read_or_made Unpack cluster scene e well = absurd cc
 read_or_made (Gen seed size) cluster scene e well = absurd cc
 read_or_made (Demo seed size own) cluster scene e well = well.of_bytes
+
+-- its cluster is the one that it asks for
+pub cluster_asked : (job : Job) (cluster : Cluster) → threads_of job ≡ Some cluster → cluster_of job ≡ Some cluster
+cluster_asked (Render own) cluster e = e
+cluster_asked (Simulate seed own) cluster e = absurd cc
+cluster_asked Serial cluster e = absurd cc
+cluster_asked Last cluster e = absurd cc
+cluster_asked Check cluster e = absurd cc
+cluster_asked Race cluster e = absurd cc
+cluster_asked Pack cluster e = absurd cc
+cluster_asked Unpack cluster e = absurd cc
+cluster_asked (Gen seed size) cluster e = absurd cc
+cluster_asked (Demo seed size own) cluster e = e
 
 -- its frames are shown
 pub shows_frames : (job : Job) (cluster : Cluster) → threads_of job ≡ Some cluster → ShowsNothing job → ⊥
@@ -200,64 +150,71 @@ threads_suit Unpack cluster scene e = tt
 threads_suit (Gen seed size) cluster scene e = tt
 threads_suit (Demo seed size own) cluster scene e = tt
 
-outcome_is : (job : Job) (cluster : Cluster) (scene : Scene) (o : Outcome) → threads_of job ≡ Some cluster → IsRecorded cluster scene o → IsOutcome job scene o
+outcome_is : (job : Job) (cluster : Cluster) (work : Work) (o : Outcome) → threads_of job ≡ Some cluster → IsRecorded cluster work o → IsOutcome job work o
 unfolding IsOutcome
-outcome_is (Render own) cluster scene o e is = subst (λ (c : Cluster). IsRecorded c scene o) (sym (the_cluster own cluster e)) is
-outcome_is (Simulate seed own) cluster scene o e is = absurd cc
-outcome_is Serial cluster scene o e is = absurd cc
-outcome_is Last cluster scene o e is = absurd cc
-outcome_is Check cluster scene o e is = absurd cc
-outcome_is Race cluster scene o e is = absurd cc
-outcome_is Pack cluster scene o e is = absurd cc
-outcome_is Unpack cluster scene o e is = absurd cc
-outcome_is (Gen seed size) cluster scene o e is = absurd cc
-outcome_is (Demo seed size own) cluster scene o e is = subst (λ (c : Cluster). IsRecorded c scene o) (sym (the_cluster own cluster e)) is
+outcome_is (Render own) cluster work o e is = subst (λ (c : Cluster). IsRecorded c work o) (sym (the_cluster own cluster e)) is
+outcome_is (Simulate seed own) cluster work o e is = absurd cc
+outcome_is Serial cluster work o e is = absurd cc
+outcome_is Last cluster work o e is = absurd cc
+outcome_is Check cluster work o e is = absurd cc
+outcome_is Race cluster work o e is = absurd cc
+outcome_is Pack cluster work o e is = absurd cc
+outcome_is Unpack cluster work o e is = absurd cc
+outcome_is (Gen seed size) cluster work o e is = absurd cc
+outcome_is (Demo seed size own) cluster work o e is = subst (λ (c : Cluster). IsRecorded c work o) (sym (the_cluster own cluster e)) is
 
 -- ---- what a run leaves
 
-module _ (job : Job) (cluster : Cluster) (source image : Used) (scene : Scene) (threads : threads_of job ≡ Some cluster) (came : Came job source scene)
-    (well : IsWell (origin_of job) scene) (within : limit_of scene ≡ None) (formed : SceneListsAreWellFormed) (permits : RecordsOfScenesArePermitted) (l : Layout) (asked : cluster_limit cluster scene ≡ None) (tiles : l ≡ layout_for cluster scene) where
+module _ (task : Task) (cluster : Cluster) (source image : Used) (work : Work) (threads : threads_of task.job ≡ Some cluster) (is_work : IsWorkOf task source work)
+    (within : limit_of work.scene ≡ None) (formed : SceneListsAreWellFormed) (permits : RecordsOfScenesArePermitted) (l : Layout) (tiles : l ≡ layout_for cluster work.scene) where
   -- what is due by any lawful record
-  due_by : (kept : Record) → IsRecordOf scene l kept → IsDue job source (outcome_by cluster scene kept)
-  due_by kept lawful = record {
-    scene = scene;
-    has = has_scene job source scene came (words_asked job cluster scene threads well asked) (threads_suit job cluster scene threads);
-    due = outcome_is job cluster scene (outcome_by cluster scene kept) threads
-        (recorded_by cluster scene formed permits within kept (subst (λ (t : Layout). IsRecordOf scene t kept) tiles lawful));
-  }
+  due_by : (kept : Record) → IsRecordOf work.scene l kept → IsDue task source (outcome_by cluster work kept)
+  due_by kept lawful =
+      due_of_work task source work is_work (outcome_by cluster work kept) (threads_suit task.job cluster work.scene threads)
+      (outcome_is task.job cluster work (outcome_by cluster work kept) threads
+      (recorded_by cluster work formed permits within kept (subst (λ (t : Layout). IsRecordOf work.scene t kept) tiles lawful)))
 
   -- a run that lacked memory
-  pub front_given : GaveFront l image → PartlyShown job source image
+  pub front_given : GaveFront l image → PartlyShown task source image
   front_given gave = record {
     cluster = cluster;
     threads = threads;
-    scene = scene;
-    has = has_scene job source scene came (words_asked job cluster scene threads well asked) (threads_suit job cluster scene threads);
+    work = work;
+    has = has_work_of task source work is_work (threads_suit task.job cluster work.scene threads);
     images = gave.images;
     sides = subst (λ (t : Layout). AllByRecursion (λ (m : Image). (m.width ≡ t.width) × (m.height ≡ t.height)) gave.images) tiles gave.sides;
     front = gave.front;
   }
 
-  module _ (kept : Record) (tallies : List Tally) (waiting : Option Waiting) (faults : List (List (ℕ × Fault))) (written : Written) (is : IsRun scene l kept tallies waiting faults)
-      (given : IsWritten image (image_text_of scene l kept) written) where
-    here : IsWritten image (image_text_of scene (layout_for cluster scene) kept) written
-    here = subst (λ (t : Layout). IsWritten image (image_text_of scene t kept) written) tiles given
+  module _ (kept : Record) (tallies : List Tally) (waiting : Option Waiting) (faults : List (List (ℕ × Fault))) (written : Written) (is : IsRun work.scene l kept tallies waiting faults)
+      (given : IsWritten image (image_text_of work.scene l kept) written) where
+    here : IsWritten image (image_text_of work.scene (layout_for cluster work.scene) kept) written
+    here = subst (λ (t : Layout). IsWritten image (image_text_of work.scene t kept) written) tiles given
 
-    pub run_given : PartlyWritten job source image
+    pub run_given : PartlyWritten task source image
     run_given =
-        partly_written job source image (outcome_by cluster scene kept) (due_by kept is.lawful) (front_of image (image_text_of scene (layout_for cluster scene) kept) written here)
+        partly_written task source image (outcome_by cluster work kept) (due_by kept is.lawful) (front_of image (image_text_of work.scene (layout_for cluster work.scene) kept) written here)
 
-    module _ (r : Result Told Refused) (told : (s : Scene) (t : Layout) → IsRun s t kept tallies waiting faults
-        → MatchResult r (IsToldOf (report_due s t kept cluster.orders) (ending_by s kept.journal) (Some kept) written) (IsUntold (ending_by s kept.journal) (Some kept) written)) where
-      abbrev own : MatchResult r (IsToldOf (report_due scene (layout_for cluster scene) kept cluster.orders) (ending_by scene kept.journal) (Some kept) written)
-          (IsUntold (ending_by scene kept.journal) (Some kept) written)
-      own = told scene (layout_for cluster scene) (subst (λ (t : Layout). IsRun scene t kept tallies waiting faults) tiles is)
+    module _ (r : Result Told Refused) (told : (t : Layout) → IsRun work.scene t kept tallies waiting faults
+        → MatchResult r (IsToldOf (report_due work t kept cluster.orders) (ending_by work.scene kept.journal) (Some kept) written) (IsUntold (ending_by work.scene kept.journal) (Some kept) written)) where
+      abbrev own : MatchResult r (IsToldOf (report_due work (layout_for cluster work.scene) kept cluster.orders) (ending_by work.scene kept.journal) (Some kept) written)
+          (IsUntold (ending_by work.scene kept.journal) (Some kept) written)
+      own = told (layout_for cluster work.scene) (subst (λ (t : Layout). IsRun work.scene t kept tallies waiting faults) tiles is)
 
-      pub run_done : IfOk r (IsPerformed job source image)
-      run_done = told_done job source image (outcome_by cluster scene kept) (due_by kept is.lawful) written here r own
+      pub run_done : IfOk r (IsPerformed task source image)
+      run_done = told_done task source image (outcome_by cluster work kept) (due_by kept is.lawful) written here r own
 
-      pub run_refused : IfErr r (λ x. IsCaused job source image x.refusal x.kept)
-      run_refused = told_refused job source image (outcome_by cluster scene kept) (due_by kept is.lawful) written here r own
+      pub run_refused : IfErr r (λ x. IsCaused task source image x.refusal x.kept)
+      run_refused = told_refused task source image (outcome_by cluster work kept) (due_by kept is.lawful) written here r own
 
       pub run_late : (P : Type 0) → IfErr r (λ x. refusal_status x.refusal ≢ 6 → refusal_status x.refusal ≢ 7 → P)
-      run_late P = told_late job source image (outcome_by cluster scene kept) (due_by kept is.lawful) written here r own P
+      run_late P = told_late task source image (outcome_by cluster work kept) (due_by kept is.lawful) written here r own P
+
+      -- its members have seen the whole scene
+      pub run_seen : (left : List SpuRule) → HaveSeenAll task source left → LeftWith task source r left
+      run_seen left seen = go r own where
+        go : (r : Result Told Refused)
+            → MatchResult r (IsToldOf (report_due work (layout_for cluster work.scene) kept cluster.orders) (ending_by work.scene kept.journal) (Some kept) written)
+            (IsUntold (ending_by work.scene kept.journal) (Some kept) written) → LeftWith task source r left
+        go (Ok told) h = seen
+        go (Err refused) h = Behind (elim (untold_status refused h) [ inl seven ↦ inr (inr seven) | inr six ↦ inl six ]) seen

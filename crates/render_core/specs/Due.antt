@@ -1,5 +1,5 @@
--- What is due for a scene, job by job.
-use Rattle.std.specs.Prelude.{◌≡◌, ℕ, ◌<◌, ◌++◌, Bool, false, List, [], Option, Some, None, if◌then◌else◌}
+-- What is due, job by job, for what a task works on.
+use Rattle.std.specs.Prelude.{◌≡◌, ℕ, ◌<◌, ◌++◌, Bool, List, [], Option, Some, None, if◌then◌else◌}
 use Rattle.rc_base.specs.Cluster.Tiles.{tile_count}
 use Rattle.rc_base.specs.Drawing.Images.{frame_images}
 use Rattle.rc_base.specs.Formats.Netpbm.{p6_texts}
@@ -14,7 +14,7 @@ use Rattle.rc_base.specs.declared.image.Image.{Image}
 use Rattle.rc_base.specs.declared.scene.Scene.{Scene}
 use Rattle.rc_base.specs.declared.sync.Entry.{Entry}
 use Rattle.rc_base.specs.declared.window.Layout.{Layout}
-use Rattle.order_model.specs.Report.{count_lines, fault_lines, frame_count, image_text_of, is_stuck, report_text_of, short_report_of, stuck_lines, tile_order}
+use Rattle.order_model.specs.Report.{frame_count, image_text_of, is_stuck, report_text_of, short_report_of, tile_order}
 use Rattle.order_model.specs.Sent.{IsRecordOf}
 use Rattle.order_model.specs.declared.record.Record.{Record}
 use Rattle.race_check.specs.Races.{IsVerdict}
@@ -25,11 +25,12 @@ use Rattle.world_model.specs.Laws.{IsRecordIn}
 use Rattle.world_model.specs.declared.moves.Move.{Move}
 use Rattle.world_model.specs.Runs.{IsFinishedRun}
 use Rattle.world_model.specs.World.{World}
-use Rattle.render_core.specs.Jobs.{layout_for, actors_for}
+use Rattle.render_core.specs.Scenes.{layout_for, actors_for}
 use Rattle.render_core.specs.Lines.{race_line}
 use Rattle.render_core.specs.declared.due.Ending.{Ending}
 use Rattle.render_core.specs.declared.due.Ending.TheVariants.{Complete, Stuck, RaceFound}
 use Rattle.render_core.specs.declared.job.Cluster.{Cluster}
+use Rattle.render_core.specs.declared.work.Work.{Work}
 use Rattle.render_core.specs.declared.job.Job.{Job}
 use Rattle.render_core.specs.declared.job.Job.TheVariants.{Render, Simulate, Serial, Last, Check, Race, Pack, Unpack, Gen, Demo}
 
@@ -52,22 +53,22 @@ ending_by scene journal = if is_stuck (sync_lists_of scene) journal then Stuck e
 
 -- ---- of a cluster
 
--- the report of a cluster's record, with each tile's order where that is asked for
-abbrev pub report_due : Scene → Layout → Record → Bool → List ℕ
-report_due scene l kept orders = report_text_of scene l kept orders
+-- the report of a cluster's record, with each tile's order where that is asked for; what was refused before the run comes first
+abbrev pub report_due : Work → Layout → Record → Bool → List ℕ
+report_due work l kept orders = work.refused ++ report_text_of work.scene l kept work.counted orders
 
 -- What every run of a cluster owes, whoever picked its actors' turns: it keeps a lawful record of the scene on the tiles of the words, in which each
 -- tile's order is one that the journal permits. Its image text is that of the record: each tile's pixels of each frame are those of one serial
 -- renderer in the order that the tile's log records. Its report is the record's, and it is stuck where the journal leaves a client waiting.
-pub record IsRecorded (cluster : Cluster) (scene : Scene) (o : Outcome) : Type 0 where
+pub record IsRecorded (cluster : Cluster) (work : Work) (o : Outcome) : Type 0 where
   pub record_kept : Record
   pub kept : o.kept ≡ Some record_kept
-  pub lawful : IsRecordOf scene (layout_for cluster scene) record_kept
-  pub permitted : (tile : ℕ) → tile < tile_count (layout_for cluster scene)
-      → IsPermitted (sync_lists_of scene) record_kept.journal (tile_order record_kept tile)
-  pub image : o.image ≡ image_text_of scene (layout_for cluster scene) record_kept
-  pub notes : o.notes ≡ report_due scene (layout_for cluster scene) record_kept cluster.orders
-  pub ending : o.ending ≡ ending_by scene record_kept.journal
+  pub lawful : IsRecordOf work.scene (layout_for cluster work.scene) record_kept
+  pub permitted : (tile : ℕ) → tile < tile_count (layout_for cluster work.scene)
+      → IsPermitted (sync_lists_of work.scene) record_kept.journal (tile_order record_kept tile)
+  pub image : o.image ≡ image_text_of work.scene (layout_for cluster work.scene) record_kept
+  pub notes : o.notes ≡ report_due work (layout_for cluster work.scene) record_kept cluster.orders
+  pub ending : o.ending ≡ ending_by work.scene record_kept.journal
 
 -- The record is that of the stepped run of these picks, behind which come rounds of one pick for each actor until all have ended.
 pub record IsSteppedRecord (scene : Scene) (l : Layout) (depth : ℕ) (picks : List ℕ) (kept : Record) : Type 0 where
@@ -78,9 +79,9 @@ pub record IsSteppedRecord (scene : Scene) (l : Layout) (depth : ℕ) (picks : L
   pub record_of : IsRecordIn scene l world kept
 
 -- what a cluster owes whose turns are these picks, and then rounds
-pub record IsStepped (cluster : Cluster) (picks : List ℕ) (scene : Scene) (o : Outcome) : Type 0 where
-  pub recorded : IsRecorded cluster scene o
-  pub stepped : IsSteppedRecord scene (layout_for cluster scene) cluster.depth picks recorded.record_kept
+pub record IsStepped (cluster : Cluster) (picks : List ℕ) (work : Work) (o : Outcome) : Type 0 where
+  pub recorded : IsRecorded cluster work o
+  pub stepped : IsSteppedRecord work.scene (layout_for cluster work.scene) cluster.depth picks recorded.record_kept
 
 -- the picks of a seed for the cluster's actors
 abbrev pub seeded_picks : ℕ → Cluster → Scene → List ℕ
@@ -99,14 +100,22 @@ default_frames scene = frame_images scene (default_order (sync_lists_of scene) (
 unfoldable pub default_ending : Scene → Ending
 default_ending scene = ending_by scene (journal_of scene)
 
--- these frames, and the short report by the default journal
-abbrev pub drawn_in_order : Scene → Outcome
-drawn_in_order scene =
-    record { image = p6_texts (default_frames scene); notes = short_report_of scene (journal_of scene); ending = default_ending scene; kept = None }
+-- the short report by a journal, with these lines before those of who waits; what was refused before the run comes first
+unfoldable pub short_due : Work → List ℕ → List Entry → List ℕ
+short_due work told journal = work.refused ++ short_report_of work.scene journal (work.counted ++ told)
 
--- the short report by a journal, with these lines before those of who waits
-unfoldable pub report_with : List ℕ → Scene → List Entry → List ℕ
-report_with told scene journal = fault_lines scene ++ count_lines journal ++ told ++ stuck_lines (sync_lists_of scene) journal
+-- the frames of the default order, and the short report by the default journal
+abbrev pub drawn_in_order : Work → Outcome
+drawn_in_order work = record {
+  image = p6_texts (default_frames work.scene);
+  notes = short_due work [] (journal_of work.scene);
+  ending = default_ending work.scene;
+  kept = None;
+}
+
+-- the short report alone
+abbrev pub judged_in_order : Work → Outcome
+judged_in_order work = record { image = []; notes = short_due work [] (journal_of work.scene); ending = default_ending work.scene; kept = None }
 
 -- ---- of what synchronisation orders
 
@@ -124,15 +133,15 @@ abbrev pub race_ending : Scene → Verdict → Ending
 race_ending scene v = if is_stuck (sync_lists_of scene) (journal_of scene) then Stuck else found_by v
 
 -- what is due by a verdict: nothing for the image, and the verdict in the short report
-abbrev pub raced : Scene → Verdict → Outcome
-raced scene v =
-    record { image = []; notes = report_with (race_line v) scene (journal_of scene); ending = race_ending scene v; kept = None }
+abbrev pub raced : Work → Verdict → Outcome
+raced work v =
+    record { image = []; notes = short_due work (race_line v) (journal_of work.scene); ending = race_ending work.scene v; kept = None }
 
 -- what is due where it is asked which commands race
-pub record IsRaced (scene : Scene) (o : Outcome) : Type 0 where
+pub record IsRaced (work : Work) (o : Outcome) : Type 0 where
   pub told : Verdict
-  pub is : IsVerdictOn scene told
-  pub due : o ≡ raced scene told
+  pub is : IsVerdictOn work.scene told
+  pub due : o ≡ raced work told
 
 -- ---- of formats
 
@@ -140,17 +149,21 @@ pub record IsRaced (scene : Scene) (o : Outcome) : Type 0 where
 abbrev pub IsPacked : Scene → Outcome → Type 0
 IsPacked scene o = (o ≡ record { image = written scene; notes = []; ending = Complete; kept = None }) × SpellsScene o.image scene
 
+-- the scene's text, which spells it, and nothing for the notes
+abbrev pub IsUnpacked : Scene → Outcome → Type 0
+IsUnpacked scene o = (o ≡ record { image = printed scene; notes = []; ending = Complete; kept = None }) × SpellsText o.image scene
+
 -- ---- job by job
 
--- This is due for the scene: one case for each job. What is packed or unpacked spells the scene again, in the other form.
-unfoldable pub IsOutcome : Job → Scene → Outcome → Type 0
-IsOutcome (Render cluster) scene o = IsRecorded cluster scene o
-IsOutcome (Simulate seed cluster) scene o = IsStepped cluster (seeded_picks seed cluster scene) scene o
-IsOutcome Serial scene o = o ≡ drawn_in_order scene
-IsOutcome Last scene o = o ≡ drawn_in_order scene
-IsOutcome Check scene o = o ≡ record { image = []; notes = short_report_of scene (journal_of scene); ending = default_ending scene; kept = None }
-IsOutcome Race scene o = IsRaced scene o
-IsOutcome Pack scene o = IsPacked scene o
-IsOutcome Unpack scene o = (o ≡ record { image = printed scene; notes = []; ending = Complete; kept = None }) × SpellsText o.image scene
-IsOutcome (Gen seed size) scene o = IsPacked scene o
-IsOutcome (Demo seed size cluster) scene o = IsRecorded cluster scene o
+-- This is due for the work: one case for each job. What is packed or unpacked spells the scene again, in the other form.
+unfoldable pub IsOutcome : Job → Work → Outcome → Type 0
+IsOutcome (Render cluster) work o = IsRecorded cluster work o
+IsOutcome (Simulate seed cluster) work o = IsStepped cluster (seeded_picks seed cluster work.scene) work o
+IsOutcome Serial work o = o ≡ drawn_in_order work
+IsOutcome Last work o = o ≡ drawn_in_order work
+IsOutcome Check work o = o ≡ judged_in_order work
+IsOutcome Race work o = IsRaced work o
+IsOutcome Pack work o = IsPacked work.scene o
+IsOutcome Unpack work o = IsUnpacked work.scene o
+IsOutcome (Gen seed size) work o = IsPacked work.scene o
+IsOutcome (Demo seed size cluster) work o = IsRecorded cluster work o

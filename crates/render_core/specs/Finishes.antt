@@ -8,7 +8,7 @@ use Rattle.render_core.specs.declared.job.Job.{Job}
 use Rattle.render_core.specs.declared.refusal.Refused.{Refused}
 use Rattle.render_core.specs.declared.run_job.Finish.{Finish}
 use Rattle.render_core.specs.declared.writing.Told.{Told}
-use Rattle.render_core.specs.Jobs.{IsJob, IsLine}
+use Rattle.render_core.specs.Jobs.{Task, IsJob, IsLine}
 use Rattle.render_core.specs.Lines.{memory_line, usage_line}
 use Rattle.render_core.specs.Refusals.{kept_for, IsConcluded, IsRefusalTold}
 
@@ -17,6 +17,11 @@ pub record IsJobless (words : List (String Global)) (notes : Used) (finish : Fin
   pub unkept : finish.kept ≡ None
   pub why : ((finish.status ≡ 1) × ((job : Job) → IsJob words job → ⊥) × Noted notes usage_line)
       ⊎ ((finish.status ≡ 7) × IsLine words × Noted notes memory_line)
+
+-- Nothing is asked for, or there was no memory for the line that tells what is.
+pub record IsTaskless (asks : Task → Type 0) (notes : Used) (finish : Finish) : Type 0 where
+  pub unkept : finish.kept ≡ None
+  pub why : ((finish.status ≡ 1) × ((task : Task) → asks task → ⊥) × Noted notes usage_line) ⊎ ((finish.status ≡ 7) × Noted notes memory_line)
 
 -- the run ends as its job was carried out or refused
 abbrev pub IsFinished : Used → Result Told Refused → Finish → Type 0

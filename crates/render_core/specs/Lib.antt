@@ -1,4 +1,5 @@
 pub mod Jobs
+pub mod Scenes
 pub mod Due
 pub mod Lines
 pub mod Findings

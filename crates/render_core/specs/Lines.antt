@@ -1,5 +1,6 @@
 -- The lines of the notes.
-use Rattle.std.specs.Prelude.{ℕ, List, [], ◌∷◌, ◌++◌, codes}
+use Rattle.std.specs.Prelude.{ℕ, List, [], ◌∷◌, ◌++◌, codes, length, slice_index_or}
+use Rattle.std.specs.List.{flat_map, range_with_len}
 use Rattle.std.specs.Fmt.{decimal}
 use Rattle.rc_base.specs.Formats.Limits.{limit_name}
 use Rattle.rc_base.specs.declared.scene.SceneKind.{SceneKind}
@@ -7,7 +8,8 @@ use Rattle.rc_base.specs.declared.scene.SceneKind.TheVariants as scene_kind
 use Rattle.rc_base.specs.declared.scene.TextKind.{TextKind}
 use Rattle.rc_base.specs.declared.scene.TextKind.TheVariants as text_kind
 use Rattle.rc_base.specs.declared.sync.Name.{Name}
-use Rattle.order_model.specs.Report.{joined_line}
+use Rattle.rc_base.specs.declared.state.Fault.{Fault}
+use Rattle.order_model.specs.Report.{joined_line, list_fault_line}
 use Rattle.race_check.specs.declared.verdict.Spot.{Spot}
 use Rattle.race_check.specs.declared.verdict.Spot.TheVariants.{Pixel, Shared}
 use Rattle.race_check.specs.declared.verdict.Verdict.{Verdict}
@@ -46,6 +48,17 @@ not_last_line name = codes "rc: not for last " ++ (decimal name.client ++ (codes
 -- how many bytes the image took before it failed
 unfoldable pub image_fault_line : ℕ → List ℕ
 image_fault_line done = codes "rc: image fault after " ++ (decimal done ++ codes " bytes\n")
+
+-- each client's commands that are refused among its call lists
+abbrev pub list_fault_lines : List (List (ℕ × Fault)) → List ℕ
+list_fault_lines faults = flat_map (λ client. flat_map (list_fault_line client) (slice_index_or faults client [])) (range_with_len 0 (length faults))
+
+-- a filter that counts, by its place from 0, and its number
+abbrev pub filter_line : (ℕ × ℕ) → List ℕ
+filter_line count = joined_line (codes "filter " ∷ decimal count.0 ∷ codes " count " ∷ decimal count.1 ∷ [])
+
+abbrev pub filter_lines : List (ℕ × ℕ) → List ℕ
+filter_lines counts = flat_map filter_line counts
 
 -- the words are no job
 unfoldable pub usage_line : List ℕ

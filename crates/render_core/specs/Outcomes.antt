@@ -1,8 +1,6 @@
 -- How a run may end: what each status says of the words, of the bytes of the source, and of what the image and the notes were given.
-use Rattle.std.specs.Prelude.{◌≡◌, ◌≢◌, ℕ, ◌<◌, ◌≤◌, ◌⊎◌, List, [], ◌++◌, length, take, Option, Some, None}
-use Rattle.std.specs.declared.string.String.{String}
-use Rattle.std.specs.Global.{Global}
-use Rattle.std.specs.List.{AllByRecursion}
+use Rattle.std.specs.Prelude.{◌≡◌, ◌≢◌, ℕ, ◌<◌, ◌≤◌, ◌⊎◌, true, List, [], ◌++◌, length, take, Option, Some, None}
+use Rattle.std.specs.List.{AllByRecursion, flat_map}
 use Rattle.rc_base.specs.Drawing.Images.{frame_image, frame_images}
 use Rattle.rc_base.specs.Formats.Netpbm.{p6_texts}
 use Rattle.rc_base.specs.Orders.Footprints.{IsOrderedScene}
@@ -22,16 +20,20 @@ use Rattle.render_core.specs.Due.{Outcome, IsOutcome, default_frames, ending_sta
 use Rattle.rc_base.specs.Outside.Ends.{Used, Failed, IsCalm, Took, TookFront, Noted}
 use Rattle.rc_base.specs.declared.image.Image.{Image}
 use Rattle.render_core.specs.Findings.{Finding, Long, Malformed, Outside, Unsuited, Sound, IsFinding, Judged, refused_with}
-use Rattle.render_core.specs.Jobs.{Holds, IsJob, ForJob, HasScene, Reads, cluster_of, layout_for, origin_of, threads_of}
+use Rattle.render_core.specs.declared.work.Work.{Work}
+use Rattle.render_core.specs.Jobs.{Task, ForTask, Reads, cluster_of, origin_of, threads_of}
+use Rattle.render_core.specs.Scenes.{Found, Gives, Holds, HasWork, Takes, is_filtered, layout_for, meant, rules_for}
+use Rattle.spu_chain.specs.Filter.{AreReached}
+use Rattle.spu_chain.specs.declared.rule.SpuRule.{SpuRule}
 use Rattle.render_core.specs.Lines.{image_fault_line, usage_line, read_fault_line, memory_line}
 
--- ---- what a job left of its source and of its image
+-- ---- what a task left of its source and of its image
 
--- this is due for the job's scene
-pub record IsDue (job : Job) (source : Used) (o : Outcome) : Type 0 where
-  pub scene : Scene
-  pub has : HasScene job source scene
-  pub due : IsOutcome job scene o
+-- this is due for the task's work
+pub record IsDue (task : Task) (source : Used) (o : Outcome) : Type 0 where
+  pub work : Work
+  pub has : HasWork task source work
+  pub due : IsOutcome task.job work o
 
 -- the image failed when it had taken so many bytes of what is due, which is told behind these lines
 pub record CutOff (image : Used) (o : Outcome) (front lines : List ℕ) : Type 0 where
@@ -42,22 +44,22 @@ pub record CutOff (image : Used) (o : Outcome) (front lines : List ℕ) : Type 0
   pub lines_are : lines ≡ front ++ image_fault_line done
 
 -- the image was given a front of what is due, which may be the whole
-pub record PartlyWritten (job : Job) (source image : Used) : Type 0 where
+pub record PartlyWritten (task : Task) (source image : Used) : Type 0 where
   pub o : Outcome
-  pub due : IsDue job source o
+  pub due : IsDue task source o
   pub done : ℕ
   pub part : done ≤ length o.image
   pub given : Took image (take done o.image)
 
 -- The image was given a front of the texts of some images of the scene's window. So it is where memory lacks in a cluster on threads, whose frames are
 -- written while its actors run, and of whose run no record is left.
-pub record PartlyShown (job : Job) (source image : Used) : Type 0 where
+pub record PartlyShown (task : Task) (source image : Used) : Type 0 where
   pub cluster : Cluster
-  pub threads : threads_of job ≡ Some cluster
-  pub scene : Scene
-  pub has : HasScene job source scene
+  pub threads : threads_of task.job ≡ Some cluster
+  pub work : Work
+  pub has : HasWork task source work
   pub images : List Image
-  pub sides : AllByRecursion (λ (m : Image). (m.width ≡ scene.decl.width) × (m.height ≡ scene.decl.height)) images
+  pub sides : AllByRecursion (λ (m : Image). (m.width ≡ work.scene.decl.width) × (m.height ≡ work.scene.decl.height)) images
   pub front : TookFront image (p6_texts images)
 
 -- What is due was given to the image, and these lines are due to the notes. An image that fails keeps no report from the notes of a job that is
@@ -69,9 +71,9 @@ pub data Sent (image : Used) (o : Outcome) (lines : List ℕ) : Type 0 where
 -- ---- how a job ended
 
 -- it is carried out: the image was given what is due, and so were the notes
-pub record IsDone (job : Job) (source image notes : Used) (kept : Option Record) : Type 0 where
+pub record IsDone (task : Task) (source image notes : Used) (kept : Option Record) : Type 0 where
   pub o : Outcome
-  pub due : IsDue job source o
+  pub due : IsDue task source o
   pub complete : o.ending ≡ Complete
   pub given : Took image o.image
   pub calm_image : IsCalm image
@@ -80,9 +82,9 @@ pub record IsDone (job : Job) (source image notes : Used) (kept : Option Record)
   pub kept_is : kept ≡ o.kept
 
 -- it is carried out but for its notes, which failed when the image was whole
-pub record IsUnnoted (job : Job) (source image notes : Used) (kept : Option Record) : Type 0 where
+pub record IsUnnoted (task : Task) (source image notes : Used) (kept : Option Record) : Type 0 where
   pub o : Outcome
-  pub due : IsDue job source o
+  pub due : IsDue task source o
   pub complete : o.ending ≡ Complete
   pub given : Took image o.image
   pub calm_image : IsCalm image
@@ -94,9 +96,9 @@ pub record IsUnnoted (job : Job) (source image notes : Used) (kept : Option Reco
 
 -- It is carried out, and ends otherwise than complete: a client of its scene waits for ever, or a race was found. The image was given what is due, or
 -- a front of it where it failed, and the notes the report.
-pub record IsReported (ending : Ending) (job : Job) (source image notes : Used) (kept : Option Record) : Type 0 where
+pub record IsReported (ending : Ending) (task : Task) (source image notes : Used) (kept : Option Record) : Type 0 where
   pub o : Outcome
-  pub due : IsDue job source o
+  pub due : IsDue task source o
   pub ends : o.ending ≡ ending
   pub lines : List ℕ
   pub sent : Sent image o lines
@@ -104,43 +106,43 @@ pub record IsReported (ending : Ending) (job : Job) (source image notes : Used) 
   pub kept_is : kept ≡ o.kept
 
 -- why it is refused, with this status and this line; a record is kept where a cluster came to its end
-pub data Cause (job : Job) (source image : Used) (status : ℕ) (line : List ℕ) (kept : Option Record) : Type 0 where
+pub data Cause (task : Task) (source image : Used) (status : ℕ) (line : List ℕ) (kept : Option Record) : Type 0 where
   -- the source failed, which the job reads
-  SourceFailed : Reads job → status ≡ 2 → line ≡ read_fault_line → Failed source → kept ≡ None → Cause job source image status line kept
+  SourceFailed : Reads task.job → status ≡ 2 → line ≡ read_fault_line → Failed source → kept ≡ None → Cause task source image status line kept
   -- the input spells no scene; input, scene or words have something outside the limits; or the job isn't for the scene: 3, 4 or 12
-  InputRefused : Judged job source status line → kept ≡ None → Cause job source image status line kept
+  InputRefused : Judged task source status line → kept ≡ None → Cause task source image status line kept
   -- the image failed before it had taken all that is due
-  ImageFailed : status ≡ 6 → (o : Outcome) → IsDue job source o → o.ending ≡ Complete → CutOff image o [] line → kept ≡ o.kept
-      → Cause job source image status line kept
+  ImageFailed : status ≡ 6 → (o : Outcome) → IsDue task source o → o.ending ≡ Complete → CutOff image o [] line → kept ≡ o.kept
+      → Cause task source image status line kept
 
 -- it is refused, and the notes were given the line of its cause
-pub record IsRefused (job : Job) (source image notes : Used) (status : ℕ) (kept : Option Record) : Type 0 where
+pub record IsRefused (task : Task) (source image notes : Used) (status : ℕ) (kept : Option Record) : Type 0 where
   pub line : List ℕ
-  pub cause : Cause job source image status line kept
+  pub cause : Cause task source image status line kept
   pub noted : Noted notes line
 
 -- ---- how a run ended
 
--- What each status says, of every list of words, and which record is kept.
-pub data Ran (words : List (String Global)) (source image notes : Used) (status : ℕ) (kept : Option Record) : Type 0 where
-  -- the words are no job
-  Usage : status ≡ 1 → ((job : Job) → IsJob words job → ⊥) → Noted notes usage_line → kept ≡ None → Ran words source image notes status kept
-  -- the job is done; done but for its notes; a client waits for ever; or nobody waits, and a race was found
-  Done : status ≡ 0 → ForJob words (λ job. IsDone job source image notes kept) → Ran words source image notes status kept
-  NotesFailed : status ≡ 8 → ForJob words (λ job. IsUnnoted job source image notes kept) → Ran words source image notes status kept
-  Stuck : status ≡ 5 → ForJob words (λ job. IsReported EndsStuck job source image notes kept) → Ran words source image notes status kept
-  RaceFound : status ≡ 11 → ForJob words (λ job. IsReported EndsRaceFound job source image notes kept) → Ran words source image notes status kept
-  -- the job is refused: 2, 3, 4, 6 or 12, by its cause
-  Refused : ForJob words (λ job. IsRefused job source image notes status kept) → Ran words source image notes status kept
+-- What each status says, by what asks for tasks, and which record is kept.
+pub data Ran (asks : Task → Type 0) (source image notes : Used) (status : ℕ) (kept : Option Record) : Type 0 where
+  -- nothing is asked for
+  Usage : status ≡ 1 → ((task : Task) → asks task → ⊥) → Noted notes usage_line → kept ≡ None → Ran asks source image notes status kept
+  -- the task is done; done but for its notes; a client waits for ever; or nobody waits, and a race was found
+  Done : status ≡ 0 → ForTask asks (λ task. IsDone task source image notes kept) → Ran asks source image notes status kept
+  NotesFailed : status ≡ 8 → ForTask asks (λ task. IsUnnoted task source image notes kept) → Ran asks source image notes status kept
+  Stuck : status ≡ 5 → ForTask asks (λ task. IsReported EndsStuck task source image notes kept) → Ran asks source image notes status kept
+  RaceFound : status ≡ 11 → ForTask asks (λ task. IsReported EndsRaceFound task source image notes kept) → Ran asks source image notes status kept
+  -- the task is refused: 2, 3, 4, 6 or 12, by its cause
+  Refused : ForTask asks (λ task. IsRefused task source image notes status kept) → Ran asks source image notes status kept
   -- there was no memory
-  NoMemory : status ≡ 7 → Noted notes memory_line → kept ≡ None → Ran words source image notes status kept
+  NoMemory : status ≡ 7 → Noted notes memory_line → kept ≡ None → Ran asks source image notes status kept
 
 -- ---- what the source holds decides the status
 
--- image and notes were given all that is due for the scene, and the status and the record are those of that
-pub record IsWhole (job : Job) (scene : Scene) (image notes : Used) (status : ℕ) (kept : Option Record) : Type 0 where
+-- image and notes were given all that is due for the work, and the status and the record are those of that
+pub record IsWhole (job : Job) (work : Work) (image notes : Used) (status : ℕ) (kept : Option Record) : Type 0 where
   pub o : Outcome
-  pub due : IsOutcome job scene o
+  pub due : IsOutcome job work o
   pub given : Took image o.image
   pub told : Took notes o.notes
   pub status_is : status ≡ ending_status o.ending
@@ -152,14 +154,14 @@ Answers job Long image notes status kept = status ≡ 4
 Answers job Malformed image notes status kept = status ≡ 3
 Answers job (Outside limit) image notes status kept = status ≡ 4
 Answers job (Unsuited name) image notes status kept = status ≡ 12
-Answers job (Sound scene) image notes status kept = IsWhole job scene image notes status kept
+Answers job (Sound work) image notes status kept = IsWhole job work image notes status kept
 
--- Where the source tells its bytes and doesn't fail, what the job finds in them is answered, or there was no memory; of a job that makes its scene
+-- Where the source tells its bytes and doesn't fail, what the task finds in them is answered, or there was no memory; of a job that makes its scene
 -- the words alone decide. Image and notes don't fail either where something is due to them.
-abbrev pub IsAnswered : List (String Global) → Used → Used → Used → ℕ → Option Record → Type 0
-IsAnswered words source image notes status kept =
-    (job : Job) (input : List ℕ) (finding : Finding) → IsJob words job → Holds (origin_of job) source input → IsFinding job input finding
-    → (refused_with finding ≡ None → (Failed image → ⊥) × (Failed notes → ⊥)) → (status ≡ 7) ⊎ Answers job finding image notes status kept
+abbrev pub IsAnswered : (Task → Type 0) → Used → Used → Used → ℕ → Option Record → Type 0
+IsAnswered asks source image notes status kept =
+    (task : Task) (input : List ℕ) (finding : Finding) → asks task → Holds (origin_of task.job) source input → IsFinding task input finding
+    → (refused_with finding ≡ None → (Failed image → ⊥) × (Failed notes → ⊥)) → (status ≡ 7) ⊎ Answers task.job finding image notes status kept
 
 -- ---- the headline
 
@@ -187,23 +189,24 @@ ShowsTheSerialImage cluster scene kept = frames_text cluster scene kept ≡ p6_t
 -- client's order, every barrier and every semaphore grant; and where these order every two commands that touch a common pixel or shared texture, the
 -- image is that of every permitted order.
 --
--- The record that is kept is lawful for the scene that the source's bytes spell, or that the job makes, and for the tiles of the words. The image was
+-- The record that is kept is lawful for the scene that the source's bytes mean, or that the job makes, behind the filters, and for the tiles of the
+-- words: where it comes from, read, expanded, made and filtered, is the task's work. The image was
 -- given its frames: all of them with the statuses 0 and 8, and with 5 and 6 a front of their text, which with 5 is the whole unless the image failed.
 -- Where besides nothing takes a unit, and at each barrier that is named all clients meet, the image is that of `serial`.
-pub record IsHeadline (words : List (String Global)) (source image : Used) (status : ℕ) (kept : Record) : Type 0 where
-  pub job : Job
-  pub named : IsJob words job
+pub record IsHeadline (asks : Task → Type 0) (source image : Used) (status : ℕ) (kept : Record) : Type 0 where
+  pub task : Task
+  pub named : asks task
   pub cluster : Cluster
-  pub clustered : cluster_of job ≡ Some cluster
-  pub scene : Scene
-  pub has : HasScene job source scene
-  pub lawful : IsRecordOf scene (layout_for cluster scene) kept
+  pub clustered : cluster_of task.job ≡ Some cluster
+  pub work : Work
+  pub has : HasWork task source work
+  pub lawful : IsRecordOf work.scene (layout_for cluster work.scene) kept
   pub permitted : KeepsOrders kept
-  pub front : (n : ℕ) × (n ≤ length (frames_text cluster scene kept)) × Took image (take n (frames_text cluster scene kept))
-  pub whole : (status ≡ 0) ⊎ (status ≡ 8) → Took image (frames_text cluster scene kept)
-  pub unfailed : status ≡ 5 → (Failed image → ⊥) → Took image (frames_text cluster scene kept)
-  pub one_image : IsOrderedScene scene kept.journal → ShowsEveryPermittedOrder cluster scene kept
-  pub serial_image : IsOrderedScene scene kept.journal → IsFull (sync_lists_of scene) → ShowsTheSerialImage cluster scene kept
+  pub front : (n : ℕ) × (n ≤ length (frames_text cluster work.scene kept)) × Took image (take n (frames_text cluster work.scene kept))
+  pub whole : (status ≡ 0) ⊎ (status ≡ 8) → Took image (frames_text cluster work.scene kept)
+  pub unfailed : status ≡ 5 → (Failed image → ⊥) → Took image (frames_text cluster work.scene kept)
+  pub one_image : IsOrderedScene work.scene kept.journal → ShowsEveryPermittedOrder cluster work.scene kept
+  pub serial_image : IsOrderedScene work.scene kept.journal → IsFull (sync_lists_of work.scene) → ShowsTheSerialImage cluster work.scene kept
 
 -- ---- what a run leaves alone
 
@@ -212,13 +215,47 @@ abbrev pub IsUnwritten : ℕ → Type 0
 IsUnwritten status = (status ≢ 0) × (status ≢ 5) × (status ≢ 6) × (status ≢ 7) × (status ≢ 8)
 
 -- what is left of an image where there was no memory: a front of what is due
-abbrev pub IsLeft : List (String Global) → Used → Used → Type 0
-IsLeft words source image = ForJob words (λ job. PartlyWritten job source image)
+abbrev pub IsLeft : (Task → Type 0) → Used → Used → Type 0
+IsLeft asks source image = ForTask asks (λ task. PartlyWritten task source image)
 
 -- and where the job runs threads, of frames that no record tells
-abbrev pub IsLeftByThreads : List (String Global) → Used → Used → Type 0
-IsLeftByThreads words source image = ForJob words (λ job. PartlyWritten job source image ⊎ PartlyShown job source image)
+abbrev pub IsLeftByThreads : (Task → Type 0) → Used → Used → Type 0
+IsLeftByThreads asks source image = ForTask asks (λ task. PartlyWritten task source image ⊎ PartlyShown task source image)
 
 -- something is due to the notes of a job that is done
-abbrev pub HasNotes : List (String Global) → Used → Used → Used → Option Record → Type 0
-HasNotes words source image notes kept = ForJob words (λ job. (done : IsDone job source image notes kept) × (0 < length done.o.notes))
+abbrev pub HasNotes : (Task → Type 0) → Used → Used → Used → Option Record → Type 0
+HasNotes asks source image notes kept = ForTask asks (λ task. (done : IsDone task source image notes kept) × (0 < length done.o.notes))
+
+-- ---- the members of a chain behind a run
+
+-- They have the rules with which the streams of the scene leave them that the source's bytes mean; a job whose scene doesn't go through them leaves
+-- them as they were.
+pub record HaveSeenAll (task : Task) (source : Used) (rules : List SpuRule) : Type 0 where
+  pub input : List ℕ
+  pub took : Takes (origin_of task.job) source input
+  pub found : Found
+  pub gives : Gives (origin_of task.job) input found
+  pub rules_are : rules ≡ rules_for task (meant found)
+
+-- they have the rules with which a front of these streams leaves them, one client's behind the other's
+pub record HaveSeenFront (task : Task) (source : Used) (rules : List SpuRule) : Type 0 where
+  pub filtered : is_filtered (origin_of task.job) ≡ true
+  pub input : List ℕ
+  pub took : Takes (origin_of task.job) source input
+  pub found : Found
+  pub gives : Gives (origin_of task.job) input found
+  pub reached : AreReached task.filters (flat_map (λ stream. stream) (meant found).streams) rules
+
+-- the statuses of runs that were refused before a scene went through the filters
+abbrev pub IsEarly : ℕ → Type 0
+IsEarly status = (status ≡ 1) ⊎ (status ≡ 2) ⊎ (status ≡ 3) ⊎ (status ≡ 4)
+
+-- and of those that were carried out or refused behind them
+abbrev pub IsLate : ℕ → Type 0
+IsLate status = (status ≡ 0) ⊎ (status ≡ 5) ⊎ (status ≡ 6) ⊎ (status ≡ 8) ⊎ (status ≡ 11) ⊎ (status ≡ 12)
+
+-- What a run leaves the members with, by its status. Where there was no memory, that may have been so before, in the midst of the streams or behind them.
+pub data LeavesMembers (asks : Task → Type 0) (source : Used) (status : ℕ) (rules left : List SpuRule) : Type 0 where
+  Ungiven : IsEarly status ⊎ (status ≡ 7) → left ≡ rules → LeavesMembers asks source status rules left
+  Given : IsLate status ⊎ (status ≡ 7) → ForTask asks (λ task. HaveSeenAll task source left) → LeavesMembers asks source status rules left
+  Broken : status ≡ 7 → ForTask asks (λ task. HaveSeenFront task source left) → LeavesMembers asks source status rules left

@@ -1,10 +1,10 @@
 -- What the steps of a job leave: the refusals of each with their statuses and their lines, and what is due.
-use Rattle.std.specs.Prelude.{◌≡◌, ◌≢◌, ℕ, ◌<◌, ◌≤◌, ◌==◌, ◌⊎◌, true, false, List, [], ◌++◌, length, take, Option, Some, None, if◌then◌else◌}
+use Rattle.std.specs.Prelude.{◌≡◌, ◌≢◌, ℕ, ◌<◌, ◌≤◌, ◌^◌, ◌==◌, ◌⊎◌, true, false, List, [], ◌++◌, length, take, Option, Some, None, Result, Ok, Err, if◌then◌else◌}
 use Rattle.rc_base.specs.Outside.Transfer.{byte_limit}
 use Rattle.order_model.specs.declared.record.Record.{Record}
-use Rattle.std.specs.List.{AllByRecursion}
+use Rattle.std.specs.List.{AllByRecursion, flat_map}
 use Rattle.rc_base.specs.Formats.Commands.{IsCommand}
-use Rattle.rc_base.specs.Formats.Limits.{limit_of, size_limit}
+use Rattle.rc_base.specs.Formats.Limits.{size_limit}
 use Rattle.rc_base.specs.Formats.Netpbm.{p6_texts}
 use Rattle.rc_base.specs.Formats.Spelling.{IsDecl, IsVersion}
 use Rattle.rc_base.specs.Program.Generator.{generated_scene}
@@ -14,11 +14,14 @@ use Rattle.rc_base.specs.declared.scene.Scene.{Scene}
 use Rattle.frame_out.specs.Writing.{AreWritable}
 use Rattle.frame_out.specs.declared.writing.Written.{Written}
 use Rattle.scene_file.specs.Written.{AreWhole}
+use Rattle.scene_file.specs.declared.list_scene.ListScene.{ListScene}
+use Rattle.scene_file.specs.declared.fault.SceneFault.{SceneFault}
+use Rattle.scene_file.specs.declared.fault.SceneFault.TheVariants as scene_faults
 use Rattle.sort_last.specs.declared.last.LastFault.{LastFault}
 use Rattle.sort_last.specs.declared.last.LastFault.TheVariants as apart
 use Rattle.render_core.specs.declared.job.Job.{Job}
 use Rattle.render_core.specs.declared.job.Form.{Form}
-use Rattle.render_core.specs.declared.job.Form.TheVariants.{Bytes, Text}
+use Rattle.render_core.specs.declared.job.Form.TheVariants.{Bytes, PlainBytes, Text}
 use Rattle.render_core.specs.declared.due.Due.{Due}
 use Rattle.render_core.specs.declared.due.DueImage.{DueImage}
 use Rattle.render_core.specs.declared.due.DueImage.TheVariants.{Frames, OneText}
@@ -39,9 +42,14 @@ use Rattle.render_core.specs.declared.job.Origin.TheVariants.{Read, Generated}
 use Rattle.render_core.specs.Due.{Outcome}
 use Rattle.rc_base.specs.Outside.Ends.{Used, Failed, IsCalm, Took, Noted}
 use Rattle.render_core.specs.Findings.{IsJudged}
-use Rattle.render_core.specs.Jobs.{origin_of, scene_limit, word_limit, Spells, Gives, Takes, IsNotFor}
+use Rattle.render_core.specs.declared.work.Work.{Work}
+use Rattle.render_core.specs.declared.work.Meaning.{Meaning}
+use Rattle.render_core.specs.Jobs.{Task, origin_of}
+use Rattle.render_core.specs.Scenes.{Found, Lists, found_limit, is_filtered, rules_for, meant, refused_in, scene_limit, word_limit, work_for, Spells, Gives, Takes, IsNotFor}
+use Rattle.spu_chain.specs.Filter.{AreReached, HasByteTint, HaveRoom}
+use Rattle.spu_chain.specs.declared.rule.SpuRule.{SpuRule}
 use Rattle.render_core.specs.Lines.{scene_kind_name, text_kind_name, malformed_line, limit_line, not_last_line, image_fault_line, read_fault_line, memory_line}
-use Rattle.render_core.specs.Outcomes.{Sent, IsDue, Cause}
+use Rattle.render_core.specs.Outcomes.{Sent, IsDue, Cause, IsEarly, HaveSeenAll, HaveSeenFront}
 
 -- ---- statuses and lines
 
@@ -101,22 +109,32 @@ refusal_line (Image refusal) = image_line refusal
 
 -- ---- the scene
 
--- the input spells this scene, of which no quantity is outside its range
-pub record IsRead (form : Form) (input : List ℕ) (scene : Scene) : Type 0 where
-  pub spelled : Spells form input scene
-  pub within : limit_of scene ≡ None
+-- a scene was found that means this: with call lists that of their expansions, and the commands that were refused among them
+pub record IsMeaning (found : Found) (x : Meaning) : Type 0 where
+  pub scene : x.scene ≡ meant found
+  pub faults : x.faults ≡ refused_in found
 
--- The job's scene came from the source or is made, and of one that was read no quantity is outside its range; those of the words are judged after it.
-pub record Came (job : Job) (source : Used) (scene : Scene) : Type 0 where
+-- the input spells what means this, and no quantity of what is found is outside its range
+pub record IsRead (form : Form) (input : List ℕ) (x : Meaning) : Type 0 where
+  pub found : Found
+  pub spelled : Spells form input found
+  pub within : found_limit found ≡ None
+  pub means : IsMeaning found x
+
+-- The task's scene came from the source or is made, and of one that was read no quantity is outside its range; those of the words are judged after it.
+pub record Came (job : Job) (source : Used) (x : Meaning) : Type 0 where
   pub input : List ℕ
   pub took : Takes (origin_of job) source input
   pub short : length input ≤ byte_limit
-  pub gives : Gives (origin_of job) input scene
-  pub within : scene_limit (origin_of job) scene ≡ None
+  pub found : Found
+  pub gives : Gives (origin_of job) input found
+  pub within : scene_limit (origin_of job) found ≡ None
+  pub means : IsMeaning found x
 
 -- what is known of a scene that was read: of bytes its fields are in their ranges, of a text its version is 1 or 2 and its pictures are whole
 abbrev pub IsWellRead : Form → Scene → Type 0
 IsWellRead Bytes scene = IsDecl scene.decl × AllByRecursion (AllByRecursion IsCommand) scene.streams
+IsWellRead PlainBytes scene = IsDecl scene.decl × AllByRecursion (AllByRecursion IsCommand) scene.streams
 IsWellRead Text scene = IsVersion scene.decl.version × AllByRecursion AreWhole scene.streams
 
 -- what is known of a scene that was made: its rounds are within their range, and all that is known of a scene that was read
@@ -131,11 +149,47 @@ abbrev pub IsWell : Origin → Scene → Type 0
 IsWell (Read form) scene = IsWellRead form scene
 IsWell (Generated seed size) scene = IsMade seed size scene
 
--- every job that reads this form refuses the input, or there was no memory
+-- why bytes spell no scene within the limits, as a refusal
+abbrev pub refusal_of_scene : SceneFault → InputRefusal
+refusal_of_scene (scene_faults.Malformed kind at) = judging.MalformedScene kind at
+refusal_of_scene (scene_faults.Limit what value) = judging.PastLimit (record { what = what; value = value })
+refusal_of_scene scene_faults.OutOfMemory = judging.OutOfMemory
+
+-- what a scene with call lists means, of which no quantity is outside its range
+abbrev pub IsExpanded : ListScene → Meaning → Type 0
+IsExpanded scene x = IsMeaning (Lists scene) x × (found_limit (Lists scene) ≡ None)
+
+-- the first quantity of its expansion that is, or want of memory
+abbrev pub IsPast : ListScene → InputRefusal → Type 0
+IsPast scene (judging.MalformedScene kind at) = ⊥
+IsPast scene (judging.MalformedText kind line) = ⊥
+IsPast scene (judging.PastLimit limit) = found_limit (Lists scene) ≡ Some limit
+IsPast scene judging.OutOfMemory = Unit {0}
+
+-- every task that reads this form refuses the input, or there was no memory
 abbrev pub IsRefusedInput : Form → List ℕ → InputRefusal → Type 0
 IsRefusedInput form input refusal =
     (refusal ≡ judging.OutOfMemory)
-    ⊎ ((job : Job) → origin_of job ≡ Read form → IsJudged job input (input_status refusal) (input_line refusal))
+    ⊎ ((task : Task) → origin_of task.job ≡ Read form → IsJudged task input (input_status refusal) (input_line refusal))
+
+-- the members of a chain have room for the commands of every scene, and bytes as tints
+pub record AreReady (rules : List SpuRule) : Type 0 where
+  pub room : (n : ℕ) → n ≤ 2 ^ 63 → HaveRoom n rules
+  pub tints : AllByRecursion HasByteTint rules
+
+-- the members of a chain have seen nothing of the scene, all of it, or a front of its streams
+abbrev pub HaveSeenSome : Task → Scene → List SpuRule → Type 0
+HaveSeenSome task scene left =
+    (left ≡ task.filters)
+    ⊎ ((left ≡ rules_for task scene)
+    ⊎ ((is_filtered (origin_of task.job) ≡ true) × AreReached task.filters (flat_map (λ stream. stream) scene.streams) left))
+
+-- This is what the task works on where its scene came so from the source, and what the words ask for is within its range there.
+pub record IsWorkOf (task : Task) (source : Used) (work : Work) : Type 0 where
+  pub meaning_of : Meaning
+  pub came : Came task.job source meaning_of
+  pub asked : word_limit task.job meaning_of.scene ≡ None
+  pub is : work ≡ work_for task came.found
 
 -- ---- what is due
 
@@ -163,10 +217,16 @@ abbrev pub refusal_of : LastFault → DueRefusal
 refusal_of (apart.NotLast client place) = undue.NotLast (record { client = client; place = place })
 refusal_of apart.OutOfMemory = undue.OutOfMemory
 
--- The words ask for what is outside its range in the scene's window, the job isn't for the scene, or there was no memory.
+-- What the words ask for is outside its range in the window of the scene that was made, or there was no memory.
+abbrev pub IsUnmade : Job → Scene → DueRefusal → Type 0
+IsUnmade job scene (undue.PastLimit limit) = word_limit job scene ≡ Some limit
+IsUnmade job scene (undue.NotLast name) = ⊥
+IsUnmade job scene undue.OutOfMemory = Unit {0}
+
+-- The job isn't for the scene, or there was no memory.
 abbrev pub IsNoOutcome : Job → Scene → DueRefusal → Type 0
-IsNoOutcome job scene (undue.PastLimit limit) = word_limit job scene ≡ Some limit
-IsNoOutcome job scene (undue.NotLast name) = (word_limit job scene ≡ None) × IsNotFor job scene name
+IsNoOutcome job scene (undue.PastLimit limit) = ⊥
+IsNoOutcome job scene (undue.NotLast name) = IsNotFor job scene name
 IsNoOutcome job scene undue.OutOfMemory = Unit {0}
 
 -- ---- writing
@@ -190,9 +250,9 @@ pub record IsSent (image : Used) (o : Outcome) (told : Told) : Type 0 where
   pub kept : told.kept ≡ o.kept
 
 -- the job is carried out but for what is left to tell
-pub record IsPerformed (job : Job) (source image : Used) (told : Told) : Type 0 where
+pub record IsPerformed (task : Task) (source image : Used) (told : Told) : Type 0 where
   pub o : Outcome
-  pub due : IsDue job source o
+  pub due : IsDue task source o
   pub sent : IsSent image o told
 
 -- what is left to tell was told, or a front of it where the notes failed, which changes the status of a job that is done
@@ -210,17 +270,43 @@ abbrev pub kept_for : ℕ → Option Record → Option Record
 kept_for status kept = if status == 6 then kept else None
 
 -- the refusal has a cause, or there was no memory
-abbrev pub IsCaused : Job → Used → Used → Refusal → Option Record → Type 0
-IsCaused job source image refusal kept =
-    Cause job source image (refusal_status refusal) (refusal_line refusal) (kept_for (refusal_status refusal) kept)
+abbrev pub IsCaused : Task → Used → Used → Refusal → Option Record → Type 0
+IsCaused task source image refusal kept =
+    Cause task source image (refusal_status refusal) (refusal_line refusal) (kept_for (refusal_status refusal) kept)
     ⊎ ((refusal_status refusal ≡ 7) × (refusal_line refusal ≡ memory_line))
 
 -- The refusal comes before the image: its cause is the source or what it holds, whatever was given to the image, and no record is kept with it.
-abbrev pub IsRefusedUnwritten : Job → Used → Refusal → Type 0
-IsRefusedUnwritten job source refusal = (image : Used) → IsCaused job source image refusal None
+abbrev pub IsRefusedUnwritten : Task → Used → Refusal → Type 0
+IsRefusedUnwritten task source refusal = (image : Used) → IsCaused task source image refusal None
+
+-- so it does for every task of this job
+abbrev pub IsRefusedFor : Job → Used → Refusal → Type 0
+IsRefusedFor job source refusal = (task : Task) → task.job ≡ job → IsRefusedUnwritten task source refusal
 
 -- A refusal is told: with its own status and line, or as want of memory where there was none for its line.
 pub record IsRefusalTold (notes : Used) (refusal : Refusal) (status : ℕ) : Type 0 where
   pub line : List ℕ
   pub noted : Noted notes line
   pub one_of : ((status ≡ refusal_status refusal) × (line ≡ refusal_line refusal)) ⊎ ((status ≡ 7) × (line ≡ memory_line))
+
+-- ---- the members of a chain
+
+-- What is left of them where a task is refused with this status, or as if there were no memory.
+pub data LeftBy (task : Task) (source : Used) (status : ℕ) (left : List SpuRule) : Type 0 where
+  Before : IsEarly status ⊎ (status ≡ 7) → left ≡ task.filters → LeftBy task source status left
+  Behind : (status ≡ 6) ⊎ (status ≡ 12) ⊎ (status ≡ 7) → HaveSeenAll task source left → LeftBy task source status left
+  Amid : status ≡ 7 → HaveSeenFront task source left → LeftBy task source status left
+
+-- what is left of them behind the filters, or where the task is refused before or by its scene
+abbrev pub LeftAfter : {A : Type 0} → Task → Used → Result A Refusal → List SpuRule → Type 0
+LeftAfter task source (Ok done) left = HaveSeenAll task source left
+LeftAfter task source (Err refusal) left = LeftBy task source (refusal_status refusal) left
+
+-- the refusal comes before the filters
+abbrev pub IsEarlyRefusal : Refusal → Type 0
+IsEarlyRefusal refusal = IsEarly (refusal_status refusal) ⊎ (refusal_status refusal ≡ 7)
+
+-- what is left of them where it is carried out or refused
+abbrev pub LeftWith : Task → Used → Result Told Refused → List SpuRule → Type 0
+LeftWith task source (Ok told) left = HaveSeenAll task source left
+LeftWith task source (Err refused) left = LeftBy task source (refusal_status refused.refusal) left

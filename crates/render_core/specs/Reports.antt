@@ -17,14 +17,19 @@ use Rattle.rc_base.specs.declared.sync.WaitAt.{WaitAt}
 use Rattle.rc_base.specs.declared.sync.Waiting.{Waiting}
 use Rattle.rc_base.specs.declared.window.Layout.{Layout}
 use Rattle.client_issue.specs.Cores.{no_tally}
-use Rattle.order_model.specs.Report.{count_lines, fault_line, is_stuck, joined_line, order_line, stuck_line, tile_order}
+use Rattle.order_model.specs.Report.{count_lines, fault_line, is_stuck, refused_line, joined_line, order_line, stuck_line, tile_order}
 use Rattle.order_model.specs.declared.record.Record.{Record}
 use Rattle.run_record.specs.Told.{IsRun}
 use Rattle.render_core.specs.Due.{ending_by, journal_of, report_due}
 use Rattle.render_core.specs.declared.cluster.Account.{Account}
+use Rattle.render_core.specs.declared.work.Work.{Work}
 use Rattle.render_core.specs.declared.due.DefaultRun.{DefaultRun}
 
--- the lines of refused commands, client by client
+-- the lines of refused commands, client by client, with a word for what refused them
+abbrev pub lines_of_refused : List ℕ → List (List (ℕ × Fault)) → List ℕ
+lines_of_refused word faults = flat_map (λ client. flat_map (refused_line word client) (slice_index_or faults client [])) (range_with_len 0 (length faults))
+
+-- those that are refused where they are issued
 abbrev pub lines_of_faults : List (List (ℕ × Fault)) → List ℕ
 lines_of_faults faults = flat_map (λ client. flat_map (fault_line client) (slice_index_or faults client [])) (range_with_len 0 (length faults))
 
@@ -51,10 +56,15 @@ abbrev pub lines_of_orders : Record → List ℕ
 lines_of_orders kept = flat_map (λ tile. flat_map (order_line tile) (tile_order kept tile)) (range_with_len 0 (length kept.logs))
 
 -- all lines of a run with tiles
-abbrev pub lines_of_run : List (List (ℕ × Fault)) → List Tally → Record → Option Waiting → Bool → List ℕ
-lines_of_run faults tallies kept waiting orders =
-    lines_of_faults faults ++ lines_of_tiles tallies ++ count_lines kept.journal ++ (if orders then lines_of_orders kept else [])
-    ++ lines_of_stuck waiting (length faults)
+abbrev pub lines_of_run : Work → List (List (ℕ × Fault)) → List Tally → Record → Option Waiting → Bool → List ℕ
+lines_of_run work faults tallies kept waiting orders =
+    work.refused ++ lines_of_faults faults ++ lines_of_tiles tallies ++ count_lines kept.journal ++ work.counted
+    ++ (if orders then lines_of_orders kept else []) ++ lines_of_stuck waiting (length faults)
+
+-- all lines of a run without tiles
+abbrev pub lines_of_turns : Work → List (List (ℕ × Fault)) → List Entry → List ℕ → Option Waiting → List ℕ
+lines_of_turns work faults journal told waiting =
+    work.refused ++ lines_of_faults faults ++ count_lines journal ++ work.counted ++ told ++ lines_of_stuck waiting (length faults)
 
 -- these are the scene's refused commands, and who is left waiting by the journal
 pub record AreOf (scene : Scene) (faults : List (List (ℕ × Fault))) (journal : List Entry) (waiting : Option Waiting) : Type 0 where
@@ -84,6 +94,6 @@ pub record IsSmallRun (kept : Record) (tallies : List Tally) (waiting : Option W
   pub run : IsRun scene layout kept tallies waiting faults
 
 -- the report of the record, and whether its journal leaves a client waiting
-pub record IsAccount (scene : Scene) (l : Layout) (kept : Record) (orders : Bool) (account : Account) : Type 0 where
-  pub notes : account.notes ≡ report_due scene l kept orders
-  pub ending : account.ending ≡ ending_by scene kept.journal
+pub record IsAccount (work : Work) (l : Layout) (kept : Record) (orders : Bool) (account : Account) : Type 0 where
+  pub notes : account.notes ≡ report_due work l kept orders
+  pub ending : account.ending ≡ ending_by work.scene kept.journal

@@ -1,11 +1,10 @@
 //! What is due for a scene by the stepped cluster, and what is told of any cluster's run.
 ghost use Rattle.std.specs.Prelude.{◌≡◌, ◌<◌, ℕ, None, length, slice_index_or, IfOk, IfErr};
 ghost use Rattle.rc_base.specs.Formats.Limits.{limit_of};
-ghost use Rattle.rc_base.specs.declared.scene.Scene.{Scene as AnyScene};
 ghost use Rattle.rc_base.specs.declared.window.Layout.{Layout as AnyLayout};
 ghost use Rattle.run_record.specs.Told.{IsRun};
 ghost use Rattle.render_core.specs.Due.{IsStepped};
-ghost use Rattle.render_core.specs.Jobs.{actors_for, cluster_limit, layout_for};
+ghost use Rattle.render_core.specs.Scenes.{actors_for, cluster_limit, layout_for};
 ghost use Rattle.render_core.specs.Refusals.{IsWellRead, IsWritable, outcome_of};
 ghost use Rattle.render_core.specs.Reports.{IsAccount, IsSmallRun};
 ghost use Rattle.render_core.specs.declared.due.DueRefusal.TheVariants.{OutOfMemory as NoMemory};
@@ -14,6 +13,7 @@ ghost use Rattle.render_core.specs.declared.job.Form.TheVariants.{Bytes as OfByt
 use crate::due::{Due, DueImage, DueRefusal, Ending, ending_of};
 use crate::job::Cluster;
 use crate::report::cluster_report;
+use crate::work::Work;
 use frame_out::frames_of;
 use frame_out::laws::{frames_of_scenes_are_writable, whole_runs_show_frames};
 use order_model::laws::{records_of_scenes, scene_lists_are_well_formed};
@@ -21,7 +21,6 @@ use order_model::record::Record;
 use rc_base::cluster::{FaultLists, Tallies};
 use rc_base::command::Bytes;
 use rc_base::out_of_memory::OutOfMemory;
-use rc_base::scene::Scene;
 use rc_base::sync::Waiting;
 use rc_base::window::Layout;
 use std::alloc::Global;
@@ -38,6 +37,7 @@ pub(crate) struct Account {
 /// The account of what a run leaves, whoever picked its actors' turns; with the recorded orders where they are asked for.
 pub(crate) fn account_of(
     alloc: Global,
+    work: &Work,
     kept: &Record,
     tallies: &Tallies,
     waiting: &Option<Waiting>,
@@ -45,10 +45,11 @@ pub(crate) fn account_of(
     orders: bool,
 ) -> Result<Account, OutOfMemory>
     requires { IsSmallRun kept.now tallies.now waiting.now faults.now }
-    ensures { (scene : AnyScene) (l : AnyLayout) → IsRun scene l kept.now tallies.now waiting.now faults.now → IfOk result (IsAccount scene l kept.now orders) }
+    ensures { (l : AnyLayout) → IsRun work.now.scene l kept.now tallies.now waiting.now faults.now → IfOk result (IsAccount work.now l kept.now orders) }
 {
     let notes = cluster_report(
         alloc,
+        work,
         faults.as_slice(),
         tallies.as_slice(),
         kept,
@@ -64,17 +65,17 @@ pub(crate) fn account_of(
 /// What is due for the scene by a cluster of these tiles: one step of each picked actor in turn, and then rounds of all actors to their end.
 pub(crate) fn cluster_due(
     alloc: Global,
-    scene: &Scene,
+    work: &Work,
     layout: &Layout,
     cluster: Cluster,
     picks: &[u32],
 ) -> Result<Due, DueRefusal>
-    requires well { IsWellRead OfBytes scene.now }
-    requires within { limit_of scene.now ≡ None }
-    requires asked { cluster_limit cluster scene.now ≡ None }
-    requires tiles { layout.now ≡ layout_for cluster scene.now }
-    requires picks { (i : ℕ) → i < length picks.now → slice_index_or picks.now i 0 < actors_for cluster scene.now }
-    ensures outcome { IfOk result (λ due. IsStepped cluster picks.now scene.now (outcome_of due)) }
+    requires well { IsWellRead OfBytes work.now.scene }
+    requires within { limit_of work.now.scene ≡ None }
+    requires asked { cluster_limit cluster work.now.scene ≡ None }
+    requires tiles { layout.now ≡ layout_for cluster work.now.scene }
+    requires picks { (i : ℕ) → i < length picks.now → slice_index_or picks.now i 0 < actors_for cluster work.now.scene }
+    ensures outcome { IfOk result (λ due. IsStepped cluster picks.now work.now (outcome_of due)) }
     ensures writable { IfOk result (λ due. IsWritable due.image) }
     ensures refused { IfErr result (λ refusal. refusal ≡ NoMemory) }
 {
@@ -82,7 +83,7 @@ pub(crate) fn cluster_due(
     records_of_scenes();
     whole_runs_show_frames();
     frames_of_scenes_are_writable();
-    let world = run_schedule(alloc, scene, layout, cluster.depth as usize, picks)?;
+    let world = run_schedule(alloc, &work.scene, layout, cluster.depth as usize, picks)?;
     let CoreRun {
         kept,
         mut parts,
@@ -93,6 +94,7 @@ pub(crate) fn cluster_due(
     let frames = frames_of(alloc, layout, parts.as_mut_slice())?;
     let Account { notes, ending } = account_of(
         alloc,
+        work,
         &kept,
         &tallies,
         &waiting,

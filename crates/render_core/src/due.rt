@@ -1,21 +1,22 @@
-//! What is due for a scene, job by job, where no cluster runs in threads.
+//! What is due, job by job, for what a task works on, where no cluster runs in threads.
 ghost use Rattle.std.specs.Prelude.{◌≡◌, ◌≤◌, [], false, Some, None, is_some, length, IfOk, IfErr, MatchResult, if◌then◌else◌};
 ghost use Rattle.rc_base.specs.Formats.Limits.{limit_of};
-ghost use Rattle.rc_base.specs.declared.scene.Scene.{Scene as AnyScene};
-ghost use Rattle.render_core.specs.Due.{IsOutcome, IsPacked, found_by, journal_of, report_with};
-ghost use Rattle.render_core.specs.Jobs.{IsFor, ShowsNothing, cluster_limit, layout_for, origin_of, starts_threads, word_limit};
+ghost use Rattle.render_core.specs.Due.{IsOutcome, IsPacked, IsUnpacked, found_by, journal_of, short_due};
+ghost use Rattle.render_core.specs.Jobs.{ShowsNothing, origin_of, starts_threads};
+ghost use Rattle.render_core.specs.Scenes.{HasTiles, IsFor, cluster_limit};
 ghost use Rattle.render_core.specs.Refusals.{IsBlank, IsWell, IsWellRead, IsWritable, outcome_of, refusal_of, IsNoOutcome};
 ghost use Rattle.render_core.specs.Reports.{IsDefault};
-ghost use Rattle.render_core.specs.declared.job.Form.TheVariants.{Bytes as OfBytes, Text as OfText};
-ghost use Rattle.render_core.specs.declared.job.Job.TheVariants.{Simulate as ToSimulate, Serial as ToSerial, Last as ToLast, Check as ToCheck, Race as ToRace, Unpack as ToUnpack};
+ghost use Rattle.render_core.specs.declared.job.Form.TheVariants.{Bytes as OfBytes, PlainBytes as OfPlainBytes, Text as OfText};
+ghost use Rattle.render_core.specs.declared.job.Job.TheVariants.{Simulate as ToSimulate, Serial as ToSerial, Last as ToLast, Check as ToCheck, Race as ToRace};
 ghost use Rattle.render_core.specs.declared.due.Ending.TheVariants.{Complete as Whole, Stuck as IsStuck};
 ghost use Rattle.render_core.specs.declared.due.DueRefusal.TheVariants.{OutOfMemory as NoMemory};
 
+use crate::asked::tiles_of;
 use crate::cluster::cluster_due;
 use crate::job::{Cluster, Job};
 use crate::picks::{actor_count, picks_of};
 use crate::report::{race_line, short_report};
-use bounds_bucket::layout;
+use crate::work::Work;
 use frame_out::laws::frames_of_scenes_are_writable;
 use order_model::laws::{
     default_journal_is_maximal, default_orders_are_permitted, scene_lists_are_well_formed,
@@ -28,8 +29,7 @@ use rc_base::image::Frames;
 use rc_base::out_of_memory::OutOfMemory;
 use rc_base::scene::{Limit, Scene};
 use rc_base::sync::{Journal, Name, Order, SyncLists, Waiting};
-use rc_base::window::Layout;
-use scene_file::{check_held, write_scene};
+use scene_file::write_scene;
 use scene_text::print_scene;
 use serial_render::{Survey, Turns, render_order, survey, turns_of};
 use sort_last::{LastFault, render_surveyed};
@@ -71,7 +71,8 @@ pub(crate) struct Due {
 /// Why nothing is due for a scene.
 #[derive(Clone, Copy, Debug, PartialEq, Eq)]
 pub enum DueRefusal {
-    /// The words ask for tiles or lanes that are outside their range in the scene's window, or for a job that holds all frames at once, which are too large.
+    /// The words ask for tiles or lanes that are outside their range in the scene's window, for a job that holds all frames at once, which are too large,
+    /// or for a scene of too many rounds.
     PastLimit(Limit),
     /// The job is to draw the scene's clients apart, and this is the first command that keeps them from that.
     NotLast(Name),
@@ -95,64 +96,43 @@ impl From<AllocError> for DueRefusal {
     }
 }
 
-/// What is due for a scene that was read or made for the job.
+/// What is due for what a job that starts no thread works on.
 #[tactic(auto, unfolding(crate::specs::Due::IsOutcome))]
-pub(crate) fn due_for(alloc: Global, job: Job, scene: &Scene) -> Result<Due, DueRefusal>
+pub(crate) fn due_for(alloc: Global, job: Job, work: &Work) -> Result<Due, DueRefusal>
     requires alone { starts_threads job ≡ false }
-    requires well { IsWell (origin_of job) scene.now }
-    requires within { limit_of scene.now ≡ None }
-    ensures outcome { IfOk result (λ due. IsOutcome job scene.now (outcome_of due)) }
-    ensures within { IfOk result (λ due. word_limit job scene.now ≡ None) }
-    ensures suits { IfOk result (λ due. IsFor job scene.now) }
+    requires well { IsWell (origin_of job) work.now.scene }
+    requires within { limit_of work.now.scene ≡ None }
+    requires tiles { HasTiles job work.now.scene }
+    ensures outcome { IfOk result (λ due. IsOutcome job work.now (outcome_of due)) }
+    ensures suits { IfOk result (λ due. IsFor job work.now.scene) }
     ensures writable { IfOk result (λ due. IsWritable due.image) }
     ensures blank { IfOk result (λ due. ShowsNothing job → IsBlank due.image) }
-    ensures refused { IfErr result (IsNoOutcome job scene.now) }
+    ensures refused { IfErr result (λ refusal. refusal ≡ NoMemory) }
 {
     match job {
         Job::Render(_) | Job::Demo { .. } | Job::Last => unreachable!(),
-        Job::Simulate { seed, cluster } => simulate(alloc, scene, seed, cluster),
-        Job::Serial => serial(alloc, scene),
-        Job::Check => check(alloc, scene),
-        Job::Race => race(alloc, scene),
-        Job::Pack => pack(alloc, scene),
-        Job::Unpack => unpack(alloc, scene),
-        Job::Gen { .. } => pack(alloc, scene),
+        Job::Simulate { seed, cluster } => simulate(alloc, work, seed, cluster),
+        Job::Serial => serial(alloc, work),
+        Job::Check => check(alloc, work),
+        Job::Race => race(alloc, work),
+        Job::Pack => pack(alloc, &work.scene),
+        Job::Unpack => unpack(alloc, &work.scene),
+        Job::Gen { .. } => pack(alloc, &work.scene),
     }
-}
-
-/// The tiles of the scene's window, or the first quantity of the words that is outside its range.
-pub(crate) fn layout_of(scene: &Scene, cluster: Cluster) -> Result<Layout, Limit>
-    ensures { MatchResult result
-        (λ l. (cluster_limit cluster scene.now ≡ None) × (l ≡ layout_for cluster scene.now))
-        (λ limit. cluster_limit cluster scene.now ≡ Some limit) }
-{
-    layout(
-        scene.decl.width,
-        scene.decl.height,
-        cluster.columns,
-        cluster.rows,
-        cluster.depth,
-    )
 }
 
 // The cluster by a seed.
-fn simulate(alloc: Global, scene: &Scene, seed: u64, cluster: Cluster) -> Result<Due, DueRefusal>
-    requires well { IsWellRead OfBytes scene.now }
-    requires within { limit_of scene.now ≡ None }
-    ensures outcome { IfOk result (λ due. IsOutcome (ToSimulate seed cluster) scene.now (outcome_of due)) }
-    ensures within { IfOk result (λ due. word_limit (ToSimulate seed cluster) scene.now ≡ None) }
+fn simulate(alloc: Global, work: &Work, seed: u64, cluster: Cluster) -> Result<Due, DueRefusal>
+    requires well { IsWellRead OfBytes work.now.scene }
+    requires within { limit_of work.now.scene ≡ None }
+    requires tiles { cluster_limit cluster work.now.scene ≡ None }
+    ensures outcome { IfOk result (λ due. IsOutcome (ToSimulate seed cluster) work.now (outcome_of due)) }
     ensures writable { IfOk result (λ due. IsWritable due.image) }
-    ensures refused { IfErr result (IsNoOutcome (ToSimulate seed cluster) scene.now) }
+    ensures refused { IfErr result (λ refusal. refusal ≡ NoMemory) }
 {
-    let layout = match layout_of(scene, cluster) {
-        Ok(layout) => layout,
-        Err(limit) => return Err(DueRefusal::PastLimit(limit)),
-    };
-    if let Err(limit) = check_held(scene) {
-        return Err(DueRefusal::PastLimit(limit));
-    }
-    let picks = picks_of(alloc, seed, actor_count(scene, &layout))?;
-    cluster_due(alloc, scene, &layout, cluster, picks.as_slice())
+    let layout = tiles_of(&work.scene, cluster);
+    let picks = picks_of(alloc, seed, actor_count(&work.scene, &layout))?;
+    cluster_due(alloc, work, &layout, cluster, picks.as_slice())
 }
 
 // The default journal and order of a scene, its refused commands, and who is left waiting.
@@ -201,12 +181,18 @@ fn default_of(alloc: Global, scene: &Scene) -> Result<DefaultRun, DueRefusal>
 }
 
 // The short report of the default run of a scene, with these lines before those of who waits.
-fn report_of(alloc: Global, run: &DefaultRun, told: &[u8]) -> Result<Bytes, OutOfMemory>
-    requires few { length run.now.faults ≤ 8 }
-    ensures { (scene : AnyScene) → IsDefault scene run.now → IfOk result (λ notes. notes ≡ report_with told.now scene (journal_of scene)) }
+fn report_of(
+    alloc: Global,
+    work: &Work,
+    run: &DefaultRun,
+    told: &[u8],
+) -> Result<Bytes, OutOfMemory>
+    requires default { IsDefault work.now.scene run.now }
+    ensures { IfOk result (λ notes. notes ≡ short_due work.now told.now (journal_of work.now.scene)) }
 {
     Ok(short_report(
         alloc,
+        work,
         run.faults.as_slice(),
         run.journal.as_slice(),
         told,
@@ -215,21 +201,17 @@ fn report_of(alloc: Global, run: &DefaultRun, told: &[u8]) -> Result<Bytes, OutO
 }
 
 // The frames of the default order, and the short report.
-fn serial(alloc: Global, scene: &Scene) -> Result<Due, DueRefusal>
-    requires well { IsWellRead OfBytes scene.now }
-    requires within { limit_of scene.now ≡ None }
-    ensures outcome { IfOk result (λ due. IsOutcome ToSerial scene.now (outcome_of due)) }
-    ensures within { IfOk result (λ due. word_limit ToSerial scene.now ≡ None) }
+fn serial(alloc: Global, work: &Work) -> Result<Due, DueRefusal>
+    requires well { IsWellRead OfBytes work.now.scene }
+    requires within { limit_of work.now.scene ≡ None }
+    ensures outcome { IfOk result (λ due. IsOutcome ToSerial work.now (outcome_of due)) }
     ensures writable { IfOk result (λ due. IsWritable due.image) }
-    ensures refused { IfErr result (IsNoOutcome ToSerial scene.now) }
+    ensures refused { IfErr result (λ refusal. refusal ≡ NoMemory) }
 {
     frames_of_scenes_are_writable();
-    if let Err(limit) = check_held(scene) {
-        return Err(DueRefusal::PastLimit(limit));
-    }
-    let run = default_of(alloc, scene)?;
-    let notes = report_of(alloc, &run, b"")?;
-    let frames = render_order(alloc, scene, &run.journal, &run.order)?;
+    let run = default_of(alloc, &work.scene)?;
+    let notes = report_of(alloc, work, &run, b"")?;
+    let frames = render_order(alloc, &work.scene, &run.journal, &run.order)?;
     Ok(Due {
         image: DueImage::Frames(frames),
         notes,
@@ -248,34 +230,30 @@ fn undue(fault: LastFault) -> DueRefusal
     }
 }
 
-/// The same frames, put together by depth of clients that are drawn apart, and the short report. A scene that is past its limit is refused by that, and
-/// then one whose clients can't be drawn apart.
+/// The same frames, put together by depth of clients that are drawn apart, and the short report. A scene whose clients can't be drawn apart is refused.
 pub(crate) fn last(
     rt: &(impl Threads + Sync),
     alloc: Global,
-    scene: &Scene,
+    work: &Work,
 ) -> Result<Due, DueRefusal>
-    requires well { IsWellRead OfBytes scene.now }
-    requires within { limit_of scene.now ≡ None }
-    ensures outcome { IfOk result (λ due. IsOutcome ToLast scene.now (outcome_of due)) }
-    ensures within { IfOk result (λ due. word_limit ToLast scene.now ≡ None) }
-    ensures suits { IfOk result (λ due. IsFor ToLast scene.now) }
+    requires well { IsWellRead OfBytes work.now.scene }
+    requires within { limit_of work.now.scene ≡ None }
+    ensures outcome { IfOk result (λ due. IsOutcome ToLast work.now (outcome_of due)) }
+    ensures suits { IfOk result (λ due. IsFor ToLast work.now.scene) }
     ensures writable { IfOk result (λ due. IsWritable due.image) }
-    ensures refused { IfErr result (IsNoOutcome ToLast scene.now) }
+    ensures refused { IfErr result (IsNoOutcome ToLast work.now.scene) }
 {
     scene_lists_are_well_formed();
     default_journal_is_maximal();
     frames_of_scenes_are_writable();
-    if let Err(limit) = check_held(scene) {
-        return Err(DueRefusal::PastLimit(limit));
-    }
-    let Survey { syncs, faults } = survey(alloc, scene)?;
-    let run = match render_surveyed(rt, alloc, scene, &syncs) {
+    let Survey { syncs, faults } = survey(alloc, &work.scene)?;
+    let run = match render_surveyed(rt, alloc, &work.scene, &syncs) {
         Ok(run) => run,
         Err(fault) => return Err(undue(fault)),
     };
     let notes = short_report(
         alloc,
+        work,
         faults.as_slice(),
         run.journal.as_slice(),
         b"",
@@ -291,16 +269,16 @@ pub(crate) fn last(
 }
 
 // The short report alone.
-fn check(alloc: Global, scene: &Scene) -> Result<Due, DueRefusal>
-    requires well { IsWellRead OfBytes scene.now }
-    requires within { limit_of scene.now ≡ None }
-    ensures outcome { IfOk result (λ due. IsOutcome ToCheck scene.now (outcome_of due)) }
+fn check(alloc: Global, work: &Work) -> Result<Due, DueRefusal>
+    requires well { IsWellRead OfBytes work.now.scene }
+    requires within { limit_of work.now.scene ≡ None }
+    ensures outcome { IfOk result (λ due. IsOutcome ToCheck work.now (outcome_of due)) }
     ensures writable { IfOk result (λ due. IsWritable due.image) }
     ensures blank { IfOk result (λ due. IsBlank due.image) }
-    ensures refused { IfErr result (IsNoOutcome ToCheck scene.now) }
+    ensures refused { IfErr result (λ refusal. refusal ≡ NoMemory) }
 {
-    let run = default_of(alloc, scene)?;
-    let notes = report_of(alloc, &run, b"")?;
+    let run = default_of(alloc, &work.scene)?;
+    let notes = report_of(alloc, work, &run, b"")?;
     Ok(Due {
         image: DueImage::OneText(Bytes::new(alloc)),
         notes,
@@ -331,18 +309,18 @@ fn race_ending(waiting: &Option<Waiting>, verdict: &Verdict) -> Ending
 }
 
 // The short report, with what synchronisation leaves unordered.
-fn race(alloc: Global, scene: &Scene) -> Result<Due, DueRefusal>
-    requires well { IsWellRead OfBytes scene.now }
-    requires within { limit_of scene.now ≡ None }
-    ensures outcome { IfOk result (λ due. IsOutcome ToRace scene.now (outcome_of due)) }
+fn race(alloc: Global, work: &Work) -> Result<Due, DueRefusal>
+    requires well { IsWellRead OfBytes work.now.scene }
+    requires within { limit_of work.now.scene ≡ None }
+    ensures outcome { IfOk result (λ due. IsOutcome ToRace work.now (outcome_of due)) }
     ensures writable { IfOk result (λ due. IsWritable due.image) }
     ensures blank { IfOk result (λ due. IsBlank due.image) }
-    ensures refused { IfErr result (IsNoOutcome ToRace scene.now) }
+    ensures refused { IfErr result (λ refusal. refusal ≡ NoMemory) }
 {
-    let run = default_of(alloc, scene)?;
-    let verdict = check_races(alloc, scene, &run.journal, &run.order, &run.syncs)?;
+    let run = default_of(alloc, &work.scene)?;
+    let verdict = check_races(alloc, &work.scene, &run.journal, &run.order, &run.syncs)?;
     let line = race_line(alloc, &verdict)?;
-    let notes = report_of(alloc, &run, line.as_bytes())?;
+    let notes = report_of(alloc, work, &run, line.as_bytes())?;
     Ok(Due {
         image: DueImage::OneText(Bytes::new(alloc)),
         notes,
@@ -378,11 +356,11 @@ fn pack(alloc: Global, scene: &Scene) -> Result<Due, DueRefusal>
 
 // The scene's text.
 fn unpack(alloc: Global, scene: &Scene) -> Result<Due, DueRefusal>
-    requires well { IsWellRead OfBytes scene.now }
+    requires well { IsWellRead OfPlainBytes scene.now }
     requires within { limit_of scene.now ≡ None }
-    ensures outcome { IfOk result (λ due. IsOutcome ToUnpack scene.now (outcome_of due)) }
+    ensures outcome { IfOk result (λ due. IsUnpacked scene.now (outcome_of due)) }
     ensures writable { IfOk result (λ due. IsWritable due.image) }
-    ensures refused { IfErr result (IsNoOutcome ToUnpack scene.now) }
+    ensures refused { IfErr result (λ refusal. refusal ≡ NoMemory) }
 {
     let text = print_scene(alloc, scene)?;
     Ok(text_alone(alloc, text))

@@ -2,8 +2,9 @@
 ghost use Rattle.std.specs.Prelude.{◌≡◌, ◌≤◌, ℕ, Some, None, IfOk, IfErr, MatchResult};
 ghost use Rattle.rc_base.specs.Formats.Limits.{limit_of, size_limit};
 ghost use Rattle.rc_base.specs.Program.Generator.{generated_scene};
-ghost use Rattle.render_core.specs.Jobs.{origin_of, tile_limit, word_limit};
-ghost use Rattle.render_core.specs.Refusals.{IsMade, IsNoOutcome};
+ghost use Rattle.render_core.specs.Jobs.{origin_of};
+ghost use Rattle.render_core.specs.Scenes.{tile_limit, word_limit};
+ghost use Rattle.render_core.specs.Refusals.{IsMade, IsUnmade};
 ghost use Rattle.render_core.specs.declared.job.Origin.TheVariants.{Generated as IsGenerated};
 
 use crate::due::DueRefusal;
@@ -76,7 +77,7 @@ pub(crate) fn scene_of_seed(
     requires { origin_of job ≡ IsGenerated seed size }
     ensures made { IfOk result (IsMade seed size) }
     ensures within { IfOk result (λ scene. limit_of scene ≡ None) }
-    ensures refused { IfErr result (IsNoOutcome job (generated_scene seed size)) }
+    ensures refused { IfErr result (IsUnmade job (generated_scene seed size)) }
 {
     match rounds_for(job, seed, size) {
         Ok(rounds) => Ok(generate(alloc, seed, rounds)?),

@@ -1,38 +1,54 @@
-//! The scene that an input spells.
-ghost use Rattle.std.specs.Prelude.{◌≡◌, ◌≤◌, length, IfOk, IfErr};
+//! The scene that an input spells, and what it means.
+ghost use Rattle.std.specs.Prelude.{◌≡◌, ◌≤◌, ◌↔◌, [], length, IfOk, IfErr, IsTrue, None};
+ghost use Rattle.rc_base.specs.Formats.Limits.{limit_of, read_limit};
+ghost use Rattle.rc_base.specs.Formats.Spelling.{SpellsScene};
+ghost use Rattle.rc_base.specs.Formats.Text.Read.{SpellsText};
 ghost use Rattle.rc_base.specs.Outside.Transfer.{byte_limit};
-ghost use Rattle.render_core.specs.Refusals.{IsRead, IsWellRead, IsRefusedInput};
-ghost use Rattle.render_core.specs.declared.job.Form.TheVariants.{Bytes as OfBytes, Text as OfText};
+ghost use Rattle.render_core.specs.Findings.{BeginWithLists};
+ghost use Rattle.render_core.specs.Refusals.{IsExpanded, IsPast, IsRead, IsWellRead, IsRefusedInput, refusal_of_scene};
+ghost use Rattle.render_core.specs.declared.job.Form.TheVariants.{Bytes as OfBytes, PlainBytes as OfPlainBytes, Text as OfText};
 
 use crate::job::Form;
 use crate::refusal::InputRefusal;
+use crate::work::Meaning;
+use call_lists::laws::{costs_are_told, expansions_are_whole, expansions_stay_in_range};
+use call_lists::{ExpandFault, Expansions, expand_all};
+use rc_base::cluster::FaultLists;
 use rc_base::command::Bytes;
 use rc_base::scene::{Limit, Scene};
-use scene_file::{SceneFault, read_scene};
+use scene_file::{ListScene, SceneFault, check_streams, read_list_scene, read_scene};
 use scene_text::{TextSceneFault, parse_scene};
 use std::alloc::Global;
 
-// The scene that the bytes spell.
+// Why bytes spell no scene within the limits.
+fn refusal_of(fault: SceneFault) -> InputRefusal
+    ensures { result ≡ refusal_of_scene fault }
+{
+    match fault {
+        SceneFault::Malformed { kind, at } => InputRefusal::MalformedScene { kind, at },
+        SceneFault::Limit { what, value } => InputRefusal::PastLimit(Limit { what, value }),
+        SceneFault::OutOfMemory => InputRefusal::OutOfMemory,
+    }
+}
+
+// The scene without call lists that the bytes spell.
 fn scene_of_bytes(alloc: Global, input: &[u8]) -> Result<Scene, InputRefusal>
     requires { length input.now ≤ byte_limit }
-    ensures read { IfOk result (IsRead OfBytes input.now) }
-    ensures well { IfOk result (IsWellRead OfBytes) }
-    ensures refused { IfErr result (IsRefusedInput OfBytes input.now) }
+    ensures read { IfOk result (λ scene. SpellsScene input.now scene × (limit_of scene ≡ None)) }
+    ensures well { IfOk result (IsWellRead OfPlainBytes) }
+    ensures refused { IfErr result (IsRefusedInput OfPlainBytes input.now) }
+    ensures refused_bytes { (BeginWithLists input.now → ⊥) → IfErr result (IsRefusedInput OfBytes input.now) }
 {
     match read_scene(alloc, input) {
         Ok(scene) => Ok(scene),
-        Err(SceneFault::Malformed { kind, at }) => Err(InputRefusal::MalformedScene { kind, at }),
-        Err(SceneFault::Limit { what, value }) => {
-            Err(InputRefusal::PastLimit(Limit { what, value }))
-        }
-        Err(SceneFault::OutOfMemory) => Err(InputRefusal::OutOfMemory),
+        Err(fault) => Err(refusal_of(fault)),
     }
 }
 
 // The scene that the text spells.
 fn scene_of_text(alloc: Global, input: &[u8]) -> Result<Scene, InputRefusal>
     requires { length input.now ≤ byte_limit }
-    ensures read { IfOk result (IsRead OfText input.now) }
+    ensures read { IfOk result (λ scene. SpellsText input.now scene × (limit_of scene ≡ None)) }
     ensures well { IfOk result (IsWellRead OfText) }
     ensures refused { IfErr result (IsRefusedInput OfText input.now) }
 {
@@ -46,15 +62,100 @@ fn scene_of_text(alloc: Global, input: &[u8]) -> Result<Scene, InputRefusal>
     }
 }
 
-// The scene that the input spells in this form. The input is let go once the scene stands.
-pub(crate) fn scene_of(alloc: Global, form: Form, input: Bytes) -> Result<Scene, InputRefusal>
+/// A scene without call lists means itself, and none of its commands is refused before it is issued.
+pub(crate) fn plain(alloc: Global, scene: Scene) -> Meaning
+    ensures scene { result.scene ≡ scene }
+    ensures faults { result.faults ≡ [] }
+{
+    Meaning {
+        scene,
+        faults: FaultLists::new(alloc),
+    }
+}
+
+// What a scene with call lists means, or the first quantity of its expansion that is outside its range.
+fn expanded(alloc: Global, scene: ListScene) -> Result<Meaning, InputRefusal>
+    requires { read_limit scene.decl scene.streams ≡ None }
+    ensures means { IfOk result (IsExpanded scene) }
+    ensures past { IfErr result (IsPast scene) }
+{
+    costs_are_told();
+    expansions_are_whole();
+    let ListScene { decl, streams } = scene;
+    match expand_all(alloc, &streams) {
+        Ok(
+            Expansions {
+                streams,
+                count,
+                faults,
+                ..
+            },
+        ) => {
+            let scene = Scene { decl, streams };
+            match check_streams(&scene, count) {
+                Ok(()) => Ok(Meaning { scene, faults }),
+                Err(limit) => Err(InputRefusal::PastLimit(limit)),
+            }
+        }
+        Err(ExpandFault::TooLong { spent }) => Err(InputRefusal::PastLimit(Limit {
+            what: 20,
+            value: spent,
+        })),
+        Err(ExpandFault::OutOfMemory) => Err(InputRefusal::OutOfMemory),
+    }
+}
+
+// What bytes mean that begin as those of a scene with call lists.
+fn meaning_of_lists(alloc: Global, input: &[u8]) -> Result<Meaning, InputRefusal>
+    requires short { length input.now ≤ byte_limit }
+    requires lists { BeginWithLists input.now }
+    ensures read { IfOk result (IsRead OfBytes input.now) }
+    ensures well { IfOk result (λ x. IsWellRead OfBytes x.scene) }
+    ensures within { IfOk result (λ x. limit_of x.scene ≡ None) }
+    ensures refused { IfErr result (IsRefusedInput OfBytes input.now) }
+{
+    expansions_stay_in_range();
+    match read_list_scene(alloc, input) {
+        Ok(scene) => expanded(alloc, scene),
+        Err(fault) => Err(refusal_of(fault)),
+    }
+}
+
+// The bytes begin as those of a scene with call lists do.
+fn begin_with_lists(input: &[u8]) -> bool
+    ensures { IsTrue result ↔ BeginWithLists input.now }
+{
+    matches!(input, [0x52, 0x43, 0x53, 0x33, ..])
+}
+
+// What the bytes of a scene mean, with call lists or without.
+fn meaning_of_bytes(alloc: Global, input: &[u8]) -> Result<Meaning, InputRefusal>
+    requires { length input.now ≤ byte_limit }
+    ensures read { IfOk result (IsRead OfBytes input.now) }
+    ensures well { IfOk result (λ x. IsWellRead OfBytes x.scene) }
+    ensures within { IfOk result (λ x. limit_of x.scene ≡ None) }
+    ensures refused { IfErr result (IsRefusedInput OfBytes input.now) }
+{
+    if begin_with_lists(input) {
+        return meaning_of_lists(alloc, input);
+    }
+    match scene_of_bytes(alloc, input) {
+        Ok(scene) => Ok(plain(alloc, scene)),
+        Err(refusal) => Err(refusal),
+    }
+}
+
+/// What the input means that spells a scene in this form. The input is let go once the scene stands.
+pub(crate) fn meaning_of(alloc: Global, form: Form, input: Bytes) -> Result<Meaning, InputRefusal>
     requires { length input ≤ byte_limit }
     ensures read { IfOk result (IsRead form input) }
-    ensures well { IfOk result (IsWellRead form) }
+    ensures well { IfOk result (λ x. IsWellRead form x.scene) }
+    ensures within { IfOk result (λ x. limit_of x.scene ≡ None) }
     ensures refused { IfErr result (IsRefusedInput form input) }
 {
     match form {
-        Form::Bytes => scene_of_bytes(alloc, input.as_slice()),
-        Form::Text => scene_of_text(alloc, input.as_slice()),
+        Form::Bytes => meaning_of_bytes(alloc, input.as_slice()),
+        Form::PlainBytes => Ok(plain(alloc, scene_of_bytes(alloc, input.as_slice())?)),
+        Form::Text => Ok(plain(alloc, scene_of_text(alloc, input.as_slice())?)),
     }
 }

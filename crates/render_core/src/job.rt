@@ -1,9 +1,8 @@
 //! The jobs, and the words that name them.
-ghost use Rattle.std.specs.Prelude.{◌≡◌, ◌↔◌, ◌⊎◌, List, IfOk, IsTrue, OnErr, MatchOption};
-ghost use Rattle.command_line.specs.Words.{Setting as Spelled, job_word};
-ghost use Rattle.command_line.specs.declared.job.JobName.TheVariants.{Render as SpelledRender, Demo as SpelledDemo, Last as SpelledLast};
+ghost use Rattle.std.specs.Prelude.{◌≡◌, List, IfOk, OnErr, MatchOption};
+ghost use Rattle.command_line.specs.Words.{Setting as Spelled};
 ghost use Rattle.command_line.specs.Lines.{AreValues};
-ghost use Rattle.render_core.specs.Jobs.{IsJob, IsLine, IsThreaded, cluster_in, cluster_of, job_in, origin_of, threads_of};
+ghost use Rattle.render_core.specs.Jobs.{IsJob, IsLine, cluster_in, cluster_of, job_in, origin_of, starts_threads, threads_of};
 ghost use Rattle.render_core.specs.declared.job.Job.{Job as AnyJob};
 
 use command_line::{CommandLine, JobName, Settings, command_line, lines_have_one_reading};
@@ -57,7 +56,10 @@ pub enum Job {
 /// How an input spells a scene.
 #[derive(Clone, Copy)]
 pub(crate) enum Form {
+    /// As bytes of any version.
     Bytes,
+    /// As bytes of a version without call lists.
+    PlainBytes,
     Text,
 }
 
@@ -88,6 +90,16 @@ impl Job {
         }
     }
 
+    /// It starts threads: those of such a cluster, or those that draw its clients apart.
+    pub(crate) fn starts_threads(self) -> bool
+        ensures { result ≡ starts_threads self }
+    {
+        match self {
+            Job::Last => true,
+            _ => self.threads().is_some(),
+        }
+    }
+
     /// The cluster that it runs.
     pub(crate) fn cluster(self) -> Option<Cluster>
         ensures { result ≡ cluster_of self }
@@ -115,8 +127,8 @@ impl Job {
             | Job::Serial
             | Job::Last
             | Job::Check
-            | Job::Race
-            | Job::Unpack => Origin::Read(Form::Bytes),
+            | Job::Race => Origin::Read(Form::Bytes),
+            Job::Unpack => Origin::Read(Form::PlainBytes),
             Job::Pack => Origin::Read(Form::Text),
             Job::Gen { seed, size } | Job::Demo { seed, size, .. } => Origin::Generated {
                 seed,
@@ -162,23 +174,6 @@ fn job_on(line: CommandLine) -> Job
             size: line.settings.size,
             cluster: cluster_asked(line.settings),
         },
-    }
-}
-
-// The word is that of a job that starts threads.
-fn names_threads(word: &str) -> bool
-    ensures { IsTrue result ↔ ((word.now ≡ job_word SpelledRender) ⊎ ((word.now ≡ job_word SpelledDemo) ⊎ (word.now ≡ job_word SpelledLast))) }
-{
-    matches!(word, "render" | "demo" | "last")
-}
-
-/// The first word is that of a job that starts threads.
-pub(crate) fn is_threaded(words: &[String]) -> bool
-    ensures { IsTrue result ↔ IsThreaded words.now }
-{
-    match words.first() {
-        Some(word) => names_threads(word.as_str()),
-        None => false,
     }
 }
 

@@ -7,20 +7,26 @@ use order_model::laws::{
     scene_lists_are_well_formed,
 };
 use race_check::laws::each_order_has_one_verdict;
-use scene_file::laws::{bytes_spell_one_scene, generated_scenes_are_within_limits};
+use scene_file::laws::{
+    bytes_spell_one_list_scene, bytes_spell_one_scene, forms_are_apart,
+    generated_scenes_are_within_limits,
+};
 use scene_text::texts_spell_one_scene;
+use spu_chain::laws::filtered_scenes_stay;
 use tile_model::laws::parcels_are_givable;
 use world_model::laws::finished_runs_leave_one_record;
 
-/// An input is one thing to a job: too long, malformed, past a limit, or a scene within the limits.
+/// An input is one thing to a task: too long, malformed, past a limit, or a scene within the limits.
 pub fn findings_are_one()
     ensures { FindingsAreOne }
 {
     bytes_spell_one_scene();
+    bytes_spell_one_list_scene();
+    forms_are_apart();
     texts_spell_one_scene();
 }
 
-/// What is due for a scene that was read is one thing, for a job that runs no threads.
+/// What is due for what is worked on is one thing, for a job that runs no threads.
 pub fn one_outcome_is_due()
     ensures { OneOutcomeIsDue }
 {
@@ -44,6 +50,7 @@ pub fn ordered_records_show_one_image()
 {
     scene_lists_are_well_formed();
     generated_scenes_are_within_limits();
+    filtered_scenes_stay();
     runs_show_one_image();
 }
 

@@ -8,6 +8,7 @@
 //! and writers of scenes, on the cluster, stepped and on threads, on the serial renderer, and on the writer of frames.
 #![tactic(auto)]
 
+mod asked;
 mod cluster;
 mod due;
 mod generated;
@@ -20,6 +21,8 @@ pub mod refusal;
 mod report;
 mod run_job;
 mod steps;
+mod work;
 mod writing;
 
-pub use run_job::{Finish, run, run_alone};
+pub use command_line::filters;
+pub use run_job::{Finish, run, run_alone, run_filtered};

@@ -135,6 +135,7 @@ fn limit_name(what: u8) -> &'static str
         17 => "depth",
         18 => "size",
         19 => "held pixels",
+        20 => "expansion",
         _ => "",
     }
 }

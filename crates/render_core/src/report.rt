@@ -1,13 +1,16 @@
-//! The lines of reports: refused commands, what was sent to tiles, the numbers of entries and frames, recorded orders, and who is left waiting.
-ghost use Rattle.std.specs.Prelude.{◌≡◌, ◌≤◌, ◌++◌, [], length, IfOk, OnOk, string_bytes, if◌then◌else◌};
+//! The lines of reports: refused commands, what was sent to tiles, the numbers of entries and frames, what filters counted, recorded orders, and who is
+//! left waiting.
+ghost use Rattle.std.specs.Prelude.{◌≡◌, ◌≤◌, ◌++◌, ◌∷◌, [], length, IfOk, OnOk, string_bytes, if◌then◌else◌};
 ghost use Rattle.std.specs.List.{flat_map};
 ghost use Rattle.std.specs.Option.{option_map_or};
 ghost use Rattle.rc_base.specs.Orders.Sync.{client_count};
-ghost use Rattle.order_model.specs.Report.{fault_name as name_of_fault, fault_line as line_of_fault, frame_count as count_of_frames, count_lines as lines_of_counts, op_text as text_of_op, order_line as line_of_order, stuck_line as line_of_stuck, tile_order as order_of_tile};
+ghost use Rattle.order_model.specs.Report.{fault_name as name_of_fault, refused_line as line_of_refused, frame_count as count_of_frames, count_lines as lines_of_counts, op_text as text_of_op, order_line as line_of_order, stuck_line as line_of_stuck, tile_order as order_of_tile};
+ghost use Rattle.spu_chain.specs.Scenes.{counts_from};
 ghost use Rattle.race_check.specs.declared.verdict.Verdict.TheVariants.{Race as IsRace};
-ghost use Rattle.render_core.specs.Lines.{race_line as line_of_race, spot_text as text_of_spot};
-ghost use Rattle.render_core.specs.Reports.{line_of_tile, lines_of_faults, lines_of_orders, lines_of_run, lines_of_stuck, lines_of_tiles, lines_of_waiting};
+ghost use Rattle.render_core.specs.Lines.{filter_line as line_of_filter, filter_lines as lines_of_filters, list_fault_lines as lines_of_list_faults, race_line as line_of_race, spot_text as text_of_spot};
+ghost use Rattle.render_core.specs.Reports.{line_of_tile, lines_of_faults, lines_of_orders, lines_of_run, lines_of_refused, lines_of_stuck, lines_of_tiles, lines_of_turns, lines_of_waiting};
 
+use crate::work::Work;
 use order_model::record::Record;
 use order_model::tile_order;
 use race_check::{Spot, Verdict};
@@ -16,6 +19,7 @@ use rc_base::command::Bytes;
 use rc_base::out_of_memory::OutOfMemory;
 use rc_base::state::Fault;
 use rc_base::sync::{Entry, Name, SyncOp, WaitAt, Waiting};
+use spu_chain::SpuRule;
 use std::alloc::{AllocError, Global};
 
 fn fault_name(fault: Fault) -> &'static str
@@ -30,42 +34,96 @@ fn fault_name(fault: Fault) -> &'static str
     }
 }
 
-// The line of a refused command of a client.
-fn fault_line(alloc: Global, client: u8, refused: &(u32, Fault)) -> Result<String, AllocError>
-    ensures { IfOk result (λ line. string_bytes line ≡ line_of_fault client refused.now) }
+// The line of a refused command of a client, with a word for what refused it.
+fn refused_line(
+    alloc: Global,
+    word: &str,
+    client: u8,
+    refused: &(u32, Fault),
+) -> Result<String, AllocError>
+    ensures { IfOk result (λ line. string_bytes line ≡ line_of_refused word.now client refused.now) }
 {
     let place = refused.0;
     let name = fault_name(refused.1);
-    format!(in alloc; "client {client} fault {name} at {place}\n")
+    format!(in alloc; "client {client}{word}{name} at {place}\n")
 }
 
 // Bytes of a line with the longest name of a fault and a place of seven digits.
-const LINE_ROOM: usize = 44;
+const LINE_ROOM: usize = 49;
 
-/// The lines of a client's refused commands, in the order in which they are given.
-pub(crate) fn client_fault_lines(
+// The lines of a client's refused commands, in the order in which they are given.
+fn client_lines(
     alloc: Global,
+    word: &str,
     client: u8,
     faults: &[(u32, Fault)],
 ) -> Result<Bytes, AllocError>
-    ensures { IfOk result (λ lines. lines ≡ flat_map (line_of_fault client) faults.now) }
+    ensures { IfOk result (λ lines. lines ≡ flat_map (line_of_refused word.now client) faults.now) }
 {
     let mut lines = Bytes::with_capacity(alloc, faults.len().saturating_mul(LINE_ROOM))?;
     for refused in faults {
-        let line = fault_line(alloc, client, refused)?;
+        let line = refused_line(alloc, word, client, refused)?;
         lines.extend_from_slice(line.as_bytes())?;
     }
     Ok(lines)
 }
 
 // The lines of all clients' refused commands.
+fn refused_lines(alloc: Global, word: &str, faults: &[FaultList]) -> Result<Bytes, AllocError>
+    requires { length faults.now ≤ 8 }
+    ensures { IfOk result (λ lines. lines ≡ lines_of_refused word.now faults.now) }
+{
+    let mut lines = Bytes::new(alloc);
+    for client in 0..faults.len() {
+        lines.append(client_lines(alloc, word, client as u8, faults[client].as_slice())?)?;
+    }
+    Ok(lines)
+}
+
+/// The lines of the commands that are refused among call lists, by client.
+pub(crate) fn list_fault_lines(alloc: Global, faults: &[FaultList]) -> Result<Bytes, AllocError>
+    requires { length faults.now ≤ 8 }
+    ensures { IfOk result (λ lines. lines ≡ lines_of_list_faults faults.now) }
+{
+    refused_lines(alloc, " list fault ", faults)
+}
+
+// The lines of the commands that are refused where they are issued.
 fn fault_lines(alloc: Global, faults: &[FaultList]) -> Result<Bytes, AllocError>
     requires { length faults.now ≤ 8 }
     ensures { IfOk result (λ lines. lines ≡ lines_of_faults faults.now) }
 {
+    refused_lines(alloc, " fault ", faults)
+}
+
+// The line of a filter that counts.
+fn filter_line(alloc: Global, filter: usize, count: u64) -> Result<String, AllocError>
+    ensures { IfOk result (λ line. string_bytes line ≡ line_of_filter (filter, count)) }
+{
+    format!(in alloc; "filter {filter} count {count}\n")
+}
+
+// The line of a filter if it counts, and else nothing.
+fn counted_lines(alloc: Global, filter: usize, rule: SpuRule) -> Result<Bytes, AllocError>
+    ensures { IfOk result (λ lines. lines ≡ lines_of_filters (counts_from filter (rule ∷ []))) }
+{
+    match rule {
+        SpuRule::Count(count) => {
+            let line = filter_line(alloc, filter, count)?;
+            Bytes::from_slice(alloc, line.as_bytes())
+        }
+        SpuRule::Recolour(_) | SpuRule::Cull | SpuRule::Drop(_) => Ok(Bytes::new(alloc)),
+    }
+}
+
+/// The lines of the filters that count, in their order.
+pub(crate) fn filter_lines(alloc: Global, rules: &[SpuRule]) -> Result<Bytes, AllocError>
+    ensures { IfOk result (λ lines. lines ≡ lines_of_filters (counts_from 0 rules.now)) }
+{
     let mut lines = Bytes::new(alloc);
-    for client in 0..faults.len() {
-        lines.append(client_fault_lines(alloc, client as u8, faults[client].as_slice())?)?;
+    for filter in 0..rules.len() {
+        let rule = &rules[filter];
+        lines.append(counted_lines(alloc, filter, *rule)?)?;
     }
     Ok(lines)
 }
@@ -159,25 +217,29 @@ fn stuck_lines(
     }
 }
 
-/// The short report, by a journal: each client's refused commands, the numbers of entries and frames, what else is told, and who is left waiting.
+/// The short report, by a journal: what was refused before the run, each client's refused commands, the numbers of entries and frames, what filters
+/// counted, what else is told, and who is left waiting.
 pub(crate) fn short_report(
     alloc: Global,
+    work: &Work,
     faults: &[FaultList],
     journal: &[Entry],
     told: &[u8],
     waiting: &Option<Waiting>,
 ) -> Result<Bytes, AllocError>
     requires { length faults.now ≤ 8 }
-    ensures { IfOk result (λ lines. lines
-        ≡ lines_of_faults faults.now ++ lines_of_counts journal.now ++ told.now ++ lines_of_stuck waiting.now (length faults.now)) }
+    ensures { IfOk result (λ lines. lines ≡ lines_of_turns work.now faults.now journal.now told.now waiting.now) }
 {
-    let mut lines = fault_lines(alloc, faults)?;
+    let mut report = Bytes::from_slice(alloc, work.refused.as_slice())?;
+    let faulty = fault_lines(alloc, faults)?;
     let counts = count_lines(alloc, journal)?;
     let stuck = stuck_lines(alloc, waiting, faults.len())?;
-    lines.extend_from_slice(counts.as_bytes())?;
-    lines.extend_from_slice(told)?;
-    lines.append(stuck)?;
-    Ok(lines)
+    report.append(faulty)?;
+    report.extend_from_slice(counts.as_bytes())?;
+    report.extend_from_slice(work.counted.as_slice())?;
+    report.extend_from_slice(told)?;
+    report.append(stuck)?;
+    Ok(report)
 }
 
 // Where two commands touch the same.
@@ -296,10 +358,11 @@ fn asked_lines(alloc: Global, kept: &Record, orders: bool) -> Result<Bytes, OutO
     }
 }
 
-/// The report of a cluster's run: each client's refused commands, how much was sent to each tile, the numbers of entries and frames, where they are asked
-/// for the recorded orders, and who is left waiting.
+/// The report of a cluster's run: what was refused before it, each client's refused commands, how much was sent to each tile, the numbers of entries and
+/// frames, what filters counted, where they are asked for the recorded orders, and who is left waiting.
 pub(crate) fn cluster_report(
     alloc: Global,
+    work: &Work,
     faults: &[FaultList],
     tallies: &[Tally],
     kept: &Record,
@@ -309,15 +372,18 @@ pub(crate) fn cluster_report(
     requires faults { length faults.now ≤ 8 }
     requires clients { client_count kept.now.syncs ≤ 8 }
     requires tiles { length kept.now.logs ≤ 32 }
-    ensures { IfOk result (λ lines. lines ≡ lines_of_run faults.now tallies.now kept.now waiting.now orders) }
+    ensures { IfOk result (λ lines. lines ≡ lines_of_run work.now faults.now tallies.now kept.now waiting.now orders) }
 {
-    let mut report = fault_lines(alloc, faults)?;
+    let mut report = Bytes::from_slice(alloc, work.refused.as_slice())?;
+    let faulty = fault_lines(alloc, faults)?;
     let tiles = tile_lines(alloc, tallies)?;
     let counts = count_lines(alloc, kept.journal.as_slice())?;
     let recorded = asked_lines(alloc, kept, orders)?;
     let stuck = stuck_lines(alloc, waiting, faults.len())?;
+    report.append(faulty)?;
     report.append(tiles)?;
     report.extend_from_slice(counts.as_bytes())?;
+    report.extend_from_slice(work.counted.as_slice())?;
     report.append(recorded)?;
     report.append(stuck)?;
     Ok(report)

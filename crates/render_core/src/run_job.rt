@@ -1,23 +1,28 @@
-//! The top call: the words, the steps of the job that they name, and the notes.
-ghost use Rattle.std.specs.Prelude.{◌≡◌, ◌≤◌, ◌⊎◌, [], IfErr, IfOk, IfSome, OnOk};
-ghost use Rattle.rc_base.specs.Outside.Ends.{use_of};
-ghost use Rattle.render_core.specs.Finishes.{IsFinished, IsJobless};
-ghost use Rattle.render_core.specs.Jobs.{ForJob, IsJob, IsLine, IsThreaded, Reads, ShowsNothing};
-ghost use Rattle.render_core.specs.Outcomes.{Ran, IsAnswered, IsHeadline, KeepsOrders, IsUnwritten, IsLeft, IsLeftByThreads, HasNotes};
+//! The top call: the words, the steps of the task that they ask for, and the notes.
+ghost use Rattle.std.specs.Prelude.{◌≡◌, ◌≤◌, ◌⊎◌, [], List, map, string_bytes, IfErr, IfOk, IfSome, OnOk};
+ghost use Rattle.rc_base.specs.Outside.Ends.{use_of, Noted};
+ghost use Rattle.render_core.specs.Lines.{memory_line, usage_line};
+ghost use Rattle.spu_chain.specs.declared.rule.SpuRule.{SpuRule as AnyRule};
+ghost use Rattle.command_line.specs.Filters.{AreNamed};
+ghost use Rattle.render_core.specs.Finishes.{IsFinished, IsJobless, IsTaskless};
+ghost use Rattle.render_core.specs.Jobs.{AskFiltered, AskPlainly, ForTask, IsJob, IsLine, IsThreaded, Reads, ShowsNothing, Task as AnyTask, task_of};
+ghost use Rattle.render_core.specs.Outcomes.{Ran, IsAnswered, IsHeadline, KeepsOrders, IsUnwritten, IsLeft, IsLeftByThreads, HasNotes, LeavesMembers};
 ghost use Rattle.render_core.specs.Refusals.{kept_for};
-ghost use Rattle.render_core.specs.declared.job.Job.{Job as AnyJob};
 
-use crate::job::{Job, is_threaded, job_of};
+use crate::job::{Job, job_of};
 use crate::laws::{findings_are_one, ordered_records_show_one_image};
 use crate::notes::{conclude, note, note_refusal};
 use crate::refusal::{OUT_OF_MEMORY, Refused};
-use crate::steps::{perform, perform_in_threads};
+use crate::steps::{perform, perform_any};
 use crate::writing::Told;
-use command_line::lines_have_one_reading;
+use command_line::{
+    filters, leading_words_have_one_reading, lines_have_one_reading, named_rules_begin,
+};
 use order_model::record::Record;
 use rc_base::gate::Gate;
 use rc_base::out_of_memory::OutOfMemory;
 use rc_base::outside::{Sink, Source};
+use spu_chain::Spu;
 use std::alloc::Global;
 use std::sync::Wait;
 use std::thread::Threads;
@@ -40,8 +45,33 @@ fn kept_for(status: u8, kept: Option<Record>) -> Option<Record>
     if status == 6 { kept } else { None }
 }
 
+// Notes that nothing is asked for, and ends the run so.
+#[tactic(auto, unfolding(crate::specs::Lines::usage_line))]
+fn end_unasked<N: Sink>(notes: &mut N) -> Finish
+    ensures ended { (result.status ≡ 1) × (result.kept ≡ None) × Noted (use_of N.held N.faults notes.old notes.new) usage_line }
+    ensures later { N.faults notes.old ≤ N.faults notes.new }
+{
+    note(notes, "rc: usage\n");
+    Finish {
+        status: 1,
+        kept: None,
+    }
+}
+
+// Notes that there was no memory for the words, and ends the run so.
+#[tactic(auto, unfolding(crate::specs::Lines::memory_line))]
+fn end_short<N: Sink>(notes: &mut N) -> Finish
+    ensures ended { (result.status ≡ 7) × (result.kept ≡ None) × Noted (use_of N.held N.faults notes.old notes.new) memory_line }
+    ensures later { N.faults notes.old ≤ N.faults notes.new }
+{
+    note(notes, OUT_OF_MEMORY);
+    Finish {
+        status: 7,
+        kept: None,
+    }
+}
+
 // The job of the words. Where they name none, or there was no memory for them, that is noted, and the run ends so.
-#[tactic(auto, unfolding(crate::specs::Lines::usage_line, crate::specs::Lines::memory_line))]
 fn job_for<N: Sink>(alloc: Global, words: &[String], notes: &mut N) -> Result<Job, Finish>
     ensures job { IfOk result (IsJob words.now) }
     ensures unnoted { OnOk result (notes.new ≡ notes.old) }
@@ -50,20 +80,24 @@ fn job_for<N: Sink>(alloc: Global, words: &[String], notes: &mut N) -> Result<Jo
 {
     match job_of(alloc, words) {
         Ok(Some(job)) => Ok(job),
-        Ok(None) => {
-            note(notes, "rc: usage\n");
-            Err(Finish {
-                status: 1,
-                kept: None,
-            })
-        }
-        Err(OutOfMemory) => {
-            note(notes, OUT_OF_MEMORY);
-            Err(Finish {
-                status: 7,
-                kept: None,
-            })
-        }
+        Ok(None) => Err(end_unasked(notes)),
+        Err(OutOfMemory) => Err(end_short(notes)),
+    }
+}
+
+// The job of the words behind those of filters, which are a chain's. Where they ask for none so, or there was no memory for them, that is noted, and
+// the run ends so.
+fn job_behind<N: Sink>(alloc: Global, words: &[String], notes: &mut N) -> Result<Job, Finish>
+    ensures asked { IfOk result (λ job. (rules : List AnyRule) → AreNamed (map string_bytes words.now) rules → AskFiltered words.now (task_of rules job)) }
+    ensures unnoted { OnOk result (notes.new ≡ notes.old) }
+    ensures none { IfErr result (IsTaskless (AskFiltered words.now) (use_of N.held N.faults notes.old notes.new)) }
+    ensures later { N.faults notes.old ≤ N.faults notes.new }
+{
+    leading_words_have_one_reading();
+    match filters(alloc, words) {
+        Ok(Some((_, count))) => job_for(alloc, &words[count..], notes),
+        Ok(None) => Err(end_unasked(notes)),
+        Err(OutOfMemory) => Err(end_short(notes)),
     }
 }
 
@@ -103,14 +137,14 @@ pub fn run_alone<S: Source, K: Sink, N: Sink>(
     requires { IsThreaded words.now → ⊥ }
     // A record that is kept is lawful, its orders are permitted, and the image shows the frames that it tells; where the scene is ordered that image is
     // the one of every permitted order.
-    ensures headline { IfSome result.kept (IsHeadline words.now (use_of S.left S.faults source.old source.new)
+    ensures headline { IfSome result.kept (IsHeadline (AskPlainly words.now) (use_of S.left S.faults source.old source.new)
         (use_of K.held K.faults image.old image.new) result.status) }
     // What the status says of the words, the source's bytes, what image and notes were given, and the record that is kept.
-    ensures ran { Ran words.now (use_of S.left S.faults source.old source.new)
+    ensures ran { Ran (AskPlainly words.now) (use_of S.left S.faults source.old source.new)
         (use_of K.held K.faults image.old image.new)
         (use_of N.held N.faults notes.old notes.new) result.status result.kept }
     // What the source holds decides the status.
-    ensures exact { IsAnswered words.now (use_of S.left S.faults source.old source.new)
+    ensures exact { IsAnswered (AskPlainly words.now) (use_of S.left S.faults source.old source.new)
         (use_of K.held K.faults image.old image.new)
         (use_of N.held N.faults notes.old notes.new) result.status result.kept }
     // Each order that a kept record tells keeps each client's order, every barrier and every semaphore grant.
@@ -118,18 +152,18 @@ pub fn run_alone<S: Source, K: Sink, N: Sink>(
     // Words that are no command line are told to be none, whatever memory there is.
     ensures usage { (IsLine words.now → ⊥) → result.status ≡ 1 }
     // Where the words are no job that reads nothing is read: a job that makes its scene leaves the source as it was.
-    ensures unread { ((job : AnyJob) → IsJob words.now job → Reads job → ⊥) → source.new ≡ source.old }
+    ensures unread { ((task : AnyTask) → AskPlainly words.now task → Reads task.job → ⊥) → source.new ≡ source.old }
     // The image is untouched, save where the job is carried out, or where it failed or there was no memory.
     ensures untouched { IsUnwritten result.status → image.new ≡ image.old }
     // A job that shows nothing leaves it alone, whatever the status.
-    ensures blank { ForJob words.now ShowsNothing → image.new ≡ image.old }
+    ensures blank { ForTask (AskPlainly words.now) (λ task. ShowsNothing task.job) → image.new ≡ image.old }
     // Where there was no memory it was given a front of what is due.
     ensures memory { result.status ≡ 7 → (image.new ≡ image.old)
-        ⊎ IsLeft words.now (use_of S.left S.faults source.old source.new)
+        ⊎ IsLeft (AskPlainly words.now) (use_of S.left S.faults source.old source.new)
         (use_of K.held K.faults image.old image.new) }
     // Notes to which nothing is due stay as they are.
     ensures silent { result.status ≡ 0 → (notes.new ≡ notes.old)
-        ⊎ HasNotes words.now (use_of S.left S.faults source.old source.new)
+        ⊎ HasNotes (AskPlainly words.now) (use_of S.left S.faults source.old source.new)
         (use_of K.held K.faults image.old image.new)
         (use_of N.held N.faults notes.old notes.new) result.kept }
     // No count of refused calls falls.
@@ -144,7 +178,8 @@ pub fn run_alone<S: Source, K: Sink, N: Sink>(
         Ok(job) => job,
         Err(finish) => return finish,
     };
-    let performed = perform(alloc, job, source, image);
+    let mut chain: Vec<Box<dyn Spu>> = Vec::new(alloc);
+    let performed = perform(alloc, &mut chain, job, source, image);
     finish_of(alloc, notes, performed)
 }
 
@@ -174,14 +209,14 @@ where
     R: Threads + Wait + Copy + Send + Sync + Drop,
     // A record that is kept is lawful, its orders are permitted, and the image shows the frames that it tells; where the scene is ordered that image is
     // the one of every permitted order.
-    ensures headline { IfSome result.kept (IsHeadline words.now (use_of S.left S.faults source.old source.new)
+    ensures headline { IfSome result.kept (IsHeadline (AskPlainly words.now) (use_of S.left S.faults source.old source.new)
         (use_of K.held K.faults image.old image.new) result.status) }
     // What the status says of the words, the source's bytes, what image and notes were given, and the record that is kept.
-    ensures ran { Ran words.now (use_of S.left S.faults source.old source.new)
+    ensures ran { Ran (AskPlainly words.now) (use_of S.left S.faults source.old source.new)
         (use_of K.held K.faults image.old image.new)
         (use_of N.held N.faults notes.old notes.new) result.status result.kept }
     // What the source holds decides the status.
-    ensures exact { IsAnswered words.now (use_of S.left S.faults source.old source.new)
+    ensures exact { IsAnswered (AskPlainly words.now) (use_of S.left S.faults source.old source.new)
         (use_of K.held K.faults image.old image.new)
         (use_of N.held N.faults notes.old notes.new) result.status result.kept }
     // Each order that a kept record tells keeps each client's order, every barrier and every semaphore grant.
@@ -189,18 +224,18 @@ where
     // Words that are no command line are told to be none, whatever memory there is.
     ensures usage { (IsLine words.now → ⊥) → result.status ≡ 1 }
     // Where the words are no job that reads nothing is read: a job that makes its scene leaves the source as it was.
-    ensures unread { ((job : AnyJob) → IsJob words.now job → Reads job → ⊥) → source.new ≡ source.old }
+    ensures unread { ((task : AnyTask) → AskPlainly words.now task → Reads task.job → ⊥) → source.new ≡ source.old }
     // The image is untouched, save where the job is carried out, or where it failed or there was no memory.
     ensures untouched { IsUnwritten result.status → image.new ≡ image.old }
     // A job that shows nothing leaves it alone, whatever the status.
-    ensures blank { ForJob words.now ShowsNothing → image.new ≡ image.old }
+    ensures blank { ForTask (AskPlainly words.now) (λ task. ShowsNothing task.job) → image.new ≡ image.old }
     // Where there was no memory it was given a front of what is due, or, by a job on threads, of frames that no record tells.
     ensures memory { result.status ≡ 7 → (image.new ≡ image.old)
-        ⊎ IsLeftByThreads words.now (use_of S.left S.faults source.old source.new)
+        ⊎ IsLeftByThreads (AskPlainly words.now) (use_of S.left S.faults source.old source.new)
         (use_of K.held K.faults image.old image.new) }
     // Notes to which nothing is due stay as they are.
     ensures silent { result.status ≡ 0 → (notes.new ≡ notes.old)
-        ⊎ HasNotes words.now (use_of S.left S.faults source.old source.new)
+        ⊎ HasNotes (AskPlainly words.now) (use_of S.left S.faults source.old source.new)
         (use_of K.held K.faults image.old image.new)
         (use_of N.held N.faults notes.old notes.new) result.kept }
     // No count of refused calls falls.
@@ -208,9 +243,6 @@ where
     ensures later_image { K.faults image.old ≤ K.faults image.new }
     ensures later_notes { N.faults notes.old ≤ N.faults notes.new }
 {
-    if !is_threaded(words) {
-        return run_alone(alloc, words, source, image, notes);
-    }
     lines_have_one_reading();
     findings_are_one();
     ordered_records_show_one_image();
@@ -218,6 +250,78 @@ where
         Ok(job) => job,
         Err(finish) => return finish,
     };
-    let performed = perform_in_threads(rt, alloc, job, source, image, gate);
+    let mut chain: Vec<Box<dyn Spu>> = Vec::new(alloc);
+    let performed = perform_any(rt, alloc, &mut chain, job, source, image, gate);
+    finish_of(alloc, notes, performed)
+}
+
+/// Carries out the job behind the filters that the words begin with: `recolour R G B A`, `cull`, `drop NAME` or `count`, at most 16 of them. The jobs
+/// that read a scene to draw or to judge it (`render`, `simulate`, `serial`, `last`, `check` and `race`) take each client's stream through the members of
+/// the chain, clients rising, with call lists expanded before, and are those of `run` over what comes out. All limits are judged before. Their report has
+/// a line `filter K count N` for each member that counts. The other jobs give the members nothing. Words of which no chain or no job can be read are told
+/// to be none, with status 1. Without filters this is `run`.
+///
+/// The chain's members are those that the leading words name, in their order, as `filters` reads them.
+pub fn run_filtered<S: Source, K: Sink, N: Sink, G: Gate, R>(
+    rt: R,
+    alloc: Global,
+    chain: &mut Vec<Box<dyn Spu>>,
+    words: &[String],
+    source: &mut S,
+    image: &mut K,
+    notes: &mut N,
+    gate: &G,
+) -> Finish
+where
+    R: Threads + Wait + Copy + Send + Sync + Drop,
+    // The members are those that the leading words name, and there is none where these name no chain.
+    requires named { AreNamed (map string_bytes words.now) (map (λ b. meaning b) chain.old.items) }
+    // A record that is kept is lawful, its orders are permitted, and the image shows the frames that it tells; where the scene is ordered that image is
+    // the one of every permitted order.
+    ensures headline { IfSome result.kept (IsHeadline (AskFiltered words.now) (use_of S.left S.faults source.old source.new)
+        (use_of K.held K.faults image.old image.new) result.status) }
+    // What the status says of the words, the source's bytes, what image and notes were given, and the record that is kept.
+    ensures ran { Ran (AskFiltered words.now) (use_of S.left S.faults source.old source.new)
+        (use_of K.held K.faults image.old image.new)
+        (use_of N.held N.faults notes.old notes.new) result.status result.kept }
+    // What the source holds decides the status.
+    ensures exact { IsAnswered (AskFiltered words.now) (use_of S.left S.faults source.old source.new)
+        (use_of K.held K.faults image.old image.new)
+        (use_of N.held N.faults notes.old notes.new) result.status result.kept }
+    // Each order that a kept record tells keeps each client's order, every barrier and every semaphore grant.
+    ensures permitted { IfSome result.kept KeepsOrders }
+    // Where the words are no job that reads nothing is read: a job that makes its scene leaves the source as it was.
+    ensures unread { ((task : AnyTask) → AskFiltered words.now task → Reads task.job → ⊥) → source.new ≡ source.old }
+    // The image is untouched, save where the job is carried out, or where it failed or there was no memory.
+    ensures untouched { IsUnwritten result.status → image.new ≡ image.old }
+    // A job that shows nothing leaves it alone, whatever the status.
+    ensures blank { ForTask (AskFiltered words.now) (λ task. ShowsNothing task.job) → image.new ≡ image.old }
+    // Where there was no memory it was given a front of what is due, or, by a job on threads, of frames that no record tells.
+    ensures memory { result.status ≡ 7 → (image.new ≡ image.old)
+        ⊎ IsLeftByThreads (AskFiltered words.now) (use_of S.left S.faults source.old source.new)
+        (use_of K.held K.faults image.old image.new) }
+    // Notes to which nothing is due stay as they are.
+    ensures silent { result.status ≡ 0 → (notes.new ≡ notes.old)
+        ⊎ HasNotes (AskFiltered words.now) (use_of S.left S.faults source.old source.new)
+        (use_of K.held K.faults image.old image.new)
+        (use_of N.held N.faults notes.old notes.new) result.kept }
+    // What the members are left with.
+    ensures members { LeavesMembers (AskFiltered words.now) (use_of S.left S.faults source.old source.new) result.status
+        (map (λ b. meaning b) chain.old.items) (map (λ b. meaning b) chain.new.items) }
+    // No count of refused calls falls.
+    ensures later_source { S.faults source.old ≤ S.faults source.new }
+    ensures later_image { K.faults image.old ≤ K.faults image.new }
+    ensures later_notes { N.faults notes.old ≤ N.faults notes.new }
+{
+    leading_words_have_one_reading();
+    named_rules_begin();
+    lines_have_one_reading();
+    findings_are_one();
+    ordered_records_show_one_image();
+    let job = match job_behind(alloc, words, notes) {
+        Ok(job) => job,
+        Err(finish) => return finish,
+    };
+    let performed = perform_any(rt, alloc, chain, job, source, image, gate);
     finish_of(alloc, notes, performed)
 }

@@ -4,10 +4,10 @@ use Rattle.std.specs.List.{flat_map, AllByRecursion}
 use Rattle.std.specs.Int.{w16, w32}
 use Rattle.std.proofs.lemmas.List.Concat.{flat_map-cons}
 use Rattle.rc_base.specs.Formats.Commands.{AreBytes}
-use Rattle.rc_base.specs.Formats.Spelling.{half, long, size, IsVersion, IsDecl, IsSide, IsSize, IsCount, stream_text}
+use Rattle.rc_base.specs.Formats.Spelling.{SceneForm, half, long, size, IsDeclOf, IsSide, IsSize, IsCount, stream_text}
 use Rattle.cmd_pack.specs.declared.fault.Form.{Form}
-use Rattle.cmd_pack.proofs.Codec.{AreBytes-rest, Codec, sized_codec, convert_codec}
-use Rattle.cmd_pack.proofs.NumberCodecs.{IsByte, one_byte, byte_codec, number_codec, run_codec, IsRun, wide16, wide32}
+use Rattle.cmd_pack.specs.Codec.{AreBytes-rest, Codec, sized_codec, convert_codec}
+use Rattle.cmd_pack.specs.NumberCodecs.{IsByte, one_byte, byte_codec, number_codec, run_codec, IsRun, wide16, wide32}
 use Rattle.scene_file.specs.declared.header.Head.{Head}
 use Rattle.cmd_pack.specs.Reading.{cons}
 use Rattle.scene_file.specs.Reading.{read_half, read_times, make_size, read_size, Front, make_head, read_head, second, read_text}
@@ -79,11 +79,6 @@ head_text h =
     ++ ((h.clients ∷ length h.decl.shared ∷ length h.decl.barriers ∷ length h.decl.semaphores ∷ [])
     ++ (flat_map size h.decl.shared ++ (h.decl.barriers ++ flat_map half h.decl.semaphores))))
 
-pub record IsHead (v : ℕ) (h : Head) : Type 0 where
-  pub decl : IsDecl h.decl
-  pub version : h.decl.version ≡ v
-  pub clients : h.clients < 256
-
 abbrev IsFront : Front → Type 0
 IsFront x = IsSide x.0 × (IsSide x.1.0 × (IsByte x.1.1.0 × (IsByte x.1.1.1.0 × (IsByte x.1.1.1.1.0 × IsByte x.1.1.1.1.1))))
 
@@ -99,51 +94,57 @@ AreLists x y = AreTimes IsSize x.1.1.1.0 y.0 × (IsRun x.1.1.1.1.0 y.1.0 × AreT
 abbrev lists_text : Lists → List ℕ
 lists_text y = flat_map size y.0 ++ (y.1.0 ++ flat_map half y.1.1)
 
-head_same : (version : ℕ) → IsVersion version → (x : Front × Lists) → IsFront x.0 × AreLists x.0 x.1
-    → (head_text (make_head version x) ≡ front_text x.0 ++ lists_text x.1) × IsHead version (make_head version x)
-head_same version is_version x fits =
-    let few = fits.0.1.1.1 in
-    let shared = fits.1.0 in
-    let barriers = fits.1.1.0 in
-    let semaphores = fits.1.1.1 in (
-      λ i. half x.0.0 ++ (half x.0.1.0 ++ ((x.0.1.1.0 ∷ shared.0 i ∷ barriers.0 i ∷ semaphores.0 i ∷ []) ++ lists_text x.1)),
-      record {
-        decl = record {
-          version = is_version;
-          width = fits.0.0;
-          height = fits.0.1.0;
-          few_shared = omega (arith, shared.0, few.0);
-          few_barriers = omega (arith, barriers.0, few.1.0);
-          few_semaphores = omega (arith, semaphores.0, few.1.1);
-          shared = shared.1;
-          barriers = all_bytes x.1.1.0 barriers.1;
-          semaphores = semaphores.1;
-        };
-        version = refl;
-        clients = fits.0.1.1.0;
-      },
-    )
+module _ {C O : Type 0} (form : SceneForm C O) where
+  pub record IsHead (v : ℕ) (h : Head) : Type 0 where
+    pub decl : IsDeclOf form h.decl
+    pub version : h.decl.version ≡ v
+    pub clients : h.clients < 256
 
-head_back : (version : ℕ) (h : Head) → IsHead version h → (x : Front × Lists) × (IsFront x.0 × AreLists x.0 x.1) × (make_head version x ≡ h)
-head_back version h is =
-    let d = h.decl in (
-      ((d.width, (d.height, (h.clients, (length d.shared, (length d.barriers, length d.semaphores))))), (d.shared, (d.barriers, d.semaphores))),
-      (
-        (is.decl.width, (is.decl.height, (is.clients, (is.decl.few_shared, (is.decl.few_barriers, is.decl.few_semaphores))))),
-        ((refl, is.decl.shared), ((refl, are_bytes d.barriers is.decl.barriers), (refl, is.decl.semaphores))),
-      ),
-      λ i. record { decl = record { version = sym is.version i; width = d.width; height = d.height; shared = d.shared; barriers = d.barriers; semaphores = d.semaphores }; clients = h.clients },
-    )
+  head_same : (version : ℕ) → form.IsDrawn version → (x : Front × Lists) → IsFront x.0 × AreLists x.0 x.1
+      → (head_text (make_head version x) ≡ front_text x.0 ++ lists_text x.1) × IsHead version (make_head version x)
+  head_same version is_version x fits =
+      let few = fits.0.1.1.1 in
+      let shared = fits.1.0 in
+      let barriers = fits.1.1.0 in
+      let semaphores = fits.1.1.1 in (
+        λ i. half x.0.0 ++ (half x.0.1.0 ++ ((x.0.1.1.0 ∷ shared.0 i ∷ barriers.0 i ∷ semaphores.0 i ∷ []) ++ lists_text x.1)),
+        record {
+          decl = record {
+            version = is_version;
+            width = fits.0.0;
+            height = fits.0.1.0;
+            few_shared = omega (arith, shared.0, few.0);
+            few_barriers = omega (arith, barriers.0, few.1.0);
+            few_semaphores = omega (arith, semaphores.0, few.1.1);
+            shared = shared.1;
+            barriers = all_bytes x.1.1.0 barriers.1;
+            semaphores = semaphores.1;
+          };
+          version = refl;
+          clients = fits.0.1.1.0;
+        },
+      )
 
-pub head_codec : (version : ℕ) → IsVersion version → Codec (read_head version) head_text (IsHead version)
-unfolding read_head
-head_codec version is_version =
-    convert_codec (make_head version) head_text (IsHead version)
-    (sized_codec {s = front_text} {F = IsFront} {t = λ _ y. lists_text y} {G = AreLists}
-    (sized_codec half_codec (λ _ _. sized_codec half_codec (λ _ _. sized_codec byte_codec (λ _ _. sized_codec byte_codec (λ _ _. sized_codec byte_codec (λ _ _. byte_codec))))))
-    (λ x _. sized_codec (times_codec size_codec x.1.1.1.0) (λ _ _. sized_codec (run_codec x.1.1.1.1.0) (λ _ _. times_codec half_codec x.1.1.1.1.1))))
-    (head_same version is_version)
-    (head_back version)
+  head_back : (version : ℕ) (h : Head) → IsHead version h → (x : Front × Lists) × (IsFront x.0 × AreLists x.0 x.1) × (make_head version x ≡ h)
+  head_back version h is =
+      let d = h.decl in (
+        ((d.width, (d.height, (h.clients, (length d.shared, (length d.barriers, length d.semaphores))))), (d.shared, (d.barriers, d.semaphores))),
+        (
+          (is.decl.width, (is.decl.height, (is.clients, (is.decl.few_shared, (is.decl.few_barriers, is.decl.few_semaphores))))),
+          ((refl, is.decl.shared), ((refl, are_bytes d.barriers is.decl.barriers), (refl, is.decl.semaphores))),
+        ),
+        λ i. record { decl = record { version = sym is.version i; width = d.width; height = d.height; shared = d.shared; barriers = d.barriers; semaphores = d.semaphores }; clients = h.clients },
+      )
+
+  pub head_codec : (version : ℕ) → form.IsDrawn version → Codec (read_head version) head_text (IsHead version)
+  unfolding read_head
+  head_codec version is_version =
+      convert_codec (make_head version) head_text (IsHead version)
+      (sized_codec {s = front_text} {F = IsFront} {t = λ _ y. lists_text y} {G = AreLists}
+      (sized_codec half_codec (λ _ _. sized_codec half_codec (λ _ _. sized_codec byte_codec (λ _ _. sized_codec byte_codec (λ _ _. sized_codec byte_codec (λ _ _. byte_codec))))))
+      (λ x _. sized_codec (times_codec size_codec x.1.1.1.0) (λ _ _. sized_codec (run_codec x.1.1.1.1.0) (λ _ _. times_codec half_codec x.1.1.1.1.1))))
+      (head_same version is_version)
+      (head_back version)
 
 -- ---- a stream and its length
 

@@ -1,8 +1,8 @@
 mod Versions
+pub mod LettersAtFront
 pub mod LeastSwaps
 pub mod LimitsByParts
 pub mod TimesInTurn
-pub mod LettersAtFront
 pub mod HeaderCodec
 pub mod StreamsInTurn
 pub mod OneScene
@@ -10,6 +10,7 @@ pub mod OneFault
 pub mod AnswersForced
 pub mod WrittenSpells
 pub mod SpelledOrFaulty
+pub mod BothForms
 pub mod CommandsCounted
 pub mod DrawsFromState
 pub mod TurnsOfClients

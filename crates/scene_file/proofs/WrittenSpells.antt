@@ -11,7 +11,7 @@ use Rattle.rc_base.specs.declared.scene.Decl.{Decl}
 use Rattle.rc_base.specs.declared.scene.Limit.{Limit}
 use Rattle.rc_base.specs.declared.scene.Scene.{Scene}
 use Rattle.rc_base.specs.Formats.Limits.{first_outside, barrier_count, side, size_area, limit_of}
-use Rattle.rc_base.specs.Formats.Spelling.{half, size, magic, header, stream_text, encoded, IsCount, IsSide, IsSize, IsDecl, IsPacket, SpellStreams, SpellsScene}
+use Rattle.rc_base.specs.Formats.Spelling.{CommandSet, SceneForm, half, size, magic, header, stream_text, encoded, IsCount, IsSide, IsSize, IsDecl, IsDeclOf, IsPacketOf, SpellStreams, SpellStreamsOf, SpellsScene, SpellsSceneOf}
 use Rattle.cmd_pack.proofs.EncodedSpells.{all_both, encoded_spells}
 use Rattle.scene_file.specs.Written.{written, IsShort, IsEncoded, IsWritable}
 use Rattle.scene_file.specs.Judging.{or_else, one, window_part, judge_counts, judge_decl}
@@ -142,16 +142,18 @@ all_encoded (cs ∷ css) h = (encoded_spells cs h.0, all_encoded css h.1)
 pub written_read : (s : Scene) → IsWritable s → IsDecl s.decl → AllByRecursion (AllByRecursion IsCommand) s.streams → SpellsScene (written s) s
 written_read s is decl commands = scene_written s is (decl.shared, decl.semaphores) (all_encoded s.streams commands)
 
-packets_typed : (ps : List (List Command)) → AllByRecursion IsPacket ps → AllByRecursion IsCommand (flat_map (λ p. p) ps)
-packets_typed [] h = tt
-packets_typed (p ∷ ps) h = subst (AllByRecursion IsCommand) (sym (flat_map-cons (λ (l : List Command). l) p ps)) (all_both IsCommand p (flat_map (λ l. l) ps) h.0.each (packets_typed ps h.1))
+module _ {C O : Type 0} (set : CommandSet C O) where
+  packets_typed : (ps : List (List C)) → AllByRecursion (IsPacketOf set) ps → AllByRecursion set.IsOne (flat_map (λ p. p) ps)
+  packets_typed [] h = tt
+  packets_typed (p ∷ ps) h = subst (AllByRecursion set.IsOne) (sym (flat_map-cons (λ (l : List C). l) p ps)) (all_both set.IsOne p (flat_map (λ l. l) ps) h.0.each (packets_typed ps h.1))
 
-streams_typed : (ts : List (List ℕ)) (css : List (List Command)) → SpellStreams ts css → AllByRecursion (AllByRecursion IsCommand) css
-streams_typed [] [] h = tt
-streams_typed [] (cs ∷ css) h = absurd h
-streams_typed (t ∷ ts) [] h = absurd h
-streams_typed (t ∷ ts) (cs ∷ css) h = (subst (AllByRecursion IsCommand) (sym h.0.whole) (packets_typed h.0.packets h.0.each), streams_typed ts css h.2)
+  streams_typed : (ts : List (List ℕ)) (css : List (List C)) → SpellStreamsOf set ts css → AllByRecursion (AllByRecursion set.IsOne) css
+  streams_typed [] [] h = tt
+  streams_typed [] (cs ∷ css) h = absurd h
+  streams_typed (t ∷ ts) [] h = absurd h
+  streams_typed (t ∷ ts) (cs ∷ css) h = (subst (AllByRecursion set.IsOne) (sym h.0.whole) (packets_typed h.0.packets h.0.each), streams_typed ts css h.2)
 
 -- the fields of a scene that was read are in their ranges
-pub read_typed : (bytes : List ℕ) (s : Scene) → SpellsScene bytes s → IsDecl s.decl × AllByRecursion (AllByRecursion IsCommand) s.streams
-read_typed bytes s sp = (sp.decl, streams_typed sp.texts s.streams sp.each)
+pub read_typed : {C O : Type 0} (form : SceneForm C O) (bytes : List ℕ) (d : Decl) (css : List (List C)) → SpellsSceneOf form bytes d css
+    → IsDeclOf form d × AllByRecursion (AllByRecursion form.set.IsOne) css
+read_typed form bytes d css sp = (sp.decl, streams_typed form.set sp.texts css sp.each)

@@ -1,10 +1,8 @@
 -- Scenes whose commands and frames are counted, and whose commands are stored where they are no more than may be.
-use Rattle.std.specs.Prelude.{◌≡◌, ℕ, ◌==◌, ◌≤◌, ◌<◌, ◌^◌, min, List, length, if◌then◌else◌}
-use Rattle.rc_base.specs.declared.command.Command.{Command}
-use Rattle.rc_base.specs.declared.scene.Scene.{Scene}
-use Rattle.rc_base.specs.Formats.Limits.{swaps_in, least_swaps, commands_in}
-use Rattle.rc_base.specs.Formats.Spelling.{SpellsScene}
-use Rattle.cmd_pack.specs.declared.reading.Decoded.{Decoded}
+use Rattle.std.specs.Prelude.{◌≡◌, ℕ, ◌==◌, ◌≤◌, ◌<◌, ◌^◌, min, Bool, List, [], ◌∷◌, length, sum_by, count_by, if◌then◌else◌}
+use Rattle.rc_base.specs.declared.scene.Decl.{Decl}
+use Rattle.rc_base.specs.Formats.Spelling.{CommandSet, SceneForm, SpellsSceneOf}
+use Rattle.cmd_pack.specs.declared.packets.DecodedOf.{DecodedOf}
 use Rattle.scene_file.specs.declared.reading.Counted.{Counted}
 use Rattle.scene_file.specs.Faults.{IsFirstText}
 
@@ -12,27 +10,34 @@ use Rattle.scene_file.specs.Faults.{IsFirstText}
 abbrev pub frames_with : ℕ → ℕ → ℕ → ℕ
 frames_with before frames swaps = if before == 0 then swaps else min frames swaps
 
+-- the least number of commands in a stream that show a frame
+abbrev pub least_shown : {C : Type 0} → (C → Bool) → List (List C) → ℕ
+least_shown shows [] = 0
+least_shown shows (s ∷ []) = count_by shows s
+least_shown shows (s ∷ (t ∷ ts)) = min (count_by shows s) (least_shown shows (t ∷ ts))
+
 -- The bytes begin with a stream's length and its bytes, which spell commands. They and the Swaps among them were counted, and they were stored where
 -- there was room for so many.
-pub record DecodesFirst (bytes : List ℕ) (room : ℕ) (x : Decoded) (after : List ℕ) : Type 0 where
-  pub all : List Command
-  pub first : IsFirstText bytes all after
+pub record DecodesFirst {C O : Type 0} (set : CommandSet C O) (shows : C → Bool) (bytes : List ℕ) (room : ℕ) (x : DecodedOf C) (after : List ℕ) : Type 0 where
+  pub all : List C
+  pub first : IsFirstText set bytes all after
   pub counted : x.count ≡ length all
-  pub swaps : x.swaps ≡ swaps_in all
+  pub swaps : x.swaps ≡ count_by shows all
   pub stored : x.count ≤ room → x.commands ≡ all
   pub few : x.count < 2 ^ 32
 
--- What was read stands for a scene: its declaration, its streams, how many commands and frames they have, and the commands where they are not too
--- many.
-pub record Counts (x : Counted) (s : Scene) : Type 0 where
-  pub decl : x.scene.decl ≡ s.decl
-  pub clients : length x.scene.streams ≡ length s.streams
-  pub counted : x.commands ≡ commands_in s.streams
-  pub frames : x.frames ≡ least_swaps s.streams
-  pub stored : x.commands ≤ 1048576 → x.scene ≡ s
+-- What was read stands for a scene of this declaration and these streams: the declaration, as many streams, how many commands and frames they have,
+-- and the commands where they are not too many.
+pub record Counts {C : Type 0} (shows : C → Bool) (x : Counted C) (d : Decl) (streams : List (List C)) : Type 0 where
+  pub decl : x.decl ≡ d
+  pub clients : length x.streams ≡ length streams
+  pub counted : x.commands ≡ sum_by length streams
+  pub frames : x.frames ≡ least_shown shows streams
+  pub stored : x.commands ≤ 1048576 → x.streams ≡ streams
 
 -- The bytes spell a scene, for which this stands.
-pub record SpellsCounted (bytes : List ℕ) (x : Counted) : Type 0 where
-  pub scene : Scene
-  pub spells : SpellsScene bytes scene
-  pub counts : Counts x scene
+pub record SpellsCounted {C O : Type 0} (form : SceneForm C O) (shows : C → Bool) (bytes : List ℕ) (x : Counted C) : Type 0 where
+  pub decl : Decl
+  pub streams : List (List C)
+  pub spells : SpellsSceneOf form bytes decl streams
+  pub counts : Counts shows x decl streams

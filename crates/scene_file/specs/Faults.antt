@@ -1,20 +1,22 @@
 -- What is wrong with bytes that spell no scene, and at which place: the first fault from the left.
-use Rattle.std.specs.Prelude.{◌≡◌, ℕ, suc, ◌+◌, ◌<◌, ◌^◌, ◌⊎◌, List, ◌∷◌, ◌++◌, length, Some, None, Result, Ok, Err}
+use Rattle.std.specs.Prelude.{◌≡◌, ℕ, suc, ◌+◌, ◌<◌, ◌^◌, ◌⊎◌, List, [], ◌∷◌, ◌++◌, length, Option, Some, None, Result, Ok, Err}
 use Rattle.std.specs.List.{flat_map}
-use Rattle.rc_base.specs.declared.command.Command.{Command}
 use Rattle.rc_base.specs.declared.scene.Decl.{Decl}
 use Rattle.rc_base.specs.declared.scene.Scene.{Scene}
+use Rattle.rc_base.specs.declared.scene.Limit.{Limit}
 use Rattle.rc_base.specs.declared.scene.SceneKind.{SceneKind}
 use Rattle.rc_base.specs.declared.scene.SceneKind.TheVariants.{BadMagic, BadCount, UnknownOpcode, Truncated, Trailing}
-use Rattle.rc_base.specs.Formats.Spelling.{magic, header, IsDecl, stream_text, SpellStreams, SpellsStream, SpellsScene}
-use Rattle.rc_base.specs.Formats.Limits.{limit_of}
+use Rattle.rc_base.specs.Formats.Spelling.{CommandSet, SceneForm, plain_form, list_form, header_of, IsDeclOf, stream_text, SpellStreamsOf, SpellsStreamOf, SpellsSceneOf, SpellsScene}
+use Rattle.rc_base.specs.Formats.Limits.{limit_of, read_limit}
 use Rattle.cmd_pack.specs.declared.fault.PackFault.{PackFault}
 use Rattle.cmd_pack.specs.declared.fault.PackFault.TheVariants as faults
-use Rattle.cmd_pack.specs.Faults.{FailsAsStream}
+use Rattle.cmd_pack.specs.Faults.{FailsAsStreamOf}
 use Rattle.scene_file.specs.declared.fault.Broken.{Broken}
 use Rattle.scene_file.specs.declared.fault.Broken.TheVariants as broken
 use Rattle.scene_file.specs.declared.fault.SceneFault.{SceneFault}
 use Rattle.scene_file.specs.declared.fault.SceneFault.TheVariants as scene_faults
+use Rattle.scene_file.specs.declared.list_scene.ListScene.{ListScene}
+use Rattle.scene_file.specs.Letters.{Letters, plain_letters, list_letters}
 
 -- The bytes begin as the letters do, and then comes another byte than theirs, at this place.
 pub record Differs (letters bytes : List ℕ) (at : ℕ) : Type 0 where
@@ -28,6 +30,12 @@ pub record Differs (letters bytes : List ℕ) (at : ℕ) : Type 0 where
   pub differs : byte ≡ letter → ⊥
   pub place : at ≡ length front
 
+-- The same of several: the bytes begin as they all do up to this place, and there none of them goes on.
+abbrev pub DiffersFromAll : List (List ℕ) → List ℕ → ℕ → Type 0
+DiffersFromAll [] bytes at = Unit {0}
+DiffersFromAll (letters ∷ []) bytes at = Differs letters bytes at
+DiffersFromAll (letters ∷ (others ∷ more)) bytes at = Differs letters bytes at × DiffersFromAll (others ∷ more) bytes at
+
 -- a part of a list, and not the whole
 pub record IsPartOf (whole bytes : List ℕ) : Type 0 where
   pub more : List ℕ
@@ -35,12 +43,12 @@ pub record IsPartOf (whole bytes : List ℕ) : Type 0 where
   pub some : 0 < length more
 
 -- a part of a header
-pub record IsCutHeader (bytes : List ℕ) : Type 0 where
+pub record IsCutHeader {C O : Type 0} (form : SceneForm C O) (bytes : List ℕ) : Type 0 where
   pub decl : Decl
   pub clients : ℕ
-  pub is_decl : IsDecl decl
+  pub is_decl : IsDeclOf form decl
   pub few : clients < 256
-  pub is_part : IsPartOf (header decl clients) bytes
+  pub is_part : IsPartOf (header_of form decl clients) bytes
 
 -- a part of a stream's length and of as many bytes as it says
 pub record IsCutText (bytes : List ℕ) : Type 0 where
@@ -49,82 +57,120 @@ pub record IsCutText (bytes : List ℕ) : Type 0 where
   pub is_part : IsPartOf (stream_text text) bytes
 
 -- The bytes begin with a stream's length and its bytes, which spell these commands.
-pub record IsFirstText (bytes : List ℕ) (commands : List Command) (after : List ℕ) : Type 0 where
+pub record IsFirstText {C O : Type 0} (set : CommandSet C O) (bytes : List ℕ) (commands : List C) (after : List ℕ) : Type 0 where
   pub text : List ℕ
   pub fits : length text < 2 ^ 32
-  pub spells : SpellsStream text commands
+  pub spells : SpellsStreamOf set text commands
   pub parts : bytes ≡ stream_text text ++ after
 
 -- The bytes are a header, some whole streams, and then the rest. So many streams are still to come.
-pub record HasFront (bytes rest : List ℕ) (others : ℕ) : Type 0 where
+pub record HasFront {C O : Type 0} (form : SceneForm C O) (bytes rest : List ℕ) (others : ℕ) : Type 0 where
   pub decl : Decl
   pub texts : List (List ℕ)
-  pub streams : List (List Command)
-  pub is_decl : IsDecl decl
-  pub each : SpellStreams texts streams
+  pub streams : List (List C)
+  pub is_decl : IsDeclOf form decl
+  pub each : SpellStreamsOf form.set texts streams
   pub few : length streams + others < 256
-  pub parts : bytes ≡ header decl (length streams + others) ++ (flat_map stream_text texts ++ rest)
+  pub parts : bytes ≡ header_of form decl (length streams + others) ++ (flat_map stream_text texts ++ rest)
 
 -- The bytes begin with a stream whose own bytes are all there, and among them is this fault. So many bytes stand from the fault on.
-pub record HasStreamFault (bytes : List ℕ) (fault : ℕ → PackFault) (left : ℕ) : Type 0 where
+pub record HasStreamFault {C O : Type 0} (set : CommandSet C O) (bytes : List ℕ) (fault : ℕ → PackFault) (left : ℕ) : Type 0 where
   pub text : List ℕ
   pub after : List ℕ
   pub inner : ℕ
   pub fits : length text < 2 ^ 32
   pub parts : bytes ≡ stream_text text ++ after
-  pub fails : FailsAsStream text (fault inner)
+  pub fails : FailsAsStreamOf set text (fault inner)
   pub left_is : left + (4 + inner) ≡ length bytes
 
 -- the fault of bytes that don't begin with a stream and its length
-abbrev pub FailsAsText : List ℕ → SceneKind → ℕ → Type 0
-FailsAsText bytes BadMagic left = ⊥
-FailsAsText bytes BadCount left = HasStreamFault bytes (λ at. faults.BadCount at) left
-FailsAsText bytes UnknownOpcode left = HasStreamFault bytes (λ at. faults.UnknownOpcode at) left
-FailsAsText bytes Truncated left = (IsCutText bytes × (left ≡ 0)) ⊎ HasStreamFault bytes (λ at. faults.Truncated at) left
-FailsAsText bytes Trailing left = ⊥
+abbrev pub FailsAsText : {C O : Type 0} → CommandSet C O → List ℕ → SceneKind → ℕ → Type 0
+FailsAsText set bytes BadMagic left = ⊥
+FailsAsText set bytes BadCount left = HasStreamFault set bytes (λ at. faults.BadCount at) left
+FailsAsText set bytes UnknownOpcode left = HasStreamFault set bytes (λ at. faults.UnknownOpcode at) left
+FailsAsText set bytes Truncated left = (IsCutText bytes × (left ≡ 0)) ⊎ HasStreamFault set bytes (λ at. faults.Truncated at) left
+FailsAsText set bytes Trailing left = ⊥
 
 -- one of the streams to come fails
-pub record FailsInStreams (bytes : List ℕ) (kind : SceneKind) (at : ℕ) : Type 0 where
+pub record FailsInStreams {C O : Type 0} (form : SceneForm C O) (bytes : List ℕ) (kind : SceneKind) (at : ℕ) : Type 0 where
   pub rest : List ℕ
   pub others : ℕ
   pub left : ℕ
-  pub front : HasFront bytes rest (suc others)
-  pub fails : FailsAsText rest kind left
+  pub front : HasFront form bytes rest (suc others)
+  pub fails : FailsAsText form.set rest kind left
   pub place : at + left ≡ length bytes
 
 -- something follows the last stream
-pub record HasTrailing (bytes : List ℕ) (at : ℕ) : Type 0 where
+pub record HasTrailing {C O : Type 0} (form : SceneForm C O) (bytes : List ℕ) (at : ℕ) : Type 0 where
   pub rest : List ℕ
-  pub front : HasFront bytes rest 0
+  pub front : HasFront form bytes rest 0
   pub some : 0 < length rest
   pub place : at + length rest ≡ length bytes
 
--- Why the bytes spell no scene, and where.
+-- Why the bytes spell no scene of a form, and where, for a reader that goes by these letters.
+abbrev pub FailsAsSceneOf : {C O : Type 0} → SceneForm C O → List (List ℕ) → List ℕ → SceneKind → ℕ → Type 0
+FailsAsSceneOf form all bytes BadMagic at = DiffersFromAll all bytes at
+FailsAsSceneOf form all bytes BadCount at = FailsInStreams form bytes BadCount at
+FailsAsSceneOf form all bytes UnknownOpcode at = FailsInStreams form bytes UnknownOpcode at
+FailsAsSceneOf form all bytes Truncated at = (IsCutHeader form bytes × (at ≡ length bytes)) ⊎ FailsInStreams form bytes Truncated at
+FailsAsSceneOf form all bytes Trailing at = HasTrailing form bytes at
+
+-- the same of scenes of the commands of the table, by the letters of both versions
 abbrev pub FailsAsScene : List ℕ → SceneKind → ℕ → Type 0
-FailsAsScene bytes BadMagic at = Differs (magic 1) bytes at × Differs (magic 2) bytes at
-FailsAsScene bytes BadCount at = FailsInStreams bytes BadCount at
-FailsAsScene bytes UnknownOpcode at = FailsInStreams bytes UnknownOpcode at
-FailsAsScene bytes Truncated at = (IsCutHeader bytes × (at ≡ length bytes)) ⊎ FailsInStreams bytes Truncated at
-FailsAsScene bytes Trailing at = HasTrailing bytes at
+FailsAsScene bytes kind at = FailsAsSceneOf plain_form plain_letters.all bytes kind at
+
+-- the same of scenes with call lists, by their own letters
+abbrev pub FailsAsListScene : List ℕ → SceneKind → ℕ → Type 0
+FailsAsListScene bytes kind at = FailsAsSceneOf list_form list_letters.all bytes kind at
+
+-- ---- what readers answer
+
+-- the bytes spell a scene with call lists
+abbrev pub SpellsListScene : List ℕ → ListScene → Type 0
+SpellsListScene bytes s = SpellsSceneOf list_form bytes s.decl s.streams
+
+-- the first quantity outside its range of what is read of it
+abbrev pub list_limit_of : ListScene → Option Limit
+list_limit_of s = read_limit s.decl s.streams
 
 -- where a reader says that the bytes are malformed, they are, and so
-abbrev pub TellsForm : List ℕ → SceneFault → Type 0
-TellsForm bytes (scene_faults.Malformed kind at) = FailsAsScene bytes kind at
-TellsForm bytes (scene_faults.Limit what value) = Unit {0}
-TellsForm bytes scene_faults.OutOfMemory = Unit {0}
+abbrev pub TellsFormBy : (List ℕ → SceneKind → ℕ → Type 0) → List ℕ → SceneFault → Type 0
+TellsFormBy Fails bytes (scene_faults.Malformed kind at) = Fails bytes kind at
+TellsFormBy Fails bytes (scene_faults.Limit what value) = Unit {0}
+TellsFormBy Fails bytes scene_faults.OutOfMemory = Unit {0}
 
 -- the scene itself, where its quantities are within their ranges, or the first one that is not
-abbrev pub IsJudged : Scene → Result Scene SceneFault → Type 0
-IsJudged s (Ok x) = (x ≡ s) × (limit_of s ≡ None)
-IsJudged s (Err (scene_faults.Malformed kind at)) = ⊥
-IsJudged s (Err (scene_faults.Limit what value)) = limit_of s ≡ Some (record { what = what; value = value })
-IsJudged s (Err scene_faults.OutOfMemory) = ⊥
+abbrev pub IsJudgedBy : {S : Type 0} → (S → Option Limit) → S → Result S SceneFault → Type 0
+IsJudgedBy limit s (Ok x) = (x ≡ s) × (limit s ≡ None)
+IsJudgedBy limit s (Err (scene_faults.Malformed kind at)) = ⊥
+IsJudgedBy limit s (Err (scene_faults.Limit what value)) = limit s ≡ Some (record { what = what; value = value })
+IsJudgedBy limit s (Err scene_faults.OutOfMemory) = ⊥
 
 -- where a reader says that a quantity is outside its range, a scene is spelled in which it is
+abbrev pub IsBeyondBy : {S : Type 0} → (List ℕ → S → Type 0) → (S → Option Limit) → List ℕ → SceneFault → Type 0
+IsBeyondBy Spells limit bytes (scene_faults.Malformed kind at) = Unit {0}
+IsBeyondBy {S = S} Spells limit bytes (scene_faults.Limit what value) = (s : S) × Spells bytes s × (limit s ≡ Some (record { what = what; value = value }))
+IsBeyondBy Spells limit bytes scene_faults.OutOfMemory = Unit {0}
+
+-- the same of scenes of the commands of the table
+abbrev pub TellsForm : List ℕ → SceneFault → Type 0
+TellsForm bytes fault = TellsFormBy FailsAsScene bytes fault
+
+abbrev pub IsJudged : Scene → Result Scene SceneFault → Type 0
+IsJudged s result = IsJudgedBy limit_of s result
+
 abbrev pub IsBeyond : List ℕ → SceneFault → Type 0
-IsBeyond bytes (scene_faults.Malformed kind at) = Unit {0}
-IsBeyond bytes (scene_faults.Limit what value) = (s : Scene) × SpellsScene bytes s × (limit_of s ≡ Some (record { what = what; value = value }))
-IsBeyond bytes scene_faults.OutOfMemory = Unit {0}
+IsBeyond bytes fault = IsBeyondBy SpellsScene limit_of bytes fault
+
+-- the same of scenes with call lists
+abbrev pub TellsListForm : List ℕ → SceneFault → Type 0
+TellsListForm bytes fault = TellsFormBy FailsAsListScene bytes fault
+
+abbrev pub IsListJudged : ListScene → Result ListScene SceneFault → Type 0
+IsListJudged s result = IsJudgedBy list_limit_of s result
+
+abbrev pub IsListBeyond : List ℕ → SceneFault → Type 0
+IsListBeyond bytes fault = IsBeyondBy SpellsListScene list_limit_of bytes fault
 
 -- ---- the same of faults on their way up, whose places are told by how many bytes stand from there on
 
@@ -136,19 +182,19 @@ LettersFailBy letters bytes (broken.Form UnknownOpcode left) = ⊥
 LettersFailBy letters bytes (broken.Form Truncated left) = IsPartOf letters bytes × (left ≡ 0)
 LettersFailBy letters bytes (broken.Form Trailing left) = ⊥
 
--- the same of the letters and the digit of a version
-abbrev pub MagicFailsBy : List ℕ → Broken → Type 0
-MagicFailsBy bytes broken.Memory = ⊥
-MagicFailsBy bytes (broken.Form BadMagic left) = (at : ℕ) × (Differs (magic 1) bytes at × Differs (magic 2) bytes at) × (at + left ≡ length bytes)
-MagicFailsBy bytes (broken.Form BadCount left) = ⊥
-MagicFailsBy bytes (broken.Form UnknownOpcode left) = ⊥
-MagicFailsBy bytes (broken.Form Truncated left) = IsPartOf (magic 1) bytes × (left ≡ 0)
-MagicFailsBy bytes (broken.Form Trailing left) = ⊥
+-- the same of the letters of a form
+abbrev pub MagicFailsBy : Letters → List ℕ → Broken → Type 0
+MagicFailsBy letters bytes broken.Memory = ⊥
+MagicFailsBy letters bytes (broken.Form BadMagic left) = (at : ℕ) × DiffersFromAll letters.all bytes at × (at + left ≡ length bytes)
+MagicFailsBy letters bytes (broken.Form BadCount left) = ⊥
+MagicFailsBy letters bytes (broken.Form UnknownOpcode left) = ⊥
+MagicFailsBy letters bytes (broken.Form Truncated left) = (version : ℕ) × letters.IsDrawn version × IsPartOf (letters.begins version) bytes × (left ≡ 0)
+MagicFailsBy letters bytes (broken.Form Trailing left) = ⊥
 
-abbrev pub TextFailsBy : List ℕ → Broken → Type 0
-TextFailsBy bytes broken.Memory = Unit {0}
-TextFailsBy bytes (broken.Form kind left) = FailsAsText bytes kind left
+abbrev pub TextFailsBy : {C O : Type 0} → CommandSet C O → List ℕ → Broken → Type 0
+TextFailsBy set bytes broken.Memory = Unit {0}
+TextFailsBy set bytes (broken.Form kind left) = FailsAsText set bytes kind left
 
-abbrev pub SceneFailsBy : List ℕ → Broken → Type 0
-SceneFailsBy bytes broken.Memory = Unit {0}
-SceneFailsBy bytes (broken.Form kind left) = (at : ℕ) × FailsAsScene bytes kind at × (at + left ≡ length bytes)
+abbrev pub SceneFailsBy : {C O : Type 0} → SceneForm C O → List (List ℕ) → List ℕ → Broken → Type 0
+SceneFailsBy form all bytes broken.Memory = Unit {0}
+SceneFailsBy form all bytes (broken.Form kind left) = (at : ℕ) × FailsAsSceneOf form all bytes kind at × (at + left ≡ length bytes)

@@ -46,6 +46,10 @@ stream_part d commands frames =
 abbrev pub judge_parts : Decl → ℕ → ℕ → ℕ → Option Limit
 judge_parts d clients commands frames = or_else (judge_decl d clients) (first_outside (stream_part d commands frames))
 
--- the same of a scene that is there
+-- the same of what is read of a scene with call lists
+abbrev pub judge_read : Decl → ℕ → ℕ → Option Limit
+judge_read d clients commands = or_else (judge_decl d clients) (first_outside (one 11 commands 1048576))
+
+-- the parts of a scene that is there
 abbrev pub judge_scene : Scene → Option Limit
 judge_scene s = judge_parts s.decl (length s.streams) (commands_in s.streams) (least_swaps s.streams)

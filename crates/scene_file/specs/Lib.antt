@@ -1,5 +1,6 @@
 pub mod Judging
 pub mod Reading
+pub mod Letters
 pub mod Faults
 pub mod Written
 pub mod Laws

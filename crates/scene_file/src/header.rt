@@ -1,13 +1,16 @@
 //! The header of a scene.
 ghost use Rattle.std.specs.Prelude.{◌≡◌, ◌++◌, IfOk, IfErr};
 ghost use Rattle.cmd_pack.specs.Reading.{Gives, Reads};
-ghost use Rattle.rc_base.specs.Formats.Spelling.{IsVersion, magic};
+ghost use Rattle.rc_base.specs.Formats.Spelling.{IsVersion, magic, list_magic};
 ghost use Rattle.scene_file.specs.Reading.{read_half, read_size, read_times, read_head};
+ghost use Rattle.scene_file.specs.Letters.{Letters, plain_letters, list_letters};
 ghost use Rattle.scene_file.specs.Faults.{LettersFailBy, MagicFailsBy};
 
 use crate::fault::Broken;
 use cmd_pack::fault::{Form, ReadError};
 use cmd_pack::fields::{read_byte, read_half, take_bytes};
+use rc_base::command::Command;
+use rc_base::list_command::ListCommand;
 use rc_base::scene::{Counts, Decl, SceneKind, Sizes, Units};
 use std::alloc::Global;
 
@@ -20,6 +23,9 @@ pub struct Head {
 
 /// The letters RCS, with which a scene begins. The digit of its version follows.
 pub const LETTERS: [u8; 3] = [0x52, 0x43, 0x53];
+
+/// The letters RCS3, with which a scene with call lists begins.
+const LIST_LETTERS: [u8; 4] = [0x52, 0x43, 0x53, 0x33];
 
 /// The letters and the digit with which a scene of this version begins.
 pub fn magic_of(version: u8) -> [u8; 4]
@@ -58,9 +64,9 @@ pub fn read_letters<'a>(letters: &[u8], bytes: &'a [u8]) -> Result<&'a [u8], Bro
 }
 
 /// The version of a scene by its digit, and what stands behind it.
-pub fn read_magic(bytes: &[u8]) -> Result<(u8, &[u8]), Broken>
+fn read_magic(bytes: &[u8]) -> Result<(u8, &[u8]), Broken>
     ensures found { IfOk result (λ x. IsVersion x.0 × (bytes.now ≡ magic x.0 ++ x.1.now)) }
-    ensures fails { IfErr result (MagicFailsBy bytes.now) }
+    ensures fails { IfErr result (MagicFailsBy plain_letters bytes.now) }
 {
     let rest = read_letters(&LETTERS, bytes)?;
     match rest {
@@ -80,6 +86,42 @@ pub fn read_magic(bytes: &[u8]) -> Result<(u8, &[u8]), Broken>
                 left: rest.len(),
             })
         }
+    }
+}
+
+/// Version 2, by which a scene with call lists draws, and what stands behind its letters.
+fn read_list_magic(bytes: &[u8]) -> Result<(u8, &[u8]), Broken>
+    ensures found { IfOk result (λ x. (x.0 ≡ 2) × (bytes.now ≡ list_magic ++ x.1.now)) }
+    ensures fails { IfErr result (MagicFailsBy list_letters bytes.now) }
+{
+    let rest = read_letters(&LIST_LETTERS, bytes)?;
+    Ok((2, rest))
+}
+
+/// A command of the streams of scenes that begin with letters of their own.
+pub(crate) trait BeginsScene: Sized {
+    /// The letters, and the versions by which these scenes draw.
+    ghost letters: { Letters };
+
+    /// The version of a scene by its letters, and what stands behind them.
+    fn read_magic(bytes: &[u8]) -> Result<(u8, &[u8]), Broken>
+        ensures found { IfOk result (λ x. letters.IsDrawn x.0 × (bytes.now ≡ letters.begins x.0 ++ x.1.now)) }
+        ensures fails { IfErr result (MagicFailsBy letters bytes.now) };
+}
+
+impl BeginsScene for Command {
+    ghost letters = { plain_letters };
+
+    fn read_magic(bytes: &[u8]) -> Result<(u8, &[u8]), Broken> {
+        read_magic(bytes)
+    }
+}
+
+impl BeginsScene for ListCommand {
+    ghost letters = { list_letters };
+
+    fn read_magic(bytes: &[u8]) -> Result<(u8, &[u8]), Broken> {
+        read_list_magic(bytes)
     }
 }
 

@@ -1,7 +1,8 @@
 //! Scenes as bytes.
 //!
 //! `read_scene` gives the scene that bytes spell, `write_scene` the bytes of a scene, and `check_limits` the first quantity of a scene
-//! that is outside its range.
+//! that is outside its range. `read_list_scene` gives the scene with call lists that bytes spell, and `check_streams` judges the streams of the
+//! scene that it stands for.
 #![tactic(auto)]
 
 mod fault;
@@ -9,11 +10,15 @@ mod generator;
 mod header;
 pub mod laws;
 mod limits;
+mod list_scene;
+mod lists;
 mod reading;
 mod writing;
 
 pub use fault::SceneFault;
 pub use generator::{generate, next_state};
-pub use limits::{check_held, check_limits, clients_beyond, commands_beyond};
+pub use limits::{check_held, check_limits, check_streams, clients_beyond, commands_beyond};
+pub use list_scene::ListScene;
+pub use lists::read_list_scene;
 pub use reading::read_scene;
 pub use writing::write_scene;

@@ -2,8 +2,8 @@
 ghost use Rattle.rc_base.specs.declared.scene.Scene.{Scene as AnyScene};
 ghost use Rattle.std.specs.Prelude.{◌≡◌, ◌<◌, ◌≤◌, ◌*◌, ◌∷◌, ◌++◌, [], map, length, sum_by, MatchResult, OnOk, Some, None};
 ghost use Rattle.std.specs.List.{flat_map};
-ghost use Rattle.rc_base.specs.Formats.Limits.{first_outside, held_limit, limit_of, size_area, side, barrier_count, is_swap_command, swaps_in, least_swaps, commands_in};
-ghost use Rattle.scene_file.specs.Judging.{judged, window_part, judge_counts, judge_decl, stream_part, judge_parts, judge_scene};
+ghost use Rattle.rc_base.specs.Formats.Limits.{first_outside, held_limit, limit_of, stream_limit, size_area, side, barrier_count, is_swap_command, swaps_in, least_swaps, commands_in};
+ghost use Rattle.scene_file.specs.Judging.{judged, window_part, judge_counts, judge_decl, stream_part, judge_parts, judge_read, judge_scene};
 
 use rc_base::command::{Command, Commands};
 use rc_base::scene::{Decl, Limit, Scene};
@@ -143,6 +143,14 @@ pub(crate) fn check_counted(
     judge_streams(decl, commands, frames)
 }
 
+/// The first quantity outside its range of what is read of a scene with call lists, with this declaration and so many clients and commands.
+pub(crate) fn check_read(decl: &Decl, clients: usize, commands: u64) -> Result<(), Limit>
+    ensures { judged result ≡ judge_read decl.now clients commands }
+{
+    judge_decl(decl, clients)?;
+    judge(11, commands, 0, MOST_COMMANDS)
+}
+
 fn judge_scene(scene: &Scene) -> Result<(), Limit>
     ensures { judged result ≡ judge_scene scene.now }
 {
@@ -160,6 +168,17 @@ pub fn check_limits(scene: &Scene) -> Result<(), Limit>
     ensures { MatchResult result (λ _. limit_of scene.now ≡ None) (λ l. limit_of scene.now ≡ Some l) }
 {
     judge_scene(scene)
+}
+
+/// The first quantity outside its range of the streams of a scene with so many commands, of which not all need be stored where they are too many, by
+/// the numbers of the table of limits (`docs/scene-format.md`). What it declares is not judged. It takes no memory.
+pub fn check_streams(scene: &Scene, commands: u64) -> Result<(), Limit>
+    requires width { scene.now.decl.width ≤ 2048 }
+    requires height { scene.now.decl.height ≤ 2048 }
+    ensures { (s : AnyScene) → s.decl ≡ scene.now.decl → commands_in s.streams ≡ commands → (commands ≤ 1048576 → s ≡ scene.now) → MatchResult result (λ _. stream_limit s ≡ None) (λ l. stream_limit s ≡ Some l) }
+{
+    let frames = count_frames(scene.streams.as_slice()) as u64;
+    judge_streams(&scene.decl, commands, frames)
 }
 
 fn frame_pixels(decl: &Decl, frames: u64) -> u64

@@ -3,30 +3,33 @@ ghost use Rattle.std.specs.Prelude.{◌≡◌, ◌-◌, ◌==◌, ◌⊎◌, ◌
 ghost use Rattle.std.specs.List.{AllByRecursion};
 ghost use Rattle.rc_base.specs.Formats.Commands.{IsCommand};
 ghost use Rattle.rc_base.specs.Formats.Spelling.{stream_text, IsDecl, SpellsStream, SpellsScene};
-ghost use Rattle.rc_base.specs.Formats.Limits.{limit_of};
+ghost use Rattle.rc_base.specs.Formats.Limits.{is_swap_command, limit_of};
 ghost use Rattle.rc_base.specs.Formats.Within.{IsWithin};
 ghost use Rattle.rc_base.specs.declared.scene.Scene.{Scene as AnyScene};
 ghost use Rattle.rc_base.specs.declared.scene.SceneKind.{SceneKind as AnyKind};
 ghost use Rattle.rc_base.specs.declared.scene.Limit.{Limit as AnyLimit};
 ghost use Rattle.cmd_pack.specs.Reading.{Reads};
 ghost use Rattle.scene_file.specs.Reading.{read_text};
+ghost use Rattle.scene_file.specs.Letters.{form_of};
 ghost use Rattle.scene_file.specs.Faults.{TextFailsBy, SceneFailsBy, FailsAsScene, TellsForm, IsBeyond, IsJudged};
 ghost use Rattle.scene_file.specs.Counting.{DecodesFirst, Counts, SpellsCounted, frames_with};
 
 use crate::fault::{Broken, SceneFault, fault_at, in_stream};
-use crate::header::{Head, read_head, read_magic};
+use crate::header::{BeginsScene, Head, read_head};
 use crate::limits::check_counted;
-use cmd_pack::decode_within;
 use cmd_pack::fault::Form;
 use cmd_pack::fields::{read_long, take_bytes};
-use cmd_pack::reading::Decoded;
-use rc_base::scene::{Limit, Scene, SceneKind, Streams};
+use cmd_pack::packets::{DecodedOf, PacketCommand, decode_of};
+use rc_base::command::Command;
+use rc_base::items::Items;
+use rc_base::scene::{Decl, Limit, Scene, SceneKind};
 use std::alloc::Global;
 
 /// A scene as far as it is stored, how many commands its streams have, and how many frames it has: the least number of Swaps of a stream.
 #[derive(Debug, Drop)]
-pub(crate) struct Counted {
-    pub(crate) scene: Scene,
+pub(crate) struct Counted<C> {
+    pub(crate) decl: Decl,
+    pub(crate) streams: Items<Items<C>>,
     pub(crate) commands: usize,
     pub(crate) frames: usize,
 }
@@ -58,12 +61,16 @@ fn read_text(bytes: &[u8]) -> Result<(&[u8], &[u8]), Form>
 }
 
 /// The stream at the front, stored where there is room for its commands, and the bytes behind it.
-fn read_stream(alloc: Global, room: usize, bytes: &[u8]) -> Result<(Decoded, &[u8]), Broken>
-    ensures found { IfOk result (λ x. DecodesFirst bytes.now room x.0 x.1.now) }
-    ensures fails { IfErr result (TextFailsBy bytes.now) }
+fn read_stream<C: PacketCommand>(
+    alloc: Global,
+    room: usize,
+    bytes: &[u8],
+) -> Result<(DecodedOf<C>, &[u8]), Broken>
+    ensures found { IfOk result (λ x. DecodesFirst C.set C.reader.shows bytes.now room x.0 x.1.now) }
+    ensures fails { IfErr result (TextFailsBy C.set bytes.now) }
 {
     let (text, after) = read_text(bytes)?;
-    match decode_within(alloc, room, text) {
+    match decode_of::<C>(alloc, room, text) {
         Ok(decoded) => Ok((decoded, after)),
         Err(fault) => Err(in_stream(fault, bytes.len())),
     }
@@ -75,21 +82,24 @@ fn is_end(rest: &[u8]) -> bool
     rest.is_empty()
 }
 
-/// The scene that the bytes spell, whatever its quantities. Its commands and frames are counted, and its commands stored where they are no more than
+/// The scene of either command set that the bytes spell, whatever its quantities. Its commands and frames are counted, and its commands stored where they are no more than
 /// a scene may have.
-fn read_spelled(alloc: Global, bytes: &[u8]) -> Result<Counted, Broken>
-    ensures found { IfOk result (SpellsCounted bytes.now) }
-    ensures fails { IfErr result (SceneFailsBy bytes.now) }
+pub(crate) fn read_spelled<C: PacketCommand + BeginsScene>(
+    alloc: Global,
+    bytes: &[u8],
+) -> Result<Counted<C>, Broken>
+    ensures found { IfOk result (SpellsCounted (form_of C.set C.letters) C.reader.shows bytes.now) }
+    ensures fails { IfErr result (SceneFailsBy (form_of C.set C.letters) C.letters.all bytes.now) }
 {
-    let (version, body) = read_magic(bytes)?;
+    let (version, body) = C::read_magic(bytes)?;
     let (Head { decl, clients }, body) = read_head(alloc, version, body)?;
-    let mut streams = Streams::new(alloc);
+    let mut streams = Items::new(alloc);
     let mut commands = 0;
     let mut frames = 0;
     let mut rest = body;
     for _ in 0..clients {
         let room = room_behind(commands);
-        let (decoded, after) = read_stream(alloc, room, rest)?;
+        let (decoded, after) = read_stream::<C>(alloc, room, rest)?;
         frames = frames_with(streams.len(), frames, decoded.swaps);
         streams.push(decoded.commands)?;
         commands += decoded.count;
@@ -101,29 +111,25 @@ fn read_spelled(alloc: Global, bytes: &[u8]) -> Result<Counted, Broken>
             left: rest.len(),
         });
     }
-    let scene = Scene { decl, streams };
     Ok(Counted {
-        scene,
+        decl,
+        streams,
         commands,
         frames,
     })
 }
 
-fn within_limits(counted: Counted) -> Result<Scene, SceneFault>
-    ensures { (s : AnyScene) → Counts counted s → IsJudged s result }
+fn within_limits(counted: Counted<Command>) -> Result<Scene, SceneFault>
+    ensures { (s : AnyScene) → Counts is_swap_command counted s.decl s.streams → IsJudged s result }
 {
     let Counted {
-        scene,
+        decl,
+        streams,
         commands,
         frames,
     } = counted;
-    match check_counted(
-        &scene.decl,
-        scene.streams.len(),
-        commands as u64,
-        frames as u64,
-    ) {
-        Ok(()) => Ok(scene),
+    match check_counted(&decl, streams.len(), commands as u64, frames as u64) {
+        Ok(()) => Ok(Scene { decl, streams }),
         Err(Limit { what, value }) => Err(SceneFault::Limit { what, value }),
     }
 }
@@ -133,7 +139,7 @@ fn read_judged(alloc: Global, bytes: &[u8]) -> Result<Scene, SceneFault>
     ensures malformed { IfErr result (TellsForm bytes.now) }
     ensures limit { IfErr result (IsBeyond bytes.now) }
 {
-    match read_spelled(alloc, bytes) {
+    match read_spelled::<Command>(alloc, bytes) {
         Ok(counted) => within_limits(counted),
         Err(broken) => Err(fault_at(broken, bytes.len())),
     }

@@ -4,6 +4,8 @@ use Rattle.std.specs.List.{flat_map}
 use Rattle.rc_base.specs.Lists.{at_name}
 use Rattle.rc_base.specs.declared.command.Command.{Command}
 use Rattle.rc_base.specs.declared.command.Command.TheVariants as cmd
+use Rattle.rc_base.specs.declared.list_command.ListCommand.{ListCommand}
+use Rattle.rc_base.specs.declared.scene.Decl.{Decl}
 use Rattle.rc_base.specs.declared.scene.Scene.{Scene}
 use Rattle.rc_base.specs.declared.scene.Limit.{Limit}
 
@@ -61,13 +63,20 @@ frame_pixels s = least_swaps s.streams * (s.decl.width * s.decl.height)
 
 -- ---- the table
 
+-- a declaration, so many streams and so many commands, and then the rest
+abbrev pub quantities_with : Decl → ℕ → ℕ → List Quantity → List Quantity
+quantities_with d clients commands rest =
+    (quantity 2 d.width 1 2048 ∷ quantity 3 d.height 1 2048 ∷ quantity 4 clients 1 8 ∷ quantity 5 (length d.shared) 0 16 ∷ [])
+    ++ (map side (flat_map (λ size. size) d.shared)
+    ++ (quantity 7 (sum_by size_area d.shared) 0 1048576 ∷ quantity 8 (length d.barriers) 0 64 ∷ (map barrier_count d.barriers
+    ++ (quantity 10 (length d.semaphores) 0 64 ∷ quantity 11 commands 0 1048576 ∷ rest))))
+
+-- the frames and their pixels
+abbrev pub frame_quantities : Scene → List Quantity
+frame_quantities s = quantity 12 (least_swaps s.streams) 0 1048576 ∷ quantity 13 (frame_pixels s) 0 2147483648 ∷ []
+
 abbrev pub quantities : Scene → List Quantity
-quantities s =
-    (quantity 2 s.decl.width 1 2048 ∷ quantity 3 s.decl.height 1 2048 ∷ quantity 4 (length s.streams) 1 8 ∷ quantity 5 (length s.decl.shared) 0 16 ∷ [])
-    ++ (map side (flat_map (λ size. size) s.decl.shared)
-    ++ (quantity 7 (sum_by size_area s.decl.shared) 0 1048576 ∷ quantity 8 (length s.decl.barriers) 0 64 ∷ (map barrier_count s.decl.barriers
-    ++ (quantity 10 (length s.decl.semaphores) 0 64 ∷ quantity 11 (commands_in s.streams) 0 1048576 ∷ quantity 12 (least_swaps s.streams) 0 1048576
-    ∷ quantity 13 (frame_pixels s) 0 2147483648 ∷ []))))
+quantities s = quantities_with s.decl (length s.streams) (commands_in s.streams) (frame_quantities s)
 
 -- the same pixels where all frames are held at once
 unfoldable pub held_limit : Scene → Option Limit
@@ -76,6 +85,20 @@ held_limit s = first_outside (quantity 19 (frame_pixels s) 0 33554432 ∷ [])
 -- the first quantity of a scene outside its range, or none
 unfoldable pub limit_of : Scene → Option Limit
 limit_of s = first_outside (quantities s)
+
+-- ---- quantities of a scene with call lists
+
+-- the first quantity outside its range of what is read: the declaration, the streams and the commands as they stand
+unfoldable pub read_limit : Decl → List (List ListCommand) → Option Limit
+read_limit d streams = first_outside (quantities_with d (length streams) (sum_by length streams) [])
+
+-- the costs of its expansion
+unfoldable pub expansion_limit : ℕ → Option Limit
+expansion_limit costs = first_outside (quantity 20 costs 0 67108864 ∷ [])
+
+-- the first of the quantities that the streams of a scene have, whatever it declares
+unfoldable pub stream_limit : Scene → Option Limit
+stream_limit s = first_outside (quantity 11 (commands_in s.streams) 0 1048576 ∷ frame_quantities s)
 
 -- ---- quantities of a command line
 
@@ -99,7 +122,8 @@ abbrev pub limit_names : List (List ℕ)
 limit_names =
     codes "scene bytes" ∷ codes "width" ∷ codes "height" ∷ codes "clients" ∷ codes "shared textures" ∷ codes "shared side" ∷ codes "shared texels"
     ∷ codes "barriers" ∷ codes "barrier count" ∷ codes "semaphores" ∷ codes "commands" ∷ codes "frames" ∷ codes "pixels"
-    ∷ codes "tile columns" ∷ codes "tile rows" ∷ codes "tiles" ∷ codes "depth" ∷ codes "size" ∷ codes "held pixels" ∷ []
+    ∷ codes "tile columns" ∷ codes "tile rows" ∷ codes "tiles" ∷ codes "depth" ∷ codes "size" ∷ codes "held pixels"
+    ∷ codes "expansion" ∷ []
 
 abbrev pub limit_name : ℕ → List ℕ
 limit_name what = unwrap_or (at_name limit_names what) []

@@ -4,6 +4,10 @@ use Rattle.std.specs.List.{flat_map, range_with_len, AllByRecursion}
 use Rattle.std.specs.Int.{w16, w32, to_le_bytes, cast_unsigned, div_ceil}
 use Rattle.rc_base.specs.declared.command.Command.{Command}
 use Rattle.rc_base.specs.declared.command.Opcode.{Opcode}
+use Rattle.rc_base.specs.declared.list_command.ListCommand.{ListCommand}
+use Rattle.rc_base.specs.declared.list_command.ListCommand.TheVariants as list
+use Rattle.rc_base.specs.declared.list_command.ListOpcode.{ListOpcode}
+use Rattle.rc_base.specs.declared.list_command.ListOpcode.TheVariants as list_op
 use Rattle.rc_base.specs.declared.scene.Decl.{Decl}
 use Rattle.rc_base.specs.declared.scene.Scene.{Scene}
 use Rattle.rc_base.specs.Formats.Commands.{Kind, Value, Fields, IsCommand, opcode_of, opcode_number, kinds_of, fields_of}
@@ -53,9 +57,38 @@ pub record CommandSet (C O : Type 0) : Type 1 where
   pub fields : C → List ℕ
   pub IsOne : C → Type 0
 
--- the commands of the table
+-- the commands of the table, as versions 1 and 2 have them
 abbrev pub plain_set : CommandSet Command Opcode
 plain_set = record { opcode = opcode_of; number = opcode_number; fields = payload; IsOne = IsCommand }
+
+-- these, and the three that make call lists and call them
+abbrev pub list_opcode_of : ListCommand → ListOpcode
+list_opcode_of (list.Plain c) = list_op.Plain (opcode_of c)
+list_opcode_of (list.NewList name) = list_op.NewList
+list_opcode_of list.EndList = list_op.EndList
+list_opcode_of (list.CallList name) = list_op.CallList
+
+abbrev pub list_opcode_number : ListOpcode → ℕ
+list_opcode_number (list_op.Plain o) = opcode_number o
+list_opcode_number list_op.NewList = 0x25
+list_opcode_number list_op.EndList = 0x26
+list_opcode_number list_op.CallList = 0x27
+
+abbrev pub list_payload : ListCommand → List ℕ
+list_payload (list.Plain c) = payload c
+list_payload (list.NewList name) = name ∷ []
+list_payload list.EndList = []
+list_payload (list.CallList name) = name ∷ []
+
+-- each field is in its range
+abbrev pub IsListCommand : ListCommand → Type 0
+IsListCommand (list.Plain c) = IsCommand c
+IsListCommand (list.NewList name) = name < 256
+IsListCommand list.EndList = Unit {0}
+IsListCommand (list.CallList name) = name < 256
+
+abbrev pub list_set : CommandSet ListCommand ListOpcode
+list_set = record { opcode = list_opcode_of; number = list_opcode_number; fields = list_payload; IsOne = IsListCommand }
 
 -- a count, that many opcodes, and that many payloads in the same order
 abbrev pub packet_of : {C O : Type 0} → CommandSet C O → List C → List ℕ
@@ -113,14 +146,32 @@ digit version = if version == 2 then 0x32 else 0x31
 abbrev pub magic : ℕ → List ℕ
 magic version = letters ++ digit version ∷ []
 
+-- the letters RCS3 of a scene with call lists
+abbrev pub list_magic : List ℕ
+list_magic = letters ++ 0x33 ∷ []
+
+-- A form of scenes: the commands of their streams, the versions by which they draw, and how their bytes begin by the version.
+pub record SceneForm (C O : Type 0) : Type 1 where
+  pub set : CommandSet C O
+  pub IsDrawn : ℕ → Type 0
+  pub begins : ℕ → List ℕ
+
+-- scenes of the commands of the table
+abbrev pub plain_form : SceneForm Command Opcode
+plain_form = record { set = plain_set; IsDrawn = IsVersion; begins = magic }
+
+-- scenes with call lists, which draw as version 2
+abbrev pub list_form : SceneForm ListCommand ListOpcode
+list_form = record { set = list_set; IsDrawn = λ version. version ≡ 2; begins = λ version. list_magic }
+
 -- width and height of a shared texture
 abbrev pub size : List ℕ → List ℕ
 size sides = flat_map half sides
 
 -- the window, the number of streams, and what is declared
-abbrev pub header : Decl → ℕ → List ℕ
-header d clients =
-    magic d.version ++ (half d.width ++ (half d.height
+abbrev pub header_of : {C O : Type 0} → SceneForm C O → Decl → ℕ → List ℕ
+header_of form d clients =
+    form.begins d.version ++ (half d.width ++ (half d.height
     ++ ((clients ∷ length d.shared ∷ length d.barriers ∷ length d.semaphores ∷ [])
     ++ (flat_map size d.shared ++ (d.barriers ++ flat_map half d.semaphores)))))
 
@@ -134,8 +185,8 @@ abbrev pub IsCount : ℕ → Type 0
 IsCount n = n < 256
 
 -- each field of a declaration is in its range
-pub record IsDecl (d : Decl) : Type 0 where
-  pub version : IsVersion d.version
+pub record IsDeclOf {C O : Type 0} (form : SceneForm C O) (d : Decl) : Type 0 where
+  pub version : form.IsDrawn d.version
   pub width : d.width < 2 ^ 16
   pub height : d.height < 2 ^ 16
   pub few_shared : length d.shared < 256
@@ -150,16 +201,29 @@ abbrev pub stream_text : List ℕ → List ℕ
 stream_text bytes = long (length bytes) ++ bytes
 
 -- each text spells the commands at its place
-abbrev pub SpellStreams : List (List ℕ) → List (List Command) → Type 0
-SpellStreams [] [] = Unit {0}
-SpellStreams [] (cs ∷ css) = ⊥
-SpellStreams (t ∷ ts) [] = ⊥
-SpellStreams (t ∷ ts) (cs ∷ css) = SpellsStream t cs × (length t < 2 ^ 32) × SpellStreams ts css
+abbrev pub SpellStreamsOf : {C O : Type 0} → CommandSet C O → List (List ℕ) → List (List C) → Type 0
+SpellStreamsOf set [] [] = Unit {0}
+SpellStreamsOf set [] (cs ∷ css) = ⊥
+SpellStreamsOf set (t ∷ ts) [] = ⊥
+SpellStreamsOf set (t ∷ ts) (cs ∷ css) = SpellsStreamOf set t cs × (length t < 2 ^ 32) × SpellStreamsOf set ts css
 
 -- The bytes are a header, and then each stream with its length. Nothing follows.
-pub record SpellsScene (bytes : List ℕ) (s : Scene) : Type 0 where
+pub record SpellsSceneOf {C O : Type 0} (form : SceneForm C O) (bytes : List ℕ) (declared : Decl) (streams : List (List C)) : Type 0 where
   pub texts : List (List ℕ)
-  pub each : SpellStreams texts s.streams
-  pub few : length s.streams < 256
-  pub decl : IsDecl s.decl
-  pub parts : bytes ≡ header s.decl (length s.streams) ++ flat_map stream_text texts
+  pub each : SpellStreamsOf form.set texts streams
+  pub few : length streams < 256
+  pub decl : IsDeclOf form declared
+  pub parts : bytes ≡ header_of form declared (length streams) ++ flat_map stream_text texts
+
+-- the same of scenes of the commands of the table
+abbrev pub header : Decl → ℕ → List ℕ
+header d clients = header_of plain_form d clients
+
+abbrev pub IsDecl : Decl → Type 0
+IsDecl d = IsDeclOf plain_form d
+
+abbrev pub SpellStreams : List (List ℕ) → List (List Command) → Type 0
+SpellStreams texts streams = SpellStreamsOf plain_set texts streams
+
+abbrev pub SpellsScene : List ℕ → Scene → Type 0
+SpellsScene bytes s = SpellsSceneOf plain_form bytes s.decl s.streams

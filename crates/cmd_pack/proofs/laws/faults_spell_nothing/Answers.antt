@@ -1,5 +1,13 @@
+use Rattle.rc_base.specs.Formats.Spelling.{plain_set, list_set}
+use Rattle.cmd_pack.specs.Packets.{plain_reader}
+use Rattle.cmd_pack.specs.PlainLaws.{plain_agrees}
+use Rattle.cmd_pack.specs.Lists.{list_reader}
+use Rattle.cmd_pack.specs.ListLaws.{list_agrees}
 use Rattle.cmd_pack.proofs.OneSpelling.{fails_is_none}
 use Rattle.cmd_pack.proofs.laws.faults_spell_nothing.Goals as goal
 
-pub returns : goal.returns
-returns c = record { law = fails_is_none }
+pub returns-clause-law : goal.returns-clause-law
+returns-clause-law c = fails_is_none plain_set plain_reader plain_agrees
+
+pub returns-clause-lists : goal.returns-clause-lists
+returns-clause-lists c = fails_is_none list_set list_reader list_agrees

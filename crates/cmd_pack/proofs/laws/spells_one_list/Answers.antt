@@ -1,5 +1,13 @@
+use Rattle.rc_base.specs.Formats.Spelling.{plain_set, list_set}
+use Rattle.cmd_pack.specs.Packets.{plain_reader}
+use Rattle.cmd_pack.specs.PlainLaws.{plain_agrees}
+use Rattle.cmd_pack.specs.Lists.{list_reader}
+use Rattle.cmd_pack.specs.ListLaws.{list_agrees}
 use Rattle.cmd_pack.proofs.OneSpelling.{one_spelling}
 use Rattle.cmd_pack.proofs.laws.spells_one_list.Goals as goal
 
-pub returns : goal.returns
-returns c = record { law = one_spelling }
+pub returns-clause-law : goal.returns-clause-law
+returns-clause-law c = one_spelling plain_set plain_reader plain_agrees
+
+pub returns-clause-lists : goal.returns-clause-lists
+returns-clause-lists c = one_spelling list_set list_reader list_agrees

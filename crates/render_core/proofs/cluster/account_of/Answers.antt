@@ -1,4 +1,4 @@
-use Rattle.std.proofs.Common.{◌≡◌, length, ap, ◌∙◌, arith}
+use Rattle.std.proofs.Common.{◌≡◌, length, refl, ap, ◌∙◌, arith}
 use Rattle.render_core.specs.Reports.{lines_of_run}
 use Rattle.render_core.proofs.Accounts.{ending_is, few_clients, few_faults, few_logs, notes_told}
 use Rattle.render_core.proofs.cluster.account_of.Goals as goal
@@ -19,10 +19,11 @@ cluster_report-requires-clause-tiles c =
     let r = c.requires in few_logs r.scene r.layout c.args.kept.now c.args.tallies.now c.args.waiting.now c.args.faults.now r.run r.tiles
 
 pub returns : goal.returns
-returns c = λ scene l is.
+returns c = λ l is.
+    let work = c.args.work.now in
     let kept = c.args.kept.now in
-    let lines : c.in_ok-notes.notes ≡ lines_of_run c.args.faults.now c.args.tallies.now kept c.args.waiting.now c.args.orders = cc (c.in_ok-notes.ensures, c.as_slice.ensures, c.as_slice-2.ensures) in
+    let lines : c.in_ok-notes.notes ≡ lines_of_run work c.args.faults.now c.args.tallies.now kept c.args.waiting.now c.args.orders = cc (c.in_ok-notes.ensures, c.as_slice.ensures, c.as_slice-2.ensures) in
     record {
-      notes = lines ∙ notes_told scene l kept c.args.tallies.now c.args.waiting.now c.args.faults.now is c.args.orders;
-      ending = c.ending_of.ensures ∙ ending_is scene l kept c.args.tallies.now c.args.waiting.now c.args.faults.now is;
+      notes = lines ∙ notes_told work.scene l kept c.args.tallies.now c.args.waiting.now c.args.faults.now is work refl c.args.orders;
+      ending = c.ending_of.ensures ∙ ending_is work.scene l kept c.args.tallies.now c.args.waiting.now c.args.faults.now is;
     }

@@ -6,10 +6,10 @@ use Rattle.render_core.proofs.due.check.Goals as goal
 
 pub returns-clause-outcome : goal.returns-clause-outcome
 returns-clause-outcome c =
-    let scene = c.args.scene.now in
+    let work = c.args.work.now in
     let run = c.in_ok-run.run' in
     let is = c.in_ok-run.ensures.default in
     let notes = c.in_ok-notes.notes in
     let ending = c.ending_of.result in
-    subst (λ (l : List ℕ). IsOutcome Check scene (record { image = l; notes = notes; ending = ending; kept = None })) (sym c.new.ensures)
-    (check_due scene run is ending c.ending_of.ensures notes (c.in_ok-notes.ensures scene is))
+    subst (λ (l : List ℕ). IsOutcome Check work (record { image = l; notes = notes; ending = ending; kept = None })) (sym c.new.ensures)
+    (check_due work run is ending c.ending_of.ensures notes c.in_ok-notes.ensures)

@@ -14,7 +14,7 @@ render_surveyed-requires-clause-within g c κs within = record { limits = c.requ
 
 pub short_report-requires : goal.short_report-requires
 short_report-requires g c =
-    let clients = clients_within c.args.scene.now c.requires.within in
+    let clients = clients_within c.args.work.now.scene c.requires.within in
     let count = c.in_ok-syncs.ensures.clients in
     let shown = ap length c.as_slice.ensures in
     omega (arith, clients, count, shown)
@@ -24,13 +24,13 @@ returns-clause-outcome g c =
     let surveyed = c.in_ok-syncs.ensures in
     let run = c.in-Ok.run' in
     let is = c.in-Ok.ensures in
-    last_due c.args.scene.now c.in_ok-syncs.field-0.syncs surveyed.syncs run.journal run.waiting is.journal is.waiting is.at c.in_ok-syncs.field-0.faults
-    surveyed.clients surveyed.faults run.frames (is.frames) c.in_ok-notes.notes (cc (c.in_ok-notes.ensures, c.as_slice.ensures, c.as_slice-2.ensures)) c.ending_of-ending.result
+    last_due c.args.work.now.scene c.in_ok-syncs.field-0.syncs surveyed.syncs run.journal run.waiting is.journal is.waiting is.at c.in_ok-syncs.field-0.faults
+    surveyed.clients surveyed.faults c.args.work.now refl run.frames (is.frames) c.in_ok-notes.notes (cc (c.in_ok-notes.ensures, c.as_slice.ensures, c.as_slice-2.ensures)) c.ending_of-ending.result
     c.ending_of-ending.ensures
 
 pub returns-clause-writable : goal.returns-clause-writable
 returns-clause-writable g c =
-    let scene = c.args.scene.now in
+    let scene = c.args.work.now.scene in
     let surveyed = c.in_ok-syncs.ensures in
     let run = c.in-Ok.run' in
     let is = c.in-Ok.ensures in

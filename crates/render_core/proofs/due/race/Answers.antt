@@ -5,7 +5,7 @@ use Rattle.rc_base.specs.Orders.Order.{IsPermitted}
 use Rattle.rc_base.specs.declared.sync.SyncLists.{SyncLists}
 use Rattle.race_check.specs.Races.{IsVerdict}
 use Rattle.render_core.specs.declared.job.Job.TheVariants.{Race}
-use Rattle.render_core.specs.Due.{IsOutcome, journal_of, report_with}
+use Rattle.render_core.specs.Due.{IsOutcome, journal_of, short_due}
 use Rattle.render_core.proofs.Dues.{race_due}
 use Rattle.render_core.proofs.due.race.Goals as goal
 
@@ -22,14 +22,14 @@ check_races-requires-clause-permitted c =
 
 pub returns-clause-outcome : goal.returns-clause-outcome
 returns-clause-outcome c =
-    let scene = c.args.scene.now in
+    let work = c.args.work.now in
     let run = c.in_ok-run.run' in
     let is = c.in_ok-run.ensures.default in
     let v = c.in_ok-verdict.verdict in
     let notes = c.in_ok-notes.notes in
     let ending = c.race_ending.result in
     let told = c.as_bytes.ensures.value ∙ c.in_ok-line.ensures in
-    let lines : notes ≡ report_with _ scene (journal_of scene) = c.in_ok-notes.ensures scene is ∙ ap (λ (l : List ℕ). report_with l scene (journal_of scene)) told in
-    let found = subst (λ (s : SyncLists). IsVerdict s run.journal run.order (footprint_of scene) v) is.syncs c.in_ok-verdict.ensures.verdict in
-    subst (λ (l : List ℕ). IsOutcome Race scene (record { image = l; notes = notes; ending = ending; kept = None })) (sym c.new.ensures)
-    (race_due scene run is v found notes lines ending c.race_ending.ensures)
+    let lines : notes ≡ short_due work _ (journal_of work.scene) = c.in_ok-notes.ensures ∙ ap (λ (l : List ℕ). short_due work l (journal_of work.scene)) told in
+    let found = subst (λ (s : SyncLists). IsVerdict s run.journal run.order (footprint_of work.scene) v) is.syncs c.in_ok-verdict.ensures.verdict in
+    subst (λ (l : List ℕ). IsOutcome Race work (record { image = l; notes = notes; ending = ending; kept = None })) (sym c.new.ensures)
+    (race_due work run is v found notes lines ending c.race_ending.ensures)

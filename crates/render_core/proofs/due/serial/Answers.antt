@@ -13,14 +13,12 @@ render_order-requires-clause-legal c = c.in_ok-run.ensures.default.maximal.0
 
 pub returns-clause-outcome : goal.returns-clause-outcome
 returns-clause-outcome c =
-    let scene = c.args.scene.now in
-    let is = c.in_ok-run.ensures.default in
-    serial_due scene c.in_ok-run.run' is c.ending_of.result c.ending_of.ensures c.in_ok-notes.notes (c.in_ok-notes.ensures scene is) c.in_ok-frames.frames
-    c.in_ok-frames.ensures
+    serial_due c.args.work.now c.in_ok-run.run' c.in_ok-run.ensures.default c.ending_of.result c.ending_of.ensures c.in_ok-notes.notes c.in_ok-notes.ensures
+    c.in_ok-frames.frames c.in_ok-frames.ensures
 
 pub returns-clause-writable : goal.returns-clause-writable
 returns-clause-writable c =
-    let scene = c.args.scene.now in
+    let scene = c.args.work.now.scene in
     let run = c.in_ok-run.run' in
     let window : Layout = record { width = scene.decl.width; height = scene.decl.height; columns = 1; rows = 1 } in
     subst AreWritable (sym c.in_ok-frames.ensures)

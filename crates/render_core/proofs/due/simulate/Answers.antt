@@ -4,28 +4,27 @@ use Rattle.rc_base.specs.Cluster.Tiles.{tile_count}
 use Rattle.rc_base.specs.Program.Generator.{picks_of}
 use Rattle.rc_base.specs.declared.window.Layout.{Layout}
 use Rattle.render_core.specs.Due.{IsStepped, IsOutcome}
-use Rattle.render_core.specs.Jobs.{actors_for, layout_for}
-use Rattle.render_core.specs.declared.job.Job.TheVariants.{Simulate}
+use Rattle.render_core.specs.Scenes.{actors_for, layout_for}
 use Rattle.render_core.specs.Refusals.{outcome_of}
 use Rattle.rc_base.proofs.WithinLimits.{clients_within, tiles_within}
-use Rattle.render_core.proofs.Picked.{cluster_refused, picks_below}
+use Rattle.render_core.proofs.Picked.{picks_below}
 use Rattle.render_core.proofs.Recorded.{layout_within}
 use Rattle.render_core.proofs.due.simulate.Goals as goal
 
 pub actor_count-requires-clause-clients : goal.actor_count-requires-clause-clients
-actor_count-requires-clause-clients c = (clients_within c.args.scene.now c.requires.within).1
+actor_count-requires-clause-clients c = (clients_within c.args.work.now.scene c.requires.within).1
 
 pub actor_count-requires-clause-tiles : goal.actor_count-requires-clause-tiles
 actor_count-requires-clause-tiles c =
-    let scene = c.args.scene.now in
+    let scene = c.args.work.now.scene in
     let cluster = c.args.cluster in
-    subst (λ (l : Layout). tile_count l ≤ 32) (sym c.in-Ok.ensures.1)
-    (tiles_within scene (layout_for cluster scene) cluster.depth (layout_within cluster scene c.in-Ok.ensures.0)).1
+    subst (λ (l : Layout). tile_count l ≤ 32) (sym c.tiles_of-layout.ensures)
+    (tiles_within scene (layout_for cluster scene) cluster.depth (layout_within cluster scene c.requires.tiles)).1
 
 pub cluster_due-requires-clause-picks : goal.cluster_due-requires-clause-picks
 cluster_due-requires-clause-picks c =
-    let scene = c.args.scene.now in
-    let actors : c.actor_count.result ≡ actors_for c.args.cluster scene = c.actor_count.ensures ∙ ap (λ (l : Layout). length scene.streams + 1 + tile_count l) c.in-Ok.ensures.1 in
+    let scene = c.args.work.now.scene in
+    let actors : c.actor_count.result ≡ actors_for c.args.cluster scene = c.actor_count.ensures ∙ ap (λ (l : Layout). length scene.streams + 1 + tile_count l) c.tiles_of-layout.ensures in
     let picks : c.as_slice.result.now ≡ picks_of c.args.seed (actors_for c.args.cluster scene) = c.as_slice.ensures.value ∙ c.in_ok-picks.ensures ∙ ap (picks_of c.args.seed) actors in
     subst (λ (p : List ℕ). (i : ℕ) → i < length p → slice_index_or p i 0 < actors_for c.args.cluster scene) (sym picks)
     (picks_below c.args.seed (actors_for c.args.cluster scene) (omega arith))
@@ -33,10 +32,7 @@ cluster_due-requires-clause-picks c =
 pub returns-clause-outcome : goal.returns-clause-outcome
 unfolding IsOutcome
 returns-clause-outcome c =
-    let scene = c.args.scene.now in
-    let actors : c.actor_count.result ≡ actors_for c.args.cluster scene = c.actor_count.ensures ∙ ap (λ (l : Layout). length scene.streams + 1 + tile_count l) c.in-Ok.ensures.1 in
-    let picks : c.as_slice.result.now ≡ picks_of c.args.seed (actors_for c.args.cluster scene) = c.as_slice.ensures.value ∙ c.in_ok-picks.ensures ∙ ap (picks_of c.args.seed) actors in
-    subst (λ (p : List ℕ). IfOk c.cluster_due.result (λ due. IsStepped c.args.cluster p scene (outcome_of due))) picks c.cluster_due.ensures.outcome
-
-pub returns-clause-refused : goal.returns-clause-refused
-returns-clause-refused c = cluster_refused (Simulate c.args.seed c.args.cluster) c.args.scene.now c.cluster_due.result c.cluster_due.ensures.refused
+    let work = c.args.work.now in
+    let actors : c.actor_count.result ≡ actors_for c.args.cluster work.scene = c.actor_count.ensures ∙ ap (λ (l : Layout). length work.scene.streams + 1 + tile_count l) c.tiles_of-layout.ensures in
+    let picks : c.as_slice.result.now ≡ picks_of c.args.seed (actors_for c.args.cluster work.scene) = c.as_slice.ensures.value ∙ c.in_ok-picks.ensures ∙ ap (picks_of c.args.seed) actors in
+    subst (λ (p : List ℕ). IfOk c.cluster_due.result (λ due. IsStepped c.args.cluster p work (outcome_of due))) picks c.cluster_due.ensures.outcome

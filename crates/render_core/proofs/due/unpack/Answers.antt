@@ -1,11 +1,10 @@
 use Rattle.std.proofs.Common.{None, ◌∙◌, List, ℕ, [], ap, subst, sym}
 use Rattle.rc_base.specs.Formats.Text.Read.{SpellsText}
 use Rattle.render_core.specs.declared.due.Ending.TheVariants.{Complete}
-use Rattle.render_core.specs.Due.{Outcome, IsOutcome}
+use Rattle.render_core.specs.Due.{Outcome}
 use Rattle.render_core.proofs.due.unpack.Goals as goal
 
 pub returns-clause-outcome : goal.returns-clause-outcome
-unfolding IsOutcome
 returns-clause-outcome c =
     let fields = c.requires.well in
     let is = c.text_alone.ensures.outcome in

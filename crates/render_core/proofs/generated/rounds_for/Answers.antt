@@ -1,11 +1,11 @@
-use Rattle.std.proofs.Common.{◌≡◌, ℕ, ◌≤◌, ◌∙◌, ap, sym, Some, None, Ok, Err}
+use Rattle.std.proofs.Common.{◌≡◌, ℕ, ◌∙◌, ap, sym, Some, Ok, Err}
 use Rattle.std.specs.Prelude.{MatchResult, Result}
 use Rattle.std.specs.Option.{option_or}
 use Rattle.std.specs.declared.option.Option.{Option}
 use Rattle.rc_base.specs.Formats.Limits.{size_limit}
 use Rattle.rc_base.specs.Program.Generator.{generated_scene}
 use Rattle.rc_base.specs.declared.scene.Limit.{Limit}
-use Rattle.render_core.specs.Jobs.{tile_limit, word_limit}
+use Rattle.render_core.specs.Scenes.{tile_limit, word_limit}
 use Rattle.render_core.specs.declared.job.Cluster.{Cluster}
 use Rattle.render_core.proofs.Judging.{made_words}
 use Rattle.render_core.proofs.generated.rounds_for.Goals as goal

@@ -1,6 +1,6 @@
 use Rattle.std.proofs.Common.{refl, arith}
 use Rattle.std.proofs.lemmas.Result.{err_from_is_err_and}
-use Rattle.scene_file.proofs.StreamsInTurn.{magic_fails, letters_end, digit_fails}
+use Rattle.scene_file.proofs.Versions.{magic_fails, letters_end, digit_fails}
 use Rattle.scene_file.proofs.header.read_magic.Goals as goal
 
 pub returns-in_err-rest-clause-fails : goal.returns-in_err-rest-clause-fails
@@ -9,7 +9,7 @@ returns-in_err-rest-clause-fails c =
     rw (p.1, p.2) (magic_fails c.args.bytes.now c.in_err-rest.field-0.0 c.in_err-rest.ensures.fails)
 
 pub returns-in-empty-clause-fails : goal.returns-in-empty-clause-fails
-returns-in-empty-clause-fails c = (letters_end c.args.bytes.now c.in_ok-rest.rest.now c.in_ok-rest.ensures.found c.in-empty.len_below, refl)
+returns-in-empty-clause-fails c = (1, (omega arith, omega arith), letters_end c.args.bytes.now c.in_ok-rest.rest.now c.in_ok-rest.ensures.found c.in-empty.len_below, refl)
 
 pub returns-else-digit-eq50-clause-fails : goal.returns-else-digit-eq50-clause-fails
 returns-else-digit-eq50-clause-fails c =

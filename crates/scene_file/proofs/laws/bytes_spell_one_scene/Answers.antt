@@ -1,5 +1,5 @@
-use Rattle.scene_file.proofs.OneScene.{same_scene}
+use Rattle.scene_file.proofs.BothForms.{one_scene}
 use Rattle.scene_file.proofs.laws.bytes_spell_one_scene.Goals as goal
 
 pub returns : goal.returns
-returns c = same_scene
+returns c = one_scene

@@ -1,5 +1,5 @@
-use Rattle.scene_file.proofs.SpelledOrFaulty.{spelled_or_faulty}
+use Rattle.scene_file.proofs.BothForms.{scene_or_fault}
 use Rattle.scene_file.proofs.laws.bytes_spell_or_fail.Goals as goal
 
 pub returns : goal.returns
-returns c = spelled_or_faulty
+returns c = scene_or_fault

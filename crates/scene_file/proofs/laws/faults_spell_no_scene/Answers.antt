@@ -1,5 +1,5 @@
-use Rattle.scene_file.proofs.OneScene.{scene_none}
+use Rattle.scene_file.proofs.BothForms.{fault_no_scene}
 use Rattle.scene_file.proofs.laws.faults_spell_no_scene.Goals as goal
 
 pub returns : goal.returns
-returns c = scene_none
+returns c = fault_no_scene

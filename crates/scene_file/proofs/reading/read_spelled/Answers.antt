@@ -5,39 +5,39 @@ use Rattle.scene_file.proofs.CommandsCounted.{progress_none, progress_more, prog
 use Rattle.scene_file.proofs.reading.read_spelled.Goals as goal
 
 pub returns-in_err-version-clause-fails : goal.returns-in_err-version-clause-fails
-returns-in_err-version-clause-fails c =
+returns-in_err-version-clause-fails g c =
     let p = err_from_is_err_and c.from_residual.result c.from_residual.ensures.1 in
-    rw (p.1, p.2) (letters_fail c.args.bytes.now c.in_err-version.field-0.0 c.in_err-version.ensures.fails)
+    rw (p.1, p.2) (letters_fail g.C.PacketCommand.set g.C.BeginsScene.letters c.args.bytes.now c.in_err-version.field-0.0 c.in_err-version.ensures.fails)
 
 pub returns-in_err-decl-clause-fails : goal.returns-in_err-decl-clause-fails
-returns-in_err-decl-clause-fails c =
+returns-in_err-decl-clause-fails g c =
     let p = err_from_is_err_and c.from_residual-in_err-decl.result c.from_residual-in_err-decl.ensures.1 in
-    rw (p.1, p.2) (head_fails c.in_ok-version.version c.in_ok-version.ensures.found.0 c.args.bytes.now c.in_ok-version.body.now c.in_err-decl.field-0.0 (λ i. omega (arith, c.type_inv.bytes i)) c.in_ok-version.ensures.found.1 c.in_err-decl.ensures)
+    rw (p.1, p.2) (head_fails g.C.PacketCommand.set g.C.BeginsScene.letters c.in_ok-version.version c.in_ok-version.ensures.found.0 c.args.bytes.now c.in_ok-version.body.now c.in_err-decl.field-0.0 (λ i. omega (arith, c.type_inv.bytes i)) c.in_ok-version.ensures.found.1 c.in_err-decl.ensures)
 
 pub loop-init : goal.loop-init
-loop-init c =
+loop-init g c =
     rw c.new-streams.ensures
-    (progress_none c.args.bytes.now c.in_ok-decl.field-0-0.decl c.in_ok-decl.field-0-0.clients c.in_ok-decl.body.now
-    (stage_none c.in_ok-version.version c.in_ok-version.ensures.found.0 c.args.bytes.now c.in_ok-version.body.now c.in_ok-decl.field-0-0 c.in_ok-decl.body.now (λ i. omega (arith, c.type_inv.bytes i)) c.in_ok-version.ensures.found.1 c.in_ok-decl.ensures))
+    (progress_none g.C.PacketCommand.set g.C.BeginsScene.letters g.C.PacketCommand.reader.shows c.args.bytes.now c.in_ok-decl.field-0-0.decl c.in_ok-decl.field-0-0.clients c.in_ok-decl.body.now
+    (stage_none g.C.PacketCommand.set g.C.BeginsScene.letters c.in_ok-version.version c.in_ok-version.ensures.found.0 c.args.bytes.now c.in_ok-version.body.now c.in_ok-decl.field-0-0 c.in_ok-decl.body.now (λ i. omega (arith, c.type_inv.bytes i)) c.in_ok-version.ensures.found.1 c.in_ok-decl.ensures))
 
 pub returns-in_err-decoded-clause-fails : goal.returns-in_err-decoded-clause-fails
-returns-in_err-decoded-clause-fails c =
+returns-in_err-decoded-clause-fails g c =
     let p = err_from_is_err_and c.from_residual-in_err-decoded.result c.from_residual-in_err-decoded.ensures.1 in
     rw (p.1, p.2)
-    (stage_fails c.args.bytes.now c.in_ok-decl.field-0-0.decl c.in_ok-decl.field-0-0.clients c.loop.counter c.loop.invariant.all c.loop.rest.now c.in_err-decoded.field-0.0 c.loop.invariant.stage c.loop-test.true c.in_err-decoded.ensures.fails)
+    (stage_fails g.C.PacketCommand.set g.C.BeginsScene.letters c.args.bytes.now c.in_ok-decl.field-0-0.decl c.in_ok-decl.field-0-0.clients c.loop.counter c.loop.invariant.all c.loop.rest.now c.in_err-decoded.field-0.0 c.loop.invariant.stage c.loop-test.true c.in_err-decoded.ensures.fails)
 
 pub loop-preserved : goal.loop-preserved
-loop-preserved c =
+loop-preserved g c =
     rw (c.in_ok-push.ensures.items, c.frames_with-frames.ensures, c.len.ensures)
-    (progress_more c.args.bytes.now c.in_ok-decl.field-0-0.decl c.in_ok-decl.field-0-0.clients c.loop.counter c.loop.streams c.loop.commands c.loop.frames c.loop.rest.now c.in_ok-decoded.decoded c.in_ok-decoded.after.now
+    (progress_more g.C.PacketCommand.set g.C.BeginsScene.letters g.C.PacketCommand.reader.shows c.args.bytes.now c.in_ok-decl.field-0-0.decl c.in_ok-decl.field-0-0.clients c.loop.counter c.loop.streams c.loop.commands c.loop.frames c.loop.rest.now c.in_ok-decoded.decoded c.in_ok-decoded.after.now
     c.loop.invariant (rw c.room_behind-room.ensures at c.in_ok-decoded.ensures.found))
 
 pub returns-then-not-is_end-clause-fails : goal.returns-then-not-is_end-clause-fails
-returns-then-not-is_end-clause-fails c =
-    stage_trailing c.args.bytes.now c.in_ok-decl.field-0-0.decl c.in_ok-decl.field-0-0.clients c.loop.counter c.loop.invariant.all c.loop.rest.now c.loop.invariant.stage (omega arith)
+returns-then-not-is_end-clause-fails g c =
+    stage_trailing g.C.PacketCommand.set g.C.BeginsScene.letters c.args.bytes.now c.in_ok-decl.field-0-0.decl c.in_ok-decl.field-0-0.clients c.loop.counter c.loop.invariant.all c.loop.rest.now c.loop.invariant.stage (omega arith)
     (some_left c.is_end.result (length c.loop.rest.now) c.is_end.ensures c.if-not-is_end.true)
 
 pub returns-clause-found : goal.returns-clause-found
-returns-clause-found c =
-    progress_done c.args.bytes.now c.in_ok-decl.field-0-0.decl c.in_ok-decl.field-0-0.clients c.loop.counter c.loop.streams c.loop.commands c.loop.frames c.loop.rest.now c.loop.invariant (omega arith)
+returns-clause-found g c =
+    progress_done g.C.PacketCommand.set g.C.BeginsScene.letters g.C.PacketCommand.reader.shows c.args.bytes.now c.in_ok-decl.field-0-0.decl c.in_ok-decl.field-0-0.clients c.loop.counter c.loop.streams c.loop.commands c.loop.frames c.loop.rest.now c.loop.invariant (omega arith)
     (none_left c.is_end.result (length c.loop.rest.now) c.is_end.ensures c.if-not-is_end.false)

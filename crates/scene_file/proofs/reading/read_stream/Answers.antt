@@ -5,14 +5,14 @@ use Rattle.scene_file.proofs.StreamsInTurn.{text_field, text_decoded, text_fails
 use Rattle.scene_file.proofs.reading.read_stream.Goals as goal
 
 pub returns-in_err-text-clause-fails : goal.returns-in_err-text-clause-fails
-returns-in_err-text-clause-fails c =
+returns-in_err-text-clause-fails g c =
     let p = err_from_is_err_and c.from_residual.result c.from_residual.ensures.1 in
-    rw (p.1, p.2) (text_field c.args.bytes.now (errors.Form c.in_err-text.field-0.0) (λ i. omega (arith, c.type_inv.bytes i)) c.in_err-text.ensures)
+    rw (p.1, p.2) (text_field g.C.PacketCommand.set c.args.bytes.now (errors.Form c.in_err-text.field-0.0) (λ i. omega (arith, c.type_inv.bytes i)) c.in_err-text.ensures)
 
 pub returns-in-Ok-clause-found : goal.returns-in-Ok-clause-found
-returns-in-Ok-clause-found c =
-    text_decoded c.args.bytes.now c.in_ok-text.text.now c.in_ok-text.after.now c.args.room c.in-Ok.decoded (λ i. omega (arith, c.type_inv.bytes i)) c.in_ok-text.ensures c.in-Ok.ensures.found
+returns-in-Ok-clause-found g c =
+    text_decoded g.C.PacketCommand.set g.C.PacketCommand.reader.shows c.args.bytes.now c.in_ok-text.text.now c.in_ok-text.after.now c.args.room c.in-Ok.decoded (λ i. omega (arith, c.type_inv.bytes i)) c.in_ok-text.ensures c.in-Ok.ensures.found
 
 pub returns-in-Err-clause-fails : goal.returns-in-Err-clause-fails
-returns-in-Err-clause-fails c =
-    rw c.in_stream.ensures (text_fails c.args.bytes.now c.in_ok-text.text.now c.in_ok-text.after.now c.in-Err.fault (λ i. omega (arith, c.type_inv.bytes i)) c.in_ok-text.ensures c.in-Err.ensures.fails)
+returns-in-Err-clause-fails g c =
+    rw c.in_stream.ensures (text_fails g.C.PacketCommand.set c.args.bytes.now c.in_ok-text.text.now c.in_ok-text.after.now c.in-Err.fault (λ i. omega (arith, c.type_inv.bytes i)) c.in_ok-text.ensures c.in-Err.ensures.fails)

@@ -1,0 +1,14 @@
+pub mod WordBytes
+pub mod PayloadSizes
+pub mod Stored
+pub mod CommandsMet
+pub mod ListsCalled
+pub mod StreamsTaken
+pub mod LimitPassed
+pub mod PlainStreams
+pub mod ListsRecorded
+pub mod CallsInPlace
+pub mod CommandsRefused
+pub mod CommandsInRange
+pub mod StreamsExpanded
+pub mod WholeStreams
