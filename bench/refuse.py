@@ -7,8 +7,7 @@
 Each run has to end by itself, within ten seconds, with every thread joined that it started, and with one of these:
 - 0 (or the status of a run with memory), with the whole image and the whole notes: what was refused wasn't needed. So it is where a thread can't be made:
   its actor is stepped by the caller.
-- 7, with `rc: out of memory` in the notes and a front of the image that is due. Where the words begin with a filter, also with nothing in the notes: its box lacked
-  memory before anything was read.
+- 7, with `rc: out of memory` in the notes and a front of the image that is due.
 Where the threads' schedule decides what is drawn a right run may have another image than the one with memory, so give a scene that is ordered.
 
 The last line tells how many allocations were refused, how many of these runs ended with 7 and how many with 0 (with another status where the run with memory
@@ -27,7 +26,6 @@ import tempfile
 HERE = pathlib.Path(__file__).resolve().parent
 EXAMPLES = HERE.parent / "examples"
 SECONDS = 10
-FILTERS = ("recolour", "cull", "drop", "count")
 
 
 class Runs:
@@ -46,12 +44,12 @@ class Runs:
         return (done.returncode, done.stdout, done.stderr), struct.unpack("3l", self.counts.read_bytes())
 
 
-def fault_of(end, whole, started, joined, filtered):
+def fault_of(end, whole, started, joined):
     """What is wrong with a run, or None."""
     status, image, notes = end
     if started != joined:
         return f"{started} threads were started and {joined} joined"
-    if end == whole or status == 7 and notes == b"rc: out of memory\n" and whole[1].startswith(image) or filtered and end == (7, b"", b""):
+    if end == whole or status == 7 and notes == b"rc: out of memory\n" and whole[1].startswith(image):
         return None
     return f"status {status}, {len(image)} bytes of image, notes {notes!r}"
 
@@ -67,7 +65,7 @@ def refuse_each(runs):
             print(f"refuse.py: with allocation {number} refused the program didn't end")
             hung += 1
             continue
-        fault = fault_of(end, whole, begun, joined, runs.command[1] in FILTERS)
+        fault = fault_of(end, whole, begun, joined)
         if fault:
             print(f"refuse.py: with allocation {number} refused: {fault}")
             wrong += 1
