@@ -40,11 +40,6 @@ const JOBS: [&[&str]; 6] = [
     &["last"],
 ];
 
-// A window of 2 by 2: `ClearColor 255 0 0 255; Clear 1; Swap`.
-const RED_CLEAR: &[u8] = b"RCS1\x02\0\x02\0\x01\0\0\0\x0a\0\0\0\x03\0\x16\x18\x24\xff\0\0\xff\x01";
-
-const RED_TEXT: &[u8] = b"scene 1 2 2\nclient\nClearColor 255 0 0 255\nClear 1\nSwap\n";
-
 // What a run leaves: its status, the ends that it was given, and the rules of the filters.
 #[derive(Drop)]
 struct Left {

@@ -16,82 +16,13 @@ use scene_file::{read_scene, write_scene};
 use scene_text::parse_scene;
 use std::alloc::Global;
 use std::process::Abort;
+use test_scenes::{BLENDED_IN_TURN, LAZY_TEXTURE, SHARED_BEHIND_A_BARRIER};
 
 // A picture that is cleared to red: a Clear with a set, Swap, End.
 const CLEARED: &[u8] = b"scene 1 2 2
 client
 ClearColor 255 0 0 255
 Clear 1
-Swap
-";
-
-// Two clients that blend over one another where a semaphore lets them.
-const BLENDED: &[u8] = b"scene 1 2 1
-semaphore 1
-client
-Enable 3
-BlendFunc 6 7
-Color 255 0 0 128
-SemP 1
-Begin 0
-Vertex -65536 -65536 0 65536
-Vertex 196608 -65536 0 65536
-Vertex -65536 196608 0 65536
-End
-SemV 1
-Swap
-client
-Enable 3
-BlendFunc 6 7
-Color 0 0 255 128
-SemP 1
-Begin 0
-Vertex -65536 -65536 0 65536
-Vertex 196608 -65536 0 65536
-Vertex -65536 196608 0 65536
-End
-SemV 1
-Swap
-";
-
-// A client writes a shared texture, and another one draws with it behind a barrier.
-const SHARED: &[u8] = b"scene 1 8 2
-shared 2 1
-barrier 2
-client
-SharedImage 1 0 0 2 1 ff0000ff00ff00ff
-Barrier 1
-Swap
-client
-Barrier 1
-BindTexture 1 1
-Enable 5
-TexEnv 1
-TexCoord -1 0
-Begin 0
-Vertex -65536 -65536 0 65536
-Vertex 196608 -65536 0 65536
-Vertex -65536 196608 0 65536
-End
-Swap
-";
-
-// A private texture is told with the first draw that samples it.
-const TEXTURED: &[u8] = b"scene 1 1 1
-client
-TexImage 1 1 1 00ff00ff
-Clear 1
-Enable 5
-Begin 0
-Vertex -65536 -65536 0 65536
-Vertex 196608 -65536 0 65536
-Vertex -65536 196608 0 65536
-End
-Begin 0
-Vertex -65536 -65536 0 65536
-Vertex 196608 -65536 0 65536
-Vertex -65536 196608 0 65536
-End
 Swap
 ";
 
@@ -211,7 +142,7 @@ fn all_parcels(rt: &impl Abort, alloc: Global, text: &[u8]) -> u32 {
 #[test]
 fn each_parcel_of_a_worked_scene_returns_from_its_bytes(rt: HostRuntime) {
     assert!(rt; all_parcels(&rt, rt.alloc(), CLEARED) == 3);
-    assert!(rt; all_parcels(&rt, rt.alloc(), BLENDED) == 10);
-    assert!(rt; all_parcels(&rt, rt.alloc(), SHARED) == 8);
-    assert!(rt; all_parcels(&rt, rt.alloc(), TEXTURED) == 5);
+    assert!(rt; all_parcels(&rt, rt.alloc(), BLENDED_IN_TURN) == 10);
+    assert!(rt; all_parcels(&rt, rt.alloc(), SHARED_BEHIND_A_BARRIER) == 8);
+    assert!(rt; all_parcels(&rt, rt.alloc(), LAZY_TEXTURE) == 5);
 }

@@ -13,29 +13,7 @@ use scene_text::parse_scene;
 use std::alloc::Global;
 use std::process::Abort;
 use step_core::{CoreRun, finish, run_schedule};
-
-const BLENDED: &[u8] = b"scene 1 2 1
-client
-Enable 3
-BlendFunc 6 7
-Color 255 0 0 128
-Begin 0
-Vertex -65536 -65536 0 65536
-Vertex 196608 -65536 0 65536
-Vertex -65536 196608 0 65536
-End
-Swap
-client
-Enable 3
-BlendFunc 6 7
-Color 0 0 255 128
-Begin 0
-Vertex -65536 -65536 0 65536
-Vertex 196608 -65536 0 65536
-Vertex -65536 196608 0 65536
-End
-Swap
-";
+use test_scenes::BLENDED_AT_ONCE;
 
 // The scene that a text spells.
 fn scene_of(rt: &impl Abort, alloc: Global, text: &[u8]) -> Scene
@@ -59,7 +37,7 @@ fn are_below(picks: &[u32], count: usize) -> bool
 
 // What the picks and rounds to the end leave of the scene, on two tiles beside one another.
 fn run_of(rt: &impl Abort, alloc: Global, picks: &[u32]) -> CoreRun {
-    let scene = scene_of(rt, alloc, BLENDED);
+    let scene = scene_of(rt, alloc, BLENDED_AT_ONCE);
     let cut = layout(scene.decl.width, scene.decl.height, 2, 1, 8).expect(rt, "a layout");
     let tiles = usize::from(cut.columns) * usize::from(cut.rows);
     assert!(rt; are_below(picks, scene.streams.len() + 1 + tiles));

@@ -4,13 +4,9 @@ use scene_file::{SceneFault, read_scene, write_scene};
 use scene_text::{parse_scene, print_scene};
 use std::alloc::Global;
 use std::process::Abort;
+use test_scenes::RED_CLEAR;
 
 /// A window of 2 by 2, and one stream: a red clear colour, a clear of the colours, a swap.
-const RED: [u8; 26] = [
-    0x52, 0x43, 0x53, 0x31, 2, 0, 2, 0, 1, 0, 0, 0, 10, 0, 0, 0, 3, 0, 0x16, 0x18, 0x24, 255, 0, 0,
-    255, 1,
-];
-
 fn fails(rt: &HostRuntime, bytes: &[u8], fault: SceneFault) -> bool {
     match read_scene(rt.alloc(), bytes) {
         Ok(_) => false,
@@ -57,7 +53,7 @@ fn is_red(scene: &Scene, version: u8) -> bool {
 
 /// Whether the bytes with this digit behind the letters are read as the scene in this version, and written again as they stand.
 fn is_red_in(rt: &HostRuntime, digit: u8, version: u8) -> bool {
-    let mut bytes = RED;
+    let mut bytes = RED_CLEAR;
     bytes[3] = digit;
     match read_scene(rt.alloc(), &bytes) {
         Ok(scene) => is_red(&scene, version) && comes_back(rt, &bytes),
@@ -83,7 +79,7 @@ fn are_one_scene(rt: &impl Abort, alloc: Global, text: &[u8], bytes: &[u8]) -> b
 
 #[test]
 fn a_scene_of_version_2_goes_there_and_back(rt: HostRuntime) {
-    let mut bytes = RED;
+    let mut bytes = RED_CLEAR;
     bytes[3] = 0x32;
     let text = b"scene 2 2 2\nclient\nClearColor 255 0 0 255\nClear 1\nSwap\n";
     assert!(rt; are_one_scene(&rt, rt.alloc(), text, &bytes));
@@ -96,7 +92,7 @@ fn each_fault_stands_at_its_place(rt: HostRuntime) {
             kind: SceneKind::Truncated,
             at: n,
         };
-        assert!(rt; fails(&rt, &RED[..n], fault));
+        assert!(rt; fails(&rt, &RED_CLEAR[..n], fault));
     }
     let cases = [
         (2, [0x54, 0x31], SceneKind::BadMagic, 2),
@@ -107,13 +103,13 @@ fn each_fault_stands_at_its_place(rt: HostRuntime) {
         (12, [11, 0], SceneKind::Truncated, 26),
     ];
     for (place, bytes, kind, at) in cases {
-        let mut scene = RED;
+        let mut scene = RED_CLEAR;
         scene[place] = bytes[0];
         scene[place + 1] = bytes[1];
         assert!(rt; fails(&rt, &scene, SceneFault::Malformed { kind, at }));
     }
     for digit in [0x30, 0x33, 0x34] {
-        let mut scene = RED;
+        let mut scene = RED_CLEAR;
         scene[3] = digit;
         let fault = SceneFault::Malformed {
             kind: SceneKind::BadMagic,
@@ -121,14 +117,14 @@ fn each_fault_stands_at_its_place(rt: HostRuntime) {
         };
         assert!(rt; fails(&rt, &scene, fault));
     }
-    let mut longer = Vec::from_slice(rt.alloc(), &RED).expect(&rt, "memory");
+    let mut longer = Vec::from_slice(rt.alloc(), &RED_CLEAR).expect(&rt, "memory");
     longer.push(0).expect(&rt, "memory");
     let fault = SceneFault::Malformed {
         kind: SceneKind::Trailing,
         at: 26,
     };
     assert!(rt; fails(&rt, longer.as_slice(), fault));
-    let mut narrow = RED;
+    let mut narrow = RED_CLEAR;
     narrow[4] = 0;
     assert!(rt; fails(&rt, &narrow, SceneFault::Limit { what: 2, value: 0 }));
 }

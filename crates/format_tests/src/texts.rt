@@ -1,7 +1,6 @@
 use rc_base::scene::TextKind;
 use scene_text::{TextSceneFault, parse_scene, print_scene};
-
-const RED: &[u8] = b"scene 1 2 2\nclient\nClearColor 255 0 0 255\nClear 1\nSwap\n";
+use test_scenes::RED_CLEAR_TEXT;
 
 /// What is parsed is printed so.
 fn prints_as(rt: &HostRuntime, text: &[u8], printed: &[u8]) -> bool {
@@ -23,12 +22,12 @@ fn fails_with(rt: &HostRuntime, text: &[u8], line: usize, kind: TextKind) -> boo
 
 #[test]
 fn red_clear_is_parsed_and_printed(rt: HostRuntime) {
-    assert!(rt; prints_as(&rt, RED, RED));
+    assert!(rt; prints_as(&rt, RED_CLEAR_TEXT, RED_CLEAR_TEXT));
     assert!(rt;
         prints_as(
             &rt,
             b"# red\r\n\n  scene  01 2 0002 \r\n   \nclient\r\nClearColor 255 0 -0 255\nClear 1\nSwap",
-            RED
+            RED_CLEAR_TEXT
         )
     );
 }

@@ -25,12 +25,7 @@ use std::alloc::Global;
 use std::process::Abort;
 use std::sync::Wait;
 use std::thread::Threads;
-
-// A window of 2 by 2: `ClearColor 255 0 0 255; Clear 1; Swap`.
-const RED_CLEAR: [u8; 26] = [
-    0x52, 0x43, 0x53, 0x31, 2, 0, 2, 0, 1, 0, 0, 0, 10, 0, 0, 0, 3, 0, 0x16, 0x18, 0x24, 255, 0, 0,
-    255, 1,
-];
+use test_scenes::{BLACK_PIXEL, RED_CLEAR};
 
 // A window of 1 by 1: `Begin 0; Clear 1; End; Swap`. Nothing is cleared while a block is open.
 const CLEAR_IN_BLOCK: [u8; 24] = [
@@ -41,14 +36,6 @@ const CLEAR_IN_BLOCK: [u8; 24] = [
 const END_THEN_MODE_3: [u8; 22] = [
     0x52, 0x43, 0x53, 0x31, 1, 0, 1, 0, 1, 0, 0, 0, 6, 0, 0, 0, 3, 0, 2, 1, 0x24, 3,
 ];
-
-// One black pixel.
-const BLACK_PIXEL: &[u8] = b"P6\n1 1\n255\n\0\0\0";
-
-// The frame of the red clear.
-const RED_FRAME: &[u8] = b"P6\n2 2\n255\n\xff\0\0\xff\0\0\xff\0\0\xff\0\0";
-
-const RED_CLEAR_TEXT: &[u8] = b"scene 1 2 2\nclient\nClearColor 255 0 0 255\nClear 1\nSwap\n";
 
 // What a test's runtime can do: a run may start threads and wait for them.
 trait Host: Abort + Threads + Wait + Copy + Send + Sync + Drop {}

@@ -8,30 +8,7 @@ use std::sync::Wait;
 use std::sync::atomic::{AtomicBool, AtomicU64, Ordering};
 use std::thread;
 use std::thread::Threads;
-
-// Two clients blend over both pixels, and nothing orders them.
-const BLENDED_AT_ONCE: &[u8] = b"scene 1 2 1
-client
-Enable 3
-BlendFunc 6 7
-Color 255 0 0 128
-Begin 0
-Vertex -65536 -65536 0 65536
-Vertex 196608 -65536 0 65536
-Vertex -65536 196608 0 65536
-End
-Swap
-client
-Enable 3
-BlendFunc 6 7
-Color 0 0 255 128
-Begin 0
-Vertex -65536 -65536 0 65536
-Vertex 196608 -65536 0 65536
-Vertex -65536 196608 0 65536
-End
-Swap
-";
+use test_scenes::BLENDED_AT_ONCE;
 
 // Each of two clients draws a pixel of its own.
 const SIDE_BY_SIDE: &[u8] = b"scene 1 2 1

@@ -1,8 +1,9 @@
 //! Where a report tells what filters counted, and which jobs tell it.
 use super::behind::{run_behind, text_behind};
-use super::scenes::{BLENDED_BEHIND_A_BARRIER, NEAR_AND_BARRIER, NO_UNIT, SWAP_ALONE};
-use super::{Host, JOBS, Left, RED_CLEAR, RED_TEXT, run_on, run_text};
+use super::scenes::NEAR_AND_BARRIER;
+use super::{Host, JOBS, Left, run_on, run_text};
 use std::alloc::Global;
+use test_scenes::{BLENDED_BEHIND_A_BARRIER, NO_UNIT, RED_CLEAR, RED_CLEAR_TEXT, SWAP_ALONE};
 
 // Words behind `cull` and `count`, a scene, the status, and what the notes hold before the line of the filter, that line, and what they hold behind it.
 type Told = (
@@ -113,8 +114,8 @@ fn counts_are_told_behind_the_frames(rt: HostRuntime) {
 
 // Words with one filter in front of a job, and what the job is given.
 const OTHER_JOBS: [(&[&str], &[u8]); 4] = [
-    (&["count", "pack"], RED_TEXT),
-    (&["count", "unpack"], RED_CLEAR),
+    (&["count", "pack"], RED_CLEAR_TEXT),
+    (&["count", "unpack"], &RED_CLEAR),
     (&["count", "gen", "--seed", "1", "--size", "3"], b""),
     (&["count", "demo", "--seed", "1", "--size", "3"], b""),
 ];
@@ -145,8 +146,8 @@ fn filters_are_nothing_to_other_jobs(rt: HostRuntime) {
 #[test]
 fn an_empty_chain_changes_nothing(rt: HostRuntime) {
     for job in JOBS {
-        assert!(rt; changes_nothing(&rt, rt.alloc(), job, 0, RED_CLEAR));
+        assert!(rt; changes_nothing(&rt, rt.alloc(), job, 0, &RED_CLEAR));
     }
-    let left = run_on(&rt, rt.alloc(), &["count", "check"], RED_CLEAR);
+    let left = run_on(&rt, rt.alloc(), &["count", "check"], &RED_CLEAR);
     assert!(rt; left.is(1, b"", b"rc: usage\n"));
 }

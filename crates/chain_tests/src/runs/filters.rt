@@ -1,8 +1,11 @@
 //! Runs behind filters: what is drawn, judged and told is what comes out of them.
+use super::Host;
 use super::behind::text_behind;
-use super::scenes::{BACK, BLENDED_BEHIND_A_BARRIER, NEAR_AND_BARRIER, NO_UNIT, SAND, SWAP_ALONE};
-use super::{Host, RED_TEXT};
+use super::scenes::{BACK, NEAR_AND_BARRIER, SAND};
 use std::alloc::Global;
+use test_scenes::{
+    BLACK_PIXEL, BLENDED_BEHIND_A_BARRIER, NO_UNIT, RED_CLEAR_TEXT, SWAP_ALONE, WHITE_PIXEL,
+};
 
 // Words, a scene, and the status, image and notes that are due.
 type Row = (
@@ -18,10 +21,6 @@ fn leaves(rt: &impl Host, alloc: Global, row: Row) -> bool {
     text_behind(rt, alloc, words, text).is(status, image, notes.as_bytes())
 }
 
-const WHITE: &[u8] = b"P6\n1 1\n255\n\xff\xff\xff";
-
-const BLACK: &[u8] = b"P6\n1 1\n255\n\0\0\0";
-
 const ROWS: [Row; 15] = [
     (
         &["recolour", "128", "255", "255", "255", "count", "render"],
@@ -32,7 +31,7 @@ const ROWS: [Row; 15] = [
     ),
     (
         &["drop", "Swap", "render"],
-        RED_TEXT,
+        RED_CLEAR_TEXT,
         0,
         b"",
         "tile 0 parcels 2 sets 1 looks 15\njournal 0\nframes 0\n",
@@ -44,20 +43,26 @@ const ROWS: [Row; 15] = [
         b"",
         "client 0 fault INVALID_OPERATION at 1\nclient 0 fault INVALID_OPERATION at 2\nclient 0 fault INVALID_OPERATION at 3\nclient 0 fault INVALID_OPERATION at 4\njournal 1\nframes 1\n",
     ),
-    (&["serial"], BACK, 0, WHITE, "journal 1\nframes 1\n"),
-    (&["cull", "serial"], BACK, 0, BLACK, "journal 1\nframes 1\n"),
+    (&["serial"], BACK, 0, WHITE_PIXEL, "journal 1\nframes 1\n"),
+    (
+        &["cull", "serial"],
+        BACK,
+        0,
+        BLACK_PIXEL,
+        "journal 1\nframes 1\n",
+    ),
     (
         &["cull", "drop", "Disable", "count", "serial"],
         BACK,
         0,
-        BLACK,
+        BLACK_PIXEL,
         "journal 1\nframes 1\nfilter 2 count 8\n",
     ),
     (
         &["drop", "Disable", "cull", "count", "serial"],
         BACK,
         0,
-        WHITE,
+        WHITE_PIXEL,
         "journal 1\nframes 1\nfilter 2 count 7\n",
     ),
     (

@@ -1,10 +1,11 @@
 //! What the members of a chain are left with.
 use super::behind::left_behind;
-use super::scenes::{BLENDED_BEHIND_A_BARRIER, NEAR_AND_BARRIER, NO_UNIT};
-use super::{Host, RED_CLEAR, RED_TEXT, run_on};
+use super::scenes::NEAR_AND_BARRIER;
+use super::{Host, run_on};
 use SpuRule::{Count, Cull, Drop};
 use spu_chain::SpuRule;
 use std::alloc::Global;
+use test_scenes::{BLENDED_BEHIND_A_BARRIER, NO_UNIT, RED_CLEAR, RED_CLEAR_TEXT};
 
 // Words, what the job is given, which takes and puts of source, image and notes fail, the status, and the rules that the members have then.
 struct Case {
@@ -35,21 +36,21 @@ const COUNTED: [Case; 7] = [
     },
     Case {
         words: &["count", "serial"],
-        input: RED_TEXT,
+        input: RED_CLEAR_TEXT,
         fails: [&[], &[1], &[]],
         status: 6,
         rules: &[Count(3)],
     },
     Case {
         words: &["count", "render"],
-        input: RED_TEXT,
+        input: RED_CLEAR_TEXT,
         fails: [&[], &[2], &[]],
         status: 6,
         rules: &[Count(3)],
     },
     Case {
         words: &["count", "simulate", "--seed", "1"],
-        input: RED_TEXT,
+        input: RED_CLEAR_TEXT,
         fails: [&[], &[], &[1]],
         status: 8,
         rules: &[Count(3)],
@@ -74,28 +75,28 @@ const COUNTED: [Case; 7] = [
 const UNTOUCHED: [Case; 10] = [
     Case {
         words: &["count"],
-        input: RED_CLEAR,
+        input: &RED_CLEAR,
         fails: NO_FAULT,
         status: 1,
         rules: &[Count(0)],
     },
     Case {
         words: &["cull", "count", "render", "count"],
-        input: RED_CLEAR,
+        input: &RED_CLEAR,
         fails: NO_FAULT,
         status: 1,
         rules: &[Cull, Count(0)],
     },
     Case {
         words: &["count", "drop", "render"],
-        input: RED_CLEAR,
+        input: &RED_CLEAR,
         fails: NO_FAULT,
         status: 1,
         rules: &[],
     },
     Case {
         words: &["count", "check"],
-        input: RED_CLEAR,
+        input: &RED_CLEAR,
         fails: [&[2], &[], &[]],
         status: 2,
         rules: &[Count(0)],
@@ -116,21 +117,21 @@ const UNTOUCHED: [Case; 10] = [
     },
     Case {
         words: &["count", "render", "--depth", "17"],
-        input: RED_CLEAR,
+        input: &RED_CLEAR,
         fails: NO_FAULT,
         status: 4,
         rules: &[Count(0)],
     },
     Case {
         words: &["count", "drop", "Swap", "pack"],
-        input: RED_TEXT,
+        input: RED_CLEAR_TEXT,
         fails: NO_FAULT,
         status: 0,
         rules: &[Count(0), Drop(0x24)],
     },
     Case {
         words: &["count", "unpack"],
-        input: RED_CLEAR,
+        input: &RED_CLEAR,
         fails: NO_FAULT,
         status: 0,
         rules: &[Count(0)],

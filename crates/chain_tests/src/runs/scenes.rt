@@ -23,33 +23,6 @@ End
 Swap
 ";
 
-// Two clients blend over both pixels, the second one behind a barrier: twenty commands.
-pub(super) const BLENDED_BEHIND_A_BARRIER: &[u8] = b"scene 1 2 1
-barrier 2
-client
-Enable 3
-BlendFunc 6 7
-Color 255 0 0 128
-Begin 0
-Vertex -65536 -65536 0 65536
-Vertex 196608 -65536 0 65536
-Vertex -65536 196608 0 65536
-End
-Barrier 1
-Swap
-client
-Enable 3
-BlendFunc 6 7
-Color 0 0 255 128
-Barrier 1
-Begin 0
-Vertex -65536 -65536 0 65536
-Vertex 196608 -65536 0 65536
-Vertex -65536 196608 0 65536
-End
-Swap
-";
-
 // A scene that would be for `last` without its barrier: twelve commands.
 pub(super) const NEAR_AND_BARRIER: &[u8] = b"scene 1 1 1
 barrier 2
@@ -68,10 +41,3 @@ Enable 2
 Barrier 1
 Swap
 ";
-
-// A client swaps, and the other one never does.
-pub(super) const SWAP_ALONE: &[u8] = b"scene 1 1 1\nclient\nclient\nSwap\n";
-
-// A white frame, and then a unit that nobody gives: five commands.
-pub(super) const NO_UNIT: &[u8] =
-    b"scene 1 1 1\nsemaphore 0\nclient\nClearColor 255 255 255 255\nClear 1\nSwap\nSemP 1\nSwap\n";

@@ -1,9 +1,8 @@
 //! Scenes whose clients are drawn apart and put together by depth, by `last`.
-use super::orders::BLENDED_IN_TURN;
 use super::rows::ADDED_QUAD;
 use super::{Host, left_on, run_on, run_text, sink, source_of};
-use rc_base::outside::Sink;
 use std::alloc::Global;
+use test_scenes::BLENDED_IN_TURN;
 
 // Two clients cover a pixel at one depth.
 const EQUALLY_NEAR: &[u8] = b"scene 1 1 1

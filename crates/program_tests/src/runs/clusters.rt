@@ -1,5 +1,6 @@
 //! Scenes on clusters of tiles, by `render` and `simulate`.
 use super::run_text;
+use test_scenes::{BARRIER_IN_BLOCK, NO_UNIT};
 
 // A blend that is set and set back, and a scissor box that is one tile: what a tile was told isn't told again.
 pub(super) const LAZY_STATE: &[u8] = b"scene 1 2 1
@@ -35,27 +36,8 @@ Swap
 const LAZY_REPORT: &str =
     "tile 0 parcels 6 sets 3 looks 46\ntile 1 parcels 5 sets 1 looks 31\njournal 1\nframes 1\n";
 
-// A barrier in an open block is refused, so nobody waits at it.
-pub(super) const BARRIER_IN_BLOCK: &[u8] = b"scene 1 1 1
-barrier 2
-client
-Begin 0
-Vertex -65536 -65536 0 65536
-Barrier 1
-Vertex 196608 -65536 0 65536
-Vertex -65536 196608 0 65536
-End
-Swap
-client
-Swap
-";
-
 const BARRIER_REPORT: &str =
     "client 0 fault INVALID_OPERATION at 2\ntile 0 parcels 5 sets 0 looks 1\njournal 1\nframes 1\n";
-
-// A white frame, and then a unit that nobody gives.
-pub(super) const NO_UNIT: &[u8] =
-    b"scene 1 1 1\nsemaphore 0\nclient\nClearColor 255 255 255 255\nClear 1\nSwap\nSemP 1\nSwap\n";
 
 const NO_UNIT_REPORT: &str =
     "tile 0 parcels 5 sets 1 looks 15\njournal 1\nframes 1\nstuck client 0 at 3 SemP 1\nrc: stuck\n";

@@ -1,15 +1,14 @@
 //! What no clause sees of a run: which calls of its ends it makes, and in which sequence.
 ghost use Rattle.std.specs.Prelude.{None};
 
-use super::{
-    Host, RED_CLEAR, RED_CLEAR_TEXT, RED_FRAME, finish_on, has_left, sink, source_of, words,
-};
+use super::{Host, finish_on, has_left, sink, source_of, words};
 use rc_base::gate::{Actor, Gate};
 use rc_base::in_memory::QuietSource;
 use rc_base::outside::{Failed, Sink, Source};
 use render_core::run;
 use std::alloc::Global;
 use std::sync::atomic::{AtomicU64, Ordering};
+use test_scenes::{RED_CLEAR, RED_CLEAR_TEXT, RED_FRAME};
 
 // A gate that counts its passes.
 #[derive(Drop)]

@@ -4,10 +4,11 @@
 //! By one byte a call the red clear is 27 takes, of which the last one finds the end, its frame is 23 puts, and its report 52.
 ghost use Rattle.std.specs.Prelude.{◌<◌};
 
-use super::{Host, Left, RED_CLEAR, RED_CLEAR_TEXT, RED_FRAME, has_left, left_on, sink};
+use super::{Host, Left, has_left, left_on, sink};
 use rc_base::in_memory::MemSource;
 use rc_base::transfer::read_all;
 use std::alloc::Global;
+use test_scenes::{RED_CLEAR, RED_CLEAR_TEXT, RED_FRAME, WHITE_PIXEL};
 
 // A job, its input, and the image and the notes that it leaves where no end fails.
 #[derive(Clone, Copy)]
@@ -236,8 +237,6 @@ const NO_TEXELS: &[u8] =
 // A window of 1 by 1, and eight clients that do nothing.
 const EIGHT_SILENT: &[u8] =
     b"RCS1\x01\0\x01\0\x08\0\0\0\0\0\0\0\0\0\0\0\0\0\0\0\0\0\0\0\0\0\0\0\0\0\0\0\0\0\0\0\0\0\0\0";
-
-const WHITE_PIXEL: &[u8] = b"P6\n1 1\n255\n\xff\xff\xff";
 
 // A job, its input, the calls that fail, and what is left by ends of one byte a call: the status, image and notes, and how much of the input was
 // taken.

@@ -1,9 +1,9 @@
 //! Ordered scenes by three patterns: each has one image, that of the serial renderer, whatever the tiles, the depth and the schedule.
 ghost use Rattle.std.specs.Prelude.{◌<◌};
 
-use super::seeds::BLENDED_AT_ONCE;
 use super::{Host, Left, run_on};
 use std::alloc::Global;
+use test_scenes::BLENDED_AT_ONCE;
 
 // How a scene orders the commands of its clients.
 #[derive(Clone, Copy)]

@@ -1,56 +1,6 @@
 //! Scenes of several clients, by `serial` and `check`.
-use super::{BLACK_PIXEL, run_text};
-
-// Two clients blend over both pixels, one after the other: what the first one gives the semaphore back, the second one takes.
-pub(super) const BLENDED_IN_TURN: &[u8] = b"scene 1 2 1
-semaphore 1
-client
-Enable 3
-BlendFunc 6 7
-Color 255 0 0 128
-SemP 1
-Begin 0
-Vertex -65536 -65536 0 65536
-Vertex 196608 -65536 0 65536
-Vertex -65536 196608 0 65536
-End
-SemV 1
-Swap
-client
-Enable 3
-BlendFunc 6 7
-Color 0 0 255 128
-SemP 1
-Begin 0
-Vertex -65536 -65536 0 65536
-Vertex 196608 -65536 0 65536
-Vertex -65536 196608 0 65536
-End
-SemV 1
-Swap
-";
-
-// A client swaps, and the other one never does.
-const SWAP_ALONE: &[u8] = b"scene 1 1 1\nclient\nclient\nSwap\n";
-
-// A white frame, and then a unit that nobody gives.
-const NO_UNIT: &[u8] =
-    b"scene 1 1 1\nsemaphore 0\nclient\nClearColor 255 255 255 255\nClear 1\nSwap\nSemP 1\nSwap\n";
-
-// A barrier in an open block is refused, so nobody waits at it.
-const BARRIER_IN_BLOCK: &[u8] = b"scene 1 1 1
-barrier 2
-client
-Begin 0
-Vertex -65536 -65536 0 65536
-Barrier 1
-Vertex 196608 -65536 0 65536
-Vertex -65536 196608 0 65536
-End
-Swap
-client
-Swap
-";
+use super::run_text;
+use test_scenes::{BARRIER_IN_BLOCK, BLACK_PIXEL, BLENDED_IN_TURN, NO_UNIT, SWAP_ALONE};
 
 // One client writes a shared texture twice, the other one draws with it each time: one semaphore counts textures that are ready, one those that were
 // read.

@@ -1,9 +1,8 @@
 //! Scenes whose commands synchronisation orders, or leaves unordered, by `race`.
-use super::orders::{BLENDED_IN_TURN, PRODUCED_AND_CONSUMED};
-use super::seeds::{BLENDED_AT_ONCE, SHARED_BEHIND_A_BARRIER};
+use super::orders::PRODUCED_AND_CONSUMED;
 use super::{CLEAR_IN_BLOCK, Host, left_on, run_on, run_text, sink, source_of};
-use rc_base::outside::Sink;
 use std::alloc::Global;
+use test_scenes::{BLENDED_AT_ONCE, BLENDED_IN_TURN, SHARED_BEHIND_A_BARRIER};
 
 // One client writes a shared texture, the other one draws with it, and no barrier stands between.
 const SHARED_AT_ONCE: &[u8] = b"scene 1 8 2

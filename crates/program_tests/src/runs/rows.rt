@@ -1,13 +1,9 @@
 //! Small scenes on clusters, with the images and the lines that were worked out by hand.
-use super::orders::BLENDED_IN_TURN;
-use super::seeds::SHARED_BEHIND_A_BARRIER;
 use super::{Host, run_on, run_text};
 use order_model::record::Record;
 use rc_base::sync::Entry;
 use std::alloc::Global;
-
-// A client that does nothing, and one that swaps alone.
-const SWAP_ALONE: &[u8] = b"scene 1 1 1\nclient\nclient\nSwap\n";
+use test_scenes::{BLENDED_IN_TURN, LAZY_TEXTURE, SHARED_BEHIND_A_BARRIER, SWAP_ALONE};
 
 const SWAP_ALONE_REPORT: &str =
     "tile 0 parcels 3 sets 0 looks 0\njournal 0\nframes 0\nstuck client 1 at 0 Swap\nrc: stuck\n";
@@ -87,25 +83,6 @@ const CULLED: &[u8] = b"scene 2 1 1
 client
 FrontFace 1
 Enable 4
-Begin 0
-Vertex -65536 -65536 0 65536
-Vertex 196608 -65536 0 65536
-Vertex -65536 196608 0 65536
-End
-Swap
-";
-
-// A Clear examines no image; the first draw samples the green texel, and the second one finds nothing pending.
-const LAZY_TEXTURE: &[u8] = b"scene 1 1 1
-client
-TexImage 1 1 1 00ff00ff
-Clear 1
-Enable 5
-Begin 0
-Vertex -65536 -65536 0 65536
-Vertex 196608 -65536 0 65536
-Vertex -65536 196608 0 65536
-End
 Begin 0
 Vertex -65536 -65536 0 65536
 Vertex 196608 -65536 0 65536

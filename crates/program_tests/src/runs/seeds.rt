@@ -1,8 +1,8 @@
 //! Ordered scenes on many schedules: each gives the picture of the serial renderer.
 ghost use Rattle.rc_base.specs.Formats.Within.{IsWithin};
 
-use super::clusters::{BARRIER_IN_BLOCK, LAZY_STATE, NO_UNIT};
-use super::orders::{BLENDED_IN_TURN, ONE_FORK_FIRST, PRODUCED_AND_CONSUMED};
+use super::clusters::LAZY_STATE;
+use super::orders::{ONE_FORK_FIRST, PRODUCED_AND_CONSUMED};
 use super::{Host, Left, run_on, run_text};
 use order_model::record::Record;
 use order_model::{is_permitted, tile_order};
@@ -11,79 +11,10 @@ use rc_base::scene::Scene;
 use scene_file::read_scene;
 use serial_render::sync_lists;
 use std::alloc::Global;
-
-// A client writes a shared texture, and behind a barrier another one draws its second texel over eight tiles by two.
-pub(super) const SHARED_BEHIND_A_BARRIER: &[u8] = b"scene 1 8 2
-shared 2 1
-barrier 2
-client
-SharedImage 1 0 0 2 1 ff0000ff00ff00ff
-Barrier 1
-Swap
-client
-Barrier 1
-BindTexture 1 1
-Enable 5
-TexEnv 1
-TexCoord -1 0
-Begin 0
-Vertex -65536 -65536 0 65536
-Vertex 196608 -65536 0 65536
-Vertex -65536 196608 0 65536
-End
-Swap
-";
-
-// Two clients blend over both pixels, the second one behind a barrier.
-const BLENDED_BEHIND_A_BARRIER: &[u8] = b"scene 1 2 1
-barrier 2
-client
-Enable 3
-BlendFunc 6 7
-Color 255 0 0 128
-Begin 0
-Vertex -65536 -65536 0 65536
-Vertex 196608 -65536 0 65536
-Vertex -65536 196608 0 65536
-End
-Barrier 1
-Swap
-client
-Enable 3
-BlendFunc 6 7
-Color 0 0 255 128
-Barrier 1
-Begin 0
-Vertex -65536 -65536 0 65536
-Vertex 196608 -65536 0 65536
-Vertex -65536 196608 0 65536
-End
-Swap
-";
-
-// The same without the barrier: nothing orders the two.
-pub(super) const BLENDED_AT_ONCE: &[u8] = b"scene 1 2 1
-client
-Enable 3
-BlendFunc 6 7
-Color 255 0 0 128
-Begin 0
-Vertex -65536 -65536 0 65536
-Vertex 196608 -65536 0 65536
-Vertex -65536 196608 0 65536
-End
-Swap
-client
-Enable 3
-BlendFunc 6 7
-Color 0 0 255 128
-Begin 0
-Vertex -65536 -65536 0 65536
-Vertex 196608 -65536 0 65536
-Vertex -65536 196608 0 65536
-End
-Swap
-";
+use test_scenes::{
+    BARRIER_IN_BLOCK, BLENDED_AT_ONCE, BLENDED_BEHIND_A_BARRIER, BLENDED_IN_TURN, NO_UNIT,
+    SHARED_BEHIND_A_BARRIER,
+};
 
 // Eight clients who each clear one column.
 const EIGHT_COLUMNS: &[u8] = b"scene 1 8 1
