@@ -32,6 +32,7 @@ fn meet_list(
 
 /// Meets a command, and where it calls a list what that gives, so many lists deep.
 #[cycle(calls)]
+#[inline(always)]
 pub fn meet_all(
     alloc: Global,
     lists: &Lists<'_>,
