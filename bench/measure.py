@@ -215,7 +215,7 @@ def filter_ratios():
     for name in ("usual", "small", "commands") if before else ():
         for words, scene in (("reading", path(name, "unread")), ("all of check", path(name)), ("all of serial", path(name))):
             job = "serial" if words == "all of serial" else "check"
-            earlier, now = in_turns((before, job, scene), (program, job, scene))
+            earlier, now = in_turns((before, job, scene), (program, job, scene), times=20)
             print(f"{name}, {words}: before : now = 1 : {now / earlier:.3f}", flush=True)
 
 

@@ -1,6 +1,5 @@
 //! A chain applied to a list.
-ghost use Rattle.std.specs.Prelude.{◌≡◌, ◌↔◌, IsTrue, ◌++◌, length, map, is_ok, IsOk, IfOk, OnOk, OnErr, if◌then◌else◌};
-ghost use Rattle.std.specs.Option.{option_to_list};
+ghost use Rattle.std.specs.Prelude.{◌≡◌, ◌↔◌, IsTrue, length, map, IsOk, IfOk, OnOk, OnErr};
 ghost use Rattle.spu_chain.specs.Filter.{HasRoom, HaveRoom, passed, rule_after, comes_out, rules_behind, filtered_by, rules_after, AreReached};
 
 use crate::rule::SpuRule;
@@ -8,7 +7,8 @@ use crate::scenes::rule_of;
 use crate::spu::Spu;
 use rc_base::command::{Command, Commands};
 use rc_base::out_of_memory::OutOfMemory;
-use std::alloc::{AllocFailed, Global};
+use std::alloc::Global;
+use std::mem;
 
 // The largest count.
 const MOST_COUNT: u64 = 9_223_372_036_854_775_808;
@@ -35,32 +35,23 @@ fn pass_along(chain: &mut Vec<Box<dyn Spu>>, command: Command) -> Option<Command
     Some(command)
 }
 
-// Puts a command that came out to the end of the list.
-fn keep(list: &mut Commands, command: Option<Command>) -> Result<(), AllocFailed<Command>>
-    ensures { list.new ≡ (if is_ok result then list.old ++ option_to_list command else list.old) }
-{
-    match command {
-        Some(kept) => list.push(kept),
-        None => Ok(()),
-    }
-}
-
-// Gives the commands to the chain, one after the other.
-fn pass_all(
-    alloc: Global,
-    chain: &mut Vec<Box<dyn Spu>>,
-    commands: Commands,
-) -> Result<Commands, OutOfMemory>
+// Gives the commands to the chain, one after the other. What comes out is put in front, in the places of those that were given already.
+fn pass_all(chain: &mut Vec<Box<dyn Spu>>, commands: Commands) -> Commands
     requires { HaveRoom (length commands) (map (λ b. meaning b) chain.old.items) }
-    ensures given { IfOk result (λ given. given ≡ filtered_by (map (λ b. meaning b) chain.old.items) commands) }
-    ensures rules { OnOk result (map (λ b. meaning b) chain.new.items ≡ rules_after (map (λ b. meaning b) chain.old.items) commands) }
-    ensures short { OnErr result (AreReached (map (λ b. meaning b) chain.old.items) commands (map (λ b. meaning b) chain.new.items)) }
+    ensures given { result ≡ filtered_by (map (λ b. meaning b) chain.old.items) commands }
+    ensures rules { map (λ b. meaning b) chain.new.items ≡ rules_after (map (λ b. meaning b) chain.old.items) commands }
 {
-    let mut given = Commands::with_capacity(alloc, commands.len())?;
-    for command in commands.into_vec() {
-        keep(&mut given, pass_along(chain, command))?;
+    let mut list = commands.into_vec();
+    let mut count: usize = 0;
+    for i in 0..list.len() {
+        let command = mem::replace(&mut list[i], Command::End);
+        if let Some(given) = pass_along(chain, command) {
+            list[count] = given;
+            count += 1;
+        }
     }
-    Ok(given)
+    list.truncate(count);
+    Commands::from_vec(list)
 }
 
 // The rule counts so many commands more.
@@ -89,10 +80,9 @@ pub fn has_room(chain: &Vec<Box<dyn Spu>>, more: usize) -> bool
 }
 
 /// What the chain makes of the commands: each one goes to the members in their order until one gives none, one command after the other. The members
-/// have the rules that this leaves; where there was no memory, those that a front of the list leaves. A count stays below 2^63. A chain without
-/// members takes no memory.
+/// have the rules that this leaves. A count stays below 2^63. The list is filtered in its own place, so no memory is taken.
 pub fn run_chain(
-    alloc: Global,
+    _alloc: Global,
     chain: &mut Vec<Box<dyn Spu>>,
     commands: Commands,
 ) -> Result<Commands, OutOfMemory>
@@ -105,5 +95,5 @@ pub fn run_chain(
     if chain.is_empty() {
         return Ok(commands);
     }
-    pass_all(alloc, chain, commands)
+    Ok(pass_all(chain, commands))
 }
