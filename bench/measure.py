@@ -50,7 +50,7 @@ def best_of(command, scene, output=os.devnull):
     return best
 
 
-def least_halves(job, scene, times=25):
+def own_and_whole(job, scene, times=25):
     """Processor seconds of the least of so many runs, without the kernel's part and with it."""
     runs = []
     for _ in range(times):
@@ -193,7 +193,7 @@ def list_ratios():
     The commands fill 75 MB. Handing out these pages is the kernel's part, which differs much from machine to machine, so each figure stands without it too.
     """
     count = 1_048_577
-    called, unread, written = (least_halves("check", path(*words)) for words in (("called",), ("called", "unread"), ("written",)))
+    called, unread, written = (own_and_whole("check", path(*words)) for words in (("called",), ("called", "unread"), ("written",)))
     expanding = [max(whole - before, 1e-9) for whole, before in zip(called, unread)]
     told = [f"{all_of / count * 1e9:.1f} ns ({own / count * 1e9:.1f} without the kernel)" for own, all_of in (expanding, written)]
     print(f"\na command that a list gives {told[0]}, one that is read {told[1]}: reading : expanding = 1 : {expanding[1] / written[1]:.2f}")
