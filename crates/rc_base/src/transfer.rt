@@ -44,7 +44,7 @@ pub struct WriteFault {
 pub const BYTE_LIMIT: usize = 33_554_432;
 
 // The most bytes that are asked for at a time.
-const CHUNK: usize = 4096;
+const CHUNK: usize = 65_536;
 
 /// Reads a source to its end, if that comes within the limit. Nothing is taken but the bytes of the answer and, of a source that is too long,
 /// one byte more than the limit. A take that fails is the last one.
