@@ -1,5 +1,5 @@
 //! Quotients rounded down.
-ghost use Rattle.std.specs.Prelude.{◌≡◌, ℕ, ◌^◌, ◌-◌, pos, neg_ℤ, true, ◌+ℤ◌, ◌*ℤ◌, ◌≤ℤ◌, ◌<ℤ◌};
+ghost use Rattle.std.specs.Prelude.{◌≡◌, ℕ, ◌^◌, ◌-◌, ◌<◌, pos, neg_ℤ, true, ◌+ℤ◌, ◌*ℤ◌, ◌≤ℤ◌, ◌<ℤ◌};
 ghost use Rattle.rc_base.specs.Numbers.{floor_quotient, is_between, Within};
 
 // A number of 64 bits.
@@ -16,19 +16,51 @@ fn shortened(n: i128) -> i64
     n as i64
 }
 
-// The usual divisors are named: one, and those of places and depths where w is one. To divide by a known power of two is a shift.
+// Two to that power.
+fn is_power(d: i64, places: u32) -> bool
+    ensures few { result ≡ true → places < 63 }
+    ensures power { result ≡ true → d ≡ pos (2 ^ places) }
+{
+    places < 63 && 1_i64 << places == d
+}
+
+// By a power of two: a shift copies the sign.
+fn shifted(n: i64, places: u32) -> i64
+    requires { places < 63 }
+    ensures { result ≡ floor_quotient n (pos (2 ^ places)) }
+{
+    n >> places
+}
+
+fn long_shifted(n: i128, places: u32) -> i128
+    requires { places < 63 }
+    ensures { result ≡ floor_quotient n (pos (2 ^ places)) }
+{
+    n >> places
+}
+
+// A division takes ten times as long as a shift, and most divisors of places and depths are powers of two.
 fn short_quotient(n: i64, d: i64) -> i64
     requires { pos 0 <ℤ d }
     ensures { result ≡ floor_quotient n d }
 {
-    if d == 65_536 {
-        n.div_euclid(65_536)
-    } else if d == 131_072 {
-        n.div_euclid(131_072)
-    } else if d == 8_589_934_592 {
-        n.div_euclid(8_589_934_592)
+    let places = d.trailing_zeros();
+    if is_power(d, places) {
+        shifted(n, places)
     } else {
         n.div_euclid(d)
+    }
+}
+
+fn long_quotient(n: i128, d: i64) -> i128
+    requires { pos 0 <ℤ d }
+    ensures { result ≡ floor_quotient n d }
+{
+    let places = d.trailing_zeros();
+    if is_power(d, places) {
+        long_shifted(n, places)
+    } else {
+        n.div_euclid(i128::from(d))
     }
 }
 
@@ -37,11 +69,11 @@ fn quotient(n: i128, d: i128) -> i128
     requires { pos 0 <ℤ d }
     ensures { result ≡ floor_quotient n d }
 {
-    if !is_short(n) {
-        return n.div_euclid(d);
-    }
     if !is_short(d) {
         return n.div_euclid(d);
+    }
+    if !is_short(n) {
+        return long_quotient(n, shortened(d));
     }
     i128::from(short_quotient(shortened(n), shortened(d)))
 }
@@ -55,4 +87,13 @@ pub fn floor_div(n: i128, d: i128) -> i128
     ensures small { (b : ℕ) → Within b n → Within b result }
 {
     quotient(n, d)
+}
+
+/// The same of numbers of 64 bits.
+pub fn floor_div_64(n: i64, d: i64) -> i64
+    requires pos { pos 0 <ℤ d }
+    ensures value { result ≡ floor_quotient n d }
+    ensures small { (b : ℕ) → Within b n → Within b result }
+{
+    short_quotient(n, d)
 }

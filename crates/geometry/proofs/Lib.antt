@@ -1,3 +1,4 @@
+mod Cached
 pub mod PiecesKept
 mod Sharing
 mod Beside

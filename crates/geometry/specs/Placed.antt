@@ -1,6 +1,6 @@
 -- Vertices brought to the window, and the matrices that are not worth a product.
-use Rattle.std.specs.Prelude.{◌≡◌, ◌<◌, true, false, List, length, slice_index, ℕ, ℤ, pos, int_le, Bool, ◌&&◌, Option, MatchOption}
-use Rattle.rc_base.specs.Numbers.{entry, is_within, transformed}
+use Rattle.std.specs.Prelude.{◌≡◌, ◌<◌, ◌^◌, true, false, List, length, slice_index, ℕ, ℤ, pos, int_le, Bool, ◌&&◌, Option, MatchOption}
+use Rattle.rc_base.specs.Numbers.{entry, is_within, transformed, Within}
 use Rattle.rc_base.specs.Drawing.Cover.{IsInBounds}
 use Rattle.rc_base.specs.Drawing.Kept.{vertex_at}
 use Rattle.rc_base.specs.Drawing.Pieces.{clip_bound, near_w, is_cuttable, is_in_front}
@@ -16,10 +16,18 @@ use Rattle.geometry.specs.declared.identities.Identities.{Identities}
 abbrev pub FixesVectors : List ℤ → Type 0
 FixesVectors m = (v : List ℤ) → transformed m v ≡ four v
 
--- the matrices that are said to be the identity are it
+-- the viewport's sides have 16 bits, and the depth range is from 0 to one
+pub record IsUsual (s : State) : Type 0 where
+  pub width : Within (2 ^ 16) (entry s.viewport 2)
+  pub height : Within (2 ^ 16) (entry s.viewport 3)
+  pub near : entry s.depth_range 0 ≡ pos 0
+  pub far : entry s.depth_range 1 ≡ pos 65536
+
+-- the matrices that are said to be the identity are it, and so are the viewport and the depth range usual that are said to be
 pub record AreIdentities (s : State) (i : Identities) : Type 0 where
   pub modelview : i.modelview ≡ true → FixesVectors s.modelview.m
   pub projection : i.projection ≡ true → FixesVectors s.projection.m
+  pub usual : i.usual ≡ true → IsUsual s
 
 -- where a vertex stands in the window: nowhere, if it isn't placed
 abbrev pub IsPlace : State → Vertex → Option WindowVertex → Type 0

@@ -12,6 +12,7 @@ mod identities;
 mod law;
 mod near;
 mod primitives;
+mod still;
 mod vertex;
 mod window;
 

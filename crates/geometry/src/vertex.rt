@@ -9,6 +9,7 @@ ghost use Rattle.geometry.specs.Placed.{FixesVectors, AreIdentities, IsPlace, ar
 ghost use Rattle.geometry.specs.Vertices.{vertex_with};
 
 use crate::identities::Identities;
+use crate::still::{is_still, still_vertex};
 use fixed_math::{apply, floor_div, widen};
 use rc_base::command::Mat4;
 use rc_base::state::{State, Vertex};
@@ -141,8 +142,18 @@ fn scale_of(w: i128) -> i128
     131072 * w
 }
 
+// A depth where the depth range is from 0 to one.
+fn whole_depth(z: i128, w: i128) -> i128
+    requires positive { pos 0 <ℤ w }
+    requires z { Within (2 ^ 65) z }
+    requires w { Within (2 ^ 65) w }
+    ensures { result ≡ depth_of (pos 0) (pos 65536) z w }
+{
+    floor_div(deepened(z, w), double(w))
+}
+
 #[tactic(auto, unfolding(rc_base::specs::Drawing::Window::depth_of))]
-pub(crate) fn depth(near: i32, far: i32, z: i128, w: i128) -> i128
+fn any_depth(near: i32, far: i32, z: i128, w: i128) -> i128
     requires positive { pos 0 <ℤ w }
     requires z { Within (2 ^ 65) z }
     requires w { Within (2 ^ 65) w }
@@ -153,6 +164,19 @@ pub(crate) fn depth(near: i32, far: i32, z: i128, w: i128) -> i128
         weighed(together(near, far), w),
     );
     floor_div(sum, scale_of(w))
+}
+
+// The usual depth range needs smaller numbers.
+pub(crate) fn depth(near: i32, far: i32, z: i128, w: i128) -> i128
+    requires positive { pos 0 <ℤ w }
+    requires z { Within (2 ^ 65) z }
+    requires w { Within (2 ^ 65) w }
+    ensures { result ≡ depth_of near far z w }
+{
+    if near == 0 && far == ONE {
+        return whole_depth(z, w);
+    }
+    any_depth(near, far, z, w)
 }
 
 fn is_in(z: i128, bound: u32) -> bool
@@ -325,6 +349,12 @@ pub(crate) fn stand_of(state: &State, identities: Identities, v: &Vertex) -> Sta
     if is_unit(identities, v) {
         return Stand {
             at: unit_vertex(state, v),
+            front: are_in_front(&widen(&v.pos)),
+        };
+    }
+    if is_still(identities, v) {
+        return Stand {
+            at: still_vertex(state, v),
             front: are_in_front(&widen(&v.pos)),
         };
     }

@@ -22,6 +22,22 @@ returns-then-is_unit-clause-front c =
     let p = c.requires.projection (c.is_unit.ensures.projection u) in
     c.are_in_front.ensures ∙ stands s v c.widen.result (c.widen.ensures.value ∙ sym (clip_fixed s v m p))
 
+pub still_vertex-requires-clause-clip : goal.still_vertex-requires-clause-clip
+still_vertex-requires-clause-clip c =
+    let u = c.if-is_still.true in
+    let m = c.requires.modelview (c.is_still.ensures.modelview u) in
+    let p = c.requires.projection (c.is_still.ensures.projection u) in
+    clip_fixed c.args.state.now c.args.v.now m p
+
+pub returns-then-is_still-clause-front : goal.returns-then-is_still-clause-front
+returns-then-is_still-clause-front c =
+    let u = c.if-is_still.true in
+    let s = c.args.state.now in
+    let v = c.args.v.now in
+    let m = c.requires.modelview (c.is_still.ensures.modelview u) in
+    let p = c.requires.projection (c.is_still.ensures.projection u) in
+    c.are_in_front-then-is_still.ensures ∙ stands s v c.widen-then-is_still.result (c.widen-then-is_still.ensures.value ∙ sym (clip_fixed s v m p))
+
 pub returns-clause-at : goal.returns-clause-at
 returns-clause-at c =
     let s = c.args.state.now in

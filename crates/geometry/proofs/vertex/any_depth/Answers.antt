@@ -1,6 +1,6 @@
 use Rattle.std.proofs.Common.{arith, to_z-of_z}
 use Rattle.rc_base.specs.Drawing.Window.{depth_of}
-use Rattle.geometry.proofs.vertex.depth.Goals as goal
+use Rattle.geometry.proofs.vertex.any_depth.Goals as goal
 
 pub returns : goal.returns
 unfolding depth_of

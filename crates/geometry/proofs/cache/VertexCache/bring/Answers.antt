@@ -1,0 +1,23 @@
+use Rattle.std.proofs.Common.{◌≡◌, ◌<◌, length, slice_index, rules}
+use Rattle.geometry.proofs.Cached.{cached_corner}
+use Rattle.geometry.proofs.cache.VertexCache.bring.Goals as goal
+
+pub returns-clause-first_at : goal.returns-clause-first_at
+returns-clause-first_at c =
+    let n = c.if-self-corners.self in
+    let o = c.args.self.now in
+    let e : n.state.now ≡ o.state.now = search rules in
+    let g : n.vertices.now ≡ o.vertices.now = search rules in
+    let h : n.first.index ≡ slice_index c.args.corners 0 = search rules in
+    let l : slice_index c.args.corners 0 < length o.vertices.now = search rules in
+    cached_corner _ _ _ _ _ _ n.first_cached e g h l
+
+pub returns-clause-second_at : goal.returns-clause-second_at
+returns-clause-second_at c =
+    let n = c.if-self-corners.self in
+    let o = c.args.self.now in
+    let e : n.state.now ≡ o.state.now = search rules in
+    let g : n.vertices.now ≡ o.vertices.now = search rules in
+    let h : n.second.index ≡ slice_index c.args.corners 1 = search rules in
+    let l : slice_index c.args.corners 1 < length o.vertices.now = search rules in
+    cached_corner _ _ _ _ _ _ n.second_cached e g h l
