@@ -22,6 +22,7 @@ use rc_base::state::{Block, CUT_MODES, Effect, Fault, State, Vertex, Vertices};
 use rc_base::sync::SyncOp;
 use std::alloc::Global;
 use std::marker::Model;
+use std::mem::replace;
 use textures::PrivateSet;
 
 /// What the commands of one client have set so far.
@@ -36,6 +37,7 @@ pub struct Context {
     s: i32,
     t: i32,
     block: Option<Block>,
+    room: Vec<Vertex>,
     images: PrivateSet,
     edits: [u32; 64],
     version: u8,
@@ -90,6 +92,7 @@ impl Context {
             s: 0,
             t: 0,
             block: None,
+            room: Vec::new(alloc),
             images: PrivateSet::new(alloc)?,
             edits: [0; 64],
             version: decl.version,
@@ -340,6 +343,19 @@ impl Context {
         self.count_edit(*name);
     }
 
+    // A block without vertices, in the room of one that was given back.
+    fn empty_block(&mut self, mode: u8) -> Block
+        ensures block { result ≡ record { mode = mode; vertices = [] } }
+        ensures same { self.new ≡ self.old }
+    {
+        let mut room = replace(&mut self.room, Vec::new(self.alloc));
+        room.clear();
+        Block {
+            mode,
+            vertices: Vertices::from_vec(room),
+        }
+    }
+
     // Sets what the command sets.
     fn set(&mut self, command: &Command, product: Option<Mat4>) -> Result<(), OutOfMemory>
         requires passes { fault_of self.old command.now ≡ None }
@@ -352,7 +368,8 @@ impl Context {
     {
         match command {
             Command::Begin { mode } => {
-                self.block = Some(empty_block(self.alloc, block_mode(self.version, *mode)));
+                let block = self.empty_block(block_mode(self.version, *mode));
+                self.block = Some(block);
             }
             Command::Vertex { pos } => self.add_vertex(*pos)?,
             Command::Color(color) => self.color = *color,
@@ -443,6 +460,15 @@ impl Context {
         }
     }
 
+    /// Takes back what a command did and is done with, so that the next block has the room of this one.
+    pub fn take_back(&mut self, effect: Effect)
+        ensures { self.new ≡ self.old }
+    {
+        if let Effect::Block(block) = effect {
+            self.room = block.vertices.into_vec();
+        }
+    }
+
     // ---- what the context holds
 
     /// The scalar elements.
@@ -497,16 +523,6 @@ fn block_mode(version: u8, kind: u8) -> u8
     ensures { result ≡ block_mode version kind }
 {
     if version == 2 { kind + CUT_MODES } else { kind }
-}
-
-// A block without vertices.
-fn empty_block(alloc: Global, mode: u8) -> Block
-    ensures { result ≡ record { mode = mode; vertices = [] } }
-{
-    Block {
-        mode,
-        vertices: Vertices::new(alloc),
-    }
 }
 
 // A part with a copy of its texels.

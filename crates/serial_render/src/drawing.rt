@@ -16,7 +16,7 @@ use rc_base::scene::{Decl, Scene};
 use rc_base::sync::Name;
 use rc_base::window::Rect;
 use std::alloc::Global;
-use stream_replay::{Client, clients_of, issue_name};
+use stream_replay::{Client, clients_of, issue_name, take_back};
 use textures::SharedSet;
 
 /// The rectangle of the whole window.
@@ -89,6 +89,7 @@ pub(crate) fn play(alloc: Global, scene: &Scene, order: &[Name]) -> Result<Playe
             &mut device,
             &mut shared,
         );
+        take_back(&mut clients, client, effect);
     }
     Ok(Played {
         clients,

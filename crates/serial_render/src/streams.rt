@@ -51,6 +51,7 @@ fn survey_client(
     for place in 0..length {
         let effect = issue_at(&mut context, scene, client, place)?;
         add_operation(&mut ops, place as u32, &effect)?;
+        context.take_back(effect);
     }
     let row = SyncRow {
         ops,

@@ -52,6 +52,12 @@ impl Client {
         self.swaps += usize::from(is_swap(&effect));
         Ok(effect)
     }
+
+    fn take_back(&mut self, effect: Effect)
+        ensures { self.new ≡ self.old }
+    {
+        self.context.take_back(effect);
+    }
 }
 
 /// The clients of a scene before their first commands.
@@ -78,4 +84,12 @@ pub fn issue_name(
     ensures effect { IfOk result (λ e. e ≡ effect_at scene.now name.client name.place) }
 {
     clients[usize::from(name.client)].issue(scene, usize::from(name.client), name.place as usize)
+}
+
+/// Gives a client back what one of its commands did and is done with, so that its next block has the room of this one.
+pub fn take_back(clients: &mut Vec<Client>, client: usize, effect: Effect)
+    requires { client < length clients.old.items }
+    ensures { clients.new.items ≡ clients.old.items }
+{
+    clients[client].take_back(effect);
 }

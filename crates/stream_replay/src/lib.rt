@@ -8,5 +8,5 @@
 mod client;
 mod replay;
 
-pub use client::{Client, clients_of, issue_name};
+pub use client::{Client, clients_of, issue_name, take_back};
 pub use replay::issue_at;

@@ -70,6 +70,16 @@ index-requires-in-loop-name c =
     let later = clients_next s (take i c.args.order.now) n c.loop-name.clients.items c.issue_name.new.clients.items c.loop-name.invariant.clients next.0 lt c.in_ok-effect.ensures.clients in
     omega (arith, lt, c.from-client.ensures, c.issue_name.new.clients.ok, later.count)
 
+pub take_back-requires : goal.take_back-requires
+take_back-requires c =
+    let s = c.args.scene.now in
+    let i = c.loop-name.name-index in
+    let n = slice_index_or c.args.order.now i none in
+    let next = c.requires.playable.next i n (slice_get-get_or c.args.order.now i none c.loop-name-test.true) in
+    let lt = is_client s n.client n.place next.1 in
+    let later = clients_next s (take i c.args.order.now) n c.loop-name.clients.items c.issue_name.new.clients.items c.loop-name.invariant.clients next.0 lt c.in_ok-effect.ensures.clients in
+    omega (arith, lt, c.from-client.ensures, c.issue_name.new.clients.ok, later.count)
+
 pub carry_out-requires-clause-drawable : goal.carry_out-requires-clause-drawable
 carry_out-requires-clause-drawable c =
     let s = c.args.scene.now in
@@ -133,7 +143,8 @@ loop-name-preserved c =
     let images = c.in_ok-show_up_to.ensures.images (frame_pixel s order) inv.shown.frames_are
     (λ k low high. frames_due s order done rest n d c.carry_out.new.device old new c.requires.playable parts.0 inv.shown count k low (omega (arith, high, swaps))) in
     record {
-      clients = subst (λ (l : List Name). AreIssued s l ys) (sym parts.1) (clients_next s done n xs ys inv.clients next.0 lt c.in_ok-effect.ensures.clients);
+      clients = subst (λ (zs : List Client). AreIssued s (take (i + 1) order) zs) (sym c.take_back.ensures)
+          (subst (λ (l : List Name). AreIssued s l ys) (sym parts.1) (clients_next s done n xs ys inv.clients next.0 lt c.in_ok-effect.ensures.clients));
       texels = rw parts.1
           (texels_after s done n c.in_ok-effect.effect c.loop-name.shared c.carry_out.new.shared c.in_ok-effect.ensures.effect inv.texels
           (λ p is. writable s n.client n.place _ (textures_after s done) c.loop-name.shared p c.requires.within.commands (some_command s n.client n.place next.1) inv.texels (sym c.in_ok-effect.ensures.effect ∙ is))

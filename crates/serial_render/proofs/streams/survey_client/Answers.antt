@@ -18,7 +18,7 @@ pub loop-place-preserved : goal.loop-place-preserved
 loop-place-preserved c =
     let place = c.loop-place.place in
     record {
-      context = c.in_ok-effect.ensures.context;
+      context = c.take_back.ensures ∙ c.in_ok-effect.ensures.context;
       ops = c.in_ok-add_operation.ensures
           ∙ ap (λ (ws : List WaitAt). ws ++ wait_of place c.in_ok-effect.effect) c.loop-place.invariant.ops
           ∙ one_more_wait c.args.scene.now c.args.client place c.in_ok-effect.effect c.in_ok-effect.ensures.effect;
