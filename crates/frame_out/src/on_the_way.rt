@@ -12,6 +12,8 @@ use std::alloc::Global;
 pub struct FrameWriter {
     pub(crate) alloc: Global,
     pub(crate) assembler: Assembler,
+    // room for a frame's text
+    pub(crate) text: Vec<u8>,
     pub(crate) written: Written,
     pub(crate) lacking: bool,
     ghost window: { IsWindow (layout_of assembler) },

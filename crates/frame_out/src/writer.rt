@@ -28,7 +28,7 @@ fn take<I: Inlet<TilePart>>(assembler: &mut Assembler, lanes: &mut [I]) -> bool
 }
 
 impl FrameWriter {
-    /// The writer of a layout's frames, with room for the image and for one part of each tile.
+    /// The writer of a layout's frames, with room for the image and for one part of each tile. Room for a frame's text is made with the first one, and kept.
     pub fn new(alloc: Global, layout: &Layout) -> Result<FrameWriter, OutOfMemory>
         requires columns { 0 < layout.now.columns }
         requires rows { 0 < layout.now.rows }
@@ -38,6 +38,7 @@ impl FrameWriter {
         Ok(FrameWriter {
             alloc,
             assembler: Assembler::new(alloc, layout)?,
+            text: Vec::new(alloc),
             written: Written::nothing(),
             lacking: false,
         })
@@ -60,7 +61,14 @@ impl FrameWriter {
         if self.lacking {
             return true;
         }
-        match write_frame(self.alloc, image, self.assembler.image(), self.written) {
+        let FrameWriter {
+            alloc,
+            assembler,
+            text,
+            written,
+            ..
+        } = self;
+        match write_frame(*alloc, text, image, assembler.image(), *written) {
             Ok(more) => self.written = more,
             Err(OutOfMemory) => self.lacking = true,
         }

@@ -5,7 +5,7 @@ ghost use Rattle.rc_base.specs.Outside.Ends.{use_of, TookFront};
 ghost use Rattle.ppm_out.specs.Pictures.{IsWhole};
 ghost use Rattle.frame_out.specs.Writing.{written_more, AreWritable, HasGiven, IsCounted, IsWritten};
 
-use ppm_out::image_text;
+use ppm_out::put_image_text;
 use rc_base::image::Image;
 use rc_base::out_of_memory::OutOfMemory;
 use rc_base::outside::Sink;
@@ -52,9 +52,10 @@ impl Written {
 }
 
 /// Writes the Netpbm P6 text of a frame by one `write_all`, behind what was written. Behind a fault nothing is offered. Where memory lacks for the text
-/// the image is given nothing.
+/// the image is given nothing. The text takes the place of what the room has, whose memory is kept for the next frame.
 pub fn write_frame<K: Sink>(
     alloc: Global,
+    text: &mut Vec<u8>,
     image: &mut K,
     frame: &Image,
     written: Written,
@@ -69,7 +70,7 @@ pub fn write_frame<K: Sink>(
     if written.fault {
         return Ok(written);
     }
-    let text = image_text(alloc, frame)?;
+    put_image_text(alloc, text, frame)?;
     let answer = write_all(image, text.as_slice());
     Ok(written.with(text.len(), answer))
 }
@@ -86,9 +87,10 @@ pub fn write_frames<K: Sink>(
     ensures front { OnErr result (TookFront (use_of K.held K.faults image.old image.new) (p6_texts frames.now)) }
     ensures later { K.faults image.old ≤ K.faults image.new }
 {
+    let mut text = Vec::new(alloc);
     let mut written = Written::nothing();
     for frame in frames {
-        written = write_frame(alloc, image, frame, written)?;
+        written = write_frame(alloc, &mut text, image, frame, written)?;
     }
     Ok(written)
 }

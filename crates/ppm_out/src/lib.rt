@@ -1,7 +1,7 @@
 //! Images as Netpbm P6: their texts, and the images that texts begin with.
 //!
-//! `image_text` writes an image, `read_ppm` reads the image at the front of some bytes. Both meet the definitions of `rc_base`'s formats. What is
-//! written is read again.
+//! `image_text` writes an image, and `put_image_text` does so in memory that is kept; `read_ppm` reads the image at the front of some bytes. They meet
+//! the definitions of `rc_base`'s formats. What is written is read again.
 #![tactic(auto)]
 
 mod header;
@@ -9,4 +9,4 @@ mod reading;
 mod writing;
 
 pub use reading::{PpmFault, read_ppm};
-pub use writing::image_text;
+pub use writing::{image_text, put_image_text};
