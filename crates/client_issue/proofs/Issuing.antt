@@ -35,7 +35,7 @@ use Rattle.state_update.specs.declared.told.Told.{Told}
 use Rattle.client_issue.specs.Acts.{act_by, goes_to, asks_of}
 use Rattle.client_issue.specs.First.{IsFirst}
 use Rattle.client_issue.specs.Issued.{sets_element, wait_in}
-use Rattle.client_issue.specs.Sequence.{scene_of, sent_from_tile, sent_from, request_items, pending_items, left_with, left_of, heard, IsPending, IsSendingWith}
+use Rattle.client_issue.specs.Sequence.{scene_of, sent_from_tile, sent_from, request_items, pending_items, left_with, left_of, heard, IsMade, IsPending, IsSendingWith}
 use Rattle.client_issue.specs.declared.pending.Pending.{Pending}
 use Rattle.client_issue.specs.declared.sender.Sender.{Sender}
 use Rattle.client_issue.proofs.Giving.{skipped_to, tail_end, commands_next, command_items, nothing_sent, no_parcel, before_next, waits_next, leaves_sets}
@@ -225,6 +225,7 @@ pending_next s c x effect (Some p) ops tracker h =
       goes = λ t lt. first.goes t lt ∙ ap (λ (y : State). goes_to s.layout y p.act t) state ∙ ap (λ (k : ℕ). goes_to s.layout (context_after scene 0 k).state p.act t) same;
       tile = first.tile;
       met = first.met;
+      made = subst (λ (made : Option Parcel). IfSome made (IsMade p.place p.act)) (sym first.unmade) tt;
     }
 
 waits_are : (place : ℕ) (effect : Effect) → option_to_list (wait_in place effect) ≡ wait_of place effect

@@ -2,7 +2,7 @@
 use Rattle.std.proofs.Common.{◌≡◌, ◌≢◌, ◌∙◌, ℕ, ◌+◌, ◌<◌, ◌≤◌, true, false, List, [], ◌∷◌, ◌++◌, length, Some, None, refl, sym, ap, subst, arith, inl, inr, append-nil, eqb-true, eq-eqb}
 use Rattle.std.proofs.Math.Logic.{∥∥₁_elim, ∥∥₁_map}
 use Rattle.std.proofs.Props.{props}
-use Rattle.std.specs.Prelude.{map, not, ◌==◌, ◌&&◌, ◌||◌, Bool}
+use Rattle.std.specs.Prelude.{IfSome, map, not, ◌==◌, ◌&&◌, ◌||◌, Bool}
 use Rattle.std.specs.declared.option.Option.{Option}
 use Rattle.std.specs.Option.{option_map_or}
 use Rattle.std.proofs.lemmas.Bool.{cases_Bool, cases_lt}
@@ -23,7 +23,7 @@ use Rattle.gl_context.specs.Valid.{ContextsOfStreamsAreValid}
 use Rattle.state_update.specs.Knowledge.{HasBoundTexture, IsSettled, Knows, Tracked, after_sets, pending}
 use Rattle.state_update.specs.Streams.{ElementsNotPendingWereTold, KnownValuesAreAlike, ParcelsTellTheirSets, ValidContextsHaveTheirTexture}
 use Rattle.client_issue.specs.Acts.{goes_to, asks_of, act_looks, act_sets, examines}
-use Rattle.client_issue.specs.Sequence.{scene_of, sent_to, sent_from_tile, sent_from, request_items, left_with, left_of, heard, IsSendingWith}
+use Rattle.client_issue.specs.Sequence.{scene_of, sent_to, sent_from_tile, sent_from, request_items, left_with, left_of, heard, IsMade, IsSendingWith}
 use Rattle.client_issue.specs.declared.pending.Pending.{Pending}
 use Rattle.client_issue.specs.declared.sender.Sender.{Sender}
 use Rattle.client_issue.proofs.Giving.{tail_next, tail_end, skipped_to, nothing_sent, no_parcel, parcel_is, before_next, leaves_sets}
@@ -262,8 +262,8 @@ given_all s p tracker sets next h last = record {
 -- another tile is next
 pub given_one : (s : Sender) (p : Pending) (tracker : Tracked) (sets : List ElementSet) (next : ℕ) → IsGiven s p tracker sets next
     → next < s.count → has p.tiles next ≡ true
-    → (q : Pending) → q ≡ record p { tile = next } → IsSendingWith (record s { tracker = tracker; pending = Some q }) (Some q)
-given_one s p tracker sets next h less met q e = subst (λ (r : Pending). IsSendingWith (record s { tracker = tracker; pending = Some r }) (Some r)) (sym e) (record {
+    → (made : Option Parcel) → IfSome made (IsMade p.place p.act) → (q : Pending) → q ≡ record p { tile = next; made = made } → IsSendingWith (record s { tracker = tracker; pending = Some q }) (Some q)
+given_one s p tracker sets next h less met made fits q e = subst (λ (r : Pending). IsSendingWith (record s { tracker = tracker; pending = Some r }) (Some r)) (sym e) (record {
   few = h.sending.few;
   commands = h.sending.commands;
   count = h.sending.count;
@@ -274,21 +274,21 @@ given_one s p tracker sets next h less met q e = subst (λ (r : Pending). IsSend
   tracked = h.count ∙ h.sending.tracked;
   known = λ tile lt. elim (cases_lt tile next) [
     | inl below ↦
-        subst (λ (n : ℕ). ∥ Knows tracker tile (told s.decl (parcels_before (scene_of s) s.layout 0 tile n)) ∥₁) (sym (heard_less (record p { tile = next }) s.issued tile below))
+        subst (λ (n : ℕ). ∥ Knows tracker tile (told s.decl (parcels_before (scene_of s) s.layout 0 tile n)) ∥₁) (sym (heard_less (record p { tile = next; made = made }) s.issued tile below))
         (known_below s p tracker sets next h tile lt below)
     | inr more ↦
         let low = h.low in
-        subst (λ (n : ℕ). ∥ Knows tracker tile (told s.decl (parcels_before (scene_of s) s.layout 0 tile n)) ∥₁) (sym (heard_more (record p { tile = next }) s.issued tile more))
+        subst (λ (n : ℕ). ∥ Knows tracker tile (told s.decl (parcels_before (scene_of s) s.layout 0 tile n)) ∥₁) (sym (heard_more (record p { tile = next; made = made }) s.issued tile more))
         (known_old s p tracker sets next h tile p.place lt (omega (arith, low, more)) (heard_more p s.issued tile (omega (arith, low, more))))
   ];
   marked = λ tile e lt few. elim (cases_lt tile next) [
     | inl below ↦
         marked_below s p tracker sets next h tile e lt few below
-        ∙ ap (λ (n : ℕ). is_pending (scene_of s) s.layout 0 tile n e) (sym (heard_less (record p { tile = next }) s.issued tile below))
+        ∙ ap (λ (n : ℕ). is_pending (scene_of s) s.layout 0 tile n e) (sym (heard_less (record p { tile = next; made = made }) s.issued tile below))
     | inr more ↦
         let low = h.low in
         marked_old s p tracker sets next h tile p.place e lt few (omega (arith, low, more)) (heard_more p s.issued tile (omega (arith, low, more)))
-        ∙ ap (λ (n : ℕ). is_pending (scene_of s) s.layout 0 tile n e) (sym (heard_more (record p { tile = next }) s.issued tile more))
+        ∙ ap (λ (n : ℕ). is_pending (scene_of s) s.layout 0 tile n e) (sym (heard_more (record p { tile = next; made = made }) s.issued tile more))
   ];
   pending = record {
     last = h.sending.pending.last;
@@ -296,6 +296,7 @@ given_one s p tracker sets next h less met q e = subst (λ (r : Pending). IsSend
     goes = h.sending.pending.goes;
     tile = let c = h.sending.count in omega (arith, less, c);
     met = met;
+    made = fits;
   };
   asking = h.sending.asking;
 })
@@ -307,7 +308,7 @@ left_last s p tracker sets next h last =
     given_left s p tracker sets next h
     ∙ ap (λ (items : List Sending). ToTile p.tile (parcel_by p sets) ∷ (items ++ (request_items s.request ++ sent_from (scene_of s) s.layout s.issued))) (last_left s p next h.sending last)
 
-pub left_more : (s : Sender) (p : Pending) (tracker : Tracked) (sets : List ElementSet) (next : ℕ) → IsGiven s p tracker sets next
-    → left_with s (Some p) ≡ ToTile p.tile (parcel_by p sets) ∷ left_of (record s { tracker = tracker; pending = Some (record p { tile = next }) })
+pub left_more : (s : Sender) (p : Pending) (tracker : Tracked) (sets : List ElementSet) (next : ℕ) (made : Option Parcel) → IsGiven s p tracker sets next
+    → left_with s (Some p) ≡ ToTile p.tile (parcel_by p sets) ∷ left_of (record s { tracker = tracker; pending = Some (record p { tile = next; made = made }) })
 unfolding left_with
-left_more s p tracker sets next h = given_left s p tracker sets next h
+left_more s p tracker sets next made h = given_left s p tracker sets next h

@@ -1,5 +1,5 @@
 -- The first tile that an effect goes to.
-use Rattle.std.specs.Prelude.{◌≡◌, ℕ, ◌<◌, true, false, Some}
+use Rattle.std.specs.Prelude.{◌≡◌, ℕ, ◌<◌, true, false, None, Some}
 use Rattle.rc_base.specs.Orders.Journal.{has}
 use Rattle.rc_base.specs.Cluster.Tiles.{tile_count}
 use Rattle.rc_base.specs.declared.state.Effect.{Effect}
@@ -16,3 +16,4 @@ pub record IsFirst (l : Layout) (s : State) (place : ℕ) (effect : Effect) (p :
   pub tile : p.tile < tile_count l
   pub met : has p.tiles p.tile ≡ true
   pub before : (t : ℕ) → t < p.tile → has p.tiles t ≡ false
+  pub unmade : p.made ≡ None

@@ -16,6 +16,8 @@ use Rattle.rc_base.specs.Cluster.Sending.{Sending, ToTile, ToManager, sent_at, r
 use Rattle.rc_base.specs.declared.command.Command.{Command}
 use Rattle.rc_base.specs.declared.scene.Decl.{Decl}
 use Rattle.rc_base.specs.declared.scene.Scene.{Scene}
+use Rattle.rc_base.specs.declared.state.Act.{Act}
+use Rattle.rc_base.specs.declared.state.Parcel.{Parcel}
 use Rattle.rc_base.specs.declared.sync.Request.TheVariants as request
 use Rattle.rc_base.specs.declared.sync.WaitAt.{WaitAt}
 use Rattle.rc_base.specs.declared.window.Layout.{Layout}
@@ -97,13 +99,19 @@ HasLooks-prop scene l (item.Request r) = Unit-prop
 abbrev pub heard : Option Pending → ℕ → ℕ → ℕ
 heard o issued tile = option_map_or (λ (p : Pending). if nat_lt tile p.tile then issued else p.place) o issued
 
--- Of the command issued last, the parcels from a tile on are pending.
+-- the parcel is of this place and act, with whatever sets
+pub record IsMade (place : ℕ) (a : Act) (made : Parcel) : Type 0 where
+  pub place_is : made.place ≡ place
+  pub act_is : made.act ≡ a
+
+-- Of the command issued last, the parcels from a tile on are pending; one that was made of it is of its place and act.
 pub record IsPending (scene : Scene) (l : Layout) (issued : ℕ) (p : Pending) : Type 0 where
   pub last : issued ≡ p.place + 1
   pub asks : act_by (effect_at scene 0 p.place) ≡ Some p.act
   pub goes : (t : ℕ) → t < tile_count l → has p.tiles t ≡ goes_to l (context_after scene 0 p.place).state p.act t
   pub tile : p.tile < tile_count l
   pub met : has p.tiles p.tile ≡ true
+  pub made : IfSome p.made (IsMade p.place p.act)
 
 -- What stays as it is: whose commands these are, and for which tiles.
 pub record IsSame (a b : Sender) : Type 0 where

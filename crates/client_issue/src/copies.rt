@@ -27,13 +27,13 @@ fn copy_of_command(command: &Command) -> Result<Command, OutOfMemory>
     Ok(command.clone()?)
 }
 
-/// A copy of a client's commands.
+/// A copy of a client's commands, in room that is made once for all of them.
 pub(crate) fn copy_of_stream(alloc: Global, commands: &[Command]) -> Result<Commands, OutOfMemory>
     ensures { IfOk result (λ cs. cs ≡ commands.now) }
 {
-    let mut copy = Commands::with_capacity(alloc, commands.len())?;
+    let mut copy = Vec::with_capacity(alloc, commands.len())?;
     for command in commands {
-        copy.push(copy_of_command(command)?)?;
+        copy.push_reserved(copy_of_command(command)?);
     }
-    Ok(copy)
+    Ok(Commands::from_vec(copy))
 }

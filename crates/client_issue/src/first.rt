@@ -88,9 +88,10 @@ fn end_parcels(alloc: Global, count: u8, place: u32) -> Result<Vec<Packed>, OutO
         sets: Sets::new(alloc),
         act: Act::End,
     };
+    let end = encode_parcel(alloc, &parcel)?;
     let mut ends = Vec::with_capacity(alloc, usize::from(count))?;
     for _ in 0..count {
-        ends.push(encode_parcel(alloc, &parcel)?)?;
+        ends.push(end.clone()?)?;
     }
     Ok(ends)
 }

@@ -2,15 +2,16 @@
 ghost use Rattle.std.specs.Prelude.{◌≡◌, ◌≢◌, ℕ, ◌+◌, ◌<◌, ◌≤◌, ◌^◌, ◌==◌, ◌&&◌, not, ◌++◌, ◌∷◌, length, IfOk, OnOk, OnErr, IfNone, IfSome, None, Some};
 ghost use Rattle.rc_base.specs.Cluster.Sending.{ToTile, ToManager};
 ghost use Rattle.rc_base.specs.declared.state.ElementValue.{ElementValue};
+ghost use Rattle.cmd_pack.specs.Parcels.Spelling.{IsPackable};
 ghost use Rattle.state_update.specs.Knowledge.{HasBoundTexture, IsSettled, Knows, after_sets, pending};
 ghost use Rattle.client_issue.specs.Acts.{act_looks, act_sets, examines};
-ghost use Rattle.client_issue.specs.Sequence.{HasLooks, IsForTile, IsOfLast, IsOver, IsSame, IsSending, IsSendingWith, left_of, left_with, item_of, items_of, scene_of};
+ghost use Rattle.client_issue.specs.Sequence.{HasLooks, IsForTile, IsMade, IsOfLast, IsOver, IsSame, IsSending, IsSendingWith, left_of, left_with, item_of, items_of, scene_of};
 
 use crate::acts::next_tile;
 use crate::item::Item;
 use crate::pending::Pending;
 use crate::sender::Sender;
-use cmd_pack::encode_parcel;
+use cmd_pack::{Packed, encode_parcel};
 use dirty_bits::Looks;
 use gl_context::Context;
 use gl_context::laws::{contexts_of_streams_are_valid, streams_go_on_by_issue};
@@ -52,8 +53,29 @@ fn sets_with(
     }
 }
 
+// The parcel, packed from one of its place and act: only the sets may be others.
+fn repacked(made: Packed, parcel: &Parcel) -> Result<Packed, OutOfMemory>
+    requires packable { IsPackable parcel.now }
+    requires made { IsMade parcel.now.place parcel.now.act made }
+    ensures { IfOk result (λ p. p ≡ parcel.now) }
+{
+    made.with_sets(parcel.sets.as_slice())
+}
+
+// The parcel, packed: from what was made of its place and act before, if anything.
+fn packed(alloc: Global, parcel: &Parcel, made: Option<Packed>) -> Result<Packed, OutOfMemory>
+    requires packable { IsPackable parcel.now }
+    requires made { IfSome made (IsMade parcel.now.place parcel.now.act) }
+    ensures { IfOk result (λ p. p ≡ parcel.now) }
+{
+    match made {
+        Some(made) => repacked(made, parcel),
+        None => encode_parcel(alloc, parcel),
+    }
+}
+
 impl Sender {
-    // The parcel for the next tile, packed.
+    // The parcel for the next tile, packed. It is kept for the tile after that.
     fn give_parcel(&mut self, pending: Pending) -> Result<Item, OutOfMemory>
         requires none { self.old.pending ≡ None }
         requires sending { IsSendingWith self.old (Some pending) }
@@ -86,10 +108,11 @@ impl Sender {
             place,
             act,
             tiles,
+            made,
             ..
         } = pending;
         let parcel = Parcel { place, sets, act };
-        let packed = encode_parcel(self.alloc, &parcel)?;
+        let packed = packed(self.alloc, &parcel, made)?;
         if next == self.count {
             return Ok(Item::Parcel {
                 tile,
@@ -98,11 +121,13 @@ impl Sender {
             });
         }
         let Parcel { act, .. } = parcel;
+        let kept = packed.clone()?;
         self.pending = Some(Pending {
             place,
             act,
             tiles,
             tile: next,
+            made: Some(kept),
         });
         Ok(Item::Parcel {
             tile,

@@ -1,6 +1,7 @@
 //! The client's core: it issues its commands, and sends what they give, item by item, to the tiles and the manager.
 //!
-//! The sequence of items is that of `rc_base::specs::Cluster::Sending`; a parcel is packed once, when it is made. Stands on `gl_context`,
+//! The sequence of items is that of `rc_base::specs::Cluster::Sending`; a parcel is packed once, when it is made, and tiles
+//! that get one act with the same sets share its bytes. Stands on `gl_context`,
 //! `bounds_bucket`, `state_update` and `cmd_pack`.
 #![tactic(auto)]
 

@@ -5,16 +5,18 @@ ghost use Rattle.client_issue.specs.Acts.{asks_of};
 ghost use Rattle.client_issue.specs.First.{IsFirst};
 
 use crate::acts::{act_of, next_tile, tiles_of};
+use cmd_pack::Packed;
 use rc_base::state::{Act, Effect, State};
 use rc_base::window::Layout;
 
-/// The command at `place` asks this of these tiles, of which `tile` is next.
+/// The command at `place` asks this of these tiles, of which `tile` is next. Where an earlier tile got its parcel, `made` is that parcel.
 #[derive(Drop)]
 pub(crate) struct Pending {
     pub place: u32,
     pub act: Act,
     pub tiles: u32,
     pub tile: u8,
+    pub made: Option<Packed>,
 }
 
 /// What an effect gives to tiles, if anything.
@@ -38,6 +40,7 @@ pub(crate) fn pending_of(
             act,
             tiles,
             tile,
+            made: None,
         })
     } else {
         None

@@ -17,3 +17,4 @@ pub mod OneParcel
 pub mod TimesInTurn
 pub mod VertexBytes
 pub mod ShortVertices
+pub mod Fronts

@@ -18,6 +18,6 @@ mod writing;
 
 pub use fault::PackFault;
 pub use lists::{decode_lists, decode_lists_within};
-pub use parcel::{Packed, ParcelFault, decode_parcel, encode_parcel, is_packable};
+pub use parcel::{Packed, ParcelFault, Room, decode_parcel, encode_parcel, is_packable};
 pub use reading::{decode, decode_within};
 pub use writing::encode;

@@ -8,9 +8,11 @@ pub mod laws;
 pub mod packable;
 pub mod packed;
 mod reading;
+pub mod room;
 mod writing;
 
 pub use decoding::decode_parcel;
 pub use fault::ParcelFault;
 pub use packable::is_packable;
 pub use packed::{Packed, encode_parcel};
+pub use room::Room;

@@ -11,7 +11,7 @@ use draw_device::Device;
 use rc_base::cluster::TilePart;
 use rc_base::out_of_memory::OutOfMemory;
 use rc_base::scene::Decl;
-use rc_base::state::{Parcel, State};
+use rc_base::state::{Parcel, State, Vertices};
 use rc_base::window::Layout;
 use std::alloc::Global;
 use textures::SharedSet;
@@ -71,8 +71,8 @@ impl Canvas {
     }
 
     /// Makes the parcel's sets in what is kept of its client, and with that draws, clears or writes a shared texture. Its parts are moved, so this takes
-    /// no memory. A parcel that no scene can give changes nothing.
-    pub fn carry_out(&mut self, client: u8, parcel: Parcel)
+    /// no memory. A parcel that no scene can give changes nothing. The vertices that were drawn are handed back.
+    pub fn carry_out(&mut self, client: u8, parcel: Parcel) -> Option<Vertices>
         requires client { client < canvas_clients self.old }
         requires work { is_work parcel.act ≡ true }
         ensures same { IsSameTile self.old self.new }
@@ -81,7 +81,7 @@ impl Canvas {
     {
         sets_have_stored_texels();
         if !is_givable(&self.decl, &parcel) {
-            return;
+            return None;
         }
         let client = usize::from(client);
         let Parcel { sets, act, .. } = parcel;
@@ -92,7 +92,7 @@ impl Canvas {
             act,
             &mut self.device,
             &mut self.shared,
-        );
+        )
     }
 
     /// A copy of the pixels, as the tile's part of a frame.

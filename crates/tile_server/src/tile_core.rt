@@ -6,7 +6,7 @@ ghost use Rattle.tile_server.specs.Deeds.{is_wait};
 use crate::canvas::Canvas;
 use crate::deed::{Taking, TileDeed, answer};
 use crate::ledger::Ledger;
-use cmd_pack::Packed;
+use cmd_pack::{Packed, Room};
 use order_model::record::Log;
 use rc_base::cluster::{TileMoved, TilePart};
 use rc_base::lane::Inlet;
@@ -23,6 +23,8 @@ use std::alloc::Global;
 pub struct TileCore {
     ledger: Ledger,
     canvas: Canvas,
+    // for the vertices of the next block
+    room: Room,
     next: u8,
     frames: u32,
     short: bool,
@@ -74,6 +76,7 @@ impl TileCore {
         Ok(TileCore {
             ledger: Ledger::new(alloc, clients),
             canvas,
+            room: Room::new(alloc),
             next: 0,
             frames: 0,
             short: false,
@@ -265,7 +268,8 @@ impl TileCore {
         ensures ledger { OnErr result (IsSameLedger self.old.ledger self.new.ledger) }
     {
         let place = parcel.place;
-        self.canvas.carry_out(client, parcel);
+        let drawn = self.canvas.carry_out(client, parcel);
+        self.room.keep(drawn);
         self.ledger.log_work(client, place)
     }
 
@@ -326,7 +330,7 @@ impl TileCore {
         requires more { is_end parcel.now.act ≡ false }
         ensures { IsTileStep self.old (deed.Takes client parcel.now result) self.new }
     {
-        match parcel.parcel() {
+        match parcel.parcel_in(&mut self.room) {
             Ok(read) => self.serve(client, read),
             Err(OutOfMemory) => self.lose(client),
         }

@@ -13,17 +13,53 @@ use crate::kept::KeptClient;
 use context_switch::switch;
 use draw_acts::{carry_out, effect_of};
 use draw_device::Device;
-use rc_base::state::{Act, Effect, State};
+use rc_base::state::{Act, Effect, State, Vertices};
 use textures::SharedSet;
 
-/// Does what an act asks, with what is kept of its client: before a block and a Clear the state that the device draws with becomes the client's.
+// The vertices of a block that was drawn.
+fn vertices_of(done: Effect) -> Option<Vertices> {
+    match done {
+        Effect::Block(block) => Some(block.vertices),
+        _ => None,
+    }
+}
+
+// Does what an effect asks. Before a block and a Clear the state that the device draws with becomes the client's.
+fn perform(
+    hw: &mut State,
+    kept: &KeptClient,
+    effect: &Effect,
+    device: &mut Device,
+    shared: &mut SharedSet,
+)
+    requires drawable { IsDrawable kept.now.state kept.now.images shared.old }
+    requires clearable { IsClearable kept.now.state }
+    requires writable { (part : Part) → effect.now ≡ eff.Shared part → IsWritable part shared.old }
+    ensures rect { device.new.rect ≡ device.old.rect }
+    ensures drawn { EachTakes (effect_step kept.now.state (texture_image kept.now.images) (shared_of shared.old) effect.now)
+        device.old device.new }
+    ensures shared { shared.new ≡ set_after effect.now shared.old }
+{
+    match effect {
+        Effect::Block(_) | Effect::Clear(_) => {
+            switch(hw, &kept.state);
+            carry_out(effect, hw, &kept.images, device, shared)
+        }
+        Effect::Shared(_) | Effect::Sync(_) | Effect::Quiet | Effect::Refused(_) => {
+            carry_out(effect, &kept.state, &kept.images, device, shared)
+        }
+    }
+}
+
+/// Does what an act asks, with what is kept of its client: before a block and a Clear the state that the device draws with becomes the client's. A
+/// block's vertices are handed back.
 pub(crate) fn work(
     hw: &mut State,
     kept: &KeptClient,
     act: Act,
     device: &mut Device,
     shared: &mut SharedSet,
-)
+) -> Option<Vertices>
     requires drawable { IsDrawable kept.now.state kept.now.images shared.old }
     requires clearable { IsClearable kept.now.state }
     requires writable { (part : Part) → effect_by act ≡ eff.Shared part → IsWritable part shared.old }
@@ -33,13 +69,6 @@ pub(crate) fn work(
     ensures shared { shared.new ≡ set_after (effect_by act) shared.old }
 {
     let effect = effect_of(act);
-    match &effect {
-        Effect::Block(_) | Effect::Clear(_) => {
-            switch(hw, &kept.state);
-            carry_out(&effect, hw, &kept.images, device, shared)
-        }
-        Effect::Shared(_) | Effect::Sync(_) | Effect::Quiet | Effect::Refused(_) => {
-            carry_out(&effect, &kept.state, &kept.images, device, shared)
-        }
-    }
+    perform(hw, kept, &effect, device, shared);
+    vertices_of(effect)
 }

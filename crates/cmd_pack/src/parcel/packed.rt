@@ -1,21 +1,29 @@
 //! A parcel as the bytes that spell it.
-ghost use Rattle.std.specs.Prelude.{◌≡◌, IfOk};
-ghost use Rattle.cmd_pack.specs.Parcels.Spelling.{IsPackable, SpellsParcel, is_end};
+ghost use Rattle.std.specs.Prelude.{◌≡◌, IfOk, length};
+ghost use Rattle.cmd_pack.specs.Parcels.Fronts.{IsWritten};
+ghost use Rattle.cmd_pack.specs.Parcels.Reading.{parcel_in};
+ghost use Rattle.cmd_pack.specs.Parcels.Spelling.{IsPackable, is_end};
 
-use crate::parcel::reading::read_parcel;
-use crate::parcel::writing::parcel_bytes;
+use crate::parcel::reading::{read_parcel, read_parcel_in};
+use crate::parcel::room::Room;
+use crate::parcel::writing::{Written, front_with, is_front, parcel_bytes, with_act};
 use rc_base::command::Bytes;
 use rc_base::out_of_memory::OutOfMemory;
-use rc_base::state::{Act, Parcel};
-use std::alloc::Global;
+use rc_base::state::{Act, ElementSet, Parcel};
+use std::alloc::{AllocError, Global};
 use std::marker::Model;
+use std::sync::Arc;
 
 /// The bytes of one parcel, as `encode_parcel` makes them. Contracts see the parcel.
+///
+/// A clone shares the bytes and takes no memory.
 #[derive(Debug, Drop)]
 pub struct Packed {
     alloc: Global,
-    bytes: Bytes,
+    bytes: Arc<Bytes, Global>,
     sets: usize,
+    // where the act begins among the bytes
+    act: usize,
     end: bool,
 }
 
@@ -25,23 +33,36 @@ impl Model for Packed {
 
     ghost Value = { Parcel };
 
-    ghost use Rattle.cmd_pack.specs.Parcels.Spelling.{SpellsParcel, is_end};
+    ghost use Rattle.std.specs.Arc.{arc_value};
+    ghost use Rattle.cmd_pack.specs.Parcels.Fronts.{IsWritten};
+    ghost use Rattle.cmd_pack.specs.Parcels.Spelling.{is_end};
     ghost use Rattle.cmd_pack.specs.Parcels.Reading.{parcel_in};
 
-    ghost view = { λ a. parcel_in a.bytes };
+    ghost view = { λ a. parcel_in (arc_value a.bytes) };
 
-    ghost invariant = { λ a. SpellsParcel a.bytes (parcel_in a.bytes) × (a.sets ≡ length (parcel_in a.bytes).sets) × (a.end ≡ is_end (parcel_in a.bytes).act) };
+    ghost invariant = { λ a. IsWritten (arc_value a.bytes) a.act (parcel_in (arc_value a.bytes)) × (a.sets ≡ length (parcel_in (arc_value a.bytes)).sets) × (a.end ≡ is_end (parcel_in (arc_value a.bytes)).act) };
 }
 
 impl Packed {
-    ghost use Rattle.std.specs.Prelude.{◌≡◌, IfOk, length};
-    ghost use Rattle.cmd_pack.specs.Parcels.Spelling.{SpellsParcel, is_end};
+    ghost use Rattle.std.specs.Prelude.{◌≡◌, ◌≤◌, IfOk, length};
+    ghost use Rattle.std.specs.List.{AllByRecursion};
+    ghost use Rattle.cmd_pack.specs.Parcels.Fronts.{IsWritten};
+    ghost use Rattle.cmd_pack.specs.Parcels.Spelling.{IsWholeSet, SpellsParcel, is_end};
 
     /// The bytes that spell the parcel. Takes no memory.
     pub fn bytes(&self) -> &[u8]
         ensures { SpellsParcel result.now self.now }
     {
-        self.bytes.as_slice()
+        let bytes: &Bytes = &self.bytes;
+        bytes.as_slice()
+    }
+
+    // The bytes, and where the act begins among them.
+    fn parts(&self) -> (&[u8], usize)
+        ensures { IsWritten result.0.now result.1 self.now }
+    {
+        let bytes: &Bytes = &self.bytes;
+        (bytes.as_slice(), self.act)
     }
 
     /// How many sets the parcel has. Takes no memory.
@@ -63,10 +84,56 @@ impl Packed {
     pub fn parcel(&self) -> Result<Parcel, OutOfMemory>
         ensures { IfOk result (λ p. p ≡ self.now) }
     {
-        match read_parcel(self.alloc, self.bytes.as_slice()) {
+        match read_parcel(self.alloc, self.bytes()) {
             Ok((parcel, _)) => Ok(parcel),
             Err(_) => Err(OutOfMemory),
         }
+    }
+
+    /// The parcel that the bytes spell. A block's vertices take the memory of the room, and more only where that is too little.
+    #[tactic(auto, unfolding(crate::specs::Parcels::Reading::parcel_in))]
+    pub fn parcel_in(&self, room: &mut Room) -> Result<Parcel, OutOfMemory>
+        ensures { IfOk result (λ p. p ≡ self.now) }
+    {
+        match read_parcel_in(self.alloc, room, self.bytes()) {
+            Ok((parcel, _)) => Ok(parcel),
+            Err(_) => Err(OutOfMemory),
+        }
+    }
+
+    /// The parcel of the same place and act with these sets, of which there are at most 255, each with a value of its element's kind. Where they are
+    /// those of this parcel, it is this one; otherwise the act's bytes are copied as they stand.
+    pub fn with_sets(self, sets: &[ElementSet]) -> Result<Packed, OutOfMemory>
+        requires few { length sets.now ≤ 255 }
+        requires whole { AllByRecursion IsWholeSet sets.now }
+        ensures { IfOk result (λ packed. packed ≡ record self { sets = sets.now }) }
+    {
+        if self.sets == 0 && sets.is_empty() {
+            return Ok(self);
+        }
+        let (bytes, act) = self.parts();
+        let front = front_with(self.alloc, bytes, sets)?;
+        if is_front(&front, bytes, act) {
+            return Ok(self);
+        }
+        let written = with_act(front, bytes, act)?;
+        pack(self.alloc, written, sets.len(), self.is_end())
+    }
+}
+
+impl Clone for Packed {
+    ghost use Rattle.std.specs.Prelude.{◌≡◌};
+
+    ghost is_clone = { λ packed copy. copy ≡ packed };
+
+    fn clone(&self) -> Result<Packed, AllocError> {
+        Ok(Packed {
+            alloc: self.alloc,
+            bytes: self.bytes.clone()?,
+            sets: self.sets,
+            act: self.act,
+            end: self.end,
+        })
     }
 }
 
@@ -81,18 +148,21 @@ fn is_end(act: &Act) -> bool
 }
 
 // The bytes with what is asked of their parcel without reading it.
-fn pack(alloc: Global, bytes: Bytes, parcel: &Parcel) -> Packed
-    requires { SpellsParcel bytes parcel.now }
-    ensures { result ≡ parcel.now }
+fn pack(alloc: Global, written: Written, sets: usize, end: bool) -> Result<Packed, OutOfMemory>
+    requires written { IsWritten written.bytes written.act (parcel_in written.bytes) }
+    requires sets { sets ≡ length (parcel_in written.bytes).sets }
+    requires end { end ≡ is_end (parcel_in written.bytes).act }
+    ensures { IfOk result (λ packed. packed ≡ parcel_in written.bytes) }
 {
-    let sets = parcel.sets.len();
-    let end = is_end(&parcel.act);
-    Packed {
+    let Written { bytes, act } = written;
+    let bytes = Arc::new(alloc, bytes)?;
+    Ok(Packed {
         alloc,
         bytes,
         sets,
+        act,
         end,
-    }
+    })
 }
 
 /// The parcel as bytes. It has at most 255 sets, each with a value of its element's kind, at most 65,535 vertices, and four bytes for each texel.
@@ -100,6 +170,6 @@ pub fn encode_parcel(alloc: Global, parcel: &Parcel) -> Result<Packed, OutOfMemo
     requires { IsPackable parcel.now }
     ensures { IfOk result (λ packed. packed ≡ parcel.now) }
 {
-    let bytes = parcel_bytes(alloc, parcel)?;
-    Ok(pack(alloc, bytes, parcel))
+    let written = parcel_bytes(alloc, parcel)?;
+    pack(alloc, written, parcel.sets.len(), is_end(&parcel.act))
 }

@@ -1,11 +1,12 @@
 //! The reader of parcels, with the first fault from the left.
-ghost use Rattle.std.specs.Prelude.{◌≡◌, length};
+ghost use Rattle.std.specs.Prelude.{◌≡◌, [], length};
 ghost use Rattle.std.specs.Int.{w16, w32};
 ghost use Rattle.cmd_pack.specs.Reading.{Gives, Reads, read_word};
 ghost use Rattle.cmd_pack.specs.Parcels.Reading.{element_from, read_tag, read_times, read_flag, read_color, read_texels, read_value, read_set, read_sets, read_vertex, read_vertices, read_part, read_op, read_act, read_parcel};
 
 use crate::fault::{Form, ReadError};
 use crate::fields::{read_byte, read_half, read_long, read_word, take_bytes};
+use crate::parcel::room::Room;
 use element_table::{ELEMENT_COUNT, ValueKind, kind_of};
 use rc_base::command::{Mat4, Part, Rgba, Texels};
 use rc_base::state::{Act, Block, ElementSet, ElementValue, Parcel, Sets, Vertex, Vertices};
@@ -189,10 +190,16 @@ fn read_vertex(bytes: &[u8]) -> Result<(Vertex, &[u8]), Form>
     Ok((Vertex { pos, color, s, t }, rest))
 }
 
-fn read_each_vertex(alloc: Global, count: u16, bytes: &[u8]) -> Result<(Vertices, &[u8]), ReadError>
+// Room is asked for once: the list has none of them yet.
+fn read_each_vertex(
+    mut vertices: Vertices,
+    count: u16,
+    bytes: &[u8],
+) -> Result<(Vertices, &[u8]), ReadError>
+    requires { vertices ≡ [] }
     ensures { Gives (λ x. (x.0, x.1.now)) result (read_times read_vertex count bytes.now) }
 {
-    let mut vertices = Vertices::with_capacity(alloc, usize::from(count))?;
+    vertices.reserve(usize::from(count))?;
     let mut rest = bytes;
     for _ in 0..count {
         let (vertex, after) = read_vertex(rest)?;
@@ -203,11 +210,15 @@ fn read_each_vertex(alloc: Global, count: u16, bytes: &[u8]) -> Result<(Vertices
 }
 
 #[tactic(auto, unfolding(crate::specs::Parcels::Reading::read_vertices))]
-fn read_vertices(alloc: Global, bytes: &[u8]) -> Result<(Vertices, &[u8]), ReadError>
+fn read_vertices<'a>(
+    alloc: Global,
+    room: &mut Room,
+    bytes: &'a [u8],
+) -> Result<(Vertices, &'a [u8]), ReadError>
     ensures { Gives (λ x. (x.0, x.1.now)) result (read_vertices bytes.now) }
 {
     let (count, rest) = read_half(bytes)?;
-    read_each_vertex(alloc, count, rest)
+    read_each_vertex(room.take(alloc), count, rest)
 }
 
 #[tactic(auto, unfolding(crate::specs::Parcels::Reading::read_part))]
@@ -255,14 +266,18 @@ fn read_op(bytes: &[u8]) -> Result<(SyncOp, &[u8]), Form>
 }
 
 #[tactic(auto, unfolding(crate::specs::Parcels::Reading::read_act, crate::specs::Parcels::Reading::read_act_body))]
-fn read_act(alloc: Global, bytes: &[u8]) -> Result<(Act, &[u8]), ReadError>
+fn read_act<'a>(
+    alloc: Global,
+    room: &mut Room,
+    bytes: &'a [u8],
+) -> Result<(Act, &'a [u8]), ReadError>
     ensures { Gives (λ x. (x.0, x.1.now)) result (read_act bytes.now) }
 {
     let (tag, rest) = read_byte(bytes)?;
     match tag {
         0 => {
             let (mode, rest) = read_byte(rest)?;
-            let (vertices, rest) = read_vertices(alloc, rest)?;
+            let (vertices, rest) = read_vertices(alloc, room, rest)?;
             Ok((Act::Draw(Block { mode, vertices }), rest))
         }
         1 => {
@@ -282,13 +297,25 @@ fn read_act(alloc: Global, bytes: &[u8]) -> Result<(Act, &[u8]), ReadError>
     }
 }
 
-/// The parcel at the front, and the bytes behind it.
+/// The parcel at the front, and the bytes behind it. A block's vertices take the memory of the room.
 #[tactic(auto, unfolding(crate::specs::Parcels::Reading::read_parcel))]
-pub(crate) fn read_parcel(alloc: Global, bytes: &[u8]) -> Result<(Parcel, &[u8]), ReadError>
+pub(crate) fn read_parcel_in<'a>(
+    alloc: Global,
+    room: &mut Room,
+    bytes: &'a [u8],
+) -> Result<(Parcel, &'a [u8]), ReadError>
     ensures { Gives (λ x. (x.0, x.1.now)) result (read_parcel bytes.now) }
 {
     let (place, rest) = read_long(bytes)?;
     let (sets, rest) = read_sets(alloc, rest)?;
-    let (act, rest) = read_act(alloc, rest)?;
+    let (act, rest) = read_act(alloc, room, rest)?;
     Ok((Parcel { place, sets, act }, rest))
+}
+
+/// The parcel at the front, and the bytes behind it.
+pub(crate) fn read_parcel(alloc: Global, bytes: &[u8]) -> Result<(Parcel, &[u8]), ReadError>
+    ensures { Gives (λ x. (x.0, x.1.now)) result (read_parcel bytes.now) }
+{
+    let mut room = Room::new(alloc);
+    read_parcel_in(alloc, &mut room, bytes)
 }

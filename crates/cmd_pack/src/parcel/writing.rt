@@ -1,10 +1,11 @@
 //! The writer of parcels: each function adds the bytes of its argument behind those that stand.
-ghost use Rattle.std.specs.Prelude.{◌≡◌, ◌++◌, ◌∷◌, [], ◌*◌, ◌^◌, ◌<◌, ◌≤◌, length, FitsSigned, IfOk, OnOk};
+ghost use Rattle.std.specs.Prelude.{◌≡◌, ◌++◌, ◌∷◌, [], ◌*◌, ◌^◌, ◌<◌, ◌≤◌, length, take, drop, FitsSigned, IfOk, IsTrue, OnOk};
 ghost use Rattle.std.specs.Int.{w32};
 ghost use Rattle.std.specs.List.{flat_map, AllByRecursion};
 ghost use Rattle.rc_base.specs.Formats.Commands.{AreBytes};
 ghost use Rattle.rc_base.specs.Formats.Spelling.{half, long, word};
-ghost use Rattle.cmd_pack.specs.Parcels.Spelling.{IsAct, IsColor, IsPackable, IsPart, IsOp, IsSet, IsValue, IsVertex, IsWholeAct, IsWholeSet, IsWholeValue, SpellsParcel, act_bytes, color_bytes, flag_bytes, op_bytes, part_bytes, set_bytes, value_bytes, vertex_bytes};
+ghost use Rattle.cmd_pack.specs.Parcels.Fronts.{IsWritten};
+ghost use Rattle.cmd_pack.specs.Parcels.Spelling.{IsAct, IsColor, IsPackable, IsPart, IsOp, IsSet, IsValue, IsVertex, IsWholeAct, IsWholeSet, IsWholeValue, act_bytes, color_bytes, flag_bytes, op_bytes, part_bytes, set_bytes, value_bytes, vertex_bytes};
 
 use crate::writing::{write_bytes, write_half};
 use rc_base::command::{Bytes, Part, Rgba};
@@ -249,24 +250,98 @@ fn set_size(set: &ElementSet) -> usize {
     }
 }
 
-fn parcel_size(parcel: &Parcel) -> usize {
-    let mut size = act_size(&parcel.act).saturating_add(5);
-    for set in parcel.sets.as_slice() {
+fn front_size(sets: &[ElementSet]) -> usize {
+    let mut size = 5usize;
+    for set in sets {
         size = size.saturating_add(set_size(set));
     }
     size
 }
 
-// The bytes of a parcel.
-#[tactic(auto, unfolding(crate::specs::Parcels::Spelling::parcel_bytes))]
-pub(crate) fn parcel_bytes(alloc: Global, parcel: &Parcel) -> Result<Bytes, OutOfMemory>
-    requires { IsPackable parcel.now }
-    ensures { IfOk result (λ bytes. SpellsParcel bytes parcel.now) }
+/// The bytes of a parcel, and where its act begins.
+pub(crate) struct Written {
+    pub bytes: Bytes,
+    pub act: usize,
+}
+
+// What stands before the act, behind these bytes of the place.
+fn write_front(out: &mut Bytes, place: &[u8], sets: &[ElementSet]) -> Result<(), OutOfMemory>
+    requires few { length sets.now ≤ 255 }
+    requires whole { AllByRecursion IsWholeSet sets.now }
+    ensures added { OnOk result (out.new ≡ out.old ++ (place.now ++ (length sets.now ∷ flat_map set_bytes sets.now))) }
+    ensures typed { OnOk result (AllByRecursion IsSet sets.now) }
 {
-    let mut out = Bytes::with_capacity(alloc, parcel_size(parcel))?;
-    write_long(&mut out, parcel.place)?;
-    write_byte(&mut out, parcel.sets.len() as u8)?;
-    write_sets(&mut out, parcel.sets.as_slice())?;
-    write_act(&mut out, &parcel.act)?;
-    Ok(out)
+    write_bytes(out, place)?;
+    write_byte(out, sets.len() as u8)?;
+    write_sets(out, sets)
+}
+
+// What stands before the act of a parcel, in room for so many bytes.
+fn front_of(
+    alloc: Global,
+    size: usize,
+    place: u32,
+    sets: &[ElementSet],
+) -> Result<Bytes, OutOfMemory>
+    requires few { length sets.now ≤ 255 }
+    requires whole { AllByRecursion IsWholeSet sets.now }
+    ensures front { IfOk result (λ front. front ≡ long place ++ (length sets.now ∷ flat_map set_bytes sets.now)) }
+    ensures typed { OnOk result ((place < 2 ^ 32) × AllByRecursion IsSet sets.now) }
+{
+    let mut front = Bytes::with_capacity(alloc, size)?;
+    write_front(&mut front, &place.to_le_bytes(), sets)?;
+    Ok(front)
+}
+
+/// The bytes of a parcel.
+pub(crate) fn parcel_bytes(alloc: Global, parcel: &Parcel) -> Result<Written, OutOfMemory>
+    requires { IsPackable parcel.now }
+    ensures { IfOk result (λ written. IsWritten written.bytes written.act parcel.now) }
+{
+    let sets = parcel.sets.as_slice();
+    let size = front_size(sets).saturating_add(act_size(&parcel.act));
+    let mut bytes = front_of(alloc, size, parcel.place, sets)?;
+    let act = bytes.len();
+    write_act(&mut bytes, &parcel.act)?;
+    Ok(Written { bytes, act })
+}
+
+/// What stands before the act of a parcel with these sets, whose place is that of the bytes.
+pub(crate) fn front_with(
+    alloc: Global,
+    bytes: &[u8],
+    sets: &[ElementSet],
+) -> Result<Bytes, OutOfMemory>
+    requires place { 4 ≤ length bytes.now }
+    requires few { length sets.now ≤ 255 }
+    requires whole { AllByRecursion IsWholeSet sets.now }
+    ensures front { IfOk result (λ front. front ≡ take 4 bytes.now ++ (length sets.now ∷ flat_map set_bytes sets.now)) }
+    ensures typed { OnOk result (AllByRecursion IsSet sets.now) }
+{
+    let mut front = Bytes::with_capacity(alloc, front_size(sets))?;
+    write_front(&mut front, &bytes[..4], sets)?;
+    Ok(front)
+}
+
+/// Whether the front is what stands before the act.
+pub(crate) fn is_front(front: &Bytes, bytes: &[u8], act: usize) -> bool
+    requires { act ≤ length bytes.now }
+    ensures { IsTrue result → front.now ≡ take act bytes.now }
+{
+    front.as_slice() == &bytes[..act]
+}
+
+/// A front, and behind it the act of other bytes, which begins there.
+pub(crate) fn with_act(mut front: Bytes, bytes: &[u8], act: usize) -> Result<Written, OutOfMemory>
+    requires { act ≤ length bytes.now }
+    ensures bytes { IfOk result (λ written. written.bytes ≡ front ++ drop act bytes.now) }
+    ensures act { IfOk result (λ written. written.act ≡ length front) }
+{
+    let begin = front.len();
+    front.reserve(bytes.len() - act)?;
+    write_bytes(&mut front, &bytes[act..])?;
+    Ok(Written {
+        bytes: front,
+        act: begin,
+    })
 }

@@ -78,7 +78,10 @@ returns-clause-sending c =
     let e = c.if-next-self.false in
     let h = c.next_tile-next.ensures.high in
     let less : n < s.count = omega (arith, e, h) in
-    given_one s c.args.pending c.sets_with.new.tracker c.in_ok-sets.sets n given less (c.next_tile-next.ensures.found less) (record c.args.pending { tile = n }) refl
+    given_one s c.args.pending c.sets_with.new.tracker c.in_ok-sets.sets n given less (c.next_tile-next.ensures.found less)
+    (Some c.in_ok-kept.kept)
+    (let same = c.in_ok-kept.ensures.cases ∙ c.in_ok-packed.ensures in record { place_is = ap (λ (q : Parcel). q.place) same; act_is = ap (λ (q : Parcel). q.act) same })
+    (record c.args.pending { tile = n; made = Some c.in_ok-kept.kept }) refl
 
 pub returns-clause-left : goal.returns-clause-left
 returns-clause-left c =
@@ -97,12 +100,12 @@ returns-clause-left c =
     } in
     let s = c.args.self.now in
     let p = c.args.pending in
-    left_more s p c.sets_with.new.tracker c.in_ok-sets.sets c.next_tile-next.result given
-    ∙ ap (λ (q : Parcel). ToTile p.tile q ∷ left_of (record s { tracker = c.sets_with.new.tracker; pending = Some (record p { tile = c.next_tile-next.result }) }))
+    left_more s p c.sets_with.new.tracker c.in_ok-sets.sets c.next_tile-next.result (Some c.in_ok-kept.kept) given
+    ∙ ap (λ (q : Parcel). ToTile p.tile q ∷ left_of (record s { tracker = c.sets_with.new.tracker; pending = Some (record p { tile = c.next_tile-next.result; made = Some c.in_ok-kept.kept }) }))
     (sym c.in_ok-packed.ensures)
 
-pub encode_parcel-requires : goal.encode_parcel-requires
-encode_parcel-requires c = packable c.args.self.now c.args.pending c.in_ok-sets.sets c.requires.sending c.in_ok-sets.ensures.sets
+pub packed-requires-clause-packable : goal.packed-requires-clause-packable
+packed-requires-clause-packable c = packable c.args.self.now c.args.pending c.in_ok-sets.sets c.requires.sending c.in_ok-sets.ensures.sets
 
 pub returns-then-next-self-clause-tile : goal.returns-then-next-self-clause-tile
 returns-then-next-self-clause-tile c = omega (arith, c.requires.sending.count, c.requires.sending.pending.tile)
@@ -125,3 +128,6 @@ returns-clause-looked c =
     c.count-looks.ensures ∙ c.in_ok-sets.ensures.looked ∙ ap (λ (n : ℕ). n + act_looks (pending s.tracker p.tile) p.act) c.new-looks.ensures
     ∙ (let e : 0 + act_looks (pending s.tracker p.tile) p.act ≡ act_looks (pending s.tracker p.tile) p.act = omega arith in e) ∙ looks_of_parcel s p c.requires.sending
     ∙ ap (λ (q : Parcel). looks_at (scene_of s) s.layout 0 p.tile q.place) (sym c.in_ok-packed.ensures)
+
+pub packed-requires-clause-made : goal.packed-requires-clause-made
+packed-requires-clause-made c = c.requires.sending.pending.made
