@@ -13,16 +13,19 @@ use rc_base::out_of_memory::OutOfMemory;
 use rc_base::sync::Request;
 use std::sync::Wait;
 use tile_queues::LaneIn;
-use worker_crew::{Attempt, Worker};
+use worker_crew::{Attempt, Peer, Worker};
 
 /// What an answer of the core comes to. Want of memory is a move: the core is short from then on, and goes on.
 fn attempt_of(answer: Result<ClientMoved, OutOfMemory>) -> Attempt
     ensures { result ≡ attempt.Ended → answer ≡ Ok moved.Ended }
 {
     match answer {
-        Ok(ClientMoved::BlockedTile { .. }) | Ok(ClientMoved::BlockedRequest) => Attempt::Blocked,
+        Ok(ClientMoved::Appended { tile }) => Attempt::Moved(Some(Peer::Tile(tile))),
+        Ok(ClientMoved::Requested) => Attempt::Moved(Some(Peer::Manager)),
+        Ok(ClientMoved::BlockedTile { tile }) => Attempt::Blocked(Some(Peer::Tile(tile))),
+        Ok(ClientMoved::BlockedRequest) => Attempt::Blocked(Some(Peer::Manager)),
         Ok(ClientMoved::Ended) => Attempt::Ended,
-        _ => Attempt::Moved,
+        Err(OutOfMemory) => Attempt::Moved(None),
     }
 }
 

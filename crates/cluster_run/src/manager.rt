@@ -12,18 +12,21 @@ use rc_base::sync::{Grant, Request};
 use std::sync::Wait;
 use sync_manager::laws::managers_meet_their_clause_over_lanes;
 use tile_queues::{LaneIn, LaneOut};
-use worker_crew::{Attempt, Worker};
+use worker_crew::{Attempt, Peer, Worker};
 
 /// What an answer of the core comes to. Want of memory is a move: the core is short from then on, and goes on.
 fn attempt_of(answer: Result<ManagerMoved, OutOfMemory>) -> Attempt
     ensures { result ≡ attempt.Ended → answer ≡ Ok moved.Ended }
 {
     match answer {
-        Ok(ManagerMoved::BlockedGrant { .. }) | Ok(ManagerMoved::BlockedRequest) => {
-            Attempt::Blocked
+        Ok(ManagerMoved::Delivered { tile }) => Attempt::Moved(Some(Peer::Tile(tile))),
+        Ok(ManagerMoved::Arrived { client }) | Ok(ManagerMoved::Drained { client }) => {
+            Attempt::Moved(Some(Peer::Client(client)))
         }
+        Ok(ManagerMoved::BlockedGrant { tile }) => Attempt::Blocked(Some(Peer::Tile(tile))),
+        Ok(ManagerMoved::BlockedRequest) => Attempt::Blocked(None),
         Ok(ManagerMoved::Ended) => Attempt::Ended,
-        _ => Attempt::Moved,
+        _ => Attempt::Moved(None),
     }
 }
 

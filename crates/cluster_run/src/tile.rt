@@ -18,16 +18,22 @@ use std::alloc::Global;
 use std::sync::Wait;
 use tile_queues::{LaneIn, LaneOut};
 use tile_server::laws::tiles_meet_their_clause_over_lanes;
-use worker_crew::{Attempt, Worker};
+use worker_crew::{Attempt, Peer, Worker};
 
 /// What an answer of the core comes to. Want of memory is a move: the core is short from then on, and goes on.
 fn attempt_of(answer: &Result<TileMoved, OutOfMemory>) -> Attempt
     ensures { result ≡ attempt.Ended → answer.now ≡ Ok moved.Ended }
 {
     match answer {
-        Ok(TileMoved::Blocked) => Attempt::Blocked,
+        Ok(TileMoved::Took { client })
+        | Ok(TileMoved::Held { client })
+        | Ok(TileMoved::Closed { client })
+        | Ok(TileMoved::Dropped { client }) => Attempt::Moved(Some(Peer::Client(*client))),
+        Ok(TileMoved::Learnt) => Attempt::Moved(Some(Peer::Manager)),
+        Ok(TileMoved::Swapped(_)) => Attempt::Moved(Some(Peer::Caller)),
+        Ok(TileMoved::Blocked) => Attempt::Blocked(None),
         Ok(TileMoved::Ended) => Attempt::Ended,
-        _ => Attempt::Moved,
+        _ => Attempt::Moved(None),
     }
 }
 
@@ -74,7 +80,7 @@ impl<R: Wait> TileWorker<R> {
     {
         tiles_meet_their_clause_over_lanes::<LaneOut<Packed, R>, LaneOut<Grant, R>>();
         if !put_held(&mut self.parts, &mut self.held) {
-            return Attempt::Blocked;
+            return Attempt::Blocked(Some(Peer::Caller));
         }
         let answer = self.core.step(&mut self.clients, &mut self.grants);
         let attempt = attempt_of(&answer);

@@ -2,7 +2,6 @@
 ghost use Rattle.std.specs.Prelude.{◌≡◌, IfSome};
 ghost use Rattle.worker_crew.specs.Crews.{HaveEnded};
 
-use crossbeam_utils::CachePadded;
 use rc_base::gate::{Actor, Gate};
 use std::alloc::Global;
 use std::process::Abort;
@@ -10,7 +9,7 @@ use std::sync::Wait;
 use std::sync::atomic::{AtomicBool, AtomicU64, Ordering};
 use std::thread::Threads;
 use worker_crew::{
-    Attempt, Crew, Foreground, Ready, Task, Worker, prepare, run_in_scope, run_to_end,
+    Attempt, Crew, Foreground, Ready, Seats, Task, Worker, prepare, run_in_scope, run_to_end,
 };
 
 // A worker that counts down, and after each step that it moves finds nothing to do once.
@@ -49,14 +48,14 @@ impl Worker for Countdown {
     fn step(&mut self) -> Attempt {
         if self.is_tired {
             self.is_tired = false;
-            return Attempt::Blocked;
+            return Attempt::Blocked(None);
         }
         if self.left == 0 {
             return Attempt::Ended;
         }
         self.left -= 1;
         self.is_tired = true;
-        Attempt::Moved
+        Attempt::Moved(None)
     }
 }
 
@@ -228,7 +227,7 @@ impl<'a, 'b, K: Drop> Foreground<K> for Turns<'a, 'b, K> {
 fn run_beside<W, G, R>(
     rt: R,
     gate: &G,
-    flags: &[CachePadded<AtomicBool>],
+    seats: &Seats,
     ready: Ready<W, W, W>,
     left: &mut u32,
 ) -> Option<Crew<Task<W>, Task<W>, Task<W>>>
@@ -243,22 +242,19 @@ where
         left,
         kept: &mut kept,
     };
-    run_in_scope(rt, gate, flags, ready, &mut turns);
+    run_in_scope(rt, gate, seats, ready, &mut turns);
     kept
 }
 
-fn flag(is_set: bool) -> CachePadded<AtomicBool> {
-    CachePadded::new(AtomicBool::new(is_set))
-}
-
-// The first client has a thread, the second finds its flag set, and the others have none and are stepped by the caller.
+// The first client has a thread, the second is held back, and the others have no place and are stepped by the caller.
 #[test]
 fn workers_that_come_back_are_stepped_by_the_caller(rt: HostRuntime) {
     let gate = CountingGate::new();
     let ready = prepare(rt.alloc(), crew_of(&rt, rt.alloc())).expect(&rt, "memory");
-    let flags = [flag(false), flag(true)];
+    let seats = Seats::new(rt.alloc(), 2).expect(&rt, "memory");
+    seats.hold_back(1);
     let mut left = 50;
-    let kept = run_beside(rt, &gate, &flags, ready, &mut left);
+    let kept = run_beside(rt, &gate, &seats, ready, &mut left);
     assert!(rt; left == 0);
     let ended = match &kept {
         Some(crew) => have_ended(crew),

@@ -1,18 +1,16 @@
 //! A crew whose workers send to the caller, who takes until the last thread has ended.
 
-use crossbeam_utils::CachePadded;
 use rc_base::gate::{Actor, Gate};
 use rc_base::lane::{Inlet, Outlet};
 use std::alloc::Global;
 use std::process::Abort;
 use std::sync::Wait;
-use std::sync::atomic::AtomicBool;
 use std::thread::Threads;
 use tile_queues::{LaneIn, LaneOut, lane};
-use worker_crew::{Attempt, Crew, Foreground, Task, Worker, prepare, run_in_scope};
+use worker_crew::{Attempt, Crew, Foreground, Peer, Seats, Task, Worker, prepare, run_in_scope};
 
-// So many numbers go through each lane.
-const COUNT: u32 = 2000;
+// So many numbers go through each lane. A sleep of twenty milliseconds before each would take longer than a test may.
+const COUNT: u32 = 4000;
 
 // A gate that lets all pass.
 #[derive(Drop)]
@@ -52,9 +50,9 @@ impl<R: Wait> Worker for Sender<R> {
         match self.end.push(self.next) {
             Ok(()) => {
                 self.next += 1;
-                Attempt::Moved
+                Attempt::Moved(Some(Peer::Caller))
             }
-            Err(_) => Attempt::Blocked,
+            Err(_) => Attempt::Blocked(Some(Peer::Caller)),
         }
     }
 }
@@ -161,12 +159,13 @@ fn senders_to<R: Wait + Copy + Abort>(
     }
 }
 
-// Whether each sender ended and each receiver took all, where the first so many workers have flags.
+// Whether each sender ended and each receiver took all, where there are so many places.
 fn are_served<R: Threads + Wait + Copy + Send + Sync + Abort>(
     rt: R,
     alloc: Global,
-    flags: &[CachePadded<AtomicBool>],
+    places: usize,
 ) -> bool {
+    let seats = Seats::new(alloc, places).expect(&rt, "memory");
     let mut receivers = Vec::new(alloc);
     let crew = senders_to(rt, alloc, &mut receivers);
     let ready = prepare(alloc, crew).expect(&rt, "memory");
@@ -175,7 +174,7 @@ fn are_served<R: Threads + Wait + Copy + Send + Sync + Abort>(
         receivers: &mut receivers,
         kept: &mut kept,
     };
-    run_in_scope(rt, &OpenGate, flags, ready, &mut taking);
+    run_in_scope(rt, &OpenGate, &seats, ready, &mut taking);
     have_ended(&kept) && receivers.iter().all(|receiver| receiver.is_whole())
 }
 
@@ -195,19 +194,15 @@ fn have_ended<R>(kept: &Option<Crew<Task<Sender<R>>, Task<Sender<R>>, Task<Sende
     }
 }
 
-fn unset() -> CachePadded<AtomicBool> {
-    CachePadded::new(AtomicBool::new(false))
-}
-
 // A sender that wasn't served would wait for ever, with the last number or before.
 #[test]
 fn the_foreground_is_served_until_the_last_thread_has_ended(rt: HostRuntime) {
-    let flags = [unset(), unset(), unset(), unset(), unset()];
-    assert!(rt; are_served(rt, rt.alloc(), &flags));
+    assert!(rt; are_served(rt, rt.alloc(), 5));
+    assert!(rt; are_served(rt, rt.alloc(), 4));
 }
 
 #[test]
 fn the_foreground_is_served_until_the_last_that_came_back_has_ended(rt: HostRuntime) {
-    assert!(rt; are_served(rt, rt.alloc(), &[unset(), unset()]));
-    assert!(rt; are_served(rt, rt.alloc(), &[]));
+    assert!(rt; are_served(rt, rt.alloc(), 2));
+    assert!(rt; are_served(rt, rt.alloc(), 0));
 }

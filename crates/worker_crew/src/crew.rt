@@ -3,14 +3,14 @@ ghost use Rattle.std.specs.Prelude.{◌≡◌, List, ◌≤◌, ◌<◌, ℕ, tr
 ghost use Rattle.rc_base.specs.Lists.{ArePaired};
 ghost use Rattle.worker_crew.specs.Tasks.{AreStarted, HaveAllEnded, GoOn, StartedGoOn, IsTask, IsStarted, HasEnded};
 
-use crate::pause::Pause;
+use crate::seat::Row;
 use crate::start::{Started, joined, start_with};
 use crate::task::{Task, Turned, attempt};
+use crate::waking::Waking;
+use crate::watch::Watch;
 use crate::worker::Worker;
-use crossbeam_utils::CachePadded;
 use rc_base::gate::Gate;
 use std::sync::Wait;
-use std::sync::atomic::AtomicBool;
 use std::thread::{Scope, Threads};
 
 /// The three kinds of worker of a cluster, or what they became.
@@ -21,12 +21,12 @@ pub struct Crew<A, B, C> {
     pub tiles: Vec<C>,
 }
 
-/// Starts each worker, in the room that `started` has. The first has flag `from`.
+/// Starts each worker, in the room that `started` has. The first has place `from`.
 pub fn start_all<'s, E, W: Worker + Drop + Send + 's, G: Gate, R: Wait + Copy + Send + 's>(
     scope: &Scope<'s, E>,
     rt: R,
     gate: &'s G,
-    flags: &'s [CachePadded<AtomicBool>],
+    row: Row<'s>,
     from: usize,
     workers: Vec<W>,
     started: Vec<Started<W>>,
@@ -39,28 +39,46 @@ pub fn start_all<'s, E, W: Worker + Drop + Send + 's, G: Gate, R: Wait + Copy + 
     let mut started = started;
     for worker in workers {
         let number = from.saturating_add(started.len());
-        started.push_reserved(start_with(scope, rt, gate, flags, number, worker));
+        started.push_reserved(start_with(scope, rt, gate, row, number, worker));
     }
     started
 }
 
+// Tries one step of a worker that came back, and wakes all to whom it gave something.
+fn turn_for<W: Worker, G: Gate>(gate: &G, task: &mut Task<W>, waking: &mut Waking<'_>) -> Turned
+    ensures { (w : W) → IsTask W.leads W.over w task.old → IsTask W.leads W.over w task.new }
+{
+    waking.act_as(task.worker.actor());
+    let turned = attempt(gate, task, waking);
+    waking.settle();
+    turned
+}
+
 /// Tries one step of a worker that came back.
-pub fn turn_one<W: Worker, G: Gate>(gate: &G, started: &mut Started<W>) -> Turned
+pub fn turn_one<W: Worker, G: Gate>(
+    gate: &G,
+    started: &mut Started<W>,
+    waking: &mut Waking<'_>,
+) -> Turned
     ensures { (w : W) → IsStarted W.leads W.over w started.old → IsStarted W.leads W.over w started.new }
 {
     match started {
         Ok(_) => Turned::nobody(),
-        Err(task) => attempt(gate, task),
+        Err(task) => turn_for(gate, task, waking),
     }
 }
 
 /// Tries one step of each worker that came back.
-pub fn turn_started<W: Worker, G: Gate>(gate: &G, started: &mut Vec<Started<W>>) -> Turned
+pub fn turn_started<W: Worker, G: Gate>(
+    gate: &G,
+    started: &mut Vec<Started<W>>,
+    waking: &mut Waking<'_>,
+) -> Turned
     ensures { StartedGoOn W.leads W.over started.old.items started.new.items }
 {
     let mut all = Turned::nobody();
     for i in 0..started.len() {
-        all = all.and(turn_one(gate, &mut started[i]));
+        all = all.and(turn_one(gate, &mut started[i], waking));
     }
     all
 }
@@ -83,13 +101,17 @@ pub fn join_all<W: Worker + Drop, R: Threads>(
 }
 
 /// Tries one step of each that hasn't ended.
-pub fn turn_tasks<W: Worker, G: Gate>(gate: &G, tasks: &mut Vec<Task<W>>) -> Turned
+pub fn turn_tasks<W: Worker, G: Gate>(
+    gate: &G,
+    tasks: &mut Vec<Task<W>>,
+    waking: &mut Waking<'_>,
+) -> Turned
     ensures kept { GoOn W.leads W.over tasks.old.items tasks.new.items }
     ensures ended { result.ended ≡ true → (i : ℕ) (d : Task W) → i < vec_len tasks.new → (slice_index_or tasks.new.items i d).ended ≡ true }
 {
     let mut all = Turned::nobody();
     for i in 0..tasks.len() {
-        all = all.and(attempt(gate, &mut tasks[i]));
+        all = all.and(attempt(gate, &mut tasks[i], waking));
     }
     all
 }
@@ -133,14 +155,17 @@ fn settle<A: Worker, B: Worker, C: Worker, G: Gate, R: Wait>(
     ensures manager_ends { crew.new.manager.ended ≡ true }
     ensures tiles_end { (i : ℕ) (d : Task C) → i < vec_len crew.new.tiles → (slice_index_or crew.new.tiles.items i d).ended ≡ true }
 {
-    let mut pause = Pause::new();
+    let watch = Watch::new();
+    let mut waking = Waking::alone(&watch);
     for _ in rt.forever() {
-        let clients = turn_tasks(gate, &mut crew.clients);
-        let manager = attempt(gate, &mut crew.manager);
-        let tiles = turn_tasks(gate, &mut crew.tiles);
+        let clients = turn_tasks(gate, &mut crew.clients, &mut waking);
+        let manager = attempt(gate, &mut crew.manager, &mut waking);
+        let tiles = turn_tasks(gate, &mut crew.tiles, &mut waking);
         if clients.ended && manager.ended && tiles.ended {
             break;
         }
-        pause.after(rt, clients.moved || manager.moved || tiles.moved);
+        if !(clients.moved || manager.moved || tiles.moved) {
+            waking.nap(rt);
+        }
     }
 }

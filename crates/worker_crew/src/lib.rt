@@ -8,12 +8,14 @@
 
 mod crew;
 mod foreground;
-mod pause;
 mod ready;
 mod run;
 mod scope;
+mod seat;
 mod start;
 mod task;
+mod waking;
+mod watch;
 mod worker;
 
 pub use crew::Crew;
@@ -21,5 +23,6 @@ pub use foreground::Foreground;
 pub use ready::{Ready, prepare};
 pub use run::{run_beside, run_to_end};
 pub use scope::run_in_scope;
+pub use seat::Seats;
 pub use task::Task;
-pub use worker::{Attempt, Worker};
+pub use worker::{Attempt, Peer, Worker};

@@ -6,31 +6,21 @@ use crate::crew::Crew;
 use crate::foreground::{Foreground, Idle};
 use crate::ready::{Ready, prepare};
 use crate::scope::{run_crew, run_in_scope};
+use crate::seat::Seats;
 use crate::task::Task;
 use crate::worker::Worker;
-use crossbeam_utils::CachePadded;
 use rc_base::gate::Gate;
 use rc_base::out_of_memory::OutOfMemory;
 use std::alloc::Global;
 use std::sync::Wait;
-use std::sync::atomic::AtomicBool;
 use std::thread;
 use std::thread::Threads;
 
-/// So many flags that aren't set.
-fn new_flags(alloc: Global, count: usize) -> Result<Vec<CachePadded<AtomicBool>>, OutOfMemory> {
-    let mut flags = Vec::new(alloc);
-    for _ in 0..count {
-        flags.push(CachePadded::new(AtomicBool::new(false)))?;
-    }
-    Ok(flags)
-}
-
-/// Runs a crew to its end with these flags.
+/// Runs a crew to its end at these places.
 fn run_with<A, B, C, G, R>(
     rt: R,
     gate: &G,
-    flags: &[CachePadded<AtomicBool>],
+    seats: &Seats,
     ready: Ready<A, B, C>,
 ) -> Crew<Task<A>, Task<B>, Task<C>>
 where
@@ -41,6 +31,7 @@ where
     R: Threads + Wait + Copy + Send,
     ensures { HaveEnded A.leads A.over B.leads B.over C.leads C.over ready.crew result }
 {
+    let row = seats.row(ready.crew.clients.len(), ready.crew.tiles.len());
     thread::scope(
         thread::scope_env(),
         &rt,
@@ -48,7 +39,7 @@ where
             ensures { HaveEnded A.leads A.over B.leads B.over C.leads C.over ready.crew result }
         {
             let mut idle = Idle;
-            run_crew(scope, rt, gate, flags, ready, &mut idle)
+            run_crew(scope, rt, gate, row, ready, &mut idle)
         },
     )
 }
@@ -70,9 +61,9 @@ where
     ensures { IfOk result (λ tasks. HaveEnded A.leads A.over B.leads B.over C.leads C.over crew tasks) }
 {
     let count = crew.clients.len().saturating_add(crew.tiles.len());
-    let flags = new_flags(alloc, count.saturating_add(1))?;
+    let seats = Seats::new(alloc, count.saturating_add(2))?;
     let ready = prepare(alloc, crew)?;
-    Ok(run_with(rt, gate, &flags, ready))
+    Ok(run_with(rt, gate, &seats, ready))
 }
 
 /// Runs a crew to its end, each worker in a thread of its own where one can be made, and serves the foreground meanwhile, which keeps what became of
@@ -95,8 +86,8 @@ where
     ensures lacked { OnErr result (foreground.new ≡ foreground.old) }
 {
     let count = crew.clients.len().saturating_add(crew.tiles.len());
-    let flags = new_flags(alloc, count.saturating_add(1))?;
+    let seats = Seats::new(alloc, count.saturating_add(2))?;
     let ready = prepare(alloc, crew)?;
-    run_in_scope(rt, gate, &flags, ready, foreground);
+    run_in_scope(rt, gate, &seats, ready, foreground);
     Ok(())
 }

@@ -5,29 +5,27 @@ ghost use Rattle.worker_crew.specs.Tasks.{IsStarted, StartedGoOn};
 
 use crate::crew::{Crew, join_crew, start_all, turn_one, turn_started};
 use crate::foreground::Foreground;
-use crate::pause::Pause;
 use crate::ready::Ready;
+use crate::seat::{Row, Seats};
 use crate::start::{Started, start_with};
 use crate::task::Task;
+use crate::waking::Waking;
+use crate::watch::Watch;
 use crate::worker::Worker;
-use crossbeam_utils::CachePadded;
 use rc_base::gate::Gate;
 use std::sync::Wait;
-use std::sync::atomic::{AtomicBool, Ordering};
 use std::thread;
 use std::thread::{Scope, Threads};
 
-/// Whether the flag of each of so many workers is set. Then no thread takes a step any more.
-fn all_set(flags: &[CachePadded<AtomicBool>], workers: usize) -> bool {
-    let mut all = true;
-    for flag in flags.iter().take(workers) {
-        all &= flag.load(Ordering::SeqCst);
+/// Starts the thread that counts the crew's ticks. Where none can be made, no tick passes, and a yield counts as cheap.
+fn start_watch<'s, E, R: Wait + Copy + Send + 's>(scope: &Scope<'s, E>, rt: R, watch: &'s Watch) {
+    if scope.spawn(move || watch.run(rt)).is_err() {
+        watch.stop();
     }
-    all
 }
 
 /// Serves the foreground and steps what came back, in turns, until each thread has ended, each that came back has too, and then nothing of the
-/// foreground is left. The flags are read before the turn is served: what was sent by the thread that ended last is there for this turn.
+/// foreground is left. The places are read before the turn is served: what was sent by the thread that ended last is there for this turn.
 fn attend<
     A: Worker,
     B: Worker,
@@ -38,7 +36,7 @@ fn attend<
 >(
     rt: &R,
     gate: &G,
-    flags: &[CachePadded<AtomicBool>],
+    row: Row<'_>,
     crew: &mut Crew<Started<A>, Started<B>, Started<C>>,
     foreground: &mut J,
 )
@@ -47,20 +45,25 @@ fn attend<
     ensures tiles { StartedGoOn C.leads C.over crew.old.tiles.items crew.new.tiles.items }
     ensures served { J.served foreground.old foreground.new }
 {
-    let others = crew.clients.len().saturating_add(crew.tiles.len());
-    let workers = others.saturating_add(1);
-    let mut pause = Pause::new();
+    let mut waking = Waking::new(row, row.caller());
     for _ in rt.forever() {
-        let threads_ended = all_set(flags, workers);
+        let threads_ended = row.all_ended();
         let served = foreground.serve();
-        let clients = turn_started(gate, &mut crew.clients);
-        let manager = turn_one(gate, &mut crew.manager);
-        let tiles = turn_started(gate, &mut crew.tiles);
+        let clients = turn_started(gate, &mut crew.clients, &mut waking);
+        let manager = turn_one(gate, &mut crew.manager, &mut waking);
+        let tiles = turn_started(gate, &mut crew.tiles, &mut waking);
         let turned = clients.and(manager).and(tiles);
         if threads_ended && turned.ended && !served {
             break;
         }
-        pause.after(rt, turned.moved || served);
+        if turned.moved || served {
+            waking.go_on();
+        } else if turned.ended {
+            waking.ring_waiting();
+            waking.after(rt, turned);
+        } else {
+            waking.nap(rt);
+        }
     }
 }
 
@@ -69,7 +72,7 @@ pub fn run_crew<'s, E, A, B, C, J, G, R>(
     scope: &Scope<'s, E>,
     rt: R,
     gate: &'s G,
-    flags: &'s [CachePadded<AtomicBool>],
+    row: Row<'s>,
     ready: Ready<A, B, C>,
     foreground: &mut J,
 ) -> Crew<Task<A>, Task<B>, Task<C>>
@@ -90,30 +93,32 @@ where
         client_tasks,
         tile_tasks,
     } = ready;
+    start_watch(scope, rt, row.watch());
     let count = crew.clients.len();
     let mut started = Crew {
-        clients: start_all(scope, rt, gate, flags, 0, crew.clients, clients),
-        manager: start_with(scope, rt, gate, flags, count, crew.manager),
+        clients: start_all(scope, rt, gate, row, 0, crew.clients, clients),
+        manager: start_with(scope, rt, gate, row, count, crew.manager),
         tiles: start_all(
             scope,
             rt,
             gate,
-            flags,
+            row,
             count.saturating_add(1),
             crew.tiles,
             tiles,
         ),
     };
-    attend(&rt, gate, flags, &mut started, foreground);
+    attend(&rt, gate, row, &mut started, foreground);
+    row.watch().stop();
     join_crew(&rt, gate, started, client_tasks, tile_tasks)
 }
 
 /// Runs a crew to its end, each worker in a thread of its own where one can be made, and serves the foreground meanwhile, which keeps what became of
-/// the crew. A worker has the flag of its number: the clients first, then the manager, then the tiles.
+/// the crew. A worker has the place of its number: the clients first, then the manager, then the tiles, then the caller.
 pub fn run_in_scope<A, B, C, J, G, R>(
     rt: R,
     gate: &G,
-    flags: &[CachePadded<AtomicBool>],
+    seats: &Seats,
     ready: Ready<A, B, C>,
     foreground: &mut J,
 )
@@ -126,6 +131,7 @@ where
     R: Threads + Wait + Copy + Send,
     ensures { (m : J) × (tasks : _) × J.served foreground.old m × HaveEnded A.leads A.over B.leads B.over C.leads C.over ready.crew tasks × J.keeps m tasks foreground.new }
 {
+    let row = seats.row(ready.crew.clients.len(), ready.crew.tiles.len());
     let _foreground = thread::scope(
         thread::scope_env(),
         &rt,
@@ -133,7 +139,7 @@ where
             ensures name { result.ghost_name ≡ foreground.entry.ghost_name }
             ensures all { (m : J) × (tasks : _) × J.served foreground.entry.now m × HaveEnded A.leads A.over B.leads B.over C.leads C.over ready.crew tasks × J.keeps m tasks result.now }
         {
-            let tasks = run_crew(scope, rt, gate, flags, ready, foreground);
+            let tasks = run_crew(scope, rt, gate, row, ready, foreground);
             foreground.keep(tasks);
             foreground
         },

@@ -1,13 +1,13 @@
 //! A worker, and how far it is.
-ghost use Rattle.std.specs.Prelude.{◌≡◌, true, false, IsTrue};
+ghost use Rattle.std.specs.Prelude.{◌≡◌, true, false, IsTrue, None};
 ghost use Rattle.worker_crew.specs.Tasks.{IsTask};
 
-use crate::pause::Pause;
-use crate::worker::{Attempt, Worker};
+use crate::seat::{Row, Seat};
+use crate::waking::Waking;
+use crate::worker::{Attempt, Peer, Worker};
 use rc_base::gate::Gate;
 use std::snapshot::Snapshot;
 use std::sync::Wait;
-use std::sync::atomic::{AtomicBool, Ordering};
 use std::thread::Promise;
 
 /// A worker, the number of steps that it has moved, and whether it has ended.
@@ -41,21 +41,23 @@ impl<W: Worker> Promise<Task<W>> for Kept<W> {
     ghost kept_by = { λ p r. (w : W) → IsTask W.leads W.over w p.0.value → IsTask W.leads W.over w r };
 }
 
-/// What a turn came to: whether anything moved in it, and whether all whose turn it was have ended.
+/// What a turn came to: whether anything moved in it, whether all whose turn it was have ended, and for whom it waits.
 #[derive(Clone, Copy, Drop)]
 pub struct Turned {
     pub moved: bool,
     pub ended: bool,
+    pub on: Option<Peer>,
 }
 
 impl Turned {
     /// The turn of nobody.
     pub fn nobody() -> Turned
-        ensures { result ≡ record { moved = false; ended = true } }
+        ensures { result ≡ record { moved = false; ended = true; on = None } }
     {
         Turned {
             moved: false,
             ended: true,
+            on: None,
         }
     }
 
@@ -66,30 +68,36 @@ impl Turned {
         Turned {
             moved: self.moved || other.moved,
             ended: self.ended && other.ended,
+            on: None,
         }
     }
 }
 
 /// Passes the gate and tries one step, unless the task has ended.
-pub fn attempt<W: Worker, G: Gate>(gate: &G, task: &mut Task<W>) -> Turned
+pub fn attempt<W: Worker, G: Gate>(gate: &G, task: &mut Task<W>, waking: &mut Waking<'_>) -> Turned
     ensures kept { (w : W) → IsTask W.leads W.over w task.old → IsTask W.leads W.over w task.new }
     ensures ended { result.ended ≡ task.new.ended }
 {
     let mut moved = false;
+    let mut on = None;
     if !task.ended {
         gate.pass(task.worker.actor(), task.moves);
         match task.worker.step() {
-            Attempt::Moved => {
+            Attempt::Moved(to) => {
                 task.moves = task.moves.saturating_add(1);
                 moved = true;
+                if let Some(peer) = to {
+                    waking.gave(peer);
+                }
             }
-            Attempt::Blocked => (),
+            Attempt::Blocked(from) => on = from,
             Attempt::Ended => task.ended = true,
         }
     }
     Turned {
         moved,
         ended: task.ended,
+        on,
     }
 }
 
@@ -98,6 +106,7 @@ fn work_unless<W: Worker, G: Gate, R: Wait + Copy>(
     held_back: bool,
     rt: R,
     gate: &G,
+    waking: &mut Waking<'_>,
     task: Task<W>,
 ) -> Task<W>
     ensures kept { (w : W) → IsTask W.leads W.over w task → IsTask W.leads W.over w result }
@@ -108,28 +117,34 @@ fn work_unless<W: Worker, G: Gate, R: Wait + Copy>(
     if held_back {
         return task;
     }
-    let mut pause = Pause::new();
     for _ in rt.forever() {
-        let turned = attempt(gate, &mut task);
+        let turned = attempt(gate, &mut task, waking);
         if turned.ended {
             break;
         }
-        pause.after(&rt, turned.moved);
+        waking.after(&rt, turned);
     }
     task
 }
 
-/// Steps a task to its end, unless the flag is set, which is read first. The flag is set at the end, after the last step, so that who finds it set
-/// finds all that was sent.
+/// Steps a task to its end, unless its place says that it is held back, which is read first. The place says at the end, after the last step, that the
+/// worker has ended, so that who finds it so finds all that was sent. Who ends last wakes the caller.
 pub fn work<W: Worker, G: Gate, R: Wait + Copy>(
     rt: R,
     gate: &G,
-    flag: &AtomicBool,
+    row: Row<'_>,
+    seat: &Seat,
+    number: usize,
     task: Task<W>,
 ) -> Task<W>
     ensures { (w : W) → IsTask W.leads W.over w task → IsTask W.leads W.over w result }
 {
-    let task = work_unless(flag.load(Ordering::SeqCst), rt, gate, task);
-    flag.store(true, Ordering::SeqCst);
+    let mut waking = Waking::new(row, number);
+    let task = work_unless(seat.has_ended(), rt, gate, &mut waking, task);
+    waking.settle();
+    seat.end();
+    if row.all_ended() {
+        row.wake_caller();
+    }
     task
 }

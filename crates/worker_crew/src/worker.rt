@@ -4,13 +4,26 @@ ghost use Rattle.worker_crew.specs.declared.worker.Attempt.TheVariants as attemp
 
 use rc_base::gate::Actor;
 
+/// Whom a worker shares a lane with.
+#[derive(Clone, Copy, Debug, PartialEq, Eq)]
+pub enum Peer {
+    /// The client of this number.
+    Client(u8),
+    /// The manager.
+    Manager,
+    /// The tile server of this number.
+    Tile(u8),
+    /// Who runs the crew.
+    Caller,
+}
+
 /// What an attempt of a step came to.
 #[derive(Clone, Copy, Debug, PartialEq, Eq)]
 pub enum Attempt {
-    /// The worker moved.
-    Moved,
-    /// Nothing could be done, since a lane that it waits for was full or empty.
-    Blocked,
+    /// The worker moved. At most one peer was given something by it, an item or room for one.
+    Moved(Option<Peer>),
+    /// Nothing could be done, since a lane that it waits for was full or empty: a lane of this peer, or of any.
+    Blocked(Option<Peer>),
     /// Nothing is left to do.
     Ended,
 }
