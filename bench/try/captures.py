@@ -1,0 +1,275 @@
+#!/usr/bin/env python3
+"""Traces real programs, converts a frame of each, and holds the picture of it against the
+program's own frame. What the programs are is in docs/real-programs.md.
+
+    captures.py [--frame N] [--seconds S] [--keep FOLDER] [--without-shaders] [NAME ..]
+
+Without names these are glxgears of Debian's mesa-utils and the programs of xscreensaver-gl, as far
+as they are installed, beside apitrace and Xvfb, which is started here. The program is built by
+    cd crates/render_cli && rt run -- render < ../../examples/red.rcs > /dev/null
+
+Each line of the table has, of one frame (N, or the last but one where there are fewer):
+drawn       the share of the program's own pixels that aren't black: near 0 a line says little
+vertices    that the program draws, commands and bytes of the scene
+seconds     of a processor for converting, without those of reading the trace
+us          microseconds of those spent on the frame itself, a vertex that the program draws, and a
+            vertex of the scene, where lines are quads and what is seen close is cut finer
+serial      and render --tiles 4x3: milliseconds by the clock, the least of five
+mean, off   the mean difference of a channel, and the share of pixels with one off by over 16
+Behind the table stands what was left out or approximated of each, by name and number. The status
+is 1 where a conversion ended in anything but a scene or a refusal of one line.
+
+Traces that a FOLDER has are taken as they are; traces, scenes and pictures are kept there.
+"""
+import argparse
+import json
+import os
+import pathlib
+import subprocess
+import sys
+import tempfile
+import threading
+import time
+
+BENCH = pathlib.Path(__file__).resolve().parent.parent
+sys.path.insert(0, str(BENCH))
+
+import pictures
+from program import built
+SAVERS = pathlib.Path("/usr/libexec/xscreensaver")
+sys.path.insert(0, str(BENCH.parent / "tools"))
+HEAD = ("program", "frame", "drawn %", "vertices", "commands", "bytes", "seconds", "us a vertex",
+        "us a scene's", "serial ms", "render 4x3 ms", "mean", "off %")
+LONGEST = 600       # seconds that a conversion, or apitrace drawing a frame anew, may take
+# Programs of xscreensaver-gl that show pictures of a disk or a screen, and one that is none.
+WITHOUT_FRAMES = {"glslideshow", "mapscroller", "mapscroller.pl", "xscreensaver-gl-visual",
+                  "gleidescope", "flipscreen3d", "antspotlight"}
+
+
+def programs():
+    """Names of the programs that are installed."""
+    names = ["glxgears"] if pathlib.Path("/usr/bin/glxgears").exists() else []
+    if SAVERS.is_dir():
+        names += sorted(p.name for p in SAVERS.iterdir() if p.name not in WITHOUT_FRAMES)
+    return names
+
+
+class Display:
+    """An X server without a screen, for as long as this block of code runs."""
+
+    def __enter__(self):
+        reading, writing = os.pipe()
+        self.server = subprocess.Popen(
+            ["Xvfb", "-displayfd", str(writing), "-screen", "0", "1024x768x24"],
+            pass_fds=[writing], stdout=subprocess.DEVNULL, stderr=subprocess.DEVNULL)
+        os.close(writing)
+        number = b""
+        while not number.endswith(b"\n"):
+            more = os.read(reading, 16)
+            if not more:
+                sys.exit("captures.py: Xvfb doesn't start")
+            number += more
+        os.close(reading)
+        return dict(os.environ, DISPLAY=f":{int(number)}", LIBGL_ALWAYS_SOFTWARE="1")
+
+    def __exit__(self, *_):
+        self.server.terminate()
+        self.server.wait()
+
+
+def trace(name, path, seconds, environment):
+    """Traces a program for so many seconds. xscreensaver's programs are EGL programs, and
+    apitrace waits for ever where it is told of the other interface."""
+    command = ["apitrace", "trace", "-o", str(path), "glxgears"]
+    if name != "glxgears":
+        command = ["apitrace", "trace", "--api", "egl", "-o", str(path), str(SAVERS / name),
+                   "-geometry", "400x300"]
+    subprocess.run(["timeout", "-k", "1", str(seconds), *command], env=environment,
+                   stdout=subprocess.DEVNULL, stderr=subprocess.DEVNULL)
+
+
+def swaps(path):
+    """The numbers of the calls that end frames."""
+    told = subprocess.run(["apitrace", "dump", "--calls=frame", "--color=never", str(path)],
+                          stdout=subprocess.PIPE, stderr=subprocess.DEVNULL).stdout.decode()
+    return [int(line.split()[0]) for line in told.splitlines() if "SwapBuffers" in line]
+
+
+def own_frame(name, path, calls, environment):
+    """The program's own picture at the first of two calls that end frames, as apitrace draws it
+    anew. The other picture comes behind it and pushes it out of apitrace's buffer; the rest of the
+    trace needn't be drawn."""
+    player = "glretrace" if name == "glxgears" else "eglretrace"
+    wanted = ",".join(map(str, calls))
+    with subprocess.Popen([player, "-s", "-", "-S", wanted, str(path)], env=environment,
+                          stdout=subprocess.PIPE, stderr=subprocess.DEVNULL) as child:
+        patience, data = threading.Timer(LONGEST, child.kill), b""
+        patience.start()
+        while True:
+            more = child.stdout.read1(1 << 20)
+            data += more
+            found = whole_picture(data)
+            if found or not more:
+                patience.cancel()
+                child.kill()
+                return found
+
+
+def whole_picture(data):
+    """The picture that bytes begin with, or None where there is none yet."""
+    try:
+        return pictures.picture_at(data)[0]
+    except ValueError:
+        return None
+
+
+class Timed:
+    """Calls, with the seconds that reading them takes, until the machine is at a frame, and in
+    that frame."""
+
+    def __init__(self, calls, machine):
+        self.calls, self.machine = iter(calls), machine
+        self.reading = self.reading_frame = self.frame_began = 0.0
+
+    def __iter__(self):
+        while True:
+            begun = time.process_time()
+            call = next(self.calls, None)
+            now = time.process_time()
+            self.reading += now - begun
+            if self.machine.wanted:
+                self.frame_began = self.frame_began or begun
+                self.reading_frame += now - begun
+            if call is None:
+                return
+            yield call
+
+
+def convert(path, frame, out):
+    """Converts a frame of a trace as the command does, and prints figures."""
+    from gl_trace import command_line, encoding, faults, machine, reading
+    words = ["--frames", f"{frame}:{frame + 1}", "--cut-textures", path]
+    options, notes = command_line.parser().parse_args(words), faults.Notes()
+    begun = time.process_time()
+    try:
+        followed = machine.Machine(options.frames, options, notes)
+        calls = Timed(reading.calls_of(path), followed)
+        followed.run(calls)
+        data, commands = encoding.scene_bytes(followed.size, [followed.items], True, 1)
+    except faults.Refused as fault:
+        print(json.dumps({"refused": str(fault), "notes": notes.lines()}))
+        return
+    end = time.process_time()
+    pathlib.Path(out).write_bytes(data)
+    drawing = 1e6 * (end - calls.frame_began - calls.reading_frame)
+    cut = sum(getattr(item, "vertices", 0) for item in followed.items)
+    print(json.dumps({"seconds": end - begun - calls.reading, "vertices": followed.vertices,
+                      "each": drawing / max(1, followed.vertices), "commands": commands,
+                      "scene": drawing / max(1, cut), "bytes": len(data), "notes": notes.lines()}))
+
+
+def clocked(command, scene, times=5):
+    """The least of so many runs by the clock, in milliseconds, and what the last one wrote."""
+    least, data = float("inf"), scene.read_bytes()
+    for _ in range(times):
+        begun = time.perf_counter()
+        done = subprocess.run(command, input=data, stdout=subprocess.PIPE,
+                              stderr=subprocess.DEVNULL)
+        least = min(least, 1000 * (time.perf_counter() - begun))
+        if done.returncode:
+            raise SystemExit(f"captures.py: {' '.join(command)} ends with {done.returncode}")
+    return least, done.stdout
+
+
+class Row:
+    """What one program comes to."""
+
+    def __init__(self, name, frame):
+        self.name, self.frame, self.figures, self.failed = name, frame, {}, None
+
+    def cells(self):
+        if self.failed:
+            return [self.name, self.frame, self.failed]
+        f = self.figures
+        return [self.name, self.frame, f"{f['drawn']:.0f}", f["vertices"], f["commands"],
+                f["bytes"], f"{f['seconds']:.2f}", f"{f['each']:.1f}", f"{f['scene']:.1f}",
+                f"{f['serial']:.1f}", f"{f['render']:.1f}", f"{f['mean']:.2f}", f"{f['off']:.2f}"]
+
+
+def judged(name, options, folder, environment):
+    """Traces, converts, draws and compares a program's frame."""
+    path, scene = folder / f"{name}.trace", folder / f"{name}.rcs"
+    if not path.exists():
+        trace(name, path, options.seconds, environment)
+    ends = swaps(path)
+    if len(ends) < 3:
+        return failed(name, "-", f"{len(ends)} frames in {options.seconds} seconds")
+    # apitrace sizes its window late, so its first frame may be nearly black.
+    frame = max(1, min(options.frame, len(ends) - 2))
+    row = Row(name, frame)
+    try:
+        child = subprocess.run(
+            [sys.executable, __file__, "--convert", str(path), str(frame), str(scene)],
+            stdout=subprocess.PIPE, stderr=subprocess.PIPE, timeout=LONGEST)
+    except subprocess.TimeoutExpired:
+        return failed(name, frame, f"FAILED: no end in {LONGEST} seconds")
+    if child.returncode:
+        return failed(name, frame, "FAILED: " + child.stderr.decode().splitlines()[-1])
+    row.figures = json.loads(child.stdout)
+    if "refused" in row.figures:
+        return failed(name, frame, row.figures["refused"].replace(str(folder) + "/", ""))
+    row.figures["serial"], data = clocked([options.program, "serial"], scene)
+    row.figures["render"], _ = clocked([options.program, "render", "--tiles", "4x3"], scene)
+    ours = pictures.picture_at(data)[0]
+    theirs = own_frame(name, path, ends[frame:frame + 2], environment)
+    if theirs is None or theirs[:2] != ours[:2]:
+        return failed(name, frame, "apitrace draws no frame of that size")
+    row.figures.update(pictures.difference(ours, theirs)._asdict())
+    for whose, picture in (("ours", ours), ("own", theirs)):
+        head = f"P6\n{picture.width} {picture.height}\n255\n".encode()
+        (folder / f"{name}-{whose}.ppm").write_bytes(head + picture.rgb)
+    return row
+
+
+def failed(name, frame, why):
+    row = Row(name, frame)
+    row.failed = why
+    return row
+
+
+def words():
+    parser = argparse.ArgumentParser(description=__doc__.splitlines()[0])
+    parser.add_argument("names", nargs="*", metavar="NAME")
+    parser.add_argument("--frame", type=int, default=60, metavar="N")
+    parser.add_argument("--seconds", type=int, default=8, metavar="S")
+    parser.add_argument("--keep", metavar="FOLDER")
+    parser.add_argument("--without-shaders", action="store_true",
+                        help="trace with OpenGL 1.5, under which some programs use no shaders")
+    parser.add_argument("--program", help="a program other than the built one")
+    return parser.parse_args()
+
+
+def main():
+    if sys.argv[1:2] == ["--convert"]:
+        convert(sys.argv[2], int(sys.argv[3]), sys.argv[4])
+        return 0
+    options = words()
+    options.program = built(options.program)
+    names, notes, bad = options.names or programs(), [], 0
+    with tempfile.TemporaryDirectory() as made, Display() as environment:
+        folder = pathlib.Path(options.keep or made)
+        folder.mkdir(exist_ok=True)
+        if options.without_shaders:
+            environment["MESA_GL_VERSION_OVERRIDE"] = "1.5"
+        print("| " + " | ".join(HEAD) + " |\n" + "|---" * len(HEAD) + "|", flush=True)
+        for name in names:
+            row = judged(name, options, folder, environment)
+            print("| " + " | ".join(map(str, row.cells())) + " |", flush=True)
+            notes += [f"{name}: {line}" for line in row.figures.get("notes", [])]
+            bad += bool(row.failed) and row.failed.startswith("FAILED")
+    print("\n" + "\n".join(notes))
+    return 1 if bad else 0
+
+
+if __name__ == "__main__":
+    sys.exit(main())

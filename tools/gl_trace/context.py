@@ -1,0 +1,80 @@
+"""The state of an OpenGL context: values by name, so that groups of them can be pushed."""
+import collections
+
+from .matrices import IDENTITY
+
+Material = collections.namedtuple("Material", "ambient diffuse specular emission shininess")
+Light = collections.namedtuple("Light", "ambient diffuse specular position direction exponent "
+                                        "cutoff constant linear quadratic")
+Fog = collections.namedtuple("Fog", "mode density start end color")
+LightModel = collections.namedtuple("LightModel", "ambient local two_sided")
+Generation = collections.namedtuple("Generation", "mode object_plane eye_plane")
+
+BLACK, WHITE = (0.0, 0.0, 0.0, 1.0), (1.0, 1.0, 1.0, 1.0)
+PLAIN = Material((0.2, 0.2, 0.2, 1.0), (0.8, 0.8, 0.8, 1.0), BLACK, BLACK, 0.0)
+LIGHTS, PLANES = range(8), range(6)
+
+CAPABILITIES = [
+    *(f"GL_LIGHT{i}" for i in LIGHTS), *(f"GL_CLIP_PLANE{i}" for i in PLANES),
+    *("GL_TEXTURE_GEN_" + c for c in "STRQ"),
+    *("GL_" + name for name in (
+        "LIGHTING FOG TEXTURE_1D TEXTURE_2D DEPTH_TEST BLEND ALPHA_TEST SCISSOR_TEST CULL_FACE "
+        "COLOR_MATERIAL NORMALIZE RESCALE_NORMAL POLYGON_OFFSET_FILL LINE_SMOOTH POINT_SMOOTH "
+        "DITHER MULTISAMPLE POLYGON_SMOOTH LINE_STIPPLE STENCIL_TEST POLYGON_STIPPLE "
+        "COLOR_LOGIC_OP AUTO_NORMAL").split())]
+# Those that a scene hasn't, and those that it draws without what they ask for.
+WITHOUT = {"GL_LINE_STIPPLE", "GL_STENCIL_TEST", "GL_POLYGON_STIPPLE", "GL_COLOR_LOGIC_OP"}
+NEARLY = {"GL_LINE_SMOOTH", "GL_POINT_SMOOTH", "GL_POLYGON_SMOOTH"}
+
+# What each bit of glPushAttrib keeps.
+GROUPS = {
+    "GL_CURRENT_BIT": "color normal coordinate",
+    "GL_ENABLE_BIT": " ".join(CAPABILITIES),
+    "GL_FOG_BIT": "GL_FOG fog",
+    "GL_LIGHTING_BIT": "GL_LIGHTING GL_COLOR_MATERIAL shade color_material front back model "
+                       + " ".join(f"GL_LIGHT{i} light{i}" for i in LIGHTS),
+    "GL_COLOR_BUFFER_BIT": "GL_ALPHA_TEST GL_BLEND GL_COLOR_LOGIC_OP alpha_func blend_func "
+                           "color_mask clear_color",
+    "GL_DEPTH_BUFFER_BIT": "GL_DEPTH_TEST depth_func depth_mask clear_depth",
+    "GL_STENCIL_BUFFER_BIT": "GL_STENCIL_TEST",
+    "GL_VIEWPORT_BIT": "viewport depth_range",
+    "GL_TRANSFORM_BIT": "matrix_mode GL_NORMALIZE GL_RESCALE_NORMAL "
+                        + " ".join(f"GL_CLIP_PLANE{i}" for i in PLANES),
+    "GL_TEXTURE_BIT": "GL_TEXTURE_1D GL_TEXTURE_2D texture1 texture2 environment generation "
+                      + " ".join("GL_TEXTURE_GEN_" + c for c in "STRQ"),
+    "GL_SCISSOR_BIT": "GL_SCISSOR_TEST scissor",
+    "GL_POLYGON_BIT": "GL_CULL_FACE cull_face front_face polygon_mode GL_POLYGON_OFFSET_FILL "
+                      "GL_POLYGON_SMOOTH GL_POLYGON_STIPPLE offset",
+    "GL_LINE_BIT": "line_width GL_LINE_SMOOTH GL_LINE_STIPPLE",
+    "GL_POINT_BIT": "point_size GL_POINT_SMOOTH", "GL_LIST_BIT": "list_base",
+    "GL_POLYGON_STIPPLE_BIT": "GL_POLYGON_STIPPLE",
+}
+
+
+def first_values():
+    values = dict.fromkeys(CAPABILITIES, False)
+    values.update(
+        color=WHITE, normal=(0.0, 0.0, 1.0), coordinate=BLACK, matrix_mode="GL_MODELVIEW",
+        viewport=None, depth_range=(0.0, 1.0), scissor=None, shade="GL_SMOOTH",
+        color_material=("GL_FRONT_AND_BACK", "GL_AMBIENT_AND_DIFFUSE"), front=PLAIN, back=PLAIN,
+        model=LightModel((0.2, 0.2, 0.2, 1.0), False, False), alpha_func=("GL_ALWAYS", 0.0),
+        blend_func=("GL_ONE", "GL_ZERO"), color_mask=(1, 1, 1, 1), clear_color=(0.0,) * 4,
+        depth_func="GL_LESS", depth_mask=1, clear_depth=1.0, texture1=0, texture2=0,
+        environment="GL_MODULATE", generation={}, cull_face="GL_BACK", front_face="GL_CCW",
+        polygon_mode="GL_FILL", offset=(0.0, 0.0), line_width=1.0, point_size=1.0, list_base=0,
+        unit=0, fog=Fog("GL_EXP", 1.0, 0.0, 1.0, (0.0,) * 4))
+    for i in LIGHTS:
+        shine = WHITE if i == 0 else BLACK
+        values[f"light{i}"] = Light(BLACK, shine, shine, (0.0, 0.0, 1.0, 0.0), (0.0, 0.0, -1.0),
+                                    0.0, 180.0, 1.0, 0.0, 0.0)
+    return values
+
+
+class Context:
+    """Values by name, matrix stacks, what was pushed, clip planes, arrays, and pixel stores."""
+
+    def __init__(self):
+        self.values = first_values()
+        self.stacks = {name: [IDENTITY] for name in ("GL_MODELVIEW", "GL_PROJECTION", "GL_TEXTURE")}
+        self.pushed, self.pushed_client = [], []
+        self.planes, self.arrays, self.store = {}, {}, {}

@@ -1,0 +1,188 @@
+"""Follows the calls of one trace, and keeps the items of the frames that are asked for."""
+import re
+import struct
+
+from .context import Context
+from .faults import Refused
+from .items import SWAP, Clear
+from .limits import MOST_COMMANDS, MOST_STEPS
+from .list_calls import ListCalls
+from .matrix_calls import MatrixCalls
+from .setting import Setting
+from .state_calls import StateCalls
+from .texture_calls import TextureCalls
+from .vertex_calls import VertexCalls
+
+SUFFIX = re.compile(r"(.*?)([1234]?)(ub|us|ui|b|s|i|f|d)(v?)$")
+SCALES = {"ub": 1 / 255, "us": 1 / 65535, "ui": 1 / 4294967295, "b": 1 / 127, "s": 1 / 32767,
+          "i": 1 / 2147483647}
+# Calls that draw nothing and set nothing that is drawn with.
+QUIET = re.compile(
+    r"gl(X|Get|Is|Flush|Finish|Hint|Gen|CheckFramebuffer|Delete(Buffers|Framebuffers)|ReadBuffer|"
+    r"DrawBuffer$|ReadPixels|AreTextures|Prioritize|StringMarker|EdgeFlag)|egl|X")
+# What lists don't record. (A draw from arrays is recorded as the vertices that it gives.)
+IMMEDIATE = re.compile(r"(NewList|EndList|Draw.*|PixelStore|.*Pointer|.*Client.*|DeleteLists|"
+                       r"DeleteTextures|BindBuffer|Buffer(Sub)?Data)$")
+# What takes its numbers in a list though its name doesn't end in v.
+SPREAD = {"Rect", "LoadMatrix", "MultMatrix", "LoadTransposeMatrix", "MultTransposeMatrix"}
+# What sets nothing that a setting is made of.
+OF_VERTICES = set("""Begin End Vertex Normal Color TexCoord MultiTexCoord Rect CallList CallLists
+    NewList EndList DrawArrays DrawElements DrawRangeElements VertexPointer NormalPointer
+    ColorPointer TexCoordPointer EnableClientState DisableClientState BindBuffer BufferData
+    BufferSubData Clear PushMatrix MatrixMode""".split())
+FAULTS = (TypeError, ValueError, KeyError, IndexError, AttributeError, OverflowError,
+          ZeroDivisionError, RecursionError, struct.error)
+
+
+class Handler:
+    """What a call is followed by: its base name, a method, whether its numbers stand in one list
+    or singly, what they are multiplied with, and whether it changes settings."""
+
+    __slots__ = ("base", "method", "spread", "scale", "immediate", "changes")
+
+    def __init__(self, base, method, spread, scale):
+        self.base, self.method, self.spread, self.scale = base, method, spread, scale
+        self.immediate = IMMEDIATE.match(base) is not None
+        self.changes = base not in OF_VERTICES
+
+
+class Machine(StateCalls, MatrixCalls, TextureCalls, ListCalls, VertexCalls):
+    """The contexts of a program, and the items that its frames give."""
+
+    def __init__(self, frames, options, notes):
+        self.first, self.last, self.options, self.notes = *frames, options, notes
+        self.frame, self.items, self.size = 0, [], options.size
+        self.wanted = self.first == 0
+        self.vertices = self.commands = self.steps = 0
+        self.contexts, self.handlers, self.windows, self.setting = {}, {}, set(), None
+        self.lamps = {}
+        self.begin_lists()
+        self.begin_textures()
+        self.begin_vertices()
+        self.use(None)
+
+    def use(self, name):
+        self.context = self.contexts.setdefault(name, Context())
+        self.values = self.context.values
+        self.setting = None
+
+    # -- calls --
+
+    def run(self, calls):
+        """Follows calls to the end of the last frame that is wanted."""
+        handlers = self.handlers
+        for number, name, arguments in calls:
+            handler = handlers.get(name)
+            try:
+                if handler is None:
+                    handler = handlers[name] = self.handler(name)
+                self.carry_out(handler, arguments)
+            except FAULTS as fault:
+                kind = " ".join(str(fault).split()) or type(fault).__name__
+                raise Refused(f"call {number}, {name}: arguments that it can't have "
+                              f"({kind:.80})") from None
+            if self.frame >= self.last:
+                break
+        else:
+            raise Refused(f"the trace has {self.frame} whole frames, and --frames asks for "
+                          f"{self.first}:{self.last}")
+        self.note_beginning()
+
+    def note_beginning(self):
+        first = self.items[0] if self.items else None
+        if not (isinstance(first, Clear) and first.mask & 1 and first.scissor is None):
+            self.notes.approximated(f"frame {self.first}, which begins without a clear of the "
+                                    "whole window")
+        for _ in self.windows if len(self.windows) > 1 else ():
+            self.notes.approximated("a window of several, which are drawn as one")
+
+    def carry_out(self, handler, arguments):
+        if handler.method is None:
+            if handler.base is not None:
+                self.notes.left_out(handler.base)
+            return
+        if handler.spread:
+            arguments = spread_out(arguments)
+        if handler.scale is not None:
+            arguments = [x * handler.scale for x in arguments]
+        if self.recording is not None and not handler.immediate:
+            self.record(handler, arguments)
+            if self.recording.mode == "GL_COMPILE":
+                return
+        if handler.changes:
+            self.setting = None
+        handler.method(*arguments)
+
+    def handler(self, name):
+        """What follows a call of this name; a quiet call has no method and no base."""
+        if name.endswith("MakeCurrent") or name == "glXMakeContextCurrent":
+            return Handler("Client MakeCurrent", self.make_current, False, None)
+        if name.endswith("SwapBuffers"):
+            return Handler("Client SwapBuffers", self.swap, False, None)
+        base = re.sub("(ARB|EXT)$", "", name[2:]) if name.startswith("gl") else ""
+        method = getattr(self, "do_" + base, None)
+        if method:
+            return Handler(base, method, False, None)
+        match = SUFFIX.match(base)
+        method = match and getattr(self, "do_" + match[1], None)
+        if method:
+            scale = SCALES.get(match[3]) if match[1] in ("Color", "Normal") else None
+            return Handler(match[1], method, match[4] == "v" or match[1] in SPREAD, scale)
+        handler = Handler("", None, False, None)
+        handler.base = None if QUIET.match(name) else name
+        return handler
+
+    def make_current(self, *arguments):
+        self.use(arguments[-1])
+        if arguments[-1] and len(arguments) > 2:
+            self.windows.add(arguments[1])
+
+    def swap(self, *_):
+        if self.wanted:
+            self.items.append(SWAP)
+        self.frame += 1
+        self.steps = 0
+        self.lamps.clear()
+        self.wanted = self.first <= self.frame < self.last
+
+    def step(self, count):
+        """Counts calls that lists give."""
+        self.steps += count
+        if self.steps > MOST_STEPS:
+            raise Refused(f"display lists mean more than {MOST_STEPS} calls in frame {self.frame}")
+
+    # -- drawing --
+
+    def now(self):
+        """The setting of this moment, or None where nothing can be drawn."""
+        viewport = self.values["viewport"]
+        if viewport is None or 0 in viewport[2:]:
+            return None
+        if self.setting is None:
+            self.setting = Setting(self)
+        return self.setting
+
+    def add(self, block):
+        """Keeps a block, unless the scene would have too many commands."""
+        if block is None:
+            return
+        self.items.append(block)
+        self.commands += len(block.opcodes)
+        if self.commands > MOST_COMMANDS:
+            frames = self.frame - self.first + 1
+            raise Refused(f"more than {MOST_COMMANDS} commands in {frames} frame"
+                          f"{'s' * (frames > 1)}, and a scene has at most so many: choose fewer "
+                          "frames, or a smaller program")
+
+    def scissor(self):
+        """The scissor box, or None where the test is off."""
+        if not self.values["GL_SCISSOR_TEST"]:
+            return None
+        return self.values["scissor"] or (0, 0, *(self.size or (0, 0)))
+
+
+def spread_out(arguments):
+    """Numbers that stand in lists one behind the other."""
+    if len(arguments) == 1 and arguments[0].__class__ is list:
+        return arguments[0]
+    return [y for x in arguments for y in (x if x.__class__ in (list, tuple) else (x,))]

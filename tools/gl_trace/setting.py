@@ -1,0 +1,114 @@
+"""What drawing needs of a context's state, made once for all primitives between two changes."""
+from .fog import FogLaw
+from .items import FACES, FACTORS, FUNCTIONS, State, channels
+from .lighting import Lighting
+from .matrices import IDENTITY, multiply, normal_rows
+
+TINY = 1e-7     # the least w
+GUARD = 16.0    # what reaches further out than so many viewports is clipped
+# What is kept: in front of the eye, between near and far, and in the guard band to all sides.
+PLANES = [lambda v: v[3] - TINY, lambda v: v[2] + v[3], lambda v: v[3] - v[2],
+          lambda v: GUARD * v[3] + v[0], lambda v: GUARD * v[3] - v[0],
+          lambda v: GUARD * v[3] + v[1], lambda v: GUARD * v[3] - v[1]]
+FIRST_DISTANCE = 10     # of a corner: where its distances to clip planes begin
+
+
+class Setting:
+    """Matrices, lights, fog and texture of a state, and the states of blocks that come of it."""
+
+    def __init__(self, machine):
+        context, values = machine.context, machine.values
+        self.machine, self.values, self.stacks = machine, values, context.stacks
+        self.modelview = self.stacks["GL_MODELVIEW"][-1]
+        self.whole = multiply(self.stacks["GL_PROJECTION"][-1], self.modelview)
+        self.viewport = values["viewport"]
+        self.flat = values["shade"] == "GL_FLAT"
+        self.front, self.back = values["front"], values["back"]
+        self.lighting = Lighting(values, self.modelview, machine.lamps) \
+            if values["GL_LIGHTING"] else None
+        self.two_sided = values["GL_LIGHTING"] and values["model"].two_sided
+        self.fog = FogLaw(values["fog"]) if values["GL_FOG"] else None
+        self.planes = [plane for name, plane in sorted(context.planes.items()) if values.get(name)]
+        self.clips = PLANES
+        if self.planes:
+            self.clips = PLANES + [lambda v, i=FIRST_DISTANCE + i: v[i]
+                                   for i in range(len(self.planes))]
+        self.offset = values["offset"] if values["GL_POLYGON_OFFSET_FILL"] else None
+        self.states, self.scissor = {}, machine.scissor()
+        self.use_texture()
+        lit_by_place = self.lighting and not self.lighting.far
+        self.needs_eyes = bool(self.fog or lit_by_place or self.planes or self.generated)
+
+    def use_texture(self):
+        """The texture that is sampled, how coordinates are made, and what texels do to colours."""
+        values, machine = self.values, self.machine
+        names = [name for name in ("GL_TEXTURE_2D", "GL_TEXTURE_1D") if values[name]]
+        texture = machine.texture(names[0]) if names else None
+        self.texture = texture if texture and texture.get("image") else None
+        self.generated, self.texture_matrix, self.normals = [], None, None
+        self.replaces, self.keeps = 0, None
+        if not self.texture:
+            return
+        for i, letter in enumerate("STQ"):
+            if values["GL_TEXTURE_GEN_" + letter]:
+                self.generated.append((i if i < 2 else 3, values["generation"].get("GL_" + letter)))
+        if any(made and made.mode == "GL_SPHERE_MAP" for _, made in self.generated):
+            self.normals = normal_rows(self.modelview)
+        matrix = self.stacks["GL_TEXTURE"][-1]
+        self.texture_matrix = None if matrix == IDENTITY else matrix
+        self.use_environment(self.texture["image"], values["environment"])
+
+    def use_environment(self, image, mode):
+        """MODULATE as it is; REPLACE where the texture has all channels, else MODULATE with white
+        in the channels that it has, so that the others stay those of the fragment."""
+        if mode in ("GL_REPLACE", "GL_DECAL"):
+            if image.has_alpha:
+                self.replaces = 1
+                if mode == "GL_DECAL":
+                    self.machine.notes.approximated("GL_DECAL of a texture with alpha")
+            else:
+                self.keeps = "color" if image.base == "ALPHA" else "alpha"
+        elif mode != "GL_MODULATE":
+            self.machine.notes.approximated(f"glTexEnv({mode})")
+
+    def mipmapped(self):
+        return "MIPMAP" in str(self.texture.get("GL_TEXTURE_MIN_FILTER",
+                                                "GL_NEAREST_MIPMAP_LINEAR"))
+
+    def clamps(self):
+        """Whether coordinates are held to the texture, in s and in t."""
+        return tuple("CLAMP" in str(self.texture.get("GL_TEXTURE_WRAP_" + c, "GL_REPEAT"))
+                     for c in "ST")
+
+    def culls(self, is_front):
+        """Whether a polygon of this facing is left out."""
+        face = self.values["cull_face"]
+        return self.values["GL_CULL_FACE"] and (
+            face == "GL_FRONT_AND_BACK" or is_front == (face == "GL_FRONT"))
+
+    def state(self, level=None, parted=False, cull=True, turned=False):
+        """The state of a block: with culling or without, turned where its winding is, and with
+        this image as its texture."""
+        key = level, parted, cull, turned
+        if key not in self.states:
+            self.states[key] = self.made_state(level, parted, cull, turned)
+        return self.states[key]
+
+    def made_state(self, level, parted, cull, turned):
+        values, alpha, depth, blend, culled, texture = self.values, None, None, None, None, None
+        if values["GL_ALPHA_TEST"]:
+            function, reference = values["alpha_func"]
+            alpha = FUNCTIONS[function], channels((reference,))[0]
+        if values["GL_DEPTH_TEST"]:
+            depth = FUNCTIONS[values["depth_func"]], values["depth_mask"]
+        if values["GL_BLEND"]:
+            blend = tuple(FACTORS.get(factor, 1) for factor in values["blend_func"])
+        if values["GL_CULL_FACE"] and cull:
+            clockwise = values["front_face"] == "GL_CW"
+            culled = FACES[values["cull_face"]], int(clockwise != turned)
+        if level:
+            wraps = (1, 1) if parted else tuple(map(int, self.clamps()))
+            texture = level, self.replaces, wraps
+        depths = tuple(round(65536 * max(0.0, min(1.0, x))) for x in values["depth_range"])
+        return State(self.viewport, depths, self.scissor, alpha, depth, blend,
+                     values["color_mask"], culled, texture)

@@ -1,0 +1,214 @@
+"""State, display lists, arrays and textures, as a trace has them."""
+import unittest
+
+from .hand_traces import (BLUE, CLEAR, GREEN, PLANE, RED, SIX, SWAP, WHITE, WINDOW, blob, colors,
+                          converted, image, pickled, places, primitive, scene, textured,
+                          vertices)
+
+
+
+class Values(unittest.TestCase):
+    TRIANGLE = primitive("GL_TRIANGLES", (0, 0), (9, 0), (0, 9))
+
+    def test_0_and_1_have_whatever_name_comes_first(self):
+        calls = [("glEnable", "GL_BLEND"), ("glDepthMask", "GL_FALSE"),
+                 ("glEnable", "GL_DEPTH_TEST")]
+        for names in (("GL_NONE", "GL_LINES"), ("GL_FALSE", "GL_TRUE"), ("GL_POINTS", "GL_ONE")):
+            block, = scene(*calls, ("glBlendFunc", *names), *self.TRIANGLE).blocks
+            self.assertEqual(block.state["BlendFunc"], (0, 1), names)
+            self.assertEqual(block.state["DepthMask"], (0,))
+
+    def test_attributes_are_pushed_and_popped_by_groups(self):
+        calls = [("glColor3ub", 255, 0, 0), ("glEnable", "GL_BLEND"),
+                 ("glPushAttrib", ["GL_CURRENT_BIT"]), ("glColor3ub", 0, 255, 0),
+                 ("glDisable", "GL_BLEND"), ("glPopAttrib",)]
+        block, = scene(*calls, *self.TRIANGLE).blocks
+        self.assertEqual((colors(block)[0], block.state["on"]), (RED, frozenset()))
+        block, = scene(*[("glPushAttrib", "GL_ALL_ATTRIB_BITS") if call[0] == "glPushAttrib"
+                         else call for call in calls], *self.TRIANGLE).blocks
+        self.assertEqual((colors(block)[0], block.state["on"]), (RED, frozenset([3])))
+
+    def test_tests_and_masks_are_those_of_the_state(self):
+        calls = [("glEnable", "GL_ALPHA_TEST"), ("glAlphaFunc", "GL_GREATER", 0.5),
+                 ("glEnable", "GL_DEPTH_TEST"), ("glDepthFunc", "GL_LEQUAL"),
+                 ("glColorMask", "GL_TRUE", "GL_FALSE", 1, 0), ("glDepthRange", 0.25, 0.5),
+                 ("glEnable", "GL_SCISSOR_TEST"), ("glScissor", 1, 2, 3, 4)]
+        state = scene(*calls, *self.TRIANGLE).blocks[0].state
+        self.assertEqual([state[name] for name in ("AlphaFunc", "DepthFunc", "ColorMask",
+                                                   "DepthRange", "Scissor")],
+                         [(4, 128), (3,), (1, 0, 1, 0), (16384, 32768), (1, 2, 3, 4)])
+
+    def test_contexts_keep_their_own_values(self):
+        calls = [("glXMakeCurrent", 1, 2, 7), ("glColor3ub", 255, 0, 0), WINDOW,
+                 ("glXMakeCurrent", 1, 2, 8), WINDOW, PLANE, *self.TRIANGLE]
+        block = scene(*calls).blocks[-1]
+        self.assertEqual(colors(block)[0], WHITE)
+
+
+class Lists(unittest.TestCase):
+    ARRAY = [("glVertexPointer", 2, "GL_FLOAT", 0, blob("6f", 8, 8, 24, 8, 8, 24)),
+             ("glEnableClientState", "GL_VERTEX_ARRAY")]
+
+    def test_arrays_are_recorded_as_the_vertices_that_they_have(self):
+        calls = [("glNewList", 1, "GL_COMPILE"), *self.ARRAY,
+                 ("glDrawArrays", "GL_TRIANGLES", 0, 3), ("glEndList",),
+                 ("glVertexPointer", 2, "GL_FLOAT", 0, blob("6f", *[0] * 6)),
+                 ("glColor3ub", 255, 0, 0), ("glCallList", 1)]
+        block, = scene(*calls).blocks
+        self.assertEqual(places(block), [(8, 8), (24, 8), (8, 24)])
+        self.assertEqual(colors(block), [RED] * 3)
+
+    def test_elements_and_buffers(self):
+        data = blob("2f3B2f3B2f3B", 8, 8, 255, 0, 0, 24, 8, 0, 255, 0, 8, 24, 0, 0, 255)
+        calls = [("glBindBuffer", "GL_ARRAY_BUFFER", 1),
+                 ("glBufferData", "GL_ARRAY_BUFFER", 33, data, "GL_STATIC_DRAW"),
+                 ("glVertexPointer", 2, "GL_FLOAT", 11, 0),
+                 ("glColorPointer", 3, "GL_UNSIGNED_BYTE", 11, 8),
+                 ("glEnableClientState", "GL_VERTEX_ARRAY"),
+                 ("glEnableClientState", "GL_COLOR_ARRAY"),
+                 ("glDrawElements", "GL_TRIANGLES", 3, "GL_UNSIGNED_SHORT", blob("3H", 2, 1, 0))]
+        block, = scene(*calls).blocks
+        self.assertEqual(places(block), [(8, 24), (24, 8), (8, 8)])
+        self.assertEqual(colors(block), [BLUE, GREEN, RED])
+
+    def test_a_list_calls_lists_and_ends_64_deep_where_it_calls_itself(self):
+        calls = [("glNewList", 1, "GL_COMPILE"), *primitive("GL_TRIANGLES", (0, 0), (9, 0), (0, 9)),
+                 ("glCallList", 1), ("glEndList",), ("glNewList", 2, "GL_COMPILE"),
+                 ("glCallList", 1), ("glEndList",), ("glCallList", 2)]
+        self.assertEqual(len(scene(*calls).blocks), 63)
+
+    def test_compile_and_execute_does_both(self):
+        calls = [("glNewList", 1, "GL_COMPILE_AND_EXECUTE"), ("glColor3ub", 0, 255, 0),
+                 *primitive("GL_TRIANGLES", (0, 0), (9, 0), (0, 9)), ("glEndList",),
+                 ("glColor3ub", 255, 0, 0), ("glCallList", 1)]
+        self.assertEqual([colors(block)[0] for block in scene(*calls).blocks], [GREEN, GREEN])
+
+    def test_call_lists_adds_the_base(self):
+        calls = [("glNewList", 12, "GL_COMPILE"),
+                 *primitive("GL_TRIANGLES", (0, 0), (9, 0), (0, 9)), ("glEndList",),
+                 ("glListBase", 10), ("glCallLists", 2, "GL_UNSIGNED_BYTE", blob("2B", 2, 2))]
+        self.assertEqual(len(scene(*calls).blocks), 2)
+
+    def test_vertices_of_a_list_have_what_is_current_where_it_is_called(self):
+        calls = [("glNewList", 1, "GL_COMPILE"), ("glBegin", "GL_TRIANGLES"), *vertices((0, 0)),
+                 ("glColor3ub", 0, 0, 255), *vertices((9, 0), (0, 9)), ("glEnd",), ("glEndList",),
+                 ("glColor3ub", 255, 0, 0), ("glCallList", 1), ("glCallList", 1)]
+        self.assertEqual([colors(block) for block in scene(*calls).blocks],
+                         [[RED, BLUE, BLUE], [BLUE] * 3])
+
+    def test_frames_before_the_first_one_count_for_their_state_alone(self):
+        calls = [WINDOW, PLANE, ("glNewList", 1, "GL_COMPILE"),
+                 *primitive("GL_TRIANGLES", (0, 0), (9, 0), (0, 9), colors=SIX[:3]),
+                 ("glEndList",), ("glCallList", 1), *self.ARRAY,
+                 ("glDrawArrays", "GL_TRIANGLES", 0, 3), SWAP,
+                 CLEAR, *primitive("GL_TRIANGLES", (0, 0), (9, 0), (0, 9)), SWAP]
+        made = converted(pickled(*calls), "--frames", "1:2").scene
+        self.assertEqual([colors(block)[0] for block in made.blocks], [BLUE])
+        self.assertEqual(len(made.named("Swap")), 1)
+
+
+class Textures(unittest.TestCase):
+    FACE = textured((0, 0, 0, 0), (64, 0, 1, 0), (64, 64, 1, 1), (0, 64, 0, 1))
+    TEXEL = {("GL_RGBA", "GL_RGBA"): (bytes([1, 2, 3, 4]), (1, 2, 3, 4)),
+             ("GL_BGRA", "GL_RGBA"): (bytes([1, 2, 3, 4]), (3, 2, 1, 4)),
+             ("GL_RGB", "GL_RGB"): (bytes([1, 2, 3]), (1, 2, 3, 255)),
+             ("GL_RGBA", "GL_RGB"): (bytes([1, 2, 3, 4]), (1, 2, 3, 255)),
+             ("GL_ALPHA", "GL_ALPHA"): (bytes([9]), (255, 255, 255, 9)),
+             ("GL_LUMINANCE", "GL_LUMINANCE8"): (bytes([9]), (9, 9, 9, 255)),
+             ("GL_LUMINANCE_ALPHA", 2): (bytes([9, 7]), (9, 9, 9, 7)),
+             ("GL_LUMINANCE", "GL_INTENSITY"): (bytes([9]), (9, 9, 9, 9))}
+
+    def test_formats_become_what_modulate_takes(self):
+        for (form, internal), (given, texel) in self.TEXEL.items():
+            texels = b"".join(given.ljust(4, b"\0") for _ in range(1))
+            block, = scene(*image(1, 1, texels, form, internal), *self.FACE).blocks
+            self.assertEqual(block.texels, (1, 1, bytes(texel)), (form, internal))
+
+    def test_rows_are_padded_by_the_alignment(self):
+        data = bytes([1, 2, 3, 0, 4, 5, 6, 0])
+        block, = scene(*image(1, 2, data, "GL_RGB", "GL_RGB"), *self.FACE).blocks
+        self.assertEqual(block.texels[2], bytes([1, 2, 3, 255, 4, 5, 6, 255]))
+        calls = [("glPixelStorei", "GL_UNPACK_ALIGNMENT", 1),
+                 *image(1, 2, bytes([1, 2, 3, 4, 5, 6]), "GL_RGB", "GL_RGB")]
+        block, = scene(*calls, *self.FACE).blocks
+        self.assertEqual(block.texels[2], bytes([1, 2, 3, 255, 4, 5, 6, 255]))
+
+    def test_replace_without_alpha_is_modulate_with_white_and_the_own_alpha(self):
+        calls = [("glColor4ub", 10, 20, 30, 40),
+                 ("glTexEnvi", "GL_TEXTURE_ENV", "GL_TEXTURE_ENV_MODE", "GL_REPLACE")]
+        block, = scene(*image(1, 1, b"\1\2\3\0", "GL_RGB", "GL_RGB"), *calls, *self.FACE).blocks
+        self.assertEqual((block.state.get("TexEnv", (0,)), block.vertices[0].color),
+                         ((0,), (255, 255, 255, 40)))
+        block, = scene(*image(1, 1, b"\1\2\3\4"), *calls, *self.FACE).blocks
+        self.assertEqual(block.state["TexEnv"], (1,))
+        decal = [calls[0], ("glTexEnvi", "GL_TEXTURE_ENV", "GL_TEXTURE_ENV_MODE", "GL_DECAL")]
+        block, = scene(*image(1, 1, b"\1\2\3\0", "GL_RGB", "GL_RGB"), *decal, *self.FACE).blocks
+        self.assertEqual(block.vertices[0].color, (255, 255, 255, 40))
+
+    def test_a_texture_above_256_is_boxed_down(self):
+        texels = bytes([0, 0, 0, 255, 200, 100, 50, 255]) * 256
+        block, = scene(*image(512, 1, texels), *self.FACE).blocks
+        self.assertEqual(block.texels, (256, 1, bytes([100, 50, 25, 255]) * 256))
+
+    def test_or_cut_in_parts_and_the_polygon_with_it(self):
+        texels = bytes([255, 0, 0, 255]) * 256 + bytes([0, 0, 255, 255]) * 256
+        first, second = scene(*image(512, 1, texels), *self.FACE, words=["--cut-textures"]).blocks
+        self.assertEqual(first.texels, (256, 1, texels[:1024]))
+        self.assertEqual(second.texels, (256, 1, texels[1024:]))
+        self.assertEqual(set(places(first)), {(0, 0), (32, 0), (32, 64), (0, 64)})
+        self.assertEqual(set(places(second)), {(32, 0), (64, 0), (64, 64), (32, 64)})
+        for block in (first, second):
+            self.assertEqual({vertex.coordinate[0] for vertex in block.vertices}, {0, 1})
+            self.assertEqual(block.state["TexWrap"], (1, 1))
+
+    def test_parts_go_on_over_the_seam_of_a_repeated_texture(self):
+        texels = bytes([255, 0, 0, 255]) * 256 + bytes([0, 0, 255, 255]) * 256
+        face = textured((0, 0, 0.5, 0), (64, 0, 1.5, 0), (64, 64, 1.5, 1), (0, 64, 0.5, 1))
+        blocks = scene(*image(512, 1, texels), *face, words=["--cut-textures"]).blocks
+        self.assertEqual([(block.texels[2][:3], min(places(block))[0]) for block in blocks],
+                         [(bytes(BLUE), 0), (bytes(RED), 32)])
+
+    def test_a_face_over_more_than_256_parts_is_boxed_down_after_all(self):
+        texels = bytes([0, 0, 0, 255, 200, 100, 50, 255]) * 256
+        face = textured((0, 0, 0, 0), (64, 0, 200, 0), (64, 64, 200, 1), (0, 64, 0, 1))
+        block, = scene(*image(512, 1, texels), *face, words=["--cut-textures"]).blocks
+        self.assertEqual((block.texels[0], block.state.get("TexWrap", (0, 0))), (256, (0, 0)))
+
+    def test_a_small_face_takes_a_smaller_level_where_the_filter_has_mipmaps(self):
+        texels = bytes([0, 0, 0, 255, 255, 255, 255, 255]) * 32 * 64
+        filtered = ("glTexParameteri", "GL_TEXTURE_2D", "GL_TEXTURE_MIN_FILTER",
+                    "GL_LINEAR_MIPMAP_LINEAR")
+        small = textured((0, 0, 0, 0), (16, 0, 1, 0), (16, 16, 1, 1), (0, 16, 0, 1))
+        whole, quarter = scene(*image(64, 64, texels), filtered, *self.FACE, *small).blocks
+        self.assertEqual((whole.texels[:2], quarter.texels), ((64, 64),
+                                                              (16, 16, bytes([127, 127, 127, 255])
+                                                               * 256)))
+
+    def test_a_part_of_an_image_may_be_written(self):
+        calls = image(2, 1, bytes([1] * 8)) + [
+            ("glTexSubImage2D", "GL_TEXTURE_2D", 0, 1, 0, 1, 1, "GL_RGBA", "GL_UNSIGNED_BYTE",
+             bytes([5, 6, 7, 8]).decode("latin1"))]
+        block, = scene(*calls, *self.FACE).blocks
+        self.assertEqual(block.texels, (2, 1, bytes([1, 1, 1, 1, 5, 6, 7, 8])))
+
+    def test_65_textures_use_names_again(self):
+        calls = []
+        for name in range(1, 66):
+            calls += [("glBindTexture", "GL_TEXTURE_2D", name), *image(1, 1, bytes([name] * 4))[2:]]
+            calls[-1:] = [("glTexImage2D", *calls[-1][1:])]
+        draws = []
+        for name in [*range(1, 66), 1]:
+            draws += [("glBindTexture", "GL_TEXTURE_2D", name), *self.FACE]
+        made = scene(("glEnable", "GL_TEXTURE_2D"), *calls, *draws)
+        self.assertEqual([block.texels[2][0] for block in made.blocks], [*range(1, 66), 1])
+        self.assertEqual([numbers[0] for numbers in made.named("TexImage")],
+                         [*range(1, 65), 1, 2])
+
+    def test_made_coordinates_and_the_texture_matrix(self):
+        calls = [("glEnable", "GL_TEXTURE_GEN_S"),
+                 ("glTexGeni", "GL_S", "GL_TEXTURE_GEN_MODE", "GL_OBJECT_LINEAR"),
+                 ("glTexGenfv", "GL_S", "GL_OBJECT_PLANE", [1 / 64, 0.0, 0.0, 0.0]),
+                 ("glMatrixMode", "GL_TEXTURE"), ("glScalef", 2.0, 1.0, 1.0)]
+        block, = scene(*image(1, 1, bytes(4)), *calls,
+                       *primitive("GL_TRIANGLES", (0, 0), (64, 0), (0, 64))).blocks
+        self.assertEqual([vertex.coordinate[0] for vertex in block.vertices], [0, 2, 0])
