@@ -1,4 +1,5 @@
-"""Makes scenes with call lists out of sound ones, by chance: hostile.py and lists.py begin with them."""
+"""Makes scenes with call lists: out of sound ones, by chance, as hostile.py and lists.py begin with; and streams of a known cost, for lists.py and limits.py."""
+import scene_lists
 from scene_forms import Scene, command
 
 # Names that a list has, and names that none has.
@@ -52,3 +53,33 @@ def with_lists(rng, scene, changes):
     for _ in range(changes):
         change_lists(rng, rng.choice(streams))
     return Scene(scene.width, scene.height, list(scene.shared), list(scene.barriers), list(scene.semaphores), streams, 3)
+
+
+# ---- streams of a known cost
+
+
+PICTURE = command("TexImage", 1, 256, 256, texels=bytes(4 << 16))
+IDLE, MADE = command("LoadIdentity"), command("EndList")
+
+
+def calls(name, count):
+    return [command("CallList", name)] * count
+
+
+def recorded(name, commands):
+    return [command("NewList", name), *commands, MADE]
+
+
+def costing(cost):
+    """A stream of so much cost: a picture that is given over and over, and the rest by commands of one byte."""
+    whole = scene_lists.cost_of(PICTURE) + 2
+    stream = recorded(1, [PICTURE]) + recorded(2, [IDLE] * 1000)
+    left = cost - 6
+    many, left = divmod(left, whole)
+    idle, left = divmod(left, 1002)
+    return stream + calls(1, many) + calls(2, idle) + [IDLE] * left
+
+
+def giving(count):
+    """A stream that gives so many commands."""
+    return recorded(1, [IDLE] * 1023) + calls(1, count // 1023) + [IDLE] * (count % 1023)

@@ -421,7 +421,8 @@ def links():
     by = (0.5, -0.6)
     lines = [
         "# Two links of a chain, each drawn by a client of its own. Nothing is ordered but the swap: depth decides at each pixel whose link is seen, so the",
-        "# clients can draw apart and be put together.",
+        "# clients can draw apart and be put together. It is a scene for `last`. By `render` client 0's Clear may come behind client 1's ring: that would take a",
+        "# barrier of both behind the Clear, which `last` doesn't know.",
         "# Made by make.py. As bytes: render_cli pack < links.txt > links.rcs",
         "scene 1 240 160",
         "client",

@@ -16,7 +16,7 @@ import time
 program, scenes, work = sys.argv[1:]
 mesa = os.path.join(work, "mesa")
 here = os.path.dirname(os.path.abspath(__file__))
-sorter = os.environ.get("SORT_REPORT", os.path.join(here, "../crates/sort_report/out/sort_report"))
+sorter = os.environ.get("SORT_REPORT", os.path.join(here, "../../crates/sort_report/out/sort_report"))
 PIXELS = 1024 * 768
 
 

@@ -15,11 +15,13 @@ import sys
 import tempfile
 import time
 
-from lists import costing
+sys.path.insert(0, str(pathlib.Path(__file__).resolve().parent.parent))
+
+from list_scenes import costing
+from program import built
 from scene_forms import LONGEST, MOST_COMMANDS, Scene, command, scene_bytes
 from scene_lists import MOST_COST
 
-HERE = pathlib.Path(__file__).resolve().parent
 SWAP, CLEAR = command("Swap"), command("Clear", 3)
 ONE = 65536
 CORNERS = ((-ONE, -ONE), (3 * ONE, -ONE), (-ONE, 3 * ONE))
@@ -172,7 +174,7 @@ def cells(program, words, path):
 
 
 def main():
-    program = sys.argv[1] if len(sys.argv) > 1 else str(HERE.parent / "crates/render_cli/out/render_cli")
+    program = built(sys.argv[1] if len(sys.argv) > 1 else None)
     right = True
     print("| limit | scene at the edge | `render` | | | `serial` | | | one past it |\n|---|---|---|---|---|---|---|---|---|")
     with tempfile.TemporaryDirectory() as work:

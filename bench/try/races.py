@@ -10,13 +10,14 @@ that conflict are; what each pixel sees of its commands, and what each drawing r
 name the first race of the default order, and of the two commands that it names some permitted order has to have either first.
 """
 import itertools
-import os
 import pathlib
 import random
 import subprocess
 import sys
 
-HERE = pathlib.Path(__file__).resolve().parent
+sys.path.insert(0, str(pathlib.Path(__file__).resolve().parent.parent))
+
+from program import built
 FULL = ["Begin 0", "Vertex -65536 -65536 0 65536", "Vertex 196608 -65536 0 65536", "Vertex -65536 196608 0 65536", "End"]
 LONGEST = 9
 
@@ -236,7 +237,7 @@ def compare(program, random):
 
 
 def main():
-    program = os.path.abspath(sys.argv[1]) if len(sys.argv) > 1 else str(HERE.parent / "crates/render_cli/out/render_cli")
+    program = built(sys.argv[1] if len(sys.argv) > 1 else None)
     count = int(sys.argv[2]) if len(sys.argv) > 2 else 300
     source = random.Random(int(sys.argv[3]) if len(sys.argv) > 3 else 1)
     found = {False: 0, True: 0}

@@ -2,7 +2,7 @@
 whole stream to every tile.
 
     cd crates/sort_report && rt run -- 1 1 < ../../examples/red.rcs   # builds the program
-    python3 bench/lanes.py [--tiles 4x3]
+    python3 bench/measure/lanes.py [--tiles 4x3]
 
 Bytes of parcels are those that spell them (docs/cluster.md, 'Parcels as bytes'), End parcels among them. A stream's bytes are those of the scene file
 behind its declarations; of one with call lists, those of its expansion.
@@ -10,11 +10,12 @@ behind its declarations; of one with call lists, those of its expansion.
 import argparse
 import pathlib
 import subprocess
+import sys
+
+sys.path.insert(0, str(pathlib.Path(__file__).resolve().parent.parent))
 
 import scene_lists
-
-HERE = pathlib.Path(__file__).resolve().parent
-PROGRAM = HERE.parent / "crates/sort_report/out/sort_report"
+from program import EXAMPLES, built
 
 
 def stream_bytes(scene):
@@ -30,9 +31,9 @@ def stream_bytes(scene):
     return total
 
 
-def sent_bytes(scene, columns, rows):
+def sent_bytes(program, scene, columns, rows):
     """Parcels and bytes that went to all tiles."""
-    told = subprocess.run([PROGRAM, str(columns), str(rows)], input=scene, stdout=subprocess.PIPE, check=True).stdout.decode()
+    told = subprocess.run([program, str(columns), str(rows)], input=scene, stdout=subprocess.PIPE, check=True).stdout.decode()
     words = [line.split() for line in told.splitlines()]
     return sum(int(line[3]) for line in words), sum(int(line[9]) for line in words)
 
@@ -43,13 +44,14 @@ def main():
     parser.add_argument("scenes", nargs="*", type=pathlib.Path, help="scene files (all of examples/)")
     args = parser.parse_args()
     columns, rows = (int(side) for side in args.tiles.split("x"))
-    scenes = args.scenes or sorted((HERE.parent / "examples").glob("*.rcs"))
+    scenes = args.scenes or sorted(EXAMPLES.glob("*.rcs"))
+    program = built(crate="sort_report")
     print(f"{'scene':<18} {'parcels':>8} {'bytes':>10} {'streams':>9} {'to all':>11} {'':>6}")
     for path in scenes:
         scene = scene_lists.expanded(path.read_bytes())
         width, height = int.from_bytes(scene[4:6], "little"), int.from_bytes(scene[6:8], "little")
         across, up = min(columns, width), min(rows, height)
-        parcels, sent = sent_bytes(scene, across, up)
+        parcels, sent = sent_bytes(program, scene, across, up)
         streams = stream_bytes(scene)
         everything = streams * across * up
         print(f"{path.stem:<18} {parcels:>8} {sent:>10} {streams:>9} {everything:>11} {sent / everything:>6.2f}")

@@ -1,6 +1,6 @@
 /* Draws a scene of one client with Mesa's off-screen OpenGL, to measure against: mesa < scene.rcs > frames.ppm
  * GALLIUM_DRIVER picks the renderer (softpipe, llvmpipe). The processor seconds of drawing alone, of all threads together, are printed on standard error.
- * Barriers, semaphores and shared textures are passed over. Pictures differ from this project's at edges and in rounding. */
+ * Barriers, semaphores and shared textures are passed over; a scene of version 2 is clipped as Mesa clips. Pictures differ from this project's at edges and in rounding. */
 #include <GL/gl.h>
 #include <GL/osmesa.h>
 #include <stdint.h>
@@ -150,7 +150,7 @@ static void draw(size_t at, size_t end)
 int main(void)
 {
     size_t size = fread(scene, 1, MOST, stdin);
-    if (size < HEADER + 4 || memcmp(scene, "RCS1", 4) != 0)
+    if (size < HEADER + 4 || (memcmp(scene, "RCS1", 4) != 0 && memcmp(scene, "RCS2", 4) != 0))
         return 3;
     width = half(4);
     height = half(6);

@@ -24,7 +24,10 @@ import sys
 import tempfile
 
 HERE = pathlib.Path(__file__).resolve().parent
-EXAMPLES = HERE.parent / "examples"
+sys.path.insert(0, str(HERE.parent))
+
+from program import EXAMPLES, built
+
 SECONDS = 10
 
 
@@ -82,7 +85,7 @@ def main():
     simulate = words[:1] == ["--simulate"]
     if simulate:
         words = words[1:]
-    program = words[0] if words else str(HERE.parent / "crates/render_cli/out/render_cli")
+    program = built(words[0] if words else None)
     if simulate:
         tries = [(EXAMPLES / name, ["simulate", "--seed", "1", "--depth", "1"]) for name in ("producer-consumer.rcs", "shared-texture.rcs")]
     else:

@@ -1,6 +1,6 @@
 """What lazy state saves on the example scenes: parcels, sets and looks of a run, beside what a cluster would send that told each tile everything.
 
-    python3 bench/lazy.py [--tiles CxR] [program]
+    python3 bench/measure/lazy.py [--tiles CxR] [program]
 
 `all sets` are the 22 scalar elements with each block and Clear, to each tile that gets it; `all looks` are a look at each of them and at the image
 that a draw may sample. A run's notes have the sums that are printed; blocks and Clears are the parcels that are neither an operation of
@@ -11,7 +11,10 @@ import pathlib
 import subprocess
 import sys
 
-HERE = pathlib.Path(__file__).resolve().parent
+sys.path.insert(0, str(pathlib.Path(__file__).resolve().parent.parent))
+
+from program import EXAMPLES, built
+
 FOR_EVERY_TILE = ("Barrier", "SemP", "SemV", "Swap", "SharedImage")
 SCALARS = 22
 
@@ -36,9 +39,9 @@ def main():
     if words[:1] == ["--tiles"]:
         tiles = words[1]
         words = words[2:]
-    program = words[0] if words else str(HERE.parent / "crates/render_cli/out/render_cli")
+    program = built(words[0] if words else None)
     print(f"{'scene':<18} {'parcels':>8} {'sets':>7} {'all sets':>9} {'':>6} {'looks':>8} {'all looks':>10}")
-    for text in sorted((HERE.parent / "examples").glob("*.txt")):
+    for text in sorted(EXAMPLES.glob("*.txt")):
         (parcels, sets, looks), count = sums(program, text.with_suffix(".rcs"), tiles)
         if count == 0:
             print(f"{text.stem:<18} its window has fewer pixels than {tiles} tiles")

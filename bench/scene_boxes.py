@@ -1,27 +1,7 @@
-"""What a box in object space gives away: the parcels that the blocks of the example scenes make, by exact boxes and by boxes in object space, for each
-as a scene of version 2 (docs/cluster.md, 'Boxes'), and how many pixels more the boxes have. Of a scene with call lists that is its expansion.
-
-    python3 bench/boxes.py [--tiles 4x3] [SCENE ..]
-
-Where the program sort_report is built, the parcels that it tells of the scene as version 2 are compared with what is computed here, box by box, by the
-documents alone:
-    cd crates/sort_report && rt run -- 1 1 < ../../examples/red.rcs
-"""
-import argparse
-import pathlib
-import subprocess
-import sys
-
-import scene_forms
-import scene_lists
-from scene_forms import OPCODES
-
-HERE = pathlib.Path(__file__).resolve().parent
-PROGRAM = HERE.parent / "crates/sort_report/out/sort_report"
+"""The boxes of a block, by docs/cluster.md ('Boxes') alone: the exact one, of its kept pieces, and the one in object space, of its vertices."""
 ONE, NEAR_W, CLIP_BOUND = 65536, 256, 2**46
 PLACE_BOUND, DEPTH_BOUND, DEPTH_MOST = 2**20, 2**30, 16777215
 IDENTITY = [ONE if i % 5 == 0 else 0 for i in range(16)]
-SENT_TO_ALL = {OPCODES[name] for name in ("SharedImage", "Barrier", "SemP", "SemV", "Swap")}
 
 
 def applied(m, v):
@@ -168,82 +148,3 @@ def pieces(corners):
             near, far = (a, b) if a[3] >= NEAR_W else (b, a)
             polygon.append([p + (q - p) * (near[3] - NEAR_W) // (near[3] - far[3]) for p, q in zip(near, far)])
     return [(polygon[0], polygon[i + 1], polygon[i + 2]) for i in range(len(polygon) - 2)]
-
-
-class Tiles:
-    def __init__(self, scene, columns, rows):
-        across, up = min(columns, scene.width), min(rows, scene.height)
-        self.columns = [(j * scene.width // across, (j + 1) * scene.width // across) for j in range(across)]
-        self.rows = [(j * scene.height // up, (j + 1) * scene.height // up) for j in range(up)]
-        self.count = across * up
-
-    def met(self, rect):
-        """How many tiles have a pixel of the rectangle, and how many pixels of the window are in it."""
-        if rect is None:
-            return 0, 0
-        x0, y0, x1, y1 = rect
-        wide = [min(x1, b) - max(x0, a) for a, b in self.columns]
-        high = [min(y1, b) - max(y0, a) for a, b in self.rows]
-        wide, high = [n for n in wide if n > 0], [n for n in high if n > 0]
-        return len(wide) * len(high), sum(wide) * sum(high)
-
-
-def counted(scene, tiles):
-    """Of all clients: blocks, those near the eye; and for exact boxes and boxes in object space, parcels of blocks and pixels; all other parcels."""
-    blocks = near = others = 0
-    parcels, pixels = [0, 0], [0, 0]
-    for stream in scene.streams:
-        context = Context(scene.width, scene.height)
-        for opcode, numbers, _ in stream:
-            name = scene_forms.COMMANDS[opcode][0]
-            block = context.issue(name, numbers)
-            if block is not None:
-                box, is_near = context.over(*block)
-                blocks, near = blocks + 1, near + is_near
-                for i, rect in enumerate((context.exact(*block), box)):
-                    met, covered = tiles.met(rect)
-                    parcels[i] += met
-                    pixels[i] += covered
-            elif name == "Clear":
-                window = [0, 0, scene.width, scene.height]
-                x, y, w, h = context.scissor if context.scissor_on else window
-                others += tiles.met([x, y, x + w, y + h])[0]
-            elif opcode in SENT_TO_ALL:
-                others += tiles.count
-        others += tiles.count
-    return blocks, near, parcels, pixels, others
-
-
-def told(data, tiles):
-    """The parcels that sort_report tells."""
-    words = [PROGRAM, str(len(tiles.columns)), str(len(tiles.rows))]
-    lines = subprocess.run(words, input=data, stdout=subprocess.PIPE, check=True).stdout.decode().splitlines()
-    return sum(int(line.split()[3]) for line in lines)
-
-
-def main():
-    parser = argparse.ArgumentParser(description=__doc__, formatter_class=argparse.RawDescriptionHelpFormatter)
-    parser.add_argument("--tiles", default="4x3", help="columns and rows of tiles (4x3)")
-    parser.add_argument("scenes", nargs="*", type=pathlib.Path, help="scene files (all of examples/)")
-    args = parser.parse_args()
-    columns, rows = (int(side) for side in args.tiles.split("x"))
-    built = PROGRAM.exists()
-    if not built:
-        print("sort_report isn't built: nothing is compared", file=sys.stderr)
-    print(f"{'scene':<18} {'blocks':>7} {'near':>5} {'exact':>8} {'object':>8} {'more':>6} {'all, more':>10} {'pixels, more':>13}")
-    for path in args.scenes or sorted((HERE.parent / "examples").glob("*.rcs")):
-        data = scene_lists.expanded(path.read_bytes())
-        data = data[:3] + b"2" + data[4:]
-        scene = scene_forms.read(data)
-        tiles = Tiles(scene, columns, rows)
-        blocks, near, (exact, over), (covered, boxed), others = counted(scene, tiles)
-        if not blocks:
-            continue
-        if built and told(data, tiles) != over + others:
-            sys.exit(f"{path.stem}: sort_report tells {told(data, tiles)} parcels, and not {over + others}")
-        more = [f"{n / max(d, 1) - 1:.1%}" for n, d in ((over, exact), (over + others, exact + others), (boxed, covered))]
-        print(f"{path.stem:<18} {blocks:>7} {near:>5} {exact:>8} {over:>8} {more[0]:>6} {more[1]:>10} {more[2]:>13}", flush=True)
-
-
-if __name__ == "__main__":
-    main()

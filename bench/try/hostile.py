@@ -46,13 +46,15 @@ import sys
 import tempfile
 import time
 
+sys.path.insert(0, str(pathlib.Path(__file__).resolve().parent.parent))
+
 import list_scenes
 import scene_faults
 import scene_forms
 import scene_lists
+from program import EXAMPLES, built
 from scene_forms import ALL_COMMANDS, DRAWN_VERSIONS, PICTURES, Refused
 
-HERE = pathlib.Path(__file__).resolve().parent
 SECONDS, MEMORY = 10, 2 << 30
 MEETINGS = ("Barrier", "Swap")
 LARGEST_EXAMPLE = 4000
@@ -523,9 +525,8 @@ def judge(name):
 
 def sources(program):
     """Scenes and texts to begin with."""
-    examples = HERE.parent / "examples"
-    scenes = [path.read_bytes() for path in sorted(examples.glob("*.rcs")) if path.stat().st_size <= LARGEST_EXAMPLE]
-    texts = [path.read_bytes() for path in sorted(examples.glob("*.txt")) if path.stat().st_size <= LARGEST_EXAMPLE]
+    scenes = [path.read_bytes() for path in sorted(EXAMPLES.glob("*.rcs")) if path.stat().st_size <= LARGEST_EXAMPLE]
+    texts = [path.read_bytes() for path in sorted(EXAMPLES.glob("*.txt")) if path.stat().st_size <= LARGEST_EXAMPLE]
     tiny = [text.replace(";", "\n").encode() + b"\n" for text in TINY]
     made = [["pack"]] * len(tiny) + [["gen", "--seed", str(seed), "--size", str(size)] for seed, size in ((1, 1), (2, 2), (3, 4))]
     for words, text in itertools.zip_longest(made, tiny, fillvalue=b""):
@@ -551,14 +552,14 @@ def show(name, difference, program, keep):
 
 def main():
     parser = argparse.ArgumentParser(description=__doc__, formatter_class=argparse.RawDescriptionHelpFormatter)
-    parser.add_argument("program", nargs="?", default=HERE.parent / "crates/render_cli/out/render_cli", type=pathlib.Path)
+    parser.add_argument("program", nargs="?", type=pathlib.Path, help="the built program (crates/render_cli/out/render_cli)")
     parser.add_argument("--seeds", default="1,2,3", type=lambda text: [int(word) for word in text.split(",")], help="seeds of inputs (1,2,3)")
     parser.add_argument("--inputs", default=20_000, type=int, help="how many inputs in all (20000)")
     parser.add_argument("--jobs", default=os.cpu_count(), type=int, help="how many inputs at once (as there are processors)")
     parser.add_argument("--keep", default="hostile-found", type=pathlib.Path, help="where an input that shows something is written")
     parser.add_argument("--only", metavar="SEED:N", help="judge this input alone")
     args = parser.parse_args()
-    program = str(args.program.resolve())
+    program = built(args.program)
     scenes, texts = sources(program)
     each, more = divmod(args.inputs, len(args.seeds))
     names = {seed: [(seed, number) for number in range(each + (i < more))] for i, seed in enumerate(args.seeds)}

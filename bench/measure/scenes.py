@@ -25,6 +25,11 @@
     depth               1024 by 768, 2,000 overlapping triangles of some 200 by 200 pixels with depth test, colours interpolated.
     clears [SIDE] [N]   SIDE by SIDE (2,048), N (8) clears and swaps.
     gives [CLIENTS] [N] 8 by 8, CLIENTS (8) clients of N (8,192) operations that give a unit and wait for nobody, and no frame: what synchronisation costs.
+    hands [N]           8 by 8, two clients that hand a unit back and forth N (2,048) times by two semaphores, and no frame.
+    meets [N]           8 by 8, eight clients that meet at a barrier N (1,024) times, and no frame.
+    shows [N]           64 by 48, four clients, N (500) frames of a triangle each.
+    mesh [CLIENTS] [N]  1024 by 768, 10 frames of N by N (140) squares over the window, a strip for each row, dealt to the CLIENTS (1) row by row, and a
+                        barrier of all clients before each frame.
     commands [N]        one client, N (1,048,576) commands in all: semaphore operations in pairs, the swap last.
     called [N]          version 3, one client, a list of a block of 1,022 colours and vertices, called until it gave N commands. With N as it is, 1,048,577, one
                         more than there may be, the scene is refused as soon as it was expanded.
@@ -371,6 +376,54 @@ def gives(numbers, swap, corners):
     return scene(8, 8, [[byte_fields(SEM_V, 1)] * count] * clients, semaphores=[0])
 
 
+def hands(numbers, swap, corners):
+    count = numbers[0] if numbers else 2_048
+    first = [byte_fields(SEM_V, 1), byte_fields(SEM_P, 2)] * count
+    second = [byte_fields(SEM_P, 1), byte_fields(SEM_V, 2)] * count
+    return scene(8, 8, [first, second], semaphores=[0, 0])
+
+
+def meets(numbers, swap, corners):
+    return scene(8, 8, [[byte_fields(BARRIER, 1)] * (numbers[0] if numbers else 1_024)] * 8, [8])
+
+
+def shows(numbers, swap, corners):
+    streams = []
+    for c in range(4):
+        rng = random.Random(c)
+        commands = []
+        for _ in range(numbers[0] if numbers else 500):
+            commands += [any_color(rng), begin(TRIANGLES)]
+            commands += [corners.at(*(rng.randrange(-ONE, ONE) for _ in range(2))) for _ in range(3)] + [END_COMMAND]
+            if swap:
+                commands.append((SWAP, b""))
+        streams.append(commands)
+    return scene(64, 48, streams)
+
+
+def mesh(numbers, swap, corners):
+    clients = numbers[0] if numbers else 1
+    side = numbers[1] if len(numbers) > 1 else 140
+    step = 2 * ONE // side
+    streams = []
+    for c in range(clients):
+        rng = random.Random(c)
+        commands = []
+        for frame in range(10):
+            commands.append(byte_fields(BARRIER, 1))
+            for row in range(c, side, clients):
+                y = -ONE + row * step
+                commands.append(begin(STRIP))
+                for i in range(side + 1):
+                    x = -ONE + i * step
+                    commands += [any_color(rng), corners.at(x, y), corners.at(x, y + step, frame)]
+                commands.append(END_COMMAND)
+            if swap:
+                commands.append((SWAP, b""))
+        streams.append(commands)
+    return scene(1024, 768, streams, [clients])
+
+
 def listed(calls):
     """A block that a list gives over and over, and so many commands more as are due; or the same commands written out."""
 
@@ -407,6 +460,10 @@ SCENES = {
     "depth": depth,
     "clears": clears,
     "gives": gives,
+    "hands": hands,
+    "meets": meets,
+    "shows": shows,
+    "mesh": mesh,
     "commands": commands_only,
     "called": listed(True),
     "written": listed(False),

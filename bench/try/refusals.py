@@ -30,11 +30,12 @@ import subprocess
 import sys
 import tempfile
 
-import scene_forms
+sys.path.insert(0, str(pathlib.Path(__file__).resolve().parent.parent))
 
-HERE = pathlib.Path(__file__).resolve().parent
-PAGE = HERE.parent / "docs/scene-format.md"
-EXAMPLES = HERE.parent / "examples"
+import scene_forms
+from program import EXAMPLES, ROOT, built
+
+PAGE = ROOT / "docs/scene-format.md"
 READING = (["render"], ["simulate", "--seed", "1"], ["serial"], ["last"], ["check"], ["race"], ["unpack"])
 DRAWING = (["render"], ["simulate", "--seed", "1"], ["serial"], ["check"], ["race"])
 # Those that know version 3, and how the one that doesn't refuses it.
@@ -236,7 +237,7 @@ def try_gone_reader(program):
 
 
 def main():
-    program = str(pathlib.Path(sys.argv[1] if len(sys.argv) > 1 else HERE.parent / "crates/render_cli/out/render_cli").resolve())
+    program = built(sys.argv[1] if len(sys.argv) > 1 else None)
     found = tables()
     absent = missing(found)
     if absent:

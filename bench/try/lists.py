@@ -21,13 +21,16 @@ import subprocess
 import sys
 import time
 
+sys.path.insert(0, str(pathlib.Path(__file__).resolve().parent.parent))
+
 import list_scenes
 import scene_forms
 import scene_lists
 from hostile import FULL, TINY, Due
+from list_scenes import IDLE, MADE, PICTURE, calls, costing, giving, recorded
+from program import EXAMPLES, built
 from scene_forms import COMMANDS, MOST_COMMANDS, Refused, Scene, command, scene_bytes
 
-HERE = pathlib.Path(__file__).resolve().parent
 SECONDS = 10
 STEPPED = ["simulate", "--seed", "5", "--tiles", "2x2", "--depth", "2"]
 JOBS = (["check"], ["serial"], ["race"], ["last"], STEPPED)
@@ -147,31 +150,7 @@ def try_other_jobs():
 
 # ---- limits and costs
 
-PICTURE = command("TexImage", 1, 256, 256, texels=bytes(4 << 16))
-SWAP, IDLE, MADE = command("Swap"), command("LoadIdentity"), command("EndList")
-
-
-def calls(name, count):
-    return [command("CallList", name)] * count
-
-
-def recorded(name, commands):
-    return [command("NewList", name), *commands, MADE]
-
-
-def costing(cost):
-    """A stream of so much cost: a picture that is given over and over, and the rest by commands of one byte."""
-    whole = scene_lists.cost_of(PICTURE) + 2
-    stream = recorded(1, [PICTURE]) + recorded(2, [IDLE] * 1000)
-    left = cost - 6
-    many, left = divmod(left, whole)
-    idle, left = divmod(left, 1002)
-    return stream + calls(1, many) + calls(2, idle) + [IDLE] * left
-
-
-def giving(count):
-    """A stream that gives so many commands."""
-    return recorded(1, [IDLE] * 1023) + calls(1, count // 1023) + [IDLE] * (count % 1023)
+SWAP = command("Swap")
 
 
 def ring(calls_each):
@@ -450,7 +429,7 @@ def alone(scenes, chains, seed):
 
 def main():
     parser = argparse.ArgumentParser(description=__doc__, formatter_class=argparse.RawDescriptionHelpFormatter)
-    parser.add_argument("program", nargs="?", default=HERE.parent / "crates/render_cli/out/render_cli", type=pathlib.Path)
+    parser.add_argument("program", nargs="?", type=pathlib.Path, help="the built program (crates/render_cli/out/render_cli)")
     parser.add_argument("--scenes", default=400, type=int, help="how many random scenes with lists (400)")
     parser.add_argument("--chains", default=200, type=int, help="how many chains of filters (200)")
     parser.add_argument("--seed", default=1, type=int, help="the seed of both (1)")
@@ -461,7 +440,7 @@ def main():
         alone(args.scenes, args.chains, args.seed)
         return
     global PROGRAM
-    PROGRAM = str(args.program.resolve())
+    PROGRAM = built(args.program)
     try:
         print(f"{try_rows()} small scenes and words: as they have to be", flush=True)
         try_other_jobs()

@@ -6,7 +6,7 @@
 #     cd crates/sort_report && rt run -- 1 1 < ../../examples/red.rcs
 set -eu
 here=$(cd "$(dirname "$0")" && pwd)
-program=${1:-$here/../crates/render_cli/out/render_cli}
+program=${1:-$(python3 "$here/../program.py")}
 work=$(mktemp -d)
 trap 'rm -rf "$work"' EXIT
 
@@ -14,4 +14,7 @@ if ! cc -O2 -o "$work/mesa" "$here/mesa.c" -lOSMesa -lm 2> /dev/null; then
     echo "without Mesa: install libosmesa6-dev to compare" >&2
 fi
 
-exec python3 "$here/measure.py" "$program" "$here/scenes.py" "$work"
+python3 "$here/measure.py" "$program" "$here/scenes.py" "$work"
+echo
+echo "captured scenes of real programs:"
+python3 "$here/real_programs.py" "$program" "$work/mesa"

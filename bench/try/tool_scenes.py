@@ -1,0 +1,316 @@
+"""The part of try_tools.py for pack.py, where.py, gl.py and examples/cube.py: texts are packed as
+the program packs them, and numbers are those computed by hand.
+"""
+import random
+import re
+
+import refusals
+import scene_forms
+from tool_calls import EXAMPLES, SCENE, changed, check, drawn, packed, refuses, run, same
+
+import command
+import gl
+import scene_text
+
+
+def verdict(data):
+    """What pack.py makes of a text: its bytes, or its first fault as the program tells it."""
+    try:
+        return scene_forms.scene_bytes(scene_text.read(data).scene)
+    except command.Wrong as wrong:
+        told = str(wrong)
+    if match := re.match(r"line (\d+): ([A-Z]\w+): ", told):
+        return f"rc: malformed {match[2]} at {match[1]}"
+    match = re.search(r"limit ([a-z ]+) (\d+)", told)
+    return f"rc: limit {match[1]} {match[2]}" if match else told
+
+
+# ---- pack.py
+
+
+def try_packed():
+    """The texts of examples/, and all refused ones of docs/scene-format.md."""
+    for path in sorted(EXAMPLES.glob("*.txt")):
+        got = run("pack.py", data=path.read_bytes())
+        same(f"pack.py: {path.name}", got, (0, path.with_suffix(".rcs").read_bytes(), []))
+    rows = [rows for head, rows in refusals.tables() if head == ("text", "line", "why")]
+    check("pack.py: the table of refused texts is there", sum(map(len, rows)) > 20)
+    for cell, line, _ in (row for table in rows for row in table):
+        # version 3 has no text in the program
+        if not (line == "rc: malformed BadNumber at 1" and "scene 3" in cell):
+            same(f"pack.py: {cell}", verdict(refusals.text_of(cell)), line)
+
+
+WRONG_TEXTS = {
+    "a near name": ("scene 1 2 2\n\n# x\nclient\nVertx 0 0 0 65536\n", "line 5: ", "Vertex?"),
+    "a code's name": ("scene 1 2 2\nclient\nEnable GL_DEPTH\n", "line 3: ", "DEPTH is 2"),
+    "a broken number": ("scene 1 2 2\nclient\nVertex -0.5 0 0 1\n", "line 3: ", "-32768"),
+    "a number too few": ("scene 1 2 2\nclient\nColor 1 2 3\n", "line 3: ", "4 numbers (r g b a)"),
+    "a comment": ("scene 1 2 2\nclient\nSwap # all\n", "line 3: ", "a line of its own"),
+    "a window too wide": ("# x\nscene 1 4096 2160\nclient\n", "line 2: ", "limit width 4096"),
+    "a tab": ("scene 1 2 2\nclient\n\tSwap\n", "line 3: ", "a tab in column 1"),
+    "a list in version 2": ("scene 2 2 2\nclient\nNewList 1\n", "line 3: ", "version 3"),
+    "no line": ("# nothing\n", "line 1: ", "NoScene"),
+    "nothing": ("", "line 1: ", "NoScene"),
+}
+
+
+def try_wrong_texts():
+    for what, (text, place, words) in WRONG_TEXTS.items():
+        line = refuses(what, 1, "pack.py", data=text.encode())
+        check(
+            f"pack.py: what is told of {what}", f"pack.py: {place}" in line and words in line, line
+        )
+
+
+def list_text(data):
+    """The text of a scene with call lists."""
+    scene = scene_forms.read(data, (3,))
+    lines = [f"scene 3 {scene.width} {scene.height}"]
+    lines += [f"barrier {count}" for count in scene.barriers]
+    for stream in scene.streams:
+        lines.append("client")
+        for opcode, numbers, texels in stream:
+            words = [scene_forms.ALL_COMMANDS[opcode][0], *map(str, numbers)]
+            lines.append(" ".join(words + [texels.hex()] * bool(texels)))
+    return "\n".join(lines).encode()
+
+
+def try_lists():
+    # by hand from docs/scene-format.md
+    text = b"scene 3 2 2\nclient\nNewList 1\nClear 1\nEndList\nCallList 1\nSwap\n"
+    due = "52435333" "02000200" "01000000" "0a000000" "0500" "2518262724" "010101"
+    same("pack.py: call lists", run("pack.py", data=text)[1].hex(), due)
+    calls = "CallList 1\n" * 9
+    text = f"scene 3 1 1\nclient\nNewList 1\n{calls}EndList\n{calls}"
+    line = refuses("lists without end", 1, "pack.py", data=text.encode())
+    check("pack.py: what is told of these", "limit expansion" in line, line)
+    forest = (EXAMPLES / "forest.rcs").read_bytes()
+    same("pack.py: the text of the forest", verdict(list_text(forest)), forest)
+
+
+def second_verdict(text):
+    """What the second reader makes of a text, to which hostile.py holds the program."""
+    try:
+        return scene_forms.scene_bytes(scene_forms.read_text(text))
+    except scene_forms.Refused as refused:
+        return refused.line.decode().strip()
+
+
+def is_third(text, due):
+    """Version 3 has no text in the program, nor in the second reader."""
+    return bool(re.search(rb"scene +0*3", text)) and due == "rc: malformed BadNumber at 1"
+
+
+def try_by_reader(seed, rounds=3000):
+    """Changed texts have to be judged as the second reader judges them."""
+    pick, differ, refused = random.Random(seed), [], 0
+    texts = [path.read_bytes() for path in sorted(EXAMPLES.glob("*.txt"))] + [SCENE.encode()]
+    texts = [text for text in texts if len(text) < 8000]
+    for _ in range(rounds):
+        text = changed(pick, pick.choice(texts))
+        got, due = verdict(text), second_verdict(text)
+        refused += isinstance(due, str)
+        if got != due and not is_third(text, due):
+            differ.append((text, got, due))
+    what = f"{rounds} changed texts, {refused} of them refused"
+    check(f"pack.py: {what}, as the second reader judges them", not differ and refused, differ[:1])
+    print(f"pack.py: {what}, compared with the second reader")
+
+
+def try_by_program(seed, rounds=400):
+    """Texts of examples/, and changed ones, have to be judged as the program judges them."""
+    pick = random.Random(seed)
+    paths = sorted(EXAMPLES.glob("*.txt"))
+    for path in paths:
+        text = path.read_bytes()
+        same(f"pack.py: {path.name}, by the program", verdict(text), packed(text))
+    texts = [path.read_bytes() for path in paths if path.stat().st_size < 8000] + [SCENE.encode()]
+    differ, refused = [], 0
+    for _ in range(rounds):
+        text = changed(pick, pick.choice(texts))
+        got, due = verdict(text), packed(text)
+        refused += isinstance(due, str)
+        if got != due and not is_third(text, due):
+            differ.append((text, got, due))
+    what = f"{rounds} changed texts, {refused} of them refused"
+    check(f"pack.py: {what}, as the program judges them", not differ and refused, differ[:1])
+    print(f"pack.py: {what}, compared with the program")
+
+
+# ---- where.py
+
+SAID = {
+    "client 0 fault INVALID_VALUE at 0": ["scene.txt:7: ClearColor 255 0 0 255"],
+    "race 0 6 1 0 pixel 3 0": [
+        "scene.txt:9-13: Begin 0 (TRIANGLES) .. End, 3 vertices",
+        "scene.txt:17: Barrier 1",
+        "in an image viewer: column 3, row 1 from the top",
+    ],
+    "stuck client 1 at 0 Barrier 1": ["scene.txt:17: Barrier 1", "scene.txt:4: barrier 2"],
+    "race 0 1 1 1 shared 1": [
+        "scene.txt:8: Clear 1 (COLOR)",
+        "scene.txt:18: Swap",
+        "scene.txt:3: shared 1 1",
+    ],
+    "rc: limit width 4": ["scene.txt:2: scene 1 4 2"],
+    "rc: not for last 0 1": ["scene.txt:8: Clear 1 (COLOR)"],
+    "client 9 fault INVALID_VALUE at 3": ["scene.txt: client 9 has no command 3"],
+    "client 0 fault INVALID_VALUE at 99999": ["scene.txt: client 0 has no command 99999"],
+    "rc: malformed WrongCount at 8": ["scene.txt:8: Clear 1"],
+    "rc: malformed Truncated at 8": [
+        "byte 8 of what the job read, which isn't this text: pack it first"
+    ],
+    "order 1 0 1": ["scene.txt:8: Clear 1 (COLOR)"],
+    "journal 2": [],
+    "races: not looked for": [],
+}
+
+
+def said(folder, name, notes, *words):
+    """What where.py says of each line of some notes."""
+    data = "".join(f"{line}\n" for line in notes).encode()
+    status, out, err = run("where.py", name, *words, data=data, cwd=folder)
+    same(f"where.py: status for {name}", (status, err), (0, []))
+    made = {}
+    for part in re.findall(r"(?m)^(\S.*)((?:\n    .*)*)", out.decode()):
+        made[part[0]] = [line.strip() for line in part[1].splitlines() if line]
+    return made
+
+
+def try_where(folder):
+    got = said(folder, "scene.txt", SAID)
+    same("where.py: the lines of the notes", list(got), list(SAID))
+    for note, due in SAID.items():
+        same(f"where.py: {note}", got.get(note), due)
+    note = "client 0 fault INVALID_VALUE at 0"
+    got = said(folder, "scene.txt", [note], "--filters", "drop ClearColor")
+    same("where.py: behind a filter", got[note], ["scene.txt:8: Clear 1 (COLOR)"])
+    text = (
+        "scene 3 1 1\nclient\nNewList 1\nClear 1\nClear 9\nEndList\nCallList 1\nCallList 1\nSwap\n"
+    )
+    (folder / "lists.txt").write_text(text)
+    lists = {
+        "client 0 list fault INVALID_VALUE at 4": ["lists.txt:7: CallList 1"],
+        "client 0 fault INVALID_VALUE at 3": ["lists.txt:5: Clear 9"],
+        "client 0 fault INVALID_VALUE at 4": ["lists.txt:9: Swap"],
+    }
+    same("where.py: call lists", said(folder, "lists.txt", lists), lists)
+    (folder / "wrong.txt").write_text("scene 1 1 1\nclient\nColor 1 2 3\n")
+    note = "rc: malformed WrongCount at 3"
+    got = said(folder, "wrong.txt", [note])[note]
+    is_told = got[0] == "wrong.txt:3: Color 1 2 3" and "4 numbers (r g b a)" in got[1]
+    check("where.py: a refused text", is_told, got)
+    same("where.py: no notes", said(folder, "scene.txt", []), {})
+
+
+# ---- gl.py
+
+
+def rounded(matrix):
+    return [round(number, 9) + 0.0 for number in matrix]
+
+
+def try_numbers():
+    """Fixed point and matrices, computed by hand."""
+    numbers = [gl.fixed(number) for number in (1, -1, 0.5, -0.25, 32767.99999)]
+    same("gl.py: fixed point", numbers, [65536, -65536, 32768, -16384, 2147483647])
+    # 90 degrees, 1 to 3: the focal length is 1, (3+1)/(1-3) = -2 and 2*3*1/(1-3) = -3
+    due = [0.5, 0, 0, 0, 0, 1, 0, 0, 0, 0, -2, -1, 0, 0, -3, 0]
+    same("gl.py: perspective", rounded(gl.perspective_matrix(90, 2, 1, 3)), due)
+    same("gl.py: a turn takes x to y", rounded(gl.rotation(90, 0, 0, 1)[:4]), [0, 1, 0, 0])
+    same("gl.py: one around y, z to x", rounded(gl.rotation(90, 0, 1, 0)[8:12]), [1, 0, 0, 0])
+    # an eye at (0, 0, 5) that looks at the origin: the world moves by -5 along z
+    due = [1, 0, 0, 0, 0, 1, 0, 0, 0, 0, 1, 0, 0, 0, -5, 1]
+    same("gl.py: look_at", rounded(gl.look_at_matrix((0, 0, 5), (0, 0, 0), (0, 1, 0))), due)
+    # from 0 to 4 and 0 to 2: twice, and one back
+    due = [0.5, 0, 0, 0, 0, 1, 0, 0, 0, 0, -1, 0, -1, -1, 0, 1]
+    same("gl.py: orthographic", rounded(gl.orthographic_matrix(0, 4, 0, 2)), due)
+    both = gl.multiplied(gl.translation(1, 2, 3), gl.scaling(2, 2, 2))
+    due = [2, 0, 0, 0, 0, 2, 0, 0, 0, 0, 2, 0, 1, 2, 3, 1]
+    same("gl.py: a scale, and then a move", both, due)
+
+
+def quad_scene():
+    """A quad in a colour, a barrier and a swap."""
+    scene = gl.Scene(8, 4)
+    meeting, client = scene.barrier(1), scene.client()
+    client.color(1, 0, 0.5)
+    with client.block(gl.QUADS):
+        for x, y in ((0, 0), (1, 0), (1, 1), (0, 1)):
+            client.vertex(x, y)
+    client.barrier(meeting)
+    client.swap()
+    return scene, client
+
+
+def try_scene(folder):
+    scene, client = quad_scene()
+    corners = ["0 0 0 65536", "65536 0 0 65536", "65536 65536 0 65536", "0 65536 0 65536"]
+    vertices = [f"Vertex {corners[at]}" for at in (0, 1, 2, 0, 2, 3)]
+    due = ["scene 2 8 4", "barrier 1", "client", "Color 255 0 128 255", "Begin 0", *vertices]
+    same("gl.py: a quad", scene.text().splitlines(), [*due, "End", "Barrier 1", "Swap"])
+    scene.save(folder / "quad.txt")
+    scene.save(folder / "quad.rcs")
+    text, data = (folder / "quad.txt").read_bytes(), (folder / "quad.rcs").read_bytes()
+    same("gl.py: saved as text and as bytes", verdict(text), data)
+    wrongs = {
+        "a number that doesn't fit": lambda: gl.fixed(40000),
+        "no number": lambda: gl.fixed(float("nan")),
+        "a vertex outside a block": lambda: client.vertex(0, 0),
+        "a wide window": lambda: gl.Scene(4096, 2).text(),
+        "texels that are too few": lambda: client.tex_image(1, 2, 2, bytes(4)),
+        "a byte that is none": lambda: client.issue("Clear", 256),
+    }
+    for what, call in wrongs.items():
+        try:
+            call()
+            check(f"gl.py: {what}", False, "it is taken")
+        except ValueError:
+            check(f"gl.py: {what}", True)
+
+
+def try_recorded():
+    scene = gl.Scene(8, 4, version=3)
+    client = scene.client()
+    client.color(1, 1, 1)
+    with client.recording(1):
+        client.color(1, 1, 1)
+        client.clear(gl.COLOR_BIT)
+    client.call(1)
+    client.color(1, 1, 1)
+    white = "Color 255 255 255 255"
+    due = ["scene 3 8 4", "client", white, "NewList 1", white, "Clear 1", "EndList", "CallList 1"]
+    same("gl.py: call lists", scene.text().splitlines(), [*due, white])
+    same("gl.py: their bytes", scene.bytes(), verdict(scene.text().encode()))
+
+
+def try_cube():
+    text, data = run("../examples/cube.py")[1], run("../examples/cube.py", "bytes")[1]
+    check("cube.py: its text is below 100,000 bytes", 0 < len(text) < 100_000, len(text))
+    same("cube.py: text and bytes", verdict(text), data)
+    same("cube.py: examples/cube.txt", (EXAMPLES / "cube.txt").read_bytes(), text)
+    same("cube.py: examples/cube.rcs", (EXAMPLES / "cube.rcs").read_bytes(), data)
+
+
+def try_drawn_cube():
+    """24 frames, no two alike, nothing refused, and no race."""
+    scene = (EXAMPLES / "cube.rcs").read_bytes()
+    frames, notes = drawn(scene, "render", "--tiles", "3x2")
+    check("cube.py: 24 frames", "frames 24\n" in notes and "fault" not in notes, notes[-200:])
+    size = max(1, len(frames) // 24)
+    parts = {frames[at : at + size] for at in range(0, len(frames), size)}
+    same("cube.py: frames that differ", len(parts), 24)
+    same("cube.py: no race", drawn(scene, "race")[1].splitlines()[-1:], ["race none"])
+
+
+def try_all(folder, seed):
+    try_packed()
+    try_by_reader(seed)
+    try_wrong_texts()
+    try_lists()
+    try_where(folder)
+    try_numbers()
+    try_scene(folder)
+    try_recorded()
+    try_cube()

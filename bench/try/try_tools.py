@@ -1,0 +1,168 @@
+#!/usr/bin/env python3
+"""Tries every tool of tools/ as a user has it in hand: right input and wrong, words, pipes that
+break, ends that are full.
+
+    python3 bench/try/try_tools.py [SEED]
+
+What a tool gives is held against what was made elsewhere: PNG files against bench/try/png_reader.py,
+packed texts against the program's `pack` and the files of examples/, pictures against those of
+docs/, numbers against those computed by hand. Where the program isn't built its part is left out,
+and a line says so. It prints a line for what failed, and last `N passed, M failed`; the status is 1
+where something failed.
+"""
+import pathlib
+import random
+import re
+import shlex
+import sys
+import tempfile
+
+sys.path.insert(0, str(pathlib.Path(__file__).resolve().parent.parent))
+
+import program
+import tool_images
+import tool_pages
+import tool_scenes
+from tool_calls import (
+    CALLS,
+    EXAMPLES,
+    NOTES,
+    SCENE,
+    TALLY,
+    TOOLS,
+    changed,
+    check,
+    image,
+    make_folder,
+    refuses,
+    run,
+    shell,
+)
+
+# Words that are wrong: of tools/png.py and so on what is wrong, and the words.
+WRONG_WORDS = [
+    ("tiles.py", "tiles of another form", ["made", "four", "notes.txt"]),
+    ("tiles.py", "no tiles", ["made", "0x1", "notes.txt"]),
+    ("tiles.py", "40 tiles", ["made", "8x5", "notes.txt"]),
+    ("tiles.py", "no notes", ["made", "2x1"]),
+    ("png.py", "--fps without --apng", ["made", "--fps", "3"]),
+    ("png.py", "a rate of 0", ["made", "--apng", "--fps", "0"]),
+    ("pair.py", "a scale of 0", ["made", "--scale", "0"]),
+    ("layers.py", "a client that is no number", ["client", "one"]),
+    ("layers.py", "two names", ["one", "1"]),
+    ("where.py", "filters that are none", ["scene.txt", "--filters", "drop Nothing"]),
+    ("page.py", "filters that are none", [*CALLS["page.py"], "--filters", "render"]),
+    ("page.py", "no notes", ["--scene", "scene.txt"]),
+    ("../examples/cube.py", "an unknown form", ["pictures"]),
+]
+WRITING = {
+    "pack.py": SCENE.encode(),
+    "where.py": NOTES.encode() * 3000,
+    "gl.py": b"",
+    "../examples/cube.py": b"",
+    "page.py": image(4, 2),
+}
+
+
+def try_words(folder):
+    for name, words in CALLS.items():
+        own = name.split("/")[-1]
+        status, out, err = run(name, "--help", cwd=folder)
+        is_page = b"usage:" in out and b"python3" in out and not err
+        check(f"{own}: --help", status == 0 and is_page, (status, out[:80], err))
+        refuses("an unknown option", 2, name, *words, "--nonsense", cwd=folder)
+        refuses("words too many", 2, name, *words, "one", "two", "three", cwd=folder)
+        if words:
+            refuses("no words", 2, name, cwd=folder)
+    for name, what, words in WRONG_WORDS:
+        refuses(what, 2, name, *words, cwd=folder)
+
+
+def call_of(name):
+    """A right call of a tool, as a shell has it."""
+    return shlex.join([sys.executable, str(TOOLS / name), *CALLS[name]])
+
+
+def try_ends(folder):
+    """Output that is full or closed, input that is closed, and readers that go away."""
+    for name, data in WRITING.items():
+        (folder / "input").write_bytes(data)
+        own = name.split("/")[-1]
+        done = shell(f"{call_of(name)} < input > /dev/full", folder)
+        is_told = done[0] == 1 and len(done[2]) == 1 and "No space" in done[2][0]
+        check(f"{own}: a full disk", is_told, done)
+        done = shell(f"{call_of(name)} < input | head -c 1", folder)
+        is_quiet = not re.search("Broken|Traceback|Error", "".join(done[2]))
+        check(f"{own}: a reader that goes away", done[0] == 0 and is_quiet, done)
+        done = shell(f"{call_of(name)} < input >&-", folder)
+        is_told = done[0] in (0, 1) and len(done[2]) <= 1 and "Traceback" not in "".join(done[2])
+        check(f"{own}: no standard output", is_told, done)
+    for name in CALLS:
+        if name not in ("gl.py", "../examples/cube.py"):
+            done = shell(f"{call_of(name)} <&-", folder)
+            is_told = len(done[2]) == 1 and done[2][0].startswith(f"{name}: ")
+            check(f"{name}: closed input", done[0] == 1 and is_told, done)
+
+
+def try_files(folder):
+    """Files that aren't there, that are folders, and that are something else."""
+    for name, at in (("tiles.py", 2), ("where.py", 0), ("page.py", 1), ("page.py", 3)):
+        for what, path in (("a missing file", "nowhere.txt"), ("a folder", ".")):
+            words = list(CALLS[name])
+            words[at] = path
+            refuses(what, 1, name, *words, data=image(4, 2), cwd=folder)
+    (folder / "bytes").write_bytes(bytes(range(256)) * 8)
+    scene = EXAMPLES / "red.rcs"
+    wrongs = [
+        ("bytes as notes", "tiles.py", "made", "2x1", "bytes"),
+        ("bytes as notes", "page.py", "--scene", "scene.txt", "--notes", "bytes"),
+        ("bytes as a scene", "page.py", "--scene", "bytes", "--notes", "notes.txt"),
+        ("a scene's bytes as its text", "where.py", scene),
+        ("a folder that isn't there", "png.py", "nowhere/made"),
+    ]
+    for what, name, *words in wrongs:
+        refuses(what, 1, name, *words, data=image(4, 2), cwd=folder)
+
+
+def try_garbage(folder, seed):
+    """Wrong bytes of every kind: status 0 or 1, at most some lines and no traceback."""
+    pick, sound = random.Random(seed), {"scene.txt": SCENE.encode(), "notes.txt": NOTES.encode()}
+    for number in range(24):
+        for path, data in sound.items():
+            made = changed(pick, data) if pick.random() < 0.8 else pick.randbytes(200)
+            (folder / path).write_bytes(made)
+        for name in ("where.py", "page.py", "tiles.py", "layers.py", "pack.py"):
+            kinds = [image(4, 2), NOTES.encode(), SCENE.encode()]
+            data = changed(pick, pick.choice(kinds)) if number % 4 else pick.randbytes(300)
+            status, _, err = run(name, *CALLS[name], data=data, cwd=folder)
+            is_told = len(err) <= 4 and not any("Traceback" in line for line in err)
+            check(f"{name}: garbage {number}", status in (0, 1) and is_told, (status, err, data))
+    for path, data in sound.items():
+        (folder / path).write_bytes(data)
+
+
+def main():
+    seed = int(sys.argv[1]) if sys.argv[1:] and sys.argv[1].isdigit() else 1
+    with tempfile.TemporaryDirectory() as parent:
+        folder = make_folder(parent)
+        try_words(folder)
+        try_ends(folder)
+        try_files(folder)
+        tool_images.try_all(CALLS, folder)
+        tool_scenes.try_all(folder, seed)
+        tool_pages.try_all(folder)
+        try_garbage(folder, seed)
+        if program.is_built():
+            tool_scenes.try_by_program(seed)
+            tool_scenes.try_drawn_cube()
+            tool_images.try_pictures(folder)
+            tool_pages.try_examples(folder)
+            tool_pages.try_large(folder)
+        else:
+            print(f"left out what needs the program: {program.HOW}")
+    print(f"{TALLY.passed} passed, {TALLY.failed} failed")
+    sys.exit(TALLY.failed > 0)
+
+
+if __name__ == "__main__":
+    main()

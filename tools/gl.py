@@ -1,0 +1,580 @@
+#!/usr/bin/env python3
+"""Writes scenes: a library of calls as OpenGL 1.x has them, in Python.
+
+    import gl
+
+    scene = gl.Scene(320, 240)
+    client = scene.client()
+    client.clear_color(0.1, 0.1, 0.2)
+    client.clear()
+    client.perspective(45, 320 / 240, 0.1, 100)
+    client.translate(0, 0, -3)
+    client.rotate(30, 0, 1, 0)
+    client.begin(gl.QUADS)
+    for x, y in ((-1, -1), (1, -1), (1, 1), (-1, 1)):
+        client.color(x, y, 1)
+        client.vertex(x, y)
+    client.end()
+    client.swap()
+    scene.save("picture.txt")       # as text; as bytes where the name ends with .rcs
+
+Positions, matrices, texture coordinates and depths are numbers as OpenGL has them, and are written
+in 16.16 fixed point. Colours go from 0 to 1, angles are degrees. What the program has no command
+for is made of those it has: QUADS, QUAD_STRIP and POLYGON of triangles, rotate and its like of
+MultMatrix. examples/cube.py is a whole program.
+
+    python3 tools/gl.py             tells the calls
+"""
+import contextlib
+import inspect
+import math
+import struct
+
+import command
+from scene_bytes import Refused, Scene as Spelled, print_line, scene_forms
+
+ONE = 65536
+TRIANGLES, TRIANGLE_STRIP, TRIANGLE_FAN = range(3)
+QUADS, QUAD_STRIP, POLYGON = "quads", "quad strip", "polygon"
+SCISSOR, ALPHA, DEPTH, BLEND, CULL, TEXTURE = range(6)
+MODELVIEW, PROJECTION = range(2)
+NEVER, LESS, EQUAL, LEQUAL, GREATER, NOTEQUAL, GEQUAL, ALWAYS = range(8)
+(
+    ZERO,
+    SOURCE_ONE,
+    SRC_COLOR,
+    ONE_MINUS_SRC_COLOR,
+    DST_COLOR,
+    ONE_MINUS_DST_COLOR,
+    SRC_ALPHA,
+    ONE_MINUS_SRC_ALPHA,
+    DST_ALPHA,
+    ONE_MINUS_DST_ALPHA,
+) = range(10)
+COLOR_BIT, DEPTH_BIT = 1, 2
+FRONT, BACK, FRONT_AND_BACK = range(3)
+COUNTERCLOCKWISE, CLOCKWISE = range(2)
+PRIVATE, SHARED = range(2)
+MODULATE, REPLACE = range(2)
+REPEAT, CLAMP = range(2)
+
+
+def fixed(number):
+    """A number in 16.16 fixed point."""
+    try:
+        made = round(number * ONE)
+    except (OverflowError, ValueError):
+        made = 2**31
+    if not -(2**31) <= made < 2**31:
+        raise ValueError(f"{number} doesn't fit 16.16 fixed point, which goes from -32768 to 32768")
+    return made
+
+
+def channel(share):
+    """A share from 0 to 1 as a byte; what lies outside is held to the ends."""
+    return round(255 * min(max(share, 0), 1))
+
+
+def texel_bytes(width, height, texels):
+    """Texels row by row, as bytes or as one (r, g, b[, a]) of bytes for each; row 0 is at t = 0."""
+    if not isinstance(texels, (bytes, bytearray)):
+        texels = b"".join(bytes([*texel, 255][:4]) for texel in texels)
+    if len(texels) != 4 * width * height:
+        raise ValueError(
+            f"{width} by {height} texels have {4 * width * height} bytes, and not {len(texels)}"
+        )
+    return bytes(texels)
+
+
+# ---- matrices: 16 numbers by columns
+
+
+def identity():
+    return [1.0 if at % 5 == 0 else 0.0 for at in range(16)]
+
+
+def multiplied(a, b):
+    """The matrix a times b: what b does is done first."""
+    return [
+        sum(a[4 * k + row] * b[4 * column + k] for k in range(4))
+        for column in range(4)
+        for row in range(4)
+    ]
+
+
+def translation(x, y, z=0.0):
+    return identity()[:12] + [x, y, z, 1.0]
+
+
+def scaling(x, y, z=1.0):
+    return [x, 0, 0, 0, 0, y, 0, 0, 0, 0, z, 0, 0, 0, 0, 1.0]
+
+
+def rotation(degrees, x, y, z):
+    """Around an axis, counterclockwise as seen from its end."""
+    length = math.sqrt(x * x + y * y + z * z)
+    if length == 0:
+        raise ValueError("an axis of no length")
+    x, y, z = x / length, y / length, z / length
+    c, s = math.cos(math.radians(degrees)), math.sin(math.radians(degrees))
+    d = 1 - c
+    return [
+        x * x * d + c,
+        y * x * d + z * s,
+        x * z * d - y * s,
+        0,
+        x * y * d - z * s,
+        y * y * d + c,
+        y * z * d + x * s,
+        0,
+        x * z * d + y * s,
+        y * z * d - x * s,
+        z * z * d + c,
+        0,
+        0,
+        0,
+        0,
+        1.0,
+    ]
+
+
+def frustum_matrix(left, right, bottom, top, near, far):
+    return [
+        2 * near / (right - left),
+        0,
+        0,
+        0,
+        0,
+        2 * near / (top - bottom),
+        0,
+        0,
+        (right + left) / (right - left),
+        (top + bottom) / (top - bottom),
+        (far + near) / (near - far),
+        -1,
+        0,
+        0,
+        2 * far * near / (near - far),
+        0,
+    ]
+
+
+def perspective_matrix(degrees, aspect, near, far):
+    """Seen under so many degrees from the bottom to the top; aspect is width by height."""
+    top = near * math.tan(math.radians(degrees) / 2)
+    return frustum_matrix(-top * aspect, top * aspect, -top, top, near, far)
+
+
+def orthographic_matrix(left, right, bottom, top, near=-1.0, far=1.0):
+    return [
+        2 / (right - left),
+        0,
+        0,
+        0,
+        0,
+        2 / (top - bottom),
+        0,
+        0,
+        0,
+        0,
+        2 / (near - far),
+        0,
+        (right + left) / (left - right),
+        (top + bottom) / (bottom - top),
+        (far + near) / (near - far),
+        1,
+    ]
+
+
+def look_at_matrix(eye, centre, up):
+    """The eye at one point, looking at another one."""
+
+    def unit(v):
+        length = math.sqrt(sum(n * n for n in v))
+        return [n / length for n in v]
+
+    def cross(a, b):
+        return [a[1] * b[2] - a[2] * b[1], a[2] * b[0] - a[0] * b[2], a[0] * b[1] - a[1] * b[0]]
+
+    f = unit([c - e for c, e in zip(centre, eye)])
+    s = unit(cross(f, up))
+    u = cross(s, f)
+    turned = [s[0], u[0], -f[0], 0, s[1], u[1], -f[1], 0, s[2], u[2], -f[2], 0, 0, 0, 0, 1.0]
+    return multiplied(turned, translation(*(-e for e in eye)))
+
+
+# ---- a client's calls
+
+
+class Client:
+    """One client's stream of commands."""
+
+    def __init__(self, scene):
+        self.scene, self.commands, self.shape, self.corners = scene, [], None, []
+        self.now, self.written = {}, {}
+
+    def issue(self, name, *numbers, texels=b""):
+        """Any command by its name, with its numbers as the program has them."""
+        try:
+            made = scene_forms.command(name, *numbers, texels=texels)
+            scene_forms.LAYOUTS[made[0]].pack(*numbers)
+        except (KeyError, struct.error):
+            words = " ".join(map(str, (name, *numbers)))
+            raise ValueError(f"{words[:80]}: no command has this name and these numbers") from None
+        self.commands.append(made)
+
+    # blocks
+
+    def begin(self, mode):
+        """Opens a block of TRIANGLES, TRIANGLE_STRIP, TRIANGLE_FAN, QUADS, QUAD_STRIP or POLYGON.
+        """
+        if self.shape is not None:
+            raise ValueError("begin inside a block")
+        self.shape, self.corners = mode, []
+
+    def vertex(self, x, y, z=0.0, w=1.0):
+        """A vertex, with the colour and the texture coordinates that are current."""
+        if self.shape is None:
+            raise ValueError("vertex outside a block")
+        self.corners.append(([fixed(n) for n in (x, y, z, w)], dict(self.now)))
+
+    def end(self):
+        """Draws the block."""
+        if self.shape is None:
+            raise ValueError("end without begin")
+        shape, corners = self.shape, self.corners
+        self.shape = None
+        if shape == QUADS:
+            # two triangles of each four corners
+            corners = [
+                corners[4 * quad + at]
+                for quad in range(len(corners) // 4)
+                for at in (0, 1, 2, 0, 2, 3)
+            ]
+        mode = {QUADS: TRIANGLES, QUAD_STRIP: TRIANGLE_STRIP, POLYGON: TRIANGLE_FAN}.get(
+            shape, shape
+        )
+        self.issue("Begin", mode)
+        for position, now in corners:
+            self._write_current(now)
+            self.issue("Vertex", *position)
+        self.issue("End")
+        self._write_current(self.now)
+
+    def _write_current(self, now):
+        """Colour and texture coordinates, where they differ from those that were written last."""
+        for name, numbers in now.items():
+            if self.written.get(name) != numbers:
+                self.issue(name, *numbers)
+                self.written[name] = numbers
+
+    @contextlib.contextmanager
+    def block(self, mode):
+        """`with client.block(gl.QUADS):` begins a block and ends it."""
+        self.begin(mode)
+        yield self
+        self.end()
+
+    def _set_current(self, name, numbers):
+        self.now[name] = numbers
+        if self.shape is None:
+            self._write_current(self.now)
+
+    def color(self, r, g, b, a=1.0):
+        """The current colour."""
+        self._set_current("Color", tuple(channel(share) for share in (r, g, b, a)))
+
+    def tex_coord(self, s, t):
+        """The current texture coordinates: 0 to 1 is the whole image."""
+        self._set_current("TexCoord", (fixed(s), fixed(t)))
+
+    def line(self, first, second, width):
+        """A line from (x, y) to (x, y) as a strip of this width, in the plane."""
+        (x0, y0), (x1, y1) = first, second
+        length = math.hypot(x1 - x0, y1 - y0) or 1.0
+        dx, dy = (y0 - y1) / length * width / 2, (x1 - x0) / length * width / 2
+        with self.block(TRIANGLE_STRIP):
+            for x, y in (
+                (x0 - dx, y0 - dy),
+                (x1 - dx, y1 - dy),
+                (x0 + dx, y0 + dy),
+                (x1 + dx, y1 + dy),
+            ):
+                self.vertex(x, y)
+
+    # matrices
+
+    def matrix_mode(self, mode):
+        """Which matrix is meant: MODELVIEW or PROJECTION."""
+        self.issue("MatrixMode", mode)
+
+    def load_identity(self):
+        self.issue("LoadIdentity")
+
+    def load_matrix(self, numbers):
+        """16 numbers by columns in place of the matrix."""
+        self.issue("LoadMatrix", *map(fixed, numbers))
+
+    def multiply(self, numbers):
+        """The matrix times these 16 numbers by columns."""
+        self.issue("MultMatrix", *map(fixed, numbers))
+
+    def push(self):
+        self.issue("PushMatrix")
+
+    def pop(self):
+        self.issue("PopMatrix")
+
+    @contextlib.contextmanager
+    def pushed(self):
+        """`with client.pushed():` keeps the matrix."""
+        self.push()
+        yield self
+        self.pop()
+
+    def translate(self, x, y, z=0.0):
+        self.multiply(translation(x, y, z))
+
+    def scale(self, x, y, z=1.0):
+        self.multiply(scaling(x, y, z))
+
+    def rotate(self, degrees, x=0.0, y=0.0, z=1.0):
+        """Around an axis, counterclockwise as seen from its end."""
+        self.multiply(rotation(degrees, x, y, z))
+
+    def project(self, numbers):
+        """16 numbers as the projection; the modelview is meant behind it."""
+        self.matrix_mode(PROJECTION)
+        self.load_matrix(numbers)
+        self.matrix_mode(MODELVIEW)
+
+    def perspective(self, degrees, aspect, near, far):
+        """The projection: so many degrees from the bottom to the top; aspect is width by height."""
+        self.project(perspective_matrix(degrees, aspect, near, far))
+
+    def frustum(self, left, right, bottom, top, near, far):
+        """The projection of a frustum."""
+        self.project(frustum_matrix(left, right, bottom, top, near, far))
+
+    def orthographic(self, left, right, bottom, top, near=-1.0, far=1.0):
+        """The projection of a box."""
+        self.project(orthographic_matrix(left, right, bottom, top, near, far))
+
+    def look_at(self, eye, centre, up=(0.0, 1.0, 0.0)):
+        """The modelview times that of an eye at one point that looks at another one."""
+        self.multiply(look_at_matrix(eye, centre, up))
+
+    # state
+
+    def enable(self, *capabilities):
+        """SCISSOR, ALPHA, DEPTH, BLEND, CULL, TEXTURE."""
+        for capability in capabilities:
+            self.issue("Enable", capability)
+
+    def disable(self, *capabilities):
+        for capability in capabilities:
+            self.issue("Disable", capability)
+
+    def viewport(self, x, y, width, height):
+        """In pixels from the lower left."""
+        self.issue("Viewport", x, y, width, height)
+
+    def scissor(self, x, y, width, height):
+        """In pixels from the lower left."""
+        self.issue("Scissor", x, y, width, height)
+
+    def depth_range(self, near, far):
+        self.issue("DepthRange", fixed(near), fixed(far))
+
+    def alpha_func(self, function, reference):
+        """The reference is a share from 0 to 1."""
+        self.issue("AlphaFunc", function, channel(reference))
+
+    def depth_func(self, function):
+        self.issue("DepthFunc", function)
+
+    def depth_mask(self, on):
+        self.issue("DepthMask", int(on))
+
+    def blend_func(self, source, destination):
+        self.issue("BlendFunc", source, destination)
+
+    def color_mask(self, r, g, b, a):
+        self.issue("ColorMask", int(r), int(g), int(b), int(a))
+
+    def cull_face(self, face):
+        self.issue("CullFace", face)
+
+    def front_face(self, direction):
+        self.issue("FrontFace", direction)
+
+    def clear_color(self, r, g, b, a=1.0):
+        self.issue("ClearColor", *(channel(share) for share in (r, g, b, a)))
+
+    def clear_depth(self, depth):
+        self.issue("ClearDepth", fixed(depth))
+
+    def clear(self, mask=COLOR_BIT | DEPTH_BIT):
+        self.issue("Clear", mask)
+
+    # textures
+
+    def tex_image(self, name, width, height, texels):
+        """The image of private texture `name`, 1 to 64: bytes r, g, b, a, or (r, g, b[, a]) of
+        bytes for each texel.
+        """
+        self.issue("TexImage", name, width, height, texels=texel_bytes(width, height, texels))
+
+    def tex_part(self, name, x, y, width, height, texels):
+        """A part of the image of private texture `name`."""
+        self.issue("TexPart", name, x, y, width, height, texels=texel_bytes(width, height, texels))
+
+    def shared_image(self, name, x, y, width, height, texels):
+        """A part of shared texture `name`."""
+        self.issue(
+            "SharedImage", name, x, y, width, height, texels=texel_bytes(width, height, texels)
+        )
+
+    def bind_texture(self, name, kind=PRIVATE):
+        """Which texture is drawn with: a PRIVATE one or a SHARED one."""
+        self.issue("BindTexture", kind, name)
+
+    def tex_env(self, environment):
+        """MODULATE or REPLACE."""
+        self.issue("TexEnv", environment)
+
+    def tex_wrap(self, s, t):
+        """REPEAT or CLAMP, each way."""
+        self.issue("TexWrap", s, t)
+
+    # synchronisation
+
+    def barrier(self, name):
+        """Waits at a barrier of the scene."""
+        self.issue("Barrier", name)
+
+    def semaphore_take(self, name):
+        """Waits for a unit of a semaphore, and takes it (SemP)."""
+        self.issue("SemP", name)
+
+    def semaphore_give(self, name):
+        """Gives a unit to a semaphore (SemV)."""
+        self.issue("SemV", name)
+
+    def swap(self):
+        """Ends a frame."""
+        self.issue("Swap")
+
+    # call lists: a scene of version 3
+
+    @contextlib.contextmanager
+    def recording(self, name):
+        """`with client.recording(1):` records list 1. What is current when it is called isn't known
+        while it is recorded.
+        """
+        self.issue("NewList", name)
+        self.written = {}
+        yield self
+        self.issue("EndList")
+        self.written = {}
+
+    def call(self, name):
+        """Calls a list."""
+        self.issue("CallList", name)
+        self.written = {}
+
+
+class Scene:
+    """A window, what its clients share, and their streams."""
+
+    def __init__(self, width, height, version=2):
+        if version not in (1, 2, 3):
+            raise ValueError(f"version {version!r} isn't 1, 2 or 3")
+        self.width, self.height, self.version = width, height, version
+        self.shared, self.barriers, self.semaphores, self.clients = [], [], [], []
+
+    def client(self):
+        """A new client."""
+        self.clients.append(Client(self))
+        return self.clients[-1]
+
+    def shared_texture(self, width, height):
+        """Declares a shared texture, and gives its name."""
+        self.shared.append((width, height))
+        return len(self.shared)
+
+    def barrier(self, count):
+        """Declares a barrier of so many clients, and gives its name."""
+        self.barriers.append(count)
+        return len(self.barriers)
+
+    def semaphore(self, units=0):
+        """Declares a semaphore with its first units, and gives its name."""
+        self.semaphores.append(units)
+        return len(self.semaphores)
+
+    def spelled(self):
+        """The scene as tools/scene_bytes.py has it, where its quantities are in their ranges."""
+        for number, client in enumerate(self.clients):
+            if client.shape is not None:
+                raise ValueError(f"client {number} ends inside a block")
+        streams = [client.commands for client in self.clients]
+        made = Spelled(
+            self.width,
+            self.height,
+            self.shared,
+            self.barriers,
+            self.semaphores,
+            streams,
+            self.version,
+        )
+        try:
+            scene_forms.judge(made)
+        except Refused as refused:
+            raise ValueError(refused.line.decode().strip()) from None
+        return made
+
+    def bytes(self):
+        """The scene's bytes."""
+        return scene_forms.scene_bytes(self.spelled())
+
+    def text(self, *comments):
+        """The scene's text, with comments in front. One of version 3 is for tools/pack.py."""
+        made = self.spelled()
+        lines = [f"# {comment}" for comment in comments] + [
+            f"scene {made.version} {made.width} {made.height}"
+        ]
+        lines += [f"shared {w} {h}" for w, h in made.shared] + [
+            f"barrier {count}" for count in made.barriers
+        ]
+        lines += [f"semaphore {units}" for units in made.semaphores]
+        for stream in made.streams:
+            lines += ["client", *map(print_line, stream)]
+        return "\n".join(lines) + "\n"
+
+    def save(self, path):
+        """Writes the scene: as bytes where the name ends with .rcs, else as text."""
+        data = self.bytes() if str(path).endswith(".rcs") else self.text().encode()
+        command.write_file(path, data)
+
+
+def told_calls(kind):
+    """The calls of a class, with what each takes and does."""
+    for name, call in vars(kind).items():
+        if not name.startswith("_") and inspect.isfunction(inspect.unwrap(call)):
+            words = ", ".join(
+                str(word) for word in list(inspect.signature(call).parameters.values())[1:]
+            )
+            page = inspect.getdoc(call) or ""
+            yield f"    {f'{name}({words})':<52} {page}".rstrip()
+
+
+def main():
+    command.Words(__doc__).parse_args()
+    for title, kind in (("a scene", Scene), ("a client", Client)):
+        print(f"{title}:")
+        print("\n".join(told_calls(kind)))
+
+
+if __name__ == "__main__":
+    command.run(main)
