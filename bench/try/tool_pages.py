@@ -160,7 +160,7 @@ def try_examples(folder):
 def try_large(folder):
     """A run of many commands and one of many frames are drawn in portions, and that is told."""
     path = folder / "large.rcs"
-    path.write_bytes(drawn(b"", "gen", "--seed", "5", "--size", "300")[0])
+    path.write_bytes(drawn(b"", "gen", "--seed", "5", "--size", "4000")[0])
     status, page, err, _ = page_of(folder, path, ["simulate", "--seed", "1"], "4x4")
     is_told = any("stands for" in line for line in err)
     check("page.py: many commands", status == 0 and is_told and len(page) < 2**25, (status, err))

@@ -251,7 +251,7 @@ def take_picture(person, path):
     high = person.value("document.querySelector('.page').offsetHeight")
     person.chromium.screenshot(path, PICTURE_WIDE, high)
     size = path.stat().st_size
-    check("its picture is below 200,000 bytes", 10_000 < size < 200_000, size)
+    check("its picture is below 256,000 bytes", 10_000 < size < 256_000, size)
     print(f"{path}: {PICTURE_WIDE} by {high}, {size} bytes")
 
 
