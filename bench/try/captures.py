@@ -79,13 +79,15 @@ class Display:
 
 def trace(name, path, seconds, environment):
     """Traces a program for so many seconds. xscreensaver's programs are EGL programs, and
-    apitrace waits for ever where it is told of the other interface."""
+    apitrace waits for ever where it is told of the other interface. What a program's own
+    children are traced to lies beside it."""
+    path = path.resolve()
     command = ["apitrace", "trace", "-o", str(path), "glxgears"]
     if name != "glxgears":
         command = ["apitrace", "trace", "--api", "egl", "-o", str(path), str(SAVERS / name),
                    "-geometry", "400x300"]
     subprocess.run(["timeout", "-k", "1", str(seconds), *command], env=environment,
-                   stdout=subprocess.DEVNULL, stderr=subprocess.DEVNULL)
+                   cwd=path.parent, stdout=subprocess.DEVNULL, stderr=subprocess.DEVNULL)
 
 
 def swaps(path):
