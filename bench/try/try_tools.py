@@ -1,6 +1,6 @@
 #!/usr/bin/env python3
-"""Tries every tool of tools/ as a user has it in hand: right input and wrong, words, pipes that
-break, ends that are full.
+"""Tries every tool of tools/, and ./try-tests, as a user has it in hand: right input and wrong,
+words, pipes that break, ends that are full.
 
     python3 bench/try/try_tools.py [SEED]
 
@@ -27,6 +27,7 @@ from tool_calls import (
     CALLS,
     EXAMPLES,
     NOTES,
+    ROOT,
     SCENE,
     TALLY,
     TOOLS,
@@ -141,6 +142,42 @@ def try_garbage(folder, seed):
         (folder / path).write_bytes(data)
 
 
+# What stands in for `rt try --test` in a crate: its lines and its status, and what ./try-tests has to tell of them.
+TEST_RUNS = {
+    "lane_tests": ("test a::b ... ok\ntest a::c ... ok\ntest result: ok. 2 passed; 0 failed; 0 ignored; 0 filtered out\n", "2 passed, 0 failed"),
+    "thread_tests": ("test a::b ... ok\ntest a::d ... FAILED\ntest result: FAILED. 1 passed; 1 failed; 0 ignored; 0 filtered out\n", "1 passed, 1 failed"),
+    "chain_tests": ("error: there is no such name\n", "0 passed, 1 failed"),
+    "format_tests": ("tests: 0\ntest result: ok. 0 passed; 0 failed; 0 ignored; 0 filtered out\n", "0 passed, 1 failed"),
+}
+
+
+def try_test_runner(folder):
+    """./try-tests: its words, and its lines over an `rt` that passes, fails, doesn't compile or runs no test."""
+    runner = shlex.quote(str(ROOT / "try-tests"))
+    done = shell(f"{runner} --help", folder)
+    check("try-tests: --help", done[0] == 0 and b"--jobs" in done[1] and not done[2], done)
+    for words in ("--nonsense", "--jobs 0", "--jobs many", "--jobs", "--seconds 3601", "raster", "lane_tests nothing"):
+        done = shell(f"{runner} {words}", folder)
+        check(f"try-tests {words}", done[0] == 2 and len(done[2]) == 1 and done[2][0].startswith("try-tests: "), done)
+    done = shell(f"PATH=/nowhere {shlex.quote(sys.executable)} {runner}", folder)
+    check("try-tests: no rt", done[0] == 2 and len(done[2]) == 1 and "no rt" in done[2][0], done)
+    for crate, (lines, _) in TEST_RUNS.items():
+        (folder / f"{crate}.lines").write_text(lines)
+    rt = folder / "rt"
+    rt.write_text(f'#!/bin/sh\ncat "{folder}/$(basename "$PWD").lines"\n')
+    rt.chmod(0o755)
+    done = shell(f'PATH="{folder}:$PATH" {runner} --jobs 2 {" ".join(TEST_RUNS)}', folder)
+    lines = done[1].decode().splitlines()
+    for crate, (_, told) in TEST_RUNS.items():
+        check(f"try-tests: {crate}", any(line.startswith(f"{crate}: {told}, ") for line in lines), done)
+    check("try-tests: the failed test's name", "  failed: a::d" in lines, done)
+    check("try-tests: the last line", done[0] == 1 and lines[-1] == "3 passed, 3 failed" and not done[2], done)
+    done = shell(f'PATH="{folder}:$PATH" {runner} lane_tests', folder)
+    check("try-tests: all passed", done[0] == 0 and done[1].decode().splitlines()[-1] == "2 passed, 0 failed", done)
+    done = shell(f'PATH="{folder}:$PATH" {runner} --help | head -c 1', folder)
+    check("try-tests: a reader that goes away", done[0] == 0 and not done[2], done)
+
+
 def main():
     seed = int(sys.argv[1]) if sys.argv[1:] and sys.argv[1].isdigit() else 1
     with tempfile.TemporaryDirectory() as parent:
@@ -152,6 +189,7 @@ def main():
         tool_scenes.try_all(folder, seed)
         tool_pages.try_all(folder)
         try_garbage(folder, seed)
+        try_test_runner(folder)
         if program.is_built():
             tool_scenes.try_by_program(seed)
             tool_scenes.try_drawn_cube()
