@@ -31,3 +31,4 @@ mod MovesAreTurns
 mod TurnsLeaveLess
 mod WorkIsBounded
 mod OneRecord
+mod FairSchedulesEnd

@@ -5,6 +5,7 @@ use Rattle.std.specs.List.{range_with_len, AllByRecursion}
 use Rattle.std.specs.Prelude.{Ok, Err, MatchOption}
 use Rattle.cmd_pack.specs.Parcels.Spelling.{is_end}
 use Rattle.rc_base.specs.Cluster.Tiles.{tile_count}
+use Rattle.rc_base.specs.Lists.{IsIn}
 use Rattle.rc_base.specs.declared.scene.Scene.{Scene}
 use Rattle.rc_base.specs.declared.window.Layout.{Layout}
 use Rattle.order_model.specs.Standing.{Progress}
@@ -132,6 +133,12 @@ module _ (scene : Scene) (l : Layout) (depth : ℕ) where
         | inl less ↦ find P moves (from + 1) n tail h.1 k (omega (arith, less)) (omega (arith, lt))
         | inr ge ↦ (m, h.0, head ∙ (let same : from ≡ k = omega (arith, le, ge) in same))
       ]
+
+  -- a turn of an actor that has one
+  pub pick : (P : Turn → Type 0) (k : ℕ) (turns : List Turn) → IsIn k (map (number_of scene) turns) → AllByRecursion P turns → (m : Turn) × P m × (number_of scene m ≡ k)
+  pick P k [] has h = absurd has
+  pick P k (m ∷ turns) (inl e) h = (m, h.0, e)
+  pick P k (m ∷ turns) (inr has) h = pick P k turns has h.1
 
 pub rest_still : RestingTurnsChangeNothing
 rest_still scene l depth w v turn rest m = rest_keeps scene l depth w v turn rest m

@@ -1,5 +1,5 @@
 -- A round in which nobody moves, whoever is short, says of each actor that it can't move, so all have ended.
-use Rattle.std.proofs.Common.{◌≡◌, ◌⊎◌, ℕ, ◌+◌, ◌<◌, true, false, List, [], length, map, inl, inr, refl, sym, ap, ◌∙◌, subst, arith, true≢false}
+use Rattle.std.proofs.Common.{◌≡◌, ◌⊎◌, ℕ, ◌+◌, ◌<◌, List, [], length, map, inl, inr, refl, sym, ap, ◌∙◌, subst, arith, true≢false}
 use Rattle.std.specs.List.{AllByRecursion}
 use Rattle.std.specs.Prelude.{Ok, Err}
 use Rattle.rc_base.specs.Cluster.Tiles.{tile_count}
@@ -16,9 +16,9 @@ use Rattle.order_model.proofs.SceneListsAreWellFormed.{scene_client_count}
 use Rattle.sync_manager.specs.Progress.{ManagerProgress, IsReceiving, IsDraining, IsGrantDue, may_arrive, IsNextDeed, IsFoundFull, IsFoundEmpty, answer_of}
 use Rattle.sync_manager.specs.declared.deed.ManagerDeed.{ManagerDeed}
 use Rattle.sync_manager.specs.declared.deed.ManagerDeed.TheVariants.{Delivers, FindsFull, Grants, Receives, Loses, FindsNoRequest, Drops, FindsNoneLeft, Finishes}
-use Rattle.tile_model.specs.Items.Item.{NoMore}
 use Rattle.tile_model.specs.Laws.{MembersAreClients}
 use Rattle.tile_model.specs.Short.{asks, listens, IsFinished, NothingIsDue}
+use Rattle.world_model.specs.Fair.{HaveTurns, FairTurnsMoveSomebody}
 use Rattle.world_model.specs.Laws.{IsSameWorld, RoundsMoveSomebody}
 use Rattle.world_model.specs.Moves.{IsAtRest, IsClientStep, IsTileMove}
 use Rattle.world_model.specs.Runs.{round_of}
@@ -29,9 +29,8 @@ use Rattle.world_model.specs.Turns.Turn.{ClientTurn, ManagerTurn, TileTurn}
 use Rattle.world_model.specs.World.{World, client_total}
 use Rattle.world_model.specs.declared.moves.Move.TheVariants.{Client as ClientMove, Manager as ManagerMove, Tile as TileMove}
 use Rattle.world_model.specs.declared.moves.TileAnswer.{TileAnswer}
-use Rattle.world_model.specs.declared.moves.TileAnswer.TheVariants.{Ended}
 use Rattle.world_model.proofs.RestChangesNothing.{no_item}
-use Rattle.world_model.proofs.RestingRounds.{no_short_item, all_keep, all_known, find, Exists}
+use Rattle.world_model.proofs.RestingRounds.{no_short_item, all_keep, all_known, find, pick, Exists}
 use Rattle.world_model.proofs.SomebodyCanMove.{ClientRests, TileRests, ManagerRests, AllRest, somebody_can_move}
 
 module _ (scene : Scene) (l : Layout) (depth : ℕ) where
@@ -200,16 +199,23 @@ module _ (scene : Scene) (l : Layout) (depth : ℕ) where
   tile_of w t (ManagerTurn answer) k e = absurd (omega (arith, e))
   tile_of w t (TileTurn tile answer) k e = let same : tile ≡ t = omega (arith, e) in subst (λ i. TileRests scene w i) same k.1
 
+  -- where a turn at rest is known of each actor, all rest
+  rest_by : (w : World) → ((k : ℕ) → k < client_total scene + 1 + tile_count l → (m : Turn) × Known w m × (number_of scene m ≡ k)) → AllRest scene l depth w
+  rest_by w pick = record {
+    clients = λ c lc. let m = pick c (omega (arith, lc)) in client_of w c lc m.0 m.1 m.2;
+    manager = let m = pick (client_total scene) (omega arith) in manager_of w m.0 m.1 m.2;
+    tiles = λ t lt. let m = pick (client_total scene + 1 + t) (omega (arith, lt)) in tile_of w t m.0 m.1 m.2;
+  }
+
+  known : (w v : World) (turns : List Turn) → AllByRecursion IsResting turns → AreTurns scene l depth w turns v → AllByRecursion (Known w) turns
+  known w v turns rest h = all_known scene l depth IsResting RestsAt (λ m rests. rests) rests_at before w v turns rest h
+
   all_rest : (w v : World) (round : List Turn) → map (number_of scene) round ≡ round_of scene l → AllByRecursion IsResting round → AreTurns scene l depth w round v → AllRest scene l depth w
   all_rest w v round e rest h =
-      let known = all_known scene l depth IsResting RestsAt (λ m rests. rests) rests_at before w v round rest h in
-      let n = client_total scene + 1 + tile_count l in
-      let pick : (k : ℕ) → k < n → (m : Turn) × Known w m × (number_of scene m ≡ k) = λ k lt. find scene l depth (Known w) round 0 n e known k (omega arith) (omega (arith, lt)) in
-      record {
-        clients = λ c lc. let m = pick c (omega (arith, lc)) in client_of w c lc m.0 m.1 m.2;
-        manager = let m = pick (client_total scene) (omega arith) in manager_of w m.0 m.1 m.2;
-        tiles = λ t lt. let m = pick (client_total scene + 1 + t) (omega (arith, lt)) in tile_of w t m.0 m.1 m.2;
-      }
+      rest_by w (λ k lt. find scene l depth (Known w) round 0 (client_total scene + 1 + tile_count l) e (known w v round rest h) k (omega arith) (omega (arith, lt)))
+
+  all_rest_among : (w v : World) (turns : List Turn) → HaveTurns scene l turns → AllByRecursion IsResting turns → AreTurns scene l depth w turns v → AllRest scene l depth w
+  all_rest_among w v turns has rest h = rest_by w (λ k lt. pick scene l depth (Known w) k turns (has k lt) (known w v turns rest h))
 
 -- all have stopped in a world that is the same
 pub stopped_on : (scene : Scene) (l : Layout) (w v : World) → IsSameWorld scene l w v → AllHaveStopped scene l w → AllHaveStopped scene l v
@@ -223,3 +229,8 @@ pub rounds_move : MembersAreClients → RoundsMoveSomebody
 rounds_move members scene l depth round w later pos flows actors turns rest =
     let h = somebody_can_move members scene l depth pos w flows (all_rest scene l depth w later round actors rest turns) in
     stopped_on scene l w later (all_keep scene l depth w later round rest turns) h
+
+pub fair_turns_move : MembersAreClients → FairTurnsMoveSomebody
+fair_turns_move members scene l depth turns w later pos flows has goes rest =
+    let h = somebody_can_move members scene l depth pos w flows (all_rest_among scene l depth w later turns has rest goes) in
+    stopped_on scene l w later (all_keep scene l depth w later turns rest goes) h

@@ -162,7 +162,7 @@ same_work scene l w v s =
     omega (arith, ops, work, tiles, journal, short)
 
 -- whether the turn rests
-rests : (turn : Turn) → IsResting turn ⊎ (IsResting turn → ⊥)
+pub rests : (turn : Turn) → IsResting turn ⊎ (IsResting turn → ⊥)
 rests (ClientTurn client (Ok (client_moved.Appended tile))) = inr (λ h. elim h [ inl x ↦ (let y = x.1 in cc) | inr x ↦ elim x [ inl y ↦ cc | inr y ↦ cc ] ])
 rests (ClientTurn client (Ok client_moved.Requested)) = inr (λ h. elim h [ inl x ↦ (let y = x.1 in cc) | inr x ↦ elim x [ inl y ↦ cc | inr y ↦ cc ] ])
 rests (ClientTurn client (Ok (client_moved.BlockedTile tile))) = inl (inl (tile, refl))

@@ -8,3 +8,4 @@ pub mod Sound
 pub mod Flowing
 pub mod Work
 pub mod Laws
+pub mod Fair

@@ -7,6 +7,7 @@ ghost use Rattle.world_model.specs.Laws.{RestsChangeNothing, EndedWorldsRest, La
 ghost use Rattle.world_model.specs.Laws.{NewWorldsFlow, TurnsKeepWorldsFlowing, RoundsKeepWorldsFlowing, SteppedRunsFlow};
 ghost use Rattle.world_model.specs.Laws.{MovesAreTurns, AmpleTurnsAreMoves, TurnsToAmpleWorldsAreMoves, AmpleWorldsEnd};
 ghost use Rattle.world_model.specs.Laws.{RestingTurnsChangeNothing, RestingRoundsChangeNothing, StoppedWorldsRest, LastTurnsTell};
+ghost use Rattle.world_model.specs.Fair.{FairTurnsMoveSomebody, FairSchedulesEnd, FairRunsEnd, FewTurnsMove, NewRunsMoveSeldom};
 ghost use Rattle.world_model.specs.Work.{TurnsLeaveLess, TurnsLeaveNoMore, RoundsLeaveLess, NewWorldsHaveLittleToDo, SteppedRunsHaveLittleToDo};
 
 use client_issue::laws::sends_are_parcels;
@@ -168,4 +169,19 @@ pub fn turns_leave_less()
     sends_are_parcels();
     books_stay_legal();
     managers_are_right();
+}
+
+/// Every fair schedule ends: whatever the sequence of turns without end, if each actor has one again and again, all come to have stopped, for lanes of
+/// every depth above 0, whoever is short or becomes so. For among turns of which each actor has one somebody moves until then, and no more turns move
+/// than there were things to do: from a new world of a scene within the limits fewer than 2^40.
+pub fn fair_schedules_end()
+    ensures some { FairTurnsMoveSomebody }
+    ensures ends { FairSchedulesEnd }
+    ensures runs { FairRunsEnd }
+    ensures few { FewTurnsMove }
+    ensures seldom { NewRunsMoveSeldom }
+{
+    entries_have_clients();
+    turns_keep_worlds_flowing();
+    turns_leave_less();
 }
