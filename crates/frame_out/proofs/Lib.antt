@@ -6,3 +6,4 @@ pub mod WrittenMore
 pub mod PartsTaken
 pub mod WriterGoesOn
 pub mod RunsWritten
+pub mod PartsWait

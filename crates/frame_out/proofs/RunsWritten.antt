@@ -43,7 +43,7 @@ part_of l parts tile are low = go parts tile (let n = are.count in omega (arith,
     go (x ∷ xs) zero lt = (x, refl)
     go (x ∷ xs) (suc i) lt = go xs i (omega (arith, lt))
 
-counted : (l : Layout) (tile : ℕ) → tile < tile_count l → (frames : List (List TilePart)) → AllByRecursion (ArePartsOf l) frames → length (parts_in frames tile) ≡ length frames
+pub counted : (l : Layout) (tile : ℕ) → tile < tile_count l → (frames : List (List TilePart)) → AllByRecursion (ArePartsOf l) frames → length (parts_in frames tile) ≡ length frames
 counted l tile low [] all = refl
 counted l tile low (parts ∷ frames) all =
     let x = part_of l parts tile all.0 low in

@@ -1,5 +1,5 @@
 //! Laws of frames. Each function's contract is a law, and its body calls the laws that it follows from: there is nothing to compute.
-ghost use Rattle.frame_out.specs.Laws.{FramesOfScenesAreWritable, NewWritersAreOnTheWay, RecordedFramesHaveTheImageText, WholeRunsAreWritten, WholeRunsShowFrames};
+ghost use Rattle.frame_out.specs.Laws.{FramesOfScenesAreWritable, NewWritersAreOnTheWay, NoTileRunsAway, RecordedFramesHaveTheImageText, WholeRunsAreWritten, WholeRunsShowFrames};
 
 use assembler::parts_show_their_pixels;
 use bounds_bucket::each_pixel_has_one_tile;
@@ -28,3 +28,9 @@ pub fn whole_runs_are_written()
     each_pixel_has_one_tile();
     parts_show_their_pixels();
 }
+
+/// No tile runs away: it has shown at most as many frames more than are complete as its lane of parts is deep, and two. So a run on threads holds at
+/// most depth + 2 parts of each tile, however many frames there are.
+pub fn no_tile_runs_away()
+    ensures { NoTileRunsAway }
+{}
