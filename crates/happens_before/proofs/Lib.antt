@@ -1,4 +1,6 @@
 pub mod BeforeStands
+mod PrecedesIsDecided
+pub mod NamesGoFirst
 pub mod PlacesOfOperations
 pub mod JournalsGoOn
 pub mod ClocksOfEntries

@@ -1,5 +1,5 @@
 //! A journal read entry by entry: what each entry puts before what.
-ghost use Rattle.std.specs.Prelude.{◌≡◌, ◌+◌, ◌<◌, ◌≤◌, ◌^◌, ℕ, length, take, slice_get, slice_index, slice_index_or, option_map, Some, None, [], List, IfSome, IfOk, OnOk};
+ghost use Rattle.std.specs.Prelude.{◌≡◌, ◌+◌, ◌<◌, ◌≤◌, ◌^◌, ℕ, length, slice_get, slice_index, slice_index_or, option_map, Some, None, [], List, IfSome, IfOk, OnOk};
 ghost use Rattle.rc_base.specs.Lists.{AreRising};
 ghost use Rattle.rc_base.specs.Orders.Journal.{IsLegal};
 ghost use Rattle.rc_base.specs.Orders.Sync.{IsWellFormed, client_count, ops_of, places_of};
@@ -9,7 +9,8 @@ ghost use Rattle.rc_base.specs.declared.sync.Name.{Name as AnyName};
 ghost use Rattle.rc_base.specs.declared.sync.WaitAt.{WaitAt};
 ghost use Rattle.order_model.specs.Checked.{place_by};
 ghost use Rattle.happens_before.specs.Clocks.{IsExact, raised};
-ghost use Rattle.happens_before.specs.Timelines.{AreChanges, AreOrdered, IsGate, IsKept, IsRead, IsUnitEntry, behind, clock_of, places_in};
+ghost use Rattle.happens_before.specs.Walks.{HasRead, Keeps};
+ghost use Rattle.happens_before.specs.Timelines.{AreChanges, AreOrdered, IsGate, IsUnitEntry, behind, clock_of, places_in};
 
 use crate::semaphores::Semaphore;
 use crate::timelines::Timelines;
@@ -127,7 +128,7 @@ impl Walk {
     fn new(alloc: Global, syncs: &SyncLists) -> Result<Walk, OutOfMemory>
         requires lists { IsWellFormed syncs.now }
         ensures read { IfOk result (λ w. w.read ≡ 0) }
-        ensures is { IfOk result (λ w. (journal : List AnyEntry) → IsRead syncs.now journal 0 w.used w.semaphores.items w.timelines.clients.items) }
+        ensures is { IfOk result (λ w. (journal : List AnyEntry) → HasRead syncs.now journal w) }
     {
         let mut semaphores = Vec::new(alloc);
         for name in 0..256usize {
@@ -153,9 +154,9 @@ impl Walk {
         requires legal { IsLegal syncs.now journal.now }
         requires client { client < 8 }
         requires entry { slice_get journal.now self.old.read ≡ Some (entry.Give semaphore client) }
-        requires read { IsRead syncs.now journal.now self.old.read self.old.used self.old.semaphores.items self.old.timelines.clients.items }
+        requires read { HasRead syncs.now journal.now self.old }
         ensures same { OnOk result ((self.new.read ≡ self.old.read) × (self.new.used ≡ self.old.used)) }
-        ensures kept { OnOk result (IsKept syncs.now journal.now (take (self.old.read + 1) journal.now) self.new.semaphores.items self.new.timelines.clients.items) }
+        ensures kept { OnOk result (Keeps syncs.now journal.now (self.old.read + 1) self.new) }
     {
         let _journal = journal;
         if let Some(place) = place_of(syncs, client, self.used[client as usize]) {
@@ -176,9 +177,9 @@ impl Walk {
         requires legal { IsLegal syncs.now journal.now }
         requires client { client < 8 }
         requires entry { slice_get journal.now self.old.read ≡ Some (entry.Take semaphore client) }
-        requires read { IsRead syncs.now journal.now self.old.read self.old.used self.old.semaphores.items self.old.timelines.clients.items }
+        requires read { HasRead syncs.now journal.now self.old }
         ensures same { OnOk result ((self.new.read ≡ self.old.read) × (self.new.used ≡ self.old.used)) }
-        ensures kept { OnOk result (IsKept syncs.now journal.now (take (self.old.read + 1) journal.now) self.new.semaphores.items self.new.timelines.clients.items) }
+        ensures kept { OnOk result (Keeps syncs.now journal.now (self.old.read + 1) self.new) }
     {
         let _journal = journal;
         if let Some(giver) = self.semaphores[semaphore as usize].take() {
@@ -203,9 +204,9 @@ impl Walk {
         requires legal { IsLegal syncs.now journal.now }
         requires many { IsUnitEntry entry → ⊥ }
         requires entry { slice_get journal.now self.old.read ≡ Some entry }
-        requires read { IsRead syncs.now journal.now self.old.read self.old.used self.old.semaphores.items self.old.timelines.clients.items }
+        requires read { HasRead syncs.now journal.now self.old }
         ensures same { OnOk result ((self.new.read ≡ self.old.read) × (self.new.used ≡ self.old.used)) }
-        ensures kept { OnOk result (IsKept syncs.now journal.now (take (self.old.read + 1) journal.now) self.new.semaphores.items self.new.timelines.clients.items) }
+        ensures kept { OnOk result (Keeps syncs.now journal.now (self.old.read + 1) self.new) }
     {
         let _journal = journal;
         let at = places(syncs, entry, &self.used);
@@ -224,9 +225,9 @@ impl Walk {
         requires clients { client_count syncs.now ≤ 8 }
         requires legal { IsLegal syncs.now journal.now }
         requires entry { slice_get journal.now self.old.read ≡ Some entry }
-        requires read { IsRead syncs.now journal.now self.old.read self.old.used self.old.semaphores.items self.old.timelines.clients.items }
+        requires read { HasRead syncs.now journal.now self.old }
         ensures same { OnOk result ((self.new.read ≡ self.old.read) × (self.new.used ≡ self.old.used)) }
-        ensures kept { OnOk result (IsKept syncs.now journal.now (take (self.old.read + 1) journal.now) self.new.semaphores.items self.new.timelines.clients.items) }
+        ensures kept { OnOk result (Keeps syncs.now journal.now (self.old.read + 1) self.new) }
     {
         match entry {
             Entry::Give { semaphore, client } => self.give(syncs, journal, semaphore, client),
@@ -242,9 +243,9 @@ impl Walk {
         requires clients { client_count syncs.now ≤ 8 }
         requires legal { IsLegal syncs.now journal.now }
         requires more { self.old.read < length journal.now }
-        requires read { IsRead syncs.now journal.now self.old.read self.old.used self.old.semaphores.items self.old.timelines.clients.items }
+        requires read { HasRead syncs.now journal.now self.old }
         ensures read { OnOk result (self.new.read ≡ self.old.read + 1) }
-        ensures is { OnOk result (IsRead syncs.now journal.now self.new.read self.new.used self.new.semaphores.items self.new.timelines.clients.items) }
+        ensures is { OnOk result (HasRead syncs.now journal.now self.new) }
     {
         let entry = journal[self.read];
         self.keep(syncs, journal, entry)?;

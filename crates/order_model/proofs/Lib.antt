@@ -16,7 +16,7 @@ pub mod OrdersBySteps
 pub mod SpreadIsRun
 pub mod AddedNames
 pub mod StepsArePermitted
-mod DefaultOrderIsPermitted
+pub mod DefaultOrderIsPermitted
 mod OneClientHasOneOrder
 pub mod RecordedOrdersArePermitted
 pub mod SceneListsAreWellFormed
