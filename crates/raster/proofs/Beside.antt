@@ -1,5 +1,5 @@
 -- A triangle that lies beside a rectangle covers no pixel of it.
-use Rattle.std.proofs.Common.{◌≡◌, ℤ, pos, ◌<ℤ◌, ◌≤ℤ◌, ◌⊎◌, inl, inr, List, refl}
+use Rattle.std.proofs.Common.{ℤ, pos, ◌<ℤ◌, ◌≤ℤ◌, ◌⊎◌, inl, inr, List}
 use Rattle.std.proofs.lemmas.Bool.{cases_Bool}
 use Rattle.rc_base.specs.Drawing.Cover.{is_inside, triangle_area, centre}
 use Rattle.rc_base.specs.declared.window.Rect.{Rect}

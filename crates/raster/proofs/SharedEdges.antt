@@ -1,14 +1,14 @@
 -- An edge read from both of its sides.
-use Rattle.std.proofs.Common.{◌≡◌, ℕ, zero, suc, ◌<◌, ◌-ℤ◌, neg_ℤ, ℤ, pos, ◌<ℤ◌, ◌≤ℤ◌, Bool, true, false, not, ◌&&◌, ◌||◌, arith, refl, sym, ◌∙◌, ap, List, int_lt, int_eq}
+use Rattle.std.proofs.Common.{◌≡◌, ℕ, zero, suc, ◌<◌, ◌-ℤ◌, neg_ℤ, ℤ, pos, ◌<ℤ◌, ◌≤ℤ◌, Bool, true, false, true≢false, not, ◌&&◌, ◌||◌, arith, refl, sym, ◌∙◌, ap, List, int_lt, int_eq}
 use Rattle.std.proofs.lemmas.Int.{ints, by_lt_z}
-use Rattle.std.proofs.lemmas.Bool.{and_right}
+use Rattle.std.proofs.lemmas.Bool.{and_parts, and_right}
 use Rattle.std.proofs.lemmas.Bool.Decides.{Decides-int_eq}
 use Rattle.std.proofs.Math.IntN.{*ℤ_comm}
 use borrow.Author.Differences.{same_in, same_out, lt_out, sum_is_lem, neg_is}
 use Rattle.fixed_math.proofs.Signed.{diff_times}
 use Rattle.fixed_math.proofs.Signs.{below_is, not_below_is, off}
 use Rattle.rc_base.specs.Drawing.Cover.{edge_value, passes, is_within_edge, keeps_line, is_inside, centre, corner, covers}
-use Rattle.raster.specs.SharedEdge.{next_corner, edge_at, SamePlace, IsInsideOthers, NoDoubleEdge, NoDoubleCover, is_shown_at}
+use Rattle.raster.specs.SharedEdge.{next_corner, edge_at, SamePlace, IsInsideOthers, NoDoubleEdge, NoDoubleCover, NoneCoveredTwice, is_shown_at}
 use Rattle.rc_base.specs.declared.window.WindowVertex.{WindowVertex}
 
 -- from b to a an edge has the opposite value
@@ -142,3 +142,71 @@ no_double_cover_holds s s' block block' v w i j x y kept other shared =
       at_most_one (is_inside v x y) (is_inside w x y) (is_shown_at s x y) (is_shown_at s' x y) one,
       λ h k. exactly_one (is_inside v x y) (is_inside w x y) (is_shown_at s x y) (is_shown_at s' x y) one h k,
     )
+
+-- ---- inside two triangles
+
+-- what is inside a triangle lies on the inner side of each edge
+inside_edge : (v : List WindowVertex) (i : ℕ) (x y : ℤ) → i < 3 → is_inside v x y ≡ true → is_within_edge (corner v i) (corner v (next_corner i)) (centre x) (centre y) ≡ true
+unfolding is_inside
+inside_edge v zero x y lt h = (and_parts _ _ h).0
+inside_edge v (suc zero) x y lt h = (and_parts _ _ (and_parts _ _ h).1).0
+inside_edge v (suc (suc zero)) x y lt h = (and_parts _ _ (and_parts _ _ h).1).1
+inside_edge v (suc (suc (suc n))) x y lt h = absurd (omega arith)
+
+passes_not : (e : ℤ) (keeps : Bool) → e <ℤ pos 0 → passes e keeps ≡ false
+passes_not e keeps h = grind (arith, ints)
+
+-- of an edge and the same one backwards, both pass a point only where both keep it on their line
+pass_both : (e : ℤ) (k l : Bool) → passes e k ≡ true → passes (neg_ℤ e) l ≡ true → (k ≡ true) × (l ≡ true)
+pass_both e k l h m =
+    by_lt_z e (pos 0)
+    (λ low. absurd (true≢false (sym h ∙ passes_not e k low)))
+    (λ g. by_lt_z (pos 0) e
+    (λ high. absurd (true≢false (sym m ∙ passes_not (neg_ℤ e) l (omega (arith, ints)))))
+    (λ f. let z : e ≡ pos 0 = omega (arith, ints) in let z' : neg_ℤ e ≡ pos 0 = omega (arith, ints) in
+    (sym (passes_line e k z) ∙ h, sym (passes_line (neg_ℤ e) l z') ∙ m)))
+
+not_both_left : (dx : ℤ) → int_lt dx (pos 0) ≡ true → int_lt (neg_ℤ dx) (pos 0) ≡ true → ⊥
+not_both_left dx h k = grind (arith, ints)
+
+not_both_ways : (dx dy : ℤ) → down_or_left dx dy ≡ true → down_or_left (neg_ℤ dx) (neg_ℤ dy) ≡ true → ⊥
+not_both_ways dx dy h k =
+    by_lt_z dy (pos 0)
+    (λ low. true≢false (sym k ∙ goes_up (neg_ℤ dx) (neg_ℤ dy) (omega (arith, ints))))
+    (λ g. by_lt_z (pos 0) dy
+    (λ high. true≢false (sym h ∙ goes_up dx dy high))
+    (λ f. let z : dy ≡ pos 0 = omega (arith, ints) in let z' : neg_ℤ dy ≡ pos 0 = omega (arith, ints) in
+    not_both_left dx (sym (goes_level dx dy z) ∙ h) (sym (goes_level (neg_ℤ dx) (neg_ℤ dy) z') ∙ k)))
+
+not_kept_twice : (a b c d : WindowVertex) → SamePlace a d → SamePlace b c → keeps_line a b ≡ true → keeps_line c d ≡ true → ⊥
+unfolding down_or_left
+not_kept_twice a b c d h k p q =
+    let e : d.x -ℤ c.x ≡ neg_ℤ (b.x -ℤ a.x) = let u = h.0 in let v = k.0 in omega (arith, ints) in
+    let f : d.y -ℤ c.y ≡ neg_ℤ (b.y -ℤ a.y) = let u = h.1 in let v = k.1 in omega (arith, ints) in
+    not_both_ways (b.x -ℤ a.x) (b.y -ℤ a.y) p (sym (λ i. down_or_left (e i) (f i)) ∙ q)
+
+-- no point lies on the inner side of an edge and of the same one backwards
+not_within_both : (a b c d : WindowVertex) (x y : ℤ) → SamePlace a d → SamePlace b c → is_within_edge a b x y ≡ true → is_within_edge c d x y ≡ true → ⊥
+unfolding is_within_edge
+not_within_both a b c d x y h k p q =
+    let back : edge_value c d x y ≡ neg_ℤ (edge_value a b x y) = edge_same c d b a x y (turned b c k) (turned a d h) ∙ edge_back a b x y in
+    let both = pass_both (edge_value a b x y) (keeps_line a b) (keeps_line c d) p (sym (ap (λ e. passes e (keeps_line c d)) back) ∙ q) in
+    not_kept_twice a b c d h k both.0 both.1
+
+not_both_true : (p q : Bool) → (p ≡ true → q ≡ true → ⊥) → (p && q) ≡ false
+not_both_true true true h = absurd (h refl refl)
+not_both_true true false h = refl
+not_both_true false q h = refl
+
+-- a test that asks more
+asks_more : (p q c d : Bool) → (p && q) ≡ false → ((p && c) && (q && d)) ≡ false
+asks_more true true c d e = absurd (true≢false e)
+asks_more true false c d e = and_right c false refl
+asks_more false q c d e = refl
+
+pub none_covered_twice_holds : NoneCoveredTwice
+unfolding covers
+none_covered_twice_holds v w i j x y lt lt' r =
+    let none = not_both_true (is_inside v x y) (is_inside w x y) (λ p q.
+    not_within_both (corner v i) (corner v (next_corner i)) (corner w j) (corner w (next_corner j)) (centre x) (centre y) r.0 r.1 (inside_edge v i x y lt p) (inside_edge w j x y lt' q)) in
+    (none, λ s s'. asks_more (is_inside v x y) (is_inside w x y) (is_shown_at s x y) (is_shown_at s' x y) none)

@@ -1,6 +1,6 @@
 -- Edges that the near plane cuts: what is in front of an edge, and where pieces have it.
-use Rattle.std.specs.Prelude.{◌≡◌, List, [], ◌∷◌, if◌then◌else◌, ◌⊎◌, Option, Some, None, IfSome, ℤ, pos, ◌<ℤ◌}
-use Rattle.rc_base.specs.Drawing.Cover.{triangle_area}
+use Rattle.std.specs.Prelude.{◌≡◌, ℕ, ◌<◌, List, [], ◌∷◌, ◌&&◌, false, if◌then◌else◌, ◌⊎◌, Option, Some, None, IfSome, ℤ, pos, ◌<ℤ◌}
+use Rattle.rc_base.specs.Drawing.Cover.{triangle_area, covers}
 use Rattle.rc_base.specs.Drawing.Kept.{three, point, kept_at}
 use Rattle.rc_base.specs.Drawing.Pieces.{is_in_front, crossing_point, polygon_of, fan_of}
 use Rattle.rc_base.specs.Drawing.Window.{window_at}
@@ -57,3 +57,18 @@ DiagonalIsShared =
     (s : State) (a b c d : ClipVertex) (v w : List WindowVertex) → kept_at s (a ∷ b ∷ c ∷ []) ≡ Some v → kept_at s (a ∷ c ∷ d ∷ []) ≡ Some w
     → (pos 0 <ℤ area_at s a b c → pos 0 <ℤ area_at s a c d → RunOpposite v 2 w 0)
     × (area_at s a b c <ℤ pos 0 → area_at s a c d <ℤ pos 0 → RunOpposite v 0 w 2)
+
+-- two pieces turn the same way in the window
+abbrev pub TurnAlike : State → List ClipVertex → List ClipVertex → Type 0
+TurnAlike s t u =
+    ((pos 0 <ℤ area_at s (point t 0) (point t 1) (point t 2)) × (pos 0 <ℤ area_at s (point u 0) (point u 1) (point u 2)))
+    ⊎ ((area_at s (point t 0) (point t 1) (point t 2) <ℤ pos 0) × (area_at s (point u 0) (point u 1) (point u 2) <ℤ pos 0))
+
+-- Of two triangles that run through an edge in opposite directions two kept pieces that have what is in front of it, and turn the same way, run through
+-- it in opposite directions too: no pixel is covered by both. Where by rounding one of them turns the other way, some may be.
+abbrev pub NeighboursShareTheirCut : Type 0
+NeighboursShareTheirCut =
+    (s : State) (a b a' b' : ClipVertex) (e f : ClipVertex × ClipVertex) (t u : List ClipVertex) (v w : List WindowVertex)
+    → SameClipPlace a a' → SameClipPlace b b' → front_edge a b ≡ Some e → front_edge b' a' ≡ Some f → IsEdgeOf t e.0 e.1 → IsEdgeOf u f.0 f.1
+    → kept_at s t ≡ Some v → kept_at s u ≡ Some w → TurnAlike s t u
+    → ((i : ℕ) × (j : ℕ) × (i < 3) × (j < 3) × RunOpposite v i w j) × ((x y : ℤ) → (covers s v x y && covers s w x y) ≡ false)

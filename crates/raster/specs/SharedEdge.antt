@@ -55,3 +55,10 @@ NoDoubleCover =
     → IsIn v (kept_triangles s block) → IsIn w (kept_triangles s' block') → IsOnSharedEdge v i w j x y
     → ((covers s v x y && covers s' w x y) ≡ false)
     × (is_shown_at s x y ≡ true → is_shown_at s' x y ≡ true → covers s v x y ≡ not (covers s' w x y))
+
+-- Where two triangles run through an edge in opposite directions, no pixel is inside both, wherever it lies: so none is covered by both, each in its own
+-- state.
+abbrev pub NoneCoveredTwice : Type 0
+NoneCoveredTwice =
+    (v w : List WindowVertex) (i j : ℕ) (x y : ℤ) → i < 3 → j < 3 → RunOpposite v i w j
+    → ((is_inside v x y && is_inside w x y) ≡ false) × ((s s' : State) → (covers s v x y && covers s' w x y) ≡ false)

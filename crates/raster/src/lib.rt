@@ -33,7 +33,7 @@ pub use color::{ColorPlane, ColorRamp, color_plane, flat_color, has_depths};
 pub use column::Column;
 pub use coverage::{covers, spans};
 pub use fragment::fragment_at;
-pub use law::{cover_lies_in_bounds, no_double_edge};
+pub use law::{cover_lies_in_bounds, no_double_edge, pieces_share_edges};
 pub use rows::SpanIter;
 pub use setup::setup_at;
 pub use triangle_setup::TriangleSetup;
