@@ -14,9 +14,16 @@ use Rattle.order_model.proofs.DefaultOrderIsPermitted.{default_permitted}
 use Rattle.order_model.proofs.StandsInLists.{first_in, second_in, not_both, either_first, stands_split, stands_right, in_append, in_left, in_less, in_more, take_out, no_repeat_less}
 use Rattle.happens_before.specs.Before.{IsBefore, AreConflictsOrdered}
 use Rattle.happens_before.specs.Before.IsBefore.{Next, Then}
+use Rattle.happens_before.specs.Laws.{IsLinearExtension}
 use Rattle.happens_before.proofs.BeforeStands.{before_stands}
 use Rattle.happens_before.proofs.JournalsGoOn.{in_right}
 use Rattle.happens_before.proofs.PrecedesIsDecided.{some_or_none, precedes_or_not}
+
+pub linear_extensions : (syncs : SyncLists) (js : List Entry) (o : List Name) → IsPermitted syncs js o ↔ IsLinearExtension syncs js o
+linear_extensions syncs js o = (
+  λ p. record { names = p.names; once = p.once; sequence = before_stands syncs js o p },
+  λ e. record { names = e.names; once = e.once; sequence = λ a b i j h. e.sequence a b (Next a b ((e.names a).0 i) ((e.names b).0 j) h) },
+)
 
 -- ---- an element goes in front of a part of a list
 
