@@ -8,3 +8,4 @@ mod TouchesInTurn
 mod TrianglesBeside
 mod CarriedUses
 mod ScenesInTurn
+mod VerdictsOnScenes

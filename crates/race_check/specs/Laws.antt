@@ -6,7 +6,9 @@ use Rattle.rc_base.specs.declared.sync.Entry.{Entry}
 use Rattle.rc_base.specs.declared.sync.Name.{Name}
 use Rattle.rc_base.specs.declared.sync.SyncLists.{SyncLists}
 use Rattle.happens_before.specs.Before.{IsBefore}
-use Rattle.race_check.specs.Races.{ConflictsUnordered, IsVerdict}
+use Rattle.happens_before.specs.Laws.{MayStandFirst}
+use Rattle.race_check.specs.Races.{ConflictsUnordered, IsFirstRace, IsVerdict}
+use Rattle.race_check.specs.declared.verdict.Spot.{Spot}
 use Rattle.race_check.specs.declared.verdict.Verdict.{Verdict}
 
 -- of two conflicting names of a permitted order the later is never before the earlier: where the earlier isn't before the later, nothing orders them
@@ -20,3 +22,10 @@ abbrev pub EachOrderHasOneVerdict : Type 0
 EachOrderHasOneVerdict =
     (syncs : SyncLists) (journal : List Entry) (f : Footprint (ℕ × ℕ)) (order : List Name) → IsPermitted syncs journal order
     → (v w : Verdict) → IsVerdict syncs journal order f v → IsVerdict syncs journal order f w → v ≡ w
+
+-- a race that is told of a permitted order is real: its two names stand either way round in permitted orders
+abbrev pub ToldRacesAreReal : Type 0
+ToldRacesAreReal =
+    (syncs : SyncLists) (journal : List Entry) (f : Footprint (ℕ × ℕ)) (order : List Name) → IsPermitted syncs journal order
+    → (first second : Name) (spot : Spot) → IsFirstRace syncs journal order f first second spot
+    → MayStandFirst syncs journal first second × MayStandFirst syncs journal second first

@@ -49,10 +49,10 @@ fn carry_name(
     Ok(carry_out(marks, timelines, name, state, &effect))
 }
 
-/// Whether synchronisation orders every two conflicting commands of a scene, by a permitted order. With `Ordered` every two conflicting commands stand in
-/// one sequence in all orders that the journal permits. Otherwise `second` is the first name of the order that conflicts with an earlier one that
-/// isn't before it; among these earlier ones `first` is of the lowest client, and of that client the one of the highest place. The spot is
-/// the lowest shared texture in which they conflict, else their common pixel of the lowest row, and in it of the lowest column.
+/// Whether synchronisation orders every two conflicting commands of a scene, by a permitted order. `Ordered` comes exactly where every two conflicting
+/// commands stand in one sequence in all orders that the journal permits. Otherwise `second` is the first name of the order that conflicts with an
+/// earlier one that isn't before it; among these earlier ones `first` is of the lowest client, and of that client the one of the highest place. The
+/// spot is the lowest shared texture in which they conflict, else their common pixel of the lowest row, and in it of the lowest column.
 pub fn check_races(
     alloc: Global,
     scene: &Scene,
@@ -66,7 +66,7 @@ pub fn check_races(
     requires permitted { IsPermitted syncs.now journal.now order.now }
     ensures verdict { IfOk result (λ v. IsVerdict syncs.now journal.now order.now (footprint_of scene.now) v) }
     ensures exactly { IfOk result (λ v. (v ≡ verdict.Ordered) ↔ AreConflictsOrdered syncs.now journal.now (footprint_of scene.now)) }
-    ensures law { IfOk result (λ v. v ≡ verdict.Ordered → IsOrderedScene scene.now journal.now) }
+    ensures exactly_ordered { IfOk result (λ v. (v ≡ verdict.Ordered) ↔ IsOrderedScene scene.now journal.now) }
 {
     let timelines = clocks_of(alloc, journal.as_slice(), syncs)?;
     let mut clients = clients_of(alloc, scene)?;

@@ -7,7 +7,6 @@ use Rattle.rc_base.specs.Orders.Sync.{IsWellFormed, client_count}
 use Rattle.rc_base.specs.declared.sync.Entry.{Entry}
 use Rattle.rc_base.specs.declared.sync.Name.{Name}
 use Rattle.rc_base.specs.declared.sync.SyncLists.{SyncLists}
-use Rattle.happens_before.specs.Before.{AreConflictsOrdered}
 use Rattle.happens_before.specs.Clocks.{IsExact}
 use Rattle.happens_before.specs.Timelines.{clock_of}
 use Rattle.order_model.proofs.NamesInTurn.{at_in, order_at}
@@ -17,7 +16,7 @@ use Rattle.stream_replay.proofs.ClientsInTurn.{first_clients, clients_next, clie
 use Rattle.race_check.specs.declared.verdict.Verdict.TheVariants as verdict
 use Rattle.race_check.proofs.OrdersAreChecked.{sized_first, passed_first, race_here, passed_more, all_passed, verdict_exact}
 use Rattle.race_check.proofs.ScenesInTurn.{client_in, client_small, place_in, place_small, next_in}
-use Rattle.happens_before.proofs.BeforeStands.{conflicts_ordered}
+use Rattle.race_check.proofs.VerdictsOnScenes.{scene_exact}
 use Rattle.race_check.proofs.check.check_races.Goals as goal
 
 abbrev none : Name
@@ -140,8 +139,9 @@ pub returns-in-Some-clause-exactly : goal.returns-in-Some-clause-exactly
 returns-in-Some-clause-exactly c =
     verdict_exact c.args.syncs.now c.args.journal.now c.args.order.now (footprint_of c.args.scene.now) _ c.requires.permitted (returns-in-Some-clause-verdict c)
 
-pub returns-in-Some-clause-law : goal.returns-in-Some-clause-law
-returns-in-Some-clause-law c e = absurd cc
+pub returns-in-Some-clause-exactly_ordered : goal.returns-in-Some-clause-exactly_ordered
+returns-in-Some-clause-exactly_ordered c =
+    scene_exact c.args.scene.now c.args.syncs.now c.args.journal.now c.args.order.now _ c.requires.lists c.requires.permitted (returns-in-Some-clause-exactly c)
 
 pub returns-clause-verdict : goal.returns-clause-verdict
 returns-clause-verdict c =
@@ -160,7 +160,6 @@ pub returns-clause-exactly : goal.returns-clause-exactly
 returns-clause-exactly c =
     verdict_exact c.args.syncs.now c.args.journal.now c.args.order.now (footprint_of c.args.scene.now) verdict.Ordered c.requires.permitted (returns-clause-verdict c)
 
-pub returns-clause-law : goal.returns-clause-law
-returns-clause-law c e =
-    conflicts_ordered c.args.scene.now c.args.journal.now
-    (subst (λ (l : SyncLists). AreConflictsOrdered l c.args.journal.now (footprint_of c.args.scene.now)) c.requires.lists (returns-clause-verdict c))
+pub returns-clause-exactly_ordered : goal.returns-clause-exactly_ordered
+returns-clause-exactly_ordered c =
+    scene_exact c.args.scene.now c.args.syncs.now c.args.journal.now c.args.order.now verdict.Ordered c.requires.lists c.requires.permitted (returns-clause-exactly c)
