@@ -5,3 +5,4 @@ pub mod PushAndPop
 pub mod ImagesGoOn
 pub mod OneElement
 pub mod ValidContexts
+pub mod CountedBlocks

@@ -1,4 +1,5 @@
 pub mod Arguments
+pub mod Counted
 pub mod Streams
 pub mod Valid
 pub mod Edits

@@ -1,9 +1,11 @@
 //! The context of one client.
 ghost use Rattle.std.specs.Prelude.{◌≡◌, ◌≢◌, ℕ, ◌+◌, ◌<◌, ◌≤◌, ◌^◌, ◌*◌, true, length, IfOk, OnOk, OnErr, None, [], ◌∷◌, ◌++◌};
+ghost use Rattle.std.specs.Option.{option_map};
 ghost use Rattle.rc_base.specs.Lists.{with_name};
+ghost use Rattle.rc_base.specs.declared.state.Block.{Block as BlockOf};
 ghost use Rattle.rc_base.specs.Contexts.Context.{default_context, top, below, private_image, edit_of, shared_sides, private_count};
 ghost use Rattle.rc_base.specs.Contexts.Faults.{is_in_place, has_values, has_image, part_fits, has_room, has_below, fault_of};
-ghost use Rattle.rc_base.specs.Contexts.Issue.{carried_out, done_by, issued, effect_of, with_top, with_below, with_image, last_of, front_of, block_mode};
+ghost use Rattle.rc_base.specs.Contexts.Issue.{carried_out, done_by, refused, issued, effect_of, with_top, with_below, with_image, last_of, front_of, block_mode};
 ghost use Rattle.rc_base.specs.Formats.Commands.{has_codes};
 ghost use Rattle.rc_base.specs.declared.command.Command.TheVariants as cmd;
 ghost use Rattle.textures.specs.Images.{LiesInside, picture};
@@ -147,7 +149,7 @@ impl Context {
     {
         match command {
             Command::Vertex { .. } => match &self.block {
-                Some(block) => block.vertices.len() < 16_383,
+                Some(block) => rules::has_vertex_room(block.vertices.len()),
                 None => true,
             },
             Command::MultMatrix(_) => product.is_some(),
@@ -300,6 +302,19 @@ impl Context {
         Ok(())
     }
 
+    pub(crate) fn set_color(&mut self, color: Rgba)
+        ensures { self.new ≡ record self.old { color = color } }
+    {
+        self.color = color;
+    }
+
+    pub(crate) fn set_coordinate(&mut self, s: &i32, t: &i32)
+        ensures { self.new ≡ record self.old { s = s.now; t = t.now } }
+    {
+        self.s = *s;
+        self.t = *t;
+    }
+
     #[tactic(auto, using(textures::proofs::Names::at_name_below, textures::proofs::Names::with_name_below))]
     fn count_edit(&mut self, name: u8)
         requires low { 0 < name }
@@ -372,11 +387,8 @@ impl Context {
                 self.block = Some(block);
             }
             Command::Vertex { pos } => self.add_vertex(*pos)?,
-            Command::Color(color) => self.color = *color,
-            Command::TexCoord { s, t } => {
-                self.s = *s;
-                self.t = *t;
-            }
+            Command::Color(color) => self.set_color(*color),
+            Command::TexCoord { s, t } => self.set_coordinate(s, t),
             Command::Enable { capability } => set_capability(&mut self.state, *capability, true),
             Command::Disable { capability } => set_capability(&mut self.state, *capability, false),
             Command::MatrixMode { mode } => self.matrix_mode = *mode,
@@ -441,9 +453,49 @@ impl Context {
         }
     }
 
-    /// Carries out the command at its place, or refuses it and notes its fault. Where memory is wanting, nothing is changed.
+    // ---- one command
+
+    // Notes the fault of a refused command.
+    pub(crate) fn refuse(&mut self, place: u32, fault: Fault) -> Result<(), OutOfMemory>
+        ensures ok { OnOk result (self.new ≡ refused self.old place fault) }
+        ensures err { OnErr result (self.new ≡ self.old) }
+    {
+        self.faults.push((place, fault))?;
+        Ok(())
+    }
+
+    // The fault of a vertex: it stands in an open block that has room for it.
+    fn vertex_fault(&self, pos: [i32; 4]) -> Option<Fault>
+        ensures { result ≡ fault_of self.now (cmd.Vertex pos) }
+    {
+        let _pos = pos;
+        match &self.block {
+            Some(block) => rules::vertex_fault(block.vertices.len()),
+            None => Some(Fault::InvalidOperation),
+        }
+    }
+
     #[tactic(auto, unfolding(rc_base::specs::Contexts::Issue::issued, rc_base::specs::Contexts::Issue::effect_of))]
-    pub fn issue(&mut self, place: u32, command: &Command) -> Result<Effect, OutOfMemory>
+    fn issue_vertex(&mut self, place: u32, pos: [i32; 4]) -> Result<Effect, OutOfMemory>
+        ensures effect { IfOk result (λ e. e ≡ effect_of self.old (cmd.Vertex pos)) }
+        ensures ok { OnOk result (self.new ≡ issued self.old place (cmd.Vertex pos)) }
+        ensures err { OnErr result (self.new ≡ self.old) }
+    {
+        match self.vertex_fault(pos) {
+            Some(fault) => {
+                self.refuse(place, fault)?;
+                Ok(Effect::Refused(fault))
+            }
+            None => {
+                self.add_vertex(pos)?;
+                Ok(Effect::Quiet)
+            }
+        }
+    }
+
+    // Tries each rule in turn.
+    #[tactic(auto, unfolding(rc_base::specs::Contexts::Issue::issued, rc_base::specs::Contexts::Issue::effect_of))]
+    fn issue_by_rules(&mut self, place: u32, command: &Command) -> Result<Effect, OutOfMemory>
         requires texels { HasTexels command.now }
         requires room { (name : ℕ) → 0 < name → name ≤ private_count → edit_of self.old name + 1 < 2 ^ 32 }
         ensures effect { IfOk result (λ e. e ≡ effect_of self.old command.now) }
@@ -453,10 +505,33 @@ impl Context {
         let product = self.product(command);
         match self.first_fault(command, product) {
             Some(fault) => {
-                self.faults.push((place, fault))?;
+                self.refuse(place, fault)?;
                 Ok(Effect::Refused(fault))
             }
             None => self.carry_out(command, product),
+        }
+    }
+
+    /// Carries out the command at its place, or refuses it and notes its fault. Where memory is wanting, nothing is changed.
+    #[tactic(auto, unfolding(rc_base::specs::Contexts::Issue::issued, rc_base::specs::Contexts::Issue::effect_of))]
+    pub fn issue(&mut self, place: u32, command: &Command) -> Result<Effect, OutOfMemory>
+        requires texels { HasTexels command.now }
+        requires room { (name : ℕ) → 0 < name → name ≤ private_count → edit_of self.old name + 1 < 2 ^ 32 }
+        ensures effect { IfOk result (λ e. e ≡ effect_of self.old command.now) }
+        ensures ok { OnOk result (self.new ≡ issued self.old place command.now) }
+        ensures err { OnErr result (self.new ≡ self.old) }
+    {
+        match command {
+            Command::Vertex { pos } => self.issue_vertex(place, *pos),
+            Command::Color(color) => {
+                self.set_color(*color);
+                Ok(Effect::Quiet)
+            }
+            Command::TexCoord { s, t } => {
+                self.set_coordinate(s, t);
+                Ok(Effect::Quiet)
+            }
+            _ => self.issue_by_rules(place, command),
         }
     }
 
@@ -466,6 +541,21 @@ impl Context {
     {
         if let Effect::Block(block) = effect {
             self.room = block.vertices.into_vec();
+        }
+    }
+
+    // Closes the open block without drawing it, and tells how many vertices it had.
+    pub(crate) fn take_block(&mut self) -> Option<usize>
+        ensures count { result ≡ option_map (λ (b : BlockOf). length b.vertices) self.old.block }
+        ensures context { self.new ≡ record self.old { block = None } }
+    {
+        match self.block.take() {
+            Some(block) => {
+                let count = block.vertices.len();
+                self.room = block.vertices.into_vec();
+                Some(count)
+            }
+            None => None,
         }
     }
 

@@ -1,10 +1,12 @@
 //! The rules that need no context.
-ghost use Rattle.std.specs.Prelude.{◌≡◌};
+ghost use Rattle.std.specs.Prelude.{◌≡◌, nat_lt, Some, None, if◌then◌else◌};
 ghost use Rattle.rc_base.specs.Formats.Commands.{has_codes, table_row, opcode_of};
-ghost use Rattle.rc_base.specs.Contexts.Faults.{may_stand_in, is_viewport};
+ghost use Rattle.rc_base.specs.Contexts.Faults.{may_stand_in, is_viewport, vertex_most};
+ghost use Rattle.rc_base.specs.declared.state.Fault.TheVariants.{InvalidValue};
 
 use element_table::{are_codes, is_capability, is_code};
 use rc_base::command::Command;
+use rc_base::state::Fault;
 
 /// Whether a command may stand where a block is open, or where none is.
 pub fn may_stand_in(command: &Command, open_block: bool) -> bool
@@ -47,4 +49,22 @@ pub fn is_viewport(area: &[i32; 4]) -> bool
 {
     (-32768 <= area[0] && area[0] <= 32767 && (-32768 <= area[1] && area[1] <= 32767))
         && (0 <= area[2] && area[2] <= 2048 && (0 <= area[3] && area[3] <= 2048))
+}
+
+/// Whether a block of so many vertices has room for one more.
+pub fn has_vertex_room(count: usize) -> bool
+    ensures { result ≡ nat_lt count vertex_most }
+{
+    count < 16_383
+}
+
+/// The fault of a vertex in an open block of so many.
+pub fn vertex_fault(count: usize) -> Option<Fault>
+    ensures { result ≡ (if nat_lt count vertex_most then None else Some InvalidValue) }
+{
+    if has_vertex_room(count) {
+        None
+    } else {
+        Some(Fault::InvalidValue)
+    }
 }

@@ -1,0 +1,134 @@
+//! A context whose open block is only counted.
+ghost use Rattle.std.specs.Prelude.{◌≡◌, ℕ, ◌+◌, ◌<◌, ◌≤◌, ◌^◌, IfOk, OnOk, OnErr, Some, None};
+ghost use Rattle.rc_base.specs.Contexts.Context.{ClientContext, default_context, edit_of, private_count};
+ghost use Rattle.rc_base.specs.Contexts.Issue.{issued, effect_of, refused};
+ghost use Rattle.gl_context.specs.Arguments.{HasTexels};
+ghost use Rattle.gl_context.specs.Counted.{counted, operation_of};
+
+use crate::context::Context;
+use crate::rules;
+use rc_base::cluster::FaultList;
+use rc_base::command::Command;
+use rc_base::out_of_memory::OutOfMemory;
+use rc_base::scene::Decl;
+use rc_base::state::{Effect, Fault};
+use rc_base::sync::SyncOp;
+use std::alloc::Global;
+
+/// What tells which commands of a client are refused, and which operations of synchronisation are accepted: its context, but of an open block
+/// only how many vertices it has.
+#[derive(Drop)]
+pub struct CountingContext {
+    /// The context as if no block were open.
+    pub outside: Context,
+    /// How many vertices the open block has, where one is open.
+    pub vertices: Option<usize>,
+}
+
+// The operation of synchronisation that a command gives.
+fn operation_of(effect: &Effect) -> Option<SyncOp>
+    ensures { result ≡ operation_of effect.now }
+{
+    match effect {
+        Effect::Sync(op) => Some(*op),
+        _ => None,
+    }
+}
+
+impl CountingContext {
+    /// That of a client before its first command.
+    #[tactic(auto, unfolding(rc_base::specs::Contexts::Context::default_context))]
+    pub fn new(alloc: Global, decl: &Decl) -> Result<CountingContext, OutOfMemory>
+        ensures { IfOk result (λ c. c ≡ counted (default_context decl.now)) }
+    {
+        Ok(CountingContext {
+            outside: Context::new(alloc, decl)?,
+            vertices: None,
+        })
+    }
+
+    fn refuse(&mut self, place: u32, fault: Fault) -> Result<Option<SyncOp>, OutOfMemory>
+        ensures operation { IfOk result (λ o. o ≡ None) }
+        ensures ok { OnOk result (self.new ≡ record self.old { outside = refused self.old.outside place fault }) }
+        ensures err { OnErr result (self.new ≡ self.old) }
+    {
+        self.outside.refuse(place, fault)?;
+        Ok(None)
+    }
+
+    // Issues a command where a block of so many vertices is open.
+    fn issue_inside(
+        &mut self,
+        place: u32,
+        command: &Command,
+        count: usize,
+    ) -> Result<Option<SyncOp>, OutOfMemory>
+        requires { self.old.vertices ≡ Some count }
+        ensures operation { IfOk result (λ o. (x : ClientContext) → self.old ≡ counted x → o ≡ operation_of (effect_of x command.now)) }
+        ensures ok { OnOk result ((x : ClientContext) → self.old ≡ counted x → self.new ≡ counted (issued x place command.now)) }
+        ensures err { OnErr result (self.new ≡ self.old) }
+    {
+        match command {
+            Command::Vertex { .. } => match rules::vertex_fault(count) {
+                Some(fault) => self.refuse(place, fault),
+                None => {
+                    self.vertices = Some(count + 1);
+                    Ok(None)
+                }
+            },
+            Command::Color(color) => {
+                self.outside.set_color(*color);
+                Ok(None)
+            }
+            Command::TexCoord { s, t } => {
+                self.outside.set_coordinate(s, t);
+                Ok(None)
+            }
+            Command::End => {
+                self.vertices = None;
+                Ok(None)
+            }
+            _ => self.refuse(place, Fault::InvalidOperation),
+        }
+    }
+
+    // Issues a command where none is open.
+    fn issue_outside(
+        &mut self,
+        place: u32,
+        command: &Command,
+    ) -> Result<Option<SyncOp>, OutOfMemory>
+        requires closed { self.old.vertices ≡ None }
+        requires texels { HasTexels command.now }
+        requires room { (name : ℕ) → 0 < name → name ≤ private_count → edit_of self.old.outside name + 1 < 2 ^ 32 }
+        ensures operation { IfOk result (λ o. (x : ClientContext) → self.old ≡ counted x → o ≡ operation_of (effect_of x command.now)) }
+        ensures ok { OnOk result ((x : ClientContext) → self.old ≡ counted x → self.new ≡ counted (issued x place command.now)) }
+        ensures err { OnErr result (self.new ≡ self.old) }
+    {
+        let effect = self.outside.issue(place, command)?;
+        self.vertices = self.outside.take_block();
+        Ok(operation_of(&effect))
+    }
+
+    /// Carries out the command at its place, or refuses it and notes its fault, and gives the operation of synchronisation that it is, where it is
+    /// an accepted one. Where memory is wanting, nothing is changed.
+    pub fn issue(&mut self, place: u32, command: &Command) -> Result<Option<SyncOp>, OutOfMemory>
+        requires texels { HasTexels command.now }
+        requires room { (name : ℕ) → 0 < name → name ≤ private_count → edit_of self.old.outside name + 1 < 2 ^ 32 }
+        ensures operation { IfOk result (λ o. (x : ClientContext) → self.old ≡ counted x → o ≡ operation_of (effect_of x command.now)) }
+        ensures ok { OnOk result ((x : ClientContext) → self.old ≡ counted x → self.new ≡ counted (issued x place command.now)) }
+        ensures err { OnErr result (self.new ≡ self.old) }
+    {
+        match self.vertices {
+            Some(count) => self.issue_inside(place, command, count),
+            None => self.issue_outside(place, command),
+        }
+    }
+
+    /// The refused commands, each one's place and fault, when the client's commands are at an end.
+    pub fn into_faults(self) -> FaultList
+        ensures { result ≡ self.outside.faults }
+    {
+        self.outside.into_faults()
+    }
+}
