@@ -1,12 +1,13 @@
 //! Clients' streams replayed: the context of each client behind the commands that an order has carried out.
 //!
 //! `issue_at` issues one command of one client and `issue_name` the command of a name, and each gives exactly the effect that `rc_base`'s definition of a
-//! stream gives at that place. Whatever goes along an order of a scene's commands stands on it: the serial renderer draws what it gives, and the
-//! race checker looks at what it touches. It stands on gl_context.
+//! stream gives at that place. `count_at` issues one where only the refused commands and the operations of synchronisation are asked for. Whatever goes
+//! along an order of a scene's commands stands on this crate: the serial renderer draws what it gives, and the race checker looks at what it touches. It
+//! stands on gl_context.
 #![tactic(auto)]
 
 mod client;
 mod replay;
 
 pub use client::{Client, clients_of, issue_name, take_back};
-pub use replay::issue_at;
+pub use replay::{count_at, issue_at};
