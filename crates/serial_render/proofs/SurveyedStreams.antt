@@ -1,7 +1,9 @@
 -- A client's operations one command after the other, and clients one after the other.
-use Rattle.std.proofs.Common.{◌≡◌, ℕ, zero, suc, ◌+◌, ◌≤◌, List, [], ◌∷◌, ◌++◌, length, refl, sym, ap, ◌∙◌, arith, inl, inr, add-one}
+use Rattle.std.proofs.Common.{◌≡◌, ℕ, ◌+◌, ◌≤◌, List, [], ◌∷◌, ◌++◌, length, refl, sym, ap, ◌∙◌, arith, inl, inr, add-one}
 use Rattle.std.specs.Prelude.{map, slice_index_or}
+use Rattle.std.specs.declared.option.Option.{Option}
 use Rattle.std.specs.List.{range_with_len}
+use Rattle.std.specs.Option.{option_map_or}
 use Rattle.std.proofs.lemmas.Bool.{cases_lt}
 use Rattle.std.proofs.lemmas.List.{get_or_past}
 use Rattle.std.proofs.lemmas.List.FromFn.{length-map-range_with_len, get_or-map-range_with_len}
@@ -10,8 +12,12 @@ use Rattle.rc_base.specs.Contexts.Issue.{context_after, effect_at, stream_of, fa
 use Rattle.rc_base.specs.Orders.Sync.{wait_of, waits_below, sync_row_of, sync_lists_of}
 use Rattle.rc_base.specs.declared.scene.Scene.{Scene}
 use Rattle.rc_base.specs.declared.state.Effect.{Effect}
+use Rattle.rc_base.specs.declared.state.Effect.TheVariants as eff
 use Rattle.rc_base.specs.declared.state.Fault.{Fault}
+use Rattle.rc_base.specs.declared.sync.SyncOp.{SyncOp}
 use Rattle.rc_base.specs.declared.sync.SyncRow.{SyncRow}
+use Rattle.rc_base.specs.declared.sync.WaitAt.{WaitAt}
+use Rattle.gl_context.specs.Counted.{operation_of}
 
 pub no_waits : (s : Scene) (client : ℕ) → [] ≡ waits_below s client 0
 unfolding waits_below
@@ -22,6 +28,21 @@ pub one_more_wait : (s : Scene) (client place : ℕ) (e : Effect) → e ≡ effe
 unfolding waits_below
 one_more_wait s client place e is =
     ap (λ (f : Effect). waits_below s client place ++ wait_of place f) is ∙ sym (ap (waits_below s client) (add-one place))
+
+-- what an operation that a command may give adds to them
+abbrev pub waits_at : ℕ → Option SyncOp → List WaitAt
+waits_at place given = option_map_or (λ (o : SyncOp). record { place = place; op = o } ∷ []) given []
+
+pub waits_are : (place : ℕ) (e : Effect) (given : Option SyncOp) → given ≡ operation_of e → waits_at place given ≡ wait_of place e
+waits_are place e given is = ap (waits_at place) is ∙ each e
+  where
+    each : (f : Effect) → waits_at place (operation_of f) ≡ wait_of place f
+    each eff.Quiet = refl
+    each (eff.Refused fault) = refl
+    each (eff.Block block) = refl
+    each (eff.Clear mask) = refl
+    each (eff.Shared part) = refl
+    each (eff.Sync o) = refl
 
 pub lists_are : (s : Scene) (rows : List SyncRow) (counts units : List ℕ) → rows ≡ map (sync_row_of s) (range_with_len 0 (length s.streams))
     → counts ≡ s.decl.barriers → units ≡ s.decl.semaphores → record { clients = rows; counts = counts; units = units } ≡ sync_lists_of s

@@ -1,27 +1,27 @@
 //! What a scene's streams say of synchronisation, and which of their commands are refused.
 ghost use Rattle.std.specs.Prelude.{◌≡◌, ℕ, ◌+◌, ◌<◌, ◌++◌, ◌∷◌, [], length, slice_index_or, IfOk, OnOk};
+ghost use Rattle.std.specs.Option.{option_map_or};
 ghost use Rattle.rc_base.specs.Formats.Within.{IsWithin};
 ghost use Rattle.rc_base.specs.Contexts.Issue.{stream_of, faults_of};
-ghost use Rattle.rc_base.specs.Orders.Sync.{wait_of, sync_row_of, sync_lists_of};
+ghost use Rattle.rc_base.specs.Orders.Sync.{sync_row_of, sync_lists_of};
 ghost use Rattle.serial_render.specs.Turns.{CanTakeTurns};
 
 use crate::lists::Survey;
-use gl_context::Context;
+use gl_context::CountingContext;
 use rc_base::cluster::{FaultList, FaultLists};
 use rc_base::items::Items;
 use rc_base::out_of_memory::OutOfMemory;
 use rc_base::scene::Scene;
-use rc_base::state::Effect;
-use rc_base::sync::{SyncLists, SyncOps, SyncRow, SyncRows, WaitAt};
+use rc_base::sync::{SyncLists, SyncOp, SyncOps, SyncRow, SyncRows, WaitAt};
 use std::alloc::Global;
-use stream_replay::issue_at;
+use stream_replay::count_at;
 
 // Adds the operation of synchronisation that a command gives.
-fn add_operation(ops: &mut SyncOps, place: u32, effect: &Effect) -> Result<(), OutOfMemory>
-    ensures { OnOk result (ops.new ≡ ops.old ++ wait_of place effect.now) }
+fn add_operation(ops: &mut SyncOps, place: u32, given: Option<SyncOp>) -> Result<(), OutOfMemory>
+    ensures { OnOk result (ops.new ≡ ops.old ++ option_map_or (λ op. record { place = place; op = op } ∷ []) given []) }
 {
-    if let Effect::Sync(op) = effect {
-        ops.push(WaitAt { place, op: *op })?;
+    if let Some(op) = given {
+        ops.push(WaitAt { place, op })?;
     }
     Ok(())
 }
@@ -45,13 +45,12 @@ fn survey_client(
     ensures row { IfOk result (λ p. p.0 ≡ sync_row_of scene.now client) }
     ensures faults { IfOk result (λ p. p.1 ≡ faults_of scene.now client) }
 {
-    let mut context = Context::new(alloc, &scene.decl)?;
+    let mut context = CountingContext::new(alloc, &scene.decl)?;
     let mut ops = SyncOps::new(alloc);
     let length = stream_length(scene, client);
     for place in 0..length {
-        let effect = issue_at(&mut context, scene, client, place)?;
-        add_operation(&mut ops, place as u32, &effect)?;
-        context.take_back(effect);
+        let given = count_at(&mut context, scene, client, place)?;
+        add_operation(&mut ops, place as u32, given)?;
     }
     let row = SyncRow {
         ops,
