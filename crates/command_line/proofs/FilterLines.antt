@@ -162,6 +162,13 @@ module _ (words rest : List (List ℕ)) (rules : List SpuRule) (read : HasRead w
   pub lacking : BeginsFilter rest → ((f : Filter) (more : List (List ℕ)) → IsFilter f → rest ≡ filter_words f ++ more → ⊥) → LacksWords words
   lacking begins lacks = record { filters = read.filters; rest = rest; leads = read.leads; begins = begins; lacks = lacks }
 
+  -- where a filter's word comes next, the words begin with one
+  pub begins_before : BeginsFilter rest → BeginsFilter words
+  begins_before begins = go read.filters read.leads.parts where
+    go : (fs : List Filter) → words ≡ flat_map filter_words fs ++ rest → BeginsFilter words
+    go [] e = subst BeginsFilter (sym e) begins
+    go (f ∷ fs) e = (f, due_words f ++ (flat_map filter_words fs ++ rest), e ∙ append_assoc (filter_words f) (flat_map filter_words fs) rest)
+
   pub chain_read : (BeginsFilter rest → ⊥) → NamesChain words rules (length words - length rest)
   chain_read ends = record {
     filters = read.filters;

@@ -1,5 +1,5 @@
 //! The filters that a command line begins with.
-ghost use Rattle.std.specs.Prelude.{◌≡◌, ◌≢◌, ◌↔◌, ◌<◌, ◌≤◌, ◌∷◌, ◌++◌, [], ℕ, List, IsTrue, IsNone, IfOk, IfSome, MatchOption, map, length, string_bytes};
+ghost use Rattle.std.specs.Prelude.{◌≡◌, ◌≢◌, ◌↔◌, ◌<◌, ◌≤◌, ◌∷◌, ◌++◌, [], ℕ, List, IsTrue, IsNone, IsOk, IfOk, IfSome, MatchOption, map, length, string_bytes};
 ghost use Rattle.std.specs.Fmt.{decimal};
 ghost use Rattle.rc_base.specs.declared.command.Opcode.{Opcode as AnyOpcode};
 ghost use Rattle.rc_base.specs.declared.command.Rgba.{Rgba as AnyRgba};
@@ -123,6 +123,8 @@ fn first_rule<'a>(words: &'a [String]) -> Option<(SpuRule, &'a [String])>
 pub fn filters(alloc: Global, words: &[String]) -> Result<Option<(Rules, usize)>, OutOfMemory>
     ensures none { IfOk result (λ r. IsNone r ↔ NamesNone (map string_bytes words.now)) }
     ensures some { IfOk result (λ r. IfSome r (λ x. NamesChain (map string_bytes words.now) x.0 x.1)) }
+    // Words that begin with no filter's word lack no memory: nothing is kept of them.
+    ensures alone { (BeginsFilter (map string_bytes words.now) → ⊥) → IsOk result }
 {
     let mut rules = Rules::new(alloc);
     let mut rest = words;

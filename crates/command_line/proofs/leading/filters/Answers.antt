@@ -1,7 +1,7 @@
 use Rattle.std.proofs.Common.{◌≡◌, ◌++◌, ◌∷◌, [], refl, sym, subst, map, arith, ◌∙◌, inr, true}
 use Rattle.std.specs.Prelude.{string_bytes}
-use Rattle.command_line.specs.Filters.{BeginsFilter}
-use Rattle.command_line.proofs.FilterLines.{HasRead, too_many, read_more, chain_read, chain_is_none, fewer}
+use Rattle.command_line.specs.Filters.{BeginsFilter, due_words}
+use Rattle.command_line.proofs.FilterLines.{HasRead, begins_before, too_many, read_more, chain_read, chain_is_none, fewer}
 use Rattle.command_line.proofs.leading.filters.Goals as goal
 
 pub returns-then-len-eq-MOST_FILTERS-clause-none : goal.returns-then-len-eq-MOST_FILTERS-clause-none
@@ -22,3 +22,8 @@ pub returns-clause-none : goal.returns-clause-none
 returns-clause-none c =
     let ends : BeginsFilter (map string_bytes c.loop-rest.rest.now) → ⊥ = λ b. let holds : c.begins_filter.result ≡ true = c.begins_filter.ensures.1 b in absurd cc in
     (λ e. absurd cc, λ none. absurd (chain_is_none _ _ _ (chain_read _ _ _ c.loop-rest.invariant.0 ends) none))
+
+pub returns-in_err-push-in-Some-clause-alone : goal.returns-in_err-push-in-Some-clause-alone
+returns-in_err-push-in-Some-clause-alone c = λ none.
+    let f = c.in-Some.ensures in
+    absurd (none (begins_before _ _ _ c.loop-rest.invariant.0 (f.0, due_words f.0 ++ map string_bytes c.in-Some.behind.now, f.2)))
