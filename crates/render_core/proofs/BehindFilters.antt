@@ -4,15 +4,17 @@ use Rattle.std.specs.Prelude.{String, Option, IfErr, IfOk, IfSome, string_bytes}
 use Rattle.std.specs.Global.{Global}
 use Rattle.std.specs.declared.result.Result.{Result}
 use Rattle.std.proofs.lemmas.List.{take_all}
-use Rattle.command_line.specs.Filters.{AreNamed, NamesChain, NamesNone}
-use Rattle.command_line.specs.Laws.{ChainIsNotNone, NamedRulesBegin, OneChain}
+use Rattle.command_line.specs.Filters.{AreNamed, BeginsFilter, NamesChain, NamesNone}
+use Rattle.command_line.specs.Laws.{ChainIsNotNone, JobBeginsNoFilter, NamedRulesBegin, NoFilterIsEmptyChain, OneChain}
 use Rattle.rc_base.specs.Outside.Ends.{Used}
 use Rattle.spu_chain.specs.declared.rule.SpuRule.{SpuRule}
 use Rattle.render_core.specs.declared.job.Job.{Job}
 use Rattle.render_core.specs.declared.run_job.Finish.{Finish}
 use Rattle.render_core.specs.Finishes.{IsJobless, IsTaskless}
-use Rattle.render_core.specs.Jobs.{AskFiltered, IsJob, Task, task_of}
+use Rattle.render_core.specs.Jobs.{AskFiltered, AskPlainly, IsJob, IsLine, Task, task_of}
+use Rattle.render_core.specs.Laws.{PlainTasksAreFilteredOnes}
 use Rattle.render_core.specs.Refusals.{AreReady}
+use Rattle.render_core.proofs.Finishing.{jobless_usage}
 
 -- ---- members
 
@@ -76,3 +78,42 @@ module _ (one : OneChain) (never : ChainIsNotNone) (words : List (String Global)
   -- words that name no chain ask for nothing
   pub unnamed_asks : NamesNone (map string_bytes words) → (task : Task) → AskFiltered words task → ⊥
   unnamed_asks none task asked = never (map string_bytes words) task.filters asked.count asked.chain none
+
+-- ---- words without filters
+
+module _ (one : OneChain) (empty : NoFilterIsEmptyChain) (words : List (String Global)) where
+  module _ (task : Task) (asked : AskFiltered words task) (none : BeginsFilter (map string_bytes words) → ⊥) where
+    no_filters : (task.filters ≡ []) × (asked.count ≡ 0)
+    no_filters = one (map string_bytes words) task.filters [] asked.count 0 asked.chain (empty (map string_bytes words) none)
+
+    -- they ask for the job with no filter
+    pub plainly : AskPlainly words task
+    plainly = (no_filters.0, subst (λ (n : ℕ). IsJob (drop n words) task.job) no_filters.1 asked.job)
+
+  -- and what asks plainly so begins with no filter's word
+  filtered : (task : Task) → (BeginsFilter (map string_bytes words) → ⊥) → AskPlainly words task → AskFiltered words task
+  filtered task none asked = record {
+    count = 0;
+    chain = subst (λ (rs : List SpuRule). NamesChain (map string_bytes words) rs 0) (sym asked.0) (empty (map string_bytes words) none);
+    job = asked.1;
+  }
+
+-- where they ask for nothing so, that is told whatever memory there is
+pub usage_behind : OneChain → NoFilterIsEmptyChain → (words : List (String Global)) (rules : List SpuRule) (count : ℕ) → NamesChain (map string_bytes words) rules count
+    → (notes : Used) (r : Result Job Finish) → IfErr r (IsJobless (drop count words) notes)
+    → IfErr r (λ finish. (BeginsFilter (map string_bytes words) → ⊥) → (IsLine words → ⊥) → finish.status ≡ 1)
+usage_behind one empty words rules count chain notes (Ok job) none = tt
+usage_behind one empty words rules count chain notes (Err finish) jobless = λ none other.
+    let zero = (one (map string_bytes words) rules [] count 0 chain (empty (map string_bytes words) none)).1 in
+    jobless_usage (drop count words) notes finish jobless (λ line. other (subst (λ (n : ℕ). IsLine (drop n words)) zero line))
+
+-- a job that they name is a line's
+pub line_of : (words : List (String Global)) (task : Task) → AskPlainly words task → IsLine words
+line_of words task asked = (asked.1.name, asked.1.settings, asked.1.line)
+
+pub plain_is_filtered : OneChain → NoFilterIsEmptyChain → JobBeginsNoFilter → PlainTasksAreFilteredOnes
+plain_is_filtered one empty jobs words task = (
+  λ asked.
+      let none = jobs (map string_bytes words) asked.1.name asked.1.settings asked.1.line in (filtered one empty words task none asked, none),
+  λ asked. plainly one empty words task asked.0 asked.1,
+)

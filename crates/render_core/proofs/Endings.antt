@@ -54,7 +54,7 @@ unnamed words r is h = subst (λ (o : Option Job). MatchOption o ((j : Job) → 
 
 -- ---- what is taken of a source that tells its bytes
 
-front_whole : (input given rest : List ℕ) → given ≡ input ++ rest → rest ≡ [] → input ≡ given
+pub front_whole : (input given rest : List ℕ) → given ≡ input ++ rest → rest ≡ [] → input ≡ given
 front_whole input given rest e none = sym (e ∙ ap (λ (l : List ℕ). input ++ l) none ∙ append-nil input)
 
 module _ (given input : List ℕ) where

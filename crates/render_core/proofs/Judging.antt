@@ -109,7 +109,7 @@ never_begins input s is begin = digit_is s.decl.version (ap fourth (sym is.parts
 -- ---- an input is one thing
 
 module _ (bytes : ScenesAreOne) (lists : ListScenesAreOne) (differ : FormsAreApart) (text : OneScene) where
-  one_given : (origin : Origin) (input : List ℕ) (s t : Found) → Gives origin input s → Gives origin input t → s ≡ t
+  pub one_given : (origin : Origin) (input : List ℕ) (s t : Found) → Gives origin input s → Gives origin input t → s ≡ t
   one_given (Read Bytes) input (Plain s) (Plain t) a b = ap Plain (bytes input s t a b)
   one_given (Read Bytes) input (Plain s) (Lists t) a b = absurd (differ input s t a b)
   one_given (Read Bytes) input (Lists s) (Plain t) a b = absurd (differ input t s b a)

@@ -7,6 +7,8 @@ pub mod Filtered
 pub mod Inputs
 pub mod Made
 pub mod OneImage
+pub mod DefaultJournals
+pub mod ListMeanings
 pub mod BehindFilters
 pub mod Endings
 pub mod FirstRefusals
@@ -20,3 +22,6 @@ pub mod Works
 pub mod Performing
 pub mod Threaded
 pub mod ClusterRuns
+pub mod DecidedBefore
+pub mod PlainScenes
+pub mod RecordsShown

@@ -123,39 +123,43 @@ limits_of made Unpack input found gives own words = meant_within found own
 limits_of made (Gen seed size) input found gives own words = made_within made seed size None (meant found) (ap meant gives) words
 limits_of made (Demo seed size cluster) input found gives own words = made_within made seed size (cluster_limit cluster (meant found)) (meant found) (ap meant gives) words
 
+module _ (made : GeneratedScenesAreWithin) (stays : FilteredStaysWithin) (task : Task) (input : List ℕ) (work : Work) (is : IsInput task input work) where
+  limits : (scene_limit (origin_of task.job) is.found ≡ None) × (word_limit task.job (meant is.found) ≡ None)
+  limits = within_both task.job is.found is.within
+
+  pub scene_is : work.scene ≡ scene_for task (meant is.found)
+  scene_is = ap (λ (w : Work). w.scene) is.is
+
+  within : limit_of work.scene ≡ None
+  within =
+      subst (λ (s : Scene). limit_of s ≡ None) (sym scene_is)
+      (filtered_within task (meant is.found) stays (limits_of made task.job input is.found is.gives limits.0 limits.1))
+
+  pub well : SceneListsAreWellFormed → IsWellFormed (sync_lists_of work.scene)
+  well formed = formed work.scene (clients_within work.scene within).0 (counts_some work.scene within)
+
+  module _ (cluster : Cluster) (of : cluster_of task.job ≡ Some cluster) where
+    -- the tiles of the words, in the window that the scene was found with
+    asked : cluster_limit cluster work.scene ≡ None
+    asked =
+        subst (λ (s : Scene). cluster_limit cluster s ≡ None) (sym scene_is)
+        (filtered_tiles task (meant is.found) cluster
+        (subst (λ (c : Option Cluster). tile_limit c (meant is.found) ≡ None) of (tiles_within task.job (meant is.found) limits.1)))
+
+    some_tiles : 1 ≤ (layout_for cluster work.scene).columns * (layout_for cluster work.scene).rows
+    some_tiles = (layout_tiles work.scene (layout_for cluster work.scene) cluster.depth (layout_within cluster work.scene asked)).0
+
 module _ (formed : SceneListsAreWellFormed) (made : GeneratedScenesAreWithin) (stays : FilteredStaysWithin) (permitted : OrderedRunsShowOneImage) (default : FullOrderedRunsShowTheDefaultImage) where
   module _ (task : Task) (cluster : Cluster) (input : List ℕ) (work : Work) (kept : Record) (of : cluster_of task.job ≡ Some cluster) (is : IsInput task input work)
       (lawful : IsRecordOf work.scene (layout_for cluster work.scene) kept) (ordered : IsOrderedScene work.scene kept.journal) where
     abbrev scene : Scene
     scene = work.scene
 
-    limits : (scene_limit (origin_of task.job) is.found ≡ None) × (word_limit task.job (meant is.found) ≡ None)
-    limits = within_both task.job is.found is.within
-
-    scene_is : scene ≡ scene_for task (meant is.found)
-    scene_is = ap (λ (w : Work). w.scene) is.is
-
-    within : limit_of scene ≡ None
-    within =
-        subst (λ (s : Scene). limit_of s ≡ None) (sym scene_is)
-        (filtered_within task (meant is.found) stays (limits_of made task.job input is.found is.gives limits.0 limits.1))
-
-    well : IsWellFormed (sync_lists_of scene)
-    well = formed scene (clients_within scene within).0 (counts_some scene within)
-
-    -- the tiles of the words, in the window that the scene was found with
-    asked : cluster_limit cluster scene ≡ None
-    asked =
-        subst (λ (s : Scene). cluster_limit cluster s ≡ None) (sym scene_is)
-        (filtered_tiles task (meant is.found) cluster
-        (subst (λ (c : Option Cluster). tile_limit c (meant is.found) ≡ None) of (tiles_within task.job (meant is.found) limits.1)))
-
-    some_tiles : 1 ≤ (layout_for cluster scene).columns * (layout_for cluster scene).rows
-    some_tiles = (layout_tiles scene (layout_for cluster scene) cluster.depth (layout_within cluster scene asked)).0
-
     texts : (order : List Name) → IsPermitted (sync_lists_of scene) kept.journal order
         → image_text_of scene (layout_for cluster scene) kept ≡ p6_texts (frame_images scene order (frame_count kept.journal))
-    texts order p = permitted scene (layout_for cluster scene) kept well (let least = some_tiles in omega (arith, least)) lawful ordered order p
+    texts order p =
+        permitted scene (layout_for cluster scene) kept (well made stays task input work is formed)
+        (let least = some_tiles made stays task input work is cluster of in omega (arith, least)) lawful ordered order p
 
     shows : ShowsEveryPermittedOrder cluster scene kept
     unfolding image_text_of
@@ -168,6 +172,6 @@ module _ (formed : SceneListsAreWellFormed) (made : GeneratedScenesAreWithin) (s
   unfolding default_frames
   one_image task cluster input work kept of is lawful ordered = (
     shows task cluster input work kept of is lawful ordered,
-    λ full. default work.scene (layout_for cluster work.scene) kept (well task cluster input work kept of is lawful ordered)
-        (let least = some_tiles task cluster input work kept of is lawful ordered in omega (arith, least)) full lawful ordered,
+    λ full. default work.scene (layout_for cluster work.scene) kept (well made stays task input work is formed)
+        (let least = some_tiles made stays task input work is cluster of in omega (arith, least)) full lawful ordered,
   )

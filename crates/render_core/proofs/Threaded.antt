@@ -1,10 +1,11 @@
 -- Jobs that start threads.
-use Rattle.std.proofs.Common.{◌≡◌, ◌≢◌, ℕ, ◌⊎◌, Bool, true, false, List, ◌∷◌, map, inl, inr, Ok, Err, None, Some, refl, sym, ap, ◌∙◌, subst}
-use Rattle.std.specs.Prelude.{String, IfErr, IfOk, MatchResult, slice_get, string_bytes, unwrap_or}
+use Rattle.std.proofs.Common.{◌≡◌, ◌≢◌, ℕ, ◌⊎◌, Bool, true, false, List, [], ◌∷◌, map, inl, inr, Ok, Err, None, Some, refl, sym, ap, ◌∙◌, subst}
+use Rattle.std.specs.Prelude.{String, IfErr, IfOk, MatchResult, slice_get, string_bytes, unwrap_or, codes}
 use Rattle.std.specs.Global.{Global}
 use Rattle.std.specs.declared.option.Option.{Option}
 use Rattle.std.specs.declared.result.Result.{Result}
 use Rattle.std.specs.List.{flat_map, AllByRecursion}
+use Rattle.std.specs.Str.{bytes_eq}
 use Rattle.rc_base.specs.Formats.Limits.{limit_of}
 use Rattle.rc_base.specs.Outside.Ends.{Used}
 use Rattle.command_line.specs.Words.{Setting, job_word, setting_words}
@@ -50,6 +51,26 @@ first_word words job settings parts = ap (λ (ws : List (List ℕ)). slice_get w
 abbrev AreThreads : List ℕ → Type 0
 AreThreads word = (word ≡ job_word name.Render) ⊎ ((word ≡ job_word name.Demo) ⊎ (word ≡ job_word name.Last))
 
+no_word : (w other : List ℕ) → bytes_eq w other ≡ false → bytes_eq other other ≡ true → w ≡ other → ⊥
+no_word w other differs own same = let none : false ≡ true = sym differs ∙ (ap (λ (v : List ℕ). bytes_eq v other) same ∙ own) in absurd cc
+
+other_word : (w : List ℕ) → bytes_eq w (codes "render") ≡ false → bytes_eq w (codes "demo") ≡ false → bytes_eq w (codes "last") ≡ false → AreThreads w → ⊥
+other_word w render demo last (inl same) = no_word w (codes "render") render refl same
+other_word w render demo last (inr (inl same)) = no_word w (codes "demo") demo refl same
+other_word w render demo last (inr (inr same)) = no_word w (codes "last") last refl same
+
+told_by : (job_name : JobName) (settings : List Setting) → AreThreads (job_word job_name) → starts_threads (job_in job_name settings) ≡ true
+told_by name.Render settings same = refl
+told_by name.Simulate settings same = absurd (other_word (codes "simulate") refl refl refl same)
+told_by name.Serial settings same = absurd (other_word (codes "serial") refl refl refl same)
+told_by name.Last settings same = refl
+told_by name.Check settings same = absurd (other_word (codes "check") refl refl refl same)
+told_by name.Race settings same = absurd (other_word (codes "race") refl refl refl same)
+told_by name.Pack settings same = absurd (other_word (codes "pack") refl refl refl same)
+told_by name.Unpack settings same = absurd (other_word (codes "unpack") refl refl refl same)
+told_by name.Gen settings same = absurd (other_word (codes "gen") refl refl refl same)
+told_by name.Demo settings same = refl
+
 tells : (job_name : JobName) (settings : List Setting) → starts_threads (job_in job_name settings) ≡ true → AreThreads (job_word job_name)
 tells name.Render settings threads = inl refl
 tells name.Simulate settings threads = let none : false ≡ true = threads in absurd cc
@@ -65,6 +86,18 @@ tells name.Demo settings threads = inr (inl refl)
 module _ (words : List (String Global)) (job : Job) (is : IsJob words job) where
   first : slice_get (map string_bytes words) 0 ≡ Some (job_word is.name)
   first = first_word (map string_bytes words) is.name is.settings is.line.parts
+
+  by_word : (word : List ℕ) → slice_get (map string_bytes words) 0 ≡ Some word → job_word is.name ≡ word
+  by_word word named = ap (λ (o : Option (List ℕ)). unwrap_or o []) (sym first ∙ named)
+
+  pub threaded : IsThreaded words → starts_threads job ≡ true
+  threaded named =
+      subst (λ (j : Job). starts_threads j ≡ true) is.asked
+      (told_by is.name is.settings (elim named [
+        | inl render ↦ inl (by_word (job_word name.Render) render)
+        | inr (inl demo) ↦ inr (inl (by_word (job_word name.Demo) demo))
+        | inr (inr last) ↦ inr (inr (by_word (job_word name.Last) last))
+      ]))
 
   pub alone : (IsThreaded words → ⊥) → starts_threads job ≡ false
   alone other = go (starts_threads job) refl where

@@ -1,22 +1,26 @@
 -- Laws on what a job finds in its input, on what is due for a scene, and on the order in which a job is refused.
-use Rattle.std.specs.Prelude.{◌≡◌, ℕ, ◌⊎◌, false, List, Option, Some, None, IfSome}
+use Rattle.std.specs.Prelude.{◌≡◌, ℕ, ◌⊎◌, ◌↔◌, false, List, [], Option, Some, None, IfSome, map, string_bytes}
 use Rattle.std.specs.declared.string.String.{String}
 use Rattle.std.specs.Global.{Global}
+use Rattle.call_lists.specs.Scenes.{expanded}
+use Rattle.command_line.specs.Filters.{BeginsFilter}
 use Rattle.rc_base.specs.Formats.Limits.{limit_of}
 use Rattle.rc_base.specs.Orders.Footprints.{IsOrderedScene}
 use Rattle.rc_base.specs.Orders.Sync.{sync_lists_of}
 use Rattle.rc_base.specs.Outside.Ends.{Used, Failed, IsCalm}
+use Rattle.rc_base.specs.declared.list_command.ListCommand.TheVariants.{Plain as PlainCommand}
+use Rattle.scene_file.specs.declared.list_scene.ListScene.{ListScene}
 use Rattle.order_model.specs.Full.{IsFull}
 use Rattle.order_model.specs.Sent.{IsRecordOf}
 use Rattle.order_model.specs.declared.record.Record.{Record}
 use Rattle.render_core.specs.declared.job.Cluster.{Cluster}
 use Rattle.render_core.specs.declared.job.Job.{Job}
 use Rattle.render_core.specs.declared.due.Ending.TheVariants.{Complete, Stuck, RaceFound}
-use Rattle.render_core.specs.Due.{Outcome, IsOutcome}
+use Rattle.render_core.specs.Due.{Outcome, IsOutcome, default_ending, ending_by, journal_of}
 use Rattle.render_core.specs.Findings.{Finding, IsFinding, refused_with}
 use Rattle.render_core.specs.declared.work.Work.{Work}
 use Rattle.render_core.specs.Jobs.{AskFiltered, AskPlainly, ForTask, Task, Reads, cluster_of, has_threads, origin_of}
-use Rattle.render_core.specs.Scenes.{IsInput, Takes, layout_for}
+use Rattle.render_core.specs.Scenes.{IsInput, Lists, Takes, layout_for, meant, refused_in}
 use Rattle.render_core.specs.Outcomes.{IsDue, KeepsOrders, Ran, ShowsEveryPermittedOrder, ShowsTheSerialImage}
 use Rattle.render_core.specs.Refusals.{IsWell}
 
@@ -41,6 +45,29 @@ OrderedRecordsShowOneImage =
     (task : Task) (cluster : Cluster) (input : List ℕ) (work : Work) (kept : Record) → cluster_of task.job ≡ Some cluster → IsInput task input work
     → IsRecordOf work.scene (layout_for cluster work.scene) kept → IsOrderedScene work.scene kept.journal
     → ShowsEveryPermittedOrder cluster work.scene kept × (IsFull (sync_lists_of work.scene) → ShowsTheSerialImage cluster work.scene kept)
+
+-- Of a job's scene in which nothing takes a unit, and all clients meet at each barrier that is named, the default journal is enough: a lawful record's
+-- journal ends as it does, and where the scene is ordered for the default journal the record shows the image of `serial`.
+abbrev pub FullRecordsAreForeseen : Type 0
+FullRecordsAreForeseen =
+    (task : Task) (cluster : Cluster) (input : List ℕ) (work : Work) (kept : Record) → cluster_of task.job ≡ Some cluster → IsInput task input work
+    → IsRecordOf work.scene (layout_for cluster work.scene) kept → IsFull (sync_lists_of work.scene)
+    → (ending_by work.scene kept.journal ≡ default_ending work.scene)
+    × (IsOrderedScene work.scene (journal_of work.scene) → ShowsTheSerialImage cluster work.scene kept)
+
+-- The tasks of words without filters are those of words that name filters, where no filter's word comes first.
+abbrev pub PlainTasksAreFilteredOnes : Type 0
+PlainTasksAreFilteredOnes =
+    (words : List (String Global)) (task : Task) → AskPlainly words task ↔ (AskFiltered words task × (BeginsFilter (map string_bytes words) → ⊥))
+
+-- the scene of the expansion: its streams make and call no list
+abbrev pub expansion_of : ListScene → ListScene
+expansion_of s = record s { streams = map (λ cs. map (λ c. PlainCommand c) (expanded cs)) s.streams }
+
+-- A scene with call lists means what the scene of its expansion means, of which no command is refused before it is issued.
+abbrev pub ListScenesMeanTheirExpansions : Type 0
+ListScenesMeanTheirExpansions =
+    (s : ListScene) → (meant (Lists s) ≡ meant (Lists (expansion_of s))) × (refused_in (Lists (expansion_of s)) ≡ map (λ cs. []) s.streams)
 
 -- The first thing that refused a task, in the order in which a run goes on: the source is read, what was taken of it is judged, the scene is run, the
 -- image is written, and then the notes. A status tells what of this came first: all before it went well, whatever comes behind it.

@@ -8,3 +8,5 @@ pub mod Refusals
 pub mod Finishes
 pub mod Reports
 pub mod Laws
+pub mod Foreseen
+pub mod Shows

@@ -1,5 +1,5 @@
 -- How a run may end: what each status says of the words, of the bytes of the source, and of what the image and the notes were given.
-use Rattle.std.specs.Prelude.{◌≡◌, ◌≢◌, ℕ, ◌<◌, ◌≤◌, ◌⊎◌, true, List, [], ◌++◌, length, take, Option, Some, None}
+use Rattle.std.specs.Prelude.{◌≡◌, ◌≢◌, ℕ, ◌<◌, ◌≤◌, ◌⊎◌, ◌↔◌, true, List, [], ◌++◌, length, take, Option, Some, None}
 use Rattle.std.specs.List.{AllByRecursion, flat_map}
 use Rattle.rc_base.specs.Drawing.Images.{frame_image, frame_images}
 use Rattle.rc_base.specs.Formats.Netpbm.{p6_texts}
@@ -16,13 +16,13 @@ use Rattle.render_core.specs.declared.job.Cluster.{Cluster}
 use Rattle.render_core.specs.declared.job.Job.{Job}
 use Rattle.render_core.specs.declared.due.Ending.{Ending}
 use Rattle.render_core.specs.declared.due.Ending.TheVariants.{Complete, Stuck as EndsStuck, RaceFound as EndsRaceFound}
-use Rattle.render_core.specs.Due.{Outcome, IsOutcome, default_frames, ending_status}
+use Rattle.render_core.specs.Due.{Outcome, IsOutcome, default_ending, default_frames, ending_status, journal_of}
 use Rattle.rc_base.specs.Outside.Ends.{Used, Failed, IsCalm, Took, TookFront, Noted}
 use Rattle.rc_base.specs.declared.image.Image.{Image}
-use Rattle.render_core.specs.Findings.{Finding, Long, Malformed, Outside, Unsuited, Sound, IsFinding, Judged, refused_with}
+use Rattle.render_core.specs.Findings.{Finding, IsFinding, Judged, refused_with}
 use Rattle.render_core.specs.declared.work.Work.{Work}
 use Rattle.render_core.specs.Jobs.{Task, ForTask, Reads, cluster_of, origin_of, threads_of}
-use Rattle.render_core.specs.Scenes.{Found, Gives, Holds, HasWork, Takes, is_filtered, layout_for, meant, rules_for}
+use Rattle.render_core.specs.Scenes.{Found, Gives, Holds, HasWork, IsInput, Takes, is_filtered, layout_for, meant, rules_for}
 use Rattle.spu_chain.specs.Filter.{AreReached}
 use Rattle.spu_chain.specs.declared.rule.SpuRule.{SpuRule}
 use Rattle.render_core.specs.Lines.{image_fault_line, usage_line, read_fault_line, memory_line}
@@ -137,6 +137,10 @@ pub data Ran (asks : Task → Type 0) (source image notes : Used) (status : ℕ)
   -- there was no memory
   NoMemory : status ≡ 7 → Noted notes memory_line → kept ≡ None → Ran asks source image notes status kept
 
+-- it ended with this status, whatever record is kept
+abbrev pub Ended : (Task → Type 0) → Used → Used → Used → ℕ → Type 0
+Ended asks source image notes status = (kept : Option Record) × Ran asks source image notes status kept
+
 -- ---- what the source holds decides the status
 
 -- image and notes were given all that is due for the work, and the status and the record are those of that
@@ -148,20 +152,18 @@ pub record IsWhole (job : Job) (work : Work) (image notes : Used) (status : ℕ)
   pub status_is : status ≡ ending_status o.ending
   pub kept_is : kept ≡ o.kept
 
--- what is found is answered by this status: what is sound is carried out whole
-abbrev pub Answers : Job → Finding → Used → Used → ℕ → Option Record → Type 0
-Answers job Long image notes status kept = status ≡ 4
-Answers job Malformed image notes status kept = status ≡ 3
-Answers job (Outside limit) image notes status kept = status ≡ 4
-Answers job (Unsuited name) image notes status kept = status ≡ 12
-Answers job (Sound work) image notes status kept = IsWhole job work image notes status kept
+-- Where the source tells its bytes and doesn't fail, what the task finds in them decides whether it is refused, and with which status, or there was no
+-- memory; of a job that makes its scene the words alone decide.
+abbrev pub RefusesWhatItFinds : (Task → Type 0) → Used → ℕ → Type 0
+RefusesWhatItFinds asks source status =
+    (task : Task) (input : List ℕ) (finding : Finding) (refusal : ℕ) → asks task → Holds (origin_of task.job) source input → IsFinding task input finding
+    → refused_with finding ≡ Some refusal → (status ≡ 7) ⊎ (status ≡ refusal)
 
--- Where the source tells its bytes and doesn't fail, what the task finds in them is answered, or there was no memory; of a job that makes its scene
--- the words alone decide. Image and notes don't fail either where something is due to them.
-abbrev pub IsAnswered : (Task → Type 0) → Used → Used → Used → ℕ → Option Record → Type 0
-IsAnswered asks source image notes status kept =
-    (task : Task) (input : List ℕ) (finding : Finding) → asks task → Holds (origin_of task.job) source input → IsFinding task input finding
-    → (refused_with finding ≡ None → (Failed image → ⊥) × (Failed notes → ⊥)) → (status ≡ 7) ⊎ Answers task.job finding image notes status kept
+-- What isn't refused is carried out whole where neither image nor notes fail, or there was no memory.
+abbrev pub CarriesOutWhatItFinds : (Task → Type 0) → Used → Used → Used → ℕ → Option Record → Type 0
+CarriesOutWhatItFinds asks source image notes status kept =
+    (task : Task) (input : List ℕ) (work : Work) → asks task → Holds (origin_of task.job) source input → IsInput task input work
+    → (Failed image → ⊥) → (Failed notes → ⊥) → (status ≡ 7) ⊎ IsWhole task.job work image notes status kept
 
 -- ---- the headline
 
@@ -192,7 +194,8 @@ ShowsTheSerialImage cluster scene kept = frames_text cluster scene kept ≡ p6_t
 -- The record that is kept is lawful for the scene that the source's bytes mean, or that the job makes, behind the filters, and for the tiles of the
 -- words: where it comes from, read, expanded, made and filtered, is the task's work. The image was
 -- given its frames: all of them with the statuses 0 and 8, and with 5 and 6 a front of their text, which with 5 is the whole unless the image failed.
--- Where besides nothing takes a unit, and at each barrier that is named all clients meet, the image is that of `serial`.
+-- Where besides nothing takes a unit, and at each barrier that is named all clients meet, the image is that of `serial`. Of such a scene the default journal,
+-- which is known before any run, tells how each run ends, and where the scene is ordered for it, what each run shows.
 pub record IsHeadline (asks : Task → Type 0) (source image : Used) (status : ℕ) (kept : Record) : Type 0 where
   pub task : Task
   pub named : asks task
@@ -207,6 +210,8 @@ pub record IsHeadline (asks : Task → Type 0) (source image : Used) (status : �
   pub unfailed : status ≡ 5 → (Failed image → ⊥) → Took image (frames_text cluster work.scene kept)
   pub one_image : IsOrderedScene work.scene kept.journal → ShowsEveryPermittedOrder cluster work.scene kept
   pub serial_image : IsOrderedScene work.scene kept.journal → IsFull (sync_lists_of work.scene) → ShowsTheSerialImage cluster work.scene kept
+  pub same_end : IsFull (sync_lists_of work.scene) → (status ≡ 5) ↔ (default_ending work.scene ≡ EndsStuck)
+  pub foreseen_image : IsFull (sync_lists_of work.scene) → IsOrderedScene work.scene (journal_of work.scene) → ShowsTheSerialImage cluster work.scene kept
 
 -- ---- what a run leaves alone
 

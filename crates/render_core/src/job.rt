@@ -1,8 +1,9 @@
 //! The jobs, and the words that name them.
-ghost use Rattle.std.specs.Prelude.{◌≡◌, List, IfOk, OnErr, MatchOption};
-ghost use Rattle.command_line.specs.Words.{Setting as Spelled};
+ghost use Rattle.std.specs.Prelude.{◌≡◌, ◌↔◌, ◌⊎◌, List, IfOk, IsTrue, OnErr, MatchOption};
+ghost use Rattle.command_line.specs.Words.{Setting as Spelled, job_word};
+ghost use Rattle.command_line.specs.declared.job.JobName.TheVariants.{Render as SpelledRender, Demo as SpelledDemo, Last as SpelledLast};
 ghost use Rattle.command_line.specs.Lines.{AreValues};
-ghost use Rattle.render_core.specs.Jobs.{IsJob, IsLine, cluster_in, cluster_of, job_in, origin_of, starts_threads, threads_of};
+ghost use Rattle.render_core.specs.Jobs.{IsJob, IsLine, IsThreaded, cluster_in, cluster_of, job_in, origin_of, starts_threads, threads_of};
 ghost use Rattle.render_core.specs.declared.job.Job.{Job as AnyJob};
 
 use command_line::{CommandLine, JobName, Settings, command_line, lines_have_one_reading};
@@ -174,6 +175,23 @@ fn job_on(line: CommandLine) -> Job
             size: line.settings.size,
             cluster: cluster_asked(line.settings),
         },
+    }
+}
+
+// The word is that of a job that starts threads.
+fn names_threads(word: &str) -> bool
+    ensures { IsTrue result ↔ ((word.now ≡ job_word SpelledRender) ⊎ ((word.now ≡ job_word SpelledDemo) ⊎ (word.now ≡ job_word SpelledLast))) }
+{
+    matches!(word, "render" | "demo" | "last")
+}
+
+/// The first word is that of a job that starts threads.
+pub(crate) fn is_threaded(words: &[String]) -> bool
+    ensures { IsTrue result ↔ IsThreaded words.now }
+{
+    match words.first() {
+        Some(word) => names_threads(word.as_str()),
+        None => false,
     }
 }
 

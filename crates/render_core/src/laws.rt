@@ -1,10 +1,15 @@
 //! Laws on what a job finds in its input, on what is due for a scene, and on the order in which a job is refused. Each function's contract is a law,
 //! and its body calls the laws that it follows from: there is nothing to compute.
-ghost use Rattle.render_core.specs.Laws.{FindingsAreOne, OneOutcomeIsDue, KeptOrdersArePermitted, OrderedRecordsShowOneImage, RefusalsComeInOrder};
+ghost use Rattle.render_core.specs.Foreseen.{ShowsAreDecidedBefore};
+ghost use Rattle.render_core.specs.Shows.{RendersShowTheirRecords};
+ghost use Rattle.render_core.specs.Laws.{FindingsAreOne, OneOutcomeIsDue, KeptOrdersArePermitted, OrderedRecordsShowOneImage, FullRecordsAreForeseen, PlainTasksAreFilteredOnes, ListScenesMeanTheirExpansions, RefusalsComeInOrder};
 
+use call_lists::laws::plain_streams_mean_themselves;
+use command_line::{leading_words_have_one_reading, lines_begin_no_filter, lines_have_one_reading};
+use happens_before::laws::what_is_before_stands_before;
 use order_model::laws::{
-    default_journal_is_maximal, default_orders_are_permitted, runs_show_one_image,
-    scene_lists_are_well_formed,
+    default_journal_is_maximal, default_orders_are_permitted, maximal_journals_agree,
+    runs_show_one_image, scene_lists_are_well_formed,
 };
 use race_check::laws::each_order_has_one_verdict;
 use scene_file::laws::{
@@ -12,7 +17,7 @@ use scene_file::laws::{
     generated_scenes_are_within_limits,
 };
 use scene_text::texts_spell_one_scene;
-use spu_chain::laws::filtered_scenes_stay;
+use spu_chain::laws::{chains_follow, filtered_scenes_stay, members_follow};
 use tile_model::laws::parcels_are_givable;
 use world_model::laws::finished_runs_leave_one_record;
 
@@ -52,6 +57,66 @@ pub fn ordered_records_show_one_image()
     generated_scenes_are_within_limits();
     filtered_scenes_stay();
     runs_show_one_image();
+}
+
+/// Where nothing takes a unit and all clients meet at each barrier, the default journal tells beforehand how each run of a scene ends, and where it orders
+/// the scene, that each shows the image of the serial renderer.
+pub fn full_records_are_foreseen()
+    ensures { FullRecordsAreForeseen }
+{
+    scene_lists_are_well_formed();
+    generated_scenes_are_within_limits();
+    filtered_scenes_stay();
+    default_journal_is_maximal();
+    maximal_journals_agree();
+    ordered_records_show_one_image();
+}
+
+/// `render` that ends with 0 shows its record: of each frame each pixel is that of one serial renderer over the whole streams in the order that its tile's log
+/// records, which the journal permits; and where the scene is ordered, the image is that of every permitted order.
+pub fn renders_show_their_records()
+    ensures { RendersShowTheirRecords }
+{
+    bytes_spell_one_scene();
+    bytes_spell_one_list_scene();
+    forms_are_apart();
+    texts_spell_one_scene();
+    lines_have_one_reading();
+    members_follow();
+    chains_follow();
+    ordered_records_show_one_image();
+}
+
+/// What is decided before a show. In scenes in which nothing takes a unit and all clients meet at each barrier, `render` and `simulate` are stuck exactly
+/// where `check` says so; and where `race` ends with 0, they write, at any tiles, depth and schedule, byte for byte what `serial` writes. So it is behind
+/// filters too.
+pub fn shows_are_decided_before()
+    ensures { ShowsAreDecidedBefore }
+{
+    bytes_spell_one_scene();
+    bytes_spell_one_list_scene();
+    forms_are_apart();
+    texts_spell_one_scene();
+    full_records_are_foreseen();
+    what_is_before_stands_before();
+    lines_have_one_reading();
+    leading_words_have_one_reading();
+}
+
+/// Words that name no filter ask for the same with filters before a job and without: `run_filtered` with an empty chain does what `run` does. Of words that
+/// begin with a filter's word nothing is asked for plainly.
+pub fn plain_tasks_are_filtered_ones()
+    ensures { PlainTasksAreFilteredOnes }
+{
+    leading_words_have_one_reading();
+    lines_begin_no_filter();
+}
+
+/// A scene with call lists means the scene of its expansion, in which no command is refused before it is issued.
+pub fn list_scenes_mean_their_expansions()
+    ensures { ListScenesMeanTheirExpansions }
+{
+    plain_streams_mean_themselves();
 }
 
 /// A run that found memory ends with the status of what refused its job first: the words, the source, what was taken of it, a client that waits for

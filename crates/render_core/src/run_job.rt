@@ -3,20 +3,24 @@ ghost use Rattle.std.specs.Prelude.{◌≡◌, ◌≤◌, ◌⊎◌, [], List, m
 ghost use Rattle.rc_base.specs.Outside.Ends.{use_of, Noted};
 ghost use Rattle.render_core.specs.Lines.{memory_line, usage_line};
 ghost use Rattle.spu_chain.specs.declared.rule.SpuRule.{SpuRule as AnyRule};
-ghost use Rattle.command_line.specs.Filters.{AreNamed};
+ghost use Rattle.command_line.specs.Filters.{AreNamed, BeginsFilter};
 ghost use Rattle.render_core.specs.Finishes.{IsFinished, IsJobless, IsTaskless};
 ghost use Rattle.render_core.specs.Jobs.{AskFiltered, AskPlainly, ForTask, IsJob, IsLine, IsThreaded, Reads, ShowsNothing, Task as AnyTask, task_of};
-ghost use Rattle.render_core.specs.Outcomes.{Ran, IsAnswered, IsHeadline, KeepsOrders, IsUnwritten, IsLeft, IsLeftByThreads, HasNotes, LeavesMembers};
+ghost use Rattle.render_core.specs.Outcomes.{Ran, RefusesWhatItFinds, CarriesOutWhatItFinds, IsHeadline, KeepsOrders, IsUnwritten, IsLeft, IsLeftByThreads, HasNotes, LeavesMembers};
 ghost use Rattle.render_core.specs.Refusals.{kept_for};
 
-use crate::job::{Job, job_of};
-use crate::laws::{findings_are_one, ordered_records_show_one_image};
+use crate::job::{Job, is_threaded, job_of};
+use crate::laws::{
+    findings_are_one, full_records_are_foreseen, ordered_records_show_one_image,
+    plain_tasks_are_filtered_ones,
+};
 use crate::notes::{conclude, note, note_refusal};
 use crate::refusal::{OUT_OF_MEMORY, Refused};
-use crate::steps::{perform, perform_any};
+use crate::steps::{perform, perform_any, perform_in_threads};
 use crate::writing::Told;
 use command_line::{
-    filters, leading_words_have_one_reading, lines_have_one_reading, named_rules_begin,
+    filters, leading_words_have_one_reading, lines_begin_no_filter, lines_have_one_reading,
+    named_rules_begin,
 };
 use order_model::record::Record;
 use rc_base::gate::Gate;
@@ -91,9 +95,12 @@ fn job_behind<N: Sink>(alloc: Global, words: &[String], notes: &mut N) -> Result
     ensures asked { IfOk result (λ job. (rules : List AnyRule) → AreNamed (map string_bytes words.now) rules → AskFiltered words.now (task_of rules job)) }
     ensures unnoted { OnOk result (notes.new ≡ notes.old) }
     ensures none { IfErr result (IsTaskless (AskFiltered words.now) (use_of N.held N.faults notes.old notes.new)) }
+    // Words that are no command line and begin with no filter's word are told to be none, whatever memory there is.
+    ensures usage { IfErr result (λ finish. (BeginsFilter (map string_bytes words.now) → ⊥) → (IsLine words.now → ⊥) → finish.status ≡ 1) }
     ensures later { N.faults notes.old ≤ N.faults notes.new }
 {
     leading_words_have_one_reading();
+    lines_begin_no_filter();
     match filters(alloc, words) {
         Ok(Some((_, count))) => job_for(alloc, &words[count..], notes),
         Ok(None) => Err(end_unasked(notes)),
@@ -143,8 +150,10 @@ pub fn run_alone<S: Source, K: Sink, N: Sink>(
     ensures ran { Ran (AskPlainly words.now) (use_of S.left S.faults source.old source.new)
         (use_of K.held K.faults image.old image.new)
         (use_of N.held N.faults notes.old notes.new) result.status result.kept }
-    // What the source holds decides the status.
-    ensures exact { IsAnswered (AskPlainly words.now) (use_of S.left S.faults source.old source.new)
+    // What a source that doesn't fail holds decides whether it is refused, and with which status.
+    ensures refuses { RefusesWhatItFinds (AskPlainly words.now) (use_of S.left S.faults source.old source.new) result.status }
+    // What isn't refused is carried out whole, where no end fails.
+    ensures completes { CarriesOutWhatItFinds (AskPlainly words.now) (use_of S.left S.faults source.old source.new)
         (use_of K.held K.faults image.old image.new)
         (use_of N.held N.faults notes.old notes.new) result.status result.kept }
     // Each order that a kept record tells keeps each client's order, every barrier and every semaphore grant.
@@ -174,6 +183,7 @@ pub fn run_alone<S: Source, K: Sink, N: Sink>(
     lines_have_one_reading();
     findings_are_one();
     ordered_records_show_one_image();
+    full_records_are_foreseen();
     let job = match job_for(alloc, words, notes) {
         Ok(job) => job,
         Err(finish) => return finish,
@@ -215,8 +225,10 @@ where
     ensures ran { Ran (AskPlainly words.now) (use_of S.left S.faults source.old source.new)
         (use_of K.held K.faults image.old image.new)
         (use_of N.held N.faults notes.old notes.new) result.status result.kept }
-    // What the source holds decides the status.
-    ensures exact { IsAnswered (AskPlainly words.now) (use_of S.left S.faults source.old source.new)
+    // What a source that doesn't fail holds decides whether it is refused, and with which status.
+    ensures refuses { RefusesWhatItFinds (AskPlainly words.now) (use_of S.left S.faults source.old source.new) result.status }
+    // What isn't refused is carried out whole, where no end fails.
+    ensures completes { CarriesOutWhatItFinds (AskPlainly words.now) (use_of S.left S.faults source.old source.new)
         (use_of K.held K.faults image.old image.new)
         (use_of N.held N.faults notes.old notes.new) result.status result.kept }
     // Each order that a kept record tells keeps each client's order, every barrier and every semaphore grant.
@@ -243,15 +255,19 @@ where
     ensures later_image { K.faults image.old ≤ K.faults image.new }
     ensures later_notes { N.faults notes.old ≤ N.faults notes.new }
 {
+    if !is_threaded(words) {
+        return run_alone(alloc, words, source, image, notes);
+    }
     lines_have_one_reading();
     findings_are_one();
     ordered_records_show_one_image();
+    full_records_are_foreseen();
     let job = match job_for(alloc, words, notes) {
         Ok(job) => job,
         Err(finish) => return finish,
     };
     let mut chain: Vec<Box<dyn Spu>> = Vec::new(alloc);
-    let performed = perform_any(rt, alloc, &mut chain, job, source, image, gate);
+    let performed = perform_in_threads(rt, alloc, &mut chain, job, source, image, gate);
     finish_of(alloc, notes, performed)
 }
 
@@ -284,12 +300,16 @@ where
     ensures ran { Ran (AskFiltered words.now) (use_of S.left S.faults source.old source.new)
         (use_of K.held K.faults image.old image.new)
         (use_of N.held N.faults notes.old notes.new) result.status result.kept }
-    // What the source holds decides the status.
-    ensures exact { IsAnswered (AskFiltered words.now) (use_of S.left S.faults source.old source.new)
+    // What a source that doesn't fail holds decides whether it is refused, and with which status.
+    ensures refuses { RefusesWhatItFinds (AskFiltered words.now) (use_of S.left S.faults source.old source.new) result.status }
+    // What isn't refused is carried out whole, where no end fails.
+    ensures completes { CarriesOutWhatItFinds (AskFiltered words.now) (use_of S.left S.faults source.old source.new)
         (use_of K.held K.faults image.old image.new)
         (use_of N.held N.faults notes.old notes.new) result.status result.kept }
     // Each order that a kept record tells keeps each client's order, every barrier and every semaphore grant.
     ensures permitted { IfSome result.kept KeepsOrders }
+    // Words that are no command line and begin with no filter's word are told to be none, whatever memory there is.
+    ensures usage { (BeginsFilter (map string_bytes words.now) → ⊥) → (IsLine words.now → ⊥) → result.status ≡ 1 }
     // Where the words are no job that reads nothing is read: a job that makes its scene leaves the source as it was.
     ensures unread { ((task : AnyTask) → AskFiltered words.now task → Reads task.job → ⊥) → source.new ≡ source.old }
     // The image is untouched, save where the job is carried out, or where it failed or there was no memory.
@@ -315,9 +335,11 @@ where
 {
     leading_words_have_one_reading();
     named_rules_begin();
+    plain_tasks_are_filtered_ones();
     lines_have_one_reading();
     findings_are_one();
     ordered_records_show_one_image();
+    full_records_are_foreseen();
     let job = match job_behind(alloc, words, notes) {
         Ok(job) => job,
         Err(finish) => return finish,

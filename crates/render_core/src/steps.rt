@@ -289,9 +289,9 @@ where
     }
 }
 
-// Carries out a job that starts threads: on a cluster each of whose actors is a thread of its own, or by drawing clients apart. The answer is what is
-// left to tell.
-fn perform_in_threads<S: Source, K: Sink, G: Gate, R>(
+/// Carries out a job that starts threads: on a cluster each of whose actors is a thread of its own, or by drawing clients apart. The answer is what is
+/// left to tell.
+pub(crate) fn perform_in_threads<S: Source, K: Sink, G: Gate, R>(
     rt: R,
     alloc: Global,
     chain: &mut Vec<Box<dyn Spu>>,

@@ -7,7 +7,7 @@ use Rattle.render_core.specs.Outcomes.{PartlyWritten}
 use Rattle.render_core.proofs.BehindFilters.{empty_ready, no_rules}
 use Rattle.render_core.proofs.Endings.{same_task}
 use Rattle.render_core.proofs.Finishing.{left_by, ran_by, silent_by, taskless, unasked, unwritten_by}
-use Rattle.render_core.proofs.Headline.{answered, headline, permits}
+use Rattle.render_core.proofs.Headline.{completes, headline, permits, refuses}
 use Rattle.render_core.proofs.run_job.run_alone.Goals as goal
 
 pub returns-in-Err-clause-ran : goal.returns-in-Err-clause-ran
@@ -17,13 +17,21 @@ returns-in-Err-clause-ran g c =
     let notes = use_of g.N.Sink.held g.N.Sink.faults c.args.notes.now c.job_for.new.notes in
     unasked (AskPlainly c.args.words.now) notes c.in-Err.finish (taskless c.args.words.now [] notes c.in-Err.finish c.in-Err.ensures.none) source image
 
-pub returns-in-Err-clause-exact : goal.returns-in-Err-clause-exact
-returns-in-Err-clause-exact g c =
+pub returns-in-Err-clause-refuses : goal.returns-in-Err-clause-refuses
+returns-in-Err-clause-refuses g c =
     let source = use_of g.S.Source.left g.S.Source.faults c.args.source.now c.args.source.now in
     let image = use_of g.K.Sink.held g.K.Sink.faults c.args.image.now c.args.image.now in
     let notes = use_of g.N.Sink.held g.N.Sink.faults c.args.notes.now c.job_for.new.notes in
     let ran = unasked (AskPlainly c.args.words.now) notes c.in-Err.finish (taskless c.args.words.now [] notes c.in-Err.finish c.in-Err.ensures.none) source image in
-    answered c.findings_are_one.ensures (AskPlainly c.args.words.now) (same_task c.lines_have_one_reading.ensures c.args.words.now) source image notes _ _ ran
+    refuses c.findings_are_one.ensures (AskPlainly c.args.words.now) (same_task c.lines_have_one_reading.ensures c.args.words.now) source image notes _ _ ran
+
+pub returns-in-Err-clause-completes : goal.returns-in-Err-clause-completes
+returns-in-Err-clause-completes g c =
+    let source = use_of g.S.Source.left g.S.Source.faults c.args.source.now c.args.source.now in
+    let image = use_of g.K.Sink.held g.K.Sink.faults c.args.image.now c.args.image.now in
+    let notes = use_of g.N.Sink.held g.N.Sink.faults c.args.notes.now c.job_for.new.notes in
+    let ran = unasked (AskPlainly c.args.words.now) notes c.in-Err.finish (taskless c.args.words.now [] notes c.in-Err.finish c.in-Err.ensures.none) source image in
+    completes c.findings_are_one.ensures (AskPlainly c.args.words.now) (same_task c.lines_have_one_reading.ensures c.args.words.now) source image notes _ _ ran
 
 pub returns-clause-headline : goal.returns-clause-headline
 returns-clause-headline g c =
@@ -32,7 +40,7 @@ returns-clause-headline g c =
     let notes = use_of g.N.Sink.held g.N.Sink.faults c.args.notes.now c.finish_of.new.notes in
     let finished = subst (λ n. IsFinished (use_of g.N.Sink.held g.N.Sink.faults n c.finish_of.new.notes) c.perform-performed.result c.finish_of.result) c.in-Ok.ensures.unnoted c.finish_of.ensures.finished in
     let ran = ran_by (AskPlainly c.args.words.now) _ (no_rules _ _ c.new-chain.ensures.items, c.in-Ok.ensures.job) source image notes c.finish_of.result c.perform-performed.result finished c.perform-performed.ensures.done c.perform-performed.ensures.refused in
-    headline c.ordered_records_show_one_image.ensures (AskPlainly c.args.words.now) source image notes _ _ ran
+    headline c.ordered_records_show_one_image.ensures c.full_records_are_foreseen.ensures (AskPlainly c.args.words.now) source image notes _ _ ran
 
 pub returns-clause-ran : goal.returns-clause-ran
 returns-clause-ran g c =
@@ -43,14 +51,23 @@ returns-clause-ran g c =
     let ran = ran_by (AskPlainly c.args.words.now) _ (no_rules _ _ c.new-chain.ensures.items, c.in-Ok.ensures.job) source image notes c.finish_of.result c.perform-performed.result finished c.perform-performed.ensures.done c.perform-performed.ensures.refused in
     ran
 
-pub returns-clause-exact : goal.returns-clause-exact
-returns-clause-exact g c =
+pub returns-clause-refuses : goal.returns-clause-refuses
+returns-clause-refuses g c =
     let source = use_of g.S.Source.left g.S.Source.faults c.args.source.now c.perform-performed.new.source in
     let image = use_of g.K.Sink.held g.K.Sink.faults c.args.image.now c.perform-performed.new.image in
     let notes = use_of g.N.Sink.held g.N.Sink.faults c.args.notes.now c.finish_of.new.notes in
     let finished = subst (λ n. IsFinished (use_of g.N.Sink.held g.N.Sink.faults n c.finish_of.new.notes) c.perform-performed.result c.finish_of.result) c.in-Ok.ensures.unnoted c.finish_of.ensures.finished in
     let ran = ran_by (AskPlainly c.args.words.now) _ (no_rules _ _ c.new-chain.ensures.items, c.in-Ok.ensures.job) source image notes c.finish_of.result c.perform-performed.result finished c.perform-performed.ensures.done c.perform-performed.ensures.refused in
-    answered c.findings_are_one.ensures (AskPlainly c.args.words.now) (same_task c.lines_have_one_reading.ensures c.args.words.now) source image notes _ _ ran
+    refuses c.findings_are_one.ensures (AskPlainly c.args.words.now) (same_task c.lines_have_one_reading.ensures c.args.words.now) source image notes _ _ ran
+
+pub returns-clause-completes : goal.returns-clause-completes
+returns-clause-completes g c =
+    let source = use_of g.S.Source.left g.S.Source.faults c.args.source.now c.perform-performed.new.source in
+    let image = use_of g.K.Sink.held g.K.Sink.faults c.args.image.now c.perform-performed.new.image in
+    let notes = use_of g.N.Sink.held g.N.Sink.faults c.args.notes.now c.finish_of.new.notes in
+    let finished = subst (λ n. IsFinished (use_of g.N.Sink.held g.N.Sink.faults n c.finish_of.new.notes) c.perform-performed.result c.finish_of.result) c.in-Ok.ensures.unnoted c.finish_of.ensures.finished in
+    let ran = ran_by (AskPlainly c.args.words.now) _ (no_rules _ _ c.new-chain.ensures.items, c.in-Ok.ensures.job) source image notes c.finish_of.result c.perform-performed.result finished c.perform-performed.ensures.done c.perform-performed.ensures.refused in
+    completes c.findings_are_one.ensures (AskPlainly c.args.words.now) (same_task c.lines_have_one_reading.ensures c.args.words.now) source image notes _ _ ran
 
 pub returns-clause-permitted : goal.returns-clause-permitted
 returns-clause-permitted g c =
@@ -59,7 +76,7 @@ returns-clause-permitted g c =
     let notes = use_of g.N.Sink.held g.N.Sink.faults c.args.notes.now c.finish_of.new.notes in
     let finished = subst (λ n. IsFinished (use_of g.N.Sink.held g.N.Sink.faults n c.finish_of.new.notes) c.perform-performed.result c.finish_of.result) c.in-Ok.ensures.unnoted c.finish_of.ensures.finished in
     let ran = ran_by (AskPlainly c.args.words.now) _ (no_rules _ _ c.new-chain.ensures.items, c.in-Ok.ensures.job) source image notes c.finish_of.result c.perform-performed.result finished c.perform-performed.ensures.done c.perform-performed.ensures.refused in
-    permits c.ordered_records_show_one_image.ensures (AskPlainly c.args.words.now) source image notes _ _ ran
+    permits c.ordered_records_show_one_image.ensures c.full_records_are_foreseen.ensures (AskPlainly c.args.words.now) source image notes _ _ ran
 
 pub returns-clause-memory : goal.returns-clause-memory
 returns-clause-memory g c =
