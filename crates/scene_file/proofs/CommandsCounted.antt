@@ -17,7 +17,7 @@ use Rattle.scene_file.specs.Counting.{DecodesFirst, SpellsCounted, frames_with, 
 use Rattle.scene_file.specs.Faults.{TellsFormBy, IsBeyondBy, IsJudgedBy}
 use Rattle.scene_file.proofs.StreamsInTurn.{Stage, stage_more, stage_done}
 
-frames_some : (before frames swaps : ℕ) → 0 < before → frames_with before frames swaps ≡ min frames swaps
+pub frames_some : (before frames swaps : ℕ) → 0 < before → frames_with before frames swaps ≡ min frames swaps
 frames_some before frames swaps some = grind (arith, nat_tests)
 
 -- the frames of a scene of the commands of the table

@@ -15,3 +15,4 @@ pub mod CommandsCounted
 pub mod DrawsFromState
 pub mod TurnsOfClients
 pub mod GeneratedWithin
+pub mod StreamsBeside

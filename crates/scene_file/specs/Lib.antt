@@ -6,3 +6,4 @@ pub mod Written
 pub mod Laws
 pub mod Counting
 pub mod Generated
+pub mod Beside

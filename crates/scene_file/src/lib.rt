@@ -5,6 +5,7 @@
 //! scene that it stands for.
 #![tactic(auto)]
 
+mod beside;
 mod fault;
 mod generator;
 mod header;
@@ -15,6 +16,7 @@ mod lists;
 mod reading;
 mod writing;
 
+pub use beside::read_scene_beside;
 pub use fault::SceneFault;
 pub use generator::{generate, next_state};
 pub use limits::{check_held, check_limits, check_streams, clients_beyond, commands_beyond};

@@ -42,7 +42,7 @@ fn room_behind(commands: usize) -> usize
 }
 
 /// The frames of one stream more, which has so many Swaps, behind some.
-fn frames_with(before: usize, frames: usize, swaps: usize) -> usize
+pub(crate) fn frames_with(before: usize, frames: usize, swaps: usize) -> usize
     ensures { result ≡ frames_with before frames swaps }
 {
     if before == 0 {
@@ -53,7 +53,7 @@ fn frames_with(before: usize, frames: usize, swaps: usize) -> usize
 }
 
 #[tactic(auto, unfolding(crate::specs::Reading::read_text))]
-fn read_text(bytes: &[u8]) -> Result<(&[u8], &[u8]), Form>
+pub(crate) fn read_text(bytes: &[u8]) -> Result<(&[u8], &[u8]), Form>
     ensures { Reads (λ x. (x.0.now, x.1.now)) result (read_text bytes.now) }
 {
     let (length, rest) = read_long(bytes)?;
@@ -119,7 +119,7 @@ pub(crate) fn read_spelled<C: PacketCommand + BeginsScene>(
     })
 }
 
-fn within_limits(counted: Counted<Command>) -> Result<Scene, SceneFault>
+pub(crate) fn within_limits(counted: Counted<Command>) -> Result<Scene, SceneFault>
     ensures { (s : AnyScene) → Counts is_swap_command counted s.decl s.streams → IsJudged s result }
 {
     let Counted {
@@ -134,7 +134,7 @@ fn within_limits(counted: Counted<Command>) -> Result<Scene, SceneFault>
     }
 }
 
-fn read_judged(alloc: Global, bytes: &[u8]) -> Result<Scene, SceneFault>
+pub(crate) fn read_judged(alloc: Global, bytes: &[u8]) -> Result<Scene, SceneFault>
     ensures found { IfOk result (λ s. SpellsScene bytes.now s × (limit_of s ≡ None)) }
     ensures malformed { IfErr result (TellsForm bytes.now) }
     ensures limit { IfErr result (IsBeyond bytes.now) }

@@ -1,0 +1,202 @@
+//! Reading a scene whose streams are decoded side by side, each in a thread of its own.
+ghost use Rattle.std.specs.Prelude.{◌≡◌, ◌+◌, ◌-◌, ◌≤◌, ◌⊎◌, ◌∷◌, ℕ, List, length, IfOk, IfErr, IfSome, Ok, Err, Some, None};
+ghost use Rattle.std.specs.List.{AllByRecursion};
+ghost use Rattle.rc_base.specs.Formats.Commands.{IsCommand};
+ghost use Rattle.rc_base.specs.Formats.Spelling.{IsDecl, SpellsScene};
+ghost use Rattle.rc_base.specs.Formats.Limits.{limit_of};
+ghost use Rattle.rc_base.specs.Formats.Within.{IsWithin};
+ghost use Rattle.rc_base.specs.declared.scene.Scene.{Scene as AnyScene};
+ghost use Rattle.rc_base.specs.declared.scene.SceneKind.{SceneKind as AnyKind};
+ghost use Rattle.rc_base.specs.declared.scene.Limit.{Limit as AnyLimit};
+ghost use Rattle.scene_file.specs.Faults.{FailsAsScene, TellsForm, IsBeyond};
+ghost use Rattle.scene_file.specs.Counting.{frames_with};
+ghost use Rattle.scene_file.specs.Beside.{HoldsStream, HoldsStreams};
+
+use crate::fault::SceneFault;
+use crate::header::{BeginsScene, Head, read_head};
+use crate::reading::{Counted, frames_with, read_judged, read_text, within_limits};
+use cmd_pack::decode_within;
+use cmd_pack::packets::DecodedOf;
+use rc_base::command::Command;
+use rc_base::items::Items;
+use rc_base::scene::{Scene, Streams};
+use std::alloc::Global;
+use std::thread::{Threads, join};
+
+/// Of fewer bytes than these, threads cost more than they save.
+const LEAST_BYTES: usize = 262_144;
+
+/// All streams that bytes hold, how many commands they have, and how many frames.
+#[derive(Debug, Drop)]
+struct Gathered {
+    streams: Streams,
+    commands: usize,
+    frames: usize,
+}
+
+/// How many commands of a stream of this size are stored at most: twice its part, by bytes, of the most that a scene may have, and some for streams
+/// beside a long one. So eight streams store two and a half times as many at most, and a scene within its limits seldom more than there is room for.
+fn room_of(size: usize, all: usize) -> usize
+    ensures { result ≤ 1048576 }
+{
+    (size / (all / 2_097_152 + 1)).clamp(65_536, 1_048_576)
+}
+
+/// The stream that these bytes spell, where there is room for all of its commands.
+fn stored(alloc: Global, room: usize, text: &[u8]) -> Option<DecodedOf<Command>>
+    requires { room ≤ 1048576 }
+    ensures { IfSome result (HoldsStream text.now) }
+{
+    match decode_within(alloc, room, text) {
+        Ok(decoded) => {
+            if decoded.count <= room {
+                Some(decoded)
+            } else {
+                None
+            }
+        }
+        Err(_) => None,
+    }
+}
+
+/// A stream, and those behind it.
+fn put_first(alloc: Global, first: DecodedOf<Command>, others: Gathered) -> Option<Gathered>
+    requires first { first.count ≤ 1048576 }
+    requires others { others.commands ≤ 8388608 }
+    ensures streams { IfSome result (λ x. x.streams ≡ first.commands ∷ others.streams) }
+    ensures commands { IfSome result (λ x. x.commands ≡ first.count + others.commands) }
+    ensures frames { IfSome result (λ x. x.frames ≡ frames_with (length others.streams) others.frames first.swaps) }
+{
+    let frames = frames_with(others.streams.len(), others.frames, first.swaps);
+    let commands = first.count + others.commands;
+    let mut streams = Items::new(alloc);
+    if streams.push(first.commands).is_err() {
+        return None;
+    }
+    if streams.append(others.streams).is_err() {
+        return None;
+    }
+    Some(Gathered {
+        streams,
+        commands,
+        frames,
+    })
+}
+
+/// No streams, where nothing is left.
+fn none_left(alloc: Global, bytes: &[u8]) -> Option<Gathered>
+    ensures { IfSome result (HoldsStreams bytes.now 0) }
+{
+    if !bytes.is_empty() {
+        return None;
+    }
+    Some(Gathered {
+        streams: Streams::new(alloc),
+        commands: 0,
+        frames: 0,
+    })
+}
+
+/// So many streams, each with its length, that fill these bytes: the first one in a thread of its own, and those behind it in the same way. So many
+/// bytes has the whole scene.
+fn streams_beside<R: Threads>(
+    rt: &R,
+    alloc: Global,
+    all: usize,
+    count: u8,
+    bytes: &[u8],
+) -> Option<Gathered>
+    requires { count ≤ 8 }
+    ensures { IfSome result (HoldsStreams bytes.now count) }
+{
+    if count == 0 {
+        return none_left(alloc, bytes);
+    }
+    let Ok((text, after)) = read_text(bytes) else {
+        return None;
+    };
+    let room = room_of(text.len(), all);
+    let left = count - 1;
+    let (first, others) = join(
+        rt,
+        || -> Option<DecodedOf<Command>>
+            requires { room ≤ 1048576 }
+            ensures { IfSome result (HoldsStream text.entry.now) }
+        { stored(alloc, room, text) },
+        || -> Option<Gathered>
+            requires { left ≤ 7 }
+            ensures { IfSome result (HoldsStreams after.entry.now left) }
+        { streams_beside(rt, alloc, all, left, after) },
+    );
+    put_first(alloc, first?, others?)
+}
+
+/// The scene within its limits that the bytes of two clients or more spell, or nothing where anything stands in the way.
+fn scene_beside<R: Threads>(rt: &R, alloc: Global, bytes: &[u8]) -> Option<Scene>
+    ensures { IfSome result (λ s. SpellsScene bytes.now s × (limit_of s ≡ None)) }
+{
+    let Ok((version, body)) = <Command as BeginsScene>::read_magic(bytes) else {
+        return None;
+    };
+    let Ok((Head { decl, clients }, body)) = read_head(alloc, version, body) else {
+        return None;
+    };
+    if clients < 2 || clients > 8 {
+        return None;
+    }
+    let Gathered {
+        streams,
+        commands,
+        frames,
+    } = streams_beside(rt, alloc, bytes.len(), clients, body)?;
+    match within_limits(Counted {
+        decl,
+        streams,
+        commands,
+        frames,
+    }) {
+        Ok(scene) => Some(scene),
+        Err(_) => None,
+    }
+}
+
+fn judged_beside<R: Threads>(rt: &R, alloc: Global, bytes: &[u8]) -> Result<Scene, SceneFault>
+    ensures found { IfOk result (λ s. SpellsScene bytes.now s × (limit_of s ≡ None)) }
+    ensures malformed { IfErr result (TellsForm bytes.now) }
+    ensures limit { IfErr result (IsBeyond bytes.now) }
+{
+    if bytes.len() < LEAST_BYTES {
+        return read_judged(alloc, bytes);
+    }
+    match scene_beside(rt, alloc, bytes) {
+        Some(scene) => Ok(scene),
+        None => read_judged(alloc, bytes),
+    }
+}
+
+/// What `read_scene` answers. Where there are many bytes, the streams are decoded side by side, each in a thread of its own, and once more by one
+/// thread where that comes to no scene.
+pub fn read_scene_beside<R: Threads>(
+    rt: &R,
+    alloc: Global,
+    bytes: &[u8],
+) -> Result<Scene, SceneFault>
+    // What is read is spelled so, and within the limits.
+    ensures found { IfOk result (λ s. SpellsScene bytes.now s × (limit_of s ≡ None)) }
+    // Its fields are in their ranges.
+    ensures fields { IfOk result (λ s. IsDecl s.decl × AllByRecursion (AllByRecursion IsCommand) s.streams) }
+    // So it is within what every call that takes a scene asks.
+    ensures within { IfOk result IsWithin }
+    // What is spelled so and within the limits is read, unless memory runs out.
+    ensures only { (s : AnyScene) → SpellsScene bytes.now s → limit_of s ≡ None → (result ≡ Ok s) ⊎ (result ≡ Err SceneFault.OutOfMemory) }
+    // Malformed bytes have this fault first from the left, at this place.
+    ensures malformed { IfErr result (TellsForm bytes.now) }
+    // Such bytes are answered so, unless memory runs out.
+    ensures malformed_only { (kind : AnyKind) → (at : ℕ) → FailsAsScene bytes.now kind at → (result ≡ Err (SceneFault.Malformed kind at)) ⊎ (result ≡ Err SceneFault.OutOfMemory) }
+    // The scene that is spelled has this quantity outside its range, the first in the order of the table.
+    ensures limit { IfErr result (IsBeyond bytes.now) }
+    // Such a scene is answered so, unless memory runs out.
+    ensures limit_only { (s : AnyScene) → (l : AnyLimit) → SpellsScene bytes.now s → limit_of s ≡ Some l → (result ≡ Err (SceneFault.Limit l.what l.value)) ⊎ (result ≡ Err SceneFault.OutOfMemory) }
+{
+    judged_beside(rt, alloc, bytes)
+}
