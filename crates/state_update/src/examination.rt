@@ -58,6 +58,7 @@ impl<'a> Examination<'a> {
         ensures added { OnOk result (sets.new ≡ sets.old ++ flat_map (element_sets self.now.told.now self.now.context.now self.now.image) (range_with_len (group_start group) (slice_index group_sizes group))) }
         ensures quiet { flat_map (element_sets self.now.told.now self.now.context.now self.now.image) (range_with_len (group_start group) (slice_index group_sizes group)) ≡ [] → IsOk result }
         ensures looked { OnOk result (looks.new ≡ looks.old + 1 + element_looks self.now.dirty.now self.now.tile group) }
+        ensures risen { looks.old ≤ looks.new }
     {
         if !self.dirty.group_dirty(group, self.tile, looks) {
             return Ok(());
@@ -77,6 +78,7 @@ impl<'a> Examination<'a> {
         ensures sets { IfOk result (λ sets. sets ≡ sets_by self.now.told.now self.now.context.now self.now.image) }
         ensures quiet { sets_by self.now.told.now self.now.context.now self.now.image ≡ [] → IsOk result }
         ensures looked { OnOk result (looks.new ≡ looks.old + length group_sizes + looks_from self.now.dirty.now self.now.tile 0) }
+        ensures risen { looks.old ≤ looks.new }
     {
         let mut sets = Sets::new(self.alloc);
         for group in 0..9 {

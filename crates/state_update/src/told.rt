@@ -1,12 +1,12 @@
 //! What one tile was told.
-ghost use Rattle.std.specs.Prelude.{◌≡◌, ◌<◌, ◌≤◌, ◌++◌, [], IfOk, IsOk, OnOk, length, replicate};
+ghost use Rattle.std.specs.Prelude.{◌≡◌, ◌<◌, ◌≤◌, ◌++◌, [], IsOk, OnOk, length, replicate};
 ghost use Rattle.rc_base.specs.Contexts.Context.{default_state, private_count};
 ghost use Rattle.rc_base.specs.Contexts.Elements.{scalar_count};
 ghost use Rattle.state_update.specs.Knowledge.{IsPrivateName, edit_told, element_sets, first_told, image_set, told_after};
 
 use crate::images::image_of;
 use crate::scalars::add_scalar;
-use element_table::{SCALAR_COUNT, image_element};
+use element_table::{SCALAR_COUNT, default_state, image_element};
 use gl_context::Context;
 use rc_base::out_of_memory::OutOfMemory;
 use rc_base::scene::Decl;
@@ -22,15 +22,13 @@ pub struct Told {
 
 impl Told {
     /// The defaults, and no image.
-    #[tactic(auto, unfolding(rc_base::specs::Contexts::Context::default_context))]
-    pub fn first(alloc: Global, decl: &Decl) -> Result<Told, OutOfMemory>
-        ensures { IfOk result (λ t. t ≡ first_told decl.now) }
+    pub fn first(decl: &Decl) -> Told
+        ensures { result ≡ first_told decl.now }
     {
-        let context = Context::new(alloc, decl)?;
-        Ok(Told {
-            state: *context.state(),
+        Told {
+            state: default_state(decl),
             edits: [0; 64],
-        })
+        }
     }
 
     /// There is an edit number for each private texture.

@@ -44,7 +44,7 @@ impl Tracker {
         ensures told { (tile : ℕ) → tile < tiles → IfOk result (λ t. Knows t tile (default_value decl.now)) }
         ensures clean { IfOk result (λ t. (tile e : ℕ) → pending t tile e ≡ false) }
     {
-        let first = Told::first(alloc, decl)?;
+        let first = Told::first(decl);
         Ok(Tracker {
             alloc,
             tiles: many(alloc, first, tiles)?,
@@ -86,6 +86,7 @@ impl Tracker {
         ensures pending { OnOk result ((t e : ℕ) → t < 32 → pending self.new t e ≡ (pending self.old t e && not (t == tile && list_any (nat_eq e) (examined context.now draws)))) }
         ensures looked { OnOk result (looks.new ≡ looks.old + looks_for (pending self.old tile)) }
         ensures err { OnErr result (self.new ≡ self.old) }
+        ensures risen { looks.old ≤ looks.new }
     {
         if !self.dirty.any_dirty(tile, looks) {
             return Ok(Sets::new(self.alloc));

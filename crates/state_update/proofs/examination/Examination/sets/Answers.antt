@@ -36,6 +36,7 @@ loop-group-preserved c =
           ∙ parts_added f (group_start g) (slice_index group_sizes g)
           ∙ ap (λ (n : ℕ). flat_map f (range_with_len 0 n)) (sym next);
       looks = omega (arith, more, looks, looked);
+      risen = (let r = c.loop-group.invariant.risen in let s = c.add_group.ensures.risen in omega (arith, r, s));
       few = omega (arith, most, few, looked);
     }
 
