@@ -1,7 +1,6 @@
 //! What a new canvas is made of.
 ghost use Rattle.std.specs.Prelude.{◌≡◌, ◌<◌, ℕ, ℤ, true, pos, IfOk};
 ghost use Rattle.rc_base.specs.Cluster.Tiles.{is_in_rect, tile_count, tile_pixels};
-ghost use Rattle.rc_base.specs.Contexts.Context.{default_state};
 ghost use Rattle.rc_base.specs.Drawing.Serial.{blank_pixel};
 ghost use Rattle.draw_device.specs.Devices.{pixel_of};
 ghost use Rattle.tile_server.specs.Works.{AreNew, IsRectOf, LiesInWindow};
@@ -9,35 +8,18 @@ ghost use Rattle.tile_server.specs.Works.{AreNew, IsRectOf, LiesInWindow};
 use crate::kept::KeptClient;
 use bounds_bucket::tile_rect;
 use draw_device::Device;
-use gl_context::Context;
 use rc_base::out_of_memory::OutOfMemory;
-use rc_base::scene::{Counts, Decl, Sizes, Units};
+use rc_base::scene::Decl;
 use rc_base::state::State;
 use rc_base::window::{Layout, Rect};
 use std::alloc::Global;
 use textures::PrivateSet;
 
 /// A copy of a declaration.
-pub(crate) fn decl_copy(alloc: Global, decl: &Decl) -> Result<Decl, OutOfMemory>
+pub(crate) fn decl_copy(decl: &Decl) -> Result<Decl, OutOfMemory>
     ensures { IfOk result (λ d. d ≡ decl.now) }
 {
-    Ok(Decl {
-        version: decl.version,
-        width: decl.width,
-        height: decl.height,
-        shared: Sizes::from_slice(alloc, decl.shared.as_slice())?,
-        barriers: Counts::from_slice(alloc, decl.barriers.as_slice())?,
-        semaphores: Units::from_slice(alloc, decl.semaphores.as_slice())?,
-    })
-}
-
-/// The scalar elements before the first command, which are those of a new context.
-#[tactic(auto, unfolding(rc_base::specs::Contexts::Context::default_context))]
-pub(crate) fn default_state(alloc: Global, decl: &Decl) -> Result<State, OutOfMemory>
-    ensures { IfOk result (λ s. s ≡ default_state decl.now) }
-{
-    let context = Context::new(alloc, decl)?;
-    Ok(*context.state())
+    Ok(decl.clone()?)
 }
 
 /// What is kept of clients that sent nothing yet, whose first state is this.

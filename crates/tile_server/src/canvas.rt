@@ -3,11 +3,12 @@ ghost use Rattle.textures.specs.Stores.{HasTexels};
 ghost use Rattle.tile_server.specs.Kepts.{AreFit};
 ghost use Rattle.tile_server.specs.Works.{IsRectOf, texels_in};
 
-use crate::blank::{blank_device, decl_copy, default_state, new_clients};
+use crate::blank::{blank_device, decl_copy, new_clients};
 use crate::givable::is_givable;
 use crate::kept::KeptClient;
 use crate::work::work;
 use draw_device::Device;
+use element_table::default_state;
 use rc_base::cluster::TilePart;
 use rc_base::out_of_memory::OutOfMemory;
 use rc_base::scene::Decl;
@@ -58,9 +59,9 @@ impl Canvas {
         ensures blank { IfOk result (λ c. IsNewBoard decl.now layout.now tile (board_in c)) }
     {
         sets_have_stored_texels();
-        let hw = default_state(alloc, decl)?;
+        let hw = default_state(decl);
         Ok(Canvas {
-            decl: decl_copy(alloc, decl)?,
+            decl: decl_copy(decl)?,
             layout: *layout,
             tile,
             hw,
