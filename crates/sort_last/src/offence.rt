@@ -71,6 +71,7 @@ fn first_in(alloc: Global, scene: &Scene, client: usize) -> Result<Option<u32>, 
             return Ok(Some(place as u32));
         }
         drawn = drawn_after(&effect, drawn);
+        context.take_back(effect);
     }
     Ok(None)
 }

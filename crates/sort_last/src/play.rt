@@ -88,6 +88,7 @@ pub(crate) fn play(
     for place in from..to {
         let effect = issue_at(context, scene, client, place)?;
         carry_out(part, &effect, context, device, shared);
+        context.take_back(effect);
     }
     Ok(())
 }

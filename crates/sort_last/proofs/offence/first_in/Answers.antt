@@ -32,7 +32,7 @@ loop-place-preserved c =
     let place = c.loop-place.place in
     let i = c.loop-place.invariant in
     record {
-      context = c.in_ok-effect.ensures.context;
+      context = c.take_back.ensures ∙ c.in_ok-effect.ensures.context;
       drawn = drawn_is s c.args.client place c.loop-place.drawn c.drawn_after-drawn.result c.in_ok-effect.effect i.drawn c.in_ok-effect.ensures.effect c.drawn_after-drawn.ensures;
       none = none_more s c.args.client place i.none
           (offence_is s c.args.client place c.keeps_nearest-keeps.result c.loop-place.drawn c.is_offence.result c.in_ok-effect.effect
