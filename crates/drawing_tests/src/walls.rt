@@ -1,4 +1,4 @@
-//! A wall that runs past the eye, square by square: each pixel that it covers is drawn once.
+//! A wall that runs past the eye, square by square: each pixel that it covers is drawn once. And a sliver that rounding turns, along whose edge it isn't so.
 ghost use Rattle.std.specs.Prelude.{IfSome};
 ghost use Rattle.draw_device.specs.Devices.{IsDeviceRect};
 
@@ -137,4 +137,57 @@ fn tiles_draw_a_wall_past_the_eye_once(rt: HostRuntime) {
             assert!(rt; wrong_on(&rt, rt.alloc(), left, bottom, 8, 4) == 0);
         }
     }
+}
+
+// Two triangles on the two sides of the edge from (-29, 233) at w = 397 to (-212, 10) at w = 35, which the near plane cuts. In sixteenths of a pixel the
+// first one leaves a sliver with corners (474, 812), (310, 804) and (326, 804), and its neighbour a piece with (310, 804), (474, 812) and (1213, -205). By
+// rounding the sliver runs counterclockwise, where its neighbour runs clockwise.
+fn sliver(rt: &impl Abort, alloc: Global) -> Block {
+    let mut vertices = Vertices::new(alloc);
+    for (x, y, w) in [
+        (-29, 233, 397),
+        (-212, 10, 35),
+        (-264, -84, -122),
+        (-212, 10, 35),
+        (-29, 233, 397),
+        (363, -371, 265),
+    ] {
+        let vertex = Vertex {
+            color: rgba(3, 3, 3, 3),
+            ..at(x, y, w)
+        };
+        vertices.push(vertex).expect(rt, "memory");
+    }
+    Block { mode: 16, vertices }
+}
+
+// The pixels of columns 22 to 31 of row 50, which has the edge's centre.
+fn sliver_row(rt: &impl Abort, alloc: Global) -> Items<Pixel> {
+    let privates = PrivateSet::new(alloc).expect(rt, "memory");
+    let shareds = SharedSet::new(alloc, &Sizes::new(alloc)).expect(rt, "memory");
+    let mut device = device_of(alloc, 22, 50, 32, 51).expect(rt, "a device");
+    let state = State {
+        viewport: [0, 0, 64, 64],
+        ..state()
+    };
+    let block = sliver(rt, alloc);
+    assert!(rt; is_drawable(&state, &privates, &shareds));
+    device.draw(&state, &block, &privates, &shareds);
+    device.part(0, 0).expect(rt, "memory").pixels
+}
+
+// How many pixels haven't the values.
+fn unlike(pixels: &[Pixel], values: &[u8]) -> u32 {
+    let mut count = u32::from(pixels.len() != values.len());
+    for (pixel, value) in pixels.iter().zip(values.iter()) {
+        let color = rgba(*value, *value, *value, *value);
+        count = count.saturating_add(u32::from(pixel.color != color));
+    }
+    count
+}
+
+#[test]
+fn a_sliver_that_rounding_turns_meets_its_neighbour_twice(rt: HostRuntime) {
+    let row = sliver_row(&rt, rt.alloc());
+    assert!(rt; unlike(row.as_slice(), &[0, 0, 6, 3, 3, 3, 3, 3, 0, 0]) == 0);
 }
