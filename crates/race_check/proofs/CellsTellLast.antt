@@ -53,7 +53,7 @@ marks_cell n cells (v ∷ vs) q lt =
           rest ∙ ap (λ c. cond (hits q vs) (slice_set c n.client (n.place + 1)) c) here ∙ rw f refl
     ]
 
-in_more : (a n : Name) (passed : List Name) → IsIn a (passed ++ n ∷ []) → IsIn a passed ⊎ (n ≡ a)
+pub in_more : (a n : Name) (passed : List Name) → IsIn a (passed ++ n ∷ []) → IsIn a passed ⊎ (n ≡ a)
 in_more a n passed i = elim (in_append a passed (n ∷ []) i) [ inl h ↦ inl h | inr (inl e) ↦ inr e | inr (inr k) ↦ absurd k ]
 
 pub in_end : (n : Name) (passed : List Name) → IsIn n (passed ++ n ∷ [])
@@ -120,22 +120,22 @@ last_more {I = I} uses index IsThere passed cells n vs size h client rising hit 
           subst (λ c. IsLast (Passes i d (passed ++ n ∷ [])) (slice_index c d)) (sym now) (kept i ok d lt (λ e. f))
     ]
 
+pub cell_unused : (n q : ℕ) → q < n → slice_index_or (replicate n (replicate {A = ℕ} 8 0)) q [] ≡ replicate 8 0
+cell_unused zero q l = absurd (omega arith)
+cell_unused (suc n) zero l = refl
+cell_unused (suc n) (suc q) l = cell_unused n q (omega arith)
+
 -- no name is passed
 pub last_none : {I : Type 0} (uses : Name → I → Bool) (index : I → ℕ) (IsThere : I → Type 0) (cells : List (List ℕ)) (count : ℕ) → cells ≡ replicate count (replicate {A = ℕ} 8 0)
     → ((i : I) → IsThere i → index i < count) → AreLast uses index IsThere [] cells
 last_none {I = I} uses index IsThere cells count e lt = subst (AreLast uses index IsThere []) (sym e) (record {
   within = λ i ok. omega (arith, lt i ok, length-replicate count (replicate {A = ℕ} 8 0));
-  slots = λ i ok. ap length (cell count (index i) (lt i ok));
+  slots = λ i ok. ap length (cell_unused count (index i) (lt i ok));
   last = λ i ok d l. record {
     most = λ p k. absurd k.0;
-    there = λ p f. let z = ap (λ c. slice_index c d) (cell count (index i) (lt i ok)) in absurd (omega (arith, z, f, zeros 8 d));
+    there = λ p f. let z = ap (λ c. slice_index c d) (cell_unused count (index i) (lt i ok)) in absurd (omega (arith, z, f, zeros 8 d));
   };
 })
-  where
-    cell : (n q : ℕ) → q < n → slice_index_or (replicate n (replicate {A = ℕ} 8 0)) q [] ≡ replicate 8 0
-    cell zero q l = absurd (omega arith)
-    cell (suc n) zero l = refl
-    cell (suc n) (suc q) l = cell n q (omega arith)
 
 -- ---- what a cell tells
 

@@ -9,3 +9,6 @@ mod TrianglesBeside
 mod CarriedUses
 mod ScenesInTurn
 mod VerdictsOnScenes
+mod OutlinesTell
+mod RangesOfCells
+mod Reaches

@@ -88,69 +88,80 @@ passed_first syncs journal f width height m px wr rd = record {
 in_order : (order : List Name) (k : ℕ) (n : Name) → slice_get order k ≡ Some n → (a : Name) → IsIn a (take k order) → IsIn a order
 in_order order k n at a i = subst (IsIn a) (sym (order_at order k n at).0) (in_left a (take k order) (n ∷ drop (k + 1) order) i)
 
+-- a name of an order, and those in front of it
+pub record NamesAt (syncs : SyncLists) (journal : List Entry) (order : List Name) (k : ℕ) (n : Name) : Type 0 where
+  pub once : NoRepeat (take k order ++ n ∷ drop (k + 1) order)
+  pub front : NoRepeat (take k order ++ n ∷ [])
+  pub here : IsIn n order
+  pub below : (a : Name) → IsIn a (take k order) → (a.client < 8) × (a.place < reach_of syncs journal a.client)
+  pub rising : (i : ℕ) → IsIn (named n.client i) (take k order) → i < n.place
+
+pub names_at : (syncs : SyncLists) (journal : List Entry) (order : List Name) (k : ℕ) (n : Name) → IsPermitted syncs journal order → ((a : Name) → IsIn a order → a.client < 8)
+    → slice_get order k ≡ Some n → NamesAt syncs journal order k n
+names_at syncs journal order k n p clients at = record {
+  once = once;
+  front = front_once (take k order) (drop (k + 1) order) once;
+  here = subst (IsIn n) (sym (order_at order k n at).0) (in_right n (take k order) (n ∷ drop (k + 1) order) (inl refl));
+  below = λ a i. let j = in_order order k n at a i in (clients a j, (p.names a).0 j);
+  rising = λ i j. rising_of syncs journal order p (named n.client i) n refl
+      (subst (Stands (named n.client i) n) (sym (order_at order k n at).0) (before_middle n (named n.client i) (take k order) (drop (k + 1) order) j));
+}
+  where
+    once : NoRepeat (take k order ++ n ∷ drop (k + 1) order)
+    once = subst NoRepeat (order_at order k n at).0 p.once
+
+    not_more : (a : Name) (xs ys : List Name) → IsIn a (xs ++ n ∷ []) → IsIn a (xs ++ n ∷ ys)
+    not_more a [] ys (inl e) = inl e
+    not_more a [] ys (inr i) = absurd i
+    not_more a (x ∷ xs) ys (inl e) = inl e
+    not_more a (x ∷ xs) ys (inr i) = inr (not_more a xs ys i)
+
+    front_once : (xs ys : List Name) → NoRepeat (xs ++ n ∷ ys) → NoRepeat (xs ++ n ∷ [])
+    front_once [] ys o = (λ i. i, tt)
+    front_once (x ∷ xs) ys o = (λ i. o.0 (not_more x xs ys i), front_once xs ys o.1)
+
 module _ (syncs : SyncLists) (journal : List Entry) (f : Footprint (ℕ × ℕ)) (width height : ℕ) (lists : List (List Change)) (order : List Name) (k : ℕ) (n : Name) (old new : Marks) (told : Option Found)
     (p : IsPermitted syncs journal order) (exact : IsExact syncs journal (clock_of lists)) (clients : (a : Name) → IsIn a order → a.client < 8) (at : slice_get order k ≡ Some n)
     (h : IsPassed syncs journal f width height (take k order) old) (c : IsCarried (f.touches n) (f.samples n) (f.writes n) width height lists n old new told) where
-  once : NoRepeat (take k order ++ n ∷ drop (k + 1) order)
-  once = subst NoRepeat (order_at order k n at).0 p.once
-
-  here : IsIn n order
-  here = subst (IsIn n) (sym (order_at order k n at).0) (in_right n (take k order) (n ∷ drop (k + 1) order) (inl refl))
-
-  below : (a : Name) → IsIn a (take k order) → (a.client < 8) × (a.place < reach_of syncs journal a.client)
-  below a i = let j = in_order order k n at a i in (clients a j, (p.names a).0 j)
-
-  rising : (i : ℕ) → IsIn (named n.client i) (take k order) → i < n.place
-  rising i j =
-      rising_of syncs journal order p (named n.client i) n refl
-      (subst (Stands (named n.client i) n) (sym (order_at order k n at).0) (before_middle n (named n.client i) (take k order) (drop (k + 1) order) j))
+  names : NamesAt syncs journal order k n
+  names = names_at syncs journal order k n p clients at
 
   found : (x : Found) → IsIn x (found_of n c.clock width c.used old) → RacesAt syncs journal f (take k order) n (named x.client x.place) x.spot
-  found = found_races syncs journal f width height (clock_of lists) c.clock (take k order) n c.used old exact c.counts ((p.names n).0 here) below h.tables c.is
+  found = found_races syncs journal f width height (clock_of lists) c.clock (take k order) n c.used old exact c.counts ((p.names n).0 names.here) names.below h.tables c.is
 
   raced : (a : Name) (s : Spot) → RacesAt syncs journal f (take k order) n a s
       → (x : Found) × IsIn x (found_of n c.clock width c.used old) × (x.client ≡ a.client) × (x.spot ≡ s) × (a.place ≤ x.place)
-  raced = races_found syncs journal f width height (clock_of lists) c.clock (take k order) n c.used old exact c.counts ((p.names n).0 here) below h.tables c.is
+  raced = races_found syncs journal f width height (clock_of lists) c.clock (take k order) n c.used old exact c.counts ((p.names n).0 names.here) names.below h.tables c.is
 
   -- what is told is the first race of the order
   pub race_here : (r : Found) → told ≡ Some r → IsFirstRace syncs journal order f (named r.client r.place) n r.spot
   race_here r e =
       subst (λ o. IsFirstRace syncs journal o f (named r.client r.place) n r.spot) (sym (order_at order k n at).0)
-      (told_race syncs journal f (take k order) (drop (k + 1) order) n (found_of n c.clock width c.used old) r once found raced h.quiet (sym c.best ∙ e))
+      (told_race syncs journal f (take k order) (drop (k + 1) order) n (found_of n c.clock width c.used old) r names.once found raced h.quiet (sym c.best ∙ e))
 
   quiet_here : told ≡ None → IsQuiet syncs journal f (take (k + 1) order)
   quiet_here e =
       subst (IsQuiet syncs journal f) (sym (order_at order k n at).1)
-      (quiet_more syncs journal f (take k order) n (found_of n c.clock width c.used old) (front_once (take k order) (drop (k + 1) order) once) raced h.quiet (sym c.best ∙ e))
-    where
-      not_more : (a : Name) (xs ys : List Name) → IsIn a (xs ++ n ∷ []) → IsIn a (xs ++ n ∷ ys)
-      not_more a [] ys (inl e) = inl e
-      not_more a [] ys (inr i) = absurd i
-      not_more a (x ∷ xs) ys (inl e) = inl e
-      not_more a (x ∷ xs) ys (inr i) = inr (not_more a xs ys i)
-
-      front_once : (xs ys : List Name) → NoRepeat (xs ++ n ∷ ys) → NoRepeat (xs ++ n ∷ [])
-      front_once [] ys o = (λ i. i, tt)
-      front_once (x ∷ xs) ys o = (λ i. o.0 (not_more x xs ys i), front_once xs ys o.1)
+      (quiet_more syncs journal f (take k order) n (found_of n c.clock width c.used old) names.front raced h.quiet (sym c.best ∙ e))
 
   tables_here : AreTables f width height (take (k + 1) order) new
   tables_here =
-      let client = clients n here in
+      let client = clients n names.here in
       let t = h.tables in
       let next = sym (order_at order k n at).1 in
       let more : List Name = take k order ++ n ∷ [] in
       record {
         touched = subst (λ ns. AreLast f.touches (pixel_index width) (IsPixelOf width height) ns new.pixels.cells.items) next
             (subst (AreLast f.touches (pixel_index width) (IsPixelOf width height) more) (sym c.pixels)
-            (last_more f.touches (pixel_index width) (IsPixelOf width height) (take k order) old.pixels.cells.items n (runs_visits width c.used.runs) 0 t.touched client rising
+            (last_more f.touches (pixel_index width) (IsPixelOf width height) (take k order) old.pixels.cells.items n (runs_visits width c.used.runs) 0 t.touched client names.rising
             (λ q ok. runs_hit width height c.used.runs q.0 q.1 c.is.inside ok.0 ∙ sym (c.is.touches q.0 q.1 ok.0 ok.1)) (marks_size n old.pixels.cells.items (runs_visits width c.used.runs))));
         written = subst (λ ns. AreLast f.writes (λ t. t) IsTexture ns new.writers.cells.items) next
             (subst (AreLast f.writes (λ t. t) IsTexture more) (sym (c.writers ∙ mark_visits_if n old.writers.cells.items c.used.writes))
-            (last_more f.writes (λ t. t) IsTexture (take k order) old.writers.cells.items n (texture_visits c.used.writes) 0 t.written client rising
+            (last_more f.writes (λ t. t) IsTexture (take k order) old.writers.cells.items n (texture_visits c.used.writes) 0 t.written client names.rising
             (λ q ok. texture_hits c.used.writes q (f.writes n q) (c.is.written q) (λ e. (c.is.writes q e).0)) (marks_size n old.writers.cells.items (texture_visits c.used.writes))));
         read = subst (λ ns. AreLast f.samples (λ t. t) IsTexture ns new.readers.cells.items) next
             (subst (AreLast f.samples (λ t. t) IsTexture more) (sym (c.readers ∙ mark_visits_if n old.readers.cells.items c.used.samples))
-            (last_more f.samples (λ t. t) IsTexture (take k order) old.readers.cells.items n (texture_visits c.used.samples) 0 t.read client rising
+            (last_more f.samples (λ t. t) IsTexture (take k order) old.readers.cells.items n (texture_visits c.used.samples) 0 t.read client names.rising
             (λ q ok. texture_hits c.used.samples q (f.samples n q) (c.is.sampled q) (λ e. (c.is.samples q e).0)) (marks_size n old.readers.cells.items (texture_visits c.used.samples))));
       }
 
@@ -159,7 +170,7 @@ module _ (syncs : SyncLists) (journal : List Entry) (f : Footprint (ℕ × ℕ))
 
 -- ---- the end
 
-take_whole : (ns : List Name) (k : ℕ) → length ns ≤ k → take k ns ≡ ns
+pub take_whole : (ns : List Name) (k : ℕ) → length ns ≤ k → take k ns ≡ ns
 take_whole [] zero le = refl
 take_whole [] (suc k) le = refl
 take_whole (n ∷ ns) zero le = absurd (omega arith)

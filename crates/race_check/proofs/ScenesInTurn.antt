@@ -1,9 +1,10 @@
 -- The names of a permitted order of a scene, and what the scene's footprint has of them.
-use Rattle.std.proofs.Common.{◌≡◌, ℕ, zero, suc, ◌+◌, ◌^◌, ◌<◌, ◌≤◌, ◌&&◌, ◌||◌, Bool, List, [], ◌∷◌, Option, Some, None, length, take, pos, ℤ, inl, inr, refl, sym, ap, ◌∙◌, subst, arith}
-use Rattle.std.specs.Prelude.{slice_get, nat_lt}
+use Rattle.std.proofs.Common.{◌≡◌, ℕ, zero, suc, ◌+◌, ◌^◌, ◌<◌, ◌≤◌, ◌&&◌, ◌||◌, Bool, true, List, [], ◌∷◌, Option, Some, None, length, take, pos, ℤ, inl, inr, refl, sym, ap, ◌∙◌, subst, arith, ltb-true}
+use Rattle.std.specs.Prelude.{slice_get, slice_index_or, slice_set, nat_lt}
 use Rattle.std.specs.Option.{option_map_or}
 use Rattle.std.specs.List.{list_any, range_with_len}
 use Rattle.std.proofs.lemmas.Bool.{cases_lt}
+use Rattle.std.proofs.lemmas.Option.{slice_get-get_or}
 use Rattle.rc_base.specs.Contexts.Context.{ClientContext}
 use Rattle.rc_base.specs.Contexts.Faults.{fault_of}
 use Rattle.rc_base.specs.Contexts.Issue.{issued, refused, effect_of, carried_out, done_by, command_at, context_after, effect_at, stream_of}
@@ -30,14 +31,20 @@ use Rattle.gl_context.proofs.OneMoreCommand.{goes_on}
 use Rattle.happens_before.specs.declared.timelines.Change.{Change}
 use Rattle.order_model.specs.Counted.{used_by}
 use Rattle.order_model.proofs.ClientsBeyond.{reach_past}
-use Rattle.order_model.proofs.NamesInTurn.{run_next}
+use Rattle.order_model.proofs.NamesInTurn.{at_in, order_at, run_next}
 use Rattle.order_model.proofs.PermittedAsRuns.{run_of}
 use Rattle.order_model.proofs.SceneListsAreWellFormed.{scene_client_count, scene_row}
 use Rattle.order_model.proofs.ScenesWithinLimits.{within_is_drawable}
 use Rattle.order_model.proofs.UsedOperations.{stop_is_place}
+use Rattle.stream_replay.specs.Clients.{AreIssued, client_after}
+use Rattle.stream_replay.specs.declared.client.Client.{Client}
+use Rattle.stream_replay.proofs.ClientsInTurn.{client_before, clients_next}
+use Rattle.order_model.proofs.SpotsOfNames.{and_both}
+use Rattle.race_check.specs.Outlines.{IsApart, IsApartIn}
 use Rattle.race_check.specs.Uses.{IsCarried, window_touches, window_samples}
 use Rattle.race_check.specs.declared.found.Found.{Found}
 use Rattle.race_check.specs.declared.marks.Marks.{Marks}
+use Rattle.race_check.specs.declared.outlines.Outlines.{Outlines}
 
 -- ---- names within their streams
 
@@ -74,6 +81,46 @@ module _ (s : Scene) (syncs : SyncLists) (js : List Entry) (order : List Name) (
   -- each name is the next one of its client
   pub next_in : (i : ℕ) (n : Name) → slice_get order i ≡ Some n → n.place ≡ names_in n.client (take i order)
   next_in i n e = omega (arith, run_next (reach_of (sync_lists_of s) js) (λ c. 0) order i n (run_of (sync_lists_of s) js order permitted_here) e)
+
+-- ---- an order gone through
+
+abbrev pub no_name : Name
+no_name = record { client = 0; place = 0 }
+
+-- a name of an order, where the clients stand behind the names in front of it
+pub record IsNextName (s : Scene) (order : List Name) (clients : List Client) (i : ℕ) (n : Name) : Type 0 where
+  pub at : slice_get order i ≡ Some n
+  pub inside : n.place < length (stream_of s n.client)
+  pub before : slice_get clients n.client ≡ Some (client_after s n.client n.place)
+  pub client : n.client < 8
+  pub place : n.place + 1 < 2 ^ 32
+  pub issued : (next : List Client) → next ≡ slice_set clients n.client (client_after s n.client (n.place + 1)) → AreIssued s (take (i + 1) order) next
+
+pub next_name : (s : Scene) (syncs : SyncLists) (js : List Entry) (order items : List Name) (clients : List Client) (i : ℕ) → IsWithin s → syncs ≡ sync_lists_of s → IsPermitted syncs js order
+    → items ≡ order → i < length items → AreIssued s (take i order) clients → IsNextName s order clients i (slice_index_or items i no_name)
+next_name s syncs js order items clients i within lists permitted same lt issued = record {
+  at = at;
+  inside = place_in s syncs js order within lists permitted n here;
+  before = client_before s (take i order) n clients issued next client;
+  client = client_small s syncs js order within lists permitted n here;
+  place = place_small s syncs js order within lists permitted n here;
+  issued = λ ys e. subst (λ (l : List Name). AreIssued s l ys) (sym (order_at order i n at).1) (clients_next s (take i order) n clients ys issued next client e);
+}
+  where
+    n : Name
+    n = slice_index_or items i no_name
+
+    at : slice_get order i ≡ Some (slice_index_or items i no_name)
+    at = subst (λ (o : List Name). slice_get o i ≡ Some (slice_index_or items i no_name)) same (slice_get-get_or items i no_name lt)
+
+    here : IsIn (slice_index_or items i no_name) order
+    here = at_in order i (slice_index_or items i no_name) at
+
+    next : (slice_index_or items i no_name).place ≡ names_in (slice_index_or items i no_name).client (take i order)
+    next = next_in s syncs js order within lists permitted i (slice_index_or items i no_name) at
+
+    client : (slice_index_or items i no_name).client < length s.streams
+    client = client_in s syncs js order within lists permitted (slice_index_or items i no_name) here
 
 -- ---- the context behind a command touches what the one before it does
 
@@ -130,45 +177,74 @@ any_as p q [] h = refl
 any_as p q (k ∷ ks) h = ap (λ b. b || list_any p ks) (h k) ∙ ap (λ b. q k || b) (any_as p q ks h)
 
 -- what a command uses in the state behind it is what it uses in the scene
-pub use_in_scene : (s : Scene) (n : Name) (c : Command) (x : State) (e : Effect) (lists : List (List Change)) (old new : Marks) (told : Option Found) → command_at s n.client n.place ≡ Some c
-    → x ≡ (context_after s n.client (n.place + 1)).state → e ≡ effect_at s n.client n.place
-    → IsCarried (window_touches s.decl.width s.decl.height x e) (window_samples s.decl.width s.decl.height x e) (writes_shared e) s.decl.width s.decl.height lists n old new told
-    → IsCarried ((footprint_of s).touches n) ((footprint_of s).samples n) ((footprint_of s).writes n) s.decl.width s.decl.height lists n old new told
-unfolding touches_some
-use_in_scene s n c x e lists old new told at state effect h = record {
-  clock = h.clock;
-  counts = h.counts;
-  used = h.used;
-  is = record {
-    inside = h.is.inside;
-    touches = λ u v lu lv. touching (u, v) ∙ h.is.touches u v lu lv;
-    window = λ p t. h.is.window p (sym (touching p) ∙ t);
-    sampled = λ t k. h.is.sampled t (sym (sampling t) ∙ k);
-    samples = λ t k. let b = h.is.samples t k in (sampling t ∙ b.0, b.1);
-    written = λ t k. h.is.written t (sym (writing t) ∙ k);
-    writes = λ t k. let b = h.is.writes t k in (writing t ∙ b.0, b.1);
-  };
-  pixels = h.pixels;
-  writers = h.writers;
-  readers = h.readers;
-  best = h.best;
-}
-  where
-    touched : (u v : ℕ) → touches_pixel s n u v ≡ touches x e (pos u) (pos v)
-    touched u v =
-        sym (same_touches s n.client n.place c at (pos u) (pos v)) ∙ ap (λ (z : State). touches z (effect_at s n.client n.place) (pos u) (pos v)) (sym state)
-        ∙ ap (λ (g : Effect). touches x g (pos u) (pos v)) (sym effect)
+module _ (s : Scene) (n : Name) (c : Command) (x : State) (e : Effect) (at : command_at s n.client n.place ≡ Some c) (state : x ≡ (context_after s n.client (n.place + 1)).state)
+    (effect : e ≡ effect_at s n.client n.place) where
+  touched : (u v : ℕ) → touches_pixel s n u v ≡ touches x e (pos u) (pos v)
+  touched u v =
+      sym (same_touches s n.client n.place c at (pos u) (pos v)) ∙ ap (λ (z : State). touches z (effect_at s n.client n.place) (pos u) (pos v)) (sym state)
+      ∙ ap (λ (g : Effect). touches x g (pos u) (pos v)) (sym effect)
 
-    touching : (p : ℕ × ℕ) → (footprint_of s).touches n p ≡ window_touches s.decl.width s.decl.height x e p
-    touching p = ap (λ b. (nat_lt p.0 s.decl.width && nat_lt p.1 s.decl.height) && b) (touched p.0 p.1)
+  touching : (p : ℕ × ℕ) → (footprint_of s).touches n p ≡ window_touches s.decl.width s.decl.height x e p
+  touching p = ap (λ b. (nat_lt p.0 s.decl.width && nat_lt p.1 s.decl.height) && b) (touched p.0 p.1)
 
-    some : touches_some s n ≡ list_any (λ v. list_any (λ u. touches x e (pos u) (pos v)) (range_with_len 0 s.decl.width)) (range_with_len 0 s.decl.height)
-    some = any_as _ _ (range_with_len 0 s.decl.height) (λ v. any_as _ _ (range_with_len 0 s.decl.width) (λ u. touched u v))
+  some : touches_some s n ≡ list_any (λ v. list_any (λ u. touches x e (pos u) (pos v)) (range_with_len 0 s.decl.width)) (range_with_len 0 s.decl.height)
+  unfolding touches_some
+  some = any_as _ _ (range_with_len 0 s.decl.height) (λ v. any_as _ _ (range_with_len 0 s.decl.width) (λ u. touched u v))
 
-    sampling : (t : ℕ) → (footprint_of s).samples n t ≡ window_samples s.decl.width s.decl.height x e t
-    sampling t =
-        ap (λ b. b && touches_some s n) (sym (same_samples s n.client n.place c at t) ∙ ap (λ (z : State). may_sample z (effect_at s n.client n.place) t) (sym state) ∙ ap (λ (g : Effect). may_sample x g t) (sym effect))
-        ∙ ap (λ b. may_sample x e t && b) some
+  may : (t : ℕ) → may_sample (context_after s n.client n.place).state (effect_at s n.client n.place) t ≡ may_sample x e t
+  may t = sym (same_samples s n.client n.place c at t) ∙ ap (λ (z : State). may_sample z (effect_at s n.client n.place) t) (sym state) ∙ ap (λ (g : Effect). may_sample x g t) (sym effect)
 
-    writing : (t : ℕ) → (footprint_of s).writes n t ≡ writes_shared e t
-    writing t = ap (λ (g : Effect). writes_shared g t) (sym effect)
+  sampling : (t : ℕ) → (footprint_of s).samples n t ≡ window_samples s.decl.width s.decl.height x e t
+  sampling t = ap (λ b. b && touches_some s n) (may t) ∙ ap (λ b. may_sample x e t && b) some
+
+  writing : (t : ℕ) → (footprint_of s).writes n t ≡ writes_shared e t
+  writing t = ap (λ (g : Effect). writes_shared g t) (sym effect)
+
+  pub use_in_scene : (lists : List (List Change)) (old new : Marks) (told : Option Found)
+      → IsCarried (window_touches s.decl.width s.decl.height x e) (window_samples s.decl.width s.decl.height x e) (writes_shared e) s.decl.width s.decl.height lists n old new told
+      → IsCarried ((footprint_of s).touches n) ((footprint_of s).samples n) ((footprint_of s).writes n) s.decl.width s.decl.height lists n old new told
+  use_in_scene lists old new told h = record {
+    clock = h.clock;
+    counts = h.counts;
+    used = h.used;
+    is = record {
+      inside = h.is.inside;
+      touches = λ u v lu lv. touching (u, v) ∙ h.is.touches u v lu lv;
+      window = λ p t. h.is.window p (sym (touching p) ∙ t);
+      sampled = λ t k. h.is.sampled t (sym (sampling t) ∙ k);
+      samples = λ t k. let b = h.is.samples t k in (sampling t ∙ b.0, b.1);
+      written = λ t k. h.is.written t (sym (writing t) ∙ k);
+      writes = λ t k. let b = h.is.writes t k in (writing t ∙ b.0, b.1);
+    };
+    pixels = h.pixels;
+    writers = h.writers;
+    readers = h.readers;
+    best = h.best;
+  }
+
+  pub apart_in_scene : (lists : List (List Change)) (old new : Outlines)
+      → IsApart (λ u v. touches x e (pos u) (pos v)) (may_sample x e) (writes_shared e) s.decl.width s.decl.height lists n old new → IsApartIn s lists n old new
+  apart_in_scene lists old new h = record {
+    clock = h.clock;
+    counts = h.counts;
+    reach = h.reach;
+    is = record {
+      rows = λ u v lu lv t. h.is.rows u v lu lv (sym (touched u v) ∙ (and_both (nat_lt u s.decl.width && nat_lt v s.decl.height) (touches_pixel s n u v) t).1);
+      columns = λ u v lu lv t. h.is.columns u v lu lv (sym (touched u v) ∙ (and_both (nat_lt u s.decl.width && nat_lt v s.decl.height) (touches_pixel s n u v) t).1);
+      samples = λ t k. h.is.samples t (sym (may t) ∙ (and_both (may_sample (context_after s n.client n.place).state (effect_at s n.client n.place) t) (touches_some s n) k).0);
+      writes = λ t k. h.is.writes t (sym (writing t) ∙ k);
+      inside = h.is.inside;
+    };
+    counted = h.counted;
+    rows = h.rows;
+    columns = h.columns;
+    writers = h.writers;
+    readers = h.readers;
+  }
+
+-- what a scene's commands touch lies in its window
+pub in_window : (s : Scene) (n : Name) (p : ℕ × ℕ) → (footprint_of s).touches n p ≡ true → (p.0 < s.decl.width) × (p.1 < s.decl.height)
+in_window s n p t =
+    let a = and_both (nat_lt p.0 s.decl.width && nat_lt p.1 s.decl.height) (touches_pixel s n p.0 p.1) t in
+    let b = and_both (nat_lt p.0 s.decl.width) (nat_lt p.1 s.decl.height) a.0 in
+    (ltb-true p.0 s.decl.width b.0, ltb-true p.1 s.decl.height b.1)

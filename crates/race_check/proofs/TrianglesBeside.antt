@@ -29,7 +29,7 @@ and_false : (b : Bool) → (b && false) ≡ false
 and_false true = refl
 and_false false = refl
 
-in_window : (w h x y : ℕ) → x < w → y < h → is_in_rect (window_rect w h) (pos x) (pos y) ≡ true
+pub in_window : (w h x y : ℕ) → x < w → y < h → is_in_rect (window_rect w h) (pos x) (pos y) ≡ true
 in_window w h x y lx ly = grind (arith, ints)
 
 -- a triangle covers what it has of the part

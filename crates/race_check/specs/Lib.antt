@@ -3,3 +3,4 @@ pub mod Laws
 pub mod Finds
 pub mod Touches
 pub mod Uses
+pub mod Outlines

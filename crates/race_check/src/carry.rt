@@ -15,8 +15,8 @@ use rc_base::command::Part;
 use rc_base::state::{Block, Effect, State};
 use rc_base::sync::Name;
 
-// How many names of each other client are before a name. All of its own client are counted.
-fn clock_of(timelines: &Timelines, name: Name) -> [u32; 8]
+/// How many names of each other client are before a name. All of its own client are counted.
+pub fn clock_of(timelines: &Timelines, name: Name) -> [u32; 8]
     requires timelines { AreOrdered timelines.now.clients.items }
     requires client { name.client < 8 }
     ensures { (d : ℕ) → d ≢ name.client → slice_index result d ≡ clock_of timelines.now.clients.items name d }
@@ -26,8 +26,8 @@ fn clock_of(timelines: &Timelines, name: Name) -> [u32; 8]
     clock
 }
 
-// The shared texture that a state's draws sample.
-fn sampled_texture(state: &State) -> Option<u8>
+/// The shared texture that a state's draws sample.
+pub fn sampled_texture(state: &State) -> Option<u8>
     ensures only { (t : ℕ) → samples_shared state.now t ≡ true → result ≡ Some t }
     ensures is { IfSome result (λ t. samples_shared state.now t ≡ true) }
 {

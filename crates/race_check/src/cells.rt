@@ -1,8 +1,10 @@
 //! For each cell and client the last place that used the cell.
-ghost use Rattle.std.specs.Prelude.{◌≡◌, ◌≢◌, ◌+◌, ◌<◌, ◌^◌, ℕ, length, slice_set, slice_index_or, [], IfOk};
+ghost use Rattle.std.specs.Prelude.{◌≡◌, ◌≢◌, ◌+◌, ◌<◌, ◌≤◌, ◌^◌, ℕ, max, length, slice_set, slice_index, slice_index_or, [], IfOk};
 ghost use Rattle.race_check.specs.Finds.{AreUnused, offers, finds_in};
+ghost use Rattle.race_check.specs.Outlines.{AreMarked, IsGreatest};
 
 use crate::found::{Found, look};
+use crate::range::Range;
 use crate::verdict::Spot;
 use rc_base::out_of_memory::OutOfMemory;
 use rc_base::sync::Name;
@@ -12,6 +14,15 @@ use std::alloc::Global;
 #[derive(Drop)]
 pub struct Cells {
     pub cells: Vec<[u32; 8]>,
+}
+
+// The greater number of each client.
+fn raise(most: &mut [u32; 8], cell: &[u32; 8])
+    ensures { (client : ℕ) → slice_index most.new client ≡ max (slice_index most.old client) (slice_index cell.now client) }
+{
+    for client in 0..8usize {
+        most[client] = most[client].max(cell[client]);
+    }
 }
 
 impl Cells {
@@ -47,5 +58,29 @@ impl Cells {
         ensures { self.new.cells.items ≡ slice_set self.old.cells.items index (slice_set (slice_index_or self.old.cells.items index []) name.client (name.place + 1)) }
     {
         self.cells[index][name.client as usize] = name.place + 1;
+    }
+
+    /// The name uses all cells of a range.
+    pub fn mark_all(&mut self, range: Range, name: Name)
+        requires inside { range.to ≤ length self.old.cells.items }
+        requires client { name.client < 8 }
+        requires place { name.place + 1 < 2 ^ 32 }
+        ensures { AreMarked name range self.old.cells.items self.new.cells.items }
+    {
+        for index in range.from..range.to {
+            self.mark(index, name);
+        }
+    }
+
+    /// Of each client the greatest number in the cells of a range.
+    pub fn greatest(&self, range: Range) -> [u32; 8]
+        requires { range.to ≤ length self.now.cells.items }
+        ensures { IsGreatest self.now.cells.items range result }
+    {
+        let mut most = [0; 8];
+        for index in range.from..range.to {
+            raise(&mut most, &self.cells[index]);
+        }
+        most
     }
 }

@@ -1,52 +1,45 @@
 //! The race checker.
-ghost use Rattle.std.specs.Prelude.{◌≡◌, ◌↔◌, ◌+◌, ◌<◌, ◌^◌, length, Some, IfOk, OnOk, slice_get, slice_set};
-ghost use Rattle.rc_base.specs.Contexts.Issue.{stream_of};
+ghost use Rattle.std.specs.Prelude.{◌≡◌, ◌↔◌, IfOk};
 ghost use Rattle.rc_base.specs.Formats.Within.{IsWithin};
 ghost use Rattle.rc_base.specs.Orders.Footprints.{footprint_of, IsOrderedScene};
 ghost use Rattle.rc_base.specs.Orders.Journal.{IsMaximal};
 ghost use Rattle.rc_base.specs.Orders.Order.{IsPermitted};
 ghost use Rattle.rc_base.specs.Orders.Sync.{sync_lists_of};
 ghost use Rattle.happens_before.specs.Before.{AreConflictsOrdered};
-ghost use Rattle.happens_before.specs.Timelines.{AreOrdered};
-ghost use Rattle.stream_replay.specs.Clients.{client_after};
 ghost use Rattle.race_check.specs.Races.{IsVerdict};
-ghost use Rattle.race_check.specs.Uses.{AreSized, IsCarriedIn};
 ghost use Rattle.race_check.specs.declared.verdict.Verdict.TheVariants as verdict;
 
-use crate::carry::carry_out;
-use crate::found::Found;
-use crate::marks::Marks;
+use crate::apart::are_apart;
 use crate::verdict::Verdict;
-use happens_before::{Timelines, clocks_of};
+use crate::walk::first_race;
+use happens_before::clocks_of;
 use rc_base::out_of_memory::OutOfMemory;
 use rc_base::scene::Scene;
-use rc_base::sync::{Journal, Name, Order, SyncLists};
+use rc_base::sync::{Journal, Order, SyncLists};
 use std::alloc::Global;
-use stream_replay::{Client, clients_of, issue_name};
 
-// Carries a name out, the next one of its client, and tells what it conflicts with unordered.
-fn carry_name(
+// The verdict: of one client alone nothing conflicts, and in most scenes boxes tell that all is ordered. Else the pixels are looked at.
+fn verdict_on(
+    alloc: Global,
     scene: &Scene,
-    clients: &mut Vec<Client>,
-    marks: &mut Marks,
-    timelines: &Timelines,
-    name: Name,
-) -> Result<Option<Found>, OutOfMemory>
+    journal: &Journal,
+    order: &Order,
+    syncs: &SyncLists,
+) -> Result<Verdict, OutOfMemory>
     requires within { IsWithin scene.now }
-    requires count { length clients.old.items ≡ length scene.now.streams }
-    requires inside { name.place < length (stream_of scene.now name.client) }
-    requires before { slice_get clients.old.items name.client ≡ Some (client_after scene.now name.client name.place) }
-    requires timelines { AreOrdered timelines.now.clients.items }
-    requires client { name.client < 8 }
-    requires place { name.place + 1 < 2 ^ 32 }
-    requires sized { AreSized scene.now.decl.width scene.now.decl.height marks.old }
-    ensures clients { OnOk result (clients.new.items ≡ slice_set clients.old.items name.client (client_after scene.now name.client (name.place + 1))) }
-    ensures sized { OnOk result (AreSized scene.now.decl.width scene.now.decl.height marks.new) }
-    ensures carried { IfOk result (λ told. IsCarriedIn scene.now timelines.now.clients.items name marks.old marks.new told) }
+    requires lists { syncs.now ≡ sync_lists_of scene.now }
+    requires maximal { IsMaximal syncs.now journal.now }
+    requires permitted { IsPermitted syncs.now journal.now order.now }
+    ensures { IfOk result (λ v. IsVerdict syncs.now journal.now order.now (footprint_of scene.now) v) }
 {
-    let effect = issue_name(clients, scene, name)?;
-    let state = clients[usize::from(name.client)].context.state();
-    Ok(carry_out(marks, timelines, name, state, &effect))
+    if scene.streams.len() < 2 {
+        return Ok(Verdict::Ordered);
+    }
+    let timelines = clocks_of(alloc, journal.as_slice(), syncs)?;
+    if are_apart(alloc, scene, journal, order, syncs, &timelines)? {
+        return Ok(Verdict::Ordered);
+    }
+    first_race(alloc, scene, journal, order, syncs, &timelines)
 }
 
 /// Whether synchronisation orders every two conflicting commands of a scene, by a permitted order. `Ordered` comes exactly where every two conflicting
@@ -68,20 +61,6 @@ pub fn check_races(
     ensures exactly { IfOk result (λ v. (v ≡ verdict.Ordered) ↔ AreConflictsOrdered syncs.now journal.now (footprint_of scene.now)) }
     ensures exactly_ordered { IfOk result (λ v. (v ≡ verdict.Ordered) ↔ IsOrderedScene scene.now journal.now) }
 {
-    let timelines = clocks_of(alloc, journal.as_slice(), syncs)?;
-    let mut clients = clients_of(alloc, scene)?;
-    let mut marks = Marks::new(alloc, scene.decl.width, scene.decl.height)?;
-    for name in order.as_slice() {
-        if let Some(found) = carry_name(scene, &mut clients, &mut marks, &timelines, *name)? {
-            return Ok(Verdict::Race {
-                first: Name {
-                    client: found.client,
-                    place: found.place,
-                },
-                second: *name,
-                spot: found.spot,
-            });
-        }
-    }
-    Ok(Verdict::Ordered)
+    let verdict = verdict_on(alloc, scene, journal, order, syncs)?;
+    Ok(verdict)
 }

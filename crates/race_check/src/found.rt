@@ -1,5 +1,5 @@
 //! What conflicts with a name unordered, and which of it is told.
-ghost use Rattle.std.specs.Prelude.{◌≡◌, ◌<◌, ◌≤◌, ℕ, true, length, slice_index};
+ghost use Rattle.std.specs.Prelude.{◌≡◌, ◌<◌, ◌≤◌, ◌⊎◌, ℕ, true, length, slice_index};
 ghost use Rattle.race_check.specs.Finds.{AreCounted, is_no_later, leads, offer, offers, finds_in};
 
 use crate::verdict::Spot;
@@ -42,13 +42,24 @@ fn offer(best: Option<Found>, next: Found) -> Option<Found>
     }
 }
 
-// Whether the clock counts all uses of a cell. It looks at all eight clients, so that it is compiled without a branch.
-fn is_counted(clock: &[u32; 8], cell: &[u32; 8]) -> bool
+/// Whether the clock counts all uses of a cell. It looks at all eight clients, so that it is compiled without a branch.
+pub fn is_counted(clock: &[u32; 8], cell: &[u32; 8]) -> bool
     ensures { result ≡ true → AreCounted clock.now cell.now 8 }
 {
     let mut counted = true;
     for client in 0..8usize {
         counted &= cell[client] <= clock[client];
+    }
+    counted
+}
+
+/// Whether of each client the clock counts all uses of one of two cells.
+pub fn is_either_counted(clock: &[u32; 8], one: &[u32; 8], other: &[u32; 8]) -> bool
+    ensures { result ≡ true → (d : ℕ) → d < 8 → (slice_index one.now d ≤ slice_index clock.now d) ⊎ (slice_index other.now d ≤ slice_index clock.now d) }
+{
+    let mut counted = true;
+    for client in 0..8usize {
+        counted &= one[client].min(other[client]) <= clock[client];
     }
     counted
 }

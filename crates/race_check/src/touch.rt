@@ -115,15 +115,15 @@ fn touch_corners(
     }
 }
 
-// The rectangle of the whole window.
-fn window(visit: &Visit) -> Rect
-    ensures { result ≡ window_rect visit.now.width visit.now.height }
+/// The rectangle of the whole window.
+pub fn window(width: u16, height: u16) -> Rect
+    ensures { result ≡ window_rect width height }
 {
     Rect {
         x0: 0,
         y0: 0,
-        x1: i32::from(visit.width),
-        y1: i32::from(visit.height),
+        x1: i32::from(width),
+        y1: i32::from(height),
     }
 }
 
@@ -141,7 +141,7 @@ pub fn touch_block(
     ensures size { length pixels.new.cells.items ≡ length pixels.old.cells.items }
     ensures touched { IsTouch (block_has state.now block.now) visit.now pixels.old.cells.items pixels.new.cells.items seen result }
 {
-    let part = drawn_part(state, window(visit));
+    let part = drawn_part(state, window(visit.width, visit.height));
     let near = surrounds_of(part);
     let mut cache = VertexCache::new(state, block.vertices.as_slice());
     let mut seen = seen;
@@ -202,5 +202,10 @@ pub fn touch_clear(pixels: &mut Cells, visit: &Visit, state: &State, seen: Seen)
     ensures size { length pixels.new.cells.items ≡ length pixels.old.cells.items }
     ensures touched { IsTouch (clear_has state.now) visit.now pixels.old.cells.items pixels.new.cells.items seen result }
 {
-    touch_part(pixels, visit, scissored(state, window(visit)), seen)
+    touch_part(
+        pixels,
+        visit,
+        scissored(state, window(visit.width, visit.height)),
+        seen,
+    )
 }

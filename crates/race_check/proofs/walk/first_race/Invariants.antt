@@ -3,7 +3,7 @@ use Rattle.rc_base.specs.Orders.Footprints.{footprint_of}
 use Rattle.stream_replay.specs.Clients.{AreIssued}
 use Rattle.race_check.specs.Uses.{AreSized}
 use Rattle.race_check.proofs.OrdersAreChecked.{IsPassed}
-use Rattle.race_check.proofs.check.check_races.Given as goal
+use Rattle.race_check.proofs.walk.first_race.Given as goal
 
 abbrev pub invariant-loop-name : goal.invariant-loop-name
 invariant-loop-name l = record {

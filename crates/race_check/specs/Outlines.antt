@@ -1,0 +1,94 @@
+-- What commands may use, by the boxes of what they draw, and tables that tell no less than the last uses.
+use Rattle.std.specs.Prelude.{◌≡◌, ◌≢◌, ℕ, ◌+◌, ◌<◌, ◌≤◌, Bool, true, List, [], length, slice_set, slice_index, slice_index_or, ◌⊎◌}
+use Rattle.rc_base.specs.Lists.{IsIn}
+use Rattle.rc_base.specs.Orders.Footprints.{footprint_of}
+use Rattle.rc_base.specs.Orders.Order.{Footprint}
+use Rattle.rc_base.specs.declared.scene.Scene.{Scene}
+use Rattle.rc_base.specs.declared.sync.Name.{Name}
+use Rattle.happens_before.specs.Timelines.{clock_of}
+use Rattle.happens_before.specs.declared.timelines.Change.{Change}
+use Rattle.race_check.specs.Uses.{named}
+use Rattle.race_check.specs.declared.outlines.Outlines.{Outlines}
+use Rattle.race_check.specs.declared.range.Range.{Range}
+use Rattle.race_check.specs.declared.reach.Reach.{Reach}
+
+-- ---- what a command may use
+
+abbrev pub IsAmong : Range → ℕ → Type 0
+IsAmong r k = (r.from ≤ k) × (k < r.to)
+
+abbrev pub nowhere : Range
+nowhere = record { from = 0; to = 0 }
+
+abbrev pub no_reach : Reach
+no_reach = record { rows = nowhere; columns = nowhere; samples = nowhere; writes = nowhere }
+
+-- the pixels of the window that are touched lie in the rows and in the columns, and the textures that are sampled and written in theirs
+pub record IsReach (touching : ℕ → ℕ → Bool) (sampling writing : ℕ → Bool) (width height : ℕ) (r : Reach) : Type 0 where
+  pub rows : (x y : ℕ) → x < width → y < height → touching x y ≡ true → IsAmong r.rows y
+  pub columns : (x y : ℕ) → x < width → y < height → touching x y ≡ true → IsAmong r.columns x
+  pub samples : (t : ℕ) → sampling t ≡ true → IsAmong r.samples t
+  pub writes : (t : ℕ) → writing t ≡ true → IsAmong r.writes t
+  pub inside : (r.rows.to ≤ height) × (r.columns.to ≤ width) × (r.samples.to ≤ 256) × (r.writes.to ≤ 256)
+
+-- ---- tables
+
+-- in the cell of each thing the number of a client is above the place of each of its names that was passed and used the thing
+pub record TellAll (uses : Name → ℕ → Type 0) (count : ℕ) (passed : List Name) (cells : List (List ℕ)) : Type 0 where
+  pub size : length cells ≡ count
+  pub slots : (i : ℕ) → i < count → length (slice_index_or cells i []) ≡ 8
+  pub told : (i : ℕ) → i < count → (d p : ℕ) → IsIn (named d p) passed → uses (named d p) i → p < slice_index (slice_index_or cells i []) d
+
+-- of rows and of columns: who touched a pixel there; of shared textures: who wrote them, and who sampled them
+pub record AreOutlined (f : Footprint (ℕ × ℕ)) (width height : ℕ) (passed : List Name) (o : Outlines) : Type 0 where
+  pub rows : TellAll (λ a y. (x : ℕ) × (f.touches a (x, y) ≡ true)) height passed o.rows.cells.items
+  pub columns : TellAll (λ a x. (y : ℕ) × (f.touches a (x, y) ≡ true)) width passed o.columns.cells.items
+  pub writers : TellAll (λ a t. f.writes a t ≡ true) 256 passed o.writers.cells.items
+  pub readers : TellAll (λ a t. f.samples a t ≡ true) 256 passed o.readers.cells.items
+
+-- the tables of a window
+pub record FitWindow (width height : ℕ) (o : Outlines) : Type 0 where
+  pub rows : length o.rows.cells.items ≡ height
+  pub columns : length o.columns.cells.items ≡ width
+  pub writers : length o.writers.cells.items ≡ 256
+  pub readers : length o.readers.cells.items ≡ 256
+
+-- all cells of a range tell of the name, and what else they told they tell
+pub record AreMarked (n : Name) (r : Range) (old new : List (List ℕ)) : Type 0 where
+  pub size : length new ≡ length old
+  pub inside : (i : ℕ) → IsAmong r i → slice_index_or new i [] ≡ slice_set (slice_index_or old i []) n.client (n.place + 1)
+  pub each : (i : ℕ) → (slice_index_or new i [] ≡ slice_set (slice_index_or old i []) n.client (n.place + 1)) ⊎ (slice_index_or new i [] ≡ slice_index_or old i [])
+
+-- each client's number isn't below any in the cells of a range
+abbrev pub IsGreatest : List (List ℕ) → Range → List ℕ → Type 0
+IsGreatest cells r most = (d : ℕ) → d < 8 → (i : ℕ) → IsAmong r i → slice_index (slice_index_or cells i []) d ≤ slice_index most d
+
+-- the clock counts all that the cells of a range tell of a client
+abbrev pub AreCountedIn : List ℕ → List (List ℕ) → Range → ℕ → Type 0
+AreCountedIn clock cells r d = (i : ℕ) → IsAmong r i → slice_index (slice_index_or cells i []) d ≤ slice_index clock d
+
+-- The clock counts whatever may conflict with what has this reach: of each client what touched one of the rows, or what touched one of the columns, and the
+-- uses of textures that conflict.
+pub record IsCounted (clock : List ℕ) (r : Reach) (o : Outlines) : Type 0 where
+  pub pixels : (d : ℕ) → d < 8 → AreCountedIn clock o.rows.cells.items r.rows d ⊎ AreCountedIn clock o.columns.cells.items r.columns d
+  pub written : (d : ℕ) → d < 8 → AreCountedIn clock o.writers.cells.items r.writes d × AreCountedIn clock o.readers.cells.items r.writes d
+  pub sampled : (d : ℕ) → d < 8 → AreCountedIn clock o.writers.cells.items r.samples d
+
+-- ---- one name
+
+-- The tables tell that all names passed that may conflict with a name are before it, and now they tell of the name too.
+pub record IsApart (touching : ℕ → ℕ → Bool) (sampling writing : ℕ → Bool) (width height : ℕ) (lists : List (List Change)) (n : Name) (old new : Outlines) : Type 0 where
+  pub clock : List ℕ
+  pub counts : (d : ℕ) → d ≢ n.client → slice_index clock d ≡ clock_of lists n d
+  pub reach : Reach
+  pub is : IsReach touching sampling writing width height reach
+  pub counted : IsCounted clock reach old
+  pub rows : AreMarked n reach.rows old.rows.cells.items new.rows.cells.items
+  pub columns : AreMarked n reach.columns old.columns.cells.items new.columns.cells.items
+  pub writers : AreMarked n reach.writes old.writers.cells.items new.writers.cells.items
+  pub readers : AreMarked n reach.samples old.readers.cells.items new.readers.cells.items
+
+-- the same by what the name uses in a scene
+abbrev pub IsApartIn : Scene → List (List Change) → Name → Outlines → Outlines → Type 0
+IsApartIn scene lists n old new =
+    IsApart (λ x y. (footprint_of scene).touches n (x, y)) ((footprint_of scene).samples n) ((footprint_of scene).writes n) scene.decl.width scene.decl.height lists n old new

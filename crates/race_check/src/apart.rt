@@ -1,0 +1,109 @@
+//! The walk along an order by boxes: it settles scenes whose clients draw apart, or one behind the other.
+ghost use Rattle.std.specs.Prelude.{◌≡◌, ◌+◌, ◌<◌, ◌^◌, true, length, Some, IfOk, OnOk, slice_get, slice_set, pos};
+ghost use Rattle.rc_base.specs.Contexts.Issue.{stream_of};
+ghost use Rattle.rc_base.specs.Drawing.Touch.{may_sample, touches, writes_shared};
+ghost use Rattle.rc_base.specs.Formats.Within.{IsWithin};
+ghost use Rattle.rc_base.specs.Orders.Footprints.{footprint_of};
+ghost use Rattle.rc_base.specs.Orders.Order.{IsPermitted};
+ghost use Rattle.rc_base.specs.Orders.Sync.{sync_lists_of};
+ghost use Rattle.happens_before.specs.Before.{AreConflictsOrdered};
+ghost use Rattle.happens_before.specs.Clocks.{IsExact};
+ghost use Rattle.happens_before.specs.Timelines.{AreOrdered, clock_of};
+ghost use Rattle.stream_replay.specs.Clients.{client_after};
+ghost use Rattle.race_check.specs.Outlines.{FitWindow, IsApart, IsApartIn};
+
+use crate::carry::clock_of;
+use crate::outlines::Outlines;
+use crate::reach::{is_quiet, reach_of};
+use happens_before::Timelines;
+use rc_base::out_of_memory::OutOfMemory;
+use rc_base::scene::{Decl, Scene};
+use rc_base::state::{Effect, State};
+use rc_base::sync::{Journal, Name, Order, SyncLists};
+use std::alloc::Global;
+use stream_replay::{Client, clients_of, issue_name, take_back};
+
+// Whether all that a name may conflict with is before it. Then the tables tell of it.
+fn outline(
+    outlines: &mut Outlines,
+    timelines: &Timelines,
+    decl: &Decl,
+    name: Name,
+    state: &State,
+    effect: &Effect,
+) -> bool
+    requires timelines { AreOrdered timelines.now.clients.items }
+    requires client { name.client < 8 }
+    requires place { name.place + 1 < 2 ^ 32 }
+    requires fits { FitWindow decl.now.width decl.now.height outlines.old }
+    ensures fits { FitWindow decl.now.width decl.now.height outlines.new }
+    ensures apart { result ≡ true → IsApart (λ x y. touches state.now effect.now (pos x) (pos y)) (may_sample state.now effect.now) (writes_shared effect.now) decl.now.width decl.now.height
+        timelines.now.clients.items name outlines.old outlines.new }
+{
+    if is_quiet(effect) {
+        return true;
+    }
+    let reach = reach_of(state, effect, decl.width, decl.height);
+    let clock = clock_of(timelines, name);
+    if !outlines.is_counted(&clock, &reach, decl.width, decl.height) {
+        return false;
+    }
+    outlines.mark(name, &reach, decl.width, decl.height);
+    true
+}
+
+// Issues a name's command, the next one of its client, and outlines it.
+fn outline_name(
+    scene: &Scene,
+    clients: &mut Vec<Client>,
+    outlines: &mut Outlines,
+    timelines: &Timelines,
+    name: Name,
+) -> Result<bool, OutOfMemory>
+    requires within { IsWithin scene.now }
+    requires count { length clients.old.items ≡ length scene.now.streams }
+    requires inside { name.place < length (stream_of scene.now name.client) }
+    requires before { slice_get clients.old.items name.client ≡ Some (client_after scene.now name.client name.place) }
+    requires timelines { AreOrdered timelines.now.clients.items }
+    requires client { name.client < 8 }
+    requires place { name.place + 1 < 2 ^ 32 }
+    requires fits { FitWindow scene.now.decl.width scene.now.decl.height outlines.old }
+    ensures clients { OnOk result (clients.new.items ≡ slice_set clients.old.items name.client (client_after scene.now name.client (name.place + 1))) }
+    ensures fits { OnOk result (FitWindow scene.now.decl.width scene.now.decl.height outlines.new) }
+    ensures apart { IfOk result (λ apart. apart ≡ true → IsApartIn scene.now timelines.now.clients.items name outlines.old outlines.new) }
+{
+    let client = usize::from(name.client);
+    let effect = issue_name(clients, scene, name)?;
+    let state = clients[client].context.state();
+    let apart = outline(outlines, timelines, &scene.decl, name, state, &effect);
+    take_back(clients, client, effect);
+    Ok(apart)
+}
+
+/// Whether boxes alone tell that all conflicts of a scene are ordered. Where they don't, nothing is known.
+pub fn are_apart(
+    alloc: Global,
+    scene: &Scene,
+    journal: &Journal,
+    order: &Order,
+    syncs: &SyncLists,
+    timelines: &Timelines,
+) -> Result<bool, OutOfMemory>
+    requires within { IsWithin scene.now }
+    requires lists { syncs.now ≡ sync_lists_of scene.now }
+    requires permitted { IsPermitted syncs.now journal.now order.now }
+    requires timelines { AreOrdered timelines.now.clients.items }
+    requires exact { IsExact syncs.now journal.now (clock_of timelines.now.clients.items) }
+    ensures { IfOk result (λ apart. apart ≡ true → AreConflictsOrdered syncs.now journal.now (footprint_of scene.now)) }
+{
+    let _journal = journal;
+    let _syncs = syncs;
+    let mut clients = clients_of(alloc, scene)?;
+    let mut outlines = Outlines::new(alloc, scene.decl.width, scene.decl.height)?;
+    for name in order.as_slice() {
+        if !outline_name(scene, &mut clients, &mut outlines, timelines, *name)? {
+            return Ok(false);
+        }
+    }
+    Ok(true)
+}

@@ -1,0 +1,86 @@
+//! The walk along an order pixel by pixel.
+ghost use Rattle.std.specs.Prelude.{◌≡◌, ◌+◌, ◌<◌, ◌^◌, length, Some, IfOk, OnOk, slice_get, slice_set};
+ghost use Rattle.rc_base.specs.Contexts.Issue.{stream_of};
+ghost use Rattle.rc_base.specs.Formats.Within.{IsWithin};
+ghost use Rattle.rc_base.specs.Orders.Footprints.{footprint_of};
+ghost use Rattle.rc_base.specs.Orders.Order.{IsPermitted};
+ghost use Rattle.rc_base.specs.Orders.Sync.{sync_lists_of};
+ghost use Rattle.happens_before.specs.Clocks.{IsExact};
+ghost use Rattle.happens_before.specs.Timelines.{AreOrdered, clock_of};
+ghost use Rattle.stream_replay.specs.Clients.{client_after};
+ghost use Rattle.race_check.specs.Races.{IsVerdict};
+ghost use Rattle.race_check.specs.Uses.{AreSized, IsCarriedIn};
+
+use crate::carry::carry_out;
+use crate::found::Found;
+use crate::marks::Marks;
+use crate::verdict::Verdict;
+use happens_before::Timelines;
+use rc_base::out_of_memory::OutOfMemory;
+use rc_base::scene::Scene;
+use rc_base::sync::{Journal, Name, Order, SyncLists};
+use std::alloc::Global;
+use stream_replay::{Client, clients_of, issue_name, take_back};
+
+// Carries a name out, the next one of its client, and tells what it conflicts with unordered.
+fn carry_name(
+    scene: &Scene,
+    clients: &mut Vec<Client>,
+    marks: &mut Marks,
+    timelines: &Timelines,
+    name: Name,
+) -> Result<Option<Found>, OutOfMemory>
+    requires within { IsWithin scene.now }
+    requires count { length clients.old.items ≡ length scene.now.streams }
+    requires inside { name.place < length (stream_of scene.now name.client) }
+    requires before { slice_get clients.old.items name.client ≡ Some (client_after scene.now name.client name.place) }
+    requires timelines { AreOrdered timelines.now.clients.items }
+    requires client { name.client < 8 }
+    requires place { name.place + 1 < 2 ^ 32 }
+    requires sized { AreSized scene.now.decl.width scene.now.decl.height marks.old }
+    ensures clients { OnOk result (clients.new.items ≡ slice_set clients.old.items name.client (client_after scene.now name.client (name.place + 1))) }
+    ensures sized { OnOk result (AreSized scene.now.decl.width scene.now.decl.height marks.new) }
+    ensures carried { IfOk result (λ told. IsCarriedIn scene.now timelines.now.clients.items name marks.old marks.new told) }
+{
+    let client = usize::from(name.client);
+    let effect = issue_name(clients, scene, name)?;
+    let state = clients[client].context.state();
+    let found = carry_out(marks, timelines, name, state, &effect);
+    take_back(clients, client, effect);
+    Ok(found)
+}
+
+/// The verdict on an order, by the last use of each pixel and each shared texture.
+pub fn first_race(
+    alloc: Global,
+    scene: &Scene,
+    journal: &Journal,
+    order: &Order,
+    syncs: &SyncLists,
+    timelines: &Timelines,
+) -> Result<Verdict, OutOfMemory>
+    requires within { IsWithin scene.now }
+    requires lists { syncs.now ≡ sync_lists_of scene.now }
+    requires permitted { IsPermitted syncs.now journal.now order.now }
+    requires timelines { AreOrdered timelines.now.clients.items }
+    requires exact { IsExact syncs.now journal.now (clock_of timelines.now.clients.items) }
+    ensures { IfOk result (λ v. IsVerdict syncs.now journal.now order.now (footprint_of scene.now) v) }
+{
+    let _journal = journal;
+    let _syncs = syncs;
+    let mut clients = clients_of(alloc, scene)?;
+    let mut marks = Marks::new(alloc, scene.decl.width, scene.decl.height)?;
+    for name in order.as_slice() {
+        if let Some(found) = carry_name(scene, &mut clients, &mut marks, timelines, *name)? {
+            return Ok(Verdict::Race {
+                first: Name {
+                    client: found.client,
+                    place: found.place,
+                },
+                second: *name,
+                spot: found.spot,
+            });
+        }
+    }
+    Ok(Verdict::Ordered)
+}
