@@ -14,7 +14,7 @@ use Rattle.rc_base.proofs.Paired.{same_default, some_item}
 use Rattle.order_model.proofs.SceneListsAreWellFormed.{scene_client_count}
 use Rattle.client_issue.specs.Clauses.{IsClientClause}
 use Rattle.tile_server.specs.Clauses.{IsTileClause}
-use Rattle.tile_queues.specs.Ends.{sent_of, taken_of, lane_in, lane_out}
+use Rattle.tile_queues.specs.Ends.{sent_of, taken_of, lane_in, lane_out, depth_of}
 use Rattle.tile_queues.specs.declared.ends.LaneIn.{LaneIn}
 use Rattle.tile_queues.specs.declared.ends.LaneOut.{LaneOut}
 use Rattle.lane_grid.specs.Names.{AreInto, AreOutOf}
@@ -23,7 +23,7 @@ use Rattle.worker_crew.specs.declared.crew.Crew.{Crew}
 use Rattle.cluster_run.specs.Clients.{IsClientWorker}
 use Rattle.cluster_run.specs.Managers.{IsManagerWorker}
 use Rattle.cluster_run.specs.Tiles.{IsTileWorker, parts_of}
-use Rattle.cluster_run.specs.Clusters.{LaneNames, IsCluster}
+use Rattle.cluster_run.specs.Clusters.{LaneNames, AreSoDeep, IsCluster}
 use Rattle.cluster_run.specs.NewWorkers.{AreNewClients, AreNewTiles, AreUntaken, IsNewManager}
 use Rattle.cluster_run.specs.declared.workers.ClientWorker.{ClientWorker}
 use Rattle.cluster_run.specs.declared.workers.ManagerWorker.{ManagerWorker}
@@ -164,7 +164,22 @@ module _ {R : Type 0} (scene : Scene) (l : Layout) (depth : ℕ) (ins : List (Ve
     nothing = λ t b low. (tiles.parts_are.at t a_tile b (omega (arith, tile_total, low))).untaken;
   }
 
-  pub new_crew_is : (names : LaneNames) × IsCluster scene l names crew × AreUntaken (tile_count l) names.parts parts.items
+  so_deep : AreSoDeep (length scene.streams) (tile_count l) depth names_of
+  so_deep = record {
+    parcels = λ c t low below. (grid.fresh c t a_row a_column a_sender a_receiver low below).deep;
+    requests = λ c low.
+        let in_crew : c < length crew.clients.items = omega (arith, client_total, low) in
+        (clients.requests_are.at c a_client (some_item requests.items c (let n = clients.requests_are.count in omega (arith, n, in_crew))) in_crew).deep;
+    grants = λ t low.
+        let in_crew : t < length crew.tiles.items = omega (arith, tile_total, low) in
+        let fresh = tiles.grants_are.at t a_tile (some_item grants.items t (let n = tiles.grants_are.count in omega (arith, n, in_crew))) in_crew in
+        ap (λ lane. depth_of lane) fresh.lane ∙ fresh.deep;
+    parts = λ t low.
+        let in_crew : t < length crew.tiles.items = omega (arith, tile_total, low) in
+        (tiles.parts_are.at t a_tile (some_item parts.items t (let n = tiles.parts_are.count in omega (arith, n, in_crew))) in_crew).deep;
+  }
+
+  pub new_crew_is : (names : LaneNames) × IsCluster scene l names crew × AreUntaken (tile_count l) names.parts parts.items × AreSoDeep (length scene.streams) (tile_count l) depth names
   new_crew_is = (
     names_of,
     record {
@@ -175,4 +190,5 @@ module _ {R : Type 0} (scene : Scene) (l : Layout) (depth : ℕ) (ins : List (Ve
       tile = new_tile_is;
     },
     untaken_parts,
+    so_deep,
   )

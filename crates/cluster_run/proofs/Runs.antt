@@ -16,7 +16,7 @@ use Rattle.order_model.specs.declared.record.Record.{Record}
 use Rattle.run_record.specs.Collected.{IsSmall, IsWholeRun}
 use Rattle.frame_out.specs.Laws.{FramesOfScenesAreWritable, HasWindow, WholeRunsAreWritten}
 use Rattle.frame_out.specs.Windows.{IsWindow}
-use Rattle.frame_out.specs.Writing.{IsWritten}
+use Rattle.frame_out.specs.Writing.{IsCounted}
 use Rattle.frame_out.specs.declared.writing.Written.{Written}
 use Rattle.cluster_run.specs.Serving.{HasFinished}
 
@@ -33,9 +33,9 @@ is_window scene l w h can = record {
 -- what a writer that has finished has written is the record's image text
 pub text_written : WholeRunsAreWritten → FramesOfScenesAreWritable → (scene : Scene) (l : Layout) (kept : Record) (tallies : List Tally) (waiting : Option Waiting)
     (faults : List (List (ℕ × Fault))) (shown : ℕ → List TilePart) (image : Used) (written : Written) → IsWithin scene → HasWindow scene l → 0 < tile_count l
-    → IsWholeRun scene l kept tallies waiting faults shown → HasFinished l shown image written → IsWritten image (image_text_of scene l kept) written
+    → IsWholeRun scene l kept tallies waiting faults shown → HasFinished l shown image written → IsCounted image (image_text_of scene l kept) written
 text_written law few scene l kept tallies waiting faults shown image written within window some whole h =
-    subst (IsWritten image (image_text_of scene l kept)) (sym h.is)
+    subst (IsCounted image (image_text_of scene l kept)) (sym h.is)
     (law scene l kept shown h.took image h.writer whole.frames window some
     (few scene l kept.journal (recorded_pixel scene l kept) within.limits window whole.run.lawful.maximal.0)
     h.has h.fronts h.tile h.low h.missing h.all)

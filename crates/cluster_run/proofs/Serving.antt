@@ -1,15 +1,18 @@
 -- Serving, again and again, and to the end.
 use Rattle.std.proofs.Common.{◌≡◌, ℕ, ◌<◌, ◌≤◌, false, List, [], ◌∷◌, ◌++◌, length, inl, inr, refl, sym, ap, ◌∙◌, subst, arith}
-use Rattle.std.specs.Prelude.{Option, None, slice_index_or}
+use Rattle.std.specs.Prelude.{Option, None, map, slice_index_or}
+use Rattle.std.specs.List.{AllByRecursion}
 use Rattle.rc_base.specs.Cluster.Lanes.{EachLane}
 use Rattle.rc_base.specs.Cluster.Tiles.{tile_count}
 use Rattle.rc_base.specs.Lists.{ArePaired, IsFront}
 use Rattle.rc_base.specs.Outside.Ends.{use_of, Used}
 use Rattle.rc_base.specs.declared.cluster.TilePart.{TilePart}
+use Rattle.rc_base.specs.declared.image.Image.{Image}
 use Rattle.rc_base.specs.declared.window.Layout.{Layout}
 use Rattle.rc_base.proofs.Known.{Appends-none}
 use Rattle.rc_base.proofs.Paired.{some_item}
 use Rattle.assembler.specs.Assembled.{layout_of, short_of}
+use Rattle.assembler.specs.Parts.{picture}
 use Rattle.frame_out.specs.Laws.{NewWritersAreOnTheWay}
 use Rattle.frame_out.specs.OnTheWay.{GivesOne, GoesOn, HasWritten, IsMissing, IsNewWriter, IsOnTheWay}
 use Rattle.frame_out.specs.declared.on_the_way.FrameWriter.{FrameWriter}
@@ -89,17 +92,27 @@ pub same_took : (l : Layout) (image : Used) (took took' : ℕ → List TilePart)
     → IsOnTheWay l image took w → IsOnTheWay l image took' w
 same_took l image took took' w same h = record {
   layout_is = h.layout_is;
-  given = h.given;
+  given = record {
+    frames = h.given.frames;
+    sizes = h.given.sizes;
+    fronts = λ tile low. let front = h.given.fronts tile low in (front.0, same tile low ∙ front.1);
+    given = h.given.given;
+  };
   whole = λ ample some. let x = h.whole ample some in record {
     frames = x.frames;
     sizes = x.sizes;
     took_is = λ tile low. same tile low ∙ x.took_is tile low;
+    given = x.given;
     written = x.written;
   };
 }
 
+pictures_fit : (l : Layout) (frames : List (List TilePart)) → AllByRecursion (λ (m : Image). (m.width ≡ l.width) × (m.height ≡ l.height)) (map (picture l) frames)
+pictures_fit l [] = tt
+pictures_fit l (parts ∷ frames) = ((refl, refl), pictures_fit l frames)
+
 pub gave_front : (l : Layout) (image : Used) (took : ℕ → List TilePart) (w : FrameWriter) → IsOnTheWay l image took w → GaveFront l image
-gave_front l image took w h = record { images = h.given.images; sides = h.given.sides; front = h.given.front }
+gave_front l image took w h = record { images = map (picture l) h.given.frames; sides = pictures_fit l h.given.frames; front = h.given.given.front }
 
 -- ---- the end
 

@@ -4,6 +4,7 @@ use Rattle.rc_base.specs.Cluster.Tiles.{tile_count}
 use Rattle.rc_base.specs.Orders.Sync.{sync_lists_of}
 use Rattle.rc_base.specs.declared.scene.Scene.{Scene}
 use Rattle.rc_base.specs.declared.window.Layout.{Layout}
+use Rattle.tile_queues.specs.Ends.{depth_of}
 use Rattle.worker_crew.specs.Crews.{HaveEnded}
 use Rattle.worker_crew.specs.declared.crew.Crew.{Crew}
 use Rattle.worker_crew.specs.declared.task.Task.{Task}
@@ -20,6 +21,13 @@ pub record LaneNames : Type 0 where
   pub requests : ℕ → List ℕ
   pub grants : ℕ → List ℕ
   pub parts : ℕ → List ℕ
+
+-- each of so many lanes holds so many items at most
+pub record AreSoDeep (clients tiles depth : ℕ) (names : LaneNames) : Type 0 where
+  pub parcels : (c t : ℕ) → c < clients → t < tiles → depth_of (names.parcels c t) ≡ depth
+  pub requests : (c : ℕ) → c < clients → depth_of (names.requests c) ≡ depth
+  pub grants : (t : ℕ) → t < tiles → depth_of (names.grants t) ≡ depth
+  pub parts : (t : ℕ) → t < tiles → depth_of (names.parts t) ≡ depth
 
 module _ {R : Type 0} where
   -- the workers of a scene on the tiles of a layout, with lanes of these names

@@ -1,3 +1,5 @@
+pub mod Attempts
+pub mod Steps
 pub mod Clients
 pub mod Managers
 pub mod Tiles

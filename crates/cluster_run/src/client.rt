@@ -2,7 +2,9 @@
 ghost use Rattle.std.specs.Prelude.{◌≡◌, true, Ok};
 ghost use Rattle.rc_base.specs.declared.cluster.ClientMoved.TheVariants as moved;
 ghost use Rattle.worker_crew.specs.declared.worker.Attempt.TheVariants as attempt;
+ghost use Rattle.cluster_run.specs.Attempts.{client_attempt};
 ghost use Rattle.cluster_run.specs.Clients.{ClientLeads};
+ghost use Rattle.cluster_run.specs.Steps.{IsClientTurn};
 
 use crate::workers::{ClientWorker, has_ended};
 use client_issue::laws::clients_meet_their_clause_over_lanes;
@@ -17,7 +19,8 @@ use worker_crew::{Attempt, Peer, Worker};
 
 /// What an answer of the core comes to. Want of memory is a move: the core is short from then on, and goes on.
 fn attempt_of(answer: Result<ClientMoved, OutOfMemory>) -> Attempt
-    ensures { result ≡ attempt.Ended → answer ≡ Ok moved.Ended }
+    ensures exact { result ≡ client_attempt answer }
+    ensures ended { result ≡ attempt.Ended → answer ≡ Ok moved.Ended }
 {
     match answer {
         Ok(ClientMoved::Appended { tile }) => Attempt::Moved(Some(Peer::Tile(tile))),
@@ -32,6 +35,7 @@ fn attempt_of(answer: Result<ClientMoved, OutOfMemory>) -> Attempt
 impl<R: Wait> ClientWorker<R> {
     /// Tries one step of the core over the worker's own lanes.
     fn advance(&mut self) -> Attempt
+        ensures steps { IsClientTurn self.old result self.new }
         ensures leads { ClientLeads self.old self.new }
         ensures ended { result ≡ attempt.Ended → self.new.ended ≡ true }
     {
@@ -45,11 +49,17 @@ impl<R: Wait> ClientWorker<R> {
 
 impl<R: Wait> Worker for ClientWorker<R> {
     ghost use Rattle.std.specs.Prelude.{◌≡◌, true};
+    ghost use Rattle.rc_base.specs.declared.gate.Actor.TheVariants as actor;
     ghost use Rattle.cluster_run.specs.Clients.{ClientLeads};
+    ghost use Rattle.cluster_run.specs.Steps.{IsClientTurn};
 
     ghost leads = { ClientLeads };
 
     ghost over = { λ w. w.ended ≡ true };
+
+    ghost who = { λ w. actor.Client w.number };
+
+    ghost steps = { IsClientTurn };
 
     ghost stays = { λ a scene l client sent asked h. h };
 

@@ -2,7 +2,7 @@
 ghost use Rattle.std.specs.Prelude.{◌≡◌, length, IfOk};
 ghost use Rattle.rc_base.specs.Cluster.Tiles.{tile_count};
 ghost use Rattle.rc_base.specs.Formats.Within.{IsWithin, IsLayoutFor};
-ghost use Rattle.cluster_run.specs.Clusters.{LaneNames, IsCluster};
+ghost use Rattle.cluster_run.specs.Clusters.{LaneNames, AreSoDeep, IsCluster};
 ghost use Rattle.cluster_run.specs.NewWorkers.{AreUntaken, IsNewManager};
 
 use crate::clients::new_clients;
@@ -64,7 +64,7 @@ pub(crate) fn new_crew<R: Copy>(
 ) -> Result<NewCrew<R>, OutOfMemory>
     requires within { IsWithin scene.now }
     requires layout { IsLayoutFor scene.now layout.now depth }
-    ensures { IfOk result (λ new. (names : LaneNames) × IsCluster scene.now layout.now names new.crew × AreUntaken (tile_count layout.now) names.parts new.parts.items) }
+    ensures { IfOk result (λ new. (names : LaneNames) × IsCluster scene.now layout.now names new.crew × AreUntaken (tile_count layout.now) names.parts new.parts.items × AreSoDeep (length scene.now.streams) (tile_count layout.now) depth names) }
 {
     scenes_within_limits();
     let tile_count = layout.columns * layout.rows;

@@ -2,7 +2,9 @@
 ghost use Rattle.std.specs.Prelude.{◌≡◌, true, Ok};
 ghost use Rattle.rc_base.specs.declared.cluster.ManagerMoved.TheVariants as moved;
 ghost use Rattle.worker_crew.specs.declared.worker.Attempt.TheVariants as attempt;
+ghost use Rattle.cluster_run.specs.Attempts.{manager_attempt};
 ghost use Rattle.cluster_run.specs.Managers.{ManagerLeads};
+ghost use Rattle.cluster_run.specs.Steps.{IsManagerTurn};
 
 use crate::workers::{ManagerWorker, has_ended};
 use rc_base::cluster::ManagerMoved;
@@ -16,7 +18,8 @@ use worker_crew::{Attempt, Peer, Worker};
 
 /// What an answer of the core comes to. Want of memory is a move: the core is short from then on, and goes on.
 fn attempt_of(answer: Result<ManagerMoved, OutOfMemory>) -> Attempt
-    ensures { result ≡ attempt.Ended → answer ≡ Ok moved.Ended }
+    ensures exact { result ≡ manager_attempt answer }
+    ensures ended { result ≡ attempt.Ended → answer ≡ Ok moved.Ended }
 {
     match answer {
         Ok(ManagerMoved::Delivered { tile }) => Attempt::Moved(Some(Peer::Tile(tile))),
@@ -26,13 +29,14 @@ fn attempt_of(answer: Result<ManagerMoved, OutOfMemory>) -> Attempt
         Ok(ManagerMoved::BlockedGrant { tile }) => Attempt::Blocked(Some(Peer::Tile(tile))),
         Ok(ManagerMoved::BlockedRequest) => Attempt::Blocked(None),
         Ok(ManagerMoved::Ended) => Attempt::Ended,
-        _ => Attempt::Moved(None),
+        Ok(ManagerMoved::Granted) | Err(OutOfMemory) => Attempt::Moved(None),
     }
 }
 
 impl<R: Wait> ManagerWorker<R> {
     /// Tries one step of the core over the worker's own lanes.
     fn advance(&mut self) -> Attempt
+        ensures steps { IsManagerTurn self.old result self.new }
         ensures leads { ManagerLeads self.old self.new }
         ensures ended { result ≡ attempt.Ended → self.new.ended ≡ true }
     {
@@ -46,11 +50,17 @@ impl<R: Wait> ManagerWorker<R> {
 
 impl<R: Wait> Worker for ManagerWorker<R> {
     ghost use Rattle.std.specs.Prelude.{◌≡◌, true};
+    ghost use Rattle.rc_base.specs.declared.gate.Actor.TheVariants as actor;
     ghost use Rattle.cluster_run.specs.Managers.{ManagerLeads};
+    ghost use Rattle.cluster_run.specs.Steps.{IsManagerTurn};
 
     ghost leads = { ManagerLeads };
 
     ghost over = { λ w. w.ended ≡ true };
+
+    ghost who = { λ w. actor.Manager };
+
+    ghost steps = { IsManagerTurn };
 
     ghost stays = { λ a syncs tiles asked granted h. h };
 

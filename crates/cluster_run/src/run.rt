@@ -1,5 +1,5 @@
 //! A run of the cluster on threads.
-ghost use Rattle.std.specs.Prelude.{◌≡◌, ◌<◌, ◌≤◌, ℕ, List, vec_len, slice_index_or, IfOk, OnErr};
+ghost use Rattle.std.specs.Prelude.{◌≡◌, ◌<◌, ◌≤◌, ℕ, false, List, length, vec_len, slice_index_or, IfOk, OnErr};
 ghost use Rattle.rc_base.specs.Cluster.Tiles.{tile_count};
 ghost use Rattle.rc_base.specs.Formats.Within.{IsWithin, IsLayoutFor};
 ghost use Rattle.rc_base.specs.Outside.Ends.{use_of};
@@ -9,7 +9,7 @@ ghost use Rattle.run_record.specs.Closed.{AreClosed};
 ghost use Rattle.run_record.specs.Collected.{IsWholeRun};
 ghost use Rattle.run_record.specs.Told.{IsRun};
 ghost use Rattle.frame_out.specs.Laws.{HasWindow};
-ghost use Rattle.frame_out.specs.Writing.{IsWritten};
+ghost use Rattle.frame_out.specs.Writing.{IsCounted, IsWritten};
 ghost use Rattle.lane_grid.specs.Names.{AreOutOf};
 ghost use Rattle.cluster_run.specs.Clusters.{LaneNames, IsEndedCluster};
 ghost use Rattle.cluster_run.specs.Fronts.{GaveFront};
@@ -86,7 +86,7 @@ fn complete<K: Sink, R: Wait + Copy>(
     requires ended { (names : LaneNames) × IsEndedCluster scene.now layout.now names ended × AreOutOf (tile_count layout.now) names.parts frames.lanes.items }
     ensures run { IfOk result (λ r. IsRun scene.now layout.now r.kept r.tallies r.waiting r.faults) }
     ensures written { (start : K) → IsSince K.held K.faults layout.now start frames image.old
-        → IfOk result (λ r. IsWritten (use_of K.held K.faults start image.new) (image_text_of scene.now layout.now r.kept) r.written) }
+        → IfOk result (λ r. IsCounted (use_of K.held K.faults start image.new) (image_text_of scene.now layout.now r.kept) r.written) }
     ensures front { (start : K) → IsSince K.held K.faults layout.now start frames image.old → GaveFront layout.now (use_of K.held K.faults start image.new) }
     ensures later { K.faults image.old ≤ K.faults image.new }
 {
@@ -134,6 +134,7 @@ where
     requires layout { IsLayoutFor scene.now layout.now depth }
     ensures run { IfOk result (λ r. IsRun scene.now layout.now r.kept r.tallies r.waiting r.faults) }
     ensures written { IfOk result (λ r. IsWritten (use_of K.held K.faults image.old image.new) (image_text_of scene.now layout.now r.kept) r.written) }
+    ensures counted { IfOk result (λ r. r.written.fault ≡ false → r.written.bytes ≡ length (image_text_of scene.now layout.now r.kept)) }
     ensures front { OnErr result (GaveFront layout.now (use_of K.held K.faults image.old image.new)) }
     ensures later { K.faults image.old ≤ K.faults image.new }
 {

@@ -1,9 +1,12 @@
 //! A tile's worker.
-ghost use Rattle.std.specs.Prelude.{◌≡◌, true, Ok, None, ◌++◌, option_to_list, IfOk};
+ghost use Rattle.std.specs.Prelude.{◌≡◌, true, false, Ok, None, ◌++◌, [], Some, option_to_list, IfOk, OnErr};
+ghost use Rattle.rc_base.specs.declared.cluster.TilePart.{TilePart};
 ghost use Rattle.rc_base.specs.declared.cluster.TileMoved.TheVariants as moved;
 ghost use Rattle.tile_server.specs.Clauses.{shown_in};
 ghost use Rattle.tile_queues.specs.Ends.{sent_of, lane_in};
 ghost use Rattle.worker_crew.specs.declared.worker.Attempt.TheVariants as attempt;
+ghost use Rattle.cluster_run.specs.Attempts.{tile_attempt};
+ghost use Rattle.cluster_run.specs.Steps.{IsTileTurn};
 ghost use Rattle.cluster_run.specs.Tiles.{TileLeads};
 
 use crate::workers::{TileWorker, has_ended};
@@ -20,9 +23,10 @@ use tile_queues::{LaneIn, LaneOut};
 use tile_server::laws::tiles_meet_their_clause_over_lanes;
 use worker_crew::{Attempt, Peer, Worker};
 
-/// What an answer of the core comes to. Want of memory is a move: the core is short from then on, and goes on.
+/// What an answer of the core comes to. Want of memory is a move: the core is short from then on, and goes on, and the caller learns of it.
 fn attempt_of(answer: &Result<TileMoved, OutOfMemory>) -> Attempt
-    ensures { result ≡ attempt.Ended → answer.now ≡ Ok moved.Ended }
+    ensures exact { result ≡ tile_attempt answer.now }
+    ensures ended { result ≡ attempt.Ended → answer.now ≡ Ok moved.Ended }
 {
     match answer {
         Ok(TileMoved::Took { client })
@@ -30,17 +34,18 @@ fn attempt_of(answer: &Result<TileMoved, OutOfMemory>) -> Attempt
         | Ok(TileMoved::Closed { client })
         | Ok(TileMoved::Dropped { client }) => Attempt::Moved(Some(Peer::Client(*client))),
         Ok(TileMoved::Learnt) => Attempt::Moved(Some(Peer::Manager)),
-        Ok(TileMoved::Swapped(_)) => Attempt::Moved(Some(Peer::Caller)),
+        Ok(TileMoved::Swapped(_)) | Err(OutOfMemory) => Attempt::Moved(Some(Peer::Caller)),
         Ok(TileMoved::Blocked) => Attempt::Blocked(None),
         Ok(TileMoved::Ended) => Attempt::Ended,
-        _ => Attempt::Moved(None),
+        Ok(TileMoved::Performed) => Attempt::Moved(None),
     }
 }
 
 /// The part that a step has for the image: the one that it shows. Where memory lacked it is one without pixels, by which the image's writer learns
 /// of it.
 fn offered(alloc: Global, tile: u8, answer: Result<TileMoved, OutOfMemory>) -> Option<TilePart>
-    ensures { IfOk answer (λ did. option_to_list result ≡ shown_in (Ok did)) }
+    ensures shown { IfOk answer (λ did. option_to_list result ≡ shown_in (Ok did)) }
+    ensures lacked { OnErr answer ((part : TilePart) × (result ≡ Some part) × (part.pixels ≡ [])) }
 {
     match answer {
         Ok(TileMoved::Swapped(part)) => Some(part),
@@ -58,6 +63,7 @@ fn put_held<R: Wait>(parts: &mut LaneIn<TilePart, R>, held: &mut Option<TilePart
     ensures lane { lane_in parts.new ≡ lane_in parts.old }
     ensures kept { sent_of parts.new ++ option_to_list held.new ≡ sent_of parts.old ++ option_to_list held.old }
     ensures put { result ≡ true → held.new ≡ None }
+    ensures waits { result ≡ false → held.new ≡ None → ⊥ }
     ensures none { held.old ≡ None → held.new ≡ None }
 {
     let Some(part) = held.take() else {
@@ -73,14 +79,20 @@ fn put_held<R: Wait>(parts: &mut LaneIn<TilePart, R>, held: &mut Option<TilePart
 }
 
 impl<R: Wait> TileWorker<R> {
-    /// Tries one step of the core over the worker's own lanes, and sends the part that it shows. A part that still waits goes first.
+    /// Tries one step of the core over the worker's own lanes, and sends the part that it shows. While a part waits from before, a step sends it and does
+    /// nothing else.
     fn advance(&mut self) -> Attempt
+        ensures steps { IsTileTurn self.old result self.new }
         ensures leads { TileLeads self.old self.new }
         ensures ended { result ≡ attempt.Ended → self.new.ended ≡ true }
     {
         tiles_meet_their_clause_over_lanes::<LaneOut<Packed, R>, LaneOut<Grant, R>>();
+        let waited = self.held.is_some();
         if !put_held(&mut self.parts, &mut self.held) {
             return Attempt::Blocked(Some(Peer::Caller));
+        }
+        if waited {
+            return Attempt::Moved(Some(Peer::Caller));
         }
         let answer = self.core.step(&mut self.clients, &mut self.grants);
         let attempt = attempt_of(&answer);
@@ -93,11 +105,17 @@ impl<R: Wait> TileWorker<R> {
 
 impl<R: Wait> Worker for TileWorker<R> {
     ghost use Rattle.std.specs.Prelude.{◌≡◌, true};
+    ghost use Rattle.rc_base.specs.declared.gate.Actor.TheVariants as actor;
+    ghost use Rattle.cluster_run.specs.Steps.{IsTileTurn};
     ghost use Rattle.cluster_run.specs.Tiles.{TileLeads};
 
     ghost leads = { TileLeads };
 
     ghost over = { λ w. w.ended ≡ true };
+
+    ghost who = { λ w. actor.Tile w.number };
+
+    ghost steps = { IsTileTurn };
 
     ghost stays = { λ a scene l tile took heard shown h. h };
 

@@ -25,7 +25,7 @@ use Rattle.tile_server.specs.Laws.{IsFramePart}
 use Rattle.frame_out.specs.Frames.{window_image, window_images}
 use Rattle.frame_out.specs.Laws.{HasWindow, WholeRunsAreWritten}
 use Rattle.frame_out.specs.OnTheWay.{parts_in, HasWritten}
-use Rattle.frame_out.specs.Writing.{AreWritable, IsWritten}
+use Rattle.frame_out.specs.Writing.{AreWritable, IsCounted}
 use Rattle.frame_out.specs.declared.on_the_way.FrameWriter.{FrameWriter}
 use Rattle.frame_out.proofs.FrameParts.{frame_shows, some_columns, some_rows, texts_are}
 
@@ -118,8 +118,8 @@ module _ (one : EachPixelHasOneTile) (show : PartsShowTheirPixels) (scene : Scen
     few : length h.frames ≤ 2 ^ 32
     few = let a = writable.few in let b = length-map-range_with_len (λ (k : ℕ). window_image l (recorded_pixel scene l kept k)) 1 (frame_count kept.journal) in let c = many in omega (arith, a, b, c)
 
-    is_written : IsWritten image (image_text_of scene l kept) w.written
-    is_written = subst (λ (text : List ℕ). IsWritten image text w.written) text_is (h.written few).is
+    is_written : IsCounted image (image_text_of scene l kept) w.written
+    is_written = subst (λ (text : List ℕ). IsCounted image text w.written) text_is (h.written few)
 
 pub runs_written : EachPixelHasOneTile → PartsShowTheirPixels → WholeRunsAreWritten
 runs_written one show scene l kept shown took image w have window some writable h fronts last low missing all =

@@ -1,13 +1,15 @@
 -- A writer of frames stays on its way with each call.
-use Rattle.std.proofs.Common.{◌≡◌, ℕ, ◌+◌, ◌<◌, ◌^◌, true, false, List, [], ◌∷◌, ◌++◌, length, take, map, Some, None, inl, inr, refl, sym, ap, ◌∙◌, subst, arith, length-append, append-nil, true≢false}
+use Rattle.std.proofs.Common.{◌≡◌, ℕ, ◌+◌, ◌<◌, ◌≤◌, ◌^◌, true, false, List, [], ◌∷◌, ◌++◌, length, take, map, Some, None, inl, inr, refl, sym, ap, ◌∙◌, subst, arith, length-append, append-nil, append_assoc, true≢false}
 use Rattle.std.specs.Prelude.{option_to_list, slice_index_or, Option}
 use Rattle.std.specs.Io.KnownBytes.{Appends}
 use Rattle.std.specs.List.{AllByRecursion}
 use Rattle.std.proofs.Math.Seq.{take-append-add}
 use Rattle.std.proofs.lemmas.Bool.{cases_Bool}
 use Rattle.std.proofs.lemmas.Grind.{flat_map-append}
+use Rattle.std.proofs.lemmas.List.{take-append-le}
 use Rattle.rc_base.specs.Cluster.Tiles.{tile_count}
 use Rattle.rc_base.specs.Formats.Netpbm.{p6_text, p6_texts}
+use Rattle.rc_base.specs.Lists.{IsFront}
 use Rattle.rc_base.specs.Outside.Ends.{Used}
 use Rattle.rc_base.specs.declared.cluster.TilePart.{TilePart}
 use Rattle.rc_base.specs.declared.image.Image.{Image}
@@ -20,7 +22,7 @@ use Rattle.assembler.specs.declared.places.Assembler.{Assembler}
 use Rattle.ppm_out.specs.Pictures.{IsWhole}
 use Rattle.frame_out.specs.Laws.{NewWritersAreOnTheWay}
 use Rattle.rc_base.specs.Cluster.Lanes.{EachLane}
-use Rattle.frame_out.specs.OnTheWay.{Follows, parts_in, GaveImages, GivesOne, IsMissing, IsOnTheWay}
+use Rattle.frame_out.specs.OnTheWay.{Follows, parts_in, GaveFrames, GaveText, GivesOne, HasWritten, IsMissing, IsOnTheWay}
 use Rattle.frame_out.specs.Windows.{IsWindow}
 use Rattle.frame_out.specs.Writing.{HasGiven, IsCounted}
 use Rattle.frame_out.specs.declared.on_the_way.FrameWriter.{FrameWriter}
@@ -48,40 +50,56 @@ count_map f (x ∷ xs) = let h = count_map f xs in omega (arith, h)
 
 -- ---- the image
 
--- one image more was written, up to a fault
-module _ (l : Layout) (a b c : Option (List ℕ)) (fa fb fc : ℕ) (old new : Written) (image : Image) (sides : (image.width ≡ l.width) × (image.height ≡ l.height))
-    (given : HasGiven b c (p6_text image) old new) (h : GaveImages l (used a b fa fb) old) where
-  images_more : GaveImages l (used a c fa fc) new
-  images_more = elim (cases_Bool old.fault) [
+-- one text more was given, up to a fault
+module _ (a b c : Option (List ℕ)) (fa fb fc : ℕ) (old new : Written) (text more : List ℕ) (given : HasGiven b c more old new) (h : GaveText (used a b fa fb) text old) where
+  text_more : GaveText (used a c fa fc) (text ++ more) new
+  text_more = elim (cases_Bool old.fault) [
     | inl fault ↦
-        let none = given.none fault in record {
-          images = h.images;
-          sides = h.sides;
-          front = record { done = h.front.done; part = h.front.part; given = subst (λ (o : Option (List ℕ)). Appends a o (take h.front.done (p6_texts h.images))) (sym none.0) h.front.given };
+        let none = given.none fault in
+        let low = h.front.part in record {
+          front = record {
+            done = h.front.done;
+            part = (let n = length-append text more in omega (arith, n, low));
+            given = subst (λ (o : Option (List ℕ)). Appends a o (take h.front.done (text ++ more))) (sym none.0)
+                (subst (Appends a b) (sym (take-append-le h.front.done text more (omega (arith, low)))) h.front.given);
+          };
           all = λ e. absurd (true≢false (sym fault ∙ ap (λ (w : Written). w.fault) (sym none.1) ∙ e));
         }
     | inr no_fault ↦
-        let text = texts_more h.images image in
         let front = given.front no_fault in
         let took = h.all no_fault in record {
-          images = h.images ++ image ∷ [];
-          sides = all_more (λ (m : Image). (m.width ≡ l.width) × (m.height ≡ l.height)) h.images image h.sides sides;
           front = record {
-            done = length (p6_texts h.images) + front.0;
-            part = (let n = ap length text ∙ length-append (p6_texts h.images) (p6_text image) in let low = front.1 in omega (arith, n, low));
-            given = subst (Appends a c) (sym (ap (take (length (p6_texts h.images) + front.0)) text ∙ take-append-add (p6_texts h.images) (p6_text image) front.0))
-                (Appends-then a b c (p6_texts h.images) (take front.0 (p6_text image)) took front.2);
+            done = length text + front.0;
+            part = (let n = length-append text more in let low = front.1 in omega (arith, n, low));
+            given = subst (Appends a c) (sym (take-append-add text more front.0)) (Appends-then a b c text (take front.0 more) took front.2);
           };
-          all = λ e. subst (Appends a c) (sym text) (Appends-then a b c (p6_texts h.images) (p6_text image) took (given.all e).1);
+          all = λ e. Appends-then a b c text more took (given.all e).1;
         }
   ]
 
 -- ---- a call
 
 module _ {I : Type 0} (gave : I → TilePart → I → Type 0) (same : I → I → Type 0) (empty_seen : I → ℕ) (bare : I → Type 0) (taken : I → List TilePart)
-    (f : Follows gave same taken) (l : Layout) (d : I) (lanes lanes' : List I) (count : length lanes ≡ tile_count l) where
+    (f : Follows gave same taken) (l : Layout) (d : I) (lanes lanes' : List I) (count : length lanes ≡ tile_count l)
+    (one : EachLane (λ i a b. GivesOne gave same a b) lanes lanes') where
   abbrev took : List I → ℕ → List TilePart
   took ls tile = taken (slice_index_or ls tile d)
+
+  grown : (a b : I) → GivesOne gave same a b → IsFront (taken a) (taken b)
+  grown a b (inl h) = ([], f.stays a b h ∙ sym (append-nil (taken a)))
+  grown a b (inr h) = (h.0 ∷ [], f.grows a b h.0 h.1)
+
+  -- what was taken first was taken first still
+  still : (e : Used) (written : Written) → GaveFrames l e (took lanes) written → GaveFrames l e (took lanes') written
+  still e written h = record {
+    frames = h.frames;
+    sizes = h.sizes;
+    fronts = λ tile low.
+        let was = h.fronts tile low in
+        let more = grown (slice_index_or lanes tile d) (slice_index_or lanes' tile d) (one.at tile d (omega (arith, count, low))) in
+        (was.0 ++ more.0, more.1 ∙ ap (λ (xs : List TilePart). xs ++ more.0) was.1 ∙ append_assoc (parts_in h.frames tile) was.0 more.0);
+    given = h.given;
+  }
 
   took_more : (base : ℕ → List TilePart) (places found : List (Option TilePart)) → AreFound gave same empty_seen bare places lanes found lanes'
       → ((tile : ℕ) → tile < tile_count l → took lanes tile ≡ base tile ++ option_to_list (in_place places tile))
@@ -95,7 +113,7 @@ module _ {I : Type 0} (gave : I → TilePart → I → Type 0) (same : I → I �
       → w'.written ≡ w.written → w'.lacking ≡ w.lacking → IsOnTheWay l e (took lanes) w → IsOnTheWay l e (took lanes') w'
   waits e w w' k written lacking h = record {
     layout_is = k.layout ∙ h.layout_is;
-    given = subst (GaveImages l e) (sym written) h.given;
+    given = subst (GaveFrames l e (took lanes')) (sym written) (still e w.written h.given);
     whole = λ ample some. elim (cases_Bool (short_of w.assembler)) [
       | inl was ↦ absurd (true≢false (sym ((k.refused was).short) ∙ ample))
       | inr was ↦
@@ -107,6 +125,7 @@ module _ {I : Type 0} (gave : I → TilePart → I → Type 0) (same : I → I �
               sizes = x.sizes;
               took_is = λ tile low. took_more (parts_in x.frames) (places_of w.assembler) a.found a.each x.took_is tile low
                   ∙ ap (λ (ps : List (Option TilePart)). parts_in x.frames tile ++ option_to_list (in_place ps tile)) (sym u.places);
+              given = subst (GaveText e (p6_texts (map (picture l) x.frames))) (sym written) x.given;
               written = λ few. subst (IsCounted e (p6_texts (map (picture l) x.frames))) (sym written) (x.written few);
             }
             | inr s ↦ absurd (true≢false (sym s.short ∙ ample))
@@ -119,7 +138,7 @@ module _ {I : Type 0} (gave : I → TilePart → I → Type 0) (same : I → I �
       → w'.written ≡ w.written → w'.lacking ≡ true → IsOnTheWay l e (took lanes) w → IsOnTheWay l e (took lanes') w'
   passes e w w' image k written lacking h = record {
     layout_is = k.layout ∙ h.layout_is;
-    given = subst (GaveImages l e) (sym written) h.given;
+    given = subst (GaveFrames l e (took lanes')) (sym written) (still e w.written h.given);
     whole = λ ample some. absurd (true≢false (sym lacking ∙ some));
   }
 
@@ -127,7 +146,7 @@ module _ {I : Type 0} (gave : I → TilePart → I → Type 0) (same : I → I �
   module _ (a b c : Option (List ℕ)) (fa fb fc : ℕ) (w w' : FrameWriter) (image : Image) (window : IsWindow (layout_of w.assembler))
       (k : IsAssembled gave same empty_seen bare w.assembler lanes (Some image) w'.assembler lanes')
       (counts : (text : List ℕ) → length text + length (p6_text image) < 2 ^ 64 → IsCounted (used a b fa fb) text w.written → IsCounted (used a c fa fc) (text ++ p6_text image) w'.written)
-      (given : HasGiven b c (p6_text image) w.written w'.written) (lacking : w'.lacking ≡ w.lacking) (h : IsOnTheWay l (used a b fa fb) (took lanes) w) where
+      (given : HasGiven b c (p6_text image) w.written w'.written) (ample : w.lacking ≡ false) (h : IsOnTheWay l (used a b fa fb) (took lanes) w) where
     was_ample : short_of w.assembler ≡ false
     was_ample = elim (cases_Bool (short_of w.assembler)) [
       | inl was ↦ absurd (let e : Some image ≡ None = (k.refused was).none in cc)
@@ -137,45 +156,62 @@ module _ {I : Type 0} (gave : I → TilePart → I → Type 0) (same : I → I �
     complete : IsComplete (layout_of w.assembler) (k.whole was_ample).found image w'.assembler
     complete = (k.whole was_ample).comes
 
-    sides : (image.width ≡ l.width) × (image.height ≡ l.height)
-    sides = (
-      ap (λ (m : Image). m.width) complete.shown ∙ ap (λ (x : Layout). x.width) h.layout_is,
-      ap (λ (m : Image). m.height) complete.shown ∙ ap (λ (x : Layout). x.height) h.layout_is,
-    )
-
     image_is : image ≡ picture l complete.parts
     image_is = complete.shown ∙ ap (λ (x : Layout). picture x complete.parts) h.layout_is
+
+    before : HasWritten l (used a b fa fb) (took lanes) w
+    before = h.whole was_ample ample
+
+    frames_now : List (List TilePart)
+    frames_now = before.frames ++ complete.parts ∷ []
+
+    sizes_now : AllByRecursion (ArePartsOf l) frames_now
+    unfolding frames_now
+    sizes_now = all_more (ArePartsOf l) before.frames complete.parts before.sizes (subst (λ (z : Layout). ArePartsOf z complete.parts) h.layout_is complete.sizes)
+
+    took_now : (tile : ℕ) → tile < tile_count l → took lanes' tile ≡ parts_in frames_now tile ++ option_to_list (in_place (places_of w'.assembler) tile)
+    unfolding frames_now
+    took_now tile low =
+        let y = k.whole was_ample in
+        took_more (parts_in before.frames) (places_of w.assembler) y.found y.each before.took_is tile low
+        ∙ ap (λ (o : Option TilePart). parts_in before.frames tile ++ option_to_list o) (ap (λ (ps : List (Option TilePart)). in_place ps tile) complete.all ∙ place_is complete.parts tile)
+        ∙ sym (parts_more before.frames complete.parts tile)
+        ∙ sym (append-nil (parts_in (before.frames ++ complete.parts ∷ []) tile))
+        ∙ ap (λ (o : Option TilePart). parts_in (before.frames ++ complete.parts ∷ []) tile ++ option_to_list o)
+        (sym (ap (λ (ps : List (Option TilePart)). in_place ps tile) complete.places ∙ none_in (tile_count (layout_of w.assembler)) tile))
+
+    text_now : p6_texts (map (picture l) frames_now) ≡ p6_texts (map (picture l) before.frames) ++ p6_text image
+    unfolding frames_now
+    text_now =
+        ap p6_texts (map_more (picture l) before.frames complete.parts) ∙ texts_more (map (picture l) before.frames) (picture l complete.parts)
+        ∙ ap (λ (m : Image). p6_texts (map (picture l) before.frames) ++ p6_text m) (sym image_is)
+
+    given_now : GaveText (used a c fa fc) (p6_texts (map (picture l) frames_now)) w'.written
+    given_now = subst (λ (t : List ℕ). GaveText (used a c fa fc) t w'.written) (sym text_now)
+        (text_more a b c fa fb fc w.written w'.written (p6_texts (map (picture l) before.frames)) (p6_text image) given before.given)
+
+    counted_now : length frames_now ≤ 2 ^ 32 → IsCounted (used a c fa fc) (p6_texts (map (picture l) frames_now)) w'.written
+    unfolding frames_now
+    counted_now few =
+        let win : IsWindow l = subst IsWindow h.layout_is window in
+        let n = length-append before.frames (complete.parts ∷ []) in
+        let m = count_map (picture l) before.frames in
+        let fits = texts_short (map (picture l) before.frames) (pictures_whole l win before.frames) in
+        let one = texts_short (image ∷ []) (subst IsWhole (sym image_is) (picture_whole l win complete.parts), tt) in
+        let one_is = ap length (append-nil (p6_text image)) in
+        subst (λ (t : List ℕ). IsCounted (used a c fa fc) t w'.written) (sym text_now)
+        (counts (p6_texts (map (picture l) before.frames)) (omega (arith, fits, one, one_is, m, n, few)) (before.written (omega (arith, n, few))))
 
     pub writes : IsOnTheWay l (used a c fa fc) (took lanes') w'
     writes = record {
       layout_is = k.layout ∙ h.layout_is;
-      given = images_more l a b c fa fb fc w.written w'.written image sides given h.given;
-      whole = λ ample some.
-          let x = h.whole was_ample (sym lacking ∙ some) in
-          let y = k.whole was_ample in
-          let win : IsWindow l = subst IsWindow h.layout_is window in
-          record {
-            frames = x.frames ++ complete.parts ∷ [];
-            sizes = all_more (ArePartsOf l) x.frames complete.parts x.sizes (subst (λ (z : Layout). ArePartsOf z complete.parts) h.layout_is complete.sizes);
-            took_is = λ tile low.
-                took_more (parts_in x.frames) (places_of w.assembler) y.found y.each x.took_is tile low
-                ∙ ap (λ (o : Option TilePart). parts_in x.frames tile ++ option_to_list o) (ap (λ (ps : List (Option TilePart)). in_place ps tile) complete.all ∙ place_is complete.parts tile)
-                ∙ sym (parts_more x.frames complete.parts tile)
-                ∙ sym (append-nil (parts_in (x.frames ++ complete.parts ∷ []) tile))
-                ∙ ap (λ (o : Option TilePart). parts_in (x.frames ++ complete.parts ∷ []) tile ++ option_to_list o)
-                (sym (ap (λ (ps : List (Option TilePart)). in_place ps tile) complete.places ∙ none_in (tile_count (layout_of w.assembler)) tile));
-            written = λ few.
-                let n = length-append x.frames (complete.parts ∷ []) in
-                let m = count_map (picture l) x.frames in
-                let fits = texts_short (map (picture l) x.frames) (pictures_whole l win x.frames) in
-                let one = texts_short (image ∷ []) (subst IsWhole (sym image_is) (picture_whole l win complete.parts), tt) in
-                let one_is = ap length (append-nil (p6_text image)) in
-                let text : p6_texts (map (picture l) (x.frames ++ complete.parts ∷ [])) ≡ p6_texts (map (picture l) x.frames) ++ p6_text image =
-                ap p6_texts (map_more (picture l) x.frames complete.parts) ∙ texts_more (map (picture l) x.frames) (picture l complete.parts)
-                ∙ ap (λ (m : Image). p6_texts (map (picture l) x.frames) ++ p6_text m) (sym image_is) in
-                subst (λ (t : List ℕ). IsCounted (used a c fa fc) t w'.written) (sym text)
-                (counts (p6_texts (map (picture l) x.frames)) (omega (arith, fits, one, one_is, m, n, few)) (x.written (omega (arith, n, few))));
-          };
+      given = record {
+        frames = frames_now;
+        sizes = sizes_now;
+        fronts = λ tile low. (option_to_list (in_place (places_of w'.assembler) tile), took_now tile low);
+        given = given_now;
+      };
+      whole = λ _ _. record { frames = frames_now; sizes = sizes_now; took_is = took_now; given = given_now; written = counted_now };
     }
 
 -- ---- what is missing
@@ -233,17 +269,16 @@ module _ {I : Type 0} (gave : I → TilePart → I → Type 0) (same : I → I �
 -- ---- a new writer
 
 pub new_writers : NewWritersAreOnTheWay
-new_writers l image took w new none calm empty = record {
+new_writers l image took w new none calm empty = let nothing : GaveText image [] w.written = record {
+  front = record { done = 0; part = omega arith; given = none };
+  all = λ _. none;
+} in record {
   layout_is = new.assembler_is.layout;
-  given = record {
-    images = [];
-    sides = tt;
-    front = record { done = 0; part = omega arith; given = none };
-    all = λ _. none;
-  };
+  given = record { frames = []; sizes = tt; fronts = λ tile low. (took tile, refl); given = nothing };
   whole = λ ample some. record {
     frames = [];
     sizes = tt;
+    given = nothing;
     took_is = λ tile low. empty tile low
         ∙ ap (λ (o : Option TilePart). option_to_list o) (sym (ap (λ (ps : List (Option TilePart)). in_place ps tile) new.assembler_is.places ∙ none_in (tile_count l) tile));
     written = λ few. record {

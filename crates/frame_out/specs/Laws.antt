@@ -19,7 +19,7 @@ use Rattle.assembler.specs.Assembled.{places_of}
 use Rattle.run_record.specs.Told.{AreFrameParts, HaveFrames}
 use Rattle.frame_out.specs.Frames.{frame_total, window_images, AreFrames, ShowFrames}
 use Rattle.frame_out.specs.OnTheWay.{HasWritten, IsNewWriter, IsOnTheWay}
-use Rattle.frame_out.specs.Writing.{AreWritable, IsWritten}
+use Rattle.frame_out.specs.Writing.{AreWritable, IsCounted}
 use Rattle.frame_out.specs.declared.on_the_way.FrameWriter.{FrameWriter}
 
 -- the layout is one of the scene's window
@@ -51,7 +51,7 @@ FramesOfScenesAreWritable =
     → IsLegal (sync_lists_of scene) journal → AreWritable (window_images l pixels (frame_count journal))
 
 -- A writer that was given fronts of the parts of a whole run, and found a tile's lane at its end, has written the record's image text: all of it, or up to
--- the image's fault.
+-- the image's fault. Its bytes are counted.
 abbrev pub WholeRunsAreWritten : Type 0
 WholeRunsAreWritten =
     (scene : Scene) (l : Layout) (kept : Record) (shown took : ℕ → List TilePart) (image : Used) (w : FrameWriter)
@@ -59,7 +59,7 @@ WholeRunsAreWritten =
     → AreWritable (window_images l (recorded_pixel scene l kept) (frame_count kept.journal))
     → HasWritten l image took w → ((tile : ℕ) → tile < tile_count l → IsFront (took tile) (shown tile))
     → (tile : ℕ) → tile < tile_count l → in_place (places_of w.assembler) tile ≡ None → took tile ≡ shown tile
-    → IsWritten image (image_text_of scene l kept) w.written
+    → IsCounted image (image_text_of scene l kept) w.written
 
 -- a new writer is on its way, with nothing taken and nothing written
 abbrev pub NewWritersAreOnTheWay : Type 0

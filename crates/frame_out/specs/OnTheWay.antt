@@ -3,9 +3,9 @@ use Rattle.std.specs.Prelude.{◌≡◌, ℕ, ◌^◌, ◌<◌, ◌≤◌, ◌�
 use Rattle.std.specs.List.{flat_map, AllByRecursion}
 use Rattle.rc_base.specs.Cluster.Tiles.{tile_count}
 use Rattle.rc_base.specs.Formats.Netpbm.{p6_texts}
+use Rattle.rc_base.specs.Lists.{IsFront}
 use Rattle.rc_base.specs.Outside.Ends.{Used, Took, TookFront}
 use Rattle.rc_base.specs.declared.cluster.TilePart.{TilePart}
-use Rattle.rc_base.specs.declared.image.Image.{Image}
 use Rattle.rc_base.specs.declared.window.Layout.{Layout}
 use Rattle.assembler.specs.Parts.{picture, ArePartsOf}
 use Rattle.assembler.specs.Assembled.{layout_of, places_of, short_of, IsNewAssembler}
@@ -20,26 +20,33 @@ use Rattle.frame_out.specs.declared.writing.Written.{Written}
 abbrev pub parts_in : List (List TilePart) → ℕ → List TilePart
 parts_in frames tile = flat_map (λ (parts : List TilePart). option_to_list (slice_get parts tile)) frames
 
+-- the image was given this text, or a front of it where it failed
+pub record GaveText (image : Used) (text : List ℕ) (written : Written) : Type 0 where
+  pub front : TookFront image text
+  pub all : written.fault ≡ false → Took image text
+
 -- What was taken of the tiles: for each frame that is complete one part of each tile, and then the part that is in the tile's place.
 pub record HasWritten (l : Layout) (image : Used) (took : ℕ → List TilePart) (w : FrameWriter) : Type 0 where
   pub frames : List (List TilePart)
   pub sizes : AllByRecursion (ArePartsOf l) frames
   pub took_is : (tile : ℕ) → tile < tile_count l → took tile ≡ parts_in frames tile ++ option_to_list (in_place (places_of w.assembler) tile)
   -- the texts of the complete frames were written, up to a fault of the image
+  pub given : GaveText image (p6_texts (map (picture l) frames)) w.written
+  -- and are counted
   pub written : length frames ≤ 2 ^ 32 → IsCounted image (p6_texts (map (picture l) frames)) w.written
 
--- the image was given the texts of some images of the window's sides, or a front of them where it failed
-pub record GaveImages (l : Layout) (image : Used) (written : Written) : Type 0 where
-  pub images : List Image
-  pub sides : AllByRecursion (λ (m : Image). (m.width ≡ l.width) × (m.height ≡ l.height)) images
-  pub front : TookFront image (p6_texts images)
-  pub all : written.fault ≡ false → Took image (p6_texts images)
+-- The image was given the texts of frames, or a front of them where it failed: of those whose parts were taken first of each tile.
+pub record GaveFrames (l : Layout) (image : Used) (took : ℕ → List TilePart) (written : Written) : Type 0 where
+  pub frames : List (List TilePart)
+  pub sizes : AllByRecursion (ArePartsOf l) frames
+  pub fronts : (tile : ℕ) → tile < tile_count l → IsFront (parts_in frames tile) (took tile)
+  pub given : GaveText image (p6_texts (map (picture l) frames)) written
 
 -- A writer of frames for a layout, what the image was given since a moment, and what was taken of the tiles since then. Once a tile was short, or memory
--- lacked for a text, it writes no more.
+-- lacked for a text, it writes no more: no frame is written behind one that isn't.
 pub record IsOnTheWay (l : Layout) (image : Used) (took : ℕ → List TilePart) (w : FrameWriter) : Type 0 where
   pub layout_is : layout_of w.assembler ≡ l
-  pub given : GaveImages l image w.written
+  pub given : GaveFrames l image took w.written
   pub whole : short_of w.assembler ≡ false → w.lacking ≡ false → HasWritten l image took w
 
 -- nothing was taken, and nothing written

@@ -45,13 +45,14 @@ impl FrameWriter {
     }
 
     /// Takes at most one part of each tile whose part of the next frame is missing, and writes the frame where that completes it, by one `write_all`. Whether
-    /// it did. Once the image has failed, frames are completed and not written.
+    /// it did. Once the image has failed, or memory lacked for a frame's text, frames are completed and not written.
     pub fn serve<I: Inlet<TilePart>, K: Sink>(&mut self, lanes: &mut [I], image: &mut K) -> bool
         requires lanes { length lanes.old ≡ tile_count (layout_of self.old.assembler) }
         ensures layout { layout_of self.new.assembler ≡ layout_of self.old.assembler }
         ensures lane_of { EachLane (λ i a b. I.lane_of b ≡ I.lane_of a) lanes.old lanes.new }
         ensures each { EachLane (λ i a b. GivesOne I.gave I.same a b) lanes.old lanes.new }
         ensures goes_on { GoesOn I.gave I.same (use_of K.held K.faults) self.old lanes.old image.old self.new lanes.new image.new }
+        ensures completed { IsAssembled I.gave I.same I.empty_seen I.bare self.old.assembler lanes.old (shows result self.new.assembler) self.new.assembler lanes.new }
         ensures missing { result ≡ false → short_of self.new.assembler ≡ false → IsMissing I.bare self.new lanes.new }
         ensures later { K.faults image.old ≤ K.faults image.new }
     {

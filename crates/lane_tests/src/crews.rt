@@ -37,6 +37,10 @@ impl Worker for Countdown {
 
     ghost over = { λ a. a.left ≡ 0 };
 
+    ghost who = { λ a. a.actor };
+
+    ghost steps = { λ a came b. ⊤ };
+
     ghost stays = { λ a. tt };
 
     ghost goes_on = { λ a b c f g. tt };

@@ -35,6 +35,10 @@ impl<R: Wait> Worker for Sender<R> {
 
     ghost over = { λ a. ⊤ };
 
+    ghost who = { λ a. a.actor };
+
+    ghost steps = { λ a came b. ⊤ };
+
     ghost stays = { λ a. tt };
 
     ghost goes_on = { λ a b c f g. tt };

@@ -39,11 +39,12 @@ const PATIENCE: u32 = 10_000_000;
 // The client's turns before that of its last Swap: a Clear, a Swap and its request, and a Clear.
 const BEFORE_LAST: u64 = 4;
 
-// A sink that tells of its first put.
+// A sink that tells of its first put, and counts its puts.
 #[derive(Drop)]
 struct Telling<'a> {
     sink: MemSink,
     is_given: &'a AtomicBool,
+    puts: u64,
 }
 
 impl<'a> Sink for Telling<'a> {
@@ -55,6 +56,7 @@ impl<'a> Sink for Telling<'a> {
 
     fn put(&mut self, piece: &[u8]) -> Result<usize, Failed> {
         self.is_given.store(true, Ordering::SeqCst);
+        self.puts = self.puts.saturating_add(1);
         self.sink.put(piece)
     }
 }
@@ -81,7 +83,7 @@ impl<'a> Gate for HoldsLast<'a> {
     }
 }
 
-// Whether the first frame is out before the last Swap is issued.
+// Whether the first frame is out before the last Swap is issued, and each is offered whole.
 fn is_out_early<R>(rt: R, alloc: Global) -> bool
 where
     R: Abort + Threads + Wait + Copy + Send + Sync + Drop,
@@ -95,6 +97,7 @@ where
     let mut image = Telling {
         sink: MemSink::new(alloc, 4096, &[]).expect(&rt, "memory"),
         is_given: &is_given,
+        puts: 0,
     };
     let finish = finish_on(
         rt,
@@ -106,6 +109,7 @@ where
     );
     finish.status == 0
         && !gate.gave_up.load(Ordering::SeqCst)
+        && image.puts == 2
         && image.sink.bytes() == b"P6\n1 1\n255\n\xff\x00\x00P6\n1 1\n255\n\xff\x00\x00".as_slice()
 }
 

@@ -34,6 +34,18 @@ End
 Swap
 ";
 
+// One client, with more acts than a lane of three items holds.
+const FIVE_CLEARS: &[u8] = b"scene 1 1 1
+client
+ClearColor 255 0 0 255
+Clear 1
+Clear 1
+Clear 1
+Clear 1
+Clear 1
+Swap
+";
+
 // How often a gate looks before it gives up.
 const PATIENCE: u32 = 10_000_000;
 
@@ -230,4 +242,84 @@ where
 #[test]
 fn both_clients_run_at_once(rt: HostRuntime) {
     assert!(rt; meet(rt, rt.alloc()));
+}
+
+// Holds the tile at its first step until the client has come to this turn twice, so that it was refused there.
+#[derive(Drop)]
+struct HoldsTile {
+    depth: u64,
+    refused: AtomicU64,
+    is_let_go: AtomicBool,
+    is_past: AtomicBool,
+    gave_up: AtomicBool,
+}
+
+impl HoldsTile {
+    fn new(depth: u64) -> HoldsTile {
+        HoldsTile {
+            depth,
+            refused: AtomicU64::new(0),
+            is_let_go: AtomicBool::new(false),
+            is_past: AtomicBool::new(false),
+            gave_up: AtomicBool::new(false),
+        }
+    }
+
+    // The client comes to a turn.
+    fn note(&self, turn: u64) {
+        if turn == self.depth {
+            self.refused.fetch_add(1, Ordering::SeqCst);
+        }
+        if turn > self.depth && !self.is_let_go.load(Ordering::SeqCst) {
+            self.is_past.store(true, Ordering::SeqCst);
+        }
+    }
+
+    // Holds the tile.
+    fn hold(&self) {
+        for _ in 0..PATIENCE {
+            if self.refused.load(Ordering::SeqCst) > 1 {
+                self.is_let_go.store(true, Ordering::SeqCst);
+                return;
+            }
+            thread::yield_now();
+        }
+        self.gave_up.store(true, Ordering::SeqCst);
+    }
+}
+
+impl Gate for HoldsTile {
+    fn pass(&self, who: Actor, turn: u64) {
+        match who {
+            Actor::Client(_) => self.note(turn),
+            Actor::Tile(_) if turn == 0 => self.hold(),
+            _ => {}
+        }
+    }
+}
+
+// Whether a client sends just so many acts to a tile that takes none.
+fn is_so_deep<R>(rt: R, alloc: Global, word: &str, depth: u64) -> bool
+where
+    R: Abort + Threads + Wait + Copy + Send + Sync + Drop,
+{
+    let scene = packed(rt, alloc, FIVE_CLEARS);
+    let gate = HoldsTile::new(depth);
+    let left = left_by(
+        rt,
+        alloc,
+        &["render", "--depth", word],
+        scene.bytes(),
+        &gate,
+    );
+    left.finish.status == 0
+        && !gate.gave_up.load(Ordering::SeqCst)
+        && !gate.is_past.load(Ordering::SeqCst)
+}
+
+#[test]
+fn lanes_are_as_deep_as_the_words_say(rt: HostRuntime) {
+    for (word, depth) in [("1", 1u64), ("3", 3u64)] {
+        assert!(rt; is_so_deep(rt, rt.alloc(), word, depth));
+    }
 }

@@ -1,5 +1,6 @@
 //! A worker, and how far it is.
-ghost use Rattle.std.specs.Prelude.{◌≡◌, true, false, IsTrue, None};
+ghost use Rattle.std.specs.Prelude.{◌≡◌, true, false, cond, IsTrue, None};
+ghost use Rattle.rc_base.specs.Outside.Causes.{risen};
 ghost use Rattle.worker_crew.specs.Tasks.{IsTask};
 
 use crate::seat::{Row, Seat};
@@ -77,6 +78,7 @@ impl Turned {
 pub fn attempt<W: Worker, G: Gate>(gate: &G, task: &mut Task<W>, waking: &mut Waking<'_>) -> Turned
     ensures kept { (w : W) → IsTask W.leads W.over w task.old → IsTask W.leads W.over w task.new }
     ensures ended { result.ended ≡ task.new.ended }
+    ensures moves { task.new.moves ≡ cond result.moved (risen task.old.moves) task.old.moves }
 {
     let mut moved = false;
     let mut on = None;

@@ -30,6 +30,9 @@ pub enum Attempt {
 
 /// An actor of a cluster, with its own ends of lanes.
 pub trait Worker {
+    ghost use Rattle.rc_base.specs.declared.gate.Actor.{Actor};
+    ghost use Rattle.worker_crew.specs.declared.worker.Attempt.{Attempt};
+
     /// What any number of steps may make of it.
     ghost leads: { Self → Self → Type 0 };
 
@@ -37,10 +40,18 @@ pub trait Worker {
     ghost over: { Self → Type 0 };
 
     /// Which actor it is.
-    fn actor(&self) -> Actor;
+    ghost who: { Self → Actor };
+
+    /// What one step makes of it, and what that came to.
+    ghost steps: { Self → Attempt → Self → Type 0 };
+
+    /// Which actor it is.
+    fn actor(&self) -> Actor
+        ensures { result ≡ who self.now };
 
     /// Tries one step.
     fn step(&mut self) -> Attempt
+        ensures steps { steps self.old result self.new }
         ensures leads { leads self.old self.new }
         ensures over { result ≡ attempt.Ended → over self.new };
 

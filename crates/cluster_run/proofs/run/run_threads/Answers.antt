@@ -1,4 +1,5 @@
 use Rattle.std.proofs.Common.{◌≡◌, ◌<◌, length, arith, ap, ◌∙◌}
+use Rattle.std.proofs.lemmas.Result.{IfOk-weaker}
 use Rattle.frame_out.proofs.FrameParts.{some_columns, some_rows}
 use Rattle.frame_out.proofs.Prefixes.{on_err}
 use Rattle.cluster_run.proofs.Runs.{is_window}
@@ -65,9 +66,16 @@ complete-requires-clause-ended g c =
 pub returns-clause-written : goal.returns-clause-written
 returns-clause-written g c =
     let made = c.in_ok-crew.ensures in
-    c.complete.ensures.written c.args.image.now
+    IfOk-weaker c.complete.result _ _ (λ r h. h.is) (c.complete.ensures.written c.args.image.now
     (since_then g.K.Sink.held g.K.Sink.faults c.args.layout.now c.whole_runs_are_written.ensures.first c.args.image.now c.in_ok-frames.frames c.in_ok-frames.ensures.new
-    made.0.parts _ (ap (λ v. v.items) c.in_ok-frames.ensures.lanes) made.2 c.run_crew.new.frames c.run_crew.new.image c.in_ok-ended.ensures.served)
+    made.0.parts _ (ap (λ v. v.items) c.in_ok-frames.ensures.lanes) made.2 c.run_crew.new.frames c.run_crew.new.image c.in_ok-ended.ensures.served))
+
+pub returns-clause-counted : goal.returns-clause-counted
+returns-clause-counted g c =
+    let made = c.in_ok-crew.ensures in
+    IfOk-weaker c.complete.result _ _ (λ r h. h.count) (c.complete.ensures.written c.args.image.now
+    (since_then g.K.Sink.held g.K.Sink.faults c.args.layout.now c.whole_runs_are_written.ensures.first c.args.image.now c.in_ok-frames.frames c.in_ok-frames.ensures.new
+    made.0.parts _ (ap (λ v. v.items) c.in_ok-frames.ensures.lanes) made.2 c.run_crew.new.frames c.run_crew.new.image c.in_ok-ended.ensures.served))
 
 pub returns-clause-front : goal.returns-clause-front
 returns-clause-front g c =

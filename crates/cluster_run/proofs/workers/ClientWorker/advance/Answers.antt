@@ -11,12 +11,18 @@ use Rattle.client_issue.specs.declared.client.ClientCore.{ClientCore}
 use Rattle.tile_queues.specs.Ends.{sent_of}
 use Rattle.tile_queues.specs.declared.ends.LaneIn.{LaneIn}
 use Rattle.lane_grid.specs.Names.{AreInto}
+use Rattle.cluster_run.specs.Attempts.{client_attempt}
 use Rattle.cluster_run.proofs.Named.{into_goes_on}
 use Rattle.cluster_run.proofs.workers.ClientWorker.advance.Goals as goal
 
 -- the core's clause over these ends
 abbrev Holds : {R : Type 0} → Scene → Layout → ℕ → LaneIn Parcel R → ClientCore → List (LaneIn Parcel R) → List Request → Bool → Type 0
 Holds scene l client d core ends asked ended = IsClientClause scene l client core (λ tile. sent_of (slice_index_or ends tile d)) asked ended
+
+pub returns-clause-steps : goal.returns-clause-steps
+returns-clause-steps g c =
+    let told = c.step-answer.ensures.step in
+    record { deed = told.0; step = told.2; came_is = c.attempt_of-attempt.ensures.exact ∙ ap client_attempt told.1 }
 
 pub returns-clause-leads : goal.returns-clause-leads
 returns-clause-leads g c scene l client sent asked h =
@@ -39,5 +45,5 @@ returns-clause-leads g c scene l client sent asked h =
           let before = subst (λ ends. Holds scene l client d w.core ends (sent_of w.requests) w.ended) (sym xs_are) (h.clause d) in
           subst (λ ends. Holds scene l client d later ends (sent_of asked') ended) (sym left)
           (c.clients_meet_their_clause_over_lanes.ensures scene l client told.0 w.core later d xs xs' w.requests asked' w.ended ended
-          (ap length xs_are ∙ w.lanes) before told.2 told.3 told.4 (λ is. sym told.1 ∙ c.attempt_of-attempt.ensures (c.has_ended-self.ensures.only is)));
+          (ap length xs_are ∙ w.lanes) before told.2 told.3 told.4 (λ is. sym told.1 ∙ c.attempt_of-attempt.ensures.ended (c.has_ended-self.ensures.only is)));
     }

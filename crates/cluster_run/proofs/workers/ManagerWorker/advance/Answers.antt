@@ -11,6 +11,7 @@ use Rattle.tile_queues.specs.Ends.{sent_of, taken_of}
 use Rattle.tile_queues.specs.declared.ends.LaneIn.{LaneIn}
 use Rattle.tile_queues.specs.declared.ends.LaneOut.{LaneOut}
 use Rattle.lane_grid.specs.Names.{AreInto, AreOutOf}
+use Rattle.cluster_run.specs.Attempts.{manager_attempt}
 use Rattle.cluster_run.proofs.Named.{into_goes_on, out_goes_on}
 use Rattle.cluster_run.proofs.workers.ManagerWorker.advance.Goals as goal
 
@@ -18,6 +19,11 @@ use Rattle.cluster_run.proofs.workers.ManagerWorker.advance.Goals as goal
 abbrev Holds : {R : Type 0} → SyncLists → ℕ → LaneOut Request R → LaneIn Grant R → ManagerCore → List (LaneOut Request R) → List (LaneIn Grant R) → Bool → Type 0
 Holds syncs tiles d e core requests grants ended =
     IsManagerClause syncs tiles core (λ client. taken_of (slice_index_or requests client d)) (λ tile. sent_of (slice_index_or grants tile e)) ended
+
+pub returns-clause-steps : goal.returns-clause-steps
+returns-clause-steps g c =
+    let told = c.step-answer.ensures.step in
+    record { deed = told.0; step = told.2; came_is = c.attempt_of-attempt.ensures.exact ∙ ap manager_attempt told.1 }
 
 pub returns-clause-leads : goal.returns-clause-leads
 returns-clause-leads g c syncs tiles asked granted h =
@@ -46,6 +52,6 @@ returns-clause-leads g c syncs tiles asked granted h =
           (subst (λ ends. Holds syncs tiles d e w.core w.requests.items ends w.ended) (sym ys_are) (h.clause d e)) in
           let after = c.managers_meet_their_clause_over_lanes.ensures taken_of (λ a b r gave. gave) (λ a b same. same) syncs tiles w.core told.0 later
           d xs xs' e ys ys' w.ended ended (ap length xs_are ∙ w.clients) (ap length ys_are ∙ w.tiles)
-          before told.2 told.3 told.5 (λ is. sym told.1 ∙ c.attempt_of-attempt.ensures (c.has_ended-self.ensures.only is)) in
+          before told.2 told.3 told.5 (λ is. sym told.1 ∙ c.attempt_of-attempt.ensures.ended (c.has_ended-self.ensures.only is)) in
           subst (λ ends. Holds syncs tiles d e later ends grants_left ended) (sym xs_left) (subst (λ ends. Holds syncs tiles d e later xs' ends ended) (sym ys_left) after);
     }

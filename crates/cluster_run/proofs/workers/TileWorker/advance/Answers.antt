@@ -1,5 +1,5 @@
-use Rattle.std.proofs.Common.{◌≡◌, ℕ, Bool, true, false, ap, sym, ◌∙◌, ◌++◌, List, [], length, take, drop, subst, refl, true≢false, Ok, Err, append-nil, append_assoc}
-use Rattle.std.specs.Prelude.{slice_index_or, option_to_list, Option, None, Some, Result, IfOk, OnErr}
+use Rattle.std.proofs.Common.{◌≡◌, ℕ, Bool, true, false, ap, sym, ◌∙◌, ◌++◌, List, [], length, take, drop, subst, refl, true≢false, Ok, Err, inl, inr, append-nil, append_assoc}
+use Rattle.std.specs.Prelude.{slice_index_or, option_to_list, is_some, Option, None, Some, Result, IfOk, OnErr}
 use Rattle.rc_base.specs.declared.cluster.TileMoved.{TileMoved}
 use Rattle.rc_base.specs.declared.cluster.TilePart.{TilePart}
 use Rattle.rc_base.specs.declared.out_of_memory.OutOfMemory.{OutOfMemory}
@@ -16,6 +16,7 @@ use Rattle.tile_queues.specs.Ends.{sent_of, taken_of}
 use Rattle.tile_queues.specs.declared.ends.LaneOut.{LaneOut}
 use Rattle.lane_grid.specs.Names.{AreOutOf}
 use Rattle.rc_base.specs.declared.cluster.TileMoved.TheVariants as moved
+use Rattle.cluster_run.specs.Attempts.{tile_attempt}
 use Rattle.cluster_run.specs.Tiles.{parts_of}
 use Rattle.cluster_run.proofs.Named.{out_goes_on}
 use Rattle.cluster_run.proofs.workers.TileWorker.advance.Goals as goal
@@ -53,6 +54,10 @@ short_now A B (Err lack) h = h.1
 none_offered : (answer : Result TileMoved OutOfMemory) (o : Option TilePart) → answer ≡ Ok moved.Ended → IfOk answer (λ did. option_to_list o ≡ shown_in (Ok did)) → o ≡ None
 none_offered answer o is h = none_of o (subst (λ (r : Result TileMoved OutOfMemory). IfOk r (λ did. option_to_list o ≡ shown_in (Ok did))) is h)
 
+none_there : (o : Option TilePart) → is_some o ≡ false → o ≡ None
+none_there None e = refl
+none_there (Some part) e = absurd (true≢false e)
+
 pub returns-then-not-put_held-clause-leads : goal.returns-then-not-put_held-clause-leads
 returns-then-not-put_held-clause-leads g c scene l tile took heard shown h =
     let w = c.args.self.now in
@@ -65,6 +70,43 @@ returns-then-not-put_held-clause-leads g c scene l tile took heard shown h =
       clause = λ d. subst (λ ps. Holds scene l tile d w.core w.clients.items (taken_of w.grants) ps w.ended) (sym put.kept) (h.clause d);
       none_waits = λ is. put.none (h.none_waits is);
     }
+
+pub returns-then-waited-clause-leads : goal.returns-then-waited-clause-leads
+returns-then-waited-clause-leads g c scene l tile took heard shown h =
+    let w = c.args.self.now in
+    let put = c.put_held.ensures in
+    record {
+      number_is = h.number_is;
+      clients_are = h.clients_are;
+      grants_are = h.grants_are;
+      parts_are = put.lane ∙ h.parts_are;
+      clause = λ d. subst (λ ps. Holds scene l tile d w.core w.clients.items (taken_of w.grants) ps w.ended) (sym put.kept) (h.clause d);
+      none_waits = λ is. put.none (h.none_waits is);
+    }
+
+pub returns-then-not-put_held-clause-steps : goal.returns-then-not-put_held-clause-steps
+returns-then-not-put_held-clause-steps g c =
+    let put = c.put_held.ensures in
+    let still = put.waits c.if-not-put_held.true in
+    inr (record { waits = λ none. still (put.none none); core_is = refl; came_is = inr (refl, still) })
+
+pub returns-then-waited-clause-steps : goal.returns-then-waited-clause-steps
+returns-then-waited-clause-steps g c =
+    inr (record {
+      waits = λ none. true≢false (sym c.if-waited.true ∙ c.is_some-waited.ensures ∙ ap (λ (o : Option TilePart). is_some o) none);
+      core_is = refl;
+      came_is = inl (refl, c.put_held.ensures.put c.if-not-put_held.false);
+    })
+
+pub returns-clause-steps : goal.returns-clause-steps
+returns-clause-steps g c =
+    let told = c.step-answer.ensures.step in
+    inl (record {
+      none_waits = none_there c.args.self.now.held (sym c.is_some-waited.ensures ∙ c.if-waited.false);
+      deed = told.0;
+      step = told.2;
+      came_is = c.attempt_of-attempt.ensures.exact ∙ ap tile_attempt told.1;
+    })
 
 pub returns-clause-leads : goal.returns-clause-leads
 returns-clause-leads g c scene l tile took heard shown h =
@@ -84,7 +126,7 @@ returns-clause-leads g c scene l tile took heard shown h =
     let put = c.put_held.ensures in
     let sent = c.put_held-sent.ensures in
     let offer = c.offered.result in
-    let over : ended ≡ true → answer ≡ Ok moved.Ended = λ is. c.attempt_of-attempt.ensures (c.has_ended-self.ensures.only is) in
+    let over : ended ≡ true → answer ≡ Ok moved.Ended = λ is. c.attempt_of-attempt.ensures.ended (c.has_ended-self.ensures.only is) in
     record {
       number_is = h.number_is;
       clients_are = subst (λ ends. AreOutOf n took ends) (sym left)
@@ -98,12 +140,12 @@ returns-clause-leads g c scene l tile took heard shown h =
           (ap length xs_are ∙ w.lanes) before told.2 told.3 told.5 (λ is. sym told.1 ∙ over is) in
           let shows = subst (λ r. Holds scene l tile d later xs' (taken_of heard') (parts_of w ++ shown_in r) ended) (sym told.1) after in
           let offered = offers scene l tile later (λ client. taken_of (slice_index_or xs' client d)) (taken_of heard') ended (parts_of w) offer answer
-          c.offered.ensures (short_now _ _ answer step.out_of_memory) shows in
+          c.offered.ensures.shown (short_now _ _ answer step.out_of_memory) shows in
           let first : sent_of c.put_held.new.parts ≡ parts_of w =
           sym (append-nil (sent_of c.put_held.new.parts))
           ∙ ap (λ (o : Option TilePart). sent_of c.put_held.new.parts ++ option_to_list o) (sym (put.put c.if-not-put_held.false)) ∙ put.kept in
           let parts = sent.kept ∙ ap (λ ps. ps ++ option_to_list offer) first in
           subst (λ ps. Holds scene l tile d later ends_left (taken_of heard') ps ended) (sym parts)
           (subst (λ ends. Holds scene l tile d later ends (taken_of heard') (parts_of w ++ option_to_list offer) ended) (sym left) offered);
-      none_waits = λ is. sent.none (none_offered answer offer (over is) c.offered.ensures);
+      none_waits = λ is. sent.none (none_offered answer offer (over is) c.offered.ensures.shown);
     }
