@@ -7,7 +7,8 @@
 Each run has to end by itself, within ten seconds, with every thread joined that it started, and with one of these:
 - 0 (or the status of a run with memory), with the whole image and the whole notes: what was refused wasn't needed. So it is where a thread can't be made:
   its actor is stepped by the caller.
-- 7, with `rc: out of memory` in the notes and a front of the image that is due.
+- 7, with `rc: out of memory` in the notes and a front of the image that is due; or with nothing in either, where there was no memory for the words or for the
+  chain that they name. These allocations come first: behind one that is told, none ends silently.
 Where the threads' schedule decides what is drawn a right run may have another image than the one with memory, so give a scene that is ordered.
 
 The last line tells how many allocations were refused, how many of these runs ended with 7 and how many with 0 (with another status where the run with memory
@@ -47,12 +48,14 @@ class Runs:
         return (done.returncode, done.stdout, done.stderr), struct.unpack("3l", self.counts.read_bytes())
 
 
-def fault_of(end, whole, started, joined):
-    """What is wrong with a run, or None."""
+def fault_of(end, whole, started, joined, told):
+    """What is wrong with a run, or None. `told` says whether want of memory was told for an earlier allocation."""
     status, image, notes = end
     if started != joined:
         return f"{started} threads were started and {joined} joined"
     if end == whole or status == 7 and notes == b"rc: out of memory\n" and whole[1].startswith(image):
+        return None
+    if end == (7, b"", b"") and not told:
         return None
     return f"status {status}, {len(image)} bytes of image, notes {notes!r}"
 
@@ -60,7 +63,7 @@ def fault_of(end, whole, started, joined):
 def refuse_each(runs):
     """Refuses each allocation in turn, prints what came, and tells whether all is right."""
     whole, (allocations, started, _) = runs.run(0)
-    ends, hung, lacked, wrong = collections.Counter(), 0, 0, 0
+    ends, hung, lacked, wrong, told, silent = collections.Counter(), 0, 0, 0, False, 0
     for number in range(1, allocations + 1):
         try:
             end, (_, begun, joined) = runs.run(number)
@@ -68,7 +71,9 @@ def refuse_each(runs):
             print(f"refuse.py: with allocation {number} refused the program didn't end")
             hung += 1
             continue
-        fault = fault_of(end, whole, begun, joined)
+        fault = fault_of(end, whole, begun, joined, told)
+        told = told or end[0] == 7 and end[2] != b""
+        silent += end == (7, b"", b"")
         if fault:
             print(f"refuse.py: with allocation {number} refused: {fault}")
             wrong += 1
@@ -76,7 +81,7 @@ def refuse_each(runs):
         lacked += end[0] == whole[0] and begun < started
     if started:
         print(f"{started} threads with memory; {lacked} of the runs that ended with {whole[0]} had fewer")
-    print(f"{allocations} allocations refused, {ends[7]} ended with 7, {ends[whole[0]]} with {whole[0]}, {hung} hung")
+    print(f"{allocations} allocations refused, {ends[7]} ended with 7 ({silent} of them silently), {ends[whole[0]]} with {whole[0]}, {hung} hung")
     return not hung and not wrong
 
 

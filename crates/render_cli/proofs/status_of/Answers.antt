@@ -40,3 +40,6 @@ run_filtered-status-requires-clause-named g c κs within =
     subst (AreNamed (map string_bytes c.args.words.now))
     (sym (c.loop-rule.invariant ∙ take_all c.loop-rule.rule-index c.as_slice-rule-items.result.now past ∙ c.as_slice-rule-items.ensures))
     c.in_ok-rules.ensures
+
+pub returns-clause-ran : goal.returns-clause-ran
+returns-clause-ran g c = (c.run_filtered-status.result.kept, c.run_filtered-status.ensures.ran)
