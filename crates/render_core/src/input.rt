@@ -5,10 +5,11 @@ ghost use Rattle.rc_base.specs.Formats.Spelling.{SpellsScene};
 ghost use Rattle.rc_base.specs.Formats.Text.Read.{SpellsText};
 ghost use Rattle.rc_base.specs.Outside.Transfer.{byte_limit};
 ghost use Rattle.render_core.specs.Findings.{BeginWithLists};
-ghost use Rattle.render_core.specs.Refusals.{IsExpanded, IsPast, IsRead, IsWellRead, IsRefusedInput, refusal_of_scene};
+ghost use Rattle.render_core.specs.Refusals.{IsExpanded, IsPast, IsRead, IsWellRead, IsRefusedInput};
 ghost use Rattle.render_core.specs.declared.job.Form.TheVariants.{Bytes as OfBytes, PlainBytes as OfPlainBytes, Text as OfText};
 
 use crate::job::Form;
+use crate::reader::{SceneReader, refusal_of};
 use crate::refusal::InputRefusal;
 use crate::work::Meaning;
 use call_lists::laws::{costs_are_told, expansions_are_whole, expansions_stay_in_range};
@@ -16,34 +17,9 @@ use call_lists::{ExpandFault, Expansions, expand_all};
 use rc_base::cluster::FaultLists;
 use rc_base::command::Bytes;
 use rc_base::scene::{Limit, Scene};
-use scene_file::{ListScene, SceneFault, check_streams, read_list_scene, read_scene};
+use scene_file::{ListScene, check_streams, read_list_scene};
 use scene_text::{TextSceneFault, parse_scene};
 use std::alloc::Global;
-
-// Why bytes spell no scene within the limits.
-fn refusal_of(fault: SceneFault) -> InputRefusal
-    ensures { result ≡ refusal_of_scene fault }
-{
-    match fault {
-        SceneFault::Malformed { kind, at } => InputRefusal::MalformedScene { kind, at },
-        SceneFault::Limit { what, value } => InputRefusal::PastLimit(Limit { what, value }),
-        SceneFault::OutOfMemory => InputRefusal::OutOfMemory,
-    }
-}
-
-// The scene without call lists that the bytes spell.
-fn scene_of_bytes(alloc: Global, input: &[u8]) -> Result<Scene, InputRefusal>
-    requires { length input.now ≤ byte_limit }
-    ensures read { IfOk result (λ scene. SpellsScene input.now scene × (limit_of scene ≡ None)) }
-    ensures well { IfOk result (IsWellRead OfPlainBytes) }
-    ensures refused { IfErr result (IsRefusedInput OfPlainBytes input.now) }
-    ensures refused_bytes { (BeginWithLists input.now → ⊥) → IfErr result (IsRefusedInput OfBytes input.now) }
-{
-    match read_scene(alloc, input) {
-        Ok(scene) => Ok(scene),
-        Err(fault) => Err(refusal_of(fault)),
-    }
-}
 
 // The scene that the text spells.
 fn scene_of_text(alloc: Global, input: &[u8]) -> Result<Scene, InputRefusal>
@@ -129,7 +105,11 @@ fn begin_with_lists(input: &[u8]) -> bool
 }
 
 // What the bytes of a scene mean, with call lists or without.
-fn meaning_of_bytes(alloc: Global, input: &[u8]) -> Result<Meaning, InputRefusal>
+fn meaning_of_bytes<B: SceneReader>(
+    reader: &B,
+    alloc: Global,
+    input: &[u8],
+) -> Result<Meaning, InputRefusal>
     requires { length input.now ≤ byte_limit }
     ensures read { IfOk result (IsRead OfBytes input.now) }
     ensures well { IfOk result (λ x. IsWellRead OfBytes x.scene) }
@@ -139,14 +119,19 @@ fn meaning_of_bytes(alloc: Global, input: &[u8]) -> Result<Meaning, InputRefusal
     if begin_with_lists(input) {
         return meaning_of_lists(alloc, input);
     }
-    match scene_of_bytes(alloc, input) {
+    match reader.scene_of_bytes(alloc, input) {
         Ok(scene) => Ok(plain(alloc, scene)),
         Err(refusal) => Err(refusal),
     }
 }
 
 /// What the input means that spells a scene in this form. The input is let go once the scene stands.
-pub(crate) fn meaning_of(alloc: Global, form: Form, input: Bytes) -> Result<Meaning, InputRefusal>
+pub(crate) fn meaning_of<B: SceneReader>(
+    reader: &B,
+    alloc: Global,
+    form: Form,
+    input: Bytes,
+) -> Result<Meaning, InputRefusal>
     requires { length input ≤ byte_limit }
     ensures read { IfOk result (IsRead form input) }
     ensures well { IfOk result (λ x. IsWellRead form x.scene) }
@@ -154,8 +139,8 @@ pub(crate) fn meaning_of(alloc: Global, form: Form, input: Bytes) -> Result<Mean
     ensures refused { IfErr result (IsRefusedInput form input) }
 {
     match form {
-        Form::Bytes => meaning_of_bytes(alloc, input.as_slice()),
-        Form::PlainBytes => Ok(plain(alloc, scene_of_bytes(alloc, input.as_slice())?)),
+        Form::Bytes => meaning_of_bytes(reader, alloc, input.as_slice()),
+        Form::PlainBytes => Ok(plain(alloc, reader.scene_of_bytes(alloc, input.as_slice())?)),
         Form::Text => Ok(plain(alloc, scene_of_text(alloc, input.as_slice())?)),
     }
 }

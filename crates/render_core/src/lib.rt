@@ -17,6 +17,7 @@ pub mod job;
 pub mod laws;
 mod notes;
 mod picks;
+mod reader;
 pub mod refusal;
 mod report;
 mod run_job;

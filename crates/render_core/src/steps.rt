@@ -18,6 +18,7 @@ use crate::due::{Due, DueRefusal, due_for, last};
 use crate::generated::scene_of_seed;
 use crate::input::{meaning_of, plain};
 use crate::job::{Cluster, Job, Origin};
+use crate::reader::{Alone, Beside, SceneReader};
 use crate::refusal::{ImageRefusal, Refusal, Refused};
 use crate::work::{Meaning, Work, work_of};
 use crate::writing::{Told, told_of, untold, write_due};
@@ -44,7 +45,12 @@ fn without_record(refusal: Refusal) -> Refused
 }
 
 // What the job's scene means, by where it comes from.
-fn meaning_for<S: Source>(alloc: Global, job: Job, source: &mut S) -> Result<Meaning, Refusal>
+fn meaning_for<B: SceneReader, S: Source>(
+    reader: &B,
+    alloc: Global,
+    job: Job,
+    source: &mut S,
+) -> Result<Meaning, Refusal>
     ensures came { IfOk result (Came job (use_of S.left S.faults source.old source.new)) }
     ensures well { IfOk result (λ x. IsWell (origin_of job) x.scene) }
     ensures within { IfOk result (λ x. limit_of x.scene ≡ None) }
@@ -57,7 +63,7 @@ fn meaning_for<S: Source>(alloc: Global, job: Job, source: &mut S) -> Result<Mea
     match job.origin() {
         Origin::Read(form) => {
             let input = read_all(alloc, source)?;
-            Ok(meaning_of(alloc, form, input)?)
+            Ok(meaning_of(reader, alloc, form, input)?)
         }
         Origin::Generated { seed, size } => match scene_of_seed(alloc, job, seed, size) {
             Ok(scene) => Ok(plain(alloc, scene)),
@@ -67,7 +73,8 @@ fn meaning_for<S: Source>(alloc: Global, job: Job, source: &mut S) -> Result<Mea
 }
 
 // What the task works on: its scene, which came from the source, behind the filters.
-fn work_for<S: Source>(
+fn work_for<B: SceneReader, S: Source>(
+    reader: &B,
     alloc: Global,
     chain: &mut Vec<Box<dyn Spu>>,
     job: Job,
@@ -84,7 +91,7 @@ fn work_for<S: Source>(
     ensures later { S.faults source.old ≤ S.faults source.new }
 {
     filtered_scenes_stay();
-    let meant = match meaning_for(alloc, job, source) {
+    let meant = match meaning_for(reader, alloc, job, source) {
         Ok(meant) => meant,
         Err(refusal) => return Err(refusal),
     };
@@ -114,7 +121,7 @@ fn due_of_source<S: Source>(
     ensures unread { (Reads job → ⊥) → source.new ≡ source.old }
     ensures later { S.faults source.old ≤ S.faults source.new }
 {
-    let work = work_for(alloc, chain, job, source)?;
+    let work = work_for(&Alone, alloc, chain, job, source)?;
     match due_for(alloc, job, &work) {
         Ok(due) => Ok(due),
         Err(refusal) => Err(Refusal::Undue(refusal)),
@@ -137,7 +144,7 @@ fn due_apart<S: Source>(
     ensures members { LeftAfter (task_of (map (λ b. meaning b) chain.old.items) job) (use_of S.left S.faults source.old source.new) result (map (λ b. meaning b) chain.new.items) }
     ensures later { S.faults source.old ≤ S.faults source.new }
 {
-    let work = work_for(alloc, chain, job, source)?;
+    let work = work_for(&Beside(rt), alloc, chain, job, source)?;
     match last(rt, alloc, &work) {
         Ok(due) => Ok(due),
         Err(refusal) => Err(Refusal::Undue(refusal)),
@@ -270,7 +277,7 @@ where
 {
     scene_lists_are_well_formed();
     records_of_scenes();
-    let work = match work_for(alloc, chain, job, source) {
+    let work = match work_for(&Beside(&rt), alloc, chain, job, source) {
         Ok(work) => work,
         Err(refusal) => return Err(without_record(refusal)),
     };

@@ -6,7 +6,7 @@ use Rattle.render_core.proofs.Inputs.{read_plainly}
 use Rattle.render_core.proofs.input.meaning_of.Goals as goal
 
 pub returns-in-PlainBytes-clause-read : goal.returns-in-PlainBytes-clause-read
-returns-in-PlainBytes-clause-read c =
+returns-in-PlainBytes-clause-read g c =
     let x = c.plain.result in
     let read = c.in_ok-scene_of_bytes-in-PlainBytes.ensures.read in
     subst (λ (f : Form). IsRead f c.args.input x) (sym c.in-PlainBytes.is)
@@ -14,7 +14,7 @@ returns-in-PlainBytes-clause-read c =
     (read_plainly PlainBytes _ c.in_ok-scene_of_bytes-in-PlainBytes.field-0 read.0 read.1 x c.plain.ensures.scene c.plain.ensures.faults))
 
 pub returns-clause-read : goal.returns-clause-read
-returns-clause-read c =
+returns-clause-read g c =
     let x = c.plain-in-Text.result in
     let read = c.in_ok-scene_of_text-in-Text.ensures.read in
     subst (λ (f : Form). IsRead f c.args.input x) (sym c.in-Text.is)

@@ -2,7 +2,7 @@ use Rattle.std.proofs.Common.{sym, subst}
 use Rattle.render_core.specs.declared.job.Form.TheVariants.{Bytes, PlainBytes}
 use Rattle.render_core.specs.Refusals.{IsRefusedInput}
 use Rattle.render_core.proofs.Inputs.{refused_plainly, refused_without_lists}
-use Rattle.render_core.proofs.input.scene_of_bytes.Goals as goal
+use Rattle.render_core.proofs.reader.scene_alone.Goals as goal
 
 pub returns-in-Err-clause-refused : goal.returns-in-Err-clause-refused
 returns-in-Err-clause-refused c =
