@@ -1,7 +1,8 @@
 -- A client after it has issued its next command.
 use Rattle.std.proofs.Common.{◌≡◌, ◌∙◌, ℕ, zero, suc, ◌+◌, ◌<◌, ◌≤◌, false, List, [], ◌∷◌, ◌++◌, length, get_or, Some, None, refl, sym, ap, subst, arith, inl, inr, append-nil, append_assoc, lt-ltb}
-use Rattle.std.specs.Prelude.{slice_get, MatchOption, IfSome, ◌||◌}
+use Rattle.std.specs.Prelude.{slice_get, MatchOption, IfSome, Vec, ◌||◌}
 use Rattle.std.specs.declared.option.Option.{Option}
+use Rattle.std.specs.Global.{Global}
 use Rattle.std.proofs.Math.Logic.{∥∥₁_map}
 use Rattle.std.proofs.Props.{props}
 use Rattle.std.specs.List.{AllByRecursion}
@@ -42,7 +43,7 @@ use Rattle.client_issue.proofs.Giving.{skipped_to, tail_end, commands_next, comm
 use Rattle.client_issue.proofs.Marking.{quiet_pending, sets_are_marks, unmarked}
 
 -- what the code did
-pub record IsIssued (s : Sender) (c : Command) (x : ClientContext) (effect : Effect) (o : Option Pending) (ops : List WaitAt) (tracker : Tracked) : Type 0 where
+pub record IsIssued (s : Sender) (c : Command) (x : ClientContext) (effect : Effect) (o : Option Pending) (ops : Vec WaitAt Global) (tracker : Tracked) : Type 0 where
   pub law : StreamsGoOnByIssue
   pub sending : IsSendingWith s None
   pub more : s.issued < length s.stream
@@ -52,14 +53,14 @@ pub record IsIssued (s : Sender) (c : Command) (x : ClientContext) (effect : Eff
   pub told : tracker.told ≡ s.tracker.told
   pub marked : (tile e : ℕ) → tile < 32 → pending tracker tile e ≡ (sets_element c s.context.matrix_mode effect e || pending s.tracker tile e)
   pub pending : MatchOption o ((t : ℕ) → t < s.count → asks_of s.layout x.state effect t ≡ false) (IsFirst s.layout x.state s.issued effect)
-  pub noted : ops ≡ s.ops ++ option_to_list (wait_in s.issued effect)
+  pub noted : ops.items ≡ s.ops.items ++ option_to_list (wait_in s.issued effect)
 
-pub next_context : (s : Sender) (c : Command) (x : ClientContext) (effect : Effect) (o : Option Pending) (ops : List WaitAt) (tracker : Tracked) → IsIssued s c x effect o ops tracker
+pub next_context : (s : Sender) (c : Command) (x : ClientContext) (effect : Effect) (o : Option Pending) (ops : Vec WaitAt Global) (tracker : Tracked) → IsIssued s c x effect o ops tracker
     → x ≡ context_after (scene_of s) 0 (s.issued + 1)
 next_context s c x effect o ops tracker h =
     h.context ∙ ap (λ (y : ClientContext). issued y s.issued c) h.sending.context ∙ sym (h.law (scene_of s) 0 s.issued c h.command).0
 
-pub next_effect : (s : Sender) (c : Command) (x : ClientContext) (effect : Effect) (o : Option Pending) (ops : List WaitAt) (tracker : Tracked) → IsIssued s c x effect o ops tracker
+pub next_effect : (s : Sender) (c : Command) (x : ClientContext) (effect : Effect) (o : Option Pending) (ops : Vec WaitAt Global) (tracker : Tracked) → IsIssued s c x effect o ops tracker
     → effect ≡ effect_at (scene_of s) 0 s.issued
 next_effect s c x effect o ops tracker h =
     h.effect_is ∙ ap (λ (y : ClientContext). effect_of y c) h.sending.context ∙ sym (h.law (scene_of s) 0 s.issued c h.command).1
@@ -80,7 +81,7 @@ abbrev pub first_tile : ℕ → Option Pending → ℕ
 first_tile count None = count
 first_tile count (Some p) = p.tile
 
-pub not_asked : (s : Sender) (c : Command) (x : ClientContext) (effect : Effect) (o : Option Pending) (ops : List WaitAt) (tracker : Tracked) → IsIssued s c x effect o ops tracker
+pub not_asked : (s : Sender) (c : Command) (x : ClientContext) (effect : Effect) (o : Option Pending) (ops : Vec WaitAt Global) (tracker : Tracked) → IsIssued s c x effect o ops tracker
     → (t : ℕ) → t < first_tile s.count o → asks_of s.layout (context_after (scene_of s) 0 s.issued).state (effect_at (scene_of s) 0 s.issued) t ≡ false
 not_asked s c x effect None ops tracker h t lt =
     asks_before h.law (scene_of s) s.layout s.issued t
@@ -100,7 +101,7 @@ not_asked s c x effect (Some p) ops tracker h t lt =
 none_left : (a b : List Sending) → a ≡ [] → ([] ++ b) ≡ (a ++ b)
 none_left a b e = ap (λ (items : List Sending). items ++ b) (sym e)
 
-items_pending : (s : Sender) (c : Command) (x : ClientContext) (effect : Effect) (o : Option Pending) (ops : List WaitAt) (tracker : Tracked) → IsIssued s c x effect o ops tracker
+items_pending : (s : Sender) (c : Command) (x : ClientContext) (effect : Effect) (o : Option Pending) (ops : Vec WaitAt Global) (tracker : Tracked) → IsIssued s c x effect o ops tracker
     → pending_items (scene_of s) s.layout o ≡ sent_from_tile (scene_of s) s.layout s.issued 0
 items_pending s c x effect None ops tracker h =
     let count : tile_count s.layout ≡ s.count = sym h.sending.count in
@@ -114,7 +115,7 @@ items_pending s c x effect (Some p) ops tracker h =
     (λ t _ lt. nothing_sent (scene_of s) s.layout t s.issued (not_asked s c x effect (Some p) ops tracker h t lt))
     ∙ ap (λ (k : ℕ). sent_from_tile (scene_of s) s.layout k p.tile) (sym first.place_is))
 
-pub issued_left : (s : Sender) (c : Command) (x : ClientContext) (effect : Effect) (o : Option Pending) (ops : List WaitAt) (tracker : Tracked) → s.pending ≡ None → s.request ≡ None → IsIssued s c x effect o ops tracker
+pub issued_left : (s : Sender) (c : Command) (x : ClientContext) (effect : Effect) (o : Option Pending) (ops : Vec WaitAt Global) (tracker : Tracked) → s.pending ≡ None → s.request ≡ None → IsIssued s c x effect o ops tracker
     → left_of (record s { context = x; tracker = tracker; issued = s.issued + 1; pending = o; request = wait_in s.issued effect; ops = ops }) ≡ left_of s
 unfolding left_with
 issued_left s c x effect o ops tracker rests asked h =
@@ -150,7 +151,7 @@ heard_more p issued tile le = rw (le-ltb tile p.tile le) refl
 knows_noted : (s : Sender) (tracker : Tracked) (tile : ℕ) (values : ℕ → ElementValue) → tracker.told ≡ s.tracker.told → Knows s.tracker tile values → Knows tracker tile values
 knows_noted s tracker tile values same k = record { kept = k.kept; is = ap (λ (l : List Told). slice_get l tile) same ∙ k.is; agrees = k.agrees }
 
-known_before : (s : Sender) (c : Command) (x : ClientContext) (effect : Effect) (o : Option Pending) (ops : List WaitAt) (tracker : Tracked) → IsIssued s c x effect o ops tracker
+known_before : (s : Sender) (c : Command) (x : ClientContext) (effect : Effect) (o : Option Pending) (ops : Vec WaitAt Global) (tracker : Tracked) → IsIssued s c x effect o ops tracker
     → (tile : ℕ) → tile < s.count → ∥ Knows s.tracker tile (told s.decl (parcels_before (scene_of s) s.layout 0 tile (heard o (s.issued + 1) tile))) ∥₁
 known_before s c x effect None ops tracker h tile lt = known_at s tile (s.issued + 1) (quiet_next s tile (not_asked s c x effect None ops tracker h tile lt)) lt h.sending
 known_before s c x effect (Some p) ops tracker h tile lt =
@@ -163,7 +164,7 @@ known_before s c x effect (Some p) ops tracker h tile lt =
           (h.sending.known tile lt)
     ]
 
-known_next : (s : Sender) (c : Command) (x : ClientContext) (effect : Effect) (o : Option Pending) (ops : List WaitAt) (tracker : Tracked) → IsIssued s c x effect o ops tracker
+known_next : (s : Sender) (c : Command) (x : ClientContext) (effect : Effect) (o : Option Pending) (ops : Vec WaitAt Global) (tracker : Tracked) → IsIssued s c x effect o ops tracker
     → (tile : ℕ) → tile < s.count → ∥ Knows tracker tile (told s.decl (parcels_before (scene_of s) s.layout 0 tile (heard o (s.issued + 1) tile))) ∥₁
 known_next s c x effect o ops tracker h tile lt =
     ∥∥₁_map (known_before s c x effect o ops tracker h tile lt)
@@ -172,14 +173,14 @@ known_next s c x effect o ops tracker h tile lt =
 -- ---- what is pending
 
 -- the command sets the element, in the code's words and in the definition's
-sets_here : (s : Sender) (c : Command) (x : ClientContext) (effect : Effect) (o : Option Pending) (ops : List WaitAt) (tracker : Tracked) → IsIssued s c x effect o ops tracker
+sets_here : (s : Sender) (c : Command) (x : ClientContext) (effect : Effect) (o : Option Pending) (ops : Vec WaitAt Global) (tracker : Tracked) → IsIssued s c x effect o ops tracker
     → (e : ℕ) → sets_element c s.context.matrix_mode effect e ≡ marks_at (scene_of s) 0 s.issued e
 sets_here s c x effect o ops tracker h e =
     (λ i. sets_element c (h.sending.context i).matrix_mode (next_effect s c x effect o ops tracker h i) e)
     ∙ sets_are_marks (scene_of s) s.issued c h.command h.law e
 
 -- a tile that the command doesn't go to
-marked_quiet : (s : Sender) (c : Command) (x : ClientContext) (effect : Effect) (o : Option Pending) (ops : List WaitAt) (tracker : Tracked) → IsIssued s c x effect o ops tracker
+marked_quiet : (s : Sender) (c : Command) (x : ClientContext) (effect : Effect) (o : Option Pending) (ops : Vec WaitAt Global) (tracker : Tracked) → IsIssued s c x effect o ops tracker
     → (tile e : ℕ) → tile < s.count → e < element_count → tile < first_tile s.count o
     → pending tracker tile e ≡ is_pending (scene_of s) s.layout 0 tile (s.issued + 1) e
 marked_quiet s c x effect o ops tracker h tile e lt few first =
@@ -189,7 +190,7 @@ marked_quiet s c x effect o ops tracker h tile e lt few first =
     ∙ sym (quiet_pending (scene_of s) s.layout tile s.issued e (not_asked s c x effect o ops tracker h tile first))
 
 -- one that it goes to isn't given its parcel yet
-marked_asked : (s : Sender) (c : Command) (x : ClientContext) (effect : Effect) (p : Pending) (ops : List WaitAt) (tracker : Tracked) → IsIssued s c x effect (Some p) ops tracker
+marked_asked : (s : Sender) (c : Command) (x : ClientContext) (effect : Effect) (p : Pending) (ops : Vec WaitAt Global) (tracker : Tracked) → IsIssued s c x effect (Some p) ops tracker
     → (tile e : ℕ) → tile < s.count → e < element_count → pending tracker tile e ≡ is_pending (scene_of s) s.layout 0 tile s.issued e
 marked_asked s c x effect p ops tracker h tile e lt few =
     let all = h.sending.tiles in
@@ -197,7 +198,7 @@ marked_asked s c x effect p ops tracker h tile e lt few =
     h.marked tile e (omega (arith, lt, all))
     ∙ (λ i. (sets_here s c x effect (Some p) ops tracker h e ∙ unmarked (scene_of s) s.issued e p.act asks) i || h.sending.marked tile e lt few i)
 
-marked_next : (s : Sender) (c : Command) (x : ClientContext) (effect : Effect) (o : Option Pending) (ops : List WaitAt) (tracker : Tracked) → IsIssued s c x effect o ops tracker
+marked_next : (s : Sender) (c : Command) (x : ClientContext) (effect : Effect) (o : Option Pending) (ops : Vec WaitAt Global) (tracker : Tracked) → IsIssued s c x effect o ops tracker
     → (tile e : ℕ) → tile < s.count → e < element_count → pending tracker tile e ≡ is_pending (scene_of s) s.layout 0 tile (heard o (s.issued + 1) tile) e
 marked_next s c x effect None ops tracker h tile e lt few = marked_quiet s c x effect None ops tracker h tile e lt few lt
 marked_next s c x effect (Some p) ops tracker h tile e lt few =
@@ -210,7 +211,7 @@ marked_next s c x effect (Some p) ops tracker h tile e lt few =
           ∙ ap (λ (n : ℕ). is_pending (scene_of s) s.layout 0 tile n e) (sym (heard_more p (s.issued + 1) tile more ∙ h.pending.place_is))
     ]
 
-pending_next : (s : Sender) (c : Command) (x : ClientContext) (effect : Effect) (o : Option Pending) (ops : List WaitAt) (tracker : Tracked) → IsIssued s c x effect o ops tracker
+pending_next : (s : Sender) (c : Command) (x : ClientContext) (effect : Effect) (o : Option Pending) (ops : Vec WaitAt Global) (tracker : Tracked) → IsIssued s c x effect o ops tracker
     → IfSome o (IsPending (scene_of s) s.layout (s.issued + 1))
 pending_next s c x effect None ops tracker h = tt
 pending_next s c x effect (Some p) ops tracker h =
@@ -244,7 +245,7 @@ wait_place place (eff.Clear mask) w e = absurd cc
 wait_place place (eff.Shared part) w e = absurd cc
 wait_place place (eff.Sync op) w e = ap (λ (o : Option WaitAt). option_map_or (λ v. v.place) o place) e
 
-pub issued_sending : (s : Sender) (c : Command) (x : ClientContext) (effect : Effect) (o : Option Pending) (ops : List WaitAt) (tracker : Tracked) → IsIssued s c x effect o ops tracker
+pub issued_sending : (s : Sender) (c : Command) (x : ClientContext) (effect : Effect) (o : Option Pending) (ops : Vec WaitAt Global) (tracker : Tracked) → IsIssued s c x effect o ops tracker
     → IsSendingWith (record s { context = x; tracker = tracker; issued = s.issued + 1; pending = o; request = wait_in s.issued effect; ops = ops }) o
 issued_sending s c x effect o ops tracker h =
     let more = h.more in

@@ -1,5 +1,5 @@
 -- What is kept of a core is what its commands gave so far.
-use Rattle.std.proofs.Common.{◌≡◌, ◌∙◌, ℕ, zero, suc, ◌<◌, false, List, [], ◌∷◌, ◌++◌, length, sym, ap, arith}
+use Rattle.std.proofs.Common.{◌≡◌, ◌∙◌, ℕ, zero, suc, ◌<◌, List, [], ◌∷◌, ◌++◌, length, sym, ap, arith}
 use Rattle.std.specs.Prelude.{slice_index_or}
 use Rattle.rc_base.specs.Contexts.Context.{ClientContext}
 use Rattle.rc_base.specs.Contexts.Issue.{stream_of}
@@ -39,20 +39,20 @@ tallies_kept : (core : ClientCore) (kept : ClientKept) (tile : ℕ) → kept.tal
 unfolding tally_in
 tallies_kept core kept tile e = ap (λ (ts : List Tally). slice_index_or ts tile no_tally) e
 
-pub kept_is : (core : ClientCore) (scene : Scene) (client : ℕ) (l : Layout) (kept : ClientKept) → IsClientOf core scene client l → core.short ≡ false
-    → kept.syncs.ops ≡ core.sender.ops → kept.syncs.length ≡ length core.sender.stream → kept.faults ≡ core.sender.context.faults → kept.tallies ≡ core.tallies.items
+pub kept_is : (core : ClientCore) (scene : Scene) (client : ℕ) (l : Layout) (kept : ClientKept) → IsClientOf core scene client l
+    → kept.syncs.ops ≡ core.sender.ops.items → kept.syncs.length ≡ length core.sender.stream → kept.faults ≡ core.sender.context.faults → kept.tallies ≡ core.tallies.items
     → IsKept core scene client kept
-kept_is core scene client l kept whose ample ops size faults tallies =
-    let sending = (sound core).sending ample in
+kept_is core scene client l kept whose ops size faults tallies =
+    let issuing = (sound core).issuing in
     let n = core.sender.issued in
-    let within = sending.issued in
+    let within = issuing.issued in
     let same : length core.sender.stream ≡ length (stream_of scene client) = ap (λ (cs : List Command). length cs) whose.stream in
     record {
       within = omega (arith, within, same);
-      ops = ops ∙ sending.ops ∙ same_waits (scene_of core.sender) scene 0 client whose.decl whose.stream n;
+      ops = ops ∙ issuing.ops ∙ same_waits (scene_of core.sender) scene 0 client whose.decl whose.stream n;
       length_is = size ∙ same;
-      faults = faults ∙ ap (λ (x : ClientContext). x.faults) (sending.context ∙ same_contexts (scene_of core.sender) scene 0 client whose.decl whose.stream n);
+      faults = faults ∙ ap (λ (x : ClientContext). x.faults) (issuing.context ∙ same_contexts (scene_of core.sender) scene 0 client whose.decl whose.stream n);
       count = ap length tallies ∙ core.tallied ∙ core.count;
       tallies = λ tile. tallies_kept core kept tile tallies;
-      whole = λ none. ((sound core).over ample (ends_gone core none)).issued ∙ same;
+      whole = λ ample none. ((sound core).over ample (ends_gone core none)).issued ∙ same;
     }

@@ -1,3 +1,4 @@
+mod Storing
 mod Giving
 mod Marking
 mod Issuing

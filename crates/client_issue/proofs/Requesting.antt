@@ -4,7 +4,7 @@ use Rattle.std.specs.Prelude.{is_none, ◌&&◌}
 use Rattle.std.specs.declared.option.Option.{Option}
 use Rattle.rc_base.specs.Cluster.Sending.{ToManager, request_of}
 use Rattle.rc_base.specs.declared.sync.WaitAt.{WaitAt}
-use Rattle.client_issue.specs.Sequence.{scene_of, sent_from, pending_items, request_items, left_with, left_of, IsOver, IsSendingWith}
+use Rattle.client_issue.specs.Sequence.{scene_of, sent_from, pending_items, request_items, left_with, left_of, IsIssuing, IsOver, IsSendingWith}
 use Rattle.client_issue.specs.declared.pending.Pending.{Pending}
 use Rattle.client_issue.specs.declared.sender.Sender.{Sender}
 use Rattle.client_issue.proofs.Giving.{commands_end}
@@ -32,6 +32,10 @@ over_left s h = let none = both_none s.pending s.request h.resting in nothing_le
 
 pub over_of : (s : Sender) → s.pending ≡ None → s.request ≡ None → s.issued ≡ length s.stream → IsOver s
 over_of s rests asks over = record { resting = λ i. is_none (rests i) && is_none (asks i); issued = over }
+
+-- what was issued so far
+pub issuing_of : (s : Sender) (o : Option Pending) → IsSendingWith s o → IsIssuing s
+issuing_of s o h = record { issued = h.issued; context = h.context; ops = h.ops }
 
 -- the parcels that are pending may stand elsewhere
 pub with_pending : (s : Sender) (o q : Option Pending) → IsSendingWith s o → IsSendingWith (record s { pending = q }) o

@@ -120,6 +120,12 @@ pub record IsSame (a b : Sender) : Type 0 where
   pub layout : b.layout ≡ a.layout
   pub count : b.count ≡ a.count
 
+-- Of the commands issued so far a client has the context and the operations. That is so where memory was wanting, too.
+pub record IsIssuing (s : Sender) : Type 0 where
+  pub issued : s.issued ≤ length s.stream
+  pub context : s.context ≡ context_after (scene_of s) 0 s.issued
+  pub ops : s.ops.items ≡ waits_below (scene_of s) 0 s.issued
+
 -- A client that has issued some of its commands, of the last of which these parcels are pending, and knows what its tiles were told and which elements are
 -- pending to them.
 pub record IsSendingWith (s : Sender) (o : Option Pending) : Type 0 where
@@ -129,7 +135,7 @@ pub record IsSendingWith (s : Sender) (o : Option Pending) : Type 0 where
   pub tiles : s.count ≤ 32
   pub issued : s.issued ≤ length s.stream
   pub context : s.context ≡ context_after (scene_of s) 0 s.issued
-  pub ops : s.ops ≡ waits_below (scene_of s) 0 s.issued
+  pub ops : s.ops.items ≡ waits_below (scene_of s) 0 s.issued
   pub tracked : length s.tracker.told ≡ s.count
   pub known : (tile : ℕ) → tile < s.count → ∥ Knows s.tracker tile (told s.decl (parcels_before (scene_of s) s.layout 0 tile (heard o s.issued tile))) ∥₁
   pub marked : (tile e : ℕ) → tile < s.count → e < element_count
@@ -147,12 +153,13 @@ pub record IsOver (s : Sender) : Type 0 where
 
 -- ---- a core
 
--- What holds of a core's sender, the item that waits for its lane, the tile of the next End, and whether the core is short. One that isn't knows what
--- its tiles were told; the item that waits is of the command issued last, or an End; and the Ends come when all commands are over.
+-- What holds of a core's sender, the item that waits for its lane, the tile of the next End, and whether the core is short. It knows what it issued. One that
+-- isn't short knows what its tiles were told; the item that waits is of the command issued last, or an End; and the Ends come when all commands are over.
 pub record IsInOrder (s : Sender) (ready : Option Item) (ends : ℕ) (short : Bool) : Type 0 where
   pub fits : IfSome ready (IsForTile s.count)
   pub last : short ≡ false → ForSome ready (IsOfLast (length s.stream) s.issued)
   pub looked : ForSome ready (HasLooks (scene_of s) s.layout)
+  pub issuing : IsIssuing s
   pub sending : short ≡ false → IsSending s
   pub over : short ≡ false → 0 < ends → IsOver s
 

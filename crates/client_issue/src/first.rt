@@ -11,17 +11,17 @@ ghost use Rattle.client_issue.specs.Cores.{IsClientOf, issued_of, layout_of, lef
 ghost use Rattle.client_issue.specs.Sequence.{IsSending, alone, left_of, sent_from};
 
 use crate::client::ClientCore;
-use crate::copies::{copy_of_decl, copy_of_stream};
+use crate::copies::copy_of_decl;
 use crate::sender::Sender;
+use crate::stream::Stream;
 use cmd_pack::{Packed, encode_parcel};
 use gl_context::Context;
 use gl_context::laws::streams_go_on_by_issue;
 use rc_base::cluster::Tally;
-use rc_base::command::{Command, Commands};
+use rc_base::command::Command;
 use rc_base::out_of_memory::OutOfMemory;
 use rc_base::scene::{Decl, Scene};
 use rc_base::state::{Act, Parcel, Sets};
-use rc_base::sync::SyncOps;
 use rc_base::window::Layout;
 use state_update::Tracker;
 use state_update::laws::trackers_follow_parcels;
@@ -30,7 +30,7 @@ use std::alloc::Global;
 fn first_sender(
     alloc: Global,
     decl: &Decl,
-    stream: Commands,
+    stream: Stream,
     layout: &Layout,
     count: u8,
 ) -> Result<Sender, OutOfMemory>
@@ -62,7 +62,7 @@ fn first_sender(
         issued: 0,
         pending: None,
         request: None,
-        ops: SyncOps::new(alloc),
+        ops: Vec::new(alloc),
     })
 }
 
@@ -131,7 +131,7 @@ impl ClientCore {
     {
         let count = count_of(layout);
         let commands = commands_of(scene, client);
-        let stream = copy_of_stream(alloc, commands)?;
+        let stream = Stream::of(alloc, commands)?;
         let sender = first_sender(alloc, &scene.decl, stream, layout, count)?;
         let tallies = no_tallies(alloc, count)?;
         let last = end_parcels(alloc, count, commands.len() as u32)?;

@@ -5,7 +5,7 @@ ghost use Rattle.rc_base.specs.declared.state.ElementValue.{ElementValue};
 ghost use Rattle.cmd_pack.specs.Parcels.Spelling.{IsPackable};
 ghost use Rattle.state_update.specs.Knowledge.{HasBoundTexture, IsSettled, Knows, after_sets, pending};
 ghost use Rattle.client_issue.specs.Acts.{act_looks, act_sets, examines};
-ghost use Rattle.client_issue.specs.Sequence.{HasLooks, IsForTile, IsMade, IsOfLast, IsOver, IsSame, IsSending, IsSendingWith, left_of, left_with, item_of, items_of, scene_of};
+ghost use Rattle.client_issue.specs.Sequence.{HasLooks, IsForTile, IsIssuing, IsMade, IsOfLast, IsOver, IsSame, IsSending, IsSendingWith, left_of, left_with, item_of, items_of, scene_of};
 
 use crate::acts::next_tile;
 use crate::item::Item;
@@ -81,6 +81,7 @@ impl Sender {
         requires sending { IsSendingWith self.old (Some pending) }
         ensures same { IsSame self.old self.new }
         ensures sending { OnOk result (IsSending self.new) }
+        ensures issuing { IsIssuing self.new }
         ensures left { IfOk result (λ i. left_with self.old (Some pending) ≡ item_of i ∷ left_of self.new) }
         ensures tile { IfOk result (IsForTile self.old.count) }
         ensures looked { IfOk result (HasLooks (scene_of self.old) self.old.layout) }
@@ -142,6 +143,7 @@ impl Sender {
         requires over { self.old.request ≡ None → self.old.issued ≡ length self.old.stream }
         ensures same { IsSame self.old self.new }
         ensures sending { IsSending self.new }
+        ensures issuing { IsIssuing self.new }
         ensures left { left_of self.old ≡ items_of result ++ left_of self.new }
         ensures all { IfNone result (IsOver self.new) }
         ensures tile { IfSome result (IsForTile self.old.count) }
@@ -163,6 +165,7 @@ impl Sender {
         requires over { self.old.pending ≡ None → self.old.request ≡ None → self.old.issued ≡ length self.old.stream }
         ensures same { IsSame self.old self.new }
         ensures sending { OnOk result (IsSending self.new) }
+        ensures issuing { IsIssuing self.new }
         ensures left { IfOk result (λ o. left_of self.old ≡ items_of o ++ left_of self.new) }
         ensures all { IfOk result (λ o. IfNone o (IsOver self.new)) }
         ensures tile { IfOk result (λ o. IfSome o (IsForTile self.old.count)) }
@@ -181,6 +184,7 @@ impl Sender {
         requires { IsSending self.old }
         ensures same { IsSame self.old self.new }
         ensures sending { OnOk result (IsSending self.new) }
+        ensures issuing { IsIssuing self.new }
         ensures left { IfOk result (λ o. left_of self.old ≡ items_of o ++ left_of self.new) }
         ensures all { IfOk result (λ o. IfNone o (IsOver self.new)) }
         ensures tile { IfOk result (λ o. IfSome o (IsForTile self.old.count)) }

@@ -1,7 +1,8 @@
 //! Issuing the next command.
 ghost use Rattle.std.specs.Prelude.{◌≡◌, ℕ, ◌+◌, ◌<◌, ◌&&◌, ◌||◌, ◌++◌, false, is_none, length, OnOk, None};
 ghost use Rattle.std.specs.Option.{option_to_list};
-ghost use Rattle.client_issue.specs.Sequence.{IsSame, IsSending, left_of};
+ghost use Rattle.std.specs.Vec.{vec_capacity, vec_len};
+ghost use Rattle.client_issue.specs.Sequence.{IsIssuing, IsSame, IsSending, left_of};
 ghost use Rattle.client_issue.specs.Issued.{is_refused, sets_element, wait_in};
 ghost use Rattle.gl_context.specs.Arguments.{HasName};
 ghost use Rattle.state_update.specs.Knowledge.{pending};
@@ -13,7 +14,7 @@ use gl_context::marks;
 use rc_base::command::Command;
 use rc_base::out_of_memory::OutOfMemory;
 use rc_base::state::Effect;
-use rc_base::sync::{SyncOps, WaitAt};
+use rc_base::sync::WaitAt;
 use state_update::Tracker;
 
 // The operation of synchronisation that the effect is, if it is one.
@@ -26,13 +27,13 @@ fn wait_of(place: u32, effect: &Effect) -> Option<WaitAt>
     }
 }
 
-fn add(ops: &mut SyncOps, wait: Option<WaitAt>) -> Result<(), OutOfMemory>
-    ensures { OnOk result (ops.new ≡ ops.old ++ option_to_list wait) }
+fn add(ops: &mut Vec<WaitAt>, wait: Option<WaitAt>)
+    requires { vec_len ops.old < vec_capacity ops.old }
+    ensures { ops.new.items ≡ ops.old.items ++ option_to_list wait }
 {
     if let Some(wait) = wait {
-        ops.push(wait)?;
+        ops.push_reserved(wait);
     }
-    Ok(())
 }
 
 // Notes the element that the command set, where it was accepted.
@@ -66,17 +67,21 @@ impl Sender {
         ensures same { IsSame self.old self.new }
         ensures sending { OnOk result (IsSending self.new) }
         ensures left { OnOk result (left_of self.new ≡ left_of self.old) }
+        ensures issuing { IsIssuing self.new }
         ensures issued { OnOk result (self.new.issued ≡ self.old.issued + 1) }
     {
         commands_have_texels();
         streams_go_on_by_issue();
+        // room for its operation first: what was issued can then be noted
+        self.ops.reserve(1)?;
         let place = self.issued;
-        let command = &self.stream.as_slice()[place as usize];
+        let stored = self.stream.at(place as usize);
+        let command: &Command = &stored;
         let mode = self.context.matrix_mode();
         let effect = self.context.issue(place, command)?;
         note(&mut self.tracker, command, mode, &effect);
         let wait = wait_of(place, &effect);
-        add(&mut self.ops, wait)?;
+        add(&mut self.ops, wait);
         self.request = wait;
         self.pending = pending_of(
             &self.layout,

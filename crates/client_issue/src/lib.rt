@@ -18,6 +18,8 @@ pub mod laws;
 mod pending;
 mod sender;
 mod step;
+mod stored;
+mod stream;
 
 pub use client::{ClientCore, ClientKept};
 pub use copies::copy_of_decl;

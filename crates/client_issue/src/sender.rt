@@ -1,9 +1,9 @@
 //! What the commands of a client give, one item at a time.
 use crate::pending::Pending;
+use crate::stream::Stream;
 use gl_context::Context;
-use rc_base::command::Commands;
 use rc_base::scene::Decl;
-use rc_base::sync::{SyncOps, WaitAt};
+use rc_base::sync::WaitAt;
 use rc_base::window::Layout;
 use state_update::Tracker;
 use std::alloc::Global;
@@ -13,7 +13,7 @@ use std::alloc::Global;
 pub(crate) struct Sender {
     pub alloc: Global,
     pub decl: Decl,
-    pub stream: Commands,
+    pub stream: Stream,
     pub layout: Layout,
     pub count: u8,
     pub context: Context,
@@ -21,5 +21,5 @@ pub(crate) struct Sender {
     pub issued: u32,
     pub pending: Option<Pending>,
     pub request: Option<WaitAt>,
-    pub ops: SyncOps,
+    pub ops: Vec<WaitAt>,
 }

@@ -1,5 +1,5 @@
 -- What is kept of one client more.
-use Rattle.std.proofs.Common.{◌≡◌, ℕ, ◌+◌, ◌<◌, false, List, [], ◌∷◌, ◌++◌, length, sym, ap, ◌∙◌, subst, arith, length-append}
+use Rattle.std.proofs.Common.{◌≡◌, ℕ, ◌+◌, ◌<◌, List, [], ◌∷◌, ◌++◌, length, sym, ap, ◌∙◌, subst, arith, length-append}
 use Rattle.std.proofs.Math.ListN.{get_or-append}
 use Rattle.std.proofs.Math.Seq.{get_or-append_seam}
 use Rattle.std.proofs.lemmas.List.Sums.{sum_by_push}
@@ -12,7 +12,7 @@ use Rattle.rc_base.specs.declared.cluster.Tally.{Tally}
 use Rattle.rc_base.specs.declared.scene.Scene.{Scene}
 use Rattle.rc_base.specs.declared.sync.WaitAt.{WaitAt}
 use Rattle.rc_base.specs.declared.window.Layout.{Layout}
-use Rattle.client_issue.specs.Cores.{IsClientOf, short_of, no_tally, tally_of_tile}
+use Rattle.client_issue.specs.Cores.{IsClientOf, no_tally, tally_of_tile}
 use Rattle.client_issue.specs.Kept.{IsKept}
 use Rattle.client_issue.specs.declared.client.ClientCore.{ClientCore}
 use Rattle.client_issue.specs.declared.client.ClientKept.{ClientKept}
@@ -24,18 +24,18 @@ use Rattle.rc_base.proofs.Paired.{paired_more}
 
 -- what is kept of a core, whatever its scene
 abbrev IsKeptOf : ClientCore → ClientKept → Type 0
-IsKeptOf core kept = (scene : Scene) (client : ℕ) (l : Layout) → IsClientOf core scene client l → short_of core ≡ false → IsKept core scene client kept
+IsKeptOf core kept = (scene : Scene) (client : ℕ) (l : Layout) → IsClientOf core scene client l → IsKept core scene client kept
 
 is_row : (n : ℕ) (core : ClientCore) (kept : ClientKept) → IsKeptOf core kept → IsRowOf n core kept.syncs
 is_row n core kept k scene l sent =
-    let one = k scene n l sent.whose sent.ample in
-    ap (λ (o : List WaitAt). record { ops = o; length = kept.syncs.length }) (one.ops ∙ ap (λ m. waits_below scene n m) (one.whole sent.all))
+    let one = k scene n l sent.whose in
+    ap (λ (o : List WaitAt). record { ops = o; length = kept.syncs.length }) (one.ops ∙ ap (λ m. waits_below scene n m) (one.whole sent.ample sent.all))
     ∙ ap (λ (m : ℕ). record { ops = waits_below scene n (length (stream_of scene n)); length = m }) one.length_is
 
 are_faults : (n : ℕ) (core : ClientCore) (kept : ClientKept) → IsKeptOf core kept → AreFaultsOf n core kept.faults
 are_faults n core kept k scene l sent =
-    let one = k scene n l sent.whose sent.ample in
-    one.faults ∙ ap (λ m. (context_after scene n m).faults) (one.whole sent.all)
+    let one = k scene n l sent.whose in
+    one.faults ∙ ap (λ m. (context_after scene n m).faults) (one.whole sent.ample sent.all)
 
 front_sent : (scene : Scene) (l : Layout) (cores : List ClientCore) (core : ClientCore) → HaveSent scene l (cores ++ core ∷ []) → HaveSent scene l cores
 front_sent scene l cores core h = record {
@@ -64,7 +64,7 @@ sums_more cores core tiles old new kept k a h = record {
       let low : tile < length old = (let n = h.count in omega (arith, n, lt)) in
       let was = h.each scene l (front_sent scene l cores core sent) tile lt in
       let last = last_sent scene l cores core sent in
-      let one = (k scene (length cores) l last.whose last.ample).tallies tile in
+      let one = (k scene (length cores) l last.whose).tallies tile in
       let now = a.at tile low ∙ ap (λ t. together (slice_index_or old tile no_tally) t) one in
       record {
         parcels = ap (λ (t : Tally). t.parcels) now

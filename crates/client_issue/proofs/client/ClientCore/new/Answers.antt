@@ -15,6 +15,11 @@ use Rattle.client_issue.proofs.client.ClientCore.new.Goals as goal
 pub count_of-count-requires : goal.count_of-count-requires
 count_of-count-requires c = (tiles_within c.args.scene.now c.args.layout.now c.requires.layout.0 c.requires.layout.1).1
 
+pub of-requires : goal.of-requires
+of-requires c =
+    subst (λ (cs : List Command). length cs < 2 ^ 32) (sym c.commands_of-commands.ensures)
+    (few_commands c.args.scene.now c.requires.within.limits c.args.client)
+
 pub first_sender-requires-clause-few : goal.first_sender-requires-clause-few
 first_sender-requires-clause-few c =
     subst (λ (cs : List Command). length cs < 2 ^ 32) (sym (c.in_ok-stream.ensures ∙ c.commands_of-commands.ensures))
