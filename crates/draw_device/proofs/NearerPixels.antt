@@ -1,38 +1,81 @@
--- Pixels of which each became the one of a layer, where that is nearer.
-use Rattle.std.proofs.Common.{◌≡◌, ℕ, ◌<◌, List, length, inl, inr, sym, ap, subst, ◌∙◌, arith}
+-- Pixels that changed in a run and stay as they were beside them, by what contracts see of a device.
+use Rattle.std.proofs.Common.{◌≡◌, ℕ, ◌*◌, ◌<◌, ◌≤◌, List, inl, inr, refl, sym, ap, ◌∙◌, arith, ℤ, true, le-ltb}
 use Rattle.std.proofs.lemmas.Bool.{cases_lt}
-use Rattle.std.proofs.lemmas.List.{get_or_past}
-use Rattle.rc_base.specs.Colors.{rgba}
-use Rattle.rc_base.specs.declared.command.Rgba.{Rgba}
-use Rattle.rc_base.specs.declared.window.Pixel.{Pixel}
-use Rattle.fragment_ops.specs.DepthTests.{pixel}
-use Rattle.draw_device.specs.Devices.{DeviceView, EachTakes, pixel_index, pixel_of}
+use Rattle.rc_base.specs.Cluster.Tiles.{is_in_rect}
 use Rattle.rc_base.specs.Drawing.Nearer.{nearer}
-use Rattle.draw_device.specs.Pixels.{color_at, depth_at, pixel_at, pixels_of}
+use Rattle.rc_base.specs.Drawing.Serial.{blank_pixel}
+use Rattle.rc_base.specs.Drawing.Window.{depth_most}
+use Rattle.rc_base.specs.declared.window.Pixel.{Pixel}
+use Rattle.rc_base.specs.declared.window.Rect.{Rect}
+use Rattle.draw_device.specs.Beside.{IsBeside}
+use Rattle.draw_device.specs.Devices.{DeviceView, pixel_index, pixel_of}
+use Rattle.draw_device.specs.Pixels.{pixel_at}
 use Rattle.draw_device.specs.Shapes.{grid_rect}
 use Rattle.draw_device.specs.declared.extent.Extent.{Extent}
-use Rattle.draw_device.proofs.Lists.{pixel_in, length_pixels}
+use Rattle.draw_device.specs.declared.pixel_run.PixelRun.{PixelRun}
+use Rattle.draw_device.proofs.Places.{place_below}
 
-abbrev no_pixel : Pixel
-no_pixel = record { color = rgba 0 0 0 0; depth = 0 }
+-- one is kept that is at least as near
+kept_is : (a b : Pixel) → a.depth ≤ b.depth → nearer a b ≡ a
+kept_is a b le = rw (le-ltb _ _ le) refl
 
-pub nearer_pixels : (cs bs : List Rgba) (ds es : List ℕ) (layer : List Pixel) → length ds ≡ length cs → length layer ≡ length cs → length bs ≡ length cs → length es ≡ length ds
-    → ((k : ℕ) → k < length cs → pixel (color_at bs k) (depth_at es k) ≡ nearer (pixel (color_at cs k) (depth_at ds k)) (pixel_at layer k))
-    → (k : ℕ) → pixel_at (pixels_of bs es) k ≡ nearer (pixel_at (pixels_of cs ds) k) (pixel_at layer k)
-nearer_pixels cs bs ds es layer deep size colors depths each k = elim (cases_lt k (length cs)) [
-  | inl lt ↦
-      pixel_in bs es k (omega (arith, deep, colors, depths)) ∙ each k lt
-      ∙ ap (λ (p : Pixel). nearer p (pixel_at layer k)) (sym (pixel_in cs ds k deep))
-  | inr ge ↦
-      get_or_past (pixels_of bs es) k no_pixel (omega (arith, ge, colors, length_pixels bs es (omega (arith, deep, colors, depths))))
-      ∙ sym (
-      (λ i. nearer (get_or_past (pixels_of cs ds) k no_pixel (omega (arith, ge, length_pixels cs ds deep)) i) (get_or_past layer k no_pixel (omega (arith, ge, size)) i)))
-]
+module _ (g h : Extent) (old new : List Pixel) (before : DeviceView) (run : PixelRun) (seen : record { rect = grid_rect g; pixels = old } ≡ before) (same : h ≡ g)
+    (below : (k : ℕ) → k < run.from → pixel_at new k ≡ pixel_at old k) (above : (k : ℕ) → run.to ≤ k → pixel_at new k ≡ pixel_at old k) (x y : ℤ) where
+  abbrev place : ℕ
+  place = pixel_index before.rect x y
 
-pub view_nearer : (g h : Extent) (old new layer : List Pixel) (before : DeviceView) → record { rect = grid_rect g; pixels = old } ≡ before → h ≡ g
-    → ((k : ℕ) → pixel_at new k ≡ nearer (pixel_at old k) (pixel_at layer k))
-    → EachTakes (λ x y p. nearer p (pixel_at layer (pixel_index before.rect x y))) before (record { rect = grid_rect h; pixels = new })
+  old_is : pixel_at old place ≡ pixel_of before x y
+  unfolding pixel_of
+  old_is = ap (λ (v : DeviceView). pixel_at v.pixels place) seen
+
+  new_is : pixel_of (record { rect = grid_rect h; pixels = new }) x y ≡ pixel_at new place
+  unfolding pixel_of
+  new_is = ap (λ (e : Extent). pixel_at new (pixel_index (grid_rect e) x y)) same ∙ ap (λ (v : DeviceView). pixel_at new (pixel_index v.rect x y)) seen
+
+  -- a pixel beside the run is as it was
+  stays : IsBeside run before.rect x y → pixel_at new place ≡ pixel_of before x y
+  stays (inl lt) = below place lt ∙ old_is
+  stays (inr le) = above place le ∙ old_is
+
+  pub view_nearer : (layer : DeviceView) → layer.rect ≡ before.rect
+      → ((k : ℕ) → run.from ≤ k → k < run.to → pixel_at new k ≡ nearer (pixel_at old k) (pixel_at layer.pixels k))
+      → (IsBeside run before.rect x y → (pixel_of before x y).depth ≤ (pixel_of layer x y).depth)
+      → pixel_of (record { rect = grid_rect h; pixels = new }) x y ≡ nearer (pixel_of before x y) (pixel_of layer x y)
+  unfolding pixel_of
+  view_nearer layer rects among far =
+      let there : pixel_at layer.pixels place ≡ pixel_of layer x y = ap (λ (r : Rect). pixel_at layer.pixels (pixel_index r x y)) (sym rects) in
+      let kept = λ (b : IsBeside run before.rect x y). stays b ∙ sym (kept_is (pixel_of before x y) (pixel_of layer x y) (far b)) in
+      new_is ∙ elim (cases_lt place run.from) [
+        | inl lt ↦ kept (inl lt)
+        | inr ge ↦ elim (cases_lt place run.to) [
+          | inl less ↦ among place ge less ∙ (λ i. nearer (old_is i) (there i))
+          | inr past ↦ kept (inr past)
+        ]
+      ]
+
+  pub view_blank : ((k : ℕ) → run.from ≤ k → k < run.to → pixel_at new k ≡ blank_pixel)
+      → (IsBeside run before.rect x y → pixel_of before x y ≡ blank_pixel)
+      → pixel_of (record { rect = grid_rect h; pixels = new }) x y ≡ blank_pixel
+  view_blank among blank =
+      new_is ∙ elim (cases_lt place run.from) [
+        | inl lt ↦ stays (inl lt) ∙ blank (inl lt)
+        | inr ge ↦ elim (cases_lt place run.to) [
+          | inl less ↦ among place ge less
+          | inr past ↦ stays (inr past) ∙ blank (inr past)
+        ]
+      ]
+
+-- the depth of a pixel beside the run
+pub view_far : (g : Extent) (pixels : List Pixel) (view : DeviceView) (run : PixelRun) → record { rect = grid_rect g; pixels = pixels } ≡ view
+    → ((k : ℕ) → k < run.from → (pixel_at pixels k).depth ≡ depth_most) → ((k : ℕ) → run.to ≤ k → k < g.width * g.height → (pixel_at pixels k).depth ≡ depth_most)
+    → (x y : ℤ) → is_in_rect view.rect x y ≡ true → IsBeside run view.rect x y → (pixel_of view x y).depth ≡ depth_most
 unfolding pixel_of
-view_nearer g h old new layer before seen same each =
-    subst (λ (v : DeviceView). EachTakes (λ x y p. nearer p (pixel_at layer (pixel_index v.rect x y))) v (record { rect = grid_rect h; pixels = new })) seen
-    (λ x y inside. ap (λ (e : Extent). pixel_at new (pixel_index (grid_rect e) x y)) same ∙ each (pixel_index (grid_rect g) x y))
+view_far g pixels view run seen below above x y inside beside =
+    let place = pixel_index view.rect x y in
+    let is : pixel_at view.pixels place ≡ pixel_at pixels place = ap (λ (v : DeviceView). pixel_at v.pixels place) (sym seen) in
+    let in_grid : is_in_rect (grid_rect g) x y ≡ true = ap (λ (v : DeviceView). is_in_rect v.rect x y) seen ∙ inside in
+    let at : pixel_index (grid_rect g) x y ≡ place = ap (λ (v : DeviceView). pixel_index v.rect x y) seen in
+    ap (λ (p : Pixel). p.depth) is ∙ elim beside [
+      | inl lt ↦ below place lt
+      | inr le ↦ above place le (omega (arith, at, place_below g x y in_grid))
+    ]

@@ -121,3 +121,10 @@ pub blank_view : (g h : Extent) (pixels : List Pixel) (value : Pixel) (rect : Re
 blank_view g h pixels value rect same seen all x y e =
     (λ i. pixel_of (record { rect = grid_rect (same i); pixels = all i }) x y)
     ∙ each_blank g value x y (subst (λ (r : Rect). is_in_rect r x y ≡ true) (sym seen) e)
+
+-- the index of a pixel of the grid is one of its list
+pub place_below : (g : Extent) (x y : ℤ) → is_in_rect (grid_rect g) x y ≡ true → pixel_index (grid_rect g) x y < g.width * g.height
+place_below g x y e =
+    let p = place_of g x y e in
+    let at = (λ k. pixel_index (grid_rect g) (sym p.column k) (sym p.row k)) ∙ index_is g p.i p.j in
+    omega (arith, at, place_inside g.width g.height p.i p.j p.across p.upward)

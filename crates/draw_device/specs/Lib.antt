@@ -1,6 +1,7 @@
 pub mod Pixels
 pub mod Conditions
 pub mod Devices
+pub mod Beside
 pub mod Shapes
 pub mod Grids
 pub mod Loops

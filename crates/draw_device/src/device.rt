@@ -1,18 +1,21 @@
 //! The device.
-ghost use Rattle.std.specs.Prelude.{◌≡◌, ℕ, ℤ, pos, ◌+ℤ◌, ◌-ℤ◌, ◌≤ℤ◌, length, IfOk, true, None, Option};
+ghost use Rattle.std.specs.Prelude.{◌≡◌, ℕ, ◌≤◌, ℤ, pos, ◌+ℤ◌, ◌-ℤ◌, ◌≤ℤ◌, length, IfOk, true, None, Option};
 ghost use Rattle.rc_base.specs.Pictures.{Picture};
 ghost use Rattle.rc_base.specs.Cluster.Tiles.{is_in_rect};
 ghost use Rattle.rc_base.specs.Drawing.Nearer.{nearer};
 ghost use Rattle.rc_base.specs.Drawing.PixelStep.{effect_step};
 ghost use Rattle.rc_base.specs.Drawing.Serial.{blank_pixel};
+ghost use Rattle.rc_base.specs.Drawing.Window.{depth_most};
 ghost use Rattle.rc_base.specs.declared.state.Effect.TheVariants as eff;
 ghost use Rattle.textures.specs.Images.{texture_image};
 ghost use Rattle.draw_device.specs.Conditions.{IsDrawable, IsClearable, sampled_of, shared_of};
-ghost use Rattle.draw_device.specs.Devices.{IsDeviceRect, EachTakes, rect_size, pixel_index, pixel_of};
+ghost use Rattle.draw_device.specs.Devices.{IsDeviceRect, EachTakes, rect_size, pixel_of};
+ghost use Rattle.draw_device.specs.Beside.{IsBeside};
 ghost use Rattle.draw_device.specs.Pixels.{color_at, pixel_at};
 
 use crate::extent::Extent;
 use crate::grid::Grid;
+use crate::pixel_run::PixelRun;
 use rc_base::cluster::TilePart;
 use rc_base::command::Rgba;
 use rc_base::out_of_memory::OutOfMemory;
@@ -118,14 +121,38 @@ impl Device {
         self.grid.clear(state, mask);
     }
 
-    /// Each pixel of the rectangle becomes the one at its place of a layer, where that one is nearer. The layer has the rectangle's pixels, row by
-    /// row from the lowest, each row from the left.
-    pub fn take_nearer(&mut self, layer: &[Pixel])
-        requires { length layer.now ≡ rect_size self.old.rect }
+    /// Each pixel of the rectangle becomes that of a layer over the same rectangle, where the layer's is nearer. Only this run is gone through: no pixel
+    /// beside it may be nearer in the layer.
+    pub fn take_nearer(&mut self, layer: &Device, run: PixelRun)
+        requires rect { layer.now.rect ≡ self.old.rect }
+        requires order { run.from ≤ run.to }
+        requires inside { run.to ≤ rect_size self.old.rect }
+        requires beside { (x y : ℤ) → is_in_rect self.old.rect x y ≡ true → IsBeside run self.old.rect x y → (pixel_of self.old x y).depth ≤ (pixel_of layer.now x y).depth }
         ensures rect { self.new.rect ≡ self.old.rect }
-        ensures nearer { EachTakes (λ x y old. nearer old (pixel_at layer.now (pixel_index self.old.rect x y))) self.old self.new }
+        ensures nearer { EachTakes (λ x y old. nearer old (pixel_of layer.now x y)) self.old self.new }
     {
-        self.grid.take_nearer(layer);
+        self.grid.take_nearer(&layer.grid, run);
+    }
+
+    /// The run from the first pixel that is nearer than the far end to the last one.
+    pub fn drawn(&self) -> PixelRun
+        ensures order { result.from ≤ result.to }
+        ensures inside { result.to ≤ rect_size self.now.rect }
+        ensures beside { (x y : ℤ) → is_in_rect self.now.rect x y ≡ true → IsBeside result self.now.rect x y → (pixel_of self.now x y).depth ≡ depth_most }
+    {
+        self.grid.drawn()
+    }
+
+    /// Each pixel of the rectangle becomes black and transparent, and as far as can be. Only this run is gone through: each pixel beside it has to
+    /// be so.
+    pub fn blank(&mut self, run: PixelRun)
+        requires order { run.from ≤ run.to }
+        requires inside { run.to ≤ rect_size self.old.rect }
+        requires beside { (x y : ℤ) → is_in_rect self.old.rect x y ≡ true → IsBeside run self.old.rect x y → pixel_of self.old x y ≡ blank_pixel }
+        ensures rect { self.new.rect ≡ self.old.rect }
+        ensures blank { EachTakes (λ x y old. blank_pixel) self.old self.new }
+    {
+        self.grid.blank(run);
     }
 
     /// The pixel of the rectangle at a column and a row of the window.

@@ -16,6 +16,7 @@
 #![tactic(auto)]
 
 mod alpha;
+mod blank;
 mod blending;
 mod blends;
 mod block_setup;
@@ -31,6 +32,7 @@ mod grid;
 mod hidden;
 mod nearer;
 mod paint;
+mod pixel_run;
 mod pixels;
 mod plan;
 mod prepare;
@@ -49,3 +51,4 @@ mod writes;
 
 pub use device::Device;
 pub use nearer::nearer_of;
+pub use pixel_run::PixelRun;

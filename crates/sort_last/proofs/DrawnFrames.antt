@@ -1,13 +1,14 @@
 -- Clients that have drawn their frames.
-use Rattle.std.proofs.Common.{◌≡◌, ℕ, ◌+◌, ◌-◌, ◌<◌, ◌≤◌, List, [], ◌∷◌, ◌++◌, length, length-append, inl, inr, ap, sym, subst, ◌∙◌, arith, ℤ, pos}
-use Rattle.std.specs.Prelude.{fold, slice_index_or}
-use Rattle.std.proofs.lemmas.Bool.{cases_lt}
-use Rattle.std.proofs.lemmas.List.{get_or_append_left, get_or-append-add}
+use Rattle.std.proofs.Common.{◌≡◌, ℕ, ◌+◌, ◌-◌, ◌<◌, ◌≤◌, List, [], ◌∷◌, ◌++◌, length, length-append, inl, inr, ap, sym, subst, ◌∙◌, arith, ℤ}
+use Rattle.std.specs.Prelude.{fold, slice_index_or, slice_set}
+use Rattle.std.proofs.lemmas.Bool.{cases_eq, cases_lt}
+use Rattle.std.proofs.lemmas.Grind.{get_or-set_at}
+use Rattle.std.proofs.lemmas.List.{get_or_append_left, get_or-append-add, get_or-set_other, length-set}
 use Rattle.rc_base.specs.Formats.Within.{IsWithin}
 use Rattle.rc_base.specs.Contexts.Context.{ClientContext}
-use Rattle.rc_base.specs.Contexts.Issue.{context_after, stream_of}
-use Rattle.rc_base.specs.Drawing.Images.{Pixels}
+use Rattle.rc_base.specs.Contexts.Issue.{context_after}
 use Rattle.rc_base.specs.Drawing.Serial.{blank_pixel}
+use Rattle.rc_base.specs.Drawing.Window.{depth_most}
 use Rattle.rc_base.specs.Orders.Order.{names_from}
 use Rattle.rc_base.specs.Orders.Sync.{client_count, client_row, sync_row_of, sync_lists_of}
 use Rattle.rc_base.specs.declared.scene.Scene.{Scene}
@@ -16,19 +17,17 @@ use Rattle.rc_base.specs.declared.sync.SyncRow.{SyncRow}
 use Rattle.rc_base.specs.declared.window.Pixel.{Pixel}
 use Rattle.rc_base.proofs.WithinLimits.{clients_within}
 use Rattle.order_model.proofs.SceneListsAreWellFormed.{scene_client_count, scene_row}
+use Rattle.serial_render.specs.Steps.{Holds, window_of}
 use Rattle.sort_last.specs.Layers.{layer_pixel}
 use Rattle.sort_last.specs.Offends.{IsComposable}
-use Rattle.sort_last.specs.Players.{IsPicture, HasDrawn, HaveFrames, shows, draw_if, start_of}
-use Rattle.sort_last.specs.declared.layer.Layer.{Layer}
+use Rattle.sort_last.specs.Players.{IsSheet, HasDrawn, HaveDrawn, shows, draw_if, start_of}
 use Rattle.sort_last.specs.declared.play.Part.TheVariants as part
 use Rattle.sort_last.specs.declared.player.Player.{Player}
-use Rattle.sort_last.proofs.FrameBounds.{in_order, in_stream, frame_layer}
-
-pub same_picture : (w h : ℕ) (pixels : List Pixel) (f g : Pixels) → ((x y : ℤ) → f x y ≡ g x y) → IsPicture w h pixels f → IsPicture w h pixels g
-same_picture w h pixels f g e p = record { size = p.size; each = λ x y lx ly. p.each x y lx ly ∙ e (pos x) (pos y) }
-
-pub frames_to : (scene : Scene) (frame end : ℕ) → frame < end → HaveFrames scene end → HaveFrames scene (frame + 1)
-frames_to scene frame end lt have c inside = omega (arith, lt, have c inside)
+use Rattle.sort_last.specs.declared.sheet.Sheet.{Sheet}
+use Rattle.sort_last.proofs.ComposedFrames.{depths}
+use Rattle.sort_last.proofs.FrameBounds.{frame_layer}
+use Rattle.sort_last.proofs.FramesOfClients.{run_merges}
+use Rattle.sort_last.proofs.Nearer.{Merges, front_is}
 
 pub some_streams : (scene : Scene) → IsWithin scene → 0 < length scene.streams
 some_streams scene within = (clients_within scene within.limits).0
@@ -41,46 +40,98 @@ row_is scene syncs client row lt same is = is ∙ ap (λ (l : SyncLists). client
 pub is_client : (scene : Scene) (syncs : SyncLists) (client : ℕ) → client < length scene.streams → syncs ≡ sync_lists_of scene → client < client_count syncs
 is_client scene syncs client lt same = omega (arith, lt, ap client_count same, scene_client_count scene)
 
-module _ (scene : Scene) (d : IsComposable scene) (client frame : ℕ) (row : SyncRow) (lt : client < length scene.streams) (is : row ≡ sync_row_of scene client) (le : frame < length row.ops) where
-  inside : frame < length (sync_row_of scene client).ops
-  inside = omega (arith, le, ap (λ (r : SyncRow). length r.ops) is)
+-- what is far after a step that only puts something nearer was blank before
+far_is_blank : (g : Pixel → Pixel) → Merges g → (g blank_pixel).depth ≡ depth_most → g blank_pixel ≡ blank_pixel
+far_is_blank g m far = m blank_pixel (omega arith) ∙ front_is blank_pixel (g blank_pixel) (omega (arith, far))
 
-  pub span_order : (from to : ℕ) → from ≡ start_of row.ops frame → to ≡ start_of row.ops (frame + 1) → from ≤ to
-  span_order from to a b =
-      omega (arith, a, b, in_order scene d client lt frame inside, ap (λ (r : SyncRow). start_of r.ops frame) is, ap (λ (r : SyncRow). start_of r.ops (frame + 1)) is)
+-- so a pixel of a layer is blank where it is as far as can be
+pub layer_blank : (scene : Scene) → IsComposable scene → (client from count : ℕ) (x y : ℤ) (p : Pixel)
+    → p ≡ fold (draw_if scene x y (shows part.Layer scene)) blank_pixel (names_from client from count) → p.depth ≡ depth_most → p ≡ blank_pixel
+layer_blank scene d client from count x y p is far =
+    let names = names_from client from count in
+    is ∙ far_is_blank (λ p. fold (draw_if scene x y (shows part.Layer scene)) p names) (run_merges scene d (depths scene) x y names) (ap (λ (q : Pixel). q.depth) (sym is) ∙ far)
 
-  pub span_inside : (to : ℕ) → to ≡ start_of row.ops (frame + 1) → to ≤ length (stream_of scene client)
-  span_inside to b = omega (arith, b, in_stream scene d client lt frame inside, ap (λ (r : SyncRow). start_of r.ops (frame + 1)) is)
+-- one more frame
+pub frame_added : (scene : Scene) → IsComposable scene → (client frame : ℕ) → client < length scene.streams → frame < length (sync_row_of scene client).ops
+    → (first from to : ℕ) (x y : ClientContext) (s : Sheet) (old new : List Sheet) → first ≤ frame → frame < first + length old
+    → from ≡ start_of (sync_row_of scene client).ops frame → to ≡ start_of (sync_row_of scene client).ops (frame + 1) → y ≡ context_after scene client to
+    → IsSheet (window_of scene.decl.width scene.decl.height) s
+    → Holds s.device (λ x y. fold (draw_if scene x y (shows part.Layer scene)) blank_pixel (names_from client from (to - from)))
+    → new ≡ slice_set old (frame - first) s → HasDrawn scene client first frame x old → HasDrawn scene client first (frame + 1) y new
+frame_added scene d client frame lt inside first from to x y s old new low room a b c sheet holds items h =
+    let at = frame - first in
+    let size : length new ≡ length old = ap length items ∙ length-set old at s in
+    let here : Holds s.device (layer_pixel scene client (frame + 1)) =
+    λ x y within.
+    holds x y within
+    ∙ (λ i. fold (draw_if scene x y (shows part.Layer scene)) blank_pixel (names_from client (a i) (b i - a i)))
+    ∙ frame_layer scene d client lt frame inside x y in
+    let new_at = λ (k : ℕ) (m : Sheet) (e : k ≡ at). ap (λ ls. slice_index_or ls k m) items ∙ get_or-set_at old at k s m e (omega (arith, low, room)) in
+    let old_at = λ (k : ℕ) (m : Sheet) (ne : k ≡ at → ⊥). ap (λ ls. slice_index_or ls k m) items ∙ get_or-set_other old at k s m ne in
+    record {
+      context = c ∙ ap (context_after scene client) b;
+      over = λ k m less. elim (cases_eq k at) [
+        | inl e ↦ subst (IsSheet (window_of scene.decl.width scene.decl.height)) (sym (new_at k m e)) sheet
+        | inr ne ↦ subst (IsSheet (window_of scene.decl.width scene.decl.height)) (sym (old_at k m ne)) (h.over k m (omega (arith, less, size)))
+      ];
+      room = omega (arith, size, room);
+      each = λ k m less. elim (cases_eq k at) [
+        | inl e ↦
+            let index : frame + 1 ≡ first + k + 1 = omega (arith, e, low) in
+            subst (λ (n : Sheet). Holds n.device (layer_pixel scene client (first + k + 1))) (sym (new_at k m e))
+            (subst (λ j. Holds s.device (layer_pixel scene client j)) index here)
+        | inr ne ↦
+            subst (λ (n : Sheet). Holds n.device (layer_pixel scene client (first + k + 1))) (sym (old_at k m ne)) (h.each k m (before k ne less))
+      ];
+    }
+  where
+    before : (k : ℕ) → (k ≡ frame - first → ⊥) → first + k < frame + 1 → first + k < frame
+    before k ne less = elim (cases_lt (first + k) frame) [ inl lt ↦ lt | inr ge ↦ absurd (ne (omega (arith, ge, less))) ]
 
-  -- one more frame
-  pub frame_added : (first from to : ℕ) (x y : ClientContext) (l : Layer) (old new : List Layer) → from ≡ start_of row.ops frame → to ≡ start_of row.ops (frame + 1)
-      → y ≡ context_after scene client to
-      → IsPicture scene.decl.width scene.decl.height l.pixels (λ x y. fold (draw_if scene x y (shows part.Layer scene)) blank_pixel (names_from client from (to - from)))
-      → new ≡ old ++ l ∷ [] → HasDrawn scene client first frame x old → HasDrawn scene client first (frame + 1) y new
-  frame_added first from to x y l old new a b c picture items h =
-      let ops = (sync_row_of scene client).ops in
-      let a' : from ≡ start_of ops frame = a ∙ ap (λ (r : SyncRow). start_of r.ops frame) is in
-      let b' : to ≡ start_of ops (frame + 1) = b ∙ ap (λ (r : SyncRow). start_of r.ops (frame + 1)) is in
-      let size : length new ≡ length old + 1 = ap length items ∙ length-append old (l ∷ []) in
-      let here : IsPicture scene.decl.width scene.decl.height l.pixels (layer_pixel scene client (frame + 1)) =
-      same_picture scene.decl.width scene.decl.height l.pixels _ (layer_pixel scene client (frame + 1))
-      (λ x y. (λ i. fold (draw_if scene x y (shows part.Layer scene)) blank_pixel (names_from client (a' i) (b' i - a' i))) ∙ frame_layer scene d client lt frame inside x y) picture in
-      record {
-        context = c ∙ ap (context_after scene client) b';
-        count = omega (arith, size, h.count);
-        each = λ k m less. elim (cases_lt k (length old)) [
-          | inl before ↦
-              let same : slice_index_or new k m ≡ slice_index_or old k m = ap (λ ls. slice_index_or ls k m) items ∙ get_or_append_left old (l ∷ []) m k before in
-              subst (λ (n : Layer). IsPicture scene.decl.width scene.decl.height n.pixels (layer_pixel scene client (first + k + 1))) (sym same) (h.each k m before)
-          | inr ge ↦
-              let at : k ≡ length old + 0 = omega (arith, less, ge, size) in
-              let same : slice_index_or new k m ≡ l =
-              ap (λ ls. slice_index_or ls k m) items ∙ ap (λ j. slice_index_or (old ++ l ∷ []) j m) at ∙ get_or-append-add old (l ∷ []) 0 m in
-              let index : frame + 1 ≡ first + k + 1 = omega (arith, h.count, at) in
-              subst (λ (n : Layer). IsPicture scene.decl.width scene.decl.height n.pixels (layer_pixel scene client (first + k + 1))) (sym same)
-              (subst (λ j. IsPicture scene.decl.width scene.decl.height l.pixels (layer_pixel scene client j)) index here)
-        ];
-      }
+-- one more sheet
+pub sheet_pushed : (scene : Scene) (client first : ℕ) (x : ClientContext) (old new : List Sheet) (s : Sheet) → new ≡ old ++ s ∷ []
+    → IsSheet (window_of scene.decl.width scene.decl.height) s → HasDrawn scene client first first x old → HasDrawn scene client first first x new
+sheet_pushed scene client first x old new s items sheet h = record {
+  context = h.context;
+  over = λ k m lt. elim (cases_lt k (length old)) [
+    | inl less ↦
+        let same : slice_index_or new k m ≡ slice_index_or old k m = ap (λ ls. slice_index_or ls k m) items ∙ get_or_append_left old (s ∷ []) m k less in
+        subst (IsSheet (window_of scene.decl.width scene.decl.height)) (sym same) (h.over k m less)
+    | inr ge ↦
+        let at : k ≡ length old + 0 = omega (arith, lt, ge, ap length items, length-append old (s ∷ [])) in
+        let same : slice_index_or new k m ≡ s = ap (λ ls. slice_index_or ls k m) items ∙ ap (λ j. slice_index_or (old ++ s ∷ []) j m) at ∙ get_or-append-add old (s ∷ []) 0 m in
+        subst (IsSheet (window_of scene.decl.width scene.decl.height)) (sym same) sheet
+  ];
+  room = omega arith;
+  each = λ k m less. absurd (omega (arith, less));
+}
+
+-- a batch is done with
+pub drawn_on : (scene : Scene) (first end : ℕ) (players : List Player) → HaveDrawn scene first end players → HaveDrawn scene end end players
+drawn_on scene first end players h = record {
+  count = h.count;
+  each = λ client p lt.
+      let had = h.each client p lt in record { context = had.context; over = had.over; room = omega arith; each = λ k s less. absurd (omega (arith, less)) };
+}
+
+module _ (scene : Scene) (first frame end client : ℕ) (players : List Player) (p : Player) (low : first ≤ frame) (less : frame < end) (h : HaveDrawn scene first end players)
+    (lt : client < length players) (is : p ≡ slice_index_or players client p) where
+  had : HasDrawn scene client first end p.context p.sheets.items
+  had = subst (λ (q : Player). HasDrawn scene client first end q.context q.sheets.items) (sym is) (h.each client p (omega (arith, lt, h.count)))
+
+  -- a client has the sheet of a frame of the batch
+  pub sheet_inside : frame - first < length p.sheets.items
+  sheet_inside = omega (arith, low, less, had.room)
+
+  module _ (s : Sheet) (at : s ≡ slice_index_or p.sheets.items (frame - first) s) where
+    pub sheet_is : IsSheet (window_of scene.decl.width scene.decl.height) s
+    sheet_is = subst (IsSheet (window_of scene.decl.width scene.decl.height)) (sym at) (had.over (frame - first) s sheet_inside)
+
+    pub sheet_holds : Holds s.device (layer_pixel scene client (frame + 1))
+    sheet_holds =
+        let index : first + (frame - first) + 1 ≡ frame + 1 = omega (arith, low) in
+        subst (λ (m : Sheet). Holds m.device (layer_pixel scene client (frame + 1))) (sym at)
+        (subst (λ j. Holds (slice_index_or p.sheets.items (frame - first) s).device (layer_pixel scene client j)) index (had.each (frame - first) s (omega (arith, low, less))))
 
 -- one more client
 pub player_pushed : (P : ℕ → Player → Type 0) (old new : List Player) (p : Player) (n : ℕ) → length old ≡ n → new ≡ old ++ p ∷ []

@@ -276,13 +276,13 @@ module _ (scene : Scene) (d : IsComposable scene) where
     both_true true b h = h
     both_true false b h = absurd cc
 
-    cleared_depths : (j : ℕ) (p : Pixel) → p.depth ≤ depth_most → (cleared_pixel scene j x y p).depth ≤ depth_most
+    pub cleared_depths : (j : ℕ) (p : Pixel) → p.depth ≤ depth_most → (cleared_pixel scene j x y p).depth ≤ depth_most
     unfolding cleared_pixel
     cleared_depths j p le =
         subst (λ (q : Pixel). q.depth ≤ depth_most) (sym (canvas_is scene d x y (λ n. is_of_frame scene j n && clears scene n) (names_of scene 0) p))
         (within_cleared (λ n. is_of_frame scene j n && clears scene n) (λ n h. both_true (is_of_frame scene j n) (clears scene n) h) (names_of scene 0) p le)
 
-    frame_depths : (j : ℕ) → (frame j).depth ≤ depth_most
+    pub frame_depths : (j : ℕ) → (frame j).depth ≤ depth_most
     unfolding composed_pixel
     frame_depths zero = omega arith
     frame_depths (suc j) =

@@ -1,19 +1,21 @@
 //! The frames of a scene whose clients are drawn apart.
-ghost use Rattle.std.specs.Prelude.{◌≡◌, ◌+◌, ◌<◌, ◌≤◌, length, IfOk, OnOk};
+ghost use Rattle.std.specs.Prelude.{◌≡◌, ◌+◌, ◌<◌, ◌≤◌, length, map, fold, IfOk, OnOk};
+ghost use Rattle.std.specs.List.{range_with_len};
 ghost use Rattle.rc_base.specs.Formats.Within.{IsWithin};
-ghost use Rattle.rc_base.specs.Contexts.Issue.{context_after};
-ghost use Rattle.rc_base.specs.Orders.Sync.{sync_row_of, sync_lists_of};
+ghost use Rattle.rc_base.specs.Drawing.Nearer.{nearer};
+ghost use Rattle.rc_base.specs.Drawing.Window.{depth_most};
+ghost use Rattle.rc_base.specs.Orders.Sync.{sync_lists_of};
+ghost use Rattle.draw_device.specs.Devices.{EachTakes, pixel_of};
 ghost use Rattle.serial_render.specs.Shown.{images_of};
-ghost use Rattle.serial_render.specs.Steps.{Holds, window_of};
-ghost use Rattle.sort_last.specs.Layers.{composed_pixel};
+ghost use Rattle.serial_render.specs.Steps.{window_of};
+ghost use Rattle.sort_last.specs.Composed.{IsComposed, AreNear};
+ghost use Rattle.sort_last.specs.Layers.{composed_pixel, layer_pixel};
 ghost use Rattle.sort_last.specs.Offends.{IsComposable};
-ghost use Rattle.sort_last.specs.Players.{IsReady, HaveDrawn, HaveFrames, start_of};
+ghost use Rattle.sort_last.specs.Players.{IsReady, HaveDrawn, HaveFrames};
 
-use crate::layer::merge;
+use crate::apart::ApartScene;
 use crate::play::{Part, play};
-use crate::player::{
-    Player, are_whole, draw_layers, frame_end, frame_start, players_of, row_of, take_layers,
-};
+use crate::player::{Player, draw_batch, frame_names, player_at, players_of};
 use draw_device::Device;
 use gl_context::Context;
 use rc_base::image::Frames;
@@ -27,9 +29,6 @@ use textures::SharedSet;
 
 // So many pixels of a client are drawn ahead, eight bytes each.
 const PIXELS_AHEAD: usize = 1_048_576;
-
-// Below so many pixels a window is put together sooner than a thread is started.
-const SMALL_WINDOW: u32 = 65_536;
 
 // How many frames are drawn ahead in a window: as many as a client's layers of them have a million pixels, and one at least. So threads are started once for
 // much work, also where frames are small.
@@ -58,138 +57,150 @@ fn batch_end(first: usize, ahead: usize, count: usize) -> usize
     }
 }
 
-// How few layers are worth a thread: all eight of a window that is put together sooner than a thread is started.
-fn least_piece(decl: &Decl) -> usize {
-    if u32::from(decl.width) * u32::from(decl.height) < SMALL_WINDOW {
-        8
-    } else {
-        1
-    }
-}
-
-// The window goes on to the next frame: client 0's Clears of it, and then the clients' layers, put together, where they are nearer.
-fn compose_frame(
-    rt: &(impl Threads + Sync),
-    alloc: Global,
-    scene: &Scene,
-    syncs: &SyncLists,
-    shared: &SharedSet,
-    players: &mut [Player],
-    clears: &mut Context,
+// A frame's layers, clients rising, are put before the window where they are nearer.
+fn put_layers(
+    apart: &ApartScene<'_>,
+    players: &[Player],
     device: &mut Device,
+    first: usize,
     frame: usize,
     end: usize,
-) -> Result<(), OutOfMemory>
-    requires ready { IsReady scene.now shared.now }
-    requires syncs { syncs.now ≡ sync_lists_of scene.now }
+)
+    requires players { HaveDrawn apart.now.scene.now first end players.now }
+    requires low { first ≤ frame }
     requires order { frame < end }
-    requires frames { HaveFrames scene.now end }
-    requires players { HaveDrawn scene.now frame end players.old }
-    requires clears { clears.old ≡ context_after scene.now 0 (start_of (sync_row_of scene.now 0).ops frame) }
-    requires rect { device.old.rect ≡ window_of scene.now.decl.width scene.now.decl.height }
-    requires holds { Holds device.old (composed_pixel scene.now frame) }
-    ensures players { OnOk result (HaveDrawn scene.now (frame + 1) end players.new) }
-    ensures clears { OnOk result (clears.new ≡ context_after scene.now 0 (start_of (sync_row_of scene.now 0).ops (frame + 1))) }
-    ensures rect { OnOk result (device.new.rect ≡ device.old.rect) }
-    ensures holds { OnOk result (Holds device.new (composed_pixel scene.now (frame + 1))) }
+    requires rect { device.old.rect ≡ window_of apart.now.scene.now.decl.width apart.now.scene.now.decl.height }
+    requires near { AreNear device.old }
+    ensures rect { device.new.rect ≡ device.old.rect }
+    ensures drawn { EachTakes (λ x y p. fold nearer p (map (λ c. layer_pixel apart.now.scene.now c (frame + 1) x y) (range_with_len 0 (length apart.now.scene.now.streams)))) device.old device.new }
 {
+    let _apart = apart;
     let _end = end;
-    let layers = take_layers(alloc, players)?;
-    let merged = merge(rt, alloc, layers, least_piece(&scene.decl));
-    let row = row_of(syncs, 0);
-    let from = frame_start(row, frame);
-    let to = frame_end(row, frame);
-    play(Part::Clears, scene, 0, clears, device, shared, from, to)?;
-    device.take_nearer(merged.pixels.as_slice());
-    Ok(())
+    for client in 0..players.len() {
+        player_at(players, client)
+            .layer(frame - first)
+            .put_before(device);
+    }
 }
 
-// The frames from one to below another: each client draws its layers of them, and then they are put together frame by frame and shown.
-fn show_batch(
-    rt: &(impl Threads + Sync),
-    alloc: Global,
-    scene: &Scene,
-    syncs: &SyncLists,
-    shared: &SharedSet,
-    players: &mut [Player],
-    clears: &mut Context,
-    device: &mut Device,
-    frames: &mut Frames,
-    first: usize,
-    end: usize,
-) -> Result<(), OutOfMemory>
-    requires ready { IsReady scene.now shared.now }
-    requires syncs { syncs.now ≡ sync_lists_of scene.now }
-    requires order { first ≤ end }
-    requires frames { HaveFrames scene.now end }
-    requires players { HaveDrawn scene.now first first players.old }
-    requires clears { clears.old ≡ context_after scene.now 0 (start_of (sync_row_of scene.now 0).ops first) }
-    requires rect { device.old.rect ≡ window_of scene.now.decl.width scene.now.decl.height }
-    requires holds { Holds device.old (composed_pixel scene.now first) }
-    requires count { length frames.old ≡ first }
-    requires shown { frames.old ≡ images_of scene.now.decl (composed_pixel scene.now) first }
-    ensures players { OnOk result (HaveDrawn scene.now end end players.new) }
-    ensures clears { OnOk result (clears.new ≡ context_after scene.now 0 (start_of (sync_row_of scene.now 0).ops end)) }
-    ensures rect { OnOk result (device.new.rect ≡ device.old.rect) }
-    ensures holds { OnOk result (Holds device.new (composed_pixel scene.now end)) }
-    ensures count { OnOk result (length frames.new ≡ end) }
-    ensures shown { OnOk result (frames.new ≡ images_of scene.now.decl (composed_pixel scene.now) end) }
-{
-    draw_layers(rt, alloc, scene, syncs, shared, players, first, end);
-    if !are_whole(players) {
-        return Err(OutOfMemory);
+/// Clients that draw their layers, and the window and the frames that come of them.
+#[derive(Drop)]
+struct Composition {
+    players: Vec<Player>,
+    /// The context of client 0 behind the Clears that were carried out on the window.
+    clears: Context,
+    device: Device,
+    frames: Frames,
+}
+
+impl Composition {
+    // Before the first frame.
+    fn new(alloc: Global, scene: &Scene) -> Result<Composition, OutOfMemory>
+        ensures players { IfOk result (λ c. HaveDrawn scene.now 0 0 c.players.items) }
+        ensures composed { IfOk result (λ c. IsComposed scene.now 0 c) }
+    {
+        Ok(Composition {
+            players: players_of(alloc, scene)?,
+            clears: Context::new(alloc, &scene.decl)?,
+            device: Device::new(alloc, window(&scene.decl))?,
+            frames: Frames::new(alloc),
+        })
     }
-    for frame in first..end {
-        compose_frame(
-            rt, alloc, scene, syncs, shared, players, clears, device, frame, end,
+
+    // One more frame: client 0's Clears of it, and then the clients' layers where they are nearer.
+    fn compose_frame(
+        &mut self,
+        alloc: Global,
+        apart: &ApartScene<'_>,
+        first: usize,
+        frame: usize,
+        end: usize,
+    ) -> Result<(), OutOfMemory>
+        requires ready { IsReady apart.now.scene.now apart.now.shared.now }
+        requires syncs { apart.now.syncs.now ≡ sync_lists_of apart.now.scene.now }
+        requires low { first ≤ frame }
+        requires order { frame < end }
+        requires frames { HaveFrames apart.now.scene.now end }
+        requires players { HaveDrawn apart.now.scene.now first end self.old.players.items }
+        requires before { IsComposed apart.now.scene.now frame self.old }
+        ensures players { OnOk result (HaveDrawn apart.now.scene.now first end self.new.players.items) }
+        ensures after { OnOk result (IsComposed apart.now.scene.now (frame + 1) self.new) }
+    {
+        let names = frame_names(apart, 0, frame);
+        play(
+            Part::Clears,
+            apart,
+            names,
+            &mut self.clears,
+            &mut self.device,
         )?;
-        show_up_to(alloc, &scene.decl, device, frames, frame + 1)?;
-    }
-    Ok(())
-}
-
-// So many frames, from players and a window that stand before the first one.
-fn show_frames(
-    rt: &(impl Threads + Sync),
-    alloc: Global,
-    scene: &Scene,
-    syncs: &SyncLists,
-    shared: &SharedSet,
-    players: &mut [Player],
-    clears: &mut Context,
-    device: &mut Device,
-    count: usize,
-) -> Result<Frames, OutOfMemory>
-    requires ready { IsReady scene.now shared.now }
-    requires syncs { syncs.now ≡ sync_lists_of scene.now }
-    requires frames { HaveFrames scene.now count }
-    requires players { HaveDrawn scene.now 0 0 players.old }
-    requires clears { clears.old ≡ context_after scene.now 0 0 }
-    requires rect { device.old.rect ≡ window_of scene.now.decl.width scene.now.decl.height }
-    requires holds { Holds device.old (composed_pixel scene.now 0) }
-    ensures { IfOk result (λ v. v ≡ images_of scene.now.decl (composed_pixel scene.now) count) }
-{
-    let ahead = frames_ahead(&scene.decl);
-    let mut frames = Frames::new(alloc);
-    let mut first = 0;
-    'batches: while first < count {
-        let end = batch_end(first, ahead, count);
-        show_batch(
-            rt,
-            alloc,
-            scene,
-            syncs,
-            shared,
-            players,
-            clears,
-            device,
-            &mut frames,
+        put_layers(
+            apart,
+            self.players.as_slice(),
+            &mut self.device,
             first,
+            frame,
             end,
+        );
+        show_up_to(
+            alloc,
+            &apart.scene.decl,
+            &self.device,
+            &mut self.frames,
+            frame + 1,
         )?;
-        first = end;
+        Ok(())
     }
-    Ok(frames)
+
+    // The frames from one to below another: each client draws its layers of them, and then they are put together frame by frame and shown.
+    fn show_batch(
+        &mut self,
+        rt: &(impl Threads + Sync),
+        alloc: Global,
+        apart: &ApartScene<'_>,
+        first: usize,
+        end: usize,
+    ) -> Result<(), OutOfMemory>
+        requires ready { IsReady apart.now.scene.now apart.now.shared.now }
+        requires syncs { apart.now.syncs.now ≡ sync_lists_of apart.now.scene.now }
+        requires order { first ≤ end }
+        requires frames { HaveFrames apart.now.scene.now end }
+        requires players { HaveDrawn apart.now.scene.now first first self.old.players.items }
+        requires before { IsComposed apart.now.scene.now first self.old }
+        ensures players { OnOk result (HaveDrawn apart.now.scene.now end end self.new.players.items) }
+        ensures after { OnOk result (IsComposed apart.now.scene.now end self.new) }
+    {
+        draw_batch(rt, alloc, apart, self.players.as_mut_slice(), first, end)?;
+        for frame in first..end {
+            self.compose_frame(alloc, apart, first, frame, end)?;
+        }
+        Ok(())
+    }
+
+    // So many frames in all.
+    fn show_frames(
+        &mut self,
+        rt: &(impl Threads + Sync),
+        alloc: Global,
+        apart: &ApartScene<'_>,
+        count: usize,
+    ) -> Result<(), OutOfMemory>
+        requires ready { IsReady apart.now.scene.now apart.now.shared.now }
+        requires syncs { apart.now.syncs.now ≡ sync_lists_of apart.now.scene.now }
+        requires frames { HaveFrames apart.now.scene.now count }
+        requires players { HaveDrawn apart.now.scene.now 0 0 self.old.players.items }
+        requires before { IsComposed apart.now.scene.now 0 self.old }
+        ensures { OnOk result (IsComposed apart.now.scene.now count self.new) }
+    {
+        let ahead = frames_ahead(&apart.scene.decl);
+        let mut first = 0;
+        'batches: while first < count {
+            let end = batch_end(first, ahead, count);
+            self.show_batch(rt, alloc, apart, first, end)?;
+            first = end;
+        }
+        Ok(())
+    }
 }
 
 /// So many frames of a scene whose clients are drawn apart.
@@ -207,18 +218,12 @@ pub(crate) fn draw_frames(
     ensures { IfOk result (λ v. v ≡ images_of scene.now.decl (composed_pixel scene.now) count) }
 {
     let shared = SharedSet::new(alloc, &scene.decl.shared)?;
-    let mut players = players_of(alloc, scene)?;
-    let mut clears = Context::new(alloc, &scene.decl)?;
-    let mut device = Device::new(alloc, window(&scene.decl))?;
-    show_frames(
-        rt,
-        alloc,
+    let apart = ApartScene {
         scene,
         syncs,
-        &shared,
-        &mut players,
-        &mut clears,
-        &mut device,
-        count,
-    )
+        shared: &shared,
+    };
+    let mut composition = Composition::new(alloc, scene)?;
+    composition.show_frames(rt, alloc, &apart, count)?;
+    Ok(composition.frames)
 }

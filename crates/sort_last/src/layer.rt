@@ -1,16 +1,11 @@
 //! Layers, and putting them together.
-ghost use Rattle.std.specs.Prelude.{◌≡◌, ℕ, ◌<◌, ◌≤◌, length, map, fold, [], slice_index_or};
-ghost use Rattle.rc_base.specs.Drawing.Window.{depth_most};
+ghost use Rattle.std.specs.Prelude.{◌≡◌, ℕ, ◌<◌, length};
 ghost use Rattle.rc_base.specs.Drawing.Nearer.{nearer};
 ghost use Rattle.sort_last.specs.Layers.{pixel_in, composite_of};
-ghost use Rattle.sort_last.specs.declared.layer.Layer.{Layer as TheLayer};
 
 use draw_device::nearer_of;
-use rayon::prelude::*;
 use rc_base::command::Rgba;
 use rc_base::window::{Pixel, Pixels};
-use std::alloc::Global;
-use std::thread::Threads;
 
 /// What one client draws of a frame, or several clients put together: the window's pixels, row by row from the lowest, each row from the left.
 ///
@@ -82,29 +77,4 @@ pub fn composite(a: Layer, b: Layer) -> Layer
             pixels: Pixels::from_vec(second),
         }
     }
-}
-
-/// Layers put together in their order, by as many threads as there are processors, in pieces of at least so many.
-pub(crate) fn merge(
-    rt: &(impl Threads + Sync),
-    alloc: Global,
-    layers: Vec<Layer>,
-    least: usize,
-) -> Layer
-    requires near { (i k : ℕ) → (pixel_in (slice_index_or layers.items i (record { pixels = [] })).pixels k).depth ≤ depth_most }
-    ensures { result.pixels ≡ fold composite_of [] (map (λ (l : TheLayer). l.pixels) layers.items) }
-{
-    layers.into_par_iter().with_min_len(least).reduce(
-        rt,
-        || -> Layer
-            ensures { result.pixels ≡ [] }
-        {
-            Layer {
-                pixels: Pixels::new(alloc),
-            }
-        },
-        |a: Layer, b: Layer| -> Layer
-            ensures { result.pixels ≡ composite_of a.pixels b.pixels }
-        { composite(a, b) },
-    )
 }

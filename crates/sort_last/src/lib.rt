@@ -6,6 +6,7 @@
 //! threads.
 #![tactic(auto)]
 
+mod apart;
 mod compose;
 mod last;
 mod laws;
@@ -13,6 +14,7 @@ mod layer;
 mod offence;
 mod play;
 mod player;
+mod sheet;
 
 pub use last::{LastFault, LastRun, render_last, render_surveyed};
 pub use laws::{composite_is_associative, layers_compose_to_frames, layers_have_a_unit};

@@ -9,10 +9,10 @@ ghost use Rattle.draw_device.specs.Devices.{EachTakes};
 ghost use Rattle.sort_last.specs.Layers.{is_clear};
 ghost use Rattle.sort_last.specs.Players.{IsReady, shows_effect, shows, draw_if};
 
+use crate::apart::{ApartScene, ClientNames};
 use draw_device::Device;
 use gl_context::Context;
 use rc_base::out_of_memory::OutOfMemory;
-use rc_base::scene::Scene;
 use rc_base::state::Effect;
 use stream_replay::issue_at;
 use textures::SharedSet;
@@ -66,28 +66,26 @@ fn carry_out(
     }
 }
 
-/// Issues the client's commands from one place to below another, and carries out those of the part.
+/// Issues these commands of a client, and carries out those of the part.
 pub(crate) fn play(
     part: Part,
-    scene: &Scene,
-    client: usize,
+    apart: &ApartScene<'_>,
+    names: ClientNames,
     context: &mut Context,
     device: &mut Device,
-    shared: &SharedSet,
-    from: usize,
-    to: usize,
 ) -> Result<(), OutOfMemory>
-    requires ready { IsReady scene.now shared.now }
-    requires order { from ≤ to }
-    requires inside { to ≤ length (stream_of scene.now client) }
-    requires before { context.old ≡ context_after scene.now client from }
-    ensures context { OnOk result (context.new ≡ context_after scene.now client to) }
+    requires ready { IsReady apart.now.scene.now apart.now.shared.now }
+    requires order { names.from ≤ names.to }
+    requires inside { names.to ≤ length (stream_of apart.now.scene.now names.client) }
+    requires before { context.old ≡ context_after apart.now.scene.now names.client names.from }
+    ensures context { OnOk result (context.new ≡ context_after apart.now.scene.now names.client names.to) }
     ensures rect { OnOk result (device.new.rect ≡ device.old.rect) }
-    ensures drawn { OnOk result (EachTakes (λ x y p. fold (draw_if scene.now x y (shows part scene.now)) p (names_from client from (to - from))) device.old device.new) }
+    ensures drawn { OnOk result (EachTakes
+        (λ x y p. fold (draw_if apart.now.scene.now x y (shows part apart.now.scene.now)) p (names_from names.client names.from (names.to - names.from))) device.old device.new) }
 {
-    for place in from..to {
-        let effect = issue_at(context, scene, client, place)?;
-        carry_out(part, &effect, context, device, shared);
+    for place in names.from..names.to {
+        let effect = issue_at(context, apart.scene, names.client, place)?;
+        carry_out(part, &effect, context, device, apart.shared);
         context.take_back(effect);
     }
     Ok(())

@@ -7,6 +7,7 @@ returns c client =
     let none = ap length c.new-2.ensures.items in
     record {
       context = c.in_ok-new.ensures ∙ sym (begins c.args.scene.now client);
-      count = omega (arith, none);
-      each = λ k l lt. absurd (omega (arith, lt, none));
+      over = λ k s lt. absurd (omega (arith, lt, none));
+      room = omega arith;
+      each = λ k s lt. absurd (omega (arith, lt));
     }
