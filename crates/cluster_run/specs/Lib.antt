@@ -5,6 +5,7 @@ pub mod Managers
 pub mod Tiles
 pub mod Clusters
 pub mod NewWorkers
+pub mod Coreless
 pub mod Apart
 pub mod Fronts
 pub mod Serving

@@ -2,8 +2,11 @@
 ghost use Rattle.std.specs.Prelude.{◌≡◌, ◌<◌, ◌≤◌, ℕ, length, slice_index_or, IfOk};
 ghost use Rattle.rc_base.specs.Cluster.Tiles.{tile_count};
 ghost use Rattle.rc_base.specs.Formats.Within.{IsWithin, IsLayoutFor};
-ghost use Rattle.cluster_run.specs.NewWorkers.{IsNewClient, AreNewClients};
+ghost use Rattle.rc_base.specs.Lists.{ArePaired};
+ghost use Rattle.cluster_run.specs.NewWorkers.{AreNewClients};
+ghost use Rattle.cluster_run.specs.Coreless.{AreWaitingClients, IsClientFor, MayGetCore};
 
+use crate::gathered::all_made;
 use crate::workers::ClientWorker;
 use client_issue::ClientCore;
 use client_issue::laws::clients_meet_their_clause;
@@ -13,6 +16,8 @@ use rc_base::scene::Scene;
 use rc_base::sync::Request;
 use rc_base::window::Layout;
 use std::alloc::Global;
+use std::thread;
+use std::thread::Threads;
 use tile_queues::{LaneIn, LaneOut, lane};
 
 /// The workers of all clients, and the manager's ends of their lanes.
@@ -22,23 +27,39 @@ pub(crate) struct NewClients<R> {
     pub(crate) requests: Vec<LaneOut<Request, R>>,
 }
 
+/// A client's worker to be: it lacks its core.
+#[derive(Drop)]
+pub(crate) struct Coreless<R> {
+    number: u8,
+    tiles: Vec<LaneIn<Packed, R>>,
+    requests: LaneIn<Request, R>,
+}
+
+/// The workers to be of all clients, and the manager's ends of their lanes.
+#[derive(Drop)]
+struct Waiting<R> {
+    workers: Vec<Coreless<R>>,
+    requests: Vec<LaneOut<Request, R>>,
+}
+
 /// The worker of a client that has sent nothing.
 fn new_client<R: Drop>(
     alloc: Global,
     scene: &Scene,
     layout: &Layout,
-    number: u8,
-    tiles: Vec<LaneIn<Packed, R>>,
-    requests: LaneIn<Request, R>,
+    waiting: Coreless<R>,
 ) -> Result<ClientWorker<R>, OutOfMemory>
-    requires number { number < length scene.now.streams }
     requires within { IsWithin scene.now }
     requires layout { (depth : ℕ) × IsLayoutFor scene.now layout.now depth }
-    requires lanes { length tiles.items ≡ tile_count layout.now }
-    ensures new { IfOk result (λ w. IsNewClient scene.now layout.now number tiles w) }
-    ensures requests { IfOk result (λ w. w.requests ≡ requests) }
+    requires may { MayGetCore scene.now layout.now waiting }
+    ensures { IfOk result (λ w. IsClientFor scene.now layout.now waiting w) }
 {
     clients_meet_their_clause();
+    let Coreless {
+        number,
+        tiles,
+        requests,
+    } = waiting;
     let core = ClientCore::new(alloc, scene, number, layout)?;
     Ok(ClientWorker {
         number,
@@ -49,8 +70,102 @@ fn new_client<R: Drop>(
     })
 }
 
+/// A worker to be for each row of ends, with a new lane to the manager.
+fn waiting_clients<R: Copy>(
+    rt: R,
+    alloc: Global,
+    depth: usize,
+    rows: Vec<Vec<LaneIn<Packed, R>>>,
+) -> Result<Waiting<R>, OutOfMemory>
+    requires few { length rows.items ≤ 8 }
+    requires depth { (1 ≤ depth) × (depth ≤ 16) }
+    ensures { IfOk result (λ new. AreWaitingClients depth rows.items new.workers.items new.requests.items) }
+{
+    let mut workers = Vec::new(alloc);
+    let mut requests = Vec::new(alloc);
+    for tiles in rows {
+        let number = workers.len() as u8;
+        let (sender, receiver) = lane(rt, alloc, depth)?;
+        workers.push(Coreless {
+            number,
+            tiles,
+            requests: sender,
+        })?;
+        requests.push(receiver)?;
+    }
+    Ok(Waiting { workers, requests })
+}
+
+/// The workers with their cores, one made after the other.
+fn in_turn<R: Copy>(
+    alloc: Global,
+    scene: &Scene,
+    layout: &Layout,
+    waiting: Vec<Coreless<R>>,
+) -> Result<Vec<ClientWorker<R>>, OutOfMemory>
+    requires within { IsWithin scene.now }
+    requires layout { (depth : ℕ) × IsLayoutFor scene.now layout.now depth }
+    requires may { (c : ℕ) (d : _) → c < length waiting.items → MayGetCore scene.now layout.now (slice_index_or waiting.items c d) }
+    ensures { IfOk result (λ new. ArePaired (λ _ e w. IsClientFor scene.now layout.now e w) waiting.items new.items) }
+{
+    let mut workers = Vec::new(alloc);
+    for ends in waiting {
+        workers.push(new_client(alloc, scene, layout, ends)?)?;
+    }
+    Ok(workers)
+}
+
+/// The workers with their cores, made in threads beside each other.
+fn side_by_side<R: Threads + Copy + Send + Sync + Drop>(
+    rt: R,
+    alloc: Global,
+    scene: &Scene,
+    layout: &Layout,
+    waiting: Vec<Coreless<R>>,
+) -> Result<Vec<ClientWorker<R>>, OutOfMemory>
+    requires within { IsWithin scene.now }
+    requires layout { (depth : ℕ) × IsLayoutFor scene.now layout.now depth }
+    requires may { (c : ℕ) (d : _) → c < length waiting.items → MayGetCore scene.now layout.now (slice_index_or waiting.items c d) }
+    ensures { IfOk result (λ new. ArePaired (λ _ e w. IsClientFor scene.now layout.now e w) waiting.items new.items) }
+{
+    let make = |ends: Coreless<R>| -> Result<ClientWorker<R>, OutOfMemory>
+        requires { IsWithin scene.now × ((depth : ℕ) × IsLayoutFor scene.now layout.now depth) × MayGetCore scene.now layout.now ends }
+        ensures { IfOk result (λ w. IsClientFor scene.entry.now layout.entry.now ends w) }
+    { new_client(alloc, scene, layout, ends) };
+    all_made(alloc, thread::map_vec(&rt, waiting, &make)?)
+}
+
+/// How many commands a client has at least for whose copy a thread is worth its making, which takes some 50 microseconds.
+const MANY: usize = 4096;
+
+/// The workers with their cores, each of which copies its client's commands: beside each other where some client has many.
+fn with_cores<R: Threads + Copy + Send + Sync + Drop>(
+    rt: R,
+    alloc: Global,
+    scene: &Scene,
+    layout: &Layout,
+    waiting: Vec<Coreless<R>>,
+) -> Result<Vec<ClientWorker<R>>, OutOfMemory>
+    requires within { IsWithin scene.now }
+    requires layout { (depth : ℕ) × IsLayoutFor scene.now layout.now depth }
+    requires may { (c : ℕ) (d : _) → c < length waiting.items → MayGetCore scene.now layout.now (slice_index_or waiting.items c d) }
+    ensures { IfOk result (λ new. ArePaired (λ _ e w. IsClientFor scene.now layout.now e w) waiting.items new.items) }
+{
+    let mut is_long = false;
+    for commands in scene.streams.as_slice() {
+        if MANY <= commands.len() {
+            is_long = true;
+        }
+    }
+    if is_long {
+        side_by_side(rt, alloc, scene, layout, waiting)
+    } else {
+        in_turn(alloc, scene, layout, waiting)
+    }
+}
+
 /// A worker for each row of ends, with a new lane to the manager.
-pub(crate) fn new_clients<R: Copy>(
+pub(crate) fn new_clients<R: Threads + Copy + Send + Sync + Drop>(
     rt: R,
     alloc: Global,
     scene: &Scene,
@@ -66,13 +181,10 @@ pub(crate) fn new_clients<R: Copy>(
     requires lanes { (c : ℕ) (d : _) → c < length rows.items → length (slice_index_or rows.items c d).items ≡ tile_count layout.now }
     ensures { IfOk result (λ new. AreNewClients scene.now layout.now depth rows.items new.workers.items new.requests.items) }
 {
-    let mut workers = Vec::new(alloc);
-    let mut requests = Vec::new(alloc);
-    for tiles in rows {
-        let number = workers.len() as u8;
-        let (sender, receiver) = lane(rt, alloc, depth)?;
-        workers.push(new_client(alloc, scene, layout, number, tiles, sender)?)?;
-        requests.push(receiver)?;
-    }
-    Ok(NewClients { workers, requests })
+    let waiting = waiting_clients(rt, alloc, depth, rows)?;
+    let workers = with_cores(rt, alloc, scene, layout, waiting.workers)?;
+    Ok(NewClients {
+        workers,
+        requests: waiting.requests,
+    })
 }

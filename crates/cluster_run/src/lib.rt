@@ -17,6 +17,7 @@ mod client;
 mod clients;
 mod cores;
 mod crew;
+mod gathered;
 pub mod laws;
 mod manager;
 mod on_the_way;
