@@ -10,6 +10,8 @@ mod commands;
 #[cfg(test)]
 mod contexts;
 #[cfg(test)]
+mod elements;
+#[cfg(test)]
 mod ends;
 #[cfg(test)]
 mod generated;

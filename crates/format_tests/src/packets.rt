@@ -1,6 +1,7 @@
 //! Streams by hand: every command byte for byte, packets of 1,024, and the first fault of bytes that spell nothing.
-use cmd_pack::{PackFault, decode, decode_within, encode};
+use cmd_pack::{PackFault, decode, decode_lists, decode_lists_within, decode_within, encode};
 use rc_base::command::{Command, Commands, Mat4, Part, Rgba, Texels};
+use rc_base::list_command::{ListCommand, ListCommands};
 use rc_base::out_of_memory::OutOfMemory;
 use std::alloc::Global;
 
@@ -221,4 +222,51 @@ fn what_has_no_room_is_counted(rt: HostRuntime) {
     bytes.push(1).expect(&rt, "memory");
     let fault = PackFault::Truncated { at: bytes.len() };
     assert!(rt; counted(rt.alloc(), 0, bytes.as_slice()) == Err(fault));
+}
+
+// A list of one Swap is made, and called.
+const LIST_COMMANDS: [u8; 8] = [4, 0, 0x25, 0x24, 0x26, 0x27, 7, 7];
+
+fn list_commands(alloc: Global) -> Result<ListCommands, OutOfMemory> {
+    let mut commands = ListCommands::new(alloc);
+    commands.push(ListCommand::NewList(7))?;
+    commands.push(ListCommand::Plain(Command::Swap))?;
+    commands.push(ListCommand::EndList)?;
+    commands.push(ListCommand::CallList(7))?;
+    Ok(commands)
+}
+
+// Commands, Swaps and stored commands of bytes with call lists for which there is so much room.
+fn listed(alloc: Global, room: usize, bytes: &[u8]) -> Result<(usize, usize, usize), PackFault> {
+    let decoded = decode_lists_within(alloc, room, bytes)?;
+    Ok((decoded.count, decoded.swaps, decoded.commands.len()))
+}
+
+// A stream without call lists is read as its commands are.
+fn reads_plainly(alloc: Global, bytes: &[u8]) -> Result<bool, PackFault> {
+    let plain = decode(alloc, bytes)?;
+    let mut commands = ListCommands::new(alloc);
+    for command in plain.into_vec() {
+        commands.push(ListCommand::Plain(command))?;
+    }
+    Ok(decode_lists(alloc, bytes)? == commands)
+}
+
+#[test]
+fn streams_with_call_lists_are_read(rt: HostRuntime) {
+    let commands = list_commands(rt.alloc()).expect(&rt, "memory");
+    assert!(rt; decode_lists(rt.alloc(), &LIST_COMMANDS) == Ok(commands));
+    assert!(rt; reads_plainly(rt.alloc(), EVERY_COMMAND) == Ok(true));
+    for (room, stored) in [(3, 0), (4, 4)] {
+        assert!(rt; listed(rt.alloc(), room, &LIST_COMMANDS) == Ok((4, 1, stored)));
+    }
+    let faulty: [(&[u8], PackFault); 4] = [
+        (&[1, 0, 0x28], PackFault::UnknownOpcode { at: 2 }),
+        (&[1, 0, 0x25], PackFault::Truncated { at: 3 }),
+        (&[0, 0], PackFault::BadCount { at: 0 }),
+        (&[2, 0, 0x26, 0x00], PackFault::UnknownOpcode { at: 3 }),
+    ];
+    for (bytes, fault) in faulty {
+        assert!(rt; decode_lists(rt.alloc(), bytes) == Err(fault));
+    }
 }

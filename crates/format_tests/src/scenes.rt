@@ -1,6 +1,7 @@
 use rc_base::command::{Command, Rgba};
+use rc_base::list_command::ListCommand;
 use rc_base::scene::{Scene, SceneKind};
-use scene_file::{SceneFault, read_scene, write_scene};
+use scene_file::{ListScene, SceneFault, read_list_scene, read_scene, write_scene};
 use scene_text::{parse_scene, print_scene};
 use std::alloc::Global;
 use std::process::Abort;
@@ -145,4 +146,46 @@ fn declarations_are_read_and_written(rt: HostRuntime) {
         Err(_) => assert!(rt; false),
     }
     assert!(rt; comes_back(&rt, &bytes));
+}
+
+/// A window of 2 by 2, and one stream in which a list of one Swap is made and called.
+const LIST_SCENE: &[u8] = b"RCS3\x02\0\x02\0\x01\0\0\0\x08\0\0\0\x04\0\x25\x24\x26\x27\x07\x07";
+
+fn makes_a_list(scene: &ListScene) -> bool {
+    if scene.decl.width != 2 || scene.decl.height != 2 {
+        return false;
+    }
+    match scene.streams.as_slice() {
+        [stream] => matches!(
+            stream.as_slice(),
+            [
+                ListCommand::NewList(7),
+                ListCommand::Plain(Command::Swap),
+                ListCommand::EndList,
+                ListCommand::CallList(7),
+            ]
+        ),
+        _ => false,
+    }
+}
+
+/// What the bytes are as a scene with call lists: whether it is the one above, or their first fault.
+fn read_lists(rt: &HostRuntime, bytes: &[u8]) -> Result<bool, SceneFault> {
+    let scene = read_list_scene(rt.alloc(), bytes)?;
+    Ok(makes_a_list(&scene))
+}
+
+#[test]
+fn scenes_with_call_lists_are_read(rt: HostRuntime) {
+    assert!(rt; read_lists(&rt, LIST_SCENE) == Ok(true));
+    let bad = SceneFault::Malformed {
+        kind: SceneKind::BadMagic,
+        at: 3,
+    };
+    assert!(rt; read_lists(&rt, &RED_CLEAR) == Err(bad));
+    let short = SceneFault::Malformed {
+        kind: SceneKind::Truncated,
+        at: 12,
+    };
+    assert!(rt; read_lists(&rt, &LIST_SCENE[..12]) == Err(short));
 }
