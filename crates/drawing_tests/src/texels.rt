@@ -46,10 +46,19 @@ fn shared_after(alloc: Global) -> Result<[u8; 6], OutOfMemory> {
     Ok(firsts(set.get(2).texels().unwrap_or(&[])))
 }
 
+// A blank texture, and then with the numbered image in its place.
+fn put_over_blank(alloc: Global) -> Result<([u8; 6], [u8; 6]), OutOfMemory> {
+    let mut texture = Texture::blank(alloc, [3, 2])?;
+    let blank = firsts(texture.texels().unwrap_or(&[1]));
+    texture.put_image(3, 2, Texels::from_slice(alloc, &NUMBERED)?);
+    Ok((blank, firsts(texture.texels().unwrap_or(&[]))))
+}
+
 #[test]
 fn parts_are_written_row_by_row(rt: HostRuntime) {
     assert!(rt; private_after(rt.alloc()) == Ok([7, 2, 3, 8, 7, 8]));
     assert!(rt; shared_after(rt.alloc()) == Ok([0, 0, 0, 0, 0, 9]));
+    assert!(rt; put_over_blank(rt.alloc()) == Ok(([0; 6], [1, 2, 3, 4, 5, 6])));
     let set = PrivateSet::new(rt.alloc()).expect(&rt, "memory");
     for name in 1..65_u8 {
         assert!(rt; set.get(name).sides().is_none());
