@@ -5,6 +5,7 @@ ghost use Rattle.rc_base.specs.Lists.{at_name, AreRising};
 ghost use Rattle.rc_base.specs.Orders.Sync.{IsWellFormed, client_count, places_of};
 
 use order_model::record::{Log, LogEntry, Logs, Record};
+use order_model::walk::{place_of, place_or_end, reach_in};
 use order_model::{is_permitted, reach, tile_order};
 use rc_base::items::Items;
 use rc_base::out_of_memory::OutOfMemory;
@@ -163,6 +164,32 @@ fn ninety_four_orders_of_two_clients_are_permitted(rt: HostRuntime) {
         }
     }
     assert!(rt; permitted == 94);
+}
+
+// A client, an operation's number, its place, and the place or the end of the stream.
+const PLACES: [(u8, usize, Option<u32>, u32); 6] = [
+    (0, 0, Some(1), 1),
+    (0, 2, Some(4), 4),
+    (0, 3, None, 5),
+    (1, 1, Some(3), 3),
+    (1, 3, None, 6),
+    (2, 0, None, 0),
+];
+
+// Where both clients stop after so many entries.
+const REACHES: [(u32, u32); 5] = [(1, 2), (3, 3), (4, 3), (4, 5), (5, 6)];
+
+#[test]
+fn operations_have_their_places(rt: HostRuntime) {
+    let syncs = two_clients(rt.alloc()).expect(&rt, "memory");
+    for (client, number, place, end) in PLACES {
+        assert!(rt; place_of(&syncs, client, number) == place);
+        assert!(rt; place_or_end(&syncs, client, number) == end);
+    }
+    for n in 0..5usize {
+        let journal = &ENTRIES[..n];
+        assert!(rt; (reach_in(journal, &syncs, 0), reach_in(journal, &syncs, 1)) == REACHES[n]);
+    }
 }
 
 // Eight clients meet in pairs, then in fours, then all.
