@@ -9,6 +9,7 @@ mod lists;
 mod magics;
 mod meanings;
 mod members;
+mod noted;
 mod pieces;
 mod random;
 mod replaced;
