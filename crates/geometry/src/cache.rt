@@ -1,7 +1,7 @@
 //! The vertices of a block on their way to the window: a post-transform vertex cache, as graphics processors have it.
 ghost use Rattle.std.specs.Prelude.{◌≡◌, ◌<◌, ◌∷◌, [], length, slice_index, true, false, None, Some, MatchOption};
 ghost use Rattle.std.proofs.Props.{props};
-ghost use Rattle.rc_base.specs.Drawing.Kept.{is_kept, oriented, kept_whole, vertex_at};
+ghost use Rattle.rc_base.specs.Drawing.Kept.{is_kept_at, clip_corners, oriented, kept_whole, vertex_at};
 ghost use Rattle.rc_base.specs.Drawing.Window.{window_of};
 ghost use Rattle.geometry.specs.Beside.{IsBesideIfKept};
 ghost use Rattle.geometry.specs.Uncut.{IsUncut};
@@ -86,14 +86,14 @@ impl<'a> VertexCache<'a> {
     }
 
     // The oriented triangle, where it has an area and isn't culled.
-    #[tactic(auto, unfolding(rc_base::specs::Drawing::Kept::is_kept))]
+    #[tactic(auto, unfolding(rc_base::specs::Drawing::Kept::is_kept_at, rc_base::specs::Drawing::Window::is_placed, rc_base::specs::Drawing::Window::window_of))]
     fn kept(&self, a: Corner, b: Corner, c: Corner) -> Option<WindowTriangle>
         requires a { IsCorner self.now.state.now self.now.vertices.now a }
         requires b { IsCorner self.now.state.now self.now.vertices.now b }
         requires c { IsCorner self.now.state.now self.now.vertices.now c }
         ensures { MatchOption result
-            (is_kept self.now.state.now (vertex_at self.now.vertices.now a.index) (vertex_at self.now.vertices.now b.index) (vertex_at self.now.vertices.now c.index) ≡ false)
-            (λ t. (is_kept self.now.state.now (vertex_at self.now.vertices.now a.index) (vertex_at self.now.vertices.now b.index) (vertex_at self.now.vertices.now c.index) ≡ true)
+            (is_kept_at self.now.state.now (clip_corners self.now.state.now (vertex_at self.now.vertices.now a.index) (vertex_at self.now.vertices.now b.index) (vertex_at self.now.vertices.now c.index)) ≡ false)
+            (λ t. (is_kept_at self.now.state.now (clip_corners self.now.state.now (vertex_at self.now.vertices.now a.index) (vertex_at self.now.vertices.now b.index) (vertex_at self.now.vertices.now c.index)) ≡ true)
             × (t.v ≡ oriented (window_of self.now.state.now (vertex_at self.now.vertices.now a.index)) (window_of self.now.state.now (vertex_at self.now.vertices.now b.index)) (window_of self.now.state.now (vertex_at self.now.vertices.now c.index)))) }
     {
         let first = a.at?;

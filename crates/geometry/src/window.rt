@@ -2,7 +2,7 @@
 ghost use Rattle.std.specs.Prelude.{◌≡◌, ◌^◌, pos, true, false, neg_ℤ, ◌<ℤ◌, Option, Some, None, MatchOption};
 ghost use Rattle.rc_base.specs.Numbers.{Within};
 ghost use Rattle.rc_base.specs.Drawing.Cover.{triangle_area, IsInBounds};
-ghost use Rattle.rc_base.specs.Drawing.Kept.{three, is_culled, is_shown, oriented, is_kept, kept_of, vertex_at};
+ghost use Rattle.rc_base.specs.Drawing.Kept.{three, is_culled, is_shown, oriented, is_kept_at, clip_corners, kept_of, vertex_at};
 ghost use Rattle.rc_base.specs.Drawing.Window.{window_of};
 
 use crate::identities::identities_of;
@@ -79,11 +79,11 @@ pub(crate) fn assemble(
 }
 
 // The oriented triangle, where it has an area and isn't culled.
-#[tactic(auto, unfolding(rc_base::specs::Drawing::Kept::is_kept))]
+#[tactic(auto, unfolding(rc_base::specs::Drawing::Kept::is_kept_at, rc_base::specs::Drawing::Window::is_placed, rc_base::specs::Drawing::Window::window_of))]
 fn kept(state: &State, corners: &[Vertex; 3]) -> Option<WindowTriangle>
     ensures { MatchOption result
-        (is_kept state.now (vertex_at corners.now 0) (vertex_at corners.now 1) (vertex_at corners.now 2) ≡ false)
-        (λ t. (is_kept state.now (vertex_at corners.now 0) (vertex_at corners.now 1) (vertex_at corners.now 2) ≡ true)
+        (is_kept_at state.now (clip_corners state.now (vertex_at corners.now 0) (vertex_at corners.now 1) (vertex_at corners.now 2)) ≡ false)
+        (λ t. (is_kept_at state.now (clip_corners state.now (vertex_at corners.now 0) (vertex_at corners.now 1) (vertex_at corners.now 2)) ≡ true)
         × (t.v ≡ oriented (window_of state.now (vertex_at corners.now 0)) (window_of state.now (vertex_at corners.now 1)) (window_of state.now (vertex_at corners.now 2)))) }
 {
     let identities = identities_of(state);

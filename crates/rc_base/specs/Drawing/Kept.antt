@@ -3,7 +3,7 @@ use Rattle.std.specs.Prelude.{ℕ, slice_index, List, [], ◌∷◌, Bool, not, 
 use Rattle.std.specs.Ordering.{int_eq}
 use lib.ListN.{get_or}
 use Rattle.rc_base.specs.Colors.{rgba}
-use Rattle.rc_base.specs.Drawing.Window.{window_at, is_placed_at, window_of, is_placed}
+use Rattle.rc_base.specs.Drawing.Window.{clip_vertex, window_at, is_placed_at}
 use Rattle.rc_base.specs.Drawing.Cover.{triangle_area}
 use Rattle.rc_base.specs.declared.state.State.{State}
 use Rattle.rc_base.specs.declared.state.Vertex.{Vertex}
@@ -47,13 +47,13 @@ unfoldable pub kept_at : State → List ClipVertex → Option (List WindowVertex
 kept_at s p =
     if is_kept_at s p then Some (oriented (window_at s (point p 0)) (window_at s (point p 1)) (window_at s (point p 2))) else None
 
--- the same of three vertices as they are issued
-unfoldable pub is_kept : State → Vertex → Vertex → Vertex → Bool
-is_kept s a b c =
-    is_placed s a && (is_placed s b && (is_placed s c && is_shown s (triangle_area (three (window_of s a) (window_of s b) (window_of s c)))))
+-- three vertices as they are issued, in clip coordinates
+abbrev pub clip_corners : State → Vertex → Vertex → Vertex → List ClipVertex
+clip_corners s a b c = clip_vertex s a ∷ clip_vertex s b ∷ clip_vertex s c ∷ []
 
+-- the corners of their triangle, where it is kept
 unfoldable pub kept_of : State → Vertex → Vertex → Vertex → Option (List WindowVertex)
-kept_of s a b c = if is_kept s a b c then Some (oriented (window_of s a) (window_of s b) (window_of s c)) else None
+kept_of s a b c = kept_at s (clip_corners s a b c)
 
 -- the vertex at an index of a block
 abbrev pub vertex_at : List Vertex → ℕ → Vertex

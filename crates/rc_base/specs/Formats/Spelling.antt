@@ -1,5 +1,5 @@
 -- How bytes spell a scene: relations on whole lists of bytes and of commands.
-use Rattle.std.specs.Prelude.{◌≡◌, ℕ, ℤ, ◌*◌, ◌==◌, if◌then◌else◌, ◌<◌, ◌≤◌, ◌^◌, List, [], ◌∷◌, ◌++◌, length, map, take, drop}
+use Rattle.std.specs.Prelude.{◌≡◌, ℕ, ℤ, ◌+◌, ◌*◌, ◌<◌, ◌≤◌, ◌^◌, List, [], ◌∷◌, ◌++◌, length, map, take, drop}
 use Rattle.std.specs.List.{flat_map, range_with_len, AllByRecursion}
 use Rattle.std.specs.Int.{w16, w32, to_le_bytes, cast_unsigned, div_ceil}
 use Rattle.rc_base.specs.declared.command.Command.{Command}
@@ -138,11 +138,11 @@ IsVersion version = (1 ≤ version) × (version ≤ 2)
 abbrev pub letters : List ℕ
 letters = 0x52 ∷ 0x43 ∷ 0x53 ∷ []
 
--- the digit of a version; every other number is written as version 1
+-- the digit of a version
 abbrev pub digit : ℕ → ℕ
-digit version = if version == 2 then 0x32 else 0x31
+digit version = 0x30 + version
 
--- the letters RCS1 of version 1, or RCS2
+-- the letters RCS and the digit: RCS1, or RCS2
 abbrev pub magic : ℕ → List ℕ
 magic version = letters ++ digit version ∷ []
 
