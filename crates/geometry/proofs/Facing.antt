@@ -9,7 +9,7 @@ use borrow.Author.Differences.{same_in, same_out, sum_is_lem, neg_is}
 use Rattle.rc_base.specs.Numbers.{Within, entry, is_within}
 use Rattle.rc_base.specs.Drawing.Cover.{triangle_area, IsInBounds}
 use Rattle.rc_base.specs.Drawing.Window.{clip_of, window_of, is_in_bounds, is_placed, is_placed_at, place_bound, depth_bound}
-use Rattle.rc_base.specs.Drawing.Kept.{three, is_culled, is_shown, oriented, is_kept, kept_of}
+use Rattle.rc_base.specs.Drawing.Kept.{three, is_culled, is_shown, oriented, clip_corners, is_kept_at, kept_at, kept_of}
 use Rattle.geometry.specs.Placed.{IsPlace}
 use Rattle.fixed_math.proofs.Signs.{above_is, below_is, not_below_is, off}
 use Rattle.rc_base.specs.declared.state.State.{State}
@@ -59,16 +59,16 @@ vertex_bounds v e =
     bounds : (n : ℕ) (z : ℤ) → is_within n z ≡ true → Within n z
     bounds n z e = (grind (arith, ints), grind (arith, ints))
 
-dropped : (s : State) (a b c : Vertex) → is_kept s a b c ≡ false → kept_of s a b c ≡ None
-unfolding kept_of
+dropped : (s : State) (a b c : Vertex) → is_kept_at s (clip_corners s a b c) ≡ false → kept_of s a b c ≡ None
+unfolding kept_of kept_at window_of
 dropped s a b c h = ap (λ t. if t then Some (oriented (window_of s a) (window_of s b) (window_of s c)) else None) h
 
-kept_is : (s : State) (a b c : Vertex) → is_kept s a b c ≡ true → kept_of s a b c ≡ Some (oriented (window_of s a) (window_of s b) (window_of s c))
-unfolding kept_of
+kept_is : (s : State) (a b c : Vertex) → is_kept_at s (clip_corners s a b c) ≡ true → kept_of s a b c ≡ Some (oriented (window_of s a) (window_of s b) (window_of s c))
+unfolding kept_of kept_at window_of
 kept_is s a b c h = ap (λ t. if t then Some (oriented (window_of s a) (window_of s b) (window_of s c)) else None) h
 
 pub kept_whole : (s : State) (a b c : Vertex) (r : Option WindowTriangle)
-    → MatchOption r (is_kept s a b c ≡ false) (λ t. (is_kept s a b c ≡ true) × (t.v ≡ oriented (window_of s a) (window_of s b) (window_of s c)))
+    → MatchOption r (is_kept_at s (clip_corners s a b c) ≡ false) (λ t. (is_kept_at s (clip_corners s a b c) ≡ true) × (t.v ≡ oriented (window_of s a) (window_of s b) (window_of s c)))
     → MatchOption r (kept_of s a b c ≡ None) (λ t. kept_of s a b c ≡ Some t.v)
 kept_whole s a b c None h = dropped s a b c h
 kept_whole s a b c (Some t) h = rw (h.1) (kept_is s a b c h.0)

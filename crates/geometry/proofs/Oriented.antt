@@ -5,7 +5,7 @@ use Rattle.std.proofs.lemmas.Int.{ints, by_lt_z}
 use Rattle.std.proofs.lemmas.Bool.{and_parts}
 use Rattle.rc_base.specs.Drawing.Cover.{triangle_area}
 use Rattle.rc_base.specs.Drawing.Window.{window_of, is_placed}
-use Rattle.rc_base.specs.Drawing.Kept.{three, is_shown, oriented, is_kept, kept_of}
+use Rattle.rc_base.specs.Drawing.Kept.{three, is_shown, oriented, clip_corners, is_kept_at, kept_at, kept_of}
 use Rattle.rc_base.specs.declared.state.State.{State}
 use Rattle.rc_base.specs.declared.state.Vertex.{Vertex}
 use Rattle.rc_base.specs.declared.window.WindowVertex.{WindowVertex}
@@ -35,8 +35,8 @@ kept_by P s a b c v true shown e left right =
     subst P same (turned P s a b c (shown refl) left right)
 kept_by P s a b c v false shown e left right = absurd cc
 
-shown_of : (s : State) (a b c : Vertex) → is_kept s a b c ≡ true → is_shown s (triangle_area (three (window_of s a) (window_of s b) (window_of s c))) ≡ true
-unfolding is_kept
+shown_of : (s : State) (a b c : Vertex) → is_kept_at s (clip_corners s a b c) ≡ true → is_shown s (triangle_area (three (window_of s a) (window_of s b) (window_of s c))) ≡ true
+unfolding is_kept_at is_placed window_of
 shown_of s a b c h =
     let last = is_shown s (triangle_area (three (window_of s a) (window_of s b) (window_of s c))) in
     let first = and_parts (is_placed s a) (is_placed s b && (is_placed s c && last)) h in
@@ -46,5 +46,5 @@ shown_of s a b c h =
 pub kept : (P : List WindowVertex → Type 0) (s : State) (a b c : Vertex) (v : List WindowVertex) → kept_of s a b c ≡ Some v
     → (pos 0 <ℤ triangle_area (three (window_of s a) (window_of s b) (window_of s c)) → P (three (window_of s a) (window_of s b) (window_of s c)))
     → (pos 0 <ℤ triangle_area (three (window_of s a) (window_of s c) (window_of s b)) → P (three (window_of s a) (window_of s c) (window_of s b))) → P v
-unfolding kept_of
-kept P s a b c v e left right = kept_by P s (window_of s a) (window_of s b) (window_of s c) v (is_kept s a b c) (shown_of s a b c) e left right
+unfolding kept_of kept_at window_of
+kept P s a b c v e left right = kept_by P s (window_of s a) (window_of s b) (window_of s c) v (is_kept_at s (clip_corners s a b c)) (shown_of s a b c) e left right

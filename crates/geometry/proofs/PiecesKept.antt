@@ -7,7 +7,7 @@ use Rattle.std.specs.Prelude.{nat_lt, option_to_list, if◌then◌else◌}
 use Rattle.std.specs.List.{filter_map, cons_option}
 use Rattle.rc_base.specs.Drawing.Window.{window_of, is_in_bounds, is_placed, clip_vertex, window_at, is_placed_at}
 use Rattle.rc_base.specs.Drawing.Cover.{IsInBounds}
-use Rattle.rc_base.specs.Drawing.Kept.{oriented, is_kept, kept_of, is_kept_at, kept_at}
+use Rattle.rc_base.specs.Drawing.Kept.{oriented, kept_of, is_kept_at, kept_at}
 use Rattle.fixed_math.proofs.Signs.{above_is}
 use Rattle.rc_base.specs.declared.state.State.{State}
 use Rattle.rc_base.specs.declared.state.Vertex.{Vertex}
@@ -23,7 +23,7 @@ use Rattle.geometry.specs.Placed.{stands_in_front}
 -- ---- one window, by vertices and by clip coordinates
 
 pub kept_same : (s : State) (a b c : Vertex) → kept_of s a b c ≡ kept_at s (clip_vertex s a ∷ clip_vertex s b ∷ clip_vertex s c ∷ [])
-unfolding kept_of kept_at is_kept is_kept_at window_of is_placed
+unfolding kept_of
 kept_same s a b c = refl
 
 -- ---- whether a part is kept
