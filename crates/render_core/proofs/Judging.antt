@@ -1,11 +1,10 @@
 -- From what a reader answers to what the task finds in its input.
 use Rattle.std.proofs.Common.{◌≡◌, ℕ, ◌<◌, ◌≤◌, inl, inr, Bool, true, false, List, ◌∷◌, length, None, Some, refl, sym, ap, ap₂, subst, arith, ◌∙◌}
-use Rattle.std.specs.Prelude.{◌==◌, if◌then◌else◌}
 use Rattle.std.proofs.lemmas.Bool.{cases_lt}
 use Rattle.std.specs.Option.{option_or}
 use Rattle.std.specs.declared.option.Option.{Option}
 use Rattle.rc_base.specs.Formats.Limits.{held_limit, limit_of, size_limit}
-use Rattle.rc_base.specs.Formats.Spelling.{SpellsScene, digit}
+use Rattle.rc_base.specs.Formats.Spelling.{IsVersion, SpellsScene, digit}
 use Rattle.rc_base.specs.Outside.Transfer.{byte_limit}
 use Rattle.rc_base.specs.declared.scene.Limit.{Limit}
 use Rattle.rc_base.specs.declared.scene.Scene.{Scene}
@@ -95,16 +94,13 @@ fourth : List ℕ → ℕ
 fourth (a ∷ (b ∷ (c ∷ (d ∷ rest)))) = d
 fourth _ = 0
 
-digit_is : (version : ℕ) → digit version ≡ 0x33 → ⊥
-digit_is version e = go (version == 2) e where
-  go : (b : Bool) → (if b then 0x32 else 0x31) ≡ (let n : ℕ = 0x33 in n) → ⊥
-  go true e = omega (arith, e)
-  go false e = omega (arith, e)
+digit_is : (version : ℕ) → IsVersion version → digit version ≡ 0x33 → ⊥
+digit_is version is e = omega (arith, is.1, e)
 
 -- and those of a scene without don't
 pub never_begins : (input : List ℕ) (s : Scene) → SpellsScene input s → BeginWithLists input → ⊥
 unfolding fourth
-never_begins input s is begin = digit_is s.decl.version (ap fourth (sym is.parts) ∙ ap fourth begin.1)
+never_begins input s is begin = digit_is s.decl.version is.decl.version (ap fourth (sym is.parts) ∙ ap fourth begin.1)
 
 -- ---- an input is one thing
 

@@ -27,9 +27,9 @@ pub const LETTERS: [u8; 3] = [0x52, 0x43, 0x53];
 /// The letters RCS3, with which a scene with call lists begins.
 const LIST_LETTERS: [u8; 4] = [0x52, 0x43, 0x53, 0x33];
 
-/// The letters and the digit with which a scene of this version begins.
+/// The letters and the digit with which a scene of this version begins; a number that is no version has no digit, and is written as 1.
 pub fn magic_of(version: u8) -> [u8; 4]
-    ensures { result ≡ magic version }
+    ensures { IsVersion version → result ≡ magic version }
 {
     let digit = if version == 2 { 0x32 } else { 0x31 };
     [0x52, 0x43, 0x53, digit]

@@ -36,7 +36,7 @@ fn put_header(bytes: &mut Bytes, decl: &Decl, clients: u8) -> Result<(), OutOfMe
     requires shared { length decl.now.shared ≤ 16 }
     requires barriers { length decl.now.barriers ≤ 64 }
     requires semaphores { length decl.now.semaphores ≤ 64 }
-    ensures added { OnOk result (bytes.new ≡ bytes.old ++ header decl.now clients) }
+    ensures added { OnOk result (IsVersion decl.now.version → bytes.new ≡ bytes.old ++ header decl.now clients) }
     ensures fits { OnOk result (AllByRecursion IsSize decl.now.shared × AllByRecursion IsSide decl.now.semaphores) }
 {
     bytes.extend_from_slice(&magic_of(decl.version))?;
@@ -79,7 +79,7 @@ fn put_stream(alloc: Global, bytes: &mut Bytes, stream: &Commands) -> Result<(),
 /// no length that could be written; it is refused as want of memory.
 pub fn write_scene(alloc: Global, scene: &Scene) -> Result<Bytes, OutOfMemory>
     requires { limit_of scene.now ≡ None }
-    ensures exact { IfOk result (λ bytes. bytes ≡ written scene.now) }
+    ensures exact { IfOk result (λ bytes. IsVersion scene.now.decl.version → bytes ≡ written scene.now) }
     // Where each picture has four bytes for each texel, they are read again as this scene.
     ensures spelled { IfOk result (λ bytes. IsVersion scene.now.decl.version → AllByRecursion AreWhole scene.now.streams → SpellsScene bytes scene.now) }
 {

@@ -9,6 +9,6 @@ returns-clause-outcome c =
     let whole = c.requires.well in
     let is = c.text_alone.ensures.outcome in
     let image : Outcome → List ℕ = λ o. o.image in (
-      is ∙ ap (λ (l : List ℕ). record { image = l; notes = []; ending = Complete; kept = None }) c.in_ok-bytes.ensures.exact,
+      is ∙ ap (λ (l : List ℕ). record { image = l; notes = []; ending = Complete; kept = None }) (c.in_ok-bytes.ensures.exact whole.0),
       subst (λ (l : List ℕ). SpellsScene l c.args.scene.now) (sym (ap image is)) (c.in_ok-bytes.ensures.spelled whole.0 whole.1),
     )

@@ -25,5 +25,5 @@ returns-clause-spelled c version whole =
     let short = all_from IsShort c.args.scene.now.streams [] (λ k lt. subst (λ (css : List (List Command)). IsShort (get_or css k [])) c.as_slice-streams.ensures (i.short k (omega arith))) in
     loop_done c.args.scene.now c.loop-stream.bytes c.loop-stream.stream-index (record { version = version; within = c.requires; texels = whole; short = short }) c.in_ok-put_header.ensures.fits
     over
-    (subst (λ (css : List (List Command)). c.loop-stream.bytes ++ flat_map stream_text (map encoded (drop c.loop-stream.stream-index css)) ≡ written c.args.scene.now) c.as_slice-streams.ensures i.bytes_are)
+    (subst (λ (css : List (List Command)). c.loop-stream.bytes ++ flat_map stream_text (map encoded (drop c.loop-stream.stream-index css)) ≡ written c.args.scene.now) c.as_slice-streams.ensures (i.bytes_are version))
     (λ k lt. subst (λ (css : List (List Command)). AreWhole (get_or css k []) → IsEncoded (get_or css k [])) c.as_slice-streams.ensures (i.spelled k lt) (all_at AreWhole c.args.scene.now.streams tt whole k))
