@@ -1,6 +1,6 @@
 -- From what the readers of bytes answer to what is found, what it means, and why it is refused.
 use Rattle.std.proofs.Common.{◌≡◌, ℕ, ◌+◌, ◌<◌, ◌≤◌, ◌⊎◌, inl, inr, false, List, [], ◌∷◌, ◌++◌, length, map, None, Some, Ok, Err, refl, sym, ap, ◌∙◌, subst, arith, append_assoc}
-use Rattle.std.specs.Prelude.{IfErr, IfOk, sum_by}
+use Rattle.std.specs.Prelude.{IfErr, IfOk, MatchResult, sum_by}
 use Rattle.std.specs.declared.result.Result.{Result}
 use Rattle.std.specs.declared.option.Option.{Option}
 use Rattle.std.specs.List.{AllByRecursion, flat_map}
@@ -36,7 +36,10 @@ use Rattle.render_core.specs.declared.job.Origin.TheVariants.{Read}
 use Rattle.render_core.specs.declared.refusal.InputRefusal.{InputRefusal}
 use Rattle.render_core.specs.declared.refusal.InputRefusal.TheVariants as refused
 use Rattle.render_core.specs.declared.work.Meaning.{Meaning}
-use Rattle.render_core.specs.Findings.{BeginWithLists, FailsAsFound, TellsFault}
+use Rattle.render_core.specs.Findings.{FailsAsFound, TellsFault}
+use Rattle.scene_file.specs.Letters.{BeginWithLists}
+use Rattle.scene_file.proofs.LimitsByParts.{many_commands}
+use Rattle.std.proofs.lemmas.Bool.{cases_lt}
 use Rattle.render_core.specs.Lines.{malformed_line, scene_kind_name}
 use Rattle.render_core.specs.Refusals.{IsExpanded, IsPast, IsRead, IsRefusedInput, IsWellRead, refusal_of_scene}
 use Rattle.render_core.specs.Scenes.{Found, Plain, Lists, found_limit, meant, refused_in, Gives, Spells}
@@ -306,6 +309,11 @@ costs_past : (n : ℕ) → 67108864 < n → expansion_limit n ≡ Some (record {
 unfolding expansion_limit
 costs_past n many = grind (arith, many)
 
+streams_beyond : (s : Scene) (n : ℕ) → commands_in s.streams ≡ n → 1048576 < n → stream_limit s ≡ Some (record { what = 11; value = n })
+unfolding stream_limit
+streams_beyond s n c many =
+    ap (λ (k : ℕ). first_outside (quantity 11 k 0 1048576 ∷ frame_quantities s)) c ∙ many_commands n (frame_quantities s) many
+
 few_commands : (s : Scene) → stream_limit s ≡ None → commands_in s.streams ≤ 1048576
 unfolding stream_limit
 few_commands s e = (in_range 11 (commands_in s.streams) 0 1048576 (first_within (quantity 11 (commands_in s.streams) 0 1048576) (frame_quantities s) e).0).1
@@ -343,6 +351,19 @@ module _ (scene : ListScene) (read : read_limit scene.decl scene.streams ≡ Non
 
       pub stored_whole : ExpansionsAreWhole → x.count ≤ 1048576 → meant (Lists scene) ≡ record { decl = scene.decl; streams = x.streams }
       stored_whole whole few = ap (λ (ss : List (List Command)). record { decl = scene.decl; streams = ss }) (sym (whole.1 scene.streams x are few))
+
+      -- what was found of what is stored is what is outside its range
+      pub judged_whole : ExpansionsAreWhole → (stored : Scene) → stored ≡ record { decl = scene.decl; streams = x.streams } → (r : Result (Unit {0}) Limit)
+          → (x.count ≤ 1048576 → MatchResult r (λ _. stream_limit stored ≡ None) (λ l. stream_limit stored ≡ Some l))
+          → (1048576 < x.count → r ≡ Err (record { what = 11; value = x.count }))
+          → MatchResult r (λ _. stream_limit (meant (Lists scene)) ≡ None) (λ l. stream_limit (meant (Lists scene)) ≡ Some l)
+      judged_whole whole stored is r few many = elim (cases_lt 1048576 x.count) [
+        | inl above ↦
+            subst (λ (s : Result (Unit {0}) Limit). MatchResult s (λ _. stream_limit (meant (Lists scene)) ≡ None) (λ l. stream_limit (meant (Lists scene)) ≡ Some l))
+            (sym (many above)) (streams_beyond (meant (Lists scene)) x.count counted above)
+        | inr within ↦
+            subst (λ (s : Scene). MatchResult r (λ _. stream_limit s ≡ None) (λ l. stream_limit s ≡ Some l)) (is ∙ sym (stored_whole whole within)) (few within)
+      ]
 
       pub past_streams : (limit : Limit) → stream_limit (meant (Lists scene)) ≡ Some limit → found_limit (Lists scene) ≡ Some limit
       past_streams limit first = streams_past limit costs first

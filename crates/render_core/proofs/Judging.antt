@@ -26,7 +26,8 @@ use Rattle.rc_base.specs.Outside.Ends.{Used}
 use Rattle.render_core.specs.Jobs.{Task, cluster_of, origin_of}
 use Rattle.render_core.specs.Scenes.{Found, Plain, Lists, cluster_limit, found_limit, limit_for, meant, scene_for, scene_limit, tile_limit, with_rounds, word_limit, work_for, Spells, Gives, HasWork, IsFor, IsNotFor}
 use Rattle.render_core.specs.Lines.{limit_line, not_last_line}
-use Rattle.render_core.specs.Findings.{Finding, Long, Malformed, Outside, Unsuited, Sound, BeginWithLists, TellsFault, IsJudged, Judged}
+use Rattle.render_core.specs.Findings.{Finding, Long, Malformed, Outside, Unsuited, Sound, TellsFault, IsJudged, Judged}
+use Rattle.scene_file.specs.Letters.{BeginWithLists}
 use Rattle.render_core.specs.Laws.{FindingsAreOne}
 use Rattle.render_core.specs.Refusals.{Came}
 

@@ -1,6 +1,5 @@
 -- What a task finds in its input, or in its words where it makes its scene: one of five cases, by which it is carried out or refused.
 use Rattle.std.specs.Prelude.{◌≡◌, ℕ, ◌+◌, ◌<◌, ◌≤◌, ◌⊎◌, List, ◌++◌, length, Option, Some, None}
-use Rattle.rc_base.specs.Formats.Spelling.{list_magic}
 use Rattle.rc_base.specs.Formats.Text.Faults.{text_fault}
 use Rattle.rc_base.specs.Outside.Transfer.{byte_limit}
 use Rattle.rc_base.specs.declared.scene.Limit.{Limit}
@@ -9,7 +8,7 @@ use Rattle.rc_base.specs.declared.scene.SceneKind.TheVariants as kind
 use Rattle.rc_base.specs.declared.scene.TextKind.{TextKind}
 use Rattle.rc_base.specs.declared.sync.Name.{Name}
 use Rattle.scene_file.specs.Faults.{DiffersFromAll, FailsAsListScene, FailsAsScene}
-use Rattle.scene_file.specs.Letters.{list_letters, plain_letters}
+use Rattle.scene_file.specs.Letters.{BeginWithLists, list_letters, plain_letters}
 use Rattle.render_core.specs.declared.job.Form.TheVariants.{Bytes, PlainBytes, Text}
 use Rattle.render_core.specs.declared.job.Origin.{Origin}
 use Rattle.render_core.specs.declared.job.Origin.TheVariants.{Read, Generated}
@@ -51,10 +50,6 @@ refused_with (Unsuited name) = Some 12
 refused_with (Sound work) = None
 
 -- ---- the line that tells it
-
--- the bytes begin as those of a scene with call lists do
-abbrev pub BeginWithLists : List ℕ → Type 0
-BeginWithLists input = (rest : List ℕ) × (input ≡ list_magic ++ rest)
 
 -- Why bytes spell no scene, with or without call lists, and where. Bytes that begin as one with call lists are judged as such, and all others as one
 -- without; the first bytes are wrong where they differ from those of every version.

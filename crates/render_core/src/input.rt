@@ -1,10 +1,10 @@
 //! The scene that an input spells, and what it means.
-ghost use Rattle.std.specs.Prelude.{◌≡◌, ◌≤◌, ◌↔◌, [], length, IfOk, IfErr, IsTrue, None};
+ghost use Rattle.std.specs.Prelude.{◌≡◌, ◌≤◌, [], length, IfOk, IfErr, None};
 ghost use Rattle.rc_base.specs.Formats.Limits.{limit_of, read_limit};
 ghost use Rattle.rc_base.specs.Formats.Spelling.{SpellsScene};
 ghost use Rattle.rc_base.specs.Formats.Text.Read.{SpellsText};
 ghost use Rattle.rc_base.specs.Outside.Transfer.{byte_limit};
-ghost use Rattle.render_core.specs.Findings.{BeginWithLists};
+ghost use Rattle.scene_file.specs.Letters.{BeginWithLists};
 ghost use Rattle.render_core.specs.Refusals.{IsExpanded, IsPast, IsRead, IsWellRead, IsRefusedInput};
 ghost use Rattle.render_core.specs.declared.job.Form.TheVariants.{Bytes as OfBytes, PlainBytes as OfPlainBytes, Text as OfText};
 
@@ -17,7 +17,7 @@ use call_lists::{ExpandFault, Expansions, expand_all};
 use rc_base::cluster::FaultLists;
 use rc_base::command::Bytes;
 use rc_base::scene::{Limit, Scene};
-use scene_file::{ListScene, check_streams, read_list_scene};
+use scene_file::{ListScene, begins_with_lists, check_streams, read_list_scene};
 use scene_text::{TextSceneFault, parse_scene};
 use std::alloc::Global;
 
@@ -97,13 +97,6 @@ fn meaning_of_lists(alloc: Global, input: &[u8]) -> Result<Meaning, InputRefusal
     }
 }
 
-// The bytes begin as those of a scene with call lists do.
-fn begin_with_lists(input: &[u8]) -> bool
-    ensures { IsTrue result ↔ BeginWithLists input.now }
-{
-    matches!(input, [0x52, 0x43, 0x53, 0x33, ..])
-}
-
 // What the bytes of a scene mean, with call lists or without.
 fn meaning_of_bytes<B: SceneReader>(
     reader: &B,
@@ -116,7 +109,7 @@ fn meaning_of_bytes<B: SceneReader>(
     ensures within { IfOk result (λ x. limit_of x.scene ≡ None) }
     ensures refused { IfErr result (IsRefusedInput OfBytes input.now) }
 {
-    if begin_with_lists(input) {
+    if begins_with_lists(input) {
         return meaning_of_lists(alloc, input);
     }
     match reader.scene_of_bytes(alloc, input) {

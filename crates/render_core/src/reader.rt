@@ -3,7 +3,7 @@ ghost use Rattle.std.specs.Prelude.{◌≡◌, ◌≤◌, length, IfOk, IfErr, N
 ghost use Rattle.rc_base.specs.Formats.Limits.{limit_of};
 ghost use Rattle.rc_base.specs.Formats.Spelling.{SpellsScene};
 ghost use Rattle.rc_base.specs.Outside.Transfer.{byte_limit};
-ghost use Rattle.render_core.specs.Findings.{BeginWithLists};
+ghost use Rattle.scene_file.specs.Letters.{BeginWithLists};
 ghost use Rattle.render_core.specs.Refusals.{IsWellRead, IsRefusedInput, refusal_of_scene};
 ghost use Rattle.render_core.specs.declared.job.Form.TheVariants.{Bytes as OfBytes, PlainBytes as OfPlainBytes};
 

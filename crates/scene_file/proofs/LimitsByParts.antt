@@ -137,24 +137,20 @@ window_within d n h = (grind (arith, nat_tests), grind (arith, nat_tests), grind
 
 -- ---- of the streams alone
 
--- the commands of a scene are so many, and it is this one where they are not too many
-streams_told : (now s : Scene) (commands : ℕ) → s.decl ≡ now.decl → commands_in s.streams ≡ commands → (commands ≤ 1048576 → s ≡ now)
-    → first_outside (stream_part now.decl commands (least_swaps now.streams)) ≡ stream_limit s
+-- what was found of a scene all of whose commands are stored
+pub stored_streams : (s : Scene) (commands : ℕ) (r : Result (Unit {0}) Limit) → judged r ≡ first_outside (stream_part s.decl commands (least_swaps s.streams))
+    → commands_in s.streams ≡ commands → MatchResult r (λ _. stream_limit s ≡ None) (λ l. stream_limit s ≡ Some l)
 unfolding stream_limit
-streams_told now s commands e c same = elim (cases_lt 1048576 commands) [
-  | inl many ↦
-      many_commands commands (quantity 12 (least_swaps now.streams) 0 1048576 ∷ quantity 13 (least_swaps now.streams * (now.decl.width * now.decl.height)) 0 2147483648 ∷ []) many
-      ∙ sym (ap (λ (n : ℕ). first_outside (quantity 11 n 0 1048576 ∷ frame_quantities s)) c ∙ many_commands commands (frame_quantities s) many)
-  | inr few ↦
-      let all = same few in
-      sym (λ i. first_outside (stream_part (all i).decl (c i) (least_swaps (all i).streams)))
-]
+stored_streams s commands (Ok u) h c = ap (λ (n : ℕ). first_outside (stream_part s.decl n (least_swaps s.streams))) c ∙ sym h
+stored_streams s commands (Err l) h c = ap (λ (n : ℕ). first_outside (stream_part s.decl n (least_swaps s.streams))) c ∙ sym h
 
-pub judged_streams : (now : Scene) (commands : ℕ) (r : Result (Unit {0}) Limit) → judged r ≡ first_outside (stream_part now.decl commands (least_swaps now.streams))
-    → (s : Scene) → s.decl ≡ now.decl → commands_in s.streams ≡ commands → (commands ≤ 1048576 → s ≡ now)
-    → MatchResult r (λ _. stream_limit s ≡ None) (λ l. stream_limit s ≡ Some l)
-judged_streams now commands (Ok u) h s e c same = sym (h ∙ streams_told now s commands e c same)
-judged_streams now commands (Err l) h s e c same = sym (h ∙ streams_told now s commands e c same)
+-- too many commands are found first
+pub many_streams : (s : Scene) (commands : ℕ) (r : Result (Unit {0}) Limit) → judged r ≡ first_outside (stream_part s.decl commands (least_swaps s.streams))
+    → 1048576 < commands → r ≡ Err (record { what = 11; value = commands })
+many_streams s commands r h many = by r (h ∙ many_commands commands (frame_quantities s) many) where
+  by : (r : Result (Unit {0}) Limit) → judged r ≡ Some (record { what = 11; value = commands }) → r ≡ Err (record { what = 11; value = commands })
+  by (Ok u) e = absurd cc
+  by (Err l) e = let same : l ≡ record { what = 11; value = commands } = cc in ap Err same
 
 -- A scene with call lists is read, and within its limits; and the streams of the scene that it stands for are within theirs. Then this scene is.
 pub limits_of_expanded : (d : Decl) (lists : List (List ListCommand)) (s : Scene) → s.decl ≡ d → length s.streams ≡ length lists → read_limit d lists ≡ None → stream_limit s ≡ None

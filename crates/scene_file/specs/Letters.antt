@@ -1,6 +1,10 @@
 -- How the bytes of scenes begin, and by which versions these draw.
-use Rattle.std.specs.Prelude.{◌≡◌, ℕ, List, [], ◌∷◌}
+use Rattle.std.specs.Prelude.{◌≡◌, ℕ, List, [], ◌∷◌, ◌++◌}
 use Rattle.rc_base.specs.Formats.Spelling.{CommandSet, SceneForm, IsVersion, magic, list_magic}
+
+-- the bytes begin as those of a scene with call lists do
+abbrev pub BeginWithLists : List ℕ → Type 0
+BeginWithLists bytes = (rest : List ℕ) × (bytes ≡ list_magic ++ rest)
 
 -- The versions by which scenes of a form draw, the letters of each version, and the letters of all.
 pub record Letters : Type 1 where

@@ -1,9 +1,9 @@
 //! The header of a scene.
-ghost use Rattle.std.specs.Prelude.{◌≡◌, ◌++◌, IfOk, IfErr};
+ghost use Rattle.std.specs.Prelude.{◌≡◌, ◌↔◌, ◌++◌, IsTrue, IfOk, IfErr};
 ghost use Rattle.cmd_pack.specs.Reading.{Gives, Reads};
 ghost use Rattle.rc_base.specs.Formats.Spelling.{IsVersion, magic, list_magic};
 ghost use Rattle.scene_file.specs.Reading.{read_half, read_size, read_times, read_head};
-ghost use Rattle.scene_file.specs.Letters.{Letters, plain_letters, list_letters};
+ghost use Rattle.scene_file.specs.Letters.{BeginWithLists, Letters, plain_letters, list_letters};
 ghost use Rattle.scene_file.specs.Faults.{LettersFailBy, MagicFailsBy};
 
 use crate::fault::Broken;
@@ -21,18 +21,34 @@ pub struct Head {
     pub clients: u8,
 }
 
+const R: u8 = 0x52;
+
+const C: u8 = 0x43;
+
+const S: u8 = 0x53;
+
 /// The letters RCS, with which a scene begins. The digit of its version follows.
-pub const LETTERS: [u8; 3] = [0x52, 0x43, 0x53];
+pub const LETTERS: [u8; 3] = [R, C, S];
+
+// The digit of scenes with call lists.
+const LIST_DIGIT: u8 = 0x33;
 
 /// The letters RCS3, with which a scene with call lists begins.
-const LIST_LETTERS: [u8; 4] = [0x52, 0x43, 0x53, 0x33];
+const LIST_LETTERS: [u8; 4] = [R, C, S, LIST_DIGIT];
+
+/// The bytes begin as those of a scene with call lists do, with the letters RCS3.
+pub fn begins_with_lists(bytes: &[u8]) -> bool
+    ensures { IsTrue result ↔ BeginWithLists bytes.now }
+{
+    matches!(bytes, [R, C, S, LIST_DIGIT, ..])
+}
 
 /// The letters and the digit with which a scene of this version begins; a number that is no version has no digit, and is written as 1.
 pub fn magic_of(version: u8) -> [u8; 4]
     ensures { IsVersion version → result ≡ magic version }
 {
     let digit = if version == 2 { 0x32 } else { 0x31 };
-    [0x52, 0x43, 0x53, digit]
+    [R, C, S, digit]
 }
 
 /// What stands behind these letters.

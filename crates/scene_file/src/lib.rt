@@ -19,6 +19,7 @@ mod writing;
 pub use beside::read_scene_beside;
 pub use fault::SceneFault;
 pub use generator::{generate, next_state};
+pub use header::begins_with_lists;
 pub use limits::{check_held, check_limits, check_streams, clients_beyond, commands_beyond};
 pub use list_scene::ListScene;
 pub use lists::read_list_scene;

@@ -1,6 +1,6 @@
 //! The limits of a scene, in the order of their table.
 ghost use Rattle.rc_base.specs.declared.scene.Scene.{Scene as AnyScene};
-ghost use Rattle.std.specs.Prelude.{◌≡◌, ◌<◌, ◌≤◌, ◌*◌, ◌∷◌, ◌++◌, [], map, length, sum_by, MatchResult, OnOk, Some, None};
+ghost use Rattle.std.specs.Prelude.{◌≡◌, ◌<◌, ◌≤◌, ◌*◌, ◌∷◌, ◌++◌, [], map, length, sum_by, MatchResult, OnOk, Some, None, Err};
 ghost use Rattle.std.specs.List.{flat_map};
 ghost use Rattle.rc_base.specs.Formats.Limits.{first_outside, held_limit, limit_of, stream_limit, size_area, side, barrier_count, is_swap_command, swaps_in, least_swaps, commands_in};
 ghost use Rattle.scene_file.specs.Judging.{judged, window_part, judge_counts, judge_decl, stream_part, judge_parts, judge_read, judge_scene};
@@ -175,7 +175,9 @@ pub fn check_limits(scene: &Scene) -> Result<(), Limit>
 pub fn check_streams(scene: &Scene, commands: u64) -> Result<(), Limit>
     requires width { scene.now.decl.width ≤ 2048 }
     requires height { scene.now.decl.height ≤ 2048 }
-    ensures { (s : AnyScene) → s.decl ≡ scene.now.decl → commands_in s.streams ≡ commands → (commands ≤ 1048576 → s ≡ scene.now) → MatchResult result (λ _. stream_limit s ≡ None) (λ l. stream_limit s ≡ Some l) }
+    requires stored { commands ≤ 1048576 → commands_in scene.now.streams ≡ commands }
+    ensures few { commands ≤ 1048576 → MatchResult result (λ _. stream_limit scene.now ≡ None) (λ l. stream_limit scene.now ≡ Some l) }
+    ensures many { 1048576 < commands → result ≡ Err (record { what = 11; value = commands }) }
 {
     let frames = count_frames(scene.streams.as_slice()) as u64;
     judge_streams(&scene.decl, commands, frames)

@@ -1,8 +1,10 @@
-use Rattle.std.proofs.Common.{refl, subst}
+use Rattle.std.proofs.Common.{◌≡◌, Ok, Err, refl, subst}
+use Rattle.rc_base.specs.Formats.Limits.{commands_in}
+use Rattle.rc_base.specs.declared.scene.Scene.{Scene}
 use Rattle.call_lists.specs.Expansion.{TellsTooLong}
 use Rattle.call_lists.specs.Scenes.{met_in}
 use Rattle.render_core.specs.Scenes.{Lists, meant}
-use Rattle.render_core.proofs.Inputs.{costs_too_long, counted, expanded_is, past_streams, read_window, stored_whole, streams_short}
+use Rattle.render_core.proofs.Inputs.{costs_too_long, counted, expanded_is, judged_whole, past_streams, read_window, stored_whole, streams_short}
 use Rattle.render_core.proofs.input.expanded.Goals as goal
 
 pub expand_all-requires : goal.expand_all-requires
@@ -14,14 +16,22 @@ check_streams-requires-clause-width c = (read_window c.args.scene.decl c.args.sc
 pub check_streams-requires-clause-height : goal.check_streams-requires-clause-height
 check_streams-requires-clause-height c = (read_window c.args.scene.decl c.args.scene.streams c.requires).1
 
+pub check_streams-requires-clause-stored : goal.check_streams-requires-clause-stored
+check_streams-requires-clause-stored c few =
+    let scene = c.args.scene in
+    let x = c.in-Ok.field-0 in
+    subst (λ (s : Scene). commands_in s.streams ≡ x.count)
+    (stored_whole scene c.requires c.costs_are_told.ensures x c.in-Ok.ensures.expanded c.in-Ok.ensures.within c.expansions_are_whole.ensures few)
+    (counted scene c.requires c.costs_are_told.ensures x c.in-Ok.ensures.expanded c.in-Ok.ensures.within)
+
 pub returns-in-Ok-check_streams-clause-means : goal.returns-in-Ok-check_streams-clause-means
 returns-in-Ok-check_streams-clause-means c =
     let scene = c.args.scene in
     let x = c.in-Ok.field-0 in
     let told = c.costs_are_told.ensures in
     let whole = c.expansions_are_whole.ensures in
-    let judged = c.in-Ok-check_streams.ensures (meant (Lists scene)) refl (counted scene c.requires told x c.in-Ok.ensures.expanded c.in-Ok.ensures.within)
-    (stored_whole scene c.requires told x c.in-Ok.ensures.expanded c.in-Ok.ensures.within whole) in
+    let judged = judged_whole scene c.requires told x c.in-Ok.ensures.expanded c.in-Ok.ensures.within whole _ refl (Ok c.in-Ok-check_streams.field-0)
+    c.in-Ok-check_streams.ensures.few c.in-Ok-check_streams.ensures.many in
     expanded_is scene c.requires told x c.in-Ok.ensures.expanded c.in-Ok.ensures.within whole _ refl refl judged
 
 pub returns-in-Ok-clause-past : goal.returns-in-Ok-clause-past
@@ -31,8 +41,8 @@ returns-in-Ok-clause-past c =
     let told = c.costs_are_told.ensures in
     let whole = c.expansions_are_whole.ensures in
     past_streams scene c.requires told x c.in-Ok.ensures.expanded c.in-Ok.ensures.within c.in-Err.limit
-    (c.in-Err.ensures (meant (Lists scene)) refl (counted scene c.requires told x c.in-Ok.ensures.expanded c.in-Ok.ensures.within)
-    (stored_whole scene c.requires told x c.in-Ok.ensures.expanded c.in-Ok.ensures.within whole))
+    (judged_whole scene c.requires told x c.in-Ok.ensures.expanded c.in-Ok.ensures.within whole _ refl (Err c.in-Err.limit)
+    c.in-Err.ensures.few c.in-Err.ensures.many)
 
 pub returns-in-Err-TooLong-clause-past : goal.returns-in-Err-TooLong-clause-past
 returns-in-Err-TooLong-clause-past c =
