@@ -1,6 +1,6 @@
 -- What follows for pixels and tiles where a rectangle is a box.
 use Rattle.std.proofs.Common.{◌≡◌, ◌∙◌, ℕ, zero, suc, ◌+◌, ◌-◌, ◌*◌, ◌<◌, ◌≤◌, ℤ, pos, ◌<ℤ◌, Bool, true, false, ◌&&◌, List, [], ◌∷◌, Some, None, arith, refl, sym, ap, subst}
-use Rattle.std.specs.Prelude.{int_le, ◌||◌, MatchOption}
+use Rattle.std.specs.Prelude.{◌||◌, MatchOption}
 use Rattle.std.specs.declared.option.Option.{Option}
 use Rattle.std.specs.List.{list_any, range_with_len}
 use Rattle.std.proofs.lemmas.Int.{ints}
@@ -20,6 +20,7 @@ use Rattle.bounds_bucket.specs.declared.extent.Extent.{Extent}
 use Rattle.bounds_bucket.specs.Extents.{Spans, is_within}
 use Rattle.bounds_bucket.specs.Ranges.{IsPartWhere, HasPixels}
 use Rattle.bounds_bucket.specs.Boxes.{is_boxed, IsBox, IsEmptyBox, IsBoxIfAny, HoldsTouched, whole_window, MeetsSameTiles}
+use Rattle.bounds_bucket.proofs.EndsOfCorners.{low_is, high_is}
 use Rattle.bounds_bucket.proofs.WholeNumbers.{le_in, lt_in, and_last}
 use Rattle.bounds_bucket.proofs.ObjectRects.{window_is}
 use Rattle.bounds_bucket.proofs.OneTile.{boundary_rises}
@@ -134,17 +135,13 @@ box_if_any s effect window rect None same h = λ x y. sym (same x y) ∙ h x y
 box_if_any s effect window rect (Some r) same h =
     subst (λ (q : Rect). IsBox s effect window q) (sym h.0) (record { some = h.1; pixels = same })
 
-or_no_more : (b : Bool) → (b || false) ≡ b
-or_no_more true = refl
-or_no_more false = refl
-
 amid_is : (s : State) (block : Block) (e : Extent) → Spans (kept_corners s block) (Some e) → (x y : ℤ)
     → is_within e x y ≡ (is_amid (kept_corners s block) (λ (v : WindowVertex). v.x) (centre x) && is_amid (kept_corners s block) (λ (v : WindowVertex). v.y) (centre y))
 amid_is s block e h x y =
-    let a = h.left (centre x) ∙ or_no_more (int_le e.across.least (centre x)) in
-    let b = h.right (centre x) ∙ or_no_more (int_le (centre x) e.across.greatest) in
-    let c = h.bottom (centre y) ∙ or_no_more (int_le e.up.least (centre y)) in
-    let d = h.top (centre y) ∙ or_no_more (int_le (centre y) e.up.greatest) in
+    let a = low_is e.across (λ (v : WindowVertex). v.x) (kept_corners s block) h.0 (centre x) in
+    let b = high_is e.across (λ (v : WindowVertex). v.x) (kept_corners s block) h.0 (centre x) in
+    let c = low_is e.up (λ (v : WindowVertex). v.y) (kept_corners s block) h.1 (centre y) in
+    let d = high_is e.up (λ (v : WindowVertex). v.y) (kept_corners s block) h.1 (centre y) in
     sym (λ i. (a i && b i) && (c i && d i))
 
 -- the window cut by an extent, the viewport and the scissor box is the box of a block
@@ -162,7 +159,7 @@ block_boxed s block e window a b r mode h p q t x y =
 pub block_unboxed : (s : State) (block : Block) (window : Rect) → block.mode < cut_modes → Spans (kept_corners s block) None → IsEmptyBox s (eff.Block block) window
 unfolding is_in_window_box
 block_unboxed s block window mode h x y =
-    ap (λ (u : Bool). is_in_rect window x y && u) (window_is s block x y mode) ∙ rw (h.left (centre x)) (and_no (is_in_rect window x y))
+    ap (λ (u : Bool). is_in_rect window x y && u) (window_is s block x y mode) ∙ rw h (and_no (is_in_rect window x y))
   where
     and_no : (b : Bool) → (b && false) ≡ false
     and_no true = refl

@@ -1,13 +1,14 @@
 //! What the kept triangles of a block of version 1 span.
-ghost use Rattle.std.specs.Prelude.{◌≡◌, ◌<◌, length, option_to_list, None, Some, ℤ};
+ghost use Rattle.std.specs.Prelude.{◌≡◌, ◌<◌, List, [], ◌∷◌, ◌++◌, length, option_to_list, Some, ℤ};
 ghost use Rattle.std.specs.Int.{int_min, int_max};
 ghost use Rattle.rc_base.specs.Drawing.Cover.{corner};
+ghost use Rattle.rc_base.specs.declared.window.WindowVertex.{WindowVertex as Corner};
 ghost use Rattle.rc_base.specs.Drawing.Kept.{kept_whole};
 ghost use Rattle.rc_base.specs.Cluster.Tiles.{kept_corners, corners_in};
 ghost use Rattle.geometry.specs.Pieces.{found};
 ghost use Rattle.rc_base.specs.Drawing.Triangles.{cut_modes};
 ghost use Rattle.geometry.specs.Items.{AreBelow};
-ghost use Rattle.bounds_bucket.specs.Extents.{AreEnds, AreEndsOfBoth, IsGrown, Spans};
+ghost use Rattle.bounds_bucket.specs.Extents.{IsGrown, IsHull, Spans};
 
 use crate::extent::{Ends, Extent};
 use geometry::{VertexCache, triangles};
@@ -27,7 +28,7 @@ fn greatest_of(a: i32, b: i32, c: i32) -> i32
 }
 
 fn ends_of(a: i32, b: i32, c: i32) -> Ends
-    ensures { AreEnds result a b c }
+    ensures { IsHull result (a ∷ b ∷ c ∷ []) }
 {
     Ends {
         least: least_of(a, b, c),
@@ -36,7 +37,7 @@ fn ends_of(a: i32, b: i32, c: i32) -> Ends
 }
 
 fn both(a: Ends, b: Ends) -> Ends
-    ensures { AreEndsOfBoth a b result }
+    ensures { (zs ws : List ℤ) → IsHull a zs → IsHull b ws → IsHull result (zs ++ ws) }
 {
     Ends {
         least: least_of(a.least, a.least, b.least),
@@ -45,8 +46,8 @@ fn both(a: Ends, b: Ends) -> Ends
 }
 
 fn extent_of(tri: &WindowTriangle) -> Extent
-    ensures across { AreEnds result.across (corner tri.now.v 0).x (corner tri.now.v 1).x (corner tri.now.v 2).x }
-    ensures up { AreEnds result.up (corner tri.now.v 0).y (corner tri.now.v 1).y (corner tri.now.v 2).y }
+    ensures across { IsHull result.across ((corner tri.now.v 0).x ∷ (corner tri.now.v 1).x ∷ (corner tri.now.v 2).x ∷ []) }
+    ensures up { IsHull result.up ((corner tri.now.v 0).y ∷ (corner tri.now.v 1).y ∷ (corner tri.now.v 2).y ∷ []) }
     ensures three { length tri.now.v ≡ 3 }
 {
     Extent {
@@ -56,8 +57,7 @@ fn extent_of(tri: &WindowTriangle) -> Extent
 }
 
 fn joined(a: Extent, b: Extent) -> Extent
-    ensures across { AreEndsOfBoth a.across b.across result.across }
-    ensures up { AreEndsOfBoth a.up b.up result.up }
+    ensures { (us vs : List Corner) → Spans us (Some a) → Spans vs (Some b) → Spans (us ++ vs) (Some result) }
 {
     Extent {
         across: both(a.across, b.across),
