@@ -25,58 +25,63 @@ all_or_not (turn ∷ turns) = elim (rests turn) [
   | inr moves ↦ inr (λ h. moves h.0)
 ]
 
-module _ (scene : Scene) (l : Layout) (depth : ℕ) (world : ℕ → World) (turn : ℕ → Turn) where
+-- ---- turns without end, of whatever kind, by the numbers of their actors
+
+module _ {T : Type 0} (turn : ℕ → T) where
   -- n turns from the k-th on
-  abbrev turns_from : ℕ → ℕ → List Turn
+  abbrev pub turns_from : ℕ → ℕ → List T
   turns_from k zero = []
   turns_from k (suc n) = turn k ∷ turns_from (suc k) n
 
-  leads : IsSchedule scene l depth world turn → (k n : ℕ) → AreTurns scene l depth (world k) (turns_from k n) (world (k + n))
+module _ {T : Type 0} (number : T → ℕ) (turn : ℕ → T) where
+  pub has_turn : (k n i : ℕ) → k ≤ i → i < k + n → IsIn (number (turn i)) (map number (turns_from turn k n))
+  has_turn k zero i le lt = absurd (omega (arith, le, lt))
+  has_turn k (suc n) i le lt = elim (cases_lt k i) [
+    | inl less ↦ inr (has_turn (suc k) n i (omega (arith, less)) (omega (arith, lt)))
+    | inr ge ↦ inl (let same : k ≡ i = omega (arith, le, ge) in ap (λ j. number (turn j)) same)
+  ]
+
+-- from a turn on, a moment before which each of the first n actors has had one
+pub moment : {T : Type 0} (number : T → ℕ) (actors : ℕ) (turn : ℕ → T)
+    → ((actor : ℕ) → actor < actors → (k : ℕ) → (later : ℕ) × (k ≤ later) × (number (turn later) ≡ actor)) → (k n : ℕ) → n ≤ actors
+    → (end : ℕ) × (k ≤ end) × ((actor : ℕ) → actor < n → (i : ℕ) × (k ≤ i) × (i < end) × (number (turn i) ≡ actor))
+moment number actors turn fair k zero le = (k, omega arith, λ actor lt. absurd (omega (arith, lt)))
+moment number actors turn fair k (suc n) le =
+    let r = moment number actors turn fair k n (omega (arith, le)) in
+    let f = fair n (omega (arith, le)) k in
+    let from = r.1 in
+    let behind = f.1 in (
+      r.0 + f.0 + 1,
+      omega (arith, from),
+      λ actor lt. elim (cases_lt actor n) [
+        | inl less ↦ let x = r.2 actor less in (let there = x.2 in (x.0, x.1, omega (arith, there), x.3))
+        | inr ge ↦ (f.0, behind, omega arith, f.2 ∙ (let same : n ≡ actor = omega (arith, ge, lt) in same))
+      ],
+    )
+
+module _ (scene : Scene) (l : Layout) (depth : ℕ) (world : ℕ → World) (turn : ℕ → Turn) where
+  leads : IsSchedule scene l depth world turn → (k n : ℕ) → AreTurns scene l depth (world k) (turns_from turn k n) (world (k + n))
   leads s k zero = ap world (let e : k + 0 ≡ k = omega arith in e)
   leads s k (suc n) =
       let e : suc k + n ≡ k + suc n = omega arith in
-      (world (suc k), s k, subst (λ i. AreTurns scene l depth (world (suc k)) (turns_from (suc k) n) (world i)) e (leads s (suc k) n))
-
-  has : (k n i : ℕ) → k ≤ i → i < k + n → IsIn (number_of scene (turn i)) (map (number_of scene) (turns_from k n))
-  has k zero i le lt = absurd (omega (arith, le, lt))
-  has k (suc n) i le lt = elim (cases_lt k i) [
-    | inl less ↦ inr (has (suc k) n i (omega (arith, less)) (omega (arith, lt)))
-    | inr ge ↦ inl (let same : k ≡ i = omega (arith, le, ge) in ap (λ j. number_of scene (turn j)) same)
-  ]
-
-  -- from a turn on, a moment before which each of the first n actors has had one
-  moment : IsFair scene l turn → (k n : ℕ) → n ≤ actor_total scene l
-      → (end : ℕ) × (k ≤ end) × ((actor : ℕ) → actor < n → (i : ℕ) × (k ≤ i) × (i < end) × (number_of scene (turn i) ≡ actor))
-  moment fair k zero le = (k, omega arith, λ actor lt. absurd (omega (arith, lt)))
-  moment fair k (suc n) le =
-      let r = moment fair k n (omega (arith, le)) in
-      let f = fair n (omega (arith, le)) k in
-      let from = r.1 in
-      let behind = f.1 in (
-        r.0 + f.0 + 1,
-        omega (arith, from),
-        λ actor lt. elim (cases_lt actor n) [
-          | inl less ↦ let x = r.2 actor less in (let there = x.2 in (x.0, x.1, omega (arith, there), x.3))
-          | inr ge ↦ (f.0, behind, omega arith, f.2 ∙ (let same : n ≡ actor = omega (arith, ge, lt) in same))
-        ],
-      )
+      (world (suc k), s k, subst (λ i. AreTurns scene l depth (world (suc k)) (turns_from turn (suc k) n) (world i)) e (leads s (suc k) n))
 
   module _ (fair_turns : FairTurnsMoveSomebody) (keep : RoundsKeepWorldsFlowing) (less : RoundsLeaveLess) (pos : 0 < depth) (well : IsWellFormed (sync_lists_of scene))
       (s : IsSchedule scene l depth world turn) (fair : IsFair scene l turn) where
     ends : (most k : ℕ) → IsFlowing scene l (world k) → work_in scene l (world k) < most → (j : ℕ) × AllHaveStopped scene l (world j)
     ends zero k f lt = absurd (omega (arith, lt))
     ends (suc most) k f lt =
-        let m = moment fair k (actor_total scene l) (omega arith) in
+        let m = moment (number_of scene) (actor_total scene l) turn fair k (actor_total scene l) (omega arith) in
         let from = m.1 in
         let n = m.0 - k in
         let to : k + n ≡ m.0 = omega (arith, from) in
         let goes = leads s k n in
-        let turns = turns_from k n in
+        let turns = turns_from turn k n in
         elim (all_or_not turns) [
           | inl rest ↦ (
             k + n,
             fair_turns scene l depth turns (world k) (world (k + n)) pos f
-                (λ actor la. let x = m.2 actor la in (let before = x.2 in subst (λ a. IsIn a (map (number_of scene) turns)) x.3 (has k n x.0 x.1 (omega (arith, to, before))))) goes rest,
+                (λ actor la. let x = m.2 actor la in (let before = x.2 in subst (λ a. IsIn a (map (number_of scene) turns)) x.3 (has_turn (number_of scene) turn k n x.0 x.1 (omega (arith, to, before))))) goes rest,
           )
           | inr moving ↦ (let falls = less scene l depth (world k) (world (k + n)) turns well f goes moving in
               ends most (k + n) (keep scene l depth (world k) (world (k + n)) turns f goes) (omega (arith, lt, falls)))

@@ -20,6 +20,7 @@ mod FinishedRuns
 mod OrderlySequences
 mod SequencesAreOrdered
 mod UsedOperations
+mod TilesAtRest
 mod SomebodyCanMove
 mod TilesKeepFlowing
 mod TurnsKeepFlowing
@@ -32,3 +33,11 @@ mod TurnsLeaveLess
 mod WorkIsBounded
 mod OneRecord
 mod FairSchedulesEnd
+mod ShownParts
+mod EntriesKeepPace
+mod PartsAreShown
+mod StillThreads
+mod ThreadsMoveSomebody
+mod TilesHavePixels
+mod ThreadsLeaveLess
+mod FairThreadsEnd

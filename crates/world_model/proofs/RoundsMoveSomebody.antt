@@ -31,7 +31,8 @@ use Rattle.world_model.specs.declared.moves.Move.TheVariants.{Client as ClientMo
 use Rattle.world_model.specs.declared.moves.TileAnswer.{TileAnswer}
 use Rattle.world_model.proofs.RestChangesNothing.{no_item}
 use Rattle.world_model.proofs.RestingRounds.{no_short_item, all_keep, all_known, find, pick, Exists}
-use Rattle.world_model.proofs.SomebodyCanMove.{ClientRests, TileRests, ManagerRests, AllRest, somebody_can_move}
+use Rattle.world_model.proofs.SomebodyCanMove.{ClientRests, ManagerRests, AllRest, somebody_can_move}
+use Rattle.world_model.proofs.TilesAtRest.{TileRests}
 
 module _ (scene : Scene) (l : Layout) (depth : ℕ) where
   -- ---- what a move at rest says
@@ -121,12 +122,12 @@ module _ (scene : Scene) (l : Layout) (depth : ℕ) where
 
   -- ---- of each move of a round, by one world
 
-  abbrev RestsAt : World → Turn → Type 0
+  abbrev pub RestsAt : World → Turn → Type 0
   RestsAt w (ClientTurn client answer) = ClientRests l depth w client
   RestsAt w (ManagerTurn answer) = ManagerRests scene l depth w
   RestsAt w (TileTurn tile answer) = TileRests scene w tile
 
-  rests_at : (w v : World) (m : Turn) → IsResting m → IsTurn scene l depth w m v → RestsAt w m
+  pub rests_at : (w v : World) (m : Turn) → IsResting m → IsTurn scene l depth w m v → RestsAt w m
   rests_at w v (ClientTurn client (Ok answer)) rest m = client_rests w v client answer rest m.step.step
   rests_at w v (ClientTurn client (Err error)) rest m = absurd rest
   rests_at w v (ManagerTurn (Ok answer)) rest m = manager_rests w m.step.deed answer rest m.step.answered m.step.next m.step.empty m.step.full
@@ -174,7 +175,7 @@ module _ (scene : Scene) (l : Layout) (depth : ℕ) where
         no_parcel = λ c lc asked. sym (s.parcels c tile lc lt) ∙ b.no_parcel c lc (ap (λ (a : Tile). asks a.short a.progress c) e ∙ asked);
       }
 
-  before : (w v : World) (m : Turn) → Exists scene l depth m → IsSameWorld scene l w v → RestsAt v m → RestsAt w m
+  pub before : (w v : World) (m : Turn) → Exists scene l depth m → IsSameWorld scene l w v → RestsAt v m → RestsAt w m
   before w v (ClientTurn client answer) lc s b = client_before w v client lc s b
   before w v (ManagerTurn answer) lc s b = manager_before w v s b
   before w v (TileTurn tile answer) lt s b = tile_before w v tile lt s b

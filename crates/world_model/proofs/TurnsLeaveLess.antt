@@ -56,16 +56,16 @@ use Rattle.world_model.proofs.TurnsKeepFlowing.{turn_flows}
 
 -- ---- sums
 
-total_same : (f g : ℕ → ℕ) (n : ℕ) → ((i : ℕ) → i < n → g i ≡ f i) → total g n ≡ total f n
+pub total_same : (f g : ℕ → ℕ) (n : ℕ) → ((i : ℕ) → i < n → g i ≡ f i) → total g n ≡ total f n
 total_same f g zero h = refl
 total_same f g (suc n) h = let a = total_same f g n (λ i lt. h i (omega (arith, lt))) in let b = h n (omega arith) in omega (arith, a, b)
 
-total_least : (f g : ℕ → ℕ) (n : ℕ) → ((i : ℕ) → i < n → g i ≤ f i) → total g n ≤ total f n
+pub total_least : (f g : ℕ → ℕ) (n : ℕ) → ((i : ℕ) → i < n → g i ≤ f i) → total g n ≤ total f n
 total_least f g zero h = omega arith
 total_least f g (suc n) h = let a = total_least f g n (λ i lt. h i (omega (arith, lt))) in let b = h n (omega arith) in omega (arith, a, b)
 
 -- where one number is another, so much
-total_change : (f g : ℕ → ℕ) (n k : ℕ) → k < n → ((i : ℕ) → i < n → i ≢ k → g i ≡ f i) → total g n + f k ≡ total f n + g k
+pub total_change : (f g : ℕ → ℕ) (n k : ℕ) → k < n → ((i : ℕ) → i < n → i ≢ k → g i ≡ f i) → total g n + f k ≡ total f n + g k
 total_change f g zero k lt h = absurd (omega (arith, lt))
 total_change f g (suc n) k lt h = elim (cases_lt k n) [
   | inl below ↦

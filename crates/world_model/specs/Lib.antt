@@ -9,3 +9,6 @@ pub mod Flowing
 pub mod Work
 pub mod Laws
 pub mod Fair
+pub mod Threaded
+pub mod ThreadedLaws
+pub mod ThreadedFair

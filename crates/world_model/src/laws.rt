@@ -8,6 +8,10 @@ ghost use Rattle.world_model.specs.Laws.{NewWorldsFlow, TurnsKeepWorldsFlowing, 
 ghost use Rattle.world_model.specs.Laws.{MovesAreTurns, AmpleTurnsAreMoves, TurnsToAmpleWorldsAreMoves, AmpleWorldsEnd};
 ghost use Rattle.world_model.specs.Laws.{RestingTurnsChangeNothing, RestingRoundsChangeNothing, StoppedWorldsRest, LastTurnsTell};
 ghost use Rattle.world_model.specs.Fair.{FairTurnsMoveSomebody, FairSchedulesEnd, FairRunsEnd, FewTurnsMove, NewRunsMoveSeldom};
+ghost use Rattle.world_model.specs.ThreadedFair.{ThreadedTurnsLeaveLess, ThreadedTurnsLeaveNoMore, NewThreadedWorldsHaveLittleToDo};
+ghost use Rattle.world_model.specs.ThreadedFair.{FairThreadedSchedulesEnd, FairThreadedRunsEnd, NewThreadedRunsMoveSeldom};
+ghost use Rattle.world_model.specs.ThreadedLaws.{LayoutsHavePixels, NewThreadedWorldsFlow, ThreadedTurnsKeepFlowing, AllThreadedTurnsKeepFlowing};
+ghost use Rattle.world_model.specs.ThreadedLaws.{ThreadedTurnsMoveSomebody, NoThreadedRunStandsStill};
 ghost use Rattle.world_model.specs.Work.{TurnsLeaveLess, TurnsLeaveNoMore, RoundsLeaveLess, NewWorldsHaveLittleToDo, SteppedRunsHaveLittleToDo};
 
 use client_issue::laws::sends_are_parcels;
@@ -183,5 +187,36 @@ pub fn fair_schedules_end()
 {
     entries_have_clients();
     turns_keep_worlds_flowing();
+    turns_leave_less();
+}
+
+/// The cluster that runs on threads doesn't stand still: with lanes of the tiles' parts, a part that each tile hands over, and a caller who takes them, too,
+/// somebody moves among turns of which each actor has one and so has the caller, until all have stopped and no part waits; for lanes of every depth above 0,
+/// whoever is short. Were a tile to hand a part over for ever, it would be two frames ahead of the tile whose part the caller misses; but no entry is granted
+/// before each tile has the one before it.
+pub fn threads_move_somebody()
+    ensures pixels { LayoutsHavePixels }
+    ensures first { NewThreadedWorldsFlow }
+    ensures next { ThreadedTurnsKeepFlowing }
+    ensures all { AllThreadedTurnsKeepFlowing }
+    ensures some { ThreadedTurnsMoveSomebody }
+    ensures run { NoThreadedRunStandsStill }
+{
+    entries_have_clients();
+    turns_keep_worlds_flowing();
+}
+
+/// Every fair schedule of the cluster that runs on threads ends: whatever the sequence of turns without end, if each actor has one again and again, and so has
+/// the caller, all come to have stopped and no part waits. For each turn that moves something leaves less to do: from a new world of a scene within the limits
+/// fewer than 2^42 turns do. That a thread has turns at all is up to the system.
+pub fn fair_threads_end()
+    ensures less { ThreadedTurnsLeaveLess }
+    ensures no_more { ThreadedTurnsLeaveNoMore }
+    ensures little { NewThreadedWorldsHaveLittleToDo }
+    ensures ends { FairThreadedSchedulesEnd }
+    ensures runs { FairThreadedRunsEnd }
+    ensures seldom { NewThreadedRunsMoveSeldom }
+{
+    threads_move_somebody();
     turns_leave_less();
 }

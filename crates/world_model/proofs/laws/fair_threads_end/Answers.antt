@@ -1,0 +1,31 @@
+use Rattle.world_model.specs.ThreadedFair.{ThreadedTurnsLeaveLess, ThreadedTurnsLeaveNoMore, FairThreadedSchedulesEnd}
+use Rattle.world_model.proofs.FairThreadsEnd.{fair_threads_end, fair_thread_runs_end, new_threads_move_seldom}
+use Rattle.world_model.proofs.ThreadsLeaveLess.{threads_leave_less, threads_leave_no_more, new_threads_little}
+use Rattle.world_model.proofs.laws.fair_threads_end.Goals as goal
+
+pub returns-clause-less : goal.returns-clause-less
+returns-clause-less c = threads_leave_less c.turns_leave_less.ensures.less
+
+pub returns-clause-no_more : goal.returns-clause-no_more
+returns-clause-no_more c = threads_leave_no_more c.turns_leave_less.ensures.no_more (threads_leave_less c.turns_leave_less.ensures.less)
+
+pub returns-clause-little : goal.returns-clause-little
+returns-clause-little c = new_threads_little c.turns_leave_less.ensures.first
+
+pub returns-clause-ends : goal.returns-clause-ends
+returns-clause-ends c =
+    let less : ThreadedTurnsLeaveLess = threads_leave_less c.turns_leave_less.ensures.less in
+    fair_threads_end c.threads_move_somebody.ensures.next less (threads_leave_no_more c.turns_leave_less.ensures.no_more less) c.threads_move_somebody.ensures.some
+
+pub returns-clause-runs : goal.returns-clause-runs
+returns-clause-runs c =
+    let less : ThreadedTurnsLeaveLess = threads_leave_less c.turns_leave_less.ensures.less in
+    let ends : FairThreadedSchedulesEnd =
+    fair_threads_end c.threads_move_somebody.ensures.next less (threads_leave_no_more c.turns_leave_less.ensures.no_more less) c.threads_move_somebody.ensures.some in
+    fair_thread_runs_end c.threads_move_somebody.ensures.first ends
+
+pub returns-clause-seldom : goal.returns-clause-seldom
+returns-clause-seldom c =
+    let less : ThreadedTurnsLeaveLess = threads_leave_less c.turns_leave_less.ensures.less in
+    let more : ThreadedTurnsLeaveNoMore = threads_leave_no_more c.turns_leave_less.ensures.no_more less in
+    new_threads_move_seldom c.threads_move_somebody.ensures.first (new_threads_little c.turns_leave_less.ensures.first) c.threads_move_somebody.ensures.next less more

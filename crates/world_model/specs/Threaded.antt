@@ -1,0 +1,199 @@
+-- The cluster that runs on threads, as turns of a world: the stepped cluster, for each tile a lane of the parts that it shows and a part that it hands over, and
+-- the caller, who takes these parts and puts the frames together.
+use Rattle.std.specs.Prelude.{◌≡◌, ◌≢◌, ℕ, ◌+◌, ◌<◌, ◌⊎◌, Bool, true, false, List, [], ◌∷◌, ◌++◌, length, map, Option, Some, None, slice_index_or, Result, Ok, Err}
+use Rattle.rc_base.specs.Cluster.Tiles.{tile_count}
+use Rattle.rc_base.specs.Lists.{IsIn}
+use Rattle.rc_base.specs.declared.cluster.TilePart.{TilePart}
+use Rattle.rc_base.specs.declared.image.Image.{Image}
+use Rattle.rc_base.specs.declared.out_of_memory.OutOfMemory.{OutOfMemory}
+use Rattle.rc_base.specs.declared.scene.Scene.{Scene}
+use Rattle.rc_base.specs.declared.window.Layout.{Layout}
+use Rattle.assembler.specs.Assembled.{places_of, short_of, IsAssembled, IsNewAssembler}
+use Rattle.assembler.specs.Places.{in_place}
+use Rattle.assembler.specs.declared.places.Assembler.{Assembler}
+use Rattle.world_model.specs.declared.moves.TileAnswer.{TileAnswer}
+use Rattle.world_model.specs.declared.moves.TileAnswer.TheVariants.{Performed, Swapped, Learnt, Took, Held, Closed, Dropped, Blocked, Ended}
+use Rattle.world_model.specs.Turns.{Turn, IsTurn, IsResting, number_of, AllHaveStopped}
+use Rattle.world_model.specs.Turns.Turn.{ClientTurn, ManagerTurn, TileTurn}
+use Rattle.world_model.specs.World.{World, client_total, IsNewWorld}
+
+-- ---- the world
+
+-- a lane of parts: what it holds, and how often it was found empty
+pub record PartLane : Type 0 where
+  pub parts : List TilePart
+  pub empty_seen : ℕ
+
+-- it gave its first part; it gave none; how often it was found empty; and it is empty
+abbrev pub GaveFirst : PartLane → TilePart → PartLane → Type 0
+GaveFirst a part b = a.parts ≡ part ∷ b.parts
+
+abbrev pub GaveNone : PartLane → PartLane → Type 0
+GaveNone a b = b.parts ≡ a.parts
+
+abbrev pub empties_of : PartLane → ℕ
+empties_of a = a.empty_seen
+
+abbrev pub IsBare : PartLane → Type 0
+IsBare a = a.parts ≡ []
+
+-- what stands where there is no lane
+abbrev pub no_lane : PartLane
+no_lane = record { parts = []; empty_seen = 0 }
+
+-- The stepped cluster; the lanes of parts, tiles rising; the part that each tile hands over, and the caller's assembler of frames.
+pub record ThreadedWorld : Type 0 where
+  pub cluster : World
+  pub lanes : List PartLane
+  pub handing : ℕ → Option TilePart
+  pub caller : Assembler
+
+-- what the tile's lane of parts holds
+abbrev pub lane_of : ThreadedWorld → ℕ → List TilePart
+lane_of w tile = (slice_index_or w.lanes tile no_lane).parts
+
+-- nobody has done anything
+pub record IsNewThreadedWorld (scene : Scene) (l : Layout) (w : ThreadedWorld) : Type 0 where
+  pub cluster : IsNewWorld scene l w.cluster
+  pub count : length w.lanes ≡ tile_count l
+  pub lanes : (tile : ℕ) → tile < tile_count l → lane_of w tile ≡ []
+  pub handing : (tile : ℕ) → tile < tile_count l → w.handing tile ≡ None
+  pub caller : IsNewAssembler l w.caller
+
+-- ---- turns
+
+-- A turn of a core: of a client's, the manager's, or that of a tile that hands nothing over; of a tile that hands a part over, where it is sent or isn't; and of
+-- the caller, where it moves something or doesn't.
+pub data ThreadedTurn : Type 0 where
+  Steps : (turn : Turn) → ThreadedTurn
+  HandsOver : (tile : ℕ) (sent : Bool) → ThreadedTurn
+  Collects : (moved : Bool) → ThreadedTurn
+
+-- ---- a part on its way into its lane
+
+-- there is room for the part
+pub record IsSent (depth : ℕ) (part : TilePart) (lane later : List TilePart) (handing : Option TilePart) : Type 0 where
+  pub room : length lane < depth
+  pub appended : later ≡ lane ++ part ∷ []
+  pub free : handing ≡ None
+
+-- the lane is full, and the part waits
+pub record IsKept (depth : ℕ) (part : TilePart) (lane later : List TilePart) (handing : Option TilePart) : Type 0 where
+  pub full : length lane ≡ depth
+  pub same : later ≡ lane
+  pub waits : handing ≡ Some part
+
+-- what becomes of a tile's lane and of what it hands over, where it has this part for the caller, or none
+abbrev pub IsPut : ℕ → Option TilePart → List TilePart → List TilePart → Option TilePart → Type 0
+IsPut depth None lane later handing = (later ≡ lane) × (handing ≡ None)
+IsPut depth (Some part) lane later handing = IsSent depth part lane later handing ⊎ IsKept depth part lane later handing
+
+-- What a tile's step has for the caller: the part that it shows, whatever its pixels are; where memory lacked, one without pixels.
+abbrev pub Offers : Result TileAnswer OutOfMemory → Option TilePart → Type 0
+Offers (Ok Performed) offered = offered ≡ None
+Offers (Ok Swapped) offered = (part : TilePart) × (offered ≡ Some part)
+Offers (Ok Learnt) offered = offered ≡ None
+Offers (Ok (Took client)) offered = offered ≡ None
+Offers (Ok (Held client)) offered = offered ≡ None
+Offers (Ok (Closed client)) offered = offered ≡ None
+Offers (Ok (Dropped client)) offered = offered ≡ None
+Offers (Ok Blocked) offered = offered ≡ None
+Offers (Ok Ended) offered = offered ≡ None
+Offers (Err lack) offered = (part : TilePart) × (offered ≡ Some part) × (part.pixels ≡ [])
+
+-- ---- what a turn does
+
+-- all that tiles show stays as it was
+pub record NoParts (l : Layout) (w later : ThreadedWorld) : Type 0 where
+  pub count : length later.lanes ≡ length w.lanes
+  pub lanes : (tile : ℕ) → tile < tile_count l → lane_of later tile ≡ lane_of w tile
+  pub handing : (tile : ℕ) → tile < tile_count l → later.handing tile ≡ w.handing tile
+  pub caller : later.caller ≡ w.caller
+
+-- and all but what this tile shows
+pub record OnlyPartsOf (l : Layout) (w : ThreadedWorld) (tile : ℕ) (later : ThreadedWorld) : Type 0 where
+  pub count : length later.lanes ≡ length w.lanes
+  pub lanes : (i : ℕ) → i < tile_count l → i ≢ tile → lane_of later i ≡ lane_of w i
+  pub handing : (i : ℕ) → i < tile_count l → i ≢ tile → later.handing i ≡ w.handing i
+  pub caller : later.caller ≡ w.caller
+
+-- The caller completes no frame and takes no part, and is short only where it was.
+pub record IsIdleCall (l : Layout) (w : ThreadedWorld) (frame : Option Image) (later : ThreadedWorld) : Type 0 where
+  pub none : frame ≡ None
+  pub lanes : (tile : ℕ) → tile < tile_count l → lane_of later tile ≡ lane_of w tile
+  pub short : short_of later.caller ≡ short_of w.caller
+
+module _ (scene : Scene) (l : Layout) (depth : ℕ) where
+  -- a client or the manager takes a step
+  pub record IsOtherTurn (w : ThreadedWorld) (turn : Turn) (later : ThreadedWorld) : Type 0 where
+    pub step : IsTurn scene l depth w.cluster turn later.cluster
+    pub parts : NoParts l w later
+
+  -- A tile that hands nothing over takes a step, and what it has for the caller is put into its lane, or waits.
+  pub record IsTileCoreTurn (w : ThreadedWorld) (tile : ℕ) (answer : Result TileAnswer OutOfMemory) (later : ThreadedWorld) : Type 0 where
+    pub free : w.handing tile ≡ None
+    pub step : IsTurn scene l depth w.cluster (TileTurn tile answer) later.cluster
+    pub offered : Option TilePart
+    pub offers : Offers answer offered
+    pub put : IsPut depth offered (lane_of w tile) (lane_of later tile) (later.handing tile)
+    pub only : OnlyPartsOf l w tile later
+
+  abbrev pub IsSentOrKept : Bool → TilePart → List TilePart → List TilePart → Option TilePart → Type 0
+  IsSentOrKept true part lane later handing = IsSent depth part lane later handing
+  IsSentOrKept false part lane later handing = IsKept depth part lane later handing
+
+  -- A tile that hands a part over puts it into its lane, or finds that full; its core takes no step.
+  pub record IsHandOver (w : ThreadedWorld) (tile : ℕ) (sent : Bool) (later : ThreadedWorld) : Type 0 where
+    pub low : tile < tile_count l
+    pub cluster : later.cluster ≡ w.cluster
+    pub part : TilePart
+    pub waits : w.handing tile ≡ Some part
+    pub put : IsSentOrKept sent part (lane_of w tile) (lane_of later tile) (later.handing tile)
+    pub only : OnlyPartsOf l w tile later
+
+  -- The caller takes at most one part of each tile, as the assembler does.
+  pub record IsCall (w : ThreadedWorld) (moved : Bool) (later : ThreadedWorld) : Type 0 where
+    pub cluster : later.cluster ≡ w.cluster
+    pub handing : (tile : ℕ) → tile < tile_count l → later.handing tile ≡ w.handing tile
+    pub count : length later.lanes ≡ length w.lanes
+    pub frame : Option Image
+    pub step : IsAssembled GaveFirst GaveNone empties_of IsBare w.caller w.lanes frame later.caller later.lanes
+    pub idle : moved ≡ false → IsIdleCall l w frame later
+    pub moves : moved ≡ true → IsIdleCall l w frame later → ⊥
+
+  abbrev pub IsThreadedTurn : ThreadedWorld → ThreadedTurn → ThreadedWorld → Type 0
+  IsThreadedTurn w (Steps (ClientTurn client answer)) later = IsOtherTurn w (ClientTurn client answer) later
+  IsThreadedTurn w (Steps (ManagerTurn answer)) later = IsOtherTurn w (ManagerTurn answer) later
+  IsThreadedTurn w (Steps (TileTurn tile answer)) later = IsTileCoreTurn w tile answer later
+  IsThreadedTurn w (HandsOver tile sent) later = IsHandOver w tile sent later
+  IsThreadedTurn w (Collects moved) later = IsCall w moved later
+
+  -- turns one after the other
+  abbrev pub AreThreadedTurns : ThreadedWorld → List ThreadedTurn → ThreadedWorld → Type 0
+  AreThreadedTurns w [] later = later ≡ w
+  AreThreadedTurns w (turn ∷ turns) later = (v : ThreadedWorld) × IsThreadedTurn w turn v × AreThreadedTurns v turns later
+
+-- ---- rounds
+
+-- nothing moves: the actor is blocked, or has ended; the part isn't sent; the caller finds nothing
+abbrev pub IsStill : ThreadedTurn → Type 0
+IsStill (Steps turn) = IsResting turn
+IsStill (HandsOver tile sent) = sent ≡ false
+IsStill (Collects moved) = moved ≡ false
+
+-- the actors' numbers, as in the stepped cluster, and behind them the caller's
+abbrev pub threaded_number : Scene → Layout → ThreadedTurn → ℕ
+threaded_number scene l (Steps turn) = number_of scene turn
+threaded_number scene l (HandsOver tile sent) = client_total scene + 1 + tile
+threaded_number scene l (Collects moved) = client_total scene + 1 + tile_count l
+
+-- among the turns each actor has one, or more, and so has the caller
+abbrev pub HaveThreadedTurns : Scene → Layout → List ThreadedTurn → Type 0
+HaveThreadedTurns scene l turns = (actor : ℕ) → actor < client_total scene + 1 + tile_count l + 1 → IsIn actor (map (threaded_number scene l) turns)
+
+-- all actors have stopped, and no part waits for anybody
+pub record AllThreadsHaveStopped (scene : Scene) (l : Layout) (w : ThreadedWorld) : Type 0 where
+  pub cluster : AllHaveStopped scene l w.cluster
+  pub handing : (tile : ℕ) → tile < tile_count l → w.handing tile ≡ None
+  pub lanes : (tile : ℕ) → tile < tile_count l → lane_of w tile ≡ []
+  pub places : short_of w.caller ≡ false → (tile : ℕ) → tile < tile_count l → in_place (places_of w.caller) tile ≡ None
