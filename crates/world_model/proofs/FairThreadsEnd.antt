@@ -7,9 +7,10 @@ use Rattle.rc_base.specs.Lists.{IsIn}
 use Rattle.rc_base.specs.Orders.Sync.{IsWellFormed, sync_lists_of}
 use Rattle.rc_base.specs.declared.scene.Scene.{Scene}
 use Rattle.rc_base.specs.declared.window.Layout.{Layout}
+use Rattle.order_model.specs.Scenes.{ScenesWithinLimitsAreDrawable, ScenesWithinLimitsAreRunnable}
 use Rattle.world_model.specs.Threaded.{ThreadedWorld, ThreadedTurn, AreThreadedTurns, IsStill, threaded_number, AllThreadsHaveStopped}
 use Rattle.world_model.specs.ThreadedFair.{threaded_work, ThreadedTurnsLeaveLess, ThreadedTurnsLeaveNoMore, NewThreadedWorldsHaveLittleToDo, IsThreadedSchedule, IsFairToThreads, FairThreadedSchedulesEnd, FairThreadedRunsEnd, AreThreadsMoving, NewThreadedRunsMoveSeldom}
-use Rattle.world_model.specs.ThreadedLaws.{IsThreadedFlowing, HavePixels, NewThreadedWorldsFlow, ThreadedTurnsKeepFlowing, ThreadedTurnsMoveSomebody}
+use Rattle.world_model.specs.ThreadedLaws.{LayoutsHavePixels, IsThreadedFlowing, HavePixels, NewThreadedWorldsFlow, ThreadedTurnsKeepFlowing, ThreadedTurnsMoveSomebody}
 use Rattle.world_model.specs.World.{client_total}
 use Rattle.world_model.proofs.FairSchedulesEnd.{turns_from, has_turn, moment}
 use Rattle.world_model.proofs.ThreadsLeaveLess.{stands}
@@ -100,12 +101,18 @@ pub fair_threads_end : ThreadedTurnsKeepFlowing → ThreadedTurnsLeaveLess → T
 fair_threads_end keep less more moves scene l depth world turn pos some pixels well f s fair =
     ends scene l depth keep less more some pixels well moves pos world turn s fair (threaded_work scene l (world 0) + 1) 0 f (omega arith)
 
-pub fair_thread_runs_end : NewThreadedWorldsFlow → FairThreadedSchedulesEnd → FairThreadedRunsEnd
-fair_thread_runs_end new fair_end scene l depth world turn pos some pixels well first s fair =
-    fair_end scene l depth world turn pos some pixels well (new scene l (world 0) first) s fair
+-- ---- of scenes within the limits
 
-pub new_threads_move_seldom : NewThreadedWorldsFlow → NewThreadedWorldsHaveLittleToDo → ThreadedTurnsKeepFlowing → ThreadedTurnsLeaveLess → ThreadedTurnsLeaveNoMore → NewThreadedRunsMoveSeldom
-new_threads_move_seldom new little keep less more scene l depth moving turns w v some pixels well first clients tiles short goes m =
-    let a = little scene l w first clients tiles short in
-    let b = count scene l depth keep less more some pixels well moving turns w v (new scene l w first) goes m in
-    omega (arith, a, b)
+module _ (drawable : ScenesWithinLimitsAreDrawable) (runnable : ScenesWithinLimitsAreRunnable) (pixels : LayoutsHavePixels) (new : NewThreadedWorldsFlow) where
+  pub fair_thread_runs_end : FairThreadedSchedulesEnd → FairThreadedRunsEnd
+  fair_thread_runs_end fair_end scene l depth world turn within fits first s fair =
+      let run = runnable scene l depth within fits in
+      let deep = run.some_depth in
+      fair_end scene l depth world turn (omega (arith, deep)) run.some_tiles (pixels scene l depth fits) (drawable scene within).formed (new scene l (world 0) first) s fair
+
+  pub new_threads_move_seldom : NewThreadedWorldsHaveLittleToDo → ThreadedTurnsKeepFlowing → ThreadedTurnsLeaveLess → ThreadedTurnsLeaveNoMore → NewThreadedRunsMoveSeldom
+  new_threads_move_seldom little keep less more scene l depth moving turns w v within fits first goes m =
+      let run = runnable scene l depth within fits in
+      let a = little scene l w first run.few run.few_tiles (λ client. let k = run.short client in omega (arith, k)) in
+      let b = count scene l depth keep less more run.some_tiles (pixels scene l depth fits) (drawable scene within).formed moving turns w v (new scene l w first) goes m in
+      omega (arith, a, b)

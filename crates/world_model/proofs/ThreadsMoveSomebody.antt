@@ -12,6 +12,7 @@ use Rattle.rc_base.specs.declared.scene.Scene.{Scene}
 use Rattle.rc_base.specs.declared.sync.Entry.{Entry}
 use Rattle.rc_base.specs.declared.sync.Grant.{Grant}
 use Rattle.rc_base.specs.declared.window.Layout.{Layout}
+use Rattle.rc_base.proofs.WithinLimits.{depth_within}
 use Rattle.order_model.specs.Report.{frame_count}
 use Rattle.order_model.specs.Standing.{Progress}
 use Rattle.sync_manager.specs.Progress.{ManagerProgress}
@@ -21,7 +22,7 @@ use Rattle.assembler.specs.Assembled.{places_of, short_of}
 use Rattle.assembler.specs.Places.{in_place}
 use Rattle.world_model.specs.Laws.{NewWorldsFlow, TurnsKeepWorldsFlowing}
 use Rattle.world_model.specs.Threaded.{ThreadedWorld, lane_of, AllThreadsHaveStopped}
-use Rattle.world_model.specs.ThreadedLaws.{waiting_parts, AreShown, IsThreadedFlowing, NewThreadedWorldsFlow, ThreadedTurnsKeepFlowing, AllThreadedTurnsKeepFlowing, ThreadedTurnsMoveSomebody, NoThreadedRunStandsStill}
+use Rattle.world_model.specs.ThreadedLaws.{LayoutsHavePixels, waiting_parts, AreShown, IsThreadedFlowing, NewThreadedWorldsFlow, ThreadedTurnsKeepFlowing, AllThreadedTurnsKeepFlowing, ThreadedTurnsMoveSomebody, NoThreadedRunStandsStill}
 use Rattle.world_model.specs.Turns.{AllHaveStopped}
 use Rattle.world_model.proofs.PartsAreShown.{is_misfit_of, none_in, turn_keeps}
 use Rattle.world_model.proofs.RoundsMoveSomebody.{stopped_on}
@@ -297,6 +298,7 @@ new_threads_flow new scene l w h = record {
     no_part : (tile : ℕ) → in_place (places_of w.caller) tile ≡ None
     no_part tile = ap (λ (ps : List (Option TilePart)). in_place ps tile) h.caller.places ∙ none_in (tile_count l) tile
 
-pub no_thread_stands_still : NewThreadedWorldsFlow → AllThreadedTurnsKeepFlowing → ThreadedTurnsMoveSomebody → NoThreadedRunStandsStill
-no_thread_stands_still new keep moves scene l depth turns round first w later pos pixels begins leads has goes still =
-    moves scene l depth round w later pos (keep scene l depth first w turns pixels (new scene l first begins) leads) has goes still
+pub no_thread_stands_still : LayoutsHavePixels → NewThreadedWorldsFlow → AllThreadedTurnsKeepFlowing → ThreadedTurnsMoveSomebody → NoThreadedRunStandsStill
+no_thread_stands_still pixels new keep moves scene l depth turns round first w later fits begins leads has goes still =
+    let deep = (depth_within scene l depth fits).0 in
+    moves scene l depth round w later (omega (arith, deep)) (keep scene l depth first w turns (pixels scene l depth fits) (new scene l first begins) leads) has goes still

@@ -3,6 +3,7 @@ use Rattle.std.specs.Prelude.{◌≡◌, ℕ, zero, suc, ◌+◌, ◌<◌, ◌�
 use Rattle.std.specs.List.{AllByRecursion}
 use Rattle.rc_base.specs.Cluster.Tiles.{tile_count}
 use Rattle.rc_base.specs.Contexts.Issue.{stream_of}
+use Rattle.rc_base.specs.Formats.Within.{IsWithin, IsLayoutFor}
 use Rattle.rc_base.specs.Orders.Sync.{IsWellFormed, sync_lists_of}
 use Rattle.rc_base.specs.declared.scene.Scene.{Scene}
 use Rattle.rc_base.specs.declared.window.Layout.{Layout}
@@ -71,10 +72,11 @@ FairThreadedSchedulesEnd =
     → IsWellFormed (sync_lists_of scene) → IsThreadedFlowing scene l (world 0) → IsThreadedSchedule scene l depth world turn → IsFairToThreads scene l turn
     → (k : ℕ) × AllThreadsHaveStopped scene l (world k)
 
+-- So does every fair schedule from a new world, of each scene within the limits on each layout for it.
 abbrev pub FairThreadedRunsEnd : Type 0
 FairThreadedRunsEnd =
-    (scene : Scene) (l : Layout) (depth : ℕ) (world : ℕ → ThreadedWorld) (turn : ℕ → ThreadedTurn) → 0 < depth → 0 < tile_count l → HavePixels l
-    → IsWellFormed (sync_lists_of scene) → IsNewThreadedWorld scene l (world 0) → IsThreadedSchedule scene l depth world turn → IsFairToThreads scene l turn
+    (scene : Scene) (l : Layout) (depth : ℕ) (world : ℕ → ThreadedWorld) (turn : ℕ → ThreadedTurn) → IsWithin scene → IsLayoutFor scene l depth
+    → IsNewThreadedWorld scene l (world 0) → IsThreadedSchedule scene l depth world turn → IsFairToThreads scene l turn
     → (k : ℕ) × AllThreadsHaveStopped scene l (world k)
 
 -- so many of the turns move something
@@ -83,9 +85,8 @@ AreThreadsMoving zero turns = AllByRecursion IsStill turns
 AreThreadsMoving (suc n) [] = ⊥
 AreThreadsMoving (suc n) (turn ∷ turns) = (IsStill turn × AreThreadsMoving (suc n) turns) ⊎ ((IsStill turn → ⊥) × AreThreadsMoving n turns)
 
--- from a new world of a scene within the limits fewer than 2^42 turns move something, however far one looks
+-- from such a world fewer than 2^42 turns move something, however far one looks
 abbrev pub NewThreadedRunsMoveSeldom : Type 0
 NewThreadedRunsMoveSeldom =
-    (scene : Scene) (l : Layout) (depth moving : ℕ) (turns : List ThreadedTurn) (w later : ThreadedWorld) → 0 < tile_count l → HavePixels l
-    → IsWellFormed (sync_lists_of scene) → IsNewThreadedWorld scene l w → client_total scene ≤ 8 → tile_count l ≤ 32
-    → ((client : ℕ) → length (stream_of scene client) ≤ 2 ^ 20) → AreThreadedTurns scene l depth w turns later → AreThreadsMoving moving turns → moving < 2 ^ 42
+    (scene : Scene) (l : Layout) (depth moving : ℕ) (turns : List ThreadedTurn) (w later : ThreadedWorld) → IsWithin scene → IsLayoutFor scene l depth
+    → IsNewThreadedWorld scene l w → AreThreadedTurns scene l depth w turns later → AreThreadsMoving moving turns → moving < 2 ^ 42

@@ -76,9 +76,9 @@ ThreadedTurnsMoveSomebody =
     (scene : Scene) (l : Layout) (depth : ℕ) (turns : List ThreadedTurn) (w later : ThreadedWorld) → 0 < depth → IsThreadedFlowing scene l w
     → HaveThreadedTurns scene l turns → AreThreadedTurns scene l depth w turns later → AllByRecursion IsStill turns → AllThreadsHaveStopped scene l later
 
--- so nothing stands still, whatever turns led there from a new world
+-- So nothing stands still on a layout within the limits, whatever turns led there from a new world.
 abbrev pub NoThreadedRunStandsStill : Type 0
 NoThreadedRunStandsStill =
-    (scene : Scene) (l : Layout) (depth : ℕ) (turns round : List ThreadedTurn) (first w later : ThreadedWorld) → 0 < depth → HavePixels l
+    (scene : Scene) (l : Layout) (depth : ℕ) (turns round : List ThreadedTurn) (first w later : ThreadedWorld) → IsLayoutFor scene l depth
     → IsNewThreadedWorld scene l first → AreThreadedTurns scene l depth first turns w → HaveThreadedTurns scene l round
     → AreThreadedTurns scene l depth w round later → AllByRecursion IsStill round → AllThreadsHaveStopped scene l later

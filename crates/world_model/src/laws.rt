@@ -17,6 +17,7 @@ ghost use Rattle.world_model.specs.Work.{TurnsLeaveLess, TurnsLeaveNoMore, Round
 use client_issue::laws::sends_are_parcels;
 use order_model::laws::{
     books_stay_legal, gathering_is_lawful, grants_are_exact, over_books_are_maximal,
+    scenes_within_limits,
 };
 use sync_manager::laws::managers_are_right;
 use tile_model::laws::{entries_have_clients, new_tiles_stand, steps_stand, swaps_show_frames};
@@ -217,6 +218,7 @@ pub fn fair_threads_end()
     ensures runs { FairThreadedRunsEnd }
     ensures seldom { NewThreadedRunsMoveSeldom }
 {
+    scenes_within_limits();
     threads_move_somebody();
     turns_leave_less();
 }

@@ -22,10 +22,12 @@ returns-clause-runs c =
     let less : ThreadedTurnsLeaveLess = threads_leave_less c.turns_leave_less.ensures.less in
     let ends : FairThreadedSchedulesEnd =
     fair_threads_end c.threads_move_somebody.ensures.next less (threads_leave_no_more c.turns_leave_less.ensures.no_more less) c.threads_move_somebody.ensures.some in
-    fair_thread_runs_end c.threads_move_somebody.ensures.first ends
+    fair_thread_runs_end c.scenes_within_limits.ensures.drawable c.scenes_within_limits.ensures.runnable c.threads_move_somebody.ensures.pixels c.threads_move_somebody.ensures.first
+    ends
 
 pub returns-clause-seldom : goal.returns-clause-seldom
 returns-clause-seldom c =
     let less : ThreadedTurnsLeaveLess = threads_leave_less c.turns_leave_less.ensures.less in
     let more : ThreadedTurnsLeaveNoMore = threads_leave_no_more c.turns_leave_less.ensures.no_more less in
-    new_threads_move_seldom c.threads_move_somebody.ensures.first (new_threads_little c.turns_leave_less.ensures.first) c.threads_move_somebody.ensures.next less more
+    new_threads_move_seldom c.scenes_within_limits.ensures.drawable c.scenes_within_limits.ensures.runnable c.threads_move_somebody.ensures.pixels c.threads_move_somebody.ensures.first
+    (new_threads_little c.turns_leave_less.ensures.first) c.threads_move_somebody.ensures.next less more

@@ -18,5 +18,5 @@ pub returns-clause-some : goal.returns-clause-some
 returns-clause-some c = threads_move c.entries_have_clients.ensures.members
 
 pub returns-clause-run : goal.returns-clause-run
-returns-clause-run c = no_thread_stands_still (new_threads_flow c.turns_keep_worlds_flowing.ensures.first) (all_threads_keep c.turns_keep_worlds_flowing.ensures.next)
+returns-clause-run c = no_thread_stands_still have_pixels (new_threads_flow c.turns_keep_worlds_flowing.ensures.first) (all_threads_keep c.turns_keep_worlds_flowing.ensures.next)
     (threads_move c.entries_have_clients.ensures.members)
