@@ -14,15 +14,15 @@ use Rattle.world_model.specs.Work.{work_in, TurnsLeaveLess, TurnsLeaveNoMore, Ro
 use Rattle.world_model.specs.World.{World}
 use Rattle.world_model.proofs.WorkIsBounded.{rests}
 
--- whether all of some turns rest
-all_or_not : (turns : List Turn) → AllByRecursion IsResting turns ⊎ (AllByRecursion IsResting turns → ⊥)
-all_or_not [] = inl tt
-all_or_not (turn ∷ turns) = elim (rests turn) [
-  | inl rest ↦ elim (all_or_not turns) [
-    | inl all ↦ inl (rest, all)
-    | inr moving ↦ inr (λ h. moving h.1)
+-- whether all of some turns, of whatever kind, are of a sort, where that can be told of each
+pub all_or_not : {T : Type 0} (Sort : T → Type 0) → ((turn : T) → Sort turn ⊎ (Sort turn → ⊥)) → (turns : List T) → AllByRecursion Sort turns ⊎ (AllByRecursion Sort turns → ⊥)
+all_or_not Sort told [] = inl tt
+all_or_not Sort told (turn ∷ turns) = elim (told turn) [
+  | inl here ↦ elim (all_or_not Sort told turns) [
+    | inl all ↦ inl (here, all)
+    | inr other ↦ inr (λ h. other h.1)
   ]
-  | inr moves ↦ inr (λ h. moves h.0)
+  | inr other ↦ inr (λ h. other h.0)
 ]
 
 -- ---- turns without end, of whatever kind, by the numbers of their actors
@@ -77,7 +77,7 @@ module _ (scene : Scene) (l : Layout) (depth : ℕ) (world : ℕ → World) (tur
         let to : k + n ≡ m.0 = omega (arith, from) in
         let goes = leads s k n in
         let turns = turns_from turn k n in
-        elim (all_or_not turns) [
+        elim (all_or_not IsResting rests turns) [
           | inl rest ↦ (
             k + n,
             fair_turns scene l depth turns (world k) (world (k + n)) pos f

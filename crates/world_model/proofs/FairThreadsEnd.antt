@@ -1,6 +1,6 @@
 -- In a schedule of the cluster that runs on threads in which each actor and the caller have turns again and again somebody moves until all have stopped, and each
 -- turn that moves something leaves less to do.
-use Rattle.std.proofs.Common.{◌≡◌, ◌⊎◌, ℕ, zero, suc, ◌+◌, ◌-◌, ◌<◌, ◌≤◌, List, [], ◌∷◌, map, inl, inr, sym, ap, subst, arith}
+use Rattle.std.proofs.Common.{◌≡◌, ℕ, zero, suc, ◌+◌, ◌-◌, ◌<◌, ◌≤◌, List, [], ◌∷◌, map, inl, inr, sym, ap, subst, arith}
 use Rattle.std.specs.List.{AllByRecursion}
 use Rattle.rc_base.specs.Cluster.Tiles.{tile_count}
 use Rattle.rc_base.specs.Lists.{IsIn}
@@ -12,19 +12,8 @@ use Rattle.world_model.specs.Threaded.{ThreadedWorld, ThreadedTurn, AreThreadedT
 use Rattle.world_model.specs.ThreadedFair.{threaded_work, ThreadedTurnsLeaveLess, ThreadedTurnsLeaveNoMore, NewThreadedWorldsHaveLittleToDo, IsThreadedSchedule, IsFairToThreads, FairThreadedSchedulesEnd, FairThreadedRunsEnd, AreThreadsMoving, NewThreadedRunsMoveSeldom}
 use Rattle.world_model.specs.ThreadedLaws.{LayoutsHavePixels, IsThreadedFlowing, HavePixels, NewThreadedWorldsFlow, ThreadedTurnsKeepFlowing, ThreadedTurnsMoveSomebody}
 use Rattle.world_model.specs.World.{client_total}
-use Rattle.world_model.proofs.FairSchedulesEnd.{turns_from, has_turn, moment}
+use Rattle.world_model.proofs.FairSchedulesEnd.{all_or_not, turns_from, has_turn, moment}
 use Rattle.world_model.proofs.ThreadsLeaveLess.{stands}
-
--- whether all of some turns move nothing
-all_or_not : (turns : List ThreadedTurn) → AllByRecursion IsStill turns ⊎ (AllByRecursion IsStill turns → ⊥)
-all_or_not [] = inl tt
-all_or_not (turn ∷ turns) = elim (stands turn) [
-  | inl still ↦ elim (all_or_not turns) [
-    | inl all ↦ inl (still, all)
-    | inr moving ↦ inr (λ h. moving h.1)
-  ]
-  | inr moves ↦ inr (λ h. moves h.0)
-]
 
 module _ (scene : Scene) (l : Layout) (depth : ℕ) (keep : ThreadedTurnsKeepFlowing) (less : ThreadedTurnsLeaveLess) (more : ThreadedTurnsLeaveNoMore) (some : 0 < tile_count l)
     (pixels : HavePixels l) (well : IsWellFormed (sync_lists_of scene)) where
@@ -84,7 +73,7 @@ module _ (scene : Scene) (l : Layout) (depth : ℕ) (keep : ThreadedTurnsKeepFlo
         let to : k + n ≡ m.0 = omega (arith, from) in
         let goes = leads k n in
         let turns = turns_from turn k n in
-        elim (all_or_not turns) [
+        elim (all_or_not IsStill stands turns) [
           | inl still ↦ (
             k + n,
             moves scene l depth turns (world k) (world (k + n)) pos f

@@ -1,5 +1,6 @@
 -- A turn of the cluster that runs on threads, of whichever actor, leaves its flowing world flowing: what tiles have shown was taken, or waits.
 use Rattle.std.proofs.Common.{◌≡◌, ◌≢◌, ◌⊎◌, ℕ, zero, suc, ◌+◌, ◌*◌, ◌||◌, ◌<◌, not, Bool, true, false, cond, List, [], ◌∷◌, ◌++◌, length, map, Option, Some, None, inl, inr, refl, sym, ap, ◌∙◌, subst, arith, append-nil, length-append, eqb-true, eq-eqb, true≢false}
+use Rattle.std.proofs.Math.Bool.{or-true}
 use Rattle.std.proofs.lemmas.Bool.{cases_Bool}
 use Rattle.std.specs.List.{list_any}
 use Rattle.std.specs.Prelude.{option_to_list, replicate, slice_get, slice_index_or, Result, Ok, Err}
@@ -53,13 +54,9 @@ module _ (l : Layout) (tile : ℕ) where
         ap (list_any (is_misfit_of l tile)) e ∙ any_append (is_misfit_of l tile) waiting (option_to_list offered)
         ∙ elim (told short) [
           | inl before ↦ ap (λ b. b || list_any (is_misfit_of l tile) (option_to_list offered)) (h.told before)
-          | inr now ↦ ap (λ b. list_any (is_misfit_of l tile) waiting || b) now ∙ or_true (list_any (is_misfit_of l tile) waiting)
+          | inr now ↦ ap (λ b. list_any (is_misfit_of l tile) waiting || b) now ∙ or-true (list_any (is_misfit_of l tile) waiting)
         ];
   }
-    where
-      or_true : (b : Bool) → (b || true) ≡ true
-      or_true true = refl
-      or_true false = refl
 
   -- a part without pixels doesn't fit
   pub bare_misfit : 0 < tile_width l tile * tile_height l tile → (part : TilePart) → part.pixels ≡ [] → is_misfit_of l tile part ≡ true

@@ -26,6 +26,12 @@ use Rattle.world_model.proofs.EndedWorldsRest.{same_self, same_on}
 use Rattle.world_model.proofs.LanesGoOn.{at_one}
 use Rattle.world_model.proofs.RestChangesNothing.{client_rests as client_still, manager_rests as manager_still, tile_rests as tile_still, equal_tiles}
 
+-- a turn, of whatever kind, of an actor that has one
+pub pick_of : {T : Type 0} (P : T → Type 0) (number : T → ℕ) (k : ℕ) (turns : List T) → IsIn k (map number turns) → AllByRecursion P turns → (m : T) × P m × (number m ≡ k)
+pick_of P number k [] has h = absurd has
+pick_of P number k (m ∷ turns) (inl e) h = (m, h.0, e)
+pick_of P number k (m ∷ turns) (inr has) h = pick_of P number k turns has h.1
+
 module _ (scene : Scene) (l : Layout) (depth : ℕ) where
   -- a short tile at rest has no item
   pub no_short_item : (p : Progress) (item : Item) (answer : TileAnswer) → IsShortAnswer p item answer → (answer ≡ Blocked) ⊎ (answer ≡ Ended) → item ≡ Nothing
@@ -133,12 +139,6 @@ module _ (scene : Scene) (l : Layout) (depth : ℕ) where
         | inl less ↦ find P moves (from + 1) n tail h.1 k (omega (arith, less)) (omega (arith, lt))
         | inr ge ↦ (m, h.0, head ∙ (let same : from ≡ k = omega (arith, le, ge) in same))
       ]
-
-  -- a turn of an actor that has one
-  pub pick : (P : Turn → Type 0) (k : ℕ) (turns : List Turn) → IsIn k (map (number_of scene) turns) → AllByRecursion P turns → (m : Turn) × P m × (number_of scene m ≡ k)
-  pick P k [] has h = absurd has
-  pick P k (m ∷ turns) (inl e) h = (m, h.0, e)
-  pick P k (m ∷ turns) (inr has) h = pick P k turns has h.1
 
 pub rest_still : RestingTurnsChangeNothing
 rest_still scene l depth w v turn rest m = rest_keeps scene l depth w v turn rest m

@@ -30,7 +30,7 @@ use Rattle.world_model.specs.World.{World, client_total}
 use Rattle.world_model.specs.declared.moves.Move.TheVariants.{Client as ClientMove, Manager as ManagerMove, Tile as TileMove}
 use Rattle.world_model.specs.declared.moves.TileAnswer.{TileAnswer}
 use Rattle.world_model.proofs.RestChangesNothing.{no_item}
-use Rattle.world_model.proofs.RestingRounds.{no_short_item, all_keep, all_known, find, pick, Exists}
+use Rattle.world_model.proofs.RestingRounds.{no_short_item, all_keep, all_known, find, pick_of, Exists}
 use Rattle.world_model.proofs.SomebodyCanMove.{ClientRests, ManagerRests, AllRest, somebody_can_move}
 use Rattle.world_model.proofs.TilesAtRest.{TileRests}
 
@@ -216,7 +216,7 @@ module _ (scene : Scene) (l : Layout) (depth : ℕ) where
       rest_by w (λ k lt. find scene l depth (Known w) round 0 (client_total scene + 1 + tile_count l) e (known w v round rest h) k (omega arith) (omega (arith, lt)))
 
   all_rest_among : (w v : World) (turns : List Turn) → HaveTurns scene l turns → AllByRecursion IsResting turns → AreTurns scene l depth w turns v → AllRest scene l depth w
-  all_rest_among w v turns has rest h = rest_by w (λ k lt. pick scene l depth (Known w) k turns (has k lt) (known w v turns rest h))
+  all_rest_among w v turns has rest h = rest_by w (λ k lt. pick_of (Known w) (number_of scene) k turns (has k lt) (known w v turns rest h))
 
 -- all have stopped in a world that is the same
 pub stopped_on : (scene : Scene) (l : Layout) (w v : World) → IsSameWorld scene l w v → AllHaveStopped scene l w → AllHaveStopped scene l v

@@ -1,9 +1,8 @@
 -- Turns of the cluster that runs on threads that move nothing, one after the other: all is as it was, so what each of them says is true of the first world.
-use Rattle.std.proofs.Common.{◌≡◌, ◌⊎◌, ℕ, ◌+◌, ◌<◌, true, false, List, [], ◌∷◌, length, map, Option, Some, None, inl, inr, refl, sym, ap, ◌∙◌, subst, arith, true≢false}
+use Rattle.std.proofs.Common.{◌≡◌, ◌⊎◌, ℕ, ◌+◌, ◌<◌, true, false, List, [], ◌∷◌, length, Option, Some, None, inl, inr, refl, sym, ap, ◌∙◌, subst, arith, true≢false}
 use Rattle.std.specs.List.{AllByRecursion}
 use Rattle.std.specs.Prelude.{slice_index_or, Ok, Err}
 use Rattle.rc_base.specs.Cluster.Tiles.{tile_count}
-use Rattle.rc_base.specs.Lists.{IsIn}
 use Rattle.rc_base.specs.declared.cluster.TilePart.{TilePart}
 use Rattle.rc_base.specs.declared.image.Image.{Image}
 use Rattle.rc_base.specs.declared.scene.Scene.{Scene}
@@ -21,7 +20,7 @@ use Rattle.world_model.specs.declared.moves.TileAnswer.TheVariants.{Swapped, Blo
 use Rattle.world_model.proofs.EndedWorldsRest.{same_self, same_on}
 use Rattle.world_model.proofs.LanesGoOn.{at_one}
 use Rattle.world_model.proofs.PartsAreShown.{Finds}
-use Rattle.world_model.proofs.RestingRounds.{rest_keeps, Exists, exists}
+use Rattle.world_model.proofs.RestingRounds.{pick_of, rest_keeps, Exists, exists}
 use Rattle.world_model.proofs.RoundsMoveSomebody.{RestsAt, rests_at, before}
 use Rattle.world_model.proofs.ShownParts.{none_offered}
 use Rattle.world_model.proofs.SomebodyCanMove.{ClientRests, ManagerRests}
@@ -45,12 +44,6 @@ idle_drops : (part : Option TilePart) (lane later : PartLane)
     → later.parts ≡ lane.parts → lane.parts ≡ []
 idle_drops (Some q) lane later h e = absurd (grows_not q lane.parts later.parts h e)
 idle_drops None lane later h e = sym e ∙ h.1.1
-
--- an element with this number
-pick_of : {T : Type 0} (P : T → Type 0) (number : T → ℕ) (k : ℕ) (turns : List T) → IsIn k (map number turns) → AllByRecursion P turns → (m : T) × P m × (number m ≡ k)
-pick_of P number k [] has h = absurd has
-pick_of P number k (m ∷ turns) (inl e) h = (m, h.0, e)
-pick_of P number k (m ∷ turns) (inr has) h = pick_of P number k turns has h.1
 
 module _ (scene : Scene) (l : Layout) (depth : ℕ) where
   -- the lanes of parts and the caller are of the layout

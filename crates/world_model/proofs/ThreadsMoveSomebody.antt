@@ -1,9 +1,9 @@
 -- Where nobody of the cluster that runs on threads can move, whoever is short, all have stopped and no part waits: the tile whose part the caller misses hands
 -- nothing over, and it has performed all of the journal but one entry, so no other tile is two frames ahead of it.
-use Rattle.std.proofs.Common.{◌≡◌, ℕ, zero, suc, ◌+◌, ◌<◌, ◌≤◌, Bool, true, false, cond, List, [], ◌∷◌, ◌++◌, length, take, Option, Some, None, inl, inr, refl, sym, ap, ◌∙◌, subst, arith, append-nil, length-append, true≢false}
+use Rattle.std.proofs.Common.{◌≡◌, ℕ, ◌+◌, ◌<◌, ◌≤◌, Bool, true, false, cond, List, [], ◌∷◌, ◌++◌, length, take, Option, Some, None, inl, inr, refl, sym, ap, ◌∙◌, subst, arith, append-nil, length-append, true≢false}
 use Rattle.std.proofs.Math.Seq.{take-length}
 use Rattle.std.proofs.lemmas.Bool.{cases_Bool}
-use Rattle.std.proofs.lemmas.List.{length-map}
+use Rattle.std.proofs.lemmas.List.{length-map, length-take-le}
 use Rattle.std.specs.List.{list_any}
 use Rattle.std.specs.Prelude.{option_to_list}
 use Rattle.rc_base.specs.Cluster.Tiles.{tile_count}
@@ -138,14 +138,8 @@ module _ (members : MembersAreClients) (scene : Scene) (l : Layout) (depth : ℕ
         let a : length (entries (take (w.cluster.manager.delivered g) journal)) ≡ length (take (w.cluster.manager.delivered g) journal) = length-map _ _ in
         let b : length (entries (p_of g).learnt) ≡ length (p_of g).learnt = length-map _ _ in
         let c : length (closing (w.cluster.manager.told g)) ≡ length (closing (p_of g).no_more) = ap (λ b. length (closing b)) (sym told) in
-        let d = taken_length (w.cluster.manager.delivered g) journal (f.cluster.manager.tiles_are g low).within in
+        let d = length-take-le (w.cluster.manager.delivered g) journal (f.cluster.manager.tiles_are g low).within in
         omega (arith, n, a, b, c, d)
-      where
-        taken_length : (k : ℕ) (xs : List Entry) → k ≤ length xs → length (take k xs) ≡ k
-        taken_length zero [] le = refl
-        taken_length zero (x ∷ xs) le = refl
-        taken_length (suc k) [] le = absurd (omega (arith, le))
-        taken_length (suc k) (x ∷ xs) le = let h = taken_length k xs (omega (arith, le)) in omega (arith, h)
 
     -- so at most one frame more was granted
     granted : frame_count journal ≤ s.frames + 1

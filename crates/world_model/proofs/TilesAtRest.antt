@@ -1,5 +1,6 @@
 -- What follows of a tile whose core can't move, whoever else can: it has performed what it knows, and has taken what its lanes held of what it waits for.
 use Rattle.std.proofs.Common.{◌≡◌, ℕ, zero, suc, ◌+◌, ◌==◌, ◌||◌, ◌&&◌, eqb-true, ◌<◌, ◌≤◌, not, Bool, true, false, cond, List, [], ◌∷◌, ◌++◌, ◌⊎◌, take, length, map, Some, slice_get, inl, inr, refl, sym, ap, ◌∙◌, subst, arith, append-nil, eq-eqb, true≢false}
+use Rattle.std.proofs.Math.Bool.{or-true}
 use Rattle.std.proofs.lemmas.Bool.{cases_Bool, cases_lt}
 use Rattle.std.specs.List.{list_any}
 use Rattle.rc_base.specs.Cluster.Sending.{parcels_to, requests_in, request_of}
@@ -38,10 +39,6 @@ get_some : {A : Type 0} (xs : List A) (k : ℕ) → k < length xs → (x : A) ×
 get_some [] k lt = absurd (omega (arith, lt))
 get_some (x ∷ xs) zero lt = (x, refl)
 get_some (x ∷ xs) (suc k) lt = get_some xs k (omega (arith, lt))
-
-or_true : (b : Bool) → (b || true) ≡ true
-or_true true = refl
-or_true false = refl
 
 -- nothing comes behind NoMore, whoever hears it
 none_behind : (sent : List Entry) (told : Bool) (heard held : List Grant) → entries sent ++ closing told ≡ heard ++ held → list_any is_no_more heard ≡ true → held ≡ []
@@ -174,7 +171,7 @@ module _ (scene : Scene) (l : Layout) (w : World) (f : IsFlowing scene l w) wher
       where
         asked : (p_of tile).closed client ≡ false → ((p_of tile).held client ≡ false) ⊎ (is_over (p_of tile) ≡ true) → is_asked (p_of tile) client ≡ true
         asked g (inl unheld) = rw g (rw unheld refl)
-        asked g (inr over) = rw g (ap (λ b. not ((p_of tile).held client) || b) over ∙ or_true (not ((p_of tile).held client)))
+        asked g (inr over) = rw g (ap (λ b. not ((p_of tile).held client) || b) over ∙ or-true (not ((p_of tile).held client)))
 
     -- ---- a tile that isn't short has performed what it knows
 
