@@ -1,11 +1,11 @@
 -- Of all that is found the one that is told leads all others.
-use Rattle.std.proofs.Common.{◌≡◌, ℕ, zero, suc, ◌+◌, ◌-◌, ◌<◌, ◌≤◌, ◌==◌, nat_lt, nat_le, not, ◌&&◌, ◌||◌, Bool, true, false, cond, List, [], ◌∷◌, ◌++◌, ◌⊎◌, Option, Some, None, inl, inr, refl, sym, ap, ◌∙◌, subst, arith, lt-ltb, ltb-true, le-leb, leb-true, eq-eqb, eqb-true, true≢false}
-use Rattle.std.specs.Prelude.{slice_index}
-use Rattle.std.proofs.lemmas.Bool.{cases_Bool, cases_lt, le-ltb}
-use Rattle.rc_base.specs.Lists.{IsIn}
+use Rattle.std.proofs.Common.{◌≡◌, ◌≢◌, ℕ, ◌+◌, ◌-◌, ◌<◌, ◌≤◌, ◌==◌, nat_lt, nat_le, ◌&&◌, ◌||◌, Bool, true, false, List, ◌⊎◌, Option, Some, None, inl, inr, refl, sym, ap, ◌∙◌, subst, arith, lt-ltb, ltb-true, le-leb, leb-true, eq-eqb, eqb-true, true≢false}
+use Rattle.std.specs.Prelude.{length, slice_index}
+use Rattle.std.proofs.lemmas.Bool.{cases_lt}
+use Rattle.std.proofs.lemmas.List.{get_or_past}
 use Rattle.order_model.proofs.SpotsOfNames.{and_both, both_and}
 use Rattle.race_check.specs.Races.{IsNoLater}
-use Rattle.race_check.specs.Finds.{AreCounted, is_no_later, leads, offer, offers, finds_from}
+use Rattle.race_check.specs.Finds.{AreCounted, IsFirst, IsFoundIn, OrBefore, is_no_later, leads}
 use Rattle.race_check.specs.declared.found.Found.{Found}
 use Rattle.race_check.specs.declared.verdict.Spot.{Spot}
 use Rattle.race_check.specs.declared.verdict.Spot.TheVariants.{Pixel, Shared}
@@ -72,7 +72,7 @@ no_later_either (Pixel x y) (Pixel u v) = elim (cases_lt y v) [
 abbrev pub Leads : Found → Found → Type 0
 Leads a b = (a.client < b.client) ⊎ ((a.client ≡ b.client) × ((b.place < a.place) ⊎ ((a.place ≡ b.place) × IsNoLater a.spot b.spot)))
 
-leads_says : (a b : Found) → leads a b ≡ true → Leads a b
+pub leads_says : (a b : Found) → leads a b ≡ true → Leads a b
 leads_says a b h = elim (either (nat_lt a.client b.client) (a.client == b.client && (nat_lt b.place a.place || (a.place == b.place && is_no_later a.spot b.spot))) h) [
   | inl k ↦ inl (ltb-true a.client b.client k)
   | inr k ↦
@@ -129,114 +129,155 @@ leads_either a b = elim (cases_lt a.client b.client) [
 leads_self : (a : Found) → Leads a a
 leads_self a = elim (leads_either a a) [ inl h ↦ h | inr h ↦ h ]
 
--- what is told of a list, where something was found before
-pub record IsTold (xs : List Found) (r : Found) : Type 0 where
-  pub found : IsIn r xs
-  pub first : (x : Found) → IsIn x xs → Leads r x
+leads_chain : (a b c : Found) → leads a b ≡ true → leads b c ≡ true → leads a c ≡ true
+leads_chain a b c h k = says_leads a c (leads_on a b c (leads_says a b h) (leads_says b c k))
 
-told_from : (xs : List Found) (b r : Found) → offers (Some b) xs ≡ Some r → ((r ≡ b) ⊎ IsIn r xs) × Leads r b × ((x : Found) → IsIn x xs → Leads r x)
-told_from [] b r h = let e : b ≡ r = cc in (inl (sym e), subst (λ x. Leads x b) e (leads_self b), λ x i. absurd i)
-told_from (y ∷ xs) b r h = elim (cases_Bool (leads b y)) [
-  | inl t ↦
-      let k = told_from xs b r (ap (λ o. offers o xs) (sym (ap (λ c. cond c (Some b) (Some y)) t)) ∙ h) in (
-        elim k.0 [ inl e ↦ inl e | inr i ↦ inr (inr i) ],
-        k.1,
-        λ x (i : IsIn x (y ∷ xs)). elim i [
-          | inl e ↦ subst (Leads r) e (leads_on r b y k.1 (leads_says b y t))
-          | inr j ↦ k.2 x j
+pub self_leads : (a : Found) → leads a a ≡ true
+self_leads a = says_leads a a (leads_self a)
+
+-- one of a client leads those of it that are no later, at one spot
+pub later_leads : (a b : Found) → a.client ≡ b.client → b.place ≤ a.place → a.spot ≡ b.spot → leads a b ≡ true
+later_leads a b client le spot = says_leads a b (inr (
+  client,
+  elim (cases_lt b.place a.place) [
+    | inl lt ↦ inl lt
+    | inr ge ↦ inr (omega arith, subst (IsNoLater a.spot) spot (elim (no_later_either a.spot a.spot) [ inl h ↦ h | inr h ↦ h ]))
+  ],
+))
+
+-- ---- the first of a set
+
+-- Of a larger set the same one is first, where each that is in it alone is led by one of the smaller.
+pub first_of : (P Q : Found → Type 0) (told : Option Found) → ((x : Found) → P x → Q x) → ((x : Found) → Q x → (y : Found) × P y × (leads y x ≡ true)) → IsFirst P told → IsFirst Q told
+first_of P Q told to from h = record {
+  none = λ e x q. let y = from x q in h.none e y.0 y.1;
+  some = λ r e. let k = h.some r e in (to r k.0, λ x q. let y = from x q in leads_chain r y.0 x (k.1 y.0 y.1) y.2);
+}
+
+pub first_as : (P Q : Found → Type 0) (told : Option Found) → ((x : Found) → P x → Q x) → ((x : Found) → Q x → P x) → IsFirst P told → IsFirst Q told
+first_as P Q told to from h = record { none = λ e x q. h.none e x (from x q); some = λ r e. let k = h.some r e in (to r k.0, λ x q. k.1 x (from x q)) }
+
+-- nothing more
+pub first_kept : (best : Option Found) (P : Found → Type 0) → ((x : Found) → P x → ⊥) → IsFirst (OrBefore best P) best
+first_kept best P none = record {
+  none = λ e x i. elim i [ inl f ↦ absurd (let k = sym e ∙ f in cc) | inr p ↦ none x p ];
+  some = λ r e. (
+    inl e,
+    λ x (i : OrBefore best P x). elim i [
+      | inl f ↦ let k = sym e ∙ f in let same : r ≡ x = cc in subst (λ y. leads r y ≡ true) same (self_leads r)
+      | inr p ↦ absurd (none x p)
+    ],
+  );
+}
+
+-- one set after the other
+pub first_then : (best mid after : Option Found) (P Q R : Found → Type 0) → IsFirst (OrBefore best P) mid → IsFirst (OrBefore mid Q) after → ((x : Found) → R x → P x ⊎ Q x)
+    → ((x : Found) → P x ⊎ Q x → R x) → IsFirst (OrBefore best R) after
+first_then best None after P Q R h k to from =
+    first_as (OrBefore None Q) (OrBefore best R) after (λ x (i : OrBefore None Q x). elim i [ inl e ↦ absurd cc | inr q ↦ inr (from x (inr q)) ])
+    (λ x (i : OrBefore best R x). elim i [
+      | inl e ↦ absurd (h.none refl x (inl e))
+      | inr r ↦ elim (to x r) [ inl p ↦ absurd (h.none refl x (inr p)) | inr q ↦ inr q ]
+    ])
+    k
+first_then best (Some m) after P Q R h k to from = record {
+  none = λ e x i. k.none e m (inl refl);
+  some = λ r e.
+      let c = k.some r e in (
+        elim c.0 [
+          | inl f ↦ let same : m ≡ r = cc in subst (OrBefore best R) same (wide m b.0)
+          | inr q ↦ inr (from r (inr q))
         ],
-      )
-  | inr f ↦
-      let k = told_from xs y r (ap (λ o. offers o xs) (sym (ap (λ c. cond c (Some b) (Some y)) f)) ∙ h) in
-      let up : Leads y b = elim (leads_either y b) [ inl l ↦ l | inr l ↦ absurd (true≢false (sym (says_leads b y l) ∙ f)) ] in (
-        elim k.0 [ inl e ↦ inr (inl (sym e)) | inr i ↦ inr (inr i) ],
-        leads_on r y b k.1 up,
-        λ x (i : IsIn x (y ∷ xs)). elim i [
-          | inl e ↦ subst (Leads r) e k.1
-          | inr j ↦ k.2 x j
+        λ x (i : OrBefore best R x). elim (split x i) [
+          | inl p ↦ leads_chain r m x (c.1 m (inl refl)) (b.1 x p)
+          | inr q ↦ c.1 x (inr q)
         ],
-      )
-]
+      );
+}
+  where
+    b : OrBefore best P m × ((x : Found) → OrBefore best P x → leads m x ≡ true)
+    b = h.some m refl
 
-pub told_of : (xs : List Found) (r : Found) → offers None xs ≡ Some r → IsTold xs r
-told_of [] r h = absurd cc
-told_of (y ∷ xs) r h =
-    let k = told_from xs y r h in
-    record { found = elim k.0 [ inl e ↦ inl (sym e) | inr i ↦ inr i ]; first = λ x (i : IsIn x (y ∷ xs)). elim i [ inl e ↦ subst (Leads r) e k.1 | inr j ↦ k.2 x j ] }
+    wide : (x : Found) → OrBefore best P x → OrBefore best R x
+    wide x (inl e) = inl e
+    wide x (inr p) = inr (from x (inl p))
 
-offers_some : (xs : List Found) (b : Found) → offers (Some b) xs ≡ None → ⊥
-offers_some [] b h = absurd cc
-offers_some (y ∷ xs) b h = elim (cases_Bool (leads b y)) [
-  | inl t ↦ offers_some xs b (ap (λ o. offers o xs) (sym (ap (λ c. cond c (Some b) (Some y)) t)) ∙ h)
-  | inr f ↦ offers_some xs y (ap (λ o. offers o xs) (sym (ap (λ c. cond c (Some b) (Some y)) f)) ∙ h)
-]
+    split : (x : Found) → OrBefore best R x → OrBefore best P x ⊎ Q x
+    split x (inl e) = inl (inl e)
+    split x (inr r) = elim (to x r) [ inl p ↦ inl (inr p) | inr q ↦ inr q ]
 
--- nothing is told only of nothing
-pub none_told : (xs : List Found) → offers None xs ≡ None → xs ≡ []
-none_told [] h = refl
-none_told (y ∷ xs) h = absurd (offers_some xs y h)
-
-pub offers_append : (xs ys : List Found) (best : Option Found) → offers best (xs ++ ys) ≡ offers (offers best xs) ys
-offers_append [] ys best = refl
-offers_append (x ∷ xs) ys best = offers_append xs ys (offer best x)
+-- where nothing was told before
+pub first_alone : (P : Found → Type 0) (told : Option Found) → IsFirst (OrBefore None P) told → IsFirst P told
+first_alone P told h = first_as (OrBefore None P) P told (λ x (i : OrBefore None P x). elim i [ inl e ↦ absurd cc | inr p ↦ p ]) (λ x p. inr p) h
 
 -- ---- a cell
 
-abbrev pub finds_one : ℕ → List ℕ → List ℕ → Spot → ℕ → Bool
-finds_one own clock cell spot d = not (d == own) && nat_lt (slice_index clock d) (slice_index cell d)
+-- what it tells of the clients below one
+abbrev pub IsFoundBelow : ℕ → ℕ → List ℕ → List ℕ → Spot → Found → Type 0
+IsFoundBelow k own clock cell spot x = IsFoundIn own clock cell spot x × (x.client < k)
 
 abbrev pub found_at : List ℕ → Spot → ℕ → Found
 found_at cell spot d = record { client = d; place = slice_index cell d - 1; spot = spot }
 
-pub look_one : (best : Option Found) (own : ℕ) (clock cell : List ℕ) (spot : Spot) (d n : ℕ) → finds_one own clock cell spot d ≡ true
-    → offers best (finds_from own clock cell spot d (suc n)) ≡ offers (offer best (found_at cell spot d)) (finds_from own clock cell spot (d + 1) n)
-look_one best own clock cell spot d n t = ap (λ b. offers best (cond b (found_at cell spot d ∷ []) [] ++ finds_from own clock cell spot (d + 1) n)) t
+pub below_none : (own : ℕ) (clock cell : List ℕ) (spot : Spot) (best : Option Found) → IsFirst (OrBefore best (IsFoundBelow 0 own clock cell spot)) best
+below_none own clock cell spot best = first_kept best (IsFoundBelow 0 own clock cell spot) (λ x p. omega (arith, p.1))
 
-pub look_past : (best : Option Found) (own : ℕ) (clock cell : List ℕ) (spot : Spot) (d n : ℕ) → finds_one own clock cell spot d ≡ false
-    → offers best (finds_from own clock cell spot d (suc n)) ≡ offers best (finds_from own clock cell spot (d + 1) n)
-look_past best own clock cell spot d n f = ap (λ b. offers best (cond b (found_at cell spot d ∷ []) [] ++ finds_from own clock cell spot (d + 1) n)) f
+pub below_found : (k own : ℕ) (clock cell : List ℕ) (spot : Spot) (best now after : Option Found) → k ≢ own → slice_index clock k < slice_index cell k
+    → IsFirst (OrBefore best (IsFoundBelow k own clock cell spot)) now → IsFirst (OrBefore now (λ x. x ≡ found_at cell spot k)) after
+    → IsFirst (OrBefore best (IsFoundBelow (k + 1) own clock cell spot)) after
+below_found k own clock cell spot best now after ne lt h one =
+    first_then best now after (IsFoundBelow k own clock cell spot) (λ x. x ≡ found_at cell spot k) (IsFoundBelow (k + 1) own clock cell spot) h one to from
+  where
+    to : (x : Found) → IsFoundBelow (k + 1) own clock cell spot x → IsFoundBelow k own clock cell spot x ⊎ (x ≡ found_at cell spot k)
+    to x p = elim (cases_lt x.client k) [
+      | inl below ↦ inl (p.0, below)
+      | inr ge ↦
+          let client : x.client ≡ k = omega (arith, p.1) in
+          let here = ap (slice_index cell) client in
+          let place : x.place ≡ slice_index cell k - 1 = omega (arith, p.0.last) in
+          inr (λ i. record { client = client i; place = place i; spot = p.0.at i })
+    ]
 
--- what a cell gives
-pub in_finds : (own : ℕ) (clock cell : List ℕ) (spot : Spot) (d n : ℕ) (x : Found) → IsIn x (finds_from own clock cell spot d n)
-    → (c : ℕ) × (d ≤ c) × (c < d + n) × (finds_one own clock cell spot c ≡ true) × (x ≡ found_at cell spot c)
-in_finds own clock cell spot d zero x i = absurd i
-in_finds own clock cell spot d (suc n) x i = elim (cases_Bool (finds_one own clock cell spot d)) [
-  | inl t ↦
-      let j : IsIn x (found_at cell spot d ∷ finds_from own clock cell spot (d + 1) n) = subst (λ b. IsIn x (cond b (found_at cell spot d ∷ []) [] ++ finds_from own clock cell spot (d + 1) n)) t i in
-      elim j [
-        | inl e ↦ (d, omega arith, omega arith, t, sym e)
-        | inr k ↦ let r = in_finds own clock cell spot (d + 1) n x k in (r.0, omega (arith, r.1), omega (arith, r.2), r.3, r.4)
-      ]
-  | inr f ↦
-      let j : IsIn x (finds_from own clock cell spot (d + 1) n) = subst (λ b. IsIn x (cond b (found_at cell spot d ∷ []) [] ++ finds_from own clock cell spot (d + 1) n)) f i in
-      let r = in_finds own clock cell spot (d + 1) n x j in
-      (r.0, omega (arith, r.1), omega (arith, r.2), r.3, r.4)
+    here : IsFoundIn own clock cell spot (found_at cell spot k)
+    here = record { other = ne; last = omega arith; uncounted = omega arith; at = refl }
+
+    from : (x : Found) → IsFoundBelow k own clock cell spot x ⊎ (x ≡ found_at cell spot k) → IsFoundBelow (k + 1) own clock cell spot x
+    from x (inl p) = (p.0, omega (arith, p.1))
+    from x (inr e) = (subst (IsFoundIn own clock cell spot) (sym e) here, let c : x.client ≡ k = ap (λ (y : Found). y.client) e in omega arith)
+
+pub below_past : (k own : ℕ) (clock cell : List ℕ) (spot : Spot) (best now : Option Found) → (k ≢ own → slice_index cell k ≤ slice_index clock k)
+    → IsFirst (OrBefore best (IsFoundBelow k own clock cell spot)) now → IsFirst (OrBefore best (IsFoundBelow (k + 1) own clock cell spot)) now
+below_past k own clock cell spot best now none h =
+    first_as (OrBefore best (IsFoundBelow k own clock cell spot)) (OrBefore best (IsFoundBelow (k + 1) own clock cell spot)) now
+    (λ x (i : OrBefore best (IsFoundBelow k own clock cell spot) x). elim i [ inl e ↦ inl e | inr p ↦ inr (p.0, omega (arith, p.1)) ])
+    (λ x (i : OrBefore best (IsFoundBelow (k + 1) own clock cell spot) x). elim i [ inl e ↦ inl e | inr p ↦ inr (back x p) ])
+    h
+  where
+    back : (x : Found) → IsFoundBelow (k + 1) own clock cell spot x → IsFoundBelow k own clock cell spot x
+    back x p = elim (cases_lt x.client k) [
+      | inl below ↦ (p.0, below)
+      | inr ge ↦
+          let client : x.client ≡ k = omega (arith, p.1) in
+          let counted = none (λ e. p.0.other (client ∙ e)) in
+          absurd (omega (arith, p.0.last, p.0.uncounted, ap (slice_index cell) client, ap (slice_index clock) client))
+    ]
+
+-- a cell tells of no client from eight on
+client_low : (own : ℕ) (clock cell : List ℕ) (spot : Spot) (x : Found) → length cell ≡ 8 → IsFoundIn own clock cell spot x → x.client < 8
+client_low own clock cell spot x size h = elim (cases_lt x.client 8) [
+  | inl lt ↦ lt
+  | inr ge ↦ let z : slice_index cell x.client ≡ 0 = get_or_past cell x.client 0 (omega arith) in absurd (omega (arith, h.last))
 ]
 
-pub finds_has : (own : ℕ) (clock cell : List ℕ) (spot : Spot) (d n c : ℕ) → d ≤ c → c < d + n → finds_one own clock cell spot c ≡ true → IsIn (found_at cell spot c) (finds_from own clock cell spot d n)
-finds_has own clock cell spot d zero c le lt t = absurd (omega arith)
-finds_has own clock cell spot d (suc n) c le lt t = elim (cases_lt d c) [
-  | inl below ↦
-      let k = finds_has own clock cell spot (d + 1) n c (omega arith) (omega arith) t in
-      elim (cases_Bool (finds_one own clock cell spot d)) [
-        | inl u ↦ subst (λ b. IsIn (found_at cell spot c) (cond b (found_at cell spot d ∷ []) [] ++ finds_from own clock cell spot (d + 1) n)) (sym u) (inr k)
-        | inr f ↦ subst (λ b. IsIn (found_at cell spot c) (cond b (found_at cell spot d ∷ []) [] ++ finds_from own clock cell spot (d + 1) n)) (sym f) k
-      ]
-  | inr ge ↦
-      let e : d ≡ c = omega arith in
-      let u : finds_one own clock cell spot d ≡ true = ap (finds_one own clock cell spot) e ∙ t in
-      subst (λ b. IsIn (found_at cell spot c) (cond b (found_at cell spot d ∷ []) [] ++ finds_from own clock cell spot (d + 1) n)) (sym u) (inl (ap (found_at cell spot) e))
-]
+pub below_all : (k own : ℕ) (clock cell : List ℕ) (spot : Spot) (best now : Option Found) → length cell ≡ 8 → 8 ≤ k
+    → IsFirst (OrBefore best (IsFoundBelow k own clock cell spot)) now → IsFirst (OrBefore best (IsFoundIn own clock cell spot)) now
+below_all k own clock cell spot best now size le h =
+    first_as (OrBefore best (IsFoundBelow k own clock cell spot)) (OrBefore best (IsFoundIn own clock cell spot)) now
+    (λ x (i : OrBefore best (IsFoundBelow k own clock cell spot) x). elim i [ inl e ↦ inl e | inr p ↦ inr p.0 ])
+    (λ x (i : OrBefore best (IsFoundIn own clock cell spot) x). elim i [ inl e ↦ inl e | inr p ↦ inr (p, omega (arith, client_low own clock cell spot x size p)) ])
+    h
 
 -- where the clock counts all uses nothing is found
-pub finds_none : (own : ℕ) (clock cell : List ℕ) (spot : Spot) (d n : ℕ) → AreCounted clock cell (d + n) → finds_from own clock cell spot d n ≡ []
-finds_none own clock cell spot d zero h = refl
-finds_none own clock cell spot d (suc n) h =
-    let quiet : nat_lt (slice_index clock d) (slice_index cell d) ≡ false = le-ltb (slice_index clock d) (slice_index cell d) (h d (omega arith)) in
-    let rest = finds_none own clock cell spot (d + 1) n (λ c lt. h c (omega arith)) in
-    ap (λ b. cond (not (d == own) && b) (found_at cell spot d ∷ []) [] ++ finds_from own clock cell spot (d + 1) n) quiet
-    ∙ ap (λ b. cond b (found_at cell spot d ∷ []) [] ++ finds_from own clock cell spot (d + 1) n) (and_false (not (d == own))) ∙ rest
-  where
-    and_false : (b : Bool) → (b && false) ≡ false
-    and_false true = refl
-    and_false false = refl
+pub none_found : (own : ℕ) (clock cell : List ℕ) (spot : Spot) (best : Option Found) → length cell ≡ 8 → AreCounted clock cell 8 → IsFirst (OrBefore best (IsFoundIn own clock cell spot)) best
+none_found own clock cell spot best size h =
+    first_kept best (IsFoundIn own clock cell spot) (λ x p. omega (arith, h x.client (client_low own clock cell spot x size p), p.last, p.uncounted))

@@ -1,32 +1,30 @@
 -- Where the outlines of names tell that all that may conflict is before it, nothing races.
-use Rattle.std.proofs.Common.{◌≡◌, ◌≢◌, ℕ, zero, suc, ◌+◌, ◌<◌, ◌≤◌, ◌==◌, Bool, true, false, List, [], ◌∷◌, ◌++◌, ◌⊎◌, length, take, drop, replicate, Some, inl, inr, refl, sym, ap, ◌∙◌, subst, arith, eqb-true, true≢false}
-use Rattle.std.specs.Prelude.{slice_get, slice_index, slice_index_or, slice_set}
-use Rattle.std.proofs.lemmas.Bool.{cases_Bool, eqb-false}
-use Rattle.std.proofs.lemmas.List.{get_or-set_same, get_or-set_other, length-replicate}
+use Rattle.std.proofs.Common.{◌≡◌, ℕ, ◌+◌, ◌<◌, ◌==◌, ◌&&◌, nat_lt, pos, true, List, [], ◌∷◌, ◌++◌, ◌⊎◌, length, replicate, inl, inr, refl, sym, ap, ◌∙◌, subst, arith, eqb-true, ltb-true}
+use Rattle.std.specs.Prelude.{slice_index, slice_index_or, slice_set}
+use Rattle.std.proofs.lemmas.Bool.{cases_Bool, cases_lt, eqb-false}
+use Rattle.std.proofs.lemmas.List.{get_or_past, get_or-set_same, get_or-set_other, length-replicate}
 use Rattle.std.proofs.Math.ListN.{length-set}
-use Rattle.rc_base.specs.Lists.{IsIn, Stands, NoRepeat}
-use Rattle.rc_base.specs.Orders.Journal.{reach_of}
-use Rattle.rc_base.specs.Orders.Order.{Footprint, Overlaps, IsPermitted}
-use Rattle.rc_base.specs.Orders.Order.Overlaps.{CommonPixel, FirstWrites, SecondWrites}
+use Rattle.rc_base.specs.Drawing.Touch.{may_sample, touches, writes_shared}
+use Rattle.rc_base.specs.Lists.{IsIn}
+use Rattle.rc_base.specs.Orders.Order.{Footprint}
+use Rattle.rc_base.specs.declared.state.Effect.{Effect}
+use Rattle.rc_base.specs.declared.state.State.{State}
 use Rattle.rc_base.specs.declared.sync.Entry.{Entry}
 use Rattle.rc_base.specs.declared.sync.Name.{Name}
 use Rattle.rc_base.specs.declared.sync.SyncLists.{SyncLists}
-use Rattle.order_model.proofs.NamesInTurn.{order_at}
-use Rattle.order_model.proofs.StandsInLists.{in_append, second_in}
-use Rattle.happens_before.specs.Before.{IsBefore, AreConflictsOrdered}
-use Rattle.happens_before.specs.Clocks.{IsExact}
-use Rattle.happens_before.specs.Timelines.{before_at, clock_of}
-use Rattle.happens_before.specs.declared.timelines.Change.{Change}
-use Rattle.race_check.specs.Finds.{AreUnused}
-use Rattle.race_check.specs.Outlines.{AreCountedIn, AreMarked, AreOutlined, FitWindow, IsAmong, IsApart, IsCounted, IsReach, TellAll, no_reach, nowhere}
-use Rattle.race_check.specs.Races.{ConflictsUnordered}
-use Rattle.race_check.specs.Uses.{named}
+use Rattle.order_model.proofs.SpotsOfNames.{and_both}
+use Rattle.race_check.specs.Finds.{AreUnused, cell_at}
+use Rattle.race_check.specs.Outlines.{AreCountedIn, AreMarked, AreOutlined, FitWindow, IsAmong, IsCounted, IsReach, PassesOutlines, TellAll, no_reach, nowhere}
+use Rattle.race_check.specs.Races.{OverlapsAt}
+use Rattle.race_check.specs.Uses.{HasEffect, IsBehind, IsUnordered, named, touches_one}
+use Rattle.race_check.specs.declared.found.Found.{Found}
 use Rattle.race_check.specs.declared.outlines.Outlines.{Outlines}
 use Rattle.race_check.specs.declared.range.Range.{Range}
-use Rattle.race_check.proofs.CarriedUses.{clock_is}
+use Rattle.race_check.specs.declared.reach.Reach.{Reach}
+use Rattle.race_check.specs.declared.verdict.Spot.{Spot}
+use Rattle.race_check.specs.declared.verdict.Spot.TheVariants.{Pixel, Shared}
 use Rattle.race_check.proofs.CellsTellLast.{in_more, cell_unused}
-use Rattle.race_check.proofs.OrdersAreChecked.{NamesAt, names_at, take_whole}
-use Rattle.race_check.proofs.RacesAreTold.{IsQuiet, quiet_ordered, stands_before, stands_front}
+use Rattle.race_check.proofs.OrdersAreChecked.{IsPassed}
 
 -- ---- one table
 
@@ -79,65 +77,101 @@ told_more uses count passed old new n r h client rising among m = record { size 
 
 -- ---- one name
 
-module _ (syncs : SyncLists) (journal : List Entry) (f : Footprint (ℕ × ℕ)) (width height : ℕ) (lists : List (List Change)) (passed : List Name) (n : Name) (old new : Outlines)
-    (exact : IsExact syncs journal (clock_of lists)) (reached : n.place < reach_of syncs journal n.client) (clients : (a : Name) → IsIn a passed → a.client < 8)
-    (window : (a : Name) (p : ℕ × ℕ) → f.touches a p ≡ true → (p.0 < width) × (p.1 < height)) (tables : AreOutlined f width height passed old)
-    (h : IsApart (λ x y. f.touches n (x, y)) (f.samples n) (f.writes n) width height lists n old new) where
-  is_before : (a : Name) → a.client ≢ n.client → a.place < slice_index h.clock a.client → IsBefore syncs journal a n
-  is_before a ne lt = (exact.exact a n reached).1 (omega (arith, h.counts a.client ne, lt))
+module _ (f : Footprint (ℕ × ℕ)) (width height : ℕ) (clock : List ℕ) (n : Name) (s : State) (e : Effect) (reach : Reach) (old new : Outlines) (effect : HasEffect f n width height s e)
+    (is : IsReach (λ x y. touches s e (pos x) (pos y)) (may_sample s e) (writes_shared e) width height reach) (counted : IsCounted clock reach old) where
+  in_window : (p : ℕ × ℕ) → f.touches n p ≡ true → (p.0 < width) × (p.1 < height) × (touches s e (pos p.0) (pos p.1) ≡ true)
+  in_window p t =
+      let a = and_both (nat_lt p.0 width && nat_lt p.1 height) (touches s e (pos p.0) (pos p.1)) (sym (effect.touches p) ∙ t) in
+      let b = and_both (nat_lt p.0 width) (nat_lt p.1 height) a.0 in
+      (ltb-true p.0 width b.0, ltb-true p.1 height b.1, a.1)
 
-  -- what touched a cell of counted ones
-  all_before : (a : Name) (cells : List (List ℕ)) (r : Range) (i : ℕ) → a.client ≢ n.client → IsAmong r i → a.place < slice_index (slice_index_or cells i []) a.client → AreCountedIn h.clock cells r a.client
-      → IsBefore syncs journal a n
-  all_before a cells r i ne k lt all = is_before a ne (omega (arith, lt, all i k))
+  in_row : (p : ℕ × ℕ) → f.touches n p ≡ true → IsAmong reach.rows p.1
+  in_row p t = let w = in_window p t in is.rows p.0 p.1 w.0 w.1 w.2
 
-  overlap_before : (a : Name) → IsIn a passed → a.client ≢ n.client → Overlaps f a n → IsBefore syncs journal a n
-  overlap_before a i ne (CommonPixel p t u) =
-      let w = window n p u in
-      elim (h.counted.pixels a.client (clients a i)) [
-        | inl rows ↦ all_before a old.rows.cells.items h.reach.rows p.1 ne (h.is.rows p.0 p.1 w.0 w.1 u) (tables.rows.told p.1 w.1 a.client a.place i (p.0, t)) rows
-        | inr columns ↦ all_before a old.columns.cells.items h.reach.columns p.0 ne (h.is.columns p.0 p.1 w.0 w.1 u) (tables.columns.told p.0 w.0 a.client a.place i (p.1, t)) columns
-      ]
-  overlap_before a i ne (FirstWrites t w (inl v)) =
-      let k = h.is.writes t v in
-      all_before a old.writers.cells.items h.reach.writes t ne k (tables.writers.told t (omega (arith, k.1, h.is.inside.3)) a.client a.place i w) (h.counted.written a.client (clients a i)).0
-  overlap_before a i ne (FirstWrites t w (inr v)) =
-      let k = h.is.samples t v in
-      all_before a old.writers.cells.items h.reach.samples t ne k (tables.writers.told t (omega (arith, k.1, h.is.inside.2)) a.client a.place i w) (h.counted.sampled a.client (clients a i))
-  overlap_before a i ne (SecondWrites t w (inl v)) =
-      let k = h.is.writes t w in
-      all_before a old.writers.cells.items h.reach.writes t ne k (tables.writers.told t (omega (arith, k.1, h.is.inside.3)) a.client a.place i v) (h.counted.written a.client (clients a i)).0
-  overlap_before a i ne (SecondWrites t w (inr v)) =
-      let k = h.is.writes t w in
-      all_before a old.readers.cells.items h.reach.writes t ne k (tables.readers.told t (omega (arith, k.1, h.is.inside.3)) a.client a.place i v) (h.counted.written a.client (clients a i)).1
+  in_column : (p : ℕ × ℕ) → f.touches n p ≡ true → IsAmong reach.columns p.0
+  in_column p t = let w = in_window p t in is.columns p.0 p.1 w.0 w.1 w.2
 
-  none_races : (a : Name) → IsIn a passed → ConflictsUnordered syncs journal f a n → ⊥
-  none_races a i k = k.not_before (overlap_before a i k.conflict.clients k.conflict.common)
+  in_samples : (t : ℕ) → f.samples n t ≡ true → IsAmong reach.samples t
+  in_samples t k = is.samples t (and_both (may_sample s e t) (touches_one width height s e) (sym (effect.samples t) ∙ k)).0
 
-  quiet_on : NoRepeat (passed ++ n ∷ []) → IsQuiet syncs journal f passed → IsQuiet syncs journal f (passed ++ n ∷ [])
-  quiet_on once quiet a b s k = elim (in_append b passed (n ∷ []) (second_in a b (passed ++ n ∷ []) s)) [
-    | inl i ↦ quiet a b (stands_front a b passed (n ∷ []) once s i) k
-    | inr (inr i) ↦ absurd i
-    | inr (inl e) ↦
-        none_races a (stands_before a n passed [] once (subst (λ x. Stands a x (passed ++ n ∷ [])) (sym e) s)) (subst (ConflictsUnordered syncs journal f a) (sym e) k)
-  ]
+  in_writes : (t : ℕ) → f.writes n t ≡ true → IsAmong reach.writes t
+  in_writes t k = is.writes t (sym (effect.writes t) ∙ k)
 
-  tables_on : n.client < 8 → ((i : ℕ) → IsIn (named n.client i) passed → i < n.place) → AreOutlined f width height (passed ++ n ∷ []) new
-  tables_on client rising = record {
-    rows = told_more (λ a y. (x : ℕ) × (f.touches a (x, y) ≡ true)) height passed old.rows.cells.items new.rows.cells.items n h.reach.rows tables.rows client rising
-        (λ y lt u. let w = window n (u.0, y) u.1 in h.is.rows u.0 y w.0 w.1 u.1) h.rows;
-    columns = told_more (λ a x. (y : ℕ) × (f.touches a (x, y) ≡ true)) width passed old.columns.cells.items new.columns.cells.items n h.reach.columns tables.columns client rising
-        (λ x lt u. let w = window n (x, u.0) u.1 in h.is.columns x u.0 w.0 w.1 u.1) h.columns;
-    writers = told_more (λ a t. f.writes a t ≡ true) 256 passed old.writers.cells.items new.writers.cells.items n h.reach.writes tables.writers client rising (λ t lt u. h.is.writes t u) h.writers;
-    readers = told_more (λ a t. f.samples a t ≡ true) 256 passed old.readers.cells.items new.readers.cells.items n h.reach.samples tables.readers client rising (λ t lt u. h.is.samples t u) h.readers;
+  module _ (passed : List Name) (tables : AreOutlined f width height passed old) where
+    -- what used a cell of counted ones is counted
+    none_in : (uses : Name → ℕ → Type 0) (count : ℕ) (cells : List (List ℕ)) (r : Range) (i : ℕ) (x : Found) → TellAll uses count passed cells → i < count → IsAmong r i → uses (named x.client x.place) i
+        → IsUnordered f (slice_index clock) n passed x → (x.client < 8 → AreCountedIn clock cells r x.client) → ⊥
+    none_in uses count cells r i x tell lt k u o all =
+        let below = tell.told i lt x.client x.place o.earlier u in
+        let client : x.client < 8 = elim (cases_lt x.client 8) [
+          | inl low ↦ low
+          | inr ge ↦ let z : slice_index (cell_at cells i) x.client ≡ 0 = get_or_past (cell_at cells i) x.client 0 (omega (arith, tell.slots i lt)) in absurd (omega (arith, below, z))
+        ] in
+        omega (arith, below, all client i k, o.uncounted)
+
+    none_writer : (t : ℕ) (x : Found) → (t < 256) → f.writes (named x.client x.place) t ≡ true → IsUnordered f (slice_index clock) n passed x → (f.writes n t ≡ true) ⊎ (f.samples n t ≡ true) → ⊥
+    none_writer t x lt u o (inl v) =
+        none_in (λ a t. f.writes a t ≡ true) 256 old.writers.cells.items reach.writes t x tables.writers lt (in_writes t v) u o (λ low. (counted.written x.client low).0)
+    none_writer t x lt u o (inr v) = none_in (λ a t. f.writes a t ≡ true) 256 old.writers.cells.items reach.samples t x tables.writers lt (in_samples t v) u o (counted.sampled x.client)
+
+    none_at : (x : Found) (spot : Spot) → IsUnordered f (slice_index clock) n passed x → OverlapsAt f (named x.client x.place) n spot → ⊥
+    none_at x (Pixel u v) o at =
+        let w = in_window (u, v) at.1 in
+        let client : x.client < 8 = elim (cases_lt x.client 8) [
+          | inl low ↦ low
+          | inr ge ↦
+              let z : slice_index (cell_at old.rows.cells.items v) x.client ≡ 0 = get_or_past (cell_at old.rows.cells.items v) x.client 0 (omega (arith, tables.rows.slots v w.1)) in
+              absurd (omega (arith, tables.rows.told v w.1 x.client x.place o.earlier (u, at.0), z))
+        ] in
+        elim (counted.pixels x.client client) [
+          | inl rows ↦ none_in (λ a y. (x : ℕ) × (f.touches a (x, y) ≡ true)) height old.rows.cells.items reach.rows v x tables.rows w.1 (in_row (u, v) at.1) (u, at.0) o (λ low. rows)
+          | inr columns ↦ none_in (λ a x. (y : ℕ) × (f.touches a (x, y) ≡ true)) width old.columns.cells.items reach.columns u x tables.columns w.0 (in_column (u, v) at.1) (v, at.0) o (λ low. columns)
+        ]
+    none_at x (Shared t) o (inl at) = none_writer t x (below_of at.1) at.0 o at.1
+      where
+        below_of : (f.writes n t ≡ true) ⊎ (f.samples n t ≡ true) → t < 256
+        below_of (inl k) = omega (arith, (in_writes t k).1, is.inside.3)
+        below_of (inr k) = omega (arith, (in_samples t k).1, is.inside.2)
+    none_at x (Shared t) o (inr at) =
+        let lt : t < 256 = omega (arith, (in_writes t at.0).1, is.inside.3) in
+        elim at.1 [
+          | inl u ↦ none_writer t x lt u o (inl at.0)
+          | inr u ↦ none_in (λ a t. f.samples a t ≡ true) 256 old.readers.cells.items reach.writes t x tables.readers lt (in_writes t at.0) u o (λ low. (counted.written x.client low).1)
+        ]
+
+    outlined_on : n.client < 8 → IsBehind passed n → AreMarked n reach.rows old.rows.cells.items new.rows.cells.items → AreMarked n reach.columns old.columns.cells.items new.columns.cells.items
+        → AreMarked n reach.writes old.writers.cells.items new.writers.cells.items → AreMarked n reach.samples old.readers.cells.items new.readers.cells.items → AreOutlined f width height (passed ++ n ∷ []) new
+    outlined_on client behind rows columns writers readers = record {
+      rows = told_more (λ a y. (x : ℕ) × (f.touches a (x, y) ≡ true)) height passed old.rows.cells.items new.rows.cells.items n reach.rows tables.rows client behind (λ y lt u. in_row (u.0, y) u.1) rows;
+      columns = told_more (λ a x. (y : ℕ) × (f.touches a (x, y) ≡ true)) width passed old.columns.cells.items new.columns.cells.items n reach.columns tables.columns client behind
+          (λ x lt u. in_column (x, u.0) u.1) columns;
+      writers = told_more (λ a t. f.writes a t ≡ true) 256 passed old.writers.cells.items new.writers.cells.items n reach.writes tables.writers client behind (λ t lt u. in_writes t u) writers;
+      readers = told_more (λ a t. f.samples a t ≡ true) 256 passed old.readers.cells.items new.readers.cells.items n reach.samples tables.readers client behind (λ t lt u. in_samples t u) readers;
+    }
+
+  pub passes_outlines : n.client < 8 → AreMarked n reach.rows old.rows.cells.items new.rows.cells.items → AreMarked n reach.columns old.columns.cells.items new.columns.cells.items
+      → AreMarked n reach.writes old.writers.cells.items new.writers.cells.items → AreMarked n reach.samples old.readers.cells.items new.readers.cells.items
+      → PassesOutlines f width height (slice_index clock) n old new
+  passes_outlines client rows columns writers readers = record {
+    tables = λ passed behind tables. outlined_on passed tables client behind rows columns writers readers;
+    first = λ passed tables. record { none = λ r x o. none_at passed tables x x.spot o o.at; some = λ r k. absurd cc };
   }
 
--- ---- an order
+-- a command that uses nothing
+pub quiet_outlined : (f : Footprint (ℕ × ℕ)) (width height : ℕ) (clock : List ℕ) (n : Name) (s : State) (e : Effect) (o : Outlines) → HasEffect f n width height s e
+    → IsReach (λ x y. touches s e (pos x) (pos y)) (may_sample s e) (writes_shared e) width height no_reach → n.client < 8 → PassesOutlines f width height (slice_index clock) n o o
+quiet_outlined f width height clock n s e o effect reach client =
+    passes_outlines f width height clock n s e no_reach o o effect reach
+    (record { pixels = λ d lt. inl (none o.rows.cells.items d); written = λ d lt. (none o.writers.cells.items d, none o.readers.cells.items d); sampled = λ d lt. none o.writers.cells.items d }) client
+    (same o.rows.cells.items) (same o.columns.cells.items) (same o.writers.cells.items) (same o.readers.cells.items)
+  where
+    none : (cells : List (List ℕ)) (d : ℕ) → AreCountedIn clock cells nowhere d
+    none cells d i k = absurd (omega (arith, k.1))
 
--- where these names of an order are passed: the tables tell of them, and of no two of them the conflict is unordered
-pub record ArePassed (syncs : SyncLists) (journal : List Entry) (f : Footprint (ℕ × ℕ)) (width height : ℕ) (passed : List Name) (o : Outlines) : Type 0 where
-  pub tables : AreOutlined f width height passed o
-  pub quiet : IsQuiet syncs journal f passed
+    same : (cells : List (List ℕ)) → AreMarked n nowhere cells cells
+    same cells = record { size = refl; inside = λ i k. absurd (omega (arith, k.1)); each = λ i. inr refl }
+
+-- ---- no name is passed
 
 pub fits_first : (width height : ℕ) (o : Outlines) → AreUnused height o.rows.cells.items → AreUnused width o.columns.cells.items → AreUnused 256 o.writers.cells.items
     → AreUnused 256 o.readers.cells.items → FitWindow width height o
@@ -147,7 +181,7 @@ fits_first width height o rows columns writers readers = record { rows = size he
     size count e = ap length e ∙ length-replicate count (replicate {A = ℕ} 8 0)
 
 pub outlined_first : (syncs : SyncLists) (journal : List Entry) (f : Footprint (ℕ × ℕ)) (width height : ℕ) (o : Outlines) → AreUnused height o.rows.cells.items → AreUnused width o.columns.cells.items
-    → AreUnused 256 o.writers.cells.items → AreUnused 256 o.readers.cells.items → ArePassed syncs journal f width height [] o
+    → AreUnused 256 o.writers.cells.items → AreUnused 256 o.readers.cells.items → IsPassed (AreOutlined f width height) syncs journal f [] o
 outlined_first syncs journal f width height o rows columns writers readers = record {
   tables = record {
     rows = told_first _ height o.rows.cells.items rows;
@@ -157,42 +191,3 @@ outlined_first syncs journal f width height o rows columns writers readers = rec
   };
   quiet = λ a b s. absurd s;
 }
-
-pub outlined_more : (syncs : SyncLists) (journal : List Entry) (f : Footprint (ℕ × ℕ)) (width height : ℕ) (lists : List (List Change)) (order : List Name) (k : ℕ) (n : Name) (old new : Outlines)
-    → IsPermitted syncs journal order → IsExact syncs journal (clock_of lists) → ((a : Name) → IsIn a order → a.client < 8)
-    → ((a : Name) (p : ℕ × ℕ) → f.touches a p ≡ true → (p.0 < width) × (p.1 < height)) → slice_get order k ≡ Some n → ArePassed syncs journal f width height (take k order) old
-    → IsApart (λ x y. f.touches n (x, y)) (f.samples n) (f.writes n) width height lists n old new → ArePassed syncs journal f width height (take (k + 1) order) new
-outlined_more syncs journal f width height lists order k n old new p exact clients window at h apart =
-    let names = names_at syncs journal order k n p clients at in
-    let reached = (p.names n).0 names.here in
-    subst (λ ns. ArePassed syncs journal f width height ns new) (sym (order_at order k n at).1) (record {
-      tables = tables_on syncs journal f width height lists (take k order) n old new exact reached (λ a i. (names.below a i).0) window h.tables apart (clients n names.here) names.rising;
-      quiet = quiet_on syncs journal f width height lists (take k order) n old new exact reached (λ a i. (names.below a i).0) window h.tables apart names.front h.quiet;
-    })
-
-pub all_outlined : (syncs : SyncLists) (journal : List Entry) (f : Footprint (ℕ × ℕ)) (width height : ℕ) (lists : List (List Change)) (order : List Name) (k : ℕ) (o : Outlines) → length order ≤ k
-    → IsPermitted syncs journal order → IsExact syncs journal (clock_of lists) → ArePassed syncs journal f width height (take k order) o → AreConflictsOrdered syncs journal f
-all_outlined syncs journal f width height lists order k o le p exact h =
-    quiet_ordered syncs journal f order (clock_of lists) p exact (subst (IsQuiet syncs journal f) (take_whole order k le) h.quiet)
-
--- ---- a command that uses nothing
-
-pub quiet_apart : (touching : ℕ → ℕ → Bool) (sampling writing : ℕ → Bool) (width height : ℕ) (lists : List (List Change)) (n : Name) (o : Outlines) → IsReach touching sampling writing width height no_reach
-    → IsApart touching sampling writing width height lists n o o
-quiet_apart touching sampling writing width height lists n o h = record {
-  clock = before_at (slice_index_or lists n.client []) n.place;
-  counts = λ d ne. clock_is lists n d ne;
-  reach = no_reach;
-  is = h;
-  counted = record { pixels = λ d lt. inl (none o.rows.cells.items d); written = λ d lt. (none o.writers.cells.items d, none o.readers.cells.items d); sampled = λ d lt. none o.writers.cells.items d };
-  rows = same o.rows.cells.items;
-  columns = same o.columns.cells.items;
-  writers = same o.writers.cells.items;
-  readers = same o.readers.cells.items;
-}
-  where
-    none : (cells : List (List ℕ)) (d : ℕ) → AreCountedIn (before_at (slice_index_or lists n.client []) n.place) cells nowhere d
-    none cells d i k = absurd (omega (arith, k.1))
-
-    same : (cells : List (List ℕ)) → AreMarked n nowhere cells cells
-    same cells = record { size = refl; inside = λ i k. absurd (omega (arith, k.1)); each = λ i. inr refl }

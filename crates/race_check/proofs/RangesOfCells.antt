@@ -1,11 +1,10 @@
 -- A name marked in cells one after the other.
 use Rattle.std.proofs.Common.{◌≡◌, ◌≢◌, ℕ, ◌+◌, ◌<◌, ◌≤◌, List, [], length, inl, inr, refl, sym, ap, ◌∙◌, arith}
-use Rattle.std.specs.Prelude.{slice_index_or, slice_set}
 use Rattle.std.proofs.lemmas.Bool.{cases_lt}
 use Rattle.std.proofs.lemmas.List.{get_or-set_same, get_or-set_other}
 use Rattle.std.proofs.Math.ListN.{length-set}
 use Rattle.rc_base.specs.declared.sync.Name.{Name}
-use Rattle.race_check.specs.Finds.{mark}
+use Rattle.race_check.specs.Finds.{cell_at, mark, marked}
 use Rattle.race_check.specs.Outlines.{AreMarked}
 use Rattle.race_check.specs.declared.range.Range.{Range}
 
@@ -13,9 +12,9 @@ use Rattle.race_check.specs.declared.range.Range.{Range}
 pub record AreMarkedTo (n : Name) (r : Range) (k : ℕ) (old new : List (List ℕ)) : Type 0 where
   pub size : length new ≡ length old
   pub from : r.from ≤ k
-  pub done : (i : ℕ) → r.from ≤ i → i < k → slice_index_or new i [] ≡ slice_set (slice_index_or old i []) n.client (n.place + 1)
-  pub before : (i : ℕ) → i < r.from → slice_index_or new i [] ≡ slice_index_or old i []
-  pub left : (i : ℕ) → k ≤ i → slice_index_or new i [] ≡ slice_index_or old i []
+  pub done : (i : ℕ) → r.from ≤ i → i < k → cell_at new i ≡ marked n (cell_at old i)
+  pub before : (i : ℕ) → i < r.from → cell_at new i ≡ cell_at old i
+  pub left : (i : ℕ) → k ≤ i → cell_at new i ≡ cell_at old i
 
 pub marked_first : (n : Name) (r : Range) (cells : List (List ℕ)) → AreMarkedTo n r r.from cells cells
 marked_first n r cells = record { size = refl; from = omega arith; done = λ i lo lt. absurd (omega arith); before = λ i lt. refl; left = λ i le. refl }
@@ -28,18 +27,18 @@ marked_more n r k old cells new h lt e = record {
     | inl below ↦ other i (omega arith) ∙ h.done i lo below
     | inr ge ↦
         let same : i ≡ k = omega arith in
-        ap (λ j. slice_index_or new j []) same ∙ ap (λ (cs : List (List ℕ)). slice_index_or cs k []) e ∙ get_or-set_same cells k now [] lt
-        ∙ ap (λ c. slice_set c n.client (n.place + 1)) (h.left k (omega arith)) ∙ ap (λ j. slice_set (slice_index_or old j []) n.client (n.place + 1)) (sym same)
+        ap (λ j. cell_at new j) same ∙ ap (λ (cs : List (List ℕ)). cell_at cs k) e ∙ get_or-set_same cells k now [] lt
+        ∙ ap (marked n) (h.left k (omega arith)) ∙ ap (λ j. marked n (cell_at old j)) (sym same)
   ];
   before = λ i low. other i (omega (arith, h.from)) ∙ h.before i low;
   left = λ i le. other i (omega arith) ∙ h.left i (omega arith);
 }
   where
     now : List ℕ
-    now = slice_set (slice_index_or cells k []) n.client (n.place + 1)
+    now = marked n (cell_at cells k)
 
-    other : (i : ℕ) → i ≢ k → slice_index_or new i [] ≡ slice_index_or cells i []
-    other i ne = ap (λ (cs : List (List ℕ)). slice_index_or cs i []) e ∙ get_or-set_other cells k i (slice_set (slice_index_or cells k []) n.client (n.place + 1)) [] ne
+    other : (i : ℕ) → i ≢ k → cell_at new i ≡ cell_at cells i
+    other i ne = ap (λ (cs : List (List ℕ)). cell_at cs i) e ∙ get_or-set_other cells k i (marked n (cell_at cells k)) [] ne
 
 pub marked_all : (n : Name) (r : Range) (k : ℕ) (old new : List (List ℕ)) → AreMarkedTo n r k old new → r.to ≤ k → AreMarked n r old new
 marked_all n r k old new h le = record {

@@ -1,9 +1,10 @@
 -- The names of a permitted order of a scene, and what the scene's footprint has of them.
-use Rattle.std.proofs.Common.{◌≡◌, ℕ, zero, suc, ◌+◌, ◌^◌, ◌<◌, ◌≤◌, ◌&&◌, ◌||◌, Bool, true, List, [], ◌∷◌, Option, Some, None, length, take, pos, ℤ, inl, inr, refl, sym, ap, ◌∙◌, subst, arith, ltb-true}
+use Rattle.std.proofs.Common.{◌≡◌, ℕ, zero, suc, ◌+◌, ◌^◌, ◌<◌, ◌≤◌, ◌&&◌, ◌||◌, Bool, List, [], ◌∷◌, Option, Some, None, length, take, pos, ℤ, inl, inr, refl, sym, ap, ◌∙◌, subst, arith}
 use Rattle.std.specs.Prelude.{slice_get, slice_index_or, slice_set, nat_lt}
 use Rattle.std.specs.Option.{option_map_or}
 use Rattle.std.specs.List.{list_any, range_with_len}
 use Rattle.std.proofs.lemmas.Bool.{cases_lt}
+use Rattle.std.proofs.Math.ListN.{length-set}
 use Rattle.std.proofs.lemmas.Option.{slice_get-get_or}
 use Rattle.rc_base.specs.Contexts.Context.{ClientContext}
 use Rattle.rc_base.specs.Contexts.Faults.{fault_of}
@@ -28,7 +29,6 @@ use Rattle.rc_base.specs.declared.sync.SyncLists.{SyncLists}
 use Rattle.rc_base.specs.declared.sync.SyncRow.{SyncRow}
 use Rattle.rc_base.specs.declared.sync.WaitAt.{WaitAt}
 use Rattle.gl_context.proofs.OneMoreCommand.{goes_on}
-use Rattle.happens_before.specs.declared.timelines.Change.{Change}
 use Rattle.order_model.specs.Counted.{used_by}
 use Rattle.order_model.proofs.ClientsBeyond.{reach_past}
 use Rattle.order_model.proofs.NamesInTurn.{at_in, order_at, run_next}
@@ -38,13 +38,9 @@ use Rattle.order_model.proofs.ScenesWithinLimits.{within_is_drawable}
 use Rattle.order_model.proofs.UsedOperations.{stop_is_place}
 use Rattle.stream_replay.specs.Clients.{AreIssued, client_after}
 use Rattle.stream_replay.specs.declared.client.Client.{Client}
-use Rattle.stream_replay.proofs.ClientsInTurn.{client_before, clients_next}
-use Rattle.order_model.proofs.SpotsOfNames.{and_both}
-use Rattle.race_check.specs.Outlines.{IsApart, IsApartIn}
-use Rattle.race_check.specs.Uses.{IsCarried, window_touches, window_samples}
-use Rattle.race_check.specs.declared.found.Found.{Found}
-use Rattle.race_check.specs.declared.marks.Marks.{Marks}
-use Rattle.race_check.specs.declared.outlines.Outlines.{Outlines}
+use Rattle.stream_replay.proofs.ClientsInTurn.{client_before, client_now, clients_next, some_command}
+use Rattle.stream_replay.proofs.IssuedCommands.{is_client}
+use Rattle.race_check.specs.Uses.{HasEffect, IsNextOf, window_touches, window_samples}
 
 -- ---- names within their streams
 
@@ -90,20 +86,20 @@ no_name = record { client = 0; place = 0 }
 -- a name of an order, where the clients stand behind the names in front of it
 pub record IsNextName (s : Scene) (order : List Name) (clients : List Client) (i : ℕ) (n : Name) : Type 0 where
   pub at : slice_get order i ≡ Some n
-  pub inside : n.place < length (stream_of s n.client)
-  pub before : slice_get clients n.client ≡ Some (client_after s n.client n.place)
-  pub client : n.client < 8
-  pub place : n.place + 1 < 2 ^ 32
+  pub next : IsNextOf s clients n
   pub issued : (next : List Client) → next ≡ slice_set clients n.client (client_after s n.client (n.place + 1)) → AreIssued s (take (i + 1) order) next
 
 pub next_name : (s : Scene) (syncs : SyncLists) (js : List Entry) (order items : List Name) (clients : List Client) (i : ℕ) → IsWithin s → syncs ≡ sync_lists_of s → IsPermitted syncs js order
     → items ≡ order → i < length items → AreIssued s (take i order) clients → IsNextName s order clients i (slice_index_or items i no_name)
 next_name s syncs js order items clients i within lists permitted same lt issued = record {
   at = at;
-  inside = place_in s syncs js order within lists permitted n here;
-  before = client_before s (take i order) n clients issued next client;
-  client = client_small s syncs js order within lists permitted n here;
-  place = place_small s syncs js order within lists permitted n here;
+  next = record {
+    count = issued.count;
+    inside = place_in s syncs js order within lists permitted n here;
+    before = client_before s (take i order) n clients issued next client;
+    client = client_small s syncs js order within lists permitted n here;
+    place = place_small s syncs js order within lists permitted n here;
+  };
   issued = λ ys e. subst (λ (l : List Name). AreIssued s l ys) (sym (order_at order i n at).1) (clients_next s (take i order) n clients ys issued next client e);
 }
   where
@@ -200,51 +196,21 @@ module _ (s : Scene) (n : Name) (c : Command) (x : State) (e : Effect) (at : com
   writing : (t : ℕ) → (footprint_of s).writes n t ≡ writes_shared e t
   writing t = ap (λ (g : Effect). writes_shared g t) (sym effect)
 
-  pub use_in_scene : (lists : List (List Change)) (old new : Marks) (told : Option Found)
-      → IsCarried (window_touches s.decl.width s.decl.height x e) (window_samples s.decl.width s.decl.height x e) (writes_shared e) s.decl.width s.decl.height lists n old new told
-      → IsCarried ((footprint_of s).touches n) ((footprint_of s).samples n) ((footprint_of s).writes n) s.decl.width s.decl.height lists n old new told
-  use_in_scene lists old new told h = record {
-    clock = h.clock;
-    counts = h.counts;
-    used = h.used;
-    is = record {
-      inside = h.is.inside;
-      touches = λ u v lu lv. touching (u, v) ∙ h.is.touches u v lu lv;
-      window = λ p t. h.is.window p (sym (touching p) ∙ t);
-      sampled = λ t k. h.is.sampled t (sym (sampling t) ∙ k);
-      samples = λ t k. let b = h.is.samples t k in (sampling t ∙ b.0, b.1);
-      written = λ t k. h.is.written t (sym (writing t) ∙ k);
-      writes = λ t k. let b = h.is.writes t k in (writing t ∙ b.0, b.1);
-    };
-    pixels = h.pixels;
-    writers = h.writers;
-    readers = h.readers;
-    best = h.best;
-  }
+  pub effect_in_scene : HasEffect (footprint_of s) n s.decl.width s.decl.height x e
+  effect_in_scene = record { touches = touching; samples = sampling; writes = writing }
 
-  pub apart_in_scene : (lists : List (List Change)) (old new : Outlines)
-      → IsApart (λ u v. touches x e (pos u) (pos v)) (may_sample x e) (writes_shared e) s.decl.width s.decl.height lists n old new → IsApartIn s lists n old new
-  apart_in_scene lists old new h = record {
-    clock = h.clock;
-    counts = h.counts;
-    reach = h.reach;
-    is = record {
-      rows = λ u v lu lv t. h.is.rows u v lu lv (sym (touched u v) ∙ (and_both (nat_lt u s.decl.width && nat_lt v s.decl.height) (touches_pixel s n u v) t).1);
-      columns = λ u v lu lv t. h.is.columns u v lu lv (sym (touched u v) ∙ (and_both (nat_lt u s.decl.width && nat_lt v s.decl.height) (touches_pixel s n u v) t).1);
-      samples = λ t k. h.is.samples t (sym (may t) ∙ (and_both (may_sample (context_after s n.client n.place).state (effect_at s n.client n.place) t) (touches_some s n) k).0);
-      writes = λ t k. h.is.writes t (sym (writing t) ∙ k);
-      inside = h.is.inside;
-    };
-    counted = h.counted;
-    rows = h.rows;
-    columns = h.columns;
-    writers = h.writers;
-    readers = h.readers;
-  }
+-- ---- a name's command is issued
 
--- what a scene's commands touch lies in its window
-pub in_window : (s : Scene) (n : Name) (p : ℕ × ℕ) → (footprint_of s).touches n p ≡ true → (p.0 < s.decl.width) × (p.1 < s.decl.height)
-in_window s n p t =
-    let a = and_both (nat_lt p.0 s.decl.width && nat_lt p.1 s.decl.height) (touches_pixel s n p.0 p.1) t in
-    let b = and_both (nat_lt p.0 s.decl.width) (nat_lt p.1 s.decl.height) a.0 in
-    (ltb-true p.0 s.decl.width b.0, ltb-true p.1 s.decl.height b.1)
+-- the clients' list, where the name's client is at the name's command, has it also behind that
+pub client_there : (s : Scene) (n : Name) (old new : List Client) → IsNextOf s old n → new ≡ slice_set old n.client (client_after s n.client (n.place + 1)) → n.client < length new
+client_there s n old new next e =
+    omega (arith, is_client s n.client n.place next.inside, next.count, ap length e ∙ length-set old n.client (client_after s n.client (n.place + 1)))
+
+-- what is done in the state of the client behind the command is the name's effect in the scene
+pub issued_effect : (s : Scene) (n : Name) (old new : List Client) (client : Client) (index : ℕ) (x : State) (e : Effect) → IsNextOf s old n
+    → new ≡ slice_set old n.client (client_after s n.client (n.place + 1)) → index ≡ n.client → client ≡ slice_index_or new index client → x ≡ client.context.state → e ≡ effect_at s n.client n.place
+    → HasEffect (footprint_of s) n s.decl.width s.decl.height x e
+issued_effect s n old new client index x e next clients at is state effect =
+    let here : n.client < length old = omega (arith, is_client s n.client n.place next.inside, next.count) in
+    let now = client_now s n old new client here clients (is ∙ ap (λ (k : ℕ). slice_index_or new k client) at) in
+    effect_in_scene s n _ x e (some_command s n.client n.place next.inside) (state ∙ ap (λ (c : Client). c.context.state) now) effect

@@ -1,7 +1,8 @@
 -- Touches one after the other, and the rows of a triangle.
-use Rattle.std.proofs.Common.{◌≡◌, ◌≢◌, ℕ, ◌+◌, ◌<◌, ◌≤◌, nat_lt, nat_le, ◌&&◌, ◌||◌, Bool, true, false, List, [], ◌∷◌, ◌++◌, ℤ, pos, ◌+ℤ◌, ◌≤ℤ◌, ◌<ℤ◌, inl, inr, refl, sym, ap, ◌∙◌, arith, append_assoc, append-nil, eq-eqb, ne_eqb, leb-true, mul-le-mul, ◌*◌}
+use Rattle.std.proofs.Common.{◌≡◌, ◌≢◌, ℕ, ◌+◌, ◌*◌, ◌<◌, ◌≤◌, ◌==◌, nat_lt, nat_le, ◌&&◌, ◌||◌, ◌⊎◌, ◌↔◌, Bool, true, false, cond, List, [], length, Option, ℤ, pos, ◌+ℤ◌, ◌≤ℤ◌, ◌<ℤ◌, inl, inr, refl, sym, ap, ◌∙◌, subst, arith, eq-eqb, eqb-true, ne_eqb, le-leb, leb-true, lt-ltb, ltb-true, true≢false, mul-le-mul}
 use Rattle.std.specs.Prelude.{int_lt}
-use Rattle.std.specs.List.{AllByRecursion}
+use Rattle.std.proofs.lemmas.List.{get_or-set_same, get_or-set_other}
+use Rattle.order_model.proofs.SpotsOfNames.{and_both, both_and}
 use Rattle.std.proofs.lemmas.Bool.{cases_Bool, le-ltb}
 use Rattle.std.proofs.lemmas.Bool.Decides.{nat_tests}
 use Rattle.std.proofs.lemmas.Int.{ints, by_lt_z}
@@ -11,13 +12,20 @@ use Rattle.rc_base.specs.declared.window.Rect.{Rect}
 use Rattle.rc_base.specs.declared.window.Span.{Span}
 use Rattle.rc_base.specs.declared.window.WindowVertex.{WindowVertex}
 use Rattle.raster.specs.Spans.{in_span, IsNextSpan, AreEmptyRows}
-use Rattle.race_check.specs.Finds.{IsRunIn, offers, run_has, runs_have, runs_some, run_visits, runs_visits, visit_finds, visit_marks}
-use Rattle.race_check.specs.Touches.{IsTouch, IsPartOf, triangle_has}
+use Rattle.race_check.specs.Finds.{IsFirst, IsFoundIn, IsRunIn, OrBefore, cell_at, mark, marked, run_has}
+use Rattle.race_check.specs.Touches.{AreTouched, IsFoundWhere, IsTouch, IsPartOf, SomePasses, triangle_has}
+use Rattle.race_check.specs.declared.found.Found.{Found}
 use Rattle.race_check.specs.declared.run.Run.{Run}
 use Rattle.race_check.specs.declared.visit.Seen.{Seen}
 use Rattle.race_check.specs.declared.visit.Visit.{Visit}
-use Rattle.race_check.proofs.FoundFirst.{offers_append}
-use Rattle.race_check.proofs.VisitedCells.{marks_visits, marks_append, finds_append}
+use Rattle.race_check.specs.declared.verdict.Spot.TheVariants.{Pixel}
+use Rattle.race_check.proofs.CellsTellLast.{same_pixel}
+use Rattle.race_check.proofs.FoundFirst.{first_as, first_kept, first_then}
+use Rattle.race_check.proofs.VisitedCells.{found_before, found_behind, marked_then}
+
+or_true : (b : Bool) → (b || true) ≡ true
+or_true true = refl
+or_true false = refl
 
 or_false : (b : Bool) → (b || false) ≡ b
 or_false true = refl
@@ -27,65 +35,228 @@ and_false : (b : Bool) → (b && false) ≡ false
 and_false true = refl
 and_false false = refl
 
-runs_append : (w : ℕ) (rs qs : List Run) → runs_visits w (rs ++ qs) ≡ runs_visits w rs ++ runs_visits w qs
-runs_append w [] qs = refl
-runs_append w (r ∷ rs) qs = ap (λ vs. run_visits w r ++ vs) (runs_append w rs qs) ∙ sym (append_assoc (run_visits w r) (runs_visits w rs) (runs_visits w qs))
+-- ---- touches one after the other
 
-have_append : (x y : ℕ) (rs qs : List Run) → runs_have x y (rs ++ qs) ≡ (runs_have x y rs || runs_have x y qs)
-have_append x y [] qs = refl
-have_append x y (r ∷ rs) qs = elim (cases_Bool (run_has x y r)) [ inl t ↦ rw t refl | inr f ↦ rw f (have_append x y rs qs) ]
+-- what one of them has
+both_pass : (w h : ℕ) (a b c : ℕ → ℕ → Bool) → ((x y : ℕ) → x < w → y < h → c x y ≡ (a x y || b x y)) → SomePasses w h c → SomePasses w h a ⊎ SomePasses w h b
+both_pass w h a b c e s = elim (cases_Bool (a s.column s.row)) [
+  | inl t ↦ inl (record { column = s.column; row = s.row; wide = s.wide; high = s.high; passes = t })
+  | inr f ↦ inr (record {
+    column = s.column;
+    row = s.row;
+    wide = s.wide;
+    high = s.high;
+    passes = sym (ap (λ k. k || b s.column s.row) f) ∙ sym (e s.column s.row s.wide s.high) ∙ s.passes;
+  })
+]
 
-all_append : (w h : ℕ) (rs qs : List Run) → AllByRecursion (IsRunIn w h) rs → AllByRecursion (IsRunIn w h) qs → AllByRecursion (IsRunIn w h) (rs ++ qs)
-all_append w h [] qs a b = b
-all_append w h (r ∷ rs) qs a b = (a.0, all_append w h rs qs a.1 b)
+left_passes : (w h : ℕ) (a b c : ℕ → ℕ → Bool) → ((x y : ℕ) → x < w → y < h → c x y ≡ (a x y || b x y)) → SomePasses w h a → SomePasses w h c
+left_passes w h a b c e s = record {
+  column = s.column;
+  row = s.row;
+  wide = s.wide;
+  high = s.high;
+  passes = e s.column s.row s.wide s.high ∙ ap (λ k. k || b s.column s.row) s.passes;
+}
 
-or_three : (a b c : Bool) → ((a || b) || c) ≡ (a || (b || c))
-or_three true b c = refl
-or_three false b c = refl
+right_passes : (w h : ℕ) (a b c : ℕ → ℕ → Bool) → ((x y : ℕ) → x < w → y < h → c x y ≡ (a x y || b x y)) → SomePasses w h b → SomePasses w h c
+right_passes w h a b c e s = record {
+  column = s.column;
+  row = s.row;
+  wide = s.wide;
+  high = s.high;
+  passes = e s.column s.row s.wide s.high ∙ ap (λ k. a s.column s.row || k) s.passes ∙ or_true (a s.column s.row);
+}
 
-some_append : (rs qs : List Run) → runs_some (rs ++ qs) ≡ (runs_some rs || runs_some qs)
-some_append [] qs = refl
-some_append (r ∷ rs) qs = ap (λ b. nat_lt r.from r.to || b) (some_append rs qs) ∙ sym (or_three (nat_lt r.from r.to) (runs_some rs) (runs_some qs))
+pub cells_none : (v : Visit) (cells : List (List ℕ)) → AreTouched (λ x y. false) v cells cells
+cells_none v cells x y lx ly = refl
+
+pub cells_then : (a b c : ℕ → ℕ → Bool) (v : Visit) (old mid new : List (List ℕ)) → AreTouched a v old mid → AreTouched b v mid new
+    → ((x y : ℕ) → x < v.width → y < v.height → c x y ≡ (a x y || b x y)) → AreTouched c v old new
+cells_then a b c v old mid new p q e x y lx ly =
+    let cell = cell_at old (y * v.width + x) in
+    q x y lx ly ∙ ap (λ k. cond (b x y) (marked v.name k) k) (p x y lx ly) ∙ marked_then v.name cell (a x y) (b x y) ∙ ap (λ k. cond k (marked v.name cell) cell) (sym (e x y lx ly))
+
+pub finds_then : (a b c : ℕ → ℕ → Bool) (v : Visit) (old mid : List (List ℕ)) (best between after : Option Found) → AreTouched a v old mid
+    → IsFirst (OrBefore best (IsFoundWhere a v old)) between → IsFirst (OrBefore between (IsFoundWhere b v mid)) after
+    → ((x y : ℕ) → x < v.width → y < v.height → c x y ≡ (a x y || b x y)) → IsFirst (OrBefore best (IsFoundWhere c v old)) after
+unfolding left_passes right_passes
+finds_then a b c v old mid best between after p h k e = first_then best between after (IsFoundWhere a v old) (IsFoundWhere b v mid) (IsFoundWhere c v old) h k to from
+  where
+    to : (z : Found) → IsFoundWhere c v old z → IsFoundWhere a v old z ⊎ IsFoundWhere b v mid z
+    to z f =
+        let s = f.pixel in
+        let i = s.row * v.width + s.column in
+        elim (cases_Bool (a s.column s.row)) [
+          | inl t ↦ inl (record { pixel = record { column = s.column; row = s.row; wide = s.wide; high = s.high; passes = t }; found = f.found })
+          | inr n ↦ inr (record {
+            pixel = record {
+              column = s.column;
+              row = s.row;
+              wide = s.wide;
+              high = s.high;
+              passes = sym (ap (λ k. k || b s.column s.row) n) ∙ sym (e s.column s.row s.wide s.high) ∙ s.passes;
+            };
+            found = subst (λ c. IsFoundIn v.name.client v.clock c (Pixel s.column s.row) z) (sym (p s.column s.row s.wide s.high))
+                (found_behind v.name v.clock (cell_at old i) (Pixel s.column s.row) (a s.column s.row) z f.found);
+          })
+        ]
+
+    from : (z : Found) → IsFoundWhere a v old z ⊎ IsFoundWhere b v mid z → IsFoundWhere c v old z
+    from z (inl f) = record { pixel = left_passes v.width v.height a b c e f.pixel; found = f.found }
+    from z (inr f) =
+        let s = f.pixel in
+        let i = s.row * v.width + s.column in
+        record {
+          pixel = right_passes v.width v.height a b c e f.pixel;
+          found = found_before v.name v.clock (cell_at old i) (Pixel s.column s.row) (a s.column s.row) z
+              (subst (λ c. IsFoundIn v.name.client v.clock c (Pixel s.column s.row) z) (p s.column s.row s.wide s.high) f.found);
+        }
+
+nowhere_found : (v : Visit) (cells : List (List ℕ)) (x : Found) → IsFoundWhere (λ x y. false) v cells x → ⊥
+nowhere_found v cells x f = true≢false (sym f.pixel.passes)
+
+pub finds_none : (v : Visit) (cells : List (List ℕ)) (best : Option Found) → IsFirst (OrBefore best (IsFoundWhere (λ x y. false) v cells)) best
+finds_none v cells best = first_kept best (IsFoundWhere (λ x y. false) v cells) (nowhere_found v cells)
 
 pub touch_none : (v : Visit) (cells : List (List ℕ)) (seen : Seen) → IsTouch (λ x y. false) v cells cells seen seen
-touch_none v cells seen = record { runs = []; inside = tt; exact = λ x y lx ly. refl; cells = refl; finds = refl; some = sym (or_false seen.some) }
-
-pub touch_one : (v : Visit) (old new : List (List ℕ)) (before after : Seen) (r : Run) → IsRunIn v.width v.height r → new ≡ visit_marks v.name old (run_visits v.width r)
-    → after.best ≡ offers before.best (visit_finds v.name.client v.clock old (run_visits v.width r)) → after.some ≡ (before.some || nat_lt r.from r.to)
-    → IsTouch (λ x y. run_has x y r) v old new before after
-touch_one v old new before after r ok c f s =
-    let e = sym (append-nil (run_visits v.width r)) in
-    record {
-      runs = r ∷ [];
-      inside = (ok, tt);
-      exact = λ x y lx ly. or_false (run_has x y r);
-      cells = c ∙ ap (visit_marks v.name old) e;
-      finds = f ∙ ap (λ vs. offers before.best (visit_finds v.name.client v.clock old vs)) e;
-      some = s ∙ ap (λ b. before.some || b) (sym (or_false (nat_lt r.from r.to)));
-    }
+touch_none v cells seen = record {
+  cells = cells_none v cells;
+  best = finds_none v cells seen.best;
+  some = (λ t. inl t, λ (i : (seen.some ≡ true) ⊎ SomePasses v.width v.height (λ x y. false)). elim i [ inl t ↦ t | inr s ↦ absurd (true≢false (sym s.passes)) ]);
+}
 
 pub touch_then : (a b c : ℕ → ℕ → Bool) (v : Visit) (old mid new : List (List ℕ)) (before between after : Seen) → IsTouch a v old mid before between
     → IsTouch b v mid new between after → ((x y : ℕ) → x < v.width → y < v.height → c x y ≡ (a x y || b x y)) → IsTouch c v old new before after
 touch_then a b c v old mid new before between after p q e = record {
-  runs = p.runs ++ q.runs;
-  inside = all_append v.width v.height p.runs q.runs p.inside q.inside;
-  exact = λ x y lx ly. have_append x y p.runs q.runs ∙ ap (λ k. k || runs_have x y q.runs) (p.exact x y lx ly) ∙ ap (λ k. a x y || k) (q.exact x y lx ly) ∙ sym (e x y lx ly);
-  cells = q.cells ∙ ap (λ cs. visit_marks v.name cs (runs_visits v.width q.runs)) p.cells ∙ sym (marks_append v.name old (runs_visits v.width p.runs) (runs_visits v.width q.runs))
-      ∙ ap (visit_marks v.name old) (sym (runs_append v.width p.runs q.runs));
-  finds =
-      q.finds
-      ∙ ap (λ o. offers o (visit_finds v.name.client v.clock mid (runs_visits v.width q.runs))) p.finds
-      ∙ ap (λ cs. offers (offers before.best (visit_finds v.name.client v.clock old (runs_visits v.width p.runs))) (visit_finds v.name.client v.clock cs (runs_visits v.width q.runs))) p.cells
-      ∙ ap (offers (offers before.best (visit_finds v.name.client v.clock old (runs_visits v.width p.runs)))) (marks_visits v.name v.clock old (runs_visits v.width p.runs) (runs_visits v.width q.runs))
-      ∙ sym (offers_append (visit_finds v.name.client v.clock old (runs_visits v.width p.runs)) (visit_finds v.name.client v.clock old (runs_visits v.width q.runs)) before.best)
-      ∙ ap (offers before.best) (sym (finds_append v.name.client v.clock old (runs_visits v.width p.runs) (runs_visits v.width q.runs)))
-      ∙ ap (λ vs. offers before.best (visit_finds v.name.client v.clock old vs)) (sym (runs_append v.width p.runs q.runs));
-  some = q.some ∙ ap (λ k. k || runs_some q.runs) p.some ∙ or_three before.some (runs_some p.runs) (runs_some q.runs) ∙ ap (λ k. before.some || k) (sym (some_append p.runs q.runs));
+  cells = cells_then a b c v old mid new p.cells q.cells e;
+  best = finds_then a b c v old mid before.best between.best after.best p.cells p.best q.best e;
+  some = (to, from);
 }
+  where
+    to : after.some ≡ true → (before.some ≡ true) ⊎ SomePasses v.width v.height c
+    to t = elim (q.some.0 t) [
+      | inl u ↦ elim (p.some.0 u) [ inl k ↦ inl k | inr s ↦ inr (left_passes v.width v.height a b c e s) ]
+      | inr s ↦ inr (right_passes v.width v.height a b c e s)
+    ]
+
+    from : (before.some ≡ true) ⊎ SomePasses v.width v.height c → after.some ≡ true
+    from (inl t) = q.some.1 (inl (p.some.1 (inl t)))
+    from (inr s) = elim (both_pass v.width v.height a b c e s) [ inl k ↦ q.some.1 (inl (p.some.1 (inr k))) | inr k ↦ q.some.1 (inr k) ]
+
+-- what passes one test passes another
+pub cells_as : (a c : ℕ → ℕ → Bool) (v : Visit) (old new : List (List ℕ)) → AreTouched a v old new → ((x y : ℕ) → x < v.width → y < v.height → c x y ≡ a x y) → AreTouched c v old new
+cells_as a c v old new p e x y lx ly = p x y lx ly ∙ ap (λ k. cond k (marked v.name (cell_at old (y * v.width + x))) (cell_at old (y * v.width + x))) (sym (e x y lx ly))
+
+pass_as : (w h : ℕ) (a c : ℕ → ℕ → Bool) → ((x y : ℕ) → x < w → y < h → c x y ≡ a x y) → SomePasses w h a → SomePasses w h c
+pass_as w h a c e s = record { column = s.column; row = s.row; wide = s.wide; high = s.high; passes = e s.column s.row s.wide s.high ∙ s.passes }
+
+pub finds_as : (a c : ℕ → ℕ → Bool) (v : Visit) (cells : List (List ℕ)) (best after : Option Found) → IsFirst (OrBefore best (IsFoundWhere a v cells)) after
+    → ((x y : ℕ) → x < v.width → y < v.height → c x y ≡ a x y) → IsFirst (OrBefore best (IsFoundWhere c v cells)) after
+unfolding pass_as
+finds_as a c v cells best after h e =
+    first_as (OrBefore best (IsFoundWhere a v cells)) (OrBefore best (IsFoundWhere c v cells)) after
+    (λ x (i : OrBefore best (IsFoundWhere a v cells) x). elim i [ inl k ↦ inl k | inr f ↦ inr (record { pixel = pass_as v.width v.height a c e f.pixel; found = f.found }) ])
+    (λ x (i : OrBefore best (IsFoundWhere c v cells) x). elim i [ inl k ↦ inl k | inr f ↦ inr (record { pixel = pass_as v.width v.height c a (λ x y lx ly. sym (e x y lx ly)) f.pixel; found = f.found }) ])
+    h
 
 pub touch_as : (a c : ℕ → ℕ → Bool) (v : Visit) (old new : List (List ℕ)) (before after : Seen) → IsTouch a v old new before after
     → ((x y : ℕ) → x < v.width → y < v.height → c x y ≡ a x y) → IsTouch c v old new before after
-touch_as a c v old new before after p e = record { runs = p.runs; inside = p.inside; exact = λ x y lx ly. p.exact x y lx ly ∙ sym (e x y lx ly); cells = p.cells; finds = p.finds; some = p.some }
+touch_as a c v old new before after p e = record {
+  cells = cells_as a c v old new p.cells e;
+  best = finds_as a c v old before.best after.best p.best e;
+  some = (
+    λ t. elim (p.some.0 t) [ inl k ↦ inl k | inr s ↦ inr (pass_as v.width v.height a c e s) ],
+    λ (i : (before.some ≡ true) ⊎ SomePasses v.width v.height c). elim i [ inl k ↦ p.some.1 (inl k) | inr s ↦ p.some.1 (inr (pass_as v.width v.height c a (λ x y lx ly. sym (e x y lx ly)) s)) ],
+  );
+}
+
+-- ---- one pixel, and a run
+
+pixel_room : (w h x y : ℕ) → x < w → y < h → y * w + x < h * w
+pixel_room w h x y lx ly = let m : (y + 1) * w ≤ h * w = mul-le-mul (omega arith) (omega arith) in omega arith
+
+abbrev pub pixel_run : ℕ → ℕ → Run
+pixel_run row x = record { row = row; from = x; to = x + 1 }
+
+pixel_only : (row x u v : ℕ) → run_has (pixel_run row x) u v ≡ true → (u ≡ x) × (v ≡ row)
+pixel_only row x u v t =
+    let a = and_both (row == v) (nat_le x u && nat_lt u (x + 1)) t in
+    let b = and_both (nat_le x u) (nat_lt u (x + 1)) a.1 in
+    (omega (arith, leb-true x u b.0, ltb-true u (x + 1) b.1), sym (eqb-true row v a.0))
+
+has_pixel : (row x : ℕ) → run_has (pixel_run row x) x row ≡ true
+has_pixel row x =
+    both_and (row == row) (nat_le x x && nat_lt x (x + 1)) (eq-eqb row row refl) (both_and (nat_le x x) (nat_lt x (x + 1)) (le-leb x x (omega arith)) (lt-ltb x (x + 1) (omega arith)))
+
+pub pixel_cells : (v : Visit) (cells : List (List ℕ)) (row x : ℕ) → length cells ≡ v.height * v.width → x < v.width → row < v.height
+    → AreTouched (run_has (pixel_run row x)) v cells (mark v.name cells (row * v.width + x))
+pixel_cells v cells row x size lx ly u y lu hy = elim (cases_Bool (run_has (pixel_run row x) u y)) [
+  | inl t ↦
+      let s = pixel_only row x u y t in
+      let here : y * v.width + u ≡ row * v.width + x = ap (λ k. k * v.width + u) s.1 ∙ ap (λ k. row * v.width + k) s.0 in
+      let cell = cell_at cells (y * v.width + u) in
+      ap (cell_at (mark v.name cells (row * v.width + x))) here
+      ∙ get_or-set_same cells (row * v.width + x) (marked v.name (cell_at cells (row * v.width + x))) [] (omega (arith, pixel_room v.width v.height x row lx ly, size))
+      ∙ ap (λ k. marked v.name (cell_at cells k)) (sym here) ∙ ap (λ b. cond b (marked v.name cell) cell) (sym t)
+  | inr f ↦
+      let ne : y * v.width + u ≢ row * v.width + x = λ e. (
+      let s = same_pixel v.width u y x row lu lx e in
+      let t : run_has (pixel_run row x) u y ≡ true = ap (λ k. run_has (pixel_run row x) k y) s.1 ∙ ap (run_has (pixel_run row x) x) s.0 ∙ has_pixel row x in
+      true≢false (sym t ∙ f)) in
+      let cell = cell_at cells (y * v.width + u) in
+      get_or-set_other cells (row * v.width + x) (y * v.width + u) (marked v.name (cell_at cells (row * v.width + x))) [] ne ∙ ap (λ b. cond b (marked v.name cell) cell) (sym f)
+]
+
+pub pixel_finds : (v : Visit) (cells : List (List ℕ)) (row x : ℕ) (best after : Option Found) → x < v.width → row < v.height
+    → IsFirst (OrBefore best (IsFoundIn v.name.client v.clock (cell_at cells (row * v.width + x)) (Pixel x row))) after
+    → IsFirst (OrBefore best (IsFoundWhere (run_has (pixel_run row x)) v cells)) after
+pixel_finds v cells row x best after lx ly h = first_as (OrBefore best (Here x row)) (OrBefore best (IsFoundWhere (run_has (pixel_run row x)) v cells)) after to from h
+  where
+    Here : ℕ → ℕ → Found → Type 0
+    Here u y = IsFoundIn v.name.client v.clock (cell_at cells (y * v.width + u)) (Pixel u y)
+
+    to : (z : Found) → OrBefore best (Here x row) z → OrBefore best (IsFoundWhere (run_has (pixel_run row x)) v cells) z
+    to z (inl e) = inl e
+    to z (inr f) = inr (record { pixel = record { column = x; row = row; wide = lx; high = ly; passes = has_pixel row x }; found = f })
+
+    from : (z : Found) → OrBefore best (IsFoundWhere (run_has (pixel_run row x)) v cells) z → OrBefore best (Here x row) z
+    from z (inl e) = inl e
+    from z (inr f) = let s = pixel_only row x f.pixel.column f.pixel.row f.pixel.passes in inr (subst (λ u. Here u row z) s.0 (subst (λ y. Here f.pixel.column y z) s.1 f.found))
+
+-- the pixels of a run up to below a column
+abbrev pub run_to : Run → ℕ → Run
+run_to r x = record { row = r.row; from = r.from; to = x }
+
+pub run_none : (r : Run) (x y : ℕ) → run_has (run_to r r.from) x y ≡ false
+run_none r x y = grind (arith, nat_tests)
+
+pub run_more : (r : Run) (k x y : ℕ) → r.from ≤ k → run_has (run_to r (k + 1)) x y ≡ (run_has (run_to r k) x y || run_has (pixel_run r.row k) x y)
+run_more r k x y le = grind (arith, nat_tests)
+
+pub run_some : (w h : ℕ) (r : Run) (before after : Bool) → IsRunIn w h r → after ≡ (before || nat_lt r.from r.to) → (after ≡ true) ↔ ((before ≡ true) ⊎ SomePasses w h (run_has r))
+run_some w h r before after ok e = (to before e, from before e)
+  where
+    to : (b : Bool) → after ≡ (b || nat_lt r.from r.to) → after ≡ true → (b ≡ true) ⊎ SomePasses w h (run_has r)
+    to true e t = inl refl
+    to false e t =
+        let some : nat_lt r.from r.to ≡ true = sym e ∙ t in
+        let lt = ltb-true r.from r.to some in
+        inr (record {
+          column = r.from;
+          row = r.row;
+          wide = omega (arith, ok.2);
+          high = ok.0;
+          passes = both_and (r.row == r.row) (nat_le r.from r.from && nat_lt r.from r.to) (eq-eqb r.row r.row refl) (both_and (nat_le r.from r.from) (nat_lt r.from r.to) (le-leb r.from r.from (omega arith)) some);
+        })
+
+    from : (b : Bool) → after ≡ (b || nat_lt r.from r.to) → (b ≡ true) ⊎ SomePasses w h (run_has r) → after ≡ true
+    from b e (inl t) = e ∙ ap (λ k. k || nat_lt r.from r.to) t
+    from b e (inr s) =
+        let a = and_both (r.row == s.row) (nat_le r.from s.column && nat_lt s.column r.to) s.passes in
+        let c = and_both (nat_le r.from s.column) (nat_lt s.column r.to) a.1 in
+        let lt : r.from < r.to = omega (arith, leb-true r.from s.column c.0, ltb-true s.column r.to c.1) in
+        e ∙ ap (λ k. b || k) (lt-ltb r.from r.to lt) ∙ or_true b
 
 -- ---- rows of a triangle
 
@@ -139,7 +310,7 @@ last_rows v part z x y e =
     and_true true = refl
     and_true false = refl
 
-not_row : (x y : ℕ) (r : Run) → r.row ≢ y → run_has x y r ≡ false
+not_row : (x y : ℕ) (r : Run) → r.row ≢ y → run_has r x y ≡ false
 not_row x y r ne = ap (λ b. b && (nat_le r.from x && nat_lt x r.to)) (ne_eqb r.row y ne)
 
 no_le : (a b : ℕ) → b < a → nat_le a b ≡ false
@@ -149,9 +320,9 @@ span_run : (s : Span) (r : Run) (x : ℕ) → s.x0 ≡ pos r.from → s.x1 ≡ p
 span_run s r x e f = grind (arith, ints, nat_tests)
 
 row_has : (v : List WindowVertex) (part : Rect) (z : ℤ) (s : Span) (r : Run) (x y : ℕ) → IsNextSpan v part z s → part.y0 ≤ℤ z → s.y ≡ pos y → r.row ≡ y → s.x0 ≡ pos r.from → s.x1 ≡ pos r.to
-    → triangle_has v part x y ≡ run_has x y r
+    → triangle_has v part x y ≡ run_has r x y
 row_has v part z s r x y n low row same e f =
-    let here : run_has x y r ≡ (nat_le r.from x && nat_lt x r.to) = ap (λ b. b && (nat_le r.from x && nat_lt x r.to)) (eq-eqb r.row y same) in
+    let here : run_has r x y ≡ (nat_le r.from x && nat_lt x r.to) = ap (λ b. b && (nat_le r.from x && nat_lt x r.to)) (eq-eqb r.row y same) in
     let from = n.from in
     let top = n.below in
     let left = n.span.low in
@@ -169,28 +340,28 @@ row_has v part z s r x y n low row same e f =
     and_true false = refl
 
 pub rows_more : (v : List WindowVertex) (part : Rect) (z w : ℤ) (s : Span) (r : Run) (x y : ℕ) → IsNextSpan v part z s → part.y0 ≤ℤ z → w ≡ s.y +ℤ pos 1 → s.y ≡ pos r.row → s.x0 ≡ pos r.from → s.x1 ≡ pos r.to
-    → rows_below v part w x y ≡ (rows_below v part z x y || run_has x y r)
+    → rows_below v part w x y ≡ (rows_below v part z x y || run_has r x y)
 rows_more v part z w s r x y n low next row e f =
     let from = n.from in
     let T : Bool = triangle_has v part x y in
     by_lt_z (pos y) z
     (λ l.
     let ne : r.row ≢ y = λ k. (let k' : pos r.row ≡ pos y = ap pos k in absurd (omega (arith, ints))) in
-    ap (λ b. T && b) (lt_true (pos y) w (omega (arith, ints))) ∙ sym (ap (λ b. (T && b) || run_has x y r) (lt_true (pos y) z l) ∙ ap (λ b. (T && true) || b) (not_row x y r ne) ∙ or_false (T && true)))
+    ap (λ b. T && b) (lt_true (pos y) w (omega (arith, ints))) ∙ sym (ap (λ b. (T && b) || run_has r x y) (lt_true (pos y) z l) ∙ ap (λ b. (T && true) || b) (not_row x y r ne) ∙ or_false (T && true)))
     (λ g. by_lt_z (pos y) s.y
     (λ l.
     let ne : r.row ≢ y = λ k. (let k' : pos r.row ≡ pos y = ap pos k in absurd (omega (arith, ints))) in
     let none : T ≡ false = empty_has v part z s.y x y n.skipped g l in
-    ap (λ b. b && int_lt (pos y) w) none ∙ sym (ap (λ b. (b && int_lt (pos y) z) || run_has x y r) none ∙ not_row x y r ne))
+    ap (λ b. b && int_lt (pos y) w) none ∙ sym (ap (λ b. (b && int_lt (pos y) z) || run_has r x y) none ∙ not_row x y r ne))
     (λ g'. by_lt_z (pos y) w
     (λ l.
     let here : s.y ≡ pos y = omega (arith, ints) in
     let same : r.row ≡ y = omega (arith, ints) in
     let t = row_has v part z s r x y n low here same e f in
-    ap (λ b. T && b) (lt_true (pos y) w l) ∙ and_true T ∙ t ∙ sym (ap (λ b. (T && b) || run_has x y r) (lt_false (pos y) z g) ∙ ap (λ b. b || run_has x y r) (and_false T)))
+    ap (λ b. T && b) (lt_true (pos y) w l) ∙ and_true T ∙ t ∙ sym (ap (λ b. (T && b) || run_has r x y) (lt_false (pos y) z g) ∙ ap (λ b. b || run_has r x y) (and_false T)))
     (λ l.
     let ne : r.row ≢ y = λ k. (let k' : pos r.row ≡ pos y = ap pos k in absurd (omega (arith, ints))) in
-    ap (λ b. T && b) (lt_false (pos y) w l) ∙ and_false T ∙ sym (ap (λ b. (T && b) || run_has x y r) (lt_false (pos y) z g) ∙ ap (λ b. b || run_has x y r) (and_false T) ∙ not_row x y r ne))))
+    ap (λ b. T && b) (lt_false (pos y) w l) ∙ and_false T ∙ sym (ap (λ b. (T && b) || run_has r x y) (lt_false (pos y) z g) ∙ ap (λ b. b || run_has r x y) (and_false T) ∙ not_row x y r ne))))
   where
     and_true : (b : Bool) → (b && true) ≡ b
     and_true true = refl
@@ -222,6 +393,3 @@ run_inside width height s r h row from to =
     let b = h.some in
     let c = h.right in
     (omega (arith, ints), omega (arith, ints), omega (arith, ints))
-
-pub run_room : (width height : ℕ) (r : Run) → IsRunIn width height r → r.row * width + r.to ≤ height * width
-run_room width height r ok = let m : (r.row + 1) * width ≤ height * width = mul-le-mul (omega (arith, ok.0)) (omega arith) in omega (arith, ok.2)

@@ -102,21 +102,21 @@ rows_none r x y = elim (cases_lt y r.row) [
     no_le : (a b : ℕ) → b < a → nat_le a b ≡ false
     no_le a b h = elim (cases_Bool (nat_le a b)) [ inl t ↦ absurd (omega (arith, leb-true a b t)) | inr f ↦ f ]
 
-pub rows_one_more : (r here : Run) (k x y : ℕ) → r.row ≤ k → here.row ≡ k → here.from ≡ r.from → here.to ≡ r.to → rows_up_to r (k + 1) x y ≡ (rows_up_to r k x y || run_has x y here)
+pub rows_one_more : (r here : Run) (k x y : ℕ) → r.row ≤ k → here.row ≡ k → here.from ≡ r.from → here.to ≡ r.to → rows_up_to r (k + 1) x y ≡ (rows_up_to r k x y || run_has here x y)
 rows_one_more r here k x y le a b c = elim (cases_lt y k) [
   | inl lt ↦
       let ne : here.row ≢ y = omega (arith, a) in
       ap (λ t. (nat_le r.row y && t) && C) (lt-ltb y (k + 1) (omega arith))
-      ∙ sym (ap (λ t. ((nat_le r.row y && t) && C) || run_has x y here) (lt-ltb y k lt) ∙ ap (λ t. ((nat_le r.row y && true) && C) || (t && (nat_le here.from x && nat_lt x here.to))) (ne_eqb here.row y ne) ∙ or_false ((nat_le r.row y && true) && C))
+      ∙ sym (ap (λ t. ((nat_le r.row y && t) && C) || run_has here x y) (lt-ltb y k lt) ∙ ap (λ t. ((nat_le r.row y && true) && C) || (t && (nat_le here.from x && nat_lt x here.to))) (ne_eqb here.row y ne) ∙ or_false ((nat_le r.row y && true) && C))
   | inr ge ↦ elim (cases_lt k y) [
     | inl lt ↦
         let ne : here.row ≢ y = omega (arith, a) in
         ap (λ t. (nat_le r.row y && t) && C) (le-ltb y (k + 1) (omega arith)) ∙ none (nat_le r.row y)
-        ∙ sym (ap (λ t. ((nat_le r.row y && t) && C) || run_has x y here) (le-ltb y k ge) ∙ ap (λ t. t || run_has x y here) (none (nat_le r.row y)) ∙ ap (λ t. t && (nat_le here.from x && nat_lt x here.to)) (ne_eqb here.row y ne))
+        ∙ sym (ap (λ t. ((nat_le r.row y && t) && C) || run_has here x y) (le-ltb y k ge) ∙ ap (λ t. t || run_has here x y) (none (nat_le r.row y)) ∙ ap (λ t. t && (nat_le here.from x && nat_lt x here.to)) (ne_eqb here.row y ne))
     | inr eq ↦
         let e : here.row ≡ y = omega (arith, a) in
         ap (λ t. (t && nat_lt y (k + 1)) && C) (le-leb r.row y (omega arith)) ∙ ap (λ t. (true && t) && C) (lt-ltb y (k + 1) (omega arith))
-        ∙ sym (ap (λ t. ((nat_le r.row y && t) && C) || run_has x y here) (le-ltb y k ge) ∙ ap (λ t. t || run_has x y here) (none (nat_le r.row y)) ∙ ap (λ t. t && (nat_le here.from x && nat_lt x here.to)) (eq-eqb here.row y e)
+        ∙ sym (ap (λ t. ((nat_le r.row y && t) && C) || run_has here x y) (le-ltb y k ge) ∙ ap (λ t. t || run_has here x y) (none (nat_le r.row y)) ∙ ap (λ t. t && (nat_le here.from x && nat_lt x here.to)) (eq-eqb here.row y e)
         ∙ ap (λ f. nat_le f x && nat_lt x here.to) b ∙ ap (λ t. nat_le r.from x && nat_lt x t) c)
   ]
 ]

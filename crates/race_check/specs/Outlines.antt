@@ -1,13 +1,13 @@
 -- What commands may use, by the boxes of what they draw, and tables that tell no less than the last uses.
-use Rattle.std.specs.Prelude.{◌≡◌, ◌≢◌, ℕ, ◌+◌, ◌<◌, ◌≤◌, Bool, true, List, [], length, slice_set, slice_index, slice_index_or, ◌⊎◌}
+use Rattle.std.specs.Prelude.{◌≡◌, ℕ, ◌<◌, ◌≤◌, Bool, true, List, length, slice_index, ◌⊎◌, None}
 use Rattle.rc_base.specs.Lists.{IsIn}
-use Rattle.rc_base.specs.Orders.Footprints.{footprint_of}
 use Rattle.rc_base.specs.Orders.Order.{Footprint}
-use Rattle.rc_base.specs.declared.scene.Scene.{Scene}
+use Rattle.rc_base.specs.declared.scene.Decl.{Decl}
+use Rattle.rc_base.specs.declared.state.Effect.{Effect}
+use Rattle.rc_base.specs.declared.state.State.{State}
 use Rattle.rc_base.specs.declared.sync.Name.{Name}
-use Rattle.happens_before.specs.Timelines.{clock_of}
-use Rattle.happens_before.specs.declared.timelines.Change.{Change}
-use Rattle.race_check.specs.Uses.{named}
+use Rattle.race_check.specs.Finds.{cell_at, marked}
+use Rattle.race_check.specs.Uses.{HasEffect, Passes, named}
 use Rattle.race_check.specs.declared.outlines.Outlines.{Outlines}
 use Rattle.race_check.specs.declared.range.Range.{Range}
 use Rattle.race_check.specs.declared.reach.Reach.{Reach}
@@ -36,8 +36,8 @@ pub record IsReach (touching : ℕ → ℕ → Bool) (sampling writing : ℕ →
 -- in the cell of each thing the number of a client is above the place of each of its names that was passed and used the thing
 pub record TellAll (uses : Name → ℕ → Type 0) (count : ℕ) (passed : List Name) (cells : List (List ℕ)) : Type 0 where
   pub size : length cells ≡ count
-  pub slots : (i : ℕ) → i < count → length (slice_index_or cells i []) ≡ 8
-  pub told : (i : ℕ) → i < count → (d p : ℕ) → IsIn (named d p) passed → uses (named d p) i → p < slice_index (slice_index_or cells i []) d
+  pub slots : (i : ℕ) → i < count → length (cell_at cells i) ≡ 8
+  pub told : (i : ℕ) → i < count → (d p : ℕ) → IsIn (named d p) passed → uses (named d p) i → p < slice_index (cell_at cells i) d
 
 -- of rows and of columns: who touched a pixel there; of shared textures: who wrote them, and who sampled them
 pub record AreOutlined (f : Footprint (ℕ × ℕ)) (width height : ℕ) (passed : List Name) (o : Outlines) : Type 0 where
@@ -56,16 +56,16 @@ pub record FitWindow (width height : ℕ) (o : Outlines) : Type 0 where
 -- all cells of a range tell of the name, and what else they told they tell
 pub record AreMarked (n : Name) (r : Range) (old new : List (List ℕ)) : Type 0 where
   pub size : length new ≡ length old
-  pub inside : (i : ℕ) → IsAmong r i → slice_index_or new i [] ≡ slice_set (slice_index_or old i []) n.client (n.place + 1)
-  pub each : (i : ℕ) → (slice_index_or new i [] ≡ slice_set (slice_index_or old i []) n.client (n.place + 1)) ⊎ (slice_index_or new i [] ≡ slice_index_or old i [])
+  pub inside : (i : ℕ) → IsAmong r i → cell_at new i ≡ marked n (cell_at old i)
+  pub each : (i : ℕ) → (cell_at new i ≡ marked n (cell_at old i)) ⊎ (cell_at new i ≡ cell_at old i)
 
 -- each client's number isn't below any in the cells of a range
 abbrev pub IsGreatest : List (List ℕ) → Range → List ℕ → Type 0
-IsGreatest cells r most = (d : ℕ) → d < 8 → (i : ℕ) → IsAmong r i → slice_index (slice_index_or cells i []) d ≤ slice_index most d
+IsGreatest cells r most = (d : ℕ) → d < 8 → (i : ℕ) → IsAmong r i → slice_index (cell_at cells i) d ≤ slice_index most d
 
 -- the clock counts all that the cells of a range tell of a client
 abbrev pub AreCountedIn : List ℕ → List (List ℕ) → Range → ℕ → Type 0
-AreCountedIn clock cells r d = (i : ℕ) → IsAmong r i → slice_index (slice_index_or cells i []) d ≤ slice_index clock d
+AreCountedIn clock cells r d = (i : ℕ) → IsAmong r i → slice_index (cell_at cells i) d ≤ slice_index clock d
 
 -- The clock counts whatever may conflict with what has this reach: of each client what touched one of the rows, or what touched one of the columns, and the
 -- uses of textures that conflict.
@@ -76,19 +76,11 @@ pub record IsCounted (clock : List ℕ) (r : Reach) (o : Outlines) : Type 0 wher
 
 -- ---- one name
 
--- The tables tell that all names passed that may conflict with a name are before it, and now they tell of the name too.
-pub record IsApart (touching : ℕ → ℕ → Bool) (sampling writing : ℕ → Bool) (width height : ℕ) (lists : List (List Change)) (n : Name) (old new : Outlines) : Type 0 where
-  pub clock : List ℕ
-  pub counts : (d : ℕ) → d ≢ n.client → slice_index clock d ≡ clock_of lists n d
-  pub reach : Reach
-  pub is : IsReach touching sampling writing width height reach
-  pub counted : IsCounted clock reach old
-  pub rows : AreMarked n reach.rows old.rows.cells.items new.rows.cells.items
-  pub columns : AreMarked n reach.columns old.columns.cells.items new.columns.cells.items
-  pub writers : AreMarked n reach.writes old.writers.cells.items new.writers.cells.items
-  pub readers : AreMarked n reach.samples old.readers.cells.items new.readers.cells.items
+-- A name passes the tables of rows and columns with nothing told: all that conflicts with it is before it.
+abbrev pub PassesOutlines : Footprint (ℕ × ℕ) → ℕ → ℕ → (ℕ → ℕ) → Name → Outlines → Outlines → Type 0
+PassesOutlines f width height clock n old new = Passes (AreOutlined f width height) f clock n old new None
 
--- the same by what the name uses in a scene
-abbrev pub IsApartIn : Scene → List (List Change) → Name → Outlines → Outlines → Type 0
-IsApartIn scene lists n old new =
-    IsApart (λ x y. (footprint_of scene).touches n (x, y)) ((footprint_of scene).samples n) ((footprint_of scene).writes n) scene.decl.width scene.decl.height lists n old new
+-- so it does in whatever footprint it has this effect
+abbrev pub IsApart : State → Effect → Decl → (ℕ → ℕ) → Name → Outlines → Outlines → Type 0
+IsApart s e decl clock n old new =
+    (f : Footprint (ℕ × ℕ)) → HasEffect f n decl.width decl.height s e → PassesOutlines f decl.width decl.height clock n old new

@@ -1,6 +1,6 @@
 -- What a name that touches pixels leaves of their cells, and what it finds.
-use Rattle.std.specs.Prelude.{◌≡◌, ℕ, ◌<◌, ◌&&◌, ◌||◌, Bool, List, pos, ◌≤ℤ◌}
-use Rattle.std.specs.List.{AllByRecursion, list_any}
+use Rattle.std.specs.Prelude.{◌≡◌, ℕ, ◌+◌, ◌*◌, ◌<◌, ◌&&◌, Bool, true, cond, List, pos, ◌≤ℤ◌, ◌⊎◌, ◌↔◌}
+use Rattle.std.specs.List.{list_any}
 use Rattle.rc_base.specs.Cluster.Tiles.{is_in_rect}
 use Rattle.rc_base.specs.Drawing.Cover.{is_inside, is_in_scissor}
 use Rattle.rc_base.specs.Drawing.Touch.{block_touches}
@@ -8,19 +8,39 @@ use Rattle.rc_base.specs.declared.state.Block.{Block}
 use Rattle.rc_base.specs.declared.state.State.{State}
 use Rattle.rc_base.specs.declared.window.Rect.{Rect}
 use Rattle.rc_base.specs.declared.window.WindowVertex.{WindowVertex}
-use Rattle.race_check.specs.Finds.{IsRunIn, offers, runs_have, runs_some, runs_visits, visit_finds, visit_marks}
-use Rattle.race_check.specs.declared.run.Run.{Run}
+use Rattle.race_check.specs.Finds.{IsFirst, IsFoundIn, OrBefore, cell_at, marked}
+use Rattle.race_check.specs.declared.found.Found.{Found}
+use Rattle.race_check.specs.declared.verdict.Spot.TheVariants.{Pixel}
 use Rattle.race_check.specs.declared.visit.Seen.{Seen}
 use Rattle.race_check.specs.declared.visit.Visit.{Visit}
 
--- the pixels of the window that pass a test are touched, run by run
+-- ---- the pixels of the window that pass a test
+
+pub record SomePasses (width height : ℕ) (has : ℕ → ℕ → Bool) : Type 0 where
+  pub column : ℕ
+  pub row : ℕ
+  pub wide : column < width
+  pub high : row < height
+  pub passes : has column row ≡ true
+
+-- the cell of one of them tells it
+pub record IsFoundWhere (has : ℕ → ℕ → Bool) (v : Visit) (cells : List (List ℕ)) (x : Found) : Type 0 where
+  pub pixel : SomePasses v.width v.height has
+  pub found : IsFoundIn v.name.client v.clock (cell_at cells (pixel.row * v.width + pixel.column)) (Pixel pixel.column pixel.row) x
+
+-- their cells are the name's, and the others of the window are what they were
+abbrev pub AreTouched : (ℕ → ℕ → Bool) → Visit → List (List ℕ) → List (List ℕ) → Type 0
+AreTouched has v old new =
+    (x y : ℕ) → x < v.width → y < v.height
+    → cell_at new (y * v.width + x) ≡ cond (has x y) (marked v.name (cell_at old (y * v.width + x))) (cell_at old (y * v.width + x))
+
+-- a name touches them
 pub record IsTouch (has : ℕ → ℕ → Bool) (v : Visit) (old new : List (List ℕ)) (before after : Seen) : Type 0 where
-  pub runs : List Run
-  pub inside : AllByRecursion (IsRunIn v.width v.height) runs
-  pub exact : (x y : ℕ) → x < v.width → y < v.height → runs_have x y runs ≡ has x y
-  pub cells : new ≡ visit_marks v.name old (runs_visits v.width runs)
-  pub finds : after.best ≡ offers before.best (visit_finds v.name.client v.clock old (runs_visits v.width runs))
-  pub some : after.some ≡ (before.some || runs_some runs)
+  pub cells : AreTouched has v old new
+  pub best : IsFirst (OrBefore before.best (IsFoundWhere has v old)) after.best
+  pub some : (after.some ≡ true) ↔ ((before.some ≡ true) ⊎ SomePasses v.width v.height has)
+
+-- ---- what has pixels
 
 -- the rectangle lies in the window
 pub record IsPartOf (width height : ℕ) (part : Rect) : Type 0 where

@@ -1,7 +1,5 @@
 //! The walk along an order by boxes: it settles scenes whose clients draw apart, or one behind the other.
-ghost use Rattle.std.specs.Prelude.{◌≡◌, ◌+◌, ◌<◌, ◌^◌, true, length, Some, IfOk, OnOk, slice_get, slice_set, pos};
-ghost use Rattle.rc_base.specs.Contexts.Issue.{stream_of};
-ghost use Rattle.rc_base.specs.Drawing.Touch.{may_sample, touches, writes_shared};
+ghost use Rattle.std.specs.Prelude.{◌≡◌, ◌+◌, ◌<◌, ◌^◌, true, IfOk, OnOk, slice_set};
 ghost use Rattle.rc_base.specs.Formats.Within.{IsWithin};
 ghost use Rattle.rc_base.specs.Orders.Footprints.{footprint_of};
 ghost use Rattle.rc_base.specs.Orders.Order.{IsPermitted};
@@ -10,9 +8,10 @@ ghost use Rattle.happens_before.specs.Before.{AreConflictsOrdered};
 ghost use Rattle.happens_before.specs.Clocks.{IsExact};
 ghost use Rattle.happens_before.specs.Timelines.{AreOrdered, clock_of};
 ghost use Rattle.stream_replay.specs.Clients.{client_after};
-ghost use Rattle.race_check.specs.Outlines.{FitWindow, IsApart, IsApartIn};
+ghost use Rattle.race_check.specs.Outlines.{FitWindow, IsApart, PassesOutlines};
+ghost use Rattle.race_check.specs.Uses.{IsNextOf};
 
-use crate::carry::clock_of;
+use crate::clock::clock_of;
 use crate::outlines::Outlines;
 use crate::reach::{is_quiet, reach_of};
 use happens_before::Timelines;
@@ -37,8 +36,8 @@ fn outline(
     requires place { name.place + 1 < 2 ^ 32 }
     requires fits { FitWindow decl.now.width decl.now.height outlines.old }
     ensures fits { FitWindow decl.now.width decl.now.height outlines.new }
-    ensures apart { result ≡ true → IsApart (λ x y. touches state.now effect.now (pos x) (pos y)) (may_sample state.now effect.now) (writes_shared effect.now) decl.now.width decl.now.height
-        timelines.now.clients.items name outlines.old outlines.new }
+    ensures apart { let clock = clock_of timelines.now.clients.items name in
+        result ≡ true → IsApart state.now effect.now decl.now clock name outlines.old outlines.new }
 {
     if is_quiet(effect) {
         return true;
@@ -61,16 +60,14 @@ fn outline_name(
     name: Name,
 ) -> Result<bool, OutOfMemory>
     requires within { IsWithin scene.now }
-    requires count { length clients.old.items ≡ length scene.now.streams }
-    requires inside { name.place < length (stream_of scene.now name.client) }
-    requires before { slice_get clients.old.items name.client ≡ Some (client_after scene.now name.client name.place) }
+    requires next { IsNextOf scene.now clients.old.items name }
     requires timelines { AreOrdered timelines.now.clients.items }
-    requires client { name.client < 8 }
-    requires place { name.place + 1 < 2 ^ 32 }
     requires fits { FitWindow scene.now.decl.width scene.now.decl.height outlines.old }
     ensures clients { OnOk result (clients.new.items ≡ slice_set clients.old.items name.client (client_after scene.now name.client (name.place + 1))) }
     ensures fits { OnOk result (FitWindow scene.now.decl.width scene.now.decl.height outlines.new) }
-    ensures apart { IfOk result (λ apart. apart ≡ true → IsApartIn scene.now timelines.now.clients.items name outlines.old outlines.new) }
+    ensures apart { let clock = clock_of timelines.now.clients.items name in
+        IfOk result (λ apart. apart ≡ true
+        → PassesOutlines (footprint_of scene.now) scene.now.decl.width scene.now.decl.height clock name outlines.old outlines.new) }
 {
     let client = usize::from(name.client);
     let effect = issue_name(clients, scene, name)?;

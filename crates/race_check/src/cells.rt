@@ -1,6 +1,6 @@
 //! For each cell and client the last place that used the cell.
-ghost use Rattle.std.specs.Prelude.{◌≡◌, ◌≢◌, ◌+◌, ◌<◌, ◌≤◌, ◌^◌, ℕ, max, length, slice_set, slice_index, slice_index_or, [], IfOk};
-ghost use Rattle.race_check.specs.Finds.{AreUnused, offers, finds_in};
+ghost use Rattle.std.specs.Prelude.{◌≡◌, ◌+◌, ◌<◌, ◌≤◌, ◌^◌, ℕ, max, length, slice_index, IfOk};
+ghost use Rattle.race_check.specs.Finds.{AreUnused, IsFirst, IsFoundIn, OrBefore, cell_at, mark};
 ghost use Rattle.race_check.specs.Outlines.{AreMarked, IsGreatest};
 
 use crate::found::{Found, look};
@@ -45,7 +45,7 @@ impl Cells {
         best: Option<Found>,
     ) -> Option<Found>
         requires { index < length self.now.cells.items }
-        ensures { result ≡ offers best (finds_in own clock.now (slice_index_or self.now.cells.items index []) spot) }
+        ensures { IsFirst (OrBefore best (IsFoundIn own clock.now (cell_at self.now.cells.items index) spot)) result }
     {
         look(best, own, clock, &self.cells[index], spot)
     }
@@ -55,7 +55,7 @@ impl Cells {
         requires index { index < length self.old.cells.items }
         requires client { name.client < 8 }
         requires place { name.place + 1 < 2 ^ 32 }
-        ensures { self.new.cells.items ≡ slice_set self.old.cells.items index (slice_set (slice_index_or self.old.cells.items index []) name.client (name.place + 1)) }
+        ensures { self.new.cells.items ≡ mark name self.old.cells.items index }
     {
         self.cells[index][name.client as usize] = name.place + 1;
     }

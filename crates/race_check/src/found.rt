@@ -1,6 +1,6 @@
 //! What conflicts with a name unordered, and which of it is told.
 ghost use Rattle.std.specs.Prelude.{◌≡◌, ◌<◌, ◌≤◌, ◌⊎◌, ℕ, true, length, slice_index};
-ghost use Rattle.race_check.specs.Finds.{AreCounted, is_no_later, leads, offer, offers, finds_in};
+ghost use Rattle.race_check.specs.Finds.{AreCounted, IsFirst, IsFoundIn, OrBefore, is_no_later, leads};
 
 use crate::verdict::Spot;
 
@@ -34,7 +34,7 @@ fn leads(a: Found, b: Found) -> bool
 
 // Of what was found and one more, the one that is told.
 fn offer(best: Option<Found>, next: Found) -> Option<Found>
-    ensures { result ≡ offer best next }
+    ensures { IsFirst (OrBefore best (λ x. x ≡ next)) result }
 {
     match best {
         None => Some(next),
@@ -72,7 +72,7 @@ fn look_at_each(
     cell: &[u32; 8],
     spot: Spot,
 ) -> Option<Found>
-    ensures { result ≡ offers best (finds_in own clock.now cell.now spot) }
+    ensures { IsFirst (OrBefore best (IsFoundIn own clock.now cell.now spot)) result }
 {
     let mut best = best;
     for client in 0..8u8 {
@@ -100,7 +100,7 @@ pub fn look(
     cell: &[u32; 8],
     spot: Spot,
 ) -> Option<Found>
-    ensures { result ≡ offers best (finds_in own clock.now cell.now spot) }
+    ensures { IsFirst (OrBefore best (IsFoundIn own clock.now cell.now spot)) result }
 {
     if is_counted(clock, cell) {
         return best;

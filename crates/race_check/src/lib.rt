@@ -10,6 +10,7 @@ mod apart;
 mod carry;
 mod cells;
 mod check;
+mod clock;
 mod found;
 pub mod laws;
 mod marks;

@@ -1,6 +1,8 @@
 //! The tables of a walk along an order: who touched each pixel last, and who wrote and who sampled each shared texture.
-ghost use Rattle.std.specs.Prelude.{◌≡◌, ◌+◌, ◌*◌, ◌<◌, ◌≤◌, ◌^◌, ◌||◌, ◌∷◌, nat_lt, ℕ, length, slice_index_or, [], None, Some, IfOk};
-ghost use Rattle.race_check.specs.Finds.{AreUnused, IsRunIn, offers, finds_in, mark, run_visits, visit_finds, visit_marks, written_finds, sampled_finds};
+ghost use Rattle.std.specs.Prelude.{◌≡◌, ◌+◌, ◌*◌, ◌<◌, ◌^◌, ◌⊎◌, ℕ, length, IfOk};
+ghost use Rattle.race_check.specs.Finds.{AreUnused, IsFirst, IsFoundIn, IsRunIn, OrBefore, cell_at, mark, run_has};
+ghost use Rattle.race_check.specs.Touches.{AreTouched, IsFoundWhere, IsTouch};
+ghost use Rattle.race_check.specs.declared.verdict.Spot.TheVariants.{Shared};
 
 use crate::cells::Cells;
 use crate::found::Found;
@@ -22,11 +24,11 @@ fn row_start(width: u16, row: u16) -> usize
 fn touch_pixels(pixels: &mut Cells, visit: &Visit, run: Run, best: Option<Found>) -> Option<Found>
     requires client { visit.now.name.client < 8 }
     requires place { visit.now.name.place + 1 < 2 ^ 32 }
-    requires order { run.from ≤ run.to }
-    requires inside { run.row * visit.now.width + run.to ≤ length pixels.old.cells.items }
+    requires size { length pixels.old.cells.items ≡ visit.now.height * visit.now.width }
+    requires run { IsRunIn visit.now.width visit.now.height run }
     ensures size { length pixels.new.cells.items ≡ length pixels.old.cells.items }
-    ensures pixels { pixels.new.cells.items ≡ visit_marks visit.now.name pixels.old.cells.items (run_visits visit.now.width run) }
-    ensures best { result ≡ offers best (visit_finds visit.now.name.client visit.now.clock pixels.old.cells.items (run_visits visit.now.width run)) }
+    ensures cells { AreTouched (run_has run) visit.now pixels.old.cells.items pixels.new.cells.items }
+    ensures best { IsFirst (OrBefore best (IsFoundWhere (run_has run) visit.now pixels.old.cells.items)) result }
 {
     let mut best = best;
     let start = row_start(visit.width, run.row);
@@ -43,12 +45,10 @@ fn touch_pixels(pixels: &mut Cells, visit: &Visit, run: Run, best: Option<Found>
 pub fn touch_run(pixels: &mut Cells, visit: &Visit, run: Run, seen: Seen) -> Seen
     requires client { visit.now.name.client < 8 }
     requires place { visit.now.name.place + 1 < 2 ^ 32 }
-    requires order { run.from ≤ run.to }
-    requires inside { run.row * visit.now.width + run.to ≤ length pixels.old.cells.items }
+    requires size { length pixels.old.cells.items ≡ visit.now.height * visit.now.width }
+    requires run { IsRunIn visit.now.width visit.now.height run }
     ensures size { length pixels.new.cells.items ≡ length pixels.old.cells.items }
-    ensures pixels { pixels.new.cells.items ≡ visit_marks visit.now.name pixels.old.cells.items (run_visits visit.now.width run) }
-    ensures best { result.best ≡ offers seen.best (visit_finds visit.now.name.client visit.now.clock pixels.old.cells.items (run_visits visit.now.width run)) }
-    ensures some { result.some ≡ (seen.some || nat_lt run.from run.to) }
+    ensures touched { IsTouch (run_has run) visit.now pixels.old.cells.items pixels.new.cells.items seen result }
 {
     Seen {
         best: touch_pixels(pixels, visit, run, seen.best),
@@ -57,11 +57,9 @@ pub fn touch_run(pixels: &mut Cells, visit: &Visit, run: Run, seen: Seen) -> See
 }
 
 /// Of each pixel and client the last place that touched it, and of each shared texture and client the last that wrote it and the last that
-/// sampled it. The sides are in pixels; the pixels' cells stand row by row from the bottom.
+/// sampled it. The pixels' cells stand row by row from the bottom.
 #[derive(Drop)]
 pub struct Marks {
-    pub width: u16,
-    pub height: u16,
     pub pixels: Cells,
     pub writers: Cells,
     pub readers: Cells,
@@ -70,15 +68,11 @@ pub struct Marks {
 impl Marks {
     /// Nothing is used.
     pub fn new(alloc: Global, width: u16, height: u16) -> Result<Marks, OutOfMemory>
-        ensures width { IfOk result (λ m. m.width ≡ width) }
-        ensures height { IfOk result (λ m. m.height ≡ height) }
         ensures pixels { IfOk result (λ m. AreUnused (height * width) m.pixels.cells.items) }
         ensures writers { IfOk result (λ m. AreUnused 256 m.writers.cells.items) }
         ensures readers { IfOk result (λ m. AreUnused 256 m.readers.cells.items) }
     {
         Ok(Marks {
-            width,
-            height,
             pixels: Cells::new(alloc, row_start(width, height))?,
             writers: Cells::new(alloc, 256)?,
             readers: Cells::new(alloc, 256)?,
@@ -91,9 +85,10 @@ impl Marks {
         requires place { name.place + 1 < 2 ^ 32 }
         requires writers { length self.old.writers.cells.items ≡ 256 }
         requires readers { length self.old.readers.cells.items ≡ 256 }
-        ensures same { (self.new.width ≡ self.old.width) × (self.new.height ≡ self.old.height) × (self.new.pixels ≡ self.old.pixels) × (self.new.readers ≡ self.old.readers) }
+        ensures same { (self.new.pixels ≡ self.old.pixels) × (self.new.readers ≡ self.old.readers) }
         ensures writers { self.new.writers.cells.items ≡ mark name self.old.writers.cells.items texture }
-        ensures best { result ≡ offers None (written_finds name.client clock.now self.old.writers.cells.items self.old.readers.cells.items (Some texture)) }
+        ensures best { IsFirst (λ x. IsFoundIn name.client clock.now (cell_at self.old.writers.cells.items texture) (Shared texture) x
+            ⊎ IsFoundIn name.client clock.now (cell_at self.old.readers.cells.items texture) (Shared texture) x) result }
     {
         let index = texture as usize;
         let spot = Spot::Shared(texture);
@@ -115,9 +110,9 @@ impl Marks {
         requires place { name.place + 1 < 2 ^ 32 }
         requires writers { length self.old.writers.cells.items ≡ 256 }
         requires readers { length self.old.readers.cells.items ≡ 256 }
-        ensures same { (self.new.width ≡ self.old.width) × (self.new.height ≡ self.old.height) × (self.new.pixels ≡ self.old.pixels) × (self.new.writers ≡ self.old.writers) }
+        ensures same { (self.new.pixels ≡ self.old.pixels) × (self.new.writers ≡ self.old.writers) }
         ensures readers { self.new.readers.cells.items ≡ mark name self.old.readers.cells.items texture }
-        ensures best { result ≡ offers best (sampled_finds name.client clock.now self.old.writers.cells.items (Some texture)) }
+        ensures best { IsFirst (OrBefore best (IsFoundIn name.client clock.now (cell_at self.old.writers.cells.items texture) (Shared texture))) result }
     {
         let index = texture as usize;
         let found = self

@@ -1,12 +1,12 @@
 //! What a command may use, by the box of what it draws.
-ghost use Rattle.std.specs.Prelude.{◌≡◌, ◌≤◌, ◌<◌, ℕ, true, pos, ◌≤ℤ◌, ◌<ℤ◌};
+ghost use Rattle.std.specs.Prelude.{◌≡◌, ◌≤◌, ◌<◌, ℕ, true, pos, ◌≤ℤ◌, ◌<ℤ◌, IfSome, Some};
 ghost use Rattle.rc_base.specs.Cluster.Tiles.{is_in_rect};
+ghost use Rattle.rc_base.specs.Drawing.Texel.{samples_shared};
 ghost use Rattle.rc_base.specs.Drawing.Touch.{may_sample, touches, writes_shared};
 ghost use Rattle.rc_base.specs.declared.state.State.{State as AnyState};
 ghost use Rattle.bounds_bucket.specs.Boxes.{HoldsTouched};
 ghost use Rattle.race_check.specs.Outlines.{IsAmong, IsReach, no_reach, nowhere};
 
-use crate::carry::sampled_texture;
 use crate::range::Range;
 use crate::touch::window;
 use bounds_bucket::{block_box, clear_box};
@@ -110,6 +110,17 @@ fn area_of(state: &State, effect: &Effect, width: u16, height: u16) -> Area
             columns: nothing(),
         },
     }
+}
+
+/// The shared texture that a state's draws sample.
+pub fn sampled_texture(state: &State) -> Option<u8>
+    ensures only { (t : ℕ) → samples_shared state.now t ≡ true → result ≡ Some t }
+    ensures is { IfSome result (λ t. samples_shared state.now t ≡ true) }
+{
+    if state.texture_on && state.binding[0] == 1 {
+        return Some(state.binding[1]);
+    }
+    None
 }
 
 // The shared texture that a command may sample.

@@ -1,6 +1,5 @@
 //! The walk along an order pixel by pixel.
-ghost use Rattle.std.specs.Prelude.{◌≡◌, ◌+◌, ◌<◌, ◌^◌, length, Some, IfOk, OnOk, slice_get, slice_set};
-ghost use Rattle.rc_base.specs.Contexts.Issue.{stream_of};
+ghost use Rattle.std.specs.Prelude.{◌≡◌, ◌+◌, IfOk, OnOk, slice_set};
 ghost use Rattle.rc_base.specs.Formats.Within.{IsWithin};
 ghost use Rattle.rc_base.specs.Orders.Footprints.{footprint_of};
 ghost use Rattle.rc_base.specs.Orders.Order.{IsPermitted};
@@ -9,7 +8,7 @@ ghost use Rattle.happens_before.specs.Clocks.{IsExact};
 ghost use Rattle.happens_before.specs.Timelines.{AreOrdered, clock_of};
 ghost use Rattle.stream_replay.specs.Clients.{client_after};
 ghost use Rattle.race_check.specs.Races.{IsVerdict};
-ghost use Rattle.race_check.specs.Uses.{AreSized, IsCarriedIn};
+ghost use Rattle.race_check.specs.Uses.{AreSized, IsNextOf, PassesMarks};
 
 use crate::carry::carry_out;
 use crate::found::Found;
@@ -31,21 +30,18 @@ fn carry_name(
     name: Name,
 ) -> Result<Option<Found>, OutOfMemory>
     requires within { IsWithin scene.now }
-    requires count { length clients.old.items ≡ length scene.now.streams }
-    requires inside { name.place < length (stream_of scene.now name.client) }
-    requires before { slice_get clients.old.items name.client ≡ Some (client_after scene.now name.client name.place) }
+    requires next { IsNextOf scene.now clients.old.items name }
     requires timelines { AreOrdered timelines.now.clients.items }
-    requires client { name.client < 8 }
-    requires place { name.place + 1 < 2 ^ 32 }
     requires sized { AreSized scene.now.decl.width scene.now.decl.height marks.old }
     ensures clients { OnOk result (clients.new.items ≡ slice_set clients.old.items name.client (client_after scene.now name.client (name.place + 1))) }
     ensures sized { OnOk result (AreSized scene.now.decl.width scene.now.decl.height marks.new) }
-    ensures carried { IfOk result (λ told. IsCarriedIn scene.now timelines.now.clients.items name marks.old marks.new told) }
+    ensures carried { let clock = clock_of timelines.now.clients.items name in
+        IfOk result (λ told. PassesMarks (footprint_of scene.now) scene.now.decl.width scene.now.decl.height clock name marks.old marks.new told) }
 {
     let client = usize::from(name.client);
     let effect = issue_name(clients, scene, name)?;
     let state = clients[client].context.state();
-    let found = carry_out(marks, timelines, name, state, &effect);
+    let found = carry_out(marks, timelines, &scene.decl, name, state, &effect);
     take_back(clients, client, effect);
     Ok(found)
 }

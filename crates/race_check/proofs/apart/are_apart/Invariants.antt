@@ -1,13 +1,13 @@
 use Rattle.std.proofs.Common.{take}
 use Rattle.rc_base.specs.Orders.Footprints.{footprint_of}
 use Rattle.stream_replay.specs.Clients.{AreIssued}
-use Rattle.race_check.specs.Outlines.{FitWindow}
-use Rattle.race_check.proofs.OutlinesTell.{ArePassed}
+use Rattle.race_check.specs.Outlines.{AreOutlined, FitWindow}
+use Rattle.race_check.proofs.OrdersAreChecked.{IsPassed}
 use Rattle.race_check.proofs.apart.are_apart.Given as goal
 
 abbrev pub invariant-loop-name : goal.invariant-loop-name
 invariant-loop-name l = record {
   clients : AreIssued l.scene (take l.name-index l.fn.order) l.clients.items;
   fits : FitWindow l.scene.decl.width l.scene.decl.height l.outlines;
-  passed : ArePassed l.syncs l.journal (footprint_of l.scene) l.scene.decl.width l.scene.decl.height (take l.name-index l.fn.order) l.outlines;
+  passed : IsPassed (AreOutlined (footprint_of l.scene) l.scene.decl.width l.scene.decl.height) l.syncs l.journal (footprint_of l.scene) (take l.name-index l.fn.order) l.outlines;
 }

@@ -1,4 +1,4 @@
-use Rattle.std.proofs.Common.{◌≡◌, ◌<◌, ◌≤◌, ℕ, List, length, sym, ap, subst, arith}
+use Rattle.std.proofs.Common.{◌<◌, ◌≤◌, List, length, sym, subst, arith}
 use Rattle.rc_base.specs.Lists.{IsIn}
 use Rattle.rc_base.specs.Orders.Journal.{IsLegal}
 use Rattle.rc_base.specs.Orders.Sync.{IsWellFormed, client_count}

@@ -3,7 +3,7 @@ use Rattle.std.proofs.lemmas.Int.{ints}
 use Rattle.race_check.specs.Finds.{IsRunIn, run_has}
 use Rattle.race_check.specs.Touches.{part_has}
 use Rattle.race_check.specs.declared.run.Run.{Run}
-use Rattle.race_check.proofs.TouchesInTurn.{touch_none, touch_one, touch_then, touch_as, run_room}
+use Rattle.race_check.proofs.TouchesInTurn.{touch_none, touch_then, touch_as}
 use Rattle.race_check.proofs.TrianglesBeside.{no_columns, no_rows, rows_up_to, part_rows, rows_none, rows_one_more}
 use Rattle.race_check.proofs.touch.touch_part.Goals as goal
 
@@ -33,8 +33,8 @@ loop-row-init c =
 row_ok : (width height : ℕ) (row from to end : ℕ) (x0 x1 y1 : ℤ) → x0 ≡ pos from → x1 ≡ pos to → y1 ≡ pos end → x0 <ℤ x1 → x1 ≤ℤ pos width → y1 ≤ℤ pos height → row < end → IsRunIn width height (record { row = row; from = from; to = to })
 row_ok width height row from to end x0 x1 y1 a b c d e f lt = (omega (arith, ints), omega (arith, ints), omega (arith, ints))
 
-pub touch_run-seen-requires-clause-inside : goal.touch_run-seen-requires-clause-inside
-touch_run-seen-requires-clause-inside c =
+pub touch_run-seen-requires-clause-run : goal.touch_run-seen-requires-clause-run
+touch_run-seen-requires-clause-run c =
     let r = c.run_of-run.result in
     let p = c.args.part in
     let x0 : to_z w32 (of_z w32 p.x0) ≡ p.x0 = omega (arith, ints) in
@@ -46,36 +46,23 @@ touch_run-seen-requires-clause-inside c =
     let is_row : p.y0 ≡ pos r.row = sym y0 ∙ c.run_of-run.ensures.row in
     let is_end : p.y1 ≡ pos c.row_of-end.result = sym y1 ∙ c.row_of-end.ensures in
     let some : p.x0 <ℤ p.x1 = omega (arith, ints) in
-    let ok = row_ok c.args.visit.now.width c.args.visit.now.height c.loop-row.row r.from r.to c.row_of-end.result p.x0 p.x1 p.y1 is_from is_to is_end some c.requires.part.right c.requires.part.top
-    (omega arith) in
-    omega (arith, run_room c.args.visit.now.width c.args.visit.now.height (record { row = c.loop-row.row; from = r.from; to = r.to }) ok, c.loop-row.invariant.size, c.requires.size)
+    row_ok c.args.visit.now.width c.args.visit.now.height c.loop-row.row r.from r.to c.row_of-end.result p.x0 p.x1 p.y1 is_from is_to is_end some c.requires.part.right c.requires.part.top (omega arith)
+
+pub touch_run-seen-requires-clause-size : goal.touch_run-seen-requires-clause-size
+touch_run-seen-requires-clause-size c = c.loop-row.invariant.size ∙ c.requires.size
 
 pub loop-row-preserved : goal.loop-row-preserved
 loop-row-preserved c =
     let r = c.run_of-run.result in
-    let p = c.args.part in
-    let x0 : to_z w32 (of_z w32 p.x0) ≡ p.x0 = omega (arith, ints) in
-    let x1 : to_z w32 (of_z w32 p.x1) ≡ p.x1 = omega (arith, ints) in
-    let y0 : to_z w32 (of_z w32 p.y0) ≡ p.y0 = omega (arith, ints) in
-    let y1 : to_z w32 (of_z w32 p.y1) ≡ p.y1 = omega (arith, ints) in
-    let is_from : p.x0 ≡ pos r.from = sym x0 ∙ c.run_of-run.ensures.from in
-    let is_to : p.x1 ≡ pos r.to = sym x1 ∙ c.run_of-run.ensures.to in
-    let is_row : p.y0 ≡ pos r.row = sym y0 ∙ c.run_of-run.ensures.row in
-    let is_end : p.y1 ≡ pos c.row_of-end.result = sym y1 ∙ c.row_of-end.ensures in
     let k = c.loop-row.row in
     let here : Run = record { row = k; from = r.from; to = r.to } in
     let inv = c.loop-row.invariant in
-    let some : p.x0 <ℤ p.x1 = omega (arith, ints) in
-    let ok = row_ok c.args.visit.now.width c.args.visit.now.height k r.from r.to c.row_of-end.result p.x0 p.x1 p.y1 is_from is_to is_end some c.requires.part.right c.requires.part.top (omega arith) in
-    let start = c.args.pixels.now.cells.items in
-    let old = c.loop-row.pixels.cells.items in
-    let new = c.touch_run-seen.new.pixels.cells.items in
-    let one = touch_one c.args.visit.now old new c.loop-row.seen c.touch_run-seen.result here ok c.touch_run-seen.ensures.pixels c.touch_run-seen.ensures.best c.touch_run-seen.ensures.some in
+    let e = c.touch_run-seen.ensures in
     record {
       from = omega (arith, inv.from);
-      size = c.touch_run-seen.ensures.size ∙ inv.size;
-      touched = touch_then (rows_up_to r k) (λ x y. run_has x y here) (rows_up_to r (k + 1)) c.args.visit.now start old new c.args.seen c.loop-row.seen c.touch_run-seen.result inv.touched one
-          (λ x y lx ly. rows_one_more r here k x y inv.from refl refl refl);
+      size = e.size ∙ inv.size;
+      touched = touch_then (rows_up_to r k) (run_has here) (rows_up_to r (k + 1)) c.args.visit.now c.args.pixels.now.cells.items c.loop-row.pixels.cells.items c.touch_run-seen.new.pixels.cells.items
+          c.args.seen c.loop-row.seen c.touch_run-seen.result inv.touched e.touched (λ x y lx ly. rows_one_more r here k x y inv.from refl refl refl);
     }
 
 pub returns-clause-touched : goal.returns-clause-touched

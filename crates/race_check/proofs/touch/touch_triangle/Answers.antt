@@ -2,7 +2,7 @@ use Rattle.std.proofs.Common.{◌≡◌, ◌∙◌, false, ℤ, arith, ap, refl,
 use Rattle.std.proofs.lemmas.Int.{ints}
 use Rattle.race_check.specs.Finds.{run_has}
 use Rattle.race_check.specs.Touches.{IsTouch, triangle_has}
-use Rattle.race_check.proofs.TouchesInTurn.{rows_below, touch_none, touch_one, touch_then, touch_as, first_rows, last_rows, rows_more, span_of_part, run_inside, run_room}
+use Rattle.race_check.proofs.TouchesInTurn.{rows_below, touch_none, touch_then, touch_as, first_rows, last_rows, rows_more, span_of_part, run_inside}
 use Rattle.race_check.proofs.touch.touch_triangle.Goals as goal
 
 pub rows-init : goal.rows-init
@@ -48,13 +48,15 @@ run_of-requires-clause-right c =
     let h = (span_of_part c.args.tri.now.v c.args.visit.now.width c.args.visit.now.height c.args.part c.rows.span-iterator.y c.in-Some.span c.requires.part n i.from).right in
     omega (arith, ints)
 
-pub touch_run-seen-requires-clause-inside : goal.touch_run-seen-requires-clause-inside
-touch_run-seen-requires-clause-inside c =
+pub touch_run-seen-requires-clause-size : goal.touch_run-seen-requires-clause-size
+touch_run-seen-requires-clause-size c = c.rows.invariant.size ∙ c.requires.size
+
+pub touch_run-seen-requires-clause-run : goal.touch_run-seen-requires-clause-run
+touch_run-seen-requires-clause-run c =
     let i = c.rows.invariant in
     let n = rw (i.triangle, i.part) at c.in-Some.ensures.steps.0.0 in
     let h = span_of_part c.args.tri.now.v c.args.visit.now.width c.args.visit.now.height c.args.part c.rows.span-iterator.y c.in-Some.span c.requires.part n i.from in
-    let r = run_inside c.args.visit.now.width c.args.visit.now.height c.in-Some.span c.run_of.result h c.run_of.ensures.row c.run_of.ensures.from c.run_of.ensures.to in
-    omega (arith, run_room c.args.visit.now.width c.args.visit.now.height c.run_of.result r, i.size, c.requires.size)
+    run_inside c.args.visit.now.width c.args.visit.now.height c.in-Some.span c.run_of.result h c.run_of.ensures.row c.run_of.ensures.from c.run_of.ensures.to
 
 pub rows-preserved : goal.rows-preserved
 rows-preserved c =
@@ -62,25 +64,20 @@ rows-preserved c =
     let e = c.in-Some.ensures.steps in
     let v = c.args.tri.now.v in
     let part = c.args.part in
-    let w = c.args.visit.now.width in
-    let hi = c.args.visit.now.height in
     let z = c.rows.span-iterator.y in
     let s = c.in-Some.span in
     let r = c.run_of.result in
     let n = rw (i.triangle, i.part) at e.0.0 in
     let from = n.from in
-    let h = span_of_part v w hi part z s c.requires.part n i.from in
-    let ok = run_inside w hi s r h c.run_of.ensures.row c.run_of.ensures.from c.run_of.ensures.to in
     let start = c.args.pixels.now.cells.items in
     let old = c.rows.pixels.cells.items in
     let new = c.touch_run-seen.new.pixels.cells.items in
-    let one = touch_one c.args.visit.now old new c.rows.seen c.touch_run-seen.result r ok c.touch_run-seen.ensures.pixels c.touch_run-seen.ensures.best c.touch_run-seen.ensures.some in
     record {
       triangle = ap (λ t. t.now) e.1 ∙ i.triangle;
       part = e.2 ∙ i.part;
       from = omega (arith, ints, e.0.1);
       size = c.touch_run-seen.ensures.size ∙ i.size;
-      touched = touch_then (rows_below v part z) (λ x y. run_has x y r) (rows_below v part c.next.new.self.y) c.args.visit.now start old new c.args.seen c.rows.seen c.touch_run-seen.result i.touched one
+      touched = touch_then (rows_below v part z) (run_has r) (rows_below v part c.next.new.self.y) c.args.visit.now start old new c.args.seen c.rows.seen c.touch_run-seen.result i.touched c.touch_run-seen.ensures.touched
           (λ x y lx ly. rows_more v part z c.next.new.self.y s r x y n i.from e.0.1 c.run_of.ensures.row c.run_of.ensures.from c.run_of.ensures.to);
     }
 

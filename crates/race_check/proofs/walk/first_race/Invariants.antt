@@ -1,7 +1,7 @@
 use Rattle.std.proofs.Common.{take}
 use Rattle.rc_base.specs.Orders.Footprints.{footprint_of}
 use Rattle.stream_replay.specs.Clients.{AreIssued}
-use Rattle.race_check.specs.Uses.{AreSized}
+use Rattle.race_check.specs.Uses.{AreSized, AreTables}
 use Rattle.race_check.proofs.OrdersAreChecked.{IsPassed}
 use Rattle.race_check.proofs.walk.first_race.Given as goal
 
@@ -9,5 +9,5 @@ abbrev pub invariant-loop-name : goal.invariant-loop-name
 invariant-loop-name l = record {
   clients : AreIssued l.scene (take l.name-index l.fn.order) l.clients.items;
   sized : AreSized l.scene.decl.width l.scene.decl.height l.marks;
-  passed : IsPassed l.syncs l.journal (footprint_of l.scene) l.scene.decl.width l.scene.decl.height (take l.name-index l.fn.order) l.marks;
+  passed : IsPassed (AreTables (footprint_of l.scene) l.scene.decl.width l.scene.decl.height) l.syncs l.journal (footprint_of l.scene) (take l.name-index l.fn.order) l.marks;
 }
