@@ -14,8 +14,9 @@ use Rattle.rc_base.specs.declared.state.Effect.TheVariants as eff
 use Rattle.rc_base.specs.declared.state.Fault.{Fault}
 use Rattle.rc_base.specs.declared.state.Fault.TheVariants.{InvalidValue, InvalidOperation}
 use Rattle.rc_base.specs.declared.state.Vertex.{Vertex}
-use Rattle.gl_context.specs.Counted.{counted, operation_of}
+use Rattle.gl_context.specs.Counted.{counted, kind_of}
 use Rattle.gl_context.specs.declared.counting.CountingContext.{CountingContext}
+use Rattle.gl_context.specs.declared.counting.EffectKind.TheVariants as kind
 
 -- ---- the block that is counted
 
@@ -32,9 +33,9 @@ pub issued_refused : (x : ClientContext) (place : ℕ) (c : Command) (f : Fault)
 unfolding issued
 issued_refused x place c f e = ap (λ (o : Option Fault). option_map_or (refused x place) o (carried_out x c)) e
 
-pub refused_is_none : (x : ClientContext) (c : Command) (f : Fault) → fault_of x c ≡ Some f → None ≡ operation_of (effect_of x c)
+pub refused_kind : (x : ClientContext) (c : Command) (f : Fault) → fault_of x c ≡ Some f → kind.Refused ≡ kind_of (effect_of x c)
 unfolding effect_of
-refused_is_none x c f e = ap (λ (o : Option Fault). operation_of (option_map_or (λ (g : Fault). eff.Refused g) o (done_by x c))) (sym e)
+refused_kind x c f e = ap (λ (o : Option Fault). kind_of (option_map_or (λ (g : Fault). eff.Refused g) o (done_by x c))) (sym e)
 
 pub refused_counted : (s t : CountingContext) (x : ClientContext) (place : ℕ) (c : Command) (f : Fault) → fault_of x c ≡ Some f → s ≡ counted x
     → t ≡ record s { outside = refused s.outside place f } → t ≡ counted (issued x place c)
@@ -65,9 +66,9 @@ accepted_vertex s x place p n e some is =
     ∙ ap (λ (o : Option ℕ). record { outside = record x { block = None }; vertices = o }) more
     ∙ ap (λ (o : Option Fault). counted (option_map_or (refused x place) o (carried_out x (cmd.Vertex p)))) (sym e)
 
-pub vertex_is_none : (x : ClientContext) (p : List ℤ) → fault_of x (cmd.Vertex p) ≡ None → None ≡ operation_of (effect_of x (cmd.Vertex p))
+pub vertex_kind : (x : ClientContext) (p : List ℤ) → fault_of x (cmd.Vertex p) ≡ None → kind.Quiet ≡ kind_of (effect_of x (cmd.Vertex p))
 unfolding effect_of
-vertex_is_none x p e = ap (λ (o : Option Fault). operation_of (option_map_or (λ (g : Fault). eff.Refused g) o eff.Quiet)) (sym e)
+vertex_kind x p e = ap (λ (o : Option Fault). kind_of (option_map_or (λ (g : Fault). eff.Refused g) o eff.Quiet)) (sym e)
 
 -- ---- the others that may stand in a block
 
@@ -76,18 +77,18 @@ pub colored : (s : CountingContext) (x : ClientContext) (place : ℕ) (k : Rgba)
 unfolding issued
 colored s x place k is = ap (λ (t : CountingContext). record { outside = record t.outside { color = k }; vertices = t.vertices }) is
 
-pub color_is_none : (x : ClientContext) (k : Rgba) → None ≡ operation_of (effect_of x (cmd.Color k))
+pub color_kind : (x : ClientContext) (k : Rgba) → kind.Quiet ≡ kind_of (effect_of x (cmd.Color k))
 unfolding effect_of
-color_is_none x k = refl
+color_kind x k = refl
 
 pub placed : (s : CountingContext) (x : ClientContext) (place : ℕ) (u v : ℤ) → s ≡ counted x
     → record { outside = record s.outside { s = u; t = v }; vertices = s.vertices } ≡ counted (issued x place (cmd.TexCoord u v))
 unfolding issued
 placed s x place u v is = ap (λ (t : CountingContext). record { outside = record t.outside { s = u; t = v }; vertices = t.vertices }) is
 
-pub coordinate_is_none : (x : ClientContext) (u v : ℤ) → None ≡ operation_of (effect_of x (cmd.TexCoord u v))
+pub coordinate_kind : (x : ClientContext) (u v : ℤ) → kind.Quiet ≡ kind_of (effect_of x (cmd.TexCoord u v))
 unfolding effect_of
-coordinate_is_none x u v = refl
+coordinate_kind x u v = refl
 
 pub end_accepted : (x : ClientContext) (b : Block) → x.block ≡ Some b → fault_of x cmd.End ≡ None
 end_accepted x b e = rw e refl
@@ -99,15 +100,11 @@ closed s x place e is =
     ap (λ (t : CountingContext). record { outside = t.outside; vertices = None }) is
     ∙ ap (λ (o : Option Fault). counted (option_map_or (refused x place) o (record x { block = None }))) (sym e)
 
-end_effect : (o : Option Block) → None ≡ operation_of (option_map_or (λ (b : Block). eff.Block b) o eff.Quiet)
-end_effect None = refl
-end_effect (Some b) = refl
-
-pub end_is_none : (x : ClientContext) → fault_of x cmd.End ≡ None → None ≡ operation_of (effect_of x cmd.End)
+pub end_kind : (x : ClientContext) (b : Block) → x.block ≡ Some b → fault_of x cmd.End ≡ None → kind.Block ≡ kind_of (effect_of x cmd.End)
 unfolding effect_of
-end_is_none x e =
-    end_effect x.block
-    ∙ ap (λ (o : Option Fault). operation_of (option_map_or (λ (g : Fault). eff.Refused g) o (option_map_or (λ (b : Block). eff.Block b) x.block eff.Quiet))) (sym e)
+end_kind x b begun e =
+    ap (λ (o : Option Block). kind_of (option_map_or (λ (c : Block). eff.Block c) o eff.Quiet)) (sym begun)
+    ∙ ap (λ (o : Option Fault). kind_of (option_map_or (λ (g : Fault). eff.Refused g) o (option_map_or (λ (c : Block). eff.Block c) x.block eff.Quiet))) (sym e)
 
 -- all others may not
 pub misplaced : (x : ClientContext) (b : Block) (c : Command) → x.block ≡ Some b → (c ≡ cmd.End → ⊥) → ((p : List ℤ) → c ≡ cmd.Vertex p → ⊥)

@@ -3,7 +3,8 @@ ghost use Rattle.std.specs.Prelude.{◌≡◌, ℕ, ◌+◌, ◌<◌, ◌≤◌,
 ghost use Rattle.rc_base.specs.Contexts.Context.{ClientContext, default_context, edit_of, private_count};
 ghost use Rattle.rc_base.specs.Contexts.Issue.{issued, effect_of, refused};
 ghost use Rattle.gl_context.specs.Arguments.{HasTexels};
-ghost use Rattle.gl_context.specs.Counted.{counted, operation_of};
+ghost use Rattle.gl_context.specs.Counted.{counted, kind_of};
+ghost use Rattle.gl_context.specs.declared.counting.EffectKind.TheVariants as kind;
 
 use crate::context::Context;
 use crate::rules;
@@ -15,8 +16,20 @@ use rc_base::state::{Effect, Fault};
 use rc_base::sync::SyncOp;
 use std::alloc::Global;
 
-/// What tells which commands of a client are refused, and which operations of synchronisation are accepted: its context, but of an open block
-/// only how many vertices it has.
+/// The kind of an effect, which is all that is told of the effect of a command where vertices are only counted, and the operation of an accepted
+/// command of synchronisation.
+#[derive(Clone, Copy, Debug, PartialEq, Eq)]
+pub enum EffectKind {
+    Quiet,
+    Refused,
+    Block,
+    Clear,
+    Shared,
+    Sync(SyncOp),
+}
+
+/// What tells which commands of a client are refused, and what kind of effect each has: its context, but of an open block only how many vertices it
+/// has.
 #[derive(Drop)]
 pub struct CountingContext {
     /// The context as if no block were open.
@@ -25,13 +38,16 @@ pub struct CountingContext {
     pub vertices: Option<usize>,
 }
 
-// The operation of synchronisation that a command gives.
-fn operation_of(effect: &Effect) -> Option<SyncOp>
-    ensures { result ≡ operation_of effect.now }
+fn kind_of(effect: &Effect) -> EffectKind
+    ensures { result ≡ kind_of effect.now }
 {
     match effect {
-        Effect::Sync(op) => Some(*op),
-        _ => None,
+        Effect::Quiet => EffectKind::Quiet,
+        Effect::Refused(_) => EffectKind::Refused,
+        Effect::Block(_) => EffectKind::Block,
+        Effect::Clear(_) => EffectKind::Clear,
+        Effect::Shared(_) => EffectKind::Shared,
+        Effect::Sync(op) => EffectKind::Sync(*op),
     }
 }
 
@@ -47,13 +63,13 @@ impl CountingContext {
         })
     }
 
-    fn refuse(&mut self, place: u32, fault: Fault) -> Result<Option<SyncOp>, OutOfMemory>
-        ensures operation { IfOk result (λ o. o ≡ None) }
+    fn refuse(&mut self, place: u32, fault: Fault) -> Result<EffectKind, OutOfMemory>
+        ensures kind { IfOk result (λ k. k ≡ kind.Refused) }
         ensures ok { OnOk result (self.new ≡ record self.old { outside = refused self.old.outside place fault }) }
         ensures err { OnErr result (self.new ≡ self.old) }
     {
         self.outside.refuse(place, fault)?;
-        Ok(None)
+        Ok(EffectKind::Refused)
     }
 
     // Issues a command where a block of so many vertices is open.
@@ -62,9 +78,9 @@ impl CountingContext {
         place: u32,
         command: &Command,
         count: usize,
-    ) -> Result<Option<SyncOp>, OutOfMemory>
+    ) -> Result<EffectKind, OutOfMemory>
         requires { self.old.vertices ≡ Some count }
-        ensures operation { IfOk result (λ o. (x : ClientContext) → self.old ≡ counted x → o ≡ operation_of (effect_of x command.now)) }
+        ensures kind { IfOk result (λ k. (x : ClientContext) → self.old ≡ counted x → k ≡ kind_of (effect_of x command.now)) }
         ensures ok { OnOk result ((x : ClientContext) → self.old ≡ counted x → self.new ≡ counted (issued x place command.now)) }
         ensures err { OnErr result (self.new ≡ self.old) }
     {
@@ -73,49 +89,45 @@ impl CountingContext {
                 Some(fault) => self.refuse(place, fault),
                 None => {
                     self.vertices = Some(count + 1);
-                    Ok(None)
+                    Ok(EffectKind::Quiet)
                 }
             },
             Command::Color(color) => {
                 self.outside.set_color(*color);
-                Ok(None)
+                Ok(EffectKind::Quiet)
             }
             Command::TexCoord { s, t } => {
                 self.outside.set_coordinate(s, t);
-                Ok(None)
+                Ok(EffectKind::Quiet)
             }
             Command::End => {
                 self.vertices = None;
-                Ok(None)
+                Ok(EffectKind::Block)
             }
             _ => self.refuse(place, Fault::InvalidOperation),
         }
     }
 
     // Issues a command where none is open.
-    fn issue_outside(
-        &mut self,
-        place: u32,
-        command: &Command,
-    ) -> Result<Option<SyncOp>, OutOfMemory>
+    fn issue_outside(&mut self, place: u32, command: &Command) -> Result<EffectKind, OutOfMemory>
         requires closed { self.old.vertices ≡ None }
         requires texels { HasTexels command.now }
         requires room { (name : ℕ) → 0 < name → name ≤ private_count → edit_of self.old.outside name + 1 < 2 ^ 32 }
-        ensures operation { IfOk result (λ o. (x : ClientContext) → self.old ≡ counted x → o ≡ operation_of (effect_of x command.now)) }
+        ensures kind { IfOk result (λ k. (x : ClientContext) → self.old ≡ counted x → k ≡ kind_of (effect_of x command.now)) }
         ensures ok { OnOk result ((x : ClientContext) → self.old ≡ counted x → self.new ≡ counted (issued x place command.now)) }
         ensures err { OnErr result (self.new ≡ self.old) }
     {
         let effect = self.outside.issue(place, command)?;
         self.vertices = self.outside.take_block();
-        Ok(operation_of(&effect))
+        Ok(kind_of(&effect))
     }
 
-    /// Carries out the command at its place, or refuses it and notes its fault, and gives the operation of synchronisation that it is, where it is
-    /// an accepted one. Where memory is wanting, nothing is changed.
-    pub fn issue(&mut self, place: u32, command: &Command) -> Result<Option<SyncOp>, OutOfMemory>
+    /// Carries out the command at its place, or refuses it and notes its fault, and gives the kind of its effect. Where memory is wanting, nothing is
+    /// changed.
+    pub fn issue(&mut self, place: u32, command: &Command) -> Result<EffectKind, OutOfMemory>
         requires texels { HasTexels command.now }
         requires room { (name : ℕ) → 0 < name → name ≤ private_count → edit_of self.old.outside name + 1 < 2 ^ 32 }
-        ensures operation { IfOk result (λ o. (x : ClientContext) → self.old ≡ counted x → o ≡ operation_of (effect_of x command.now)) }
+        ensures kind { IfOk result (λ k. (x : ClientContext) → self.old ≡ counted x → k ≡ kind_of (effect_of x command.now)) }
         ensures ok { OnOk result ((x : ClientContext) → self.old ≡ counted x → self.new ≡ counted (issued x place command.now)) }
         ensures err { OnErr result (self.new ≡ self.old) }
     {

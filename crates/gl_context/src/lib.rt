@@ -1,7 +1,7 @@
 //! What a client's commands make of its context, and which of them are refused.
 //!
 //! A context is that of `rc_base::specs::Contexts::Context`, each command does what `Contexts::Issue` says, and is refused by the rules of
-//! `Contexts::Faults`. Where only refused commands and operations of synchronisation are asked for, a `CountingContext` keeps no vertices. This crate stands on element_table, fixed_math and textures.
+//! `Contexts::Faults`. Where only refused commands and kinds of effects are asked for, a `CountingContext` keeps no vertices. This crate stands on element_table, fixed_math and textures.
 #![tactic(auto)]
 
 mod context;
@@ -13,5 +13,5 @@ mod stacks;
 mod state;
 
 pub use context::Context;
-pub use counting::CountingContext;
+pub use counting::{CountingContext, EffectKind};
 pub use elements::marks;

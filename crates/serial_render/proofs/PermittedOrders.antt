@@ -1,6 +1,5 @@
 -- An order that a legal journal permits can be carried out.
-use Rattle.std.proofs.Common.{◌≡◌, ℕ, ◌+◌, List, Some, arith}
-use Rattle.std.specs.Prelude.{slice_get}
+use Rattle.std.proofs.Common.{List, arith}
 use Rattle.rc_base.specs.Orders.Journal.{IsLegal, reach_of}
 use Rattle.rc_base.specs.Orders.Order.{IsPermitted}
 use Rattle.rc_base.specs.Orders.Sync.{sync_lists_of}

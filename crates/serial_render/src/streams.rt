@@ -1,38 +1,19 @@
 //! What a scene's streams say of synchronisation, and which of their commands are refused.
-ghost use Rattle.std.specs.Prelude.{◌≡◌, ℕ, ◌+◌, ◌<◌, ◌++◌, ◌∷◌, [], length, slice_index_or, IfOk, OnOk};
-ghost use Rattle.std.specs.Option.{option_map_or};
+ghost use Rattle.std.specs.Prelude.{◌≡◌, ℕ, ◌<◌, [], length, slice_index_or, IfOk};
 ghost use Rattle.rc_base.specs.Formats.Within.{IsWithin};
-ghost use Rattle.rc_base.specs.Contexts.Issue.{stream_of, faults_of};
+ghost use Rattle.rc_base.specs.Contexts.Issue.{faults_of};
 ghost use Rattle.rc_base.specs.Orders.Sync.{sync_row_of, sync_lists_of};
+ghost use Rattle.serial_render.specs.Surveyed.{AreSurveyed};
 ghost use Rattle.serial_render.specs.Turns.{CanTakeTurns};
 
+use crate::client_survey::{ClientSurvey, stream_length};
 use crate::lists::Survey;
-use gl_context::CountingContext;
 use rc_base::cluster::{FaultList, FaultLists};
 use rc_base::items::Items;
 use rc_base::out_of_memory::OutOfMemory;
 use rc_base::scene::Scene;
-use rc_base::sync::{SyncLists, SyncOp, SyncOps, SyncRow, SyncRows, WaitAt};
+use rc_base::sync::{SyncLists, SyncRow, SyncRows};
 use std::alloc::Global;
-use stream_replay::count_at;
-
-// Adds the operation of synchronisation that a command gives.
-fn add_operation(ops: &mut SyncOps, place: u32, given: Option<SyncOp>) -> Result<(), OutOfMemory>
-    ensures { OnOk result (ops.new ≡ ops.old ++ option_map_or (λ op. record { place = place; op = op } ∷ []) given []) }
-{
-    if let Some(op) = given {
-        ops.push(WaitAt { place, op })?;
-    }
-    Ok(())
-}
-
-// How many commands a client's stream has.
-fn stream_length(scene: &Scene, client: usize) -> usize
-    requires { client < length scene.now.streams }
-    ensures { result ≡ length (stream_of scene.now client) }
-{
-    scene.streams.as_slice()[client].len()
-}
 
 // A client's operations of synchronisation, and its refused commands.
 fn survey_client(
@@ -45,18 +26,33 @@ fn survey_client(
     ensures row { IfOk result (λ p. p.0 ≡ sync_row_of scene.now client) }
     ensures faults { IfOk result (λ p. p.1 ≡ faults_of scene.now client) }
 {
-    let mut context = CountingContext::new(alloc, &scene.decl)?;
-    let mut ops = SyncOps::new(alloc);
-    let length = stream_length(scene, client);
-    for place in 0..length {
-        let given = count_at(&mut context, scene, client, place)?;
-        add_operation(&mut ops, place as u32, given)?;
+    let mut survey = ClientSurvey::new(alloc, scene)?;
+    for place in 0..stream_length(scene, client) {
+        survey.issue(scene, client, place)?;
     }
-    let row = SyncRow {
-        ops,
-        length: length as u32,
+    Ok(survey.finish(scene, client))
+}
+
+/// The survey of a scene whose clients were surveyed, one by one.
+pub fn survey_of_clients(
+    alloc: Global,
+    scene: &Scene,
+    rows: SyncRows,
+    faults: FaultLists,
+) -> Result<Survey, OutOfMemory>
+    requires within { IsWithin scene.now }
+    requires surveyed { AreSurveyed scene.now (length scene.now.streams) rows faults }
+    ensures syncs { IfOk result (λ s. s.syncs ≡ sync_lists_of scene.now) }
+    ensures clients { IfOk result (λ s. length s.faults ≡ length scene.now.streams) }
+    ensures faults { IfOk result (λ s. (client : ℕ) → slice_index_or s.faults client [] ≡ faults_of scene.now client) }
+    ensures turns { IfOk result (λ s. CanTakeTurns s.syncs) }
+{
+    let syncs = SyncLists {
+        clients: rows,
+        counts: Items::from_slice(alloc, scene.decl.barriers.as_slice())?,
+        units: Items::from_slice(alloc, scene.decl.semaphores.as_slice())?,
     };
-    Ok((row, context.into_faults()))
+    Ok(Survey { syncs, faults })
 }
 
 /// The accepted operations of synchronisation and the refused commands of a scene's whole streams. Each command is issued once.
@@ -74,12 +70,7 @@ pub fn survey(alloc: Global, scene: &Scene) -> Result<Survey, OutOfMemory>
         rows.push(row)?;
         faults.push(refused)?;
     }
-    let syncs = SyncLists {
-        clients: rows,
-        counts: Items::from_slice(alloc, scene.decl.barriers.as_slice())?,
-        units: Items::from_slice(alloc, scene.decl.semaphores.as_slice())?,
-    };
-    Ok(Survey { syncs, faults })
+    survey_of_clients(alloc, scene, rows, faults)
 }
 
 /// The accepted operations of synchronisation of a scene's whole streams, the barriers' counts and the semaphores' first units.

@@ -1,6 +1,6 @@
 -- A client has drawn in its frame after one more command; and beyond a stream nothing offends.
-use Rattle.std.proofs.Common.{◌≡◌, ℕ, zero, suc, ◌+◌, ◌<◌, ◌≤◌, Bool, true, false, [], ◌∷◌, ◌++◌, length, inl, inr, refl, sym, ap, subst, ◌∙◌, arith, eq-eqb}
-use Rattle.std.specs.Prelude.{◌==◌, ◌&&◌, ◌||◌}
+use Rattle.std.proofs.Common.{◌≡◌, ℕ, zero, suc, ◌+◌, ◌<◌, ◌≤◌, Bool, true, false, [], ◌∷◌, ◌++◌, length, Some, None, inl, inr, refl, sym, ap, subst, ◌∙◌, arith, eq-eqb}
+use Rattle.std.specs.Prelude.{◌==◌, ◌&&◌, ◌||◌, MatchOption}
 use Rattle.std.specs.List.{list_any, range_with_len}
 use Rattle.std.specs.Option.{option_map_or}
 use Rattle.std.specs.declared.option.Option.{Option}
@@ -15,9 +15,12 @@ use Rattle.rc_base.specs.declared.scene.Scene.{Scene}
 use Rattle.rc_base.specs.declared.state.Effect.{Effect}
 use Rattle.rc_base.specs.declared.state.Effect.TheVariants as eff
 use Rattle.rc_base.specs.declared.sync.SyncOp.TheVariants as op
+use Rattle.rc_base.specs.declared.sync.Name.{Name}
+use Rattle.gl_context.specs.Counted.{kind_of}
+use Rattle.gl_context.specs.declared.counting.EffectKind.{EffectKind}
 use Rattle.stream_replay.proofs.AcceptedSwaps.{swaps_le}
-use Rattle.sort_last.specs.Offends.{keeps_nearest, is_block, has_drawn, is_offence, offends, IsComposable}
-use Rattle.sort_last.specs.Runs.{drawn_after}
+use Rattle.sort_last.specs.Offends.{keeps_nearest, is_block, has_drawn, is_offence, offends, IsComposable, IsFirstOffence}
+use Rattle.sort_last.specs.Runs.{kind_offends, kind_drawn, place_or, name_or, IsFirstIn, IsFirstBelow, IsFirstOf}
 use Rattle.sort_last.proofs.FramesOfClients.{swaps_after_swap, swaps_after_other}
 
 range_push : (a n : ℕ) → range_with_len a (suc n) ≡ range_with_len a n ++ (a + n) ∷ []
@@ -54,7 +57,7 @@ or_both true false = refl
 or_both false true = refl
 or_both false false = refl
 
-after_other : (e : Effect) (d : Bool) → is_swap_effect e ≡ false → (is_block e || d) ≡ drawn_after e d
+after_other : (e : Effect) (d : Bool) → is_swap_effect e ≡ false → (is_block e || d) ≡ kind_drawn (kind_of e) d
 after_other eff.Quiet d h = refl
 after_other (eff.Refused f) d h = refl
 after_other (eff.Block b) d h = refl
@@ -65,14 +68,14 @@ after_other (eff.Sync (op.Barrier b)) d h = refl
 after_other (eff.Sync (op.SemP k)) d h = refl
 after_other (eff.Sync (op.SemV k)) d h = refl
 
-after_swap : (e : Effect) (d : Bool) → is_swap_effect e ≡ true → false ≡ drawn_after e d
+after_swap : (e : Effect) (d : Bool) → is_swap_effect e ≡ true → false ≡ kind_drawn (kind_of e) d
 after_swap (eff.Sync op.Swap) d h = refl
 after_swap (eff.Sync (op.Barrier b)) d h = absurd cc
 after_swap (eff.Sync (op.SemP k)) d h = absurd cc
 after_swap (eff.Sync (op.SemV k)) d h = absurd cc
 after_swap e d h = absurd (cc h)
 
-pub drawn_next : (scene : Scene) (c p : ℕ) → has_drawn scene c (p + 1) ≡ drawn_after (effect_at scene c p) (has_drawn scene c p)
+pub drawn_next : (scene : Scene) (c p : ℕ) → has_drawn scene c (p + 1) ≡ kind_drawn (kind_of (effect_at scene c p)) (has_drawn scene c p)
 unfolding has_drawn
 drawn_next scene c p =
     let e = effect_at scene c p in
@@ -113,13 +116,13 @@ past_clients scene client place le = past_stream scene client place (omega (arit
 
 -- ---- the first one
 
-pub none_in : (scene : Scene) (client : ℕ) → ((place : ℕ) → place < length (stream_of scene client) → offends scene client place ≡ false) → (place : ℕ) → offends scene client place ≡ false
+none_in : (scene : Scene) (client : ℕ) → ((place : ℕ) → place < length (stream_of scene client) → offends scene client place ≡ false) → (place : ℕ) → offends scene client place ≡ false
 none_in scene client h place = elim (cases_lt place (length (stream_of scene client))) [
   | inl lt ↦ h place lt
   | inr ge ↦ past_stream scene client place ge
 ]
 
-pub none_offends : (scene : Scene) → ((client place : ℕ) → client < length scene.streams → offends scene client place ≡ false) → IsComposable scene
+none_offends : (scene : Scene) → ((client place : ℕ) → client < length scene.streams → offends scene client place ≡ false) → IsComposable scene
 none_offends scene h client place = elim (cases_lt client (length scene.streams)) [
   | inl lt ↦ h client place lt
   | inr ge ↦ past_clients scene client place ge
@@ -127,25 +130,67 @@ none_offends scene h client place = elim (cases_lt client (length scene.streams)
 
 -- ---- one command
 
-pub offence_is : (scene : Scene) (client place : ℕ) (keeps drawn r : Bool) (e : Effect) → keeps ≡ keeps_nearest (context_after scene client place).state
-    → drawn ≡ has_drawn scene client place → e ≡ effect_at scene client place → r ≡ is_offence keeps client drawn e → offends scene client place ≡ r
+-- the kind of an effect tells whether its command offends
+of_kind : (keeps : Bool) (client : ℕ) (drawn : Bool) (e : Effect) → is_offence keeps client drawn e ≡ kind_offends keeps client drawn (kind_of e)
+of_kind keeps client drawn eff.Quiet = refl
+of_kind keeps client drawn (eff.Refused fault) = refl
+of_kind keeps client drawn (eff.Block block) = refl
+of_kind keeps client drawn (eff.Clear mask) = refl
+of_kind keeps client drawn (eff.Shared part) = refl
+of_kind keeps client drawn (eff.Sync o) = refl
+
+pub offence_is : (scene : Scene) (client place : ℕ) (keeps drawn r : Bool) (k : EffectKind) → keeps ≡ keeps_nearest (context_after scene client place).state
+    → drawn ≡ has_drawn scene client place → k ≡ kind_of (effect_at scene client place) → r ≡ kind_offends keeps client drawn k → offends scene client place ≡ r
 unfolding offends
-offence_is scene client place keeps drawn r e a b c is = (λ i. is_offence (sym a i) client (sym b i) (sym c i)) ∙ sym is
+offence_is scene client place keeps drawn r k a b c is =
+    of_kind (keeps_nearest (context_after scene client place).state) client (has_drawn scene client place) (effect_at scene client place)
+    ∙ (λ i. kind_offends (sym a i) client (sym b i) (sym c i)) ∙ sym is
 
-pub drawn_is : (scene : Scene) (client place : ℕ) (drawn r : Bool) (e : Effect) → drawn ≡ has_drawn scene client place → e ≡ effect_at scene client place
-    → r ≡ drawn_after e drawn → r ≡ has_drawn scene client (place + 1)
-drawn_is scene client place drawn r e b c is = is ∙ (λ i. drawn_after (c i) (b i)) ∙ sym (drawn_next scene client place)
+pub drawn_is : (scene : Scene) (client place : ℕ) (drawn r : Bool) (k : EffectKind) → drawn ≡ has_drawn scene client place → k ≡ kind_of (effect_at scene client place)
+    → r ≡ kind_drawn k drawn → r ≡ has_drawn scene client (place + 1)
+drawn_is scene client place drawn r k b c is = is ∙ (λ i. kind_drawn (c i) (b i)) ∙ sym (drawn_next scene client place)
 
-pub none_more : (scene : Scene) (client place : ℕ) → ((q : ℕ) → q < place → offends scene client q ≡ false) → offends scene client place ≡ false
+none_more : (scene : Scene) (client place : ℕ) → ((q : ℕ) → q < place → offends scene client q ≡ false) → offends scene client place ≡ false
     → (q : ℕ) → q < place + 1 → offends scene client q ≡ false
 none_more scene client place before here q lt = elim (cases_lt q place) [
   | inl less ↦ before q less
   | inr ge ↦ let same : place ≡ q = omega (arith, lt, ge) in subst (λ k. offends scene client k ≡ false) same here
 ]
 
-pub clients_more : (scene : Scene) (c : ℕ) → ((client place : ℕ) → client < c → offends scene client place ≡ false) → ((place : ℕ) → offends scene c place ≡ false)
+more : (scene : Scene) (client place : ℕ) (found : Option ℕ) (o : Bool) → IsFirstBelow scene client place found → offends scene client place ≡ o
+    → IsFirstBelow scene client (place + 1) (place_or found place o)
+more scene client place (Some p) o before here = before
+more scene client place None true before here = (here, before)
+more scene client place None false before here = none_more scene client place before here
+
+pub place_more : (scene : Scene) (client place : ℕ) (found r : Option ℕ) (o : Bool) → IsFirstBelow scene client place found → offends scene client place ≡ o
+    → r ≡ place_or found place o → IsFirstBelow scene client (place + 1) r
+place_more scene client place found r o before here is =
+    subst (λ (f : Option ℕ). IsFirstBelow scene client (place + 1) f) (sym is) (more scene client place found o before here)
+
+pub first_is : (scene : Scene) (client : ℕ) (found : Option ℕ) → IsFirstBelow scene client (length (stream_of scene client)) found → IsFirstIn scene client found
+first_is scene client None below = none_in scene client below
+first_is scene client (Some p) below = below
+
+-- ---- one client
+
+clients_more : (scene : Scene) (c : ℕ) → ((client place : ℕ) → client < c → offends scene client place ≡ false) → ((place : ℕ) → offends scene c place ≡ false)
     → (client place : ℕ) → client < c + 1 → offends scene client place ≡ false
 clients_more scene c before here client place lt = elim (cases_lt client c) [
   | inl less ↦ before client place less
   | inr ge ↦ let same : c ≡ client = omega (arith, lt, ge) in subst (λ k. offends scene k place ≡ false) same (here place)
 ]
+
+one_more : (scene : Scene) (n : ℕ) (found : Option Name) (first : Option ℕ) → IsFirstOf scene n found → IsFirstIn scene n first → IsFirstOf scene (n + 1) (name_or found n first)
+one_more scene n (Some name) first before here = before
+one_more scene n None None before here = clients_more scene n before here
+one_more scene n None (Some p) before here = record { is = here.0; clients = before; places = here.1 }
+
+pub name_more : (scene : Scene) (n : ℕ) (found r : Option Name) (first : Option ℕ) → IsFirstOf scene n found → IsFirstIn scene n first → r ≡ name_or found n first
+    → IsFirstOf scene (n + 1) r
+name_more scene n found r first before here is = subst (λ (f : Option Name). IsFirstOf scene (n + 1) f) (sym is) (one_more scene n found first before here)
+
+pub offence_is_first : (scene : Scene) (found : Option Name) → IsFirstOf scene (length scene.streams) found
+    → MatchOption found (IsComposable scene) (λ n. IsFirstOffence scene n)
+offence_is_first scene None all = none_offends scene all
+offence_is_first scene (Some name) all = all

@@ -1,5 +1,5 @@
 //! The frames of a scene, each client's part drawn apart.
-ghost use Rattle.std.specs.Prelude.{◌≡◌, ℕ, ◌↔◌, true, IfOk, IfErr, IfSome, IsSome};
+ghost use Rattle.std.specs.Prelude.{◌≡◌, ℕ, ◌↔◌, true, IfOk, IfErr, IfSome, IsSome, MatchOption};
 ghost use Rattle.rc_base.specs.Formats.Within.{IsWithin};
 ghost use Rattle.rc_base.specs.Drawing.Images.{frame_images};
 ghost use Rattle.rc_base.specs.Orders.Journal.{waiting_of};
@@ -7,17 +7,17 @@ ghost use Rattle.rc_base.specs.Orders.Order.{default_journal, default_order};
 ghost use Rattle.rc_base.specs.Orders.Sync.{sync_lists_of};
 ghost use Rattle.sync_manager.specs.Stored.{wait_at};
 ghost use Rattle.order_model.specs.Report.{frame_count, is_stuck};
-ghost use Rattle.sort_last.specs.Offends.{IsComposable};
+ghost use Rattle.sort_last.specs.Offends.{IsComposable, IsFirstOffence};
 ghost use Rattle.sort_last.specs.Runs.{IsLastFault};
 ghost use Rattle.sort_last.specs.declared.last.LastFault.TheVariants as fault;
 
 use crate::compose::draw_frames;
-use crate::offence::first_offence;
+use crate::survey::{LastSurvey, survey_last};
 use rc_base::image::Frames;
 use rc_base::out_of_memory::OutOfMemory;
 use rc_base::scene::Scene;
-use rc_base::sync::{Journal, SyncLists, Waiting};
-use serial_render::{Turns, swap_count, sync_lists, turns_of};
+use rc_base::sync::{Journal, Name, SyncLists, Waiting};
+use serial_render::{Survey, Turns, swap_count, turns_of};
 use std::alloc::Global;
 use std::thread::Threads;
 
@@ -73,6 +73,34 @@ fn run(
     })
 }
 
+/// The same as `render_last` of a scene whose streams were surveyed and judged, with the first command that offends.
+pub fn render_judged(
+    rt: &(impl Threads + Sync),
+    alloc: Global,
+    scene: &Scene,
+    syncs: &SyncLists,
+    offence: Option<Name>,
+) -> Result<LastRun, LastFault>
+    requires within { IsWithin scene.now }
+    requires syncs { syncs.now ≡ sync_lists_of scene.now }
+    requires offence { MatchOption offence (IsComposable scene.now) (λ n. IsFirstOffence scene.now n) }
+    ensures class { IfOk result (λ r. IsComposable scene.now) }
+    ensures fault { IfErr result (λ f. IsLastFault scene.now f) }
+    ensures journal { IfOk result (λ r. r.journal ≡ default_journal syncs.now) }
+    ensures frames { IfOk result (λ r. r.frames ≡ frame_images scene.now (default_order syncs.now r.journal) (frame_count r.journal)) }
+    ensures waiting { IfOk result (λ r. IsSome r.waiting ↔ (is_stuck syncs.now r.journal ≡ true)) }
+    ensures at { IfOk result (λ r. IfSome r.waiting (λ w. (client : ℕ) → wait_at w.at client ≡ waiting_of syncs.now r.journal client)) }
+{
+    if let Some(name) = offence {
+        return Err(LastFault::NotLast {
+            client: name.client,
+            place: name.place,
+        });
+    }
+    let run = run(rt, alloc, scene, syncs)?;
+    Ok(run)
+}
+
 /// The same as `render_last` of a scene whose streams were surveyed.
 pub fn render_surveyed(
     rt: &(impl Threads + Sync),
@@ -89,14 +117,8 @@ pub fn render_surveyed(
     ensures waiting { IfOk result (λ r. IsSome r.waiting ↔ (is_stuck syncs.now r.journal ≡ true)) }
     ensures at { IfOk result (λ r. IfSome r.waiting (λ w. (client : ℕ) → wait_at w.at client ≡ waiting_of syncs.now r.journal client)) }
 {
-    if let Some(name) = first_offence(rt, alloc, scene)? {
-        return Err(LastFault::NotLast {
-            client: name.client,
-            place: name.place,
-        });
-    }
-    let run = run(rt, alloc, scene, syncs)?;
-    Ok(run)
+    let LastSurvey { offence, .. } = survey_last(rt, alloc, scene)?;
+    render_judged(rt, alloc, scene, syncs, offence)
 }
 
 /// Each client draws each frame alone into a layer, in as many threads as there are processors, and the layers are put together by depth. The frames
@@ -114,6 +136,7 @@ pub fn render_last(
     ensures waiting { IfOk result (λ r. IsSome r.waiting ↔ (is_stuck (sync_lists_of scene.now) r.journal ≡ true)) }
     ensures at { IfOk result (λ r. IfSome r.waiting (λ w. (client : ℕ) → wait_at w.at client ≡ waiting_of (sync_lists_of scene.now) r.journal client)) }
 {
-    let syncs = sync_lists(alloc, scene)?;
-    render_surveyed(rt, alloc, scene, &syncs)
+    let LastSurvey { survey, offence } = survey_last(rt, alloc, scene)?;
+    let Survey { syncs, .. } = survey;
+    render_judged(rt, alloc, scene, &syncs, offence)
 }

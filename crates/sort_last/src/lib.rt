@@ -15,7 +15,9 @@ mod offence;
 mod play;
 mod player;
 mod sheet;
+mod survey;
 
-pub use last::{LastFault, LastRun, render_last, render_surveyed};
+pub use last::{LastFault, LastRun, render_judged, render_last, render_surveyed};
 pub use laws::{composite_is_associative, layers_compose_to_frames, layers_have_a_unit};
 pub use layer::{Layer, composite};
+pub use survey::{LastSurvey, survey_last};

@@ -1,19 +1,18 @@
-//! The first command that keeps a scene from being drawn client by client.
-ghost use Rattle.std.specs.Prelude.{◌≡◌, ◌<◌, length, IfOk, MatchOption};
+//! One client's stream, surveyed, and its first command that keeps the scene from being drawn client by client.
+ghost use Rattle.std.specs.Prelude.{◌≡◌, ◌<◌, length, IfOk};
 ghost use Rattle.rc_base.specs.Formats.Within.{IsWithin};
 ghost use Rattle.rc_base.specs.Contexts.Issue.{stream_of};
-ghost use Rattle.sort_last.specs.Offends.{keeps_nearest, is_offence, IsComposable, IsFirstOffence};
-ghost use Rattle.sort_last.specs.Runs.{drawn_after, IsFirstIn, AreLookedThrough};
+ghost use Rattle.sort_last.specs.Offends.{keeps_nearest};
+ghost use Rattle.sort_last.specs.Runs.{kind_offends, kind_drawn, place_or, IsSurveyedClient};
 
-use gl_context::Context;
-use rayon::prelude::*;
+use gl_context::EffectKind;
+use rc_base::cluster::FaultList;
 use rc_base::out_of_memory::OutOfMemory;
 use rc_base::scene::Scene;
-use rc_base::state::{Effect, State};
-use rc_base::sync::{Name, SyncOp};
+use rc_base::state::State;
+use rc_base::sync::{SyncOp, SyncRow};
+use serial_render::ClientSurvey;
 use std::alloc::Global;
-use std::thread::Threads;
-use stream_replay::issue_at;
 
 // Of the fragments that are drawn at a pixel in this state the nearest stays whole, and of equally near ones the first.
 #[tactic(auto, unfolding(crate::specs::Offends::keeps_nearest))]
@@ -25,25 +24,35 @@ fn keeps_nearest(state: &State) -> bool
         && (state.depth_func == 1 && (!state.blend_on && ((red && green) && (blue && opacity))))
 }
 
-fn is_offence(effect: &Effect, keeps: bool, client: usize, drawn: bool) -> bool
-    ensures { result ≡ is_offence keeps client drawn effect.now }
+fn is_offence(kind: EffectKind, keeps: bool, client: usize, drawn: bool) -> bool
+    ensures { result ≡ kind_offends keeps client drawn kind }
 {
-    match effect {
-        Effect::Quiet | Effect::Refused(_) => false,
-        Effect::Block(_) => !keeps,
-        Effect::Clear(_) => client != 0 || drawn,
-        Effect::Shared(_) => true,
-        Effect::Sync(op) => !matches!(op, SyncOp::Swap),
+    match kind {
+        EffectKind::Quiet | EffectKind::Refused => false,
+        EffectKind::Block => !keeps,
+        EffectKind::Clear => client != 0 || drawn,
+        EffectKind::Shared => true,
+        EffectKind::Sync(op) => !matches!(op, SyncOp::Swap),
     }
 }
 
-fn drawn_after(effect: &Effect, drawn: bool) -> bool
-    ensures { result ≡ drawn_after effect.now drawn }
+fn drawn_after(kind: EffectKind, drawn: bool) -> bool
+    ensures { result ≡ kind_drawn kind drawn }
 {
-    match effect {
-        Effect::Block(_) => true,
-        Effect::Sync(op) => !matches!(op, SyncOp::Swap) && drawn,
+    match kind {
+        EffectKind::Block => true,
+        EffectKind::Sync(op) => !matches!(op, SyncOp::Swap) && drawn,
         _ => drawn,
+    }
+}
+
+// The place that was found, or else this one, where its command offends.
+fn place_or(found: Option<u32>, place: u32, offends: bool) -> Option<u32>
+    ensures { result ≡ place_or found place offends }
+{
+    match found {
+        Some(_) => found,
+        None => { if offends { Some(place) } else { None } }
     }
 }
 
@@ -55,81 +64,37 @@ fn stream_length(scene: &Scene, client: usize) -> usize
     scene.streams.as_slice()[client].len()
 }
 
-// The place of the client's first command that offends.
-fn first_in(alloc: Global, scene: &Scene, client: usize) -> Result<Option<u32>, OutOfMemory>
+/// What one issue of each command of a client tells.
+#[derive(Drop)]
+pub(crate) struct SurveyedClient {
+    /// Its accepted operations of synchronisation.
+    pub row: SyncRow,
+    /// Its refused commands.
+    pub faults: FaultList,
+    /// The place of its first command that offends.
+    pub first: Option<u32>,
+}
+
+/// Surveys a client's stream: each command is issued once, and judged by the state before it.
+pub(crate) fn survey_client(
+    alloc: Global,
+    scene: &Scene,
+    client: usize,
+) -> Result<SurveyedClient, OutOfMemory>
     requires within { IsWithin scene.now }
     requires client { client < length scene.now.streams }
-    ensures { IfOk result (λ o. IsFirstIn scene.now client o) }
+    ensures { IfOk result (λ s. IsSurveyedClient scene.now client s) }
 {
-    let mut context = Context::new(alloc, &scene.decl)?;
+    let mut survey = ClientSurvey::new(alloc, scene)?;
     let mut drawn = false;
+    let mut first = None;
     let length = stream_length(scene, client);
     for place in 0..length {
-        let keeps = keeps_nearest(context.state());
-        let effect = issue_at(&mut context, scene, client, place)?;
-        if is_offence(&effect, keeps, client, drawn) {
-            return Ok(Some(place as u32));
-        }
-        drawn = drawn_after(&effect, drawn);
-        context.take_back(effect);
+        let keeps = keeps_nearest(survey.context.outside.state());
+        let kind = survey.issue(scene, client, place)?;
+        first = place_or(first, place as u32, is_offence(kind, keeps, client, drawn));
+        drawn = drawn_after(kind, drawn);
     }
-    Ok(None)
-}
-
-// Each client is looked through, in as many threads as there are processors.
-fn look_through(
-    rt: &(impl Threads + Sync),
-    alloc: Global,
-    scene: &Scene,
-    found: &mut [Result<Option<u32>, OutOfMemory>],
-)
-    requires within { IsWithin scene.now }
-    requires count { length found.old ≡ length scene.now.streams }
-    ensures { AreLookedThrough scene.now found.new }
-{
-    par_for_each_mut(
-        rt,
-        found,
-        |client: usize, first: &mut Result<Option<u32>, OutOfMemory>|
-            requires { IsWithin scene.now × (client < length scene.now.streams) }
-            ensures { IfOk first.new (λ o. IsFirstIn scene.entry.now client o) }
-        {
-            *first = first_in(alloc, scene, client);
-        },
-    );
-}
-
-// The first one that was found, clients rising.
-fn first_of(
-    scene: &Scene,
-    found: &[Result<Option<u32>, OutOfMemory>],
-) -> Result<Option<Name>, OutOfMemory>
-    requires within { IsWithin scene.now }
-    requires found { AreLookedThrough scene.now found.now }
-    ensures { IfOk result (λ o. MatchOption o (IsComposable scene.now) (λ n. IsFirstOffence scene.now n)) }
-{
-    for client in 0..scene.streams.len() {
-        if let Some(place) = found[client]? {
-            return Ok(Some(Name {
-                client: client as u8,
-                place,
-            }));
-        }
-    }
-    Ok(None)
-}
-
-/// The first command that offends, clients rising, places rising.
-pub(crate) fn first_offence(
-    rt: &(impl Threads + Sync),
-    alloc: Global,
-    scene: &Scene,
-) -> Result<Option<Name>, OutOfMemory>
-    requires { IsWithin scene.now }
-    ensures { IfOk result (λ o. MatchOption o (IsComposable scene.now) (λ n. IsFirstOffence scene.now n)) }
-{
-    let mut found = Vec::new(alloc);
-    found.resize(scene.streams.len(), Err(OutOfMemory))?;
-    look_through(rt, alloc, scene, &mut found);
-    first_of(scene, &found)
+    let (row, faults) = survey.finish(scene, client);
+    Ok(SurveyedClient { row, faults, first })
 }

@@ -2,14 +2,13 @@
 ghost use Rattle.std.specs.Prelude.{◌≡◌, ◌+◌, ◌<◌, length, Some, IfOk, OnOk};
 ghost use Rattle.rc_base.specs.Formats.Within.{IsWithin};
 ghost use Rattle.rc_base.specs.Contexts.Issue.{stream_of, command_at, context_after, effect_at};
-ghost use Rattle.gl_context.specs.Counted.{counted, operation_of};
+ghost use Rattle.gl_context.specs.Counted.{counted, kind_of};
 
-use gl_context::{Context, CountingContext};
+use gl_context::{Context, CountingContext, EffectKind};
 use rc_base::command::Command;
 use rc_base::out_of_memory::OutOfMemory;
 use rc_base::scene::Scene;
 use rc_base::state::Effect;
-use rc_base::sync::SyncOp;
 
 /// The command of a client at a place.
 fn command_at(scene: &Scene, client: usize, place: usize) -> &Command
@@ -36,19 +35,18 @@ pub fn issue_at(
     context.issue(place as u32, command_at(scene, client, place))
 }
 
-/// The same in a context whose open block is only counted: it gives the operation of synchronisation that the command is, where it is an accepted
-/// one.
+/// The same in a context whose open block is only counted: it gives the kind of the command's effect.
 pub fn count_at(
     counting: &mut CountingContext,
     scene: &Scene,
     client: usize,
     place: usize,
-) -> Result<Option<SyncOp>, OutOfMemory>
+) -> Result<EffectKind, OutOfMemory>
     requires within { IsWithin scene.now }
     requires inside { place < length (stream_of scene.now client) }
     requires before { counting.old ≡ counted (context_after scene.now client place) }
     ensures context { OnOk result (counting.new ≡ counted (context_after scene.now client (place + 1))) }
-    ensures operation { IfOk result (λ o. o ≡ operation_of (effect_at scene.now client place)) }
+    ensures kind { IfOk result (λ k. k ≡ kind_of (effect_at scene.now client place)) }
 {
     counting.issue(place as u32, command_at(scene, client, place))
 }

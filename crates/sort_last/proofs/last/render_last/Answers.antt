@@ -7,5 +7,5 @@ use Rattle.sort_last.proofs.last.render_last.Goals as goal
 
 pub returns-clause-frames : goal.returns-clause-frames
 returns-clause-frames g c =
-    subst (λ (l : SyncLists). IfOk c.render_surveyed.result (λ r. r.frames ≡ frame_images c.args.scene.now (default_order l r.journal) (frame_count r.journal)))
-    c.in_ok-syncs.ensures.lists c.render_surveyed.ensures.frames
+    subst (λ (l : SyncLists). IfOk c.render_judged.result (λ r. r.frames ≡ frame_images c.args.scene.now (default_order l r.journal) (frame_count r.journal)))
+    c.in_ok-survey.ensures.syncs c.render_judged.ensures.frames

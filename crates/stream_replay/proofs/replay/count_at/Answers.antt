@@ -1,12 +1,11 @@
 use Rattle.std.proofs.Common.{◌≡◌, ◌+◌, ◌<◌, ◌^◌, ◌∙◌, refl, arith, sym, ap, subst}
 use Rattle.std.proofs.lemmas.Result.{IfOk-weaker}
-use Rattle.std.specs.declared.option.Option.{Option}
 use Rattle.rc_base.specs.Contexts.Context.{ClientContext, edit_of}
 use Rattle.rc_base.specs.Contexts.Issue.{issued, effect_of, effect_at, context_after}
-use Rattle.rc_base.specs.declared.sync.SyncOp.{SyncOp}
 use Rattle.rc_base.proofs.WithinLimits.{few_commands}
-use Rattle.gl_context.specs.Counted.{counted, operation_of}
+use Rattle.gl_context.specs.Counted.{counted, kind_of}
 use Rattle.gl_context.specs.declared.counting.CountingContext.{CountingContext}
+use Rattle.gl_context.specs.declared.counting.EffectKind.{EffectKind}
 use Rattle.gl_context.proofs.OneMoreCommand.{goes_on}
 use Rattle.stream_replay.proofs.IssuedCommands.{texels_at, room_at}
 use Rattle.stream_replay.proofs.replay.count_at.Goals as goal
@@ -27,19 +26,19 @@ returns-clause-context c =
     let x = context_after s c.args.client c.args.place in
     let command = c.command_at.result.now in
     let next = (goes_on s c.args.client c.args.place command c.command_at.ensures).0 in
-    IfOk-weaker c.issue.result (λ (o : Option SyncOp). (y : ClientContext) → c.args.counting.now ≡ counted y → c.issue.new.self ≡ counted (issued y c.args.place command))
-    (λ (o : Option SyncOp). c.issue.new.self ≡ counted (context_after s c.args.client (c.args.place + 1)))
-    (λ o step. step x c.requires.before ∙ ap counted (sym next)) c.issue.ensures.ok
+    IfOk-weaker c.issue.result (λ (k : EffectKind). (y : ClientContext) → c.args.counting.now ≡ counted y → c.issue.new.self ≡ counted (issued y c.args.place command))
+    (λ (k : EffectKind). c.issue.new.self ≡ counted (context_after s c.args.client (c.args.place + 1)))
+    (λ k step. step x c.requires.before ∙ ap counted (sym next)) c.issue.ensures.ok
 
-pub returns-clause-operation : goal.returns-clause-operation
-returns-clause-operation c =
+pub returns-clause-kind : goal.returns-clause-kind
+returns-clause-kind c =
     let s = c.args.scene.now in
     let x = context_after s c.args.client c.args.place in
     let command = c.command_at.result.now in
     let next = (goes_on s c.args.client c.args.place command c.command_at.ensures).1 in
-    IfOk-weaker c.issue.result (λ (o : Option SyncOp). (y : ClientContext) → c.args.counting.now ≡ counted y → o ≡ operation_of (effect_of y command))
-    (λ (o : Option SyncOp). o ≡ operation_of (effect_at s c.args.client c.args.place))
-    (λ o given. given x c.requires.before ∙ ap operation_of (sym next)) c.issue.ensures.operation
+    IfOk-weaker c.issue.result (λ (k : EffectKind). (y : ClientContext) → c.args.counting.now ≡ counted y → k ≡ kind_of (effect_of y command))
+    (λ (k : EffectKind). k ≡ kind_of (effect_at s c.args.client c.args.place))
+    (λ k is. is x c.requires.before ∙ ap kind_of (sym next)) c.issue.ensures.kind
 
 pub overflow_cast-place : goal.overflow_cast-place
 overflow_cast-place c = let few = few_commands c.args.scene.now c.requires.within.limits c.args.client in omega (arith, few)
