@@ -8,3 +8,4 @@ mod ColumnsToPixels
 mod Beside
 mod Codes
 mod NearerPixels
+mod ChangedGrids

@@ -27,7 +27,9 @@ use crate::column_run::ColumnRun;
 use crate::columns::{color_rise, fill_column, is_few, step_column};
 use crate::extent::Extent;
 use crate::paint::Paint;
-use crate::prepare::{plan_of, shared_at, source_of, stores_colors, takes_no_test, tests_of};
+use crate::prepare::{
+    plan_of, shared_at, source_of, stores_colors, takes_no_test, tests_of, untextured_color,
+};
 use crate::rows::draw_row;
 use crate::setup::Setup;
 use crate::source::Source;
@@ -281,9 +283,29 @@ impl Grid {
         self.draw_painted(&setup, block.part, rows);
     }
 
-    // Draws a triangle in a part with the planes that it needs. It is compiled for itself, since planes take room at its entry.
+    // Draws a triangle of several colours that are stored alone. It is compiled for itself, since the plane takes room at its entry.
     #[inline(never)]
-    fn draw_by_planes<'s>(
+    fn draw_stored<'s>(
+        &mut self,
+        block: &BlockSetup<'_>,
+        tri: &'s WindowTriangle,
+        rows: SpanIter<'s>,
+    )
+        requires grid { block.now.extent ≡ self.old.extent }
+        requires rows { AreRowsOf tri.now block.now.part rows }
+        requires stored { AreStored block.now.state.now block.now.texture.now tri.now.v }
+        ensures extent { self.new.extent ≡ self.old.extent }
+        ensures drawn { IsStepped (covered_step block.now.state.now block.now.texture.now tri.now.v) self.old.extent (pixels_of self.old.colors.items self.old.depths.items) (pixels_of self.new.colors.items self.new.depths.items) }
+    {
+        let shared = shared_at(tri, self.extent.left, self.extent.bottom);
+        let plane = color_plane(tri, &shared);
+        let paint = Paint::Store(&plane);
+        self.draw_settled(block, tri, rows, paint);
+    }
+
+    // Draws a triangle in stages. It is compiled for itself, since planes take room at its entry.
+    #[inline(never)]
+    fn draw_in_stages<'s>(
         &mut self,
         block: &BlockSetup<'_>,
         tri: &'s WindowTriangle,
@@ -294,8 +316,9 @@ impl Grid {
         ensures extent { self.new.extent ≡ self.old.extent }
         ensures drawn { IsStepped (covered_step block.now.state.now block.now.texture.now tri.now.v) self.old.extent (pixels_of self.old.colors.items self.old.depths.items) (pixels_of self.new.colors.items self.new.depths.items) }
     {
-        if takes_no_test(block.state, block.texture, block.plan, tri) {
-            if let Some(color) = flat_color(tri) {
+        let flat = untextured_color(block.texture, tri);
+        if let Some(color) = flat {
+            if takes_no_test(block.state, block.plan, tri) {
                 let source = Source::Flat(color);
                 let tests = Tests::Off;
                 let paint = Paint::Stages(Stages {
@@ -307,13 +330,7 @@ impl Grid {
             }
         }
         let shared = shared_at(tri, self.extent.left, self.extent.bottom);
-        if stores_colors(block.state, block.texture, block.plan, tri) {
-            let plane = color_plane(tri, &shared);
-            let paint = Paint::Store(&plane);
-            self.draw_settled(block, tri, rows, paint);
-            return;
-        }
-        let source = source_of(block.state, block.texture, block.plan, tri, &shared);
+        let source = source_of(block.state, block.texture, block.plan, tri, flat, &shared);
         let tests = tests_of(block.state, block.plan, tri, &shared);
         let paint = Paint::Stages(Stages {
             source: &source,
@@ -333,14 +350,17 @@ impl Grid {
         if rows.is_empty() {
             return;
         }
-        if stores_colors(block.state, block.texture, block.plan, tri) {
-            if let Some(color) = flat_color(tri) {
+        if !stores_colors(block.state, block.texture, block.plan, tri) {
+            self.draw_in_stages(block, tri, rows);
+            return;
+        }
+        match flat_color(tri) {
+            Some(color) => {
                 let paint = Paint::Fill(color);
                 self.draw_settled(block, tri, rows, paint);
-                return;
             }
+            None => self.draw_stored(block, tri, rows),
         }
-        self.draw_by_planes(block, tri, rows);
     }
 
     // Draws the triangle of three vertices, where there is one: it is kept and doesn't lie beside the part.

@@ -1,10 +1,10 @@
 //! What is settled once a block, and once a triangle.
-ghost use Rattle.std.specs.Prelude.{◌≡◌, pos, ℤ, true, false, None};
+ghost use Rattle.std.specs.Prelude.{◌≡◌, pos, ℤ, true, false, None, IfSome};
 ghost use Rattle.rc_base.specs.Drawing.Texel.{wrap_in_s, wrap_in_t};
 ghost use Rattle.raster.specs.Planes.{IsTriangleSetup};
 ghost use Rattle.textures.specs.Images.{HasTexel, HasTexelIfAny};
 ghost use Rattle.textures.specs.Samplers.{IsSampler};
-ghost use Rattle.draw_device.specs.Plans.{IsPlan, IsWrite, IsSource, IsTests, AreStored, AreUntested, Replaces, Modulates};
+ghost use Rattle.draw_device.specs.Plans.{IsPlan, IsWrite, IsSource, IsTests, AreFlat, AreStored, AreUntested, Replaces, Modulates};
 
 use crate::plan::Plan;
 use crate::source::Source;
@@ -17,6 +17,7 @@ use fragment_ops::{
 use raster::{
     TriangleSetup, color_plane, coordinate_planes, depth_plane, flat_color, has_depths, setup_at,
 };
+use rc_base::command::Rgba;
 use rc_base::state::State;
 use rc_base::triangle::WindowTriangle;
 use textures::{Sampler, Texture};
@@ -90,19 +91,32 @@ pub(crate) fn shared_at(tri: &WindowTriangle, left: u16, bottom: u16) -> Triangl
     setup_at(tri, i32::from(left), i32::from(bottom))
 }
 
-// The triangle's own colours, without a texture.
+/// The one colour of all of a triangle's fragments, where no texture changes it.
+pub(crate) fn untextured_color(texture: &Texture, tri: &WindowTriangle) -> Option<Rgba>
+    ensures none { IfSome result (λ color. texture.now ≡ None) }
+    ensures flat { IfSome result (λ color. AreFlat tri.now.v color) }
+{
+    if texture.has_image() {
+        return None;
+    }
+    flat_color(tri)
+}
+
+// The triangle's own colours, without a texture: one, where it was found, or a plane of them.
 fn plain_source<'a>(
     state: &State,
     texture: &'a Texture,
     tri: &WindowTriangle,
+    flat: Option<Rgba>,
     shared: &TriangleSetup,
 ) -> Source<'a>
-    requires { texture.now ≡ None }
+    requires none { texture.now ≡ None }
+    requires flat { IfSome flat (λ color. AreFlat tri.now.v color) }
     ensures { (x y : ℤ) → IsTriangleSetup tri.now.v x y shared.now → IsSource state.now texture.now tri.now.v x y result }
 {
     let _state = state;
     let _texture = texture;
-    match flat_color(tri) {
+    match flat {
         Some(color) => Source::Flat(color),
         None => Source::Smooth(color_plane(tri, shared)),
     }
@@ -157,21 +171,23 @@ pub(crate) fn tests_of(
     Tests::Both(depth_plane(tri, shared))
 }
 
-/// How the colours of a triangle's fragments are made: of texels, where the texture has one.
+/// How the colours of a triangle's fragments are made: of texels, where the texture has one, else of its one colour, where it was found.
 pub(crate) fn source_of<'a>(
     state: &State,
     texture: &'a Texture,
     plan: &Plan,
     tri: &WindowTriangle,
+    flat: Option<Rgba>,
     shared: &TriangleSetup,
 ) -> Source<'a>
     requires plan { IsPlan state.now plan.now }
     requires texel { HasTexelIfAny texture.now }
+    requires flat { IfSome flat (λ color. AreFlat tri.now.v color) }
     ensures { (x y : ℤ) → IsTriangleSetup tri.now.v x y shared.now → IsSource state.now texture.now tri.now.v x y result }
 {
     match texture.sampler(state.tex_mode[1], state.tex_mode[2]) {
         Some(sampler) => texel_source(state, texture, plan, sampler, tri, shared),
-        None => plain_source(state, texture, tri, shared),
+        None => plain_source(state, texture, tri, flat, shared),
     }
 }
 
@@ -195,25 +211,16 @@ pub(crate) fn stores_colors(
     has_depths(tri)
 }
 
-/// Whether a triangle's fragments have no texture and take no test.
-pub(crate) fn takes_no_test(
-    state: &State,
-    texture: &Texture,
-    plan: &Plan,
-    tri: &WindowTriangle,
-) -> bool
+/// Whether a triangle's fragments take no test.
+pub(crate) fn takes_no_test(state: &State, plan: &Plan, tri: &WindowTriangle) -> bool
     requires { IsPlan state.now plan.now }
-    ensures none { result ≡ true → texture.now ≡ None }
-    ensures untested { result ≡ true → AreUntested state.now tri.now.v }
+    ensures { result ≡ true → AreUntested state.now tri.now.v }
 {
     let _state = state;
     if !plan.through {
         return false;
     }
     if !plan.untested {
-        return false;
-    }
-    if texture.has_image() {
         return false;
     }
     has_depths(tri)

@@ -14,4 +14,7 @@ returns-then-is_empty-clause-drawn c =
     (subst (λ (g : Extent). IsPartWhere (grid_rect g) b.part (is_let_through b.state.now)) c.requires.grid b.within) (pixels_of c.args.self.now.colors.items c.args.self.now.depths.items) e
 
 pub draw_settled-requires-clause-paint : goal.draw_settled-requires-clause-paint
-draw_settled-requires-clause-paint c = (c.stores_colors.ensures c.if-stores_colors.true, c.in-Some.ensures.color)
+draw_settled-requires-clause-paint c = (c.stores_colors.ensures c.if-not-stores_colors.false, c.in-Some.ensures.color)
+
+pub draw_stored-requires-clause-stored : goal.draw_stored-requires-clause-stored
+draw_stored-requires-clause-stored c = c.stores_colors.ensures c.if-not-stores_colors.false
