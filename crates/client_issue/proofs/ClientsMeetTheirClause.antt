@@ -185,8 +185,9 @@ module _ {P Q : Type 0} (sent : P → List Parcel) (full_seen : P → ℕ) (full
         (same_lanes a) (ap asked b) s.tallied
 
   pub step_clause : ClientStepsOverLanesKeepTheClause sent full_seen full asked asked_full_seen asked_full
-  step_clause scene l client deed core later d tiles tiles' requests requests' ended ended' count h s a b said =
-      keeps scene l client core later d tiles tiles' requests requests' ended ended' (count ∙ ap tile_count h.whose.layout) h deed said s a b
+  step_clause scene l client d deed before after h s =
+      keeps scene l client before.core after.core d before.tiles after.tiles before.requests after.requests before.ended after.ended
+      (s.count ∙ ap tile_count h.whose.layout) h deed s.ends s.step s.appended s.requested
 
 -- ---- the end
 

@@ -58,17 +58,32 @@ NewClientsMeetTheirClause = (scene : Scene) (l : Layout) (client : ℕ) (core : 
 
 -- ---- a step over lanes
 
+-- A core with its ends of lanes, one to each tile and one to the manager, and whether a step has told that it has ended.
+pub record ClientOverLanes (P Q : Type 0) : Type 0 where
+  pub core : ClientCore
+  pub tiles : List P
+  pub requests : Q
+  pub ended : Bool
+
+-- the clause, over what these lanes were sent
+abbrev pub IsClientClauseOver : {P Q : Type 0} → (P → List Parcel) → (Q → List Request) → Scene → Layout → ℕ → P → ClientOverLanes P Q → Type 0
+IsClientClauseOver {P} {Q} sent asked scene l client d c =
+    IsClientClause scene l client c.core (λ tile. sent (slice_index_or c.tiles tile d)) (asked c.requests) c.ended
+
 module _ {P Q : Type 0} (sent : P → List Parcel) (full_seen : P → ℕ) (full : P → Type 0)
     (asked : Q → List Request) (asked_full_seen : Q → ℕ) (asked_full : Q → Type 0) where
+  -- a step, with what it appended to the lanes
+  pub record StepOverLanes (deed : ClientDeed) (before after : ClientOverLanes P Q) : Type 0 where
+    pub count : length before.tiles ≡ tile_count (layout_of before.core)
+    pub step : IsClientStep before.core deed after.core
+    pub appended : AreSent sent full_seen full deed before.tiles after.tiles
+    pub requested : IsRequested asked asked_full_seen asked_full deed before.requests after.requests
+    pub ends : after.ended ≡ true → answer_of deed ≡ Ok moved.Ended
+
   -- after each step the clause holds, with what the lanes were sent
   abbrev pub ClientStepsOverLanesKeepTheClause : Type 0
-  ClientStepsOverLanesKeepTheClause = (scene : Scene) (l : Layout) (client : ℕ) (deed : ClientDeed) (core later : ClientCore)
-      (d : P) (tiles tiles_later : List P) (requests requests_later : Q) (ended ended_later : Bool) → length tiles ≡ tile_count (layout_of core)
-      → IsClientClause scene l client core (λ tile. sent (slice_index_or tiles tile d)) (asked requests) ended
-      → IsClientStep core deed later → AreSent sent full_seen full deed tiles tiles_later
-      → IsRequested asked asked_full_seen asked_full deed requests requests_later
-      → (ended_later ≡ true → answer_of deed ≡ Ok moved.Ended)
-      → IsClientClause scene l client later (λ tile. sent (slice_index_or tiles_later tile d)) (asked requests_later) ended_later
+  ClientStepsOverLanesKeepTheClause = (scene : Scene) (l : Layout) (client : ℕ) (d : P) (deed : ClientDeed) (before after : ClientOverLanes P Q)
+      → IsClientClauseOver sent asked scene l client d before → StepOverLanes deed before after → IsClientClauseOver sent asked scene l client d after
 
 -- ---- the end
 

@@ -4,9 +4,10 @@ use Rattle.std.specs.Prelude.{map, option_to_list, replicate, slice_get}
 use Rattle.std.specs.List.{AllByRecursion}
 use Rattle.std.specs.declared.option.Option.{Option}
 use Rattle.std.proofs.lemmas.Grind.{flat_map-append}
+use Rattle.rc_base.specs.Cluster.Lanes.{Follows}
 use Rattle.rc_base.specs.declared.cluster.TilePart.{TilePart}
 use Rattle.assembler.specs.Places.{in_place, IsFound}
-use Rattle.frame_out.specs.OnTheWay.{Follows, parts_in}
+use Rattle.frame_out.specs.OnTheWay.{parts_in}
 
 module _ {I : Type 0} (gave : I → TilePart → I → Type 0) (same : I → I → Type 0) (empty_seen : I → ℕ) (bare : I → Type 0) (taken : I → List TilePart)
     (f : Follows gave same taken) where

@@ -21,8 +21,8 @@ use Rattle.assembler.specs.Places.{in_place, AreFound, IsFound, IsTaken}
 use Rattle.assembler.specs.declared.places.Assembler.{Assembler}
 use Rattle.ppm_out.specs.Pictures.{IsWhole}
 use Rattle.frame_out.specs.Laws.{NewWritersAreOnTheWay}
-use Rattle.rc_base.specs.Cluster.Lanes.{EachLane}
-use Rattle.frame_out.specs.OnTheWay.{Follows, parts_in, GaveFrames, GaveText, GivesOne, HasWritten, IsMissing, IsOnTheWay}
+use Rattle.rc_base.specs.Cluster.Lanes.{EachLane, Follows}
+use Rattle.frame_out.specs.OnTheWay.{parts_in, GaveFrames, GaveText, GivesOne, HasWritten, IsMissing, IsOnTheWay}
 use Rattle.frame_out.specs.Windows.{IsWindow}
 use Rattle.frame_out.specs.Writing.{HasGiven, IsCounted}
 use Rattle.frame_out.specs.declared.on_the_way.FrameWriter.{FrameWriter}

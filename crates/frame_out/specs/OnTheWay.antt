@@ -1,6 +1,7 @@
 -- Frames that are put together and written while their parts still come, from lanes or from what is left of them.
-use Rattle.std.specs.Prelude.{◌≡◌, ℕ, ◌^◌, ◌<◌, ◌≤◌, ◌⊎◌, false, List, ◌∷◌, [], ◌++◌, length, map, slice_get, slice_index_or, option_to_list, None}
+use Rattle.std.specs.Prelude.{◌≡◌, ℕ, ◌^◌, ◌<◌, ◌≤◌, ◌⊎◌, false, List, ◌++◌, length, map, slice_get, slice_index_or, option_to_list, None}
 use Rattle.std.specs.List.{flat_map, AllByRecursion}
+use Rattle.rc_base.specs.Cluster.Lanes.{Follows}
 use Rattle.rc_base.specs.Cluster.Tiles.{tile_count}
 use Rattle.rc_base.specs.Formats.Netpbm.{p6_texts}
 use Rattle.rc_base.specs.Lists.{IsFront}
@@ -56,11 +57,6 @@ pub record IsNewWriter (l : Layout) (w : FrameWriter) : Type 0 where
   pub ample : w.lacking ≡ false
 
 -- ---- lanes
-
--- what lanes gave, by a meaning that grows by each item that they give
-pub record Follows {I : Type 0} (gave : I → TilePart → I → Type 0) (same : I → I → Type 0) (taken : I → List TilePart) : Type 0 where
-  pub grows : (a b : I) (x : TilePart) → gave a x b → taken b ≡ taken a ++ x ∷ []
-  pub stays : (a b : I) → same a b → taken b ≡ taken a
 
 -- Whatever was taken, the writer is on its way with that, and what it takes now.
 abbrev pub GoesOn : {I K : Type 0} → (I → TilePart → I → Type 0) → (I → I → Type 0) → (K → K → Used) → FrameWriter → List I → K → FrameWriter → List I → K → Type 0

@@ -72,7 +72,7 @@ module _ (laws : ClosingLaws) (scene : Scene) (l : Layout) (clients : List Clien
         stands = k.right.stands.progress;
         under_way = k.right.stands.stands.progress;
         done = k.done;
-        frames = k.right.recorded;
+        frames = k.right.frames;
       }
 
   all_done : AreDone scene l clients core tiles shown

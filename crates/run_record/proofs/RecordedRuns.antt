@@ -11,7 +11,7 @@ use Rattle.rc_base.specs.Cluster.Looks.{look_count}
 use Rattle.rc_base.specs.Cluster.Parcels.{parcels_of, set_count}
 use Rattle.rc_base.specs.Cluster.Tiles.{tile_count}
 use Rattle.rc_base.specs.Orders.Book.{Book, waiting_in}
-use Rattle.rc_base.specs.Orders.Journal.{waiting_of}
+use Rattle.rc_base.specs.Orders.Journal.{waiting_of, IsLegal}
 use Rattle.rc_base.specs.Orders.Sync.{sync_row_of, sync_lists_of}
 use Rattle.rc_base.specs.Outside.Causes.{last_count}
 use Rattle.rc_base.specs.declared.cluster.Tally.{Tally}
@@ -37,6 +37,7 @@ use Rattle.sync_manager.specs.Books.{IsBookOf}
 use Rattle.sync_manager.specs.Cores.{book_of}
 use Rattle.sync_manager.specs.Stored.{wait_at}
 use Rattle.sync_manager.specs.declared.manager.ManagerCore.{ManagerCore}
+use Rattle.tile_server.specs.Clauses.{TileFramesStay}
 use Rattle.tile_server.specs.Laws.{IsFramePart}
 use Rattle.tile_server.specs.declared.tile_core.TileCore.{TileCore}
 use Rattle.run_record.specs.Closed.{AreDone, ClosedRunsAreDone}
@@ -52,6 +53,7 @@ pub record RecordingLaws : Type 0 where
   pub gathering : GatheringIsLawful
   pub waiting : OverBooksWaitAlike
   pub swaps : SwapsAreFew
+  pub frames : TileFramesStay
 
 module _ (laws : RecordingLaws) (scene : Scene) (l : Layout) (clients : List ClientCore) (core : ManagerCore) (tiles : List TileCore) (shown : ℕ → List TilePart)
     (kept : Record) (tallies : List Tally) (waiting : Option Waiting) (faults : List (List (ℕ × Fault)))
@@ -145,7 +147,8 @@ module _ (laws : RecordingLaws) (scene : Scene) (l : Layout) (clients : List Cli
       let log : slice_get kept.logs t ≡ Some p.log = slice_get-get_or kept.logs t [] (omega (arith, m, here))
       ∙ ap (λ log. Some log) (k.logs.at t (core_at t lt) [] here p f.stands) in
       subst (λ names. IsFramePart scene l names t (n + 1) part) (order_is t p.log log)
-      (f.frames.each [] (subst (λ log. Replays (sync_lists_of scene) journal (λ client. jobs_of scene l client t) log) (sym (append-nil p.log)) f.under_way.replays) n part is low)
+      (laws.frames scene l t journal p (shown t) [] (subst (IsLegal (sync_lists_of scene)) journal_is lawful.maximal.0) f.under_way f.frames
+      (subst (λ log. Replays (sync_lists_of scene) journal (λ client. jobs_of scene l client t) log) (sym (append-nil p.log)) f.under_way.replays) n part is low).1
 
   shown_all : (t : ℕ) → t < tile_count l → length (shown t) ≡ frame_count kept.journal
   shown_all t lt =

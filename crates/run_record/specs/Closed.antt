@@ -16,7 +16,6 @@ use Rattle.client_issue.specs.Clauses.{counted, IsClientClause}
 use Rattle.client_issue.specs.Cores.{short_of, tally_of_tile}
 use Rattle.client_issue.specs.declared.client.ClientCore.{ClientCore}
 use Rattle.order_model.specs.Gathering.{HasArrived}
-use Rattle.order_model.specs.Log.{recorded_order}
 use Rattle.order_model.specs.Sent.{jobs_of}
 use Rattle.order_model.specs.Standing.{Progress, IsUnderWay, IsDone}
 use Rattle.sync_manager.specs.Clauses.{IsManagerClause}
@@ -24,7 +23,7 @@ use Rattle.sync_manager.specs.Cores.{is_short as is_manager_short, IsProgressOf 
 use Rattle.sync_manager.specs.Progress.{ManagerProgress}
 use Rattle.sync_manager.specs.declared.manager.ManagerCore.{ManagerCore}
 use Rattle.tile_model.specs.Scenes.{IsInRange, HasSides}
-use Rattle.tile_server.specs.Clauses.{AreFrames, IsTileClause}
+use Rattle.tile_server.specs.Clauses.{AreTileFrames, IsTileClause}
 use Rattle.tile_server.specs.Cores.{is_short, IsProgressOf}
 use Rattle.tile_server.specs.declared.tile_core.TileCore.{TileCore}
 use Rattle.run_record.specs.Gathering.{HaveSent}
@@ -70,7 +69,7 @@ pub record IsTileFinished (scene : Scene) (l : Layout) (this_tile : ℕ) (journa
   pub stands : IsProgressOf core progress
   pub under_way : IsUnderWay (sync_lists_of scene) journal (λ client. jobs_of scene l client this_tile) progress
   pub done : IsDone (sync_lists_of scene) journal progress
-  pub frames : AreFrames recorded_order scene l this_tile journal progress parts
+  pub frames : AreTileFrames scene l this_tile journal progress parts
 
 -- The cores of a scene have ended: the clients have sent all, and counted it; the book of the manager is over, and what arrived are fronts of the scene's
 -- operations; the tiles are done with its journal, and have shown the frames.

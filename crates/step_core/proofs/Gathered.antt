@@ -1,5 +1,6 @@
 -- What is collected of a cluster in which all have ended is what its run leaves.
-use Rattle.std.proofs.Common.{◌≡◌, ℕ, ◌+◌, ◌<◌, List, [], ◌∷◌, length, Option, Some, refl, sym, ap, ◌∙◌, subst, arith}
+use Rattle.std.proofs.Common.{◌≡◌, ℕ, ◌+◌, ◌<◌, ◌≤◌, List, [], ◌∷◌, ◌++◌, length, take, Option, Some, refl, sym, ap, ◌∙◌, subst, arith, append-nil}
+use Rattle.std.proofs.lemmas.List.{take-append-le}
 use Rattle.std.proofs.lemmas.List.FromFn.{length-map-range_with_len, get_or-map-range_with_len}
 use Rattle.std.proofs.lemmas.Option.{slice_get-get_or, slice_get_within, get_or_from_slice_get}
 use Rattle.std.specs.List.{range_with_len}
@@ -13,9 +14,14 @@ use Rattle.rc_base.specs.declared.scene.Decl.{Decl}
 use Rattle.rc_base.specs.declared.scene.Scene.{Scene}
 use Rattle.rc_base.specs.declared.sync.Entry.{Entry}
 use Rattle.rc_base.specs.declared.window.Layout.{Layout}
+use Rattle.order_model.specs.Log.{Replays}
 use Rattle.order_model.specs.Report.{frame_count}
+use Rattle.order_model.specs.Sent.{jobs_of}
+use Rattle.order_model.specs.Standing.{performed_in}
 use Rattle.order_model.specs.declared.record.LogEntry.{LogEntry}
 use Rattle.order_model.specs.declared.record.Record.{Record}
+use Rattle.tile_model.specs.Items.{shown_frames}
+use Rattle.tile_model.specs.Laws.{SwappedFramesStay}
 use Rattle.tile_server.specs.declared.tile_core.TileCore.{TileCore}
 use Rattle.run_record.specs.Closed.{AreDone, IsTileFinished}
 use Rattle.run_record.specs.Collected.{AreCollected, AreShownAlike, IsSmall, IsWholeRun, DoneRunsAreRecorded, FramesAreInOrder}
@@ -37,6 +43,7 @@ pub record GatherLaws : Type 0 where
   pub tallies : EndedWorldsTallyAll
   pub recorded : DoneRunsAreRecorded
   pub ordered : FramesAreInOrder
+  pub stay : SwappedFramesStay
 
 -- a list with an element isn't empty
 some_of : {A : Type 0} (xs : List A) (i : ℕ) → i < length xs → A
@@ -111,6 +118,13 @@ module _ (laws : GatherLaws) (scene : Scene) (l : Layout) (world : Cluster) (h :
       let tile = sound.tiles t lt in
       let pixels = (h.model.tiles t).parts in
       let list = (slice_index_or world.parts.items t e).items in
+      let p = (h.model.tiles t).progress in
+      let under = over.under_way t lt in
+      let swapped : frame_count (take (performed_in p.log) journal) ≡ shown_frames p =
+      ap (λ es. frame_count (take (performed_in p.log) es)) under.learnt.1
+      ∙ ap frame_count (take-append-le (performed_in p.log) p.learnt under.learnt.0 under.performed) in
+      let replays : Replays (sync_lists_of scene) journal (λ client. jobs_of scene l client t) (p.log ++ []) =
+      subst (λ log. Replays (sync_lists_of scene) journal (λ client. jobs_of scene l client t) log) (sym (append-nil p.log)) under.replays in
       record {
         ample = core.short ∙ h.view.ample.tiles t lt;
         progress = (h.model.tiles t).progress;
@@ -119,11 +133,13 @@ module _ (laws : GatherLaws) (scene : Scene) (l : Layout) (world : Cluster) (h :
         done = over.done t lt;
         frames = record {
           count = shown.count ∙ tile.parts.count;
-          each = λ more replays k part is low.
+          each = λ k part is low.
               let within : k < length list = slice_get_within list k part is in
               let inside : k < length pixels = (let c = shown.count in omega (arith, c, within)) in
               let x = some_of pixels k inside in
               let mine = shown.at k x part inside low in
+              let enough : k + 1 ≤ frame_count (take (performed_in p.log) journal) =
+              (let n = shown.count in let c = tile.parts.count in omega (arith, n, c, within, swapped)) in
               let same : slice_index_or list k part ≡ part = get_or_from_slice_get list k part part is in
               let of = subst (λ q. IsPartOf l t (k + 1) (slice_index_or pixels k x) q) same mine in
               record {
@@ -131,7 +147,8 @@ module _ (laws : GatherLaws) (scene : Scene) (l : Layout) (world : Cluster) (h :
                 frame = of.frame;
                 count = of.count;
                 pixel = λ a b has. of.pixel a b has ∙ ap (λ v. Some v)
-                    (tile.parts.pixels journal (goes_on_to_itself (sync_lists_of scene) journal over.legal) more replays k (slice_index_or pixels k x) (slice_get-get_or pixels k x inside) a b has);
+                    (tile.parts.pixels journal (goes_on_to_itself (sync_lists_of scene) journal over.legal) [] replays k (slice_index_or pixels k x) (slice_get-get_or pixels k x inside) a b has
+                    ∙ (laws.stay scene l t journal p.log [] (k + 1) a b over.legal replays enough).1);
               };
         };
       }

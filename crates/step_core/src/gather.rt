@@ -10,6 +10,7 @@ use rc_base::scene::Decl;
 use run_record::laws::{done_runs_are_recorded, frames_are_in_order};
 use run_record::{Collected, collect, parts_in_frames};
 use std::alloc::Global;
+use tile_model::laws::swapped_frames_stay;
 use world_model::laws::{
     ended_worlds_are_over, ended_worlds_are_whole, schedules_keep_worlds_sound,
 };
@@ -24,6 +25,7 @@ pub(crate) fn gather(alloc: Global, decl: &Decl, cluster: Cluster) -> Result<Cor
     ended_worlds_are_whole();
     done_runs_are_recorded();
     frames_are_in_order();
+    swapped_frames_stay();
     let Cluster {
         clients,
         manager,

@@ -100,16 +100,17 @@ step_clause syncs tiles core deed later took took' sent sent' ended ended' h ste
         subst (λ x. IsNextDeed syncs tiles (progress_after syncs h.progress x) Finishes) (sym is) (subst (λ x. IsNextDeed syncs tiles h.progress x) is next)
 
 pub lanes_clause : {I O : Type 0} (gave : I → Request → I → Type 0) (same : I → I → Type 0) (sent : O → List Grant) → ManagerStepsOverLanesKeepTheClause gave same sent
-lanes_clause {I} gave same sent taken gives stays syncs tiles core deed later d requests requests' e grants grants' ended ended' clients_n tiles_n h step took appended said =
-    step_clause syncs tiles core deed later (λ client. taken (slice_index_or requests client d)) (λ client. taken (slice_index_or requests' client d))
-    (λ tile. sent (slice_index_or grants tile e)) (λ tile. sent (slice_index_or grants' tile e)) ended ended' h step
-    (λ c lt. took_at (taken_of deed c) (slice_index_or requests c d) (slice_index_or requests' c d) (took.at c d (omega (arith, clients_n, lt, h.stands.book.clients))))
-    (λ t lt. appended.at t e (omega (arith, tiles_n, lt, h.tiles_are)))
-    said
+lanes_clause {I} gave same sent taken follows syncs tiles d e deed before after h s =
+    step_clause syncs tiles before.core deed after.core (λ client. taken (slice_index_or before.requests client d)) (λ client. taken (slice_index_or after.requests client d))
+    (λ tile. sent (slice_index_or before.grants tile e)) (λ tile. sent (slice_index_or after.grants tile e)) before.ended after.ended h s.step
+    (λ c lt. took_at (taken_of deed c) (slice_index_or before.requests c d) (slice_index_or after.requests c d)
+    (s.took.at c d (let n = s.clients in omega (arith, n, lt, h.stands.book.clients))))
+    (λ t lt. s.appended.at t e (let n = s.tiles in omega (arith, n, lt, h.tiles_are)))
+    s.ends
   where
     took_at : (o : Option Request) (a b : I) → MatchOption o (same a b) (λ r. gave a r b) → taken b ≡ taken a ++ option_to_list o
-    took_at None a b m = stays a b m ∙ sym (append-nil (taken a))
-    took_at (Some r) a b m = gives a b r m
+    took_at None a b m = follows.stays a b m ∙ sym (append-nil (taken a))
+    took_at (Some r) a b m = follows.grows a b r m
 
 -- ---- the end
 

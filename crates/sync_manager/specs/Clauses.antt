@@ -1,6 +1,7 @@
 -- What a manager's core promises of itself and of the lists of its own lane ends alone, whatever the items are.
 use Rattle.std.specs.Prelude.{◌≡◌, ℕ, ◌<◌, ◌≤◌, nat_lt, Bool, true, false, cond, List, [], ◌∷◌, ◌++◌, length, map, option_to_list, Ok, slice_index_or}
 use Rattle.rc_base.specs.Lists.{IsFront}
+use Rattle.rc_base.specs.Cluster.Lanes.{Follows}
 use Rattle.rc_base.specs.Cluster.Sending.{request_of}
 use Rattle.rc_base.specs.Orders.Book.{IsBookOver}
 use Rattle.rc_base.specs.Orders.Sync.{client_count, ops_of}
@@ -64,16 +65,33 @@ ManagerStepsKeepTheClause = (syncs : SyncLists) (tiles : ℕ) (core : ManagerCor
 
 -- ---- over lanes
 
--- With lists of lanes: what a lane gave stands behind what it had given, and so does what was appended to one.
-abbrev pub ManagerStepsOverLanesKeepTheClause : {I O : Type 0} → (I → Request → I → Type 0) → (I → I → Type 0) → (O → List Grant) → Type 0
-ManagerStepsOverLanesKeepTheClause {I} {O} gave same sent = (taken : I → List Request)
-    → ((a b : I) (r : Request) → gave a r b → taken b ≡ taken a ++ r ∷ []) → ((a b : I) → same a b → taken b ≡ taken a)
-    → (syncs : SyncLists) (tiles : ℕ) (core : ManagerCore) (deed : ManagerDeed) (later : ManagerCore) (d : I) (requests requests_later : List I) (e : O) (grants grants_later : List O)
-    (ended ended_later : Bool) → length requests ≡ clients_of core → length grants ≡ tiles_of core
-    → IsManagerClause syncs tiles core (λ client. taken (slice_index_or requests client d)) (λ tile. sent (slice_index_or grants tile e)) ended
-    → IsManagerStep core deed later → AreTaken gave same deed requests requests_later → AreSent sent deed grants grants_later
-    → (ended_later ≡ true → answer_of deed ≡ Ok moved.Ended)
-    → IsManagerClause syncs tiles later (λ client. taken (slice_index_or requests_later client d)) (λ tile. sent (slice_index_or grants_later tile e)) ended_later
+-- A core with its ends of lanes, one from each client and one to each tile, and whether a step has told that it has ended.
+pub record ManagerOverLanes (I O : Type 0) : Type 0 where
+  pub core : ManagerCore
+  pub requests : List I
+  pub grants : List O
+  pub ended : Bool
+
+-- the clause, over what these lanes gave and what they were sent
+abbrev pub IsManagerClauseOver : {I O : Type 0} → (I → List Request) → (O → List Grant) → SyncLists → ℕ → I → O → ManagerOverLanes I O → Type 0
+IsManagerClauseOver {I} {O} taken sent syncs tiles d e m =
+    IsManagerClause syncs tiles m.core (λ client. taken (slice_index_or m.requests client d)) (λ tile. sent (slice_index_or m.grants tile e)) m.ended
+
+module _ {I O : Type 0} (gave : I → Request → I → Type 0) (same : I → I → Type 0) (sent : O → List Grant) where
+  -- a step, with what it took of the lanes and appended to them
+  pub record StepOverLanes (deed : ManagerDeed) (before after : ManagerOverLanes I O) : Type 0 where
+    pub clients : length before.requests ≡ clients_of before.core
+    pub tiles : length before.grants ≡ tiles_of before.core
+    pub step : IsManagerStep before.core deed after.core
+    pub took : AreTaken gave same deed before.requests after.requests
+    pub appended : AreSent sent deed before.grants after.grants
+    pub ends : after.ended ≡ true → answer_of deed ≡ Ok moved.Ended
+
+  -- after each step the clause holds, with what the lanes gave and were sent
+  abbrev pub ManagerStepsOverLanesKeepTheClause : Type 0
+  ManagerStepsOverLanesKeepTheClause = (taken : I → List Request) → Follows gave same taken
+      → (syncs : SyncLists) (tiles : ℕ) (d : I) (e : O) (deed : ManagerDeed) (before after : ManagerOverLanes I O)
+      → IsManagerClauseOver taken sent syncs tiles d e before → StepOverLanes deed before after → IsManagerClauseOver taken sent syncs tiles d e after
 
 -- ---- the end
 

@@ -20,6 +20,7 @@ mod ParcelsAreGivable
 mod LogsCountSwaps
 mod FramesStay
 mod SwapsShowFrames
+mod SwappedFramesStay
 mod LimitsGiveSides
 mod LogsReplayOverWhatWasTaken
 mod EntriesHaveClients

@@ -23,8 +23,9 @@ use Rattle.order_model.specs.declared.record.LogEntry.{LogEntry}
 use Rattle.order_model.specs.declared.record.LogEntry.TheVariants.{Performed}
 use Rattle.order_model.specs.Board.{Board, StandsFor}
 use Rattle.order_model.specs.Gathering.{AreDeclared}
+use Rattle.order_model.specs.Report.{frame_count}
 use Rattle.order_model.specs.Sent.{jobs_of}
-use Rattle.order_model.specs.Standing.{Progress, IsUnderWay, new_progress}
+use Rattle.order_model.specs.Standing.{Progress, IsUnderWay, new_progress, performed_in}
 use Rattle.tile_model.specs.Boards.{IsNewBoard, IsDrawn}
 use Rattle.tile_model.specs.Givable.{is_givable}
 use Rattle.tile_model.specs.Scenes.{IsInRange, HasSides}
@@ -108,6 +109,10 @@ StepsStand =
 
 -- ---- frames
 
+-- the names that a log has added
+abbrev pub added_names : SyncLists → List Entry → List LogEntry → List Name
+added_names syncs journal log = logged syncs (start syncs) journal log []
+
 -- A tile that performs a Swap has on its board, at each of its pixels, the frame of that number, whatever its log goes on with: in an order that
 -- the longer log comes to,
 abbrev pub ShowFrames : (SyncLists → List Entry → List LogEntry → List Name) → Type 0
@@ -121,8 +126,19 @@ ShowFrames order =
 
 -- that of the names that it has added by then
 abbrev pub SwapsShowAddedNames : Type 0
-SwapsShowAddedNames = ShowFrames (λ syncs journal log. logged syncs (start syncs) journal log [])
+SwapsShowAddedNames = ShowFrames added_names
 
 -- and the whole one that it records
 abbrev pub SwapsShowFrames : Type 0
 SwapsShowFrames = ShowFrames recorded_order
+
+-- Names that are added later change nothing of a frame whose Swap a log has performed: neither those that it adds as it goes on, nor those that the order
+-- which it records has behind them.
+abbrev pub SwappedFramesStay : Type 0
+SwappedFramesStay =
+    (scene : Scene) (l : Layout) (tile : ℕ) (journal : List Entry) (log more : List LogEntry) (k x y : ℕ) → IsLegal (sync_lists_of scene) journal
+    → Replays (sync_lists_of scene) journal (λ client. jobs_of scene l client tile) (log ++ more) → k ≤ frame_count (take (performed_in log) journal)
+    → (frame_pixel scene (added_names (sync_lists_of scene) journal (log ++ more)) k (pos x) (pos y)
+    ≡ frame_pixel scene (added_names (sync_lists_of scene) journal log) k (pos x) (pos y))
+    × (frame_pixel scene (recorded_order (sync_lists_of scene) journal (log ++ more)) k (pos x) (pos y)
+    ≡ frame_pixel scene (added_names (sync_lists_of scene) journal log) k (pos x) (pos y))

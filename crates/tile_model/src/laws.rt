@@ -1,6 +1,6 @@
 //! Laws of tiles. Each function's contract is a law, and its body is empty: there is nothing to compute.
 ghost use Rattle.tile_model.specs.Lazy.{LazyStateDrawsAlike};
-ghost use Rattle.tile_model.specs.Laws.{ItemsKeepProgress, LegalEntriesHaveClients, LimitsGiveSides, LogsReplayOverWhatWasTaken, MembersAreClients, NamesWithoutParcelsChangeNothing, NewTilesStand, OperationsAreDeclared, ParcelsAreFew, ParcelsAreGivable, StepsStand, SwapsShowAddedNames, SwapsShowFrames};
+ghost use Rattle.tile_model.specs.Laws.{ItemsKeepProgress, LegalEntriesHaveClients, LimitsGiveSides, LogsReplayOverWhatWasTaken, MembersAreClients, NamesWithoutParcelsChangeNothing, NewTilesStand, OperationsAreDeclared, ParcelsAreFew, ParcelsAreGivable, StepsStand, SwappedFramesStay, SwapsShowAddedNames, SwapsShowFrames};
 
 use bounds_bucket::touched_pixels_lie_in_the_box;
 
@@ -53,6 +53,12 @@ pub fn swaps_show_frames()
 {
     touched_pixels_lie_in_the_box();
 }
+
+/// Names that are added later change nothing of a frame whose Swap a tile's log has performed: neither those that the log adds as it goes on, nor those
+/// that the order which it records has behind them.
+pub fn swapped_frames_stay()
+    ensures { SwappedFramesStay }
+{}
 
 /// The members of each entry of a legal journal are clients, and `has_clients` tells entries of which this holds.
 pub fn entries_have_clients()

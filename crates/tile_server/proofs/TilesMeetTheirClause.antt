@@ -1,8 +1,12 @@
 -- A tile's core meets its clause at first and after each step; and what follows where it has ended.
-use Rattle.std.proofs.Common.{◌≡◌, ◌≢◌, ℕ, ◌+◌, ◌<◌, ◌==◌, true, false, cond, List, [], ◌∷◌, ◌++◌, length, map, Option, Some, None, Ok, inl, inr, refl, sym, ap, ◌∙◌, subst, arith, append_assoc, append-nil, length-append, eq-eqb, true≢false}
+use Rattle.std.proofs.Common.{◌≡◌, ◌≢◌, ℕ, ◌+◌, ◌<◌, ◌≤◌, ◌==◌, true, false, cond, List, [], ◌∷◌, ◌++◌, length, map, take, pos, Option, Some, None, Ok, inl, inr, refl, sym, ap, ◌∙◌, subst, arith, append_assoc, append-nil, length-append, eq-eqb, true≢false}
+use Rattle.std.proofs.lemmas.List.{take-append-le}
+use Rattle.std.proofs.lemmas.Option.{slice_get_within}
 use Rattle.std.specs.Prelude.{◌^◌, slice_get, slice_index_or, option_to_list, MatchOption}
 use Rattle.rc_base.specs.Lists.{IsFront}
+use Rattle.rc_base.specs.Cluster.Lanes.{Follows}
 use Rattle.rc_base.specs.Cluster.Parcels.{parcels_of}
+use Rattle.rc_base.specs.Drawing.Serial.{frame_pixel}
 use Rattle.rc_base.specs.Orders.Journal.{IsLegal}
 use Rattle.rc_base.specs.Orders.Sync.{sync_lists_of}
 use Rattle.rc_base.specs.declared.cluster.TileMoved.TheVariants as moved
@@ -14,23 +18,22 @@ use Rattle.rc_base.specs.declared.sync.Entry.TheVariants.{Meet, Swap, Give, Take
 use Rattle.rc_base.specs.declared.sync.Grant.{Grant}
 use Rattle.rc_base.specs.declared.sync.Grant.TheVariants as grant
 use Rattle.rc_base.specs.declared.sync.Name.{Name}
-use Rattle.rc_base.specs.declared.sync.SyncLists.{SyncLists}
 use Rattle.rc_base.specs.declared.window.Layout.{Layout}
 use Rattle.order_model.specs.Gathering.{all_grants}
 use Rattle.order_model.specs.Log.{Replays, recorded_order}
-use Rattle.order_model.specs.Report.{is_swap_entry}
+use Rattle.order_model.specs.Report.{frame_count, is_swap_entry}
 use Rattle.order_model.specs.Sent.{jobs_of}
-use Rattle.order_model.specs.Standing.{Progress, new_progress, performed_in, is_listening}
+use Rattle.order_model.specs.Standing.{Progress, new_progress, performed_in, is_listening, IsUnderWay}
 use Rattle.order_model.specs.declared.record.LogEntry.{LogEntry}
 use Rattle.order_model.specs.declared.record.LogEntry.TheVariants.{Performed}
 use Rattle.tile_model.specs.Items.{after_item, shown_frames, grants_heard, parcel_taken, grant_taken, IsAwaited, IsItemOf}
 use Rattle.tile_model.specs.Items.Item.{Due, Sent}
 use Rattle.tile_model.specs.Short.{IsFinished}
-use Rattle.tile_model.specs.Laws.{ShowFrames, SwapsShowAddedNames, SwapsShowFrames}
+use Rattle.tile_model.specs.Laws.{added_names, SwappedFramesStay, SwapsShowAddedNames}
 use Rattle.tile_model.proofs.ItemsComeFromLanes.{listens, heard_open, heard_after, next_sent, all_heard, taken_after}
 use Rattle.tile_model.proofs.ShownFrames.{ShowsNothing, not_shown, one_shown, act_shows, learns_shows, get_push}
 use Rattle.tile_server.specs.Boards.{IsPartOf}
-use Rattle.tile_server.specs.Clauses.{shown_in, added_names, AreFrames, NewTilesMeetTheirClause, TileStepsKeepTheClause, TileStepsOverLanesKeepTheClause, EndedTilesAreDone}
+use Rattle.tile_server.specs.Clauses.{shown_in, AreTileFrames, TileFramesStay, NewTilesMeetTheirClause, TileStepsKeepTheClause, TileStepsOverLanesKeepTheClause, EndedTilesAreDone}
 use Rattle.tile_server.specs.Cores.{board_of, is_short, layout_of, tile_of, IsProgressOf, IsShown}
 use Rattle.tile_server.specs.Deeds.{answer_of, granted_of, taken_of, taking_answer, item_of, is_loss, progress_after, IsNextDeed}
 use Rattle.tile_server.specs.Laws.{NewCoresStand, StepsKeepStanding, IsTileOf, IsFramePart}
@@ -144,43 +147,69 @@ nothing_shown p q e = record {
   frames = ap shown_frames e;
 }
 
-module _ (order : SyncLists → List Entry → List LogEntry → List Name) (scene : Scene) (l : Layout) (tile : ℕ) (journal : List Entry) (p : Progress) (parts : List TilePart)
-    (h : AreFrames order scene l tile journal p parts) where
-  parts_stay : (q : Progress) → ShowsNothing p q → AreFrames order scene l tile journal q (parts ++ [])
-  parts_stay q s = subst (λ (xs : List TilePart). AreFrames order scene l tile journal q xs) (sym (append-nil parts)) record {
+-- the same part of another order, whose frame is the same
+of_order : (scene : Scene) (l : Layout) (order order' : List Name) (tile frame : ℕ) (part : TilePart)
+    → ((x y : ℕ) → frame_pixel scene order' frame (pos x) (pos y) ≡ frame_pixel scene order frame (pos x) (pos y))
+    → IsFramePart scene l order tile frame part → IsFramePart scene l order' tile frame part
+of_order scene l order order' tile frame part same h = record {
+  tile = h.tile;
+  frame = h.frame;
+  count = h.count;
+  pixel = λ x y has. h.pixel x y has ∙ ap (λ q. Some q) (sym (same x y));
+}
+
+module _ (stay : SwappedFramesStay) where
+  pub frames_stay : TileFramesStay
+  frames_stay scene l tile journal p parts more legal under h replays k part is low =
+      let syncs = sync_lists_of scene in
+      let swapped : frame_count (take (performed_in p.log) journal) ≡ shown_frames p =
+      ap (λ es. frame_count (take (performed_in p.log) es)) under.learnt.1
+      ∙ ap frame_count (take-append-le (performed_in p.log) p.learnt under.learnt.0 under.performed) in
+      let within = slice_get_within parts k part is in
+      let enough : k + 1 ≤ frame_count (take (performed_in p.log) journal) = (let n = h.count in omega (arith, n, within, swapped)) in
+      let same = λ (x y : ℕ). stay scene l tile journal p.log more (k + 1) x y legal replays enough in
+      let here = h.each k part is low in (
+        of_order scene l (added_names syncs journal p.log) (added_names syncs journal (p.log ++ more)) tile (k + 1) part (λ x y. (same x y).0) here,
+        of_order scene l (added_names syncs journal p.log) (recorded_order syncs journal (p.log ++ more)) tile (k + 1) part (λ x y. (same x y).1) here,
+      )
+
+module _ (stay : SwappedFramesStay) (scene : Scene) (l : Layout) (tile : ℕ) (journal : List Entry) (p : Progress) (parts : List TilePart)
+    (legal : IsLegal (sync_lists_of scene) journal) (under : IsUnderWay (sync_lists_of scene) journal (λ client. jobs_of scene l client tile) p)
+    (h : AreTileFrames scene l tile journal p parts) where
+  abbrev IsReplayed : List LogEntry → Type 0
+  IsReplayed log = Replays (sync_lists_of scene) journal (λ client. jobs_of scene l client tile) log
+
+  abbrev IsPartNow : List LogEntry → ℕ → TilePart → Type 0
+  IsPartNow log frame part = IsFramePart scene l (added_names (sync_lists_of scene) journal log) tile frame part
+
+  parts_stay : (q : Progress) → ShowsNothing p q → IsReplayed q.log → AreTileFrames scene l tile journal q (parts ++ [])
+  parts_stay q s replays = subst (λ (xs : List TilePart). AreTileFrames scene l tile journal q xs) (sym (append-nil parts)) record {
     count = h.count ∙ sym s.frames;
-    each = λ more replays k part is low.
-        let log : q.log ++ more ≡ p.log ++ (s.more ++ more) = ap (λ ls. ls ++ more) s.log ∙ append_assoc p.log s.more more in
-        subst (λ ls. IsFramePart scene l (order (sync_lists_of scene) journal ls) tile (k + 1) part) (sym log)
-        (h.each (s.more ++ more) (subst (λ ls. Replays (sync_lists_of scene) journal (λ client. jobs_of scene l client tile) ls) log replays) k part is low);
+    each = λ k part is low.
+        subst (λ log. IsPartNow log (k + 1) part) (sym s.log)
+        (frames_stay stay scene l tile journal p parts s.more legal under h (subst IsReplayed s.log replays) k part is low).0;
   }
 
   -- a part that a Swap shows is the next frame
-  part_shown : (part : TilePart) → slice_get p.learnt (performed_in p.log) ≡ Some Swap
-      → ((more : List LogEntry) → Replays (sync_lists_of scene) journal (λ client. jobs_of scene l client tile) (p.log ++ Performed ∷ more) → shown_frames p + 1 < 2 ^ 32
-      → IsFramePart scene l (order (sync_lists_of scene) journal (p.log ++ Performed ∷ more)) tile (shown_frames p + 1) part)
-      → AreFrames order scene l tile journal (after_item p (Due Swap)) (parts ++ part ∷ [])
-  part_shown new known frame = record {
+  part_shown : (part : TilePart) → slice_get p.learnt (performed_in p.log) ≡ Some Swap → IsReplayed (p.log ++ Performed ∷ [])
+      → (shown_frames p + 1 < 2 ^ 32 → IsPartNow (p.log ++ Performed ∷ []) (shown_frames p + 1) part)
+      → AreTileFrames scene l tile journal (after_item p (Due Swap)) (parts ++ part ∷ [])
+  part_shown new known replays frame = record {
     count = let n = one_shown p known in let a = length-append parts (new ∷ []) in let c = h.count in omega (arith, n, a, c);
-    each = λ more replays k part is low.
-        let log : (p.log ++ Performed ∷ []) ++ more ≡ p.log ++ Performed ∷ more = append_assoc p.log (Performed ∷ []) more in
-        let all = subst (λ ls. Replays (sync_lists_of scene) journal (λ client. jobs_of scene l client tile) ls) log replays in
-        subst (λ ls. IsFramePart scene l (order (sync_lists_of scene) journal ls) tile (k + 1) part) (sym log)
-        (elim (get_push parts new k part is) [
-          | inl old ↦ h.each (Performed ∷ more) all k part old low
-          | inr last ↦
-              let number : shown_frames p ≡ k = sym h.count ∙ sym last.0 in
-              subst (λ n. IsFramePart scene l (order (sync_lists_of scene) journal (p.log ++ Performed ∷ more)) tile (n + 1) part) number
-              (subst (λ x. IsFramePart scene l (order (sync_lists_of scene) journal (p.log ++ Performed ∷ more)) tile (shown_frames p + 1) x) (sym last.1)
-              (frame more all (subst (λ n. n + 1 < 2 ^ 32) (sym number) low)))
-        ]);
+    each = λ k part is low. elim (get_push parts new k part is) [
+      | inl old ↦ (frames_stay stay scene l tile journal p parts (Performed ∷ []) legal under h replays k part old low).0
+      | inr last ↦
+          let number : shown_frames p ≡ k = sym h.count ∙ sym last.0 in
+          subst (λ n. IsPartNow (p.log ++ Performed ∷ []) (n + 1) part) number
+          (subst (λ x. IsPartNow (p.log ++ Performed ∷ []) (shown_frames p + 1) x) (sym last.1)
+          (frame (subst (λ n. n + 1 < 2 ^ 32) (sym number) low)))
+    ];
   }
 
-  module _ (shows : ShowFrames order) (core later : TileCore) (legal : IsLegal (sync_lists_of scene) journal) (stands : IsTileOf scene l tile journal core p) where
-    frame_of : (part : TilePart) → IsShown (layout_of core) (tile_of core) p (board_of core) (Shows part) → IsAwaited p (Due Swap) → (more : List LogEntry)
-        → Replays (sync_lists_of scene) journal (λ client. jobs_of scene l client tile) (p.log ++ Performed ∷ more) → shown_frames p + 1 < 2 ^ 32
-        → IsFramePart scene l (order (sync_lists_of scene) journal (p.log ++ Performed ∷ more)) tile (shown_frames p + 1) part
-    frame_of part shown a more replays low =
+  module _ (shows : SwapsShowAddedNames) (core later : TileCore) (stands : IsTileOf scene l tile journal core p) where
+    frame_of : (part : TilePart) → IsShown (layout_of core) (tile_of core) p (board_of core) (Shows part) → IsAwaited p (Due Swap)
+        → IsReplayed (p.log ++ Performed ∷ []) → shown_frames p + 1 < 2 ^ 32 → IsPartNow (p.log ++ Performed ∷ []) (shown_frames p + 1) part
+    frame_of part shown a replays low =
         let of : IsPartOf l tile (shown_frames p + 1) (board_of core) part =
         subst (λ n. IsPartOf l n (shown_frames p + 1) (board_of core) part) stands.tile
         (subst (λ x. IsPartOf x (tile_of core) (shown_frames p + 1) (board_of core) part) stands.layout (shown part refl low)) in
@@ -188,29 +217,29 @@ module _ (order : SyncLists → List Entry → List LogEntry → List Name) (sce
           tile = of.tile;
           frame = of.frame;
           count = of.count;
-          pixel = λ x y has. of.pixel x y has ∙ ap (λ q. Some q) (shows scene l tile journal p (board_of core) more legal stands.stands a replays x y has);
+          pixel = λ x y has. of.pixel x y has ∙ ap (λ q. Some q) (shows scene l tile journal p (board_of core) [] legal stands.stands a replays x y has);
         }
 
     parts_go_on : (deed : TileDeed) → IsNextDeed false p deed → IsShown (layout_of core) (tile_of core) p (board_of core) deed
-        → AreFrames order scene l tile journal (after_item p (item_of deed)) (parts ++ shown_in (answer_of deed))
+        → IsReplayed (after_item p (item_of deed)).log → AreTileFrames scene l tile journal (after_item p (item_of deed)) (parts ++ shown_in (answer_of deed))
     parts_go_on (Performs e) next shown = parts_stay (after_item p (Due e)) (not_shown p e next.2.0 (not_swap e next.1))
-    parts_go_on (Shows part) next shown = part_shown part next.1.0 (frame_of part shown next.1)
+    parts_go_on (Shows part) next shown = λ replays. part_shown part next.1.0 replays (frame_of part shown next.1 replays)
     parts_go_on Fails next shown = parts_stay p (nothing_shown p p refl)
     parts_go_on (Learns (grant.Entry e)) next shown = parts_stay (after_item p (item_of (Learns (grant.Entry e)))) (learns_shows p e (let same = (listens p next.1).1 in omega (arith, same)))
     parts_go_on (Learns grant.NoMore) next shown = parts_stay (after_item p (item_of (Learns grant.NoMore))) record { more = []; log = sym (append-nil p.log); frames = refl }
-    parts_go_on (Takes client parcel how) next shown =
-        subst (λ (xs : List TilePart). AreFrames order scene l tile journal (after_item p (Sent client parcel)) (parts ++ xs)) (sym (no_part client how))
-        (parts_stay (after_item p (Sent client parcel)) (act_shows p client parcel.act parcel.place))
+    parts_go_on (Takes client parcel how) next shown = λ replays.
+        subst (λ (xs : List TilePart). AreTileFrames scene l tile journal (after_item p (Sent client parcel)) (parts ++ xs)) (sym (no_part client how))
+        (parts_stay (after_item p (Sent client parcel)) (act_shows p client parcel.act parcel.place) replays)
     parts_go_on Rests next shown = parts_stay p (nothing_shown p p refl)
     parts_go_on Finishes next shown = parts_stay p (nothing_shown p p refl)
 
 -- ---- at first
 
-no_parts : (order : SyncLists → List Entry → List LogEntry → List Name) (scene : Scene) (l : Layout) (tile : ℕ) (journal : List Entry) (p : Progress) (parts : List TilePart)
-    → shown_frames p ≡ 0 → parts ≡ [] → AreFrames order scene l tile journal p parts
-no_parts order scene l tile journal p parts none e = record {
+no_parts : (scene : Scene) (l : Layout) (tile : ℕ) (journal : List Entry) (p : Progress) (parts : List TilePart)
+    → shown_frames p ≡ 0 → parts ≡ [] → AreTileFrames scene l tile journal p parts
+no_parts scene l tile journal p parts none e = record {
   count = ap length e ∙ sym none;
-  each = λ more replays k part is low. absurd (let z : slice_get [] k ≡ Some part = ap (λ (xs : List TilePart). slice_get xs k) (sym e) ∙ is in cc);
+  each = λ k part is low. absurd (let z : slice_get [] k ≡ Some part = ap (λ (xs : List TilePart). slice_get xs k) (sym e) ∙ is in cc);
 }
 
 pub new_clause : NewCoresStand → NewTilesMeetTheirClause
@@ -229,8 +258,7 @@ new_clause stand scene l tile core took heard parts decl layout number clients p
           heard_is = unheard;
           right = λ range sides journal legal fronts front. record {
             stands = stand scene l tile journal core decl layout number ample progress board;
-            added = no_parts added_names scene l tile journal (new_progress n) parts refl unshown;
-            recorded = no_parts recorded_order scene l tile journal (new_progress n) parts refl unshown;
+            frames = no_parts scene l tile journal (new_progress n) parts refl unshown;
           };
           over = λ e. absurd (true≢false (sym e));
         },
@@ -239,8 +267,8 @@ new_clause stand scene l tile core took heard parts decl layout number clients p
 
 -- ---- a step
 
-pub step_clause : StepsKeepStanding → SwapsShowAddedNames → SwapsShowFrames → TileStepsKeepTheClause
-step_clause keep adds records scene l tile core deed later took took' heard heard' parts parts' ended ended' h step taken heard_now shown said = record {
+pub step_clause : StepsKeepStanding → SwapsShowAddedNames → SwappedFramesStay → TileStepsKeepTheClause
+step_clause keep shows stay scene l tile core deed later took took' heard heard' parts parts' ended ended' h step taken heard_now shown said = record {
   decl = step.same.decl ∙ h.decl;
   layout = step.same.layout ∙ h.layout;
   tile = step.same.tile ∙ h.tile;
@@ -273,12 +301,12 @@ step_clause keep adds records scene l tile core deed later took took' heard hear
               (less_front heard (option_to_list (granted_of deed)) (all_grants journal) grown_heard) in
               let of : IsItemOf scene l tile journal p item = fits scene l tile journal p took took' heard heard' deed a
               (λ c lt. k.taken c (subst (λ m. c < m) count lt)) k.heard_is (λ c lt. grown c (subst (λ m. c < m) count lt)) grown_heard in
+              let now = keep scene l tile journal core p deed later range sides legal was.stands step ample of in
               record {
-                stands = keep scene l tile journal core p deed later range sides legal was.stands step ample of;
-                added = subst (λ (xs : List TilePart). AreFrames added_names scene l tile journal (after_item p item) xs) (sym shown)
-                    (parts_go_on added_names scene l tile journal p parts was.added adds core later legal was.stands deed next (step.shown p k.progress));
-                recorded = subst (λ (xs : List TilePart). AreFrames recorded_order scene l tile journal (after_item p item) xs) (sym shown)
-                    (parts_go_on recorded_order scene l tile journal p parts was.recorded records core later legal was.stands deed next (step.shown p k.progress));
+                stands = now;
+                frames = subst (λ (xs : List TilePart). AreTileFrames scene l tile journal (after_item p item) xs) (sym shown)
+                    (parts_go_on stay scene l tile journal p parts legal was.stands.stands.progress was.frames shows core later was.stands deed next
+                    (step.shown p k.progress) now.stands.progress.replays);
               };
           over = λ e. ends p deed (finished deed (said e)) next;
         },
@@ -290,19 +318,18 @@ step_clause keep adds records scene l tile core deed later took took' heard hear
 
 pub lanes_clause : TileStepsKeepTheClause → {I J : Type 0} (gave : I → Parcel → I → Type 0) (same : I → I → Type 0) (gave_grant : J → Grant → J → Type 0) (same_grant : J → J → Type 0)
     → TileStepsOverLanesKeepTheClause gave same gave_grant same_grant
-lanes_clause steps {I} {J} gave same gave_grant same_grant taken heard gives stays gives_grant stays_grant scene l tile core deed later d clients clients' grants grants' parts ended ended' count h step took hears said =
-    steps scene l tile core deed later (λ client. taken (slice_index_or clients client d)) (λ client. taken (slice_index_or clients' client d)) (heard grants) (heard grants')
-    parts (parts ++ shown_in (answer_of deed)) ended ended' h step
-    (λ c lt. took_at (taken_of deed c) (slice_index_or clients c d) (slice_index_or clients' c d) (took.at c d (let e = h.clients in omega (arith, count, lt, e))))
-    (heard_at (granted_of deed) hears) refl said
+lanes_clause steps {I} {J} gave same gave_grant same_grant taken heard follows follows_grants scene l tile d deed before after h s =
+    steps scene l tile before.core deed after.core (λ client. taken (slice_index_or before.clients client d)) (λ client. taken (slice_index_or after.clients client d))
+    (heard before.grants) (heard after.grants) before.parts after.parts before.ended after.ended h s.step
+    (λ c lt. grown gave same taken follows (taken_of deed c) (slice_index_or before.clients c d) (slice_index_or after.clients c d)
+    (s.took.at c d (let e = h.clients in let n = s.count in omega (arith, n, lt, e))))
+    (grown gave_grant same_grant heard follows_grants (granted_of deed) before.grants after.grants s.learnt) s.showed s.ends
   where
-    took_at : (o : Option Parcel) (a b : I) → MatchOption o (same a b) (λ x. gave a x b) → taken b ≡ taken a ++ option_to_list o
-    took_at None a b m = stays a b m ∙ sym (append-nil (taken a))
-    took_at (Some x) a b m = gives a b x m
-
-    heard_at : (o : Option Grant) → MatchOption o (same_grant grants grants') (λ g. gave_grant grants g grants') → heard grants' ≡ heard grants ++ option_to_list o
-    heard_at None m = stays_grant grants grants' m ∙ sym (append-nil (heard grants))
-    heard_at (Some g) m = gives_grant grants grants' g m
+    -- what a lane gave, where it gave anything
+    grown : {L X : Type 0} (gave : L → X → L → Type 0) (same : L → L → Type 0) (given : L → List X) → Follows gave same given
+        → (o : Option X) (a b : L) → MatchOption o (same a b) (λ x. gave a x b) → given b ≡ given a ++ option_to_list o
+    grown gave same given f None a b m = f.stays a b m ∙ sym (append-nil (given a))
+    grown gave same given f (Some x) a b m = f.grows a b x m
 
 -- ---- the end
 

@@ -1,8 +1,9 @@
 -- What a tile's core promises of itself, of the lists of its own lane ends and of the parts that it gave alone, whatever the items are.
 use Rattle.std.specs.Prelude.{◌≡◌, ℕ, ◌+◌, ◌<◌, ◌^◌, Bool, true, false, List, [], ◌∷◌, ◌++◌, length, Some, slice_get, slice_index_or, option_to_list, Result, Ok, Err}
 use Rattle.rc_base.specs.Lists.{IsFront}
+use Rattle.rc_base.specs.Cluster.Lanes.{Follows}
 use Rattle.rc_base.specs.Cluster.Parcels.{parcels_of}
-use Rattle.rc_base.specs.Orders.Journal.{start, IsLegal}
+use Rattle.rc_base.specs.Orders.Journal.{IsLegal}
 use Rattle.rc_base.specs.Orders.Sync.{sync_lists_of}
 use Rattle.rc_base.specs.declared.cluster.TileMoved.{TileMoved}
 use Rattle.rc_base.specs.declared.cluster.TileMoved.TheVariants as moved
@@ -12,16 +13,15 @@ use Rattle.rc_base.specs.declared.scene.Scene.{Scene}
 use Rattle.rc_base.specs.declared.state.Parcel.{Parcel}
 use Rattle.rc_base.specs.declared.sync.Entry.{Entry}
 use Rattle.rc_base.specs.declared.sync.Grant.{Grant}
-use Rattle.rc_base.specs.declared.sync.Name.{Name}
-use Rattle.rc_base.specs.declared.sync.SyncLists.{SyncLists}
 use Rattle.rc_base.specs.declared.window.Layout.{Layout}
 use Rattle.order_model.specs.Gathering.{all_grants}
-use Rattle.order_model.specs.Log.{Replays, logged, recorded_order}
+use Rattle.order_model.specs.Log.{Replays, recorded_order}
 use Rattle.order_model.specs.Sent.{jobs_of}
-use Rattle.order_model.specs.Standing.{Progress, new_progress, IsDone}
+use Rattle.order_model.specs.Standing.{Progress, new_progress, IsDone, IsUnderWay}
 use Rattle.order_model.specs.declared.record.LogEntry.{LogEntry}
 use Rattle.tile_model.specs.Boards.{IsNewBoard}
 use Rattle.tile_model.specs.Items.{grants_heard, shown_frames}
+use Rattle.tile_model.specs.Laws.{added_names}
 use Rattle.tile_model.specs.Scenes.{HasSides, IsInRange}
 use Rattle.tile_model.specs.Short.{IsFinished}
 use Rattle.tile_server.specs.Cores.{board_of, clients_of, decl_of, is_short, layout_of, tile_of, IsProgressOf, IsTileStep, AreTaken, IsHeard}
@@ -45,26 +45,30 @@ shown_in (Ok moved.Blocked) = []
 shown_in (Ok moved.Ended) = []
 shown_in (Err lack) = []
 
--- the names that a log has added
-abbrev pub added_names : SyncLists → List Entry → List LogEntry → List Name
-added_names syncs journal log = logged syncs (start syncs) journal log []
-
--- One part for each Swap that the tile has performed: its pixels of that frame, in an order that its log comes to, whatever the log goes on with, as
--- long as the frames' numbers have 32 bits.
-pub record AreFrames (order : SyncLists → List Entry → List LogEntry → List Name) (scene : Scene) (l : Layout) (this_tile : ℕ) (journal : List Entry)
-    (p : Progress) (parts : List TilePart) : Type 0 where
+-- One part for each Swap that the tile has performed: its pixels of that frame, of the names that its log has added, as long as the frames' numbers have
+-- 32 bits.
+pub record AreTileFrames (scene : Scene) (l : Layout) (this_tile : ℕ) (journal : List Entry) (p : Progress) (parts : List TilePart) : Type 0 where
   pub count : length parts ≡ shown_frames p
-  pub each : (more : List LogEntry) → Replays (sync_lists_of scene) journal (λ client. jobs_of scene l client this_tile) (p.log ++ more)
-      → (k : ℕ) (part : TilePart) → slice_get parts k ≡ Some part → k + 1 < 2 ^ 32
-      → IsFramePart scene l (order (sync_lists_of scene) journal (p.log ++ more)) this_tile (k + 1) part
+  pub each : (k : ℕ) (part : TilePart) → slice_get parts k ≡ Some part → k + 1 < 2 ^ 32
+      → IsFramePart scene l (added_names (sync_lists_of scene) journal p.log) this_tile (k + 1) part
+
+-- Names that are added later change none of these frames: a part is that of its frame also of the names that the log has added when it has gone on, and of
+-- the whole order that it records then.
+abbrev pub TileFramesStay : Type 0
+TileFramesStay = (scene : Scene) (l : Layout) (tile : ℕ) (journal : List Entry) (p : Progress) (parts : List TilePart) (more : List LogEntry)
+    → IsLegal (sync_lists_of scene) journal → IsUnderWay (sync_lists_of scene) journal (λ client. jobs_of scene l client tile) p
+    → AreTileFrames scene l tile journal p parts
+    → Replays (sync_lists_of scene) journal (λ client. jobs_of scene l client tile) (p.log ++ more)
+    → (k : ℕ) (part : TilePart) → slice_get parts k ≡ Some part → k + 1 < 2 ^ 32
+    → IsFramePart scene l (added_names (sync_lists_of scene) journal (p.log ++ more)) tile (k + 1) part
+    × IsFramePart scene l (recorded_order (sync_lists_of scene) journal (p.log ++ more)) tile (k + 1) part
 
 -- ---- the clause
 
--- The core stands for the scene and the journal, and its parts are the frames: of the names that its log has added, and of the order that it records.
+-- The core stands for the scene and the journal, and its parts are the frames.
 pub record IsTileRight (scene : Scene) (l : Layout) (this_tile : ℕ) (journal : List Entry) (core : TileCore) (p : Progress) (parts : List TilePart) : Type 0 where
   pub stands : IsTileOf scene l this_tile journal core p
-  pub added : AreFrames added_names scene l this_tile journal p parts
-  pub recorded : AreFrames recorded_order scene l this_tile journal p parts
+  pub frames : AreTileFrames scene l this_tile journal p parts
 
 -- What holds of a core that isn't short: it stands for so much progress, which counts what was taken of its lanes. Take any legal journal of the scene.
 -- Where what was taken of each client is a front of its parcels, and what was heard is a front of the journal and NoMore behind it, the core is right
@@ -109,17 +113,34 @@ TileStepsKeepTheClause = (scene : Scene) (l : Layout) (tile : ℕ) (core : TileC
 
 -- ---- over lanes
 
--- With lists of lanes: what a lane gave stands behind what it had given.
-abbrev pub TileStepsOverLanesKeepTheClause : {I J : Type 0} → (I → Parcel → I → Type 0) → (I → I → Type 0) → (J → Grant → J → Type 0) → (J → J → Type 0) → Type 0
-TileStepsOverLanesKeepTheClause {I} {J} gave same gave_grant same_grant = (taken : I → List Parcel) (heard : J → List Grant)
-    → ((a b : I) (x : Parcel) → gave a x b → taken b ≡ taken a ++ x ∷ []) → ((a b : I) → same a b → taken b ≡ taken a)
-    → ((a b : J) (g : Grant) → gave_grant a g b → heard b ≡ heard a ++ g ∷ []) → ((a b : J) → same_grant a b → heard b ≡ heard a)
-    → (scene : Scene) (l : Layout) (tile : ℕ) (core : TileCore) (deed : TileDeed) (later : TileCore) (d : I) (clients clients_later : List I) (grants grants_later : J)
-    (parts : List TilePart) (ended ended_later : Bool) → length clients ≡ clients_of core
-    → IsTileClause scene l tile core (λ client. taken (slice_index_or clients client d)) (heard grants) parts ended
-    → IsTileStep core deed later → AreTaken gave same deed clients clients_later → IsHeard gave_grant same_grant deed grants grants_later
-    → (ended_later ≡ true → answer_of deed ≡ Ok moved.Ended)
-    → IsTileClause scene l tile later (λ client. taken (slice_index_or clients_later client d)) (heard grants_later) (parts ++ shown_in (answer_of deed)) ended_later
+-- A core with its ends of lanes, one from each client and one from the manager; the parts that it has shown, and whether a step has told that it has ended.
+pub record TileOverLanes (I J : Type 0) : Type 0 where
+  pub core : TileCore
+  pub clients : List I
+  pub grants : J
+  pub parts : List TilePart
+  pub ended : Bool
+
+-- the clause, over what these lanes gave
+abbrev pub IsTileClauseOver : {I J : Type 0} → (I → List Parcel) → (J → List Grant) → Scene → Layout → ℕ → I → TileOverLanes I J → Type 0
+IsTileClauseOver {I} {J} taken heard scene l tile d t =
+    IsTileClause scene l tile t.core (λ client. taken (slice_index_or t.clients client d)) (heard t.grants) t.parts t.ended
+
+module _ {I J : Type 0} (gave : I → Parcel → I → Type 0) (same : I → I → Type 0) (gave_grant : J → Grant → J → Type 0) (same_grant : J → J → Type 0) where
+  -- a step, with what it took of the lanes and showed
+  pub record StepOverLanes (deed : TileDeed) (before after : TileOverLanes I J) : Type 0 where
+    pub count : length before.clients ≡ clients_of before.core
+    pub step : IsTileStep before.core deed after.core
+    pub took : AreTaken gave same deed before.clients after.clients
+    pub learnt : IsHeard gave_grant same_grant deed before.grants after.grants
+    pub showed : after.parts ≡ before.parts ++ shown_in (answer_of deed)
+    pub ends : after.ended ≡ true → answer_of deed ≡ Ok moved.Ended
+
+  -- after each step the clause holds, with what the lanes gave
+  abbrev pub TileStepsOverLanesKeepTheClause : Type 0
+  TileStepsOverLanesKeepTheClause = (taken : I → List Parcel) (heard : J → List Grant) → Follows gave same taken → Follows gave_grant same_grant heard
+      → (scene : Scene) (l : Layout) (tile : ℕ) (d : I) (deed : TileDeed) (before after : TileOverLanes I J)
+      → IsTileClauseOver taken heard scene l tile d before → StepOverLanes deed before after → IsTileClauseOver taken heard scene l tile d after
 
 -- ---- the end
 

@@ -1,13 +1,13 @@
 //! Laws of tiles' cores. Each function's contract is a law; there is nothing to compute.
 ghost use Rattle.order_model.specs.Gathering.{GatheringIsLawful};
-ghost use Rattle.tile_server.specs.Clauses.{NewTilesMeetTheirClause, TileStepsKeepTheClause, TileStepsOverLanesKeepTheClause, EndedTilesAreDone};
+ghost use Rattle.tile_server.specs.Clauses.{NewTilesMeetTheirClause, TileFramesStay, TileStepsKeepTheClause, TileStepsOverLanesKeepTheClause, EndedTilesAreDone};
 ghost use Rattle.tile_server.specs.Laws.{FinishedCoresAreDone, NewCoresStand, ShownPartsAreFrames, StepsKeepStanding};
 
 use cmd_pack::Packed;
 use order_model::laws as order_laws;
 use rc_base::lane::Inlet;
 use rc_base::sync::Grant;
-use tile_model::laws::{new_tiles_stand, steps_stand, swaps_show_frames};
+use tile_model::laws::{new_tiles_stand, steps_stand, swapped_frames_stay, swaps_show_frames};
 
 /// A new core stands for every scene of its declaration and its number of clients, and for every journal.
 pub fn new_cores_stand()
@@ -28,6 +28,14 @@ pub fn shown_parts_are_frames()
     ensures { ShownPartsAreFrames }
 {
     swaps_show_frames();
+}
+
+/// What a tile has shown are its parts of the frames of the names that its log has added, and names that are added later change none of them: they are
+/// its parts of the frames of the whole order that its log records.
+pub fn tile_frames_stay()
+    ensures { TileFramesStay }
+{
+    swapped_frames_stay();
 }
 
 /// A core that stands for a scene and a journal, has learnt all of the journal and finds nothing left to do is done.
@@ -52,6 +60,7 @@ pub fn tiles_meet_their_clause()
     new_cores_stand();
     steps_keep_standing();
     swaps_show_frames();
+    swapped_frames_stay();
 }
 
 /// So it does over lanes, by the contract of `TileCore::step` alone.

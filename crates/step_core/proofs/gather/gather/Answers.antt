@@ -9,6 +9,7 @@ parts_in_frames-requires c = can_collect record {
   tallies = c.ended_worlds_are_whole.ensures.tallies;
   recorded = c.done_runs_are_recorded.ensures;
   ordered = c.frames_are_in_order.ensures;
+  stay = c.swapped_frames_stay.ensures;
 } c.args.decl.now c.args.cluster c.requires
 
 pub returns : goal.returns
@@ -19,4 +20,5 @@ returns c = is_gathered record {
   tallies = c.ended_worlds_are_whole.ensures.tallies;
   recorded = c.done_runs_are_recorded.ensures;
   ordered = c.frames_are_in_order.ensures;
+  stay = c.swapped_frames_stay.ensures;
 } c.args.decl.now c.args.cluster _ c.in_ok-kept.ensures c.in_ok-parts.ensures

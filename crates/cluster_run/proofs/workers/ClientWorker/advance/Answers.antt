@@ -44,6 +44,13 @@ returns-clause-leads g c scene l client sent asked h =
       clause = λ d.
           let before = subst (λ ends. Holds scene l client d w.core ends (sent_of w.requests) w.ended) (sym xs_are) (h.clause d) in
           subst (λ ends. Holds scene l client d later ends (sent_of asked') ended) (sym left)
-          (c.clients_meet_their_clause_over_lanes.ensures scene l client told.0 w.core later d xs xs' w.requests asked' w.ended ended
-          (ap length xs_are ∙ w.lanes) before told.2 told.3 told.4 (λ is. sym told.1 ∙ c.attempt_of-attempt.ensures.ended (c.has_ended-self.ensures.only is)));
+          (c.clients_meet_their_clause_over_lanes.ensures scene l client d told.0
+          (record { core = w.core; tiles = xs; requests = w.requests; ended = w.ended }) (record { core = later; tiles = xs'; requests = asked'; ended = ended }) before
+          (record {
+            count = ap length xs_are ∙ w.lanes;
+            step = told.2;
+            appended = told.3;
+            requested = told.4;
+            ends = λ is. sym told.1 ∙ c.attempt_of-attempt.ensures.ended (c.has_ended-self.ensures.only is);
+          }));
     }

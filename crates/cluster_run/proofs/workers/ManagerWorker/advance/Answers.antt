@@ -50,8 +50,15 @@ returns-clause-leads g c syncs tiles asked granted h =
       clause = λ d e.
           let before = subst (λ ends. Holds syncs tiles d e w.core ends ys w.ended) (sym xs_are)
           (subst (λ ends. Holds syncs tiles d e w.core w.requests.items ends w.ended) (sym ys_are) (h.clause d e)) in
-          let after = c.managers_meet_their_clause_over_lanes.ensures taken_of (λ a b r gave. gave) (λ a b same. same) syncs tiles w.core told.0 later
-          d xs xs' e ys ys' w.ended ended (ap length xs_are ∙ w.clients) (ap length ys_are ∙ w.tiles)
-          before told.2 told.3 told.5 (λ is. sym told.1 ∙ c.attempt_of-attempt.ensures.ended (c.has_ended-self.ensures.only is)) in
+          let after = c.managers_meet_their_clause_over_lanes.ensures taken_of (record { grows = λ a b r gave. gave; stays = λ a b same. same }) syncs tiles d e told.0
+          (record { core = w.core; requests = xs; grants = ys; ended = w.ended }) (record { core = later; requests = xs'; grants = ys'; ended = ended }) before
+          (record {
+            clients = ap length xs_are ∙ w.clients;
+            tiles = ap length ys_are ∙ w.tiles;
+            step = told.2;
+            took = told.3;
+            appended = told.5;
+            ends = λ is. sym told.1 ∙ c.attempt_of-attempt.ensures.ended (c.has_ended-self.ensures.only is);
+          }) in
           subst (λ ends. Holds syncs tiles d e later ends grants_left ended) (sym xs_left) (subst (λ ends. Holds syncs tiles d e later xs' ends ended) (sym ys_left) after);
     }

@@ -1,4 +1,4 @@
-use Rattle.std.proofs.Common.{◌≡◌, ℕ, Bool, true, false, ap, sym, ◌∙◌, ◌++◌, List, [], length, take, drop, subst, refl, true≢false, Ok, Err, inl, inr, append-nil, append_assoc}
+use Rattle.std.proofs.Common.{◌≡◌, ℕ, Bool, true, false, ap, sym, ◌∙◌, ◌++◌, List, [], length, take, drop, subst, refl, true≢false, Ok, Err, inl, inr, append-nil}
 use Rattle.std.specs.Prelude.{slice_index_or, option_to_list, is_some, Option, None, Some, Result, IfOk, OnErr}
 use Rattle.rc_base.specs.declared.cluster.TileMoved.{TileMoved}
 use Rattle.rc_base.specs.declared.cluster.TilePart.{TilePart}
@@ -135,9 +135,11 @@ returns-clause-leads g c scene l tile took heard shown h =
       parts_are = sent.lane ∙ put.lane ∙ h.parts_are;
       clause = λ d.
           let before = subst (λ ends. Holds scene l tile d w.core ends (taken_of w.grants) (parts_of w) w.ended) (sym xs_are) (h.clause d) in
-          let after = c.tiles_meet_their_clause_over_lanes.ensures taken_of taken_of (λ a b x gave. gave) (λ a b same. same) (λ a b x gave. gave) (λ a b same. same)
-          scene l tile w.core told.0 later d xs xs' w.grants heard' (parts_of w) w.ended ended
-          (ap length xs_are ∙ w.lanes) before told.2 told.3 told.5 (λ is. sym told.1 ∙ over is) in
+          let after = c.tiles_meet_their_clause_over_lanes.ensures taken_of taken_of
+          (record { grows = λ a b x gave. gave; stays = λ a b same. same }) (record { grows = λ a b x gave. gave; stays = λ a b same. same }) scene l tile d told.0
+          (record { core = w.core; clients = xs; grants = w.grants; parts = parts_of w; ended = w.ended })
+          (record { core = later; clients = xs'; grants = heard'; parts = parts_of w ++ shown_in (answer_of told.0); ended = ended }) before
+          (record { count = ap length xs_are ∙ w.lanes; step = told.2; took = told.3; learnt = told.5; showed = refl; ends = λ is. sym told.1 ∙ over is }) in
           let shows = subst (λ r. Holds scene l tile d later xs' (taken_of heard') (parts_of w ++ shown_in r) ended) (sym told.1) after in
           let offered = offers scene l tile later (λ client. taken_of (slice_index_or xs' client d)) (taken_of heard') ended (parts_of w) offer answer
           c.offered.ensures.shown (short_now _ _ answer step.out_of_memory) shows in
