@@ -76,3 +76,7 @@ module _ {I : Type 0} (gave : I → TilePart → I → Type 0) (same : I → I �
     pub layout : layout_of after ≡ layout_of before
     pub whole : short_of before ≡ false → IsAssembledOf before lanes result after later
     pub refused : short_of before ≡ true → IsRefused lanes result after later
+
+  -- whether an advance completed a frame, whose image it shows then
+  abbrev pub Advances : Assembler → List I → List I → Bool → Assembler → Type 0
+  Advances before lanes later completed after = IsAssembled before lanes (shows completed after) after later

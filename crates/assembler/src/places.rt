@@ -76,8 +76,8 @@ impl Assembler {
     ghost use Rattle.std.specs.Borrow.{sem};
     ghost use Rattle.rc_base.specs.Cluster.Lanes.{EachLane};
     ghost use Rattle.rc_base.specs.Cluster.Tiles.{tile_count};
-    ghost use Rattle.assembler.specs.Lent.{Rests};
-    ghost use Rattle.assembler.specs.Assembled.{image_in, layout_of, places_of, short_of, shows, IsNewAssembler, IsAssembled, ComesOf};
+    ghost use Rattle.assembler.specs.Lent.{Looks};
+    ghost use Rattle.assembler.specs.Assembled.{image_in, layout_of, places_of, short_of, shows, Advances, IsNewAssembler, ComesOf};
 
     /// Makes the image and a place for a part of each tile.
     pub fn new(alloc: Global, layout: &Layout) -> Result<Assembler, OutOfMemory>
@@ -111,7 +111,7 @@ impl Assembler {
     pub fn next_frame<I: Inlet<TilePart>>(&mut self, lanes: &mut [I]) -> Option<&Image>
         requires lanes { length lanes.old ≡ tile_count (layout_of self.old) }
         ensures lane_of { EachLane (λ i a b. I.lane_of b ≡ I.lane_of a) lanes.old lanes.new }
-        ensures* step { sem 𝓛 (Rests self.entry (λ after. IsAssembled I.gave I.same I.empty_seen I.bare self.old lanes.old (option_copied result) after lanes.new)) }
+        ensures* step { sem 𝓛 (Looks self.entry (Advances I.gave I.same I.empty_seen I.bare self.old lanes.old lanes.new) (option_copied result)) }
     {
         if !self.advance(lanes) {
             return None;
@@ -130,7 +130,7 @@ impl Assembler {
     pub fn advance<I: Inlet<TilePart>>(&mut self, lanes: &mut [I]) -> bool
         requires lanes { length lanes.old ≡ tile_count (layout_of self.old) }
         ensures lane_of { EachLane (λ i a b. I.lane_of b ≡ I.lane_of a) lanes.old lanes.new }
-        ensures step { IsAssembled I.gave I.same I.empty_seen I.bare self.old lanes.old (shows result self.new) self.new lanes.new }
+        ensures step { Advances I.gave I.same I.empty_seen I.bare self.old lanes.old lanes.new result self.new }
     {
         if self.short {
             drop_parts(lanes);

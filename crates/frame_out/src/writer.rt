@@ -3,7 +3,7 @@ ghost use Rattle.std.specs.Prelude.{◌≡◌, ◌<◌, ◌≤◌, ◌||◌, fal
 ghost use Rattle.rc_base.specs.Cluster.Lanes.{EachLane};
 ghost use Rattle.rc_base.specs.Cluster.Tiles.{tile_count};
 ghost use Rattle.rc_base.specs.Outside.Ends.{use_of};
-ghost use Rattle.assembler.specs.Assembled.{layout_of, short_of, shows, IsAssembled};
+ghost use Rattle.assembler.specs.Assembled.{layout_of, short_of, Advances};
 ghost use Rattle.frame_out.specs.OnTheWay.{GivesOne, GoesOn, IsMissing, IsNewWriter};
 ghost use Rattle.frame_out.specs.Windows.{IsWindow};
 
@@ -22,7 +22,7 @@ fn take<I: Inlet<TilePart>>(assembler: &mut Assembler, lanes: &mut [I]) -> bool
     requires lanes { length lanes.old ≡ tile_count (layout_of assembler.old) }
     ensures lane_of { EachLane (λ i a b. I.lane_of b ≡ I.lane_of a) lanes.old lanes.new }
     ensures each { EachLane (λ i a b. GivesOne I.gave I.same a b) lanes.old lanes.new }
-    ensures step { IsAssembled I.gave I.same I.empty_seen I.bare assembler.old lanes.old (shows result assembler.new) assembler.new lanes.new }
+    ensures step { Advances I.gave I.same I.empty_seen I.bare assembler.old lanes.old lanes.new result assembler.new }
 {
     assembler.advance(lanes)
 }
@@ -52,7 +52,7 @@ impl FrameWriter {
         ensures lane_of { EachLane (λ i a b. I.lane_of b ≡ I.lane_of a) lanes.old lanes.new }
         ensures each { EachLane (λ i a b. GivesOne I.gave I.same a b) lanes.old lanes.new }
         ensures goes_on { GoesOn I.gave I.same (use_of K.held K.faults) self.old lanes.old image.old self.new lanes.new image.new }
-        ensures completed { IsAssembled I.gave I.same I.empty_seen I.bare self.old.assembler lanes.old (shows result self.new.assembler) self.new.assembler lanes.new }
+        ensures completed { Advances I.gave I.same I.empty_seen I.bare self.old.assembler lanes.old lanes.new result self.new.assembler }
         ensures missing { result ≡ false → short_of self.new.assembler ≡ false → IsMissing I.bare self.new lanes.new }
         ensures later { K.faults image.old ≤ K.faults image.new }
     {
