@@ -4,9 +4,9 @@ ghost use Rattle.rc_base.specs.Cluster.Tiles.{tile_count};
 ghost use Rattle.rc_base.specs.Formats.Within.{IsWithin, IsLayoutFor};
 ghost use Rattle.rc_base.specs.Lists.{ArePaired};
 ghost use Rattle.cluster_run.specs.NewWorkers.{AreNewClients};
-ghost use Rattle.cluster_run.specs.Coreless.{AreWaitingClients, IsClientFor, MayGetCore};
+ghost use Rattle.cluster_run.specs.Coreless.{AreWaitingClients, IsClientFor, MayGetClientCore};
 
-use crate::gathered::all_made;
+use crate::gathered::make_each;
 use crate::workers::ClientWorker;
 use client_issue::ClientCore;
 use client_issue::laws::clients_meet_their_clause;
@@ -16,7 +16,6 @@ use rc_base::scene::Scene;
 use rc_base::sync::Request;
 use rc_base::window::Layout;
 use std::alloc::Global;
-use std::thread;
 use std::thread::Threads;
 use tile_queues::{LaneIn, LaneOut, lane};
 
@@ -29,7 +28,7 @@ pub(crate) struct NewClients<R> {
 
 /// A client's worker to be: it lacks its core.
 #[derive(Drop)]
-pub(crate) struct Coreless<R> {
+pub(crate) struct CorelessClient<R> {
     number: u8,
     tiles: Vec<LaneIn<Packed, R>>,
     requests: LaneIn<Request, R>,
@@ -38,7 +37,7 @@ pub(crate) struct Coreless<R> {
 /// The workers to be of all clients, and the manager's ends of their lanes.
 #[derive(Drop)]
 struct Waiting<R> {
-    workers: Vec<Coreless<R>>,
+    workers: Vec<CorelessClient<R>>,
     requests: Vec<LaneOut<Request, R>>,
 }
 
@@ -47,15 +46,15 @@ fn new_client<R: Drop>(
     alloc: Global,
     scene: &Scene,
     layout: &Layout,
-    waiting: Coreless<R>,
+    waiting: CorelessClient<R>,
 ) -> Result<ClientWorker<R>, OutOfMemory>
     requires within { IsWithin scene.now }
     requires layout { (depth : ℕ) × IsLayoutFor scene.now layout.now depth }
-    requires may { MayGetCore scene.now layout.now waiting }
+    requires may { MayGetClientCore scene.now layout.now waiting }
     ensures { IfOk result (λ w. IsClientFor scene.now layout.now waiting w) }
 {
     clients_meet_their_clause();
-    let Coreless {
+    let CorelessClient {
         number,
         tiles,
         requests,
@@ -86,7 +85,7 @@ fn waiting_clients<R: Copy>(
     for tiles in rows {
         let number = workers.len() as u8;
         let (sender, receiver) = lane(rt, alloc, depth)?;
-        workers.push(Coreless {
+        workers.push(CorelessClient {
             number,
             tiles,
             requests: sender,
@@ -96,59 +95,20 @@ fn waiting_clients<R: Copy>(
     Ok(Waiting { workers, requests })
 }
 
-/// The workers with their cores, one made after the other.
-fn in_turn<R: Copy>(
-    alloc: Global,
-    scene: &Scene,
-    layout: &Layout,
-    waiting: Vec<Coreless<R>>,
-) -> Result<Vec<ClientWorker<R>>, OutOfMemory>
-    requires within { IsWithin scene.now }
-    requires layout { (depth : ℕ) × IsLayoutFor scene.now layout.now depth }
-    requires may { (c : ℕ) (d : _) → c < length waiting.items → MayGetCore scene.now layout.now (slice_index_or waiting.items c d) }
-    ensures { IfOk result (λ new. ArePaired (λ _ e w. IsClientFor scene.now layout.now e w) waiting.items new.items) }
-{
-    let mut workers = Vec::new(alloc);
-    for ends in waiting {
-        workers.push(new_client(alloc, scene, layout, ends)?)?;
-    }
-    Ok(workers)
-}
-
-/// The workers with their cores, made in threads beside each other.
-fn side_by_side<R: Threads + Copy + Send + Sync + Drop>(
-    rt: R,
-    alloc: Global,
-    scene: &Scene,
-    layout: &Layout,
-    waiting: Vec<Coreless<R>>,
-) -> Result<Vec<ClientWorker<R>>, OutOfMemory>
-    requires within { IsWithin scene.now }
-    requires layout { (depth : ℕ) × IsLayoutFor scene.now layout.now depth }
-    requires may { (c : ℕ) (d : _) → c < length waiting.items → MayGetCore scene.now layout.now (slice_index_or waiting.items c d) }
-    ensures { IfOk result (λ new. ArePaired (λ _ e w. IsClientFor scene.now layout.now e w) waiting.items new.items) }
-{
-    let make = |ends: Coreless<R>| -> Result<ClientWorker<R>, OutOfMemory>
-        requires { IsWithin scene.now × ((depth : ℕ) × IsLayoutFor scene.now layout.now depth) × MayGetCore scene.now layout.now ends }
-        ensures { IfOk result (λ w. IsClientFor scene.entry.now layout.entry.now ends w) }
-    { new_client(alloc, scene, layout, ends) };
-    all_made(alloc, thread::map_vec(&rt, waiting, &make)?)
-}
-
 /// How many commands a client has at least for whose copy a thread is worth its making, which takes some 50 microseconds.
 const MANY: usize = 4096;
 
-/// The workers with their cores, each of which copies its client's commands: beside each other where some client has many.
+/// The workers with their cores, each of which copies its client's commands: made beside each other where some client has many.
 fn with_cores<R: Threads + Copy + Send + Sync + Drop>(
     rt: R,
     alloc: Global,
     scene: &Scene,
     layout: &Layout,
-    waiting: Vec<Coreless<R>>,
+    waiting: Vec<CorelessClient<R>>,
 ) -> Result<Vec<ClientWorker<R>>, OutOfMemory>
     requires within { IsWithin scene.now }
     requires layout { (depth : ℕ) × IsLayoutFor scene.now layout.now depth }
-    requires may { (c : ℕ) (d : _) → c < length waiting.items → MayGetCore scene.now layout.now (slice_index_or waiting.items c d) }
+    requires may { (c : ℕ) (d : _) → c < length waiting.items → MayGetClientCore scene.now layout.now (slice_index_or waiting.items c d) }
     ensures { IfOk result (λ new. ArePaired (λ _ e w. IsClientFor scene.now layout.now e w) waiting.items new.items) }
 {
     let mut is_long = false;
@@ -157,11 +117,11 @@ fn with_cores<R: Threads + Copy + Send + Sync + Drop>(
             is_long = true;
         }
     }
-    if is_long {
-        side_by_side(rt, alloc, scene, layout, waiting)
-    } else {
-        in_turn(alloc, scene, layout, waiting)
-    }
+    let make = |ends: CorelessClient<R>| -> Result<ClientWorker<R>, OutOfMemory>
+        requires { IsWithin scene.now × ((depth : ℕ) × IsLayoutFor scene.now layout.now depth) × MayGetClientCore scene.now layout.now ends }
+        ensures { IfOk result (λ w. IsClientFor scene.entry.now layout.entry.now ends w) }
+    { new_client(alloc, scene, layout, ends) };
+    make_each(&rt, alloc, is_long, waiting, &make)
 }
 
 /// A worker for each row of ends, with a new lane to the manager.

@@ -1,20 +1,20 @@
-use Rattle.std.proofs.Common.{◌≡◌, ℕ, List, [], ◌∷◌, ◌++◌, length, sym, ap, ◌∙◌, refl, subst, append-nil, arith}
+use Rattle.std.proofs.Common.{◌≡◌, ℕ, List, [], ◌∷◌, ◌++◌, sym, ap, ◌∙◌, refl, subst, append-nil, arith}
 use Rattle.std.proofs.lemmas.Grind.{common_steps}
 use Rattle.std.specs.Prelude.{Vec}
 use Rattle.std.specs.Global.{Global}
 use Rattle.std.specs.Vec.Iter.{into_iter_items}
-use Rattle.rc_base.proofs.Paired.{goes_on, next_within}
+use Rattle.rc_base.proofs.Paired.{goes_on}
 use Rattle.rc_base.specs.declared.state.Parcel.{Parcel}
 use Rattle.rc_base.specs.declared.sync.Request.{Request}
 use Rattle.tile_queues.specs.declared.ends.LaneIn.{LaneIn}
 use Rattle.tile_queues.specs.declared.ends.LaneOut.{LaneOut}
 use Rattle.cluster_run.specs.Coreless.{AreWaitingClients}
-use Rattle.cluster_run.specs.declared.clients.Coreless.{Coreless}
+use Rattle.cluster_run.specs.declared.clients.CorelessClient.{CorelessClient}
 use Rattle.cluster_run.proofs.Waiting.{none_wait, one_more_waits}
 use Rattle.cluster_run.proofs.clients.waiting_clients.Goals as goal
 
 -- the workers to be and the manager's ends of these ends
-abbrev Made : {R : Type 0} → ℕ → List (Vec (LaneIn Parcel R) Global) → List (Coreless R) × List (LaneOut Request R) → Type 0
+abbrev Made : {R : Type 0} → ℕ → List (Vec (LaneIn Parcel R) Global) → List (CorelessClient R) × List (LaneOut Request R) → Type 0
 Made depth ends both = AreWaitingClients depth ends both.0 both.1
 
 pub loop-tiles-init : goal.loop-tiles-init

@@ -3,16 +3,20 @@ use Rattle.order_model.specs.Standing.{new_progress}
 use Rattle.tile_server.specs.Cores.{IsProgressOf}
 use Rattle.cluster_run.proofs.tiles.new_tile.Goals as goal
 
-pub returns-clause-new : goal.returns-clause-new
-returns-clause-new g c =
+pub returns : goal.returns
+returns g c =
     let made = c.in_ok-core.ensures in
     let core = c.in_ok-core.core in
     let count = c.len-client_count.ensures in
     record {
-      number_is = refl;
-      clients_are = refl;
-      none_waits = refl;
-      clause = λ took none.
-          c.tiles_meet_their_clause.ensures.first c.args.scene.now c.args.layout.now c.args.number core took [] []
-          made.decl made.layout made.tile (made.clients ∙ count) (subst (λ n. IsProgressOf core (new_progress n)) count made.progress) made.board none refl refl;
+      new = record {
+        number_is = refl;
+        clients_are = refl;
+        none_waits = refl;
+        clause = λ took none.
+            c.tiles_meet_their_clause.ensures.first c.args.scene.now c.args.layout.now c.args.waiting.number core took [] []
+            made.decl made.layout made.tile (made.clients ∙ count) (subst (λ n. IsProgressOf core (new_progress n)) count made.progress) made.board none refl refl;
+      };
+      grants_are = refl;
+      parts_are = refl;
     }
