@@ -1,4 +1,4 @@
-//! Tests of orders, of the manager and of the stepped cluster's parts.
+//! Tests of orders and races, of the manager and of the stepped cluster's parts.
 //!
 //! Each test calls public items alone, and stands here so that none of those crates is proved twice.
 #![tactic(auto)]
@@ -11,6 +11,8 @@ mod clients;
 mod frames;
 #[cfg(test)]
 mod managers;
+#[cfg(test)]
+mod meetings;
 #[cfg(test)]
 mod orders;
 #[cfg(test)]

@@ -16,7 +16,7 @@ use step_core::{CoreRun, finish, run_schedule};
 use test_scenes::BLENDED_AT_ONCE;
 
 // The scene that a text spells.
-fn scene_of(rt: &impl Abort, alloc: Global, text: &[u8]) -> Scene
+pub(crate) fn scene_of(rt: &impl Abort, alloc: Global, text: &[u8]) -> Scene
     ensures { IsWithin result }
 {
     let told = parse_scene(alloc, text).expect(rt, "a text");

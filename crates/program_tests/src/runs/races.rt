@@ -2,7 +2,10 @@
 use super::orders::PRODUCED_AND_CONSUMED;
 use super::{CLEAR_IN_BLOCK, Host, left_on, run_on, run_text, sink, source_of};
 use std::alloc::Global;
-use test_scenes::{BLENDED_AT_ONCE, BLENDED_IN_TURN, SHARED_BEHIND_A_BARRIER};
+use test_scenes::{
+    BLENDED_AT_ONCE, BLENDED_IN_TURN, COMMAND_BETWEEN_MEETINGS, MEETINGS_IN_A_ROW,
+    SHARED_BEHIND_A_BARRIER,
+};
 
 // One client writes a shared texture, the other one draws with it, and no barrier stands between.
 const SHARED_AT_ONCE: &[u8] = b"scene 1 8 2
@@ -20,51 +23,6 @@ Vertex -65536 -65536 0 65536
 Vertex 196608 -65536 0 65536
 Vertex -65536 196608 0 65536
 End
-Swap
-";
-
-// Client 0 meets client 1, and then at once client 2: what stands before the first meeting isn't before what stands behind the second one.
-const MEETINGS_IN_A_ROW: &[u8] = b"scene 1 1 1
-barrier 2
-barrier 2
-client
-Barrier 1
-Barrier 2
-Swap
-client
-Begin 0
-Vertex -65536 -65536 0 65536
-Vertex 196608 -65536 0 65536
-Vertex -65536 196608 0 65536
-End
-Barrier 1
-Swap
-client
-Barrier 2
-Begin 0
-Vertex -65536 -65536 0 65536
-Vertex 196608 -65536 0 65536
-Vertex -65536 196608 0 65536
-End
-Swap
-";
-
-// The same with a command of client 0 between its meetings, which both parts meet in.
-const COMMAND_BETWEEN_MEETINGS: &[u8] = b"scene 1 1 1
-barrier 2
-barrier 2
-client
-Barrier 1
-Color 1 2 3 4
-Barrier 2
-Swap
-client
-Clear 1
-Barrier 1
-Swap
-client
-Barrier 2
-Clear 1
 Swap
 ";
 
