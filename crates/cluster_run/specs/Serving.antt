@@ -1,5 +1,5 @@
 -- What becomes of a writer of frames, of lanes of parts and of an image, while the writer takes parts.
-use Rattle.std.specs.Prelude.{◌≡◌, ℕ, ◌<◌, ◌≤◌, List, [], Option, None, slice_get, slice_index_or}
+use Rattle.std.specs.Prelude.{◌≡◌, ℕ, ◌<◌, ◌≤◌, ⊤, Bool, List, [], ◌∷◌, ◌++◌, Option, None, slice_get, slice_index_or}
 use Rattle.std.specs.Option.{option_map_or}
 use Rattle.rc_base.specs.Cluster.Lanes.{EachLane}
 use Rattle.rc_base.specs.Cluster.Tiles.{tile_count}
@@ -7,14 +7,15 @@ use Rattle.rc_base.specs.Lists.{IsFront}
 use Rattle.rc_base.specs.Outside.Ends.{use_of, Used}
 use Rattle.rc_base.specs.declared.cluster.TilePart.{TilePart}
 use Rattle.rc_base.specs.declared.window.Layout.{Layout}
-use Rattle.assembler.specs.Assembled.{layout_of, places_of}
+use Rattle.assembler.specs.Assembled.{layout_of, places_of, Advances}
 use Rattle.assembler.specs.Places.{in_place}
 use Rattle.frame_out.specs.OnTheWay.{HasWritten, IsOnTheWay}
 use Rattle.frame_out.specs.declared.on_the_way.FrameWriter.{FrameWriter}
 use Rattle.frame_out.specs.declared.writing.Written.{Written}
-use Rattle.tile_queues.specs.Ends.{sent_of, taken_of, lane_out}
+use Rattle.tile_queues.specs.Ends.{sent_in, sent_of, taken_in, taken_of, lane_out}
 use Rattle.tile_queues.specs.declared.ends.LaneIn.{LaneIn}
 use Rattle.tile_queues.specs.declared.ends.LaneOut.{LaneOut}
+use Rattle.tile_queues.specs.declared.ends.Rest.{Rest}
 use Rattle.cluster_run.specs.declared.on_the_way.OnTheWay.{OnTheWay}
 
 module _ {I K A : Type 0} (fixed : I → A) (taken : I → List TilePart) (held : K → Option (List ℕ)) (faults : K → ℕ) where
@@ -31,6 +32,19 @@ module _ {I K A : Type 0} (fixed : I → A) (taken : I → List TilePart) (held 
   abbrev pub KeepsServed : FrameWriter → List I → K → FrameWriter → List I → K → Type 0
   KeepsServed before lanes image after lanes' image' =
       (w : FrameWriter) (first : List I) (start : K) → HasServed w first start before lanes image → HasServed w first start after lanes' image'
+
+-- A turn has taken at most one part of each tile whose part of the next frame was missing, and tells whether that completed the frame: of what lanes held,
+abbrev pub HasAdvanced : {R : Type 0} → FrameWriter → List (LaneOut TilePart R) → Bool → FrameWriter → List (LaneOut TilePart R) → Type 0
+HasAdvanced {R} before lanes completed after lanes' =
+    Advances (λ (a : LaneOut TilePart R) part b. taken_of b ≡ taken_of a ++ part ∷ []) (λ a b. taken_of b ≡ taken_of a) (λ a. a.empty_seen) (λ _. ⊤)
+    before.assembler lanes lanes' completed after.assembler
+
+-- and of what is left of them
+abbrev pub HasAdvancedByRests : {R : Type 0} → FrameWriter → List (Rest TilePart R) → Bool → FrameWriter → List (Rest TilePart R) → Type 0
+HasAdvancedByRests {R} before rests completed after rests' =
+    Advances (λ (a : Rest TilePart R) part b. (taken_in b ≡ taken_in a ++ part ∷ []) × (sent_in b ≡ sent_in a))
+    (λ a b. (taken_in b ≡ taken_in a) × (sent_in b ≡ sent_in a)) (λ a. a.empty_seen) (λ a. taken_in a ≡ sent_in a)
+    before.assembler rests rests' completed after.assembler
 
 -- what was sent by the tiles' lanes of parts
 abbrev pub shown_in_lanes : {R : Type 0} → List (LaneIn TilePart R) → ℕ → List TilePart

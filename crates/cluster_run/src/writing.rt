@@ -9,7 +9,7 @@ ghost use Rattle.tile_queues.specs.Ends.{lane_in, lane_out, sent_in, taken_in};
 ghost use Rattle.rc_base.specs.declared.window.Layout.{Layout};
 ghost use Rattle.cluster_run.specs.Clusters.{HasRun};
 ghost use Rattle.cluster_run.specs.Fronts.{GaveFront};
-ghost use Rattle.cluster_run.specs.Serving.{HasFinished, IsServed, IsSince, KeepsServed, shown_in_lanes};
+ghost use Rattle.cluster_run.specs.Serving.{HasAdvanced, HasAdvancedByRests, HasFinished, IsServed, IsSince, KeepsServed, shown_in_lanes};
 
 use crate::on_the_way::OnTheWay;
 use crate::workers::{ClientWorker, ManagerWorker, TileWorker};
@@ -34,7 +34,8 @@ pub(crate) type Tasks<R> = Crew<Task<ClientWorker<R>>, Task<ManagerWorker<R>>, T
 impl<R: Wait> OnTheWay<R> {
     /// Takes at most one part of each tile, and writes the frame that it completes. Whether it completed one.
     fn serve<K: Sink>(&mut self, image: &mut K) -> bool
-        ensures { IsServed K.held K.faults self.old image.old self.new image.new }
+        ensures served { IsServed K.held K.faults self.old image.old self.new image.new }
+        ensures completed { HasAdvanced self.old.writer self.old.lanes.items result self.new.writer self.new.lanes.items }
     {
         self.writer.serve(&mut self.lanes, image)
     }
@@ -108,6 +109,7 @@ fn serve_rest<K: Sink, R: Wait>(
     ensures room { length rests.new.items ≡ tile_count (layout_of writer.new.assembler) }
     ensures served { KeepsServed sent_in taken_in K.held K.faults writer.old rests.old.items image.old writer.new rests.new.items image.new }
     ensures missing { result ≡ false → short_of writer.new.assembler ≡ false → IsMissing (λ r. taken_in r ≡ sent_in r) writer.new rests.new.items }
+    ensures completed { HasAdvancedByRests writer.old rests.old.items result writer.new rests.new.items }
 {
     writer.serve(rests, image)
 }

@@ -5,7 +5,7 @@ use Rattle.rc_base.specs.declared.cluster.TilePart.{TilePart}
 use Rattle.frame_out.specs.OnTheWay.{IsMissing}
 use Rattle.tile_queues.specs.Ends.{sent_in, taken_in}
 use Rattle.tile_queues.specs.declared.ends.Rest.{Rest}
-use Rattle.cluster_run.specs.Serving.{HasServed}
+use Rattle.cluster_run.specs.Serving.{HasAdvancedByRests, HasServed}
 use Rattle.cluster_run.proofs.Serving.{rests_served, served_again}
 use Rattle.cluster_run.proofs.writing.serve_rest.Goals as goal
 
@@ -43,3 +43,15 @@ returns-clause-missing g c = λ none ample.
     let xs' = c.serve.new.lanes in
     let left = after_slice rests.len xs' rests.items rests.ok.0 (step.lane_of.count ∙ ap length c.deref_mut.ensures.value) in
     subst (λ (ys : List (Rest TilePart g.row.R.Denot)). IsMissing (λ r. taken_in r ≡ sent_in r) c.serve.new.self ys) (sym left) (step.missing none ample)
+
+pub returns-clause-completed : goal.returns-clause-completed
+returns-clause-completed g c =
+    let step = c.serve.ensures in
+    let rests = c.args.rests.now in
+    let old = c.args.writer.now in
+    let new = c.serve.new.self in
+    let xs' = c.serve.new.lanes in
+    let xs_are = c.deref_mut.ensures.value in
+    let left = after_slice rests.len xs' rests.items rests.ok.0 (step.lane_of.count ∙ ap length xs_are) in
+    subst (λ (ys : List (Rest TilePart g.row.R.Denot)). HasAdvancedByRests old rests.items c.serve.result new ys) (sym left)
+    (subst (λ (ys : List (Rest TilePart g.row.R.Denot)). HasAdvancedByRests old ys c.serve.result new xs') xs_are step.completed)
