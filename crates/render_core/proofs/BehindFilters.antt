@@ -11,7 +11,7 @@ use Rattle.spu_chain.specs.declared.rule.SpuRule.{SpuRule}
 use Rattle.render_core.specs.declared.job.Job.{Job}
 use Rattle.render_core.specs.declared.run_job.Finish.{Finish}
 use Rattle.render_core.specs.Finishes.{IsJobless, IsTaskless}
-use Rattle.render_core.specs.Jobs.{AskFiltered, AskPlainly, IsJob, IsLine, Task, task_of}
+use Rattle.render_core.specs.Jobs.{AskFiltered, AskPlainly, IsJobBehind, IsJob, IsLine, Task, task_of}
 use Rattle.render_core.specs.Laws.{PlainTasksAreFilteredOnes}
 use Rattle.render_core.specs.Refusals.{AreReady}
 use Rattle.render_core.proofs.Finishing.{jobless_usage}
@@ -49,7 +49,7 @@ some_named words r x is named = subst (λ (r : Option (List SpuRule × ℕ)). If
 module _ (one : OneChain) (never : ChainIsNotNone) (words : List (String Global)) where
   -- they ask for the job behind them, with the members that they name
   pub asked_behind : (rules : List SpuRule) (count : ℕ) → NamesChain (map string_bytes words) rules count → (r : Result Job Finish)
-      → IfOk r (IsJob (drop count words)) → IfOk r (λ job. (members : List SpuRule) → AreNamed (map string_bytes words) members → AskFiltered words (task_of members job))
+      → IfOk r (IsJob (drop count words)) → IfOk r (IsJobBehind words)
   asked_behind rules count chain (Err finish) is = tt
   asked_behind rules count chain (Ok job) is = λ members named. elim named [
     | inl own ↦ (let same = one (map string_bytes words) rules members count own.0 chain own.1 in record {

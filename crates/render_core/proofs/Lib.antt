@@ -14,12 +14,14 @@ pub mod Endings
 pub mod FirstRefusals
 pub mod Finishing
 pub mod Headline
+pub mod Finished
 pub mod Counted
 pub mod ReportLines
 pub mod Accounts
 pub mod Dues
 pub mod Works
 pub mod Performing
+pub mod CarriedOut
 pub mod Threaded
 pub mod ClusterRuns
 pub mod DecidedBefore

@@ -275,14 +275,3 @@ for_task task source refusal h = h task refl
 pub left_by : (task : Task) (source : Used) (left : List SpuRule) (refusal : Refusal) (refused : Refused) → refused.refusal ≡ refusal
     → LeftBy task source (refusal_status refusal) left → LeftBy task source (refusal_status refused.refusal) left
 left_by task source left refusal refused same h = subst (λ (r : Refusal). LeftBy task source (refusal_status r) left) (sym same) h
-
--- ---- what is left of the image, as callers tell it
-
-pub or_part : (P Q : Type 0) (r : Result Told Refused) → OnErr r Q → OnErr r (P ⊎ Q)
-or_part P Q (Ok told) h = tt
-or_part P Q (Err refused) h = inr h
-
-pub or_shown : (P Q R : Type 0) (r : Result Told Refused) → OnErr r (P ⊎ Q) → OnErr r (P ⊎ Q ⊎ R)
-or_shown P Q R (Ok told) h = tt
-or_shown P Q R (Err refused) (inl h) = inl h
-or_shown P Q R (Err refused) (inr h) = inr (inl h)

@@ -29,15 +29,19 @@ use Rattle.render_core.specs.declared.job.Cluster.{Cluster}
 use Rattle.render_core.specs.declared.job.Form.TheVariants.{Bytes}
 use Rattle.render_core.specs.declared.job.Job.{Job}
 use Rattle.render_core.specs.declared.job.Job.TheVariants.{Render, Simulate, Serial, Last, Check, Race, Pack, Unpack, Gen, Demo}
+use Rattle.render_core.specs.declared.refusal.ImageRefusal.TheVariants as writing
+use Rattle.render_core.specs.declared.refusal.Refusal.TheVariants as refusals
 use Rattle.render_core.specs.declared.refusal.Refused.{Refused}
 use Rattle.render_core.specs.declared.writing.Told.{Told}
+use Rattle.render_core.specs.Carried.{IsCarriedOut}
 use Rattle.render_core.specs.Due.{Outcome, IsRecorded, IsOutcome, ending_by, report_due}
 use Rattle.spu_chain.specs.declared.rule.SpuRule.{SpuRule}
 use Rattle.render_core.specs.declared.work.Work.{Work}
-use Rattle.render_core.specs.Jobs.{IsJob, IsThreaded, cluster_of, Reads, ShowsNothing, Task, starts_threads, job_in, origin_of, threads_of}
+use Rattle.render_core.specs.Jobs.{AskPlainly, IsJob, IsThreaded, cluster_of, Reads, ShowsNothing, Task, starts_threads, job_in, origin_of, threads_of}
 use Rattle.render_core.specs.Scenes.{IsFor, layout_for}
-use Rattle.render_core.specs.Outcomes.{HaveSeenAll, IsDue, PartlyShown, PartlyWritten}
-use Rattle.render_core.specs.Refusals.{refusal_status, Behind, IsCaused, IsPerformed, IsToldOf, IsUntold, IsWell, IsWellRead, IsWorkOf, LeftWith}
+use Rattle.render_core.specs.Outcomes.{HaveSeenAll, IsDue, IsLeft, IsLeftByThreads, PartlyShown, PartlyWritten}
+use Rattle.render_core.specs.Refusals.{refusal_line, refusal_status, Behind, IsCaused, IsPerformed, IsToldOf, IsUntold, IsWell, IsWellRead, IsWorkOf, LeftWith}
+use Rattle.frame_out.proofs.Prefixes.{on_err}
 use Rattle.render_core.proofs.Performing.{due_of_work, front_of, has_work_of, untold_status, partly_written, told_done, told_late, told_refused}
 use Rattle.render_core.proofs.Recorded.{outcome_by, recorded_by}
 
@@ -126,6 +130,27 @@ draws_apart Unpack threads none = let no_threads : false ≡ true = threads in a
 draws_apart (Gen seed size) threads none = let no_threads : false ≡ true = threads in absurd cc
 draws_apart (Demo seed size cluster) threads none = absurd cc
 
+-- a job that starts no thread has no cluster
+pub no_cluster : (job : Job) (cluster : Cluster) → starts_threads job ≡ false → threads_of job ≡ Some cluster → ⊥
+no_cluster (Render own) cluster alone of = let no_threads : true ≡ false = alone in absurd cc
+no_cluster (Simulate seed own) cluster alone of = absurd cc
+no_cluster Serial cluster alone of = absurd cc
+no_cluster Last cluster alone of = absurd cc
+no_cluster Check cluster alone of = absurd cc
+no_cluster Race cluster alone of = absurd cc
+no_cluster Pack cluster alone of = absurd cc
+no_cluster Unpack cluster alone of = absurd cc
+no_cluster (Gen seed size) cluster alone of = absurd cc
+no_cluster (Demo seed size own) cluster alone of = let no_threads : true ≡ false = alone in absurd cc
+
+-- so what is left of its image is a front of what is due
+pub left_without_threads : (P : Type 0) (words : List (String Global)) (source image : Used) → (IsThreaded words → ⊥)
+    → P ⊎ IsLeftByThreads (AskPlainly words) source image → P ⊎ IsLeft (AskPlainly words) source image
+left_without_threads P words source image other (inl same) = inl same
+left_without_threads P words source image other (inr (task, asked, inl part)) = inr (task, asked, part)
+left_without_threads P words source image other (inr (task, asked, inr shown)) =
+    absurd (no_cluster task.job shown.cluster (alone words task.job asked.1 other) shown.threads)
+
 -- ---- what is due
 
 the_cluster : (cluster other : Cluster) → Some cluster ≡ Some other → cluster ≡ other
@@ -207,8 +232,7 @@ module _ (task : Task) (cluster : Cluster) (source image : Used) (work : Work) (
       (outcome_is task.job cluster work (outcome_by cluster work kept) threads
       (recorded_by cluster work formed permits within kept (subst (λ (t : Layout). IsRecordOf work.scene t kept) tiles lawful)))
 
-  -- a run that lacked memory
-  pub front_given : GaveFront l image → PartlyShown task source image
+  front_given : GaveFront l image → PartlyShown task source image
   front_given gave = record {
     cluster = cluster;
     threads = threads;
@@ -219,12 +243,26 @@ module _ (task : Task) (cluster : Cluster) (source image : Used) (work : Work) (
     front = gave.front;
   }
 
+  -- a run that lacked memory
+  pub short_of_memory : GaveFront l image → (refused : Refused) → refused.refusal ≡ refusals.Image writing.OutOfMemory → (left : List SpuRule)
+      → HaveSeenAll task source left → (SourceStays ImageStays : Type 0) → ((Reads task.job → ⊥) → SourceStays)
+      → IsCarriedOut task source image left SourceStays ImageStays (Err refused)
+  short_of_memory gave refused is left seen SourceStays ImageStays unread = record {
+    done = tt;
+    refused = inr (ap refusal_status is, ap refusal_line is);
+    untouched = λ six seven. absurd (seven (ap refusal_status is));
+    part = inr (inr (front_given gave));
+    members = Behind (inr (inr (ap refusal_status is))) seen;
+    blank = λ shows. absurd (shows_frames task.job cluster threads shows);
+    unread = unread;
+  }
+
   module _ (kept : Record) (tallies : List Tally) (waiting : Option Waiting) (faults : List (List (ℕ × Fault))) (written : Written) (is : IsRun work.scene l kept tallies waiting faults)
       (given : IsWritten image (image_text_of work.scene l kept) written) where
     here : IsWritten image (image_text_of work.scene (layout_for cluster work.scene) kept) written
     here = subst (λ (t : Layout). IsWritten image (image_text_of work.scene t kept) written) tiles given
 
-    pub run_given : PartlyWritten task source image
+    run_given : PartlyWritten task source image
     run_given =
         partly_written task source image (outcome_by cluster work kept) (due_by kept is.lawful) (front_of image (image_text_of work.scene (layout_for cluster work.scene) kept) written here)
 
@@ -234,20 +272,33 @@ module _ (task : Task) (cluster : Cluster) (source image : Used) (work : Work) (
           (IsUntold (ending_by work.scene kept.journal) (Some kept) written)
       own = told (layout_for cluster work.scene) (subst (λ (t : Layout). IsRun work.scene t kept tallies waiting faults) tiles is)
 
-      pub run_done : IfOk r (IsPerformed task source image)
+      run_done : IfOk r (IsPerformed task source image)
       run_done = told_done task source image (outcome_by cluster work kept) (due_by kept is.lawful) written here r own
 
-      pub run_refused : IfErr r (λ x. IsCaused task source image x.refusal x.kept)
+      run_refused : IfErr r (λ x. IsCaused task source image x.refusal x.kept)
       run_refused = told_refused task source image (outcome_by cluster work kept) (due_by kept is.lawful) written here r own
 
-      pub run_late : (P : Type 0) → IfErr r (λ x. refusal_status x.refusal ≢ 6 → refusal_status x.refusal ≢ 7 → P)
+      run_late : (P : Type 0) → IfErr r (λ x. refusal_status x.refusal ≢ 6 → refusal_status x.refusal ≢ 7 → P)
       run_late P = told_late task source image (outcome_by cluster work kept) (due_by kept is.lawful) written here r own P
 
       -- its members have seen the whole scene
-      pub run_seen : (left : List SpuRule) → HaveSeenAll task source left → LeftWith task source r left
+      run_seen : (left : List SpuRule) → HaveSeenAll task source left → LeftWith task source r left
       run_seen left seen = go r own where
         go : (r : Result Told Refused)
             → MatchResult r (IsToldOf (report_due work (layout_for cluster work.scene) kept cluster.orders) (ending_by work.scene kept.journal) (Some kept) written)
             (IsUntold (ending_by work.scene kept.journal) (Some kept) written) → LeftWith task source r left
         go (Ok told) h = seen
         go (Err refused) h = Behind (elim (untold_status refused h) [ inl seven ↦ inr (inr seven) | inr six ↦ inl six ]) seen
+
+      -- so it is carried out, and it stays open what of its image and its source stays
+      pub run_carried : (left : List SpuRule) → HaveSeenAll task source left → (SourceStays ImageStays : Type 0) → ((Reads task.job → ⊥) → SourceStays)
+          → IsCarriedOut task source image left SourceStays ImageStays r
+      run_carried left seen SourceStays ImageStays unread = record {
+        done = run_done;
+        refused = run_refused;
+        untouched = run_late ImageStays;
+        part = on_err r (inr (inl run_given));
+        members = run_seen left seen;
+        blank = λ shows. absurd (shows_frames task.job cluster threads shows);
+        unread = unread;
+      }

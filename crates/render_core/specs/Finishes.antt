@@ -1,5 +1,5 @@
 -- How a run ends that has told what it had to tell.
-use Rattle.std.specs.Prelude.{◌≡◌, ◌⊎◌, List, MatchResult, None}
+use Rattle.std.specs.Prelude.{◌≡◌, ℕ, ◌⊎◌, List, MatchResult, None}
 use Rattle.std.specs.declared.result.Result.{Result}
 use Rattle.std.specs.declared.string.String.{String}
 use Rattle.std.specs.Global.{Global}
@@ -11,6 +11,10 @@ use Rattle.render_core.specs.declared.writing.Told.{Told}
 use Rattle.render_core.specs.Jobs.{Task, IsJob, IsLine}
 use Rattle.render_core.specs.Lines.{memory_line, usage_line}
 use Rattle.render_core.specs.Refusals.{kept_for, IsConcluded, IsRefusalTold}
+
+-- the run ends with this status, without a record, and the notes were given the line
+abbrev pub EndsNoting : Used → ℕ → List ℕ → Finish → Type 0
+EndsNoting notes status line finish = (finish.status ≡ status) × (finish.kept ≡ None) × Noted notes line
 
 -- The words name no job, or there was no memory for the line that they are.
 pub record IsJobless (words : List (String Global)) (notes : Used) (finish : Finish) : Type 0 where

@@ -4,7 +4,7 @@ use Rattle.std.specs.declared.string.String.{String}
 use Rattle.std.specs.Global.{Global}
 use Rattle.spu_chain.specs.declared.rule.SpuRule.{SpuRule}
 use Rattle.command_line.specs.declared.job.JobName.{JobName}
-use Rattle.command_line.specs.Filters.{NamesChain}
+use Rattle.command_line.specs.Filters.{AreNamed, NamesChain}
 use Rattle.command_line.specs.Words.{Setting, IsCommandLine, job_word, tiles_in, depth_in, order_in, seed_in, size_in}
 use Rattle.command_line.specs.declared.job.JobName.TheVariants.{Render as render_name, Simulate as simulate_name, Serial as serial_name, Last as last_name, Check as check_name, Race as race_name, Pack as pack_name, Unpack as unpack_name, Gen as gen_name, Demo as demo_name}
 use Rattle.render_core.specs.declared.job.Cluster.{Cluster}
@@ -67,6 +67,10 @@ pub record AskFiltered (words : List (String Global)) (task : Task) : Type 0 whe
   pub count : ℕ
   pub chain : NamesChain (map string_bytes words) task.filters count
   pub job : IsJob (drop count words) task.job
+
+-- behind the words of filters those of the job stand, whichever members the former name
+abbrev pub IsJobBehind : List (String Global) → Job → Type 0
+IsJobBehind words job = (rules : List SpuRule) → AreNamed (map string_bytes words) rules → AskFiltered words (task_of rules job)
 
 -- something is asked for of which this holds
 abbrev pub ForTask : (Task → Type 0) → (Task → Type 0) → Type 0

@@ -5,6 +5,7 @@ pub mod Lines
 pub mod Findings
 pub mod Outcomes
 pub mod Refusals
+pub mod Carried
 pub mod Finishes
 pub mod Reports
 pub mod Laws

@@ -62,6 +62,10 @@ pub record PartlyShown (task : Task) (source image : Used) : Type 0 where
   pub sides : AllByRecursion (λ (m : Image). (m.width ≡ work.scene.decl.width) × (m.height ≡ work.scene.decl.height)) images
   pub front : TookFront image (p6_texts images)
 
+-- the image was given a front of what is due, or, by a job on threads of a cluster, of frames that no record tells
+abbrev pub PartlyGiven : Task → Used → Used → Type 0
+PartlyGiven task source image = PartlyWritten task source image ⊎ PartlyShown task source image
+
 -- What is due was given to the image, and these lines are due to the notes. An image that fails keeps no report from the notes of a job that is
 -- stuck.
 pub data Sent (image : Used) (o : Outcome) (lines : List ℕ) : Type 0 where
@@ -225,7 +229,7 @@ IsLeft asks source image = ForTask asks (λ task. PartlyWritten task source imag
 
 -- and where the job runs threads, of frames that no record tells
 abbrev pub IsLeftByThreads : (Task → Type 0) → Used → Used → Type 0
-IsLeftByThreads asks source image = ForTask asks (λ task. PartlyWritten task source image ⊎ PartlyShown task source image)
+IsLeftByThreads asks source image = ForTask asks (λ task. PartlyGiven task source image)
 
 -- something is due to the notes of a job that is done
 abbrev pub HasNotes : (Task → Type 0) → Used → Used → Used → Option Record → Type 0

@@ -1,11 +1,10 @@
 //! The top call: the words, the steps of the task that they ask for, and the notes.
-ghost use Rattle.std.specs.Prelude.{◌≡◌, ◌≤◌, ◌⊎◌, [], List, map, string_bytes, IfErr, IfOk, IfSome, OnOk};
-ghost use Rattle.rc_base.specs.Outside.Ends.{use_of, Noted};
+ghost use Rattle.std.specs.Prelude.{◌≡◌, ◌≤◌, ◌⊎◌, [], map, string_bytes, IfErr, IfOk, IfSome, OnOk};
+ghost use Rattle.rc_base.specs.Outside.Ends.{use_of};
 ghost use Rattle.render_core.specs.Lines.{memory_line, usage_line};
-ghost use Rattle.spu_chain.specs.declared.rule.SpuRule.{SpuRule as AnyRule};
 ghost use Rattle.command_line.specs.Filters.{AreNamed, BeginsFilter};
-ghost use Rattle.render_core.specs.Finishes.{IsFinished, IsJobless, IsTaskless};
-ghost use Rattle.render_core.specs.Jobs.{AskFiltered, AskPlainly, ForTask, IsJob, IsLine, IsThreaded, Reads, ShowsNothing, Task as AnyTask, task_of};
+ghost use Rattle.render_core.specs.Finishes.{EndsNoting, IsFinished, IsJobless, IsTaskless};
+ghost use Rattle.render_core.specs.Jobs.{AskFiltered, AskPlainly, ForTask, IsJob, IsJobBehind, IsLine, IsThreaded, Reads, ShowsNothing, Task as AnyTask};
 ghost use Rattle.render_core.specs.Outcomes.{Ran, RefusesWhatItFinds, CarriesOutWhatItFinds, IsHeadline, KeepsOrders, IsUnwritten, IsLeft, IsLeftByThreads, HasNotes, LeavesMembers};
 ghost use Rattle.render_core.specs.Refusals.{kept_for};
 
@@ -52,7 +51,7 @@ fn kept_for(status: u8, kept: Option<Record>) -> Option<Record>
 // Notes that nothing is asked for, and ends the run so.
 #[tactic(auto, unfolding(crate::specs::Lines::usage_line))]
 fn end_unasked<N: Sink>(notes: &mut N) -> Finish
-    ensures ended { (result.status ≡ 1) × (result.kept ≡ None) × Noted (use_of N.held N.faults notes.old notes.new) usage_line }
+    ensures ended { EndsNoting (use_of N.held N.faults notes.old notes.new) 1 usage_line result }
     ensures later { N.faults notes.old ≤ N.faults notes.new }
 {
     note(notes, "rc: usage\n");
@@ -65,7 +64,7 @@ fn end_unasked<N: Sink>(notes: &mut N) -> Finish
 // Notes that there was no memory for the words, and ends the run so.
 #[tactic(auto, unfolding(crate::specs::Lines::memory_line))]
 fn end_short<N: Sink>(notes: &mut N) -> Finish
-    ensures ended { (result.status ≡ 7) × (result.kept ≡ None) × Noted (use_of N.held N.faults notes.old notes.new) memory_line }
+    ensures ended { EndsNoting (use_of N.held N.faults notes.old notes.new) 7 memory_line result }
     ensures later { N.faults notes.old ≤ N.faults notes.new }
 {
     note(notes, OUT_OF_MEMORY);
@@ -92,7 +91,7 @@ fn job_for<N: Sink>(alloc: Global, words: &[String], notes: &mut N) -> Result<Jo
 // The job of the words behind those of filters, which are a chain's. Where they ask for none so, or there was no memory for them, that is noted, and
 // the run ends so.
 fn job_behind<N: Sink>(alloc: Global, words: &[String], notes: &mut N) -> Result<Job, Finish>
-    ensures asked { IfOk result (λ job. (rules : List AnyRule) → AreNamed (map string_bytes words.now) rules → AskFiltered words.now (task_of rules job)) }
+    ensures asked { IfOk result (IsJobBehind words.now) }
     ensures unnoted { OnOk result (notes.new ≡ notes.old) }
     ensures none { IfErr result (IsTaskless (AskFiltered words.now) (use_of N.held N.faults notes.old notes.new)) }
     // Words that are no command line and begin with no filter's word are told to be none, whatever memory there is.

@@ -1,15 +1,15 @@
 //! The steps of a task: its scene, what the filters make of it, what is due for that, the image.
-ghost use Rattle.std.specs.Prelude.{◌≡◌, ◌≢◌, ◌≤◌, ◌⊎◌, true, false, None, Some, length, map, OnErr, IfOk, IfErr, MatchResult};
+ghost use Rattle.std.specs.Prelude.{◌≡◌, ◌≤◌, ◌⊎◌, true, false, None, Some, length, map, OnErr, IfOk, IfErr, MatchResult};
 ghost use Rattle.rc_base.specs.Formats.Limits.{limit_of};
 ghost use Rattle.rc_base.specs.Outside.Ends.{Used, use_of};
 ghost use Rattle.rc_base.specs.declared.window.Layout.{Layout as AnyLayout};
 ghost use Rattle.run_record.specs.Told.{IsRun};
+ghost use Rattle.render_core.specs.Carried.{IsCarriedOut, IsSoundWork, IsObtained, IsWritableDue};
 ghost use Rattle.render_core.specs.Due.{ending_by, report_due};
-ghost use Rattle.render_core.specs.Jobs.{Reads, ShowsNothing, Task as AnyTask, origin_of, starts_threads, task_of, threads_of};
-ghost use Rattle.render_core.specs.Outcomes.{IsDue, PartlyShown, PartlyWritten};
-ghost use Rattle.render_core.specs.Refusals.{outcome_of, refusal_status, AreReady, Came, IsBlank, IsEarlyRefusal, IsWell, IsWorkOf, IsWritable, IsCaused, IsRefusedFor, IsRefusedUnwritten, IsPerformed, IsToldOf, IsUntold, LeftAfter, LeftWith};
+ghost use Rattle.render_core.specs.Jobs.{Reads, Task as AnyTask, origin_of, starts_threads, task_of, threads_of};
+ghost use Rattle.render_core.specs.Outcomes.{IsDue, PartlyWritten};
+ghost use Rattle.render_core.specs.Refusals.{outcome_of, refusal_status, AreReady, Came, IsBlank, IsEarlyRefusal, IsWell, IsWritable, IsCaused, IsRefusedFor, IsPerformed, IsToldOf, IsUntold};
 ghost use Rattle.render_core.specs.Reports.{IsSmallRun};
-ghost use Rattle.render_core.specs.Scenes.{HasTiles};
 ghost use Rattle.render_core.specs.declared.job.Job.TheVariants.{Last as ToLast};
 
 use crate::asked::{asked_past, tiles_of};
@@ -81,13 +81,10 @@ fn work_for<B: SceneReader, S: Source>(
     source: &mut S,
 ) -> Result<Work, Refusal>
     requires ready { AreReady (map (λ b. meaning b) chain.old.items) }
-    ensures work { IfOk result (IsWorkOf (task_of (map (λ b. meaning b) chain.old.items) job) (use_of S.left S.faults source.old source.new)) }
-    ensures well { IfOk result (λ work. IsWell (origin_of job) work.scene) }
-    ensures within { IfOk result (λ work. limit_of work.scene ≡ None) }
-    ensures tiles { IfOk result (λ work. HasTiles job work.scene) }
-    ensures refused { IfErr result (IsRefusedUnwritten (task_of (map (λ b. meaning b) chain.old.items) job) (use_of S.left S.faults source.old source.new)) }
-    ensures members { LeftAfter (task_of (map (λ b. meaning b) chain.old.items) job) (use_of S.left S.faults source.old source.new) result (map (λ b. meaning b) chain.new.items) }
-    ensures unread { (Reads job → ⊥) → source.new ≡ source.old }
+    ensures obtained { let task = task_of (map (λ b. meaning b) chain.old.items) job in
+        let left = map (λ b. meaning b) chain.new.items in
+        let read = use_of S.left S.faults source.old source.new in
+        IsObtained task read left (source.new ≡ source.old) (IsSoundWork task read) result }
     ensures later { S.faults source.old ≤ S.faults source.new }
 {
     filtered_scenes_stay();
@@ -113,12 +110,10 @@ fn due_of_source<S: Source>(
 ) -> Result<Due, Refusal>
     requires alone { starts_threads job ≡ false }
     requires ready { AreReady (map (λ b. meaning b) chain.old.items) }
-    ensures due { IfOk result (λ due. IsDue (task_of (map (λ b. meaning b) chain.old.items) job) (use_of S.left S.faults source.old source.new) (outcome_of due)) }
-    ensures writable { IfOk result (λ due. IsWritable due.image) }
-    ensures blank { IfOk result (λ due. ShowsNothing job → IsBlank due.image) }
-    ensures refused { IfErr result (IsRefusedUnwritten (task_of (map (λ b. meaning b) chain.old.items) job) (use_of S.left S.faults source.old source.new)) }
-    ensures members { LeftAfter (task_of (map (λ b. meaning b) chain.old.items) job) (use_of S.left S.faults source.old source.new) result (map (λ b. meaning b) chain.new.items) }
-    ensures unread { (Reads job → ⊥) → source.new ≡ source.old }
+    ensures obtained { let task = task_of (map (λ b. meaning b) chain.old.items) job in
+        let left = map (λ b. meaning b) chain.new.items in
+        let read = use_of S.left S.faults source.old source.new in
+        IsObtained task read left (source.new ≡ source.old) (IsWritableDue task read) result }
     ensures later { S.faults source.old ≤ S.faults source.new }
 {
     let work = work_for(&Alone, alloc, chain, job, source)?;
@@ -138,10 +133,10 @@ fn due_apart<S: Source>(
 ) -> Result<Due, Refusal>
     requires apart { job ≡ ToLast }
     requires ready { AreReady (map (λ b. meaning b) chain.old.items) }
-    ensures due { IfOk result (λ due. IsDue (task_of (map (λ b. meaning b) chain.old.items) job) (use_of S.left S.faults source.old source.new) (outcome_of due)) }
-    ensures writable { IfOk result (λ due. IsWritable due.image) }
-    ensures refused { IfErr result (IsRefusedUnwritten (task_of (map (λ b. meaning b) chain.old.items) job) (use_of S.left S.faults source.old source.new)) }
-    ensures members { LeftAfter (task_of (map (λ b. meaning b) chain.old.items) job) (use_of S.left S.faults source.old source.new) result (map (λ b. meaning b) chain.new.items) }
+    ensures obtained { let task = task_of (map (λ b. meaning b) chain.old.items) job in
+        let left = map (λ b. meaning b) chain.new.items in
+        let read = use_of S.left S.faults source.old source.new in
+        IsObtained task read left (source.new ≡ source.old) (IsWritableDue task read) result }
     ensures later { S.faults source.old ≤ S.faults source.new }
 {
     let work = work_for(&Beside(rt), alloc, chain, job, source)?;
@@ -158,7 +153,6 @@ fn show<K: Sink>(alloc: Global, image: &mut K, due: Due) -> Result<Told, Refused
         → IfOk result (IsPerformed task source (use_of K.held K.faults image.old image.new)) }
     ensures refused { (task : AnyTask) (source : Used) → IsDue task source (outcome_of due)
         → IfErr result (λ r. IsCaused task source (use_of K.held K.faults image.old image.new) r.refusal r.kept) }
-    ensures untouched { IfErr result (λ r. refusal_status r.refusal ≢ 6 → refusal_status r.refusal ≢ 7 → image.new ≡ image.old) }
     ensures part { (task : AnyTask) (source : Used) → IsDue task source (outcome_of due)
         → OnErr result (PartlyWritten task source (use_of K.held K.faults image.old image.new)) }
     ensures blank { IsBlank due.image → image.new ≡ image.old }
@@ -187,13 +181,11 @@ pub(crate) fn perform<S: Source, K: Sink>(
 ) -> Result<Told, Refused>
     requires alone { starts_threads job ≡ false }
     requires ready { AreReady (map (λ b. meaning b) chain.old.items) }
-    ensures done { IfOk result (IsPerformed (task_of (map (λ b. meaning b) chain.old.items) job) (use_of S.left S.faults source.old source.new) (use_of K.held K.faults image.old image.new)) }
-    ensures refused { IfErr result (λ r. IsCaused (task_of (map (λ b. meaning b) chain.old.items) job) (use_of S.left S.faults source.old source.new) (use_of K.held K.faults image.old image.new) r.refusal r.kept) }
-    ensures untouched { IfErr result (λ r. refusal_status r.refusal ≢ 6 → refusal_status r.refusal ≢ 7 → image.new ≡ image.old) }
-    ensures part { OnErr result ((image.new ≡ image.old) ⊎ PartlyWritten (task_of (map (λ b. meaning b) chain.old.items) job) (use_of S.left S.faults source.old source.new) (use_of K.held K.faults image.old image.new)) }
-    ensures members { LeftWith (task_of (map (λ b. meaning b) chain.old.items) job) (use_of S.left S.faults source.old source.new) result (map (λ b. meaning b) chain.new.items) }
-    ensures blank { ShowsNothing job → image.new ≡ image.old }
-    ensures unread { (Reads job → ⊥) → source.new ≡ source.old }
+    ensures carried { let task = task_of (map (λ b. meaning b) chain.old.items) job in
+        let left = map (λ b. meaning b) chain.new.items in
+        let read = use_of S.left S.faults source.old source.new in
+        let sent = use_of K.held K.faults image.old image.new in
+        IsCarriedOut task read sent left (source.new ≡ source.old) (image.new ≡ image.old) result }
     ensures later_source { S.faults source.old ≤ S.faults source.new }
     ensures later_image { K.faults image.old ≤ K.faults image.new }
 {
@@ -214,11 +206,11 @@ fn perform_apart<S: Source, K: Sink>(
 ) -> Result<Told, Refused>
     requires apart { job ≡ ToLast }
     requires ready { AreReady (map (λ b. meaning b) chain.old.items) }
-    ensures done { IfOk result (IsPerformed (task_of (map (λ b. meaning b) chain.old.items) job) (use_of S.left S.faults source.old source.new) (use_of K.held K.faults image.old image.new)) }
-    ensures refused { IfErr result (λ r. IsCaused (task_of (map (λ b. meaning b) chain.old.items) job) (use_of S.left S.faults source.old source.new) (use_of K.held K.faults image.old image.new) r.refusal r.kept) }
-    ensures untouched { IfErr result (λ r. refusal_status r.refusal ≢ 6 → refusal_status r.refusal ≢ 7 → image.new ≡ image.old) }
-    ensures part { OnErr result ((image.new ≡ image.old) ⊎ PartlyWritten (task_of (map (λ b. meaning b) chain.old.items) job) (use_of S.left S.faults source.old source.new) (use_of K.held K.faults image.old image.new)) }
-    ensures members { LeftWith (task_of (map (λ b. meaning b) chain.old.items) job) (use_of S.left S.faults source.old source.new) result (map (λ b. meaning b) chain.new.items) }
+    ensures carried { let task = task_of (map (λ b. meaning b) chain.old.items) job in
+        let left = map (λ b. meaning b) chain.new.items in
+        let read = use_of S.left S.faults source.old source.new in
+        let sent = use_of K.held K.faults image.old image.new in
+        IsCarriedOut task read sent left (source.new ≡ source.old) (image.new ≡ image.old) result }
     ensures later_source { S.faults source.old ≤ S.faults source.new }
     ensures later_image { K.faults image.old ≤ K.faults image.new }
 {
@@ -264,14 +256,11 @@ where
     R: Threads + Wait + Copy + Send + Sync + Drop,
     requires threads { threads_of job ≡ Some cluster }
     requires ready { AreReady (map (λ b. meaning b) chain.old.items) }
-    ensures done { IfOk result (IsPerformed (task_of (map (λ b. meaning b) chain.old.items) job) (use_of S.left S.faults source.old source.new) (use_of K.held K.faults image.old image.new)) }
-    ensures refused { IfErr result (λ r. IsCaused (task_of (map (λ b. meaning b) chain.old.items) job) (use_of S.left S.faults source.old source.new) (use_of K.held K.faults image.old image.new) r.refusal r.kept) }
-    ensures untouched { IfErr result (λ r. refusal_status r.refusal ≢ 6 → refusal_status r.refusal ≢ 7 → image.new ≡ image.old) }
-    ensures part { OnErr result ((image.new ≡ image.old) ⊎ PartlyWritten (task_of (map (λ b. meaning b) chain.old.items) job) (use_of S.left S.faults source.old source.new) (use_of K.held K.faults image.old image.new)
-        ⊎ PartlyShown (task_of (map (λ b. meaning b) chain.old.items) job) (use_of S.left S.faults source.old source.new) (use_of K.held K.faults image.old image.new)) }
-    ensures members { LeftWith (task_of (map (λ b. meaning b) chain.old.items) job) (use_of S.left S.faults source.old source.new) result (map (λ b. meaning b) chain.new.items) }
-    ensures blank { ShowsNothing job → image.new ≡ image.old }
-    ensures unread { (Reads job → ⊥) → source.new ≡ source.old }
+    ensures carried { let task = task_of (map (λ b. meaning b) chain.old.items) job in
+        let left = map (λ b. meaning b) chain.new.items in
+        let read = use_of S.left S.faults source.old source.new in
+        let sent = use_of K.held K.faults image.old image.new in
+        IsCarriedOut task read sent left (source.new ≡ source.old) (image.new ≡ image.old) result }
     ensures later_source { S.faults source.old ≤ S.faults source.new }
     ensures later_image { K.faults image.old ≤ K.faults image.new }
 {
@@ -311,14 +300,11 @@ where
     R: Threads + Wait + Copy + Send + Sync + Drop,
     requires threaded { starts_threads job ≡ true }
     requires ready { AreReady (map (λ b. meaning b) chain.old.items) }
-    ensures done { IfOk result (IsPerformed (task_of (map (λ b. meaning b) chain.old.items) job) (use_of S.left S.faults source.old source.new) (use_of K.held K.faults image.old image.new)) }
-    ensures refused { IfErr result (λ r. IsCaused (task_of (map (λ b. meaning b) chain.old.items) job) (use_of S.left S.faults source.old source.new) (use_of K.held K.faults image.old image.new) r.refusal r.kept) }
-    ensures untouched { IfErr result (λ r. refusal_status r.refusal ≢ 6 → refusal_status r.refusal ≢ 7 → image.new ≡ image.old) }
-    ensures part { OnErr result ((image.new ≡ image.old) ⊎ PartlyWritten (task_of (map (λ b. meaning b) chain.old.items) job) (use_of S.left S.faults source.old source.new) (use_of K.held K.faults image.old image.new)
-        ⊎ PartlyShown (task_of (map (λ b. meaning b) chain.old.items) job) (use_of S.left S.faults source.old source.new) (use_of K.held K.faults image.old image.new)) }
-    ensures members { LeftWith (task_of (map (λ b. meaning b) chain.old.items) job) (use_of S.left S.faults source.old source.new) result (map (λ b. meaning b) chain.new.items) }
-    ensures blank { ShowsNothing job → image.new ≡ image.old }
-    ensures unread { (Reads job → ⊥) → source.new ≡ source.old }
+    ensures carried { let task = task_of (map (λ b. meaning b) chain.old.items) job in
+        let left = map (λ b. meaning b) chain.new.items in
+        let read = use_of S.left S.faults source.old source.new in
+        let sent = use_of K.held K.faults image.old image.new in
+        IsCarriedOut task read sent left (source.new ≡ source.old) (image.new ≡ image.old) result }
     ensures later_source { S.faults source.old ≤ S.faults source.new }
     ensures later_image { K.faults image.old ≤ K.faults image.new }
 {
@@ -341,14 +327,11 @@ pub(crate) fn perform_any<S: Source, K: Sink, G: Gate, R>(
 where
     R: Threads + Wait + Copy + Send + Sync + Drop,
     requires ready { AreReady (map (λ b. meaning b) chain.old.items) }
-    ensures done { IfOk result (IsPerformed (task_of (map (λ b. meaning b) chain.old.items) job) (use_of S.left S.faults source.old source.new) (use_of K.held K.faults image.old image.new)) }
-    ensures refused { IfErr result (λ r. IsCaused (task_of (map (λ b. meaning b) chain.old.items) job) (use_of S.left S.faults source.old source.new) (use_of K.held K.faults image.old image.new) r.refusal r.kept) }
-    ensures untouched { IfErr result (λ r. refusal_status r.refusal ≢ 6 → refusal_status r.refusal ≢ 7 → image.new ≡ image.old) }
-    ensures part { OnErr result ((image.new ≡ image.old) ⊎ PartlyWritten (task_of (map (λ b. meaning b) chain.old.items) job) (use_of S.left S.faults source.old source.new) (use_of K.held K.faults image.old image.new)
-        ⊎ PartlyShown (task_of (map (λ b. meaning b) chain.old.items) job) (use_of S.left S.faults source.old source.new) (use_of K.held K.faults image.old image.new)) }
-    ensures members { LeftWith (task_of (map (λ b. meaning b) chain.old.items) job) (use_of S.left S.faults source.old source.new) result (map (λ b. meaning b) chain.new.items) }
-    ensures blank { ShowsNothing job → image.new ≡ image.old }
-    ensures unread { (Reads job → ⊥) → source.new ≡ source.old }
+    ensures carried { let task = task_of (map (λ b. meaning b) chain.old.items) job in
+        let left = map (λ b. meaning b) chain.new.items in
+        let read = use_of S.left S.faults source.old source.new in
+        let sent = use_of K.held K.faults image.old image.new in
+        IsCarriedOut task read sent left (source.new ≡ source.old) (image.new ≡ image.old) result }
     ensures later_source { S.faults source.old ≤ S.faults source.new }
     ensures later_image { K.faults image.old ≤ K.faults image.new }
 {

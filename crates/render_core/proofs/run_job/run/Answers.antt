@@ -1,117 +1,67 @@
-use Rattle.std.proofs.Common.{◌≡◌, ◌⊎◌, [], refl, subst}
-use Rattle.std.specs.Prelude.{IfOk}
+use Rattle.std.proofs.Common.{◌≡◌, ◌≤◌, arith, [], refl, subst}
 use Rattle.rc_base.specs.Outside.Ends.{use_of}
-use Rattle.render_core.specs.Finishes.{IsFinished}
-use Rattle.render_core.specs.Jobs.{AskPlainly, ShowsNothing, Task, task_of}
-use Rattle.render_core.specs.Outcomes.{PartlyShown, PartlyWritten}
-use Rattle.render_core.proofs.BehindFilters.{empty_ready, no_rules}
+use Rattle.render_core.specs.Jobs.{AskPlainly, task_of}
+use Rattle.render_core.proofs.BehindFilters.{empty_ready, line_of, no_rules}
 use Rattle.render_core.proofs.Endings.{same_task}
-use Rattle.render_core.proofs.Finishing.{left_alone, left_by, ran_by, silent_by, taskless, unasked, unwritten_by}
-use Rattle.render_core.proofs.Headline.{completes, headline, permits, refuses}
+use Rattle.render_core.proofs.Finished.{task_ended, unasked_ended}
+use Rattle.render_core.proofs.Finishing.{jobless_usage, left_alone, taskless}
 use Rattle.render_core.proofs.run_job.run.Goals as goal
 
-pub returns-in-Err-clause-ran : goal.returns-in-Err-clause-ran
-returns-in-Err-clause-ran g c =
-    let source = use_of g.S.Source.left g.S.Source.faults c.args.source.now c.args.source.now in
-    let image = use_of g.K.Sink.held g.K.Sink.faults c.args.image.now c.args.image.now in
+pub returns-in-Err : goal.returns-in-Err
+returns-in-Err g c =
     let notes = use_of g.N.Sink.held g.N.Sink.faults c.args.notes.now c.job_for.new.notes in
-    unasked (AskPlainly c.args.words.now) notes c.in-Err.finish (taskless c.args.words.now [] notes c.in-Err.finish c.in-Err.ensures.none) source image
+    let ended =
+    unasked_ended c.findings_are_one.ensures c.ordered_records_show_one_image.ensures c.full_records_are_foreseen.ensures (AskPlainly c.args.words.now)
+    (same_task c.lines_have_one_reading.ensures c.args.words.now) (use_of g.S.Source.left g.S.Source.faults c.args.source.now c.args.source.now)
+    (use_of g.K.Sink.held g.K.Sink.faults c.args.image.now c.args.image.now) (c.args.source.now ≡ c.args.source.now)
+    (c.args.image.now ≡ c.args.image.now) c.in-Err.finish notes (c.job_for.new.notes ≡ c.args.notes.now) []
+    (taskless c.args.words.now [] notes c.in-Err.finish c.in-Err.ensures.none) refl refl
+    in
+    record {
+      headline = ended.headline;
+      ran = ended.ran;
+      refuses = ended.refuses;
+      completes = ended.completes;
+      permitted = ended.permitted;
+      usage = jobless_usage c.args.words.now notes c.in-Err.finish c.in-Err.ensures.none;
+      unread = ended.unread;
+      untouched = ended.untouched;
+      blank = ended.blank;
+      memory = ended.memory;
+      silent = ended.silent;
+      later_source = omega arith;
+      later_image = omega arith;
+      later_notes = c.job_for.ensures.later;
+    }
 
-pub returns-in-Err-clause-refuses : goal.returns-in-Err-clause-refuses
-returns-in-Err-clause-refuses g c =
-    let source = use_of g.S.Source.left g.S.Source.faults c.args.source.now c.args.source.now in
-    let image = use_of g.K.Sink.held g.K.Sink.faults c.args.image.now c.args.image.now in
-    let notes = use_of g.N.Sink.held g.N.Sink.faults c.args.notes.now c.job_for.new.notes in
-    let ran = unasked (AskPlainly c.args.words.now) notes c.in-Err.finish (taskless c.args.words.now [] notes c.in-Err.finish c.in-Err.ensures.none) source image in
-    refuses c.findings_are_one.ensures (AskPlainly c.args.words.now) (same_task c.lines_have_one_reading.ensures c.args.words.now) source image notes _ _ ran
-
-pub returns-in-Err-clause-completes : goal.returns-in-Err-clause-completes
-returns-in-Err-clause-completes g c =
-    let source = use_of g.S.Source.left g.S.Source.faults c.args.source.now c.args.source.now in
-    let image = use_of g.K.Sink.held g.K.Sink.faults c.args.image.now c.args.image.now in
-    let notes = use_of g.N.Sink.held g.N.Sink.faults c.args.notes.now c.job_for.new.notes in
-    let ran = unasked (AskPlainly c.args.words.now) notes c.in-Err.finish (taskless c.args.words.now [] notes c.in-Err.finish c.in-Err.ensures.none) source image in
-    completes c.findings_are_one.ensures (AskPlainly c.args.words.now) (same_task c.lines_have_one_reading.ensures c.args.words.now) source image notes _ _ ran
-
-pub returns-clause-headline : goal.returns-clause-headline
-returns-clause-headline g c =
-    let source = use_of g.S.Source.left g.S.Source.faults c.args.source.now c.perform_in_threads-performed.new.source in
-    let image = use_of g.K.Sink.held g.K.Sink.faults c.args.image.now c.perform_in_threads-performed.new.image in
-    let notes = use_of g.N.Sink.held g.N.Sink.faults c.args.notes.now c.finish_of.new.notes in
-    let finished = subst (λ n. IsFinished (use_of g.N.Sink.held g.N.Sink.faults n c.finish_of.new.notes) c.perform_in_threads-performed.result c.finish_of.result) c.in-Ok.ensures.unnoted c.finish_of.ensures.finished in
-    let ran = ran_by (AskPlainly c.args.words.now) _ (no_rules _ _ c.new-chain.ensures.items, c.in-Ok.ensures.job) source image notes c.finish_of.result c.perform_in_threads-performed.result finished c.perform_in_threads-performed.ensures.done c.perform_in_threads-performed.ensures.refused in
-    headline c.ordered_records_show_one_image.ensures c.full_records_are_foreseen.ensures (AskPlainly c.args.words.now) source image notes _ _ ran
-
-pub returns-clause-ran : goal.returns-clause-ran
-returns-clause-ran g c =
-    let source = use_of g.S.Source.left g.S.Source.faults c.args.source.now c.perform_in_threads-performed.new.source in
-    let image = use_of g.K.Sink.held g.K.Sink.faults c.args.image.now c.perform_in_threads-performed.new.image in
-    let notes = use_of g.N.Sink.held g.N.Sink.faults c.args.notes.now c.finish_of.new.notes in
-    let finished = subst (λ n. IsFinished (use_of g.N.Sink.held g.N.Sink.faults n c.finish_of.new.notes) c.perform_in_threads-performed.result c.finish_of.result) c.in-Ok.ensures.unnoted c.finish_of.ensures.finished in
-    let ran = ran_by (AskPlainly c.args.words.now) _ (no_rules _ _ c.new-chain.ensures.items, c.in-Ok.ensures.job) source image notes c.finish_of.result c.perform_in_threads-performed.result finished c.perform_in_threads-performed.ensures.done c.perform_in_threads-performed.ensures.refused in
-    ran
-
-pub returns-clause-refuses : goal.returns-clause-refuses
-returns-clause-refuses g c =
-    let source = use_of g.S.Source.left g.S.Source.faults c.args.source.now c.perform_in_threads-performed.new.source in
-    let image = use_of g.K.Sink.held g.K.Sink.faults c.args.image.now c.perform_in_threads-performed.new.image in
-    let notes = use_of g.N.Sink.held g.N.Sink.faults c.args.notes.now c.finish_of.new.notes in
-    let finished = subst (λ n. IsFinished (use_of g.N.Sink.held g.N.Sink.faults n c.finish_of.new.notes) c.perform_in_threads-performed.result c.finish_of.result) c.in-Ok.ensures.unnoted c.finish_of.ensures.finished in
-    let ran = ran_by (AskPlainly c.args.words.now) _ (no_rules _ _ c.new-chain.ensures.items, c.in-Ok.ensures.job) source image notes c.finish_of.result c.perform_in_threads-performed.result finished c.perform_in_threads-performed.ensures.done c.perform_in_threads-performed.ensures.refused in
-    refuses c.findings_are_one.ensures (AskPlainly c.args.words.now) (same_task c.lines_have_one_reading.ensures c.args.words.now) source image notes _ _ ran
-
-pub returns-clause-completes : goal.returns-clause-completes
-returns-clause-completes g c =
-    let source = use_of g.S.Source.left g.S.Source.faults c.args.source.now c.perform_in_threads-performed.new.source in
-    let image = use_of g.K.Sink.held g.K.Sink.faults c.args.image.now c.perform_in_threads-performed.new.image in
-    let notes = use_of g.N.Sink.held g.N.Sink.faults c.args.notes.now c.finish_of.new.notes in
-    let finished = subst (λ n. IsFinished (use_of g.N.Sink.held g.N.Sink.faults n c.finish_of.new.notes) c.perform_in_threads-performed.result c.finish_of.result) c.in-Ok.ensures.unnoted c.finish_of.ensures.finished in
-    let ran = ran_by (AskPlainly c.args.words.now) _ (no_rules _ _ c.new-chain.ensures.items, c.in-Ok.ensures.job) source image notes c.finish_of.result c.perform_in_threads-performed.result finished c.perform_in_threads-performed.ensures.done c.perform_in_threads-performed.ensures.refused in
-    completes c.findings_are_one.ensures (AskPlainly c.args.words.now) (same_task c.lines_have_one_reading.ensures c.args.words.now) source image notes _ _ ran
-
-pub returns-clause-permitted : goal.returns-clause-permitted
-returns-clause-permitted g c =
-    let source = use_of g.S.Source.left g.S.Source.faults c.args.source.now c.perform_in_threads-performed.new.source in
-    let image = use_of g.K.Sink.held g.K.Sink.faults c.args.image.now c.perform_in_threads-performed.new.image in
-    let notes = use_of g.N.Sink.held g.N.Sink.faults c.args.notes.now c.finish_of.new.notes in
-    let finished = subst (λ n. IsFinished (use_of g.N.Sink.held g.N.Sink.faults n c.finish_of.new.notes) c.perform_in_threads-performed.result c.finish_of.result) c.in-Ok.ensures.unnoted c.finish_of.ensures.finished in
-    let ran = ran_by (AskPlainly c.args.words.now) _ (no_rules _ _ c.new-chain.ensures.items, c.in-Ok.ensures.job) source image notes c.finish_of.result c.perform_in_threads-performed.result finished c.perform_in_threads-performed.ensures.done c.perform_in_threads-performed.ensures.refused in
-    permits c.ordered_records_show_one_image.ensures c.full_records_are_foreseen.ensures (AskPlainly c.args.words.now) source image notes _ _ ran
-
-pub returns-clause-memory : goal.returns-clause-memory
-returns-clause-memory g c =
-    let source = use_of g.S.Source.left g.S.Source.faults c.args.source.now c.perform_in_threads-performed.new.source in
-    let image = use_of g.K.Sink.held g.K.Sink.faults c.args.image.now c.perform_in_threads-performed.new.image in
-    let notes = use_of g.N.Sink.held g.N.Sink.faults c.args.notes.now c.finish_of.new.notes in
-    let finished = subst (λ n. IsFinished (use_of g.N.Sink.held g.N.Sink.faults n c.finish_of.new.notes) c.perform_in_threads-performed.result c.finish_of.result) c.in-Ok.ensures.unnoted c.finish_of.ensures.finished in
-    left_by (AskPlainly c.args.words.now) _ (no_rules _ _ c.new-chain.ensures.items, c.in-Ok.ensures.job) source image notes c.finish_of.result (λ task. PartlyWritten task source image ⊎ PartlyShown task source image) c.perform_in_threads-performed.result finished c.perform_in_threads-performed.ensures.part
-
-pub returns-clause-silent : goal.returns-clause-silent
-returns-clause-silent g c =
-    let source = use_of g.S.Source.left g.S.Source.faults c.args.source.now c.perform_in_threads-performed.new.source in
-    let image = use_of g.K.Sink.held g.K.Sink.faults c.args.image.now c.perform_in_threads-performed.new.image in
-    let notes = use_of g.N.Sink.held g.N.Sink.faults c.args.notes.now c.finish_of.new.notes in
-    let finished = subst (λ n. IsFinished (use_of g.N.Sink.held g.N.Sink.faults n c.finish_of.new.notes) c.perform_in_threads-performed.result c.finish_of.result) c.in-Ok.ensures.unnoted c.finish_of.ensures.finished in
-    silent_by (AskPlainly c.args.words.now) _ (no_rules _ _ c.new-chain.ensures.items, c.in-Ok.ensures.job) source image notes c.finish_of.result c.perform_in_threads-performed.result finished c.perform_in_threads-performed.ensures.done
-    (subst (λ n. IfOk c.perform_in_threads-performed.result (λ told. told.lines ≡ [] → c.finish_of.new.notes ≡ n)) c.in-Ok.ensures.unnoted c.finish_of.ensures.silent)
-
-pub returns-clause-untouched : goal.returns-clause-untouched
-returns-clause-untouched g c =
-    let source = use_of g.S.Source.left g.S.Source.faults c.args.source.now c.perform_in_threads-performed.new.source in
-    let image = use_of g.K.Sink.held g.K.Sink.faults c.args.image.now c.perform_in_threads-performed.new.image in
-    let notes = use_of g.N.Sink.held g.N.Sink.faults c.args.notes.now c.finish_of.new.notes in
-    let finished = subst (λ n. IsFinished (use_of g.N.Sink.held g.N.Sink.faults n c.finish_of.new.notes) c.perform_in_threads-performed.result c.finish_of.result) c.in-Ok.ensures.unnoted c.finish_of.ensures.finished in
-    unwritten_by (AskPlainly c.args.words.now) _ (no_rules _ _ c.new-chain.ensures.items, c.in-Ok.ensures.job) source image notes c.finish_of.result c.perform_in_threads-performed.result finished c.perform_in_threads-performed.ensures.done c.perform_in_threads-performed.ensures.blank c.perform_in_threads-performed.ensures.untouched
-
-pub returns-clause-blank : goal.returns-clause-blank
-returns-clause-blank g c = λ h.
-    c.perform_in_threads-performed.ensures.blank (subst (λ (t : Task). ShowsNothing t.job) ((same_task c.lines_have_one_reading.ensures c.args.words.now) h.0 (task_of [] _) h.1 (refl, c.in-Ok.ensures.job)) h.2)
+pub returns : goal.returns
+returns g c =
+    let ended =
+    task_ended c.findings_are_one.ensures c.ordered_records_show_one_image.ensures c.full_records_are_foreseen.ensures (AskPlainly c.args.words.now)
+    (same_task c.lines_have_one_reading.ensures c.args.words.now) (use_of g.S.Source.left g.S.Source.faults c.args.source.now c.perform_in_threads-performed.new.source)
+    (use_of g.K.Sink.held g.K.Sink.faults c.args.image.now c.perform_in_threads-performed.new.image) _ _ c.finish_of.result
+    g.N.Sink.held g.N.Sink.faults c.args.notes.now _ c.finish_of.new.notes c.in-Ok.ensures.unnoted _ (no_rules _ _ c.new-chain.ensures.items, c.in-Ok.ensures.job) _ c.perform_in_threads-performed.result
+    c.perform_in_threads-performed.ensures.carried c.finish_of.ensures.finished c.finish_of.ensures.silent
+    in
+    record {
+      headline = ended.headline;
+      ran = ended.ran;
+      refuses = ended.refuses;
+      completes = ended.completes;
+      permitted = ended.permitted;
+      usage = λ other. absurd (other (line_of c.args.words.now (task_of [] _) (refl, c.in-Ok.ensures.job)));
+      unread = ended.unread;
+      untouched = ended.untouched;
+      blank = ended.blank;
+      memory = ended.memory;
+      silent = ended.silent;
+      later_source = c.perform_in_threads-performed.ensures.later_source;
+      later_image = c.perform_in_threads-performed.ensures.later_image;
+      later_notes = subst (λ n. g.N.Sink.faults n ≤ g.N.Sink.faults c.finish_of.new.notes) c.in-Ok.ensures.unnoted c.finish_of.ensures.later;
+    }
 
 pub perform_in_threads-performed-requires-clause-ready : goal.perform_in_threads-performed-requires-clause-ready
 perform_in_threads-performed-requires-clause-ready g c κs within = empty_ready _ _ c.new-chain.ensures.items
-
-pub returns-clause-unread : goal.returns-clause-unread
-returns-clause-unread g c = λ unread. c.perform_in_threads-performed.ensures.unread (unread (task_of [] _) (refl, c.in-Ok.ensures.job))
 
 pub returns-then-not-is_threaded-clause-memory : goal.returns-then-not-is_threaded-clause-memory
 returns-then-not-is_threaded-clause-memory g c = λ seven.

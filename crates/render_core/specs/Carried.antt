@@ -1,0 +1,49 @@
+-- What the steps of a job leave: those before the image, and the job as it was carried out.
+use Rattle.std.specs.Prelude.{◌≡◌, ◌≢◌, ◌⊎◌, List, None, IfErr, IfOk, OnErr}
+use Rattle.std.specs.declared.result.Result.{Result}
+use Rattle.rc_base.specs.Formats.Limits.{limit_of}
+use Rattle.rc_base.specs.Outside.Ends.{Used}
+use Rattle.spu_chain.specs.declared.rule.SpuRule.{SpuRule}
+use Rattle.render_core.specs.declared.due.Due.{Due}
+use Rattle.render_core.specs.declared.refusal.Refusal.{Refusal}
+use Rattle.render_core.specs.declared.refusal.Refused.{Refused}
+use Rattle.render_core.specs.declared.work.Work.{Work}
+use Rattle.render_core.specs.declared.writing.Told.{Told}
+use Rattle.render_core.specs.Jobs.{Task, Reads, ShowsNothing, origin_of}
+use Rattle.render_core.specs.Outcomes.{IsDue, PartlyGiven}
+use Rattle.render_core.specs.Refusals.{outcome_of, refusal_status, IsBlank, IsCaused, IsPerformed, IsRefusedUnwritten, IsWell, IsWorkOf, IsWritable, LeftAfter, LeftWith}
+use Rattle.render_core.specs.Scenes.{HasTiles}
+
+-- the task works on this, which is within the limits, and so are the tiles that the words ask for
+pub record IsSoundWork (task : Task) (source : Used) (work : Work) : Type 0 where
+  pub is_work : IsWorkOf task source work
+  pub well : IsWell (origin_of task.job) work.scene
+  pub within : limit_of work.scene ≡ None
+  pub tiles : HasTiles task.job work.scene
+
+-- this is due for the task's work and can be written, and nothing is due to the image of a job that shows nothing
+pub record IsWritableDue (task : Task) (source : Used) (due : Due) : Type 0 where
+  pub is_due : IsDue task source (outcome_of due)
+  pub writable : IsWritable due.image
+  pub blank : ShowsNothing task.job → IsBlank due.image
+
+-- What holds so was obtained from the source, or the task is refused before its image. The members of the chain have these rules left, and the source
+-- stays of a job that makes its scene.
+pub record IsObtained {A : Type 0} (task : Task) (source : Used) (left : List SpuRule) (SourceStays : Type 0) (holds : A → Type 0)
+    (result : Result A Refusal) : Type 0 where
+  pub given : IfOk result holds
+  pub refused : IfErr result (IsRefusedUnwritten task source)
+  pub members : LeftAfter task source result left
+  pub unread : (Reads task.job → ⊥) → SourceStays
+
+-- The task is carried out but for what is left to tell, or it is refused. The image stays where the refusal comes before it, where memory lacked before
+-- it was given anything, and where the job shows nothing.
+pub record IsCarriedOut (task : Task) (source image : Used) (left : List SpuRule) (SourceStays ImageStays : Type 0) (result : Result Told Refused)
+    : Type 0 where
+  pub done : IfOk result (IsPerformed task source image)
+  pub refused : IfErr result (λ r. IsCaused task source image r.refusal r.kept)
+  pub untouched : IfErr result (λ r. refusal_status r.refusal ≢ 6 → refusal_status r.refusal ≢ 7 → ImageStays)
+  pub part : OnErr result (ImageStays ⊎ PartlyGiven task source image)
+  pub members : LeftWith task source result left
+  pub blank : ShowsNothing task.job → ImageStays
+  pub unread : (Reads task.job → ⊥) → SourceStays
