@@ -32,7 +32,7 @@ use rc_base::sync::{Journal, Name, Order, SyncLists, Waiting};
 use scene_file::write_scene;
 use scene_text::print_scene;
 use serial_render::{Survey, Turns, render_order, survey, turns_of};
-use sort_last::{LastFault, render_surveyed};
+use sort_last::{LastFault, LastSurvey, render_judged, survey_last};
 use std::alloc::{AllocError, Global};
 use std::thread::Threads;
 
@@ -246,8 +246,11 @@ pub(crate) fn last(
     scene_lists_are_well_formed();
     default_journal_is_maximal();
     frames_of_scenes_are_writable();
-    let Survey { syncs, faults } = survey(alloc, &work.scene)?;
-    let run = match render_surveyed(rt, alloc, &work.scene, &syncs) {
+    let LastSurvey {
+        survey: Survey { syncs, faults },
+        offence,
+    } = survey_last(rt, alloc, &work.scene)?;
+    let run = match render_judged(rt, alloc, &work.scene, &syncs, offence) {
         Ok(run) => run,
         Err(fault) => return Err(undue(fault)),
     };

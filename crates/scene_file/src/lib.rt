@@ -1,8 +1,8 @@
 //! Scenes as bytes.
 //!
 //! `read_scene` gives the scene that bytes spell, `write_scene` the bytes of a scene, and `check_limits` the first quantity of a scene
-//! that is outside its range. `read_list_scene` gives the scene with call lists that bytes spell, and `check_streams` judges the streams of the
-//! scene that it stands for.
+//! that is outside its range. `read_list_scene` gives the scene with call lists that bytes spell, where `begins_with_lists` says that they begin as such, and
+//! `check_streams` judges the streams of the scene that it stands for.
 #![tactic(auto)]
 
 mod beside;

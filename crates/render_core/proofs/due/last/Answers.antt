@@ -6,11 +6,11 @@ use Rattle.frame_out.specs.Writing.{AreWritable}
 use Rattle.render_core.proofs.Dues.{last_due, lawful}
 use Rattle.render_core.proofs.due.last.Goals as goal
 
-pub survey-requires : goal.survey-requires
-survey-requires g c = record { limits = c.requires.within; commands = c.requires.well.1; sizes = c.requires.well.0.shared }
+pub survey_last-requires-after_bounds : goal.survey_last-requires-after_bounds
+survey_last-requires-after_bounds g c κs within = record { limits = c.requires.within; commands = c.requires.well.1; sizes = c.requires.well.0.shared }
 
-pub render_surveyed-requires-clause-within : goal.render_surveyed-requires-clause-within
-render_surveyed-requires-clause-within g c κs within = record { limits = c.requires.within; commands = c.requires.well.1; sizes = c.requires.well.0.shared }
+pub render_judged-requires-clause-within : goal.render_judged-requires-clause-within
+render_judged-requires-clause-within g c κs within = record { limits = c.requires.within; commands = c.requires.well.1; sizes = c.requires.well.0.shared }
 
 pub short_report-requires : goal.short_report-requires
 short_report-requires g c =
@@ -24,7 +24,7 @@ returns-clause-outcome g c =
     let surveyed = c.in_ok-syncs.ensures in
     let run = c.in-Ok.run' in
     let is = c.in-Ok.ensures in
-    last_due c.args.work.now.scene c.in_ok-syncs.field-0.syncs surveyed.syncs run.journal run.waiting is.journal is.waiting is.at c.in_ok-syncs.field-0.faults
+    last_due c.args.work.now.scene c.in_ok-syncs.field-0.survey.syncs surveyed.syncs run.journal run.waiting is.journal is.waiting is.at c.in_ok-syncs.field-0.survey.faults
     surveyed.clients surveyed.faults c.args.work.now refl run.frames (is.frames) c.in_ok-notes.notes (cc (c.in_ok-notes.ensures, c.as_slice.ensures, c.as_slice-2.ensures)) c.ending_of-ending.result
     c.ending_of-ending.ensures
 
@@ -38,5 +38,5 @@ returns-clause-writable g c =
     let window : Layout = record { width = scene.decl.width; height = scene.decl.height; columns = 1; rows = 1 } in
     subst AreWritable (sym is.frames)
     (c.frames_of_scenes_are_writable.ensures scene window run.journal (frame_pixel scene _) c.requires.within (record { width = refl; height = refl })
-    (lawful scene c.in_ok-syncs.field-0.syncs surveyed.syncs run.journal run.waiting is.journal is.waiting is.at
+    (lawful scene c.in_ok-syncs.field-0.survey.syncs surveyed.syncs run.journal run.waiting is.journal is.waiting is.at
     (c.scene_lists_are_well_formed.ensures scene clients.0 (counts_some scene c.requires.within)) c.default_journal_is_maximal.ensures))
