@@ -1,9 +1,16 @@
 //! Chains of boxed members, and the words that name them.
+ghost use Rattle.std.specs.Prelude.{◌≡◌, ◌+◌, length, map, IfOk, IsTrue};
+ghost use Rattle.rc_base.specs.Formats.Limits.{commands_in};
+ghost use Rattle.spu_chain.specs.Filter.{HaveRoom};
+
 use command_line::filters;
 use rc_base::command::{Command, Commands, Rgba};
+use rc_base::items::Items;
 use rc_base::out_of_memory::OutOfMemory;
+use rc_base::scene::{Decl, Scene, Streams};
 use spu_chain::{
-    CountSpu, CullSpu, DropSpu, RecolourSpu, Spu, SpuRule, has_room, rules_of, run_chain,
+    CountSpu, CullSpu, DropSpu, RecolourSpu, Spu, SpuRule, filter_scene, has_room, rules_of,
+    run_chain,
 };
 use std::alloc::Global;
 use std::process::Abort;
@@ -110,6 +117,84 @@ fn a_count_before_a_drop_counts_what_is_dropped(rt: HostRuntime) {
     assert!(rt; makes(alloc, &mut chain, commands, &[Command::End]).expect(&rt, "memory"));
     let rules = [SpuRule::Count(9), SpuRule::Drop(0x24), SpuRule::Count(1)];
     assert!(rt; have(alloc, &chain, &rules).expect(&rt, "memory"));
+}
+
+// The streams of two clients.
+fn both(alloc: Global, first: Commands, second: Commands) -> Result<Streams, OutOfMemory>
+    ensures { IfOk result (λ s. commands_in s ≡ length first + length second) }
+{
+    let mut streams = Streams::new(alloc);
+    streams.push(first)?;
+    streams.push(second)?;
+    Ok(streams)
+}
+
+// The chain has room to count the commands of these streams, which are so many.
+fn has_room_for(chain: &Vec<Box<dyn Spu>>, streams: &Streams, count: usize) -> bool
+    requires { commands_in streams.now ≡ count }
+    ensures { IsTrue result → HaveRoom (commands_in streams.now) (map (λ b. meaning b) chain.now.items) }
+{
+    let _streams = streams;
+    has_room(chain, count)
+}
+
+// The streams that a chain makes of those of two clients with few commands, where it has room to count them.
+fn made(
+    alloc: Global,
+    chain: &mut Vec<Box<dyn Spu>>,
+    first: Commands,
+    second: Commands,
+) -> Result<Option<Streams>, OutOfMemory> {
+    let (one, two) = (first.len(), second.len());
+    if one > 9 || two > 9 {
+        return Ok(None);
+    }
+    let streams = both(alloc, first, second)?;
+    if !has_room_for(chain, &streams, one + two) {
+        return Ok(None);
+    }
+    let decl = Decl {
+        version: 1,
+        width: 3,
+        height: 2,
+        shared: Items::new(alloc),
+        barriers: Items::new(alloc),
+        semaphores: Items::new(alloc),
+    };
+    let Scene { streams, .. } = filter_scene(alloc, chain, Scene { decl, streams })?;
+    Ok(Some(streams))
+}
+
+// What a chain that counts before it drops Swaps, and again behind, makes of two streams, and the rules that its members have then.
+fn counts_on(alloc: Global) -> Result<bool, OutOfMemory> {
+    let mut chain: Vec<Box<dyn Spu>> = Vec::new(alloc);
+    chain.push(Box::new(alloc, CountSpu::new(5))?)?;
+    chain.push(Box::new(alloc, DropSpu::new(0x24))?)?;
+    chain.push(Box::new(alloc, CountSpu::new(0))?)?;
+    let mut first = Commands::new(alloc);
+    first.push(Command::Swap)?;
+    first.push(Command::End)?;
+    let mut second = Commands::new(alloc);
+    second.push(Command::Swap)?;
+    second.push(Command::Swap)?;
+    let Some(made) = made(alloc, &mut chain, first, second)? else {
+        return Ok(false);
+    };
+    let rules = [SpuRule::Count(9), SpuRule::Drop(0x24), SpuRule::Count(1)];
+    Ok(have(alloc, &chain, &rules)? && are_end_and_nothing(made.as_slice()))
+}
+
+// The streams of two clients, an End alone and nothing.
+fn are_end_and_nothing(streams: &[Commands]) -> bool {
+    match streams {
+        [first, second] => first.as_slice() == [Command::End].as_slice() && second.is_empty(),
+        _ => false,
+    }
+}
+
+#[test]
+fn a_count_goes_on_from_client_to_client(rt: HostRuntime) {
+    assert!(rt; counts_on(rt.alloc()).expect(&rt, "memory"));
 }
 
 #[test]

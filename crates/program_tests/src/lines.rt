@@ -1,6 +1,7 @@
-//! Lines that are taken with their values, and lines that are refused.
+//! Lines that are taken with their values, lines that are refused, and the jobs that they name.
 use command_line::{CommandLine, JobName, Settings, command_line};
 use rc_base::out_of_memory::OutOfMemory;
+use render_core::job::{Cluster, Job, job_of};
 use std::alloc::Global;
 
 const DEFAULTS: Settings = Settings {
@@ -12,12 +13,22 @@ const DEFAULTS: Settings = Settings {
     size: 0,
 };
 
-fn line_of(alloc: Global, words: &[&str]) -> Result<Option<CommandLine>, OutOfMemory> {
+fn texts(alloc: Global, words: &[&str]) -> Result<Vec<String>, OutOfMemory> {
     let mut all = Vec::new(alloc);
     for word in words {
         all.push(String::from_str(alloc, *word)?)?;
     }
-    command_line(alloc, all.as_slice())
+    Ok(all)
+}
+
+fn line_of(alloc: Global, words: &[&str]) -> Result<Option<CommandLine>, OutOfMemory> {
+    let words = texts(alloc, words)?;
+    command_line(alloc, words.as_slice())
+}
+
+fn job_by(alloc: Global, words: &[&str]) -> Result<Option<Job>, OutOfMemory> {
+    let words = texts(alloc, words)?;
+    job_of(alloc, words.as_slice())
 }
 
 #[test]
@@ -125,5 +136,48 @@ fn other_words_are_refused(rt: HostRuntime) {
     ];
     for words in &cases {
         assert!(rt; line_of(rt.alloc(), *words).expect(&rt, "memory") == None);
+    }
+}
+
+const CLUSTER: Cluster = Cluster {
+    columns: 1,
+    rows: 1,
+    depth: 8,
+    orders: false,
+};
+
+#[test]
+fn words_name_jobs(rt: HostRuntime) {
+    let cases: [(&[&str], Option<Job>); 6] = [
+        (&["serial"], Some(Job::Serial)),
+        (
+            &["render", "--tiles", "4x3", "--order", "--depth", "2"],
+            Some(Job::Render(Cluster {
+                columns: 4,
+                rows: 3,
+                depth: 2,
+                orders: true,
+            })),
+        ),
+        (
+            &["simulate", "--seed", "7"],
+            Some(Job::Simulate {
+                seed: 7,
+                cluster: CLUSTER,
+            }),
+        ),
+        (
+            &["demo", "--size", "12", "--seed", "3"],
+            Some(Job::Demo {
+                seed: 3,
+                size: 12,
+                cluster: CLUSTER,
+            }),
+        ),
+        (&["gen", "--seed", "3"], None),
+        (&["cull", "serial"], None),
+    ];
+    for (words, job) in cases {
+        assert!(rt; job_by(rt.alloc(), words).expect(&rt, "memory") == job);
     }
 }

@@ -1,4 +1,5 @@
 //! Runs on sources and sinks in memory.
+mod alone;
 mod apart;
 mod clusters;
 mod ends;
@@ -156,6 +157,21 @@ fn run_text(rt: &impl Host, alloc: Global, job: &[&str], text: &[u8]) -> Left {
     run_on(rt, alloc, job, scene.image.bytes())
 }
 
+// A job, what it is given, and the status, image and notes that it leaves.
+type Case<'a> = (&'a [&'a str], &'a [u8], u8, &'a [u8], &'a str);
+
+// Whether the case's run leaves what it says.
+fn leaves(rt: &impl Host, alloc: Global, case: Case) -> bool {
+    let (job, input, status, image, notes) = case;
+    run_on(rt, alloc, job, input).is(status, image, notes.as_bytes())
+}
+
+// The same of the scene of a text.
+fn leaves_of(rt: &impl Host, alloc: Global, case: Case) -> bool {
+    let (job, text, status, image, notes) = case;
+    run_text(rt, alloc, job, text).is(status, image, notes.as_bytes())
+}
+
 #[test]
 fn other_words_are_usage(rt: HostRuntime) {
     let rows: [&[&str]; 6] = [
@@ -167,8 +183,7 @@ fn other_words_are_usage(rt: HostRuntime) {
         &["Check"],
     ];
     for row in rows {
-        let left = run_on(&rt, rt.alloc(), row, &RED_CLEAR);
-        assert!(rt; left.is(1, b"".as_slice(), b"rc: usage\n".as_slice()));
+        assert!(rt; leaves(&rt, rt.alloc(), (row, &RED_CLEAR, 1, b"", "rc: usage\n")));
     }
 }
 
@@ -215,8 +230,7 @@ fn refusals_tell_kind_and_place(rt: HostRuntime) {
         ),
     ];
     for (job, input, due, line) in rows {
-        let left = run_on(&rt, rt.alloc(), &[job], input);
-        assert!(rt; left.is(due, b"".as_slice(), line.as_bytes()));
+        assert!(rt; leaves(&rt, rt.alloc(), (&[job], input, due, b"", line)));
     }
 }
 
@@ -232,8 +246,7 @@ fn words_past_their_limits_are_refused(rt: HostRuntime) {
         ),
     ];
     for (job, line) in rows {
-        let left = run_on(&rt, rt.alloc(), job, &RED_CLEAR);
-        assert!(rt; left.is(4, b"".as_slice(), line.as_bytes()));
+        assert!(rt; leaves(&rt, rt.alloc(), (job, &RED_CLEAR, 4, b"", line)));
     }
 }
 
@@ -250,18 +263,21 @@ fn refused_commands_are_noted(rt: HostRuntime) {
         ),
     ];
     for (input, lines) in rows {
-        let left = run_on(&rt, rt.alloc(), &["render"], input);
-        assert!(rt; left.is(0, BLACK_PIXEL, lines.as_bytes()));
+        assert!(rt; leaves(&rt, rt.alloc(), (&["render"], input, 0, BLACK_PIXEL, lines)));
     }
+}
+
+// Whether the red clear's first bytes are told to end too early.
+fn is_truncated(rt: &impl Host, alloc: Global, bytes: &[u8]) -> bool {
+    let line = format!(in alloc; "rc: malformed Truncated at {}\n", bytes.len()).expect(
+        rt, "memory",
+    );
+    leaves(rt, alloc, (&["render"], bytes, 3, b"", line.as_str()))
 }
 
 #[test]
 fn cut_scenes_are_truncated(rt: HostRuntime) {
     for cut in 0..26 {
-        let line = format!(in rt.alloc(); "rc: malformed Truncated at {cut}\n").expect(
-            &rt, "memory",
-        );
-        let left = run_on(&rt, rt.alloc(), &["render"], &RED_CLEAR[..cut]);
-        assert!(rt; left.is(3, b"".as_slice(), line.as_bytes()));
+        assert!(rt; is_truncated(&rt, rt.alloc(), &RED_CLEAR[..cut]));
     }
 }

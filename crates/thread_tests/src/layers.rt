@@ -5,7 +5,8 @@ use rc_base::gate::OpenGate;
 use rc_base::image::Image;
 use rc_base::window::{Pixel, Pixels};
 use scene_file::read_scene;
-use sort_last::{LastFault, Layer, composite, render_last};
+use serial_render::sync_lists;
+use sort_last::{LastFault, Layer, composite, render_last, render_surveyed};
 use std::alloc::Global;
 use std::process::Abort;
 use std::sync::Wait;
@@ -92,47 +93,52 @@ where
     }
 }
 
-#[test]
-fn of_equally_near_clients_the_first_stays(rt: HostRuntime) {
-    let parts = [ONE_PIXEL, CLIENT, RED, FULL, SWAP, CLIENT, BLUE, FULL, SWAP];
-    let told = told_of(rt, rt.alloc(), &parts, &[255, 0, 0]);
-    assert!(rt; told == Some(Told::Drawn(1, false)));
-}
+// The parts of a text, what is told of its scene, and the bytes of the frames.
+type Row<'a> = (&'a [&'a [u8]], Told, &'a [u8]);
+
+// Of equally near clients the first one stays, a nearer one covers it, a layer is of one frame, the first client's Clears begin a frame, and a client
+// with a Swap more waits.
+const LAYERS: [Row<'static>; 5] = [
+    (
+        &[ONE_PIXEL, CLIENT, RED, FULL, SWAP, CLIENT, BLUE, FULL, SWAP],
+        Told::Drawn(1, false),
+        &[255, 0, 0],
+    ),
+    (
+        &[
+            ONE_PIXEL, CLIENT, RED, FULL, SWAP, CLIENT, BLUE, NEARER, SWAP,
+        ],
+        Told::Drawn(1, false),
+        &[0, 0, 255],
+    ),
+    (
+        &[
+            ONE_PIXEL, CLIENT, SWAP, RED, FULL, SWAP, CLIENT, BLUE, FULL, SWAP, SWAP,
+        ],
+        Told::Drawn(2, false),
+        &[0, 0, 255, 0, 0, 255],
+    ),
+    (
+        &[
+            ONE_PIXEL, CLIENT, SWAP, CLEAR, RED, FULL, SWAP, CLIENT, BLUE, FULL, SWAP, SWAP,
+        ],
+        Told::Drawn(2, false),
+        &[0, 0, 255, 255, 0, 0],
+    ),
+    (
+        &[
+            ONE_PIXEL, CLIENT, RED, FULL, SWAP, SWAP, CLIENT, BLUE, FULL, SWAP,
+        ],
+        Told::Drawn(1, true),
+        &[255, 0, 0],
+    ),
+];
 
 #[test]
-fn a_nearer_client_covers_the_first(rt: HostRuntime) {
-    let parts = [
-        ONE_PIXEL, CLIENT, RED, FULL, SWAP, CLIENT, BLUE, NEARER, SWAP,
-    ];
-    let told = told_of(rt, rt.alloc(), &parts, &[0, 0, 255]);
-    assert!(rt; told == Some(Told::Drawn(1, false)));
-}
-
-#[test]
-fn layers_are_of_one_frame(rt: HostRuntime) {
-    let parts = [
-        ONE_PIXEL, CLIENT, SWAP, RED, FULL, SWAP, CLIENT, BLUE, FULL, SWAP, SWAP,
-    ];
-    let told = told_of(rt, rt.alloc(), &parts, &[0, 0, 255, 0, 0, 255]);
-    assert!(rt; told == Some(Told::Drawn(2, false)));
-}
-
-#[test]
-fn clears_of_the_first_client_begin_a_frame(rt: HostRuntime) {
-    let parts = [
-        ONE_PIXEL, CLIENT, SWAP, CLEAR, RED, FULL, SWAP, CLIENT, BLUE, FULL, SWAP, SWAP,
-    ];
-    let told = told_of(rt, rt.alloc(), &parts, &[0, 0, 255, 255, 0, 0]);
-    assert!(rt; told == Some(Told::Drawn(2, false)));
-}
-
-#[test]
-fn a_client_with_a_swap_more_waits(rt: HostRuntime) {
-    let parts = [
-        ONE_PIXEL, CLIENT, RED, FULL, SWAP, SWAP, CLIENT, BLUE, FULL, SWAP,
-    ];
-    let told = told_of(rt, rt.alloc(), &parts, &[255, 0, 0]);
-    assert!(rt; told == Some(Told::Drawn(1, true)));
+fn layers_are_put_together_frame_by_frame(rt: HostRuntime) {
+    for (parts, told, frames) in LAYERS {
+        assert!(rt; told_of(rt, rt.alloc(), parts, frames) == Some(told));
+    }
 }
 
 #[test]
@@ -284,7 +290,8 @@ where
     let bytes = packed(rt, alloc, text);
     let serial = left_by(rt, alloc, &["serial"], bytes.bytes(), &OpenGate);
     let scene = read_scene(alloc, bytes.bytes()).expect(&rt, "a scene");
-    match render_last(&rt, alloc, &scene) {
+    let syncs = sync_lists(alloc, &scene).expect(&rt, "memory");
+    match render_surveyed(&rt, alloc, &scene, &syncs) {
         Ok(run) => are_frames_of(run.frames.as_slice(), serial.image.bytes()),
         Err(_) => false,
     }

@@ -76,6 +76,13 @@ const CLEARED_AND_STUCK_REPORT: &str =
 // A client that waits for ever, and behind that clears what isn't its own to clear.
 const CLEARED_BEHIND_ITS_REACH: &[u8] = b"scene 1 1 1\nclient\nclient\nSwap\nClear 1\nClear 1\n";
 
+// Whether `last` ends so with the scene of a text, shows these frames and keeps no record.
+fn shows(rt: &impl Host, alloc: Global, row: (&[u8], u8, &[u8], &str)) -> bool {
+    let (text, status, frames, report) = row;
+    let left = run_text(rt, alloc, &["last"], text);
+    left.is(status, frames, report.as_bytes()) && left.kept.is_none()
+}
+
 #[test]
 fn layers_are_put_together_by_depth(rt: HostRuntime) {
     let red = b"P6\n1 1\n255\n\xff\0\0".as_slice();
@@ -99,9 +106,8 @@ fn layers_are_put_together_by_depth(rt: HostRuntime) {
             "rc: not for last 1 1\n",
         ),
     ];
-    for (text, due, frames, report) in rows {
-        let left = run_text(&rt, rt.alloc(), &["last"], text);
-        assert!(rt; left.is(due, frames, report.as_bytes()) && left.kept.is_none());
+    for row in rows {
+        assert!(rt; shows(&rt, rt.alloc(), row));
     }
 }
 

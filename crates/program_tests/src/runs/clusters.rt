@@ -1,6 +1,6 @@
 //! Scenes on clusters of tiles, by `render` and `simulate`.
-use super::run_text;
-use test_scenes::{BARRIER_IN_BLOCK, NO_UNIT};
+use super::{Case, leaves_of};
+use test_scenes::{BARRIER_IN_BLOCK, NO_UNIT, SWAP_ALONE};
 
 // A blend that is set and set back, and a scissor box that is one tile: what a tile was told isn't told again.
 pub(super) const LAZY_STATE: &[u8] = b"scene 1 2 1
@@ -45,11 +45,14 @@ const NO_UNIT_REPORT: &str =
 const NO_UNIT_IN_ORDER: &str =
     "tile 0 parcels 5 sets 1 looks 15\njournal 1\nframes 1\norder 0 0 0\norder 0 0 1\norder 0 0 2\nstuck client 0 at 3 SemP 1\nrc: stuck\n";
 
+const SWAP_ALONE_REPORT: &str =
+    "tile 0 parcels 3 sets 0 looks 0\njournal 0\nframes 0\nstuck client 1 at 0 Swap\nrc: stuck\n";
+
 #[test]
 fn clusters_draw_and_report(rt: HostRuntime) {
     let two_white = b"P6\n2 1\n255\n\xff\xff\xff\xff\xff\xff".as_slice();
     let white = b"P6\n1 1\n255\n\xff\xff\xff".as_slice();
-    let rows: [(&[&str], &[u8], u8, &[u8], &str); 5] = [
+    let rows: [Case; 6] = [
         (
             &["render", "--tiles", "2x1", "--depth", "1"],
             LAZY_STATE,
@@ -67,9 +70,9 @@ fn clusters_draw_and_report(rt: HostRuntime) {
         (&["render"], BARRIER_IN_BLOCK, 0, white, BARRIER_REPORT),
         (&["render"], NO_UNIT, 5, white, NO_UNIT_REPORT),
         (&["render", "--order"], NO_UNIT, 5, white, NO_UNIT_IN_ORDER),
+        (&["render"], SWAP_ALONE, 5, b"", SWAP_ALONE_REPORT),
     ];
-    for (job, text, due, frames, report) in rows {
-        let left = run_text(&rt, rt.alloc(), job, text);
-        assert!(rt; left.is(due, frames, report.as_bytes()));
+    for row in rows {
+        assert!(rt; leaves_of(&rt, rt.alloc(), row));
     }
 }

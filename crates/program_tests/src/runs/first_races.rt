@@ -1,5 +1,5 @@
 //! Which race `race` tells where there are several, and what touches, samples and orders.
-use super::run_text;
+use super::leaves_of;
 
 // Clients 0 and 1 draw on both sides of a barrier, client 2 without one, behind a barrier of its own.
 const TWO_CLIENTS_RACE_WITH_ONE: &[u8] = b"scene 1 1 1
@@ -240,8 +240,7 @@ fn one_race_of_several_is_told(rt: HostRuntime) {
         ),
     ];
     for (text, report) in rows {
-        let left = run_text(&rt, rt.alloc(), &["race"], text);
-        assert!(rt; left.is(11, b"".as_slice(), report.as_bytes()));
+        assert!(rt; leaves_of(&rt, rt.alloc(), (&["race"], text, 11, b"", report)));
     }
 }
 
@@ -254,7 +253,6 @@ fn what_meets_nothing_is_no_race(rt: HostRuntime) {
         (TWO_READERS, "journal 1\nframes 1\nrace none\n"),
     ];
     for (text, report) in rows {
-        let left = run_text(&rt, rt.alloc(), &["race"], text);
-        assert!(rt; left.is(0, b"".as_slice(), report.as_bytes()));
+        assert!(rt; leaves_of(&rt, rt.alloc(), (&["race"], text, 0, b"", report)));
     }
 }

@@ -26,6 +26,11 @@ fn seed_7_begins_with_red_40(rt: HostRuntime) {
     assert!(rt; first_red(&scene) == Some(40));
 }
 
+// Whether a job is refused by a limit, in this line.
+fn is_refused(rt: &impl Host, alloc: Global, job: &[&str], line: &str) -> bool {
+    run_on(rt, alloc, job, b"").is(4, b"", line.as_bytes())
+}
+
 // Tiles and depth are judged before the size.
 #[test]
 fn sizes_outside_their_range_are_refused(rt: HostRuntime) {
@@ -49,8 +54,7 @@ fn sizes_outside_their_range_are_refused(rt: HostRuntime) {
         ),
     ];
     for (job, line) in rows {
-        let left = run_on(&rt, rt.alloc(), job, b"");
-        assert!(rt; left.is(4, b"".as_slice(), line.as_bytes()));
+        assert!(rt; is_refused(&rt, rt.alloc(), job, line));
     }
 }
 

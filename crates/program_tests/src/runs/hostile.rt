@@ -1,6 +1,6 @@
 //! Inputs made to be hard: of just the most bytes and of one more, of lengths and pictures that are announced and missing, of endless lines.
 use super::{Host, finish_on, sink};
-use rc_base::in_memory::QuietSource;
+use rc_base::in_memory::{QuietSink, QuietSource};
 use std::alloc::Global;
 use std::process::Abort;
 
@@ -36,171 +36,100 @@ fn notes(
     finish.status == status && image.bytes().is_empty() && notes.bytes() == lines.as_bytes()
 }
 
-// A run of the job that refuses its input with this status and line.
-fn refuses(rt: &impl Host, alloc: Global, job: &str, input: &[u8], status: u8, line: &str) -> bool {
-    notes(rt, alloc, &[job], input, status, line)
+// Whether each of these jobs refuses so many bytes of one value with its status and line.
+fn refuse_filled(
+    rt: &impl Host,
+    alloc: Global,
+    len: usize,
+    byte: u8,
+    rows: &[(&str, u8, &str)],
+) -> bool {
+    let bytes = filled(rt, alloc, len, byte);
+    for (job, status, line) in rows {
+        if !notes(rt, alloc, &[*job], bytes.as_slice(), *status, *line) {
+            return false;
+        }
+    }
+    true
 }
 
 #[test]
 fn inputs_end_at_the_limit(rt: HostRuntime) {
     let past = "rc: limit scene bytes 33554433\n";
-    let zeros = filled(&rt, rt.alloc(), 33554433, 0);
-    for job in ["render", "pack", "unpack"] {
-        assert!(rt; refuses(&rt, rt.alloc(), job, zeros.as_slice(), 4, past));
+    let magic = "rc: malformed BadMagic at 0\n";
+    let rows: [(usize, u8, &[(&str, u8, &str)]); 3] = [
+        (
+            33554433,
+            0,
+            &[("render", 4, past), ("pack", 4, past), ("unpack", 4, past)],
+        ),
+        (
+            33554432,
+            0,
+            &[
+                ("render", 3, magic),
+                ("unpack", 3, magic),
+                ("pack", 3, "rc: malformed NotText at 1\n"),
+            ],
+        ),
+        (
+            33554432,
+            b' ',
+            &[("pack", 3, "rc: malformed NoScene at 1\n")],
+        ),
+    ];
+    for (len, byte, jobs) in rows {
+        assert!(rt; refuse_filled(&rt, rt.alloc(), len, byte, jobs));
     }
-    let zeros = filled(&rt, rt.alloc(), 33554432, 0);
-    let zeros = zeros.as_slice();
-    assert!(rt;
-        refuses(
-            &rt,
-            rt.alloc(),
-            "render",
-            zeros,
-            3,
-            "rc: malformed BadMagic at 0\n"
-        )
-    );
-    assert!(rt;
-        refuses(
-            &rt,
-            rt.alloc(),
-            "unpack",
-            zeros,
-            3,
-            "rc: malformed BadMagic at 0\n"
-        )
-    );
-    assert!(rt;
-        refuses(
-            &rt,
-            rt.alloc(),
-            "pack",
-            zeros,
-            3,
-            "rc: malformed NotText at 1\n"
-        )
-    );
 }
 
-#[test]
-fn a_text_of_spaces_has_no_scene(rt: HostRuntime) {
-    let spaces = filled(&rt, rt.alloc(), 33554432, b' ');
-    assert!(rt;
-        refuses(
-            &rt,
-            rt.alloc(),
-            "pack",
-            spaces.as_slice(),
-            3,
-            "rc: malformed NoScene at 1\n"
-        )
-    );
-}
+// One stream of 8 bytes: a packet of one TexImage, with a picture of 65535 by 65535 and not one texel.
+const NO_TEXEL: &[u8] =
+    b"RCS1\x01\x00\x01\x00\x01\x00\x00\x00\x08\x00\x00\x00\x01\x00\x1e\x01\xff\xff\xff\xff";
+
+// The same, and its first texel behind the stream's end.
+const TEXEL_BEHIND: &[u8] =
+    b"RCS1\x01\x00\x01\x00\x01\x00\x00\x00\x08\x00\x00\x00\x01\x00\x1e\x01\xff\xff\xff\xff\x00\x00\x00\x00";
 
 #[test]
 fn what_is_announced_has_to_come(rt: HostRuntime) {
-    // One stream of 8 bytes: a packet of one TexImage, with a picture of 65535 by 65535 and not one texel.
-    let picture =
-        b"RCS1\x01\x00\x01\x00\x01\x00\x00\x00\x08\x00\x00\x00\x01\x00\x1e\x01\xff\xff\xff\xff";
-    assert!(rt;
-        refuses(
-            &rt,
-            rt.alloc(),
-            "unpack",
-            picture,
-            3,
-            "rc: malformed Truncated at 24\n"
-        )
-    );
-    // The same, and its first texel behind the stream's end.
-    let behind =
-        b"RCS1\x01\x00\x01\x00\x01\x00\x00\x00\x08\x00\x00\x00\x01\x00\x1e\x01\xff\xff\xff\xff\x00\x00\x00\x00";
-    assert!(rt;
-        refuses(
-            &rt,
-            rt.alloc(),
-            "unpack",
-            behind,
-            3,
-            "rc: malformed Truncated at 24\n"
-        )
-    );
-    let text = b"scene 1 1 1\nclient\nTexImage 1 65535 65535\n";
-    assert!(rt;
-        refuses(
-            &rt,
-            rt.alloc(),
+    let rows: [(&str, &[u8], &str); 4] = [
+        ("unpack", NO_TEXEL, "rc: malformed Truncated at 24\n"),
+        ("unpack", TEXEL_BEHIND, "rc: malformed Truncated at 24\n"),
+        (
             "pack",
-            text,
-            3,
-            "rc: malformed WrongCount at 3\n"
-        )
-    );
-    let text = b"scene 1 1 1\nclient\nTexImage 1 65535 65535 00000000\n";
-    assert!(rt;
-        refuses(
-            &rt,
-            rt.alloc(),
+            b"scene 1 1 1\nclient\nTexImage 1 65535 65535\n",
+            "rc: malformed WrongCount at 3\n",
+        ),
+        (
             "pack",
-            text,
-            3,
-            "rc: malformed BadHex at 3\n"
-        )
-    );
+            b"scene 1 1 1\nclient\nTexImage 1 65535 65535 00000000\n",
+            "rc: malformed BadHex at 3\n",
+        ),
+    ];
+    for (job, input, line) in rows {
+        assert!(rt; notes(&rt, rt.alloc(), &[job], input, 3, line));
+    }
+}
+
+// A text with a word a million times that is refused with this line.
+fn refuses_words(rt: &impl Host, alloc: Global, front: &[u8], word: &[u8], line: &str) -> bool {
+    let text = repeated(rt, alloc, front, word, 1000000);
+    notes(rt, alloc, &["pack"], text.as_slice(), 3, line)
 }
 
 #[test]
 fn lines_of_a_million_words_are_told(rt: HostRuntime) {
-    let words = repeated(
-        &rt,
-        rt.alloc(),
-        b"scene 1 1 1\nclient\nClear",
-        b" 1",
-        1000000,
-    );
-    assert!(rt;
-        refuses(
-            &rt,
-            rt.alloc(),
-            "pack",
-            words.as_slice(),
-            3,
-            "rc: malformed WrongCount at 3\n"
-        )
-    );
-    let words = repeated(&rt, rt.alloc(), b"scene 1 1 1\nclient\n", b"Swap ", 1000000);
-    assert!(rt;
-        refuses(
-            &rt,
-            rt.alloc(),
-            "pack",
-            words.as_slice(),
-            3,
-            "rc: malformed WrongCount at 3\n"
-        )
-    );
-    let words = repeated(&rt, rt.alloc(), b"", b"a ", 1000000);
-    assert!(rt;
-        refuses(
-            &rt,
-            rt.alloc(),
-            "pack",
-            words.as_slice(),
-            3,
-            "rc: malformed UnknownWord at 1\n"
-        )
-    );
-    let lines = repeated(&rt, rt.alloc(), b"", b"#\n", 1000000);
-    assert!(rt;
-        refuses(
-            &rt,
-            rt.alloc(),
-            "pack",
-            lines.as_slice(),
-            3,
-            "rc: malformed NoScene at 1\n"
-        )
-    );
+    let counts = "rc: malformed WrongCount at 3\n";
+    let rows: [(&[u8], &[u8], &str); 4] = [
+        (b"scene 1 1 1\nclient\nClear", b" 1", counts),
+        (b"scene 1 1 1\nclient\n", b"Swap ", counts),
+        (b"", b"a ", "rc: malformed UnknownWord at 1\n"),
+        (b"", b"#\n", "rc: malformed NoScene at 1\n"),
+    ];
+    for (front, word, line) in rows {
+        assert!(rt; refuses_words(&rt, rt.alloc(), front, word, line));
+    }
 }
 
 // The scene of so many Swaps in a window of 2048 by 2048.
@@ -218,6 +147,13 @@ fn swaps(rt: &impl Abort, alloc: Global, count: u16) -> Vec<u8> {
         bytes.push(0x24).expect(rt, "memory");
     }
     bytes
+}
+
+// A run of the scene of so many Swaps that ends with this status and notes these lines, and whose image stays empty.
+fn notes_swaps(rt: &impl Host, alloc: Global, row: (&[&str], u16, u8, &str)) -> bool {
+    let (job, count, status, lines) = row;
+    let scene = swaps(rt, alloc, count);
+    notes(rt, alloc, job, scene.as_slice(), status, lines)
 }
 
 // `serial`, `last` and `simulate` hold all frames at once, up to eight of the largest window; a scene may have 512 of them.
@@ -243,8 +179,24 @@ fn frames_of_the_largest_window_are_counted(rt: HostRuntime) {
         (&["check"], 513, 4, "rc: limit pixels 2151677952\n"),
         (&["serial"], 513, 4, "rc: limit pixels 2151677952\n"),
     ];
-    for (job, count, status, lines) in rows {
-        let scene = swaps(&rt, rt.alloc(), count);
-        assert!(rt; notes(&rt, rt.alloc(), job, scene.as_slice(), status, lines));
+    for row in rows {
+        assert!(rt; notes_swaps(&rt, rt.alloc(), row));
     }
+}
+
+// The status and the notes of `render` on the scene of so many Swaps, whose frames go where nothing is kept.
+fn renders_swaps(rt: &impl Host, alloc: Global, count: u16, lines: &str) -> bool {
+    let scene = swaps(rt, alloc, count);
+    let mut source = QuietSource::new(alloc, scene.as_slice(), 1048576).expect(rt, "memory");
+    let mut image = QuietSink::new();
+    let mut notes = sink(rt, alloc, 64, &[]);
+    let finish = finish_on(rt, alloc, &["render"], &mut source, &mut image, &mut notes);
+    finish.status == 0 && notes.bytes() == lines.as_bytes()
+}
+
+// `render` writes each frame once it is shown, and may show more of the largest window than may be held.
+#[test]
+fn nine_frames_of_the_largest_window_are_rendered(rt: HostRuntime) {
+    let lines = "tile 0 parcels 10 sets 0 looks 0\njournal 9\nframes 9\n";
+    assert!(rt; renders_swaps(&rt, rt.alloc(), 9, lines));
 }

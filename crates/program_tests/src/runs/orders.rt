@@ -1,5 +1,6 @@
 //! Scenes of several clients, by `serial` and `check`.
-use super::run_text;
+use super::{Case, Host, leaves_of};
+use std::alloc::Global;
 use test_scenes::{BARRIER_IN_BLOCK, BLACK_PIXEL, BLENDED_IN_TURN, NO_UNIT, SWAP_ALONE};
 
 // One client writes a shared texture twice, the other one draws with it each time: one semaphore counts textures that are ready, one those that were
@@ -83,69 +84,63 @@ fn orders_are_drawn_and_reported(rt: HostRuntime) {
     let white = b"P6\n1 1\n255\n\xff\xff\xff".as_slice();
     let unswapped = "journal 0\nframes 0\nstuck client 1 at 0 Swap\nrc: stuck\n";
     let refused = "client 0 fault INVALID_OPERATION at 2\njournal 1\nframes 1\n";
-    let rows = [
+    let handed_on = b"P6\n2 1\n255\n\xff\0\0\0\xff\0".as_slice();
+    let held =
+        "journal 3\nframes 0\nstuck client 0 at 2 SemP 2\nstuck client 1 at 2 SemP 1\nrc: stuck\n";
+    let rows: [Case; 9] = [
         (
-            "serial",
+            &["serial"],
             BLENDED_IN_TURN,
             0,
             blended,
             "journal 5\nframes 1\n",
         ),
-        ("serial", SWAP_ALONE, 5, b"".as_slice(), unswapped),
-        ("serial", NO_UNIT, 5, white, NO_UNIT_REPORT),
-        ("check", NO_UNIT, 5, b"".as_slice(), NO_UNIT_REPORT),
-        ("check", BARRIER_IN_BLOCK, 0, b"".as_slice(), refused),
-    ];
-    for (job, text, due, frames, report) in rows {
-        let left = run_text(&rt, rt.alloc(), &[job], text);
-        assert!(rt; left.is(due, frames, report.as_bytes()));
-    }
-}
-
-#[test]
-fn units_are_handed_on(rt: HostRuntime) {
-    let handed_on = b"P6\n2 1\n255\n\xff\0\0\0\xff\0".as_slice();
-    let held =
-        "journal 3\nframes 0\nstuck client 0 at 2 SemP 2\nstuck client 1 at 2 SemP 1\nrc: stuck\n";
-    let rows = [
+        (&["serial"], SWAP_ALONE, 5, b"", unswapped),
+        (&["serial"], NO_UNIT, 5, white, NO_UNIT_REPORT),
+        (&["check"], NO_UNIT, 5, b"", NO_UNIT_REPORT),
+        (&["check"], BARRIER_IN_BLOCK, 0, b"", refused),
         (
-            "serial",
+            &["serial"],
             PRODUCED_AND_CONSUMED,
             0,
             handed_on,
             "journal 7\nframes 1\n",
         ),
         (
-            "serial",
+            &["serial"],
             ONE_FORK_FIRST,
             0,
             BLACK_PIXEL,
             "journal 9\nframes 1\n",
         ),
-        ("serial", A_FORK_EACH, 5, b"".as_slice(), held),
-        (
-            "serial",
-            NO_SWAP,
-            0,
-            b"".as_slice(),
-            "journal 1\nframes 0\n",
-        ),
+        (&["serial"], A_FORK_EACH, 5, b"", held),
+        (&["serial"], NO_SWAP, 0, b"", "journal 1\nframes 0\n"),
     ];
-    for (job, text, due, frames, report) in rows {
-        let left = run_text(&rt, rt.alloc(), &[job], text);
-        assert!(rt; left.is(due, frames, report.as_bytes()));
+    for row in rows {
+        assert!(rt; leaves_of(&rt, rt.alloc(), row));
     }
+}
+
+// The text of a client that gives a semaphore so many units.
+fn units(rt: &impl Host, alloc: Global, count: u32) -> Vec<u8> {
+    let front = b"scene 1 1 1\nsemaphore 0\nclient\n";
+    let mut text = Vec::from_slice(alloc, front).expect(rt, "memory");
+    for _ in 0..count {
+        text.extend_from_slice(b"SemV 1\n").expect(rt, "memory");
+    }
+    text.extend_from_slice(b"Swap\n").expect(rt, "memory");
+    text
 }
 
 #[test]
 fn a_thousand_units_are_given(rt: HostRuntime) {
-    let mut text = Vec::from_slice(rt.alloc(), b"scene 1 1 1\nsemaphore 0\nclient\n").expect(
-        &rt, "memory",
+    let text = units(&rt, rt.alloc(), 1025);
+    let report = "journal 1026\nframes 1\n";
+    assert!(rt;
+        leaves_of(
+            &rt,
+            rt.alloc(),
+            (&["serial"], text.as_slice(), 0, BLACK_PIXEL, report)
+        )
     );
-    for _ in 0..1025 {
-        text.extend_from_slice(b"SemV 1\n").expect(&rt, "memory");
-    }
-    text.extend_from_slice(b"Swap\n").expect(&rt, "memory");
-    let left = run_text(&rt, rt.alloc(), &["serial"], text.as_slice());
-    assert!(rt; left.is(0, BLACK_PIXEL, b"journal 1026\nframes 1\n".as_slice()));
 }

@@ -1,6 +1,6 @@
 //! Scenes whose commands synchronisation orders, or leaves unordered, by `race`.
 use super::orders::PRODUCED_AND_CONSUMED;
-use super::{CLEAR_IN_BLOCK, Host, left_on, run_on, run_text, sink, source_of};
+use super::{CLEAR_IN_BLOCK, Host, leaves, left_on, run_on, run_text, sink, source_of};
 use std::alloc::Global;
 use test_scenes::{
     BLENDED_AT_ONCE, BLENDED_IN_TURN, COMMAND_BETWEEN_MEETINGS, MEETINGS_IN_A_ROW,
@@ -43,6 +43,12 @@ const CLEARED_AND_STUCK_REPORT: &str =
 // A row that is stuck and has no race.
 const STUCK_ALONE: &[u8] = b"scene 1 1 1\nbarrier 2\nclient\nClear 1\nBarrier 1\n";
 
+// Whether `race` ends so with the scene of a text, shows nothing and keeps no record.
+fn tells(rt: &impl Host, alloc: Global, text: &[u8], status: u8, report: &str) -> bool {
+    let left = run_text(rt, alloc, &["race"], text);
+    left.is(status, b"", report.as_bytes()) && left.kept.is_none()
+}
+
 #[test]
 fn races_are_told(rt: HostRuntime) {
     let rows = [
@@ -81,16 +87,20 @@ fn races_are_told(rt: HostRuntime) {
         ),
     ];
     for (text, due, report) in rows {
-        let left = run_text(&rt, rt.alloc(), &["race"], text);
-        assert!(rt; left.is(due, b"".as_slice(), report.as_bytes()) && left.kept.is_none());
+        assert!(rt; tells(&rt, rt.alloc(), text, due, report));
     }
 }
 
 #[test]
 fn refused_commands_are_told_before_the_race(rt: HostRuntime) {
-    let left = run_on(&rt, rt.alloc(), &["race"], &CLEAR_IN_BLOCK);
-    let report = b"client 0 fault INVALID_OPERATION at 1\njournal 1\nframes 1\nrace none\n";
-    assert!(rt; left.is(0, b"".as_slice(), report.as_slice()));
+    let report = "client 0 fault INVALID_OPERATION at 1\njournal 1\nframes 1\nrace none\n";
+    assert!(rt;
+        leaves(
+            &rt,
+            rt.alloc(),
+            (&["race"], &CLEAR_IN_BLOCK, 0, b"", report)
+        )
+    );
 }
 
 // The status of `race`, and how much the notes hold, where they fail at their second put of 16 bytes.

@@ -3,10 +3,7 @@ use super::{Host, run_on, run_text};
 use order_model::record::Record;
 use rc_base::sync::Entry;
 use std::alloc::Global;
-use test_scenes::{BLENDED_IN_TURN, LAZY_TEXTURE, SHARED_BEHIND_A_BARRIER, SWAP_ALONE};
-
-const SWAP_ALONE_REPORT: &str =
-    "tile 0 parcels 3 sets 0 looks 0\njournal 0\nframes 0\nstuck client 1 at 0 Swap\nrc: stuck\n";
+use test_scenes::{BLENDED_IN_TURN, LAZY_TEXTURE, SHARED_BEHIND_A_BARRIER};
 
 // A quad of two triangles, added to what is there: where the shared edge runs through a centre, the pixel is drawn once.
 pub(super) const ADDED_QUAD: &[u8] = b"scene 1 4 4
@@ -271,28 +268,20 @@ fn each_cluster_tells_as_many_looks(rt: HostRuntime) {
     }
 }
 
-#[test]
-fn a_corner_is_cleared_by_its_tile(rt: HostRuntime) {
-    let left = run_text(
-        &rt,
-        rt.alloc(),
-        &["render", "--tiles", "4x2"],
-        CORNER_CLEARED,
-    );
-    let lines = report(
-        &rt,
-        rt.alloc(),
-        7,
-        (2, 0, 0),
-        "tile 7 parcels 3 sets 3 looks 20\njournal 1\nframes 1\n",
-    );
-    assert!(rt; left.is(0, CORNER_FRAME, lines.as_slice()));
+// Whether seven tiles get nothing of the clear, and the last one clears its corner.
+fn is_cleared(rt: &impl Host, alloc: Global) -> bool {
+    let last = "tile 7 parcels 3 sets 3 looks 20\njournal 1\nframes 1\n";
+    let lines = report(rt, alloc, 7, (2, 0, 0), last);
+    run_text(rt, alloc, &["render", "--tiles", "4x2"], CORNER_CLEARED).is(
+        0,
+        CORNER_FRAME,
+        lines.as_slice(),
+    )
 }
 
 #[test]
-fn a_swap_alone_is_stuck(rt: HostRuntime) {
-    let left = run_text(&rt, rt.alloc(), &["render"], SWAP_ALONE);
-    assert!(rt; left.is(5, b"", SWAP_ALONE_REPORT.as_bytes()));
+fn a_corner_is_cleared_by_its_tile(rt: HostRuntime) {
+    assert!(rt; is_cleared(&rt, rt.alloc()));
 }
 
 // The client that takes a unit first.
@@ -305,19 +294,26 @@ fn first_taker(kept: &Record) -> Option<u8> {
     None
 }
 
-// Whoever takes the unit first draws first, in both tiles.
+// Whether who takes the unit first, in a run of the scene of these bytes, draws first in both tiles.
+fn is_in_turn(rt: &impl Host, alloc: Global, bytes: &[u8], lines: &[u8]) -> bool {
+    let job = ["render", "--tiles", "2x1", "--depth", "1"];
+    let left = run_on(rt, alloc, &job, bytes);
+    let taker = match &left.kept {
+        Some(kept) => first_taker(kept),
+        None => return false,
+    };
+    let frame = match taker {
+        Some(0) => b"P6\n2 1\n255\n\x40\0\x80\x40\0\x80",
+        _ => b"P6\n2 1\n255\n\x80\0\x40\x80\0\x40",
+    };
+    left.is(0, frame.as_slice(), lines)
+}
+
 #[test]
 fn clients_blend_in_the_order_of_their_units(rt: HostRuntime) {
     let scene = run_on(&rt, rt.alloc(), &["pack"], BLENDED_IN_TURN);
-    let job = ["render", "--tiles", "2x1", "--depth", "1"];
     let lines = report(&rt, rt.alloc(), 2, (10, 4, 30), "journal 5\nframes 1\n");
     for _ in 0..50u32 {
-        let left = run_on(&rt, rt.alloc(), &job, scene.image.bytes());
-        let kept = left.kept.as_ref().expect(&rt, "a record");
-        let frame = match first_taker(kept) {
-            Some(0) => b"P6\n2 1\n255\n\x40\0\x80\x40\0\x80",
-            _ => b"P6\n2 1\n255\n\x80\0\x40\x80\0\x40",
-        };
-        assert!(rt; left.is(0, frame.as_slice(), lines.as_slice()));
+        assert!(rt; is_in_turn(&rt, rt.alloc(), scene.image.bytes(), lines.as_slice()));
     }
 }
