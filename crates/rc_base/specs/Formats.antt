@@ -4,4 +4,3 @@ pub mod Spelling
 pub mod Limits
 pub mod Within
 pub mod Netpbm
-pub mod Text

@@ -10,4 +10,3 @@ pub mod Contexts
 pub mod Drawing
 pub mod Orders
 pub mod Cluster
-pub mod Program

@@ -1,5 +1,9 @@
 //! The commands of a stream: an integer profile of OpenGL 1.x, with barriers, semaphores and swaps in the stream.
+ghost use Rattle.std.specs.Prelude.{◌≡◌, IfOk};
+
 use crate::items::Items;
+use crate::out_of_memory::OutOfMemory;
+use std::alloc::Global;
 
 /// Bytes of a file or a text.
 pub type Bytes = Items<u8>;
@@ -204,4 +208,18 @@ pub enum NumberRange {
     Half,
     /// 32 bits with a sign.
     Word,
+}
+
+/// An exact copy of a part, with its texels.
+pub fn copy_of_part(alloc: Global, part: &Part) -> Result<Part, OutOfMemory>
+    ensures { IfOk result (λ p. p ≡ part.now) }
+{
+    Ok(Part {
+        name: part.name,
+        x: part.x,
+        y: part.y,
+        w: part.w,
+        h: part.h,
+        texels: Texels::from_slice(alloc, part.texels.as_slice())?,
+    })
 }

@@ -1,6 +1,12 @@
 //! A scene: its declaration and its clients' streams, and what can be wrong with one that is read.
+ghost use Rattle.std.specs.Prelude.{◌≡◌, ◌<◌, [], ◌∷◌, length, IfOk};
+ghost use Rattle.rc_base.specs.Formats.Limits.{first_outside, judged};
+ghost use Rattle.rc_base.specs.Contexts.Issue.{stream_of};
+
 use crate::command::Commands;
 use crate::items::Items;
+use crate::out_of_memory::OutOfMemory;
+use std::alloc::Global;
 use thiserror::Error;
 
 /// One list of commands for each client, clients rising.
@@ -62,4 +68,37 @@ pub enum TextKind {
     BadNumber,
     BadHex,
     NoScene,
+}
+
+/// An exact copy of what a scene declares.
+pub fn copy_of_decl(alloc: Global, decl: &Decl) -> Result<Decl, OutOfMemory>
+    ensures { IfOk result (λ d. d ≡ decl.now) }
+{
+    Ok(Decl {
+        version: decl.version,
+        width: decl.width,
+        height: decl.height,
+        shared: Sizes::from_slice(alloc, decl.shared.as_slice())?,
+        barriers: Counts::from_slice(alloc, decl.barriers.as_slice())?,
+        semaphores: Units::from_slice(alloc, decl.semaphores.as_slice())?,
+    })
+}
+
+/// How many commands a client's stream has.
+pub fn stream_length(scene: &Scene, client: usize) -> usize
+    requires { client < length scene.now.streams }
+    ensures { result ≡ length (stream_of scene.now client) }
+{
+    scene.streams.as_slice()[client].len()
+}
+
+/// Quantity `what` of the table of limits, where its value is below `least` or above `most`.
+pub fn judge(what: u8, value: u64, least: u64, most: u64) -> Result<(), Limit>
+    ensures { judged result ≡ first_outside (record { what = what; value = value; least = least; most = most } ∷ []) }
+{
+    if least <= value && value <= most {
+        Ok(())
+    } else {
+        Err(Limit { what, value })
+    }
 }

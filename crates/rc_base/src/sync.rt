@@ -1,4 +1,7 @@
 //! Names of commands, operations of synchronisation, and the journal's entries.
+ghost use Rattle.std.specs.Prelude.{◌≡◌, ◌<◌};
+ghost use Rattle.rc_base.specs.Orders.Journal.{has, is_member};
+
 use crate::items::Items;
 
 /// Command `place`, from 0, of client `client`.
@@ -78,4 +81,25 @@ pub struct SyncLists {
     pub clients: SyncRows,
     pub counts: Items<u8>,
     pub units: Items<u16>,
+}
+
+/// The number is in the set that has bit `n` for number `n`: of clients, of tiles, of servers.
+pub fn has(set: u32, n: u8) -> bool
+    requires { n < 32 }
+    ensures { result ≡ has set n }
+{
+    (set >> n) & 1 == 1
+}
+
+/// The entry uses an operation of the client.
+pub fn is_member(entry: Entry, client: u8, clients: usize) -> bool
+    requires { client < 8 }
+    ensures { result ≡ is_member clients entry client }
+{
+    match entry {
+        Entry::Meet { members, .. } => has(u32::from(members), client),
+        Entry::Swap => (client as usize) < clients,
+        Entry::Give { client: only, .. } => client == only,
+        Entry::Take { client: only, .. } => client == only,
+    }
 }

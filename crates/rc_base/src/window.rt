@@ -1,4 +1,7 @@
 //! The window: pixels, rectangles, spans, and vertices in window coordinates.
+ghost use Rattle.std.specs.Prelude.{◌≡◌, ◌*◌, ◌≤◌, pos};
+ghost use Rattle.rc_base.specs.Cluster.Tiles.{boundary_of, window_rect};
+
 use crate::command::Rgba;
 use crate::items::Items;
 
@@ -71,4 +74,34 @@ pub struct Layout {
     pub height: u16,
     pub columns: u8,
     pub rows: u8,
+}
+
+/// The rectangle of all pixels of a window of these sides.
+pub fn window_rect(width: u16, height: u16) -> Rect
+    ensures { result ≡ window_rect width height }
+{
+    Rect {
+        x0: 0,
+        y0: 0,
+        x1: i32::from(width),
+        y1: i32::from(height),
+    }
+}
+
+/// The index of a row's first pixel, where the rows of a window stand one after the other.
+pub fn row_start(width: u16, row: u16) -> usize
+    ensures { result ≡ row * width }
+{
+    row as usize * width as usize
+}
+
+/// Where part `j` of a side begins that is cut into so many parts; a side without parts has none.
+pub fn boundary(side: u16, parts: u8, j: u16) -> i32
+    requires { j ≤ 256 }
+    ensures { result ≡ pos (boundary_of side parts j) }
+{
+    if parts == 0 {
+        return 0;
+    }
+    (u32::from(j) * u32::from(side) / u32::from(parts)) as i32
 }

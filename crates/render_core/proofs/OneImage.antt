@@ -12,7 +12,7 @@ use Rattle.rc_base.specs.Drawing.Serial.{frame_pixel}
 use Rattle.rc_base.specs.Formats.Limits.{limit_of, size_limit}
 use Rattle.rc_base.specs.Formats.Netpbm.{p6_text, p6_texts}
 use Rattle.rc_base.specs.Orders.Footprints.{IsOrderedScene}
-use Rattle.rc_base.specs.Program.Generator.{generated_scene}
+use Rattle.scene_file.specs.Generator.{generated_scene}
 use Rattle.rc_base.specs.Orders.Order.{IsPermitted}
 use Rattle.rc_base.specs.Orders.Sync.{IsWellFormed, sync_lists_of}
 use Rattle.rc_base.specs.declared.image.Image.{Image}

@@ -4,7 +4,7 @@ use Rattle.std.specs.Prelude.{slice_index_or}
 use Rattle.std.specs.List.{range_with_len}
 use Rattle.std.proofs.lemmas.List.FromFn.{length-map-range_with_len, get_or-map-range_with_len}
 use Rattle.std.proofs.Math.Nat.{mod-lt}
-use Rattle.rc_base.specs.Program.Generator.{pick_count, draw_of, picks_of}
+use Rattle.scene_file.specs.Generator.{pick_count, draw_of, picks_of}
 
 drawn_below : (seed actors count : ℕ) → 0 < actors → (i : ℕ) → i < length (map (λ (n : ℕ). draw_of seed n % actors) (range_with_len 0 count))
     → slice_index_or (map (λ (n : ℕ). draw_of seed n % actors) (range_with_len 0 count)) i 0 < actors

@@ -4,12 +4,12 @@ use Rattle.rc_base.specs.Cluster.Tiles.{tile_count}
 use Rattle.rc_base.specs.Drawing.Images.{frame_images}
 use Rattle.rc_base.specs.Formats.Netpbm.{p6_texts}
 use Rattle.rc_base.specs.Formats.Spelling.{SpellsScene}
-use Rattle.rc_base.specs.Formats.Text.Printed.{printed}
-use Rattle.rc_base.specs.Formats.Text.Read.{SpellsText}
+use Rattle.scene_text.specs.Text.Printed.{printed}
+use Rattle.scene_text.specs.Text.Read.{SpellsText}
 use Rattle.rc_base.specs.Orders.Footprints.{footprint_of}
 use Rattle.rc_base.specs.Orders.Order.{IsPermitted, default_journal, default_order}
 use Rattle.rc_base.specs.Orders.Sync.{sync_lists_of}
-use Rattle.rc_base.specs.Program.Generator.{picks_of}
+use Rattle.scene_file.specs.Generator.{picks_of}
 use Rattle.rc_base.specs.declared.image.Image.{Image}
 use Rattle.rc_base.specs.declared.scene.Scene.{Scene}
 use Rattle.rc_base.specs.declared.sync.Entry.{Entry}

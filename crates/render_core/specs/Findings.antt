@@ -1,6 +1,6 @@
 -- What a task finds in its input, or in its words where it makes its scene: one of five cases, by which it is carried out or refused.
 use Rattle.std.specs.Prelude.{◌≡◌, ℕ, ◌+◌, ◌<◌, ◌≤◌, ◌⊎◌, List, ◌++◌, length, Option, Some, None}
-use Rattle.rc_base.specs.Formats.Text.Faults.{text_fault}
+use Rattle.scene_text.specs.Text.Faults.{text_fault}
 use Rattle.rc_base.specs.Outside.Transfer.{byte_limit}
 use Rattle.rc_base.specs.declared.scene.Limit.{Limit}
 use Rattle.rc_base.specs.declared.scene.SceneKind.{SceneKind}

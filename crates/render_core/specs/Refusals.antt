@@ -7,7 +7,7 @@ use Rattle.rc_base.specs.Formats.Commands.{IsCommand}
 use Rattle.rc_base.specs.Formats.Limits.{size_limit}
 use Rattle.rc_base.specs.Formats.Netpbm.{p6_texts}
 use Rattle.rc_base.specs.Formats.Spelling.{IsDecl, IsVersion}
-use Rattle.rc_base.specs.Program.Generator.{generated_scene}
+use Rattle.scene_file.specs.Generator.{generated_scene}
 use Rattle.rc_base.specs.declared.transfer.ReadAllFault.{ReadAllFault}
 use Rattle.rc_base.specs.declared.transfer.ReadAllFault.TheVariants as reading
 use Rattle.rc_base.specs.declared.scene.Scene.{Scene}

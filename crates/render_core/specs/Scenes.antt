@@ -8,11 +8,11 @@ use Rattle.rc_base.specs.declared.sync.Name.{Name}
 use Rattle.rc_base.specs.declared.window.Layout.{Layout}
 use Rattle.rc_base.specs.Formats.Limits.{Quantity, layout_quantities, first_outside, expansion_limit, held_limit, limit_of, read_limit, size_limit, stream_limit}
 use Rattle.rc_base.specs.Formats.Spelling.{SpellsScene}
-use Rattle.rc_base.specs.Formats.Text.Read.{SpellsText}
+use Rattle.scene_text.specs.Text.Read.{SpellsText}
 use Rattle.rc_base.specs.Cluster.Tiles.{tile_count}
 use Rattle.rc_base.specs.Outside.Ends.{Used, Failed, TookInput}
 use Rattle.rc_base.specs.Outside.Transfer.{byte_limit}
-use Rattle.rc_base.specs.Program.Generator.{generated_scene}
+use Rattle.scene_file.specs.Generator.{generated_scene}
 use Rattle.call_lists.specs.Expansion.{list_faults}
 use Rattle.call_lists.specs.Scenes.{cost_told, expanded, met_in}
 use Rattle.scene_file.specs.Faults.{SpellsListScene}

@@ -1,7 +1,7 @@
 //! The scene that a job makes of its words.
 ghost use Rattle.std.specs.Prelude.{◌≡◌, ◌≤◌, ℕ, Some, None, IfOk, IfErr, MatchResult};
 ghost use Rattle.rc_base.specs.Formats.Limits.{limit_of, size_limit};
-ghost use Rattle.rc_base.specs.Program.Generator.{generated_scene};
+ghost use Rattle.scene_file.specs.Generator.{generated_scene};
 ghost use Rattle.render_core.specs.Jobs.{origin_of};
 ghost use Rattle.render_core.specs.Scenes.{tile_limit, word_limit};
 ghost use Rattle.render_core.specs.Refusals.{IsMade, IsUnmade};
@@ -35,7 +35,7 @@ fn rounds_of(size: u64) -> Result<u32, Limit>
 }
 
 // The first quantity of the tiles and the lanes that is outside its range in the window of a scene that is made.
-#[tactic(auto, unfolding(rc_base::specs::Formats::Limits::layout_limit, rc_base::specs::Program::Generator::generated_scene))]
+#[tactic(auto, unfolding(rc_base::specs::Formats::Limits::layout_limit, scene_file::specs::Generator::generated_scene))]
 fn tiles_past(cluster: Option<Cluster>) -> Option<Limit>
     ensures { (seed size : ℕ) → result ≡ tile_limit cluster (generated_scene seed size) }
 {

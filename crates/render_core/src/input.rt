@@ -2,7 +2,7 @@
 ghost use Rattle.std.specs.Prelude.{◌≡◌, ◌≤◌, [], length, IfOk, IfErr, None};
 ghost use Rattle.rc_base.specs.Formats.Limits.{limit_of, read_limit};
 ghost use Rattle.rc_base.specs.Formats.Spelling.{SpellsScene};
-ghost use Rattle.rc_base.specs.Formats.Text.Read.{SpellsText};
+ghost use Rattle.scene_text.specs.Text.Read.{SpellsText};
 ghost use Rattle.rc_base.specs.Outside.Transfer.{byte_limit};
 ghost use Rattle.scene_file.specs.Letters.{BeginWithLists};
 ghost use Rattle.render_core.specs.Refusals.{IsExpanded, IsPast, IsRead, IsWellRead, IsRefusedInput};

@@ -1,7 +1,7 @@
 //! The picks of a seed.
 ghost use Rattle.std.specs.Prelude.{◌≡◌, ◌<◌, ◌≤◌, ◌+◌, ◌/◌, ◌^◌, length, IfOk};
 ghost use Rattle.rc_base.specs.Cluster.Tiles.{tile_count};
-ghost use Rattle.rc_base.specs.Program.Generator.{picks_of};
+ghost use Rattle.scene_file.specs.Generator.{picks_of};
 
 use rc_base::out_of_memory::OutOfMemory;
 use rc_base::scene::Scene;

@@ -2,7 +2,7 @@
 use Rattle.std.proofs.Common.{◌≡◌, ℕ, zero, suc, ◌+◌, ◌/◌, ◌%◌, ◌^◌, List, [], ◌∷◌, ◌++◌, refl, sym, ap, ◌∙◌, arith, append_assoc}
 use Rattle.std.specs.Prelude.{pos, ◌-ℤ◌}
 use Rattle.rc_base.specs.Colors.{rgba}
-use Rattle.rc_base.specs.Program.Generator.{next_state, drawn_state, draw_of, coordinate_of, generated_vertex, generated_triangle}
+use Rattle.scene_file.specs.Generator.{next_state, drawn_state, draw_of, coordinate_of, generated_vertex, generated_triangle}
 use Rattle.rc_base.specs.declared.command.Command.TheVariants as cmd
 
 pub state_none : (seed : ℕ) → drawn_state seed 0 ≡ seed

@@ -9,7 +9,7 @@ use Rattle.std.proofs.lemmas.List.FromFn.{length-map-range_with_len}
 use Rattle.rc_base.specs.Formats.Commands.{IsCommand}
 use Rattle.rc_base.specs.Formats.Limits.{Quantity, quantity, first_outside, is_swap_command, swaps_in, least_swaps, commands_in, limit_of}
 use Rattle.rc_base.specs.Formats.Within.{IsWithin}
-use Rattle.rc_base.specs.Program.Generator.{draw_of, is_lone, lone_client, triangles_before, generated_vertex, generated_triangle, generated_round, generated_stream, generated_scene}
+use Rattle.scene_file.specs.Generator.{draw_of, is_lone, lone_client, triangles_before, generated_vertex, generated_triangle, generated_round, generated_stream, generated_scene}
 use Rattle.rc_base.specs.declared.command.Command.{Command}
 use Rattle.rc_base.specs.declared.command.Command.TheVariants as cmd
 

@@ -7,7 +7,7 @@ use Rattle.std.proofs.lemmas.Bool.{cases_order}
 use Rattle.std.proofs.lemmas.Bool.Decides.{nat_tests}
 use Rattle.std.proofs.lemmas.List.{flat_map_more, get_or-set_same, get_or-set_other}
 use Rattle.std.proofs.lemmas.List.FromFn.{length-map-range_with_len, get_or-map-range_with_len, fill_by_all}
-use Rattle.rc_base.specs.Program.Generator.{drawn_state, is_lone, lone_client, triangles_before, generated_round, generated_stream, generated_scene}
+use Rattle.scene_file.specs.Generator.{drawn_state, is_lone, lone_client, triangles_before, generated_round, generated_stream, generated_scene}
 use Rattle.rc_base.specs.declared.command.Command.{Command}
 use Rattle.rc_base.specs.declared.command.Command.TheVariants as cmd
 use Rattle.scene_file.specs.Generated.{triangles_in, drawing_from, opening_of, stream_before, turns_of, streams_at, ended}

@@ -4,7 +4,7 @@ use Rattle.std.specs.List.{flat_map, range_with_len}
 use Rattle.rc_base.specs.declared.command.Command.{Command}
 use Rattle.rc_base.specs.declared.command.Command.TheVariants as cmd
 use Rattle.rc_base.specs.Formats.Within.{IsWithin}
-use Rattle.rc_base.specs.Program.Generator.{generated_clients, is_lone, lone_client, generated_triangle, generated_round, generated_scene}
+use Rattle.scene_file.specs.Generator.{generated_clients, is_lone, lone_client, generated_triangle, generated_round, generated_scene}
 
 -- how many triangles a client draws in a round
 abbrev pub triangles_in : ℕ → ℕ → ℕ

@@ -1,3 +1,4 @@
+pub mod Generator
 pub mod Judging
 pub mod Reading
 pub mod Letters

@@ -3,7 +3,7 @@ ghost use Rattle.std.specs.Prelude.{◌≡◌, ◌+◌, ◌*◌, ◌%◌, ◌<�
 ghost use Rattle.std.specs.List.{range_with_len};
 ghost use Rattle.rc_base.specs.Colors.{rgba};
 ghost use Rattle.rc_base.specs.Formats.Within.{IsWithin};
-ghost use Rattle.rc_base.specs.Program.Generator.{next_state, drawn_state, draw_of, is_lone, lone_client, coordinate_of, generated_vertex, generated_triangle, generated_scene};
+ghost use Rattle.scene_file.specs.Generator.{next_state, drawn_state, draw_of, is_lone, lone_client, coordinate_of, generated_vertex, generated_triangle, generated_scene};
 ghost use Rattle.scene_file.specs.Generated.{triangles_in, drawing_from, opening_of, streams_at, ended};
 
 use rc_base::{Command, Commands, Counts, Decl, OutOfMemory, Rgba, Scene, Sizes, Streams, Units};
@@ -28,7 +28,7 @@ struct Draws {
 
 impl Draws {
     // The high 24 bits of the next state.
-    #[tactic(auto, unfolding(rc_base::specs::Program::Generator::drawn_state, rc_base::specs::Program::Generator::draw_of))]
+    #[tactic(auto, unfolding(crate::specs::Generator::drawn_state, crate::specs::Generator::draw_of))]
     fn draw(&mut self) -> u32
         ensures draw { result ≡ draw_of self.old.state 0 }
         ensures state { self.new.state ≡ drawn_state self.old.state 1 }

@@ -5,8 +5,8 @@ use Rattle.rc_base.specs.declared.scene.Scene.{Scene}
 use Rattle.rc_base.specs.declared.scene.Limit.{Limit}
 use Rattle.rc_base.specs.declared.scene.TextKind.{TextKind}
 use Rattle.rc_base.specs.Formats.Limits.{limit_of}
-use Rattle.rc_base.specs.Formats.Text.Read.{SpellsText}
-use Rattle.rc_base.specs.Formats.Text.Faults.{text_fault}
+use Rattle.scene_text.specs.Text.Read.{SpellsText}
+use Rattle.scene_text.specs.Text.Faults.{text_fault}
 use Rattle.scene_text.specs.declared.parse.TextSceneFault.{TextSceneFault}
 use Rattle.scene_text.specs.declared.parse.TextSceneFault.TheVariants as fault
 use Rattle.scene_text.specs.Drafts.{IsTextFault}

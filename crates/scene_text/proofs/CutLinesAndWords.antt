@@ -7,7 +7,7 @@ use Rattle.std.proofs.lemmas.List.Sums.{fails_before_first}
 use Rattle.std.proofs.lemmas.Option.{cond_some}
 use Rattle.std.proofs.lemmas.Bool.{ltb-true, ltb-false, lt-ltb, ne_eqb}
 use Rattle.std.proofs.lemmas.Grind.{common_steps}
-use Rattle.rc_base.specs.Formats.Text.Read.{words_of, is_space, is_word}
+use Rattle.scene_text.specs.Text.Read.{words_of, is_space, is_word}
 
 abbrev pub is_feed : ℕ → Bool
 is_feed b = b == 10

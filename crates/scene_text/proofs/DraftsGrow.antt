@@ -7,7 +7,7 @@ use Rattle.std.proofs.lemmas.List.{map-append}
 use Rattle.rc_base.specs.declared.command.Command.{Command}
 use Rattle.rc_base.specs.declared.scene.Decl.{Decl}
 use Rattle.rc_base.specs.declared.text.LineName.TheVariants as line
-use Rattle.rc_base.specs.Formats.Text.Statements.{statement, window_statement, shared_statement, barrier_statement, semaphore_statement, command_statement, decl_statements, client_statements}
+use Rattle.scene_text.specs.Text.Statements.{statement, window_statement, shared_statement, barrier_statement, semaphore_statement, command_statement, decl_statements, client_statements}
 use Rattle.scene_text.specs.declared.draft.Draft.{Draft}
 use Rattle.scene_text.specs.Drafts.{said, open_client, IsDraft, Adds}
 

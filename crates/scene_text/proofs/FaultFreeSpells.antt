@@ -16,9 +16,9 @@ use Rattle.rc_base.specs.declared.scene.TextKind.TheVariants as kind
 use Rattle.rc_base.specs.declared.text.LineName.{LineName}
 use Rattle.rc_base.specs.declared.text.LineName.TheVariants as line
 use Rattle.rc_base.specs.Formats.Commands.{picture_area, CommandParts}
-use Rattle.rc_base.specs.Formats.Text.Statements.{Statement, statement, line_ranges, line_has_picture, decl_statements, client_statements, scene_statements, command_statement}
-use Rattle.rc_base.specs.Formats.Text.Read.{is_text, is_comment, has_no_word, is_skipped, words_of, name_of, numbers_of, spelled_texels, is_counted, or_fault, has_version, with_texels, with_numbers, arguments_say, SpellsText}
-use Rattle.rc_base.specs.Formats.Text.Faults.{rank_of, rank_after, rank_after_words, least_before, most_before, may_stand, kind_of_fault, fault_of_line, fault_of_words, fault_under, first_fault, text_fault}
+use Rattle.scene_text.specs.Text.Statements.{Statement, statement, line_ranges, line_has_picture, decl_statements, client_statements, scene_statements, command_statement}
+use Rattle.scene_text.specs.Text.Read.{is_text, is_comment, has_no_word, is_skipped, words_of, name_of, numbers_of, spelled_texels, is_counted, or_fault, has_version, with_texels, with_numbers, arguments_say, SpellsText}
+use Rattle.scene_text.specs.Text.Faults.{rank_of, rank_after, rank_after_words, least_before, most_before, may_stand, kind_of_fault, fault_of_line, fault_of_words, fault_under, first_fault, text_fault}
 use Rattle.command_table.specs.Ranges.{AreIn}
 use Rattle.command_table.proofs.FieldsAndParts.{command_of_parts}
 use Rattle.command_table.proofs.PartsMakeCommands.{byte_again, half_again, parts_again}

@@ -7,7 +7,7 @@ use Rattle.rc_base.specs.declared.command.Opcode.{Opcode}
 use Rattle.rc_base.specs.declared.text.LineName.{LineName}
 use Rattle.rc_base.specs.declared.text.LineName.TheVariants as line
 use Rattle.rc_base.specs.Formats.Commands.{opcodes}
-use Rattle.rc_base.specs.Formats.Text.Read.{has_name, name_of}
+use Rattle.scene_text.specs.Text.Read.{has_name, name_of}
 use Rattle.command_table.specs.Opcodes.{opcode_of_name}
 
 abbrev pub declared_names : List LineName

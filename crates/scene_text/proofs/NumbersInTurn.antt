@@ -3,7 +3,7 @@ use Rattle.std.proofs.Common.{◌≡◌, ℕ, suc, ◌+◌, ◌-◌, ◌<◌, �
 use Rattle.std.proofs.Math.Seq.{take-nil}
 use Rattle.std.proofs.lemmas.List.{drop_more}
 use Rattle.rc_base.specs.declared.command.NumberRange.{NumberRange}
-use Rattle.rc_base.specs.Formats.Text.Read.{with_first, numbers_of, hex_value, hex_pair, hex_bytes}
+use Rattle.scene_text.specs.Text.Read.{with_first, numbers_of, hex_value, hex_pair, hex_bytes}
 use Rattle.scene_text.specs.Reading.{behind_front, first_number}
 
 pub front_first : {A : Type 0} (front : List A) (x : A) (o : Option (List A)) → behind_front front (with_first (Some x) o) ≡ behind_front (front ++ x ∷ []) o

@@ -4,7 +4,7 @@ use Rattle.std.specs.Option.{option_and_then}
 use Rattle.std.proofs.lemmas.Option.{cond_some}
 use Rattle.rc_base.specs.declared.command.NumberRange.{NumberRange}
 use Rattle.rc_base.specs.Formats.Commands.{is_in_range}
-use Rattle.rc_base.specs.Formats.Text.Read.{if_in, spelled_number, reads_as, with_first, numbers_of}
+use Rattle.scene_text.specs.Text.Read.{if_in, spelled_number, reads_as, with_first, numbers_of}
 use Rattle.command_table.specs.Ranges.{AreIn}
 
 read_in : (r : NumberRange) (o : Option ℤ) (z : ℤ) → option_and_then (if_in r) o ≡ Some z → is_in_range r z ≡ true

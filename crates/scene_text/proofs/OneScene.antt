@@ -11,8 +11,8 @@ use Rattle.rc_base.specs.declared.text.LineName.TheVariants as line
 use Rattle.rc_base.specs.Numbers.{entry}
 use Rattle.command_table.proofs.FieldsAndParts.{command_of_parts, command_again}
 use Rattle.rc_base.specs.Formats.Commands.{opcode_of}
-use Rattle.rc_base.specs.Formats.Text.Read.{SpellsText}
-use Rattle.rc_base.specs.Formats.Text.Statements.{Statement, statement, command_statement, window_statement, shared_statement, barrier_statement, semaphore_statement, client_statements, scene_statements}
+use Rattle.scene_text.specs.Text.Read.{SpellsText}
+use Rattle.scene_text.specs.Text.Statements.{Statement, statement, command_statement, window_statement, shared_statement, barrier_statement, semaphore_statement, client_statements, scene_statements}
 
 -- ---- commands
 

@@ -17,10 +17,10 @@ use Rattle.rc_base.specs.declared.text.LineName.TheVariants as line
 use Rattle.rc_base.specs.declared.command.NumberRange.{NumberRange}
 use Rattle.rc_base.specs.Formats.Commands.{AreBytes, IsCommand, opcode_of}
 use Rattle.rc_base.specs.Formats.Spelling.{IsDecl, IsSize, IsSide, IsCount, IsVersion}
-use Rattle.rc_base.specs.Formats.Text.Statements.{Statement, word_of, line_ranges, window_statement, shared_statement, barrier_statement, semaphore_statement, command_statement, client_statements, decl_statements, scene_statements}
-use Rattle.rc_base.specs.Formats.Text.Printed.{hex_digit, hex_byte, texel_words, argument_words, after_space, printed_line, printed}
+use Rattle.scene_text.specs.Text.Statements.{Statement, word_of, line_ranges, window_statement, shared_statement, barrier_statement, semaphore_statement, command_statement, client_statements, decl_statements, scene_statements}
+use Rattle.scene_text.specs.Text.Printed.{hex_digit, hex_byte, texel_words, argument_words, after_space, printed_line, printed}
 use Rattle.rc_base.specs.Numbers.{is_between}
-use Rattle.rc_base.specs.Formats.Text.Read.{is_text_byte, is_text, is_space, is_word, words_of, is_comment, has_no_word, is_skipped, words_say, words_say_under, arguments_say, spoken, SpellsText, has_version}
+use Rattle.scene_text.specs.Text.Read.{is_text_byte, is_text, is_space, is_word, words_of, is_comment, has_no_word, is_skipped, words_say, words_say_under, arguments_say, spoken, SpellsText, has_version}
 use Rattle.scene_text.proofs.PrintedWordsSay.{AllReady, name_back, command_says, command_ready, command_bytes, plain_says, ready_byte, ready_half}
 
 -- ---- bytes of words and of lines

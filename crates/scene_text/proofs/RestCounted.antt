@@ -6,7 +6,7 @@ use Rattle.std.proofs.lemmas.Bool.{and_parts}
 use Rattle.rc_base.specs.declared.scene.Limit.{Limit}
 use Rattle.rc_base.specs.declared.scene.Scene.{Scene}
 use Rattle.rc_base.specs.Formats.Limits.{commands_in, limit_of}
-use Rattle.rc_base.specs.Formats.Text.Faults.{rank_after, fault_of_line, first_fault}
+use Rattle.scene_text.specs.Text.Faults.{rank_after, fault_of_line, first_fault}
 use Rattle.scene_text.specs.declared.draft.Draft.{Draft}
 use Rattle.scene_text.specs.declared.tally.Tally.{Tally}
 use Rattle.scene_text.specs.declared.parse.LineFault.{LineFault}

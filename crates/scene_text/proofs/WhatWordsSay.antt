@@ -4,8 +4,8 @@ use Rattle.std.specs.Option.{option_map}
 use Rattle.rc_base.specs.declared.scene.TextKind.TheVariants as kind
 use Rattle.rc_base.specs.declared.text.LineName.{LineName}
 use Rattle.rc_base.specs.Formats.Commands.{picture_area}
-use Rattle.rc_base.specs.Formats.Text.Statements.{Statement, statement, line_ranges}
-use Rattle.rc_base.specs.Formats.Text.Read.{is_counted, numbers_of, spelled_texels, or_fault, has_version, with_texels, with_numbers, arguments_say}
+use Rattle.scene_text.specs.Text.Statements.{Statement, statement, line_ranges}
+use Rattle.scene_text.specs.Text.Read.{is_counted, numbers_of, spelled_texels, or_fault, has_version, with_texels, with_numbers, arguments_say}
 use Rattle.scene_text.specs.declared.draft.Draft.{Draft}
 use Rattle.scene_text.specs.declared.parse.LineFault.{LineFault}
 use Rattle.scene_text.specs.declared.parse.LineFault.TheVariants as fault

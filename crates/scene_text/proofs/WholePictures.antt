@@ -23,9 +23,9 @@ use Rattle.rc_base.specs.declared.command.NumberRange.TheVariants as range
 use Rattle.rc_base.specs.Formats.Commands.{Kind, Fields, kinds_of, opcode_of, fields_of, is_picture, field_numbers, field_texels, picture_area}
 use Rattle.rc_base.specs.Formats.Commands.Kind.{Byte, Half, Word, Code, Bytes, Words, Image}
 use Rattle.rc_base.specs.Numbers.{is_between}
-use Rattle.rc_base.specs.Formats.Text.Statements.{Statement, statement, line_ranges, command_statement, window_statement, decl_statements, client_statements, scene_statements}
+use Rattle.scene_text.specs.Text.Statements.{Statement, statement, line_ranges, command_statement, window_statement, decl_statements, client_statements, scene_statements}
 use Rattle.scene_text.proofs.WhatWordsSay.{says_name}
-use Rattle.rc_base.specs.Formats.Text.Read.{SpellsText, words_say, words_say_under, arguments_say, has_version, with_numbers, with_texels, with_first, or_fault, spelled_texels, hex_bytes, hex_pair, hex_value, is_counted, is_rest_count, name_of, numbers_of, reads_as, spoken}
+use Rattle.scene_text.specs.Text.Read.{SpellsText, words_say, words_say_under, arguments_say, has_version, with_numbers, with_texels, with_first, or_fault, spelled_texels, hex_bytes, hex_pair, hex_value, is_counted, is_rest_count, name_of, numbers_of, reads_as, spoken}
 
 which : (b : Bool) → (b ≡ true) ⊎ (b ≡ false)
 which true = inl refl

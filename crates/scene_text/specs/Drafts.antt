@@ -6,9 +6,9 @@ use Rattle.rc_base.specs.declared.scene.Scene.{Scene}
 use Rattle.rc_base.specs.declared.scene.TextKind.{TextKind}
 use Rattle.rc_base.specs.declared.text.LineName.{LineName}
 use Rattle.rc_base.specs.Formats.Limits.{limit_of}
-use Rattle.rc_base.specs.Formats.Text.Statements.{Statement, statement, decl_statements, client_statements}
-use Rattle.rc_base.specs.Formats.Text.Read.{is_text, is_skipped, words_of, words_say, with_texels, arguments_say, spoken, SpellsText}
-use Rattle.rc_base.specs.Formats.Text.Faults.{rank_of, rank_after, rank_after_words, fault_of_line, fault_of_words, fault_under, first_fault, text_fault}
+use Rattle.scene_text.specs.Text.Statements.{Statement, statement, decl_statements, client_statements}
+use Rattle.scene_text.specs.Text.Read.{is_text, is_skipped, words_of, words_say, with_texels, arguments_say, spoken, SpellsText}
+use Rattle.scene_text.specs.Text.Faults.{rank_of, rank_after, rank_after_words, fault_of_line, fault_of_words, fault_under, first_fault, text_fault}
 use Rattle.scene_text.specs.declared.draft.Draft.{Draft}
 use Rattle.scene_text.specs.declared.parse.LineFault.{LineFault}
 use Rattle.scene_text.specs.declared.parse.LineFault.TheVariants as fault

@@ -5,9 +5,9 @@ use Rattle.std.specs.List.{AllByRecursion}
 use Rattle.cmd_pack.specs.Texels.{IsWhole}
 use Rattle.rc_base.specs.Formats.Commands.{IsCommand}
 use Rattle.rc_base.specs.Formats.Spelling.{IsDecl, IsVersion}
-use Rattle.rc_base.specs.Formats.Text.Printed.{printed}
-use Rattle.rc_base.specs.Formats.Text.Read.{SpellsText}
-use Rattle.rc_base.specs.Formats.Text.Faults.{text_fault}
+use Rattle.scene_text.specs.Text.Printed.{printed}
+use Rattle.scene_text.specs.Text.Read.{SpellsText}
+use Rattle.scene_text.specs.Text.Faults.{text_fault}
 
 -- no text spells two scenes
 abbrev pub OneScene : Type 0

@@ -1,7 +1,7 @@
 -- Numbers and lists that are read from the front.
 use Rattle.std.specs.Prelude.{List, [], ◌∷◌, ◌++◌, ℕ, ℤ, Option, Some, None}
 use Rattle.rc_base.specs.declared.command.NumberRange.{NumberRange}
-use Rattle.rc_base.specs.Formats.Text.Read.{reads_as}
+use Rattle.scene_text.specs.Text.Read.{reads_as}
 
 -- the number of the first word, in its range
 abbrev pub first_number : NumberRange → List (List ℕ) → Option ℤ

@@ -5,8 +5,8 @@ use Rattle.rc_base.specs.declared.text.LineName.{LineName}
 use Rattle.rc_base.specs.declared.text.LineName.TheVariants as line
 use Rattle.rc_base.specs.declared.scene.Scene.{Scene}
 use Rattle.rc_base.specs.Formats.Limits.{commands_in, limit_of}
-use Rattle.rc_base.specs.Formats.Text.Read.{is_skipped, words_of, name_of}
-use Rattle.rc_base.specs.Formats.Text.Faults.{first_fault}
+use Rattle.scene_text.specs.Text.Read.{is_skipped, words_of, name_of}
+use Rattle.scene_text.specs.Text.Faults.{first_fault}
 use Rattle.scene_text.specs.declared.draft.Draft.{Draft}
 use Rattle.scene_text.specs.declared.tally.Tally.{Tally}
 use Rattle.scene_text.specs.declared.parse.TextSceneFault.{TextSceneFault}

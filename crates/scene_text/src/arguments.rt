@@ -1,9 +1,9 @@
 //! What a name and the words after it say.
 ghost use Rattle.std.specs.Prelude.{◌≡◌, ◌≤◌, ◌∷◌, [], length, take, true, false, IfOk};
 ghost use Rattle.rc_base.specs.Formats.Commands.{picture_area};
-ghost use Rattle.rc_base.specs.Formats.Text.Statements.{line_ranges, line_has_picture};
-ghost use Rattle.rc_base.specs.Formats.Text.Read.{is_counted, is_rest_count, words_of, numbers_of, has_version, with_texels, arguments_say};
-ghost use Rattle.rc_base.specs.Formats.Text.Faults.{may_stand};
+ghost use Rattle.scene_text.specs.Text.Statements.{line_ranges, line_has_picture};
+ghost use Rattle.scene_text.specs.Text.Read.{is_counted, is_rest_count, words_of, numbers_of, has_version, with_texels, arguments_say};
+ghost use Rattle.scene_text.specs.Text.Faults.{may_stand};
 ghost use Rattle.rc_base.specs.declared.text.LineName.{LineName as AnyLineName};
 ghost use Rattle.command_table.specs.Ranges.{AreIn};
 ghost use Rattle.scene_text.specs.Drafts.{IsDraft, Reads, TexelsRead};
@@ -84,7 +84,7 @@ fn read_texels(alloc: Global, numbers: &[i32], rest: &[u8]) -> Result<Texels, Li
 }
 
 /// Reads what follows a name into the draft.
-#[tactic(auto, unfolding(rc_base::specs::Formats::Text::Read::arguments_say))]
+#[tactic(auto, unfolding(crate::specs::Text::Read::arguments_say))]
 pub(crate) fn read_arguments(
     alloc: Global,
     draft: &mut Draft,

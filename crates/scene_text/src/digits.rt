@@ -2,7 +2,7 @@
 ghost use Rattle.std.specs.Prelude.{◌≡◌, ◌+◌, ◌<◌, List, [], ◌∷◌, ◌++◌, map, OnOk};
 ghost use Rattle.std.specs.List.{flat_map};
 ghost use Rattle.std.specs.Fmt.{signed_decimal};
-ghost use Rattle.rc_base.specs.Formats.Text.Printed.{hex_digit, hex_byte, after_space, texel_words};
+ghost use Rattle.scene_text.specs.Text.Printed.{hex_digit, hex_byte, after_space, texel_words};
 
 use itoa::Buffer;
 use rc_base::command::Bytes;

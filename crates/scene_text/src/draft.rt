@@ -1,7 +1,7 @@
 //! What is read of a scene so far.
 ghost use Rattle.std.specs.Prelude.{◌≡◌, ◌∷◌, [], ◌++◌, ◌≤◌, pos, false, true, OnOk, IfOk};
-ghost use Rattle.rc_base.specs.Formats.Text.Statements.{statement, shared_statement, barrier_statement, semaphore_statement, command_statement, line_ranges, line_has_picture, scene_statements};
-ghost use Rattle.rc_base.specs.Formats.Text.Faults.{may_stand};
+ghost use Rattle.scene_text.specs.Text.Statements.{statement, shared_statement, barrier_statement, semaphore_statement, command_statement, line_ranges, line_has_picture, scene_statements};
+ghost use Rattle.scene_text.specs.Text.Faults.{may_stand};
 ghost use Rattle.command_table.specs.Ranges.{AreIn};
 ghost use Rattle.scene_text.specs.Drafts.{IsDraft, Adds, said};
 

@@ -1,6 +1,6 @@
 //! Texels of a line, two hexadecimal digits for each byte.
 ghost use Rattle.std.specs.Prelude.{◌≡◌, ◌*◌, ◌^◌, ◌<◌, ◌≤◌, length, IfOk, IfSome, Some, None, if◌then◌else◌};
-ghost use Rattle.rc_base.specs.Formats.Text.Read.{hex_value, hex_pair, hex_bytes, spelled_texels};
+ghost use Rattle.scene_text.specs.Text.Read.{hex_value, hex_pair, hex_bytes, spelled_texels};
 
 use rc_base::command::Texels;
 use rc_base::out_of_memory::OutOfMemory;

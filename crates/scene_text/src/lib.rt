@@ -1,7 +1,7 @@
 //! The text of a scene: what a person writes and reads.
 //!
 //! `print_scene` writes the one text that `printed` names, and `parse_scene` reads every text that spells a scene (`SpellsText`). The
-//! definitions stand in rc_base. What a command has comes from command_table, which the packets are read over too.
+//! definitions stand in `specs/Text`. What a command has comes from command_table, which the packets are read over too.
 #![tactic(auto)]
 
 mod arguments;

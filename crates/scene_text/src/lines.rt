@@ -1,7 +1,7 @@
 //! The lines of a text, one after the other, and the tests on a whole line.
 ghost use Rattle.std.specs.Prelude.{◌≡◌, ◌<◌, ◌∷◌, length};
 ghost use Rattle.std.specs.Str.Lines.{lines, strip_carriage_return};
-ghost use Rattle.rc_base.specs.Formats.Text.Read.{is_text, is_skipped, is_comment, has_no_word, words_of};
+ghost use Rattle.scene_text.specs.Text.Read.{is_text, is_skipped, is_comment, has_no_word, words_of};
 
 use crate::words::{find_byte, next_word};
 

@@ -1,7 +1,7 @@
 //! The words that begin a line.
 ghost use Rattle.std.specs.Prelude.{◌≡◌, ◌≤◌, length};
-ghost use Rattle.rc_base.specs.Formats.Text.Statements.{word_of, line_ranges, line_has_picture};
-ghost use Rattle.rc_base.specs.Formats.Text.Read.{name_of, has_name};
+ghost use Rattle.scene_text.specs.Text.Statements.{word_of, line_ranges, line_has_picture};
+ghost use Rattle.scene_text.specs.Text.Read.{name_of, has_name};
 ghost use Rattle.std.specs.List.{find};
 
 use command_table::opcode_named;

@@ -5,7 +5,7 @@ ghost use Rattle.scene_text.specs.Reading.{first_number};
 ghost use Rattle.std.specs.Str.{all_ascii_digits};
 ghost use Rattle.std.specs.Str.Parse.{digits_value};
 ghost use Rattle.rc_base.specs.Formats.Commands.{is_in_range};
-ghost use Rattle.rc_base.specs.Formats.Text.Read.{magnitude_of, spelled_number, is_negative, reads_as, numbers_of, words_of};
+ghost use Rattle.scene_text.specs.Text.Read.{magnitude_of, spelled_number, is_negative, reads_as, numbers_of, words_of};
 
 use crate::words::next_word;
 use rc_base::command::NumberRange;

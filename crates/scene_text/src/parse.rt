@@ -6,8 +6,8 @@ ghost use Rattle.rc_base.specs.declared.scene.Scene.{Scene as AnyScene};
 ghost use Rattle.rc_base.specs.declared.scene.TextKind.{TextKind as AnyKind};
 ghost use Rattle.std.specs.List.{AllByRecursion};
 ghost use Rattle.rc_base.specs.Formats.Limits.{limit_of};
-ghost use Rattle.rc_base.specs.Formats.Text.Read.{SpellsText, words_of, has_no_word};
-ghost use Rattle.rc_base.specs.Formats.Text.Faults.{may_stand, text_fault};
+ghost use Rattle.scene_text.specs.Text.Read.{SpellsText, words_of, has_no_word};
+ghost use Rattle.scene_text.specs.Text.Faults.{may_stand, text_fault};
 ghost use Rattle.scene_file.specs.Written.{AreWhole};
 ghost use Rattle.scene_text.specs.Drafts.{IsDraft, ReadsNamed, ReadsWords, ReadsLine, IsTextFault, line_fault_of};
 
@@ -112,7 +112,7 @@ fn read_words(alloc: Global, draft: &mut Draft, line: &[u8]) -> Result<(), LineF
     }
 }
 
-#[tactic(auto, unfolding(rc_base::specs::Formats::Text::Faults::fault_of_line, rc_base::specs::Formats::Text::Faults::rank_after))]
+#[tactic(auto, unfolding(crate::specs::Text::Faults::fault_of_line, crate::specs::Text::Faults::rank_after))]
 pub(crate) fn read_line(alloc: Global, draft: &mut Draft, line: &[u8]) -> Result<(), LineFault>
     requires { IsDraft draft.old }
     ensures { ReadsLine draft.old draft.new result line.now }

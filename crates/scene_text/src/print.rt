@@ -3,9 +3,9 @@ ghost use Rattle.std.specs.Prelude.{◌≡◌, ◌+◌, ◌<◌, List, [], ◌�
 ghost use Rattle.std.specs.List.{flat_map, AllByRecursion};
 ghost use Rattle.rc_base.specs.Formats.Commands.{IsCommand};
 ghost use Rattle.rc_base.specs.Formats.Spelling.{IsDecl};
-ghost use Rattle.rc_base.specs.Formats.Text.Read.{SpellsText};
-ghost use Rattle.rc_base.specs.Formats.Text.Statements.{statement, command_statement, client_statements, shared_statement, barrier_statement, semaphore_statement, decl_statements};
-ghost use Rattle.rc_base.specs.Formats.Text.Printed.{printed_line, printed};
+ghost use Rattle.scene_text.specs.Text.Read.{SpellsText};
+ghost use Rattle.scene_text.specs.Text.Statements.{statement, command_statement, client_statements, shared_statement, barrier_statement, semaphore_statement, decl_statements};
+ghost use Rattle.scene_text.specs.Text.Printed.{printed_line, printed};
 
 use crate::digits::{print_numbers, print_texels};
 use crate::names::word_of;
@@ -16,7 +16,7 @@ use rc_base::scene::{Decl, Scene};
 use rc_base::text::LineName;
 use std::alloc::Global;
 
-#[tactic(auto, unfolding(rc_base::specs::Formats::Text::Printed::printed_line))]
+#[tactic(auto, unfolding(crate::specs::Text::Printed::printed_line))]
 fn print_line(
     text: &mut Bytes,
     name: LineName,
@@ -116,7 +116,7 @@ fn print_streams(text: &mut Bytes, streams: &[Commands]) -> Result<(), OutOfMemo
     Ok(())
 }
 
-#[tactic(auto, unfolding(rc_base::specs::Formats::Text::Printed::printed))]
+#[tactic(auto, unfolding(crate::specs::Text::Printed::printed))]
 fn print_whole(alloc: Global, scene: &Scene) -> Result<Bytes, OutOfMemory>
     ensures { IfOk result (λ text. text ≡ printed scene.now) }
 {

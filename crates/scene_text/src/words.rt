@@ -1,6 +1,6 @@
 //! The words of a line, one after the other.
 ghost use Rattle.std.specs.Prelude.{◌≡◌, ℕ, ◌+◌, ◌-◌, ◌<◌, ◌≤◌, ◌∷◌, [], false, length, drop, slice_index, IfSome, MatchOption, position, ◌==◌};
-ghost use Rattle.rc_base.specs.Formats.Text.Read.{words_of, is_space};
+ghost use Rattle.scene_text.specs.Text.Read.{words_of, is_space};
 
 /// The first place of a byte.
 pub(crate) fn find_byte(bytes: &[u8], byte: u8) -> Option<usize>

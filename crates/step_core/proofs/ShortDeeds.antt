@@ -1,7 +1,7 @@
 -- What a deed of a tile that is short, or becomes so, is to the model.
 use Rattle.std.proofs.Common.{◌≡◌, ℕ, ◌==◌, Bool, true, false, cond, Some, None, Ok, Err, inl, inr, refl, sym, ap, ◌∙◌, true≢false}
 use Rattle.std.specs.Prelude.{Result}
-use Rattle.cmd_pack.specs.Parcels.Spelling.{is_end}
+use Rattle.rc_base.specs.Cluster.Parcels.{is_end}
 use Rattle.rc_base.specs.declared.cluster.TileMoved.{TileMoved}
 use Rattle.rc_base.specs.declared.cluster.TileMoved.TheVariants as moved
 use Rattle.rc_base.specs.declared.out_of_memory.OutOfMemory.{OutOfMemory}

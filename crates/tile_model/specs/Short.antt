@@ -1,6 +1,6 @@
 -- What a tile does that may be short of memory: one that is short performs nothing, and takes its lanes' items up to their ends.
 use Rattle.std.specs.Prelude.{◌≡◌, ℕ, ◌<◌, not, Bool, true, false, cond}
-use Rattle.cmd_pack.specs.Parcels.Spelling.{is_end}
+use Rattle.rc_base.specs.Cluster.Parcels.{is_end}
 use Rattle.rc_base.specs.declared.sync.Entry.{Entry}
 use Rattle.order_model.specs.Standing.{Progress, is_asked, is_listening, is_over}
 use Rattle.tile_model.specs.Items.{Item, after_end, after_no_more, after_parcel, IsAwaited}

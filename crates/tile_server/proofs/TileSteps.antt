@@ -11,7 +11,7 @@ use Rattle.rc_base.specs.declared.state.Parcel.{Parcel}
 use Rattle.rc_base.specs.declared.sync.Entry.{Entry}
 use Rattle.rc_base.specs.declared.sync.Entry.TheVariants.{Swap}
 use Rattle.rc_base.specs.declared.sync.Grant.TheVariants as grant
-use Rattle.cmd_pack.specs.Parcels.Spelling.{is_end}
+use Rattle.rc_base.specs.Cluster.Parcels.{is_end}
 use Rattle.order_model.specs.Standing.{Progress, performed_in, is_over}
 use Rattle.tile_model.specs.Acts.{is_work}
 use Rattle.tile_model.specs.Boards.{is_carried_out}

@@ -37,7 +37,7 @@ impl TileCore {
     ghost use Rattle.std.specs.Prelude.{◌≡◌, ◌≢◌, ◌⊎◌, ◌≤◌, ◌<◌, ◌||◌, ℕ, true, false, None, length, slice_index_or, IfOk, OnOk, OnErr, IfSome, IfNone, IsTrue};
     ghost use Rattle.rc_base.specs.Cluster.Lanes.{EachLane};
     ghost use Rattle.rc_base.specs.Cluster.Tiles.{tile_count};
-    ghost use Rattle.cmd_pack.specs.Parcels.Spelling.{is_end};
+    ghost use Rattle.rc_base.specs.Cluster.Parcels.{is_end};
     ghost use Rattle.order_model.specs.Standing.{Progress, new_progress};
     ghost use Rattle.tile_model.specs.Acts.{is_work};
     ghost use Rattle.tile_model.specs.Boards.{IsNewBoard};

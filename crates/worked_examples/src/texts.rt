@@ -1,6 +1,6 @@
 //! Which texts spell no scene: the first faulty line, and what is wrong with it.
 ghost use Rattle.std.specs.Prelude.{◌≡◌, ◌++◌, [], ◌∷◌, codes, None, Some};
-ghost use Rattle.rc_base.specs.Formats.Text.Faults.{text_fault};
+ghost use Rattle.scene_text.specs.Text.Faults.{text_fault};
 ghost use Rattle.rc_base.specs.declared.scene.TextKind.TheVariants.{BadHex, BadNumber, NotText, NoScene, OutOfPlace, UnknownWord, WrongCount};
 
 /// A comment begins with `#`; behind a space `#` is a word that no line has.

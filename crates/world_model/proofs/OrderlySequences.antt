@@ -2,7 +2,7 @@
 use Rattle.std.proofs.Common.{◌≡◌, ℕ, ◌+◌, ◌==◌, ◌||◌, ◌<◌, ◌≤◌, Bool, true, false, cond, List, [], ◌∷◌, ◌++◌, inl, inr, refl, sym, ap, ◌∙◌, arith, true≢false}
 use Rattle.std.proofs.lemmas.Bool.{cases_Bool}
 use Rattle.std.specs.List.{list_any}
-use Rattle.cmd_pack.specs.Parcels.Spelling.{is_end}
+use Rattle.rc_base.specs.Cluster.Parcels.{is_end}
 use Rattle.rc_base.specs.Cluster.Sending.{Sending, ToTile, ToManager, parcels_to, requests_in}
 use Rattle.rc_base.specs.declared.state.Parcel.{Parcel}
 use Rattle.rc_base.specs.declared.sync.Request.{Request}

@@ -4,7 +4,7 @@ use Rattle.std.proofs.lemmas.Bool.{cases_Bool}
 use Rattle.std.proofs.lemmas.List.{take-append-drop}
 use Rattle.std.proofs.lemmas.List.Sums.{count_by-le-length, sum_by-append}
 use Rattle.std.specs.Prelude.{option_to_list, Ok}
-use Rattle.cmd_pack.specs.Parcels.Spelling.{is_end}
+use Rattle.rc_base.specs.Cluster.Parcels.{is_end}
 use Rattle.rc_base.specs.declared.cluster.TilePart.{TilePart}
 use Rattle.rc_base.specs.declared.state.Act.{Act}
 use Rattle.rc_base.specs.declared.state.Act.TheVariants as act

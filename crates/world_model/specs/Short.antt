@@ -1,6 +1,6 @@
 -- What a tile takes and answers that is short of memory: it performs nothing, takes grants until no more comes, and parcels up to each client's End.
 use Rattle.std.specs.Prelude.{◌≡◌, ◌<◌, ℕ, true, false, cond, ◌⊎◌}
-use Rattle.cmd_pack.specs.Parcels.Spelling.{is_end}
+use Rattle.rc_base.specs.Cluster.Parcels.{is_end}
 use Rattle.rc_base.specs.Cluster.Lanes.{IsEarlier}
 use Rattle.rc_base.specs.declared.sync.Entry.{Entry}
 use Rattle.order_model.specs.Standing.{Progress}

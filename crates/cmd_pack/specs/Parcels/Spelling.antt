@@ -181,11 +181,3 @@ pub record IsPackable (p : Parcel) : Type 0 where
   pub few : length p.sets ≤ 255
   pub sets : AllByRecursion IsWholeSet p.sets
   pub act : IsWholeAct p.act
-
--- the act is the client's last
-abbrev pub is_end : Act → Bool
-is_end (act.Draw block) = false
-is_end (act.Clear mask) = false
-is_end (act.Shared part) = false
-is_end (act.Sync op) = false
-is_end act.End = true

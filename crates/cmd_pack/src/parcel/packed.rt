@@ -2,7 +2,8 @@
 ghost use Rattle.std.specs.Prelude.{◌≡◌, IfOk, length};
 ghost use Rattle.cmd_pack.specs.Parcels.Fronts.{IsWritten};
 ghost use Rattle.cmd_pack.specs.Parcels.Reading.{parcel_in};
-ghost use Rattle.cmd_pack.specs.Parcels.Spelling.{IsPackable, is_end};
+ghost use Rattle.cmd_pack.specs.Parcels.Spelling.{IsPackable};
+ghost use Rattle.rc_base.specs.Cluster.Parcels.{is_end};
 
 use crate::parcel::reading::{read_parcel, read_parcel_in};
 use crate::parcel::room::Room;
@@ -35,7 +36,7 @@ impl Model for Packed {
 
     ghost use Rattle.std.specs.Arc.{arc_value};
     ghost use Rattle.cmd_pack.specs.Parcels.Fronts.{IsWritten};
-    ghost use Rattle.cmd_pack.specs.Parcels.Spelling.{is_end};
+    ghost use Rattle.rc_base.specs.Cluster.Parcels.{is_end};
     ghost use Rattle.cmd_pack.specs.Parcels.Reading.{parcel_in};
 
     ghost view = { λ a. parcel_in (arc_value a.bytes) };
@@ -47,7 +48,8 @@ impl Packed {
     ghost use Rattle.std.specs.Prelude.{◌≡◌, ◌≤◌, IfOk, length};
     ghost use Rattle.std.specs.List.{AllByRecursion};
     ghost use Rattle.cmd_pack.specs.Parcels.Fronts.{IsWritten};
-    ghost use Rattle.cmd_pack.specs.Parcels.Spelling.{IsWholeSet, SpellsParcel, is_end};
+    ghost use Rattle.cmd_pack.specs.Parcels.Spelling.{IsWholeSet, SpellsParcel};
+    ghost use Rattle.rc_base.specs.Cluster.Parcels.{is_end};
 
     /// The bytes that spell the parcel. Takes no memory.
     pub fn bytes(&self) -> &[u8]

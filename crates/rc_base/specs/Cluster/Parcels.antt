@@ -108,5 +108,13 @@ effect_by (act.Shared part) = eff.Shared part
 effect_by (act.Sync op) = eff.Sync op
 effect_by act.End = eff.Quiet
 
+-- the act is the client's last
+abbrev pub is_end : Act → Bool
+is_end (act.Draw block) = false
+is_end (act.Clear mask) = false
+is_end (act.Shared part) = false
+is_end (act.Sync op) = false
+is_end act.End = true
+
 abbrev pub set_count : List Parcel → ℕ
 set_count parcels = length (flat_map (λ (p : Parcel). p.sets) parcels)

@@ -57,6 +57,10 @@ some_pixel l tile passes =
 abbrev pub is_in_rect : Rect → ℤ → ℤ → Bool
 is_in_rect r x y = (int_le r.x0 x && int_lt x r.x1) && (int_le r.y0 y && int_lt y r.y1)
 
+-- the rectangle of all pixels of a window
+abbrev pub window_rect : ℕ → ℕ → Rect
+window_rect width height = record { x0 = pos 0; y0 = pos 0; x1 = pos width; y1 = pos height }
+
 -- the rectangle of a tile's pixels
 abbrev pub tile_rectangle : Layout → ℕ → Rect
 tile_rectangle l tile = record {

@@ -1,5 +1,5 @@
 -- The quantities of a scene that are limited, in one table. Each has a number, by which it is named and in whose order it is judged.
-use Rattle.std.specs.Prelude.{ℕ, ◌*◌, ◌&&◌, not, nat_le, min, Bool, true, false, List, [], ◌∷◌, ◌++◌, length, map, sum_by, count_by, slice_index, Option, Some, None, unwrap_or, codes, if◌then◌else◌}
+use Rattle.std.specs.Prelude.{ℕ, ◌*◌, ◌&&◌, not, nat_le, min, Bool, true, false, List, [], ◌∷◌, ◌++◌, length, map, sum_by, count_by, slice_index, Option, Some, None, Result, Ok, Err, unwrap_or, codes, if◌then◌else◌}
 use Rattle.std.specs.List.{flat_map}
 use Rattle.rc_base.specs.Lists.{at_name}
 use Rattle.rc_base.specs.declared.command.Command.{Command}
@@ -26,6 +26,11 @@ is_outside q = not (nat_le q.least q.value && nat_le q.value q.most)
 abbrev pub first_outside : List Quantity → Option Limit
 first_outside [] = None
 first_outside (q ∷ qs) = if is_outside q then Some (record { what = q.what; value = q.value }) else first_outside qs
+
+-- the quantity that was found outside its range
+abbrev pub judged : Result (Unit {0}) Limit → Option Limit
+judged (Ok _) = None
+judged (Err limit) = Some limit
 
 -- ---- quantities of a declaration
 

@@ -1,7 +1,7 @@
 use Rattle.std.proofs.Common.{◌≡◌, ℕ, ◌+◌, ◌≤◌, ◌<◌, List, length, sym, ap, ◌∙◌, subst, arith}
 use Rattle.std.specs.Prelude.{IfOk, slice_index_or}
 use Rattle.rc_base.specs.Cluster.Tiles.{tile_count}
-use Rattle.rc_base.specs.Program.Generator.{picks_of}
+use Rattle.scene_file.specs.Generator.{picks_of}
 use Rattle.rc_base.specs.declared.window.Layout.{Layout}
 use Rattle.render_core.specs.Due.{IsStepped, IsOutcome}
 use Rattle.render_core.specs.Scenes.{actors_for, layout_for}

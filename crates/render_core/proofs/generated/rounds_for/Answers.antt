@@ -3,7 +3,7 @@ use Rattle.std.specs.Prelude.{MatchResult, Result}
 use Rattle.std.specs.Option.{option_or}
 use Rattle.std.specs.declared.option.Option.{Option}
 use Rattle.rc_base.specs.Formats.Limits.{size_limit}
-use Rattle.rc_base.specs.Program.Generator.{generated_scene}
+use Rattle.scene_file.specs.Generator.{generated_scene}
 use Rattle.rc_base.specs.declared.scene.Limit.{Limit}
 use Rattle.render_core.specs.Scenes.{tile_limit, word_limit}
 use Rattle.render_core.specs.declared.job.Cluster.{Cluster}

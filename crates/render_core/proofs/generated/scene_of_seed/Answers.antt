@@ -1,5 +1,5 @@
 use Rattle.std.proofs.Common.{ap, ◌∙◌}
-use Rattle.rc_base.specs.Program.Generator.{generated_scene}
+use Rattle.scene_file.specs.Generator.{generated_scene}
 use Rattle.render_core.proofs.Made.{is_made}
 use Rattle.render_core.proofs.generated.scene_of_seed.Goals as goal
 

@@ -1,7 +1,7 @@
 use Rattle.std.proofs.Common.{◌≡◌, ℕ, suc, ◌+◌, ◌/◌, ◌%◌, ◌^◌, List, [], ◌∷◌, ◌++◌, map, refl, sym, ap, ◌∙◌, arith}
 use Rattle.std.specs.List.{range_with_len}
 use Rattle.std.proofs.lemmas.List.FromFn.{map-range_with_len_more}
-use Rattle.rc_base.specs.Program.Generator.{next_state, drawn_state, draw_of, picks_of}
+use Rattle.scene_file.specs.Generator.{next_state, drawn_state, draw_of, picks_of}
 use Rattle.render_core.proofs.picks.picks_of.Goals as goal
 
 state_more : (seed n : ℕ) → drawn_state seed (n + 1) ≡ next_state (drawn_state seed n)

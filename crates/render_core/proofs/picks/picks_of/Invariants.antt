@@ -1,6 +1,6 @@
 use Rattle.std.proofs.Common.{◌≡◌, ◌%◌, map, ℕ}
 use Rattle.std.specs.List.{range_with_len}
-use Rattle.rc_base.specs.Program.Generator.{drawn_state, draw_of}
+use Rattle.scene_file.specs.Generator.{drawn_state, draw_of}
 use Rattle.render_core.proofs.picks.picks_of.Given as goal
 
 abbrev pub invariant-loop : goal.invariant-loop

@@ -1,6 +1,6 @@
 use Rattle.std.proofs.Common.{◌∙◌, refl, sym}
 use Rattle.rc_base.specs.Outside.Ends.{use_of}
-use Rattle.rc_base.specs.Program.Generator.{generated_scene}
+use Rattle.scene_file.specs.Generator.{generated_scene}
 use Rattle.render_core.proofs.Inputs.{faults_few}
 use Rattle.render_core.proofs.Performing.{came_made, early_unmade, unmade_cause}
 use Rattle.render_core.proofs.steps.meaning_for.Goals as goal

@@ -1,6 +1,6 @@
 use Rattle.std.proofs.Common.{◌≡◌, ◌*◌, true, false, sym, ap, ◌∙◌}
 use Rattle.std.specs.Prelude.{◌==◌, if◌then◌else◌}
-use Rattle.rc_base.specs.Program.Generator.{drawn_state, is_lone, lone_client}
+use Rattle.scene_file.specs.Generator.{drawn_state, is_lone, lone_client}
 use Rattle.scene_file.proofs.DrawsFromState.{state_none}
 use Rattle.scene_file.proofs.generator.add_drawing.Goals as goal
 

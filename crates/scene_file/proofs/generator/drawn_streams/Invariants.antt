@@ -1,5 +1,5 @@
 use Rattle.std.proofs.Common.{◌≡◌, ◌*◌, ◌/◌, ◌%◌}
-use Rattle.rc_base.specs.Program.Generator.{drawn_state, triangles_before}
+use Rattle.scene_file.specs.Generator.{drawn_state, triangles_before}
 use Rattle.scene_file.specs.Generated.{streams_at}
 use Rattle.scene_file.proofs.generator.drawn_streams.Given as goal
 

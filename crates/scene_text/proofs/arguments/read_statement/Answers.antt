@@ -1,4 +1,4 @@
-use Rattle.rc_base.specs.Formats.Text.Read.{words_of}
+use Rattle.scene_text.specs.Text.Read.{words_of}
 use Rattle.scene_text.proofs.WhatWordsSay.{texels_told}
 use Rattle.scene_text.proofs.arguments.read_statement.Goals as goal
 

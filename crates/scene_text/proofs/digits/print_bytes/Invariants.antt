@@ -1,6 +1,6 @@
 use Rattle.std.proofs.Common.{◌≡◌, ◌++◌, drop}
 use Rattle.std.specs.List.{flat_map}
-use Rattle.rc_base.specs.Formats.Text.Printed.{hex_byte}
+use Rattle.scene_text.specs.Text.Printed.{hex_byte}
 use Rattle.scene_text.proofs.digits.print_bytes.Given as goal
 
 -- what is printed so far, and then what is left, is the whole

@@ -1,6 +1,6 @@
 use Rattle.std.proofs.Common.{◌≡◌, ◌++◌, map, drop}
 use Rattle.std.specs.List.{flat_map}
-use Rattle.rc_base.specs.Formats.Text.Printed.{after_space}
+use Rattle.scene_text.specs.Text.Printed.{after_space}
 use Rattle.std.specs.Fmt.{signed_decimal}
 use Rattle.scene_text.proofs.digits.print_numbers.Given as goal
 

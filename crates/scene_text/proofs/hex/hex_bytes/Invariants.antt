@@ -1,5 +1,5 @@
 use Rattle.std.proofs.Common.{◌≡◌, length}
-use Rattle.rc_base.specs.Formats.Text.Read.{hex_bytes}
+use Rattle.scene_text.specs.Text.Read.{hex_bytes}
 use Rattle.scene_text.specs.Reading.{behind_front}
 use Rattle.scene_text.proofs.hex.hex_bytes.Given as goal
 

@@ -1,6 +1,6 @@
 use Rattle.std.proofs.Common.{◌≡◌, drop}
 use Rattle.std.specs.List.{find}
-use Rattle.rc_base.specs.Formats.Text.Read.{has_name}
+use Rattle.scene_text.specs.Text.Read.{has_name}
 use Rattle.scene_text.proofs.names.find_name.Given as goal
 
 -- no name so far is spelled so

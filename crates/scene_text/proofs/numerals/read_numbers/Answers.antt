@@ -3,7 +3,7 @@ use Rattle.std.proofs.Math.ListN.{set}
 use Rattle.std.proofs.Math.Seq.{take-suc-set}
 use Rattle.std.proofs.Math.Facts.{to_z-of_z}
 use Rattle.std.proofs.lemmas.List.{drop-drop}
-use Rattle.rc_base.specs.Formats.Text.Read.{words_of, numbers_of}
+use Rattle.scene_text.specs.Text.Read.{words_of, numbers_of}
 use Rattle.scene_text.specs.Reading.{behind_front}
 use Rattle.scene_text.proofs.NumbersInTurn.{number_step, number_stop}
 use Rattle.scene_text.proofs.numerals.read_numbers.Goals as goal

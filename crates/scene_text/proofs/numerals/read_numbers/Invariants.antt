@@ -1,5 +1,5 @@
 use Rattle.std.proofs.Common.{◌≡◌, ◌-◌, length, take, drop}
-use Rattle.rc_base.specs.Formats.Text.Read.{words_of, numbers_of}
+use Rattle.scene_text.specs.Text.Read.{words_of, numbers_of}
 use Rattle.scene_text.specs.Reading.{behind_front}
 use Rattle.scene_text.proofs.numerals.read_numbers.Given as goal
 

@@ -1,5 +1,5 @@
 use Rattle.std.proofs.Common.{sym, ◌∙◌}
-use Rattle.rc_base.specs.Formats.Text.Read.{words_of}
+use Rattle.scene_text.specs.Text.Read.{words_of}
 use Rattle.scene_text.proofs.LinesInTurn.{named_ok}
 use Rattle.scene_text.proofs.parse.read_named.Goals as goal
 

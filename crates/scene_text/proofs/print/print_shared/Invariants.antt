@@ -1,7 +1,7 @@
 use Rattle.std.proofs.Common.{◌≡◌, ◌++◌, map, drop}
 use Rattle.std.specs.List.{flat_map}
-use Rattle.rc_base.specs.Formats.Text.Printed.{printed_line}
-use Rattle.rc_base.specs.Formats.Text.Statements.{shared_statement}
+use Rattle.scene_text.specs.Text.Printed.{printed_line}
+use Rattle.scene_text.specs.Text.Statements.{shared_statement}
 use Rattle.scene_text.proofs.print.print_shared.Given as goal
 
 -- what is printed so far, and then what is left, is the whole

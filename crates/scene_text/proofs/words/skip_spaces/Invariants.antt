@@ -1,5 +1,5 @@
 use Rattle.std.proofs.Common.{◌≡◌, ◌≤◌, length}
-use Rattle.rc_base.specs.Formats.Text.Read.{words_of}
+use Rattle.scene_text.specs.Text.Read.{words_of}
 use Rattle.scene_text.proofs.words.skip_spaces.Given as goal
 
 abbrev pub invariant-loop-rest : goal.invariant-loop-rest

@@ -1,6 +1,6 @@
 use Rattle.std.proofs.Common.{◌∙◌, sym, ap, arith, drop}
 use Rattle.std.proofs.lemmas.List.{drop-drop}
-use Rattle.rc_base.specs.Formats.Text.Read.{words_of}
+use Rattle.scene_text.specs.Text.Read.{words_of}
 use Rattle.command_table.proofs.Search.{drop_end}
 use Rattle.scene_text.proofs.words.skip_words.Goals as goal
 

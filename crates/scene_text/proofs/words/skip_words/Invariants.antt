@@ -1,5 +1,5 @@
 use Rattle.std.proofs.Common.{◌≡◌, drop}
-use Rattle.rc_base.specs.Formats.Text.Read.{words_of}
+use Rattle.scene_text.specs.Text.Read.{words_of}
 use Rattle.scene_text.proofs.words.skip_words.Given as goal
 
 abbrev pub invariant-loop-skipped : goal.invariant-loop-skipped

@@ -1,7 +1,7 @@
 use Rattle.std.proofs.Common.{◌≡◌, ◌∙◌, length, ap, subst, sym}
 use Rattle.std.specs.Prelude.{IfOk}
 use Rattle.rc_base.specs.declared.state.Parcel.{Parcel}
-use Rattle.cmd_pack.specs.Parcels.Spelling.{is_end}
+use Rattle.rc_base.specs.Cluster.Parcels.{is_end}
 use Rattle.cmd_pack.proofs.Fronts.{in_bytes}
 use Rattle.cmd_pack.proofs.ParcelsAreRead.{is_in}
 use Rattle.cmd_pack.proofs.parcel.packed.encode_parcel.Goals as goal

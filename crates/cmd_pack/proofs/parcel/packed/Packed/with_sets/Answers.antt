@@ -1,7 +1,7 @@
 use Rattle.std.proofs.Common.{◌≡◌, length, ap, sym, subst, ◌∙◌}
 use Rattle.std.specs.Prelude.{IfOk}
 use Rattle.rc_base.specs.declared.state.Parcel.{Parcel}
-use Rattle.cmd_pack.specs.Parcels.Spelling.{is_end}
+use Rattle.rc_base.specs.Cluster.Parcels.{is_end}
 use Rattle.cmd_pack.proofs.Fronts.{begins_within, in_bytes, place_within, same_sets, with_sets}
 use Rattle.cmd_pack.proofs.ParcelsAreRead.{is_in}
 use Rattle.cmd_pack.proofs.parcel.packed.Packed.with_sets.Goals as goal

@@ -3,7 +3,7 @@ use Rattle.std.specs.Prelude.{ℕ, ◌+◌, ◌/◌, ◌%◌, nat_lt, List, [], 
 use Rattle.std.specs.List.{flat_map}
 use Rattle.std.specs.Fmt.{signed_decimal}
 use Rattle.rc_base.specs.declared.scene.Scene.{Scene}
-use Rattle.rc_base.specs.Formats.Text.Statements.{Statement, word_of, scene_statements}
+use Rattle.scene_text.specs.Text.Statements.{Statement, word_of, scene_statements}
 
 -- 0 to 9 and a to f
 abbrev pub hex_digit : ℕ → ℕ

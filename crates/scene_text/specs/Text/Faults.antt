@@ -6,8 +6,8 @@ use Rattle.rc_base.specs.declared.scene.TextKind.{TextKind}
 use Rattle.rc_base.specs.declared.scene.TextKind.TheVariants as kind
 use Rattle.rc_base.specs.declared.text.LineName.{LineName}
 use Rattle.rc_base.specs.declared.text.LineName.TheVariants as line
-use Rattle.rc_base.specs.Formats.Text.Statements.{Statement}
-use Rattle.rc_base.specs.Formats.Text.Read.{is_text, is_skipped, words_of, name_of, arguments_say}
+use Rattle.scene_text.specs.Text.Statements.{Statement}
+use Rattle.scene_text.specs.Text.Read.{is_text, is_skipped, words_of, name_of, arguments_say}
 
 -- ---- places: lines stand by rising rank. A text without a line that says something has come to rank 0.
 

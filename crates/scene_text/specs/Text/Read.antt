@@ -15,7 +15,7 @@ use Rattle.rc_base.specs.declared.command.NumberRange.{NumberRange}
 use Rattle.rc_base.specs.declared.command.NumberRange.TheVariants as range
 use Rattle.rc_base.specs.Numbers.{entry, is_between}
 use Rattle.rc_base.specs.Formats.Commands.{is_in_range, picture_area}
-use Rattle.rc_base.specs.Formats.Text.Statements.{Statement, statement, word_of, line_names, line_ranges, line_has_picture, scene_statements}
+use Rattle.scene_text.specs.Text.Statements.{Statement, statement, word_of, line_names, line_ranges, line_has_picture, scene_statements}
 
 -- ---- lines and words
 

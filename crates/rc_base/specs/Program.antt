@@ -1,2 +1,0 @@
--- What the program is asked for, and the scenes and schedules that it makes itself.
-pub mod Generator
