@@ -23,9 +23,9 @@ use Rattle.tile_server.specs.declared.tile_core.TileCore.{TileCore}
 use Rattle.tile_queues.specs.Ends.{sent_of, taken_of, lane_in, lane_out}
 use Rattle.tile_queues.specs.declared.ends.LaneIn.{LaneIn}
 use Rattle.tile_queues.specs.declared.ends.LaneOut.{LaneOut}
-use Rattle.lane_grid.specs.Grids.{AreGrid}
-use Rattle.lane_grid.specs.Laws.{NamedEndsArePaired, NamedRowsAndColumnsAreAGrid}
-use Rattle.lane_grid.specs.Names.{AreInto, AreOutOf}
+use Rattle.tile_queues.specs.Grids.{AreGrid}
+use Rattle.tile_queues.specs.Laws.{NamedEndsArePaired, NamedRowsAndColumnsAreAGrid}
+use Rattle.tile_queues.specs.Names.{AreInto, AreOutOf}
 use Rattle.run_record.specs.Closed.{AreClosed, IsClientEnded, IsTileEnded}
 use Rattle.worker_crew.specs.declared.crew.Crew.{Crew}
 use Rattle.worker_crew.specs.declared.task.Task.{Task}

@@ -4,7 +4,7 @@ use Rattle.rc_base.specs.Cluster.Lanes.{EachLane}
 use Rattle.tile_queues.specs.Ends.{lane_in, lane_out}
 use Rattle.tile_queues.specs.declared.ends.LaneIn.{LaneIn}
 use Rattle.tile_queues.specs.declared.ends.LaneOut.{LaneOut}
-use Rattle.lane_grid.specs.Names.{AreInto, AreOutOf}
+use Rattle.tile_queues.specs.Names.{AreInto, AreOutOf}
 
 module _ {T R : Type 0} (count : ℕ) (names : ℕ → List ℕ) where
   pub into_goes_on : (xs ys : List (LaneIn T R)) → AreInto count names xs → EachLane (λ i a b. lane_in b ≡ lane_in a) xs ys → AreInto count names ys

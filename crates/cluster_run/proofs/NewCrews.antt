@@ -17,8 +17,8 @@ use Rattle.tile_server.specs.Clauses.{IsTileClause}
 use Rattle.tile_queues.specs.Ends.{sent_of, taken_of, lane_in, lane_out, depth_of}
 use Rattle.tile_queues.specs.declared.ends.LaneIn.{LaneIn}
 use Rattle.tile_queues.specs.declared.ends.LaneOut.{LaneOut}
-use Rattle.lane_grid.specs.Names.{AreInto, AreOutOf}
-use Rattle.lane_grid.specs.Grids.{IsNewGrid}
+use Rattle.tile_queues.specs.Names.{AreInto, AreOutOf}
+use Rattle.tile_queues.specs.Grids.{IsNewGrid}
 use Rattle.worker_crew.specs.declared.crew.Crew.{Crew}
 use Rattle.cluster_run.specs.Clients.{IsClientWorker}
 use Rattle.cluster_run.specs.Managers.{IsManagerWorker}

@@ -14,7 +14,8 @@ use Rattle.order_model.specs.Report.{image_text_of, recorded_pixel}
 use Rattle.order_model.specs.Scenes.{IsDrawableScene}
 use Rattle.order_model.specs.declared.record.Record.{Record}
 use Rattle.run_record.specs.Collected.{IsSmall, IsWholeRun}
-use Rattle.frame_out.specs.Laws.{FramesOfScenesAreWritable, HasWindow, WholeRunsAreWritten}
+use Rattle.run_record.specs.ImageText.{WholeRunsAreWritten}
+use Rattle.frame_out.specs.Laws.{FramesOfScenesAreWritable, HasWindow}
 use Rattle.frame_out.specs.Windows.{IsWindow}
 use Rattle.frame_out.specs.Writing.{IsCounted}
 use Rattle.frame_out.specs.declared.writing.Written.{Written}

@@ -16,8 +16,8 @@ use Rattle.assembler.specs.Parts.{picture}
 use Rattle.frame_out.specs.Laws.{NewWritersAreOnTheWay}
 use Rattle.frame_out.specs.OnTheWay.{GivesOne, GoesOn, HasWritten, IsMissing, IsNewWriter, IsOnTheWay}
 use Rattle.frame_out.specs.declared.on_the_way.FrameWriter.{FrameWriter}
-use Rattle.lane_grid.specs.Grids.{AreJoined}
-use Rattle.lane_grid.specs.Names.{AreOutOf}
+use Rattle.tile_queues.specs.Grids.{AreJoined}
+use Rattle.tile_queues.specs.Names.{AreOutOf}
 use Rattle.tile_queues.specs.Ends.{lane_out, sent_of, sent_in, taken_in, taken_of, rest_of}
 use Rattle.tile_queues.specs.declared.ends.LaneIn.{LaneIn}
 use Rattle.tile_queues.specs.declared.ends.LaneOut.{LaneOut}

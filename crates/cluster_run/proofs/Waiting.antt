@@ -13,7 +13,7 @@ use Rattle.rc_base.specs.declared.sync.Request.{Request}
 use Rattle.rc_base.specs.declared.window.Layout.{Layout}
 use Rattle.tile_queues.specs.declared.ends.LaneIn.{LaneIn}
 use Rattle.tile_queues.specs.declared.ends.LaneOut.{LaneOut}
-use Rattle.lane_grid.specs.Grids.{IsFresh}
+use Rattle.tile_queues.specs.Grids.{IsFresh}
 use Rattle.cluster_run.specs.NewWorkers.{IsNewClient, AreNewClients, IsNewTile, AreNewTiles}
 use Rattle.cluster_run.specs.Coreless.{IsWaitingClient, AreWaitingClients, MayGetClientCore, IsClientFor, IsWaitingTile, AreWaitingTiles, MayGetTileCore, IsTileFor}
 use Rattle.cluster_run.specs.declared.clients.CorelessClient.{CorelessClient}

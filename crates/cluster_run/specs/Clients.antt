@@ -7,7 +7,7 @@ use Rattle.rc_base.specs.declared.window.Layout.{Layout}
 use Rattle.client_issue.specs.Clauses.{IsClientClause}
 use Rattle.tile_queues.specs.Ends.{sent_of, lane_in}
 use Rattle.tile_queues.specs.declared.ends.LaneIn.{LaneIn}
-use Rattle.lane_grid.specs.Names.{AreInto}
+use Rattle.tile_queues.specs.Names.{AreInto}
 use Rattle.cluster_run.specs.declared.workers.ClientWorker.{ClientWorker}
 
 module _ {R : Type 0} where

@@ -8,7 +8,7 @@ use Rattle.sync_manager.specs.Clauses.{IsManagerClause}
 use Rattle.tile_queues.specs.Ends.{sent_of, taken_of}
 use Rattle.tile_queues.specs.declared.ends.LaneIn.{LaneIn}
 use Rattle.tile_queues.specs.declared.ends.LaneOut.{LaneOut}
-use Rattle.lane_grid.specs.Names.{AreInto, AreOutOf}
+use Rattle.tile_queues.specs.Names.{AreInto, AreOutOf}
 use Rattle.cluster_run.specs.declared.workers.ManagerWorker.{ManagerWorker}
 
 module _ {R : Type 0} where

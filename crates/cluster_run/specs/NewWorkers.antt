@@ -16,8 +16,8 @@ use Rattle.tile_server.specs.Clauses.{IsTileClause}
 use Rattle.tile_queues.specs.Ends.{taken_of}
 use Rattle.tile_queues.specs.declared.ends.LaneIn.{LaneIn}
 use Rattle.tile_queues.specs.declared.ends.LaneOut.{LaneOut}
-use Rattle.lane_grid.specs.Grids.{IsFresh}
-use Rattle.lane_grid.specs.Names.{AreOutOf}
+use Rattle.tile_queues.specs.Grids.{IsFresh}
+use Rattle.tile_queues.specs.Names.{AreOutOf}
 use Rattle.cluster_run.specs.declared.workers.ClientWorker.{ClientWorker}
 use Rattle.cluster_run.specs.declared.workers.ManagerWorker.{ManagerWorker}
 use Rattle.cluster_run.specs.declared.workers.TileWorker.{TileWorker}

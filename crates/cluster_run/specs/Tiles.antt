@@ -7,7 +7,7 @@ use Rattle.rc_base.specs.declared.window.Layout.{Layout}
 use Rattle.tile_server.specs.Clauses.{IsTileClause}
 use Rattle.tile_queues.specs.Ends.{sent_of, taken_of, lane_in, lane_out}
 use Rattle.tile_queues.specs.declared.ends.LaneOut.{LaneOut}
-use Rattle.lane_grid.specs.Names.{AreOutOf}
+use Rattle.tile_queues.specs.Names.{AreOutOf}
 use Rattle.cluster_run.specs.declared.workers.TileWorker.{TileWorker}
 
 module _ {R : Type 0} where

@@ -4,7 +4,7 @@ ghost use Rattle.rc_base.specs.declared.scene.Scene.{Scene};
 ghost use Rattle.rc_base.specs.declared.window.Layout.{Layout};
 ghost use Rattle.rc_base.specs.Cluster.Tiles.{tile_count};
 ghost use Rattle.run_record.specs.Closed.{AreClosed};
-ghost use Rattle.lane_grid.specs.Names.{AreInto};
+ghost use Rattle.tile_queues.specs.Names.{AreInto};
 ghost use Rattle.cluster_run.specs.Apart.{AreOfClients, AreOfTiles};
 ghost use Rattle.cluster_run.specs.Clusters.{LaneNames, IsEndedCluster};
 ghost use Rattle.cluster_run.specs.Serving.{shown_in_lanes};
@@ -12,13 +12,15 @@ ghost use Rattle.cluster_run.specs.Serving.{shown_in_lanes};
 use crate::workers::{ClientWorker, ManagerWorker, TileWorker};
 use client_issue::ClientCore;
 use cmd_pack::Packed;
-use lane_grid::{close_all, close_list, named_ends_are_paired, named_rows_and_columns_are_a_grid};
 use rc_base::cluster::TilePart;
 use rc_base::out_of_memory::OutOfMemory;
 use rc_base::sync::{Grant, Request};
 use std::alloc::Global;
 use sync_manager::ManagerCore;
-use tile_queues::{LaneIn, LaneOut};
+use tile_queues::{
+    LaneIn, LaneOut, close_all, close_list, named_ends_are_paired,
+    named_rows_and_columns_are_a_grid,
+};
 use tile_server::TileCore;
 use worker_crew::{Crew, Task};
 

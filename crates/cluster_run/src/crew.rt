@@ -8,7 +8,6 @@ ghost use Rattle.cluster_run.specs.NewWorkers.{AreUntaken, IsNewManager};
 use crate::clients::new_clients;
 use crate::tiles::new_tiles;
 use crate::workers::{ClientWorker, ManagerWorker, TileWorker};
-use lane_grid::lane_grid;
 use order_model::laws::scenes_within_limits;
 use rc_base::cluster::TilePart;
 use rc_base::out_of_memory::OutOfMemory;
@@ -19,7 +18,7 @@ use std::alloc::Global;
 use std::thread::Threads;
 use sync_manager::ManagerCore;
 use sync_manager::laws::managers_meet_their_clause;
-use tile_queues::{LaneIn, LaneOut};
+use tile_queues::{LaneIn, LaneOut, lane_grid};
 use worker_crew::Crew;
 
 /// The worker of a manager that was asked for nothing.

@@ -9,7 +9,7 @@
 //! The parts of frames go from each tile to the caller, through a lane of their own; the caller writes each frame once all tiles have shown it, while the
 //! workers run (`specs/Serving`).
 //!
-//! This crate stands on the cores (`client_issue`, `sync_manager`, `tile_server`), on `tile_queues` and `lane_grid` for the lanes, on `worker_crew` for
+//! This crate stands on the cores (`client_issue`, `sync_manager`, `tile_server`), on `tile_queues` for the lanes, on `worker_crew` for
 //! the threads, on `run_record` for the record, and on `frame_out` for its frames.
 #![tactic(auto)]
 

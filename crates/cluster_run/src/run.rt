@@ -10,7 +10,7 @@ ghost use Rattle.run_record.specs.Collected.{IsWholeRun};
 ghost use Rattle.run_record.specs.Told.{IsRun};
 ghost use Rattle.frame_out.specs.Laws.{HasWindow};
 ghost use Rattle.frame_out.specs.Writing.{IsCounted, IsWritten};
-ghost use Rattle.lane_grid.specs.Names.{AreOutOf};
+ghost use Rattle.tile_queues.specs.Names.{AreOutOf};
 ghost use Rattle.cluster_run.specs.Clusters.{LaneNames, IsEndedCluster};
 ghost use Rattle.cluster_run.specs.Fronts.{GaveFront};
 ghost use Rattle.cluster_run.specs.Serving.{IsSince};
@@ -22,8 +22,7 @@ use crate::on_the_way::OnTheWay;
 use crate::writing::{Tasks, finish, run_crew};
 use client_issue::ClientCore;
 use frame_out::Written;
-use frame_out::laws::{frames_of_scenes_are_writable, whole_runs_are_written};
-use lane_grid::named_ends_are_paired;
+use frame_out::laws::{frames_of_scenes_are_writable, new_writers_are_on_the_way};
 use order_model::laws::scenes_within_limits;
 use order_model::record::Record;
 use rc_base::cluster::{FaultLists, Tallies, TilePart};
@@ -33,12 +32,13 @@ use rc_base::outside::Sink;
 use rc_base::scene::Scene;
 use rc_base::sync::Waiting;
 use rc_base::window::Layout;
-use run_record::laws::closed_runs_are_lawful;
+use run_record::laws::{closed_runs_are_lawful, whole_runs_are_written};
 use run_record::{Collected, collect};
 use std::alloc::Global;
 use std::sync::Wait;
 use std::thread::Threads;
 use sync_manager::ManagerCore;
+use tile_queues::named_ends_are_paired;
 use tile_server::TileCore;
 
 /// What a run leaves: its record, how much was sent to each tile, who waits for ever, the refused commands of each client, and how much of the frames'
@@ -140,7 +140,7 @@ where
 {
     scenes_within_limits();
     clusters_end::<R>();
-    whole_runs_are_written();
+    new_writers_are_on_the_way();
     let NewCrew { crew, parts } = new_crew(rt, alloc, scene, layout, depth)?;
     let mut frames = OnTheWay::new(alloc, layout, parts)?;
     let ended = run_crew(rt, alloc, gate, crew, &mut frames, image)?;

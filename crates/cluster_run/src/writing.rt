@@ -14,7 +14,6 @@ ghost use Rattle.cluster_run.specs.Serving.{HasAdvanced, HasAdvancedByRests, Has
 use crate::on_the_way::OnTheWay;
 use crate::workers::{ClientWorker, ManagerWorker, TileWorker};
 use frame_out::{FrameWriter, Written};
-use lane_grid::join_list;
 use rc_base::cluster::TilePart;
 use rc_base::gate::Gate;
 use rc_base::out_of_memory::OutOfMemory;
@@ -22,7 +21,7 @@ use rc_base::outside::Sink;
 use std::alloc::Global;
 use std::sync::Wait;
 use std::thread::Threads;
-use tile_queues::{LaneIn, Rest};
+use tile_queues::{LaneIn, Rest, join_list};
 use worker_crew::{Crew, Foreground, Task, run_beside};
 
 /// The workers of a cluster before their first step.

@@ -7,3 +7,4 @@ pub mod Grids
 pub mod Loops
 pub mod Columns
 pub mod Plans
+pub mod Stored

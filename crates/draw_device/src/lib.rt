@@ -13,6 +13,10 @@
 //!
 //! A triangle that covers no pixel of the rectangle is dropped before anything is prepared of it. One that stands in one column of it, and whose
 //! colours alone are stored, is drawn up that column.
+//!
+//! What a command does beyond its context (`carry`) is one way for the serial renderer and for each tile: a block and a Clear change the pixels of a device,
+//! and a part is written into a shared texture (`specs/Stored`). A tile is sent acts, and does to its rectangle with the state that it was told what the
+//! serial renderer does to the whole window with the context's.
 #![tactic(auto)]
 
 mod alpha;
@@ -20,6 +24,7 @@ mod blank;
 mod blending;
 mod blends;
 mod block_setup;
+mod carry;
 mod clear_setup;
 mod clears;
 mod colors;
@@ -49,6 +54,7 @@ mod tests;
 mod write;
 mod writes;
 
+pub use carry::{carry_out, effect_of};
 pub use device::Device;
 pub use nearer::nearer_of;
 pub use pixel_run::PixelRun;

@@ -1,9 +1,8 @@
 pub mod Prefixes
 pub mod Texts
-pub mod FrameParts
 pub mod Writable
 pub mod WrittenMore
 pub mod PartsTaken
 pub mod WriterGoesOn
-pub mod RunsWritten
+pub mod PartsCounted
 pub mod PartsWait

@@ -6,7 +6,7 @@ use Rattle.assembler.specs.Assembled.{places_of}
 use Rattle.assembler.specs.Places.{in_place}
 use Rattle.frame_out.specs.Laws.{NoTileRunsAway}
 use Rattle.frame_out.specs.OnTheWay.{parts_in}
-use Rattle.frame_out.proofs.RunsWritten.{counted}
+use Rattle.frame_out.proofs.PartsCounted.{counted}
 
 at_most_one : (place : Option TilePart) → length (option_to_list place) ≤ 1
 at_most_one None = omega arith

@@ -1,10 +1,8 @@
--- Laws of the frames of runs.
+-- Laws of writers of frames, and of the frames of scenes within the limits.
 use Rattle.std.specs.Prelude.{◌≡◌, ℕ, ◌+◌, ◌<◌, ◌≤◌, List, [], ◌++◌, length, None}
 use Rattle.rc_base.specs.Cluster.Tiles.{tile_count}
 use Rattle.rc_base.specs.Drawing.Images.{Pixels}
 use Rattle.rc_base.specs.Formats.Limits.{limit_of}
-use Rattle.rc_base.specs.Formats.Netpbm.{p6_texts}
-use Rattle.rc_base.specs.Lists.{IsFront}
 use Rattle.rc_base.specs.Orders.Journal.{IsLegal}
 use Rattle.rc_base.specs.Orders.Sync.{sync_lists_of}
 use Rattle.rc_base.specs.Outside.Ends.{Used, IsCalm, Took}
@@ -12,14 +10,10 @@ use Rattle.rc_base.specs.declared.cluster.TilePart.{TilePart}
 use Rattle.rc_base.specs.declared.scene.Scene.{Scene}
 use Rattle.rc_base.specs.declared.sync.Entry.{Entry}
 use Rattle.rc_base.specs.declared.window.Layout.{Layout}
-use Rattle.order_model.specs.Report.{frame_count, image_text_of, recorded_pixel}
-use Rattle.order_model.specs.declared.record.Record.{Record}
-use Rattle.assembler.specs.Places.{in_place}
-use Rattle.assembler.specs.Assembled.{places_of}
-use Rattle.run_record.specs.Told.{AreFrameParts, HaveFrames}
-use Rattle.frame_out.specs.Frames.{frame_total, window_images, AreFrames, ShowFrames}
+use Rattle.order_model.specs.Report.{frame_count}
+use Rattle.frame_out.specs.Frames.{window_images}
 use Rattle.frame_out.specs.OnTheWay.{HasWritten, IsNewWriter, IsOnTheWay}
-use Rattle.frame_out.specs.Writing.{AreWritable, IsCounted}
+use Rattle.frame_out.specs.Writing.{AreWritable}
 use Rattle.frame_out.specs.declared.on_the_way.FrameWriter.{FrameWriter}
 
 -- the layout is one of the scene's window
@@ -27,39 +21,11 @@ pub record HasWindow (scene : Scene) (l : Layout) : Type 0 where
   pub width : l.width ≡ scene.decl.width
   pub height : l.height ≡ scene.decl.height
 
--- there is a part of each tile for each frame of the record, with that tile's pixels in the order that its log records
-pub record ShowRecord (scene : Scene) (l : Layout) (kept : Record) (parts : List TilePart) : Type 0 where
-  pub frames : AreFrames l parts
-  pub shown : ShowFrames l parts (recorded_pixel scene l kept)
-  pub count : frame_total l parts ≡ frame_count kept.journal
-
--- so the parts of a whole run
-abbrev pub WholeRunsShowFrames : Type 0
-WholeRunsShowFrames =
-    (scene : Scene) (l : Layout) (kept : Record) (parts : List TilePart) → AreFrameParts scene l kept parts → 0 < tile_count l → ShowRecord scene l kept parts
-
--- the texts of a record's frames are its image text
-abbrev pub RecordedFramesHaveTheImageText : Type 0
-RecordedFramesHaveTheImageText =
-    (scene : Scene) (l : Layout) (kept : Record) → HasWindow scene l
-    → p6_texts (window_images l (recorded_pixel scene l kept) (frame_count kept.journal)) ≡ image_text_of scene l kept
-
 -- A scene within the limits has frames that can be written, whoever drew them: one for each Swap of a legal journal.
 abbrev pub FramesOfScenesAreWritable : Type 0
 FramesOfScenesAreWritable =
     (scene : Scene) (l : Layout) (journal : List Entry) (pixels : ℕ → Pixels) → limit_of scene ≡ None → HasWindow scene l
     → IsLegal (sync_lists_of scene) journal → AreWritable (window_images l pixels (frame_count journal))
-
--- A writer that was given fronts of the parts of a whole run, and found a tile's lane at its end, has written the record's image text: all of it, or up to
--- the image's fault. Its bytes are counted.
-abbrev pub WholeRunsAreWritten : Type 0
-WholeRunsAreWritten =
-    (scene : Scene) (l : Layout) (kept : Record) (shown took : ℕ → List TilePart) (image : Used) (w : FrameWriter)
-    → HaveFrames scene l kept shown → HasWindow scene l → 0 < tile_count l
-    → AreWritable (window_images l (recorded_pixel scene l kept) (frame_count kept.journal))
-    → HasWritten l image took w → ((tile : ℕ) → tile < tile_count l → IsFront (took tile) (shown tile))
-    → (tile : ℕ) → tile < tile_count l → in_place (places_of w.assembler) tile ≡ None → took tile ≡ shown tile
-    → IsCounted image (image_text_of scene l kept) w.written
 
 -- a new writer is on its way, with nothing taken and nothing written
 abbrev pub NewWritersAreOnTheWay : Type 0

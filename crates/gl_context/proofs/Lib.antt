@@ -6,3 +6,4 @@ pub mod ImagesGoOn
 pub mod OneElement
 pub mod ValidContexts
 pub mod CountedBlocks
+mod BlocksOfCommands

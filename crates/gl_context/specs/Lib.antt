@@ -5,3 +5,5 @@ pub mod Valid
 pub mod Edits
 pub mod Stacks
 pub mod Elements
+pub mod Refused
+pub mod Blocks

@@ -4,6 +4,8 @@ ghost use Rattle.gl_context.specs.Streams.{StreamsBeginWithDefaults, StreamsGoOn
 ghost use Rattle.gl_context.specs.Valid.{ContextsOfStreamsAreValid};
 ghost use Rattle.gl_context.specs.Edits.{EditsNeverFall, EqualEditsMeanEqualImages};
 ghost use Rattle.gl_context.specs.Stacks.{PopUndoesPush};
+ghost use Rattle.gl_context.specs.Refused.{RefusedCommandsChangeNothing};
+ghost use Rattle.gl_context.specs.Blocks.{OpenBlocksAreOfTheirCommands, DrawnBlocksAreOfTheirCommands};
 ghost use Rattle.gl_context.specs.Elements.{CommandsSetOneElement, ElementsKeepTheirLastSet, ElementsBeginWithDefaults};
 
 /// A command whose fields are in their ranges has all texels, which is what `Context::issue` asks of it.
@@ -42,4 +44,16 @@ pub fn commands_set_one_element()
     ensures one { CommandsSetOneElement }
     ensures kept { ElementsKeepTheirLastSet }
     ensures first { ElementsBeginWithDefaults }
+{}
+
+/// A refused command changes nothing of its context but the fault list, and does nothing beyond it.
+pub fn refused_commands_change_nothing()
+    ensures { RefusedCommandsChangeNothing }
+{}
+
+/// The open block of a context, and the block that an accepted `End` draws, has the mode of the last accepted `Begin` before it and the
+/// vertices that were accepted since, each with the colour and the texture coordinate that were current.
+pub fn blocks_are_of_their_commands()
+    ensures opened { OpenBlocksAreOfTheirCommands }
+    ensures drawn { DrawnBlocksAreOfTheirCommands }
 {}

@@ -1,11 +1,10 @@
 //! A grid of lanes, used and closed, and two lists of ends.
 
-use lane_grid::{Grid, close_all, close_list, join_list, lane_grid};
 use rc_base::lane::{Inlet, Outlet};
 use std::alloc::Global;
 use std::process::Abort;
 use std::sync::Wait;
-use tile_queues::{LaneIn, LaneOut, lane};
+use tile_queues::{Grid, LaneIn, LaneOut, close_all, close_list, join_list, lane, lane_grid};
 
 type Item = (usize, usize);
 

@@ -8,10 +8,11 @@ use Rattle.rc_base.specs.declared.image.Image.{Image}
 use Rattle.rc_base.specs.declared.scene.Scene.{Scene}
 use Rattle.rc_base.specs.declared.window.Layout.{Layout}
 use Rattle.frame_out.specs.Frames.{frame_total, window_images, ShowFrames}
-use Rattle.frame_out.specs.Laws.{FramesOfScenesAreWritable, HasWindow, RecordedFramesHaveTheImageText, WholeRunsShowFrames}
+use Rattle.frame_out.specs.Laws.{FramesOfScenesAreWritable, HasWindow}
 use Rattle.frame_out.specs.Writing.{AreWritable}
 use Rattle.order_model.specs.Laws.{SceneListsAreWellFormed, RecordsOfScenesArePermitted}
 use Rattle.order_model.specs.Report.{frame_count, image_text_of, recorded_pixel}
+use Rattle.run_record.specs.ImageText.{RecordedFramesHaveTheImageText, WholeRunsShowFrames}
 use Rattle.run_record.specs.Told.{IsRun}
 use Rattle.step_core.specs.CoreRuns.{IsCoreRun, IsFinish}
 use Rattle.step_core.specs.Schedules.{WorldView, picks_of, IsRightFor}

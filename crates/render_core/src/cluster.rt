@@ -15,7 +15,7 @@ use crate::job::Cluster;
 use crate::report::cluster_report;
 use crate::work::Work;
 use frame_out::frames_of;
-use frame_out::laws::{frames_of_scenes_are_writable, whole_runs_show_frames};
+use frame_out::laws::frames_of_scenes_are_writable;
 use order_model::laws::{records_of_scenes, scene_lists_are_well_formed};
 use order_model::record::Record;
 use rc_base::cluster::{FaultLists, Tallies};
@@ -23,6 +23,7 @@ use rc_base::command::Bytes;
 use rc_base::out_of_memory::OutOfMemory;
 use rc_base::sync::Waiting;
 use rc_base::window::Layout;
+use run_record::laws::whole_runs_show_frames;
 use std::alloc::Global;
 use step_core::{CoreRun, finish, run_schedule};
 

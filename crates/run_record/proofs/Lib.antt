@@ -6,3 +6,5 @@ mod ClientsBeyond
 mod ClosedRuns
 mod InFrames
 mod RecordedRuns
+pub mod FrameParts
+mod RunsWritten

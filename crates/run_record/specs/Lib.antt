@@ -4,3 +4,4 @@ pub mod Frames
 pub mod Kept
 pub mod Closed
 pub mod Collected
+pub mod ImageText

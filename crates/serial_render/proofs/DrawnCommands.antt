@@ -32,7 +32,7 @@ use Rattle.gl_context.proofs.OneMoreCommand.{goes_on}
 use Rattle.gl_context.proofs.ValidContexts.{command_of, stream_all, valid}
 use Rattle.order_model.specs.Scenes.{HasSides}
 use Rattle.draw_device.specs.Conditions.{IsDrawable, shared_of}
-use Rattle.draw_acts.specs.Stored.{IsWritable, set_after}
+use Rattle.draw_device.specs.Stored.{IsWritable, set_after}
 
 -- ---- the context after a command that draws draws the same as the one before it
 

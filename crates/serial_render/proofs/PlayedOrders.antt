@@ -24,7 +24,7 @@ use Rattle.rc_base.specs.declared.window.Rect.{Rect}
 use Rattle.textures.specs.Images.{texture_image}
 use Rattle.textures.specs.Stores.{HasTexels}
 use Rattle.gl_context.specs.Valid.{IsValidContext}
-use Rattle.draw_acts.specs.Stored.{IsWritable, set_after}
+use Rattle.draw_device.specs.Stored.{IsWritable, set_after}
 use Rattle.draw_device.specs.Conditions.{shared_of}
 use Rattle.draw_device.specs.Devices.{DeviceView, EachTakes, pixel_of}
 use Rattle.order_model.proofs.StandsInLists.{in_append, stands_right}

@@ -8,8 +8,7 @@ ghost use Rattle.serial_render.specs.Shown.{IsPlayable, IsShown, images_of};
 ghost use Rattle.serial_render.specs.Steps.{Holds, window_of};
 
 use crate::image::image_of;
-use draw_acts::carry_out;
-use draw_device::Device;
+use draw_device::{Device, carry_out};
 use rc_base::image::Frames;
 use rc_base::out_of_memory::OutOfMemory;
 use rc_base::scene::{Decl, Scene};

@@ -28,7 +28,7 @@ use Rattle.rc_base.specs.declared.window.Pixel.{Pixel}
 use Rattle.rc_base.specs.Contexts.Context.{default_state}
 use Rattle.rc_base.specs.declared.state.Parcel.{Parcel}
 use Rattle.rc_base.specs.declared.window.Layout.{Layout}
-use Rattle.draw_acts.specs.Stored.{IsWritable, set_after}
+use Rattle.draw_device.specs.Stored.{IsWritable, set_after}
 use Rattle.draw_device.specs.Conditions.{IsClearable, shared_of}
 use Rattle.draw_device.specs.Devices.{DeviceView, EachTakes, pixel_of}
 use Rattle.textures.specs.Images.{HasTexelIfAny, texture_image, with_texture_part}

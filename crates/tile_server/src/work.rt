@@ -7,12 +7,11 @@ ghost use Rattle.rc_base.specs.declared.state.Effect.TheVariants as eff;
 ghost use Rattle.textures.specs.Images.{texture_image};
 ghost use Rattle.draw_device.specs.Conditions.{IsDrawable, IsClearable, shared_of};
 ghost use Rattle.draw_device.specs.Devices.{EachTakes};
-ghost use Rattle.draw_acts.specs.Stored.{IsWritable, set_after};
+ghost use Rattle.draw_device.specs.Stored.{IsWritable, set_after};
 
 use crate::kept::KeptClient;
 use context_switch::switch;
-use draw_acts::{carry_out, effect_of};
-use draw_device::Device;
+use draw_device::{Device, carry_out, effect_of};
 use rc_base::state::{Act, Effect, State, Vertices};
 use textures::SharedSet;
 

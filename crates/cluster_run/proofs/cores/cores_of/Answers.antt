@@ -2,7 +2,7 @@ use Rattle.std.proofs.Common.{List, sym, ◌∙◌, subst, arith}
 use Rattle.std.specs.Prelude.{Vec}
 use Rattle.std.specs.Global.{Global}
 use Rattle.rc_base.specs.declared.state.Parcel.{Parcel}
-use Rattle.lane_grid.specs.Grids.{AreGrid}
+use Rattle.tile_queues.specs.Grids.{AreGrid}
 use Rattle.tile_queues.specs.declared.ends.LaneOut.{LaneOut}
 use Rattle.cluster_run.proofs.ClosedCrews.{AreFronts, asking_paired, closed, grid, hearing_paired, showing_into}
 use Rattle.cluster_run.proofs.cores.cores_of.Goals as goal

@@ -1,6 +1,6 @@
 use Rattle.std.proofs.Common.{subst}
 use Rattle.rc_base.specs.Cluster.Tiles.{tile_count}
-use Rattle.lane_grid.specs.Grids.{IsNewGrid}
+use Rattle.tile_queues.specs.Grids.{IsNewGrid}
 use Rattle.cluster_run.proofs.NewCrews.{new_crew_is}
 use Rattle.cluster_run.proofs.crew.new_crew.Goals as goal
 

@@ -57,5 +57,5 @@ returns-clause-written g c start on =
     let k = c.args.ended.tiles.ok.0 in
     let some = c.requires.some.1 in
     let tiles : 0 < tile_count c.args.layout.now = omega (arith, m, k, some) in
-    text_written c.whole_runs_are_written.ensures.whole c.frames_of_scenes_are_writable.ensures c.args.scene.now c.args.layout.now _ _ _ _ shown _ _
+    text_written c.whole_runs_are_written.ensures c.frames_of_scenes_are_writable.ensures c.args.scene.now c.args.layout.now _ _ _ _ shown _ _
     c.requires.within c.requires.window tiles whole (c.in_ok-written.ensures.finished c.args.layout.now start on)

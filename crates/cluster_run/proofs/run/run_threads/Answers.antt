@@ -1,6 +1,6 @@
 use Rattle.std.proofs.Common.{◌≡◌, ◌<◌, length, arith, ap, ◌∙◌}
 use Rattle.std.proofs.lemmas.Result.{IfOk-weaker}
-use Rattle.frame_out.proofs.FrameParts.{some_columns, some_rows}
+use Rattle.run_record.proofs.FrameParts.{some_columns, some_rows}
 use Rattle.frame_out.proofs.Prefixes.{on_err}
 use Rattle.cluster_run.proofs.Runs.{is_window}
 use Rattle.cluster_run.proofs.Serving.{front_since, nothing_given, out_still, since_then}
@@ -38,7 +38,7 @@ returns-in_err-ended-clause-front g c =
     let made = c.in_ok-crew.ensures in
     let frames = c.in_ok-frames.frames in
     on_err c.from_residual-in_err-ended.result
-    (front_since g.K.Sink.held g.K.Sink.faults l c.whole_runs_are_written.ensures.first c.args.image.now frames c.in_ok-frames.ensures.new made.0.parts _
+    (front_since g.K.Sink.held g.K.Sink.faults l c.new_writers_are_on_the_way.ensures c.args.image.now frames c.in_ok-frames.ensures.new made.0.parts _
     (ap (λ v. v.items) c.in_ok-frames.ensures.lanes) made.2 c.run_crew.new.frames c.run_crew.new.image c.in_err-ended.ensures.served can.some_tiles)
 
 pub complete-requires-clause-some : goal.complete-requires-clause-some
@@ -59,7 +59,7 @@ complete-requires-clause-ended g c =
     let made = c.in_ok-crew.ensures in (
       made.0,
       c.clusters_end.ensures scene l made.0 c.in_ok-crew.field-0.crew c.in_ok-ended.ended made.1 c.in_ok-ended.ensures.ended,
-      out_still g.K.Sink.held g.K.Sink.faults l c.whole_runs_are_written.ensures.first c.args.image.now c.in_ok-frames.frames c.in_ok-frames.ensures.new made.0.parts _
+      out_still g.K.Sink.held g.K.Sink.faults l c.new_writers_are_on_the_way.ensures c.args.image.now c.in_ok-frames.frames c.in_ok-frames.ensures.new made.0.parts _
           (ap (λ v. v.items) c.in_ok-frames.ensures.lanes) made.2 c.run_crew.new.frames c.run_crew.new.image c.in_ok-ended.ensures.served,
     )
 
@@ -67,19 +67,19 @@ pub returns-clause-written : goal.returns-clause-written
 returns-clause-written g c =
     let made = c.in_ok-crew.ensures in
     IfOk-weaker c.complete.result _ _ (λ r h. h.is) (c.complete.ensures.written c.args.image.now
-    (since_then g.K.Sink.held g.K.Sink.faults c.args.layout.now c.whole_runs_are_written.ensures.first c.args.image.now c.in_ok-frames.frames c.in_ok-frames.ensures.new
+    (since_then g.K.Sink.held g.K.Sink.faults c.args.layout.now c.new_writers_are_on_the_way.ensures c.args.image.now c.in_ok-frames.frames c.in_ok-frames.ensures.new
     made.0.parts _ (ap (λ v. v.items) c.in_ok-frames.ensures.lanes) made.2 c.run_crew.new.frames c.run_crew.new.image c.in_ok-ended.ensures.served))
 
 pub returns-clause-counted : goal.returns-clause-counted
 returns-clause-counted g c =
     let made = c.in_ok-crew.ensures in
     IfOk-weaker c.complete.result _ _ (λ r h. h.count) (c.complete.ensures.written c.args.image.now
-    (since_then g.K.Sink.held g.K.Sink.faults c.args.layout.now c.whole_runs_are_written.ensures.first c.args.image.now c.in_ok-frames.frames c.in_ok-frames.ensures.new
+    (since_then g.K.Sink.held g.K.Sink.faults c.args.layout.now c.new_writers_are_on_the_way.ensures c.args.image.now c.in_ok-frames.frames c.in_ok-frames.ensures.new
     made.0.parts _ (ap (λ v. v.items) c.in_ok-frames.ensures.lanes) made.2 c.run_crew.new.frames c.run_crew.new.image c.in_ok-ended.ensures.served))
 
 pub returns-clause-front : goal.returns-clause-front
 returns-clause-front g c =
     let made = c.in_ok-crew.ensures in
     on_err c.complete.result (c.complete.ensures.front c.args.image.now
-    (since_then g.K.Sink.held g.K.Sink.faults c.args.layout.now c.whole_runs_are_written.ensures.first c.args.image.now c.in_ok-frames.frames c.in_ok-frames.ensures.new
+    (since_then g.K.Sink.held g.K.Sink.faults c.args.layout.now c.new_writers_are_on_the_way.ensures c.args.image.now c.in_ok-frames.frames c.in_ok-frames.ensures.new
     made.0.parts _ (ap (λ v. v.items) c.in_ok-frames.ensures.lanes) made.2 c.run_crew.new.frames c.run_crew.new.image c.in_ok-ended.ensures.served))

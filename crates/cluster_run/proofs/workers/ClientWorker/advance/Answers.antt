@@ -10,7 +10,7 @@ use Rattle.client_issue.specs.Clauses.{IsClientClause}
 use Rattle.client_issue.specs.declared.client.ClientCore.{ClientCore}
 use Rattle.tile_queues.specs.Ends.{sent_of}
 use Rattle.tile_queues.specs.declared.ends.LaneIn.{LaneIn}
-use Rattle.lane_grid.specs.Names.{AreInto}
+use Rattle.tile_queues.specs.Names.{AreInto}
 use Rattle.cluster_run.specs.Attempts.{client_attempt}
 use Rattle.cluster_run.proofs.Named.{into_goes_on}
 use Rattle.cluster_run.proofs.workers.ClientWorker.advance.Goals as goal

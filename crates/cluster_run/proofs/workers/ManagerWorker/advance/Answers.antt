@@ -10,7 +10,7 @@ use Rattle.sync_manager.specs.declared.manager.ManagerCore.{ManagerCore}
 use Rattle.tile_queues.specs.Ends.{sent_of, taken_of}
 use Rattle.tile_queues.specs.declared.ends.LaneIn.{LaneIn}
 use Rattle.tile_queues.specs.declared.ends.LaneOut.{LaneOut}
-use Rattle.lane_grid.specs.Names.{AreInto, AreOutOf}
+use Rattle.tile_queues.specs.Names.{AreInto, AreOutOf}
 use Rattle.cluster_run.specs.Attempts.{manager_attempt}
 use Rattle.cluster_run.proofs.Named.{into_goes_on, out_goes_on}
 use Rattle.cluster_run.proofs.workers.ManagerWorker.advance.Goals as goal

@@ -14,7 +14,7 @@ use Rattle.tile_server.specs.Deeds.{answer_of}
 use Rattle.tile_server.specs.declared.tile_core.TileCore.{TileCore}
 use Rattle.tile_queues.specs.Ends.{sent_of, taken_of}
 use Rattle.tile_queues.specs.declared.ends.LaneOut.{LaneOut}
-use Rattle.lane_grid.specs.Names.{AreOutOf}
+use Rattle.tile_queues.specs.Names.{AreOutOf}
 use Rattle.rc_base.specs.declared.cluster.TileMoved.TheVariants as moved
 use Rattle.cluster_run.specs.Attempts.{tile_attempt}
 use Rattle.cluster_run.specs.Tiles.{parts_of}

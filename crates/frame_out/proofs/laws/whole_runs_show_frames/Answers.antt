@@ -1,8 +1,0 @@
-use Rattle.frame_out.proofs.FrameParts.{texts_are, whole_runs}
-use Rattle.frame_out.proofs.laws.whole_runs_show_frames.Goals as goal
-
-pub returns-clause-shown : goal.returns-clause-shown
-returns-clause-shown c = whole_runs c.each_pixel_has_one_tile.ensures
-
-pub returns-clause-text : goal.returns-clause-text
-returns-clause-text c = texts_are

@@ -1,5 +1,0 @@
-use Rattle.lane_grid.proofs.Named.{pairs_law}
-use Rattle.lane_grid.proofs.laws.named_ends_are_paired.Goals as goal
-
-pub returns : goal.returns
-returns g c = pairs_law

@@ -1,5 +1,0 @@
-use Rattle.lane_grid.proofs.Named.{grid_law}
-use Rattle.lane_grid.proofs.laws.named_rows_and_columns_are_a_grid.Goals as goal
-
-pub returns : goal.returns
-returns g c = grid_law

@@ -1,5 +1,0 @@
-use Rattle.lane_grid.specs.Grids.{IsNewGrid}
-use Rattle.lane_grid.proofs.making.lane_grid.Given as goal
-
-abbrev pub invariant-loop : goal.invariant-loop
-invariant-loop g l = IsNewGrid l.depth l.counter l.receivers l.ins.items l.outs.items

@@ -1,3 +1,0 @@
-pub mod Grids
-pub mod Names
-pub mod Laws
