@@ -41,7 +41,7 @@ use Rattle.state_update.specs.Knowledge.{Knows}
 use Rattle.element_table.specs.declared.kind.ValueKind.{ValueKind}
 use Rattle.element_table.specs.declared.kind.ValueKind.TheVariants.{Image}
 use Rattle.element_table.specs.Kinds.{kind_of, kind_of_value, scalar_kinds}
-use Rattle.cmd_pack.specs.Parcels.Spelling.{IsWholeValue, IsWholeSet, IsWholeAct, IsPackable}
+use Rattle.parcel_bytes.specs.Spelling.{IsWholeValue, IsWholeSet, IsWholeAct, IsPackable}
 use Rattle.client_issue.specs.Acts.{act_by, act_sets}
 use Rattle.client_issue.specs.Sequence.{scene_of, IsSendingWith, heard}
 use Rattle.client_issue.specs.declared.pending.Pending.{Pending}

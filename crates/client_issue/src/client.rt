@@ -6,7 +6,7 @@ ghost use Rattle.client_issue.specs.Sequence.{IsSound, IsSound-prop};
 
 use crate::item::Item;
 use crate::sender::Sender;
-use cmd_pack::Packed;
+use parcel_bytes::Packed;
 use rc_base::cluster::{FaultList, Tallies, Tally};
 use rc_base::sync::SyncRow;
 

@@ -1,5 +1,5 @@
 //! An item of the sequence, and where it goes.
-use cmd_pack::Packed;
+use parcel_bytes::Packed;
 use rc_base::sync::Request;
 
 /// A parcel to a tile with the looks that it cost, or a request to the manager.

@@ -2,7 +2,7 @@
 ghost use Rattle.client_issue.specs.Clauses.{ClientsAreUnderWay, ClientStepsOverLanesKeepTheClause, EndedClientsAreDone, NewClientsMeetTheirClause};
 ghost use Rattle.client_issue.specs.Laws.{SequencesAreSplit, ParcelsRiseAndEnd};
 
-use cmd_pack::Packed;
+use parcel_bytes::Packed;
 use rc_base::lane::Outlet;
 use rc_base::sync::Request;
 

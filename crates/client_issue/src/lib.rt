@@ -2,7 +2,7 @@
 //!
 //! The sequence of items is that of `rc_base::specs::Cluster::Sending`; a parcel is packed once, when it is made, and tiles
 //! that get one act with the same sets share its bytes. Stands on `gl_context`,
-//! `bounds_bucket`, `state_update` and `cmd_pack`.
+//! `bounds_bucket`, `state_update` and `parcel_bytes`.
 #![tactic(auto)]
 
 mod acts;

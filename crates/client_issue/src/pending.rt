@@ -5,7 +5,7 @@ ghost use Rattle.client_issue.specs.Acts.{asks_of};
 ghost use Rattle.client_issue.specs.First.{IsFirst};
 
 use crate::acts::{act_of, next_tile, tiles_of};
-use cmd_pack::Packed;
+use parcel_bytes::Packed;
 use rc_base::state::{Act, Effect, State};
 use rc_base::window::Layout;
 

@@ -11,7 +11,7 @@ ghost use Rattle.client_issue.specs.Steps.{AreSent, IsClientStep, IsCutShort, Is
 use crate::client::ClientCore;
 use crate::item::Item;
 use crate::lanes::append;
-use cmd_pack::Packed;
+use parcel_bytes::Packed;
 use rc_base::cluster::{ClientMoved, Tally};
 use rc_base::lane::Outlet;
 use rc_base::out_of_memory::OutOfMemory;

@@ -8,7 +8,7 @@ ghost use Rattle.cluster_run.specs.Steps.{IsClientTurn};
 
 use crate::workers::{ClientWorker, has_ended};
 use client_issue::laws::clients_meet_their_clause_over_lanes;
-use cmd_pack::Packed;
+use parcel_bytes::Packed;
 use rc_base::cluster::ClientMoved;
 use rc_base::gate::Actor;
 use rc_base::out_of_memory::OutOfMemory;

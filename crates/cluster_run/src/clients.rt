@@ -10,7 +10,7 @@ use crate::gathered::make_each;
 use crate::workers::ClientWorker;
 use client_issue::ClientCore;
 use client_issue::laws::clients_meet_their_clause;
-use cmd_pack::Packed;
+use parcel_bytes::Packed;
 use rc_base::out_of_memory::OutOfMemory;
 use rc_base::scene::Scene;
 use rc_base::sync::Request;

@@ -11,7 +11,7 @@ ghost use Rattle.cluster_run.specs.Serving.{shown_in_lanes};
 
 use crate::workers::{ClientWorker, ManagerWorker, TileWorker};
 use client_issue::ClientCore;
-use cmd_pack::Packed;
+use parcel_bytes::Packed;
 use rc_base::cluster::TilePart;
 use rc_base::out_of_memory::OutOfMemory;
 use rc_base::sync::{Grant, Request};

@@ -10,7 +10,7 @@ ghost use Rattle.cluster_run.specs.Steps.{IsTileTurn};
 ghost use Rattle.cluster_run.specs.Tiles.{TileLeads};
 
 use crate::workers::{TileWorker, has_ended};
-use cmd_pack::Packed;
+use parcel_bytes::Packed;
 use rc_base::cluster::{TileMoved, TilePart};
 use rc_base::gate::Actor;
 use rc_base::items::Items;

@@ -7,7 +7,7 @@ ghost use Rattle.cluster_run.specs.Coreless.{AreWaitingTiles, IsTileFor, MayGetT
 
 use crate::gathered::make_each;
 use crate::workers::TileWorker;
-use cmd_pack::Packed;
+use parcel_bytes::Packed;
 use rc_base::cluster::TilePart;
 use rc_base::out_of_memory::OutOfMemory;
 use rc_base::scene::Scene;

@@ -7,7 +7,7 @@ ghost use Rattle.tile_server.specs.Cores as tile;
 ghost use Rattle.worker_crew.specs.declared.worker.Attempt.TheVariants as answer;
 
 use client_issue::ClientCore;
-use cmd_pack::Packed;
+use parcel_bytes::Packed;
 use rc_base::cluster::TilePart;
 use rc_base::sync::{Grant, Request};
 use std::alloc::Global;

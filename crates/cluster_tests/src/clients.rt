@@ -8,7 +8,7 @@ ghost use Rattle.client_issue.specs.Cores.{layout_of};
 
 use bounds_bucket::layout;
 use client_issue::ClientCore;
-use cmd_pack::Packed;
+use parcel_bytes::Packed;
 use rc_base::cluster::{ClientMoved, Tally};
 use rc_base::command::{Command, Commands};
 use rc_base::lane::{Inlet, Outlet};

@@ -6,7 +6,7 @@ ghost use Rattle.client_issue.specs.Cores.{layout_of};
 
 use bounds_bucket::layout;
 use client_issue::ClientCore;
-use cmd_pack::{Packed, decode_parcel, encode_parcel, is_packable};
+use parcel_bytes::{Packed, decode_parcel, encode_parcel, is_packable};
 use rc_base::cluster::ClientMoved;
 use rc_base::lane::Inlet;
 use rc_base::plain_lane::PlainLane;

@@ -2,8 +2,8 @@
 ghost use Rattle.std.specs.Prelude.{◌≡◌, IfOk, length};
 ghost use Rattle.tile_server.specs.Cores.{clients_of};
 
-use cmd_pack::{Packed, encode_parcel, is_packable};
 use order_model::record::LogEntry;
+use parcel_bytes::{Packed, encode_parcel, is_packable};
 use rc_base::cluster::TileMoved;
 use rc_base::command::{Part, Rgba, Texels};
 use rc_base::lane::{Inlet, Outlet};

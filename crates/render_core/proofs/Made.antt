@@ -9,7 +9,7 @@ use Rattle.rc_base.specs.Formats.Limits.{size_limit}
 use Rattle.rc_base.specs.Formats.Spelling.{IsDecl}
 use Rattle.rc_base.specs.Formats.Within.{IsWithin}
 use Rattle.scene_file.specs.Generator.{generated_scene}
-use Rattle.cmd_pack.specs.Texels.{HasTexels, HaveTexels}
+use Rattle.packet_bytes.specs.Texels.{HasTexels, HaveTexels}
 use Rattle.scene_file.specs.Written.{AreWhole}
 use Rattle.render_core.specs.Refusals.{IsMade}
 

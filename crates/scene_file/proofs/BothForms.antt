@@ -2,11 +2,11 @@
 use Rattle.std.proofs.Common.{◌≡◌, ◌++◌, length, sym, ◌∙◌, append_assoc, inl, inr}
 use Rattle.std.specs.List.{flat_map}
 use Rattle.rc_base.specs.Formats.Spelling.{plain_set, list_set, magic, list_magic, stream_text}
-use Rattle.cmd_pack.specs.Packets.{plain_reader}
-use Rattle.cmd_pack.specs.PlainLaws.{plain_agrees}
-use Rattle.cmd_pack.specs.Lists.{list_reader}
-use Rattle.cmd_pack.specs.ListLaws.{list_agrees}
-use Rattle.cmd_pack.proofs.OneSpelling as packets
+use Rattle.packet_bytes.specs.Packets.{plain_reader}
+use Rattle.packet_bytes.specs.PlainLaws.{plain_agrees}
+use Rattle.packet_bytes.specs.Lists.{list_reader}
+use Rattle.packet_bytes.specs.ListLaws.{list_agrees}
+use Rattle.packet_bytes.proofs.OneSpelling as packets
 use Rattle.scene_file.specs.Letters.{plain_letters, list_letters}
 use Rattle.scene_file.specs.Laws.{ScenesAreOne, FaultsSpellNoScene, SceneFaultsAreOne, ScenesOrFaults, ListScenesAreOne, FaultsSpellNoListScene, ListSceneFaultsAreOne, ListScenesOrFaults, FormsAreApart}
 use Rattle.scene_file.proofs.HeaderCodec.{head_text}

@@ -9,7 +9,7 @@ use Rattle.rc_base.specs.declared.scene.Limit.{Limit}
 use Rattle.rc_base.specs.declared.scene.SceneKind.{SceneKind}
 use Rattle.rc_base.specs.Formats.Limits.{is_swap_command, least_swaps, swaps_in}
 use Rattle.rc_base.specs.Formats.Spelling.{CommandSet, SceneForm}
-use Rattle.cmd_pack.specs.declared.packets.DecodedOf.{DecodedOf}
+use Rattle.packet_bytes.specs.declared.packets.DecodedOf.{DecodedOf}
 use Rattle.scene_file.specs.declared.fault.SceneFault.{SceneFault}
 use Rattle.scene_file.specs.declared.fault.SceneFault.TheVariants as scene_faults
 use Rattle.scene_file.specs.Letters.{Letters, form_of}

@@ -5,11 +5,11 @@ use Rattle.std.specs.Int.{w16, w32}
 use Rattle.std.proofs.lemmas.List.Concat.{flat_map-cons}
 use Rattle.rc_base.specs.Formats.Commands.{AreBytes}
 use Rattle.rc_base.specs.Formats.Spelling.{SceneForm, half, long, size, IsDeclOf, IsSide, IsSize, IsCount, stream_text}
-use Rattle.cmd_pack.specs.declared.fault.Form.{Form}
-use Rattle.cmd_pack.specs.Codec.{AreBytes-rest, Codec, sized_codec, convert_codec}
-use Rattle.cmd_pack.specs.NumberCodecs.{IsByte, one_byte, byte_codec, number_codec, run_codec, IsRun, wide16, wide32}
+use Rattle.byte_codec.specs.declared.fault.Form.{Form}
+use Rattle.byte_codec.specs.Codec.{AreBytes-rest, Codec, sized_codec, convert_codec}
+use Rattle.byte_codec.specs.NumberCodecs.{IsByte, one_byte, byte_codec, number_codec, run_codec, IsRun, wide16, wide32}
 use Rattle.scene_file.specs.declared.header.Head.{Head}
-use Rattle.cmd_pack.specs.Reading.{cons}
+use Rattle.byte_codec.specs.Reading.{cons}
 use Rattle.scene_file.specs.Reading.{read_half, read_times, make_size, read_size, Front, make_head, read_head, second, read_text}
 
 -- ---- so many things

@@ -7,10 +7,10 @@ use Rattle.std.proofs.lemmas.Bool.{cases_lt}
 use Rattle.rc_base.specs.declared.scene.SceneKind.{SceneKind}
 use Rattle.rc_base.specs.declared.scene.SceneKind.TheVariants.{BadMagic, BadCount, UnknownOpcode, Truncated, Trailing}
 use Rattle.rc_base.specs.Formats.Spelling.{CommandSet, SceneForm, stream_text}
-use Rattle.cmd_pack.specs.declared.fault.PackFault.{PackFault}
-use Rattle.cmd_pack.specs.declared.fault.PackFault.TheVariants as faults
-use Rattle.cmd_pack.specs.Faults.{FailsAsStreamOf, IsFault, FaultsAreOneOf}
-use Rattle.cmd_pack.specs.Sets.{SetReader, Agrees}
+use Rattle.packet_bytes.specs.declared.fault.PackFault.{PackFault}
+use Rattle.packet_bytes.specs.declared.fault.PackFault.TheVariants as faults
+use Rattle.packet_bytes.specs.Faults.{FailsAsStreamOf, IsFault, FaultsAreOneOf}
+use Rattle.packet_bytes.specs.Sets.{SetReader, Agrees}
 use Rattle.scene_file.specs.Letters.{Letters, form_of}
 use Rattle.scene_file.specs.Faults.{Differs, DiffersFromAll, IsCutHeader, IsCutText, HasFront, HasStreamFault, FailsAsText, FailsInStreams, HasTrailing, FailsAsSceneOf}
 use Rattle.scene_file.proofs.HeaderCodec.{head_text}

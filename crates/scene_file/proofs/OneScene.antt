@@ -8,14 +8,14 @@ use Rattle.rc_base.specs.declared.scene.Decl.{Decl}
 use Rattle.rc_base.specs.declared.scene.SceneKind.{SceneKind}
 use Rattle.rc_base.specs.declared.scene.SceneKind.TheVariants.{BadMagic, BadCount, UnknownOpcode, Truncated, Trailing}
 use Rattle.rc_base.specs.Formats.Spelling.{CommandSet, SceneForm, long, header_of, IsDeclOf, stream_text, SpellStreamsOf, SpellsStreamOf, SpellsSceneOf}
-use Rattle.cmd_pack.specs.declared.fault.Form.{Form}
-use Rattle.cmd_pack.specs.declared.fault.PackFault.{PackFault}
-use Rattle.cmd_pack.specs.declared.fault.PackFault.TheVariants as faults
-use Rattle.cmd_pack.specs.Faults.{IsFault}
-use Rattle.cmd_pack.specs.Reading.{read_unsigned}
-use Rattle.cmd_pack.specs.Sets.{SetReader, Agrees}
-use Rattle.cmd_pack.specs.NumberCodecs.{number_codec, wide32}
-use Rattle.cmd_pack.proofs.OneSpelling.{one_spelling, fails_is_none}
+use Rattle.byte_codec.specs.declared.fault.Form.{Form}
+use Rattle.packet_bytes.specs.declared.fault.PackFault.{PackFault}
+use Rattle.packet_bytes.specs.declared.fault.PackFault.TheVariants as faults
+use Rattle.packet_bytes.specs.Faults.{IsFault}
+use Rattle.byte_codec.specs.Reading.{read_unsigned}
+use Rattle.packet_bytes.specs.Sets.{SetReader, Agrees}
+use Rattle.byte_codec.specs.NumberCodecs.{number_codec, wide32}
+use Rattle.packet_bytes.proofs.OneSpelling.{one_spelling, fails_is_none}
 use Rattle.scene_file.specs.declared.header.Head.{Head}
 use Rattle.scene_file.specs.Reading.{read_head}
 use Rattle.scene_file.specs.Letters.{Letters, form_of}

@@ -5,15 +5,15 @@ use Rattle.rc_base.specs.declared.scene.SceneKind.{SceneKind}
 use Rattle.rc_base.specs.declared.scene.SceneKind.TheVariants.{Trailing}
 use Rattle.rc_base.specs.Formats.Commands.{AreBytes}
 use Rattle.rc_base.specs.Formats.Spelling.{CommandSet, SceneForm, stream_text, SpellsSceneOf}
-use Rattle.cmd_pack.specs.Sets.{SetReader, Agrees}
-use Rattle.cmd_pack.specs.declared.fault.Form.{Form}
-use Rattle.cmd_pack.specs.declared.fault.Form.TheVariants as forms
-use Rattle.cmd_pack.specs.declared.fault.ReadError.TheVariants as errors
-use Rattle.cmd_pack.specs.declared.fault.PackFault.{PackFault}
-use Rattle.cmd_pack.specs.declared.fault.PackFault.TheVariants as faults
-use Rattle.cmd_pack.specs.Faults.{IsFault}
-use Rattle.cmd_pack.specs.Codec.{AreBytes-behind}
-use Rattle.cmd_pack.proofs.SpelledOrFaulty as streams
+use Rattle.packet_bytes.specs.Sets.{SetReader, Agrees}
+use Rattle.byte_codec.specs.declared.fault.Form.{Form}
+use Rattle.byte_codec.specs.declared.fault.Form.TheVariants as forms
+use Rattle.byte_codec.specs.declared.fault.ReadError.TheVariants as errors
+use Rattle.packet_bytes.specs.declared.fault.PackFault.{PackFault}
+use Rattle.packet_bytes.specs.declared.fault.PackFault.TheVariants as faults
+use Rattle.packet_bytes.specs.Faults.{IsFault}
+use Rattle.byte_codec.specs.Codec.{AreBytes-behind}
+use Rattle.packet_bytes.proofs.SpelledOrFaulty as streams
 use Rattle.scene_file.specs.declared.header.Head.{Head}
 use Rattle.scene_file.specs.declared.fault.Broken.{Broken}
 use Rattle.scene_file.specs.declared.fault.Broken.TheVariants as broken

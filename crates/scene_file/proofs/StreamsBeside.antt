@@ -9,7 +9,7 @@ use Rattle.rc_base.specs.declared.scene.Scene.{Scene}
 use Rattle.rc_base.specs.Formats.Commands.{AreBytes}
 use Rattle.rc_base.specs.Formats.Limits.{is_swap_command, commands_in, limit_of}
 use Rattle.rc_base.specs.Formats.Spelling.{plain_set, plain_form, magic, header_of, stream_text, IsVersion, SpellStreams, SpellsScene}
-use Rattle.cmd_pack.specs.declared.packets.DecodedOf.{DecodedOf}
+use Rattle.packet_bytes.specs.declared.packets.DecodedOf.{DecodedOf}
 use Rattle.scene_file.specs.declared.header.Head.{Head}
 use Rattle.scene_file.specs.declared.beside.Gathered.{Gathered}
 use Rattle.scene_file.specs.declared.reading.Counted.{Counted}

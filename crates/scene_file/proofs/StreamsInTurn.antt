@@ -10,17 +10,17 @@ use Rattle.rc_base.specs.declared.scene.SceneKind.{SceneKind}
 use Rattle.rc_base.specs.declared.scene.SceneKind.TheVariants.{BadMagic, BadCount, UnknownOpcode, Truncated, Trailing}
 use Rattle.rc_base.specs.Formats.Commands.{AreBytes}
 use Rattle.rc_base.specs.Formats.Spelling.{CommandSet, SceneForm, long, header_of, IsDeclOf, stream_text, SpellStreamsOf, SpellsStreamOf, SpellsSceneOf}
-use Rattle.cmd_pack.specs.declared.fault.Form.{Form}
-use Rattle.cmd_pack.specs.declared.fault.Form.TheVariants as forms
-use Rattle.cmd_pack.specs.declared.fault.ReadError.{ReadError}
-use Rattle.cmd_pack.specs.declared.fault.ReadError.TheVariants as errors
-use Rattle.cmd_pack.specs.declared.fault.PackFault.{PackFault}
-use Rattle.cmd_pack.specs.declared.fault.PackFault.TheVariants as faults
-use Rattle.cmd_pack.specs.Faults.{FailsAsStreamOf}
-use Rattle.cmd_pack.specs.declared.packets.DecodedOf.{DecodedOf}
-use Rattle.cmd_pack.specs.Packets.{DecodesOf}
-use Rattle.cmd_pack.specs.Reading.{Fails}
-use Rattle.cmd_pack.specs.Codec.{CutOff, AreBytes-behind}
+use Rattle.byte_codec.specs.declared.fault.Form.{Form}
+use Rattle.byte_codec.specs.declared.fault.Form.TheVariants as forms
+use Rattle.byte_codec.specs.declared.fault.ReadError.{ReadError}
+use Rattle.byte_codec.specs.declared.fault.ReadError.TheVariants as errors
+use Rattle.packet_bytes.specs.declared.fault.PackFault.{PackFault}
+use Rattle.packet_bytes.specs.declared.fault.PackFault.TheVariants as faults
+use Rattle.packet_bytes.specs.Faults.{FailsAsStreamOf}
+use Rattle.packet_bytes.specs.declared.packets.DecodedOf.{DecodedOf}
+use Rattle.packet_bytes.specs.Packets.{DecodesOf}
+use Rattle.byte_codec.specs.Reading.{Fails}
+use Rattle.byte_codec.specs.Codec.{CutOff, AreBytes-behind}
 use Rattle.scene_file.specs.declared.header.Head.{Head}
 use Rattle.scene_file.specs.declared.fault.Broken.{Broken}
 use Rattle.scene_file.specs.declared.fault.Broken.TheVariants as broken

@@ -1,10 +1,10 @@
 -- Reading so many things of one kind, as a loop does.
 use Rattle.std.proofs.Common.{◌≡◌, ℕ, suc, ◌-◌, ◌+◌, ◌≤◌, ◌<◌, List, [], ◌∷◌, ◌++◌, Result, Ok, Err, refl, sym, ap, ◌∙◌, append_assoc, arith}
 use Rattle.std.proofs.lemmas.List.{append-nil}
-use Rattle.cmd_pack.specs.declared.fault.Form.{Form}
-use Rattle.cmd_pack.specs.declared.fault.ReadError.{ReadError}
-use Rattle.cmd_pack.specs.declared.fault.ReadError.TheVariants as errors
-use Rattle.cmd_pack.specs.Reading.{cons, ◌>>=◌, Fails, with_front}
+use Rattle.byte_codec.specs.declared.fault.Form.{Form}
+use Rattle.byte_codec.specs.declared.fault.ReadError.{ReadError}
+use Rattle.byte_codec.specs.declared.fault.ReadError.TheVariants as errors
+use Rattle.byte_codec.specs.Reading.{cons, ◌>>=◌, Fails, with_front}
 use Rattle.scene_file.specs.Reading.{read_times}
 
 module _ {A : Type 0} (p : List ℕ → Result (A × List ℕ) Form) where

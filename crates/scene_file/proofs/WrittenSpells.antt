@@ -12,7 +12,8 @@ use Rattle.rc_base.specs.declared.scene.Limit.{Limit}
 use Rattle.rc_base.specs.declared.scene.Scene.{Scene}
 use Rattle.rc_base.specs.Formats.Limits.{first_outside, barrier_count, side, size_area, limit_of}
 use Rattle.rc_base.specs.Formats.Spelling.{CommandSet, SceneForm, half, size, magic, header, stream_text, encoded, IsCount, IsSide, IsSize, IsDecl, IsDeclOf, IsPacketOf, SpellStreams, SpellStreamsOf, SpellsScene, SpellsSceneOf}
-use Rattle.cmd_pack.proofs.EncodedSpells.{all_both, encoded_spells}
+use Rattle.packet_bytes.proofs.EncodedSpells.{encoded_spells}
+use Rattle.byte_codec.proofs.WrittenInTurn.{all_both}
 use Rattle.scene_file.specs.Written.{written, IsShort, IsEncoded, IsWritable}
 use Rattle.scene_file.specs.Judging.{or_else, one, window_part, judge_counts, judge_decl}
 use Rattle.scene_file.proofs.LimitsByParts.{outside_append, limit_parts, none_first, single, window_within}

@@ -4,7 +4,7 @@ use Rattle.std.specs.List.{flat_map}
 use Rattle.rc_base.specs.declared.command.Command.{Command}
 use Rattle.rc_base.specs.Formats.Spelling.{stream_text, SpellsStream, SpellStreams}
 use Rattle.rc_base.specs.Formats.Limits.{is_swap_command, commands_in}
-use Rattle.cmd_pack.specs.declared.packets.DecodedOf.{DecodedOf}
+use Rattle.packet_bytes.specs.declared.packets.DecodedOf.{DecodedOf}
 use Rattle.scene_file.specs.declared.beside.Gathered.{Gathered}
 use Rattle.scene_file.specs.Counting.{least_shown}
 

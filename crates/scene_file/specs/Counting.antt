@@ -2,7 +2,7 @@
 use Rattle.std.specs.Prelude.{◌≡◌, ℕ, ◌==◌, ◌≤◌, ◌<◌, ◌^◌, min, Bool, List, [], ◌∷◌, length, sum_by, count_by, if◌then◌else◌}
 use Rattle.rc_base.specs.declared.scene.Decl.{Decl}
 use Rattle.rc_base.specs.Formats.Spelling.{CommandSet, SceneForm, SpellsSceneOf}
-use Rattle.cmd_pack.specs.declared.packets.DecodedOf.{DecodedOf}
+use Rattle.packet_bytes.specs.declared.packets.DecodedOf.{DecodedOf}
 use Rattle.scene_file.specs.declared.reading.Counted.{Counted}
 use Rattle.scene_file.specs.Faults.{IsFirstText}
 

@@ -8,9 +8,9 @@ use Rattle.rc_base.specs.declared.scene.SceneKind.{SceneKind}
 use Rattle.rc_base.specs.declared.scene.SceneKind.TheVariants.{BadMagic, BadCount, UnknownOpcode, Truncated, Trailing}
 use Rattle.rc_base.specs.Formats.Spelling.{CommandSet, SceneForm, plain_form, list_form, header_of, IsDeclOf, stream_text, SpellStreamsOf, SpellsStreamOf, SpellsSceneOf, SpellsScene}
 use Rattle.rc_base.specs.Formats.Limits.{limit_of, read_limit}
-use Rattle.cmd_pack.specs.declared.fault.PackFault.{PackFault}
-use Rattle.cmd_pack.specs.declared.fault.PackFault.TheVariants as faults
-use Rattle.cmd_pack.specs.Faults.{FailsAsStreamOf}
+use Rattle.packet_bytes.specs.declared.fault.PackFault.{PackFault}
+use Rattle.packet_bytes.specs.declared.fault.PackFault.TheVariants as faults
+use Rattle.packet_bytes.specs.Faults.{FailsAsStreamOf}
 use Rattle.scene_file.specs.declared.fault.Broken.{Broken}
 use Rattle.scene_file.specs.declared.fault.Broken.TheVariants as broken
 use Rattle.scene_file.specs.declared.fault.SceneFault.{SceneFault}

@@ -2,13 +2,13 @@
 use Rattle.std.specs.Prelude.{ℕ, zero, suc, ◌-◌, List, [], ◌∷◌, Result, Ok}
 use Rattle.std.specs.Int.{w16, w32}
 use Rattle.rc_base.specs.declared.scene.SceneKind.TheVariants as kinds
-use Rattle.cmd_pack.specs.declared.fault.Form.{Form}
-use Rattle.cmd_pack.specs.declared.fault.Form.TheVariants as forms
-use Rattle.cmd_pack.specs.declared.fault.ReadError.{ReadError}
-use Rattle.cmd_pack.specs.declared.fault.ReadError.TheVariants as errors
-use Rattle.cmd_pack.specs.declared.fault.PackFault.{PackFault}
-use Rattle.cmd_pack.specs.declared.fault.PackFault.TheVariants as faults
-use Rattle.cmd_pack.specs.Reading.{cons, read_byte, read_unsigned, take_bytes, sized, both, convert}
+use Rattle.byte_codec.specs.declared.fault.Form.{Form}
+use Rattle.byte_codec.specs.declared.fault.Form.TheVariants as forms
+use Rattle.byte_codec.specs.declared.fault.ReadError.{ReadError}
+use Rattle.byte_codec.specs.declared.fault.ReadError.TheVariants as errors
+use Rattle.packet_bytes.specs.declared.fault.PackFault.{PackFault}
+use Rattle.packet_bytes.specs.declared.fault.PackFault.TheVariants as faults
+use Rattle.byte_codec.specs.Reading.{cons, read_byte, read_unsigned, take_bytes, sized, both, convert}
 use Rattle.scene_file.specs.declared.header.Head.{Head}
 use Rattle.scene_file.specs.declared.fault.Broken.{Broken}
 use Rattle.scene_file.specs.declared.fault.Broken.TheVariants as broken

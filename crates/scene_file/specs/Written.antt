@@ -5,7 +5,7 @@ use Rattle.rc_base.specs.declared.command.Command.{Command}
 use Rattle.rc_base.specs.declared.scene.Scene.{Scene}
 use Rattle.rc_base.specs.Formats.Limits.{limit_of}
 use Rattle.rc_base.specs.Formats.Spelling.{IsVersion, header, stream_text, encoded, SpellsStream}
-use Rattle.cmd_pack.specs.Texels.{IsWhole}
+use Rattle.packet_bytes.specs.Texels.{IsWhole}
 
 -- the header, and then each stream's packets behind their length
 abbrev pub written : Scene → List ℕ

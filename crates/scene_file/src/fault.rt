@@ -4,7 +4,8 @@ ghost use Rattle.scene_file.specs.declared.fault.Broken.TheVariants.{Memory};
 ghost use Rattle.scene_file.specs.declared.fault.SceneFault.TheVariants.{OutOfMemory};
 ghost use Rattle.scene_file.specs.Reading.{form_fault, field_fault, stream_fault, scene_fault};
 
-use cmd_pack::fault::{Form, PackFault, ReadError};
+use byte_codec::fault::{Form, ReadError};
+use packet_bytes::PackFault;
 use rc_base::scene::SceneKind;
 use std::alloc::AllocFailed;
 use thiserror::Error;

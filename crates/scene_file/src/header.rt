@@ -1,14 +1,14 @@
 //! The header of a scene.
 ghost use Rattle.std.specs.Prelude.{◌≡◌, ◌↔◌, ◌++◌, IsTrue, IfOk, IfErr};
-ghost use Rattle.cmd_pack.specs.Reading.{Gives, Reads};
+ghost use Rattle.byte_codec.specs.Reading.{Gives, Reads};
 ghost use Rattle.rc_base.specs.Formats.Spelling.{IsVersion, magic, list_magic};
 ghost use Rattle.scene_file.specs.Reading.{read_half, read_size, read_times, read_head};
 ghost use Rattle.scene_file.specs.Letters.{BeginWithLists, Letters, plain_letters, list_letters};
 ghost use Rattle.scene_file.specs.Faults.{LettersFailBy, MagicFailsBy};
 
 use crate::fault::Broken;
-use cmd_pack::fault::{Form, ReadError};
-use cmd_pack::fields::{read_byte, read_half, take_bytes};
+use byte_codec::fault::{Form, ReadError};
+use byte_codec::fields::{read_byte, read_half, take_bytes};
 use rc_base::command::Command;
 use rc_base::list_command::ListCommand;
 use rc_base::scene::{Counts, Decl, SceneKind, Sizes, Units};

@@ -5,7 +5,7 @@ ghost use Rattle.rc_base.specs.Formats.Spelling.{IsDeclOf, IsListCommand, list_f
 ghost use Rattle.rc_base.specs.Formats.Limits.{read_limit};
 ghost use Rattle.rc_base.specs.declared.scene.SceneKind.{SceneKind as AnyKind};
 ghost use Rattle.rc_base.specs.declared.scene.Limit.{Limit as AnyLimit};
-ghost use Rattle.cmd_pack.specs.Lists.{is_list_swap};
+ghost use Rattle.packet_bytes.specs.Lists.{is_list_swap};
 ghost use Rattle.scene_file.specs.declared.list_scene.ListScene.{ListScene as AnyListScene};
 ghost use Rattle.scene_file.specs.Faults.{FailsAsListScene, SpellsListScene, TellsListForm, IsListBeyond, IsListJudged};
 ghost use Rattle.scene_file.specs.Counting.{Counts};

@@ -6,7 +6,7 @@ ghost use Rattle.rc_base.specs.Formats.Spelling.{half, long, size, header, strea
 ghost use Rattle.scene_file.specs.Written.{written, AreWhole, IsShort, IsEncoded};
 
 use crate::header::magic_of;
-use cmd_pack::encode;
+use packet_bytes::encode;
 use rc_base::command::{Bytes, Commands};
 use rc_base::out_of_memory::OutOfMemory;
 use rc_base::scene::{Decl, Scene};

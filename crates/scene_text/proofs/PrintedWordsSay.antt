@@ -23,7 +23,7 @@ use Rattle.rc_base.specs.Formats.Commands.Kind.{Byte, Half, Word, Code, Bytes, W
 use Rattle.scene_text.specs.Text.Statements.{Statement, statement, word_of, line_ranges, line_has_picture, command_statement}
 use Rattle.scene_text.specs.Text.Printed.{hex_digit, hex_byte, texel_words, argument_words}
 use Rattle.command_table.proofs.ByOpcode.{same_for_each}
-use Rattle.cmd_pack.specs.Codec.{AreBytes-both}
+use Rattle.byte_codec.specs.Codec.{AreBytes-both}
 use Rattle.command_table.proofs.NumbersInRange.{byte_in, half_in, word_in}
 use Rattle.scene_text.specs.Text.Read.{magnitude_of, is_negative, negative, spelled_number, if_in, with_first, numbers_of, hex_value, hex_pair, hex_bytes, spelled_texels, or_fault, has_version, with_texels, with_numbers, is_rest_count, is_counted, arguments_say, name_of}
 

@@ -8,7 +8,7 @@ use Rattle.std.specs.declared.option.Option.{Option}
 use Rattle.std.specs.List.{flat_map, list_all, AllByRecursion}
 use Rattle.std.specs.Option.{option_map}
 use Rattle.std.specs.Str.Lines.{lines}
-use Rattle.cmd_pack.specs.Texels.{HaveTexels, IsWhole}
+use Rattle.packet_bytes.specs.Texels.{HaveTexels, IsWhole}
 use Rattle.std.proofs.lemmas.Bool.{and_parts}
 use Rattle.rc_base.specs.Formats.Spelling.{IsVersion}
 use Rattle.rc_base.specs.declared.command.Command.{Command}

@@ -2,7 +2,7 @@
 use Rattle.std.specs.Prelude.{◌≡◌, ℕ, List, None}
 use Rattle.rc_base.specs.declared.scene.Scene.{Scene}
 use Rattle.std.specs.List.{AllByRecursion}
-use Rattle.cmd_pack.specs.Texels.{IsWhole}
+use Rattle.packet_bytes.specs.Texels.{IsWhole}
 use Rattle.rc_base.specs.Formats.Commands.{IsCommand}
 use Rattle.rc_base.specs.Formats.Spelling.{IsDecl, IsVersion}
 use Rattle.scene_text.specs.Text.Printed.{printed}

@@ -1,7 +1,7 @@
 //! The program that issues and sorts the clients of a scene, one after the other, and tells what went to each tile, in parcels and in bytes: for benchmarks.
 //!
 //! Standard input is a scene in bytes, the two words are columns and rows of tiles. The lanes are emptied as they are appended to, so nothing is held
-//! up, and no tile carries anything out. Stands on `scene_file`, `cmd_pack`, `bounds_bucket` and `client_issue`.
+//! up, and no tile carries anything out. Stands on `scene_file`, `parcel_bytes`, `bounds_bucket` and `client_issue`.
 #![tactic(auto)]
 
 mod sorting;

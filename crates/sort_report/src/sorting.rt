@@ -5,7 +5,7 @@ ghost use Rattle.rc_base.specs.Cluster.Tiles.{tile_count};
 ghost use Rattle.client_issue.specs.Cores.{layout_of};
 
 use client_issue::ClientCore;
-use cmd_pack::Packed;
+use parcel_bytes::Packed;
 use rc_base::cluster::{ClientMoved, Tally};
 use rc_base::lane::Inlet;
 use rc_base::out_of_memory::OutOfMemory;

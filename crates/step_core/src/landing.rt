@@ -1,5 +1,5 @@
 //! A tile's end of a client's lane.
-use cmd_pack::Packed;
+use parcel_bytes::Packed;
 use rc_base::lane::{Inlet, Outlet};
 use rc_base::out_of_memory::OutOfMemory;
 use rc_base::plain_lane::PlainLane;

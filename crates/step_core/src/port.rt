@@ -2,7 +2,7 @@
 ghost use Rattle.std.specs.Prelude.{◌≤◌, ◌<◌};
 ghost use Rattle.std.specs.Option.{ForSome};
 
-use cmd_pack::Packed;
+use parcel_bytes::Packed;
 use rc_base::lane::Outlet;
 
 /// It holds what was appended until that is carried to the tile's end, and knows how many items stand there.

@@ -2,7 +2,7 @@
 ghost use Rattle.std.specs.Prelude.{◌≡◌};
 ghost use Rattle.tile_server.specs.Deeds.{answer_of, taking_answer};
 
-use cmd_pack::Packed;
+use parcel_bytes::Packed;
 use rc_base::cluster::{TileMoved, TilePart};
 use rc_base::out_of_memory::OutOfMemory;
 use rc_base::sync::{Entry, Grant};

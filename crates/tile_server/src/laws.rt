@@ -3,8 +3,8 @@ ghost use Rattle.order_model.specs.Gathering.{GatheringIsLawful};
 ghost use Rattle.tile_server.specs.Clauses.{NewTilesMeetTheirClause, TileFramesStay, TileStepsKeepTheClause, TileStepsOverLanesKeepTheClause, EndedTilesAreDone};
 ghost use Rattle.tile_server.specs.Laws.{FinishedCoresAreDone, NewCoresStand, ShownPartsAreFrames, StepsKeepStanding};
 
-use cmd_pack::Packed;
 use order_model::laws as order_laws;
+use parcel_bytes::Packed;
 use rc_base::lane::Inlet;
 use rc_base::sync::Grant;
 use tile_model::laws::{new_tiles_stand, steps_stand, swapped_frames_stay, swaps_show_frames};

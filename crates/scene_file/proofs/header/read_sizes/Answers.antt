@@ -1,4 +1,4 @@
-use Rattle.cmd_pack.specs.declared.fault.ReadError.TheVariants as errors
+use Rattle.byte_codec.specs.declared.fault.ReadError.TheVariants as errors
 use Rattle.std.proofs.lemmas.Result.{err_from_is_err_and}
 use Rattle.scene_file.specs.Reading.{read_times, read_size}
 use Rattle.scene_file.proofs.TimesInTurn.{times_go_on, times_end, times_done}

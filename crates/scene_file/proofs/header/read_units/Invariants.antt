@@ -1,5 +1,5 @@
 use Rattle.std.proofs.Common.{◌≡◌, ◌-◌}
-use Rattle.cmd_pack.specs.Reading.{with_front}
+use Rattle.byte_codec.specs.Reading.{with_front}
 use Rattle.scene_file.specs.Reading.{read_times, read_half}
 use Rattle.scene_file.proofs.header.read_units.Given as goal
 

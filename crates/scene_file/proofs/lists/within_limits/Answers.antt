@@ -1,5 +1,5 @@
 use Rattle.std.proofs.Common.{sym, ◌∙◌}
-use Rattle.cmd_pack.specs.Lists.{is_list_swap}
+use Rattle.packet_bytes.specs.Lists.{is_list_swap}
 use Rattle.scene_file.proofs.LimitsByParts.{all_read, counted_read}
 use Rattle.scene_file.proofs.lists.within_limits.Goals as goal
 

@@ -1,6 +1,6 @@
 use Rattle.std.proofs.Common.{arith}
 use Rattle.std.proofs.lemmas.Result.{err_from_is_err_and}
-use Rattle.cmd_pack.specs.declared.fault.ReadError.TheVariants as errors
+use Rattle.byte_codec.specs.declared.fault.ReadError.TheVariants as errors
 use Rattle.scene_file.proofs.StreamsInTurn.{text_field, text_decoded, text_fails}
 use Rattle.scene_file.proofs.reading.read_stream.Goals as goal
 

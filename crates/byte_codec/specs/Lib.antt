@@ -1,0 +1,3 @@
+pub mod Reading
+pub mod Codec
+pub mod NumberCodecs

@@ -1,5 +1,0 @@
-use Rattle.cmd_pack.proofs.PlainStreams.{plain_spells}
-use Rattle.cmd_pack.proofs.laws.plain_streams_spell_themselves.Goals as goal
-
-pub returns : goal.returns
-returns c = record { law = plain_spells }

@@ -1,8 +1,0 @@
-use Rattle.rc_base.specs.Formats.Spelling.{list_set}
-use Rattle.cmd_pack.specs.Lists.{list_reader}
-use Rattle.cmd_pack.specs.ListLaws.{list_agrees}
-use Rattle.cmd_pack.proofs.OneSpelling.{only_these}
-use Rattle.cmd_pack.proofs.lists.decode_lists.Goals as goal
-
-pub returns-clause-only : goal.returns-clause-only
-returns-clause-only c = only_these list_set list_reader list_agrees c.args.bytes.now c.read_stream.result c.read_stream.ensures.found c.read_stream.ensures.fails

@@ -1,7 +1,0 @@
-use Rattle.std.proofs.Common.{◌≡◌, ◌-◌}
-use Rattle.cmd_pack.specs.Packets.{read_opcodes}
-use Rattle.cmd_pack.specs.Reading.{with_front}
-use Rattle.cmd_pack.proofs.packets.read_opcodes.Given as goal
-
-abbrev pub invariant-loop : goal.invariant-loop
-invariant-loop g l = with_front l.opcodes.items (read_opcodes g.C.PacketCommand.reader (l.count - l.counter) l.rest) ≡ read_opcodes g.C.PacketCommand.reader l.count l.bytes

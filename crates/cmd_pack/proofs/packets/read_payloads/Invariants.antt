@@ -1,7 +1,0 @@
-use Rattle.std.proofs.Common.{◌≡◌, drop}
-use Rattle.cmd_pack.specs.Reading.{with_front}
-use Rattle.cmd_pack.specs.Packets.{read_payloads}
-use Rattle.cmd_pack.proofs.packets.read_payloads.Given as goal
-
-abbrev pub invariant-loop-opcode : goal.invariant-loop-opcode
-invariant-loop-opcode g l = with_front l.commands (read_payloads g.C.PacketCommand.reader (drop l.opcode-index l.opcodes) l.rest) ≡ with_front l.fn.commands (read_payloads g.C.PacketCommand.reader l.opcodes l.bytes)

@@ -1,7 +1,0 @@
-use Rattle.std.proofs.Common.{◌≡◌, length, take, drop}
-use Rattle.cmd_pack.specs.Parts.{read_numbers}
-use Rattle.cmd_pack.specs.Reading.{with_front}
-use Rattle.cmd_pack.proofs.payload.read_numbers.Given as goal
-
-abbrev pub invariant-loop-i : goal.invariant-loop-i
-invariant-loop-i l = (length l.room ≡ length l.fn.room) × (with_front (take l.i l.room) (read_numbers (drop l.i l.ranges) l.rest) ≡ read_numbers l.ranges l.bytes)

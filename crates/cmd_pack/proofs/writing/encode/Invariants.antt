@@ -1,8 +1,0 @@
-use Rattle.std.proofs.Common.{◌≡◌, ◌*◌, take, drop}
-use Rattle.std.specs.List.{flat_map, range_with_len, AllByRecursion}
-use Rattle.cmd_pack.specs.Texels.{HasType}
-use Rattle.cmd_pack.proofs.EncodedSpells.{packet_of}
-use Rattle.cmd_pack.proofs.writing.encode.Given as goal
-
-abbrev pub invariant-loop : goal.invariant-loop
-invariant-loop l = (l.bytes ≡ flat_map (packet_of l.commands) (range_with_len 0 l.counter)) × (l.rest ≡ drop (1024 * l.counter) l.commands) × AllByRecursion HasType (take (1024 * l.counter) l.commands)

@@ -1,5 +1,0 @@
--- Parcels as bytes.
-pub mod Spelling
-pub mod Reading
-pub mod Faults
-pub mod Fronts

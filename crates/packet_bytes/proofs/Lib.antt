@@ -1,0 +1,12 @@
+pub mod ReadsInTurn
+pub mod PacketCodec
+pub mod DecodingProgress
+pub mod OneSpelling
+pub mod EncodedSpells
+pub mod CommandsByType
+pub mod PayloadLength
+pub mod PartsArePayloads
+pub mod PartsReadAsFields
+pub mod SpelledOrFaulty
+pub mod PacketsKept
+pub mod PlainStreams

@@ -1,0 +1,10 @@
+pub mod FieldCodecs
+pub mod Sets
+pub mod Packets
+pub mod PlainLaws
+pub mod Lists
+pub mod ListLaws
+pub mod Faults
+pub mod Parts
+pub mod Texels
+pub mod Laws

@@ -1,0 +1,158 @@
+//! The reader of payloads: the numbers of a command, each as its range says, and then the texels of its picture.
+ghost use Rattle.std.specs.Prelude.{◌≡◌, ◌≤◌, length, take};
+ghost use Rattle.rc_base.specs.declared.command.Command.{Command as AnyCommand};
+ghost use Rattle.rc_base.specs.Formats.Commands.{ranges_of, has_picture};
+ghost use Rattle.command_table.specs.Ranges.{AreIn};
+ghost use Rattle.packet_bytes.specs.Parts.{read_number, read_numbers, texel_count};
+ghost use Rattle.byte_codec.specs.Reading.{Gives, Reads, take_bytes};
+ghost use Rattle.packet_bytes.specs.Packets.{AddsHeld, read_command};
+
+use byte_codec::fault::{Form, ReadError};
+use byte_codec::fields::{read_byte, read_half, read_word, take_bytes};
+use command_table::parts::Numbers;
+use command_table::{command_of, has_picture, picture_area, ranges_of};
+use rc_base::command::{Command, NumberRange, Opcode, Texels};
+use rc_base::items::Items;
+use std::alloc::Global;
+
+#[inline(always)]
+fn read_number(range: NumberRange, bytes: &[u8]) -> Result<(i32, &[u8]), Form>
+    ensures { Reads (λ x. (x.0, x.1.now)) result (read_number range bytes.now) }
+{
+    match range {
+        NumberRange::Byte => {
+            let (number, rest) = read_byte(bytes)?;
+            Ok((i32::from(number), rest))
+        }
+        NumberRange::Half => {
+            let (number, rest) = read_half(bytes)?;
+            Ok((i32::from(number), rest))
+        }
+        NumberRange::Word => read_word(bytes),
+    }
+}
+
+/// Puts the numbers of these ranges to the front of the room.
+#[inline(always)]
+fn read_numbers<'a>(
+    ranges: &[NumberRange],
+    room: &mut Numbers,
+    bytes: &'a [u8],
+) -> Result<&'a [u8], Form>
+    requires { length ranges.now ≤ 16 }
+    ensures { Reads (λ rest. (take (length ranges.now) room.new, rest.now)) result (read_numbers ranges.now bytes.now) }
+{
+    let mut rest = bytes;
+    for i in 0..ranges.len() {
+        let (number, after) = read_number(ranges[i], rest)?;
+        room[i] = number;
+        rest = after;
+    }
+    Ok(rest)
+}
+
+/// The texels of a command's picture, whose sides are its last two numbers: four bytes each, and none where it has no picture.
+fn read_texels<'a>(
+    alloc: Global,
+    opcode: Opcode,
+    numbers: &[i32],
+    bytes: &'a [u8],
+) -> Result<(Texels, &'a [u8]), ReadError>
+    requires { AreIn (ranges_of opcode) numbers.now }
+    ensures { Gives (λ x. (x.0, x.1.now)) result (take_bytes (texel_count (has_picture opcode) numbers.now) bytes.now) }
+{
+    if !has_picture(opcode) {
+        return Ok((Texels::new(alloc), bytes));
+    }
+    let (texels, rest) = take_bytes(4 * picture_area(numbers) as usize, bytes)?;
+    Ok((Texels::from_slice(alloc, texels)?, rest))
+}
+
+/// What holds a command of the table.
+pub trait HoldsCommand: Sized + Drop {
+    /// What holds this command.
+    ghost held: { AnyCommand → Self };
+
+    /// Holds a command.
+    fn hold(command: Command) -> Self
+        ensures { result ≡ held command };
+}
+
+impl HoldsCommand for Command {
+    ghost held = { λ c. c };
+
+    #[inline(always)]
+    fn hold(command: Command) -> Command {
+        command
+    }
+}
+
+/// Adds the command of an opcode, by the table. It is inlined where the opcode is known, and there only this opcode's row is left of the table.
+#[inline(always)]
+fn add_any<'a, C: HoldsCommand>(
+    alloc: Global,
+    commands: &mut Items<C>,
+    opcode: Opcode,
+    bytes: &'a [u8],
+) -> Result<&'a [u8], ReadError>
+    ensures { AddsHeld C.held (λ rest. rest.now) commands.old commands.new result (read_command opcode bytes.now) }
+{
+    let ranges = ranges_of(opcode);
+    let mut room = [0; 16];
+    let rest = read_numbers(ranges, &mut room, bytes)?;
+    let numbers = &room[..ranges.len()];
+    let (texels, rest) = read_texels(alloc, opcode, numbers, rest)?;
+    let command = command_of(opcode, numbers, texels);
+    commands.push(C::hold(command))?;
+    Ok(rest)
+}
+
+/// Adds the command of an opcode whose payload stands at the front, and gives the bytes behind it. Each opcode has a branch of its own, so the table
+/// is read when this is compiled.
+pub fn add_command<'a, C: HoldsCommand>(
+    alloc: Global,
+    commands: &mut Items<C>,
+    opcode: Opcode,
+    bytes: &'a [u8],
+) -> Result<&'a [u8], ReadError>
+    ensures { AddsHeld C.held (λ rest. rest.now) commands.old commands.new result (read_command opcode bytes.now) }
+{
+    match opcode {
+        Opcode::Begin => add_any::<C>(alloc, commands, Opcode::Begin, bytes),
+        Opcode::End => add_any::<C>(alloc, commands, Opcode::End, bytes),
+        Opcode::Vertex => add_any::<C>(alloc, commands, Opcode::Vertex, bytes),
+        Opcode::Color => add_any::<C>(alloc, commands, Opcode::Color, bytes),
+        Opcode::TexCoord => add_any::<C>(alloc, commands, Opcode::TexCoord, bytes),
+        Opcode::Enable => add_any::<C>(alloc, commands, Opcode::Enable, bytes),
+        Opcode::Disable => add_any::<C>(alloc, commands, Opcode::Disable, bytes),
+        Opcode::MatrixMode => add_any::<C>(alloc, commands, Opcode::MatrixMode, bytes),
+        Opcode::LoadIdentity => add_any::<C>(alloc, commands, Opcode::LoadIdentity, bytes),
+        Opcode::LoadMatrix => add_any::<C>(alloc, commands, Opcode::LoadMatrix, bytes),
+        Opcode::MultMatrix => add_any::<C>(alloc, commands, Opcode::MultMatrix, bytes),
+        Opcode::PushMatrix => add_any::<C>(alloc, commands, Opcode::PushMatrix, bytes),
+        Opcode::PopMatrix => add_any::<C>(alloc, commands, Opcode::PopMatrix, bytes),
+        Opcode::Viewport => add_any::<C>(alloc, commands, Opcode::Viewport, bytes),
+        Opcode::DepthRange => add_any::<C>(alloc, commands, Opcode::DepthRange, bytes),
+        Opcode::Scissor => add_any::<C>(alloc, commands, Opcode::Scissor, bytes),
+        Opcode::AlphaFunc => add_any::<C>(alloc, commands, Opcode::AlphaFunc, bytes),
+        Opcode::DepthFunc => add_any::<C>(alloc, commands, Opcode::DepthFunc, bytes),
+        Opcode::DepthMask => add_any::<C>(alloc, commands, Opcode::DepthMask, bytes),
+        Opcode::BlendFunc => add_any::<C>(alloc, commands, Opcode::BlendFunc, bytes),
+        Opcode::ColorMask => add_any::<C>(alloc, commands, Opcode::ColorMask, bytes),
+        Opcode::ClearColor => add_any::<C>(alloc, commands, Opcode::ClearColor, bytes),
+        Opcode::ClearDepth => add_any::<C>(alloc, commands, Opcode::ClearDepth, bytes),
+        Opcode::Clear => add_any::<C>(alloc, commands, Opcode::Clear, bytes),
+        Opcode::CullFace => add_any::<C>(alloc, commands, Opcode::CullFace, bytes),
+        Opcode::FrontFace => add_any::<C>(alloc, commands, Opcode::FrontFace, bytes),
+        Opcode::BindTexture => add_any::<C>(alloc, commands, Opcode::BindTexture, bytes),
+        Opcode::TexEnv => add_any::<C>(alloc, commands, Opcode::TexEnv, bytes),
+        Opcode::TexWrap => add_any::<C>(alloc, commands, Opcode::TexWrap, bytes),
+        Opcode::TexImage => add_any::<C>(alloc, commands, Opcode::TexImage, bytes),
+        Opcode::TexPart => add_any::<C>(alloc, commands, Opcode::TexPart, bytes),
+        Opcode::SharedImage => add_any::<C>(alloc, commands, Opcode::SharedImage, bytes),
+        Opcode::Barrier => add_any::<C>(alloc, commands, Opcode::Barrier, bytes),
+        Opcode::SemP => add_any::<C>(alloc, commands, Opcode::SemP, bytes),
+        Opcode::SemV => add_any::<C>(alloc, commands, Opcode::SemV, bytes),
+        Opcode::Swap => add_any::<C>(alloc, commands, Opcode::Swap, bytes),
+    }
+}

@@ -1,0 +1,77 @@
+//! The reader of streams: packet by packet, with the first fault from the left.
+ghost use Rattle.std.specs.Prelude.{◌≡◌, List, IfOk, IfErr, Ok, Err, ◌⊎◌};
+ghost use Rattle.rc_base.specs.declared.command.Command.{Command as AnyCommand};
+ghost use Rattle.rc_base.specs.Formats.Spelling.{SpellsStream, plain_set};
+ghost use Rattle.packet_bytes.specs.Packets.{is_swap_opcode, plain_reader, Decodes};
+ghost use Rattle.packet_bytes.specs.PlainLaws.{plain_agrees};
+ghost use Rattle.packet_bytes.specs.Faults.{FailsAsStream};
+
+use crate::fault::PackFault;
+use crate::packets::{DecodedOf, PacketCommand, decode_of};
+use crate::payload::add_command;
+use byte_codec::fault::ReadError;
+use command_table::opcode_from;
+use rc_base::command::{Command, Commands, Opcode};
+use std::alloc::Global;
+
+/// The commands of a stream, where there was room for them, how many they are, and how many of them are Swaps.
+pub type Decoded = DecodedOf<Command>;
+
+impl PacketCommand for Command {
+    type Opcode = Opcode;
+
+    ghost set = { plain_set };
+
+    ghost reader = { plain_reader };
+
+    fn opcode_from(byte: u8) -> Option<Opcode> {
+        opcode_from(byte)
+    }
+
+    fn is_swap(opcode: Opcode) -> bool {
+        matches!(opcode, Opcode::Swap)
+    }
+
+    fn add_command<'a>(
+        alloc: Global,
+        commands: &mut Commands,
+        opcode: Opcode,
+        bytes: &'a [u8],
+    ) -> Result<&'a [u8], ReadError> {
+        add_command::<Command>(alloc, commands, opcode, bytes)
+    }
+
+    ghost agrees = { plain_agrees };
+}
+
+/// The commands that the bytes of a stream spell, where they are no more than there is room for, how many they are, and how many of them are
+/// Swaps; or the first fault from the left with its place in the stream. Beyond the room no command is stored, so a stream that is too long takes
+/// no more memory.
+pub fn decode_within(alloc: Global, room: usize, bytes: &[u8]) -> Result<Decoded, PackFault>
+    ensures found { IfOk result (Decodes bytes.now room) }
+    ensures fails { IfErr result (FailsAsStream bytes.now) }
+{
+    decode_of::<Command>(alloc, room, bytes)
+}
+
+fn read_stream(alloc: Global, bytes: &[u8]) -> Result<Commands, PackFault>
+    ensures found { IfOk result (SpellsStream bytes.now) }
+    ensures fails { IfErr result (FailsAsStream bytes.now) }
+{
+    match decode_within(alloc, usize::MAX, bytes) {
+        Ok(DecodedOf { commands, .. }) => Ok(commands),
+        Err(fault) => Err(fault),
+    }
+}
+
+/// The commands that the bytes of a stream spell, or the first fault from the left with its place in the stream.
+pub fn decode(alloc: Global, bytes: &[u8]) -> Result<Commands, PackFault>
+    // What is read is spelled so.
+    ensures found { IfOk result (SpellsStream bytes.now) }
+    // What is spelled so is read, unless memory runs out.
+    ensures only { (commands : List AnyCommand) → SpellsStream bytes.now commands → (result ≡ Ok commands) ⊎ (result ≡ Err PackFault.OutOfMemory) }
+    // The fault is the first one from the left.
+    ensures fails { IfErr result (FailsAsStream bytes.now) }
+{
+    read_stream(alloc, bytes)
+}
