@@ -1,4 +1,5 @@
 pub mod Scenes
+pub mod Frames
 pub mod States
 pub mod Records
 pub mod Orders

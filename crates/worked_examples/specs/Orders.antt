@@ -5,6 +5,8 @@ use Rattle.rc_base.specs.Orders.Order.{Footprint}
 use Rattle.rc_base.specs.declared.command.Command.{Command}
 use Rattle.rc_base.specs.declared.command.Command.TheVariants as cmd
 use Rattle.rc_base.specs.declared.scene.Scene.{Scene}
+use Rattle.rc_base.specs.declared.sync.Entry.{Entry}
+use Rattle.rc_base.specs.declared.sync.Entry.TheVariants.{Give, Swap, Take}
 use Rattle.rc_base.specs.declared.sync.Name.{Name}
 use Rattle.rc_base.specs.declared.sync.SyncLists.{SyncLists}
 use Rattle.rc_base.specs.declared.sync.SyncOp.{SyncOp}
@@ -47,6 +49,10 @@ exclusive_row = row (wait 3 (op.SemP 1) ∷ wait 9 (op.SemV 1) ∷ wait 10 op.Sw
 
 abbrev pub shared_unit : SyncLists
 shared_unit = record { clients = exclusive_row ∷ exclusive_row ∷ []; counts = []; units = 1 ∷ [] }
+
+-- client 0 takes the unit and gives it back, then client 1 does, then both swap
+abbrev pub shared_unit_journal : List Entry
+shared_unit_journal = Take 1 0 ∷ Give 1 0 ∷ Take 1 1 ∷ Give 1 1 ∷ Swap ∷ []
 
 -- what a tile in the window gets of each client, and the log of one that took all of client 0 first
 abbrev pub exclusive_jobs : ℕ → List Job

@@ -1,8 +1,9 @@
 -- The scenes of the examples.
-use Rattle.std.specs.Prelude.{ℕ, ℤ, List, [], ◌∷◌, ◌++◌, pos, negsuc, replicate, ◌*◌, true}
+use Rattle.std.specs.Prelude.{ℕ, ℤ, List, [], ◌∷◌, ◌++◌, Option, codes, pos, negsuc, replicate, ◌*◌, true}
 use Rattle.rc_base.specs.declared.command.Command.{Command}
 use Rattle.rc_base.specs.declared.command.Mat4.{Mat4}
 use Rattle.rc_base.specs.declared.state.ElementSet.{ElementSet}
+use Rattle.rc_base.specs.declared.state.Fault.{Fault}
 use Rattle.rc_base.specs.declared.state.ElementValue.TheVariants as val
 use Rattle.rc_base.specs.declared.command.Command.TheVariants as cmd
 use Rattle.rc_base.specs.declared.scene.Scene.{Scene}
@@ -11,8 +12,13 @@ use Rattle.rc_base.specs.declared.window.Layout.{Layout}
 use Rattle.rc_base.specs.Cluster.Looks.{tally_of}
 use Rattle.rc_base.specs.Cluster.Parcels.{parcels_of}
 use Rattle.rc_base.specs.Colors.{rgba}
+use Rattle.rc_base.specs.Contexts.Context.{ClientContext}
+use Rattle.rc_base.specs.Contexts.Issue.{context_after, fault_at}
 use Rattle.rc_base.specs.Numbers.{fixed_one}
 use Rattle.rc_base.specs.declared.cluster.Tally.{Tally}
+use Rattle.rc_base.specs.declared.state.Act.TheVariants as act
+use Rattle.rc_base.specs.declared.state.Parcel.{Parcel}
+use Rattle.rc_base.specs.declared.sync.SyncOp.TheVariants as op
 use Rattle.rc_base.specs.Orders.Order.{names_from}
 
 -- a scene that declares nothing but its window
@@ -131,6 +137,21 @@ barrier_in_block = record {
 abbrev pub only : List Command → Scene
 only commands = scene_of 1 1 (commands ∷ [])
 
+-- why the command at that place of such a client is refused, where it is
+abbrev pub fault_in : List Command → ℕ → Option Fault
+fault_in commands place = fault_at (only commands) 0 place
+
+-- the context of such a client after its first n commands
+abbrev pub reached : List Command → ℕ → ClientContext
+reached commands n = context_after (only commands) 0 n
+
+abbrev pub viewport : ℤ → ℤ → ℕ → ℕ → Command
+viewport x y w h = cmd.Viewport (x ∷ y ∷ pos w ∷ pos h ∷ [])
+
+-- one client that swaps n times, and nothing else, in the largest window
+abbrev pub largest_swapped : ℕ → Scene
+largest_swapped n = scene_of 2048 2048 (replicate n cmd.Swap ∷ [])
+
 -- ---- matrices, images and parts of the examples
 
 -- entry 0 is as large as it can be, and all others are 0
@@ -174,5 +195,30 @@ lone_swap = scene_of 1 1 ([] ∷ (cmd.Swap ∷ []) ∷ [])
 
 -- ---- what client 0 sends to a tile, as numbers
 
-abbrev pub tile_tally : Scene → Layout → ℕ → Tally
-tile_tally scene l tile = tally_of scene l 0 tile (parcels_of scene l 0 tile)
+-- the scene's window in these columns and rows of tiles
+abbrev pub tiled : Scene → ℕ → ℕ → Layout
+tiled scene columns rows = layout_of scene.decl.width scene.decl.height columns rows
+
+-- the parcels to a tile of the window in these columns and rows
+abbrev pub parcels_to : Scene → ℕ → ℕ → ℕ → List Parcel
+parcels_to scene columns rows tile = parcels_of scene (tiled scene columns rows) 0 tile
+
+abbrev pub tally : Scene → ℕ → ℕ → ℕ → Tally
+tally scene columns rows tile = tally_of scene (tiled scene columns rows) 0 tile (parcels_to scene columns rows tile)
+
+-- a tile in the scissor box gets the clear with what it sets, the swap and the end
+abbrev pub scissored_parcels : List Parcel
+scissored_parcels =
+    record { place = 3; sets = scissor_sets; act = act.Clear 1 }
+    ∷ record { place = 4; sets = []; act = act.Sync op.Swap }
+    ∷ record { place = 5; sets = []; act = act.End } ∷ []
+
+-- ---- texts
+
+-- a scene of one client whose commands are these lines
+abbrev pub client_text : List ℕ → List ℕ
+client_text lines = codes "scene 1 1 1\nclient\n" ++ lines
+
+-- a carriage return before the end of a line
+abbrev pub crlf : List ℕ
+crlf = 13 ∷ 10 ∷ []

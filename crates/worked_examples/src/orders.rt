@@ -1,9 +1,9 @@
 //! Journals, orders and logs of small scenes.
-ghost use Rattle.worked_examples.specs.Orders.{shared_unit_scene, shared_unit, first_client_first, exclusive_jobs, shared_unit_log, one_after_the_other, no_unit_scene, no_unit, one_swaps, meeting, eager, parted, side_by_side, zero_first, one_first, through_the_barrier, falling, too_short, handing_over, handed_over, taken_too_soon, plain, name, wait};
+ghost use Rattle.worked_examples.specs.Orders.{shared_unit_scene, shared_unit, shared_unit_journal, first_client_first, exclusive_jobs, shared_unit_log, one_after_the_other, no_unit_scene, no_unit, one_swaps, meeting, eager, parted, side_by_side, zero_first, one_first, through_the_barrier, falling, too_short, handing_over, handed_over, taken_too_soon, plain, name, wait};
 ghost use Rattle.order_model.specs.Log.{Replays, IsComplete, recorded_order};
 ghost use Rattle.order_model.specs.declared.record.LogEntry.TheVariants.{Took};
 ghost use Rattle.rc_base.specs.Orders.Journal.{reach_of, waiting_of};
-ghost use Rattle.rc_base.specs.Orders.Order.{Conflicts, IsPermitted, IsOrdered, default_journal, default_order};
+ghost use Rattle.rc_base.specs.Orders.Order.{Conflicts, IsPermitted, IsOrdered, default_journal, default_order, names_from};
 ghost use Rattle.rc_base.specs.Orders.Sync.{sync_lists_of};
 ghost use Rattle.rc_base.specs.declared.sync.Entry.TheVariants.{Meet, Swap, Give, Take};
 ghost use Rattle.rc_base.specs.declared.sync.SyncOp.TheVariants as op;
@@ -16,23 +16,23 @@ pub fn a_shared_unit_is_listed()
 
 /// Client 0 takes the unit and gives it back, then client 1 does, then both swap. Both reach their streams' ends.
 pub fn a_shared_unit_goes_round()
-    ensures journal { default_journal shared_unit ≡ Take 1 0 ∷ Give 1 0 ∷ Take 1 1 ∷ Give 1 1 ∷ Swap ∷ [] }
-    ensures order { default_order shared_unit (default_journal shared_unit) ≡ first_client_first }
-    ensures first { reach_of shared_unit (default_journal shared_unit) 0 ≡ 11 }
-    ensures second { reach_of shared_unit (default_journal shared_unit) 1 ≡ 11 }
-    ensures nobody_waits { waiting_of shared_unit (default_journal shared_unit) 1 ≡ None }
+    ensures journal { default_journal shared_unit ≡ shared_unit_journal }
+    ensures order { default_order shared_unit shared_unit_journal ≡ first_client_first }
+    ensures first { reach_of shared_unit shared_unit_journal 0 ≡ 11 }
+    ensures second { reach_of shared_unit shared_unit_journal 1 ≡ 11 }
+    ensures nobody_waits { waiting_of shared_unit shared_unit_journal 1 ≡ None }
 {}
 
 /// A tile's log of this scene: what it doesn't draw is added with the next thing that it does.
 pub fn a_log_records_an_order()
-    ensures replays { Replays shared_unit (default_journal shared_unit) exclusive_jobs shared_unit_log }
-    ensures complete { IsComplete shared_unit (default_journal shared_unit) exclusive_jobs shared_unit_log }
-    ensures order { recorded_order shared_unit (default_journal shared_unit) shared_unit_log ≡ one_after_the_other }
+    ensures replays { Replays shared_unit shared_unit_journal exclusive_jobs shared_unit_log }
+    ensures complete { IsComplete shared_unit shared_unit_journal exclusive_jobs shared_unit_log }
+    ensures order { recorded_order shared_unit shared_unit_journal shared_unit_log ≡ one_after_the_other }
 {}
 
 /// A log that names a lower place than one that was added adds none, and the rest comes at the end.
 pub fn lower_places_add_none()
-    ensures { recorded_order plain [] (Took 0 2 ∷ Took 0 0 ∷ []) ≡ name 0 0 ∷ name 0 1 ∷ name 0 2 ∷ name 0 3 ∷ [] }
+    ensures { recorded_order plain [] (Took 0 2 ∷ Took 0 0 ∷ []) ≡ names_from 0 0 4 }
 {}
 
 /// After one swap the client waits at place 3 for a unit that nobody gives.
@@ -41,7 +41,7 @@ pub fn a_unit_is_missing()
     ensures journal { default_journal no_unit ≡ Swap ∷ [] }
     ensures reach { reach_of no_unit (default_journal no_unit) 0 ≡ 3 }
     ensures waits { waiting_of no_unit (default_journal no_unit) 0 ≡ Some (wait 3 (op.SemP 1)) }
-    ensures order { default_order no_unit (default_journal no_unit) ≡ name 0 0 ∷ name 0 1 ∷ name 0 2 ∷ [] }
+    ensures order { default_order no_unit (default_journal no_unit) ≡ names_from 0 0 3 }
 {}
 
 /// A Swap wants all clients, so one client alone waits at its first command.
