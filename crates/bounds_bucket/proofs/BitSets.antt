@@ -8,18 +8,18 @@ use Rattle.std.proofs.lemmas.Int.{ints, int_min_is, int_max_is}
 use Rattle.std.proofs.lemmas.Nat.Bits.{bit_at_set_same, bit_at_set_other}
 use Rattle.std.proofs.lemmas.Bool.{cases_lt, or_cases, and_parts}
 use Rattle.std.proofs.lemmas.Bool.Decides.{eqb_tells}
-use Rattle.std.proofs.lemmas.List.Folds.{list_any_at}
-use Rattle.std.proofs.lemmas.List.FromFn.{get_or-range_with_len, length-range_with_len}
 use Rattle.rc_base.specs.Orders.Journal.{has}
 use Rattle.rc_base.specs.Cluster.Tiles.{boundary_of, interval_of, tile_count, tile_column, tile_row, tile_pixels, tile_rectangle, rect_meets, is_in_rect}
 use Rattle.rc_base.specs.declared.window.Layout.{Layout}
 use Rattle.rc_base.specs.declared.window.Rect.{Rect}
+use Rattle.plain_lemmas.proofs.Booleans.{same_test}
+use Rattle.plain_lemmas.proofs.Ranges.{any_in_range}
+use Rattle.plain_lemmas.proofs.Numbers.{int_le_true, from_int_le, int_lt_true, from_int_lt}
+use Rattle.scene_lemmas.proofs.Boundaries.{boundary_rises}
 use Rattle.bounds_bucket.specs.Ranges.{is_among}
 use Rattle.bounds_bucket.specs.Tiles.{part_meets}
 use Rattle.bounds_bucket.specs.declared.range.Range.{Range}
-use Rattle.bounds_bucket.proofs.OneTile.{boundary_rises}
 use Rattle.bounds_bucket.proofs.BoxTiles.{counted}
-use Rattle.bounds_bucket.proofs.WholeNumbers.{same_test, le_in, le_out, lt_in, lt_out}
 
 pub with_one : (set n : ℕ) → n < 32 → (k : ℕ) → has (bit_or set (1 * 2 ^ n % 2 ^ 32)) k ≡ (k == n || has set k)
 with_one set n within k =
@@ -88,13 +88,6 @@ some_found f a (suc n) h =
           (k.0, (let l = k.1 in omega (arith, l)), (let m = k.2 in omega (arith, m)), k.3)
     ]
 
-some_at : (f : ℕ → Bool) (a n k : ℕ) → a ≤ k → k < a + n → f k ≡ true → list_any f (range_with_len a n) ≡ true
-some_at f a n k low high e =
-    let within : k - a < n = omega (arith, low, high) in
-    let here : a + (k - a) ≡ k = omega (arith, low) in
-    list_any_at f (range_with_len a n) (k - a) 0 (omega (arith, within, length-range_with_len a n))
-    (ap f (get_or-range_with_len a n (k - a) 0 within ∙ here) ∙ e)
-
 -- the first number from a on that is not before the range
 first_of : ℕ → ℤ → ℕ
 first_of a (pos m) = max a m
@@ -127,19 +120,19 @@ any_among r a e order =
     let after : a ≤ k.0 = k.1 in
     let before : k.0 < a + (e - a) = k.2 in
     let t = and_parts (int_le r.from (pos k.0)) (int_lt (pos k.0) r.end) k.3 in
-    let x : r.from ≤ℤ pos k.0 = le_out r.from (pos k.0) t.0 in
-    let y : pos k.0 <ℤ r.end = lt_out (pos k.0) r.end t.1 in
+    let x : r.from ≤ℤ pos k.0 = from_int_le r.from (pos k.0) t.0 in
+    let y : pos k.0 <ℤ r.end = from_int_lt (pos k.0) r.end t.1 in
     let between : int_max (pos a) r.from <ℤ int_min (pos e) r.end = omega (arith, ints, order, after, before, x, y, m, n) in
-    lt_in low high between)
+    int_lt_true low high between)
     (λ h.
-    let l : int_max (pos a) r.from <ℤ int_min (pos e) r.end = lt_out low high h in
+    let l : int_max (pos a) r.from <ℤ int_min (pos e) r.end = from_int_lt low high h in
     let k = first_of a r.from in
     let f : pos (first_of a r.from) ≡ int_max (pos a) r.from = first_is a r.from in
     let after : a ≤ first_of a r.from = omega (arith, ints, f, m) in
     let before : first_of a r.from < a + (e - a) = omega (arith, ints, f, l, m, n, order) in
     let x : r.from ≤ℤ pos (first_of a r.from) = omega (arith, ints, f, m) in
     let y : pos (first_of a r.from) <ℤ r.end = omega (arith, ints, f, l, m, n) in
-    some_at (λ p. is_among r (pos p)) a (e - a) k after before (rw (le_in r.from (pos k) x, lt_in (pos k) r.end y) refl))
+    any_in_range (λ p. is_among r (pos p)) a (e - a) k after before (rw (int_le_true r.from (pos k) x, int_lt_true (pos k) r.end y) refl))
 
 -- ---- the tiles in sets of columns and rows
 
@@ -196,14 +189,14 @@ tiles_met l r columns rows t few a b met h =
 le_pos : (a b : ℕ) → int_le (pos a) (pos b) ≡ nat_le a b
 le_pos a b =
     same_test (int_le (pos a) (pos b)) (nat_le a b)
-    (λ h. let l = le_out (pos a) (pos b) h in le-leb a b (omega (arith, ints, l)))
-    (λ h. let l = leb-true a b h in le_in (pos a) (pos b) (omega (arith, ints, l)))
+    (λ h. let l = from_int_le (pos a) (pos b) h in le-leb a b (omega (arith, ints, l)))
+    (λ h. let l = leb-true a b h in int_le_true (pos a) (pos b) (omega (arith, ints, l)))
 
 lt_pos : (a b : ℕ) → int_lt (pos a) (pos b) ≡ nat_lt a b
 lt_pos a b =
     same_test (int_lt (pos a) (pos b)) (nat_lt a b)
-    (λ h. let l = lt_out (pos a) (pos b) h in lt-ltb a b (omega (arith, ints, l)))
-    (λ h. let l = ltb-true a b h in lt_in (pos a) (pos b) (omega (arith, ints, l)))
+    (λ h. let l = from_int_lt (pos a) (pos b) h in lt-ltb a b (omega (arith, ints, l)))
+    (λ h. let l = ltb-true a b h in int_lt_true (pos a) (pos b) (omega (arith, ints, l)))
 
 pub rectangle_has : (l : Layout) (tile x y : ℕ) (r : Rect) → r ≡ tile_rectangle l tile → is_in_rect r (pos x) (pos y) ≡ tile_pixels l tile x y
 unfolding tile_pixels

@@ -7,7 +7,8 @@ use Rattle.rc_base.specs.Cluster.Tiles.{boundary_of, interval_of, tile_pixels, t
 use Rattle.rc_base.specs.declared.state.Effect.{Effect}
 use Rattle.rc_base.specs.declared.state.State.{State}
 use Rattle.rc_base.specs.declared.window.Layout.{Layout}
-use Rattle.bounds_bucket.proofs.OneTile.{LiesIn, column_bounds, row_bounds}
+use Rattle.scene_lemmas.proofs.Boundaries.{LiesIn}
+use Rattle.bounds_bucket.proofs.OneTile.{column_bounds, row_bounds}
 
 -- a number of an interval that passes a test
 some_of : (test : ℕ → Bool) (side parts j k : ℕ) → LiesIn side parts j k → test k ≡ true → list_any test (interval_of side parts j) ≡ true

@@ -1,10 +1,10 @@
 -- What follows for pixels and tiles where a rectangle is a box.
-use Rattle.std.proofs.Common.{◌≡◌, ◌∙◌, ℕ, zero, suc, ◌+◌, ◌-◌, ◌*◌, ◌<◌, ◌≤◌, ℤ, pos, ◌<ℤ◌, Bool, true, false, ◌&&◌, List, [], ◌∷◌, Some, None, arith, refl, sym, ap, subst}
+use Rattle.std.proofs.Common.{◌≡◌, ◌∙◌, ℕ, ◌+◌, ◌-◌, ◌*◌, ◌<◌, ◌≤◌, ℤ, pos, ◌<ℤ◌, Bool, true, false, ◌&&◌, List, [], ◌∷◌, Some, None, arith, refl, sym, ap, subst}
 use Rattle.std.specs.Prelude.{◌||◌, MatchOption}
 use Rattle.std.specs.declared.option.Option.{Option}
-use Rattle.std.specs.List.{list_any, range_with_len}
+use Rattle.std.specs.List.{list_any}
 use Rattle.std.proofs.lemmas.Int.{ints}
-use Rattle.std.proofs.Math.Nat.{zero-mul, mod-lt, div-lt_iff_lt-mul, mul-div_cancel_left}
+use Rattle.std.proofs.Math.Nat.{mod-lt, div-lt_iff_lt-mul, mul-div_cancel_left}
 use Rattle.rc_base.specs.Cluster.Tiles.{tile_count, boundary_of, is_amid, interval_of, tile_column, tile_row, some_pixel, is_in_rect, rect_meets, kept_corners, is_in_window_box, is_in_box, meets_tile}
 use Rattle.rc_base.specs.Drawing.Cover.{centre, is_in_area, is_in_scissor}
 use Rattle.rc_base.specs.Drawing.Touch.{touches}
@@ -16,14 +16,16 @@ use Rattle.rc_base.specs.declared.state.State.{State}
 use Rattle.rc_base.specs.declared.window.Layout.{Layout}
 use Rattle.rc_base.specs.declared.window.Rect.{Rect}
 use Rattle.rc_base.specs.declared.window.WindowVertex.{WindowVertex}
+use Rattle.plain_lemmas.proofs.Ranges.{any_same_in_range}
+use Rattle.plain_lemmas.proofs.Numbers.{int_le_true, int_lt_true, factor_above_zero}
+use Rattle.scene_lemmas.proofs.Boundaries.{boundary_rises}
 use Rattle.bounds_bucket.specs.declared.extent.Extent.{Extent}
 use Rattle.bounds_bucket.specs.Extents.{Spans, is_within}
 use Rattle.bounds_bucket.specs.Ranges.{IsPartWhere, HasPixels}
 use Rattle.bounds_bucket.specs.Boxes.{is_boxed, IsBox, IsEmptyBox, IsBoxIfAny, HoldsTouched, whole_window, MeetsSameTiles}
 use Rattle.bounds_bucket.proofs.EndsOfCorners.{low_is, high_is}
-use Rattle.bounds_bucket.proofs.WholeNumbers.{le_in, lt_in, and_last}
+use Rattle.bounds_bucket.proofs.WholeNumbers.{and_last}
 use Rattle.bounds_bucket.proofs.ObjectRects.{window_is}
-use Rattle.bounds_bucket.proofs.OneTile.{boundary_rises}
 
 pub touched_by : (s : State) (effect : Effect) (window : Rect) (o : Option Rect) → ((x y : ℤ) → touches s effect x y ≡ true → is_in_box s effect x y ≡ true) → IsBoxIfAny s effect window o → HoldsTouched s effect window o
 touched_by s effect window None law h x y within touched =
@@ -36,14 +38,6 @@ touched_by s effect window None law h x y within touched =
 touched_by s effect window (Some r) law h x y within touched = h.pixels x y ∙ rw (within, law x y touched) refl
 
 -- ---- tiles
-
--- two tests that agree on the numbers of a range
-pub any_same : (f g : ℕ → Bool) (a n : ℕ) → ((k : ℕ) → a ≤ k → k < a + n → f k ≡ g k) → list_any f (range_with_len a n) ≡ list_any g (range_with_len a n)
-any_same f g a zero h = refl
-any_same f g a (suc n) h =
-    let here : f a ≡ g a = h a (omega arith) (omega arith) in
-    let more = any_same f g (a + 1) n (λ k low high. h k (omega (arith, low)) (omega (arith, high))) in
-    (λ i. here i || more i)
 
 none_at_all : (xs : List ℕ) → list_any (λ k. false) xs ≡ false
 none_at_all [] = refl
@@ -65,8 +59,8 @@ within_interval side parts j k some h = let r = boundary_rises side parts j (j +
 same_pixels : (l : Layout) (tile : ℕ) (f g : ℤ → ℤ → Bool) → 0 < l.columns → 0 < l.rows
     → ((x y : ℕ) → IsBelowEnds l tile x y → f (pos x) (pos y) ≡ g (pos x) (pos y)) → some_pixel l tile f ≡ some_pixel l tile g
 same_pixels l tile f g columns rows same =
-    any_same _ _ (boundary_of l.height l.rows (tile_row l tile)) _
-    (λ y _ high. any_same _ _ (boundary_of l.width l.columns (tile_column l tile)) _
+    any_same_in_range _ _ (boundary_of l.height l.rows (tile_row l tile)) _
+    (λ y _ high. any_same_in_range _ _ (boundary_of l.width l.columns (tile_column l tile)) _
     (λ x _ wide. same x y (record { across = within_interval l.width l.columns (tile_column l tile) x columns wide; up = within_interval l.height l.rows (tile_row l tile) y rows high })))
 
 no_pixel : (l : Layout) (tile : ℕ) → some_pixel l tile (λ x y. false) ≡ false
@@ -78,17 +72,13 @@ pub record IsCounted (l : Layout) (tile : ℕ) : Type 0 where
   pub column : tile_column l tile < l.columns
   pub row : tile_row l tile < l.rows
 
-some_factor : (a b t : ℕ) → t < a * b → 0 < a
-some_factor zero b t h = absurd (let z : 0 * b ≡ 0 = zero-mul b in omega (arith, h, z))
-some_factor (suc a) b t h = omega arith
-
 pub counted : (l : Layout) (tile : ℕ) → tile < tile_count l → IsCounted l tile
 counted l tile h =
-    let columns : 0 < l.columns = some_factor l.columns l.rows tile h in
+    let columns : 0 < l.columns = factor_above_zero l.columns l.rows tile h in
     let turned : tile < l.rows * l.columns = omega (arith, h) in
     record {
       columns = columns;
-      rows = some_factor l.rows l.columns tile turned;
+      rows = factor_above_zero l.rows l.columns tile turned;
       column = mod-lt tile columns;
       row = (div-lt_iff_lt-mul columns).1 turned;
     }
@@ -106,7 +96,7 @@ in_window l tile x y c b =
     let v = end_in l.height l.rows (tile_row l tile) c.rows c.row in
     let x1 : pos x <ℤ pos l.width = let h = b.across in omega (arith, ints, h, u) in
     let y1 : pos y <ℤ pos l.height = let h = b.up in omega (arith, ints, h, v) in
-    rw (le_in (pos 0) (pos x) (omega (arith, ints)), lt_in (pos x) (pos l.width) x1, le_in (pos 0) (pos y) (omega (arith, ints)), lt_in (pos y) (pos l.height) y1) refl
+    rw (int_le_true (pos 0) (pos x) (omega (arith, ints)), int_lt_true (pos x) (pos l.width) x1, int_le_true (pos 0) (pos y) (omega (arith, ints)), int_lt_true (pos y) (pos l.height) y1) refl
 
 boxed_there : (l : Layout) (s : State) (effect : Effect) (tile : ℕ) (window : Rect) (x y : ℕ) → whole_window l ≡ window → IsCounted l tile → IsBelowEnds l tile x y
     → is_in_box s effect (pos x) (pos y) ≡ is_boxed s effect window (pos x) (pos y)

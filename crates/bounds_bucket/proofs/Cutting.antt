@@ -6,11 +6,13 @@ use Rattle.std.proofs.lemmas.Int.{ints}
 use Rattle.std.proofs.lemmas.Bool.{cases_Bool}
 use Rattle.rc_base.specs.Drawing.Cover.{centre}
 use Rattle.rc_base.specs.declared.window.Rect.{Rect}
+use Rattle.plain_lemmas.proofs.Booleans.{same_test}
+use Rattle.plain_lemmas.proofs.Numbers.{int_le_true, from_int_le, int_lt_true, from_int_lt, int_lt_false}
 use Rattle.bounds_bucket.specs.Ranges.{is_among, IsPartWhere}
 use Rattle.bounds_bucket.specs.Extents.{is_between}
 use Rattle.bounds_bucket.specs.declared.extent.Ends.{Ends}
 use Rattle.bounds_bucket.specs.declared.range.Range.{Range}
-use Rattle.bounds_bucket.proofs.WholeNumbers.{same_test, le_in, le_out, lt_in, lt_out, lt_not, max_le, lt_min, and_crossed}
+use Rattle.bounds_bucket.proofs.WholeNumbers.{max_le, lt_min, and_crossed}
 
 pub between_is : (r : Range) (e : Ends) (first end from to : ℤ)
     → ((p : ℤ) → e.least ≤ℤ centre p → first ≤ℤ p) → ((p : ℤ) → first ≤ℤ p → e.least ≤ℤ centre p)
@@ -19,9 +21,9 @@ pub between_is : (r : Range) (e : Ends) (first end from to : ℤ)
     → (p : ℤ) → (int_le from p && int_lt p to) ≡ (is_among r p && is_between e p)
 between_is r e first end from to above below under over f t p =
     let low : int_le first p ≡ int_le e.least (centre p) =
-    same_test _ _ (λ h. le_in e.least (centre p) (below p (le_out first p h))) (λ h. le_in first p (above p (le_out e.least (centre p) h))) in
+    same_test _ _ (λ h. int_le_true e.least (centre p) (below p (from_int_le first p h))) (λ h. int_le_true first p (above p (from_int_le e.least (centre p) h))) in
     let high : int_lt p end ≡ int_le (centre p) e.greatest =
-    same_test _ _ (λ h. le_in (centre p) e.greatest (over p (lt_out p end h))) (λ h. lt_in p end (under p (le_out (centre p) e.greatest h))) in
+    same_test _ _ (λ h. int_le_true (centre p) e.greatest (over p (from_int_lt p end h))) (λ h. int_lt_true p end (under p (from_int_le (centre p) e.greatest h))) in
     let x : int_le from p ≡ (int_le r.from p && int_le e.least (centre p)) = ap (λ (z : ℤ). int_le z p) f ∙ max_le r.from first p ∙ ap (λ (b : Bool). int_le r.from p && b) low in
     let y : int_lt p to ≡ (int_lt p r.end && int_le (centre p) e.greatest) = ap (λ (z : ℤ). int_lt p z) t ∙ lt_min r.end end p ∙ ap (λ (b : Bool). int_lt p r.end && b) high in
     (λ i. x i && y i) ∙ and_crossed (int_le r.from p) (int_le e.least (centre p)) (int_lt p r.end) (int_le (centre p) e.greatest)
@@ -32,8 +34,8 @@ end_at_start r end p h =
     elim (cases_Bool (int_le r.from p)) [
       | inr f ↦ rw f refl
       | inl t ↦
-          let from = le_out r.from p t in
-          rw (t, lt_not p r.from from, lt_not p end (omega (arith, ints, from, h))) (sym (and_false (int_lt p r.end)))
+          let from = from_int_le r.from p t in
+          rw (t, int_lt_false p r.from from, int_lt_false p end (omega (arith, ints, from, h))) (sym (and_false (int_lt p r.end)))
     ]
   where
     and_false : (b : Bool) → (b && false) ≡ false
@@ -44,7 +46,7 @@ pub end_within : (r : Range) (end p : ℤ) → end <ℤ r.end → (int_le r.from
 end_within r end p h =
     elim (cases_Bool (int_lt p end)) [
       | inr f ↦ rw f (and_false (int_le r.from p) ∙ sym (and_false (is_among r p)))
-      | inl t ↦ let e = lt_out p end t in rw (t, lt_in p r.end (omega (arith, ints, e, h))) (and_true (int_le r.from p))
+      | inl t ↦ let e = from_int_lt p end t in rw (t, int_lt_true p r.end (omega (arith, ints, e, h))) (and_true (int_le r.from p))
     ]
   where
     and_false : (b : Bool) → (b && false) ≡ false

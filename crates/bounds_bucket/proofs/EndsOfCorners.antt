@@ -1,9 +1,9 @@
 -- What corners span, and what they span with others.
-use Rattle.std.proofs.Common.{◌≡◌, ◌⊎◌, inl, inr, ℕ, suc, ℤ, ◌≤ℤ◌, subst, Bool, true, false, List, [], ◌∷◌, ◌++◌, map, Some, None, refl, sym, ap, ◌∙◌, arith, length, append_assoc}
+use Rattle.std.proofs.Common.{◌≡◌, ◌⊎◌, inl, inr, ℕ, ℤ, ◌≤ℤ◌, subst, Bool, true, false, List, [], ◌∷◌, ◌++◌, map, Some, None, refl, sym, ap, ◌∙◌, arith, length, append_assoc}
 use Rattle.std.specs.Prelude.{◌||◌, MatchOption, int_le, option_to_list}
 use Rattle.std.specs.declared.option.Option.{Option}
 use Rattle.std.specs.Int.{int_min, int_max}
-use Rattle.std.specs.List.{list_any, All, flat_map}
+use Rattle.std.specs.List.{list_any, flat_map}
 use Rattle.std.proofs.lemmas.Int.{ints, by_lt_z, int_min_is, int_max_is}
 use Rattle.std.proofs.lemmas.List.{append-nil, map-append}
 use Rattle.std.proofs.lemmas.Grind.{flat_map-append}
@@ -14,12 +14,13 @@ use Rattle.rc_base.specs.declared.state.State.{State}
 use Rattle.rc_base.specs.declared.triangle.WindowTriangle.{WindowTriangle}
 use Rattle.rc_base.specs.declared.window.WindowVertex.{WindowVertex}
 use Rattle.geometry.specs.Pieces.{found}
+use Rattle.plain_lemmas.proofs.Booleans.{or_true, same_test}
+use Rattle.plain_lemmas.proofs.Numbers.{int_le_true, from_int_le}
 use Rattle.bounds_bucket.specs.Extents.{IsHull, Spans, IsGrown, corners_from}
 use Rattle.bounds_bucket.specs.declared.extent.Ends.{Ends}
 use Rattle.bounds_bucket.specs.declared.extent.Extent.{Extent}
 use Rattle.rc_base.specs.Drawing.Pieces.{kept_corners_of}
 use Rattle.rc_base.specs.Cluster.Tiles.{corners_in}
-use Rattle.bounds_bucket.proofs.WholeNumbers.{le_in, le_out, same_test}
 
 -- ---- the ends of three numbers
 
@@ -96,10 +97,6 @@ are_both a b e l g zs ws h k =
 
 -- ---- tests of numbers that lie between ends
 
-or_true : (b : Bool) → (b || true) ≡ true
-or_true true = refl
-or_true false = refl
-
 passes_any : (f : WindowVertex → ℤ) (test : ℤ → Bool) (vs : List WindowVertex) (z : ℤ) → IsIn z (map f vs) → test z ≡ true → list_any (λ v. test (f v)) vs ≡ true
 passes_any f test [] z h e = absurd h
 passes_any f test (v ∷ vs) z (inl same) e = ap (λ (b : Bool). b || list_any (λ v. test (f v)) vs) (ap test same ∙ e)
@@ -118,18 +115,18 @@ pub low_is : (e : Ends) (f : WindowVertex → ℤ) (vs : List WindowVertex) → 
 low_is e f vs h p = same_test (list_any (λ v. int_le (f v) p) vs) (int_le e.least p)
     (λ any.
     let some = any_passes f (λ z. int_le z p) vs any in
-    let low = le_out some.0 p some.2 in
+    let low = from_int_le some.0 p some.2 in
     let o = (h.encloses some.0 some.1).0 in
-    le_in e.least p (omega (arith, ints, low, o)))
+    int_le_true e.least p (omega (arith, ints, low, o)))
     (λ low. passes_any f (λ z. int_le z p) vs e.least h.least low)
 
 pub high_is : (e : Ends) (f : WindowVertex → ℤ) (vs : List WindowVertex) → IsHull e (map f vs) → (p : ℤ) → list_any (λ v. int_le p (f v)) vs ≡ int_le p e.greatest
 high_is e f vs h p = same_test (list_any (λ v. int_le p (f v)) vs) (int_le p e.greatest)
     (λ any.
     let some = any_passes f (λ z. int_le p z) vs any in
-    let high = le_out p some.0 some.2 in
+    let high = from_int_le p some.0 some.2 in
     let o = (h.encloses some.0 some.1).1 in
-    le_in p e.greatest (omega (arith, ints, high, o)))
+    int_le_true p e.greatest (omega (arith, ints, high, o)))
     (λ high. passes_any f (λ z. int_le p z) vs e.greatest h.greatest high)
 
 -- ---- an extent and the corners that are added to it
@@ -203,6 +200,3 @@ pub no_more : (s : State) (block : Block) (rest : List (List ℕ)) (all : List W
 no_more s block rest all o e h =
     let none : corners_from s block rest ≡ [] = ap (corners_from s block) e in
     subst (λ (us : List WindowVertex). Spans us o) (sym (append-nil h.front) ∙ ap (λ (us : List WindowVertex). h.front ++ us) (sym none) ∙ h.parts) h.spanned
-
-pub all_rest : (P : List ℕ → Type 0) (t : List ℕ) (rest more : List (List ℕ)) → rest ≡ t ∷ more → All P rest → All P more
-all_rest P t rest more e all k d lt = (rw e at all) (suc k) d (omega arith)

@@ -3,7 +3,7 @@ use Rattle.std.proofs.Common.{◌≡◌, ℕ, zero, suc, ◌<◌, ◌≤◌, ℤ
 use Rattle.std.specs.Prelude.{nat_lt, if◌then◌else◌}
 use Rattle.std.specs.Int.{int_min, int_max}
 use Rattle.std.specs.List.{AllByRecursion, All, Contains, flat_map}
-use Rattle.std.proofs.lemmas.Int.{ints, fold-int_min_bounds, fold-int_max_bounds, fold-int_min_reached, fold-int_max_reached}
+use Rattle.std.proofs.lemmas.Int.{fold-int_min_bounds, fold-int_max_bounds, fold-int_min_reached, fold-int_max_reached}
 use Rattle.std.proofs.lemmas.Bool.Decides.{nat_tests}
 use Rattle.std.proofs.lemmas.List.Elements.{All-from_recursion, recursion_from_All, All-contains, Contains-get_or}
 use Rattle.std.proofs.lemmas.List.{get_or_default}
@@ -14,6 +14,7 @@ use Rattle.rc_base.specs.declared.state.Block.{Block}
 use Rattle.rc_base.specs.declared.state.Vertex.{Vertex}
 use Rattle.rc_base.specs.Drawing.Triangles.{shape_of, triangles_in}
 use Rattle.rc_base.specs.Cluster.ObjectBox.{block_corners, coordinates, hull_of, bounding_box}
+use Rattle.plain_lemmas.proofs.Numbers.{same_from_both_bounds}
 use Rattle.bounds_bucket.specs.Standing.{standing_count}
 use Rattle.bounds_bucket.proofs.Fronts.{no_standing, each_index, of_indices, some_stand, corners_by, corners_held, corners_out}
 
@@ -42,9 +43,6 @@ least_above m zs some h = All-contains (λ z. m ≤ℤ z) zs (fold int_min (entr
 
 greatest_below : (m : ℤ) (zs : List ℤ) → 0 < length zs → All (λ z. z ≤ℤ m) zs → fold int_max (entry zs 0) zs ≤ℤ m
 greatest_below m zs some h = All-contains (λ z. z ≤ℤ m) zs (fold int_max (entry zs 0) zs) h (greatest_is_one zs some)
-
-same_ℤ : (a b : ℤ) → a ≤ℤ b → b ≤ℤ a → a ≡ b
-same_ℤ a b h k = omega (arith, ints)
 
 -- two lists of vertices of which the same things hold
 record AreAlike (c : ℕ) (us vs : List Vertex) : Type 0 where
@@ -84,8 +82,8 @@ higher c us vs some h =
 same_hull : (c : ℕ) (us vs : List Vertex) → 0 < length us → 0 < length vs → AreAlike c us vs → AreAlike c vs us → hull_of (coordinates c us) ≡ hull_of (coordinates c vs)
 same_hull c us vs p q h k =
     hull_same (coordinates c us) (coordinates c vs)
-    (same_ℤ _ _ (lower c us vs q h) (lower c vs us p k))
-    (same_ℤ _ _ (higher c vs us p k) (higher c us vs q h))
+    (same_from_both_bounds _ _ (lower c us vs q h) (lower c vs us p k))
+    (same_from_both_bounds _ _ (higher c vs us p k) (higher c us vs q h))
 
 -- ---- the corners of a block and its first vertices
 

@@ -25,9 +25,9 @@ use Rattle.raster.specs.Between.{CoverLiesInBounds}
 use Rattle.geometry.specs.Placed.{stands_in_front}
 use Rattle.geometry.proofs.Oriented.{kept}
 use Rattle.geometry.proofs.PiecesKept.{front_kept}
+use Rattle.plain_lemmas.proofs.Numbers.{int_le_true, from_int_le, from_int_lt, from_int_lt_false}
 use Rattle.bounds_bucket.proofs.Corners.{IsPlacedIn, positions_held, clip_in}
 use Rattle.bounds_bucket.proofs.Places.{axis_in}
-use Rattle.bounds_bucket.proofs.WholeNumbers.{le_in, le_out, lt_out, lt_never}
 
 -- a number between three that lie in an interval lies there
 amid : (i : Interval) (a b c p : ℤ) → Encloses i a → Encloses i b → Encloses i c → int_min (int_min a b) c ≤ℤ p → p ≤ℤ int_max (int_max a b) c → is_enclosed i p ≡ true
@@ -35,7 +35,7 @@ amid i a b c p x y z h k =
     let al = x.low in let ah = x.high in let bl = y.low in let bh = y.high in let cl = z.low in let ch = z.high in
     let low : i.lo ≤ℤ p = omega (arith, ints, int_min_is (int_min a b) c, int_min_is a b) in
     let high : p ≤ℤ i.hi = omega (arith, ints, int_max_is (int_max a b) c, int_max_is a b) in
-    rw (le_in i.lo p low, le_in p i.hi high) refl
+    rw (int_le_true i.lo p low, int_le_true p i.hi high) refl
 
 -- the viewport has columns and rows where it has a pixel
 sizes : (area : List ℤ) (x y : ℤ) → is_in_area area x y ≡ true → (pos 0 ≤ℤ entry area 2) × (pos 0 ≤ℤ entry area 3)
@@ -43,10 +43,10 @@ sizes area x y h =
     let p = and_parts _ _ h in
     let c = and_parts _ _ p.0 in
     let r = and_parts _ _ p.1 in
-    let a = le_out (entry area 0) x c.0 in
-    let b = lt_out x (entry area 0 +ℤ entry area 2) c.1 in
-    let d = le_out (entry area 1) y r.0 in
-    let e = lt_out y (entry area 1 +ℤ entry area 3) r.1 in
+    let a = from_int_le (entry area 0) x c.0 in
+    let b = from_int_lt x (entry area 0 +ℤ entry area 2) c.1 in
+    let d = from_int_le (entry area 1) y r.0 in
+    let e = from_int_lt y (entry area 1 +ℤ entry area 3) r.1 in
     (omega (arith, ints), omega (arith, ints))
 
 -- ---- a covered pixel
@@ -100,7 +100,7 @@ record IsVertexIn (s : State) (d : List Interval) (v : Vertex) : Type 0 where
 vertex_in : (s : State) (d : List Interval) (v : Vertex) → pos 0 ≤ℤ entry s.viewport 2 → pos 0 ≤ℤ entry s.viewport 3 → may_be_near d ≡ false → EncloseEach d (clip_of s v) → IsVertexIn s d v
 unfolding window_of window_at
 vertex_in s d v wide high far h =
-    let n : pos near_w ≤ℤ (interval_at d 3).lo = lt_never (interval_at d 3).lo (pos near_w) far in
+    let n : pos near_w ≤ℤ (interval_at d 3).lo = from_int_lt_false (interval_at d 3).lo (pos near_w) far in
     let l = h.fourth.low in
     let above : pos 0 <ℤ (interval_at d 3).lo = omega (arith, ints, n) in
     record {
@@ -121,7 +121,7 @@ too_large s mode a b c m h = rw (late mode m, h) refl
 
 front_is : (s : State) (v : Vertex) → pos near_w ≤ℤ entry (clip_of s v) 3 → is_in_front (clip_vertex s v) ≡ true
 unfolding is_in_front
-front_is s v h = le_in (pos near_w) (entry (clip_of s v) 3) h
+front_is s v h = int_le_true (pos near_w) (entry (clip_of s v) 3) h
 
 stands : (s : State) (v : Vertex) → is_cuttable (clip_vertex s v) ≡ true → pos near_w ≤ℤ entry (clip_of s v) 3 → stands_in_front s v ≡ true
 unfolding stands_in_front

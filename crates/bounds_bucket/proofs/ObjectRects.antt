@@ -14,16 +14,14 @@ use Rattle.rc_base.specs.declared.window.Rect.{Rect}
 use Rattle.rc_base.specs.declared.interval.Interval.{Interval}
 use Rattle.rc_base.specs.Drawing.Triangles.{cut_modes, shape_of, triangles_in}
 use Rattle.rc_base.specs.Cluster.ObjectBox.{bounding_box, clip_over, is_in_reach, block_clip, is_in_object_box}
+use Rattle.plain_lemmas.proofs.Booleans.{and_false}
+use Rattle.plain_lemmas.proofs.Numbers.{from_int_le, from_int_lt}
 use Rattle.bounds_bucket.specs.Ranges.{IsPartWhere}
 use Rattle.bounds_bucket.specs.Standing.{standing_count}
 use Rattle.bounds_bucket.specs.Boxes.{is_boxed, IsEmptyBox}
 use Rattle.bounds_bucket.proofs.Fronts.{some_stand}
 use Rattle.bounds_bucket.proofs.Hulls.{front_hull}
-use Rattle.bounds_bucket.proofs.WholeNumbers.{le_out, lt_out, and_last}
-
-and_no : (b : Bool) → (b && false) ≡ false
-and_no true = refl
-and_no false = refl
+use Rattle.bounds_bucket.proofs.WholeNumbers.{and_last}
 
 above_is : (k : ℕ) → 0 < k → nat_lt 0 k ≡ true
 above_is k h = grind (arith, nat_tests)
@@ -58,7 +56,7 @@ unfolding is_in_object_box
 no_corner s block window mode h x y =
     boxed_object s block window x y mode
     ∙ (let none : nat_lt 0 (length (triangles_in block)) ≡ false = some_stand (shape_of block.mode) (length block.vertices) ∙ none_is _ h in
-    rw none (and_no (is_in_rect window x y)))
+    rw none (and_false (is_in_rect window x y)))
 
 no_area : (area : List ℤ) (x y : ℤ) → ((entry area 2 <ℤ pos 0) ⊎ (entry area 3 <ℤ pos 0)) → is_in_area area x y ≡ false
 no_area area x y h = by (is_in_area area x y) refl
@@ -69,10 +67,10 @@ no_area area x y h = by (is_in_area area x y) refl
         let p = and_parts _ _ e in
         let c = and_parts _ _ p.0 in
         let r = and_parts _ _ p.1 in
-        let a = le_out (entry area 0) x c.0 in
-        let b = lt_out x (entry area 0 +ℤ entry area 2) c.1 in
-        let d = le_out (entry area 1) y r.0 in
-        let f = lt_out y (entry area 1 +ℤ entry area 3) r.1 in
+        let a = from_int_le (entry area 0) x c.0 in
+        let b = from_int_lt x (entry area 0 +ℤ entry area 2) c.1 in
+        let d = from_int_le (entry area 1) y r.0 in
+        let f = from_int_lt y (entry area 1 +ℤ entry area 3) r.1 in
         absurd (elim h [ inl k ↦ omega (arith, ints) | inr k ↦ omega (arith, ints) ])
 
 pub no_viewport : (s : State) (block : Block) (window : Rect) → cut_modes ≤ block.mode → ((entry s.viewport 2 <ℤ pos 0) ⊎ (entry s.viewport 3 <ℤ pos 0)) → IsEmptyBox s (eff.Block block) window
@@ -83,7 +81,7 @@ no_viewport s block window mode h x y =
     (never (is_in_rect window x y) (nat_lt 0 (length (triangles_in block))) (is_in_reach s (block_clip s block) x y))
   where
     never : (a b c : Bool) → (a && (b && (c && false))) ≡ false
-    never true true c = and_no c
+    never true true c = and_false c
     never true false c = refl
     never false b c = refl
 

@@ -1,11 +1,11 @@
 -- A side that is cut into parts: each place of it lies in one part alone.
-use Rattle.std.proofs.Common.{◌≡◌, ℕ, zero, suc, ◌+◌, ◌*◌, ◌/◌, ◌%◌, ◌<◌, ◌≤◌, true, refl, sym, subst, ◌∙◌, arith, inl, inr, le-leb, lt-ltb, leb-true, ltb-true}
-use Rattle.std.proofs.Math.Nat.{div-mul-le_self, div-le_self, mul-le-mul_left, mul-div_cancel_left, zero-mul, div-add-mod}
-use Rattle.std.proofs.lemmas.Nat.{le-div, mod-mul-add, div-mul-add}
-use Rattle.std.specs.Prelude.{nat_le, nat_lt}
+use Rattle.std.proofs.Common.{◌≡◌, ℕ, zero, suc, ◌+◌, ◌*◌, ◌/◌, ◌%◌, ◌<◌, ◌≤◌, true, refl, sym, subst, ◌∙◌, arith, inl, inr}
+use Rattle.std.proofs.Math.Nat.{div-le_self, mul-le-mul_left, mul-div_cancel_left, zero-mul, div-add-mod}
+use Rattle.std.proofs.lemmas.Nat.{mod-mul-add, div-mul-add}
 use Rattle.std.proofs.lemmas.Bool.{and_parts, cases_lt}
 use Rattle.rc_base.specs.Cluster.Tiles.{boundary_of, is_in_interval, tile_pixels, tile_column, tile_row}
 use Rattle.rc_base.specs.declared.window.Layout.{Layout}
+use Rattle.scene_lemmas.proofs.Boundaries.{in_interval, interval_bounds, one_part, LiesIn}
 use Rattle.bounds_bucket.specs.Tiles.{HasPixel}
 
 -- the last of some rising places that isn't above x
@@ -19,35 +19,6 @@ last_below f x (suc n) low high =
       | inr above ↦
           let e : n + 1 ≡ suc n = omega arith in
           (n, omega arith, above, subst (λ (m : ℕ). x < f m) (sym e) high)
-    ]
-
-pub boundary_rises : (side parts i j : ℕ) → 0 < parts → i ≤ j → boundary_of side parts i ≤ boundary_of side parts j
-boundary_rises side parts i j some le =
-    let whole : i * side / parts * parts ≤ i * side = div-mul-le_self (i * side) parts in
-    let more : side * i ≤ side * j = mul-le-mul_left side le in
-    le-div (i * side / parts) (j * side) parts some (omega (arith, whole, more))
-
-pub in_interval : (side parts j p : ℕ) → boundary_of side parts j ≤ p → p < boundary_of side parts (j + 1) → is_in_interval side parts j p ≡ true
-in_interval side parts j p low high = rw (le-leb _ _ low, lt-ltb _ _ high) refl
-
-pub record LiesIn (side parts j p : ℕ) : Type 0 where
-  pub low : boundary_of side parts j ≤ p
-  pub high : p < boundary_of side parts (j + 1)
-
-pub interval_bounds : (side parts j p : ℕ) → is_in_interval side parts j p ≡ true → LiesIn side parts j p
-interval_bounds side parts j p h =
-    let tests = and_parts (nat_le (boundary_of side parts j) p) (nat_lt p (boundary_of side parts (j + 1))) h in
-    record { low = leb-true (boundary_of side parts j) p tests.0; high = ltb-true p (boundary_of side parts (j + 1)) tests.1 }
-
--- two parts that have one place are one
-pub one_part : (side parts i j p : ℕ) → 0 < parts → LiesIn side parts i p → LiesIn side parts j p → i ≡ j
-one_part side parts i j p some a b =
-    elim (cases_lt i j) [
-      | inl less ↦ absurd (let r : boundary_of side parts (i + 1) ≤ boundary_of side parts j = boundary_rises side parts (i + 1) j some (omega (arith, less)) in omega (arith, r, a.high, b.low))
-      | inr more ↦ elim (cases_lt j i) [
-        | inl less ↦ absurd (let r : boundary_of side parts (j + 1) ≤ boundary_of side parts i = boundary_rises side parts (j + 1) i some (omega (arith, less)) in omega (arith, r, b.high, a.low))
-        | inr same ↦ omega (arith, more, same)
-      ]
     ]
 
 -- the part that has a place

@@ -5,13 +5,8 @@ use Rattle.rc_base.specs.Numbers.{floor_quotient, fixed_one}
 use Rattle.rc_base.specs.Intervals.{IsOrdered, AreEndsWithin, OfEach, interval_at, least_product, greatest_product, row_over, transformed_over}
 use Rattle.rc_base.specs.Contexts.Context.{identity}
 use Rattle.rc_base.specs.declared.interval.Interval.{Interval}
-use Rattle.fixed_math.proofs.Signed.{floor_at_most, floor_greatest, within_more}
-
-floor_whole : (s a : ℤ) → s ≡ pos 65536 *ℤ a → floor_quotient s (pos fixed_one) ≡ a
-floor_whole s a e =
-    let l = floor_at_most s (pos fixed_one) (omega (arith, ints)) in
-    let h = floor_greatest s (pos fixed_one) (omega (arith, ints)) in
-    omega (arith, ints, e)
+use Rattle.fixed_math.proofs.Signed.{within_more}
+use Rattle.geometry.proofs.Identity.{floor_whole}
 
 least_one : (i : Interval) → IsOrdered i → least_product (pos 65536) i ≡ pos 65536 *ℤ i.lo
 least_one i h = let m = int_min_is (pos 65536 *ℤ i.lo) (pos 65536 *ℤ i.hi) in omega (arith, ints)

@@ -7,6 +7,7 @@ use Rattle.std.specs.declared.option.Option.{Option}
 use Rattle.std.specs.List.{list_any, range_with_len}
 use Rattle.std.specs.Option.{option_map_or}
 use Rattle.std.proofs.lemmas.Option.{slice_get_past}
+use Rattle.std.proofs.lemmas.Bool.{and_parts}
 use Rattle.rc_base.specs.Contexts.Context.{ClientContext, private_count}
 use Rattle.rc_base.specs.Contexts.Elements.{element_count, group_sizes, marks}
 use Rattle.rc_base.specs.Contexts.Faults.{fault_of, has_values, image_side_most, is_name}
@@ -25,7 +26,7 @@ use Rattle.rc_base.specs.declared.state.Fault.{Fault}
 use Rattle.rc_base.specs.declared.window.Layout.{Layout}
 use Rattle.gl_context.specs.Arguments.{HasName}
 use Rattle.gl_context.specs.Streams.{StreamsGoOnByIssue}
-use Rattle.gl_context.proofs.Accepted.{accepted, and_both}
+use Rattle.gl_context.proofs.Accepted.{accepted}
 use Rattle.client_issue.specs.Acts.{act_by, act_looks, asks_of, examines, goes_to}
 use Rattle.client_issue.specs.Issued.{is_refused, sets_element}
 use Rattle.client_issue.proofs.Giving.{one_more}
@@ -66,7 +67,7 @@ named x c h = name_of c (accepted x c (none_of (fault_of x c) (sym (refused_is x
     low name e = grind (arith, nat_tests, e)
 
     name_of : (c : Command) → has_values x c ≡ true → HasName c
-    name_of (cmd.TexImage name w high bytes) e = low name (and_both (is_name name private_count) (is_name w image_side_most && is_name high image_side_most) e).0
+    name_of (cmd.TexImage name w high bytes) e = low name (and_parts (is_name name private_count) (is_name w image_side_most && is_name high image_side_most) e).0
     name_of (cmd.TexPart part) e = low part.name e
     name_of c e = tt
 

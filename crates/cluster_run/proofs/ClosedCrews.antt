@@ -17,7 +17,6 @@ use Rattle.client_issue.specs.Clauses.{IsClientClause}
 use Rattle.client_issue.specs.declared.client.ClientCore.{ClientCore}
 use Rattle.sync_manager.specs.Clauses.{IsManagerClause}
 use Rattle.sync_manager.specs.Cores.{is_short as is_manager_short}
-use Rattle.order_model.proofs.SceneListsAreWellFormed.{scene_client_count}
 use Rattle.tile_server.specs.Clauses.{IsTileClause}
 use Rattle.tile_server.specs.declared.tile_core.TileCore.{TileCore}
 use Rattle.tile_queues.specs.Ends.{sent_of, taken_of, lane_in, lane_out}
@@ -29,6 +28,7 @@ use Rattle.tile_queues.specs.Names.{AreInto, AreOutOf}
 use Rattle.run_record.specs.Closed.{AreClosed, IsClientEnded, IsTileEnded}
 use Rattle.worker_crew.specs.declared.crew.Crew.{Crew}
 use Rattle.worker_crew.specs.declared.task.Task.{Task}
+use Rattle.scene_lemmas.proofs.Scenes.{scene_client_count}
 use Rattle.cluster_run.specs.Apart.{AreOfClients, AreOfTiles}
 use Rattle.cluster_run.specs.Clusters.{LaneNames, IsEndedCluster}
 use Rattle.cluster_run.specs.Serving.{shown_in_lanes}

@@ -11,7 +11,6 @@ use Rattle.rc_base.specs.declared.sync.Grant.{Grant}
 use Rattle.rc_base.specs.declared.sync.Request.{Request}
 use Rattle.rc_base.specs.declared.window.Layout.{Layout}
 use Rattle.rc_base.proofs.Paired.{same_default, some_item}
-use Rattle.order_model.proofs.SceneListsAreWellFormed.{scene_client_count}
 use Rattle.client_issue.specs.Clauses.{IsClientClause}
 use Rattle.tile_server.specs.Clauses.{IsTileClause}
 use Rattle.tile_queues.specs.Ends.{sent_of, taken_of, lane_in, lane_out, depth_of}
@@ -20,6 +19,7 @@ use Rattle.tile_queues.specs.declared.ends.LaneOut.{LaneOut}
 use Rattle.tile_queues.specs.Names.{AreInto, AreOutOf}
 use Rattle.tile_queues.specs.Grids.{IsNewGrid}
 use Rattle.worker_crew.specs.declared.crew.Crew.{Crew}
+use Rattle.scene_lemmas.proofs.Scenes.{scene_client_count}
 use Rattle.cluster_run.specs.Clients.{IsClientWorker}
 use Rattle.cluster_run.specs.Managers.{IsManagerWorker}
 use Rattle.cluster_run.specs.Tiles.{IsTileWorker, parts_of}

@@ -1,10 +1,10 @@
 -- What is the same for each opcode of the table is the same for every opcode.
 use Rattle.std.proofs.Common.{◌≡◌, ℕ, zero, suc, ◌+◌, ◌-◌, ◌<◌, ◌≤◌, true, false, eqb, List, [], ◌∷◌, length, get_or, map, ◌⊎◌, Option, Some, None, refl, sym, ap, ◌∙◌, arith, inl, inr}
-use Rattle.std.specs.Prelude.{Bool, slice_get}
+use Rattle.std.specs.Prelude.{slice_get}
 use Rattle.std.specs.List.{find, range_with_len}
 use Rattle.std.specs.Option.{option_map}
 use Rattle.std.specs.Cmp.Lexicographic.{bytes_decides}
-use Rattle.std.proofs.lemmas.Bool.{cases_eq, eq-eqb, ne_eqb}
+use Rattle.std.proofs.lemmas.Bool.{cases_eq, eq-eqb, ne_eqb, cases_Bool}
 use Rattle.std.proofs.lemmas.Option.{slice_get-map, same_Some}
 use Rattle.rc_base.specs.declared.command.Opcode.{Opcode}
 use Rattle.rc_base.specs.declared.command.Opcode.TheVariants as op
@@ -103,13 +103,9 @@ opcode_of_its_name = same_for_each (λ o. opcode_of_name (table_row o).name) (λ
 pub one_name : (a b : Opcode) → (table_row a).name ≡ (table_row b).name → a ≡ b
 one_name a b same = same_Some a b (sym (opcode_of_its_name a) ∙ ap opcode_of_name same ∙ opcode_of_its_name b)
 
-bool_cases : (b : Bool) → (b ≡ true) ⊎ (b ≡ false)
-bool_cases true = inl refl
-bool_cases false = inr refl
-
 found_name : (os : List Opcode) (text : List ℕ) (o : Opcode) → find (has_name text) os ≡ Some o → text ≡ (table_row o).name
 found_name [] text o e = absurd cc
-found_name (x ∷ xs) text o e = elim (bool_cases (has_name text x)) [
+found_name (x ∷ xs) text o e = elim (cases_Bool (has_name text x)) [
   | inl named ↦
       let here : (let r : Option Opcode = Some x in r) ≡ Some o = rw named at e in
       sym ((bytes_decides (table_row x).name text).0 named) ∙ ap (λ y. (table_row y).name) (same_Some x o here)

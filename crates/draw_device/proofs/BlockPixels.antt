@@ -1,5 +1,5 @@
 -- A block's triangles one after the other.
-use Rattle.std.proofs.Common.{◌≡◌, ℕ, suc, ◌+◌, ◌*◌, Some, refl, ◌∙◌, List, [], ◌∷◌, ◌++◌, sym, ap, arith}
+use Rattle.std.proofs.Common.{◌≡◌, ℕ, ◌+◌, ◌*◌, Some, refl, ◌∙◌, List, [], ◌∷◌, ◌++◌, sym, ap, arith}
 use Rattle.std.specs.Prelude.{fold}
 use Rattle.std.specs.List.{All, flat_map}
 use Rattle.std.specs.declared.option.Option.{Option}
@@ -26,9 +26,6 @@ pub draws_more : (f : Pixel → List WindowVertex → Pixel) (kept : List ℕ �
 draws_more f kept now new start t rest more all e step before =
     ap (λ (o : Pixel). fold f o (flat_map kept more)) step ∙ sym (fold-append f now (kept t) (flat_map kept more))
     ∙ sym (ap (λ (l : List (List ℕ)). fold f now (flat_map kept l)) e) ∙ before
-
-pub all_rest : (P : List ℕ → Type 0) (t : List ℕ) (rest more : List (List ℕ)) → rest ≡ t ∷ more → All P rest → All P more
-all_rest P t rest more e all k d lt = (rw e at all) (suc k) d (omega arith)
 
 pub first_rest : (P : List ℕ → Type 0) (t : List ℕ) (rest more : List (List ℕ)) → rest ≡ t ∷ more → All P rest → P t
 first_rest P t rest more e all = (rw e at all) 0 [] (omega arith)

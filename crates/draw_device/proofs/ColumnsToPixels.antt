@@ -16,6 +16,8 @@ use Rattle.raster.specs.Colors.{IsColorRise}
 use Rattle.raster.specs.declared.color.ColorRamp.{ColorRamp}
 use Rattle.raster.specs.declared.column.Column.{Column}
 use Rattle.fragment_ops.specs.DepthTests.{pixel}
+use Rattle.plain_lemmas.proofs.Places.{next_row}
+use Rattle.scene_lemmas.proofs.Rectangles.{inside_rect}
 use Rattle.draw_device.specs.Pixels.{pixel_at, color_at, depth_at, pixels_of}
 use Rattle.raster.specs.Clips.{IsPartWhere, is_let_through}
 use Rattle.draw_device.specs.Columns.{place_in, column_fragment, IsColumnCovered, IsColumnStepped, IsColumnColored, IsColumnDrawn, IsRiseAt, IsOnlyRun, column_of}
@@ -26,7 +28,7 @@ use Rattle.draw_device.proofs.Steps.{alone_step}
 use Rattle.draw_device.specs.Shapes.{column_at, row_at, grid_rect, fragment_pixel, covered_step, IsStepped}
 use Rattle.draw_device.specs.declared.column_run.ColumnRun.{ColumnRun}
 use Rattle.draw_device.specs.declared.extent.Extent.{Extent}
-use Rattle.draw_device.proofs.SpansToPixels.{next_row, cut_off, uncovered, hit, outside_rows, above_rows, left_of, right_of, inside_rect}
+use Rattle.draw_device.proofs.SpansToPixels.{cut_off, uncovered, hit, outside_rows, above_rows, left_of, right_of}
 
 -- two places of one column are apart
 apart : (r : ColumnRun) (j k : ℕ) → r.across < r.width → j < k → place_in r j < place_in r k

@@ -1,5 +1,5 @@
 -- Pixels that changed in a run and stay as they were beside them, by what contracts see of a device.
-use Rattle.std.proofs.Common.{◌≡◌, ℕ, ◌*◌, ◌<◌, ◌≤◌, List, inl, inr, refl, sym, ap, ◌∙◌, arith, ℤ, true, le-ltb}
+use Rattle.std.proofs.Common.{◌≡◌, ℕ, ◌*◌, ◌<◌, ◌≤◌, List, inl, inr, sym, ap, ◌∙◌, arith, ℤ, true}
 use Rattle.std.proofs.lemmas.Bool.{cases_lt}
 use Rattle.rc_base.specs.Cluster.Tiles.{is_in_rect}
 use Rattle.rc_base.specs.Drawing.Nearer.{nearer}
@@ -7,6 +7,7 @@ use Rattle.rc_base.specs.Drawing.Serial.{blank_pixel}
 use Rattle.rc_base.specs.Drawing.Window.{depth_most}
 use Rattle.rc_base.specs.declared.window.Pixel.{Pixel}
 use Rattle.rc_base.specs.declared.window.Rect.{Rect}
+use Rattle.scene_lemmas.proofs.Triangles.{nearer_is_first}
 use Rattle.draw_device.specs.Beside.{IsBeside}
 use Rattle.draw_device.specs.Devices.{DeviceView, pixel_index, pixel_of}
 use Rattle.draw_device.specs.Pixels.{pixel_at}
@@ -14,10 +15,6 @@ use Rattle.draw_device.specs.Shapes.{grid_rect}
 use Rattle.draw_device.specs.declared.extent.Extent.{Extent}
 use Rattle.draw_device.specs.declared.pixel_run.PixelRun.{PixelRun}
 use Rattle.draw_device.proofs.Places.{place_below}
-
--- one is kept that is at least as near
-kept_is : (a b : Pixel) → a.depth ≤ b.depth → nearer a b ≡ a
-kept_is a b le = rw (le-ltb _ _ le) refl
 
 module _ (g h : Extent) (old new : List Pixel) (before : DeviceView) (run : PixelRun) (seen : record { rect = grid_rect g; pixels = old } ≡ before) (same : h ≡ g)
     (below : (k : ℕ) → k < run.from → pixel_at new k ≡ pixel_at old k) (above : (k : ℕ) → run.to ≤ k → pixel_at new k ≡ pixel_at old k) (x y : ℤ) where
@@ -44,7 +41,7 @@ module _ (g h : Extent) (old new : List Pixel) (before : DeviceView) (run : Pixe
   unfolding pixel_of
   view_nearer layer rects among far =
       let there : pixel_at layer.pixels place ≡ pixel_of layer x y = ap (λ (r : Rect). pixel_at layer.pixels (pixel_index r x y)) (sym rects) in
-      let kept = λ (b : IsBeside run before.rect x y). stays b ∙ sym (kept_is (pixel_of before x y) (pixel_of layer x y) (far b)) in
+      let kept = λ (b : IsBeside run before.rect x y). stays b ∙ sym (nearer_is_first (pixel_of before x y) (pixel_of layer x y) (far b)) in
       new_is ∙ elim (cases_lt place run.from) [
         | inl lt ↦ kept (inl lt)
         | inr ge ↦ elim (cases_lt place run.to) [

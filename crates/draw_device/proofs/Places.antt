@@ -6,13 +6,12 @@ use Rattle.rc_base.specs.Numbers.{natural}
 use Rattle.rc_base.specs.Cluster.Tiles.{is_in_rect}
 use Rattle.rc_base.specs.declared.window.Pixel.{Pixel}
 use Rattle.rc_base.specs.declared.window.Rect.{Rect}
+use Rattle.plain_lemmas.proofs.Places.{place_within}
+use Rattle.scene_lemmas.proofs.Rectangles.{above_left, below_right, above_bottom, below_top}
 use Rattle.draw_device.specs.Pixels.{pixel_at}
 use Rattle.draw_device.specs.Devices.{DeviceView, EachTakes, pixel_index, pixel_of}
 use Rattle.draw_device.specs.Shapes.{column_at, row_at, grid_rect, IsStepped}
 use Rattle.draw_device.specs.declared.extent.Extent.{Extent}
-
-pub place_inside : (w h x y : ℕ) → x < w → y < h → y * w + x < w * h
-place_inside w h x y lx ly = grind arith
 
 -- a column and a row of a grid that has the pixel (x, y)
 pub record IsPlace (g : Extent) (x y : ℤ) : Type 0 where
@@ -32,23 +31,11 @@ between : (low size : ℕ) (x : ℤ) → pos low ≤ℤ x → x <ℤ pos (low + 
 between low size (pos a) h l = record { k = a - low; is = ap pos (omega (arith, ints)); below = omega (arith, ints) }
 between low size (negsuc a) h l = absurd (omega (arith, ints))
 
-left_is : (r : Rect) (x y : ℤ) → is_in_rect r x y ≡ true → r.x0 ≤ℤ x
-left_is r x y e = grind (arith, ints)
-
-right_is : (r : Rect) (x y : ℤ) → is_in_rect r x y ≡ true → x <ℤ r.x1
-right_is r x y e = grind (arith, ints)
-
-bottom_is : (r : Rect) (x y : ℤ) → is_in_rect r x y ≡ true → r.y0 ≤ℤ y
-bottom_is r x y e = grind (arith, ints)
-
-top_is : (r : Rect) (x y : ℤ) → is_in_rect r x y ≡ true → y <ℤ r.y1
-top_is r x y e = grind (arith, ints)
-
 pub place_of : (g : Extent) (x y : ℤ) → is_in_rect (grid_rect g) x y ≡ true → IsPlace g x y
 place_of g x y e =
     let r = grid_rect g in
-    let a = between g.left g.width x (left_is r x y e) (right_is r x y e) in
-    let b = between g.bottom g.height y (bottom_is r x y e) (top_is r x y e) in
+    let a = between g.left g.width x (above_left r x y e) (below_right r x y e) in
+    let b = between g.bottom g.height y (above_bottom r x y e) (below_top r x y e) in
     record { i = a.k; j = b.k; column = a.is; row = b.is; across = a.below; upward = b.below }
 
 gap_is : (a b : ℕ) → natural (pos (a + b) -ℤ pos a) ≡ b
@@ -94,15 +81,15 @@ blank_at n k value h = get_or-replicate n k value _ h
 pub each_blank : (g : Extent) (value : Pixel) (x y : ℤ) → is_in_rect (grid_rect g) x y ≡ true
     → pixel_of (record { rect = grid_rect g; pixels = replicate (g.width * g.height) value }) x y ≡ value
 each_blank g value x y e =
-    each_is g (replicate (g.width * g.height) value) value (λ i j hi hj. blank_at (g.width * g.height) (j * g.width + i) value (place_inside g.width g.height i j hi hj)) x y e
+    each_is g (replicate (g.width * g.height) value) value (λ i j hi hj. blank_at (g.width * g.height) (j * g.width + i) value (place_within g.width g.height i j hi hj)) x y e
 
 -- the index of a grid's pixel is one of its list
 pub index_inside : (g : Extent) (x y : ℤ) (i j : ℕ) → is_in_rect (grid_rect g) x y ≡ true → x ≡ pos (g.left + i) → y ≡ pos (g.bottom + j)
     → j * g.width + i < g.width * g.height
 index_inside g x y i j e ex ey =
-    let a = right_is (grid_rect g) x y e in
-    let b = top_is (grid_rect g) x y e in
-    place_inside g.width g.height i j (omega (arith, ints)) (omega (arith, ints))
+    let a = below_right (grid_rect g) x y e in
+    let b = below_top (grid_rect g) x y e in
+    place_within g.width g.height i j (omega (arith, ints)) (omega (arith, ints))
 
 pub index_of : (g : Extent) (x y : ℤ) (i j : ℕ) → x ≡ pos (g.left + i) → y ≡ pos (g.bottom + j) → pixel_index (grid_rect g) x y ≡ j * g.width + i
 index_of g x y i j ex ey = (λ k. pixel_index (grid_rect g) (ex k) (ey k)) ∙ index_is g i j
@@ -127,4 +114,4 @@ pub place_below : (g : Extent) (x y : ℤ) → is_in_rect (grid_rect g) x y ≡ 
 place_below g x y e =
     let p = place_of g x y e in
     let at = (λ k. pixel_index (grid_rect g) (sym p.column k) (sym p.row k)) ∙ index_is g p.i p.j in
-    omega (arith, at, place_inside g.width g.height p.i p.j p.across p.upward)
+    omega (arith, at, place_within g.width g.height p.i p.j p.across p.upward)

@@ -1,5 +1,5 @@
 -- From the spans of a triangle to the pixels of a grid.
-use Rattle.std.proofs.Common.{◌≡◌, ℕ, ◌+◌, ◌*◌, ◌<◌, ◌≤◌, ℤ, pos, ◌+ℤ◌, ◌≤ℤ◌, ◌<ℤ◌, Bool, true, false, ◌&&◌, arith, List, Option, ◌⊎◌, inl, inr, refl, sym, ◌∙◌, ap, subst, mul-le-mul, int_eq}
+use Rattle.std.proofs.Common.{◌≡◌, ℕ, ◌+◌, ◌*◌, ◌<◌, ◌≤◌, ℤ, pos, ◌+ℤ◌, ◌≤ℤ◌, ◌<ℤ◌, Bool, true, false, ◌&&◌, arith, List, Option, ◌⊎◌, inl, inr, refl, sym, ◌∙◌, ap, subst, int_eq}
 use Rattle.std.proofs.lemmas.Int.{ints, by_lt_z}
 use Rattle.std.proofs.lemmas.Bool.Decides.{Decides-int_eq}
 use Rattle.rc_base.specs.Pictures.{Picture}
@@ -12,16 +12,13 @@ use Rattle.rc_base.specs.declared.window.Span.{Span}
 use Rattle.rc_base.specs.declared.window.Rect.{Rect}
 use Rattle.rc_base.specs.declared.window.Pixel.{Pixel}
 use Rattle.raster.specs.Spans.{in_span, IsNextSpan, IsRowSpan, AreEmptyRows}
+use Rattle.plain_lemmas.proofs.Booleans.{and_false}
+use Rattle.plain_lemmas.proofs.Places.{next_row}
+use Rattle.scene_lemmas.proofs.Rectangles.{inside_rect}
 use Rattle.draw_device.specs.Pixels.{pixel_at}
 use Rattle.raster.specs.Clips.{IsPartWhere, is_let_through}
 use Rattle.draw_device.specs.Shapes.{column_at, row_at, grid_rect, span_has, span_step, fragment_pixel, cleared_pixel, covered_step, IsRowStepped, IsStepped, IsSteppedBelow, IsSpanIn, IsCovered}
 use Rattle.draw_device.specs.declared.extent.Extent.{Extent}
-
-pub next_row : (w r j : ℕ) → r < j → r * w + w ≤ j * w
-next_row w r j h = let m : (r + 1) * w ≤ j * w = mul-le-mul (omega arith) (omega arith) in omega arith
-
-pub room : (w h r t : ℕ) → r < h → t ≤ w → r * w + t ≤ w * h
-room w h r t k l = let m = next_row w r h k in omega arith
 
 -- ---- one span
 
@@ -140,13 +137,6 @@ left_of r x y h = grind (arith, ints)
 
 pub right_of : (r : Rect) (x y : ℤ) → (r.x1 ≤ℤ x) → is_in_rect r x y ≡ false
 right_of r x y h = grind (arith, ints)
-
-pub inside_rect : (r : Rect) (x y : ℤ) → r.x0 ≤ℤ x → x <ℤ r.x1 → r.y0 ≤ℤ y → y <ℤ r.y1 → is_in_rect r x y ≡ true
-inside_rect r x y a b c d = grind (arith, ints)
-
-and_false : (b : Bool) → (b && false) ≡ false
-and_false true = refl
-and_false false = refl
 
 module _ (s : State) (picture : Option Picture) (v : List WindowVertex) (g : Extent) (part : Rect) (p : IsPartWhere (grid_rect g) part (is_let_through s)) where
   step : ℤ → ℤ → Pixel → Pixel

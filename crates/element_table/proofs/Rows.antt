@@ -4,6 +4,7 @@ use Rattle.std.specs.Prelude.{nat_eq, not, slice_index_or, if◌then◌else◌}
 use Rattle.std.specs.List.{list_any}
 use Rattle.std.proofs.lemmas.Bool.Decides.{nat_tests}
 use Rattle.std.proofs.lemmas.List.{get_or_past}
+use Rattle.std.proofs.lemmas.Bool.{or_right, or_left}
 use Rattle.rc_base.specs.Contexts.Elements.{scalar_count}
 use Rattle.element_table.specs.Kinds.{kind_of, scalar_kinds}
 use Rattle.element_table.specs.declared.kind.ValueKind.{ValueKind}
@@ -13,14 +14,6 @@ use Rattle.element_table.specs.declared.kind.ValueKind.TheVariants.{Matrix, Area
 abbrev pub rows_with : (ValueKind → Bool) → List ValueKind → ℕ → List ℕ
 rows_with test [] n = []
 rows_with test (k ∷ ks) n = if test k then n ∷ rows_with test ks (suc n) else rows_with test ks (suc n)
-
-or_right : (a b : Bool) → b ≡ true → (a || b) ≡ true
-or_right true b h = refl
-or_right false b h = h
-
-or_left : (a b : Bool) → a ≡ true → (a || b) ≡ true
-or_left true b h = refl
-or_left false b h = absurd (true≢false (sym h))
 
 rest_none : (a b : Bool) → (a || b) ≡ false → b ≡ false
 rest_none true b h = absurd (true≢false h)

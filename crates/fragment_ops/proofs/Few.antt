@@ -6,6 +6,7 @@ use Rattle.rc_base.specs.Drawing.PixelStep.{shaded, passes_alpha, passes_depth, 
 use Rattle.rc_base.specs.declared.command.Rgba.{Rgba}
 use Rattle.rc_base.specs.declared.state.State.{State}
 use Rattle.rc_base.specs.declared.window.Pixel.{Pixel}
+use Rattle.plain_lemmas.proofs.Booleans.{and_false}
 use Rattle.fragment_ops.specs.Shortcuts.{writes_all, writes_plainly, stores_alone, blends_by, color_over, color_sum}
 use Rattle.fragment_ops.specs.DepthTests.{passes, IsDepthTest, tested_pixel}
 use Rattle.fragment_ops.specs.Clearings.{IsClearing, cleared_by, writes_pixel}
@@ -23,10 +24,6 @@ flags_on flags h =
     let q = and_parts (slice_index_or flags 1 false) _ p.1 in
     let r = and_parts (slice_index_or flags 2 false) _ q.1 in
     (p.0, q.0, r.0, r.1)
-
-and_false : (b : Bool) → (b && false) ≡ false
-and_false true = refl
-and_false false = refl
 
 same : (x n : ℕ) → (x == n) ≡ true → x ≡ n
 same x n h = grind arith

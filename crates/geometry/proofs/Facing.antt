@@ -11,7 +11,7 @@ use Rattle.rc_base.specs.Drawing.Cover.{triangle_area, IsInBounds}
 use Rattle.rc_base.specs.Drawing.Window.{clip_of, window_of, is_in_bounds, is_placed, is_placed_at, place_bound, depth_bound}
 use Rattle.rc_base.specs.Drawing.Kept.{three, is_culled, is_shown, oriented, clip_corners, is_kept_at, kept_at, kept_of}
 use Rattle.geometry.specs.Placed.{IsPlace}
-use Rattle.fixed_math.proofs.Signs.{above_is, below_is, not_below_is, off}
+use Rattle.fixed_math.proofs.Signs.{above_is, not_below_is, off}
 use Rattle.rc_base.specs.declared.state.State.{State}
 use Rattle.rc_base.specs.declared.state.Vertex.{Vertex}
 use Rattle.rc_base.specs.declared.window.WindowVertex.{WindowVertex}
@@ -35,10 +35,6 @@ not_shown_culled s a e = and_right (not (int_eq a (pos 0))) (not (is_culled s a)
 pub shown : (s : State) (a : ℤ) → (a ≡ pos 0 → ⊥) → is_culled s a ≡ false → is_shown s a ≡ true
 unfolding is_shown
 shown s a n e = and_from (not (int_eq a (pos 0))) (not (is_culled s a)) (not_from_false (int_eq a (pos 0)) (off a n)) (not_from_false (is_culled s a) e)
-
-pub turned_round : (a b c : WindowVertex) → triangle_area (three a b c) <ℤ pos 0 → oriented a b c ≡ three a c b
-unfolding oriented
-turned_round a b c h = ap (λ t. if t then three a c b else three a b c) (below_is (triangle_area (three a b c)) h)
 
 pub left_as_is : (a b c : WindowVertex) → pos 0 ≤ℤ triangle_area (three a b c) → oriented a b c ≡ three a b c
 unfolding oriented

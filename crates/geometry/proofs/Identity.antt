@@ -9,7 +9,7 @@ use Rattle.fixed_math.proofs.Signed.{floor_at_most, floor_greatest, all_within_m
 use Rattle.geometry.specs.Placed.{FixesVectors}
 
 -- a sum of products that is 65536 times a number
-floor_whole : (s a : ℤ) → s ≡ pos 65536 *ℤ a → floor_quotient s (pos fixed_one) ≡ a
+pub floor_whole : (s a : ℤ) → s ≡ pos 65536 *ℤ a → floor_quotient s (pos fixed_one) ≡ a
 floor_whole s a e =
     let l = floor_at_most s (pos fixed_one) (omega (arith, ints)) in
     let h = floor_greatest s (pos fixed_one) (omega (arith, ints)) in

@@ -9,7 +9,8 @@ use Rattle.rc_base.specs.Drawing.Kept.{three, is_shown, oriented, clip_corners, 
 use Rattle.rc_base.specs.declared.state.State.{State}
 use Rattle.rc_base.specs.declared.state.Vertex.{Vertex}
 use Rattle.rc_base.specs.declared.window.WindowVertex.{WindowVertex}
-use Rattle.geometry.proofs.Facing.{not_shown_flat, turned_round, left_as_is, area_turned}
+use Rattle.scene_lemmas.proofs.Triangles.{turned_round}
+use Rattle.geometry.proofs.Facing.{not_shown_flat, left_as_is, area_turned}
 
 not_flat : (s : State) (area : ℤ) → is_shown s area ≡ true → area ≡ pos 0 → ⊥
 not_flat s area h e = let flat = not_shown_flat s area e in absurd cc

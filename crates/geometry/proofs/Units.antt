@@ -1,5 +1,5 @@
 -- Vertices that the matrices don't move: factors taken out of their quotients.
-use Rattle.std.proofs.Common.{◌≡◌, ℤ, ℕ, pos, ◌+ℤ◌, ◌-ℤ◌, ◌*ℤ◌, ◌<ℤ◌, ◌≤ℤ◌, ◌∙◌, ap, refl, arith}
+use Rattle.std.proofs.Common.{◌≡◌, ℤ, ℕ, pos, ◌+ℤ◌, ◌-ℤ◌, ◌*ℤ◌, ◌<ℤ◌, ◌∙◌, ap, refl, arith}
 use lib.IntN.{*ℤ_comm}
 use Rattle.std.proofs.lemmas.Int.{ints}
 use Rattle.rc_base.specs.Numbers.{entry, floor_quotient, transformed}
@@ -8,6 +8,7 @@ use Rattle.rc_base.specs.declared.state.State.{State}
 use Rattle.rc_base.specs.declared.state.Vertex.{Vertex}
 use Rattle.fixed_math.specs.Bounds.{four}
 use Rattle.fixed_math.proofs.Signed.{floor_at_most, floor_greatest, floor_from_low, times_assoc}
+use Rattle.plain_lemmas.proofs.Numbers.{same_from_both_bounds}
 use Rattle.geometry.specs.Placed.{FixesVectors, IsUsual}
 use Rattle.geometry.specs.Vertices.{vertex_with}
 
@@ -33,9 +34,6 @@ depth_quotient z =
 times_out : (q w : ℤ) (k : ℕ) → q *ℤ (pos k *ℤ w) ≡ pos k *ℤ (q *ℤ w)
 times_out q w k = *ℤ_comm q (pos k *ℤ w) ∙ times_assoc (pos k) w q ∙ ap (λ x. pos k *ℤ x) (*ℤ_comm w q)
 
-not_apart : (a b : ℤ) → a ≤ℤ b → b ≤ℤ a → a ≡ b
-not_apart a b h k = omega (arith, ints)
-
 place_by_w : (s w : ℤ) → pos 0 <ℤ w → floor_quotient (s *ℤ pos 16) (pos 2 *ℤ w) ≡ floor_quotient (s *ℤ pos 8) w
 place_by_w s w h =
     let p = floor_quotient (s *ℤ pos 16) (pos 2 *ℤ w) in
@@ -47,7 +45,7 @@ place_by_w s w h =
     let f = times_out q w 2 in
     let g = *ℤ_comm p w in
     let i = *ℤ_comm q (pos 2 *ℤ w) in
-    not_apart p q
+    same_from_both_bounds p q
     (floor_from_low (s *ℤ pos 8) w p h (omega (arith, ints)))
     (floor_from_low (s *ℤ pos 16) (pos 2 *ℤ w) q two (omega (arith, ints)))
 
@@ -67,7 +65,7 @@ depth_by_w z w h =
     let f2 = times_out q w 2 in
     let g = *ℤ_comm p (pos 2 *ℤ w) in
     let i = *ℤ_comm q (pos 131072 *ℤ w) in
-    not_apart p q
+    same_from_both_bounds p q
     (floor_from_low n (pos 2 *ℤ w) p two (omega (arith, ints)))
     (floor_from_low m (pos 131072 *ℤ w) q more (omega (arith, ints)))
 

@@ -1,23 +1,15 @@
 -- A command that is accepted keeps each rule.
-use Rattle.std.proofs.Common.{◌≡◌, Bool, true, false, List, [], ◌∷◌, None, Some, ◌&&◌, ◌⊎◌, inl, inr, refl, sym, true≢false}
+use Rattle.std.proofs.Common.{◌≡◌, true, List, [], ◌∷◌, None, Some, inl, inr}
 use Rattle.std.specs.List.{AllByRecursion}
+use Rattle.std.proofs.lemmas.Bool.{cases_Bool}
 use Rattle.rc_base.specs.Formats.Commands.{has_codes}
 use Rattle.rc_base.specs.Contexts.Context.{ClientContext}
 use Rattle.rc_base.specs.Contexts.Faults.{Rule, first_broken, rules, fault_of, is_in_place, has_values, has_image, part_fits, has_room, has_below}
 use Rattle.rc_base.specs.declared.command.Command.{Command}
 
--- the cases of a test
-pub which : (b : Bool) → (b ≡ true) ⊎ (b ≡ false)
-which true = inl refl
-which false = inr refl
-
-pub and_both : (a b : Bool) → (a && b) ≡ true → (a ≡ true) × (b ≡ true)
-and_both true b h = (refl, h)
-and_both false b h = absurd (true≢false (sym h))
-
 keeps_all : (rs : List Rule) (x : ClientContext) (c : Command) → first_broken rs x c ≡ None → AllByRecursion (λ (r : Rule). r.keeps x c ≡ true) rs
 keeps_all [] x c h = tt
-keeps_all (r ∷ rs) x c h = elim (which (r.keeps x c)) [
+keeps_all (r ∷ rs) x c h = elim (cases_Bool (r.keeps x c)) [
   | inl t ↦ (t, keeps_all rs x c (rw t at h))
   | inr f ↦ let k : Some r.fault ≡ None = rw f at h in absurd cc
 ]

@@ -3,7 +3,7 @@ use Rattle.std.proofs.Common.{◌≡◌, ℕ, zero, suc, ◌+◌, ◌-◌, ◌<�
 use Rattle.std.specs.Prelude.{◌==◌, unwrap_or}
 use Rattle.std.specs.declared.option.Option.{Option}
 use Rattle.std.specs.Option.{option_map_or}
-use Rattle.std.proofs.lemmas.Bool.{cases_lt}
+use Rattle.std.proofs.lemmas.Bool.{cases_lt, cases_Bool}
 use native.Mathlib.Decide.{ℕ_discrete}
 use mathlib.Core.Logic.{dite}
 use Rattle.rc_base.specs.Lists.{at_name, with_name}
@@ -18,7 +18,6 @@ use Rattle.rc_base.specs.declared.command.Mat4.{Mat4}
 use Rattle.rc_base.specs.declared.command.Part.{Part}
 use Rattle.rc_base.specs.declared.scene.Scene.{Scene}
 use Rattle.rc_base.specs.declared.state.Fault.{Fault}
-use Rattle.gl_context.proofs.Accepted.{which}
 use Rattle.textures.proofs.Names.{other_name, same_name, name_past, length_with_name}
 
 -- the images and the edit numbers are those of the private textures
@@ -87,10 +86,10 @@ abbrev pub SameTextures : ClientContext → ClientContext → Type 0
 SameTextures x y = (y.images ≡ x.images) × (y.edits ≡ x.edits)
 
 pub top_same : (x : ClientContext) (m : Mat4) → SameTextures x (with_top x m)
-top_same x m = elim (which (x.matrix_mode == 0)) [ inl t ↦ rw t (refl, refl) | inr f ↦ rw f (refl, refl) ]
+top_same x m = elim (cases_Bool (x.matrix_mode == 0)) [ inl t ↦ rw t (refl, refl) | inr f ↦ rw f (refl, refl) ]
 
 pub below_same_textures : (x : ClientContext) (ms : List Mat4) → SameTextures x (with_below x ms)
-below_same_textures x ms = elim (which (x.matrix_mode == 0)) [ inl t ↦ rw t (refl, refl) | inr f ↦ rw f (refl, refl) ]
+below_same_textures x ms = elim (cases_Bool (x.matrix_mode == 0)) [ inl t ↦ rw t (refl, refl) | inr f ↦ rw f (refl, refl) ]
 
 pub pop_same : (x : ClientContext) (m : Mat4) (ms : List Mat4) → SameTextures x (with_below (with_top x m) ms)
 pop_same x m ms = let a = top_same x m in let b = below_same_textures (with_top x m) ms in (b.0 ∙ a.0, b.1 ∙ a.1)

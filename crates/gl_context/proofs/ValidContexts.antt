@@ -4,7 +4,7 @@ use Rattle.std.specs.Prelude.{◌==◌, ◌&&◌, if◌then◌else◌, nat_lt, n
 use Rattle.std.specs.List.{AllByRecursion}
 use Rattle.std.specs.declared.option.Option.{Option}
 use Rattle.std.specs.Option.{option_map_or}
-use Rattle.std.proofs.lemmas.Bool.{cases_lt}
+use Rattle.std.proofs.lemmas.Bool.{cases_lt, and_parts, cases_Bool}
 use Rattle.std.proofs.lemmas.List.{length-take}
 use native.Mathlib.Decide.{ℕ_discrete}
 use mathlib.Core.Logic.{dite}
@@ -29,7 +29,7 @@ use Rattle.textures.specs.Images.{Fits}
 use Rattle.textures.proofs.Written.{length_written}
 use Rattle.element_table.proofs.Capabilities.{capability_turned, without_capabilities}
 use Rattle.gl_context.specs.Valid.{HasLegalCodes, IsLegalBlock, IsPrivateImage, IsValidContext}
-use Rattle.gl_context.proofs.Accepted.{which, and_both, accepted}
+use Rattle.gl_context.proofs.Accepted.{accepted}
 use Rattle.gl_context.proofs.Texels.{has_texels}
 use Rattle.textures.proofs.Names.{same_name, other_name, name_past, length_with_name}
 use Rattle.gl_context.proofs.PushAndPop.{pushed, popped, push_modelview, push_projection, pop_modelview, pop_projection}
@@ -87,7 +87,7 @@ capability_valid decl x k on h =
     h
 
 top_valid : (decl : Decl) (x : ClientContext) (m : Mat4) → IsValidContext decl x → IsValidContext decl (with_top x m)
-top_valid decl x m h = elim (which (x.matrix_mode == 0)) [
+top_valid decl x m h = elim (cases_Bool (x.matrix_mode == 0)) [
   | inl t ↦ rw t (state_valid decl x (record x.state { modelview = m }) (same_codes x.state (record x.state { modelview = m }) refl refl refl refl refl refl refl h.codes) h.bound h)
   | inr f ↦ rw f (state_valid decl x (record x.state { projection = m }) (same_codes x.state (record x.state { projection = m }) refl refl refl refl refl refl refl h.codes) h.bound h)
 ]
@@ -121,7 +121,7 @@ one_less ms low = omega (arith, length-take (length ms - 1) ms, low)
 push_valid : (decl : Decl) (x : ClientContext) → fault_of x cmd.PushMatrix ≡ None → IsValidContext decl x → IsValidContext decl (pushed x)
 push_valid decl x f h =
     let room = (accepted x cmd.PushMatrix f).room in
-    elim (which (x.matrix_mode == 0)) [
+    elim (cases_Bool (x.matrix_mode == 0)) [
       | inl t ↦
           subst (IsValidContext decl) (sym (push_modelview x t))
           (stacks_valid decl x (x.modelviews ++ x.state.modelview ∷ []) x.projections (one_more x.modelviews x.state.modelview (rw t at room)) h.projections h)
@@ -131,7 +131,7 @@ push_valid decl x f h =
     ]
 
 pop_valid : (decl : Decl) (x : ClientContext) → IsValidContext decl x → IsValidContext decl (popped x)
-pop_valid decl x h = elim (which (x.matrix_mode == 0)) [
+pop_valid decl x h = elim (cases_Bool (x.matrix_mode == 0)) [
   | inl t ↦
       let s : State = record x.state { modelview = last_of x.modelviews } in
       subst (IsValidContext decl) (sym (pop_modelview x t))
@@ -213,7 +213,7 @@ image_valid decl x name q legal h = record {
 part_image : (part : Part) (p : Picture) → IsPrivateImage p → length part.texels ≡ 4 * (part.w * part.h) → lies_inside part p.w p.h ≡ true → IsPrivateImage (with_part p part)
 unfolding with_part
 part_image part p legal texels inside =
-    let b = and_both (nat_le (part.x + part.w) p.w) (nat_le (part.y + part.h) p.h) inside in
+    let b = and_parts (nat_le (part.x + part.w) p.w) (nat_le (part.y + part.h) p.h) inside in
     let fits : Fits p part = record {
       whole = legal.whole;
       room = omega (arith, texels);
@@ -248,8 +248,8 @@ carried decl x cmd.PushMatrix i f h = push_valid decl x f h
 carried decl x cmd.PopMatrix i f h = pop_valid decl x h
 carried decl x (cmd.TexImage name w high bytes) i f h =
     let a = accepted x (cmd.TexImage name w high bytes) f in
-    let b = and_both (is_name name private_count) (is_name w image_side_most && is_name high image_side_most) a.values in
-    let d = and_both (is_name w image_side_most) (is_name high image_side_most) b.1 in
+    let b = and_parts (is_name name private_count) (is_name w image_side_most && is_name high image_side_most) a.values in
+    let d = and_parts (is_name w image_side_most) (is_name high image_side_most) b.1 in
     image_valid decl x name (record { w = w; h = high; texels = bytes }) (record { w = d.0; h = d.1; whole = has_texels (cmd.TexImage name w high bytes) i }) h
 carried decl x (cmd.TexPart part) i f h =
     part_valid decl x part (private_image x part.name) refl (has_texels (cmd.TexPart part) i) (accepted x (cmd.TexPart part) f).fits h

@@ -122,15 +122,6 @@ get_append (y ∷ xs) ys (suc k) x e = elim (get_append xs ys k x e) [
   | inr h ↦ let z : suc k - length (y ∷ xs) ≡ k - length xs = omega arith in inr (omega (arith, h.0), ap (slice_get ys) z ∙ h.1)
 ]
 
-pub get_front : {A : Type 0} (xs ys : List A) (k : ℕ) (x : A) → slice_get xs k ≡ Some x → slice_get (xs ++ ys) k ≡ Some x
-get_front [] ys k x e = absurd cc
-get_front (y ∷ xs) ys zero x e = e
-get_front (y ∷ xs) ys (suc k) x e = get_front xs ys k x e
-
-pub get_behind : {A : Type 0} (xs ys : List A) (k : ℕ) → slice_get (xs ++ ys) (length xs + k) ≡ slice_get ys k
-get_behind [] ys k = let z : 0 + k ≡ k = omega arith in ap (slice_get ys) z
-get_behind (x ∷ xs) ys k = let z : suc (length xs) + k ≡ suc (length xs + k) = omega arith in ap (slice_get (x ∷ xs ++ ys)) z ∙ get_behind xs ys k
-
 in_append_last : (m n : PlacedEntry) (ms : List PlacedEntry) → IsIn n (ms ++ m ∷ []) → IsIn n ms ⊎ (m ≡ n)
 in_append_last m n [] (inl e) = inr e
 in_append_last m n [] (inr i) = absurd i

@@ -4,6 +4,7 @@ use Rattle.std.specs.Prelude.{slice_get, option_map}
 use Rattle.std.specs.Option.{option_map_or}
 use Rattle.std.proofs.lemmas.Bool.{cases_Bool, cases_lt}
 use Rattle.std.proofs.lemmas.Option.{slice_get_within}
+use Rattle.std.proofs.lemmas.List.{length-append}
 use Rattle.rc_base.specs.Lists.{IsIn}
 use Rattle.rc_base.specs.Orders.Journal.{SyncState, start, after, end_of, head_wait, is_member, stop, reach_of, sync_state_after, IsLawful, IsLegal, IsLegalFrom, op_of}
 use Rattle.rc_base.specs.Orders.Order.{PlacedEntry, entry_at, entries_from, entries_of, name_at, giver_in, taker_in, givers, takers}
@@ -17,17 +18,16 @@ use Rattle.rc_base.specs.declared.sync.WaitAt.{WaitAt}
 use Rattle.order_model.proofs.RisingPlaces.{IsReached, all_reached}
 use Rattle.order_model.proofs.StandsInLists.{all_at}
 use Rattle.order_model.proofs.UnitsInTurn.{unit_reached}
+use Rattle.plain_lemmas.proofs.Lists.{get_in_front, get_behind}
+use Rattle.scene_lemmas.proofs.Numbered.{is_in_behind}
+use Rattle.order_model.proofs.JournalsInTurn.{entries_append}
 use Rattle.happens_before.specs.Before.{IsBefore}
 use Rattle.happens_before.specs.Before.IsBefore.{Next, Then}
 use Rattle.happens_before.specs.Clocks.{AtMost, counts_to, up_to, raised, only, AreClocks}
 use Rattle.happens_before.specs.Timelines.{behind, IsGate, IsUnitEntry}
-use Rattle.happens_before.proofs.ClocksOfEntries.{counted, AreBelow, IsRaise, raised_at, raised_kept, clocks_kept, clocks_more, get_append, get_front, get_behind, at_zip, get_drop}
+use Rattle.happens_before.proofs.ClocksOfEntries.{counted, AreBelow, IsRaise, raised_at, raised_kept, clocks_kept, clocks_more, get_append, at_zip, get_drop}
 
 -- ---- lists that are put together
-
-pub entries_append : (syncs : SyncLists) (s : SyncState) (xs ys : List Entry) → entries_from syncs s (xs ++ ys) ≡ entries_from syncs s xs ++ entries_from syncs (end_of syncs s xs) ys
-entries_append syncs s [] ys = refl
-entries_append syncs s (x ∷ xs) ys = ap (λ ms. entry_at syncs s x ∷ ms) (entries_append syncs (after syncs s x) xs ys)
 
 pub legal_split : (syncs : SyncLists) (s : SyncState) (xs ys : List Entry) → IsLegalFrom syncs s (xs ++ ys) → IsLegalFrom syncs s xs × IsLegalFrom syncs (end_of syncs s xs) ys
 legal_split syncs s [] ys h = (tt, h)
@@ -120,10 +120,6 @@ unit_step syncs s (Take k c) h semaphore =
       | inr f ↦ let none : cond {A = ℕ} (k == semaphore) 1 0 ≡ 0 = rw f refl in omega arith
     ]
 
-length_both : (xs ys : List Name) → length (xs ++ ys) ≡ length xs + length ys
-length_both [] ys = omega arith
-length_both (x ∷ xs) ys = omega (arith, length_both xs ys)
-
 pub units_balance : (syncs : SyncLists) (s : SyncState) (js : List Entry) → IsLegalFrom syncs s js → (semaphore : ℕ)
     → (end_of syncs s js).units semaphore + length (takers semaphore (entries_from syncs s js)) ≡ s.units semaphore + length (givers semaphore (entries_from syncs s js))
 units_balance syncs s [] h semaphore = refl
@@ -132,8 +128,8 @@ units_balance syncs s (e ∷ js) h semaphore =
     let rest = entries_from syncs (after syncs s e) js in
     omega (
       arith,
-      length_both (taker_in semaphore e at) (takers semaphore rest),
-      length_both (giver_in semaphore e at) (givers semaphore rest),
+      length-append (taker_in semaphore e at) (takers semaphore rest),
+      length-append (giver_in semaphore e at) (givers semaphore rest),
       unit_step syncs s e h.0 semaphore,
       units_balance syncs (after syncs s e) js h.1 semaphore,
     )
@@ -151,21 +147,17 @@ entries_around syncs js e more = entries_append syncs (start syncs) js (e ∷ mo
 pub entries_next : (syncs : SyncLists) (js : List Entry) (e : Entry) → entries_of syncs (js ++ e ∷ []) ≡ entries_of syncs js ++ placed_in syncs js e ∷ []
 entries_next syncs js e = entries_append syncs (start syncs) js (e ∷ [])
 
-pub in_right : {A : Type 0} (a : A) (u v : List A) → IsIn a v → IsIn a (u ++ v)
-in_right a [] v h = h
-in_right a (x ∷ u) v h = inr (in_right a u v h)
-
 in_whole : (syncs : SyncLists) (js : List Entry) (e : Entry) (more : List Entry) → IsIn (placed_in syncs js e) (entries_of syncs (js ++ e ∷ more))
 in_whole syncs js e more =
     subst (IsIn (placed_in syncs js e)) (sym (entries_around syncs js e more))
-    (in_right (placed_in syncs js e) (entries_of syncs js) (placed_in syncs js e ∷ entries_from syncs (after syncs (sync_state_after syncs js) e) more) (inl refl))
+    (is_in_behind (placed_in syncs js e) (entries_of syncs js) (placed_in syncs js e ∷ entries_from syncs (after syncs (sync_state_after syncs js) e) more) (inl refl))
 
 giver_whole : (syncs : SyncLists) (js : List Entry) (e : Entry) (more : List Entry) (k q : ℕ) (g : Name) → slice_get (givers k (entries_of syncs js)) q ≡ Some g
     → slice_get (givers k (entries_of syncs (js ++ e ∷ more))) q ≡ Some g
 giver_whole syncs js e more k q g h =
     let rest = placed_in syncs js e ∷ entries_from syncs (after syncs (sync_state_after syncs js) e) more in
     ap (λ ms. slice_get (givers k ms) q) (entries_around syncs js e more) ∙ ap (λ xs. slice_get xs q) (givers_append k (entries_of syncs js) rest)
-    ∙ get_front (givers k (entries_of syncs js)) (givers k rest) q g h
+    ∙ get_in_front (givers k (entries_of syncs js)) (givers k rest) q g h
 
 taker_whole : (syncs : SyncLists) (js : List Entry) (more : List Entry) (k c j : ℕ) → (placed_in syncs js (Take k c)).at c ≡ Some j
     → slice_get (takers k (entries_of syncs (js ++ Take k c ∷ more))) (length (takers k (entries_of syncs js))) ≡ Some record { client = c; place = j }

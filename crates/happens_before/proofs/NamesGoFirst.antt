@@ -12,11 +12,11 @@ use Rattle.rc_base.specs.declared.sync.Name.{Name}
 use Rattle.rc_base.specs.declared.sync.SyncLists.{SyncLists}
 use Rattle.order_model.proofs.DefaultOrderIsPermitted.{default_permitted}
 use Rattle.order_model.proofs.StandsInLists.{first_in, second_in, not_both, either_first, stands_split, stands_right, in_append, in_left, in_less, in_more, take_out, no_repeat_less}
+use Rattle.scene_lemmas.proofs.Numbered.{is_in_behind}
 use Rattle.happens_before.specs.Before.{IsBefore, AreConflictsOrdered}
 use Rattle.happens_before.specs.Before.IsBefore.{Next, Then}
 use Rattle.happens_before.specs.Laws.{IsLinearExtension}
 use Rattle.happens_before.proofs.BeforeStands.{before_stands}
-use Rattle.happens_before.proofs.JournalsGoOn.{in_right}
 use Rattle.happens_before.proofs.PrecedesIsDecided.{some_or_none, precedes_or_not}
 
 pub linear_extensions : (syncs : SyncLists) (js : List Entry) (o : List Name) → IsPermitted syncs js o ↔ IsLinearExtension syncs js o
@@ -33,7 +33,7 @@ goes_in y n (x ∷ p) q r (inl e) = inl e
 goes_in y n (x ∷ p) q r (inr i) = inr (goes_in y n p q r i)
 
 comes_out : {A : Type 0} (y n : A) (p q r : List A) → IsIn n (p ++ y ∷ (q ++ r)) → IsIn n (p ++ (q ++ y ∷ r))
-comes_out y n [] q r (inl e) = subst (λ m. IsIn m (q ++ y ∷ r)) e (in_right y q (y ∷ r) (inl refl))
+comes_out y n [] q r (inl e) = subst (λ m. IsIn m (q ++ y ∷ r)) e (is_in_behind y q (y ∷ r) (inl refl))
 comes_out y n [] q r (inr i) = in_more y n q r i
 comes_out y n (x ∷ p) q r (inl e) = inl e
 comes_out y n (x ∷ p) q r (inr i) = inr (comes_out y n p q r i)
@@ -92,10 +92,10 @@ either_way syncs js a b p q (y ∷ r) first behind o i = elim (some_or_none (λ 
 ]
   where
     here : (x : Name) → IsIn x q → x.place < reach_of syncs js x.client
-    here x k = (o.names x).0 (in_right x p (q ++ y ∷ r) (in_left x q (y ∷ r) k))
+    here x k = (o.names x).0 (is_in_behind x p (q ++ y ∷ r) (in_left x q (y ∷ r) k))
 
     next : y.place < reach_of syncs js y.client
-    next = (o.names y).0 (in_right y p (q ++ y ∷ r) (in_right y q (y ∷ r) (inl refl)))
+    next = (o.names y).0 (is_in_behind y p (q ++ y ∷ r) (is_in_behind y q (y ∷ r) (inl refl)))
 
     joins : (x : Name) → IsIn x q → Precedes syncs js x y → IsBefore syncs js a y
     joins x k h = elim (behind x k) [

@@ -2,7 +2,7 @@
 use Rattle.std.proofs.Common.{◌≡◌, ◌≢◌, ℕ, zero, suc, ◌+◌, ◌-◌, ◌^◌, ◌<◌, ◌≤◌, ◌==◌, nat_lt, true, cond, max, List, [], ◌∷◌, ◌++◌, take, drop, length, get_or, Option, Some, None, inl, inr, refl, sym, ap, ◌∙◌, subst, arith, eq-eqb, eqb-true, ne_eqb, append-nil, lt-ltb, replicate}
 use Rattle.std.specs.Prelude.{slice_get, slice_set, slice_index, slice_index_or, option_map}
 use Rattle.std.proofs.lemmas.Bool.{cases_Bool, cases_lt, eqb-false, le-ltb}
-use Rattle.std.proofs.lemmas.List.{get_or_past, get_or_default, get_or-set_same, get_or-set_other}
+use Rattle.std.proofs.lemmas.List.{get_or_past, get_or_default, get_or-set_same, get_or-set_other, length-append}
 use Rattle.std.proofs.Math.ListN.{length-set}
 use Rattle.std.proofs.lemmas.Option.{slice_get_within, get_or_from_slice_get}
 use mathlib.Core.Path.{fun_ext}
@@ -98,10 +98,6 @@ small_more [] n h hn (suc k) g e = absurd cc
 small_more (x ∷ gs) n h hn zero g e = h 0 g e
 small_more (x ∷ gs) n h hn (suc k) g e = small_more gs n (λ j y f. h (suc j) y f) hn k g e
 
-length_both : (xs ys : List Name) → length (xs ++ ys) ≡ length xs + length ys
-length_both [] ys = omega arith
-length_both (x ∷ xs) ys = omega (arith, length_both xs ys)
-
 pub kept_give : (syncs : SyncLists) (js more : List Entry) (k c j : ℕ) (old new : List Semaphore) (lists : List (List Change)) → IsWellFormed syncs → IsLegal syncs (js ++ Give k c ∷ more)
     → k < 256 → c < 8 → j + 1 < 2 ^ 32 → (placed_in syncs js (Give k c)).at c ≡ Some j → IsKept syncs (js ++ Give k c ∷ more) js old lists → length new ≡ 256
     → slice_index_or new k no_semaphore ≡ record {
@@ -174,7 +170,7 @@ taken_left syncs js k c j s new at was left givers_same next = record {
     longer : length (takers k (entries_of syncs (js ++ e ∷ []))) ≡ length (takers k (entries_of syncs js)) + 1
     longer =
         ap length (takers_next syncs js e k ∙ ap (λ xs. takers k (entries_of syncs js) ++ xs) (is_given k c j ((placed_in syncs js e).at c) at))
-        ∙ length_both (takers k (entries_of syncs js)) (record { client = c; place = j } ∷ [])
+        ∙ length-append (takers k (entries_of syncs js)) (record { client = c; place = j } ∷ [])
 
 all_left : (syncs : SyncLists) (js : List Entry) (k c j : ℕ) (old new : List Semaphore) → (placed_in syncs js (Take k c)).at c ≡ Some j
     → ((name : ℕ) → name < 256 → IsLeft syncs (entries_of syncs js) name (slice_index_or old name no_semaphore))

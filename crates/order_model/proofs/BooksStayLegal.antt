@@ -1,5 +1,5 @@
 -- What happens to a book leaves it legal, and with operations of its clients alone.
-use Rattle.std.proofs.Common.{◌≡◌, ℕ, ◌==◌, List, [], ◌∷◌, ◌++◌, ◌↔◌, Option, Some, None, inl, inr, refl, sym, subst, arith, append-nil, eqb-true}
+use Rattle.std.proofs.Common.{◌≡◌, ◌==◌, List, [], ◌∷◌, ◌++◌, ◌↔◌, Option, Some, None, inl, inr, refl, arith, eqb-true}
 use Rattle.std.proofs.lemmas.Bool.{cases_Bool}
 use Rattle.rc_base.specs.Orders.Book.{Book, BookEvent, opened, standing, with_at, with_entry, book_after, book_after_all, MayHappen, AreEvents, IsLegalBook}
 use Rattle.rc_base.specs.Orders.Book.BookEvent.{Arrives, Ends, Grants}
@@ -7,7 +7,7 @@ use Rattle.rc_base.specs.Orders.Grant.{grant}
 use Rattle.rc_base.specs.Orders.Journal.{SyncState, after, end_of, IsLawful, IsLegalFrom, NothingIsLawful}
 use Rattle.rc_base.specs.declared.sync.Entry.{Entry}
 use Rattle.rc_base.specs.declared.sync.SyncLists.{SyncLists}
-use Rattle.rc_base.specs.declared.sync.WaitAt.{WaitAt}
+use Rattle.scene_lemmas.proofs.Numbered.{with_one_behind}
 use Rattle.order_model.specs.Laws.{AreOfClients}
 use Rattle.order_model.proofs.ClientsBeyond.{past_end}
 use Rattle.order_model.proofs.GrantsAreExact.{grant_lawful, grant_none}
@@ -18,13 +18,6 @@ legal_push : (syncs : SyncLists) (s : SyncState) (js : List Entry) (e : Entry) �
 legal_push syncs s [] e h p = (p, tt)
 legal_push syncs s (j ∷ js) e h p = (h.0, legal_push syncs (after syncs s j) js e h.1 p)
 
--- an operation behind those of one client
-pub one_behind : (f : ℕ → List WaitAt) (client : ℕ) (w : WaitAt) (c : ℕ) → with_at f client (f client ++ w ∷ []) c ≡ f c ++ with_at (λ k. []) client (w ∷ []) c
-one_behind f client w c = elim (cases_Bool (c == client)) [
-  | inl t ↦ rw t (subst (λ k. f k ++ w ∷ [] ≡ f c ++ w ∷ []) (eqb-true c client t) refl)
-  | inr n ↦ rw n (sym (append-nil (f c)))
-]
-
 legal_with : (syncs : SyncLists) (b : Book) (o : Option Entry) → grant syncs (standing syncs b) ≡ o → IsLegalBook syncs b → IsLegalBook syncs (with_entry b o)
 legal_with syncs b None is h = h
 legal_with syncs b (Some e) is h = legal_push syncs (opened syncs b) b.journal e h (grant_lawful syncs (standing syncs b) e is)
@@ -32,7 +25,7 @@ legal_with syncs b (Some e) is h = legal_push syncs (opened syncs b) b.journal e
 legal_after : (syncs : SyncLists) (b : Book) (e : BookEvent) → IsLegalBook syncs b → IsLegalBook syncs (book_after syncs b e)
 legal_after syncs b (Arrives client w) h =
     (legal_more syncs (opened syncs b) (opened syncs (book_after syncs b (Arrives client w))) (with_at (λ k. []) client (w ∷ [])) b.journal
-    record { rest = one_behind b.arrived client w; units = refl } h).0
+    record { rest = with_one_behind b.arrived client w; units = refl } h).0
 legal_after syncs b (Ends client) h = h
 legal_after syncs b Grants h = legal_with syncs b (grant syncs (standing syncs b)) refl h
 

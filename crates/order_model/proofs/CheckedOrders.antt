@@ -2,7 +2,7 @@
 use Rattle.std.proofs.Common.{◌≡◌, ℕ, ◌+◌, ◌-◌, ◌<◌, ◌==◌, Bool, true, false, List, [], ◌∷◌, ◌↔◌, drop, map, length, get_or, set, replicate, Option, Some, None, inl, inr, refl, sym, ap, ◌∙◌, subst, arith, eq-eqb, eqb-true, lt-ltb, ltb-true, true≢false}
 use Rattle.std.specs.Prelude.{IsTrue, slice_index}
 use Rattle.std.specs.List.{AllByRecursion, zip}
-use Rattle.std.proofs.lemmas.Bool.{cases_lt, cases_Bool, eqb-false}
+use Rattle.std.proofs.lemmas.Bool.{cases_lt, cases_Bool, eqb-false, and_parts, and_from}
 use Rattle.std.proofs.lemmas.List.{get_or_past, ext_get_or, get_or-set_same, get_or-set_other}
 use Rattle.std.proofs.Math.ListN.{length-set}
 use Rattle.std.proofs.lemmas.Slice.Eq.{bytes_eq-Decides}
@@ -21,13 +21,13 @@ use Rattle.order_model.proofs.PermittedAsRuns.{Uncrossed, run_permits, rising_of
 use Rattle.order_model.proofs.RecordedByCounts.{zeros}
 use Rattle.order_model.proofs.RisingPlaces.{IsReached, all_reached}
 use Rattle.order_model.proofs.RunsOfNames.{bump, IsRun, Rising, run_names, run_rising}
-use Rattle.order_model.proofs.SpotsOfNames.{PartsAll, parts_uncrossed, uncrossed_parts, and_both, both_and}
+use Rattle.order_model.proofs.SpotsOfNames.{PartsAll, parts_uncrossed, uncrossed_parts}
 use Rattle.order_model.proofs.StandsInLists.{not_both, first_in, second_in}
 use Rattle.order_model.proofs.UnitsInTurn.{turn_stands, stands_turn, drop_map, in_drop, unit_reached}
 
 -- ---- each client's names
 
-bumped : (next : List ℕ) (c : ℕ) → c < length next → (d : ℕ) → get_or (set next c (get_or next c 0 + 1)) d 0 ≡ bump (λ k. get_or next k 0) c d
+pub bumped : (next : List ℕ) (c : ℕ) → c < length next → (d : ℕ) → get_or (set next c (get_or next c 0 + 1)) d 0 ≡ bump (λ k. get_or next k 0) c d
 bumped next c lt d = elim (cases_Bool (d == c)) [
   | inl t ↦ let e = eqb-true d c t in rw t (subst (λ k. get_or (set next c (get_or next c 0 + 1)) k 0 ≡ get_or next k 0 + 1) (sym e) (get_or-set_same next c (get_or next c 0 + 1) 0 lt))
   | inr f ↦ rw f (get_or-set_other next c d (get_or next c 0 + 1) 0 (eqb-false d c f))
@@ -43,9 +43,9 @@ runs_decides ends next (n ∷ o) len =
     let rest = runs_decides ends next' o (length-set next n.client (get_or next n.client 0 + 1) ∙ len) in
     let same : n.client < length ends → (λ c. get_or next' c 0) ≡ bump (λ c. get_or next c 0) n.client = λ lt. fun_ext (bumped next n.client (omega arith)) in (
       λ h.
-          let a = and_both _ _ h in
-          let b = and_both _ _ a.1 in
-          let c = and_both _ _ b.1 in
+          let a = and_parts _ _ h in
+          let b = and_parts _ _ a.1 in
+          let c = and_parts _ _ b.1 in
           let lt : n.client < length ends = ltb-true n.client (length ends) a.0 in (
             eqb-true n.place (get_or next n.client 0) b.0,
             ltb-true n.place (get_or ends n.client 0) c.0,
@@ -53,8 +53,8 @@ runs_decides ends next (n ∷ o) len =
           ),
       λ h.
           let lt : n.client < length ends = elim (cases_lt n.client (length ends)) [ inl t ↦ t | inr ge ↦ absurd (omega (arith, get_or_past ends n.client 0 ge, h.1)) ] in
-          both_and _ _ (lt-ltb n.client (length ends) lt) (both_and _ _ (eq-eqb n.place (get_or next n.client 0) h.0)
-          (both_and _ _ (lt-ltb n.place (get_or ends n.client 0) h.1) (rest.1 (subst (λ f. IsRun (λ c. get_or ends c 0) f o) (sym (same lt)) h.2)))),
+          and_from _ _ (lt-ltb n.client (length ends) lt) (and_from _ _ (eq-eqb n.place (get_or next n.client 0) h.0)
+          (and_from _ _ (lt-ltb n.place (get_or ends n.client 0) h.1) (rest.1 (subst (λ f. IsRun (λ c. get_or ends c 0) f o) (sym (same lt)) h.2)))),
     )
 
 -- up to what each client reaches

@@ -1,7 +1,7 @@
 -- The default journal is maximal.
 use Rattle.std.proofs.Common.{◌≡◌, ℕ, zero, suc, ◌<◌, ◌≤◌, true, List, [], ◌∷◌, Option, Some, None, length, drop, inl, inr, refl, subst, arith}
 use Rattle.std.specs.Prelude.{option_map}
-use Rattle.std.proofs.lemmas.Bool.{cases_lt, cases_Bool}
+use Rattle.std.proofs.lemmas.Bool.{cases_lt}
 use Rattle.std.specs.Option.{option_map_or}
 use Rattle.rc_base.specs.Orders.Grant.{grant, granted_from, operations_left}
 use Rattle.rc_base.specs.Orders.Journal.{SyncState, start, is_member, op_of, IsLawful, after, IsMaximal, IsMaximalFrom, head_wait}
@@ -11,6 +11,7 @@ use Rattle.rc_base.specs.declared.sync.Entry.{Entry}
 use Rattle.rc_base.specs.declared.sync.SyncLists.{SyncLists}
 use Rattle.rc_base.specs.declared.sync.SyncOp.{SyncOp}
 use Rattle.rc_base.specs.declared.sync.WaitAt.{WaitAt}
+use Rattle.order_model.proofs.JournalsInTurn.{rest_shrinks}
 use Rattle.order_model.specs.Laws.{AreOfClients}
 use Rattle.order_model.proofs.ClientsBeyond.{ops_past, past_after, member_within}
 use Rattle.order_model.proofs.GrantsAreExact.{grant_lawful, grant_none}
@@ -19,9 +20,6 @@ use Rattle.order_model.proofs.MemberCounts.{some_member}
 length_drop : {A : Type 0} (xs : List A) → length (drop 1 xs) ≤ length xs
 length_drop [] = omega arith
 length_drop (x ∷ xs) = omega arith
-
-rest_least : (syncs : SyncLists) (s : SyncState) (e : Entry) (c : ℕ) → length ((after syncs s e).rest c) ≤ length (s.rest c)
-rest_least syncs s e c = elim (cases_Bool (is_member (client_count syncs) e c)) [ inl t ↦ rw t (length_drop (s.rest c)) | inr f ↦ rw f (omega arith) ]
 
 one_less : (ws : List WaitAt) (op : SyncOp) → option_map (λ (w : WaitAt). w.op) (head_wait ws) ≡ Some op → length (drop 1 ws) < length ws
 one_less [] op h = absurd cc
@@ -44,7 +42,7 @@ left_less f g (suc n) c h lt less = elim (cases_lt c n) [
 pub uses_one : (syncs : SyncLists) (s : SyncState) → IsWellFormed syncs → AreOfClients syncs s → (e : Entry) → IsLawful syncs s e → operations_left (after syncs s e).rest (client_count syncs) < operations_left s.rest (client_count syncs)
 uses_one syncs s well none e p =
     let m = some_member syncs s well.some well.counts e p in
-    left_less (after syncs s e).rest s.rest (client_count syncs) m.0 (rest_least syncs s e) (member_within syncs s e none p m.0 m.1) (rest_less syncs s e m.0 p m.1)
+    left_less (after syncs s e).rest s.rest (client_count syncs) m.0 (rest_shrinks syncs s e) (member_within syncs s e none p m.0 m.1) (rest_less syncs s e m.0 p m.1)
 
 granted_maximal : (syncs : SyncLists) → IsWellFormed syncs → (n : ℕ) (s : SyncState) → AreOfClients syncs s → operations_left s.rest (client_count syncs) ≤ n
     → IsMaximalFrom syncs s (granted_from syncs n s)

@@ -15,6 +15,7 @@ use Rattle.rc_base.specs.declared.sync.Entry.TheVariants.{Meet, Swap, Give, Take
 use Rattle.rc_base.specs.declared.sync.SyncLists.{SyncLists}
 use Rattle.rc_base.specs.declared.sync.SyncOp.{SyncOp}
 use Rattle.rc_base.specs.declared.sync.SyncOp.TheVariants.{Barrier, SemP, SemV, Swap as SwapOp}
+use Rattle.scene_lemmas.proofs.Numbered.{how_many_at_most}
 use Rattle.order_model.specs.Laws.{AreOfClients}
 use Rattle.order_model.proofs.ClientsBeyond.{waits_within}
 
@@ -140,17 +141,13 @@ many_all : (passes : ℕ → Bool) (n : ℕ) → ((c : ℕ) → c < n → passes
 many_all passes zero h = refl
 many_all passes (suc n) h = rw (h n (omega arith)) (omega (arith, many_all passes n (λ c lt. h c (omega arith))))
 
-many_most : (passes : ℕ → Bool) (n : ℕ) → how_many passes n ≤ n
-many_most passes zero = omega arith
-many_most passes (suc n) = elim (cases_Bool (passes n)) [ inl t ↦ rw t (omega (arith, many_most passes n)) | inr f ↦ rw f (omega (arith, many_most passes n)) ]
-
 all_many : (passes : ℕ → Bool) (n : ℕ) → how_many passes n ≡ n → (c : ℕ) → c < n → passes c ≡ true
 all_many passes zero h c lt = absurd (omega arith)
 all_many passes (suc n) h c lt = elim (cases_Bool (passes n)) [
   | inl t ↦
       let h' : how_many passes n + 1 ≡ suc n = rw t at h in
       elim (cases_lt c n) [ inl less ↦ all_many passes n (omega arith) c less | inr ge ↦ let e : n ≡ c = omega arith in subst (λ d. passes d ≡ true) e t ]
-  | inr f ↦ let h' : how_many passes n + 0 ≡ suc n = rw f at h in absurd (omega (arith, many_most passes n))
+  | inr f ↦ let h' : how_many passes n + 0 ≡ suc n = rw f at h in absurd (omega (arith, how_many_at_most passes n))
 ]
 
 -- ---- what each answer says

@@ -38,5 +38,6 @@ mod UnitsByWalks
 pub mod UnitsInTurn
 pub mod NamesInTurn
 mod PartedPairs
-mod CheckedOrders
+pub mod CheckedOrders
 mod SwapsAreFew
+pub mod JournalsInTurn

@@ -1,5 +1,5 @@
 -- The name at an index of an order, and how many names of its client stand before it.
-use Rattle.std.proofs.Common.{◌≡◌, ℕ, zero, suc, ◌+◌, ◌==◌, Bool, true, false, cond, List, [], ◌∷◌, ◌++◌, take, drop, Some, refl, sym, ap, subst, ◌∙◌, arith, inl, inr}
+use Rattle.std.proofs.Common.{◌≡◌, ℕ, zero, suc, ◌+◌, ◌==◌, cond, List, [], ◌∷◌, ◌++◌, take, drop, Some, refl, sym, ap, subst, ◌∙◌, arith, inl, inr}
 use Rattle.std.specs.Prelude.{slice_get}
 use Rattle.std.proofs.lemmas.Bool.{cases_Bool}
 use Rattle.rc_base.specs.Lists.{IsIn}
@@ -20,12 +20,6 @@ order_at (m ∷ o) (suc i) n e =
 pub names_push : (c : ℕ) (o : List Name) (n : Name) → names_in c (o ++ n ∷ []) ≡ names_in c o + cond (c == n.client) 1 0
 names_push c [] n = omega arith
 names_push c (m ∷ o) n = omega (arith, names_push c o n)
-
-pub one_if : (b : Bool) → b ≡ true → cond {A = ℕ} b 1 0 ≡ 1
-one_if b e = rw e refl
-
-pub none_if : (b : Bool) → b ≡ false → cond {A = ℕ} b 1 0 ≡ 0
-none_if b e = rw e refl
 
 -- a run of each client's names has each in its place
 pub run_next : (end cursor : ℕ → ℕ) (o : List Name) (i : ℕ) (n : Name) → IsRun end cursor o → slice_get o i ≡ Some n

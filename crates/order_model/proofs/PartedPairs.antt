@@ -1,19 +1,19 @@
 -- Entries that part two clients' names, one after the other.
 use Rattle.std.proofs.Common.{◌≡◌, ℕ, ◌+◌, ◌<◌, ◌≤◌, ◌&&◌, Bool, true, cond, List, [], ◌∷◌, take, drop, length, get_or, inl, inr, refl, sym, ap, ◌∙◌, arith}
 use Rattle.std.specs.List.{AllByRecursion}
-use Rattle.std.proofs.lemmas.Bool.{cases_Bool}
+use Rattle.std.proofs.lemmas.Bool.{cases_Bool, and_parts}
 use Rattle.rc_base.specs.Orders.Journal.{start, is_member, sync_state_after, after}
 use Rattle.rc_base.specs.Orders.Order.{PlacedEntry, entry_at, entries_from}
 use Rattle.rc_base.specs.Orders.Sync.{IsWellFormed, client_count}
 use Rattle.rc_base.specs.declared.sync.Entry.{Entry}
 use Rattle.rc_base.specs.declared.sync.Name.{Name}
 use Rattle.rc_base.specs.declared.sync.SyncLists.{SyncLists}
+use Rattle.plain_lemmas.proofs.Lists.{drop_is_item_first}
 use Rattle.order_model.specs.Checked.{are_parted, all_part, place_by}
 use Rattle.order_model.specs.Counted.{used_by, place_or_end}
 use Rattle.order_model.proofs.RecordedByCounts.{used_most, length_take}
 use Rattle.order_model.proofs.RisingPlaces.{place_rises}
-use Rattle.order_model.proofs.SpotsOfNames.{and_both}
-use Rattle.order_model.proofs.UsedOperations.{entry_place, end_more, drop_at}
+use Rattle.order_model.proofs.UsedOperations.{entry_place, end_more}
 
 pub used_below : (n c : ℕ) (js : List Entry) (k : ℕ) → used_by n c (take k js) ≤ k
 used_below n c js k = omega (arith, used_most n c (take k js), length_take k js)
@@ -37,7 +37,7 @@ part_turn syncs js order a b k e ua ub r lt is ha hb result =
     let rest = all_part order a b (entries_from syncs (after syncs s e) (drop (k + 1) js)) in
     let pa : (entry_at syncs s e).at a ≡ place_by syncs e a ua = entry_place syncs (take k js) e a ∙ ap (place_by syncs e a) (sym ha) in
     let pb : (entry_at syncs s e).at b ≡ place_by syncs e b ub = entry_place syncs (take k js) e b ∙ ap (place_by syncs e b) (sym hb) in
-    ap (λ x. all_part order a b (entries_from syncs s x)) (drop_at js k e lt is)
+    ap (λ x. all_part order a b (entries_from syncs s x)) (drop_is_item_first js k e lt is)
     ∙ ap (λ x. are_parted order a x b ((entry_at syncs s e).at b) && rest) pa
     ∙ ap (λ x. are_parted order a (place_by syncs e a ua) b x && rest) pb
     ∙ ap (λ x. x && rest) (sym result)
@@ -50,7 +50,7 @@ PartsTwo o a b m = are_parted o a (m.at a) b (m.at b) ≡ true
 
 pub parts_each : (o : List Name) (a b : ℕ) (ms : List PlacedEntry) → all_part o a b ms ≡ true → AllByRecursion (PartsTwo o a b) ms
 parts_each o a b [] h = tt
-parts_each o a b (m ∷ ms) h = let k = and_both (are_parted o a (m.at a) b (m.at b)) (all_part o a b ms) h in (k.0, parts_each o a b ms k.1)
+parts_each o a b (m ∷ ms) h = let k = and_parts (are_parted o a (m.at a) b (m.at b)) (all_part o a b ms) h in (k.0, parts_each o a b ms k.1)
 
 pub each_parts : (o : List Name) (a b : ℕ) (ms : List PlacedEntry) → AllByRecursion (PartsTwo o a b) ms → all_part o a b ms ≡ true
 each_parts o a b [] h = refl

@@ -1,7 +1,7 @@
 -- A recorded order that is made with counts: one entry of the journal more.
 use Rattle.std.proofs.Common.{◌≡◌, ℕ, zero, suc, ◌+◌, ◌<◌, ◌≤◌, cond, List, [], ◌∷◌, take, drop, length, get_or, slice_index, replicate, inl, inr, sym, ap, ◌∙◌, arith}
 use Rattle.std.proofs.lemmas.Bool.{cases_Bool, cases_lt}
-use Rattle.std.proofs.lemmas.List.{get_or_past}
+use Rattle.std.proofs.lemmas.List.{get_or_past, drop_all}
 use Rattle.std.proofs.Math.ListN.{get_or-replicate, length-replicate}
 use Rattle.rc_base.specs.Orders.Journal.{start, is_member, stop, after, sync_state_after}
 use Rattle.rc_base.specs.Orders.Order.{performed, all_added, names_in}
@@ -9,12 +9,13 @@ use Rattle.rc_base.specs.Orders.Sync.{client_count}
 use Rattle.rc_base.specs.declared.sync.Entry.{Entry}
 use Rattle.rc_base.specs.declared.sync.Name.{Name}
 use Rattle.rc_base.specs.declared.sync.SyncLists.{SyncLists}
+use Rattle.plain_lemmas.proofs.Lists.{drop_is_item_first}
 use Rattle.order_model.specs.Counted.{used_by, place_or_end, AreUsed, IsCounted, logged_behind}
 use Rattle.order_model.specs.Log.{logged}
 use Rattle.order_model.specs.declared.record.LogEntry.{LogEntry}
 use Rattle.order_model.specs.declared.record.LogEntry.TheVariants.{Performed}
 use Rattle.order_model.proofs.CountedNames.{all_added_alike}
-use Rattle.order_model.proofs.UsedOperations.{stop_is_place, end_more, drop_at, used_more, drop_all}
+use Rattle.order_model.proofs.UsedOperations.{stop_is_place, end_more, used_more}
 
 -- ---- counts of used operations
 
@@ -54,13 +55,13 @@ perform_step syncs js k e used o o' few lt is h made log =
     let s = sync_state_after syncs (take k js) in
     ap (λ t. logged syncs t (drop (k + 1) js) log o') (end_more syncs (start syncs) js k e lt is)
     ∙ ap (logged syncs (after syncs s e) (drop (k + 1) js) log) (made ∙ performed_by_counts syncs (take k js) e used o few h)
-    ∙ sym (ap (λ r. logged syncs s r (Performed ∷ log) o) (drop_at js k e lt is))
+    ∙ sym (ap (λ r. logged syncs s r (Performed ∷ log) o) (drop_is_item_first js k e lt is))
 
 -- a journal of which all is read
 pub nothing_performed : (syncs : SyncLists) (js : List Entry) (k : ℕ) (o : List Name) → length js ≤ k → (log : List LogEntry) → logged_behind syncs js k log o ≡ logged_behind syncs js k (Performed ∷ log) o
 nothing_performed syncs js k o le log =
     let s = sync_state_after syncs (take k js) in
-    let none = drop_all js k le in
+    let none = drop_all k js le in
     ap (λ r. logged syncs s r log o) none ∙ sym (ap (λ r. logged syncs s r (Performed ∷ log) o) none)
 
 pub zeros : (n c : ℕ) → slice_index (replicate n 0) c ≡ 0

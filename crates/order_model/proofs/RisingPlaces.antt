@@ -11,6 +11,7 @@ use Rattle.rc_base.specs.Orders.Sync.{IsWellFormed, client_count, ops_of, length
 use Rattle.rc_base.specs.declared.sync.Entry.{Entry}
 use Rattle.rc_base.specs.declared.sync.SyncLists.{SyncLists}
 use Rattle.rc_base.specs.declared.sync.WaitAt.{WaitAt}
+use Rattle.order_model.proofs.JournalsInTurn.{rising_first}
 use Rattle.order_model.specs.Counted.{place_or_end}
 use Rattle.order_model.specs.Laws.{AreOfClients}
 use Rattle.order_model.proofs.ClientsBeyond.{ops_past, past_after}
@@ -20,10 +21,6 @@ use Rattle.order_model.proofs.ClientsBeyond.{ops_past, past_after}
 rising_lower : (p q : ℕ) (ws : List WaitAt) (n : ℕ) → q ≤ p → AreRising p (places_of ws) n → AreRising q (places_of ws) n
 rising_lower p q [] n le h = omega (arith, h)
 rising_lower p q (w ∷ ws) n le h = (omega (arith, h.0), h.1, h.2)
-
-rising_first : (p : ℕ) (ws : List WaitAt) (n : ℕ) → AreRising p (places_of ws) n → p ≤ option_map_or (λ (w : WaitAt). w.place) (head_wait ws) n
-rising_first p [] n h = h
-rising_first p (w ∷ ws) n h = h.0
 
 -- the next operation's place is no lower
 next_place : (p : ℕ) (ws : List WaitAt) (n k : ℕ) → AreRising p (places_of ws) n

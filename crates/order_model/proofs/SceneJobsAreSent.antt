@@ -19,12 +19,13 @@ use Rattle.rc_base.specs.declared.sync.SyncOp.{SyncOp}
 use Rattle.rc_base.specs.declared.sync.SyncRow.{SyncRow}
 use Rattle.rc_base.specs.declared.sync.WaitAt.{WaitAt}
 use Rattle.rc_base.specs.declared.window.Layout.{Layout}
+use Rattle.scene_lemmas.proofs.Scenes.{scene_client_count}
 use Rattle.order_model.specs.Log.{Job, waits_in, AreSent, job_place}
 use Rattle.order_model.specs.Log.Job.{Work, Wait}
 use Rattle.order_model.specs.Sent.{job_of, jobs_of}
 use Rattle.order_model.proofs.ClientsBeyond.{ops_past, length_past}
 use Rattle.order_model.proofs.RisingNumbers.{rising_with}
-use Rattle.order_model.proofs.SceneListsAreWellFormed.{scene_client_count, scene_row}
+use Rattle.order_model.proofs.SceneListsAreWellFormed.{scene_row}
 
 -- at most one job, at place n, and an operation exactly where the effect is one
 data Gives (n : ℕ) (js : List Job) (ws : List WaitAt) : Type 0 where

@@ -2,7 +2,7 @@
 use Rattle.std.proofs.Common.{◌≡◌, ℕ, zero, suc, ◌+◌, ◌<◌, ◌≤◌, [], ◌∷◌, length, map, Some, inl, inr, refl, sym, ◌∙◌, subst, arith, ◌⊎◌}
 use Rattle.std.proofs.lemmas.Bool.{cases_lt}
 use Rattle.std.proofs.lemmas.List.{map-append}
-use Rattle.std.proofs.lemmas.List.FromFn.{length-map-range_with_len, get_or-map-range_with_len}
+use Rattle.std.proofs.lemmas.List.FromFn.{get_or-map-range_with_len}
 use Rattle.std.proofs.lemmas.Option.{unwrap_or-slice_get}
 use Rattle.std.specs.List.{range_with_len}
 use Rattle.rc_base.specs.Lists.{at_name, AreRising}
@@ -13,6 +13,7 @@ use Rattle.rc_base.specs.declared.state.Effect.{Effect}
 use Rattle.rc_base.specs.declared.state.Effect.TheVariants as effect
 use Rattle.rc_base.specs.declared.sync.SyncRow.{SyncRow}
 use Rattle.rc_base.specs.declared.sync.WaitAt.{WaitAt}
+use Rattle.scene_lemmas.proofs.Scenes.{scene_client_count}
 use Rattle.order_model.proofs.ClientsBeyond.{ops_past}
 use Rattle.order_model.proofs.RisingNumbers.{rising_with}
 
@@ -35,10 +36,6 @@ rising_below scene client (suc n) =
     (rising_with 0 (places_of ws) (places_of new) n (one_or_none n (effect_at scene client n)) (rising_below scene client n))
 
 -- ---- rows
-
-pub scene_client_count : (scene : Scene) → client_count (sync_lists_of scene) ≡ length scene.streams
-unfolding sync_lists_of
-scene_client_count scene = length-map-range_with_len (sync_row_of scene) 0 (length scene.streams)
 
 pub scene_row : (scene : Scene) (c : ℕ) → c < length scene.streams → client_row (sync_lists_of scene) c ≡ sync_row_of scene c
 unfolding sync_lists_of

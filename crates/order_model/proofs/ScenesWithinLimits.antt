@@ -7,8 +7,9 @@ use Rattle.rc_base.specs.Formats.Within.{IsWithin, IsLayoutFor}
 use Rattle.rc_base.specs.declared.scene.Scene.{Scene}
 use Rattle.rc_base.specs.declared.window.Layout.{Layout}
 use Rattle.rc_base.proofs.WithinLimits.{width_within, height_within, clients_within, few_barriers, short_streams, counts_some, shared_within, tiles_within, depth_within}
+use Rattle.scene_lemmas.proofs.Scenes.{scene_client_count}
 use Rattle.order_model.specs.Scenes.{HasSides, IsDrawableScene, IsRunnable}
-use Rattle.order_model.proofs.SceneListsAreWellFormed.{scene_client_count, scene_lists_well_formed}
+use Rattle.order_model.proofs.SceneListsAreWellFormed.{scene_lists_well_formed}
 
 pub within_has_sides : (scene : Scene) → IsWithin scene → HasSides scene.decl
 within_has_sides scene within zero named = absurd (true≢false (sym named))

@@ -1,6 +1,6 @@
 -- Where names stand in an order.
-use Rattle.std.proofs.Common.{◌≡◌, ℕ, zero, suc, ◌+◌, ◌-◌, ◌<◌, ◌≤◌, ◌==◌, ◌&&◌, nat_lt, nat_le, Bool, true, false, cond, List, [], ◌∷◌, length, get_or, Option, Some, None, inl, inr, refl, sym, ap, ◌∙◌, subst, arith, eq-eqb, eqb-true, lt-ltb, ltb-true, le-leb, leb-true, true≢false}
-use Rattle.std.proofs.lemmas.Bool.{cases_lt, cases_Bool}
+use Rattle.std.proofs.Common.{◌≡◌, ℕ, zero, suc, ◌+◌, ◌-◌, ◌<◌, ◌≤◌, ◌==◌, nat_lt, nat_le, true, false, cond, List, [], ◌∷◌, length, get_or, Option, Some, None, inl, inr, refl, sym, ap, ◌∙◌, subst, arith, eq-eqb, eqb-true, lt-ltb, ltb-true, le-leb, leb-true, true≢false}
+use Rattle.std.proofs.lemmas.Bool.{cases_lt, cases_Bool, and_parts, and_from}
 use Rattle.rc_base.specs.Lists.{IsIn, Stands}
 use Rattle.rc_base.specs.declared.sync.Name.{Name}
 use Rattle.order_model.specs.Checked.{is_from, first_at, spot_of, are_parted}
@@ -8,21 +8,13 @@ use Rattle.order_model.proofs.PermittedAsRuns.{Uncrossed}
 use Rattle.order_model.proofs.RunsOfNames.{Rising}
 use Rattle.order_model.proofs.StandsInLists.{second_in, either_first}
 
-pub and_both : (a b : Bool) → (a && b) ≡ true → (a ≡ true) × (b ≡ true)
-and_both true b h = (refl, h)
-and_both false b h = absurd (true≢false (sym h))
-
-pub both_and : (a b : Bool) → a ≡ true → b ≡ true → (a && b) ≡ true
-both_and true b h k = k
-both_and false b h k = absurd (true≢false (sym h))
-
 -- ---- the test
 
 from_is : (c p : ℕ) (n : Name) → n.client ≡ c → p ≤ n.place → is_from c p n ≡ true
-from_is c p n e le = both_and (n.client == c) (nat_le p n.place) (eq-eqb n.client c e) (le-leb p n.place le)
+from_is c p n e le = and_from (n.client == c) (nat_le p n.place) (eq-eqb n.client c e) (le-leb p n.place le)
 
 from_says : (c p : ℕ) (n : Name) → is_from c p n ≡ true → (n.client ≡ c) × (p ≤ n.place)
-from_says c p n h = let k = and_both (n.client == c) (nat_le p n.place) h in (eqb-true n.client c k.0, leb-true p n.place k.1)
+from_says c p n h = let k = and_parts (n.client == c) (nat_le p n.place) h in (eqb-true n.client c k.0, leb-true p n.place k.1)
 
 from_not : (c p : ℕ) (n : Name) → ((n.client ≡ c) → (p ≤ n.place) → ⊥) → is_from c p n ≡ false
 from_not c p n h = elim (cases_Bool (is_from c p n)) [ inl t ↦ let k = from_says c p n t in absurd (h k.0 k.1) | inr f ↦ f ]

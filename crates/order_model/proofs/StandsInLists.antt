@@ -3,6 +3,7 @@ use Rattle.std.proofs.Common.{◌≡◌, ◌<◌, List, [], ◌∷◌, ◌++◌,
 use Rattle.std.specs.List.{AllByRecursion}
 use Rattle.rc_base.specs.Lists.{IsIn, Stands, NoRepeat}
 use Rattle.rc_base.specs.declared.sync.Name.{Name}
+use Rattle.scene_lemmas.proofs.Numbered.{is_in_behind}
 
 pub first_in : {A : Type 0} (a b : A) (o : List A) → Stands a b o → IsIn a o
 first_in a b [] h = h
@@ -53,10 +54,6 @@ pub stands_right : {A : Type 0} (a b : A) (u v : List A) → Stands a b v → St
 stands_right a b [] v h = h
 stands_right a b (x ∷ u) v h = inr (stands_right a b u v h)
 
-in_right : {A : Type 0} (a : A) (u v : List A) → IsIn a v → IsIn a (u ++ v)
-in_right a [] v h = h
-in_right a (x ∷ u) v h = inr (in_right a u v h)
-
 pub in_append : {A : Type 0} (a : A) (u v : List A) → IsIn a (u ++ v) → IsIn a u ⊎ IsIn a v
 in_append a [] v h = inr h
 in_append a (x ∷ u) v (inl e) = inl (inl e)
@@ -64,7 +61,7 @@ in_append a (x ∷ u) v (inr h) = elim (in_append a u v h) [ inl i ↦ inl (inr 
 
 pub stands_across : {A : Type 0} (a b : A) (u v : List A) → IsIn a u → IsIn b v → Stands a b (u ++ v)
 stands_across a b [] v h k = absurd h
-stands_across a b (x ∷ u) v (inl e) k = inl (e, in_right b u v k)
+stands_across a b (x ∷ u) v (inl e) k = inl (e, is_in_behind b u v k)
 stands_across a b (x ∷ u) v (inr h) k = inr (stands_across a b u v h k)
 
 -- ---- a list with one element more

@@ -15,6 +15,7 @@ use Rattle.rc_base.specs.declared.sync.Entry.TheVariants.{Meet, Swap, Give, Take
 use Rattle.rc_base.specs.declared.sync.Name.{Name}
 use Rattle.rc_base.specs.declared.sync.SyncLists.{SyncLists}
 use Rattle.rc_base.specs.declared.sync.WaitAt.{WaitAt}
+use Rattle.order_model.proofs.JournalsInTurn.{rising_first}
 use Rattle.order_model.specs.Laws.{AreOfClients}
 use Rattle.order_model.proofs.ClientsBeyond.{ops_past, member_within, stop_past, past_after}
 use Rattle.order_model.proofs.OrdersBySteps.{Step, moved, raised, passed_by, performed_by, issued_by, behind, spread, order_of, IsRight}
@@ -29,10 +30,6 @@ pub passed_behind : (syncs : SyncLists) (s : SyncState) (e : Entry) (cursor : �
 passed_behind syncs s e cursor c le t = passed_is (is_member (client_count syncs) e) (behind syncs s) cursor c (omega (arith, le)) t
 
 -- ---- lists of operations in their places
-
-pub rising_first : (p : ℕ) (ws : List WaitAt) (n : ℕ) → AreRising p (places_of ws) n → p ≤ option_map_or (λ (w : WaitAt). w.place) (head_wait ws) n
-rising_first p [] n h = h
-rising_first p (w ∷ ws) n h = h.0
 
 rising_raised : (p q : ℕ) (ws : List WaitAt) (n : ℕ) → AreRising p (places_of ws) n → q ≤ option_map_or (λ (w : WaitAt). w.place) (head_wait ws) n → AreRising q (places_of ws) n
 rising_raised p q [] n h le = le

@@ -18,6 +18,7 @@ use Rattle.rc_base.specs.declared.sync.SyncLists.{SyncLists}
 use Rattle.rc_base.specs.declared.sync.SyncOp.{SyncOp}
 use Rattle.rc_base.specs.declared.sync.SyncRow.{SyncRow}
 use Rattle.rc_base.specs.declared.sync.WaitAt.{WaitAt}
+use Rattle.scene_lemmas.proofs.Scenes.{scene_client_count}
 use Rattle.order_model.specs.Laws.{SwapsAreFew}
 use Rattle.order_model.specs.Report.{frame_count, is_swap_entry}
 
@@ -89,13 +90,9 @@ first_ops scene some =
     ap (λ o. (unwrap_or o none).ops) (slice_get-get_or rows 0 none low)
     ∙ ap (λ (r : SyncRow). r.ops) (get_or-map-range_with_len (sync_row_of scene) 0 (length scene.streams) 0 0 none some (omega arith))
 
-counted : (scene : Scene) → client_count (sync_lists_of scene) ≡ length scene.streams
-unfolding sync_lists_of
-counted scene = length-map-range_with_len (sync_row_of scene) 0 (length scene.streams)
-
 pub few_swaps : SwapsAreFew
 few_swaps scene journal some h =
-    let c = counted scene in
+    let c = scene_client_count scene in
     let a = swaps_within (sync_lists_of scene) (omega (arith, c, some)) journal (record { rest = ops_of (sync_lists_of scene); units = _ }) h in
     let b = ap length (first_ops scene some) in
     let d = few_waits scene 0 (length (stream_of scene 0)) in

@@ -2,6 +2,7 @@
 use Rattle.std.proofs.Common.{◌≡◌, ℕ, ◌+◌, ◌<◌, ◌≤◌, ◌==◌, Bool, true, false, cond, List, [], ◌∷◌, ◌++◌, take, drop, map, length, get_or, Option, Some, None, inl, inr, refl, sym, ap, ◌∙◌, arith, eq-eqb}
 use Rattle.std.specs.Prelude.{slice_get, slice_index, option_map, option_to_list}
 use Rattle.std.proofs.lemmas.Bool.{cases_Bool, cases_lt}
+use Rattle.std.proofs.lemmas.List.{drop_all}
 use Rattle.rc_base.specs.Orders.Journal.{start, sync_state_after, after, is_member}
 use Rattle.rc_base.specs.Orders.Order.{PlacedEntry, entry_at, entries_from, giver_in, taker_in, name_at}
 use Rattle.rc_base.specs.Orders.Sync.{IsWellFormed, client_count, ops_of}
@@ -10,12 +11,13 @@ use Rattle.rc_base.specs.declared.sync.Entry.TheVariants.{Meet, Swap, Give, Take
 use Rattle.rc_base.specs.declared.sync.Name.{Name}
 use Rattle.rc_base.specs.declared.sync.SyncLists.{SyncLists}
 use Rattle.rc_base.specs.declared.sync.WaitAt.{WaitAt}
+use Rattle.plain_lemmas.proofs.Lists.{drop_is_item_first}
 use Rattle.order_model.specs.Checked.{first_at, spot_of, unit_names, unit_spots, unit_client, unit_spot_by}
 use Rattle.order_model.specs.Counted.{used_by, place_or_end, AreUsed}
 use Rattle.order_model.proofs.ClientsBeyond.{ops_past}
 use Rattle.order_model.proofs.RisingPlaces.{place_rises}
 use Rattle.order_model.proofs.SpotsOfNames.{first_rises}
-use Rattle.order_model.proofs.UsedOperations.{entry_place, end_more, drop_at, drop_all}
+use Rattle.order_model.proofs.UsedOperations.{entry_place, end_more}
 
 -- a client that doesn't exist has no next operation
 pub no_spot_past : (syncs : SyncLists) (order : List Name) (c k : ℕ) → client_count syncs ≤ 8 → 8 ≤ c
@@ -101,7 +103,7 @@ pub spots_more : (syncs : SyncLists) (js : List Entry) (order : List Name) (used
 spots_more syncs js order used gives semaphore k e o few lt is h found =
     let s = sync_state_after syncs (take k js) in
     let rest = entries_from syncs (after syncs s e) (drop (k + 1) js) in
-    ap (λ r. map (spot_of order) (unit_names gives semaphore (entries_from syncs s r))) (drop_at js k e lt is)
+    ap (λ r. map (spot_of order) (unit_names gives semaphore (entries_from syncs s r))) (drop_is_item_first js k e lt is)
     ∙ ap (map (spot_of order)) (unit_names_more gives semaphore (entry_at syncs s e) rest)
     ∙ map_append order (unit_in gives semaphore e (entry_at syncs s e).at) (unit_names gives semaphore rest)
     ∙ ap (λ xs. xs ++ map (spot_of order) (unit_names gives semaphore rest)) (unit_spot_is syncs (take k js) order used gives semaphore e few h ∙ ap option_to_list (sym found))
@@ -114,7 +116,7 @@ no_names false semaphore = refl
 -- nothing is left of a journal that is read
 pub spots_past : (syncs : SyncLists) (js : List Entry) (order : List Name) (gives : Bool) (semaphore k : ℕ) → length js ≤ k → unit_spots syncs js order gives semaphore k ≡ []
 spots_past syncs js order gives semaphore k le =
-    ap (λ r. map (spot_of order) (unit_names gives semaphore (entries_from syncs (sync_state_after syncs (take k js)) r))) (drop_all js k le)
+    ap (λ r. map (spot_of order) (unit_names gives semaphore (entries_from syncs (sync_state_after syncs (take k js)) r))) (drop_all k js le)
     ∙ ap (map (spot_of order)) (no_names gives semaphore)
 
 -- the spots that are passed stay passed where more operations are used

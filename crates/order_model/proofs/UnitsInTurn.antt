@@ -2,8 +2,8 @@
 use Rattle.std.proofs.Common.{◌≡◌, ℕ, zero, suc, ◌+◌, ◌<◌, ◌≤◌, ◌==◌, nat_lt, Bool, true, false, cond, List, [], ◌∷◌, ◌++◌, drop, map, length, Option, Some, None, inl, inr, refl, sym, ap, ◌∙◌, subst, arith, lt-ltb, ltb-true}
 use Rattle.std.specs.Prelude.{option_to_list}
 use Rattle.std.specs.List.{AllByRecursion, zip}
-use Rattle.std.proofs.lemmas.Bool.{cases_Bool}
-use Rattle.std.proofs.lemmas.List.{drop-drop}
+use Rattle.std.proofs.lemmas.Bool.{cases_Bool, and_parts}
+use Rattle.std.proofs.lemmas.List.{drop-drop, length-append, drop_all}
 use Rattle.rc_base.specs.Lists.{IsIn, Stands}
 use Rattle.rc_base.specs.Orders.Journal.{SyncState, start, after}
 use Rattle.rc_base.specs.Orders.Order.{PlacedEntry, entries_from, entry_at, name_at, taker_in, takers}
@@ -15,10 +15,9 @@ use Rattle.rc_base.specs.declared.sync.SyncLists.{SyncLists}
 use Rattle.order_model.specs.Checked.{spot_of, are_in_turn, unit_names, unit_client, unit_spots, takes_in, hands_over}
 use Rattle.order_model.proofs.RisingPlaces.{IsReached}
 use Rattle.order_model.proofs.RunsOfNames.{Rising}
-use Rattle.order_model.proofs.SpotsOfNames.{stands_less, less_stands, and_both}
+use Rattle.order_model.proofs.SpotsOfNames.{stands_less, less_stands}
 use Rattle.order_model.proofs.StandsInLists.{in_append}
 use Rattle.order_model.proofs.UnitsByWalks.{unit_in, unit_names_more, unit_in_is, name_by}
-use Rattle.order_model.proofs.UsedOperations.{drop_all}
 
 -- ---- walks over spots
 
@@ -37,10 +36,10 @@ pub turn_stands : (o gs ts : List Name) → Rising o → ((n : Name) → IsIn n 
 turn_stands o [] ts r p q h a b i = absurd i
 turn_stands o (g ∷ gs) [] r p q h a b i = absurd i
 turn_stands o (g ∷ gs) (t ∷ ts) r p q h a b (inl e) =
-    let k = and_both (nat_lt (spot_of o g) (spot_of o t)) (are_in_turn (map (spot_of o) gs) (map (spot_of o) ts)) h in
+    let k = and_parts (nat_lt (spot_of o g) (spot_of o t)) (are_in_turn (map (spot_of o) gs) (map (spot_of o) ts)) h in
     subst (λ (x : Name × Name). Stands x.0 x.1 o) e (less_stands o r g t (p g (inl refl)) (q t (inl refl)) (ltb-true (spot_of o g) (spot_of o t) k.0))
 turn_stands o (g ∷ gs) (t ∷ ts) r p q h a b (inr i) =
-    let k = and_both (nat_lt (spot_of o g) (spot_of o t)) (are_in_turn (map (spot_of o) gs) (map (spot_of o) ts)) h in
+    let k = and_parts (nat_lt (spot_of o g) (spot_of o t)) (are_in_turn (map (spot_of o) gs) (map (spot_of o) ts)) h in
     turn_stands o gs ts r (λ n j. p n (inr j)) (λ n j. q n (inr j)) k.1 a b i
 
 pub stands_turn : (o gs ts : List Name) → Rising o → ((a b : Name) → IsIn (a, b) (zip gs ts) → Stands a b o) → are_in_turn (map (spot_of o) gs) (map (spot_of o) ts) ≡ true
@@ -88,10 +87,6 @@ length_name c (Some p) = omega arith
 taker_once : (semaphore k c : ℕ) (at : ℕ → Option ℕ) → length (taker_in semaphore (Take k c) at) ≤ cond (k == semaphore) 1 0
 taker_once semaphore k c at = elim (cases_Bool (k == semaphore)) [ inl t ↦ rw t (length_name c (at c)) | inr f ↦ rw f (omega arith) ]
 
-length_both : (xs ys : List Name) → length (xs ++ ys) ≡ length xs + length ys
-length_both [] ys = omega arith
-length_both (x ∷ xs) ys = omega (arith, length_both xs ys)
-
 takers_most : (syncs : SyncLists) (s : SyncState) (js : List Entry) (semaphore : ℕ) → length (takers semaphore (entries_from syncs s js)) ≤ takes_in semaphore js
 takers_most syncs s [] semaphore = omega arith
 takers_most syncs s (Meet b m ∷ js) semaphore = takers_most syncs (after syncs s (Meet b m)) js semaphore
@@ -100,7 +95,7 @@ takers_most syncs s (Give k c ∷ js) semaphore = takers_most syncs (after syncs
 takers_most syncs s (Take k c ∷ js) semaphore =
     let m = entry_at syncs s (Take k c) in
     let rest = takers semaphore (entries_from syncs (after syncs s (Take k c)) js) in
-    omega (arith, length_both (taker_in semaphore (Take k c) m.at) rest, taker_once semaphore k c m.at, takers_most syncs (after syncs s (Take k c)) js semaphore)
+    omega (arith, length-append (taker_in semaphore (Take k c) m.at) rest, taker_once semaphore k c m.at, takers_most syncs (after syncs s (Take k c)) js semaphore)
 
 length_spots : (o xs : List Name) → length (map (spot_of o) xs) ≡ length xs
 length_spots o [] = refl
@@ -109,5 +104,5 @@ length_spots o (x ∷ xs) = ap suc (length_spots o xs)
 pub takes_few : (syncs : SyncLists) (js : List Entry) (order : List Name) (semaphore : ℕ) → takes_in semaphore js ≤ units_of syncs semaphore → hands_over syncs js order semaphore ≡ true
 takes_few syncs js order semaphore le =
     turn_none (unit_spots syncs js order true semaphore 0) _
-    (drop_all (unit_spots syncs js order false semaphore 0) (units_of syncs semaphore)
+    (drop_all (units_of syncs semaphore) (unit_spots syncs js order false semaphore 0)
     (omega (arith, length_spots order (takers semaphore (entries_from syncs (start syncs) js)), takers_most syncs (start syncs) js semaphore, le)))

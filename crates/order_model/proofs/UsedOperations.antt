@@ -1,5 +1,5 @@
 -- What is left of each client's operations, by how many of them entries have used.
-use Rattle.std.proofs.Common.{◌≡◌, ℕ, zero, suc, ◌+◌, ◌<◌, ◌≤◌, cond, List, [], ◌∷◌, drop, take, length, get_or, None, slice_get, inl, inr, refl, sym, ap, ◌∙◌, subst, arith}
+use Rattle.std.proofs.Common.{◌≡◌, ℕ, zero, suc, ◌+◌, ◌<◌, cond, List, [], ◌∷◌, drop, take, length, get_or, None, slice_get, inl, inr, refl, sym, ap, ◌∙◌, subst, arith}
 use Rattle.std.specs.Prelude.{option_map}
 use Rattle.std.specs.Option.{option_map_or}
 use Rattle.std.proofs.lemmas.Bool.{cases_Bool}
@@ -45,17 +45,6 @@ end_more syncs s (f ∷ js) zero e lt is = ap (after syncs s) (sym is)
 end_more syncs s (f ∷ js) (suc k) e lt is =
     let step : suc k + 1 ≡ suc (k + 1) = omega arith in
     ap (λ n. end_of syncs s (take n (f ∷ js))) step ∙ end_more syncs (after syncs s f) js k e (omega arith) is
-
-pub drop_at : {A : Type 0} (xs : List A) (k : ℕ) (x : A) → k < length xs → x ≡ get_or xs k x → drop k xs ≡ x ∷ drop (k + 1) xs
-drop_at [] k x lt is = absurd (omega arith)
-drop_at (y ∷ xs) zero x lt is = ap (λ z. z ∷ xs) (sym is)
-drop_at (y ∷ xs) (suc k) x lt is = let step : suc k + 1 ≡ suc (k + 1) = omega arith in drop_at xs k x (omega arith) is ∙ ap (λ n. x ∷ drop n (y ∷ xs)) (sym step)
-
-pub drop_all : {A : Type 0} (xs : List A) (k : ℕ) → length xs ≤ k → drop k xs ≡ []
-drop_all [] zero le = refl
-drop_all [] (suc k) le = refl
-drop_all (x ∷ xs) zero le = absurd (omega arith)
-drop_all (x ∷ xs) (suc k) le = drop_all xs k (omega arith)
 
 pub used_more : (n c : ℕ) (js : List Entry) (k : ℕ) (e : Entry) → k < length js → e ≡ get_or js k e
     → used_by n c (take (k + 1) js) ≡ cond (is_member n e c) (used_by n c (take k js) + 1) (used_by n c (take k js))

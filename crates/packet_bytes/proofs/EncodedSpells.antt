@@ -12,6 +12,7 @@ use Rattle.byte_codec.proofs.WrittenInTurn.{all_both, all_drop, all_take}
 use Rattle.packet_bytes.specs.Packets.{plain_reader}
 use Rattle.packet_bytes.specs.PlainLaws.{plain_agrees}
 use Rattle.packet_bytes.proofs.DecodingProgress.{flat_more}
+use Rattle.plain_lemmas.proofs.Ranges.{range_more}
 use Rattle.rc_base.specs.declared.command.Command.{Command}
 use Rattle.rc_base.specs.Formats.Commands.{IsCommand}
 use Rattle.rc_base.specs.Formats.Spelling.{packet, IsPacket, SpellsStream, packet_commands, packet_count, encoded}
@@ -28,13 +29,6 @@ drop_min n xs = elim (cases_lt n (length xs)) [
   | inl lt ↦ let e : min (length xs) n ≡ n = omega arith in rw e refl
   | inr le ↦ let e : min (length xs) n ≡ length xs = omega arith in rw e (drop_all (length xs) xs (omega arith) ∙ sym (drop_all n xs le))
 ]
-
-pub range_more : (a n : ℕ) → range_with_len a (n + 1) ≡ range_with_len a n ++ (a + n) ∷ []
-range_more a zero = let e : a + 0 ≡ a = omega arith in rw e refl
-range_more a (suc n) =
-    let e : (a + 1) + n ≡ a + suc n = omega arith in
-    let k : suc n + 1 ≡ suc (n + 1) = omega arith in
-    rw k (ap (λ (l : List ℕ). a ∷ l) (range_more (a + 1) n ∙ ap (λ (k : ℕ). range_with_len (a + 1) n ++ k ∷ []) e))
 
 pieces : (cs : List Command) (a n : ℕ) → length cs ≤ 1024 * (a + n) → flat_map (packet_commands cs) (range_with_len a n) ≡ drop (1024 * a) cs
 pieces cs a zero all = sym (drop_all (1024 * a) cs (omega arith))

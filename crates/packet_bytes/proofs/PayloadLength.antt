@@ -1,16 +1,11 @@
 -- The length of a payload.
-use Rattle.std.proofs.Common.{◌≡◌, ℤ, ◌+◌, ◌*◌, List, [], ◌∷◌, ◌++◌, length, refl, ap, ◌∙◌, arith, length-append}
-use Rattle.std.specs.List.{flat_map}
-use Rattle.std.proofs.lemmas.List.Concat.{flat_map-cons}
+use Rattle.std.proofs.Common.{◌≡◌, ◌+◌, List, [], ◌∷◌, ◌++◌, length, refl, ◌∙◌, arith, length-append}
 use Rattle.rc_base.specs.declared.command.Command.{Command}
 use Rattle.rc_base.specs.Formats.Commands.{Kind, Value, Fields, IsValue, AreValues, IsCommand, opcode_of, kinds_of, fields_of}
 use Rattle.rc_base.specs.Formats.Commands.Kind.{Byte, Half, Word, Code, Bytes, Words, Image}
-use Rattle.rc_base.specs.Formats.Spelling.{half, word, value_bytes, field_bytes, payload}
+use Rattle.rc_base.specs.Formats.Spelling.{half, value_bytes, field_bytes, payload}
+use Rattle.scene_lemmas.proofs.Formats.{words_length}
 use Rattle.packet_bytes.specs.Laws.{fixed_bytes, fixed_length, texel_bytes, texel_length}
-
-words_length : (zs : List ℤ) → length (flat_map word zs) ≡ 4 * length zs
-words_length [] = refl
-words_length (z ∷ zs) = ap length (flat_map-cons word z zs) ∙ length-append (word z) (flat_map word zs) ∙ omega (arith, words_length zs)
 
 value_length : (k : Kind) (v : Value k) → IsValue k v → length (value_bytes k v) ≡ fixed_bytes k + texel_bytes k v
 value_length Byte v fits = refl

@@ -2,7 +2,7 @@
 use Rattle.std.proofs.Common.{◌≡◌, ◌≢◌, ℕ, zero, suc, ◌+◌, ◌*◌, ◌<◌, ◌≤◌, ◌==◌, nat_lt, ◌&&◌, ◌||◌, ◌⊎◌, Bool, true, false, List, [], length, Option, Some, None, pos, inl, inr, refl, sym, ap, ◌∙◌, subst, arith, true≢false, eqb-true, ne_eqb, lt-ltb, ltb-true}
 use Rattle.std.specs.Prelude.{cond, max, slice_index, slice_index_or}
 use Rattle.std.specs.List.{list_any, range_with_len}
-use Rattle.std.proofs.lemmas.Bool.{cases_Bool, cases_lt, eqb-false}
+use Rattle.std.proofs.lemmas.Bool.{cases_Bool, cases_lt, eqb-false, and_parts, and_from}
 use Rattle.std.proofs.lemmas.List.{get_or-set_same, get_or-set_other}
 use Rattle.std.proofs.Math.ListN.{length-set}
 use Rattle.rc_base.specs.Drawing.Touch.{touches, may_sample, writes_shared}
@@ -15,7 +15,6 @@ use Rattle.rc_base.specs.declared.state.State.{State}
 use Rattle.rc_base.specs.declared.sync.Name.{Name}
 use Rattle.happens_before.specs.Timelines.{before_at, clock_of}
 use Rattle.happens_before.specs.declared.timelines.Change.{Change}
-use Rattle.order_model.proofs.SpotsOfNames.{and_both, both_and}
 use Rattle.race_check.specs.Finds.{IsFirst, IsFoundIn, OrBefore, cell_at, leads, mark, marked}
 use Rattle.race_check.specs.Outlines.{IsReach, no_reach}
 use Rattle.race_check.specs.Races.{OverlapsAt}
@@ -94,8 +93,8 @@ pub use_of : (w h : ℕ) (s : State) (e : Effect) (has : ℕ → ℕ → Bool) (
     → ((t : ℕ) → may_sample s e t ≡ true → SomePasses w h has → o ≡ Some t) → ((t : ℕ) → o ≡ Some t → (may_sample s e t ≡ true) × SomePasses w h has × (t < 256)) → IsUse w h s e has o None
 use_of w h s e has o touched none only is = record {
   touched = touched;
-  sampled = λ t k. let b = and_both (may_sample s e t) (touches_one w h s e) k in only t b.0 (one_some w h s e has touched b.1);
-  is_sampled = λ t k. let b = is t k in (both_and (may_sample s e t) (touches_one w h s e) b.0 (some_one w h s e has touched b.1), b.2);
+  sampled = λ t k. let b = and_parts (may_sample s e t) (touches_one w h s e) k in only t b.0 (one_some w h s e has touched b.1);
+  is_sampled = λ t k. let b = is t k in (and_from (may_sample s e t) (touches_one w h s e) b.0 (some_one w h s e has touched b.1), b.2);
   written = λ t k. absurd (none t k);
   is_written = λ t k. absurd cc;
 }
@@ -222,8 +221,8 @@ module _ (f : Footprint (ℕ × ℕ)) (v : Visit) (s : State) (e : Effect) (has 
 
   touch_in : (p : ℕ × ℕ) → f.touches v.name p ≡ true → IsPixelOf v.width v.height p
   touch_in p t =
-      let a = and_both (nat_lt p.0 v.width && nat_lt p.1 v.height) (touches s e (pos p.0) (pos p.1)) (sym (effect.touches p) ∙ t) in
-      let b = and_both (nat_lt p.0 v.width) (nat_lt p.1 v.height) a.0 in
+      let a = and_parts (nat_lt p.0 v.width && nat_lt p.1 v.height) (touches s e (pos p.0) (pos p.1)) (sym (effect.touches p) ∙ t) in
+      let b = and_parts (nat_lt p.0 v.width) (nat_lt p.1 v.height) a.0 in
       (ltb-true p.0 v.width b.0, ltb-true p.1 v.height b.1)
 
   written_is : (t : ℕ) → f.writes v.name t ≡ true → writes ≡ Some t
@@ -353,8 +352,8 @@ quiet_passes f w h clock n s e m effect reach client = record {
 
     untouched : (p : ℕ × ℕ) → f.touches n p ≡ true → ⊥
     untouched p t =
-        let a = and_both (nat_lt p.0 w && nat_lt p.1 h) (touches s e (pos p.0) (pos p.1)) (sym (effect.touches p) ∙ t) in
-        let b = and_both (nat_lt p.0 w) (nat_lt p.1 h) a.0 in
+        let a = and_parts (nat_lt p.0 w && nat_lt p.1 h) (touches s e (pos p.0) (pos p.1)) (sym (effect.touches p) ∙ t) in
+        let b = and_parts (nat_lt p.0 w) (nat_lt p.1 h) a.0 in
         let k = reach.rows p.0 p.1 (ltb-true p.0 w b.0) (ltb-true p.1 h b.1) a.1 in
         omega (arith, k.1)
 
@@ -362,7 +361,7 @@ quiet_passes f w h clock n s e m effect reach client = record {
     unwritten t k = omega (arith, (reach.writes t (sym (effect.writes t) ∙ k)).1)
 
     unsampled : (t : ℕ) → f.samples n t ≡ true → ⊥
-    unsampled t k = omega (arith, (reach.samples t (and_both (may_sample s e t) (touches_one w h s e) (sym (effect.samples t) ∙ k)).0).1)
+    unsampled t k = omega (arith, (reach.samples t (and_parts (may_sample s e t) (touches_one w h s e) (sym (effect.samples t) ∙ k)).0).1)
 
     none : (spot : Spot) (a : Name) → OverlapsAt f a n spot → ⊥
     none (Pixel x y) a o = untouched (x, y) o.1

@@ -1,9 +1,8 @@
 -- Of all that is found the one that is told leads all others.
 use Rattle.std.proofs.Common.{◌≡◌, ◌≢◌, ℕ, ◌+◌, ◌-◌, ◌<◌, ◌≤◌, ◌==◌, nat_lt, nat_le, ◌&&◌, ◌||◌, Bool, true, false, List, ◌⊎◌, Option, Some, None, inl, inr, refl, sym, ap, ◌∙◌, subst, arith, lt-ltb, ltb-true, le-leb, leb-true, eq-eqb, eqb-true, true≢false}
 use Rattle.std.specs.Prelude.{length, slice_index}
-use Rattle.std.proofs.lemmas.Bool.{cases_lt}
+use Rattle.std.proofs.lemmas.Bool.{cases_lt, and_parts, and_from}
 use Rattle.std.proofs.lemmas.List.{get_or_past}
-use Rattle.order_model.proofs.SpotsOfNames.{and_both, both_and}
 use Rattle.race_check.specs.Races.{IsNoLater}
 use Rattle.race_check.specs.Finds.{AreCounted, IsFirst, IsFoundIn, OrBefore, is_no_later, leads}
 use Rattle.race_check.specs.declared.found.Found.{Found}
@@ -32,7 +31,7 @@ no_later_says (Shared a) (Pixel u v) h = tt
 no_later_says (Pixel x y) (Shared b) h = absurd (true≢false (sym h))
 no_later_says (Pixel x y) (Pixel u v) h = elim (either (nat_lt y v) (y == v && nat_le x u) h) [
   | inl k ↦ inl (ltb-true y v k)
-  | inr k ↦ let r = and_both (y == v) (nat_le x u) k in inr (eqb-true y v r.0, leb-true x u r.1)
+  | inr k ↦ let r = and_parts (y == v) (nat_le x u) k in inr (eqb-true y v r.0, leb-true x u r.1)
 ]
 
 says_no_later : (s t : Spot) → IsNoLater s t → is_no_later s t ≡ true
@@ -40,7 +39,7 @@ says_no_later (Shared a) (Shared b) h = le-leb a b h
 says_no_later (Shared a) (Pixel u v) h = refl
 says_no_later (Pixel x y) (Shared b) h = absurd h
 says_no_later (Pixel x y) (Pixel u v) (inl h) = left_or (nat_lt y v) (y == v && nat_le x u) (lt-ltb y v h)
-says_no_later (Pixel x y) (Pixel u v) (inr h) = right_or (nat_lt y v) (y == v && nat_le x u) (both_and (y == v) (nat_le x u) (eq-eqb y v h.0) (le-leb x u h.1))
+says_no_later (Pixel x y) (Pixel u v) (inr h) = right_or (nat_lt y v) (y == v && nat_le x u) (and_from (y == v) (nat_le x u) (eq-eqb y v h.0) (le-leb x u h.1))
 
 no_later_on : (s t r : Spot) → IsNoLater s t → IsNoLater t r → IsNoLater s r
 no_later_on (Shared a) (Shared b) (Shared c) h k = omega arith
@@ -76,12 +75,12 @@ pub leads_says : (a b : Found) → leads a b ≡ true → Leads a b
 leads_says a b h = elim (either (nat_lt a.client b.client) (a.client == b.client && (nat_lt b.place a.place || (a.place == b.place && is_no_later a.spot b.spot))) h) [
   | inl k ↦ inl (ltb-true a.client b.client k)
   | inr k ↦
-      let r = and_both (a.client == b.client) (nat_lt b.place a.place || (a.place == b.place && is_no_later a.spot b.spot)) k in
+      let r = and_parts (a.client == b.client) (nat_lt b.place a.place || (a.place == b.place && is_no_later a.spot b.spot)) k in
       inr (
         eqb-true a.client b.client r.0,
         elim (either (nat_lt b.place a.place) (a.place == b.place && is_no_later a.spot b.spot) r.1) [
           | inl l ↦ inl (ltb-true b.place a.place l)
-          | inr l ↦ let s = and_both (a.place == b.place) (is_no_later a.spot b.spot) l in inr (eqb-true a.place b.place s.0, no_later_says a.spot b.spot s.1)
+          | inr l ↦ let s = and_parts (a.place == b.place) (is_no_later a.spot b.spot) l in inr (eqb-true a.place b.place s.0, no_later_says a.spot b.spot s.1)
         ],
       )
 ]
@@ -89,10 +88,10 @@ leads_says a b h = elim (either (nat_lt a.client b.client) (a.client == b.client
 says_leads : (a b : Found) → Leads a b → leads a b ≡ true
 says_leads a b (inl h) = left_or (nat_lt a.client b.client) _ (lt-ltb a.client b.client h)
 says_leads a b (inr h) =
-    right_or (nat_lt a.client b.client) _ (both_and (a.client == b.client) (nat_lt b.place a.place || (a.place == b.place && is_no_later a.spot b.spot)) (eq-eqb a.client b.client h.0)
+    right_or (nat_lt a.client b.client) _ (and_from (a.client == b.client) (nat_lt b.place a.place || (a.place == b.place && is_no_later a.spot b.spot)) (eq-eqb a.client b.client h.0)
     (elim h.1 [
       | inl l ↦ left_or (nat_lt b.place a.place) (a.place == b.place && is_no_later a.spot b.spot) (lt-ltb b.place a.place l)
-      | inr l ↦ right_or (nat_lt b.place a.place) (a.place == b.place && is_no_later a.spot b.spot) (both_and (a.place == b.place) (is_no_later a.spot b.spot) (eq-eqb a.place b.place l.0) (says_no_later a.spot b.spot l.1))
+      | inr l ↦ right_or (nat_lt b.place a.place) (a.place == b.place && is_no_later a.spot b.spot) (and_from (a.place == b.place) (is_no_later a.spot b.spot) (eq-eqb a.place b.place l.0) (says_no_later a.spot b.spot l.1))
     ]))
 
 leads_on : (a b c : Found) → Leads a b → Leads b c → Leads a c

@@ -13,6 +13,7 @@ use Rattle.order_model.proofs.PermittedAsRuns.{rising_of}
 use Rattle.order_model.proofs.StandsInLists.{before_middle, in_left}
 use Rattle.happens_before.specs.Clocks.{IsExact}
 use Rattle.happens_before.specs.Timelines.{clock_of}
+use Rattle.scene_lemmas.proofs.Numbered.{is_in_behind}
 use Rattle.race_check.specs.Races.{IsVerdict, IsFirstRace}
 use Rattle.race_check.specs.Finds.{AreUnused, IsFirst}
 use Rattle.race_check.specs.Uses.{named, AreTables, AreSized, IsBehind, IsPixelOf, IsTexture, IsUnordered, Passes, pixel_index}
@@ -23,7 +24,6 @@ use Rattle.happens_before.specs.Before.{AreConflictsOrdered}
 use Rattle.race_check.specs.declared.verdict.Verdict.{Verdict}
 use Rattle.race_check.specs.declared.verdict.Verdict.TheVariants.{Ordered, Race}
 use Rattle.race_check.proofs.CellsTellLast.{last_none}
-use Rattle.happens_before.proofs.JournalsGoOn.{in_right}
 use Rattle.race_check.proofs.RacesAreTold.{ByClock, IsQuiet, told_race, quiet_more, quiet_ordered, race_unordered}
 
 -- where these names of an order are passed: the tables are theirs, and of no two of them the conflict is unordered
@@ -74,7 +74,7 @@ names_at : (syncs : SyncLists) (journal : List Entry) (order : List Name) (k : �
 names_at syncs journal order k n p at = record {
   once = once;
   front = front_once (take k order) (drop (k + 1) order) once;
-  here = subst (IsIn n) (sym (order_at order k n at).0) (in_right n (take k order) (n ∷ drop (k + 1) order) (inl refl));
+  here = subst (IsIn n) (sym (order_at order k n at).0) (is_in_behind n (take k order) (n ∷ drop (k + 1) order) (inl refl));
   below = λ a i. (p.names a).0 (in_order order k n at a i);
   behind = λ i j. rising_of syncs journal order p (named n.client i) n refl
       (subst (Stands (named n.client i) n) (sym (order_at order k n at).0) (before_middle n (named n.client i) (take k order) (drop (k + 1) order) j));

@@ -1,7 +1,7 @@
 -- Where the outlines of names tell that all that may conflict is before it, nothing races.
 use Rattle.std.proofs.Common.{◌≡◌, ℕ, ◌+◌, ◌<◌, ◌==◌, ◌&&◌, nat_lt, pos, true, List, [], ◌∷◌, ◌++◌, ◌⊎◌, length, replicate, inl, inr, refl, sym, ap, ◌∙◌, subst, arith, eqb-true, ltb-true}
 use Rattle.std.specs.Prelude.{slice_index, slice_index_or, slice_set}
-use Rattle.std.proofs.lemmas.Bool.{cases_Bool, cases_lt, eqb-false}
+use Rattle.std.proofs.lemmas.Bool.{cases_Bool, cases_lt, eqb-false, and_parts}
 use Rattle.std.proofs.lemmas.List.{get_or_past, get_or-set_same, get_or-set_other, length-replicate}
 use Rattle.std.proofs.Math.ListN.{length-set}
 use Rattle.rc_base.specs.Drawing.Touch.{may_sample, touches, writes_shared}
@@ -12,7 +12,6 @@ use Rattle.rc_base.specs.declared.state.State.{State}
 use Rattle.rc_base.specs.declared.sync.Entry.{Entry}
 use Rattle.rc_base.specs.declared.sync.Name.{Name}
 use Rattle.rc_base.specs.declared.sync.SyncLists.{SyncLists}
-use Rattle.order_model.proofs.SpotsOfNames.{and_both}
 use Rattle.race_check.specs.Finds.{AreUnused, cell_at}
 use Rattle.race_check.specs.Outlines.{AreCountedIn, AreMarked, AreOutlined, FitWindow, IsAmong, IsCounted, IsReach, PassesOutlines, TellAll, no_reach, nowhere}
 use Rattle.race_check.specs.Races.{OverlapsAt}
@@ -81,8 +80,8 @@ module _ (f : Footprint (ℕ × ℕ)) (width height : ℕ) (clock : List ℕ) (n
     (is : IsReach (λ x y. touches s e (pos x) (pos y)) (may_sample s e) (writes_shared e) width height reach) (counted : IsCounted clock reach old) where
   in_window : (p : ℕ × ℕ) → f.touches n p ≡ true → (p.0 < width) × (p.1 < height) × (touches s e (pos p.0) (pos p.1) ≡ true)
   in_window p t =
-      let a = and_both (nat_lt p.0 width && nat_lt p.1 height) (touches s e (pos p.0) (pos p.1)) (sym (effect.touches p) ∙ t) in
-      let b = and_both (nat_lt p.0 width) (nat_lt p.1 height) a.0 in
+      let a = and_parts (nat_lt p.0 width && nat_lt p.1 height) (touches s e (pos p.0) (pos p.1)) (sym (effect.touches p) ∙ t) in
+      let b = and_parts (nat_lt p.0 width) (nat_lt p.1 height) a.0 in
       (ltb-true p.0 width b.0, ltb-true p.1 height b.1, a.1)
 
   in_row : (p : ℕ × ℕ) → f.touches n p ≡ true → IsAmong reach.rows p.1
@@ -92,7 +91,7 @@ module _ (f : Footprint (ℕ × ℕ)) (width height : ℕ) (clock : List ℕ) (n
   in_column p t = let w = in_window p t in is.columns p.0 p.1 w.0 w.1 w.2
 
   in_samples : (t : ℕ) → f.samples n t ≡ true → IsAmong reach.samples t
-  in_samples t k = is.samples t (and_both (may_sample s e t) (touches_one width height s e) (sym (effect.samples t) ∙ k)).0
+  in_samples t k = is.samples t (and_parts (may_sample s e t) (touches_one width height s e) (sym (effect.samples t) ∙ k)).0
 
   in_writes : (t : ℕ) → f.writes n t ≡ true → IsAmong reach.writes t
   in_writes t k = is.writes t (sym (effect.writes t) ∙ k)

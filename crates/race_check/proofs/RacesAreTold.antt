@@ -11,6 +11,7 @@ use Rattle.rc_base.specs.declared.sync.SyncLists.{SyncLists}
 use Rattle.order_model.proofs.StandsInLists.{second_in, not_both, either_first, in_append, stands_split, before_middle, no_repeat_less}
 use Rattle.happens_before.specs.Before.{IsBefore, AreConflictsOrdered}
 use Rattle.happens_before.specs.Clocks.{IsExact}
+use Rattle.scene_lemmas.proofs.Numbered.{is_in_behind}
 use Rattle.race_check.specs.Races.{ConflictsUnordered, OverlapsAt, IsFirstRace}
 use Rattle.race_check.specs.Finds.{IsFirst, leads}
 use Rattle.race_check.specs.Uses.{IsUnordered, named}
@@ -19,7 +20,6 @@ use Rattle.race_check.specs.declared.verdict.Spot.{Spot}
 use Rattle.race_check.specs.declared.verdict.Spot.TheVariants.{Pixel, Shared}
 use Rattle.happens_before.proofs.BeforeStands.{before_stands}
 use Rattle.race_check.proofs.FoundFirst.{Leads, leads_says}
-use Rattle.happens_before.proofs.JournalsGoOn.{in_right}
 
 overlaps_at : (f : Footprint (ℕ × ℕ)) (a b : Name) (s : Spot) → OverlapsAt f a b s → Overlaps f a b
 overlaps_at f a b (Pixel x y) h = CommonPixel (x, y) h.0 h.1
@@ -64,7 +64,7 @@ stands_before b n u v once h = elim (stands_split b n u (n ∷ v) h) [
   | inl i ↦ i
   | inr k ↦
       let free = (no_repeat_less n u v once).0 in
-      absurd (elim k [ inl e ↦ free (in_right n u v e.1) | inr s ↦ free (in_right n u v (second_in b n v s)) ])
+      absurd (elim k [ inl e ↦ free (is_in_behind n u v e.1) | inr s ↦ free (is_in_behind n u v (second_in b n v s)) ])
 ]
 
 pub stands_front : (a b : Name) (u w : List Name) → NoRepeat (u ++ w) → Stands a b (u ++ w) → IsIn b u → Stands a b u

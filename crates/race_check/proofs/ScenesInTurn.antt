@@ -33,13 +33,14 @@ use Rattle.order_model.specs.Counted.{used_by}
 use Rattle.order_model.proofs.ClientsBeyond.{reach_past}
 use Rattle.order_model.proofs.NamesInTurn.{at_in, order_at, run_next}
 use Rattle.order_model.proofs.PermittedAsRuns.{run_of}
-use Rattle.order_model.proofs.SceneListsAreWellFormed.{scene_client_count, scene_row}
+use Rattle.order_model.proofs.SceneListsAreWellFormed.{scene_row}
 use Rattle.order_model.proofs.ScenesWithinLimits.{within_is_drawable}
 use Rattle.order_model.proofs.UsedOperations.{stop_is_place}
 use Rattle.stream_replay.specs.Clients.{AreIssued, client_after}
 use Rattle.stream_replay.specs.declared.client.Client.{Client}
 use Rattle.stream_replay.proofs.ClientsInTurn.{client_before, client_now, clients_next, some_command}
 use Rattle.stream_replay.proofs.IssuedCommands.{is_client}
+use Rattle.scene_lemmas.proofs.Scenes.{scene_client_count}
 use Rattle.race_check.specs.Uses.{HasEffect, IsNextOf, window_touches, window_samples}
 
 -- ---- names within their streams

@@ -2,8 +2,7 @@
 use Rattle.std.proofs.Common.{◌≡◌, ◌≢◌, ℕ, ◌+◌, ◌*◌, ◌<◌, ◌≤◌, ◌==◌, nat_lt, nat_le, ◌&&◌, ◌||◌, ◌⊎◌, ◌↔◌, Bool, true, false, cond, List, [], length, Option, ℤ, pos, ◌+ℤ◌, ◌≤ℤ◌, ◌<ℤ◌, inl, inr, refl, sym, ap, ◌∙◌, subst, arith, eq-eqb, eqb-true, ne_eqb, le-leb, leb-true, lt-ltb, ltb-true, true≢false, mul-le-mul}
 use Rattle.std.specs.Prelude.{int_lt}
 use Rattle.std.proofs.lemmas.List.{get_or-set_same, get_or-set_other}
-use Rattle.order_model.proofs.SpotsOfNames.{and_both, both_and}
-use Rattle.std.proofs.lemmas.Bool.{cases_Bool, le-ltb}
+use Rattle.std.proofs.lemmas.Bool.{cases_Bool, le-ltb, and_parts, and_from}
 use Rattle.std.proofs.lemmas.Bool.Decides.{nat_tests}
 use Rattle.std.proofs.lemmas.Int.{ints, by_lt_z}
 use Rattle.rc_base.specs.Cluster.Tiles.{is_in_rect}
@@ -181,13 +180,13 @@ pixel_run row x = record { row = row; from = x; to = x + 1 }
 
 pixel_only : (row x u v : ℕ) → run_has (pixel_run row x) u v ≡ true → (u ≡ x) × (v ≡ row)
 pixel_only row x u v t =
-    let a = and_both (row == v) (nat_le x u && nat_lt u (x + 1)) t in
-    let b = and_both (nat_le x u) (nat_lt u (x + 1)) a.1 in
+    let a = and_parts (row == v) (nat_le x u && nat_lt u (x + 1)) t in
+    let b = and_parts (nat_le x u) (nat_lt u (x + 1)) a.1 in
     (omega (arith, leb-true x u b.0, ltb-true u (x + 1) b.1), sym (eqb-true row v a.0))
 
 has_pixel : (row x : ℕ) → run_has (pixel_run row x) x row ≡ true
 has_pixel row x =
-    both_and (row == row) (nat_le x x && nat_lt x (x + 1)) (eq-eqb row row refl) (both_and (nat_le x x) (nat_lt x (x + 1)) (le-leb x x (omega arith)) (lt-ltb x (x + 1) (omega arith)))
+    and_from (row == row) (nat_le x x && nat_lt x (x + 1)) (eq-eqb row row refl) (and_from (nat_le x x) (nat_lt x (x + 1)) (le-leb x x (omega arith)) (lt-ltb x (x + 1) (omega arith)))
 
 pub pixel_cells : (v : Visit) (cells : List (List ℕ)) (row x : ℕ) → length cells ≡ v.height * v.width → x < v.width → row < v.height
     → AreTouched (run_has (pixel_run row x)) v cells (mark v.name cells (row * v.width + x))
@@ -247,14 +246,14 @@ run_some w h r before after ok e = (to before e, from before e)
           row = r.row;
           wide = omega (arith, ok.2);
           high = ok.0;
-          passes = both_and (r.row == r.row) (nat_le r.from r.from && nat_lt r.from r.to) (eq-eqb r.row r.row refl) (both_and (nat_le r.from r.from) (nat_lt r.from r.to) (le-leb r.from r.from (omega arith)) some);
+          passes = and_from (r.row == r.row) (nat_le r.from r.from && nat_lt r.from r.to) (eq-eqb r.row r.row refl) (and_from (nat_le r.from r.from) (nat_lt r.from r.to) (le-leb r.from r.from (omega arith)) some);
         })
 
     from : (b : Bool) → after ≡ (b || nat_lt r.from r.to) → (b ≡ true) ⊎ SomePasses w h (run_has r) → after ≡ true
     from b e (inl t) = e ∙ ap (λ k. k || nat_lt r.from r.to) t
     from b e (inr s) =
-        let a = and_both (r.row == s.row) (nat_le r.from s.column && nat_lt s.column r.to) s.passes in
-        let c = and_both (nat_le r.from s.column) (nat_lt s.column r.to) a.1 in
+        let a = and_parts (r.row == s.row) (nat_le r.from s.column && nat_lt s.column r.to) s.passes in
+        let c = and_parts (nat_le r.from s.column) (nat_lt s.column r.to) a.1 in
         let lt : r.from < r.to = omega (arith, leb-true r.from s.column c.0, ltb-true s.column r.to c.1) in
         e ∙ ap (λ k. b || k) (lt-ltb r.from r.to lt) ∙ or_true b
 

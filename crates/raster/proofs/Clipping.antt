@@ -7,6 +7,7 @@ use Rattle.rc_base.specs.Cluster.Tiles.{is_in_rect}
 use Rattle.rc_base.specs.Drawing.Cover.{is_in_area, is_in_scissor}
 use Rattle.rc_base.specs.declared.state.State.{State}
 use Rattle.rc_base.specs.declared.window.Rect.{Rect}
+use Rattle.scene_lemmas.proofs.Rectangles.{above_left, below_right, above_bottom, below_top}
 use Rattle.raster.specs.Clips.{IsCut, IsPart, IsPartWhere, is_let_through}
 
 low_is : (from low p : ℤ) → from ≤ℤ p → int_le low p ≡ int_le (int_max from low) p
@@ -23,24 +24,12 @@ cut_is from to low size last below exact = record {
   exact = λ p h l i. low_is from low p h i && exact p h l i;
 }
 
-x_low : (r : Rect) (x y : ℤ) → is_in_rect r x y ≡ true → r.x0 ≤ℤ x
-x_low r x y e = grind (arith, ints)
-
-x_high : (r : Rect) (x y : ℤ) → is_in_rect r x y ≡ true → x <ℤ r.x1
-x_high r x y e = grind (arith, ints)
-
-y_low : (r : Rect) (x y : ℤ) → is_in_rect r x y ≡ true → r.y0 ≤ℤ y
-y_low r x y e = grind (arith, ints)
-
-y_high : (r : Rect) (x y : ℤ) → is_in_rect r x y ≡ true → y <ℤ r.y1
-y_high r x y e = grind (arith, ints)
-
 pub part_is : (r : Rect) (area : List ℤ) (x0 x1 y0 y1 : ℤ) → IsCut r.x0 r.x1 (entry area 0) (entry area 2) x0 x1
     → IsCut r.y0 r.y1 (entry area 1) (entry area 3) y0 y1
     → IsPartWhere r (record { x0 = x0; y0 = y0; x1 = x1; y1 = y1 }) (is_in_area area)
 part_is r area x0 x1 y0 y1 a b = record {
   bounds = record { left = a.left; right = a.right; bottom = b.left; top = b.right };
-  exact = λ x y e i. a.exact x (x_low r x y e) (x_high r x y e) i && b.exact y (y_low r x y e) (y_high r x y e) i;
+  exact = λ x y e i. a.exact x (above_left r x y e) (below_right r x y e) i && b.exact y (above_bottom r x y e) (below_top r x y e) i;
 }
 
 inside : (p : Rect) (x y : ℤ) → p.x0 ≤ℤ x → x <ℤ p.x1 → p.y0 ≤ℤ y → y <ℤ p.y1 → is_in_rect p x y ≡ true
@@ -59,10 +48,10 @@ narrower r p q f g x y h k e false i =
         by : (b : Bool) → is_in_rect q x y ≡ b → b ≡ false
         by false u = refl
         by true u =
-            let a = x_low q x y u in
-            let b = x_high q x y u in
-            let c = y_low q x y u in
-            let d = y_high q x y u in
+            let a = above_left q x y u in
+            let b = below_right q x y u in
+            let c = above_bottom q x y u in
+            let d = below_top q x y u in
             let e = k.left in
             let f = k.right in
             let g = k.bottom in

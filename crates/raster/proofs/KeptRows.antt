@@ -6,6 +6,7 @@ use Rattle.fixed_math.proofs.Signed.{times_sum, times_assoc, neg_times, times_ne
 use Rattle.rc_base.specs.Drawing.Cover.{edge_value, centre, corner, passes, keeps_line, is_within_edge, is_inside}
 use Rattle.rc_base.specs.declared.window.WindowVertex.{WindowVertex}
 use Rattle.rc_base.specs.declared.window.Rect.{Rect}
+use Rattle.fixed_math.proofs.Signs.{above_is}
 use Rattle.raster.specs.declared.columns.Places.{Places}
 use Rattle.raster.specs.Columns.{IsTurn, AreKeptRows, strict_value}
 use Rattle.raster.specs.Clamped.{HoldsCover, IsFull}
@@ -32,9 +33,6 @@ strict_less : (e f d : ℤ) (k : Bool) → f ≡ e -ℤ d → strict_value f k �
 strict_less e f d true h = omega (arith, ints)
 strict_less e f d false h = omega (arith, ints)
 
-pub above : (z : ℤ) → pos 0 <ℤ z → int_lt (pos 0) z ≡ true
-above z h = grind (arith, ints)
-
 pub not_above : (z : ℤ) → z ≤ℤ pos 0 → int_lt (pos 0) z ≡ false
 not_above z h = grind (arith, ints)
 
@@ -59,7 +57,7 @@ rows_rising a b x c k h t e = record {
       ap (λ z. z *ℤ (y -ℤ c.x0)) (times_neg (pos 16) (a.x -ℤ b.x)) ∙ neg_times (pos 16 *ℤ (a.x -ℤ b.x)) (y -ℤ c.x0) in
       by_lt_z y k.x0
       (λ m. let u = t.under y l m in w ∙ not_above (strict_value (edge_value a b (centre x) (centre c.x0)) (keeps_line a b) -ℤ (pos 16 *ℤ (a.x -ℤ b.x)) *ℤ (y -ℤ c.x0)) (omega (arith, ints, n, u)) ∙ sym (in_low k.x0 k.x1 y m))
-      (λ m. let u = t.over y m r in w ∙ above (strict_value (edge_value a b (centre x) (centre c.x0)) (keeps_line a b) -ℤ (pos 16 *ℤ (a.x -ℤ b.x)) *ℤ (y -ℤ c.x0)) (omega (arith, ints, n, u)) ∙ sym (in_true k.x0 k.x1 y m (omega (arith, ints, r, e))));
+      (λ m. let u = t.over y m r in w ∙ above_is (strict_value (edge_value a b (centre x) (centre c.x0)) (keeps_line a b) -ℤ (pos 16 *ℤ (a.x -ℤ b.x)) *ℤ (y -ℤ c.x0)) (omega (arith, ints, n, u)) ∙ sym (in_true k.x0 k.x1 y m (omega (arith, ints, r, e))));
 }
 
 pub rows_falling : (a b : WindowVertex) (x : ℤ) (c k : Places)
@@ -72,7 +70,7 @@ rows_falling a b x c k t e = record {
   exact = λ y l r.
       let w = within_row a b x c.x0 y in
       by_lt_z y k.x1
-      (λ m. let u = t.under y l m in w ∙ above (strict_value (edge_value a b (centre x) (centre c.x0)) (keeps_line a b) -ℤ (pos 16 *ℤ (a.x -ℤ b.x)) *ℤ (y -ℤ c.x0)) (omega (arith, ints, u)) ∙ sym (in_true k.x0 k.x1 y (omega (arith, ints, l, e)) m))
+      (λ m. let u = t.under y l m in w ∙ above_is (strict_value (edge_value a b (centre x) (centre c.x0)) (keeps_line a b) -ℤ (pos 16 *ℤ (a.x -ℤ b.x)) *ℤ (y -ℤ c.x0)) (omega (arith, ints, u)) ∙ sym (in_true k.x0 k.x1 y (omega (arith, ints, l, e)) m))
       (λ m. let u = t.over y m r in w ∙ not_above (strict_value (edge_value a b (centre x) (centre c.x0)) (keeps_line a b) -ℤ (pos 16 *ℤ (a.x -ℤ b.x)) *ℤ (y -ℤ c.x0)) (omega (arith, ints, u)) ∙ sym (in_high k.x0 k.x1 y m));
 }
 

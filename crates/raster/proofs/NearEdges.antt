@@ -11,7 +11,8 @@ use Rattle.rc_base.specs.declared.window.ClipVertex.{ClipVertex}
 use Rattle.rc_base.specs.Drawing.Window.{axis_of, window_at}
 use Rattle.rc_base.specs.Drawing.Pieces.{near_w, is_in_front, crossing_point, polygon_of, fan_of}
 use Rattle.rc_base.proofs.Polygons.{front_all, front_ab, front_ac, front_a, front_bc, front_b, front_c, front_none}
-use Rattle.fixed_math.proofs.Signs.{below_is, not_below_is}
+use Rattle.fixed_math.proofs.Signs.{not_below_is}
+use Rattle.scene_lemmas.proofs.Triangles.{turned_round}
 use Rattle.raster.specs.NearEdges.{SameClipPlace, AreTurned, FrontEdgesAreShared, FrontEdgesAreEdges, DiagonalIsShared, NeighboursShareTheirCut, IsEdgeOf, front_edge, HasEdge}
 use Rattle.raster.specs.SharedEdge.{SamePlace, RunOpposite, next_corner}
 use Rattle.raster.proofs.SharedEdges.{none_covered_twice_holds}
@@ -76,10 +77,6 @@ oriented_is s t v e = by (is_kept_at s t) e
 as_is : (a b c : WindowVertex) → pos 0 <ℤ triangle_area (three a b c) → oriented a b c ≡ three a b c
 unfolding oriented
 as_is a b c h = let l : pos 0 ≤ℤ triangle_area (three a b c) = omega (arith, ints, h) in rw (not_below_is (triangle_area (three a b c)) l) refl
-
-turned_round : (a b c : WindowVertex) → triangle_area (three a b c) <ℤ pos 0 → oriented a b c ≡ three a c b
-unfolding oriented
-turned_round a b c h = rw (below_is (triangle_area (three a b c)) h) refl
 
 pub diagonal_is_shared : DiagonalIsShared
 diagonal_is_shared s a b c d v w ev ew =

@@ -6,6 +6,7 @@ use lib.IntN.{*ℤ_comm}
 use Rattle.fixed_math.proofs.Signed.{times_sum, neg_times, mul_mono}
 use Rattle.rc_base.specs.Drawing.Cover.{edge_value, keeps_line, centre, corner, is_inside}
 use Rattle.rc_base.specs.declared.window.WindowVertex.{WindowVertex}
+use Rattle.fixed_math.proofs.Signs.{above_is}
 use Rattle.raster.specs.declared.columns.Places.{Places}
 use Rattle.rc_base.specs.declared.window.Rect.{Rect}
 use Rattle.raster.specs.declared.lanes.Lanes.{Lanes}
@@ -21,7 +22,7 @@ use Rattle.raster.specs.Ways.{IsWay}
 use Rattle.raster.specs.Reciprocal.{IsInverse}
 use Rattle.raster.specs.Spans.{IsEmptyRow, IsRowSpan}
 use Rattle.raster.proofs.KeptColumns.{kept_rising, kept_falling, kept_all, kept_none, turn_same}
-use Rattle.raster.proofs.KeptRows.{passes_strict, above, not_above}
+use Rattle.raster.proofs.KeptRows.{passes_strict, not_above}
 use Rattle.raster.proofs.BitsToSpan.{exact_empty, exact_span}
 use Rattle.raster.proofs.Products.{between}
 
@@ -121,7 +122,7 @@ kept_level a b y0 y first gain c k order flat f g all none =
     (λ i. f i +ℤ p i) ∙ sym (strict_sum _ _ (keeps_line a b)) ∙ ap (λ e. strict_value e (keeps_line a b)) (sym r) in
     let here = passes_strict (edge_value a b (centre c.x0) (centre y)) (keeps_line a b) in
     by_lt_z (pos 0) (first +ℤ gain *ℤ (pos 16 *ℤ (y -ℤ y0)))
-    (λ m. subst (λ (z : Places). AreKept a b y c z) (sym (all m)) (kept_all a b y c order flat (here ∙ ap (λ e. int_lt (pos 0) e) (sym value) ∙ above _ m)))
+    (λ m. subst (λ (z : Places). AreKept a b y c z) (sym (all m)) (kept_all a b y c order flat (here ∙ ap (λ e. int_lt (pos 0) e) (sym value) ∙ above_is _ m)))
     (λ m. subst (λ (z : Places). AreKept a b y c z) (sym (none m)) (kept_none a b y c order flat (here ∙ ap (λ e. int_lt (pos 0) e) (sym value) ∙ not_above _ m)))
 
 in_common : (a b c d x : ℤ) → ((int_le a x && int_lt x b) && (int_le c x && int_lt x d)) ≡ (int_le (int_max a c) x && int_lt x (int_min b d))

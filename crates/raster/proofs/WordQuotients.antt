@@ -1,5 +1,5 @@
 -- Numbers in parts of 2^96, modulo 2^128: sums, multiples, and the quotient that they give.
-use Rattle.std.proofs.Common.{◌≡◌, ℕ, ◌+◌, ◌*◌, ◌^◌, ◌<◌, ◌/◌, ◌%◌, unsigned_abs, ℤ, pos, negsuc, ◌+ℤ◌, ◌-ℤ◌, ◌*ℤ◌, ◌≤ℤ◌, ◌<ℤ◌, arith, ap, sym, ◌∙◌, subst, FitsSigned, w32, w64, to_z, of_z, to_z-of_z, refl, neg_ℤ, ◌-◌, zero, suc, int_le, true}
+use Rattle.std.proofs.Common.{◌≡◌, ℕ, ◌+◌, ◌*◌, ◌^◌, ◌<◌, ◌/◌, ◌%◌, unsigned_abs, ℤ, pos, negsuc, ◌+ℤ◌, ◌-ℤ◌, ◌*ℤ◌, ◌≤ℤ◌, ◌<ℤ◌, arith, ap, sym, ◌∙◌, subst, FitsSigned, w32, w64, to_z, of_z, to_z-of_z, refl, neg_ℤ, ◌-◌, zero, suc}
 use Rattle.std.proofs.lemmas.Int.{ints, by_lt_z}
 use Rattle.std.specs.Int.{int_rem_euclid}
 use lib.IntN.{*ℤ_comm}
@@ -205,9 +205,6 @@ byte_of_word n area p q s some small e =
       high = omega (arith, ints, b, c, d, f, high, small);
       residue = record { turns = pos (2 ^ 24) *ℤ t +ℤ pos ((p / 2 ^ 40) / 2 ^ 64) +ℤ pos (((p / 2 ^ 40) % 2 ^ 64 + 1) / 2 ^ 64); is = omega (arith, ints, e) };
     }
-
-pub at_most_of : (a b : ℤ) → int_le a b ≡ true → a ≤ℤ b
-at_most_of a b h = grind (arith, ints)
 
 -- a reciprocal isn't 0
 pub some_parts : (area : ℤ) (r : ℕ) → pos 0 <ℤ area → IsReciprocal area r → r ≡ (r - 1) + 1

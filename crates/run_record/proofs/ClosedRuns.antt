@@ -15,13 +15,13 @@ use Rattle.rc_base.specs.declared.window.Layout.{Layout}
 use Rattle.client_issue.specs.Clauses.{IsClientDone, EndedClientsAreDone}
 use Rattle.client_issue.specs.declared.client.ClientCore.{ClientCore}
 use Rattle.order_model.specs.Gathering.{all_grants, LegalBooksHaveLegalJournals}
-use Rattle.order_model.proofs.SceneListsAreWellFormed.{scene_client_count}
 use Rattle.sync_manager.specs.Clauses.{requests_by, IsManagerDone, EndedManagersAreDone}
 use Rattle.sync_manager.specs.declared.manager.ManagerCore.{ManagerCore}
 use Rattle.tile_model.specs.Laws.{OperationsAreDeclared}
 use Rattle.tile_model.specs.Scenes.{IsInRange, HasSides}
 use Rattle.tile_server.specs.Clauses.{EndedTilesAreDone}
 use Rattle.tile_server.specs.declared.tile_core.TileCore.{TileCore}
+use Rattle.scene_lemmas.proofs.Scenes.{scene_client_count}
 use Rattle.run_record.specs.Closed.{AreClosed, AreDone, IsTileFinished, ClosedRunsAreDone}
 
 -- the laws that are cited

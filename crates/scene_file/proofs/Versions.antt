@@ -3,6 +3,7 @@ use Rattle.std.proofs.Common.{◌≡◌, ℕ, zero, suc, ◌+◌, ◌-◌, ◌<�
 use Rattle.std.proofs.lemmas.Bool.{cases_eq}
 use Rattle.rc_base.specs.Formats.Spelling.{IsVersion, letters, digit, magic, list_magic}
 use Rattle.rc_base.specs.declared.scene.SceneKind.TheVariants.{BadMagic, BadCount, UnknownOpcode, Truncated, Trailing}
+use Rattle.scene_lemmas.proofs.Formats.{digit_is_not_three}
 use Rattle.scene_file.specs.declared.fault.Broken.{Broken}
 use Rattle.scene_file.specs.declared.fault.Broken.TheVariants as broken
 use Rattle.scene_file.specs.Letters.{Letters, plain_letters, list_letters}
@@ -38,12 +39,6 @@ which_version zero h = absurd (omega (arith, h.0))
 which_version (suc zero) h = inl refl
 which_version (suc (suc zero)) h = inr refl
 which_version (suc (suc (suc n))) h = absurd (omega (arith, h.1))
-
-other_than_three : (version : ℕ) → IsVersion version → digit version ≡ 0x33 → ⊥
-other_than_three version is e = elim (which_version version is) [
-  | inl one ↦ let n : digit version ≡ 0x31 = ap digit one in absurd (omega (arith, n, e))
-  | inr two ↦ let n : digit version ≡ 0x32 = ap digit two in absurd (omega (arith, n, e))
-]
 
 -- a place where bytes differ lies within them
 differs_inside : (ls bytes : List ℕ) (at : ℕ) → Differs ls bytes at → at + (length bytes - at) ≡ length bytes
@@ -175,4 +170,4 @@ list_apart = record { some = 2; is_drawn = refl; same = list_same; differs = λ 
 
 -- bytes of a scene of the commands of the table don't begin as those of one with call lists do
 pub never_both : (version : ℕ) (x y : List ℕ) → IsVersion version → magic version ++ x ≡ list_magic ++ y → ⊥
-never_both version x y is same = other_than_three version is (ap (λ (l : List ℕ). get_or l 3 0) same)
+never_both version x y is same = digit_is_not_three version is (ap (λ (l : List ℕ). get_or l 3 0) same)

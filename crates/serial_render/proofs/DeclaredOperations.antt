@@ -4,7 +4,7 @@ use Rattle.std.specs.Prelude.{nat_lt, nat_le, slice_get, is_some}
 use Rattle.std.specs.declared.option.Option.{Option}
 use Rattle.std.specs.List.{AllByRecursion}
 use Rattle.std.specs.Option.{option_map_or}
-use Rattle.std.proofs.lemmas.Bool.{cases_lt}
+use Rattle.std.proofs.lemmas.Bool.{cases_lt, and_parts}
 use Rattle.rc_base.specs.Lists.{at_name}
 use Rattle.rc_base.specs.Formats.Commands.{IsCommand}
 use Rattle.rc_base.specs.Formats.Within.{IsWithin}
@@ -26,11 +26,12 @@ use Rattle.rc_base.specs.declared.sync.SyncOp.TheVariants as op
 use Rattle.rc_base.specs.declared.sync.SyncRow.{SyncRow}
 use Rattle.rc_base.specs.declared.sync.WaitAt.{WaitAt}
 use Rattle.gl_context.specs.Valid.{IsValidContext}
-use Rattle.gl_context.proofs.Accepted.{accepted, and_both}
+use Rattle.gl_context.proofs.Accepted.{accepted}
 use Rattle.gl_context.proofs.ValidContexts.{valid}
 use Rattle.order_model.proofs.ClientsBeyond.{ops_past}
-use Rattle.order_model.proofs.SceneListsAreWellFormed.{scene_client_count, scene_row}
+use Rattle.order_model.proofs.SceneListsAreWellFormed.{scene_row}
 use Rattle.order_model.proofs.ScenesWithinLimits.{within_is_drawable}
+use Rattle.scene_lemmas.proofs.Scenes.{scene_client_count}
 use Rattle.serial_render.specs.Turns.{AreDeclared, CanTakeTurns}
 
 -- an operation names one of so many barriers or semaphores
@@ -46,8 +47,8 @@ some_at (x ∷ xs) zero lt = refl
 some_at (x ∷ xs) (suc k) lt = some_at xs k (omega (arith, lt))
 
 named : {A : Type 0} (xs : List A) (name : ℕ) → is_name name (length xs) ≡ true → is_some (at_name xs name) ≡ true
-named xs zero h = absurd (let both = and_both (nat_lt 0 0) (nat_le 0 (length xs)) h in omega (arith, ltb-true 0 0 both.0))
-named xs (suc k) h = some_at xs k (omega (arith, leb-true (suc k) (length xs) (and_both (nat_lt 0 (suc k)) (nat_le (suc k) (length xs)) h).1))
+named xs zero h = absurd (let both = and_parts (nat_lt 0 0) (nat_le 0 (length xs)) h in omega (arith, ltb-true 0 0 both.0))
+named xs (suc k) h = some_at xs k (omega (arith, leb-true (suc k) (length xs) (and_parts (nat_lt 0 (suc k)) (nat_le (suc k) (length xs)) h).1))
 
 no_operation : (b : Option Block) (o : SyncOp) → option_map_or (λ b. eff.Block b) b eff.Quiet ≡ eff.Sync o → ⊥
 no_operation None o e = absurd cc

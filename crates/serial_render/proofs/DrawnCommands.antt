@@ -4,7 +4,7 @@ use Rattle.std.specs.Prelude.{◌==◌, ◌&&◌, nat_lt, nat_le, slice_index, i
 use Rattle.std.specs.declared.option.Option.{Option}
 use Rattle.std.specs.List.{AllByRecursion}
 use Rattle.std.specs.Option.{option_map_or}
-use Rattle.std.proofs.lemmas.Bool.{cases_Bool}
+use Rattle.std.proofs.lemmas.Bool.{cases_Bool, and_parts}
 use Rattle.rc_base.specs.Pictures.{Picture}
 use Rattle.rc_base.specs.Formats.Commands.{IsCommand}
 use Rattle.rc_base.specs.Contexts.Context.{ClientContext, private_image, private_count, shared_sides}
@@ -27,7 +27,7 @@ use Rattle.textures.specs.Images.{HasTexelIfAny, texture_image}
 use Rattle.textures.specs.Stores.{HasTexels}
 use Rattle.textures.proofs.Stored.{written}
 use Rattle.gl_context.specs.Valid.{IsValidContext}
-use Rattle.gl_context.proofs.Accepted.{accepted, and_both}
+use Rattle.gl_context.proofs.Accepted.{accepted}
 use Rattle.gl_context.proofs.OneMoreCommand.{goes_on}
 use Rattle.gl_context.proofs.ValidContexts.{command_of, stream_all, valid}
 use Rattle.order_model.specs.Scenes.{HasSides}
@@ -73,7 +73,7 @@ bound_shared decl x v kind =
     let one : bound_kind x.state ≡ 1 = eqb-true (bound_kind x.state) 1 kind in
     let named : is_name (bound_name x.state) (length decl.shared) ≡ true =
     subst (λ (k : ℕ). is_name (bound_name x.state) (if k == 0 then private_count else length decl.shared) ≡ true) one v.bound in
-    let both = and_both (nat_lt 0 (bound_name x.state)) (nat_le (bound_name x.state) (length decl.shared)) named in
+    let both = and_parts (nat_lt 0 (bound_name x.state)) (nat_le (bound_name x.state) (length decl.shared)) named in
     (named, ltb-true 0 (bound_name x.state) both.0, leb-true (bound_name x.state) (length decl.shared) both.1)
 
 shared_is : (sizes : List (List ℕ)) (texels : SharedTexels) (set : List (Option Picture)) (name : ℕ) → HasTexels sizes texels set → 0 < name → name ≤ length sizes
@@ -108,7 +108,7 @@ module _ (decl : Decl) (x : ClientContext) (texels : SharedTexels) (set : List (
       private_texel None e = tt
       private_texel (Some p) e =
           let image = v.pictures (bound_name x.state) p e in
-          (ltb-true 0 p.w (and_both (nat_lt 0 p.w) (nat_le p.w 256) image.w).0, ltb-true 0 p.h (and_both (nat_lt 0 p.h) (nat_le p.h 256) image.h).0)
+          (ltb-true 0 p.w (and_parts (nat_lt 0 p.w) (nat_le p.w 256) image.w).0, ltb-true 0 p.h (and_parts (nat_lt 0 p.h) (nat_le p.h 256) image.h).0)
 
       by : (x.state.texture_on ≡ true) ⊎ (x.state.texture_on ≡ false) → ((bound_kind x.state == 1) ≡ true) ⊎ ((bound_kind x.state == 1) ≡ false)
           → HasTexelIfAny (sampled x.state (texture_image x.images) (shared_of set))
@@ -117,7 +117,7 @@ module _ (decl : Decl) (x : ClientContext) (texels : SharedTexels) (set : List (
       by (inl on) (inl t) =
           let bound = bound_shared decl x v t in
           let same = shared_is decl.shared texels set (bound_name x.state) has bound.1 bound.2 in
-          let both = and_both _ _ (sides (bound_name x.state) bound.0) in
+          let both = and_parts _ _ (sides (bound_name x.state) bound.0) in
           let texel : HasTexelIfAny (Some (shared_picture decl.shared texels (bound_name x.state))) = (ltb-true 0 _ both.0, ltb-true 0 _ both.1) in
           rw (on, t) (subst (λ (p : Picture). HasTexelIfAny (Some p)) (sym same) texel)
 
@@ -149,12 +149,12 @@ part_writable : (decl : Decl) (x : ClientContext) (texels : SharedTexels) (set :
 part_writable decl x texels set p v has passes is =
     let kept = accepted x (cmd.SharedImage p) passes in
     let named : is_name p.name (length decl.shared) ≡ true = subst (λ (sizes : List (List ℕ)). is_name p.name (length sizes) ≡ true) v.shared kept.values in
-    let both = and_both (nat_lt 0 p.name) (nat_le p.name (length decl.shared)) named in
+    let both = and_parts (nat_lt 0 p.name) (nat_le p.name (length decl.shared)) named in
     let low = ltb-true 0 p.name both.0 in
     let high = leb-true p.name (length decl.shared) both.1 in
     let fits : (nat_le (p.x + p.w) (slice_index (shared_sides decl.shared p.name) 0) && nat_le (p.y + p.h) (slice_index (shared_sides decl.shared p.name) 1)) ≡ true =
     subst (λ (sizes : List (List ℕ)). (nat_le (p.x + p.w) (slice_index (shared_sides sizes p.name) 0) && nat_le (p.y + p.h) (slice_index (shared_sides sizes p.name) 1)) ≡ true) v.shared kept.fits in
-    let inside = and_both (nat_le (p.x + p.w) (slice_index (shared_sides decl.shared p.name) 0)) (nat_le (p.y + p.h) (slice_index (shared_sides decl.shared p.name) 1)) fits in
+    let inside = and_parts (nat_le (p.x + p.w) (slice_index (shared_sides decl.shared p.name) 0)) (nat_le (p.y + p.h) (slice_index (shared_sides decl.shared p.name) 1)) fits in
     record {
       low = low;
       high = omega (arith, high, has.count);

@@ -17,7 +17,6 @@ use Rattle.rc_base.specs.declared.sync.Name.{Name}
 use Rattle.rc_base.specs.declared.sync.SyncLists.{SyncLists}
 use Rattle.rc_base.specs.declared.sync.SyncOp.{SyncOp}
 use Rattle.rc_base.specs.declared.sync.WaitAt.{WaitAt}
-use Rattle.order_model.proofs.BooksStayLegal.{one_behind}
 use Rattle.order_model.proofs.ClientsBeyond.{ops_past, past_end}
 use Rattle.order_model.proofs.DefaultJournalIsMaximal.{uses_one}
 use Rattle.order_model.proofs.GrantsAreExact.{grant_lawful}
@@ -25,6 +24,7 @@ use Rattle.order_model.proofs.MoreOperations.{IsFront, IsSettled, legal_more, ne
 use Rattle.sync_manager.specs.Books.{IsBookOf, is_wanted, journal_in}
 use Rattle.sync_manager.specs.Stored.{wait_at}
 use Rattle.sync_manager.specs.declared.book.Book.{Book}
+use Rattle.scene_lemmas.proofs.Numbered.{with_one_behind}
 use Rattle.serial_render.specs.Turns.{left_after, IsFrontOfDefault}
 
 -- ---- lists
@@ -114,7 +114,7 @@ pub rest_arrived : (syncs : SyncLists) (b : Arrivals) (client : ℕ) (w : WaitAt
     → (standing syncs (book_after syncs b (Arrives client w))).rest c ≡ (standing syncs b).rest c ++ with_at (λ k. []) client (w ∷ []) c
 rest_arrived syncs b client w legal c =
     ((legal_more syncs (opened syncs b) (opened syncs (book_after syncs b (Arrives client w))) (with_at (λ k. []) client (w ∷ [])) b.journal
-    record { rest = one_behind b.arrived client w; units = refl } legal).1).rest c
+    record { rest = with_one_behind b.arrived client w; units = refl } legal).1).rest c
 
 -- ---- what is left of the lists
 

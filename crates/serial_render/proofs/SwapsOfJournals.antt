@@ -23,10 +23,11 @@ use Rattle.rc_base.specs.declared.sync.SyncRow.{SyncRow}
 use Rattle.rc_base.specs.declared.sync.WaitAt.{WaitAt}
 use Rattle.order_model.specs.Report.{frame_count}
 use Rattle.order_model.proofs.JournalsSwapAlike.{swap_op, swap_entry, swap_entries, swap_entries_counted}
-use Rattle.order_model.proofs.SceneListsAreWellFormed.{scene_client_count, scene_row, rising_below}
+use Rattle.order_model.proofs.SceneListsAreWellFormed.{scene_row, rising_below}
 use Rattle.order_model.proofs.ClientsBeyond.{reach_past}
-use Rattle.order_model.proofs.StepsArePermitted.{rising_first}
 use Rattle.order_model.proofs.StandsInLists.{first_in, second_in, not_both}
+use Rattle.scene_lemmas.proofs.Scenes.{scene_client_count}
+use Rattle.order_model.proofs.JournalsInTurn.{rising_first}
 use Rattle.serial_render.specs.Shown.{swaps_before}
 
 -- ---- the Swaps of a list of operations that come before the first operation at a place or beyond it

@@ -18,9 +18,9 @@ use Rattle.rc_base.specs.declared.sync.WaitAt.{WaitAt}
 use Rattle.order_model.proofs.ClientsBeyond.{ops_past}
 use Rattle.order_model.proofs.GrantsAreExact.{grant_lawful}
 use Rattle.order_model.proofs.MoreOperations.{IsSettled, head_append}
-use Rattle.order_model.proofs.StepsArePermitted.{rising_first}
 use Rattle.sync_manager.specs.Books.{IsBookOf, is_wanted, journal_in}
 use Rattle.sync_manager.specs.declared.book.Book.{Book}
+use Rattle.order_model.proofs.JournalsInTurn.{rising_first}
 use Rattle.serial_render.specs.Turns.{told, left_after, IsUnderWay, IsBetweenTurns, IsFrontOfDefault}
 use Rattle.serial_render.specs.declared.progress.Progress.{Progress}
 use Rattle.serial_render.proofs.AddedInTurn.{own_added, other_added, none_added, all_as_meant, all_alike, all_next}

@@ -16,8 +16,9 @@ use Rattle.rc_base.specs.declared.sync.SyncLists.{SyncLists}
 use Rattle.rc_base.specs.declared.sync.SyncRow.{SyncRow}
 use Rattle.rc_base.specs.declared.window.Pixel.{Pixel}
 use Rattle.rc_base.proofs.WithinLimits.{clients_within}
-use Rattle.order_model.proofs.SceneListsAreWellFormed.{scene_client_count, scene_row}
+use Rattle.order_model.proofs.SceneListsAreWellFormed.{scene_row}
 use Rattle.serial_render.specs.Steps.{Holds, window_of}
+use Rattle.scene_lemmas.proofs.Scenes.{scene_client_count}
 use Rattle.sort_last.specs.Layers.{layer_pixel}
 use Rattle.sort_last.specs.Offends.{IsComposable}
 use Rattle.sort_last.specs.Players.{IsSheet, HasDrawn, HaveDrawn, shows, draw_if, start_of}

@@ -31,11 +31,12 @@ use Rattle.order_model.proofs.AddedNames.{Tracks, spread_is, spread_tracks}
 use Rattle.order_model.proofs.ClientsBeyond.{ops_past, past_after, stop_past, member_within}
 use Rattle.order_model.proofs.MemberCounts.{count_some}
 use Rattle.order_model.proofs.OrdersBySteps.{behind, passed_by, performed_by, issued_by, spread}
-use Rattle.order_model.proofs.SceneListsAreWellFormed.{scene_client_count, scene_row}
+use Rattle.order_model.proofs.SceneListsAreWellFormed.{scene_row}
 use Rattle.order_model.proofs.SpreadIsRun.{passed_is}
 use Rattle.order_model.proofs.StepsArePermitted.{performed_past, issued_past}
 use Rattle.rc_base.specs.Drawing.Nearer.{nearer}
 use Rattle.stream_replay.proofs.AcceptedSwaps.{swaps_le, no_swaps}
+use Rattle.scene_lemmas.proofs.Scenes.{scene_client_count}
 use Rattle.sort_last.specs.Layers.{clears, layer_pixel, merged_pixel, cleared_pixel, composed_pixel, is_of_frame, names_of}
 use Rattle.sort_last.specs.Players.{draw, draw_if}
 use Rattle.sort_last.specs.Offends.{keeps_nearest, has_drawn, is_offence, offends, IsComposable}

@@ -6,6 +6,7 @@ use Rattle.std.proofs.Math.Path.{fun_ext}
 use Rattle.std.proofs.lemmas.Grind.{flat_map-append}
 use Rattle.std.proofs.lemmas.List.{append-nil}
 use Rattle.std.proofs.lemmas.List.Sums.{fold-append}
+use Rattle.std.proofs.lemmas.Bool.{and_parts}
 use Rattle.rc_base.specs.Contexts.Context.{ClientContext, private_count}
 use Rattle.rc_base.specs.Contexts.Elements.{default_value}
 use Rattle.rc_base.specs.Cluster.Parcels.{told, told_by}
@@ -15,7 +16,6 @@ use Rattle.rc_base.specs.declared.state.Parcel.{Parcel}
 use Rattle.rc_base.specs.Contexts.Faults.{is_name}
 use Rattle.rc_base.specs.Drawing.Texel.{bound_kind, bound_name}
 use Rattle.gl_context.specs.Valid.{IsValidContext}
-use Rattle.gl_context.proofs.Accepted.{and_both}
 use Rattle.state_update.specs.Knowledge.{HasBoundTexture, Knows, Tracked, after_sets}
 
 abbrev sets_in : List Parcel → List ElementSet
@@ -47,5 +47,5 @@ has_texture d x valid private =
     let name = bound_name x.state in
     let named : is_name name private_count ≡ true =
     subst (λ b. is_name name (if b then private_count else length d.shared) ≡ true) (eq-eqb (bound_kind x.state) 0 private) valid.bound in
-    let b = and_both (nat_lt 0 name) (nat_le name private_count) named in
+    let b = and_parts (nat_lt 0 name) (nat_le name private_count) named in
     (ltb-true 0 name b.0, leb-true name private_count b.1)

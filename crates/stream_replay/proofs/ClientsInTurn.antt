@@ -11,7 +11,8 @@ use Rattle.rc_base.specs.Orders.Order.{names_in}
 use Rattle.rc_base.specs.declared.command.Command.TheVariants as cmd
 use Rattle.rc_base.specs.declared.scene.Scene.{Scene}
 use Rattle.rc_base.specs.declared.sync.Name.{Name}
-use Rattle.order_model.proofs.NamesInTurn.{names_push, one_if, none_if}
+use Rattle.order_model.proofs.NamesInTurn.{names_push}
+use Rattle.plain_lemmas.proofs.Booleans.{one_if_true, zero_if_false}
 use Rattle.stream_replay.specs.Clients.{client_after, AreIssued}
 use Rattle.stream_replay.specs.declared.client.Client.{Client}
 
@@ -40,12 +41,12 @@ clients_next s done n xs ys h place lt is =
             | inl t ↦
                 let same : c ≡ n.client = eqb-true c n.client t in
                 let more : n.place + 1 ≡ names_in n.client (done ++ n ∷ []) =
-                omega (arith, place, names_push n.client done n, one_if _ (eq-eqb n.client n.client refl)) in
+                omega (arith, place, names_push n.client done n, one_if_true _ (eq-eqb n.client n.client refl)) in
                 subst (λ (k : ℕ). get_or (set xs n.client v) k (client_after s k (names_in k (done ++ n ∷ []))) ≡ client_after s k (names_in k (done ++ n ∷ []))) (sym same)
                 (get_or-set_same xs n.client v _ (omega (arith, h.count, lt)) ∙ ap (λ (k : ℕ). client_after s n.client k) more)
             | inr f ↦
                 let other = eqb-false c n.client f in
-                let none : names_in c done ≡ names_in c (done ++ n ∷ []) = omega (arith, names_push c done n, none_if _ f) in
+                let none : names_in c done ≡ names_in c (done ++ n ∷ []) = omega (arith, names_push c done n, zero_if_false _ f) in
                 get_or-set_other xs n.client c v now other
                 ∙ get_or_from_slice_get xs c (client_after s c (names_in c done)) now (h.each c inside)
                 ∙ ap (λ (k : ℕ). client_after s c k) none

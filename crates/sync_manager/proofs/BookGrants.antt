@@ -12,10 +12,11 @@ use Rattle.rc_base.specs.declared.sync.SyncOp.{SyncOp}
 use Rattle.rc_base.specs.declared.sync.SyncOp.TheVariants as op
 use Rattle.order_model.specs.Laws.{AreOfClients}
 use Rattle.order_model.proofs.GrantsAreExact.{grant_none}
+use Rattle.order_model.proofs.JournalsInTurn.{head_of_option}
 use Rattle.sync_manager.specs.Stored.{wait_at, grant_at, state_of, is_named}
 use Rattle.sync_manager.specs.Books.{AllWaitOrEnded, IsBookOf}
 use Rattle.sync_manager.specs.declared.book.Book.{Book}
-use Rattle.sync_manager.proofs.FirstEntries.{head_is, grant_is}
+use Rattle.sync_manager.proofs.FirstEntries.{grant_is}
 use Rattle.sync_manager.proofs.SoundBooks.{name_is, nobody_waits}
 
 pub granted : (syncs : SyncLists) (kept : Book) (b : Arrivals) → IsBookOf syncs kept b → grant_at kept.counts kept.units.items kept.waiting kept.clients ≡ grant syncs (standing syncs b)
@@ -38,7 +39,7 @@ nobody_ended (suc n) (suc client) = nobody_ended n client
 -- ---- when it is over
 
 pub waiting_is : (syncs : SyncLists) (kept : Book) (b : Arrivals) → IsBookOf syncs kept b → (client : ℕ) → waiting_in syncs b client ≡ wait_at kept.waiting client
-waiting_is syncs kept b h client = ap (λ (s : SyncState). head_wait (s.rest client)) h.state ∙ head_is (wait_at kept.waiting client)
+waiting_is syncs kept b h client = ap (λ (s : SyncState). head_wait (s.rest client)) h.state ∙ head_of_option (wait_at kept.waiting client)
 
 of_clients : (syncs : SyncLists) (kept : Book) (b : Arrivals) → IsBookOf syncs kept b → AreOfClients syncs (standing syncs b)
 of_clients syncs kept b h client le =

@@ -1,11 +1,11 @@
 -- The first lawful entry, read off what a book stores, is the one that is granted; and what is known of it.
 use Rattle.std.proofs.Common.{◌≡◌, ℕ, true, cond, List, [], length, replicate, Option, Some, None, refl, sym, ap, ◌∙◌, subst}
 use Rattle.std.proofs.lemmas.List.{length-replicate}
-use Rattle.std.specs.Prelude.{option_map, option_to_list, nat_le, ◌==◌}
+use Rattle.std.specs.Prelude.{option_map, nat_le, ◌==◌}
 use Rattle.std.specs.Option.{option_or, option_map_or}
 use mathlib.Core.Path.{fun_ext}
 use Rattle.rc_base.specs.Orders.Grant.{first, give_by, take_by, is_at_barrier, is_at_swap, lowest, grant}
-use Rattle.rc_base.specs.Orders.Journal.{head_wait, next, how_many, is_member, op_of, IsCounted}
+use Rattle.rc_base.specs.Orders.Journal.{next, how_many, is_member, op_of, IsCounted}
 use Rattle.rc_base.specs.Orders.Sync.{client_count, count_of}
 use Rattle.rc_base.specs.declared.sync.Entry.{Entry}
 use Rattle.rc_base.specs.declared.sync.Entry.TheVariants.{Meet, Swap}
@@ -13,6 +13,7 @@ use Rattle.rc_base.specs.declared.sync.SyncLists.{SyncLists}
 use Rattle.rc_base.specs.declared.sync.SyncOp.{SyncOp}
 use Rattle.rc_base.specs.declared.sync.WaitAt.{WaitAt}
 use Rattle.order_model.proofs.GrantsAreExact.{grant_lawful}
+use Rattle.order_model.proofs.JournalsInTurn.{head_of_option}
 use Rattle.sync_manager.specs.Stored.{wait_at, op_at, state_of, grant_at}
 
 -- the grant, by the next operation of each client
@@ -25,12 +26,8 @@ grant_by syncs ops units =
     (Some (Meet barrier (lowest (λ c. is_at_barrier barrier (ops c)) count (client_count syncs)))) None) (count_of syncs barrier) None) 1 (length syncs.counts))
     (cond (how_many (λ c. is_at_swap (ops c)) (client_count syncs) == client_count syncs) (Some Swap) None)))
 
-pub head_is : (o : Option WaitAt) → head_wait (option_to_list o) ≡ o
-head_is None = refl
-head_is (Some w) = refl
-
 pub next_is : (waiting : List (Option WaitAt)) (units : List ℕ) (c : ℕ) → next (state_of waiting units) c ≡ op_at waiting c
-next_is waiting units c = ap (option_map (λ (w : WaitAt). w.op)) (head_is (wait_at waiting c))
+next_is waiting units c = ap (option_map (λ (w : WaitAt). w.op)) (head_of_option (wait_at waiting c))
 
 granted_at : (syncs : SyncLists) (waiting : List (Option WaitAt)) (units : List ℕ)
     → grant_at syncs.counts units waiting (client_count syncs) ≡ grant syncs (state_of waiting units)

@@ -1,5 +1,5 @@
 -- What a manager took of its clients, and what arrived: from fronts of requests to fronts of operations.
-use Rattle.std.proofs.Common.{◌≡◌, ℕ, suc, ◌+◌, ◌<◌, ◌≤◌, not, true, List, [], ◌∷◌, ◌++◌, length, map, Some, slice_get, inl, inr, refl, sym, ap, ◌∙◌, subst, arith, append_assoc, append-nil, true≢false}
+use Rattle.std.proofs.Common.{◌≡◌, ℕ, ◌+◌, ◌<◌, ◌≤◌, not, true, List, [], ◌∷◌, ◌++◌, length, map, Some, slice_get, inl, inr, refl, sym, ap, ◌∙◌, subst, append_assoc, append-nil, true≢false}
 use Rattle.std.proofs.lemmas.Bool.{cases_lt}
 use Rattle.rc_base.specs.Cluster.Sending.{request_of}
 use Rattle.rc_base.specs.Orders.Book.{is_declared}
@@ -12,6 +12,8 @@ use Rattle.rc_base.specs.declared.sync.SyncOp.{SyncOp}
 use Rattle.rc_base.specs.declared.sync.WaitAt.{WaitAt}
 use Rattle.order_model.specs.Gathering.{AreDeclared}
 use Rattle.order_model.proofs.ClientsBeyond.{ops_past}
+use Rattle.plain_lemmas.proofs.Lists.{get_behind}
+use Rattle.scene_lemmas.proofs.Sendings.{no_requests}
 use Rattle.sync_manager.specs.Clauses.{requests_by, FrontsArrive}
 use Rattle.sync_manager.specs.Progress.{ManagerProgress}
 use Rattle.sync_manager.specs.Promises.{ends_client, IsManagerRight}
@@ -38,14 +40,6 @@ front_of (v ∷ ops) (w ∷ arrived) rest h =
     let f = front_of ops arrived rest cc in
     record { more = f.more; front = ap (λ x. x ∷ ops) same ∙ ap (λ ws. w ∷ ws) f.front; behind = f.behind }
 
-pub nothing_before : {A : Type 0} (xs ys : List A) → xs ++ ys ≡ [] → (xs ≡ []) × (ys ≡ [])
-nothing_before [] ys e = (refl, e)
-nothing_before (x ∷ xs) ys e = absurd cc
-
-pub no_requests : (ws : List WaitAt) (rest : List Request) → map request_of ws ++ rest ≡ [] → ws ≡ []
-no_requests [] rest e = refl
-no_requests (w ∷ ws) rest e = absurd cc
-
 -- a client ends behind all of its operations, since each of them names what is declared
 pub ends_last : (syncs : SyncLists) (more : List WaitAt) (r : Request) (rest : List Request) → ((k : ℕ) (w : WaitAt) → slice_get more k ≡ Some w → is_declared syncs w.op ≡ true)
     → map request_of more ++ request.End ∷ [] ≡ r ∷ rest → ends_client syncs r ≡ true → more ≡ []
@@ -54,10 +48,6 @@ ends_last syncs (w ∷ more) r rest declared e ends =
     let same : request_of w ≡ r = cc in
     let undeclared : not (is_declared syncs w.op) ≡ true = subst (λ q. ends_client syncs q ≡ true) (sym same) ends in
     absurd (true≢false (sym undeclared ∙ ap not (declared 0 w refl)))
-
-pub get_later : {A : Type 0} (xs ys : List A) (k : ℕ) → slice_get (xs ++ ys) (length xs + k) ≡ slice_get ys k
-get_later [] ys k = let e : 0 + k ≡ k = omega arith in ap (slice_get ys) e
-get_later (x ∷ xs) ys k = let e : suc (length xs) + k ≡ suc (length xs + k) = omega arith in ap (slice_get (x ∷ (xs ++ ys))) e ∙ get_later xs ys k
 
 -- ---- what has still to arrive
 
@@ -83,7 +73,7 @@ module _ (syncs : SyncLists) (tiles : ℕ) (took : ℕ → List Request) (sent :
             let e = k.ended ended in
             ends_last syncs f.more e.0 (e.1 ++ later)
             (λ n x is. declared client (length arrived + n) x
-            (ap (λ ws. slice_get ws (length arrived + n)) f.front ∙ get_later arrived f.more n ∙ is))
+            (ap (λ ws. slice_get ws (length arrived + n)) f.front ∙ get_behind arrived f.more n ∙ is))
             (f.behind ∙ ap (λ (xs : List Request). xs ++ later) e.2) e.3;
         behind = f.behind;
       }

@@ -1,5 +1,5 @@
 -- What a step of the manager makes of what was done.
-use Rattle.std.proofs.Common.{true≢false, ◌≡◌, ℕ, ◌+◌, ◌-◌, ◌<◌, ◌≤◌, ◌==◌, ◌||◌, not, Bool, true, false, cond, [], ◌∷◌, length, Some, inl, inr, refl, sym, ap, ◌∙◌, subst, arith, eqb-true, eq-eqb, lt-ltb, ltb-true, length-append}
+use Rattle.std.proofs.Common.{true≢false, ◌≡◌, ℕ, ◌+◌, ◌-◌, ◌<◌, ◌≤◌, ◌==◌, ◌||◌, not, Bool, true, false, cond, [], ◌∷◌, length, Some, inl, inr, refl, sym, ap, ◌∙◌, subst, arith, eqb-true, lt-ltb, ltb-true, length-append}
 use Rattle.std.proofs.lemmas.Bool.{cases_Bool, cases_lt, eqb-false}
 use Rattle.std.proofs.lemmas.Option.{slice_get_within}
 use Rattle.std.specs.Prelude.{OnOk, OnErr, nat_lt, slice_get, slice_index_or}
@@ -14,6 +14,7 @@ use Rattle.rc_base.specs.declared.sync.Request.{Request}
 use Rattle.rc_base.specs.declared.sync.Request.TheVariants as request
 use Rattle.rc_base.specs.declared.sync.SyncLists.{SyncLists}
 use Rattle.rc_base.specs.declared.sync.SyncOp.{SyncOp}
+use Rattle.plain_lemmas.proofs.Numbers.{equal_to_itself}
 use Rattle.sync_manager.specs.Books.{IsBookOf, AllWaitOrEnded, clients_in, journal_in, names_declared, is_wanted}
 use Rattle.sync_manager.specs.Progress.{ManagerProgress, AllDelivered, NoMoreComes, IsGrantDue, may_arrive, IsReceiving, IsDraining, is_end, event_of, IsNextDeed, answer_of, with_taken}
 use Rattle.sync_manager.specs.Cores.{is_short, tiles_of, delivered_in, drained_in, IsProgressOf, IsManagerStep}
@@ -25,9 +26,6 @@ use Rattle.sync_manager.specs.declared.manager.ManagerCore.{ManagerCore}
 use Rattle.sync_manager.proofs.BookGrants.{granted, none_granted, over_is, all_wait, waiting_is}
 
 -- ---- functions with another value at one number
-
-pub self : (c : ℕ) → (c == c) ≡ true
-self c = eq-eqb c c refl
 
 pub at_one : (Q : ℕ → Type 0) (c : ℕ) → Q c → ((k : ℕ) → (k == c) ≡ false → Q k) → (k : ℕ) → Q k
 at_one Q c here others k = elim (cases_Bool (k == c)) [ inl t ↦ subst Q (sym (eqb-true k c t)) here | inr f ↦ others k f ]
@@ -176,7 +174,7 @@ module _ (core : ManagerCore) (starts : core.start ≤ clients_in core.book) whe
       book = h.book;
       drained = h.drained;
       delivered = at_one (λ t. t < core.tiles → with_at d.delivered tile (d.delivered tile + 1) t ≡ cond (nat_lt t (tile + 1)) (length (journal_in core.book)) (length (journal_in core.book) - 1)) tile
-          (λ low. rw (self tile, lt-ltb tile (tile + 1) (omega arith)) (
+          (λ low. rw (equal_to_itself tile, lt-ltb tile (tile + 1) (omega arith)) (
           let some = slice_get_within (journal_in core.book) (length (journal_in core.book) - 1) e due.2 in
           omega (arith, lacks_last syncs core d h tile (omega (arith, due.0)) due.1, some, entries syncs core d h)))
           (λ k f low. rw (f, sym (below_next k tile f), due.0) (h.delivered k low));
@@ -198,7 +196,7 @@ module _ (core : ManagerCore) (starts : core.start ≤ clients_in core.book) whe
       drained = h.drained;
       delivered = h.delivered;
       told = at_one (λ t. t < core.tiles → with_at d.told tile true t ≡ nat_lt t (tile + 1)) tile
-          (λ low. rw (self tile, lt-ltb tile (tile + 1) (omega arith)) refl)
+          (λ low. rw (equal_to_itself tile, lt-ltb tile (tile + 1) (omega arith)) refl)
           (λ k f low. rw (f, sym (below_next k tile f), due.0) (h.told k low));
       next = h.next;
       short = h.short;

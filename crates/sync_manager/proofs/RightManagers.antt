@@ -19,11 +19,12 @@ use Rattle.rc_base.specs.declared.sync.Request.TheVariants as request
 use Rattle.rc_base.specs.declared.sync.SyncLists.{SyncLists}
 use Rattle.rc_base.specs.declared.sync.WaitAt.{WaitAt}
 use Rattle.order_model.proofs.GrantsAreExact.{grant_lawful}
+use Rattle.plain_lemmas.proofs.Numbers.{equal_to_itself}
 use Rattle.sync_manager.specs.Progress.{ManagerProgress, new_progress, lacks_entry, lacks_end, NoMoreComes, IsGrantDue, may_arrive, IsReceiving, is_end, event_of, IsNextDeed, with_taken, with_grant, progress_after, taken_of, sent_to}
 use Rattle.sync_manager.specs.Promises.{ends_client, IsSentRight, IsTakenRight, IsManagerRight}
 use Rattle.sync_manager.specs.declared.deed.ManagerDeed.{ManagerDeed}
 use Rattle.sync_manager.specs.declared.deed.ManagerDeed.TheVariants.{Delivers, FindsFull, Grants, Receives, Loses, FindsNoRequest, Drops, FindsNoneLeft, Finishes}
-use Rattle.sync_manager.proofs.ManagerSteps.{self, at_one}
+use Rattle.sync_manager.proofs.ManagerSteps.{at_one}
 
 pub new_right : (syncs : SyncLists) (tiles : ℕ) → IsManagerRight syncs tiles (λ client. []) (λ tile. []) new_progress
 new_right syncs tiles = record {
@@ -69,18 +70,18 @@ module _ (syncs : SyncLists) (tiles : ℕ) (took : ℕ → List Request) (sent :
             (λ lt.
             let s = h.tiles_are tile lt in
             let untold : d.told tile ≡ false = not_true (d.told tile) (λ told. let w = s.whole told in omega arith) in
-            rw (self tile) record {
+            rw (equal_to_itself tile) record {
               grants =
                   let old : sent tile ≡ map (λ e. grant_item.Entry e) (take (d.delivered tile) d.book.journal) = s.grants ∙ rw untold (append-nil (map (λ e. grant_item.Entry e) (take (d.delivered tile) d.book.journal))) in
                   let here : take (d.delivered tile + 1) d.book.journal ≡ take (d.delivered tile) d.book.journal ++ e ∷ [] =
                   take_more d.book.journal (d.delivered tile) e low ∙ ap (λ x. take (d.delivered tile) d.book.journal ++ x ∷ []) (get_or_from_slice_get d.book.journal (d.delivered tile) e e due.1) in
-                  rw (self tile, untold) (
+                  rw (equal_to_itself tile, untold) (
                   ap (λ xs. xs ++ grant_item.Entry e ∷ []) old
                   ∙ sym (map-append (λ e. grant_item.Entry e) (take (d.delivered tile) d.book.journal) (e ∷ []))
                   ∙ ap (map (λ e. grant_item.Entry e)) (sym here)
                   ∙ sym (append-nil (map (λ e. grant_item.Entry e) (take (d.delivered tile + 1) d.book.journal)))
                   );
-              within = rw (self tile) (omega arith);
+              within = rw (equal_to_itself tile) (omega arith);
               whole = λ told. absurd (true≢false (sym told ∙ untold));
               over = s.over;
             })
@@ -102,8 +103,8 @@ module _ (syncs : SyncLists) (tiles : ℕ) (took : ℕ → List Request) (sent :
             (λ lt.
             let s = h.tiles_are tile lt in
             let untold : d.told tile ≡ false = unnot (d.told tile) due.2.here in
-            rw (self tile) record {
-              grants = rw (self tile) (ap (λ xs. xs ++ grant_item.NoMore ∷ []) (s.grants ∙ rw untold (append-nil (map (λ e. grant_item.Entry e) (take (d.delivered tile) d.book.journal)))));
+            rw (equal_to_itself tile) record {
+              grants = rw (equal_to_itself tile) (ap (λ xs. xs ++ grant_item.NoMore ∷ []) (s.grants ∙ rw untold (append-nil (map (λ e. grant_item.Entry e) (take (d.delivered tile) d.book.journal)))));
               within = s.within;
               whole = λ told. let a = s.within in let b = ltb-false (d.delivered tile) (length d.book.journal) (due.0 tile lt) in omega arith;
               over = λ told ample. over_of syncs d due.1 ample;
@@ -147,7 +148,7 @@ module _ (syncs : SyncLists) (tiles : ℕ) (took : ℕ → List Request) (sent :
 
     counted : (k : ℕ) → with_at d.taken client (d.taken client + 1) k ≡ length (grown k)
     counted = at_one (λ k. with_at d.taken client (d.taken client + 1) k ≡ length (grown k)) client
-        (rw (self client) (let a = (h.clients client).count in let b = length-append (took client) (r ∷ []) in omega arith))
+        (rw (equal_to_itself client) (let a = (h.clients client).count in let b = length-append (took client) (r ∷ []) in omega arith))
         (λ k f. rw f ((h.clients k).count ∙ ap length (sym (append-nil (took k)))))
 
     one_end : (q : Request) → list_any is_end (q ∷ []) ≡ is_end q
@@ -156,7 +157,7 @@ module _ (syncs : SyncLists) (tiles : ℕ) (took : ℕ → List Request) (sent :
 
     drained : (k : ℕ) → with_at d.drained client (d.drained client || is_end r) k ≡ list_any is_end (grown k)
     drained = at_one (λ k. with_at d.drained client (d.drained client || is_end r) k ≡ list_any is_end (grown k)) client
-        (rw (self client) (
+        (rw (equal_to_itself client) (
         ap (λ b. b || is_end r) (h.clients client).drained
         ∙ ap (λ b. list_any is_end (took client) || b) (sym (one_end r))
         ∙ sym (list_any-append is_end (took client) (r ∷ []))
@@ -201,9 +202,9 @@ module _ (syncs : SyncLists) (tiles : ℕ) (took : ℕ → List Request) (sent :
               count = counted client;
               drained = drained client;
               rest = r ∷ [];
-              arrived = rw (self client) (ap (λ xs. xs ++ r ∷ []) took_is);
+              arrived = rw (equal_to_itself client) (ap (λ xs. xs ++ r ∷ []) took_is);
               ended = λ e. (r, [], refl, ending);
-              all = λ e more. absurd (true≢false (rw (self client) at e));
+              all = λ e more. absurd (true≢false (rw (equal_to_itself client) at e));
             }
             (λ k f. let o = h.clients k in record {
               count = counted k;
@@ -226,7 +227,7 @@ module _ (syncs : SyncLists) (tiles : ℕ) (took : ℕ → List Request) (sent :
               count = counted client;
               drained = drained client;
               rest = [];
-              arrived = rw (self client) (
+              arrived = rw (equal_to_itself client) (
                   ap (λ xs. xs ++ r ∷ []) took_is
                   ∙ ap (λ q. map request_of (d.book.arrived client) ++ q ∷ []) (sym is)
                   ∙ sym (map-append request_of (d.book.arrived client) (w ∷ []))

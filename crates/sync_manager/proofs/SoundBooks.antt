@@ -9,16 +9,13 @@ use Rattle.rc_base.specs.declared.sync.Entry.{Entry}
 use Rattle.rc_base.specs.declared.sync.Entry.TheVariants.{Meet, Swap, Give, Take}
 use Rattle.rc_base.specs.declared.sync.SyncOp.{SyncOp}
 use Rattle.rc_base.specs.declared.sync.WaitAt.{WaitAt}
+use Rattle.scene_lemmas.proofs.Numbered.{how_many_at_most}
 use Rattle.sync_manager.specs.Stored.{wait_at, is_name, is_named, grant_at, IsUnitThere, IsSound}
 use Rattle.sync_manager.proofs.FirstEntries.{IsFirst, first_is}
 use Rattle.std.proofs.lemmas.Option.{slice_get_past}
 use Rattle.std.proofs.Math.ListN.{length-set}
 
 -- ---- how many pass a test
-
-pub many_most : (passes : ℕ → Bool) (n : ℕ) → how_many passes n ≤ n
-many_most passes zero = omega arith
-many_most passes (suc n) = elim (cases_Bool (passes n)) [ inl t ↦ rw t (omega (arith, many_most passes n)) | inr f ↦ rw f (omega (arith, many_most passes n)) ]
 
 fewer : (p q : ℕ → Bool) (n : ℕ) → ((c : ℕ) → q c ≡ true → p c ≡ true) → how_many q n ≤ how_many p n
 fewer p q zero h = omega arith
@@ -149,7 +146,7 @@ module _ (n : ℕ) (counts units : List ℕ) (waiting : List (Option WaitAt)) (l
       | inr f ↦ sound.named c v (sym (get_or-set_other waiting client c (Some w) None (eqb-false c client f)) ∙ is)
     ];
     bounded = sound.bounded;
-    room = omega (arith, fits, sound.most, many_most (λ c. is_some (wait_at (set waiting client (Some w)) c)) n);
+    room = omega (arith, fits, sound.most, how_many_at_most (λ c. is_some (wait_at (set waiting client (Some w)) c)) n);
   }
 
 -- ---- a new book

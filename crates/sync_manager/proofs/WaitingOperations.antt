@@ -5,12 +5,14 @@ use Rattle.std.specs.Prelude.{option_to_list}
 use mathlib.Core.Path.{fun_ext}
 use Rattle.rc_base.specs.Orders.Book.{Book, opened, standing, with_at, book_after, IsLegalBook}
 use Rattle.rc_base.specs.Orders.Book.BookEvent.{Arrives}
-use Rattle.rc_base.specs.Orders.Journal.{SyncState, is_member, units_after, after, end_of}
+use Rattle.rc_base.specs.Orders.Journal.{SyncState, is_member, units_after, after}
 use Rattle.rc_base.specs.Orders.Sync.{client_count}
 use Rattle.rc_base.specs.declared.sync.Entry.{Entry}
 use Rattle.rc_base.specs.declared.sync.SyncLists.{SyncLists}
 use Rattle.rc_base.specs.declared.sync.WaitAt.{WaitAt}
 use Rattle.order_model.proofs.MoreOperations.{legal_more}
+use Rattle.scene_lemmas.proofs.Numbered.{with_one_behind}
+use Rattle.order_model.proofs.JournalsInTurn.{end_push}
 use Rattle.sync_manager.specs.Stored.{wait_at, units_at, state_of}
 
 -- states that are equal client by client and semaphore by semaphore
@@ -18,13 +20,6 @@ state_same : (s t : SyncState) → ((c : ℕ) → s.rest c ≡ t.rest c) → ((k
 state_same s t rest units = λ i. record { rest = fun_ext rest i; units = fun_ext units i }
 
 -- ---- an arrival
-
--- an operation behind those of one client
-one_behind : (f : ℕ → List WaitAt) (client : ℕ) (w : WaitAt) (c : ℕ) → with_at f client (f client ++ w ∷ []) c ≡ f c ++ with_at (λ k. []) client (w ∷ []) c
-one_behind f client w c = elim (cases_Bool (c == client)) [
-  | inl t ↦ rw t (subst (λ k. f k ++ w ∷ [] ≡ f c ++ w ∷ []) (eqb-true c client t) refl)
-  | inr n ↦ rw n (sym (append-nil (f c)))
-]
 
 waits_then : (waiting : List (Option WaitAt)) (client : ℕ) (w : WaitAt) (c : ℕ) → client < length waiting → wait_at waiting client ≡ None
     → option_to_list (wait_at waiting c) ++ with_at (λ k. []) client (w ∷ []) c ≡ option_to_list (wait_at (set waiting client (Some w)) c)
@@ -41,7 +36,7 @@ pub standing_arrived : (syncs : SyncLists) (b : Book) (waiting : List (Option Wa
     → IsLegalBook syncs (book_after syncs b (Arrives client w)) × (standing syncs (book_after syncs b (Arrives client w)) ≡ state_of (set waiting client (Some w)) units)
 standing_arrived syncs b waiting units client w low free legal is =
     let later = book_after syncs b (Arrives client w) in
-    let more = legal_more syncs (opened syncs b) (opened syncs later) (with_at (λ k. []) client (w ∷ [])) b.journal record { rest = one_behind b.arrived client w; units = refl } legal in (
+    let more = legal_more syncs (opened syncs b) (opened syncs later) (with_at (λ k. []) client (w ∷ [])) b.journal record { rest = with_one_behind b.arrived client w; units = refl } legal in (
       more.0,
       state_same (standing syncs later) (state_of (set waiting client (Some w)) units)
           (λ c. more.1.rest c ∙ ap (λ (s : SyncState). s.rest c ++ with_at (λ k. []) client (w ∷ []) c) is ∙ waits_then waiting client w c low free)
@@ -49,10 +44,6 @@ standing_arrived syncs b waiting units client w low free legal is =
     )
 
 -- ---- a grant
-
-end_push : (syncs : SyncLists) (s : SyncState) (js : List Entry) (e : Entry) → end_of syncs s (js ++ e ∷ []) ≡ after syncs (end_of syncs s js) e
-end_push syncs s [] e = refl
-end_push syncs s (j ∷ js) e = end_push syncs (after syncs s j) js e
 
 none_after : (o : Option WaitAt) → drop 1 (option_to_list o) ≡ []
 none_after None = refl

@@ -20,13 +20,13 @@ members_are_clients n Swap h c t = ltb-true c n t
 members_are_clients n (Give s d) h c t = let lt = ltb-true d n h in let same = eqb-true c d t in omega arith
 members_are_clients n (Take s d) h c t = let lt = ltb-true d n h in let same = eqb-true c d t in omega arith
 
-lawful_has_clients : (syncs : SyncLists) (s : SyncState) (e : Entry) → AreOfClients syncs s → IsLawful syncs s e → has_clients (client_count syncs) e ≡ true
+pub lawful_has_clients : (syncs : SyncLists) (s : SyncState) (e : Entry) → AreOfClients syncs s → IsLawful syncs s e → has_clients (client_count syncs) e ≡ true
 lawful_has_clients syncs s (Meet b m) none p = lt-ltb m (2 ^ client_count syncs) p.counted.0
 lawful_has_clients syncs s Swap none p = refl
 lawful_has_clients syncs s (Give k c) none p = lt-ltb c (client_count syncs) (member_within syncs s (Give k c) none p c (eq-eqb c c refl))
 lawful_has_clients syncs s (Take k c) none p = lt-ltb c (client_count syncs) (member_within syncs s (Take k c) none p c (eq-eqb c c refl))
 
-from_state : (syncs : SyncLists) (s : SyncState) (js : List Entry) (k : ℕ) (e : Entry) → AreOfClients syncs s → IsLegalFrom syncs s js → slice_get js k ≡ Some e → has_clients (client_count syncs) e ≡ true
+pub from_state : (syncs : SyncLists) (s : SyncState) (js : List Entry) (k : ℕ) (e : Entry) → AreOfClients syncs s → IsLegalFrom syncs s js → slice_get js k ≡ Some e → has_clients (client_count syncs) e ≡ true
 from_state syncs s [] zero e none legal is = absurd cc
 from_state syncs s [] (suc k) e none legal is = absurd cc
 from_state syncs s (d ∷ js) zero e none legal is = let same : d ≡ e = cc in subst (λ x. has_clients (client_count syncs) x ≡ true) same (lawful_has_clients syncs s d none legal.0)

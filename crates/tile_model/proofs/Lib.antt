@@ -23,7 +23,7 @@ mod SwapsShowFrames
 mod SwappedFramesStay
 mod LimitsGiveSides
 mod LogsReplayOverWhatWasTaken
-mod EntriesHaveClients
+pub mod EntriesHaveClients
 pub mod ItemsComeFromLanes
 pub mod ShownFrames
 pub mod DeclaredOperations

@@ -31,9 +31,9 @@ use Rattle.order_model.specs.Sent.{jobs_of}
 use Rattle.order_model.proofs.AddedNames.{names_append, stretch_tracks, spread_is, spread_tracks}
 use Rattle.order_model.proofs.OrdersBySteps.{behind, passed_by}
 use Rattle.order_model.proofs.SceneJobsAreSent.{scene_jobs_are_sent, ops_are}
-use Rattle.order_model.proofs.SceneListsAreWellFormed.{scene_client_count}
 use Rattle.order_model.proofs.StandsInLists.{in_append}
 use Rattle.order_model.proofs.StepsArePermitted.{member_place, performed_past}
+use Rattle.scene_lemmas.proofs.Scenes.{scene_client_count}
 use Rattle.tile_model.proofs.EntriesComeDue.{HasReached, reached_on}
 use Rattle.tile_model.proofs.IdleNamesChangeNothing.{works_on}
 use Rattle.tile_model.proofs.JobsAreLeftBehindNames.{IsLeft, jobs_by, jobs_from, next_work, left_first, left_on}

@@ -14,7 +14,7 @@ use Rattle.rc_base.specs.declared.window.Layout.{Layout}
 use Rattle.order_model.specs.Board.{Board, StandsFor, picture_in}
 use Rattle.order_model.specs.Sent.{jobs_of}
 use Rattle.order_model.specs.Standing.{IsUnderWay, new_progress}
-use Rattle.order_model.proofs.SceneListsAreWellFormed.{scene_client_count}
+use Rattle.scene_lemmas.proofs.Scenes.{scene_client_count}
 use Rattle.tile_model.specs.Boards.{IsNewBoard}
 use Rattle.tile_model.proofs.ProgressGoesOn.{new_under_way}
 

@@ -6,6 +6,6 @@ mod LedgersGoOn
 mod FramesGoOn
 mod TileSteps
 mod FoundLanes
-mod CoresStand
-mod TilesMeetTheirClause
+pub mod CoresStand
+pub mod TilesMeetTheirClause
 mod Asked

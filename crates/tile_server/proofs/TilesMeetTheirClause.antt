@@ -59,7 +59,7 @@ behind xs x zs h = subst (λ vs. slice_get vs (length xs) ≡ Some x) (sym (h.1 
 
 -- ---- what a deed takes is what its item takes
 
-same_taken : (deed : TileDeed) (i : ℕ) → taken_of deed i ≡ parcel_taken (item_of deed) i
+pub same_taken : (deed : TileDeed) (i : ℕ) → taken_of deed i ≡ parcel_taken (item_of deed) i
 same_taken (Performs e) i = refl
 same_taken (Shows part) i = refl
 same_taken Fails i = refl
@@ -69,7 +69,7 @@ same_taken (Takes client parcel how) i = refl
 same_taken Rests i = refl
 same_taken Finishes i = refl
 
-same_granted : (deed : TileDeed) → granted_of deed ≡ grant_taken (item_of deed)
+pub same_granted : (deed : TileDeed) → granted_of deed ≡ grant_taken (item_of deed)
 same_granted (Performs e) = refl
 same_granted (Shows part) = refl
 same_granted Fails = refl

@@ -17,12 +17,12 @@ use Rattle.rc_base.specs.declared.sync.Request.TheVariants as request
 use Rattle.rc_base.specs.declared.sync.SyncLists.{SyncLists}
 use Rattle.rc_base.specs.declared.window.Layout.{Layout}
 use Rattle.order_model.specs.Laws.{BooksStayLegal}
-use Rattle.order_model.proofs.SceneListsAreWellFormed.{scene_client_count}
 use Rattle.sync_manager.specs.Progress.{ManagerProgress, IsNextDeed, event_of, progress_after, answer_of, taken_of, sent_to}
 use Rattle.sync_manager.specs.Promises.{grants_of, IsManagerRight, StepsKeepManagersRight}
 use Rattle.sync_manager.specs.declared.deed.ManagerDeed.{ManagerDeed}
 use Rattle.sync_manager.specs.declared.deed.ManagerDeed.TheVariants.{Delivers, FindsFull, Grants, Receives, Loses, FindsNoRequest, Drops, FindsNoneLeft, Finishes}
 use Rattle.tile_model.specs.Items.{grants_heard}
+use Rattle.scene_lemmas.proofs.Scenes.{scene_client_count}
 use Rattle.world_model.specs.Moves.{IsManagerMove}
 use Rattle.world_model.specs.Sound.{IsEndOf, IsTileSound, IsParcelLane, IsSound}
 use Rattle.world_model.specs.Tiles.{Tile}

@@ -12,12 +12,12 @@ use Rattle.rc_base.specs.declared.scene.Scene.{Scene}
 use Rattle.rc_base.specs.declared.sync.Grant.{Grant}
 use Rattle.rc_base.specs.declared.sync.Grant.TheVariants as grant_item
 use Rattle.rc_base.specs.declared.window.Layout.{Layout}
-use Rattle.order_model.proofs.SceneListsAreWellFormed.{scene_client_count}
 use Rattle.sync_manager.specs.Progress.{ManagerProgress, IsReceiving, IsDraining, IsGrantDue, may_arrive, IsNextDeed, IsFoundFull, IsFoundEmpty, answer_of}
 use Rattle.sync_manager.specs.declared.deed.ManagerDeed.{ManagerDeed}
 use Rattle.sync_manager.specs.declared.deed.ManagerDeed.TheVariants.{Delivers, FindsFull, Grants, Receives, Loses, FindsNoRequest, Drops, FindsNoneLeft, Finishes}
 use Rattle.tile_model.specs.Laws.{MembersAreClients}
 use Rattle.tile_model.specs.Short.{asks, listens, IsFinished, NothingIsDue}
+use Rattle.scene_lemmas.proofs.Scenes.{scene_client_count}
 use Rattle.world_model.specs.Fair.{HaveTurns, FairTurnsMoveSomebody}
 use Rattle.world_model.specs.Laws.{IsSameWorld, RoundsMoveSomebody}
 use Rattle.world_model.specs.Moves.{IsAtRest, IsClientStep, IsTileMove}

@@ -16,10 +16,10 @@ use Rattle.rc_base.specs.declared.sync.SyncLists.{SyncLists}
 use Rattle.rc_base.specs.declared.sync.WaitAt.{WaitAt}
 use Rattle.rc_base.specs.declared.window.Layout.{Layout}
 use Rattle.order_model.specs.Standing.{Progress, performed_in, is_over}
-use Rattle.order_model.proofs.SceneListsAreWellFormed.{scene_client_count}
 use Rattle.sync_manager.specs.Progress.{NoMoreComes, IsReceiving, IsDraining, may_arrive, is_end, IsNextDeed}
 use Rattle.sync_manager.specs.declared.deed.ManagerDeed.TheVariants.{Finishes}
 use Rattle.tile_model.specs.Laws.{MembersAreClients}
+use Rattle.scene_lemmas.proofs.Scenes.{scene_client_count}
 use Rattle.world_model.specs.Flowing.{waits, asks, uses, is_end_parcel, IsInTurn, IsTileCounted, IsFlowing}
 use Rattle.world_model.specs.Turns.{AllHaveStopped}
 use Rattle.world_model.specs.World.{World, client_total}

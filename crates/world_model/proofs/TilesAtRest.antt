@@ -18,11 +18,11 @@ use Rattle.rc_base.specs.declared.sync.WaitAt.{WaitAt}
 use Rattle.rc_base.specs.declared.window.Layout.{Layout}
 use Rattle.order_model.specs.Laws.{AreOfClients}
 use Rattle.order_model.specs.Standing.{Progress, performed_in, is_over, is_asked}
-use Rattle.order_model.proofs.SceneListsAreWellFormed.{scene_client_count}
 use Rattle.tile_model.specs.Items.{has_clients}
 use Rattle.tile_model.specs.Laws.{MembersAreClients}
 use Rattle.tile_model.specs.Short.{listens, NothingIsDue}
 use Rattle.tile_model.specs.Short.{asks as takes_from}
+use Rattle.scene_lemmas.proofs.Scenes.{scene_client_count}
 use Rattle.world_model.specs.Flowing.{waits, asks, uses, is_no_more, IsTileCounted, IsFlowing}
 use Rattle.world_model.specs.World.{World, client_total}
 use Rattle.world_model.proofs.OrderlySequences.{none_of, waits_append, asks_append, asked_within, end_is_last}

@@ -13,10 +13,10 @@ use Rattle.rc_base.specs.declared.sync.Grant.TheVariants as grant_item
 use Rattle.rc_base.specs.declared.window.Layout.{Layout}
 use Rattle.order_model.specs.Standing.{Progress, IsUnderWay, is_asked}
 use Rattle.order_model.specs.Sent.{jobs_of}
-use Rattle.order_model.proofs.SceneListsAreWellFormed.{scene_client_count}
 use Rattle.tile_model.specs.Items.{Item, after_item, IsAwaited, parcel_taken, grant_taken}
 use Rattle.tile_model.specs.Items.Item.{Nothing, Due, Granted, NoMore, Sent}
 use Rattle.tile_model.specs.Short.{NothingIsDue}
+use Rattle.scene_lemmas.proofs.Scenes.{scene_client_count}
 use Rattle.world_model.specs.Laws.{AreAlike}
 use Rattle.world_model.specs.Moves.{IsTileMove}
 use Rattle.world_model.specs.Sound.{IsSound}

@@ -14,7 +14,6 @@ use Rattle.rc_base.specs.declared.sync.Request.{Request}
 use Rattle.rc_base.specs.declared.window.Layout.{Layout}
 use Rattle.order_model.specs.Board.{StandsFor}
 use Rattle.order_model.specs.Standing.{Progress}
-use Rattle.order_model.proofs.SceneListsAreWellFormed.{scene_client_count}
 use Rattle.sync_manager.specs.Progress.{ManagerProgress}
 use Rattle.sync_manager.specs.Promises.{grants_of, IsManagerRight}
 use Rattle.tile_model.specs.Items.{Item, after_item, IsAwaited, IsItemOf, parcel_taken, grant_taken, grants_heard}
@@ -22,6 +21,7 @@ use Rattle.tile_model.specs.Items.Item.{Nothing, Due, Granted, NoMore, Sent}
 use Rattle.tile_model.specs.Laws.{StepsStand, SwapsShowFrames}
 use Rattle.tile_model.specs.Scenes.{IsInRange, HasSides}
 use Rattle.client_issue.specs.Clauses.{counted}
+use Rattle.scene_lemmas.proofs.Scenes.{scene_client_count}
 use Rattle.world_model.specs.Moves.{IsTileMove}
 use Rattle.world_model.specs.Sound.{IsEndOf, GoesOnTo, ArePartsOf, IsTileSound, IsParcelLane, IsSound}
 use Rattle.world_model.specs.declared.moves.TileAnswer.{TileAnswer}

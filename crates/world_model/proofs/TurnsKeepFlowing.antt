@@ -22,11 +22,11 @@ use Rattle.rc_base.specs.declared.sync.Request.TheVariants as request
 use Rattle.rc_base.specs.declared.window.Layout.{Layout}
 use Rattle.order_model.specs.Laws.{BooksStayLegal}
 use Rattle.order_model.specs.Standing.{Progress}
-use Rattle.order_model.proofs.SceneListsAreWellFormed.{scene_client_count}
 use Rattle.sync_manager.specs.Progress.{ManagerProgress, taken_of, sent_to, is_end}
 use Rattle.sync_manager.specs.Promises.{grants_of, IsManagerRight, StepsKeepManagersRight}
 use Rattle.tile_model.specs.Items.{Item, grant_taken, parcel_taken}
 use Rattle.tile_model.specs.Items.Item.{Nothing, Due, Granted, NoMore, Sent}
+use Rattle.scene_lemmas.proofs.Scenes.{scene_client_count}
 use Rattle.world_model.specs.Flowing.{IsInTurn, EndsWithRequest, IsOrderly, is_end_parcel, IsTileFlowing, IsFlowing}
 use Rattle.world_model.specs.Moves.{IsIdle, OnlyClient, OnlyTile, IsClientStep, IsManagerStep, IsTileMove}
 use Rattle.world_model.specs.Short.{MayLose}

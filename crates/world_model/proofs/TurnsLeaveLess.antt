@@ -30,13 +30,13 @@ use Rattle.order_model.specs.Standing.{Progress, performed_in}
 use Rattle.order_model.specs.declared.record.LogEntry.TheVariants.{Performed}
 use Rattle.order_model.proofs.ClientsBeyond.{past_after}
 use Rattle.order_model.proofs.DefaultJournalIsMaximal.{uses_one}
-use Rattle.order_model.proofs.SceneListsAreWellFormed.{scene_client_count}
 use Rattle.sync_manager.specs.Progress.{ManagerProgress, IsGrantDue, IsNextDeed, progress_after, answer_of, taken_of, sent_to, event_of}
 use Rattle.sync_manager.specs.declared.deed.ManagerDeed.{ManagerDeed}
 use Rattle.sync_manager.specs.declared.deed.ManagerDeed.TheVariants.{Delivers, FindsFull, Grants, Receives, Loses, FindsNoRequest, Drops, FindsNoneLeft, Finishes}
 use Rattle.tile_model.specs.Items.{Item, after_item, grant_taken, parcel_taken, IsAwaited}
 use Rattle.tile_model.specs.Items.Item.{Nothing, Due, Granted, NoMore, Sent}
 use Rattle.tile_model.specs.Short.{after_lost}
+use Rattle.scene_lemmas.proofs.Scenes.{scene_client_count}
 use Rattle.world_model.specs.Flowing.{ask_by, asks, IsFlowing}
 use Rattle.world_model.specs.Moves.{IsAtRest, IsClientMove, IsManagerStep, IsTileMove, OnlyClient, OnlyTile}
 use Rattle.world_model.specs.declared.moves.Move.TheVariants.{Client as ClientMove, Tile as TileMove}

@@ -13,10 +13,10 @@ use Rattle.rc_base.specs.declared.window.Layout.{Layout}
 use Rattle.order_model.specs.Gathering.{HasArrived}
 use Rattle.order_model.proofs.ClientsBeyond.{ops_past}
 use Rattle.order_model.proofs.MoreOperations.{IsFront, legal_more}
-use Rattle.order_model.proofs.SceneListsAreWellFormed.{scene_client_count}
 use Rattle.sync_manager.specs.Promises.{grants_of}
 use Rattle.sync_manager.proofs.FrontsArrive.{still_comes, nobody_arrives}
 use Rattle.tile_model.specs.Scenes.{IsInRange}
+use Rattle.scene_lemmas.proofs.Scenes.{scene_client_count}
 use Rattle.world_model.specs.Sound.{GoesOnTo, IsSound}
 use Rattle.world_model.specs.World.{World, client_total}
 use Rattle.tile_model.proofs.DeclaredOperations.{scene_declared}

@@ -8,8 +8,9 @@ use Rattle.geometry.specs.Items.{AreBelow}
 use Rattle.rc_base.specs.Drawing.Pieces.{kept_corners_of}
 use Rattle.geometry.proofs.PiecesKept.{whole_kept}
 use Rattle.rc_base.specs.Cluster.Tiles.{kept_corners, corners_in}
+use Rattle.plain_lemmas.proofs.Lists.{all_behind_first}
 use Rattle.bounds_bucket.specs.Extents.{IsGrown}
-use Rattle.bounds_bucket.proofs.EndsOfCorners.{one_more, all_rest}
+use Rattle.bounds_bucket.proofs.EndsOfCorners.{one_more}
 use Rattle.bounds_bucket.proofs.block.block_extent.Goals as goal
 
 pub block-preserved : goal.block-preserved
@@ -28,6 +29,6 @@ block-preserved c =
     record {
       state = c.grown-extent.ensures.state ∙ v.state;
       vertices = c.grown-extent.ensures.vertices ∙ v.vertices;
-      below = all_rest (AreBelow (length vs)) t _ _ e v.below;
+      below = all_behind_first (AreBelow (length vs)) t _ _ e v.below;
       spans = one_more s c.args.block.now t _ _ (kept_corners s c.args.block.now) c.block.extent c.grown-extent.result e v.spans more;
     }

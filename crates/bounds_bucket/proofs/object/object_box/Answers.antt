@@ -1,12 +1,12 @@
 use Rattle.std.proofs.Common.{◌≡◌, ◌<◌, length, take, arith, inl, inr, sym, ap, subst, ◌∙◌, pos, ◌<ℤ◌, to_z, of_z, w32, rules}
 use Rattle.rc_base.specs.Numbers.{entry}
 use Rattle.rc_base.specs.Drawing.Triangles.{shape_of}
+use Rattle.plain_lemmas.proofs.Numbers.{from_int_lt}
 use Rattle.bounds_bucket.specs.Standing.{standing_count}
 use Rattle.rc_base.specs.Cluster.ObjectBox.{bounding_box, clip_over}
 use Rattle.rc_base.specs.declared.state.Effect.TheVariants as eff
 use Rattle.bounds_bucket.proofs.ObjectRects.{no_corner, no_viewport, boxed}
 use Rattle.bounds_bucket.proofs.BoxTiles.{box_if_any}
-use Rattle.bounds_bucket.proofs.WholeNumbers.{lt_out}
 use Rattle.bounds_bucket.proofs.object.object_box.Goals as goal
 
 pub returns-then-count-eq0 : goal.returns-then-count-eq0
@@ -18,13 +18,13 @@ returns-then-count-eq0 c =
 pub returns-then-state-lt0 : goal.returns-then-state-lt0
 returns-then-state-lt0 c =
     let fits : to_z w32 (of_z w32 (entry c.args.state.now.viewport 2)) ≡ entry c.args.state.now.viewport 2 = search rules in
-    let below : entry c.args.state.now.viewport 2 <ℤ pos 0 = lt_out (entry c.args.state.now.viewport 2) (pos 0) (simp fits at c.if-state-lt0.true) in
+    let below : entry c.args.state.now.viewport 2 <ℤ pos 0 = from_int_lt (entry c.args.state.now.viewport 2) (pos 0) (simp fits at c.if-state-lt0.true) in
     no_viewport c.args.state.now c.args.block.now c.args.window c.requires (inl below)
 
 pub returns-then-state-lt0-2 : goal.returns-then-state-lt0-2
 returns-then-state-lt0-2 c =
     let fits : to_z w32 (of_z w32 (entry c.args.state.now.viewport 3)) ≡ entry c.args.state.now.viewport 3 = search rules in
-    let below : entry c.args.state.now.viewport 3 <ℤ pos 0 = lt_out (entry c.args.state.now.viewport 3) (pos 0) (simp fits at c.if-state-lt0-2.true) in
+    let below : entry c.args.state.now.viewport 3 <ℤ pos 0 = from_int_lt (entry c.args.state.now.viewport 3) (pos 0) (simp fits at c.if-state-lt0-2.true) in
     no_viewport c.args.state.now c.args.block.now c.args.window c.requires (inr below)
 
 pub returns : goal.returns

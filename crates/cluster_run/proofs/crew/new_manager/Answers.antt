@@ -1,6 +1,6 @@
 use Rattle.std.proofs.Common.{refl, sym, ◌∙◌}
 use Rattle.rc_base.specs.Orders.Sync.{sync_lists_of}
-use Rattle.order_model.proofs.SceneListsAreWellFormed.{scene_client_count}
+use Rattle.scene_lemmas.proofs.Scenes.{scene_client_count}
 use Rattle.cluster_run.proofs.crew.new_manager.Goals as goal
 
 pub returns : goal.returns

@@ -2,7 +2,8 @@ use Rattle.std.proofs.Common.{◌≡◌, arith, to_z-of_z, true, false, sym, ◌
 use Rattle.std.proofs.lemmas.Int.{ints}
 use Rattle.rc_base.specs.Drawing.Cover.{triangle_area}
 use Rattle.rc_base.specs.Drawing.Kept.{three, is_culled}
-use Rattle.geometry.proofs.Facing.{not_shown_flat, not_shown_culled, shown, turned_round, left_as_is, area_turned}
+use Rattle.scene_lemmas.proofs.Triangles.{turned_round}
+use Rattle.geometry.proofs.Facing.{not_shown_flat, not_shown_culled, shown, left_as_is, area_turned}
 use Rattle.geometry.proofs.window.assemble.Goals as goal
 
 pub returns-then-area-eq0 : goal.returns-then-area-eq0

@@ -1,9 +1,8 @@
 use Rattle.std.proofs.Common.{arith, ap, length, slice_index}
-use Rattle.std.proofs.lemmas.List.{get_or_past}
+use Rattle.std.proofs.lemmas.List.{get_or_past, drop_all}
 use Rattle.order_model.specs.Checked.{takes_in}
 use Rattle.order_model.proofs.RecordedByCounts.{zeros}
 use Rattle.order_model.proofs.units.takes_of.Goals as goal
-use Rattle.order_model.proofs.UsedOperations.{drop_all}
 
 pub loop-entry-init : goal.loop-entry-init
 loop-entry-init c = record {
@@ -19,5 +18,5 @@ returns-clause-names c s ge =
       arith,
       inv.takes s,
       get_or_past c.loop-entry.takes s 0 (omega (arith, inv.room)),
-      ap (takes_in s) (drop_all c.args.journal.now c.loop-entry.entry-index (omega arith)),
+      ap (takes_in s) (drop_all c.loop-entry.entry-index c.args.journal.now (omega arith)),
     )

@@ -6,12 +6,13 @@ use Rattle.rc_base.specs.Drawing.Cover.{is_in_scissor}
 use Rattle.rc_base.specs.Drawing.PixelStep.{clear_step}
 use Rattle.rc_base.specs.declared.window.Rect.{Rect}
 use Rattle.rc_base.specs.declared.window.Span.{Span}
+use Rattle.plain_lemmas.proofs.Places.{row_part_within}
 use Rattle.draw_device.specs.Pixels.{pixels_of}
 use Rattle.raster.specs.Clips.{IsPartWhere}
 use Rattle.draw_device.specs.Shapes.{row_at, grid_rect, cleared_pixel}
 use Rattle.draw_device.specs.declared.extent.Extent.{Extent}
 use Rattle.draw_device.proofs.Lists.{row_placed}
-use Rattle.draw_device.proofs.SpansToPixels.{room, below_cleared, above_cleared, none_cleared, clear_row, span_drawn, stepped_none, stepped_more, stepped_all}
+use Rattle.draw_device.proofs.SpansToPixels.{below_cleared, above_cleared, none_cleared, clear_row, span_drawn, stepped_none, stepped_more, stepped_all}
 use Rattle.draw_device.proofs.grid.Grid.clear.Goals.{then-part-via-then-part, then-part-via-else-part+then-part-2}
 use Rattle.draw_device.proofs.grid.Grid.clear.Goals as goal
 
@@ -59,7 +60,7 @@ loop-row-preserved c =
     let new_ds = c.clear_row.new.depths in
     let within : end ≤ length grid.colors.items =
     let below : r < grid.extent.height = omega (arith, ints) in
-    let k = room grid.extent.width grid.extent.height r grid.extent.width below (omega arith) in omega (arith, k, grid.full, c.row_start-start.ensures) in
+    let k = row_part_within grid.extent.width grid.extent.height r grid.extent.width below (omega arith) in omega (arith, k, grid.full, c.row_start-start.ensures) in
     let size_cs = c.clear_row.ensures.colors in
     let size_ds = c.clear_row.ensures.depths in
     let back_cs = with_items_is grid.colors (put_mid start (end - start) cs new_cs) (same_len_mid start (end - start) cs new_cs size_cs ∙ c.as_mut_slice.ensures.len) in

@@ -5,10 +5,11 @@ use Rattle.geometry.specs.Items.{AreBelow, rest_from}
 use Rattle.rc_base.specs.Drawing.Pieces.{kept_corners_of}
 use Rattle.rc_base.specs.Drawing.Triangles.{triangles_in}
 use Rattle.rc_base.specs.Drawing.PixelStep.{triangle_step}
+use Rattle.plain_lemmas.proofs.Lists.{all_behind_first}
 use Rattle.draw_device.specs.Pixels.{pixel_at, pixels_of}
 use Rattle.draw_device.specs.Shapes.{column_at, row_at, triangles_step, IsStepped}
 use Rattle.draw_device.specs.declared.extent.Extent.{Extent}
-use Rattle.draw_device.proofs.BlockPixels.{draws_more, draws_done, all_rest, first_rest}
+use Rattle.draw_device.proofs.BlockPixels.{draws_more, draws_done, first_rest}
 use Rattle.draw_device.proofs.grid.Grid.draw_cut.Goals as goal
 
 pub cuts-init : goal.cuts-init
@@ -48,7 +49,7 @@ cuts-preserved c =
       extent = c.draw_cut_corners.ensures.extent ∙ v.extent;
       state = c.draw_cut_corners.ensures.cache.state;
       vertices = c.draw_cut_corners.ensures.cache.vertices;
-      below = all_rest (AreBelow (length block.vertices)) t _ _ e v.below;
+      below = all_behind_first (AreBelow (length block.vertices)) t _ _ e v.below;
       rest = λ i j li lj.
           draws_more (triangle_step s p (column_at g i) (row_at g j)) (kept_corners_of s block) (pixel_at old (j * g.width + i)) (pixel_at new (j * g.width + i))
           (pixel_at start (j * g.width + i)) t _ _ (triangles_in block) e

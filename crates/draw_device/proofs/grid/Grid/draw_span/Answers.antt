@@ -4,11 +4,12 @@ use Rattle.std.proofs.lemmas.Int.{ints}
 use Rattle.std.proofs.lemmas.List.{with_items_is}
 use borrow.Rule.Slice.PartMut.{put_mid, same_len_mid}
 use Rattle.rc_base.specs.Drawing.Cover.{is_inside}
+use Rattle.plain_lemmas.proofs.Places.{row_part_within}
 use Rattle.draw_device.specs.Shapes.{fragment_pixel, IsRowChanged}
 use Rattle.draw_device.specs.Loops.{IsGridRow}
 use Rattle.draw_device.specs.declared.extent.Extent.{Extent}
 use Rattle.draw_device.proofs.Lists.{row_placed}
-use Rattle.draw_device.proofs.SpansToPixels.{room, span_drawn}
+use Rattle.draw_device.proofs.SpansToPixels.{span_drawn}
 use Rattle.draw_device.proofs.grid.Grid.draw_span.Goals as goal
 
 pub draw_row-requires-clause-row : goal.draw_row-requires-clause-row
@@ -59,7 +60,7 @@ returns-clause-drawn c =
     let ab : from ≤ to = omega (arith, ints) in
     let bw : to ≤ g.width = omega (arith, ints) in
     let low : up < g.height = omega (arith, ints) in
-    let inside : end ≤ length grid.colors.items = let r = room g.width g.height up g.width low (omega arith) in omega (arith, r, grid.full, c.row_start-start.ensures) in
+    let inside : end ≤ length grid.colors.items = let r = row_part_within g.width g.height up g.width low (omega arith) in omega (arith, r, grid.full, c.row_start-start.ensures) in
     let done = subst (λ (g : Extent). IsRowChanged f g.left (g.bottom + up) from to (take (end - start) (drop start cs)) (take (end - start) (drop start ds)) new_cs new_ds) c.requires.grid c.draw_row.ensures.drawn in
     let size_cs = done.colors in
     let size_ds = done.depths in

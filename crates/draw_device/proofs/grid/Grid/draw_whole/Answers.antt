@@ -9,10 +9,11 @@ use Rattle.rc_base.specs.Drawing.Pieces.{kept_corners_of}
 use Rattle.rc_base.specs.Drawing.Triangles.{triangles_in}
 use Rattle.geometry.proofs.PiecesKept.{whole_kept}
 use Rattle.rc_base.specs.Drawing.PixelStep.{triangle_step}
+use Rattle.plain_lemmas.proofs.Lists.{all_behind_first}
 use Rattle.draw_device.specs.Pixels.{pixel_at, pixels_of}
 use Rattle.draw_device.specs.Shapes.{column_at, row_at, corners_step, IsStepped}
 use Rattle.draw_device.specs.declared.extent.Extent.{Extent}
-use Rattle.draw_device.proofs.BlockPixels.{draws_more, draws_done, all_rest, first_rest}
+use Rattle.draw_device.proofs.BlockPixels.{draws_more, draws_done, first_rest}
 use Rattle.draw_device.proofs.grid.Grid.draw_whole.Goals as goal
 
 pub draws-init : goal.draws-init
@@ -57,7 +58,7 @@ draws-preserved c =
       extent = c.draw_corners.ensures.extent ∙ v.extent;
       state = c.draw_corners.ensures.cache.state ∙ v.state;
       vertices = c.draw_corners.ensures.cache.vertices ∙ v.vertices;
-      below = all_rest (AreBelow (length block.vertices)) t _ _ e v.below;
+      below = all_behind_first (AreBelow (length block.vertices)) t _ _ e v.below;
       rest = λ i j li lj.
           draws_more (triangle_step s p (column_at g i) (row_at g j)) (kept_corners_of s block) (pixel_at old (j * g.width + i)) (pixel_at new (j * g.width + i))
           (pixel_at start (j * g.width + i)) t _ _ (triangles_in block) e
