@@ -7,8 +7,8 @@ use Rattle.std.proofs.lemmas.Bool.{cases_eq}
 use Rattle.std.specs.List.{flat_map, AllByRecursion}
 use Rattle.spu_chain.specs.declared.rule.SpuRule.{SpuRule}
 use Rattle.command_line.specs.Filters.{Filter, due_words, filter_words, IsFilter, BeginsFilter, LeadsWith, NamesChain, LacksWords, HasTooMany, NamesNone, rule_of}
-use Rattle.command_line.specs.Filters.Filter.{Recolour, Cull, Drop, Count}
-use Rattle.spu_chain.specs.Filter.{HasByteTint, HaveRoom}
+use Rattle.command_line.specs.Filters.Filter.{Count}
+use Rattle.spu_chain.specs.Filter.{HasByteTint, HasRoom, HaveRoom}
 use Rattle.command_line.proofs.FilterWords.{same_filter}
 
 -- ---- lists of filters
@@ -91,17 +91,15 @@ module _ (words : List (List ℕ)) (rules : List SpuRule) (count : ℕ) (chain :
 
 named_tints : (fs : List Filter) → AllByRecursion IsFilter fs → AllByRecursion HasByteTint (map rule_of fs)
 named_tints [] h = tt
-named_tints (Recolour tint ∷ fs) h = (h.0, named_tints fs h.1)
-named_tints (Cull ∷ fs) h = (tt, named_tints fs h.1)
-named_tints (Drop o ∷ fs) h = (tt, named_tints fs h.1)
-named_tints (Count ∷ fs) h = (tt, named_tints fs h.1)
+named_tints (f ∷ fs) h = (h.0, named_tints fs h.1)
+
+rule_room : (f : Filter) (n : ℕ) → n ≤ 2 ^ 63 → HasRoom n (rule_of f)
+rule_room Count n le = omega (arith, le)
+rule_room f n le = tt
 
 named_room : (fs : List Filter) (n : ℕ) → n ≤ 2 ^ 63 → HaveRoom n (map rule_of fs)
 named_room [] n le = tt
-named_room (Recolour tint ∷ fs) n le = (tt, named_room fs n le)
-named_room (Cull ∷ fs) n le = (tt, named_room fs n le)
-named_room (Drop o ∷ fs) n le = (tt, named_room fs n le)
-named_room (Count ∷ fs) n le = (omega (arith, le), named_room fs n le)
+named_room (f ∷ fs) n le = (rule_room f n le, named_room fs n le)
 
 module _ (words : List (List ℕ)) (rules : List SpuRule) (count : ℕ) (chain : NamesChain words rules count) where
   pub chain_tints : AllByRecursion HasByteTint rules

@@ -2,6 +2,7 @@ pub mod Numbers
 pub mod FirstWords
 pub mod Due
 pub mod OneSetting
+pub mod OneRow
 pub mod Reading
 pub mod Lines
 pub mod ClapRows

@@ -1,7 +1,5 @@
 -- What is read of a job's words is the line of its settings.
-use Rattle.std.specs.Prelude.{codes}
-use Rattle.std.specs.Str.{bytes_eq}
-use Rattle.std.proofs.Common.{◌≡◌, ◌≢◌, ℕ, true, false, List, [], ◌∷◌, ◌++◌, ◌⊎◌, inl, inr, Option, None, Some, if◌then◌else◌, map, sym, ap, subst, ◌∙◌, refl}
+use Rattle.std.proofs.Common.{◌≡◌, ◌≢◌, ℕ, true, false, List, [], ◌∷◌, ◌++◌, ◌⊎◌, inl, inr, Some, map, sym, ap, subst, ◌∙◌, refl}
 use Rattle.std.specs.List.{flat_map, AllByRecursion}
 use Rattle.rc_base.specs.Lists.{IsIn, NoRepeat}
 use Rattle.command_line.specs.declared.job.JobName.{JobName}
@@ -9,6 +7,7 @@ use Rattle.command_line.specs.declared.job.OptionName.{OptionName}
 use Rattle.command_line.specs.Words.{Setting, option_of, options_of, options_due, setting_words, job_word, IsSetting, IsCommandLine}
 use Rattle.command_line.specs.declared.job.OptionName.TheVariants.{Tiles, Depth, Order, Seed, Size}
 use Rattle.command_line.specs.declared.job.JobName.TheVariants.{Render, Simulate, Serial, Last, Check, Race, Pack, Unpack, Gen, Demo}
+use Rattle.command_line.proofs.OneRow.{row_in, one_row}
 use Rattle.command_line.proofs.Reading.{one_reading}
 use Rattle.command_line.specs.declared.seen.Seen.{Seen}
 use Rattle.command_line.specs.Begins.{Begins}
@@ -23,30 +22,11 @@ Text = List ℕ
 -- with one more option, that option was seen, and each other one as before
 has_with : (g : Seen) (p o : OptionName) → ((o ≡ p) × (has (with_option g p) o ≡ true)) ⊎ ((o ≢ p) × (has (with_option g p) o ≡ has g o))
 has_with g Tiles Tiles = inl (refl, refl)
-has_with g Tiles Depth = inr (λ e. absurd cc, refl)
-has_with g Tiles Order = inr (λ e. absurd cc, refl)
-has_with g Tiles Seed = inr (λ e. absurd cc, refl)
-has_with g Tiles Size = inr (λ e. absurd cc, refl)
-has_with g Depth Tiles = inr (λ e. absurd cc, refl)
 has_with g Depth Depth = inl (refl, refl)
-has_with g Depth Order = inr (λ e. absurd cc, refl)
-has_with g Depth Seed = inr (λ e. absurd cc, refl)
-has_with g Depth Size = inr (λ e. absurd cc, refl)
-has_with g Order Tiles = inr (λ e. absurd cc, refl)
-has_with g Order Depth = inr (λ e. absurd cc, refl)
 has_with g Order Order = inl (refl, refl)
-has_with g Order Seed = inr (λ e. absurd cc, refl)
-has_with g Order Size = inr (λ e. absurd cc, refl)
-has_with g Seed Tiles = inr (λ e. absurd cc, refl)
-has_with g Seed Depth = inr (λ e. absurd cc, refl)
-has_with g Seed Order = inr (λ e. absurd cc, refl)
 has_with g Seed Seed = inl (refl, refl)
-has_with g Seed Size = inr (λ e. absurd cc, refl)
-has_with g Size Tiles = inr (λ e. absurd cc, refl)
-has_with g Size Depth = inr (λ e. absurd cc, refl)
-has_with g Size Order = inr (λ e. absurd cc, refl)
-has_with g Size Seed = inr (λ e. absurd cc, refl)
 has_with g Size Size = inl (refl, refl)
+has_with g p o = inr (λ e. absurd cc, refl)
 
 -- ---- what the settings that were read are
 
@@ -138,44 +118,20 @@ read_line {words} {job} {ss} l =
     let k = all_read {job = job} nothing ss l.each l.taken (λ o i. none_seen o) l.once in
     (k.0, k.1, λ o i. (told k.1).seen o (l.due o i))
 
--- the job that a word names
-abbrev job_in : Text → Option JobName
-job_in w =
-    if bytes_eq w (codes "render") then Some Render
-    else if bytes_eq w (codes "simulate") then Some Simulate
-    else if bytes_eq w (codes "serial") then Some Serial
-    else if bytes_eq w (codes "last") then Some Last
-    else if bytes_eq w (codes "check") then Some Check
-    else if bytes_eq w (codes "race") then Some Race
-    else if bytes_eq w (codes "pack") then Some Pack
-    else if bytes_eq w (codes "unpack") then Some Unpack
-    else if bytes_eq w (codes "gen") then Some Gen
-    else if bytes_eq w (codes "demo") then Some Demo
-    else None
+-- all jobs
+abbrev jobs : List JobName
+jobs = Render ∷ Simulate ∷ Serial ∷ Last ∷ Check ∷ Race ∷ Pack ∷ Unpack ∷ Gen ∷ Demo ∷ []
 
-job_found : (job : JobName) → job_in (job_word job) ≡ Some job
+job_found : (job : JobName) → row_in job_word jobs (job_word job) ≡ Some job
 job_found Render = refl
-job_found Simulate = refl
-job_found Serial = refl
-job_found Last = refl
-job_found Check = refl
-job_found Race = refl
-job_found Pack = refl
-job_found Unpack = refl
-job_found Gen = refl
-job_found Demo = refl
-
-job_word_injective : (job other : JobName) → job_word job ≡ job_word other → job ≡ other
-job_word_injective job other e =
-    let found : Some job ≡ Some other = sym (job_found job) ∙ (ap job_in e ∙ job_found other) in
-    cc
+job_found job = refl
 
 -- a line of these words is one of this job
 line_rest : {words rest : List Text} {job other : JobName} {ss : List Setting} → words ≡ job_word job ∷ rest → IsCommandLine words other ss
     → (job ≡ other) × (flat_map setting_words ss ≡ rest)
 line_rest {words} {rest} {job} {other} e l =
     let first : job_word job ≡ job_word other = let both = sym e ∙ l.parts in cc in
-    (job_word_injective job other first, let both = sym e ∙ l.parts in cc)
+    (one_row job_word jobs _ _ job other (job_found job) (job_found other) first, let both = sym e ∙ l.parts in cc)
 
 pub no_line : {words rest : List Text} {job : JobName} → words ≡ job_word job ∷ rest
     → ((ss : List Setting) (last : Seen) → Reads job nothing rest ss last → HasDue job last → ⊥)

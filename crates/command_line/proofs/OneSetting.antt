@@ -55,23 +55,4 @@ same_setting {ws} {rest} {more} (SeedOf c) (SeedOf d) b e =
 same_setting {ws} {rest} {more} (SizeOf c) (SizeOf d) b e =
     let words : setting_words (SizeOf c) ++ rest ≡ setting_words (SizeOf d) ++ more = sym b.parts ∙ e.parts in
     (ap SizeOf (decimal_injective c d b.fits e.fits cc), cc)
-same_setting (TilesOf c r) (DepthOf d) b e = let o : Tiles ≡ Depth = same_option b e in absurd cc
-same_setting (TilesOf c r) WithOrder b e = let o : Tiles ≡ Order = same_option b e in absurd cc
-same_setting (TilesOf c r) (SeedOf d) b e = let o : Tiles ≡ Seed = same_option b e in absurd cc
-same_setting (TilesOf c r) (SizeOf d) b e = let o : Tiles ≡ Size = same_option b e in absurd cc
-same_setting (DepthOf c) (TilesOf d q) b e = let o : Depth ≡ Tiles = same_option b e in absurd cc
-same_setting (DepthOf c) WithOrder b e = let o : Depth ≡ Order = same_option b e in absurd cc
-same_setting (DepthOf c) (SeedOf d) b e = let o : Depth ≡ Seed = same_option b e in absurd cc
-same_setting (DepthOf c) (SizeOf d) b e = let o : Depth ≡ Size = same_option b e in absurd cc
-same_setting WithOrder (TilesOf d q) b e = let o : Order ≡ Tiles = same_option b e in absurd cc
-same_setting WithOrder (DepthOf d) b e = let o : Order ≡ Depth = same_option b e in absurd cc
-same_setting WithOrder (SeedOf d) b e = let o : Order ≡ Seed = same_option b e in absurd cc
-same_setting WithOrder (SizeOf d) b e = let o : Order ≡ Size = same_option b e in absurd cc
-same_setting (SeedOf c) (TilesOf d q) b e = let o : Seed ≡ Tiles = same_option b e in absurd cc
-same_setting (SeedOf c) (DepthOf d) b e = let o : Seed ≡ Depth = same_option b e in absurd cc
-same_setting (SeedOf c) WithOrder b e = let o : Seed ≡ Order = same_option b e in absurd cc
-same_setting (SeedOf c) (SizeOf d) b e = let o : Seed ≡ Size = same_option b e in absurd cc
-same_setting (SizeOf c) (TilesOf d q) b e = let o : Size ≡ Tiles = same_option b e in absurd cc
-same_setting (SizeOf c) (DepthOf d) b e = let o : Size ≡ Depth = same_option b e in absurd cc
-same_setting (SizeOf c) WithOrder b e = let o : Size ≡ Order = same_option b e in absurd cc
-same_setting (SizeOf c) (SeedOf d) b e = let o : Size ≡ Seed = same_option b e in absurd cc
+same_setting s t b e = absurd (let other = same_option b e in cc)

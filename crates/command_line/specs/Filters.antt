@@ -7,7 +7,7 @@ use Rattle.rc_base.specs.declared.command.Opcode.{Opcode}
 use Rattle.rc_base.specs.Formats.Commands.{table_row, opcode_number}
 use Rattle.spu_chain.specs.declared.rule.SpuRule.{SpuRule}
 use Rattle.spu_chain.specs.declared.rule.SpuRule.TheVariants as rule
-use Rattle.spu_chain.specs.Filter.{IsTint}
+use Rattle.spu_chain.specs.Filter.{HasByteTint}
 
 -- what stands before a job: a filter, with what its words say
 pub data Filter : Type 0 where
@@ -20,38 +20,37 @@ pub data Filter : Type 0 where
   -- commands are counted
   Count : Filter
 
--- the word that it begins with, and the words that are due behind it
-abbrev pub filter_word : Filter → List ℕ
-filter_word (Recolour tint) = codes "recolour"
-filter_word Cull = codes "cull"
-filter_word (Drop opcode) = codes "drop"
-filter_word Count = codes "count"
+-- the word that it begins with, the words that are due behind it, and the rule of the member that it stands for
+pub record FilterRow : Type 0 where
+  pub word : List ℕ
+  pub due : List (List ℕ)
+  pub made : SpuRule
 
 abbrev pub tint_words : Rgba → List (List ℕ)
 tint_words tint = decimal tint.r ∷ decimal tint.g ∷ decimal tint.b ∷ decimal tint.a ∷ []
 
+-- the filters, one row each; a count begins at 0
+abbrev pub filter_row : Filter → FilterRow
+filter_row (Recolour tint) = record { word = codes "recolour"; due = tint_words tint; made = rule.Recolour tint }
+filter_row Cull = record { word = codes "cull"; due = []; made = rule.Cull }
+filter_row (Drop opcode) = record { word = codes "drop"; due = (table_row opcode).name ∷ []; made = rule.Drop (opcode_number opcode) }
+filter_row Count = record { word = codes "count"; due = []; made = rule.Count 0 }
+
+abbrev pub filter_word : Filter → List ℕ
+filter_word f = (filter_row f).word
+
 abbrev pub due_words : Filter → List (List ℕ)
-due_words (Recolour tint) = tint_words tint
-due_words Cull = []
-due_words (Drop opcode) = (table_row opcode).name ∷ []
-due_words Count = []
+due_words f = (filter_row f).due
+
+abbrev pub rule_of : Filter → SpuRule
+rule_of f = (filter_row f).made
 
 abbrev pub filter_words : Filter → List (List ℕ)
 filter_words f = filter_word f ∷ due_words f
 
 -- the channels of its tint are bytes
 abbrev pub IsFilter : Filter → Type 0
-IsFilter (Recolour tint) = IsTint tint
-IsFilter Cull = Unit {0}
-IsFilter (Drop opcode) = Unit {0}
-IsFilter Count = Unit {0}
-
--- the rule of the member that it stands for, whose count begins at 0
-abbrev pub rule_of : Filter → SpuRule
-rule_of (Recolour tint) = rule.Recolour tint
-rule_of Cull = rule.Cull
-rule_of (Drop opcode) = rule.Drop (opcode_number opcode)
-rule_of Count = rule.Count 0
+IsFilter f = HasByteTint (rule_of f)
 
 -- the first word is one that a filter begins with
 abbrev pub BeginsFilter : List (List ℕ) → Type 0

@@ -5,7 +5,7 @@
 ghost use Rattle.std.specs.Prelude.{◌≡◌, IfOk, OnErr, map, string_bytes};
 ghost use Rattle.rc_base.specs.Outside.Ends.{use_of};
 ghost use Rattle.command_line.specs.Filters.{AreNamed};
-ghost use Rattle.render_core.specs.Jobs.{AskFiltered};
+ghost use Rattle.run_words.specs.Jobs.{AskFiltered};
 ghost use Rattle.render_core.specs.Outcomes.{Ended};
 
 use rc_base::gate::OpenGate;

@@ -17,10 +17,11 @@ use Rattle.client_issue.specs.Cores.{no_tally}
 use Rattle.order_model.specs.Report.{count_lines, fault_lines, order_line, order_lines, report_text_of, stuck_lines, tile_line, tile_lines, tile_order}
 use Rattle.order_model.specs.declared.record.Record.{Record}
 use Rattle.run_record.specs.Told.{IsRun}
-use Rattle.render_core.specs.declared.work.Work.{Work}
+use Rattle.run_words.specs.declared.work.Work.{Work}
 use Rattle.render_core.specs.Due.{ending_by, report_due}
-use Rattle.render_core.specs.Reports.{AreOf, line_of_tile, lines_of_orders, lines_of_run, lines_of_stuck, lines_of_tiles}
-use Rattle.render_core.specs.declared.due.Ending.TheVariants.{Complete, Stuck}
+use Rattle.render_core.specs.Runs.{AreOf}
+use Rattle.run_words.specs.Reports.{line_of_tile, lines_of_orders, lines_of_run, lines_of_stuck, lines_of_tiles}
+use Rattle.run_words.specs.declared.told.Ending.TheVariants.{Complete, Stuck}
 use Rattle.render_core.proofs.ReportLines.{faults_told, is_stuck_of, scene_clients, stuck_told}
 
 same_in_range : (f g : ℕ → List ℕ) (a n : ℕ) → ((k : ℕ) → k < n → f (a + k) ≡ g (a + k)) → flat_map f (range_with_len a n) ≡ flat_map g (range_with_len a n)

@@ -8,10 +8,10 @@ use Rattle.command_line.specs.Filters.{AreNamed, BeginsFilter, NamesChain, Names
 use Rattle.command_line.specs.Laws.{ChainIsNotNone, JobBeginsNoFilter, NamedRulesBegin, NoFilterIsEmptyChain, OneChain}
 use Rattle.rc_base.specs.Outside.Ends.{Used}
 use Rattle.spu_chain.specs.declared.rule.SpuRule.{SpuRule}
-use Rattle.render_core.specs.declared.job.Job.{Job}
+use Rattle.run_words.specs.declared.job.Job.{Job}
 use Rattle.render_core.specs.declared.run_job.Finish.{Finish}
 use Rattle.render_core.specs.Finishes.{IsJobless, IsTaskless}
-use Rattle.render_core.specs.Jobs.{AskFiltered, AskPlainly, IsJobBehind, IsJob, IsLine, Task, task_of}
+use Rattle.run_words.specs.Jobs.{AskFiltered, AskPlainly, IsJobBehind, IsJob, IsLine, Task, task_of}
 use Rattle.render_core.specs.Laws.{PlainTasksAreFilteredOnes}
 use Rattle.render_core.specs.Refusals.{AreReady}
 use Rattle.render_core.proofs.Finishing.{jobless_usage}

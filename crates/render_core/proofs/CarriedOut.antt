@@ -5,17 +5,18 @@ use Rattle.std.specs.declared.result.Result.{Result}
 use Rattle.rc_base.specs.Outside.Ends.{Used}
 use Rattle.spu_chain.specs.declared.rule.SpuRule.{SpuRule}
 use Rattle.render_core.specs.declared.due.Due.{Due}
-use Rattle.render_core.specs.declared.due.DueRefusal.{DueRefusal}
-use Rattle.render_core.specs.declared.refusal.Refusal.{Refusal}
-use Rattle.render_core.specs.declared.refusal.Refusal.TheVariants.{Undue}
-use Rattle.render_core.specs.declared.refusal.Refused.{Refused}
-use Rattle.render_core.specs.declared.work.Work.{Work}
-use Rattle.render_core.specs.declared.writing.Told.{Told}
+use Rattle.run_words.specs.declared.refusal.DueRefusal.{DueRefusal}
+use Rattle.run_words.specs.declared.refusal.Refusal.{Refusal}
+use Rattle.run_words.specs.declared.refusal.Refusal.TheVariants.{Undue}
+use Rattle.run_words.specs.declared.refusal.Refused.{Refused}
+use Rattle.run_words.specs.declared.work.Work.{Work}
+use Rattle.run_words.specs.declared.told.Told.{Told}
 use Rattle.render_core.specs.Carried.{IsCarriedOut, IsSoundWork, IsObtained, IsWritableDue}
 use Rattle.render_core.specs.Due.{IsOutcome}
-use Rattle.render_core.specs.Jobs.{Reads, ShowsNothing, Task}
+use Rattle.run_words.specs.Jobs.{Reads, ShowsNothing, Task}
 use Rattle.render_core.specs.Outcomes.{PartlyGiven, PartlyWritten}
-use Rattle.render_core.specs.Refusals.{outcome_of, refusal_status, Before, IsBlank, IsCaused, IsEarlyRefusal, IsNoOutcome, IsPerformed, IsRefusedUnwritten, IsWritable}
+use Rattle.render_core.specs.Refusals.{outcome_of, Before, IsBlank, IsCaused, IsEarlyRefusal, IsNoOutcome, IsPerformed, IsRefusedUnwritten, IsWritable}
+use Rattle.run_words.specs.Statuses.{refusal_status}
 use Rattle.render_core.specs.Scenes.{IsFor}
 use Rattle.render_core.proofs.Performing.{caused_by, due_of_work, late_undue, left_by, undue_cause}
 use Rattle.render_core.proofs.Works.{seen_behind}

@@ -18,11 +18,11 @@ use Rattle.step_core.specs.CoreRuns.{IsCoreRun, IsFinish}
 use Rattle.step_core.specs.Schedules.{WorldView, picks_of, IsRightFor}
 use Rattle.step_core.specs.declared.rounds.CoreRun.{CoreRun}
 use Rattle.render_core.specs.Due.{IsStepped}
-use Rattle.render_core.specs.declared.work.Work.{Work}
-use Rattle.render_core.specs.Scenes.{layout_for}
-use Rattle.render_core.specs.Reports.{IsAccount}
+use Rattle.run_words.specs.declared.work.Work.{Work}
+use Rattle.run_words.specs.Asked.{layout_for}
+use Rattle.render_core.specs.Runs.{IsAccount}
 use Rattle.render_core.specs.declared.cluster.Account.{Account}
-use Rattle.render_core.specs.declared.job.Cluster.{Cluster}
+use Rattle.run_words.specs.declared.job.Cluster.{Cluster}
 use Rattle.render_core.proofs.Recorded.{kept_permits}
 
 -- what a world is brought to is what its scene, its layout, its depth and its picks are brought to

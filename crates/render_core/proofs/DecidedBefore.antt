@@ -22,18 +22,18 @@ use Rattle.scene_file.specs.Laws.{FormsAreApart, ListScenesAreOne, ScenesAreOne}
 use Rattle.scene_text.specs.Laws.{OneScene}
 use Rattle.spu_chain.specs.Scenes.{scene_by}
 use Rattle.spu_chain.specs.declared.rule.SpuRule.{SpuRule}
-use Rattle.render_core.specs.declared.due.Ending.TheVariants.{Complete, Stuck as EndsStuck}
-use Rattle.render_core.specs.declared.job.Cluster.{Cluster}
-use Rattle.render_core.specs.declared.job.Form.TheVariants.{Bytes}
-use Rattle.render_core.specs.declared.job.Job.{Job}
-use Rattle.render_core.specs.declared.job.Job.TheVariants.{Render, Simulate, Serial, Last, Check, Race, Pack, Unpack, Gen, Demo}
-use Rattle.render_core.specs.declared.job.Origin.{Origin}
-use Rattle.render_core.specs.declared.job.Origin.TheVariants.{Read}
-use Rattle.render_core.specs.declared.work.Work.{Work}
+use Rattle.run_words.specs.declared.told.Ending.TheVariants.{Complete, Stuck as EndsStuck}
+use Rattle.run_words.specs.declared.job.Cluster.{Cluster}
+use Rattle.run_words.specs.declared.job.Form.TheVariants.{Bytes}
+use Rattle.run_words.specs.declared.job.Job.{Job}
+use Rattle.run_words.specs.declared.job.Job.TheVariants.{Render, Simulate, Serial, Check, Race}
+use Rattle.run_words.specs.declared.job.Origin.{Origin}
+use Rattle.run_words.specs.declared.job.Origin.TheVariants.{Read}
+use Rattle.run_words.specs.declared.work.Work.{Work}
 use Rattle.render_core.specs.Due.{Outcome, IsOutcome, IsRaced, IsRecorded, IsVerdictOn, default_ending, default_frames, found_by, journal_of}
 use Rattle.render_core.specs.Findings.{Finding, Long, Malformed, Outside, Unsuited, Sound, refused_with}
 use Rattle.render_core.specs.Foreseen.{Asking, RunOf, IsCarriedOut, DrawsOnTiles, EndsAreForeseen, ImagesAreForeseen, ShowsAreForeseen, ShowsAreDecidedBefore}
-use Rattle.render_core.specs.Jobs.{AskFiltered, AskPlainly, ForTask, Task, cluster_of, origin_of, task_of}
+use Rattle.run_words.specs.Jobs.{AskFiltered, AskPlainly, ForTask, Task, cluster_of, origin_of, task_of}
 use Rattle.render_core.specs.Laws.{FullRecordsAreForeseen}
 use Rattle.render_core.specs.Outcomes.{IsDue, Sent, Whole, Front, IsDone, IsUnnoted, IsReported, Cause, SourceFailed, InputRefused, ImageFailed, IsRefused, Ran, Usage, Done, NotesFailed, Stuck, RaceFound, Refused, NoMemory, ShowsTheSerialImage}
 use Rattle.render_core.specs.Scenes.{Found, HasWork, IsInput, Spells, Gives, Takes, is_filtered, meant}
@@ -163,27 +163,13 @@ module _ (ask : Asking) (one : (words : List (String Global)) (a b : Task) → a
 abbrev tiles_of : (job : Job) → DrawsOnTiles job → (cluster : Cluster) × (cluster_of job ≡ Some cluster) × (origin_of job ≡ Read Bytes)
 tiles_of (Render cluster) draws = (cluster, refl, refl)
 tiles_of (Simulate seed cluster) draws = (cluster, refl, refl)
-tiles_of Serial draws = absurd draws
-tiles_of Last draws = absurd draws
-tiles_of Check draws = absurd draws
-tiles_of Race draws = absurd draws
-tiles_of Pack draws = absurd draws
-tiles_of Unpack draws = absurd draws
-tiles_of (Gen seed size) draws = absurd draws
-tiles_of (Demo seed size cluster) draws = absurd draws
+tiles_of job draws = absurd draws
 
 recorded : (job : Job) (draws : DrawsOnTiles job) (work : Work) (o : Outcome) → IsOutcome job work o → IsRecorded (tiles_of job draws).0 work o
 unfolding IsOutcome
 recorded (Render cluster) draws work o due = due
 recorded (Simulate seed cluster) draws work o due = due.recorded
-recorded Serial draws work o due = absurd draws
-recorded Last draws work o due = absurd draws
-recorded Check draws work o due = absurd draws
-recorded Race draws work o due = absurd draws
-recorded Pack draws work o due = absurd draws
-recorded Unpack draws work o due = absurd draws
-recorded (Gen seed size) draws work o due = absurd draws
-recorded (Demo seed size cluster) draws work o due = absurd draws
+recorded job draws work o due = absurd draws
 
 checked_end : (work : Work) (o : Outcome) → IsOutcome Check work o → o.ending ≡ default_ending work.scene
 unfolding IsOutcome

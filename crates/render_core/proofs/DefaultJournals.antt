@@ -13,7 +13,7 @@ use Rattle.order_model.specs.Laws.{DefaultJournalIsMaximal, MaximalJournalsPermi
 use Rattle.order_model.specs.Report.{is_stuck}
 use Rattle.scene_file.specs.Generated.{GeneratedScenesAreWithin}
 use Rattle.spu_chain.specs.Laws.{FilteredStaysWithin}
-use Rattle.render_core.specs.declared.due.Ending.TheVariants.{Complete, Stuck}
+use Rattle.run_words.specs.declared.told.Ending.TheVariants.{Complete, Stuck}
 use Rattle.render_core.specs.Due.{default_ending, journal_of}
 use Rattle.render_core.specs.Laws.{FullRecordsAreForeseen, OrderedRecordsShowOneImage}
 use Rattle.render_core.proofs.OneImage.{well}

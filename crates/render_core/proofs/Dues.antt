@@ -17,16 +17,17 @@ use Rattle.rc_base.specs.declared.sync.SyncLists.{SyncLists}
 use Rattle.rc_base.specs.declared.sync.Waiting.{Waiting}
 use Rattle.order_model.specs.Laws.{DefaultJournalIsMaximal, DefaultOrdersArePermitted}
 use Rattle.order_model.specs.Report.{frame_count, is_stuck}
-use Rattle.render_core.specs.declared.work.Work.{Work}
+use Rattle.run_words.specs.declared.work.Work.{Work}
 use Rattle.render_core.specs.declared.due.DefaultRun.{DefaultRun}
-use Rattle.render_core.specs.declared.due.Ending.{Ending}
-use Rattle.render_core.specs.declared.due.Ending.TheVariants.{Complete, Stuck}
+use Rattle.run_words.specs.declared.told.Ending.{Ending}
+use Rattle.run_words.specs.declared.told.Ending.TheVariants.{Complete, Stuck}
 use Rattle.race_check.specs.Races.{IsVerdict}
 use Rattle.race_check.specs.declared.verdict.Verdict.{Verdict}
-use Rattle.render_core.specs.declared.job.Job.TheVariants.{Serial, Last, Check, Race}
+use Rattle.run_words.specs.declared.job.Job.TheVariants.{Serial, Last, Check, Race}
 use Rattle.render_core.specs.Due.{Outcome, IsOutcome, IsVerdictOn, drawn_in_order, default_ending, default_frames, found_by, journal_of, short_due}
-use Rattle.render_core.specs.Lines.{race_line}
-use Rattle.render_core.specs.Reports.{lines_of_turns, AreOf, IsDefault}
+use Rattle.run_words.specs.Lines.{race_line}
+use Rattle.run_words.specs.Reports.{lines_of_turns}
+use Rattle.render_core.specs.Runs.{AreOf, IsDefault}
 use Rattle.render_core.proofs.ReportLines.{report_told, is_stuck_of}
 
 -- what is due without a record

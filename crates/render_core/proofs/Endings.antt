@@ -10,21 +10,22 @@ use Rattle.rc_base.specs.Outside.Transfer.{byte_limit}
 use Rattle.command_line.specs.declared.job.JobName.{JobName}
 use Rattle.command_line.specs.Laws.{OneChain, OneReading}
 use Rattle.order_model.specs.declared.record.Record.{Record}
-use Rattle.render_core.specs.declared.due.Ending.{Ending}
-use Rattle.render_core.specs.declared.due.Ending.TheVariants.{Complete, Stuck as EndsStuck, RaceFound as EndsRaceFound}
-use Rattle.render_core.specs.declared.job.Job.{Job}
-use Rattle.render_core.specs.declared.job.Origin.{Origin}
-use Rattle.render_core.specs.declared.job.Origin.TheVariants.{Read, Generated}
-use Rattle.render_core.specs.declared.refusal.Refusal.{Refusal}
-use Rattle.render_core.specs.declared.writing.Told.{Told}
+use Rattle.run_words.specs.declared.told.Ending.{Ending}
+use Rattle.run_words.specs.declared.told.Ending.TheVariants.{Complete, Stuck as EndsStuck, RaceFound as EndsRaceFound}
+use Rattle.run_words.specs.declared.job.Job.{Job}
+use Rattle.run_words.specs.declared.job.Origin.{Origin}
+use Rattle.run_words.specs.declared.job.Origin.TheVariants.{Read, Generated}
+use Rattle.run_words.specs.declared.refusal.Refusal.{Refusal}
+use Rattle.run_words.specs.declared.told.Told.{Told}
 use Rattle.render_core.specs.Due.{Outcome}
 use Rattle.rc_base.specs.Outside.Ends.{Used, Failed, IsCalm, Took, Noted, TookInput}
 use Rattle.render_core.specs.Findings.{Finding, Long, Malformed, Outside, Unsuited, Sound, IsFinding}
-use Rattle.render_core.specs.Jobs.{AskFiltered, AskPlainly, IsJob, Reads, Task, job_in, origin_of, task_of}
+use Rattle.run_words.specs.Jobs.{AskFiltered, AskPlainly, IsJob, Reads, Task, job_in, origin_of, task_of}
 use Rattle.render_core.specs.Scenes.{Holds, Takes}
-use Rattle.render_core.specs.Lines.{memory_line}
+use Rattle.run_words.specs.Lines.{memory_line}
 use Rattle.render_core.specs.Outcomes.{Sent, Whole, Front, IsDone, IsUnnoted, IsReported, Cause, Ran, Done, NotesFailed, Stuck, RaceFound, Refused, NoMemory, HasNotes}
-use Rattle.render_core.specs.Refusals.{refusal_status, refusal_line, kept_for, IsCaused, IsRefusalTold, IsPerformed, IsConcluded}
+use Rattle.run_words.specs.Statuses.{refusal_status, refusal_line, IsRefusalTold, IsConcluded}
+use Rattle.render_core.specs.Refusals.{kept_for, IsCaused, IsPerformed}
 
 -- ---- the words name one job
 

@@ -10,13 +10,13 @@ use Rattle.scene_file.proofs.LimitsByParts.{limits_of_expanded}
 use Rattle.spu_chain.specs.Filter.{HasByteTint}
 use Rattle.spu_chain.specs.Laws.{FilteredStaysWell, FilteredStaysWithin}
 use Rattle.spu_chain.specs.Scenes.{scene_by}
-use Rattle.render_core.specs.declared.job.Cluster.{Cluster}
-use Rattle.render_core.specs.declared.job.Form.TheVariants.{Bytes, PlainBytes, Text}
-use Rattle.render_core.specs.declared.job.Origin.{Origin}
-use Rattle.render_core.specs.declared.job.Origin.TheVariants.{Read, Generated}
-use Rattle.render_core.specs.Jobs.{Task, origin_of}
-use Rattle.render_core.specs.Refusals.{IsWell}
-use Rattle.render_core.specs.Scenes.{Found, Plain, Lists, cluster_limit, found_limit, is_filtered, meant, scene_for}
+use Rattle.run_words.specs.declared.job.Cluster.{Cluster}
+use Rattle.run_words.specs.declared.job.Form.TheVariants.{Bytes, PlainBytes, Text}
+use Rattle.run_words.specs.declared.job.Origin.{Origin}
+use Rattle.run_words.specs.declared.job.Origin.TheVariants.{Read, Generated}
+use Rattle.run_words.specs.Jobs.{Task, origin_of}
+use Rattle.run_words.specs.Asked.{IsWell, cluster_limit}
+use Rattle.render_core.specs.Scenes.{Found, Plain, Lists, found_limit, is_filtered, meant, scene_for}
 use Rattle.render_core.proofs.Judging.{neither}
 
 -- where nothing is outside its range of what was found, nothing is of what it means

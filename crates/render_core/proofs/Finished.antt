@@ -4,12 +4,12 @@ use Rattle.std.specs.Prelude.{ℕ, Option, IfOk, IfSome}
 use Rattle.std.specs.declared.result.Result.{Result}
 use Rattle.rc_base.specs.Outside.Ends.{Used, use_of}
 use Rattle.spu_chain.specs.declared.rule.SpuRule.{SpuRule}
-use Rattle.render_core.specs.declared.refusal.Refused.{Refused}
+use Rattle.run_words.specs.declared.refusal.Refused.{Refused}
 use Rattle.render_core.specs.declared.run_job.Finish.{Finish}
-use Rattle.render_core.specs.declared.writing.Told.{Told}
+use Rattle.run_words.specs.declared.told.Told.{Told}
 use Rattle.render_core.specs.Carried.{IsCarriedOut}
 use Rattle.render_core.specs.Finishes.{IsFinished, IsTaskless}
-use Rattle.render_core.specs.Jobs.{ForTask, Reads, ShowsNothing, Task}
+use Rattle.run_words.specs.Jobs.{ForTask, Reads, ShowsNothing, Task}
 use Rattle.render_core.specs.Laws.{FindingsAreOne, FullRecordsAreForeseen, OrderedRecordsShowOneImage}
 use Rattle.render_core.specs.Outcomes.{Ran, RefusesWhatItFinds, CarriesOutWhatItFinds, IsHeadline, KeepsOrders, IsUnwritten, IsLeftByThreads, HasNotes, LeavesMembers, PartlyGiven}
 use Rattle.render_core.proofs.Finishing.{left_by, members_by, ran_by, silent_by, unasked, unasked_done, unasked_members, unwritten_by}

@@ -5,24 +5,25 @@ use Rattle.std.specs.Global.{Global}
 use Rattle.std.specs.declared.result.Result.{Result}
 use Rattle.rc_base.specs.Outside.Ends.{Used}
 use Rattle.rc_base.specs.declared.transfer.ReadAllFault.TheVariants.{ReadFault, TooLong, OutOfMemory as Unread}
-use Rattle.render_core.specs.declared.due.DueRefusal.TheVariants as undue
-use Rattle.render_core.specs.declared.due.Ending.TheVariants.{Complete, Stuck, RaceFound}
-use Rattle.render_core.specs.declared.job.Job.{Job}
-use Rattle.render_core.specs.declared.job.Job.TheVariants.{Render, Simulate, Serial, Last, Check, Race, Pack, Unpack, Gen, Demo}
-use Rattle.render_core.specs.declared.refusal.ImageRefusal.TheVariants as writing
-use Rattle.render_core.specs.declared.refusal.InputRefusal.TheVariants as judging
-use Rattle.render_core.specs.declared.refusal.Refusal.{Refusal}
-use Rattle.render_core.specs.declared.refusal.Refusal.TheVariants.{Reading, Input, Undue, Image}
-use Rattle.render_core.specs.declared.refusal.Refused.{Refused}
+use Rattle.run_words.specs.declared.refusal.DueRefusal.TheVariants as undue
+use Rattle.run_words.specs.declared.told.Ending.TheVariants.{Complete, Stuck, RaceFound}
+use Rattle.run_words.specs.declared.job.Job.{Job}
+use Rattle.run_words.specs.declared.job.Job.TheVariants.{Render, Simulate, Serial, Last, Check, Race, Demo}
+use Rattle.run_words.specs.declared.refusal.ImageRefusal.TheVariants as writing
+use Rattle.run_words.specs.declared.refusal.InputRefusal.TheVariants as judging
+use Rattle.run_words.specs.declared.refusal.Refusal.{Refusal}
+use Rattle.run_words.specs.declared.refusal.Refusal.TheVariants.{Reading, Input, Undue, Image}
+use Rattle.run_words.specs.declared.refusal.Refused.{Refused}
 use Rattle.render_core.specs.declared.run_job.Finish.{Finish}
-use Rattle.render_core.specs.declared.writing.Told.{Told}
+use Rattle.run_words.specs.declared.told.Told.{Told}
 use Rattle.render_core.specs.Finishes.{IsFinished, IsJobless, IsTaskless}
 use Rattle.render_core.specs.Due.{Outcome, IsOutcome, default_ending}
 use Rattle.spu_chain.specs.declared.rule.SpuRule.{SpuRule}
-use Rattle.render_core.specs.declared.work.Work.{Work}
-use Rattle.render_core.specs.Jobs.{AskWith, ForTask, IsLine, ShowsNothing, Task}
+use Rattle.run_words.specs.declared.work.Work.{Work}
+use Rattle.run_words.specs.Jobs.{AskWith, ForTask, IsLine, ShowsNothing, Task}
 use Rattle.render_core.specs.Outcomes.{HasNotes, IsEarly, IsLate, IsLeft, IsLeftByThreads, IsUnwritten, NoMemory, Ran, Usage, LeavesMembers, Ungiven, Given, Broken}
-use Rattle.render_core.specs.Refusals.{refusal_status, IsCaused, IsConcluded, IsPerformed, IsRefusalTold, LeftBy, LeftWith, Before, Behind, Amid}
+use Rattle.run_words.specs.Statuses.{refusal_status, IsConcluded, IsRefusalTold}
+use Rattle.render_core.specs.Refusals.{IsCaused, IsPerformed, LeftBy, LeftWith, Before, Behind, Amid}
 use Rattle.render_core.proofs.Endings.{cases_nil, ran_refused, ran_told, some_told}
 
 -- ---- statuses
@@ -80,10 +81,8 @@ asked_for_races Serial work o due raced = absurd (ends_by _ (sym (ap (λ (a : Ou
 asked_for_races Last work o due raced = absurd (ends_by _ (sym (ap (λ (a : Outcome). a.ending) due) ∙ raced))
 asked_for_races Check work o due raced = tt
 asked_for_races Race work o due raced = tt
-asked_for_races Pack work o due raced = let none : Complete ≡ RaceFound = sym (ap (λ (a : Outcome). a.ending) due.0) ∙ raced in absurd cc
-asked_for_races Unpack work o due raced = let none : Complete ≡ RaceFound = sym (ap (λ (a : Outcome). a.ending) due.0) ∙ raced in absurd cc
-asked_for_races (Gen seed size) work o due raced = let none : Complete ≡ RaceFound = sym (ap (λ (a : Outcome). a.ending) due.0) ∙ raced in absurd cc
 asked_for_races (Demo seed size cluster) work o due raced = absurd (ends_by _ (sym due.ending ∙ raced))
+asked_for_races job work o due raced = let none : Complete ≡ RaceFound = sym (ap (λ (a : Outcome). a.ending) due.0) ∙ raced in absurd cc
 
 -- ---- a run without a task
 

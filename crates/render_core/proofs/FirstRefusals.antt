@@ -3,7 +3,7 @@ use Rattle.std.proofs.Common.{◌≡◌, ℕ, ◌⊎◌, inl, inr, List}
 use Rattle.std.specs.declared.option.Option.{Option}
 use Rattle.rc_base.specs.Outside.Ends.{Used}
 use Rattle.order_model.specs.declared.record.Record.{Record}
-use Rattle.render_core.specs.Jobs.{AskFiltered, AskPlainly, ForTask, Task}
+use Rattle.run_words.specs.Jobs.{AskFiltered, AskPlainly, ForTask, Task}
 use Rattle.render_core.specs.Laws.{RefusalsComeInOrder, FirstRefusal, Unread, Unfit, Waiting, Racing, Unwritten, Untold, Unrefused}
 use Rattle.render_core.specs.Outcomes.{Cause, SourceFailed, InputRefused, ImageFailed, Ran, Usage, Done, NotesFailed, Stuck, RaceFound, Refused, NoMemory}
 

@@ -4,16 +4,17 @@ use Rattle.std.specs.Prelude.{IfSome, unwrap_or}
 use Rattle.std.specs.declared.option.Option.{Option}
 use Rattle.std.proofs.Math.Seq.{take-length}
 use Rattle.order_model.specs.declared.record.Record.{Record}
-use Rattle.render_core.specs.declared.job.Cluster.{Cluster}
-use Rattle.render_core.specs.declared.job.Job.{Job}
-use Rattle.render_core.specs.declared.job.Job.TheVariants.{Render, Simulate, Serial, Last, Check, Race, Pack, Unpack, Gen, Demo}
-use Rattle.render_core.specs.declared.due.Ending.{Ending}
-use Rattle.render_core.specs.declared.due.Ending.TheVariants.{Complete, Stuck as EndsStuck, RaceFound as EndsRaceFound}
-use Rattle.render_core.specs.Due.{Outcome, IsRecorded, IsOutcome, ending_status}
+use Rattle.run_words.specs.declared.job.Cluster.{Cluster}
+use Rattle.run_words.specs.declared.job.Job.{Job}
+use Rattle.run_words.specs.declared.job.Job.TheVariants.{Render, Simulate, Serial, Last, Check, Race, Demo}
+use Rattle.run_words.specs.declared.told.Ending.{Ending}
+use Rattle.run_words.specs.declared.told.Ending.TheVariants.{Complete, Stuck as EndsStuck, RaceFound as EndsRaceFound}
+use Rattle.render_core.specs.Due.{Outcome, IsRecorded, IsOutcome}
+use Rattle.run_words.specs.Statuses.{ending_status}
 use Rattle.rc_base.specs.Outside.Ends.{Used, Failed, Took, TookFront}
 use Rattle.render_core.specs.Findings.{Finding, Long, Malformed, Outside, Unsuited, Sound, IsFinding, refused_with}
-use Rattle.render_core.specs.declared.work.Work.{Work}
-use Rattle.render_core.specs.Jobs.{ForTask, Task, cluster_of, origin_of}
+use Rattle.run_words.specs.declared.work.Work.{Work}
+use Rattle.run_words.specs.Jobs.{ForTask, Task, cluster_of, origin_of}
 use Rattle.render_core.specs.Scenes.{HasWork, Holds}
 use Rattle.render_core.specs.Laws.{FindingsAreOne, FullRecordsAreForeseen, OrderedRecordsShowOneImage}
 use Rattle.render_core.specs.Outcomes.{IsDue, Sent, Whole, Front, IsDone, IsUnnoted, IsReported, IsRefused, Cause, SourceFailed, InputRefused, ImageFailed, Ran, Usage, Done, NotesFailed, Stuck, RaceFound, Refused, NoMemory, IsWhole, RefusesWhatItFinds, CarriesOutWhatItFinds, IsHeadline, KeepsOrders, frames_text}
@@ -118,10 +119,8 @@ recorded Serial work o kept e h = let none : Some kept ≡ None = e ∙ ap (λ (
 recorded Last work o kept e h = let none : Some kept ≡ None = e ∙ ap (λ (a : Outcome). a.kept) h in absurd cc
 recorded Check work o kept e h = let none : Some kept ≡ None = e ∙ ap (λ (a : Outcome). a.kept) h in absurd cc
 recorded Race work o kept e h = let none : Some kept ≡ None = e ∙ ap (λ (a : Outcome). a.kept) h.due in absurd cc
-recorded Pack work o kept e h = let none : Some kept ≡ None = e ∙ ap (λ (a : Outcome). a.kept) h.0 in absurd cc
-recorded Unpack work o kept e h = let none : Some kept ≡ None = e ∙ ap (λ (a : Outcome). a.kept) h.0 in absurd cc
-recorded (Gen seed size) work o kept e h = let none : Some kept ≡ None = e ∙ ap (λ (a : Outcome). a.kept) h.0 in absurd cc
 recorded (Demo seed size cluster) work o kept e h = (cluster, refl, h)
+recorded job work o kept e h = let none : Some kept ≡ None = e ∙ ap (λ (a : Outcome). a.kept) h.0 in absurd cc
 
 whole_front : (image : Used) (text : List ℕ) → Took image text → TookFront image text
 whole_front image text given = record { done = length text; part = omega arith; given = subst (Took image) (sym (take-length text)) given }

@@ -29,19 +29,20 @@ use Rattle.scene_file.specs.Faults.{Differs, FailsAsListScene, FailsAsScene, IsB
 use Rattle.scene_file.specs.declared.fault.SceneFault.{SceneFault}
 use Rattle.scene_file.specs.declared.fault.SceneFault.TheVariants.{Malformed, Limit as PastLimit, OutOfMemory}
 use Rattle.scene_file.specs.declared.list_scene.ListScene.{ListScene}
-use Rattle.render_core.specs.declared.job.Form.{Form}
-use Rattle.render_core.specs.declared.job.Form.TheVariants.{Bytes, PlainBytes}
-use Rattle.render_core.specs.declared.job.Origin.{Origin}
-use Rattle.render_core.specs.declared.job.Origin.TheVariants.{Read}
-use Rattle.render_core.specs.declared.refusal.InputRefusal.{InputRefusal}
-use Rattle.render_core.specs.declared.refusal.InputRefusal.TheVariants as refused
+use Rattle.run_words.specs.declared.job.Form.{Form}
+use Rattle.run_words.specs.declared.job.Form.TheVariants.{Bytes, PlainBytes}
+use Rattle.run_words.specs.declared.job.Origin.{Origin}
+use Rattle.run_words.specs.declared.job.Origin.TheVariants.{Read}
+use Rattle.run_words.specs.declared.refusal.InputRefusal.{InputRefusal}
+use Rattle.run_words.specs.declared.refusal.InputRefusal.TheVariants as refused
 use Rattle.render_core.specs.declared.work.Meaning.{Meaning}
 use Rattle.render_core.specs.Findings.{FailsAsFound, TellsFault}
 use Rattle.scene_file.specs.Letters.{BeginWithLists}
 use Rattle.scene_file.proofs.LimitsByParts.{many_commands}
 use Rattle.std.proofs.lemmas.Bool.{cases_lt}
-use Rattle.render_core.specs.Lines.{malformed_line, scene_kind_name}
-use Rattle.render_core.specs.Refusals.{IsExpanded, IsPast, IsRead, IsRefusedInput, IsWellRead, refusal_of_scene}
+use Rattle.run_words.specs.Lines.{malformed_line, scene_kind_name}
+use Rattle.render_core.specs.Refusals.{IsExpanded, IsPast, IsRead, IsRefusedInput, refusal_of_scene}
+use Rattle.run_words.specs.Asked.{IsWellRead}
 use Rattle.render_core.specs.Scenes.{Found, Plain, Lists, found_limit, meant, refused_in, Gives, Spells}
 use Rattle.render_core.proofs.Filtered.{meant_within}
 use Rattle.render_core.proofs.Judging.{begins, neither, judged_malformed, judged_outside, never_begins, no_scene}

@@ -14,18 +14,19 @@ use Rattle.scene_file.specs.Laws.{FormsAreApart, ListScenesAreOne, ScenesAreOne}
 use Rattle.scene_file.specs.declared.list_scene.ListScene.{ListScene}
 use Rattle.scene_text.specs.Laws.{OneScene}
 use Rattle.sort_last.specs.Offends.{offends, IsFirstOffence}
-use Rattle.render_core.specs.declared.job.Form.{Form}
-use Rattle.render_core.specs.declared.job.Form.TheVariants.{Bytes, PlainBytes, Text}
-use Rattle.render_core.specs.declared.job.Job.{Job}
-use Rattle.render_core.specs.declared.job.Job.TheVariants.{Render, Simulate, Serial, Last, Check, Race, Pack, Unpack, Gen, Demo}
-use Rattle.render_core.specs.declared.job.Origin.{Origin}
-use Rattle.render_core.specs.declared.job.Origin.TheVariants.{Read, Generated}
+use Rattle.run_words.specs.declared.job.Form.{Form}
+use Rattle.run_words.specs.declared.job.Form.TheVariants.{Bytes, PlainBytes, Text}
+use Rattle.run_words.specs.declared.job.Job.{Job}
+use Rattle.run_words.specs.declared.job.Job.TheVariants.{Render, Simulate, Last, Gen, Demo}
+use Rattle.run_words.specs.declared.job.Origin.{Origin}
+use Rattle.run_words.specs.declared.job.Origin.TheVariants.{Read, Generated}
 use Rattle.render_core.specs.declared.work.Meaning.{Meaning}
-use Rattle.render_core.specs.declared.work.Work.{Work}
+use Rattle.run_words.specs.declared.work.Work.{Work}
 use Rattle.rc_base.specs.Outside.Ends.{Used}
-use Rattle.render_core.specs.Jobs.{Task, cluster_of, origin_of}
-use Rattle.render_core.specs.Scenes.{Found, Plain, Lists, cluster_limit, found_limit, limit_for, meant, scene_for, scene_limit, tile_limit, with_rounds, word_limit, work_for, Spells, Gives, HasWork, IsFor, IsNotFor}
-use Rattle.render_core.specs.Lines.{limit_line, not_last_line}
+use Rattle.run_words.specs.Jobs.{Task, cluster_of, origin_of}
+use Rattle.render_core.specs.Scenes.{Found, Plain, Lists, found_limit, limit_for, meant, scene_for, scene_limit, work_for, Spells, Gives, HasWork, IsFor, IsNotFor}
+use Rattle.run_words.specs.Asked.{cluster_limit, tile_limit, with_rounds, word_limit}
+use Rattle.run_words.specs.Lines.{limit_line, not_last_line}
 use Rattle.render_core.specs.Findings.{Finding, Long, Malformed, Outside, Unsuited, Sound, TellsFault, IsJudged, Judged}
 use Rattle.scene_file.specs.Letters.{BeginWithLists}
 use Rattle.render_core.specs.Laws.{FindingsAreOne}
@@ -55,28 +56,15 @@ rounds_within seed size first e = (neither first (size_limit size) e).1
 pub tiles_within : (job : Job) (scene : Scene) → word_limit job scene ≡ None → tile_limit (cluster_of job) scene ≡ None
 tiles_within (Render cluster) scene e = e
 tiles_within (Simulate seed cluster) scene e = (neither (cluster_limit cluster scene) (held_limit scene) e).0
-tiles_within Serial scene e = refl
-tiles_within Last scene e = refl
-tiles_within Check scene e = refl
-tiles_within Race scene e = refl
-tiles_within Pack scene e = refl
-tiles_within Unpack scene e = refl
-tiles_within (Gen seed size) scene e = refl
 tiles_within (Demo seed size cluster) scene e = (neither (cluster_limit cluster scene) (size_limit size) e).0
+tiles_within job scene e = refl
 
 -- of a job that makes its scene, its tiles and lanes and then its rounds are judged
 pub made_words : (job : Job) (seed size : ℕ) (scene : Scene) → origin_of job ≡ Generated seed size
     → word_limit job scene ≡ option_or (tile_limit (cluster_of job) scene) (size_limit size)
-made_words (Render cluster) seed size scene e = absurd cc
-made_words (Simulate other cluster) seed size scene e = absurd cc
-made_words Serial seed size scene e = absurd cc
-made_words Last seed size scene e = absurd cc
-made_words Check seed size scene e = absurd cc
-made_words Race seed size scene e = absurd cc
-made_words Pack seed size scene e = absurd cc
-made_words Unpack seed size scene e = absurd cc
 made_words (Gen other rounds) seed size scene e = ap (λ (origin : Origin). with_rounds origin None) e
 made_words (Demo other rounds cluster) seed size scene e = ap (λ (origin : Origin). with_rounds origin (cluster_limit cluster scene)) e
+made_words job seed size scene e = absurd cc
 
 -- where no scene of a kind is within the limits and none outside, there is none
 pub no_scene : (Is : Scene → Type 0) → ((s : Scene) → Is s → limit_of s ≡ None → ⊥) → ((s : Scene) (l : Limit) → Is s → limit_of s ≡ Some l → ⊥) → (s : Scene) → Is s → ⊥
@@ -151,27 +139,11 @@ module _ (scene : Scene) where
 
 same_keeper : (job : Job) (scene : Scene) (n m : Name) → IsNotFor job scene n → IsNotFor job scene m → n ≡ m
 same_keeper Last scene n m a b = same_offence scene n m a b
-same_keeper (Render cluster) scene n m a b = absurd a
-same_keeper (Simulate seed cluster) scene n m a b = absurd a
-same_keeper Serial scene n m a b = absurd a
-same_keeper Check scene n m a b = absurd a
-same_keeper Race scene n m a b = absurd a
-same_keeper Pack scene n m a b = absurd a
-same_keeper Unpack scene n m a b = absurd a
-same_keeper (Gen seed size) scene n m a b = absurd a
-same_keeper (Demo seed size cluster) scene n m a b = absurd a
+same_keeper job scene n m a b = absurd a
 
 never_both : (job : Job) (scene : Scene) (n : Name) → IsNotFor job scene n → IsFor job scene → ⊥
 never_both Last scene n not is = let none : true ≡ false = sym not.is ∙ is n.client n.place in cc
-never_both (Render cluster) scene n not is = not
-never_both (Simulate seed cluster) scene n not is = not
-never_both Serial scene n not is = not
-never_both Check scene n not is = not
-never_both Race scene n not is = not
-never_both Pack scene n not is = not
-never_both Unpack scene n not is = not
-never_both (Gen seed size) scene n not is = not
-never_both (Demo seed size cluster) scene n not is = not
+never_both job scene n not is = not
 
 module _ (bytes : ScenesAreOne) (lists : ListScenesAreOne) (differ : FormsAreApart) (text : OneScene) where
   module _ (task : Task) (input : List ℕ) where

@@ -3,12 +3,12 @@ use Rattle.std.proofs.Common.{◌≡◌, None, refl, sym, ap, ◌∙◌, subst, 
 use Rattle.std.specs.Prelude.{IfSome}
 use Rattle.std.specs.declared.option.Option.{Option}
 use Rattle.rc_base.specs.Orders.Order.{IsPermitted}
-use Rattle.render_core.specs.declared.work.Work.{Work}
+use Rattle.run_words.specs.declared.work.Work.{Work}
 use Rattle.rc_base.specs.declared.sync.SyncLists.{SyncLists}
 use Rattle.order_model.specs.Report.{tile_order}
 use Rattle.order_model.specs.declared.record.Record.{Record}
-use Rattle.render_core.specs.declared.job.Cluster.{Cluster}
-use Rattle.render_core.specs.declared.job.Job.TheVariants.{Render, Simulate, Serial, Last, Check, Race, Pack, Unpack, Gen, Demo}
+use Rattle.run_words.specs.declared.job.Cluster.{Cluster}
+use Rattle.run_words.specs.declared.job.Job.TheVariants.{Render, Simulate, Serial, Last, Check, Race, Demo}
 use Rattle.render_core.specs.Due.{Outcome, IsRecorded, IsOutcome}
 use Rattle.render_core.specs.Laws.{KeptOrdersArePermitted}
 use Rattle.render_core.specs.Outcomes.{KeepsOrders}
@@ -35,7 +35,5 @@ kept_orders Serial work o h = keeps_none o _ refl h
 kept_orders Last work o h = keeps_none o _ refl h
 kept_orders Check work o h = keeps_none o _ refl h
 kept_orders Race work o h = keeps_none o _ refl h.due
-kept_orders Pack work o h = keeps_none o _ refl h.0
-kept_orders Unpack work o h = keeps_none o _ refl h.0
-kept_orders (Gen seed size) work o h = keeps_none o _ refl h.0
 kept_orders (Demo seed size cluster) work o h = keeps_some cluster work o h
+kept_orders job work o h = keeps_none o _ refl h.0

@@ -15,7 +15,6 @@ pub mod FirstRefusals
 pub mod Finishing
 pub mod Headline
 pub mod Finished
-pub mod Counted
 pub mod ReportLines
 pub mod Accounts
 pub mod Dues

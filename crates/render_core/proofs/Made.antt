@@ -11,7 +11,7 @@ use Rattle.rc_base.specs.Formats.Within.{IsWithin}
 use Rattle.scene_file.specs.Generator.{generated_scene}
 use Rattle.packet_bytes.specs.Texels.{HasTexels, HaveTexels}
 use Rattle.scene_file.specs.Written.{AreWhole}
-use Rattle.render_core.specs.Refusals.{IsMade}
+use Rattle.run_words.specs.Asked.{IsMade}
 
 -- ---- the pictures of commands whose fields are in their ranges are whole
 

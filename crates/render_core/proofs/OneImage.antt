@@ -27,15 +27,16 @@ use Rattle.order_model.specs.declared.record.Record.{Record}
 use Rattle.scene_file.specs.Generated.{GeneratedScenesAreWithin}
 use Rattle.render_core.specs.Due.{default_frames}
 use Rattle.spu_chain.specs.Laws.{FilteredStaysWithin}
-use Rattle.render_core.specs.declared.work.Work.{Work}
-use Rattle.render_core.specs.Jobs.{Task, cluster_of, origin_of}
-use Rattle.render_core.specs.Scenes.{Found, Gives, IsInput, cluster_limit, layout_for, meant, scene_for, scene_limit, tile_limit, with_rounds, word_limit}
+use Rattle.run_words.specs.declared.work.Work.{Work}
+use Rattle.run_words.specs.Jobs.{Task, cluster_of, origin_of}
+use Rattle.render_core.specs.Scenes.{Found, Gives, IsInput, meant, scene_for, scene_limit}
+use Rattle.run_words.specs.Asked.{cluster_limit, layout_for, tile_limit, with_rounds, word_limit}
 use Rattle.render_core.specs.Laws.{OrderedRecordsShowOneImage}
 use Rattle.render_core.specs.Outcomes.{ShowsEveryPermittedOrder}
-use Rattle.render_core.specs.declared.job.Cluster.{Cluster}
-use Rattle.render_core.specs.declared.job.Job.{Job}
-use Rattle.render_core.specs.declared.job.Job.TheVariants.{Render, Simulate, Serial, Last, Check, Race, Pack, Unpack, Gen, Demo}
-use Rattle.render_core.specs.declared.job.Origin.TheVariants.{Generated}
+use Rattle.run_words.specs.declared.job.Cluster.{Cluster}
+use Rattle.run_words.specs.declared.job.Job.{Job}
+use Rattle.run_words.specs.declared.job.Job.TheVariants.{Gen, Demo}
+use Rattle.run_words.specs.declared.job.Origin.TheVariants.{Generated}
 use Rattle.render_core.proofs.Recorded.{layout_within}
 use Rattle.render_core.proofs.Filtered.{filtered_tiles, filtered_within, meant_within}
 use Rattle.render_core.proofs.Judging.{rounds_within, tiles_within, within_both}
@@ -112,16 +113,9 @@ made_within made seed size first scene is words =
 
 limits_of : GeneratedScenesAreWithin → (job : Job) (input : List ℕ) (found : Found) → Gives (origin_of job) input found
     → scene_limit (origin_of job) found ≡ None → word_limit job (meant found) ≡ None → limit_of (meant found) ≡ None
-limits_of made (Render cluster) input found gives own words = meant_within found own
-limits_of made (Simulate seed cluster) input found gives own words = meant_within found own
-limits_of made Serial input found gives own words = meant_within found own
-limits_of made Last input found gives own words = meant_within found own
-limits_of made Check input found gives own words = meant_within found own
-limits_of made Race input found gives own words = meant_within found own
-limits_of made Pack input found gives own words = meant_within found own
-limits_of made Unpack input found gives own words = meant_within found own
 limits_of made (Gen seed size) input found gives own words = made_within made seed size None (meant found) (ap meant gives) words
 limits_of made (Demo seed size cluster) input found gives own words = made_within made seed size (cluster_limit cluster (meant found)) (meant found) (ap meant gives) words
+limits_of made job input found gives own words = meant_within found own
 
 module _ (made : GeneratedScenesAreWithin) (stays : FilteredStaysWithin) (task : Task) (input : List ℕ) (work : Work) (is : IsInput task input work) where
   limits : (scene_limit (origin_of task.job) is.found ≡ None) × (word_limit task.job (meant is.found) ≡ None)

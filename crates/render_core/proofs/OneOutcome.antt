@@ -9,14 +9,13 @@ use Rattle.race_check.specs.Laws.{EachOrderHasOneVerdict}
 use Rattle.tile_model.specs.Laws.{LimitsGiveSides}
 use Rattle.tile_model.specs.Scenes.{IsInRange, HasSides}
 use Rattle.world_model.specs.Laws.{FinishedRunsLeaveOneRecord}
-use Rattle.render_core.specs.declared.job.Cluster.{Cluster}
-use Rattle.render_core.specs.declared.job.Job.{Job}
-use Rattle.render_core.specs.declared.job.Job.TheVariants.{Render, Simulate, Serial, Last, Check, Race, Pack, Unpack, Gen, Demo}
+use Rattle.run_words.specs.declared.job.Cluster.{Cluster}
+use Rattle.run_words.specs.declared.job.Job.{Job}
+use Rattle.run_words.specs.declared.job.Job.TheVariants.{Render, Simulate, Serial, Last, Check, Race, Demo}
 use Rattle.render_core.specs.Due.{Outcome, IsStepped, IsOutcome, IsRaced, journal_of, raced, seeded_picks}
-use Rattle.render_core.specs.declared.work.Work.{Work}
-use Rattle.render_core.specs.Jobs.{has_threads, origin_of}
-use Rattle.render_core.specs.Scenes.{layout_for}
-use Rattle.render_core.specs.Refusals.{IsWell}
+use Rattle.run_words.specs.declared.work.Work.{Work}
+use Rattle.run_words.specs.Jobs.{has_threads, origin_of}
+use Rattle.run_words.specs.Asked.{layout_for, IsWell}
 use Rattle.rc_base.proofs.WithinLimits.{clients_within, counts_some}
 use Rattle.render_core.proofs.Recorded.{is_by_record, outcome_by}
 
@@ -54,7 +53,5 @@ one_outcome law give one Serial work o other alone well within h k = same_due o 
 one_outcome law give one Last work o other alone well within h k = same_due o other _ h k
 one_outcome law give one Check work o other alone well within h k = same_due o other _ h k
 one_outcome law give one Race work o other alone well within h k = one work within o other h k
-one_outcome law give one Pack work o other alone well within h k = same_due o other _ h.0 k.0
-one_outcome law give one Unpack work o other alone well within h k = same_due o other _ h.0 k.0
-one_outcome law give one (Gen seed size) work o other alone well within h k = same_due o other _ h.0 k.0
 one_outcome law give one (Demo seed size cluster) work o other alone well within h k = let same : true ≡ false = alone in absurd cc
+one_outcome law give one job work o other alone well within h k = same_due o other _ h.0 k.0

@@ -11,21 +11,21 @@ use Rattle.scene_file.specs.Generator.{generated_scene}
 use Rattle.rc_base.specs.declared.scene.Scene.{Scene}
 use Rattle.rc_base.specs.declared.transfer.ReadAllFault.{ReadAllFault}
 use Rattle.rc_base.specs.declared.transfer.ReadAllFault.TheVariants.{ReadFault, TooLong, OutOfMemory as Unread}
-use Rattle.render_core.specs.declared.due.DueRefusal.{DueRefusal}
-use Rattle.render_core.specs.declared.due.DueRefusal.TheVariants as undue
-use Rattle.render_core.specs.declared.due.Ending.{Ending}
-use Rattle.render_core.specs.declared.due.Ending.TheVariants.{Complete}
-use Rattle.render_core.specs.declared.job.Form.{Form}
-use Rattle.render_core.specs.declared.job.Job.{Job}
-use Rattle.render_core.specs.declared.job.Origin.{Origin}
-use Rattle.render_core.specs.declared.job.Origin.TheVariants.{Read, Generated}
-use Rattle.render_core.specs.declared.refusal.InputRefusal.{InputRefusal}
-use Rattle.render_core.specs.declared.refusal.InputRefusal.TheVariants as judging
-use Rattle.render_core.specs.declared.refusal.ImageRefusal.TheVariants as writing
-use Rattle.render_core.specs.declared.refusal.Refusal.{Refusal}
-use Rattle.render_core.specs.declared.refusal.Refusal.TheVariants.{Reading, Input, Undue, Image}
-use Rattle.render_core.specs.declared.refusal.Refused.{Refused}
-use Rattle.render_core.specs.declared.writing.Told.{Told}
+use Rattle.run_words.specs.declared.refusal.DueRefusal.{DueRefusal}
+use Rattle.run_words.specs.declared.refusal.DueRefusal.TheVariants as undue
+use Rattle.run_words.specs.declared.told.Ending.{Ending}
+use Rattle.run_words.specs.declared.told.Ending.TheVariants.{Complete}
+use Rattle.run_words.specs.declared.job.Form.{Form}
+use Rattle.run_words.specs.declared.job.Job.{Job}
+use Rattle.run_words.specs.declared.job.Origin.{Origin}
+use Rattle.run_words.specs.declared.job.Origin.TheVariants.{Read, Generated}
+use Rattle.run_words.specs.declared.refusal.InputRefusal.{InputRefusal}
+use Rattle.run_words.specs.declared.refusal.InputRefusal.TheVariants as judging
+use Rattle.run_words.specs.declared.refusal.ImageRefusal.TheVariants as writing
+use Rattle.run_words.specs.declared.refusal.Refusal.{Refusal}
+use Rattle.run_words.specs.declared.refusal.Refusal.TheVariants.{Reading, Input, Undue, Image}
+use Rattle.run_words.specs.declared.refusal.Refused.{Refused}
+use Rattle.run_words.specs.declared.told.Told.{Told}
 use Rattle.frame_out.specs.Writing.{IsWritten}
 use Rattle.frame_out.specs.declared.writing.Written.{Written}
 use Rattle.render_core.specs.Due.{Outcome, IsOutcome}
@@ -34,12 +34,14 @@ use Rattle.render_core.specs.Findings.{Long}
 use Rattle.rc_base.specs.declared.scene.Limit.{Limit}
 use Rattle.spu_chain.specs.declared.rule.SpuRule.{SpuRule}
 use Rattle.render_core.specs.declared.work.Meaning.{Meaning}
-use Rattle.render_core.specs.declared.work.Work.{Work}
-use Rattle.render_core.specs.Jobs.{Task, origin_of}
-use Rattle.render_core.specs.Scenes.{Plain, meant, rules_for, scene_for, scene_limit, word_limit, Gives, HasWork, IsFor, IsNotFor, IsUntouched, Takes}
-use Rattle.render_core.specs.Lines.{limit_line, image_fault_line}
+use Rattle.run_words.specs.declared.work.Work.{Work}
+use Rattle.run_words.specs.Jobs.{Task, origin_of}
+use Rattle.render_core.specs.Scenes.{Plain, meant, rules_for, scene_for, scene_limit, Gives, HasWork, IsFor, IsNotFor, IsUntouched, Takes}
+use Rattle.run_words.specs.Asked.{word_limit}
+use Rattle.run_words.specs.Lines.{limit_line, image_fault_line}
 use Rattle.render_core.specs.Outcomes.{IsDue, PartlyWritten, Sent, Whole, Front, Cause, SourceFailed, InputRefused, ImageFailed, HaveSeenAll}
-use Rattle.render_core.specs.Refusals.{IsRead, Came, IsRefusedInput, IsNoOutcome, IsUnmade, IsWorkOf, IsToldOf, IsUntold, IsPerformed, IsCaused, IsEarlyRefusal, IsRefusedFor, IsRefusedUnwritten, LeftBy, Behind, input_status, input_line, kept_for, refusal_status, refusal_line}
+use Rattle.render_core.specs.Refusals.{IsRead, Came, IsRefusedInput, IsNoOutcome, IsUnmade, IsWorkOf, IsToldOf, IsUntold, IsPerformed, IsCaused, IsEarlyRefusal, IsRefusedFor, IsRefusedUnwritten, LeftBy, Behind, kept_for}
+use Rattle.run_words.specs.Statuses.{input_status, input_line, refusal_status, refusal_line}
 use Rattle.render_core.proofs.Judging.{judged_by_words, judged_unsuited, has_work}
 
 -- no record is kept where there is none

@@ -14,12 +14,11 @@ use Rattle.order_model.specs.Report.{image_text_of, tile_order}
 use Rattle.order_model.specs.Sent.{IsRecordOf}
 use Rattle.order_model.specs.declared.record.Record.{Record}
 use Rattle.render_core.specs.Due.{Outcome, IsRecorded, ending_by, report_due}
-use Rattle.render_core.specs.declared.work.Work.{Work}
-use Rattle.render_core.specs.Scenes.{cluster_limit, layout_for}
-use Rattle.render_core.specs.Refusals.{IsWellRead}
-use Rattle.render_core.specs.declared.due.Ending.{Ending}
-use Rattle.render_core.specs.declared.job.Cluster.{Cluster}
-use Rattle.render_core.specs.declared.job.Form.TheVariants.{Bytes}
+use Rattle.run_words.specs.declared.work.Work.{Work}
+use Rattle.run_words.specs.Asked.{cluster_limit, layout_for, IsWellRead}
+use Rattle.run_words.specs.declared.told.Ending.{Ending}
+use Rattle.run_words.specs.declared.job.Cluster.{Cluster}
+use Rattle.run_words.specs.declared.job.Form.TheVariants.{Bytes}
 
 -- a scene of bytes within the limits is what calls ask for
 pub scene_within : (scene : Scene) → IsWellRead Bytes scene → limit_of scene ≡ None → IsWithin scene

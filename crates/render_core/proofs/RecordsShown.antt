@@ -10,12 +10,13 @@ use Rattle.order_model.specs.declared.record.Record.{Record}
 use Rattle.scene_file.specs.Laws.{FormsAreApart, ListScenesAreOne, ScenesAreOne}
 use Rattle.scene_text.specs.Laws.{OneScene}
 use Rattle.spu_chain.specs.Laws.{ChainsFollow, MembersFollow}
-use Rattle.render_core.specs.declared.job.Job.TheVariants.{Render}
+use Rattle.run_words.specs.declared.job.Job.TheVariants.{Render}
 use Rattle.render_core.specs.Due.{IsOutcome, IsRecorded}
 use Rattle.render_core.specs.Foreseen.{RunOf}
-use Rattle.render_core.specs.Jobs.{AskPlainly, cluster_in, task_of}
+use Rattle.run_words.specs.Jobs.{AskPlainly, cluster_in, task_of}
 use Rattle.render_core.specs.Laws.{OrderedRecordsShowOneImage}
-use Rattle.render_core.specs.Scenes.{Plain, layout_for}
+use Rattle.render_core.specs.Scenes.{Plain}
+use Rattle.run_words.specs.Asked.{layout_for}
 use Rattle.render_core.specs.Shows.{RendersShowTheirRecords, ShowsItsRecord}
 use Rattle.render_core.proofs.DecidedBefore.{Carried, carried_out, scene_is}
 use Rattle.render_core.proofs.Endings.{same_task}

@@ -16,23 +16,10 @@ use Rattle.rc_base.specs.declared.sync.Entry.{Entry}
 use Rattle.rc_base.specs.declared.sync.WaitAt.{WaitAt}
 use Rattle.rc_base.specs.declared.sync.Waiting.{Waiting}
 use Rattle.order_model.specs.Report.{fault_line, client_faults, fault_lines, count_lines, stuck_line, client_stuck, stuck_lines, is_stuck, short_report_of}
-use Rattle.render_core.specs.declared.work.Work.{Work}
+use Rattle.run_words.specs.declared.work.Work.{Work}
 use Rattle.render_core.specs.Due.{short_due}
-use Rattle.render_core.specs.Reports.{lines_of_faults, lines_of_stuck, lines_of_turns, AreOf}
-
-range_more : (a n : ℕ) → range_with_len a (n + 1) ≡ range_with_len a n ++ (a + n) ∷ []
-range_more a zero = let e : a + 0 ≡ a = omega arith in rw e refl
-range_more a (suc n) =
-    let e : (a + 1) + n ≡ a + suc n = omega arith in
-    let k : suc n + 1 ≡ suc (n + 1) = omega arith in
-    rw k (ap (λ (l : List ℕ). a ∷ l) (range_more (a + 1) n ∙ ap (λ (k : ℕ). range_with_len (a + 1) n ++ k ∷ []) e))
-
--- the lines of one client more
-pub lines_more : (f : ℕ → List ℕ) (n : ℕ) → flat_map f (range_with_len 0 (n + 1)) ≡ flat_map f (range_with_len 0 n) ++ f n
-lines_more f n =
-    let zero_on : 0 + n ≡ n = omega arith in
-    ap (flat_map f) (range_more 0 n) ∙ flat_map-append f (range_with_len 0 n) ((0 + n) ∷ [])
-    ∙ ap (λ (l : List ℕ). flat_map f (range_with_len 0 n) ++ l) (append-nil (f (0 + n)) ∙ ap f zero_on)
+use Rattle.run_words.specs.Reports.{lines_of_faults, lines_of_stuck, lines_of_turns}
+use Rattle.render_core.specs.Runs.{AreOf}
 
 same_lines : (f g : ℕ → List ℕ) → ((x : ℕ) → f x ≡ g x) → (xs : List ℕ) → flat_map f xs ≡ flat_map g xs
 same_lines f g same [] = refl

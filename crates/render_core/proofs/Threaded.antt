@@ -25,22 +25,24 @@ use Rattle.order_model.specs.Report.{image_text_of}
 use Rattle.order_model.specs.Sent.{IsRecordOf}
 use Rattle.order_model.specs.declared.record.Record.{Record}
 use Rattle.run_record.specs.Told.{IsRun}
-use Rattle.render_core.specs.declared.job.Cluster.{Cluster}
-use Rattle.render_core.specs.declared.job.Form.TheVariants.{Bytes}
-use Rattle.render_core.specs.declared.job.Job.{Job}
-use Rattle.render_core.specs.declared.job.Job.TheVariants.{Render, Simulate, Serial, Last, Check, Race, Pack, Unpack, Gen, Demo}
-use Rattle.render_core.specs.declared.refusal.ImageRefusal.TheVariants as writing
-use Rattle.render_core.specs.declared.refusal.Refusal.TheVariants as refusals
-use Rattle.render_core.specs.declared.refusal.Refused.{Refused}
-use Rattle.render_core.specs.declared.writing.Told.{Told}
+use Rattle.run_words.specs.declared.job.Cluster.{Cluster}
+use Rattle.run_words.specs.declared.job.Form.TheVariants.{Bytes}
+use Rattle.run_words.specs.declared.job.Job.{Job}
+use Rattle.run_words.specs.declared.job.Job.TheVariants.{Render, Last, Check, Race, Demo}
+use Rattle.run_words.specs.declared.refusal.ImageRefusal.TheVariants as writing
+use Rattle.run_words.specs.declared.refusal.Refusal.TheVariants as refusals
+use Rattle.run_words.specs.declared.refusal.Refused.{Refused}
+use Rattle.run_words.specs.declared.told.Told.{Told}
 use Rattle.render_core.specs.Carried.{IsCarriedOut}
 use Rattle.render_core.specs.Due.{Outcome, IsRecorded, IsOutcome, ending_by, report_due}
 use Rattle.spu_chain.specs.declared.rule.SpuRule.{SpuRule}
-use Rattle.render_core.specs.declared.work.Work.{Work}
-use Rattle.render_core.specs.Jobs.{AskPlainly, IsJob, IsThreaded, cluster_of, Reads, ShowsNothing, Task, starts_threads, job_in, origin_of, threads_of}
-use Rattle.render_core.specs.Scenes.{IsFor, layout_for}
+use Rattle.run_words.specs.declared.work.Work.{Work}
+use Rattle.run_words.specs.Jobs.{AskPlainly, IsJob, IsThreaded, cluster_of, Reads, ShowsNothing, Task, starts_threads, job_in, origin_of, threads_of}
+use Rattle.render_core.specs.Scenes.{IsFor}
+use Rattle.run_words.specs.Asked.{layout_for, IsWell, IsWellRead}
 use Rattle.render_core.specs.Outcomes.{HaveSeenAll, IsDue, IsLeft, IsLeftByThreads, PartlyShown, PartlyWritten}
-use Rattle.render_core.specs.Refusals.{refusal_line, refusal_status, Behind, IsCaused, IsPerformed, IsToldOf, IsUntold, IsWell, IsWellRead, IsWorkOf, LeftWith}
+use Rattle.run_words.specs.Statuses.{refusal_line, refusal_status}
+use Rattle.render_core.specs.Refusals.{Behind, IsCaused, IsPerformed, IsToldOf, IsUntold, IsWorkOf, LeftWith}
 use Rattle.frame_out.proofs.Prefixes.{on_err}
 use Rattle.render_core.proofs.Performing.{due_of_work, front_of, has_work_of, untold_status, partly_written, told_done, told_late, told_refused}
 use Rattle.render_core.proofs.Recorded.{outcome_by, recorded_by}
@@ -65,27 +67,15 @@ other_word w render demo last (inr (inr same)) = no_word w (codes "last") last r
 
 told_by : (job_name : JobName) (settings : List Setting) → AreThreads (job_word job_name) → starts_threads (job_in job_name settings) ≡ true
 told_by name.Render settings same = refl
-told_by name.Simulate settings same = absurd (other_word (codes "simulate") refl refl refl same)
-told_by name.Serial settings same = absurd (other_word (codes "serial") refl refl refl same)
 told_by name.Last settings same = refl
-told_by name.Check settings same = absurd (other_word (codes "check") refl refl refl same)
-told_by name.Race settings same = absurd (other_word (codes "race") refl refl refl same)
-told_by name.Pack settings same = absurd (other_word (codes "pack") refl refl refl same)
-told_by name.Unpack settings same = absurd (other_word (codes "unpack") refl refl refl same)
-told_by name.Gen settings same = absurd (other_word (codes "gen") refl refl refl same)
 told_by name.Demo settings same = refl
+told_by other settings same = absurd (other_word (job_word other) refl refl refl same)
 
 tells : (job_name : JobName) (settings : List Setting) → starts_threads (job_in job_name settings) ≡ true → AreThreads (job_word job_name)
 tells name.Render settings threads = inl refl
-tells name.Simulate settings threads = let none : false ≡ true = threads in absurd cc
-tells name.Serial settings threads = let none : false ≡ true = threads in absurd cc
 tells name.Last settings threads = inr (inr refl)
-tells name.Check settings threads = let none : false ≡ true = threads in absurd cc
-tells name.Race settings threads = let none : false ≡ true = threads in absurd cc
-tells name.Pack settings threads = let none : false ≡ true = threads in absurd cc
-tells name.Unpack settings threads = let none : false ≡ true = threads in absurd cc
-tells name.Gen settings threads = let none : false ≡ true = threads in absurd cc
 tells name.Demo settings threads = inr (inl refl)
+tells other settings threads = let none : false ≡ true = threads in absurd cc
 
 module _ (words : List (String Global)) (job : Job) (is : IsJob words job) where
   first : slice_get (map string_bytes words) 0 ≡ Some (job_word is.name)
@@ -120,28 +110,15 @@ reads_last = (Bytes, refl)
 -- one without a cluster draws clients apart
 pub draws_apart : (job : Job) → starts_threads job ≡ true → threads_of job ≡ None → job ≡ Last
 draws_apart (Render cluster) threads none = absurd cc
-draws_apart (Simulate seed cluster) threads none = let no_threads : false ≡ true = threads in absurd cc
-draws_apart Serial threads none = let no_threads : false ≡ true = threads in absurd cc
 draws_apart Last threads none = refl
-draws_apart Check threads none = let no_threads : false ≡ true = threads in absurd cc
-draws_apart Race threads none = let no_threads : false ≡ true = threads in absurd cc
-draws_apart Pack threads none = let no_threads : false ≡ true = threads in absurd cc
-draws_apart Unpack threads none = let no_threads : false ≡ true = threads in absurd cc
-draws_apart (Gen seed size) threads none = let no_threads : false ≡ true = threads in absurd cc
 draws_apart (Demo seed size cluster) threads none = absurd cc
+draws_apart job threads none = let no_threads : false ≡ true = threads in absurd cc
 
 -- a job that starts no thread has no cluster
 pub no_cluster : (job : Job) (cluster : Cluster) → starts_threads job ≡ false → threads_of job ≡ Some cluster → ⊥
 no_cluster (Render own) cluster alone of = let no_threads : true ≡ false = alone in absurd cc
-no_cluster (Simulate seed own) cluster alone of = absurd cc
-no_cluster Serial cluster alone of = absurd cc
-no_cluster Last cluster alone of = absurd cc
-no_cluster Check cluster alone of = absurd cc
-no_cluster Race cluster alone of = absurd cc
-no_cluster Pack cluster alone of = absurd cc
-no_cluster Unpack cluster alone of = absurd cc
-no_cluster (Gen seed size) cluster alone of = absurd cc
 no_cluster (Demo seed size own) cluster alone of = let no_threads : true ≡ false = alone in absurd cc
+no_cluster job cluster alone of = absurd cc
 
 -- so what is left of its image is a front of what is due
 pub left_without_threads : (P : Type 0) (words : List (String Global)) (source image : Used) → (IsThreaded words → ⊥)
@@ -159,67 +136,31 @@ the_cluster cluster other e = ap (λ (o : Option Cluster). unwrap_or o cluster) 
 -- its scene is what calls ask for
 pub read_or_made : (job : Job) (cluster : Cluster) (scene : Scene) → threads_of job ≡ Some cluster → IsWell (origin_of job) scene → IsWellRead Bytes scene
 read_or_made (Render own) cluster scene e well = well
-read_or_made (Simulate seed own) cluster scene e well = absurd cc
-read_or_made Serial cluster scene e well = absurd cc
-read_or_made Last cluster scene e well = absurd cc
-read_or_made Check cluster scene e well = absurd cc
-read_or_made Race cluster scene e well = absurd cc
-read_or_made Pack cluster scene e well = absurd cc
-read_or_made Unpack cluster scene e well = absurd cc
-read_or_made (Gen seed size) cluster scene e well = absurd cc
 read_or_made (Demo seed size own) cluster scene e well = well.of_bytes
+read_or_made job cluster scene e well = absurd cc
 
 -- its cluster is the one that it asks for
 pub cluster_asked : (job : Job) (cluster : Cluster) → threads_of job ≡ Some cluster → cluster_of job ≡ Some cluster
 cluster_asked (Render own) cluster e = e
-cluster_asked (Simulate seed own) cluster e = absurd cc
-cluster_asked Serial cluster e = absurd cc
-cluster_asked Last cluster e = absurd cc
-cluster_asked Check cluster e = absurd cc
-cluster_asked Race cluster e = absurd cc
-cluster_asked Pack cluster e = absurd cc
-cluster_asked Unpack cluster e = absurd cc
-cluster_asked (Gen seed size) cluster e = absurd cc
 cluster_asked (Demo seed size own) cluster e = e
+cluster_asked job cluster e = absurd cc
 
 -- its frames are shown
 pub shows_frames : (job : Job) (cluster : Cluster) → threads_of job ≡ Some cluster → ShowsNothing job → ⊥
-shows_frames (Render own) cluster e shows = shows
-shows_frames (Simulate seed own) cluster e shows = shows
-shows_frames Serial cluster e shows = shows
-shows_frames Last cluster e shows = shows
 shows_frames Check cluster e shows = absurd cc
 shows_frames Race cluster e shows = absurd cc
-shows_frames Pack cluster e shows = shows
-shows_frames Unpack cluster e shows = shows
-shows_frames (Gen seed size) cluster e shows = shows
-shows_frames (Demo seed size own) cluster e shows = shows
+shows_frames job cluster e shows = shows
 
 -- it is for every scene
 threads_suit : (job : Job) (cluster : Cluster) (scene : Scene) → threads_of job ≡ Some cluster → IsFor job scene
-threads_suit (Render own) cluster scene e = tt
-threads_suit (Simulate seed own) cluster scene e = tt
-threads_suit Serial cluster scene e = tt
 threads_suit Last cluster scene e = absurd cc
-threads_suit Check cluster scene e = tt
-threads_suit Race cluster scene e = tt
-threads_suit Pack cluster scene e = tt
-threads_suit Unpack cluster scene e = tt
-threads_suit (Gen seed size) cluster scene e = tt
-threads_suit (Demo seed size own) cluster scene e = tt
+threads_suit job cluster scene e = tt
 
 outcome_is : (job : Job) (cluster : Cluster) (work : Work) (o : Outcome) → threads_of job ≡ Some cluster → IsRecorded cluster work o → IsOutcome job work o
 unfolding IsOutcome
 outcome_is (Render own) cluster work o e is = subst (λ (c : Cluster). IsRecorded c work o) (sym (the_cluster own cluster e)) is
-outcome_is (Simulate seed own) cluster work o e is = absurd cc
-outcome_is Serial cluster work o e is = absurd cc
-outcome_is Last cluster work o e is = absurd cc
-outcome_is Check cluster work o e is = absurd cc
-outcome_is Race cluster work o e is = absurd cc
-outcome_is Pack cluster work o e is = absurd cc
-outcome_is Unpack cluster work o e is = absurd cc
-outcome_is (Gen seed size) cluster work o e is = absurd cc
 outcome_is (Demo seed size own) cluster work o e is = subst (λ (c : Cluster). IsRecorded c work o) (sym (the_cluster own cluster e)) is
+outcome_is job cluster work o e is = absurd cc
 
 -- ---- what a run leaves
 

@@ -10,15 +10,17 @@ use Rattle.rc_base.specs.declared.scene.Scene.{Scene}
 use Rattle.spu_chain.specs.Filter.{AreReached, HasByteTint}
 use Rattle.spu_chain.specs.Laws.{FilteredStaysWell, FilteredStaysWithin}
 use Rattle.spu_chain.specs.declared.rule.SpuRule.{SpuRule}
-use Rattle.render_core.specs.declared.job.Cluster.{Cluster}
-use Rattle.render_core.specs.declared.refusal.Refused.{Refused}
+use Rattle.run_words.specs.declared.job.Cluster.{Cluster}
+use Rattle.run_words.specs.declared.refusal.Refused.{Refused}
 use Rattle.render_core.specs.declared.work.Meaning.{Meaning}
-use Rattle.render_core.specs.declared.work.Work.{Work}
-use Rattle.render_core.specs.declared.writing.Told.{Told}
-use Rattle.render_core.specs.Jobs.{Task, origin_of}
+use Rattle.run_words.specs.declared.work.Work.{Work}
+use Rattle.run_words.specs.declared.told.Told.{Told}
+use Rattle.run_words.specs.Jobs.{Task, origin_of}
 use Rattle.render_core.specs.Outcomes.{HaveSeenAll}
-use Rattle.render_core.specs.Refusals.{Came, HaveSeenSome, IsWell, IsWorkOf, LeftBy, LeftWith, Before, Behind, Amid, refusal_status}
-use Rattle.render_core.specs.Scenes.{HasTiles, cluster_limit, rules_for, scene_for, tile_limit, word_limit, work_for, work_with}
+use Rattle.render_core.specs.Refusals.{Came, HaveSeenSome, IsWorkOf, LeftBy, LeftWith, Before, Behind, Amid}
+use Rattle.run_words.specs.Asked.{IsWell, HasTiles, cluster_limit, tile_limit, word_limit}
+use Rattle.run_words.specs.Statuses.{refusal_status}
+use Rattle.render_core.specs.Scenes.{rules_for, scene_for, work_for, work_with}
 use Rattle.render_core.proofs.Filtered.{filtered_tiles, filtered_well, filtered_within}
 use Rattle.render_core.proofs.Judging.{tiles_within}
 

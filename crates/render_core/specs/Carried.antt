@@ -5,14 +5,15 @@ use Rattle.rc_base.specs.Formats.Limits.{limit_of}
 use Rattle.rc_base.specs.Outside.Ends.{Used}
 use Rattle.spu_chain.specs.declared.rule.SpuRule.{SpuRule}
 use Rattle.render_core.specs.declared.due.Due.{Due}
-use Rattle.render_core.specs.declared.refusal.Refusal.{Refusal}
-use Rattle.render_core.specs.declared.refusal.Refused.{Refused}
-use Rattle.render_core.specs.declared.work.Work.{Work}
-use Rattle.render_core.specs.declared.writing.Told.{Told}
-use Rattle.render_core.specs.Jobs.{Task, Reads, ShowsNothing, origin_of}
+use Rattle.run_words.specs.declared.refusal.Refusal.{Refusal}
+use Rattle.run_words.specs.declared.refusal.Refused.{Refused}
+use Rattle.run_words.specs.declared.work.Work.{Work}
+use Rattle.run_words.specs.declared.told.Told.{Told}
+use Rattle.run_words.specs.Jobs.{Task, Reads, ShowsNothing, origin_of}
 use Rattle.render_core.specs.Outcomes.{IsDue, PartlyGiven}
-use Rattle.render_core.specs.Refusals.{outcome_of, refusal_status, IsBlank, IsCaused, IsPerformed, IsRefusedUnwritten, IsWell, IsWorkOf, IsWritable, LeftAfter, LeftWith}
-use Rattle.render_core.specs.Scenes.{HasTiles}
+use Rattle.render_core.specs.Refusals.{outcome_of, IsBlank, IsCaused, IsPerformed, IsRefusedUnwritten, IsWorkOf, IsWritable, LeftAfter, LeftWith}
+use Rattle.run_words.specs.Statuses.{refusal_status}
+use Rattle.run_words.specs.Asked.{IsWell, HasTiles}
 
 -- the task works on this, which is within the limits, and so are the tiles that the words ask for
 pub record IsSoundWork (task : Task) (source : Used) (work : Work) : Type 0 where

@@ -25,14 +25,15 @@ use Rattle.world_model.specs.Laws.{IsRecordIn}
 use Rattle.world_model.specs.declared.moves.Move.{Move}
 use Rattle.world_model.specs.Runs.{IsFinishedRun}
 use Rattle.world_model.specs.World.{World}
-use Rattle.render_core.specs.Scenes.{layout_for, actors_for}
-use Rattle.render_core.specs.Lines.{race_line}
-use Rattle.render_core.specs.declared.due.Ending.{Ending}
-use Rattle.render_core.specs.declared.due.Ending.TheVariants.{Complete, Stuck, RaceFound}
-use Rattle.render_core.specs.declared.job.Cluster.{Cluster}
-use Rattle.render_core.specs.declared.work.Work.{Work}
-use Rattle.render_core.specs.declared.job.Job.{Job}
-use Rattle.render_core.specs.declared.job.Job.TheVariants.{Render, Simulate, Serial, Last, Check, Race, Pack, Unpack, Gen, Demo}
+use Rattle.run_words.specs.Asked.{layout_for}
+use Rattle.render_core.specs.Scenes.{actors_for}
+use Rattle.run_words.specs.Lines.{race_line}
+use Rattle.run_words.specs.declared.told.Ending.{Ending}
+use Rattle.run_words.specs.declared.told.Ending.TheVariants.{Complete, Stuck, RaceFound}
+use Rattle.run_words.specs.declared.job.Cluster.{Cluster}
+use Rattle.run_words.specs.declared.work.Work.{Work}
+use Rattle.run_words.specs.declared.job.Job.{Job}
+use Rattle.run_words.specs.declared.job.Job.TheVariants.{Render, Simulate, Serial, Last, Check, Race, Pack, Unpack, Gen, Demo}
 
 -- bytes to the image, bytes to the notes, how the run ends that writes them, and of a cluster the record that is kept
 pub record Outcome : Type 0 where
@@ -40,12 +41,6 @@ pub record Outcome : Type 0 where
   pub notes : List ℕ
   pub ending : Ending
   pub kept : Option Record
-
--- the status of a run that comes to its end
-abbrev pub ending_status : Ending → ℕ
-ending_status Complete = 0
-ending_status Stuck = 5
-ending_status RaceFound = 11
 
 -- stuck exactly where the journal leaves a client waiting
 abbrev pub ending_by : Scene → List Entry → Ending

@@ -9,14 +9,14 @@ use Rattle.rc_base.specs.declared.scene.TextKind.{TextKind}
 use Rattle.rc_base.specs.declared.sync.Name.{Name}
 use Rattle.scene_file.specs.Faults.{DiffersFromAll, FailsAsListScene, FailsAsScene}
 use Rattle.scene_file.specs.Letters.{BeginWithLists, list_letters, plain_letters}
-use Rattle.render_core.specs.declared.job.Form.TheVariants.{Bytes, PlainBytes, Text}
-use Rattle.render_core.specs.declared.job.Origin.{Origin}
-use Rattle.render_core.specs.declared.job.Origin.TheVariants.{Read, Generated}
+use Rattle.run_words.specs.declared.job.Form.TheVariants.{Bytes, PlainBytes, Text}
+use Rattle.run_words.specs.declared.job.Origin.{Origin}
+use Rattle.run_words.specs.declared.job.Origin.TheVariants.{Read, Generated}
 use Rattle.rc_base.specs.Outside.Ends.{Used}
-use Rattle.render_core.specs.declared.work.Work.{Work}
-use Rattle.render_core.specs.Jobs.{Task, origin_of}
+use Rattle.run_words.specs.declared.work.Work.{Work}
+use Rattle.run_words.specs.Jobs.{Task, origin_of}
 use Rattle.render_core.specs.Scenes.{Found, limit_for, meant, scene_for, Gives, Takes, IsInput, IsNotFor}
-use Rattle.render_core.specs.Lines.{scene_kind_name, text_kind_name, malformed_line, limit_line, not_last_line}
+use Rattle.run_words.specs.Lines.{scene_kind_name, text_kind_name, malformed_line, limit_line, not_last_line}
 
 pub data Finding : Type 0 where
   -- more bytes than are read

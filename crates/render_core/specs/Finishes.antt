@@ -4,13 +4,14 @@ use Rattle.std.specs.declared.result.Result.{Result}
 use Rattle.std.specs.declared.string.String.{String}
 use Rattle.std.specs.Global.{Global}
 use Rattle.rc_base.specs.Outside.Ends.{Used, Noted}
-use Rattle.render_core.specs.declared.job.Job.{Job}
-use Rattle.render_core.specs.declared.refusal.Refused.{Refused}
+use Rattle.run_words.specs.declared.job.Job.{Job}
+use Rattle.run_words.specs.declared.refusal.Refused.{Refused}
 use Rattle.render_core.specs.declared.run_job.Finish.{Finish}
-use Rattle.render_core.specs.declared.writing.Told.{Told}
-use Rattle.render_core.specs.Jobs.{Task, IsJob, IsLine}
-use Rattle.render_core.specs.Lines.{memory_line, usage_line}
-use Rattle.render_core.specs.Refusals.{kept_for, IsConcluded, IsRefusalTold}
+use Rattle.run_words.specs.declared.told.Told.{Told}
+use Rattle.run_words.specs.Jobs.{Task, IsJob, IsLine}
+use Rattle.run_words.specs.Lines.{memory_line, usage_line}
+use Rattle.render_core.specs.Refusals.{kept_for}
+use Rattle.run_words.specs.Statuses.{IsConcluded, IsRefusalTold}
 
 -- the run ends with this status, without a record, and the notes were given the line
 abbrev pub EndsNoting : Used → ℕ → List ℕ → Finish → Type 0

@@ -10,10 +10,10 @@ use Rattle.order_model.specs.Full.{IsFull}
 use Rattle.order_model.specs.declared.record.Record.{Record}
 use Rattle.spu_chain.specs.Scenes.{scene_by}
 use Rattle.spu_chain.specs.declared.rule.SpuRule.{SpuRule}
-use Rattle.render_core.specs.declared.job.Form.TheVariants.{Bytes}
-use Rattle.render_core.specs.declared.job.Job.{Job}
-use Rattle.render_core.specs.declared.job.Job.TheVariants.{Render, Simulate, Serial, Check, Race}
-use Rattle.render_core.specs.Jobs.{AskFiltered, AskPlainly, Task, task_of}
+use Rattle.run_words.specs.declared.job.Form.TheVariants.{Bytes}
+use Rattle.run_words.specs.declared.job.Job.{Job}
+use Rattle.run_words.specs.declared.job.Job.TheVariants.{Render, Simulate, Serial, Check, Race}
+use Rattle.run_words.specs.Jobs.{AskFiltered, AskPlainly, Task, task_of}
 use Rattle.render_core.specs.Outcomes.{Ran}
 use Rattle.render_core.specs.Scenes.{Found, Spells, meant}
 

@@ -13,16 +13,16 @@ use Rattle.scene_file.specs.declared.list_scene.ListScene.{ListScene}
 use Rattle.order_model.specs.Full.{IsFull}
 use Rattle.order_model.specs.Sent.{IsRecordOf}
 use Rattle.order_model.specs.declared.record.Record.{Record}
-use Rattle.render_core.specs.declared.job.Cluster.{Cluster}
-use Rattle.render_core.specs.declared.job.Job.{Job}
-use Rattle.render_core.specs.declared.due.Ending.TheVariants.{Complete, Stuck, RaceFound}
+use Rattle.run_words.specs.declared.job.Cluster.{Cluster}
+use Rattle.run_words.specs.declared.job.Job.{Job}
+use Rattle.run_words.specs.declared.told.Ending.TheVariants.{Complete, Stuck, RaceFound}
 use Rattle.render_core.specs.Due.{Outcome, IsOutcome, default_ending, ending_by, journal_of}
 use Rattle.render_core.specs.Findings.{Finding, IsFinding, refused_with}
-use Rattle.render_core.specs.declared.work.Work.{Work}
-use Rattle.render_core.specs.Jobs.{AskFiltered, AskPlainly, ForTask, Task, Reads, cluster_of, has_threads, origin_of}
-use Rattle.render_core.specs.Scenes.{IsInput, Lists, Takes, layout_for, meant, refused_in}
+use Rattle.run_words.specs.declared.work.Work.{Work}
+use Rattle.run_words.specs.Jobs.{AskFiltered, AskPlainly, ForTask, Task, Reads, cluster_of, has_threads, origin_of}
+use Rattle.render_core.specs.Scenes.{IsInput, Lists, Takes, meant, refused_in}
+use Rattle.run_words.specs.Asked.{layout_for, IsWell}
 use Rattle.render_core.specs.Outcomes.{IsDue, KeepsOrders, Ran, ShowsEveryPermittedOrder, ShowsTheSerialImage}
-use Rattle.render_core.specs.Refusals.{IsWell}
 
 -- an input is one thing to a task
 abbrev pub FindingsAreOne : Type 0

@@ -1,13 +1,11 @@
-pub mod Jobs
 pub mod Scenes
 pub mod Due
-pub mod Lines
 pub mod Findings
 pub mod Outcomes
 pub mod Refusals
 pub mod Carried
 pub mod Finishes
-pub mod Reports
+pub mod Runs
 pub mod Laws
 pub mod Foreseen
 pub mod Shows

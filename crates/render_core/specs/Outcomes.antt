@@ -12,20 +12,22 @@ use Rattle.order_model.specs.Full.{IsFull}
 use Rattle.order_model.specs.Report.{frame_count, image_text_of, recorded_frame, tile_order}
 use Rattle.order_model.specs.Sent.{IsRecordOf}
 use Rattle.order_model.specs.declared.record.Record.{Record}
-use Rattle.render_core.specs.declared.job.Cluster.{Cluster}
-use Rattle.render_core.specs.declared.job.Job.{Job}
-use Rattle.render_core.specs.declared.due.Ending.{Ending}
-use Rattle.render_core.specs.declared.due.Ending.TheVariants.{Complete, Stuck as EndsStuck, RaceFound as EndsRaceFound}
-use Rattle.render_core.specs.Due.{Outcome, IsOutcome, default_ending, default_frames, ending_status, journal_of}
+use Rattle.run_words.specs.declared.job.Cluster.{Cluster}
+use Rattle.run_words.specs.declared.job.Job.{Job}
+use Rattle.run_words.specs.declared.told.Ending.{Ending}
+use Rattle.run_words.specs.declared.told.Ending.TheVariants.{Complete, Stuck as EndsStuck, RaceFound as EndsRaceFound}
+use Rattle.render_core.specs.Due.{Outcome, IsOutcome, default_ending, default_frames, journal_of}
+use Rattle.run_words.specs.Statuses.{ending_status}
 use Rattle.rc_base.specs.Outside.Ends.{Used, Failed, IsCalm, Took, TookFront, Noted}
 use Rattle.rc_base.specs.declared.image.Image.{Image}
 use Rattle.render_core.specs.Findings.{Finding, IsFinding, Judged, refused_with}
-use Rattle.render_core.specs.declared.work.Work.{Work}
-use Rattle.render_core.specs.Jobs.{Task, ForTask, Reads, cluster_of, origin_of, threads_of}
-use Rattle.render_core.specs.Scenes.{Found, Gives, Holds, HasWork, IsInput, Takes, is_filtered, layout_for, meant, rules_for}
+use Rattle.run_words.specs.declared.work.Work.{Work}
+use Rattle.run_words.specs.Jobs.{Task, ForTask, Reads, cluster_of, origin_of, threads_of}
+use Rattle.render_core.specs.Scenes.{Found, Gives, Holds, HasWork, IsInput, Takes, is_filtered, meant, rules_for}
+use Rattle.run_words.specs.Asked.{layout_for}
 use Rattle.spu_chain.specs.Filter.{AreReached}
 use Rattle.spu_chain.specs.declared.rule.SpuRule.{SpuRule}
-use Rattle.render_core.specs.Lines.{image_fault_line, usage_line, read_fault_line, memory_line}
+use Rattle.run_words.specs.Lines.{image_fault_line, usage_line, read_fault_line, memory_line}
 
 -- ---- what a task left of its source and of its image
 

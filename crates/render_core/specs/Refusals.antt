@@ -1,111 +1,48 @@
--- What the steps of a job leave: the refusals of each with their statuses and their lines, and what is due.
+-- What the steps of a job leave: the refusals of each, and what is due.
 use Rattle.std.specs.Prelude.{◌≡◌, ◌≢◌, ℕ, ◌<◌, ◌≤◌, ◌^◌, ◌==◌, ◌⊎◌, true, false, List, [], ◌++◌, length, take, Option, Some, None, Result, Ok, Err, if◌then◌else◌}
 use Rattle.rc_base.specs.Outside.Transfer.{byte_limit}
 use Rattle.order_model.specs.declared.record.Record.{Record}
 use Rattle.std.specs.List.{AllByRecursion, flat_map}
-use Rattle.rc_base.specs.Formats.Commands.{IsCommand}
-use Rattle.rc_base.specs.Formats.Limits.{size_limit}
 use Rattle.rc_base.specs.Formats.Netpbm.{p6_texts}
-use Rattle.rc_base.specs.Formats.Spelling.{IsDecl, IsVersion}
-use Rattle.scene_file.specs.Generator.{generated_scene}
-use Rattle.rc_base.specs.declared.transfer.ReadAllFault.{ReadAllFault}
-use Rattle.rc_base.specs.declared.transfer.ReadAllFault.TheVariants as reading
 use Rattle.rc_base.specs.declared.scene.Scene.{Scene}
 use Rattle.frame_out.specs.Writing.{AreWritable}
 use Rattle.frame_out.specs.declared.writing.Written.{Written}
-use Rattle.scene_file.specs.Written.{AreWhole}
 use Rattle.scene_file.specs.declared.list_scene.ListScene.{ListScene}
 use Rattle.scene_file.specs.declared.fault.SceneFault.{SceneFault}
 use Rattle.scene_file.specs.declared.fault.SceneFault.TheVariants as scene_faults
 use Rattle.sort_last.specs.declared.last.LastFault.{LastFault}
 use Rattle.sort_last.specs.declared.last.LastFault.TheVariants as apart
-use Rattle.render_core.specs.declared.job.Job.{Job}
-use Rattle.render_core.specs.declared.job.Form.{Form}
-use Rattle.render_core.specs.declared.job.Form.TheVariants.{Bytes, PlainBytes, Text}
+use Rattle.run_words.specs.declared.job.Job.{Job}
+use Rattle.run_words.specs.declared.job.Form.{Form}
 use Rattle.render_core.specs.declared.due.Due.{Due}
 use Rattle.render_core.specs.declared.due.DueImage.{DueImage}
 use Rattle.render_core.specs.declared.due.DueImage.TheVariants.{Frames, OneText}
-use Rattle.render_core.specs.declared.due.DueRefusal.{DueRefusal}
-use Rattle.render_core.specs.declared.due.DueRefusal.TheVariants as undue
-use Rattle.render_core.specs.declared.due.Ending.{Ending}
-use Rattle.render_core.specs.declared.due.Ending.TheVariants.{Complete, Stuck, RaceFound}
-use Rattle.render_core.specs.declared.refusal.InputRefusal.{InputRefusal}
-use Rattle.render_core.specs.declared.refusal.InputRefusal.TheVariants as judging
-use Rattle.render_core.specs.declared.refusal.ImageRefusal.{ImageRefusal}
-use Rattle.render_core.specs.declared.refusal.ImageRefusal.TheVariants as writing
-use Rattle.render_core.specs.declared.refusal.Refusal.{Refusal}
-use Rattle.render_core.specs.declared.refusal.Refused.{Refused}
-use Rattle.render_core.specs.declared.refusal.Refusal.TheVariants.{Reading, Input, Undue, Image}
-use Rattle.render_core.specs.declared.writing.Told.{Told}
-use Rattle.render_core.specs.declared.job.Origin.{Origin}
-use Rattle.render_core.specs.declared.job.Origin.TheVariants.{Read, Generated}
+use Rattle.run_words.specs.declared.refusal.DueRefusal.{DueRefusal}
+use Rattle.run_words.specs.declared.refusal.DueRefusal.TheVariants as undue
+use Rattle.run_words.specs.declared.told.Ending.{Ending}
+use Rattle.run_words.specs.declared.told.Ending.TheVariants.{Complete}
+use Rattle.run_words.specs.declared.refusal.InputRefusal.{InputRefusal}
+use Rattle.run_words.specs.declared.refusal.InputRefusal.TheVariants as judging
+use Rattle.run_words.specs.declared.refusal.ImageRefusal.{ImageRefusal}
+use Rattle.run_words.specs.declared.refusal.ImageRefusal.TheVariants as writing
+use Rattle.run_words.specs.declared.refusal.Refusal.{Refusal}
+use Rattle.run_words.specs.declared.refusal.Refused.{Refused}
+use Rattle.run_words.specs.declared.refusal.Refusal.TheVariants.{Image}
+use Rattle.run_words.specs.declared.told.Told.{Told}
+use Rattle.run_words.specs.declared.job.Origin.TheVariants.{Read}
 use Rattle.render_core.specs.Due.{Outcome}
-use Rattle.rc_base.specs.Outside.Ends.{Used, Failed, IsCalm, Took, Noted}
+use Rattle.rc_base.specs.Outside.Ends.{Used}
 use Rattle.render_core.specs.Findings.{IsJudged}
-use Rattle.render_core.specs.declared.work.Work.{Work}
+use Rattle.run_words.specs.declared.work.Work.{Work}
 use Rattle.render_core.specs.declared.work.Meaning.{Meaning}
-use Rattle.render_core.specs.Jobs.{Task, origin_of}
-use Rattle.render_core.specs.Scenes.{Found, Lists, found_limit, is_filtered, rules_for, meant, refused_in, scene_limit, word_limit, work_for, Spells, Gives, Takes, IsNotFor}
+use Rattle.run_words.specs.Jobs.{Task, origin_of}
+use Rattle.render_core.specs.Scenes.{Found, Lists, found_limit, is_filtered, rules_for, meant, refused_in, scene_limit, work_for, Spells, Gives, Takes, IsNotFor}
+use Rattle.run_words.specs.Asked.{word_limit}
+use Rattle.run_words.specs.Statuses.{input_line, input_status, refusal_line, refusal_status}
 use Rattle.spu_chain.specs.Filter.{AreReached, HasByteTint, HaveRoom}
 use Rattle.spu_chain.specs.declared.rule.SpuRule.{SpuRule}
-use Rattle.render_core.specs.Lines.{scene_kind_name, text_kind_name, malformed_line, limit_line, not_last_line, image_fault_line, read_fault_line, memory_line}
+use Rattle.run_words.specs.Lines.{image_fault_line, memory_line}
 use Rattle.render_core.specs.Outcomes.{Sent, IsDue, Cause, IsEarly, HaveSeenAll, HaveSeenFront}
-
--- ---- statuses and lines
-
-abbrev pub reading_status : ReadAllFault → ℕ
-reading_status reading.ReadFault = 2
-reading_status (reading.TooLong seen) = 4
-reading_status reading.OutOfMemory = 7
-
-abbrev pub reading_line : ReadAllFault → List ℕ
-reading_line reading.ReadFault = read_fault_line
-reading_line (reading.TooLong seen) = limit_line 1 seen
-reading_line reading.OutOfMemory = memory_line
-
-abbrev pub input_status : InputRefusal → ℕ
-input_status (judging.MalformedScene kind at) = 3
-input_status (judging.MalformedText kind line) = 3
-input_status (judging.PastLimit limit) = 4
-input_status judging.OutOfMemory = 7
-
-abbrev pub input_line : InputRefusal → List ℕ
-input_line (judging.MalformedScene kind at) = malformed_line (scene_kind_name kind) at
-input_line (judging.MalformedText kind line) = malformed_line (text_kind_name kind) line
-input_line (judging.PastLimit limit) = limit_line limit.what limit.value
-input_line judging.OutOfMemory = memory_line
-
-abbrev pub image_status : ImageRefusal → ℕ
-image_status (writing.Fault done) = 6
-image_status writing.OutOfMemory = 7
-
-abbrev pub image_line : ImageRefusal → List ℕ
-image_line (writing.Fault done) = image_fault_line done
-image_line writing.OutOfMemory = memory_line
-
-abbrev pub due_status : DueRefusal → ℕ
-due_status (undue.PastLimit limit) = 4
-due_status (undue.NotLast name) = 12
-due_status undue.OutOfMemory = 7
-
-abbrev pub due_line : DueRefusal → List ℕ
-due_line (undue.PastLimit limit) = limit_line limit.what limit.value
-due_line (undue.NotLast name) = not_last_line name
-due_line undue.OutOfMemory = memory_line
-
--- the status of a refusal
-abbrev pub refusal_status : Refusal → ℕ
-refusal_status (Reading fault) = reading_status fault
-refusal_status (Input refusal) = input_status refusal
-refusal_status (Undue refusal) = due_status refusal
-refusal_status (Image refusal) = image_status refusal
-
--- the line of a refusal
-abbrev pub refusal_line : Refusal → List ℕ
-refusal_line (Reading fault) = reading_line fault
-refusal_line (Input refusal) = input_line refusal
-refusal_line (Undue refusal) = due_line refusal
-refusal_line (Image refusal) = image_line refusal
 
 -- ---- the scene
 
@@ -130,24 +67,6 @@ pub record Came (job : Job) (source : Used) (x : Meaning) : Type 0 where
   pub gives : Gives (origin_of job) input found
   pub within : scene_limit (origin_of job) found ≡ None
   pub means : IsMeaning found x
-
--- what is known of a scene that was read: of bytes its fields are in their ranges, of a text its version is 1 or 2 and its pictures are whole
-abbrev pub IsWellRead : Form → Scene → Type 0
-IsWellRead Bytes scene = IsDecl scene.decl × AllByRecursion (AllByRecursion IsCommand) scene.streams
-IsWellRead PlainBytes scene = IsDecl scene.decl × AllByRecursion (AllByRecursion IsCommand) scene.streams
-IsWellRead Text scene = IsVersion scene.decl.version × AllByRecursion AreWhole scene.streams
-
--- what is known of a scene that was made: its rounds are within their range, and all that is known of a scene that was read
-pub record IsMade (seed size : ℕ) (scene : Scene) : Type 0 where
-  pub is : scene ≡ generated_scene seed size
-  pub rounds : size_limit size ≡ None
-  pub of_bytes : IsWellRead Bytes scene
-  pub of_text : IsWellRead Text scene
-
--- what is known of a job's scene by where it comes from
-abbrev pub IsWell : Origin → Scene → Type 0
-IsWell (Read form) scene = IsWellRead form scene
-IsWell (Generated seed size) scene = IsMade seed size scene
 
 -- why bytes spell no scene within the limits, as a refusal
 abbrev pub refusal_of_scene : SceneFault → InputRefusal
@@ -255,14 +174,6 @@ pub record IsPerformed (task : Task) (source image : Used) (told : Told) : Type 
   pub due : IsDue task source o
   pub sent : IsSent image o told
 
--- what is left to tell was told, or a front of it where the notes failed, which changes the status of a job that is done
-abbrev pub IsConcluded : Used → Told → ℕ → Type 0
-IsConcluded notes told status =
-    ((status ≡ 0) × (told.ending ≡ Complete) × Took notes told.lines × IsCalm notes)
-    ⊎ (((status ≡ 8) × (told.ending ≡ Complete) × Failed notes × ((n : ℕ) × (n < length told.lines) × Took notes (take n told.lines)))
-    ⊎ (((status ≡ 5) × (told.ending ≡ Stuck) × Noted notes told.lines)
-    ⊎ ((status ≡ 11) × (told.ending ≡ RaceFound) × Noted notes told.lines)))
-
 -- ---- refusals
 
 -- the record that is kept with a refusal: with that of an image that failed
@@ -282,12 +193,6 @@ IsRefusedUnwritten task source refusal = (image : Used) → IsCaused task source
 -- so it does for every task of this job
 abbrev pub IsRefusedFor : Job → Used → Refusal → Type 0
 IsRefusedFor job source refusal = (task : Task) → task.job ≡ job → IsRefusedUnwritten task source refusal
-
--- A refusal is told: with its own status and line, or as want of memory where there was none for its line.
-pub record IsRefusalTold (notes : Used) (refusal : Refusal) (status : ℕ) : Type 0 where
-  pub line : List ℕ
-  pub noted : Noted notes line
-  pub one_of : ((status ≡ refusal_status refusal) × (line ≡ refusal_line refusal)) ⊎ ((status ≡ 7) × (line ≡ memory_line))
 
 -- ---- the members of a chain
 

@@ -5,8 +5,7 @@ use Rattle.rc_base.specs.declared.scene.Limit.{Limit}
 use Rattle.rc_base.specs.declared.scene.Scene.{Scene}
 use Rattle.rc_base.specs.declared.state.Fault.{Fault}
 use Rattle.rc_base.specs.declared.sync.Name.{Name}
-use Rattle.rc_base.specs.declared.window.Layout.{Layout}
-use Rattle.rc_base.specs.Formats.Limits.{Quantity, layout_quantities, first_outside, expansion_limit, held_limit, limit_of, read_limit, size_limit, stream_limit}
+use Rattle.rc_base.specs.Formats.Limits.{expansion_limit, limit_of, read_limit, stream_limit}
 use Rattle.rc_base.specs.Formats.Spelling.{SpellsScene}
 use Rattle.scene_text.specs.Text.Read.{SpellsText}
 use Rattle.rc_base.specs.Cluster.Tiles.{tile_count}
@@ -20,16 +19,17 @@ use Rattle.scene_file.specs.declared.list_scene.ListScene.{ListScene}
 use Rattle.sort_last.specs.Offends.{IsComposable, IsFirstOffence}
 use Rattle.spu_chain.specs.declared.rule.SpuRule.{SpuRule}
 use Rattle.spu_chain.specs.Scenes.{counts_from, rules_after_all, scene_by}
-use Rattle.render_core.specs.declared.job.Cluster.{Cluster}
-use Rattle.render_core.specs.declared.job.Job.{Job}
-use Rattle.render_core.specs.declared.job.Job.TheVariants.{Simulate, Serial, Last}
-use Rattle.render_core.specs.declared.job.Form.{Form}
-use Rattle.render_core.specs.declared.job.Form.TheVariants.{Bytes, PlainBytes, Text}
-use Rattle.render_core.specs.declared.job.Origin.{Origin}
-use Rattle.render_core.specs.declared.job.Origin.TheVariants.{Read, Generated}
-use Rattle.render_core.specs.declared.work.Work.{Work}
-use Rattle.render_core.specs.Jobs.{Task, cluster_of, origin_of}
-use Rattle.render_core.specs.Lines.{filter_lines, list_fault_lines}
+use Rattle.run_words.specs.declared.job.Cluster.{Cluster}
+use Rattle.run_words.specs.declared.job.Job.{Job}
+use Rattle.run_words.specs.declared.job.Job.TheVariants.{Last}
+use Rattle.run_words.specs.declared.job.Form.{Form}
+use Rattle.run_words.specs.declared.job.Form.TheVariants.{Bytes, PlainBytes, Text}
+use Rattle.run_words.specs.declared.job.Origin.{Origin}
+use Rattle.run_words.specs.declared.job.Origin.TheVariants.{Read, Generated}
+use Rattle.run_words.specs.declared.work.Work.{Work}
+use Rattle.run_words.specs.Asked.{layout_for, word_limit}
+use Rattle.run_words.specs.Jobs.{Task, origin_of}
+use Rattle.run_words.specs.Lines.{filter_lines, list_fault_lines}
 
 -- ---- what is found, and what it means
 
@@ -114,21 +114,9 @@ Holds (Generated seed size) source input = input ≡ []
 
 -- ---- limits
 
--- the tiles of the scene's window
-abbrev pub layout_for : Cluster → Scene → Layout
-layout_for cluster scene = record { width = scene.decl.width; height = scene.decl.height; columns = cluster.columns; rows = cluster.rows }
-
 -- how many actors the cluster has
 abbrev pub actors_for : Cluster → Scene → ℕ
 actors_for cluster scene = length scene.streams + 1 + tile_count (layout_for cluster scene)
-
--- the cluster's quantities, for the scene's window
-abbrev pub cluster_quantities : Cluster → Scene → List Quantity
-cluster_quantities cluster scene = layout_quantities scene.decl.width scene.decl.height cluster.columns cluster.rows cluster.depth
-
--- the first of them that is outside its range
-abbrev pub cluster_limit : Cluster → Scene → Option Limit
-cluster_limit cluster scene = first_outside (cluster_quantities cluster scene)
 
 -- Of what is found: a scene's own quantities; or with call lists those of what is read, the costs of the expansion, and those of the streams that it
 -- means.
@@ -141,27 +129,6 @@ found_limit (Lists s) =
 abbrev pub scene_limit : Origin → Found → Option Limit
 scene_limit (Read form) found = found_limit found
 scene_limit (Generated seed size) found = None
-
--- of the tiles and the lanes, where the job runs a cluster
-abbrev pub tile_limit : Option Cluster → Scene → Option Limit
-tile_limit None scene = None
-tile_limit (Some cluster) scene = cluster_limit cluster scene
-
--- the tiles of the words are within their ranges, where the job runs a cluster
-abbrev pub HasTiles : Job → Scene → Type 0
-HasTiles job scene = (cluster : Cluster) → cluster_of job ≡ Some cluster → cluster_limit cluster scene ≡ None
-
--- of these and then of the rounds, where the scene is made
-abbrev pub with_rounds : Origin → Option Limit → Option Limit
-with_rounds (Read form) first = first
-with_rounds (Generated seed size) first = option_or first (size_limit size)
-
--- Of what the job asks for: the tiles and the lanes of its words, and then the rounds; or the pixels of all frames, where it holds them all at once.
-abbrev pub word_limit : Job → Scene → Option Limit
-word_limit (Simulate seed cluster) scene = option_or (cluster_limit cluster scene) (held_limit scene)
-word_limit Serial scene = held_limit scene
-word_limit Last scene = held_limit scene
-word_limit job scene = with_rounds (origin_of job) (tile_limit (cluster_of job) scene)
 
 -- The first quantity outside its range of all that are judged for the job: those of what is found, and then the words'. The filters come behind them.
 abbrev pub limit_for : Job → Found → Option Limit

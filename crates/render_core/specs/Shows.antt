@@ -21,9 +21,9 @@ use Rattle.command_line.specs.Words.{Setting, IsCommandLine}
 use Rattle.command_line.specs.declared.job.JobName.TheVariants.{Render as render_name}
 use Rattle.order_model.specs.Report.{frame_count, tile_order}
 use Rattle.order_model.specs.declared.record.Record.{Record}
-use Rattle.render_core.specs.Jobs.{AskPlainly, cluster_in}
+use Rattle.run_words.specs.Jobs.{AskPlainly, cluster_in}
 use Rattle.render_core.specs.Outcomes.{Ran}
-use Rattle.render_core.specs.Scenes.{layout_for}
+use Rattle.run_words.specs.Asked.{layout_for}
 
 -- The journal goes as far as it can, and each tile's log records an order that it permits. Of each frame each pixel is that of one serial renderer over
 -- the whole streams in the order of its tile. Where every two commands that conflict stand in one sequence in all permitted orders, the image is that

@@ -2,21 +2,18 @@
 ghost use Rattle.std.specs.Prelude.{◌≡◌, ◌≤◌, [], false, Some, None, is_some, length, IfOk, IfErr, MatchResult, if◌then◌else◌};
 ghost use Rattle.rc_base.specs.Formats.Limits.{limit_of};
 ghost use Rattle.render_core.specs.Due.{IsOutcome, IsPacked, IsUnpacked, found_by, journal_of, short_due};
-ghost use Rattle.render_core.specs.Jobs.{ShowsNothing, origin_of, starts_threads};
-ghost use Rattle.render_core.specs.Scenes.{HasTiles, IsFor, cluster_limit};
-ghost use Rattle.render_core.specs.Refusals.{IsBlank, IsWell, IsWellRead, IsWritable, outcome_of, refusal_of, IsNoOutcome};
-ghost use Rattle.render_core.specs.Reports.{IsDefault};
-ghost use Rattle.render_core.specs.declared.job.Form.TheVariants.{Bytes as OfBytes, PlainBytes as OfPlainBytes, Text as OfText};
-ghost use Rattle.render_core.specs.declared.job.Job.TheVariants.{Simulate as ToSimulate, Serial as ToSerial, Last as ToLast, Check as ToCheck, Race as ToRace};
-ghost use Rattle.render_core.specs.declared.due.Ending.TheVariants.{Complete as Whole, Stuck as IsStuck};
-ghost use Rattle.render_core.specs.declared.due.DueRefusal.TheVariants.{OutOfMemory as NoMemory};
+ghost use Rattle.run_words.specs.Jobs.{ShowsNothing, origin_of, starts_threads};
+ghost use Rattle.run_words.specs.Asked.{HasTiles, cluster_limit, IsWell, IsWellRead};
+ghost use Rattle.render_core.specs.Scenes.{IsFor};
+ghost use Rattle.render_core.specs.Refusals.{IsBlank, IsWritable, outcome_of, refusal_of, IsNoOutcome};
+ghost use Rattle.render_core.specs.Runs.{IsDefault};
+ghost use Rattle.run_words.specs.declared.job.Form.TheVariants.{Bytes as OfBytes, PlainBytes as OfPlainBytes, Text as OfText};
+ghost use Rattle.run_words.specs.declared.job.Job.TheVariants.{Simulate as ToSimulate, Serial as ToSerial, Last as ToLast, Check as ToCheck, Race as ToRace};
+ghost use Rattle.run_words.specs.declared.told.Ending.TheVariants.{Complete as Whole, Stuck as IsStuck};
+ghost use Rattle.run_words.specs.declared.refusal.DueRefusal.TheVariants.{OutOfMemory as NoMemory};
 
-use crate::asked::tiles_of;
 use crate::cluster::cluster_due;
-use crate::job::{Cluster, Job};
 use crate::picks::{actor_count, picks_of};
-use crate::report::{race_line, short_report};
-use crate::work::Work;
 use frame_out::laws::frames_of_scenes_are_writable;
 use order_model::laws::{
     default_journal_is_maximal, default_orders_are_permitted, scene_lists_are_well_formed,
@@ -27,13 +24,16 @@ use rc_base::cluster::FaultLists;
 use rc_base::command::Bytes;
 use rc_base::image::Frames;
 use rc_base::out_of_memory::OutOfMemory;
-use rc_base::scene::{Limit, Scene};
+use rc_base::scene::Scene;
 use rc_base::sync::{Journal, Name, Order, SyncLists, Waiting};
+use run_words::job::{Cluster, Job};
+use run_words::refusal::DueRefusal;
+use run_words::{Ending, Work, race_line, short_report, tiles_of};
 use scene_file::write_scene;
 use scene_text::print_scene;
 use serial_render::{Survey, Turns, render_order, survey, turns_of};
 use sort_last::{LastFault, LastSurvey, render_judged, survey_last};
-use std::alloc::{AllocError, Global};
+use std::alloc::Global;
 use std::thread::Threads;
 
 /// What is due to the image.
@@ -43,17 +43,6 @@ pub(crate) enum DueImage {
     Frames(Frames),
     /// One text.
     OneText(Bytes),
-}
-
-/// How a job ends that is carried out.
-#[derive(Clone, Copy)]
-pub(crate) enum Ending {
-    /// All commands were carried out.
-    Complete,
-    /// A client waits for ever.
-    Stuck,
-    /// Nobody waits, and two commands race.
-    RaceFound,
 }
 
 /// What is due for a scene.
@@ -66,34 +55,6 @@ pub(crate) struct Due {
     pub(crate) ending: Ending,
     /// The record of a cluster.
     pub(crate) kept: Option<Record>,
-}
-
-/// Why nothing is due for a scene.
-#[derive(Clone, Copy, Debug, PartialEq, Eq)]
-pub enum DueRefusal {
-    /// The words ask for tiles or lanes that are outside their range in the scene's window, for a job that holds all frames at once, which are too large,
-    /// or for a scene of too many rounds.
-    PastLimit(Limit),
-    /// The job is to draw the scene's clients apart, and this is the first command that keeps them from that.
-    NotLast(Name),
-    /// There was no memory.
-    OutOfMemory,
-}
-
-impl From<OutOfMemory> for DueRefusal {
-    ghost from_gives = { λ _ refusal. refusal ≡ NoMemory };
-
-    fn from(_: OutOfMemory) -> DueRefusal {
-        DueRefusal::OutOfMemory
-    }
-}
-
-impl From<AllocError> for DueRefusal {
-    ghost from_gives = { λ _ refusal. refusal ≡ NoMemory };
-
-    fn from(_: AllocError) -> DueRefusal {
-        DueRefusal::OutOfMemory
-    }
 }
 
 /// What is due for what a job that starts no thread works on.

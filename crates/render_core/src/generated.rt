@@ -2,15 +2,15 @@
 ghost use Rattle.std.specs.Prelude.{◌≡◌, ◌≤◌, ℕ, Some, None, IfOk, IfErr, MatchResult};
 ghost use Rattle.rc_base.specs.Formats.Limits.{limit_of, size_limit};
 ghost use Rattle.scene_file.specs.Generator.{generated_scene};
-ghost use Rattle.render_core.specs.Jobs.{origin_of};
-ghost use Rattle.render_core.specs.Scenes.{tile_limit, word_limit};
-ghost use Rattle.render_core.specs.Refusals.{IsMade, IsUnmade};
-ghost use Rattle.render_core.specs.declared.job.Origin.TheVariants.{Generated as IsGenerated};
+ghost use Rattle.run_words.specs.Jobs.{origin_of};
+ghost use Rattle.run_words.specs.Asked.{tile_limit, word_limit, IsMade};
+ghost use Rattle.render_core.specs.Refusals.{IsUnmade};
+ghost use Rattle.run_words.specs.declared.job.Origin.TheVariants.{Generated as IsGenerated};
 
-use crate::due::DueRefusal;
-use crate::job::{Cluster, Job};
 use bounds_bucket::layout;
 use rc_base::scene::{Limit, Scene};
+use run_words::job::{Cluster, Job};
+use run_words::refusal::DueRefusal;
 use scene_file::generate;
 use std::alloc::Global;
 

@@ -3,23 +3,20 @@
 //! `run` is one pipeline for all jobs: the words name the job, its scene is read or made, what is due for the scene is made, the image is written, and
 //! then the notes. For `render` and `demo` each client, the manager and each tile is a thread of its own (`cluster_run`), and each passes the gate before each attempt
 //! of a step: what is due is then that of the record of what really happened. For `last` threads draw the clients apart (`sort_last`). All other jobs are carried out by `run_alone`, which starts no thread
-//! and waits for nobody. Where a job's scene comes from is one case in `job` and in `specs/Jobs`, and what is due for it is one case in `due` and in
-//! `specs/Due`. `specs/` says what a job may find in its input, what is due for a scene, and what each status means. The crate stands on the readers
-//! and writers of scenes, on the cluster, stepped and on threads, on the serial renderer, and on the writer of frames.
+//! and waits for nobody. What is due for a job is one case in `due` and in `specs/Due`. `specs/` says what a job may find in its input, what is due for a
+//! scene, and how a run ends. The crate stands on the words of a run (`run_words`), on the readers and writers of scenes, on the cluster, stepped and on
+//! threads, on the serial renderer, and on the writer of frames.
 #![tactic(auto)]
 
-mod asked;
 mod cluster;
 mod due;
 mod generated;
 mod input;
 pub mod job;
 pub mod laws;
-mod notes;
 mod picks;
 mod reader;
 pub mod refusal;
-mod report;
 mod run_job;
 mod steps;
 mod work;

@@ -4,11 +4,12 @@ ghost use Rattle.rc_base.specs.Formats.Limits.{limit_of};
 ghost use Rattle.rc_base.specs.Formats.Spelling.{SpellsScene};
 ghost use Rattle.rc_base.specs.Outside.Transfer.{byte_limit};
 ghost use Rattle.scene_file.specs.Letters.{BeginWithLists};
-ghost use Rattle.render_core.specs.Refusals.{IsWellRead, IsRefusedInput, refusal_of_scene};
-ghost use Rattle.render_core.specs.declared.job.Form.TheVariants.{Bytes as OfBytes, PlainBytes as OfPlainBytes};
+ghost use Rattle.run_words.specs.Asked.{IsWellRead};
+ghost use Rattle.render_core.specs.Refusals.{IsRefusedInput, refusal_of_scene};
+ghost use Rattle.run_words.specs.declared.job.Form.TheVariants.{Bytes as OfBytes, PlainBytes as OfPlainBytes};
 
-use crate::refusal::InputRefusal;
 use rc_base::scene::{Limit, Scene};
+use run_words::refusal::InputRefusal;
 use scene_file::{SceneFault, read_scene, read_scene_beside};
 use std::alloc::Global;
 use std::thread::Threads;

@@ -1,22 +1,18 @@
 //! The top call: the words, the steps of the task that they ask for, and the notes.
 ghost use Rattle.std.specs.Prelude.{◌≡◌, ◌≤◌, ◌⊎◌, [], map, string_bytes, IfErr, IfOk, IfSome, OnOk};
 ghost use Rattle.rc_base.specs.Outside.Ends.{use_of};
-ghost use Rattle.render_core.specs.Lines.{memory_line, usage_line};
+ghost use Rattle.run_words.specs.Lines.{memory_line, usage_line};
 ghost use Rattle.command_line.specs.Filters.{AreNamed, BeginsFilter};
 ghost use Rattle.render_core.specs.Finishes.{EndsNoting, IsFinished, IsJobless, IsTaskless};
-ghost use Rattle.render_core.specs.Jobs.{AskFiltered, AskPlainly, ForTask, IsJob, IsJobBehind, IsLine, IsThreaded, Reads, ShowsNothing, Task as AnyTask};
+ghost use Rattle.run_words.specs.Jobs.{AskFiltered, AskPlainly, ForTask, IsJob, IsJobBehind, IsLine, IsThreaded, Reads, ShowsNothing, Task as AnyTask};
 ghost use Rattle.render_core.specs.Outcomes.{Ran, RefusesWhatItFinds, CarriesOutWhatItFinds, IsHeadline, KeepsOrders, IsUnwritten, IsLeft, IsLeftByThreads, HasNotes, LeavesMembers};
 ghost use Rattle.render_core.specs.Refusals.{kept_for};
 
-use crate::job::{Job, is_threaded, job_of};
 use crate::laws::{
     findings_are_one, full_records_are_foreseen, ordered_records_show_one_image,
     plain_tasks_are_filtered_ones,
 };
-use crate::notes::{conclude, note, note_refusal};
-use crate::refusal::{OUT_OF_MEMORY, Refused};
 use crate::steps::{perform, perform_any, perform_in_threads};
-use crate::writing::Told;
 use command_line::{
     filters, leading_words_have_one_reading, lines_begin_no_filter, lines_have_one_reading,
     named_rules_begin,
@@ -25,6 +21,9 @@ use order_model::record::Record;
 use rc_base::gate::Gate;
 use rc_base::out_of_memory::OutOfMemory;
 use rc_base::outside::{Sink, Source};
+use run_words::job::{Job, is_threaded, job_of};
+use run_words::refusal::{OUT_OF_MEMORY, Refused};
+use run_words::{Told, conclude, note, note_refusal};
 use spu_chain::Spu;
 use std::alloc::Global;
 use std::sync::Wait;
@@ -49,7 +48,7 @@ fn kept_for(status: u8, kept: Option<Record>) -> Option<Record>
 }
 
 // Notes that nothing is asked for, and ends the run so.
-#[tactic(auto, unfolding(crate::specs::Lines::usage_line))]
+#[tactic(auto, unfolding(run_words::specs::Lines::usage_line))]
 fn end_unasked<N: Sink>(notes: &mut N) -> Finish
     ensures ended { EndsNoting (use_of N.held N.faults notes.old notes.new) 1 usage_line result }
     ensures later { N.faults notes.old ≤ N.faults notes.new }
@@ -62,7 +61,7 @@ fn end_unasked<N: Sink>(notes: &mut N) -> Finish
 }
 
 // Notes that there was no memory for the words, and ends the run so.
-#[tactic(auto, unfolding(crate::specs::Lines::memory_line))]
+#[tactic(auto, unfolding(run_words::specs::Lines::memory_line))]
 fn end_short<N: Sink>(notes: &mut N) -> Finish
     ensures ended { EndsNoting (use_of N.held N.faults notes.old notes.new) 7 memory_line result }
     ensures later { N.faults notes.old ≤ N.faults notes.new }

@@ -4,17 +4,17 @@ ghost use Rattle.std.specs.List.{flat_map};
 ghost use Rattle.rc_base.specs.Formats.Limits.{commands_in, limit_of};
 ghost use Rattle.spu_chain.specs.Filter.{AreReached, HaveRoom};
 ghost use Rattle.spu_chain.specs.Scenes.{counts_from, rules_after_all, scene_by};
-ghost use Rattle.render_core.specs.Jobs.{task_of};
-ghost use Rattle.render_core.specs.Lines.{filter_lines as lines_of_filters};
+ghost use Rattle.run_words.specs.Jobs.{task_of};
+ghost use Rattle.run_words.specs.Lines.{filter_lines as lines_of_filters};
 ghost use Rattle.render_core.specs.Refusals.{AreReady, HaveSeenSome};
 ghost use Rattle.render_core.specs.Scenes.{is_filtered, rules_for, work_with};
 
-use crate::job::{Form, Job, Origin};
-use crate::report::{filter_lines, list_fault_lines};
 use rc_base::cluster::FaultLists;
 use rc_base::command::Bytes;
 use rc_base::out_of_memory::OutOfMemory;
 use rc_base::scene::Scene;
+use run_words::job::{Form, Job, Origin};
+use run_words::{Work, filter_lines, list_fault_lines};
 use spu_chain::{Spu, filter_scene, rules_of};
 use std::alloc::Global;
 
@@ -25,17 +25,6 @@ pub(crate) struct Meaning {
     pub(crate) scene: Scene,
     /// Each client's commands that are refused among its call lists, with their places in the stream that was read.
     pub(crate) faults: FaultLists,
-}
-
-/// What a task works on.
-#[derive(Drop)]
-pub(crate) struct Work {
-    /// What the filters make of the scene.
-    pub(crate) scene: Scene,
-    /// The lines of what is refused before the run, with which the report begins.
-    pub(crate) refused: Bytes,
-    /// The lines of the filters that count.
-    pub(crate) counted: Bytes,
 }
 
 // A scene that comes so goes through the filters.

@@ -2,28 +2,19 @@
 ghost use Rattle.std.specs.Prelude.{◌≡◌, ◌≤◌, ◌++◌, [], IfOk, IfErr, OnErr};
 ghost use Rattle.rc_base.specs.Outside.Ends.{use_of, TookFront};
 ghost use Rattle.frame_out.specs.Writing.{IsWritten};
-ghost use Rattle.render_core.specs.Lines.{image_fault_line};
+ghost use Rattle.run_words.specs.Lines.{image_fault_line};
 ghost use Rattle.render_core.specs.Refusals.{IsBlank, IsWritable, IsToldOf, IsUntold, due_text};
-ghost use Rattle.render_core.specs.declared.refusal.Refusal.TheVariants.{Image as OfImage};
+ghost use Rattle.run_words.specs.declared.refusal.Refusal.TheVariants.{Image as OfImage};
 
-use crate::due::{DueImage, Ending};
-use crate::refusal::{ImageRefusal, Refusal, Refused, image_fault_line};
+use crate::due::DueImage;
 use frame_out::{Written, write_frames, write_text};
 use order_model::record::Record;
 use rc_base::command::Bytes;
 use rc_base::out_of_memory::OutOfMemory;
 use rc_base::outside::Sink;
+use run_words::refusal::{ImageRefusal, Refusal, Refused, image_fault_line};
+use run_words::{Ending, Told};
 use std::alloc::{AllocError, Global};
-
-/// What is left to tell of a job that is carried out.
-#[derive(Drop)]
-pub(crate) struct Told {
-    /// To the notes.
-    pub(crate) lines: Bytes,
-    pub(crate) ending: Ending,
-    /// The record of a cluster.
-    pub(crate) kept: Option<Record>,
-}
 
 // Writes a text, if there is one.
 fn write_some<K: Sink>(image: &mut K, text: &[u8]) -> Written

@@ -89,13 +89,11 @@ lists rules (c ∷ cs) ds =
 
 -- ---- each rule alone, and the members one after the other
 
-recoloured_each : (tint : Rgba) (cs : List Command) → filtered_by (Recolour tint ∷ []) cs ≡ map (recoloured tint) cs
-recoloured_each tint [] = refl
-recoloured_each tint (c ∷ cs) = ap (λ xs. recoloured tint c ∷ xs) (recoloured_each tint cs)
-
-culled_each : (cs : List Command) → filtered_by (Cull ∷ []) cs ≡ map culled cs
-culled_each [] = refl
-culled_each (c ∷ cs) = ap (λ xs. culled c ∷ xs) (culled_each cs)
+-- a member whose rule stays, and that changes each command for itself
+mapped_each : (r : SpuRule) (f : Command → Command) → ((c : Command) → passed r c ≡ Some (f c)) → ((c : Command) → rule_after r c ≡ r)
+    → (cs : List Command) → filtered_by (r ∷ []) cs ≡ map f cs
+mapped_each r f gives stays [] = refl
+mapped_each r f gives stays (c ∷ cs) = rw (gives c, stays c) (ap (λ xs. f c ∷ xs) (mapped_each r f gives stays cs))
 
 dropped_each : (byte : ℕ) (cs : List Command) → filtered_by (Drop byte ∷ []) cs ≡ filter (λ c. not (is_of byte c)) cs
 dropped_each byte [] = refl
@@ -113,8 +111,8 @@ counted_each n [] = refl
 counted_each n (c ∷ cs) = ap (λ xs. c ∷ xs) (counted_each (n + 1) cs)
 
 pub alone : (r : SpuRule) (cs : List Command) → filtered_by (r ∷ []) cs ≡ made_by r cs
-alone (Recolour tint) cs = recoloured_each tint cs
-alone Cull cs = culled_each cs
+alone (Recolour tint) cs = mapped_each (Recolour tint) (recoloured tint) (λ c. refl) (λ c. refl) cs
+alone Cull cs = mapped_each Cull culled (λ c. refl) (λ c. refl) cs
 alone (Drop byte) cs = dropped_each byte cs
 alone (Count n) cs = counted_each n cs
 

@@ -62,10 +62,8 @@ list_well (r ∷ rs) t cs h = subst AreWell (sym (one_member r rs cs)) (list_wel
 -- ---- tints stay
 
 tint_after : (r : SpuRule) (c : Command) → HasByteTint r → HasByteTint (rule_after r c)
-tint_after (Recolour tint) c h = h
-tint_after Cull c h = tt
-tint_after (Drop byte) c h = tt
 tint_after (Count n) c h = tt
+tint_after r c h = h
 
 tints_behind : (rules : List SpuRule) (c : Command) → AllByRecursion HasByteTint rules → AllByRecursion HasByteTint (rules_behind rules c)
 tints_behind [] c h = tt

@@ -34,10 +34,8 @@ passed (Drop byte) c = if is_of byte c then None else Some c
 passed (Count n) c = Some c
 
 abbrev pub rule_after : SpuRule → Command → SpuRule
-rule_after (Recolour tint) c = Recolour tint
-rule_after Cull c = Cull
-rule_after (Drop byte) c = Drop byte
 rule_after (Count n) c = Count (n + 1)
+rule_after r c = r
 
 -- the channels of a tint are bytes
 abbrev pub IsTint : Rgba → Type 0
@@ -45,16 +43,12 @@ IsTint tint = (tint.r < 256) × (tint.g < 256) × (tint.b < 256) × (tint.a < 25
 
 abbrev pub HasByteTint : SpuRule → Type 0
 HasByteTint (Recolour tint) = IsTint tint
-HasByteTint Cull = Unit {0}
-HasByteTint (Drop byte) = Unit {0}
-HasByteTint (Count n) = Unit {0}
+HasByteTint r = Unit {0}
 
 -- so many commands more can be counted, to 2^63 at the most
 abbrev pub HasRoom : ℕ → SpuRule → Type 0
-HasRoom more (Recolour tint) = Unit {0}
-HasRoom more Cull = Unit {0}
-HasRoom more (Drop byte) = Unit {0}
 HasRoom more (Count n) = n + more ≤ 2 ^ 63
+HasRoom more r = Unit {0}
 
 abbrev pub HaveRoom : ℕ → List SpuRule → Type 0
 HaveRoom more rules = AllByRecursion (HasRoom more) rules

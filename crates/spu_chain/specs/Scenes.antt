@@ -3,7 +3,7 @@ use Rattle.std.specs.Prelude.{ℕ, ◌+◌, List, [], ◌∷◌, fold}
 use Rattle.rc_base.specs.declared.command.Command.{Command}
 use Rattle.rc_base.specs.declared.scene.Scene.{Scene}
 use Rattle.spu_chain.specs.declared.rule.SpuRule.{SpuRule}
-use Rattle.spu_chain.specs.declared.rule.SpuRule.TheVariants.{Recolour, Cull, Drop, Count}
+use Rattle.spu_chain.specs.declared.rule.SpuRule.TheVariants.{Count}
 use Rattle.spu_chain.specs.Filter.{filtered_by, rules_after}
 
 -- what comes out of the streams: each meets the rules that those before it leave
@@ -22,7 +22,5 @@ scene_by rules scene = record { decl = scene.decl; streams = streams_by rules sc
 -- each counting member by its place, counted from k, and the number of commands that it was given
 abbrev pub counts_from : ℕ → List SpuRule → List (ℕ × ℕ)
 counts_from k [] = []
-counts_from k (Recolour tint ∷ rules) = counts_from (k + 1) rules
-counts_from k (Cull ∷ rules) = counts_from (k + 1) rules
-counts_from k (Drop byte ∷ rules) = counts_from (k + 1) rules
 counts_from k (Count n ∷ rules) = (k, n) ∷ counts_from (k + 1) rules
+counts_from k (r ∷ rules) = counts_from (k + 1) rules

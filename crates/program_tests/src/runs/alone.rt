@@ -1,6 +1,6 @@
 //! Runs of the call that starts no thread.
 ghost use Rattle.std.specs.Prelude.{IsTrue};
-ghost use Rattle.render_core.specs.Jobs.{IsThreaded};
+ghost use Rattle.run_words.specs.Jobs.{IsThreaded};
 
 use super::{Host, Left, sink, source_of, words};
 use render_core::{Finish, run_alone};

@@ -1,5 +1,5 @@
 use Rattle.std.proofs.Common.{◌≡◌, length, refl, ap, ◌∙◌, arith}
-use Rattle.render_core.specs.Reports.{lines_of_run}
+use Rattle.run_words.specs.Reports.{lines_of_run}
 use Rattle.render_core.proofs.Accounts.{ending_is, few_clients, few_faults, few_logs, notes_told}
 use Rattle.render_core.proofs.cluster.account_of.Goals as goal
 

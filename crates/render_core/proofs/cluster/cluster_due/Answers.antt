@@ -7,7 +7,7 @@ use Rattle.rc_base.specs.declared.window.Layout.{Layout}
 use Rattle.rc_base.proofs.WithinLimits.{tiles_within}
 use Rattle.frame_out.specs.Frames.{frame_total, window_images, AreFrames, ShowFrames}
 use Rattle.step_core.specs.CoreRuns.{IsFinish}
-use Rattle.render_core.specs.Scenes.{layout_for}
+use Rattle.run_words.specs.Asked.{layout_for}
 use Rattle.render_core.proofs.Recorded.{layout_fits, layout_within, scene_within}
 use Rattle.render_core.proofs.ClusterRuns.{are_writable, finish_of, is_stepped, run_of, text_is}
 use Rattle.render_core.proofs.cluster.cluster_due.Goals as goal

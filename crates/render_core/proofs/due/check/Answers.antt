@@ -1,5 +1,5 @@
 use Rattle.std.proofs.Common.{None, ℕ, List, sym, subst}
-use Rattle.render_core.specs.declared.job.Job.TheVariants.{Check}
+use Rattle.run_words.specs.declared.job.Job.TheVariants.{Check}
 use Rattle.render_core.specs.Due.{IsOutcome}
 use Rattle.render_core.proofs.Dues.{check_due}
 use Rattle.render_core.proofs.due.check.Goals as goal

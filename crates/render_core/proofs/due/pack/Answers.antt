@@ -1,6 +1,6 @@
 use Rattle.std.proofs.Common.{None, ◌∙◌, List, ℕ, [], ap, subst, sym}
 use Rattle.rc_base.specs.Formats.Spelling.{SpellsScene}
-use Rattle.render_core.specs.declared.due.Ending.TheVariants.{Complete}
+use Rattle.run_words.specs.declared.told.Ending.TheVariants.{Complete}
 use Rattle.render_core.specs.Due.{Outcome}
 use Rattle.render_core.proofs.due.pack.Goals as goal
 

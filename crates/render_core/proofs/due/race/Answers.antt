@@ -4,7 +4,7 @@ use Rattle.rc_base.specs.Orders.Journal.{IsMaximal}
 use Rattle.rc_base.specs.Orders.Order.{IsPermitted}
 use Rattle.rc_base.specs.declared.sync.SyncLists.{SyncLists}
 use Rattle.race_check.specs.Races.{IsVerdict}
-use Rattle.render_core.specs.declared.job.Job.TheVariants.{Race}
+use Rattle.run_words.specs.declared.job.Job.TheVariants.{Race}
 use Rattle.render_core.specs.Due.{IsOutcome, journal_of, short_due}
 use Rattle.render_core.proofs.Dues.{race_due}
 use Rattle.render_core.proofs.due.race.Goals as goal

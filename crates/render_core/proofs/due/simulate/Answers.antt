@@ -4,7 +4,8 @@ use Rattle.rc_base.specs.Cluster.Tiles.{tile_count}
 use Rattle.scene_file.specs.Generator.{picks_of}
 use Rattle.rc_base.specs.declared.window.Layout.{Layout}
 use Rattle.render_core.specs.Due.{IsStepped, IsOutcome}
-use Rattle.render_core.specs.Scenes.{actors_for, layout_for}
+use Rattle.render_core.specs.Scenes.{actors_for}
+use Rattle.run_words.specs.Asked.{layout_for}
 use Rattle.render_core.specs.Refusals.{outcome_of}
 use Rattle.rc_base.proofs.WithinLimits.{clients_within, tiles_within}
 use Rattle.render_core.proofs.Picked.{picks_below}

@@ -1,6 +1,6 @@
 use Rattle.std.proofs.Common.{None, ◌∙◌, List, ℕ, [], ap, subst, sym}
 use Rattle.scene_text.specs.Text.Read.{SpellsText}
-use Rattle.render_core.specs.declared.due.Ending.TheVariants.{Complete}
+use Rattle.run_words.specs.declared.told.Ending.TheVariants.{Complete}
 use Rattle.render_core.specs.Due.{Outcome}
 use Rattle.render_core.proofs.due.unpack.Goals as goal
 

@@ -5,8 +5,8 @@ use Rattle.std.specs.declared.option.Option.{Option}
 use Rattle.rc_base.specs.Formats.Limits.{size_limit}
 use Rattle.scene_file.specs.Generator.{generated_scene}
 use Rattle.rc_base.specs.declared.scene.Limit.{Limit}
-use Rattle.render_core.specs.Scenes.{tile_limit, word_limit}
-use Rattle.render_core.specs.declared.job.Cluster.{Cluster}
+use Rattle.run_words.specs.Asked.{tile_limit, word_limit}
+use Rattle.run_words.specs.declared.job.Cluster.{Cluster}
 use Rattle.render_core.proofs.Judging.{made_words}
 use Rattle.render_core.proofs.generated.rounds_for.Goals as goal
 

@@ -1,6 +1,6 @@
 use Rattle.std.proofs.Common.{ℕ, List, sym, subst}
-use Rattle.render_core.specs.declared.job.Form.{Form}
-use Rattle.render_core.specs.declared.job.Form.TheVariants.{PlainBytes, Text}
+use Rattle.run_words.specs.declared.job.Form.{Form}
+use Rattle.run_words.specs.declared.job.Form.TheVariants.{PlainBytes, Text}
 use Rattle.render_core.specs.Refusals.{IsRead}
 use Rattle.render_core.proofs.Inputs.{read_plainly}
 use Rattle.render_core.proofs.input.meaning_of.Goals as goal

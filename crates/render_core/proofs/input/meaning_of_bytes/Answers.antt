@@ -1,4 +1,4 @@
-use Rattle.render_core.specs.declared.job.Form.TheVariants.{Bytes}
+use Rattle.run_words.specs.declared.job.Form.TheVariants.{Bytes}
 use Rattle.render_core.proofs.Inputs.{read_plainly}
 use Rattle.render_core.proofs.input.meaning_of_bytes.Goals as goal
 

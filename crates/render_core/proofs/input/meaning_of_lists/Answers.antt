@@ -1,5 +1,5 @@
 use Rattle.std.proofs.Common.{sym, subst}
-use Rattle.render_core.specs.declared.job.Form.TheVariants.{Bytes}
+use Rattle.run_words.specs.declared.job.Form.TheVariants.{Bytes}
 use Rattle.render_core.specs.Refusals.{IsRefusedInput}
 use Rattle.render_core.proofs.Inputs.{read_expanded, refused_expanded, refused_with_lists, well_expanded, within_expanded}
 use Rattle.render_core.proofs.input.meaning_of_lists.Goals as goal

@@ -5,7 +5,7 @@ use Rattle.rc_base.specs.declared.scene.Scene.{Scene}
 use Rattle.scene_text.specs.Drafts.{IsTextFault}
 use Rattle.scene_text.specs.declared.parse.TextSceneFault.{TextSceneFault}
 use Rattle.scene_text.specs.declared.parse.TextSceneFault.TheVariants as fault
-use Rattle.render_core.specs.declared.job.Form.TheVariants.{Text}
+use Rattle.run_words.specs.declared.job.Form.TheVariants.{Text}
 use Rattle.render_core.specs.Scenes.{Plain}
 use Rattle.render_core.proofs.Judging.{judged_outside}
 use Rattle.render_core.proofs.input.scene_of_text.Goals as goal

@@ -1,5 +1,5 @@
 use Rattle.std.proofs.Common.{sym, subst}
-use Rattle.render_core.specs.declared.job.Form.TheVariants.{Bytes, PlainBytes}
+use Rattle.run_words.specs.declared.job.Form.TheVariants.{Bytes, PlainBytes}
 use Rattle.render_core.specs.Refusals.{IsRefusedInput}
 use Rattle.render_core.proofs.Inputs.{refused_plainly, refused_without_lists}
 use Rattle.render_core.proofs.reader.scene_beside.Goals as goal

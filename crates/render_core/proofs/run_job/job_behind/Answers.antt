@@ -2,7 +2,7 @@ use Rattle.std.proofs.Common.{inl, map, refl, subst, sym}
 use Rattle.std.specs.Prelude.{IfErr, IfOk, IsNone, string_bytes}
 use Rattle.rc_base.specs.Outside.Ends.{use_of}
 use Rattle.render_core.specs.Finishes.{IsJobless}
-use Rattle.render_core.specs.Jobs.{IsJob}
+use Rattle.run_words.specs.Jobs.{IsJob}
 use Rattle.render_core.proofs.BehindFilters.{asked_behind, none_behind, rest_is, some_named, unnamed_asks, usage_behind}
 use Rattle.render_core.proofs.run_job.job_behind.Goals as goal
 

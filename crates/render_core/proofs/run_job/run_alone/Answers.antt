@@ -1,6 +1,6 @@
 use Rattle.std.proofs.Common.{◌≡◌, ◌≤◌, arith, [], refl, subst}
 use Rattle.rc_base.specs.Outside.Ends.{use_of}
-use Rattle.render_core.specs.Jobs.{AskPlainly, task_of}
+use Rattle.run_words.specs.Jobs.{AskPlainly, task_of}
 use Rattle.render_core.proofs.BehindFilters.{empty_ready, line_of, no_rules}
 use Rattle.render_core.proofs.Endings.{same_task}
 use Rattle.render_core.proofs.Finished.{task_ended, unasked_ended}

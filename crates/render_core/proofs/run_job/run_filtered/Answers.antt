@@ -1,7 +1,7 @@
 use Rattle.std.proofs.Common.{◌≡◌, ◌≤◌, arith, map, refl, subst}
 use Rattle.std.specs.Prelude.{string_bytes}
 use Rattle.rc_base.specs.Outside.Ends.{use_of}
-use Rattle.render_core.specs.Jobs.{AskFiltered}
+use Rattle.run_words.specs.Jobs.{AskFiltered}
 use Rattle.render_core.proofs.BehindFilters.{line_of, named_ready}
 use Rattle.render_core.proofs.Endings.{same_filtered}
 use Rattle.render_core.proofs.Finished.{task_ended, unasked_ended}

@@ -1,7 +1,7 @@
 use Rattle.std.proofs.Common.{sym, subst}
-use Rattle.render_core.specs.declared.job.Job.{Job}
+use Rattle.run_words.specs.declared.job.Job.{Job}
 use Rattle.render_core.specs.Due.{IsOutcome}
-use Rattle.render_core.specs.Jobs.{ShowsNothing}
+use Rattle.run_words.specs.Jobs.{ShowsNothing}
 use Rattle.render_core.specs.Refusals.{IsNoOutcome, outcome_of}
 use Rattle.render_core.specs.Scenes.{IsFor}
 use Rattle.render_core.proofs.CarriedOut.{due_behind, undue_behind}

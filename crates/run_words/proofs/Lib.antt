@@ -1,0 +1,2 @@
+pub mod ClientLines
+pub mod Counted

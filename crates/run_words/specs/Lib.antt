@@ -1,0 +1,5 @@
+pub mod Jobs
+pub mod Lines
+pub mod Statuses
+pub mod Asked
+pub mod Reports
