@@ -2,29 +2,21 @@
 ghost use Rattle.std.specs.Prelude.{◌≡◌, ◌+◌, ◌*◌, ◌<◌, ◌≤◌, length, take, drop};
 ghost use Rattle.std.specs.List.{flat_map};
 ghost use Rattle.rc_base.specs.Drawing.Images.{rgb_of};
-ghost use Rattle.rc_base.specs.Cluster.Tiles.{boundary_of};
 ghost use Rattle.assembler.specs.Parts.{ArePartsOf, part_size};
 ghost use Rattle.assembler.specs.Runs.{all_bytes, line_bytes, run_bytes, tile_row_bytes};
 
 use rc_base::cluster::TilePart;
 use rc_base::command::Rgba;
-use rc_base::window::{Layout, Pixel};
-
-// Where part `j` of a side begins.
-fn boundary(side: u16, parts: u8, j: usize) -> usize
-    requires some { 0 < parts }
-    requires few { j ≤ parts }
-    ensures { result ≡ boundary_of side parts j }
-{
-    j * usize::from(side) / usize::from(parts)
-}
+use rc_base::window::{Layout, Pixel, boundary};
 
 // How many columns or rows of pixels part `j` of a side has.
 pub(crate) fn size_of_part(side: u16, parts: u8, j: usize) -> usize
     requires { j < parts }
     ensures { result ≡ part_size side parts j }
 {
-    boundary(side, parts, j + 1) - boundary(side, parts, j)
+    let part = j as u16;
+    let from = boundary(side, parts, part) as usize;
+    boundary(side, parts, part + 1) as usize - from
 }
 
 // Writes the colours of pixels.

@@ -1,7 +1,7 @@
 -- The box of what a command draws, in a window.
 use Rattle.std.specs.Prelude.{◌≡◌, ℕ, ◌<◌, Bool, true, false, ◌&&◌, ℤ, pos, Option, MatchOption}
 use Rattle.rc_base.specs.Drawing.Touch.{touches}
-use Rattle.rc_base.specs.Cluster.Tiles.{is_in_box, meets_tile, tile_count, tile_pixels, is_in_rect, rect_meets}
+use Rattle.rc_base.specs.Cluster.Tiles.{is_in_box, meets_tile, tile_count, tile_pixels, is_in_rect, rect_meets, window_rect}
 use Rattle.rc_base.specs.declared.state.Effect.{Effect}
 use Rattle.rc_base.specs.declared.state.State.{State}
 use Rattle.rc_base.specs.declared.window.Layout.{Layout}
@@ -32,7 +32,7 @@ HoldsTouched s effect window o =
 
 -- the whole window of a layout
 abbrev pub whole_window : Layout → Rect
-whole_window l = record { x0 = pos 0; y0 = pos 0; x1 = pos l.width; y1 = pos l.height }
+whole_window l = window_rect l.width l.height
 
 -- in a layout of the window, the tiles that meet the rectangle are those that meet the box; without one none does
 abbrev pub MeetsSameTiles : State → Effect → Rect → Option Rect → Type 0

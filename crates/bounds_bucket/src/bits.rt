@@ -2,14 +2,6 @@
 ghost use Rattle.std.specs.Prelude.{◌≡◌, ℕ, ◌<◌, ◌&&◌, ◌||◌, ◌==◌};
 ghost use Rattle.rc_base.specs.Orders.Journal.{has};
 
-/// The number is in the set.
-pub(crate) fn holds(set: u32, n: u8) -> bool
-    requires { n < 32 }
-    ensures { result ≡ has set n }
-{
-    (set >> n) & 1 == 1
-}
-
 /// The set, with one number more where `yes`.
 pub(crate) fn with_if(set: u32, n: u8, yes: bool) -> u32
     requires { n < 32 }

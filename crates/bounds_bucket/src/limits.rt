@@ -1,22 +1,11 @@
 //! The layout of a window that a command line asks for.
-ghost use Rattle.std.specs.Prelude.{◌≡◌, MatchResult, IfOk, [], ◌∷◌, Some, None};
-ghost use Rattle.rc_base.specs.Formats.Limits.{first_outside, layout_limit};
+ghost use Rattle.std.specs.Prelude.{◌≡◌, MatchResult, IfOk, Some, None};
+ghost use Rattle.rc_base.specs.Formats.Limits.{layout_limit};
 ghost use Rattle.rc_base.specs.Formats.Within.{IsLayoutFor};
 ghost use Rattle.rc_base.specs.declared.scene.Scene.{Scene as AnyScene};
-ghost use Rattle.bounds_bucket.specs.Layouts.{judged};
 
-use rc_base::scene::Limit;
+use rc_base::scene::{Limit, judge};
 use rc_base::window::Layout;
-
-fn judge(what: u8, value: u64, least: u64, most: u64) -> Result<(), Limit>
-    ensures { judged result ≡ first_outside (record { what = what; value = value; least = least; most = most } ∷ []) }
-{
-    if least <= value && value <= most {
-        Ok(())
-    } else {
-        Err(Limit { what, value })
-    }
-}
 
 /// Cuts a window of `width` by `height` pixels into `columns` by `rows` tiles, for lanes of `depth` items: a limit exactly where one of the
 /// four quantities of a layout is outside its range (`docs/scene-format.md`), and then the first of them in the table. A cluster can run a scene

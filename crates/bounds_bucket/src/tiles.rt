@@ -5,20 +5,10 @@ ghost use Rattle.rc_base.specs.Orders.Journal.{has};
 ghost use Rattle.rc_base.specs.Cluster.Tiles.{tile_count, boundary_of, tile_column, tile_row, tile_pixels, is_in_rect, tile_rectangle, rect_meets};
 ghost use Rattle.bounds_bucket.specs.Tiles.{part_meets};
 
-use crate::bits::{holds, with_if};
+use crate::bits::with_if;
 use crate::range::{Range, columns_of, larger, rows_of, smaller};
-use rc_base::window::{Layout, Rect};
-
-// Where part `j` of a side begins; a side without parts has none.
-fn boundary(side: u16, parts: u8, j: u16) -> i32
-    requires { j ≤ 256 }
-    ensures { result ≡ pos (boundary_of side parts j) }
-{
-    if parts == 0 {
-        return 0;
-    }
-    (u32::from(j) * u32::from(side) / u32::from(parts)) as i32
-}
+use rc_base::sync::has;
+use rc_base::window::{Layout, Rect, boundary};
 
 fn column_of(layout: &Layout, tile: u8) -> u8
     ensures { result ≡ tile_column layout.now tile }
@@ -88,7 +78,7 @@ fn is_met(layout: &Layout, columns: u32, rows: u32, tile: u8) -> bool
     requires { tile < 32 }
     ensures { result ≡ (has columns (tile_column layout.now tile) && has rows (tile_row layout.now tile)) }
 {
-    holds(columns, column_of(layout, tile)) && holds(rows, row_of(layout, tile))
+    has(columns, column_of(layout, tile)) && has(rows, row_of(layout, tile))
 }
 
 // How many of the first 32 tiles there are.

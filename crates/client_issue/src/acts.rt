@@ -3,12 +3,12 @@ ghost use Rattle.std.specs.Prelude.{◌≡◌, ℕ, ◌<◌, ◌≤◌, ◌^◌,
 ghost use Rattle.rc_base.specs.Orders.Journal.{has};
 ghost use Rattle.rc_base.specs.Cluster.Tiles.{tile_count, meets_tile};
 ghost use Rattle.rc_base.specs.declared.state.Effect.TheVariants as eff;
-ghost use Rattle.bounds_bucket.specs.Boxes.{whole_window};
 ghost use Rattle.client_issue.specs.Acts.{act_by, goes_to};
 
 use bounds_bucket::{block_box, clear_box, meets};
 use rc_base::state::{Act, Block, Effect, State};
-use rc_base::window::{Layout, Rect};
+use rc_base::sync::has;
+use rc_base::window::{Layout, window_rect};
 
 /// What the effect asks of tiles, if anything.
 pub(crate) fn act_of(effect: Effect) -> Option<Act>
@@ -23,22 +23,11 @@ pub(crate) fn act_of(effect: Effect) -> Option<Act>
     }
 }
 
-fn window(layout: &Layout) -> Rect
-    ensures { result ≡ whole_window layout.now }
-{
-    Rect {
-        x0: 0,
-        y0: 0,
-        x1: i32::from(layout.width),
-        y1: i32::from(layout.height),
-    }
-}
-
 fn block_tiles(layout: &Layout, state: &State, block: &Block) -> u32
     requires { tile_count layout.now ≤ 32 }
     ensures { (t : ℕ) → t < tile_count layout.now → has result t ≡ meets_tile layout.now state.now (eff.Block block.now) t }
 {
-    match block_box(state, block, window(layout)) {
+    match block_box(state, block, window_rect(layout.width, layout.height)) {
         Some(rect) => meets(layout, rect),
         None => 0,
     }
@@ -48,7 +37,7 @@ fn clear_tiles(layout: &Layout, state: &State, _mask: u8) -> u32
     requires { tile_count layout.now ≤ 32 }
     ensures { (t : ℕ) → t < tile_count layout.now → has result t ≡ meets_tile layout.now state.now (eff.Clear _mask) t }
 {
-    match clear_box(state, window(layout)) {
+    match clear_box(state, window_rect(layout.width, layout.height)) {
         Some(rect) => meets(layout, rect),
         None => 0,
     }
@@ -68,13 +57,6 @@ pub(crate) fn tiles_of(layout: &Layout, state: &State, act: &Act) -> u32
     }
 }
 
-fn holds(tiles: u32, tile: u8) -> bool
-    requires { tile < 32 }
-    ensures { result ≡ has tiles tile }
-{
-    (tiles >> tile) & 1 == 1
-}
-
 /// The first tile of the set from `from` on, or else `count`.
 pub(crate) fn next_tile(tiles: u32, from: u8, count: u8) -> u8
     requires from { from ≤ count }
@@ -85,7 +67,7 @@ pub(crate) fn next_tile(tiles: u32, from: u8, count: u8) -> u8
     ensures found { result < count → has tiles result ≡ true }
 {
     for tile in from..count {
-        if holds(tiles, tile) {
+        if has(tiles, tile) {
             return tile;
         }
     }

@@ -11,7 +11,6 @@ ghost use Rattle.client_issue.specs.Cores.{IsClientOf, issued_of, layout_of, lef
 ghost use Rattle.client_issue.specs.Sequence.{IsSending, alone, left_of, sent_from};
 
 use crate::client::ClientCore;
-use crate::copies::copy_of_decl;
 use crate::sender::Sender;
 use crate::stream::Stream;
 use gl_context::Context;
@@ -20,7 +19,7 @@ use parcel_bytes::{Packed, encode_parcel};
 use rc_base::cluster::Tally;
 use rc_base::command::Command;
 use rc_base::out_of_memory::OutOfMemory;
-use rc_base::scene::{Decl, Scene};
+use rc_base::scene::{Decl, Scene, copy_of_decl};
 use rc_base::state::{Act, Parcel, Sets};
 use rc_base::window::Layout;
 use state_update::Tracker;

@@ -7,7 +7,6 @@
 
 mod acts;
 mod client;
-mod copies;
 mod first;
 mod give;
 mod issue;
@@ -22,5 +21,4 @@ mod stored;
 mod stream;
 
 pub use client::{ClientCore, ClientKept};
-pub use copies::copy_of_decl;
 pub use rc_base::cluster::Tally;

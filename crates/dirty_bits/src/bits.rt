@@ -4,14 +4,7 @@ ghost use Rattle.std.specs.Int.{bit_at};
 ghost use Rattle.std.specs.List.{range_with_len, list_any};
 ghost use Rattle.dirty_bits.specs.Bits.{is_dirty};
 
-/// Whether a word has the server's bit.
-#[tactic(auto, using(std::proofs::lemmas::Nat::Bits::shr_and_one))]
-pub fn has(word: u32, server: u8) -> bool
-    requires { server < 32 }
-    ensures { result ≡ (bit_at word server == 1) }
-{
-    (word >> server) & 1 == 1
-}
+use rc_base::sync::has;
 
 /// Whether a word from `start` up to `end` has the server's bit.
 #[tactic(auto, using(crate::proofs::Ranges::none_yet))]

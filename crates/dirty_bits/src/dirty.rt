@@ -3,9 +3,10 @@ ghost use Rattle.std.specs.Prelude.{◌≡◌, ℕ, ◌<◌, ◌+◌, ◌^◌, �
 ghost use Rattle.rc_base.specs.Contexts.Elements.{element_count, group_sizes};
 ghost use Rattle.dirty_bits.specs.Bits.{is_dirty, is_group_dirty, is_any_dirty};
 
-use crate::bits::{any_has, has, lowered, without};
+use crate::bits::{any_has, lowered, without};
 use crate::looks::Looks;
 use element_table::{group_of, group_start};
+use rc_base::sync::has;
 use std::marker::Model;
 
 /// For each of the 86 elements, each of their nine groups, and all of them, the servers for which it is dirty, of up to 32.

@@ -46,7 +46,7 @@ use rc_base::command::Rgba;
 use rc_base::out_of_memory::OutOfMemory;
 use rc_base::state::{Block, CUT_MODES, State, Vertex};
 use rc_base::triangle::WindowTriangle;
-use rc_base::window::{Pixel, Pixels, Rect, Span};
+use rc_base::window::{Pixel, Pixels, Rect, Span, row_start};
 use std::alloc::Global;
 use textures::Texture;
 
@@ -72,13 +72,6 @@ fn offset(a: i32, from: u16) -> u16
     ensures { a ≡ pos (from + result) }
 {
     (a - i32::from(from)) as u16
-}
-
-// The index of a row's first pixel.
-fn row_start(width: u16, row: u16) -> usize
-    ensures { result ≡ row * width }
-{
-    row as usize * width as usize
 }
 
 impl Grid {

@@ -17,7 +17,7 @@ use crate::state::{flags_of, held};
 use element_table::{IDENTITY, default_state, is_name, lies_inside, set_capability};
 use fixed_math::multiply;
 use rc_base::cluster::FaultList;
-use rc_base::command::{Command, Mat4, Part, Rgba, Texels};
+use rc_base::command::{Command, Mat4, Part, Rgba, Texels, copy_of_part};
 use rc_base::out_of_memory::OutOfMemory;
 use rc_base::scene::{Decl, Sizes};
 use rc_base::state::{Block, CUT_MODES, Effect, Fault, State, Vertex, Vertices};
@@ -441,7 +441,7 @@ impl Context {
                 None => Effect::Quiet,
             }),
             Command::Clear { mask } => Ok(Effect::Clear(*mask)),
-            Command::SharedImage(part) => Ok(Effect::Shared(copy_of(self.alloc, part)?)),
+            Command::SharedImage(part) => Ok(Effect::Shared(copy_of_part(self.alloc, part)?)),
             Command::Barrier { name } => Ok(Effect::Sync(SyncOp::Barrier(*name))),
             Command::SemP { name } => Ok(Effect::Sync(SyncOp::SemP(*name))),
             Command::SemV { name } => Ok(Effect::Sync(SyncOp::SemV(*name))),
@@ -613,18 +613,4 @@ fn block_mode(version: u8, kind: u8) -> u8
     ensures { result ≡ block_mode version kind }
 {
     if version == 2 { kind + CUT_MODES } else { kind }
-}
-
-// A part with a copy of its texels.
-fn copy_of(alloc: Global, part: &Part) -> Result<Part, OutOfMemory>
-    ensures { IfOk result (λ p. p ≡ part.now) }
-{
-    Ok(Part {
-        name: part.name,
-        x: part.x,
-        y: part.y,
-        w: part.w,
-        h: part.h,
-        texels: Texels::from_slice(alloc, part.texels.as_slice())?,
-    })
 }

@@ -14,9 +14,9 @@ ghost use Rattle.happens_before.specs.Timelines.{AreChanges, AreOrdered, IsGate,
 
 use crate::semaphores::Semaphore;
 use crate::timelines::Timelines;
-use order_model::walk::{advance, clients_of, is_member};
+use order_model::walk::{advance, clients_of};
 use rc_base::out_of_memory::OutOfMemory;
-use rc_base::sync::{Entry, Name, SyncLists, SyncRow};
+use rc_base::sync::{Entry, Name, SyncLists, SyncRow, is_member};
 use std::alloc::Global;
 
 fn operation_place(row: &SyncRow, number: usize) -> Option<u32>

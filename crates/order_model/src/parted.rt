@@ -7,8 +7,8 @@ ghost use Rattle.order_model.specs.Checked.{first_at, are_parted, all_part, plac
 ghost use Rattle.order_model.specs.Counted.{place_or_end};
 
 use crate::spots::first_at;
-use crate::walk::{clients_of, is_member, place_of};
-use rc_base::sync::{Entry, Name, SyncLists};
+use crate::walk::{clients_of, place_of};
+use rc_base::sync::{Entry, Name, SyncLists, is_member};
 
 /// The place of a client's operation in an entry, if it is a member.
 fn place_by(syncs: &SyncLists, entry: Entry, client: u8, number: usize) -> Option<u32>

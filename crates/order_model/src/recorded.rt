@@ -10,10 +10,10 @@ ghost use Rattle.order_model.specs.declared.record.LogEntry.TheVariants.{Perform
 ghost use Rattle.order_model.specs.Report.{tile_order};
 
 use crate::record::{Log, LogEntry, Record};
-use crate::walk::{advance, clients_of, is_member, place_or_end, reach_in};
+use crate::walk::{advance, clients_of, place_or_end, reach_in};
 use rc_base::items::Items;
 use rc_base::out_of_memory::OutOfMemory;
-use rc_base::sync::{Entry, Name, Order, SyncLists};
+use rc_base::sync::{Entry, Name, Order, SyncLists, is_member};
 use std::alloc::{AllocError, Global};
 
 /// What is read of a log and its journal: the order so far with the number of each client's names, the entries that are performed, and how many

@@ -7,26 +7,13 @@ ghost use Rattle.rc_base.specs.declared.sync.WaitAt.{WaitAt};
 ghost use Rattle.order_model.specs.Counted.{used_by, place_or_end};
 
 use crate::record::Record;
-use rc_base::sync::{Entry, SyncLists, SyncRow};
+use rc_base::sync::{Entry, SyncLists, SyncRow, is_member};
 
 /// How many clients there are.
 pub fn clients_of(syncs: &SyncLists) -> usize
     ensures { result ≡ client_count syncs.now }
 {
     syncs.clients.len()
-}
-
-/// The entry uses an operation of the client.
-pub fn is_member(entry: Entry, client: u8, clients: usize) -> bool
-    requires { client < 8 }
-    ensures { result ≡ is_member clients entry client }
-{
-    match entry {
-        Entry::Meet { members, .. } => (members >> client) & 1 == 1,
-        Entry::Swap => (client as usize) < clients,
-        Entry::Give { client: only, .. } => client == only,
-        Entry::Take { client: only, .. } => client == only,
-    }
 }
 
 /// How many entries use an operation of the client.

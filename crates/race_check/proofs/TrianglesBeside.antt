@@ -6,7 +6,7 @@ use Rattle.std.proofs.lemmas.List.Folds.{list_any-append}
 use Rattle.std.proofs.lemmas.Int.{ints, by_lt_z}
 use Rattle.std.proofs.lemmas.Bool.{cases_Bool, cases_lt, le-ltb}
 use Rattle.std.proofs.lemmas.Bool.Decides.{nat_tests}
-use Rattle.rc_base.specs.Cluster.Tiles.{is_in_rect}
+use Rattle.rc_base.specs.Cluster.Tiles.{is_in_rect, window_rect}
 use Rattle.rc_base.specs.Drawing.Cover.{is_inside, is_in_scissor, covers}
 use Rattle.rc_base.specs.Drawing.Kept.{kept_whole}
 use Rattle.rc_base.specs.declared.state.State.{State}
@@ -20,7 +20,7 @@ use Rattle.geometry.specs.declared.near.Surrounds.{Surrounds}
 use Rattle.raster.specs.Between.{CoverLiesInBounds}
 use Rattle.raster.specs.Spans.{AreEmptyRows}
 use Rattle.raster.specs.Clips.{IsPartWhere, is_let_through}
-use Rattle.race_check.specs.Touches.{triangle_has, triangles_have, window_rect, IsPartOf, part_has, clear_has}
+use Rattle.race_check.specs.Touches.{triangle_has, triangles_have, IsPartOf, part_has, clear_has}
 use Rattle.race_check.specs.Finds.{run_has}
 use Rattle.race_check.specs.declared.run.Run.{Run}
 use Rattle.race_check.proofs.TouchesInTurn.{outside_left, outside_right, outside_below, outside_above}

@@ -49,9 +49,6 @@ pub record IsPartOf (width height : ℕ) (part : Rect) : Type 0 where
   pub bottom : pos 0 ≤ℤ part.y0
   pub top : part.y1 ≤ℤ pos height
 
-abbrev pub window_rect : ℕ → ℕ → Rect
-window_rect width height = record { x0 = pos 0; y0 = pos 0; x1 = pos width; y1 = pos height }
-
 -- the triangle covers the pixel of the part
 abbrev pub triangle_has : List WindowVertex → Rect → ℕ → ℕ → Bool
 triangle_has v part x y = is_inside v (pos x) (pos y) && is_in_rect part (pos x) (pos y)

@@ -11,14 +11,8 @@ use crate::verdict::Spot;
 use crate::visit::{Seen, Visit};
 use rc_base::out_of_memory::OutOfMemory;
 use rc_base::sync::Name;
+use rc_base::window::row_start;
 use std::alloc::Global;
-
-// The index of a row's first pixel.
-fn row_start(width: u16, row: u16) -> usize
-    ensures { result ≡ row * width }
-{
-    row as usize * width as usize
-}
 
 // A name touches the pixels of a run: what it finds there is added.
 fn touch_pixels(pixels: &mut Cells, visit: &Visit, run: Run, best: Option<Found>) -> Option<Found>

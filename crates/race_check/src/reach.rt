@@ -8,10 +8,9 @@ ghost use Rattle.bounds_bucket.specs.Boxes.{HoldsTouched};
 ghost use Rattle.race_check.specs.Outlines.{IsAmong, IsReach, no_reach, nowhere};
 
 use crate::range::Range;
-use crate::touch::window;
 use bounds_bucket::{block_box, clear_box};
 use rc_base::state::{Effect, State};
-use rc_base::window::Rect;
+use rc_base::window::{Rect, window_rect};
 
 /// Rows and columns of the window outside which a command touches no pixel, the shared texture that it may sample, and the one that it may write.
 #[derive(Clone, Copy)]
@@ -103,7 +102,7 @@ fn area_of(state: &State, effect: &Effect, width: u16, height: u16) -> Area
     ensures inside { (result.rows.to ≤ height) × (result.columns.to ≤ width) }
     ensures all { (x y : ℕ) → x < width → y < height → touches state.now effect.now (pos x) (pos y) ≡ true → IsAmong result.rows y × IsAmong result.columns x }
 {
-    match box_of(state, effect, window(width, height)) {
+    match box_of(state, effect, window_rect(width, height)) {
         Some(rect) => area_in(rect, width, height),
         None => Area {
             rows: nothing(),

@@ -5,7 +5,7 @@ ghost use Rattle.geometry.specs.Beside.{AreSurrounds};
 ghost use Rattle.geometry.specs.Items.{AreBelow};
 ghost use Rattle.geometry.specs.Pieces.{found};
 ghost use Rattle.raster.specs.Clips.{IsPartWhere, is_let_through};
-ghost use Rattle.race_check.specs.Touches.{IsPartOf, IsTouch, block_has, clear_has, part_has, triangle_has, triangles_have, window_rect};
+ghost use Rattle.race_check.specs.Touches.{IsPartOf, IsTouch, block_has, clear_has, part_has, triangle_has, triangles_have};
 
 use crate::cells::Cells;
 use crate::marks::touch_run;
@@ -15,7 +15,7 @@ use geometry::{Surrounds, Uncut, VertexCache, pieces, surrounds_of, triangles, v
 use raster::{cover_lies_in_bounds, drawn_part, scissored, spans};
 use rc_base::state::{Block, State};
 use rc_base::triangle::WindowTriangle;
-use rc_base::window::{Rect, Span};
+use rc_base::window::{Rect, Span, window_rect};
 
 // A span of the window.
 fn run_of(span: Span) -> Run
@@ -115,18 +115,6 @@ fn touch_corners(
     }
 }
 
-/// The rectangle of the whole window.
-pub fn window(width: u16, height: u16) -> Rect
-    ensures { result ≡ window_rect width height }
-{
-    Rect {
-        x0: 0,
-        y0: 0,
-        x1: i32::from(width),
-        y1: i32::from(height),
-    }
-}
-
 /// A name touches the pixels of the window that its block covers.
 pub fn touch_block(
     pixels: &mut Cells,
@@ -141,7 +129,7 @@ pub fn touch_block(
     ensures size { length pixels.new.cells.items ≡ length pixels.old.cells.items }
     ensures touched { IsTouch (block_has state.now block.now) visit.now pixels.old.cells.items pixels.new.cells.items seen result }
 {
-    let part = drawn_part(state, window(visit.width, visit.height));
+    let part = drawn_part(state, window_rect(visit.width, visit.height));
     let near = surrounds_of(part);
     let mut cache = VertexCache::new(state, block.vertices.as_slice());
     let mut seen = seen;
@@ -205,7 +193,7 @@ pub fn touch_clear(pixels: &mut Cells, visit: &Visit, state: &State, seen: Seen)
     touch_part(
         pixels,
         visit,
-        scissored(state, window(visit.width, visit.height)),
+        scissored(state, window_rect(visit.width, visit.height)),
         seen,
     )
 }

@@ -9,8 +9,8 @@ use Rattle.rc_base.specs.declared.list_command.ListCommand.{ListCommand}
 use Rattle.rc_base.specs.declared.scene.Decl.{Decl}
 use Rattle.rc_base.specs.declared.scene.Limit.{Limit}
 use Rattle.rc_base.specs.declared.scene.Scene.{Scene}
-use Rattle.rc_base.specs.Formats.Limits.{held_limit, Quantity, quantity, is_outside, first_outside, size_area, side, barrier_count, is_swap_command, least_swaps, commands_in, quantities_with, frame_quantities, limit_of, read_limit, stream_limit}
-use Rattle.scene_file.specs.Judging.{judged, or_else, one, window_part, judge_decl, stream_part, judge_parts, judge_read, judge_scene}
+use Rattle.rc_base.specs.Formats.Limits.{held_limit, Quantity, quantity, is_outside, first_outside, size_area, side, barrier_count, is_swap_command, least_swaps, commands_in, quantities_with, frame_quantities, limit_of, read_limit, stream_limit, judged}
+use Rattle.scene_file.specs.Judging.{or_else, one, window_part, judge_decl, stream_part, judge_parts, judge_read, judge_scene}
 use Rattle.scene_file.specs.declared.reading.Counted.{Counted}
 use Rattle.scene_file.specs.Counting.{Counts}
 use Rattle.scene_file.specs.declared.list_scene.ListScene.{ListScene}

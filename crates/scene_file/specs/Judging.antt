@@ -6,11 +6,6 @@ use Rattle.rc_base.specs.declared.scene.Limit.{Limit}
 use Rattle.rc_base.specs.declared.scene.Scene.{Scene}
 use Rattle.rc_base.specs.Formats.Limits.{Quantity, first_outside, size_area, side, barrier_count, least_swaps, commands_in}
 
--- the quantity that was found outside its range
-abbrev pub judged : Result (Unit {0}) Limit → Option Limit
-judged (Ok _) = None
-judged (Err l) = Some l
-
 abbrev pub window_part : Decl → ℕ → List Quantity
 window_part d clients =
     record { what = 2; value = d.width; least = 1; most = 2048 } ∷ record { what = 3; value = d.height; least = 1; most = 2048 }

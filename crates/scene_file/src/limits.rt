@@ -2,24 +2,14 @@
 ghost use Rattle.rc_base.specs.declared.scene.Scene.{Scene as AnyScene};
 ghost use Rattle.std.specs.Prelude.{◌≡◌, ◌<◌, ◌≤◌, ◌*◌, ◌∷◌, ◌++◌, [], map, length, sum_by, MatchResult, OnOk, Some, None, Err};
 ghost use Rattle.std.specs.List.{flat_map};
-ghost use Rattle.rc_base.specs.Formats.Limits.{first_outside, held_limit, limit_of, stream_limit, size_area, side, barrier_count, is_swap_command, swaps_in, least_swaps, commands_in};
-ghost use Rattle.scene_file.specs.Judging.{judged, window_part, judge_counts, judge_decl, stream_part, judge_parts, judge_read, judge_scene};
+ghost use Rattle.rc_base.specs.Formats.Limits.{first_outside, held_limit, limit_of, stream_limit, size_area, side, barrier_count, is_swap_command, swaps_in, least_swaps, commands_in, judged};
+ghost use Rattle.scene_file.specs.Judging.{window_part, judge_counts, judge_decl, stream_part, judge_parts, judge_read, judge_scene};
 
 use rc_base::command::{Command, Commands};
-use rc_base::scene::{Decl, Limit, Scene};
+use rc_base::scene::{Decl, Limit, Scene, judge};
 
 /// The greatest number of commands in all streams.
 pub(crate) const MOST_COMMANDS: u64 = 1_048_576;
-
-fn judge(what: u8, value: u64, least: u64, most: u64) -> Result<(), Limit>
-    ensures { judged result ≡ first_outside (record { what = what; value = value; least = least; most = most } ∷ []) }
-{
-    if least <= value && value <= most {
-        Ok(())
-    } else {
-        Err(Limit { what, value })
-    }
-}
 
 fn judge_window(decl: &Decl, clients: usize) -> Result<(), Limit>
     ensures { judged result ≡ first_outside (window_part decl.now clients) }

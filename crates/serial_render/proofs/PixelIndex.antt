@@ -2,7 +2,7 @@
 use Rattle.std.proofs.Common.{◌≡◌, ℕ, List, ◌+◌, ◌*◌, ◌<◌, ◌≤◌, pos, ◌-ℤ◌, true, sym, ap, ◌∙◌, arith, mul-le-mul}
 use Rattle.std.proofs.lemmas.Int.{ints}
 use Rattle.rc_base.specs.Numbers.{natural}
-use Rattle.rc_base.specs.Cluster.Tiles.{is_in_rect}
+use Rattle.rc_base.specs.Cluster.Tiles.{is_in_rect, window_rect}
 use Rattle.rc_base.specs.Drawing.Images.{Pixels}
 use Rattle.rc_base.specs.declared.command.Rgba.{Rgba}
 use Rattle.rc_base.specs.declared.window.Pixel.{Pixel}
@@ -10,7 +10,7 @@ use Rattle.rc_base.specs.declared.window.Rect.{Rect}
 use Rattle.draw_device.specs.Pixels.{pixel_at, color_at}
 use Rattle.draw_device.specs.Devices.{DeviceView, pixel_index, pixel_of, rect_size}
 use Rattle.serial_render.specs.Cells.{Shows}
-use Rattle.serial_render.specs.Steps.{window_of, Holds}
+use Rattle.serial_render.specs.Steps.{Holds}
 
 next_row : (w r j : ℕ) → r < j → r * w + w ≤ j * w
 next_row w r j h = let m : (r + 1) * w ≤ j * w = mul-le-mul (omega arith) (omega arith) in omega arith
@@ -21,25 +21,25 @@ room w h r t k l = let m = next_row w r h k in omega arith
 from_zero : (n : ℕ) → natural (pos n -ℤ pos 0) ≡ n
 from_zero n = grind (arith, ints)
 
-pub window_size : (w h : ℕ) → rect_size (window_of w h) ≡ w * h
+pub window_size : (w h : ℕ) → rect_size (window_rect w h) ≡ w * h
 window_size w h = ap (λ (n : ℕ). n * natural (pos h -ℤ pos 0)) (from_zero w) ∙ ap (λ (n : ℕ). w * n) (from_zero h)
 
-pub index_is : (w h i j : ℕ) → pixel_index (window_of w h) (pos i) (pos j) ≡ j * w + i
+pub index_is : (w h i j : ℕ) → pixel_index (window_rect w h) (pos i) (pos j) ≡ j * w + i
 unfolding pixel_index
 index_is w h i j =
     ap (λ (n : ℕ). n * natural (pos w -ℤ pos 0) + natural (pos i -ℤ pos 0)) (from_zero j)
     ∙ ap (λ (n : ℕ). j * n + natural (pos i -ℤ pos 0)) (from_zero w)
     ∙ ap (λ (n : ℕ). j * w + n) (from_zero i)
 
-pub in_window : (w h i j : ℕ) → i < w → j < h → is_in_rect (window_of w h) (pos i) (pos j) ≡ true
+pub in_window : (w h i j : ℕ) → i < w → j < h → is_in_rect (window_rect w h) (pos i) (pos j) ≡ true
 in_window w h i j li lj = grind (arith, ints)
 
-pub pixel_is : (d : DeviceView) (w h i j : ℕ) → d.rect ≡ window_of w h → pixel_of d (pos i) (pos j) ≡ pixel_at d.pixels (j * w + i)
+pub pixel_is : (d : DeviceView) (w h i j : ℕ) → d.rect ≡ window_rect w h → pixel_of d (pos i) (pos j) ≡ pixel_at d.pixels (j * w + i)
 unfolding pixel_of
 pixel_is d w h i j e = ap (λ (r : Rect). pixel_at d.pixels (pixel_index r (pos i) (pos j))) e ∙ ap (λ (k : ℕ). pixel_at d.pixels k) (index_is w h i j)
 
 -- what a window's device holds its colours show
-pub holds_shows : (d : DeviceView) (colors : List Rgba) (w h : ℕ) (picture : Pixels) → d.rect ≡ window_of w h → ((k : ℕ) → color_at colors k ≡ (pixel_at d.pixels k).color)
+pub holds_shows : (d : DeviceView) (colors : List Rgba) (w h : ℕ) (picture : Pixels) → d.rect ≡ window_rect w h → ((k : ℕ) → color_at colors k ≡ (pixel_at d.pixels k).color)
     → Holds d picture → Shows w h colors picture
 holds_shows d colors w h picture e each holds i j li lj =
     each (j * w + i)

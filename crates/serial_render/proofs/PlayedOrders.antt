@@ -5,7 +5,7 @@ use Rattle.std.specs.declared.option.Option.{Option}
 use Rattle.std.proofs.lemmas.List.{append-nil}
 use Rattle.rc_base.specs.Contexts.Context.{ClientContext, private_image}
 use Rattle.rc_base.specs.Contexts.Issue.{context_after, effect_at, command_at}
-use Rattle.rc_base.specs.Cluster.Tiles.{is_in_rect}
+use Rattle.rc_base.specs.Cluster.Tiles.{is_in_rect, window_rect}
 use Rattle.rc_base.specs.Drawing.Images.{frame_images}
 use Rattle.rc_base.specs.Drawing.PixelStep.{effect_step}
 use Rattle.rc_base.specs.Drawing.Serial.{pixel_step, textures_step, textures_after, stored, accepted_swaps, frame_pixel, blank_pixel}
@@ -29,7 +29,7 @@ use Rattle.draw_device.specs.Conditions.{shared_of}
 use Rattle.draw_device.specs.Devices.{DeviceView, EachTakes, pixel_of}
 use Rattle.order_model.proofs.StandsInLists.{in_append, stands_right}
 use Rattle.serial_render.specs.Shown.{swaps_before, IsPlayable, picture_after, images_of, IsShown}
-use Rattle.serial_render.specs.Steps.{window_of, Holds}
+use Rattle.serial_render.specs.Steps.{Holds}
 use Rattle.serial_render.proofs.DrawnCommands.{same_drawn, effect_is, texels_next}
 use Rattle.stream_replay.proofs.AcceptedSwaps.{swaps_step}
 use Rattle.serial_render.proofs.PaintedOrders.{textures_push, picture_push, frame_is}
@@ -71,8 +71,8 @@ step_is s n c texels shareds x e i j old at is effect valid has =
     ∙ effect_is s.decl y texels shareds valid has (private_image y) f i j old
     ∙ same_drawn s n.client n.place c at (shared_picture s.decl.shared texels) i j old
 
-pub first_shown : (s : Scene) (order : List Name) (d : DeviceView) (frames : List Image) → d.rect ≡ window_of s.decl.width s.decl.height
-    → ((x y : ℤ) → is_in_rect (window_of s.decl.width s.decl.height) x y ≡ true → pixel_of d x y ≡ blank_pixel) → frames ≡ [] → IsShown s order [] d frames
+pub first_shown : (s : Scene) (order : List Name) (d : DeviceView) (frames : List Image) → d.rect ≡ window_rect s.decl.width s.decl.height
+    → ((x y : ℤ) → is_in_rect (window_rect s.decl.width s.decl.height) x y ≡ true → pixel_of d x y ≡ blank_pixel) → frames ≡ [] → IsShown s order [] d frames
 first_shown s order d frames rect blank none = record {
   rect = rect;
   holds = λ x y inside. blank x y (ap (λ (r : Rect). is_in_rect r x y) (sym rect) ∙ inside);

@@ -11,7 +11,8 @@ use Rattle.rc_base.specs.declared.scene.Decl.{Decl}
 use Rattle.rc_base.specs.declared.scene.Scene.{Scene}
 use Rattle.rc_base.specs.declared.sync.Name.{Name}
 use Rattle.draw_device.specs.Devices.{DeviceView}
-use Rattle.serial_render.specs.Steps.{window_of, Holds}
+use Rattle.serial_render.specs.Steps.{Holds}
+use Rattle.rc_base.specs.Cluster.Tiles.{window_rect}
 
 -- how many accepted Swaps of its client stand before the name
 abbrev pub swaps_before : Scene → Name → ℕ
@@ -33,7 +34,7 @@ images_of decl pictures n = map (λ k. image_from decl (pictures k)) (range_with
 
 -- of an order, these names were carried out: the device holds what they leave, and there is a frame for each Swap that one of them lies beyond
 pub record IsShown (scene : Scene) (order done : List Name) (d : DeviceView) (frames : List Image) : Type 0 where
-  pub rect : d.rect ≡ window_of scene.decl.width scene.decl.height
+  pub rect : d.rect ≡ window_rect scene.decl.width scene.decl.height
   pub holds : Holds d (picture_after scene done)
   pub frames_are : frames ≡ frame_images scene order (length frames)
   pub all : (n : Name) → IsIn n done → swaps_before scene n ≤ length frames

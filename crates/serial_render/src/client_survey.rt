@@ -9,7 +9,7 @@ ghost use Rattle.serial_render.specs.Surveyed.{survey_after, waits_at};
 use gl_context::{CountingContext, EffectKind};
 use rc_base::cluster::FaultList;
 use rc_base::out_of_memory::OutOfMemory;
-use rc_base::scene::Scene;
+use rc_base::scene::{Scene, stream_length};
 use rc_base::sync::{SyncOps, SyncRow, WaitAt};
 use std::alloc::Global;
 use stream_replay::count_at;
@@ -31,14 +31,6 @@ fn add_operation(ops: &mut SyncOps, place: u32, kind: EffectKind) -> Result<(), 
         ops.push(WaitAt { place, op })?;
     }
     Ok(())
-}
-
-/// How many commands a client's stream has.
-pub(crate) fn stream_length(scene: &Scene, client: usize) -> usize
-    requires { client < length scene.now.streams }
-    ensures { result ≡ length (stream_of scene.now client) }
-{
-    scene.streams.as_slice()[client].len()
 }
 
 impl ClientSurvey {

@@ -1,11 +1,12 @@
 //! Carrying out the commands of an order on one device.
 ghost use Rattle.std.specs.Prelude.{◌≡◌, ℕ, ◌+◌, ◌<◌, ◌≤◌, length, max, Some, IfOk, OnOk, slice_get};
 ghost use Rattle.rc_base.specs.Formats.Within.{IsWithin};
+ghost use Rattle.rc_base.specs.Cluster.Tiles.{window_rect};
 ghost use Rattle.rc_base.specs.Drawing.Images.{Pixels};
 ghost use Rattle.draw_device.specs.Devices.{IsDeviceRect};
 ghost use Rattle.stream_replay.specs.Clients.{AreIssued};
 ghost use Rattle.serial_render.specs.Shown.{IsPlayable, IsShown, images_of};
-ghost use Rattle.serial_render.specs.Steps.{Holds, window_of};
+ghost use Rattle.serial_render.specs.Steps.{Holds};
 
 use crate::image::image_of;
 use draw_device::{Device, carry_out};
@@ -13,22 +14,17 @@ use rc_base::image::Frames;
 use rc_base::out_of_memory::OutOfMemory;
 use rc_base::scene::{Decl, Scene};
 use rc_base::sync::Name;
-use rc_base::window::Rect;
+use rc_base::window::{Rect, window_rect};
 use std::alloc::Global;
 use stream_replay::{Client, clients_of, issue_name, take_back};
 use textures::SharedSet;
 
 /// The rectangle of the whole window.
 pub fn window(decl: &Decl) -> Rect
-    ensures sides { result ≡ window_of decl.now.width decl.now.height }
+    ensures sides { result ≡ window_rect decl.now.width decl.now.height }
     ensures lies { IsDeviceRect result }
 {
-    Rect {
-        x0: 0,
-        y0: 0,
-        x1: i32::from(decl.width),
-        y1: i32::from(decl.height),
-    }
+    window_rect(decl.width, decl.height)
 }
 
 /// Adds images of the device until there are so many frames.
@@ -39,7 +35,7 @@ pub fn show_up_to(
     frames: &mut Frames,
     count: usize,
 ) -> Result<(), OutOfMemory>
-    requires { device.now.rect ≡ window_of decl.now.width decl.now.height }
+    requires { device.now.rect ≡ window_rect decl.now.width decl.now.height }
     ensures count { OnOk result (length frames.new ≡ max (length frames.old) count) }
     ensures images { OnOk result ((pictures : ℕ → Pixels) → frames.old ≡ images_of decl.now pictures (length frames.old)
         → ((k : ℕ) → length frames.old < k → k ≤ count → Holds device.now (pictures k)) → frames.new ≡ images_of decl.now pictures (length frames.new)) }

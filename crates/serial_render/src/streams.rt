@@ -6,12 +6,12 @@ ghost use Rattle.rc_base.specs.Orders.Sync.{sync_row_of, sync_lists_of};
 ghost use Rattle.serial_render.specs.Surveyed.{AreSurveyed};
 ghost use Rattle.serial_render.specs.Turns.{CanTakeTurns};
 
-use crate::client_survey::{ClientSurvey, stream_length};
+use crate::client_survey::ClientSurvey;
 use crate::lists::Survey;
 use rc_base::cluster::{FaultList, FaultLists};
 use rc_base::items::Items;
 use rc_base::out_of_memory::OutOfMemory;
-use rc_base::scene::Scene;
+use rc_base::scene::{Scene, stream_length};
 use rc_base::sync::{SyncLists, SyncRow, SyncRows};
 use std::alloc::Global;
 

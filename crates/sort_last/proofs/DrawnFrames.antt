@@ -17,8 +17,9 @@ use Rattle.rc_base.specs.declared.sync.SyncRow.{SyncRow}
 use Rattle.rc_base.specs.declared.window.Pixel.{Pixel}
 use Rattle.rc_base.proofs.WithinLimits.{clients_within}
 use Rattle.order_model.proofs.SceneListsAreWellFormed.{scene_row}
-use Rattle.serial_render.specs.Steps.{Holds, window_of}
+use Rattle.serial_render.specs.Steps.{Holds}
 use Rattle.scene_lemmas.proofs.Scenes.{scene_client_count}
+use Rattle.rc_base.specs.Cluster.Tiles.{window_rect}
 use Rattle.sort_last.specs.Layers.{layer_pixel}
 use Rattle.sort_last.specs.Offends.{IsComposable}
 use Rattle.sort_last.specs.Players.{IsSheet, HasDrawn, HaveDrawn, shows, draw_if, start_of}
@@ -56,7 +57,7 @@ layer_blank scene d client from count x y p is far =
 pub frame_added : (scene : Scene) → IsComposable scene → (client frame : ℕ) → client < length scene.streams → frame < length (sync_row_of scene client).ops
     → (first from to : ℕ) (x y : ClientContext) (s : Sheet) (old new : List Sheet) → first ≤ frame → frame < first + length old
     → from ≡ start_of (sync_row_of scene client).ops frame → to ≡ start_of (sync_row_of scene client).ops (frame + 1) → y ≡ context_after scene client to
-    → IsSheet (window_of scene.decl.width scene.decl.height) s
+    → IsSheet (window_rect scene.decl.width scene.decl.height) s
     → Holds s.device (λ x y. fold (draw_if scene x y (shows part.Layer scene)) blank_pixel (names_from client from (to - from)))
     → new ≡ slice_set old (frame - first) s → HasDrawn scene client first frame x old → HasDrawn scene client first (frame + 1) y new
 frame_added scene d client frame lt inside first from to x y s old new low room a b c sheet holds items h =
@@ -72,8 +73,8 @@ frame_added scene d client frame lt inside first from to x y s old new low room 
     record {
       context = c ∙ ap (context_after scene client) b;
       over = λ k m less. elim (cases_eq k at) [
-        | inl e ↦ subst (IsSheet (window_of scene.decl.width scene.decl.height)) (sym (new_at k m e)) sheet
-        | inr ne ↦ subst (IsSheet (window_of scene.decl.width scene.decl.height)) (sym (old_at k m ne)) (h.over k m (omega (arith, less, size)))
+        | inl e ↦ subst (IsSheet (window_rect scene.decl.width scene.decl.height)) (sym (new_at k m e)) sheet
+        | inr ne ↦ subst (IsSheet (window_rect scene.decl.width scene.decl.height)) (sym (old_at k m ne)) (h.over k m (omega (arith, less, size)))
       ];
       room = omega (arith, size, room);
       each = λ k m less. elim (cases_eq k at) [
@@ -91,17 +92,17 @@ frame_added scene d client frame lt inside first from to x y s old new low room 
 
 -- one more sheet
 pub sheet_pushed : (scene : Scene) (client first : ℕ) (x : ClientContext) (old new : List Sheet) (s : Sheet) → new ≡ old ++ s ∷ []
-    → IsSheet (window_of scene.decl.width scene.decl.height) s → HasDrawn scene client first first x old → HasDrawn scene client first first x new
+    → IsSheet (window_rect scene.decl.width scene.decl.height) s → HasDrawn scene client first first x old → HasDrawn scene client first first x new
 sheet_pushed scene client first x old new s items sheet h = record {
   context = h.context;
   over = λ k m lt. elim (cases_lt k (length old)) [
     | inl less ↦
         let same : slice_index_or new k m ≡ slice_index_or old k m = ap (λ ls. slice_index_or ls k m) items ∙ get_or_append_left old (s ∷ []) m k less in
-        subst (IsSheet (window_of scene.decl.width scene.decl.height)) (sym same) (h.over k m less)
+        subst (IsSheet (window_rect scene.decl.width scene.decl.height)) (sym same) (h.over k m less)
     | inr ge ↦
         let at : k ≡ length old + 0 = omega (arith, lt, ge, ap length items, length-append old (s ∷ [])) in
         let same : slice_index_or new k m ≡ s = ap (λ ls. slice_index_or ls k m) items ∙ ap (λ j. slice_index_or (old ++ s ∷ []) j m) at ∙ get_or-append-add old (s ∷ []) 0 m in
-        subst (IsSheet (window_of scene.decl.width scene.decl.height)) (sym same) sheet
+        subst (IsSheet (window_rect scene.decl.width scene.decl.height)) (sym same) sheet
   ];
   room = omega arith;
   each = λ k m less. absurd (omega (arith, less));
@@ -125,8 +126,8 @@ module _ (scene : Scene) (first frame end client : ℕ) (players : List Player) 
   sheet_inside = omega (arith, low, less, had.room)
 
   module _ (s : Sheet) (at : s ≡ slice_index_or p.sheets.items (frame - first) s) where
-    pub sheet_is : IsSheet (window_of scene.decl.width scene.decl.height) s
-    sheet_is = subst (IsSheet (window_of scene.decl.width scene.decl.height)) (sym at) (had.over (frame - first) s sheet_inside)
+    pub sheet_is : IsSheet (window_rect scene.decl.width scene.decl.height) s
+    sheet_is = subst (IsSheet (window_rect scene.decl.width scene.decl.height)) (sym at) (had.over (frame - first) s sheet_inside)
 
     pub sheet_holds : Holds s.device (layer_pixel scene client (frame + 1))
     sheet_holds =

@@ -4,7 +4,7 @@ use Rattle.rc_base.specs.Formats.Within.{IsWithin}
 use Rattle.rc_base.specs.Pictures.{Picture}
 use Rattle.rc_base.specs.Contexts.Context.{ClientContext}
 use Rattle.rc_base.specs.Contexts.Issue.{context_after, effect_at}
-use Rattle.rc_base.specs.Cluster.Tiles.{is_in_rect}
+use Rattle.rc_base.specs.Cluster.Tiles.{is_in_rect, window_rect}
 use Rattle.rc_base.specs.Drawing.Serial.{blank_pixel, blank_textures, pixel_step}
 use Rattle.rc_base.specs.Orders.Sync.{sync_row_of}
 use Rattle.rc_base.specs.declared.scene.Scene.{Scene}
@@ -17,7 +17,7 @@ use Rattle.rc_base.specs.declared.window.Rect.{Rect}
 use Rattle.textures.specs.Stores.{HasTexels}
 use Rattle.draw_device.specs.Beside.{IsBeside}
 use Rattle.draw_device.specs.Devices.{pixel_of, rect_size}
-use Rattle.serial_render.specs.Steps.{Holds, window_of}
+use Rattle.serial_render.specs.Steps.{Holds}
 use Rattle.sort_last.specs.Layers.{is_clear, layer_pixel}
 use Rattle.sort_last.specs.Offends.{IsComposable}
 use Rattle.sort_last.specs.declared.play.Part.{Part}
@@ -65,7 +65,7 @@ pub record IsSheet (rect : Rect) (s : Sheet) : Type 0 where
 
 -- each of them is
 abbrev pub AreSheets : Scene → List Sheet → Type 0
-AreSheets scene sheets = (k : ℕ) (s : Sheet) → k < length sheets → IsSheet (window_of scene.decl.width scene.decl.height) (slice_index_or sheets k s)
+AreSheets scene sheets = (k : ℕ) (s : Sheet) → k < length sheets → IsSheet (window_rect scene.decl.width scene.decl.height) (slice_index_or sheets k s)
 
 -- A client has drawn its frames from 0 up to below `end`, and its sheets hold the layers of those from `first` on: its context stands behind them.
 pub record HasDrawn (scene : Scene) (client first end : ℕ) (x : ClientContext) (sheets : List Sheet) : Type 0 where

@@ -7,7 +7,7 @@ ghost use Rattle.rc_base.specs.Drawing.Window.{depth_most};
 ghost use Rattle.rc_base.specs.Orders.Sync.{sync_lists_of};
 ghost use Rattle.draw_device.specs.Devices.{EachTakes, pixel_of};
 ghost use Rattle.serial_render.specs.Shown.{images_of};
-ghost use Rattle.serial_render.specs.Steps.{window_of};
+ghost use Rattle.rc_base.specs.Cluster.Tiles.{window_rect};
 ghost use Rattle.sort_last.specs.Composed.{IsComposed, AreNear};
 ghost use Rattle.sort_last.specs.Layers.{composed_pixel, layer_pixel};
 ghost use Rattle.sort_last.specs.Offends.{IsComposable};
@@ -69,7 +69,7 @@ fn put_layers(
     requires players { HaveDrawn apart.now.scene.now first end players.now }
     requires low { first ≤ frame }
     requires order { frame < end }
-    requires rect { device.old.rect ≡ window_of apart.now.scene.now.decl.width apart.now.scene.now.decl.height }
+    requires rect { device.old.rect ≡ window_rect apart.now.scene.now.decl.width apart.now.scene.now.decl.height }
     requires near { AreNear device.old }
     ensures rect { device.new.rect ≡ device.old.rect }
     ensures drawn { EachTakes (λ x y p. fold nearer p (map (λ c. layer_pixel apart.now.scene.now c (frame + 1) x y) (range_with_len 0 (length apart.now.scene.now.streams)))) device.old device.new }

@@ -8,7 +8,7 @@ ghost use Rattle.sort_last.specs.Runs.{kind_offends, kind_drawn, place_or, IsSur
 use gl_context::EffectKind;
 use rc_base::cluster::FaultList;
 use rc_base::out_of_memory::OutOfMemory;
-use rc_base::scene::Scene;
+use rc_base::scene::{Scene, stream_length};
 use rc_base::state::State;
 use rc_base::sync::{SyncOp, SyncRow};
 use serial_render::ClientSurvey;
@@ -54,14 +54,6 @@ fn place_or(found: Option<u32>, place: u32, offends: bool) -> Option<u32>
         Some(_) => found,
         None => { if offends { Some(place) } else { None } }
     }
-}
-
-// How many commands a client's stream has.
-fn stream_length(scene: &Scene, client: usize) -> usize
-    requires { client < length scene.now.streams }
-    ensures { result ≡ length (stream_of scene.now client) }
-{
-    scene.streams.as_slice()[client].len()
 }
 
 /// What one issue of each command of a client tells.

@@ -1,13 +1,13 @@
 //! A client's layer of a frame, on a device that is kept from frame to frame.
 ghost use Rattle.std.specs.Prelude.{◌≡◌, ◌-◌, ◌≤◌, ℤ, length, fold, true, IfOk, OnOk};
-ghost use Rattle.rc_base.specs.Cluster.Tiles.{is_in_rect};
+ghost use Rattle.rc_base.specs.Cluster.Tiles.{is_in_rect, window_rect};
 ghost use Rattle.rc_base.specs.Contexts.Issue.{stream_of, context_after};
 ghost use Rattle.rc_base.specs.Drawing.Nearer.{nearer};
 ghost use Rattle.rc_base.specs.Drawing.Serial.{blank_pixel};
 ghost use Rattle.rc_base.specs.Drawing.Window.{depth_most};
 ghost use Rattle.rc_base.specs.Orders.Order.{names_from};
 ghost use Rattle.draw_device.specs.Devices.{EachTakes, pixel_of};
-ghost use Rattle.serial_render.specs.Steps.{Holds, window_of};
+ghost use Rattle.serial_render.specs.Steps.{Holds};
 ghost use Rattle.sort_last.specs.Players.{IsReady, IsSheet, shows, draw_if};
 ghost use Rattle.sort_last.specs.declared.play.Part.TheVariants as part;
 
@@ -30,7 +30,7 @@ pub(crate) struct Sheet {
 impl Sheet {
     /// A blank one.
     pub(crate) fn new(alloc: Global, decl: &Decl) -> Result<Sheet, OutOfMemory>
-        ensures { IfOk result (λ s. IsSheet (window_of decl.now.width decl.now.height) s) }
+        ensures { IfOk result (λ s. IsSheet (window_rect decl.now.width decl.now.height) s) }
     {
         let device = Device::new(alloc, window(decl))?;
         Ok(Sheet {
@@ -50,9 +50,9 @@ impl Sheet {
         requires order { names.from ≤ names.to }
         requires inside { names.to ≤ length (stream_of apart.now.scene.now names.client) }
         requires before { context.old ≡ context_after apart.now.scene.now names.client names.from }
-        requires sheet { IsSheet (window_of apart.now.scene.now.decl.width apart.now.scene.now.decl.height) self.old }
+        requires sheet { IsSheet (window_rect apart.now.scene.now.decl.width apart.now.scene.now.decl.height) self.old }
         ensures context { OnOk result (context.new ≡ context_after apart.now.scene.now names.client names.to) }
-        ensures sheet { OnOk result (IsSheet (window_of apart.now.scene.now.decl.width apart.now.scene.now.decl.height) self.new) }
+        ensures sheet { OnOk result (IsSheet (window_rect apart.now.scene.now.decl.width apart.now.scene.now.decl.height) self.new) }
         ensures layer { OnOk result (Holds self.new.device
             (λ x y. fold (draw_if apart.now.scene.now x y (shows part.Layer apart.now.scene.now)) blank_pixel (names_from names.client names.from (names.to - names.from)))) }
     {

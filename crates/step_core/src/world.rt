@@ -5,9 +5,8 @@ ghost use Rattle.order_model.specs.Scenes.{IsRunnable};
 ghost use Rattle.step_core.specs.Runs.{IsRunOf, seen_as};
 
 use crate::cluster::Cluster;
-use client_issue::copy_of_decl;
 use rc_base::out_of_memory::OutOfMemory;
-use rc_base::scene::{Decl, Scene};
+use rc_base::scene::{Decl, Scene, copy_of_decl};
 use rc_base::window::Layout;
 use std::alloc::Global;
 use std::marker::Model;

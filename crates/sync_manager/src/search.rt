@@ -6,7 +6,7 @@ ghost use Rattle.rc_base.specs.Orders.Grant.{first, give_by, take_by, is_at_barr
 ghost use Rattle.rc_base.specs.Orders.Journal.{how_many, has};
 ghost use Rattle.sync_manager.specs.Stored.{is_name, wait_at, op_at, units_at, meet_at, swap_at, grant_at};
 
-use rc_base::sync::{Entry, SyncOp, WaitAt};
+use rc_base::sync::{Entry, SyncOp, WaitAt, has};
 
 /// It is a name of one of so many things.
 pub fn is_name(n: usize, name: u8) -> bool
@@ -141,14 +141,6 @@ fn waiting_to_swap(waiting: &[Option<WaitAt>], clients: u8) -> u8
     n
 }
 
-/// The client is in the set.
-pub fn has(members: u8, client: u8) -> bool
-    requires { client < 8 }
-    ensures { result ≡ has members client }
-{
-    (members >> client) & 1 == 1
-}
-
 /// How many of the first clients are in the set.
 fn members_below(members: u8, clients: u8) -> u8
     requires { clients ≤ 8 }
@@ -156,7 +148,7 @@ fn members_below(members: u8, clients: u8) -> u8
 {
     let mut n = 0;
     for client in 0..clients {
-        if has(members, client) {
+        if has(u32::from(members), client) {
             n += 1;
         }
     }

@@ -4,22 +4,8 @@ ghost use Rattle.rc_base.specs.Orders.Journal.{is_member, units_after};
 ghost use Rattle.rc_base.specs.declared.sync.Entry.{Entry};
 ghost use Rattle.sync_manager.specs.Stored.{wait_at, units_at, IsUnitThere};
 
-use crate::search::has;
-use rc_base::sync::{Entry, WaitAt};
+use rc_base::sync::{Entry, WaitAt, is_member};
 use std::alloc::{AllocError, Global};
-
-/// The entry uses an operation of the client.
-fn is_member(clients: u8, entry: Entry, client: u8) -> bool
-    requires { client < 8 }
-    ensures { result ≡ is_member clients entry client }
-{
-    match entry {
-        Entry::Meet { members, .. } => has(members, client),
-        Entry::Swap => client < clients,
-        Entry::Give { client: other, .. } => client == other,
-        Entry::Take { client: other, .. } => client == other,
-    }
-}
 
 /// The members wait no more.
 pub fn release(waiting: &mut [Option<WaitAt>], clients: u8, entry: Entry)
@@ -28,7 +14,7 @@ pub fn release(waiting: &mut [Option<WaitAt>], clients: u8, entry: Entry)
     ensures waiting { (c : ℕ) → wait_at waiting.new c ≡ cond (is_member clients entry c) None (wait_at waiting.old c) }
 {
     for client in 0..8u8 {
-        if is_member(clients, entry, client) {
+        if is_member(entry, client, usize::from(clients)) {
             waiting[client as usize] = None;
         }
     }

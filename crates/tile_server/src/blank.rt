@@ -9,18 +9,10 @@ use crate::kept::KeptClient;
 use bounds_bucket::tile_rect;
 use draw_device::Device;
 use rc_base::out_of_memory::OutOfMemory;
-use rc_base::scene::Decl;
 use rc_base::state::State;
 use rc_base::window::{Layout, Rect};
 use std::alloc::Global;
 use textures::PrivateSet;
-
-/// A copy of a declaration.
-pub(crate) fn decl_copy(decl: &Decl) -> Result<Decl, OutOfMemory>
-    ensures { IfOk result (λ d. d ≡ decl.now) }
-{
-    Ok(decl.clone()?)
-}
 
 /// What is kept of clients that sent nothing yet, whose first state is this.
 pub(crate) fn new_clients(

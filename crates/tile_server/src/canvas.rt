@@ -3,7 +3,7 @@ ghost use Rattle.textures.specs.Stores.{HasTexels};
 ghost use Rattle.tile_server.specs.Kepts.{AreFit};
 ghost use Rattle.tile_server.specs.Works.{IsRectOf, texels_in};
 
-use crate::blank::{blank_device, decl_copy, new_clients};
+use crate::blank::{blank_device, new_clients};
 use crate::givable::is_givable;
 use crate::kept::KeptClient;
 use crate::work::work;
@@ -11,7 +11,7 @@ use draw_device::Device;
 use element_table::default_state;
 use rc_base::cluster::TilePart;
 use rc_base::out_of_memory::OutOfMemory;
-use rc_base::scene::Decl;
+use rc_base::scene::{Decl, copy_of_decl};
 use rc_base::state::{Parcel, State, Vertices};
 use rc_base::window::Layout;
 use std::alloc::Global;
@@ -61,7 +61,7 @@ impl Canvas {
         sets_have_stored_texels();
         let hw = default_state(decl);
         Ok(Canvas {
-            decl: decl_copy(decl)?,
+            decl: copy_of_decl(alloc, decl)?,
             layout: *layout,
             tile,
             hw,

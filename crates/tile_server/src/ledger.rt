@@ -6,7 +6,7 @@ ghost use Rattle.tile_server.specs.Ledgers.{HoldsAll, LacksOne};
 use order_model::record::{Log, LogEntry};
 use rc_base::items::Items;
 use rc_base::out_of_memory::OutOfMemory;
-use rc_base::sync::Entry;
+use rc_base::sync::{Entry, has, is_member};
 use std::alloc::Global;
 
 /// How far a tile is with its clients and its grants.
@@ -181,34 +181,13 @@ impl Ledger {
     }
 }
 
-// The client is in the set.
-fn has(members: u8, client: u8) -> bool
-    requires { client < 8 }
-    ensures { result ≡ has members client }
-{
-    (members >> client) & 1 == 1
-}
-
-/// The entry uses an operation of the client.
-fn is_member(clients: u8, entry: Entry, client: u8) -> bool
-    requires { client < 8 }
-    ensures { result ≡ is_member clients entry client }
-{
-    match entry {
-        Entry::Meet { members, .. } => has(members, client),
-        Entry::Swap => client < clients,
-        Entry::Give { client: other, .. } => client == other,
-        Entry::Take { client: other, .. } => client == other,
-    }
-}
-
 /// Each client of the set is held.
 fn holds_set(held: &[bool; 8], members: u8) -> bool
     ensures yes { IsTrue result → (client : ℕ) → has members client ≡ true → slice_index_or held.now client false ≡ true }
     ensures no { result ≡ false → (client : ℕ) × (has members client ≡ true) × (slice_index_or held.now client false ≡ false) }
 {
     for client in 0..8u8 {
-        if has(members, client) && !held[client as usize] {
+        if has(u32::from(members), client) && !held[client as usize] {
             return false;
         }
     }
@@ -257,7 +236,7 @@ fn release(held: &mut [bool], clients: u8, entry: Entry)
     ensures held { (client : ℕ) → slice_index_or held.new client false ≡ cond (is_member clients entry client) false (slice_index_or held.old client false) }
 {
     for client in 0..8u8 {
-        if is_member(clients, entry, client) {
+        if is_member(entry, client, usize::from(clients)) {
             held[client as usize] = false;
         }
     }

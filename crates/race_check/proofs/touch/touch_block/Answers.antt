@@ -36,7 +36,7 @@ cuts-init c =
     record {
       state = c.new-cache.ensures.state;
       vertices = c.new-cache.ensures.vertices ∙ c.as_slice.ensures;
-      part = subst (λ (q : Rect). IsPartWhere q c.drawn_part-part.result (is_let_through s)) c.window.ensures c.drawn_part-part.ensures;
+      part = subst (λ (q : Rect). IsPartWhere q c.drawn_part-part.result (is_let_through s)) c.window_rect.ensures c.drawn_part-part.ensures;
       below = subst (λ (ts : List (List ℕ)). All (AreBelow (length block.vertices)) ts) (sym r) c.triangles-corners-items.ensures.indices;
       size = refl;
       front = [];

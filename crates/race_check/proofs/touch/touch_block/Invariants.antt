@@ -4,7 +4,8 @@ use Rattle.rc_base.specs.Drawing.Pieces.{kept_corners_of}
 use Rattle.rc_base.specs.Drawing.Triangles.{triangles_in}
 use Rattle.geometry.specs.Items.{AreBelow, rest_from}
 use Rattle.raster.specs.Clips.{IsPartWhere, is_let_through}
-use Rattle.race_check.specs.Touches.{IsTouch, triangles_have, window_rect}
+use Rattle.race_check.specs.Touches.{IsTouch, triangles_have}
+use Rattle.rc_base.specs.Cluster.Tiles.{window_rect}
 use Rattle.race_check.proofs.touch.touch_block.Given as goal
 
 abbrev pub invariant-cuts : goal.invariant-cuts

@@ -1,8 +1,8 @@
 use Rattle.std.proofs.Common.{◌≡◌, ◌∙◌, ap, ℕ, List}
-use Rattle.rc_base.specs.Formats.Limits.{first_outside, least_swaps}
+use Rattle.rc_base.specs.Formats.Limits.{first_outside, least_swaps, judged}
 use Rattle.rc_base.specs.declared.command.Command.{Command}
 use Rattle.rc_base.specs.declared.scene.Scene.{Scene}
-use Rattle.scene_file.specs.Judging.{judged, stream_part}
+use Rattle.scene_file.specs.Judging.{stream_part}
 use Rattle.scene_file.proofs.LimitsByParts.{stored_streams, many_streams}
 use Rattle.scene_file.proofs.limits.check_streams.Goals as goal
 

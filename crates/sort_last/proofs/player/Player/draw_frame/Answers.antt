@@ -3,7 +3,7 @@ use Rattle.std.proofs.lemmas.List.{length-set}
 use Rattle.rc_base.specs.Contexts.Issue.{context_after, stream_of}
 use Rattle.rc_base.specs.Drawing.Serial.{blank_pixel}
 use Rattle.rc_base.specs.Orders.Order.{names_from}
-use Rattle.serial_render.specs.Steps.{window_of}
+use Rattle.rc_base.specs.Cluster.Tiles.{window_rect}
 use Rattle.sort_last.specs.Players.{IsSheet, shows, draw_if}
 use Rattle.sort_last.specs.declared.play.Part.TheVariants as part
 use Rattle.sort_last.proofs.DrawnFrames.{frame_added}
@@ -20,7 +20,7 @@ draw-requires-clause-before c =
 pub draw-requires-clause-sheet : goal.draw-requires-clause-sheet
 draw-requires-clause-sheet c =
     let s = c.args.apart.now.scene.now in
-    subst (IsSheet (window_of s.decl.width s.decl.height)) (sym c.index_mut.ensures.value) (c.requires.before.over (c.args.frame - c.args.first) c.index_mut.result.now (omega (arith, c.requires.room, c.requires.order)))
+    subst (IsSheet (window_rect s.decl.width s.decl.height)) (sym c.index_mut.ensures.value) (c.requires.before.over (c.args.frame - c.args.first) c.index_mut.result.now (omega (arith, c.requires.room, c.requires.order)))
 
 pub returns-clause-count : goal.returns-clause-count
 returns-clause-count c = length-set c.args.self.now.sheets.items (c.args.frame - c.args.first) c.draw.new.self

@@ -7,18 +7,18 @@ use Rattle.tile_server.proofs.canvas.Canvas.new.Goals as goal
 pub invariant_of-result : goal.invariant_of-result
 invariant_of-result c =
     let d = c.args.decl.now in
-    let copy = c.in_ok-decl_copy.field-0 in
+    let copy = c.in_ok-copy_of_decl.field-0 in
     let kept = c.in_ok-new_clients.field-0.items in
     let new = subst (λ (s : State). AreNew s c.args.clients kept) c.default_state-hw.ensures c.in_ok-new_clients.ensures in
     record {
       place = c.in_ok-blank_device.ensures.rect;
-      whole = whole_new c.sets_have_stored_texels.ensures.blank d copy c.in_ok-new.field-0 c.in_ok-decl_copy.ensures c.in_ok-new.ensures;
-      fit = fit_new d copy c.args.clients kept c.in_ok-decl_copy.ensures new;
+      whole = whole_new c.sets_have_stored_texels.ensures.blank d copy c.in_ok-new.field-0 c.in_ok-copy_of_decl.ensures c.in_ok-new.ensures;
+      fit = fit_new d copy c.args.clients kept c.in_ok-copy_of_decl.ensures new;
     }
 
 pub returns-clause-blank : goal.returns-clause-blank
 returns-clause-blank c =
     let kept = c.in_ok-new_clients.field-0.items in
     let new = subst (λ (s : State). AreNew s c.args.clients kept) c.default_state-hw.ensures c.in_ok-new_clients.ensures in
-    new_board c.sets_have_stored_texels.ensures.blank c.args.decl.now c.in_ok-decl_copy.field-0 c.args.layout.now c.args.tile c.args.clients kept
-    c.in_ok-new.field-0 c.in_ok-blank_device.field-0 c.in_ok-decl_copy.ensures new c.in_ok-new.ensures c.in_ok-blank_device.ensures.blank
+    new_board c.sets_have_stored_texels.ensures.blank c.args.decl.now c.in_ok-copy_of_decl.field-0 c.args.layout.now c.args.tile c.args.clients kept
+    c.in_ok-new.field-0 c.in_ok-blank_device.field-0 c.in_ok-copy_of_decl.ensures new c.in_ok-new.ensures c.in_ok-blank_device.ensures.blank
