@@ -33,7 +33,7 @@ pub record IsNewAssembler (l : Layout) (a : Assembler) : Type 0 where
   pub places : places_of a ≡ no_parts l
 
 -- one part of each tile: the image of exactly these, and the places are empty
-pub record IsWhole (l : Layout) (found : List (Option TilePart)) (image : Image) (after : Assembler) : Type 0 where
+pub record IsCompleteFrame (l : Layout) (found : List (Option TilePart)) (image : Image) (after : Assembler) : Type 0 where
   pub parts : List TilePart
   pub all : found ≡ map Some parts
   pub sizes : ArePartsOf l parts
@@ -54,7 +54,7 @@ pub record IsSpoilt (l : Layout) (found : List (Option TilePart)) (after : Assem
   pub short : short_of after ≡ true
 
 abbrev pub ComesOf : Layout → List (Option TilePart) → Option Image → Assembler → Type 0
-ComesOf l found (Some image) after = IsWhole l found image after
+ComesOf l found (Some image) after = IsCompleteFrame l found image after
 ComesOf l found None after = IsUnfinished l found after ⊎ IsSpoilt l found after
 
 -- ---- a call

@@ -109,6 +109,7 @@ word_codec =
 
 -- ---- runs of bytes
 
+-- so many bytes
 abbrev pub IsRun : ℕ → List ℕ → Type 0
 IsRun n bytes = (length bytes ≡ n) × AreBytes bytes
 

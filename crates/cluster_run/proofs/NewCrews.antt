@@ -13,7 +13,7 @@ use Rattle.rc_base.specs.declared.window.Layout.{Layout}
 use Rattle.rc_base.proofs.Paired.{same_default, some_item}
 use Rattle.client_issue.specs.Clauses.{IsClientClause}
 use Rattle.tile_server.specs.Clauses.{IsTileClause}
-use Rattle.tile_queues.specs.Ends.{sent_of, taken_of, lane_in, lane_out, depth_of}
+use Rattle.tile_queues.specs.Ends.{sent_of, taken_of, lane_in, lane_out, lane_depth}
 use Rattle.tile_queues.specs.declared.ends.LaneIn.{LaneIn}
 use Rattle.tile_queues.specs.declared.ends.LaneOut.{LaneOut}
 use Rattle.tile_queues.specs.Names.{AreInto, AreOutOf}
@@ -173,7 +173,7 @@ module _ {R : Type 0} (scene : Scene) (l : Layout) (depth : ℕ) (ins : List (Ve
     grants = λ t low.
         let in_crew : t < length crew.tiles.items = omega (arith, tile_total, low) in
         let fresh = tiles.grants_are.at t a_tile (some_item grants.items t (let n = tiles.grants_are.count in omega (arith, n, in_crew))) in_crew in
-        ap (λ lane. depth_of lane) fresh.lane ∙ fresh.deep;
+        ap (λ lane. lane_depth lane) fresh.lane ∙ fresh.deep;
     parts = λ t low.
         let in_crew : t < length crew.tiles.items = omega (arith, tile_total, low) in
         (tiles.parts_are.at t a_tile (some_item parts.items t (let n = tiles.parts_are.count in omega (arith, n, in_crew))) in_crew).deep;

@@ -4,7 +4,7 @@ use Rattle.rc_base.specs.Cluster.Tiles.{tile_count}
 use Rattle.rc_base.specs.Orders.Sync.{sync_lists_of}
 use Rattle.rc_base.specs.declared.scene.Scene.{Scene}
 use Rattle.rc_base.specs.declared.window.Layout.{Layout}
-use Rattle.tile_queues.specs.Ends.{depth_of}
+use Rattle.tile_queues.specs.Ends.{lane_depth}
 use Rattle.worker_crew.specs.Crews.{HaveEnded}
 use Rattle.worker_crew.specs.declared.crew.Crew.{Crew}
 use Rattle.worker_crew.specs.declared.task.Task.{Task}
@@ -24,10 +24,10 @@ pub record LaneNames : Type 0 where
 
 -- each of so many lanes holds so many items at most
 pub record AreSoDeep (clients tiles depth : ℕ) (names : LaneNames) : Type 0 where
-  pub parcels : (c t : ℕ) → c < clients → t < tiles → depth_of (names.parcels c t) ≡ depth
-  pub requests : (c : ℕ) → c < clients → depth_of (names.requests c) ≡ depth
-  pub grants : (t : ℕ) → t < tiles → depth_of (names.grants t) ≡ depth
-  pub parts : (t : ℕ) → t < tiles → depth_of (names.parts t) ≡ depth
+  pub parcels : (c t : ℕ) → c < clients → t < tiles → lane_depth (names.parcels c t) ≡ depth
+  pub requests : (c : ℕ) → c < clients → lane_depth (names.requests c) ≡ depth
+  pub grants : (t : ℕ) → t < tiles → lane_depth (names.grants t) ≡ depth
+  pub parts : (t : ℕ) → t < tiles → lane_depth (names.parts t) ≡ depth
 
 module _ {R : Type 0} where
   -- the workers of a scene on the tiles of a layout, with lanes of these names

@@ -11,8 +11,8 @@ use Rattle.command_line.proofs.OneRow.{row_in, one_row}
 use Rattle.command_line.proofs.Reading.{one_reading}
 use Rattle.command_line.specs.declared.seen.Seen.{Seen}
 use Rattle.command_line.specs.Begins.{Begins}
-use Rattle.command_line.specs.Reads.{Reads, IsFree, nothing, has, with_option}
-use Rattle.command_line.specs.Reads.Reads.{done, more}
+use Rattle.command_line.specs.Reads.{ReadsOptions, IsFree, nothing, has, with_option}
+use Rattle.command_line.specs.Reads.ReadsOptions.{done, more}
 
 abbrev Text : Type 0
 Text = List ℕ
@@ -62,7 +62,7 @@ told_more {job} {g} {last} {words} {rest} {s} {ss} b f t = record {
     first_or : (o : OptionName) → has (with_option g (option_of s)) o ≡ true → (has g o ≡ true) ⊎ IsIn o (map option_of (s ∷ ss))
     first_or o k = elim (has_with g (option_of s) o) [ inl h ↦ inr (inl (sym h.0)) | inr h ↦ inl (sym h.1 ∙ k) ]
 
-pub told : {job : JobName} {g last : Seen} {words : List Text} {ss : List Setting} → Reads job g words ss last → Told job g words ss last
+pub told : {job : JobName} {g last : Seen} {words : List Text} {ss : List Setting} → ReadsOptions job g words ss last → Told job g words ss last
 told done = record {
   parts = refl;
   each = tt;
@@ -79,7 +79,7 @@ told (more b f r) = told_more b f (told r)
 
 all_read : {job : JobName} (g : Seen) (ss : List Setting) → AllByRecursion IsSetting ss
     → ((o : OptionName) → IsIn o (map option_of ss) → IsIn o (options_of job)) → ((o : OptionName) → IsIn o (map option_of ss) → has g o ≡ false)
-    → NoRepeat (map option_of ss) → (last : Seen) × Reads job g (flat_map setting_words ss) ss last
+    → NoRepeat (map option_of ss) → (last : Seen) × ReadsOptions job g (flat_map setting_words ss) ss last
 all_read g [] each taken new once = (g, done)
 all_read {job} g (s ∷ ss) each taken new once =
     let k = all_read {job = job} (with_option g (option_of s)) ss each.1 (λ o i. taken o (inr i)) still once.1 in
@@ -100,7 +100,7 @@ none_seen Size = refl
 abbrev pub HasDue : JobName → Seen → Type 0
 HasDue job g = (o : OptionName) → IsIn o (options_due job) → has g o ≡ true
 
-pub line_read : {job : JobName} {rest : List Text} {ss : List Setting} {last : Seen} → Reads job nothing rest ss last → HasDue job last
+pub line_read : {job : JobName} {rest : List Text} {ss : List Setting} {last : Seen} → ReadsOptions job nothing rest ss last → HasDue job last
     → IsCommandLine (job_word job ∷ rest) job ss
 line_read {job} r d =
     let t = told r in
@@ -113,7 +113,7 @@ line_read {job} r d =
     }
 
 pub read_line : {words : List Text} {job : JobName} {ss : List Setting} → IsCommandLine words job ss
-    → (last : Seen) × Reads job nothing (flat_map setting_words ss) ss last × HasDue job last
+    → (last : Seen) × ReadsOptions job nothing (flat_map setting_words ss) ss last × HasDue job last
 read_line {words} {job} {ss} l =
     let k = all_read {job = job} nothing ss l.each l.taken (λ o i. none_seen o) l.once in
     (k.0, k.1, λ o i. (told k.1).seen o (l.due o i))
@@ -134,16 +134,16 @@ line_rest {words} {rest} {job} {other} e l =
     (one_row job_word jobs _ _ job other (job_found job) (job_found other) first, let both = sym e ∙ l.parts in cc)
 
 pub no_line : {words rest : List Text} {job : JobName} → words ≡ job_word job ∷ rest
-    → ((ss : List Setting) (last : Seen) → Reads job nothing rest ss last → HasDue job last → ⊥)
+    → ((ss : List Setting) (last : Seen) → ReadsOptions job nothing rest ss last → HasDue job last → ⊥)
     → (other : JobName) (ss : List Setting) → IsCommandLine words other ss → ⊥
 no_line {words} {rest} {job} e n other ss l =
     let k = line_rest e l in
     let line : IsCommandLine words job ss = subst (λ j. IsCommandLine words j ss) (sym k.0) l in
     let r = read_line line in
-    n ss r.0 (subst (λ ws. Reads job nothing ws ss r.0) k.1 r.1) r.2
+    n ss r.0 (subst (λ ws. ReadsOptions job nothing ws ss r.0) k.1 r.1) r.2
 
-pub lacks_due : {rest : List Text} {job : JobName} {ss : List Setting} {last : Seen} → Reads job nothing rest ss last → (HasDue job last → ⊥)
-    → (others : List Setting) (other : Seen) → Reads job nothing rest others other → HasDue job other → ⊥
+pub lacks_due : {rest : List Text} {job : JobName} {ss : List Setting} {last : Seen} → ReadsOptions job nothing rest ss last → (HasDue job last → ⊥)
+    → (others : List Setting) (other : Seen) → ReadsOptions job nothing rest others other → HasDue job other → ⊥
 lacks_due {job = job} r n others other k d = n (subst (λ g. HasDue job g) (sym (one_reading r k).1) d)
 
 -- words are the line of at most one job and one list of settings
@@ -154,4 +154,4 @@ one_line {words} {job} {other} {ss} {others} l k =
     let line : IsCommandLine words job others = subst (λ j. IsCommandLine words j others) (sym rest.0) k in
     let r = read_line l in
     let q = read_line line in
-    (rest.0, (one_reading r.1 (subst (λ ws. Reads job nothing ws others q.0) rest.1 q.1)).0)
+    (rest.0, (one_reading r.1 (subst (λ ws. ReadsOptions job nothing ws others q.0) rest.1 q.1)).0)

@@ -5,8 +5,8 @@ use Rattle.command_line.specs.Words.{Setting, option_of, setting_words}
 use Rattle.command_line.specs.Words.Setting.{TilesOf, DepthOf, WithOrder, SeedOf, SizeOf}
 use Rattle.command_line.specs.declared.seen.Seen.{Seen}
 use Rattle.command_line.specs.Begins.{Begins}
-use Rattle.command_line.specs.Reads.{Reads, IsFree, with_option}
-use Rattle.command_line.specs.Reads.Reads.{done, more}
+use Rattle.command_line.specs.Reads.{ReadsOptions, IsFree, with_option}
+use Rattle.command_line.specs.Reads.ReadsOptions.{done, more}
 use Rattle.command_line.proofs.OneSetting.{same_setting}
 
 abbrev Text : Type 0
@@ -25,7 +25,7 @@ rest_is_shorter {words} {rest} {s} b = omega (arith, fewer_words s rest, ap leng
 
 -- what nothing is read of
 pub none_begins : {job : JobName} {g : Seen} {words : List Text} → words ≢ [] → ((s : Setting) (rest : List Text) → Begins words s rest → ⊥)
-    → (ss : List Setting) (last : Seen) → Reads job g words ss last → ⊥
+    → (ss : List Setting) (last : Seen) → ReadsOptions job g words ss last → ⊥
 none_begins some n [] last done = some refl
 none_begins some n (s ∷ ss) last (more b f r) = n _ _ b
 
@@ -34,9 +34,9 @@ pub record Begun (job : JobName) (g last : Seen) (rest : List Text) (s : Setting
   pub free : IsFree job g (option_of s)
   pub others : List Setting
   pub first : ss ≡ s ∷ others
-  pub reads : Reads job (with_option g (option_of s)) rest others last
+  pub reads : ReadsOptions job (with_option g (option_of s)) rest others last
 
-rest_read : {job : JobName} {g last : Seen} {words rest : List Text} {s : Setting} {ss : List Setting} → Begins words s rest → Reads job g words ss last
+rest_read : {job : JobName} {g last : Seen} {words rest : List Text} {s : Setting} {ss : List Setting} → Begins words s rest → ReadsOptions job g words ss last
     → Begun job g last rest s ss
 rest_read b done = let none : length _ < 0 = rest_is_shorter b in absurd (omega arith)
 rest_read {job} {g} {last} {words} {rest} {s} b (more {s = t} {ss = ts} d f r) =
@@ -45,11 +45,11 @@ rest_read {job} {g} {last} {words} {rest} {s} b (more {s = t} {ss = ts} d f r) =
       free = subst (λ q. IsFree job g (option_of q)) (sym k.0) f;
       others = ts;
       first = ap (λ q. q ∷ ts) (sym k.0);
-      reads = subst (λ q. Reads job (with_option g (option_of q)) rest ts last) (sym k.0) (subst (λ ws. Reads job (with_option g (option_of t)) ws ts last) (sym k.1) r);
+      reads = subst (λ q. ReadsOptions job (with_option g (option_of q)) rest ts last) (sym k.0) (subst (λ ws. ReadsOptions job (with_option g (option_of t)) ws ts last) (sym k.1) r);
     }
 
 -- words are read in at most one way
-pub one_reading : {job : JobName} {g last last' : Seen} {words : List Text} {ss ss' : List Setting} → Reads job g words ss last → Reads job g words ss' last'
+pub one_reading : {job : JobName} {g last last' : Seen} {words : List Text} {ss ss' : List Setting} → ReadsOptions job g words ss last → ReadsOptions job g words ss' last'
     → (ss ≡ ss') × (last ≡ last')
 one_reading done done = (refl, refl)
 one_reading done (more b f r) = let none : length _ < 0 = rest_is_shorter b in absurd (omega arith)
@@ -59,16 +59,16 @@ one_reading (more {s = s} {ss = ts} b f r) k =
     (ap (λ qs. s ∷ qs) n.0 ∙ sym o.first, n.1)
 
 pub not_free : {job : JobName} {g : Seen} {words rest : List Text} {s : Setting} → Begins words s rest → (IsFree job g (option_of s) → ⊥)
-    → (ss : List Setting) (last : Seen) → Reads job g words ss last → ⊥
+    → (ss : List Setting) (last : Seen) → ReadsOptions job g words ss last → ⊥
 not_free b n ss last r = n (rest_read b r).free
 
 abbrev pub IsRead : JobName → Seen → List Text → Option Seen → Type 0
-IsRead job g words r = MatchOption r ((ss : List Setting) (last : Seen) → Reads job g words ss last → ⊥) (λ last. (ss : List Setting) × Reads job g words ss last)
+IsRead job g words r = MatchOption r ((ss : List Setting) (last : Seen) → ReadsOptions job g words ss last → ⊥) (λ last. (ss : List Setting) × ReadsOptions job g words ss last)
 
 pub read_on : {job : JobName} {g : Seen} {words rest : List Text} {s : Setting} → Begins words s rest → IsFree job g (option_of s)
     → (r : Option Seen) → IsRead job (with_option g (option_of s)) rest r → IsRead job g words r
 read_on b f None h = λ ss last r. let k = rest_read b r in h k.others last k.reads
 read_on {s = s} b f (Some last) h = (s ∷ h.0, more b f h.1)
 
-pub nothing_read : {job : JobName} {g : Seen} {words : List Text} → words ≡ [] → (ss : List Setting) × Reads job g words ss g
-nothing_read {job} {g} e = ([], subst (λ ws. Reads job g ws [] g) (sym e) done)
+pub nothing_read : {job : JobName} {g : Seen} {words : List Text} → words ≡ [] → (ss : List Setting) × ReadsOptions job g words ss g
+nothing_read {job} {g} e = ([], subst (λ ws. ReadsOptions job g ws [] g) (sym e) done)

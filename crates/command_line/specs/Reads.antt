@@ -31,8 +31,8 @@ pub record IsFree (job : JobName) (seen : Seen) (o : OptionName) : Type 0 where
   pub new : has seen o ≡ false
 
 -- the words are those of these settings, and lead from the options that were seen before to those that were seen in the end
-pub data Reads (job : JobName) : Seen → List (List ℕ) → List Setting → Seen → Type 0 where
-  done : {seen : Seen} → Reads job seen [] [] seen
+pub data ReadsOptions (job : JobName) : Seen → List (List ℕ) → List Setting → Seen → Type 0 where
+  done : {seen : Seen} → ReadsOptions job seen [] [] seen
   more : {seen last : Seen} {words rest : List (List ℕ)} {s : Setting} {ss : List Setting}
-      → Begins words s rest → IsFree job seen (option_of s) → Reads job (with_option seen (option_of s)) rest ss last
-      → Reads job seen words (s ∷ ss) last
+      → Begins words s rest → IsFree job seen (option_of s) → ReadsOptions job (with_option seen (option_of s)) rest ss last
+      → ReadsOptions job seen words (s ∷ ss) last

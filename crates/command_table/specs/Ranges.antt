@@ -12,7 +12,7 @@ AreIn (r ∷ rs) [] = ⊥
 AreIn (r ∷ rs) (z ∷ zs) = (is_in_range r z ≡ true) × AreIn rs zs
 
 -- the numbers and the texels are those of a command, and each number is in its range
-pub record ArePartsOf (c : Command) (numbers : List ℤ) (texels : List ℕ) : Type 0 where
+pub record AreNumbersOf (c : Command) (numbers : List ℤ) (texels : List ℕ) : Type 0 where
   pub numbers_are : numbers ≡ (parts_of c).numbers
   pub texels_are : texels ≡ (parts_of c).texels
   pub in_range : AreIn (ranges_of (opcode_of c)) numbers

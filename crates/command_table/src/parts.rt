@@ -1,7 +1,7 @@
 //! The numbers and the texels of a command.
 ghost use Rattle.std.specs.Prelude.{◌≡◌, ◌≤◌, ◌∷◌, [], pos, map, length, take, replicate, true};
 ghost use Rattle.rc_base.specs.Formats.Commands.{is_in_range};
-ghost use Rattle.command_table.specs.Ranges.{AreIn, ArePartsOf, FrontHasPartsOf};
+ghost use Rattle.command_table.specs.Ranges.{AreIn, AreNumbersOf, FrontHasPartsOf};
 ghost use Rattle.command_table.specs.ByOpcode.{when_known};
 
 use rc_base::command::{Command, NumberRange, Part, Rgba};
@@ -138,7 +138,7 @@ fn put_parts<'a>(command: &'a Command, room: &mut Numbers) -> (usize, &'a [u8])
 
 /// The numbers of a command, for which the room is used, and its texels, which a command without a picture has none of.
 pub fn parts_of<'a, 'r>(command: &'a Command, room: &'r mut Numbers) -> (&'r [i32], &'a [u8])
-    ensures { ArePartsOf command.now result.0.now result.1.now }
+    ensures { AreNumbersOf command.now result.0.now result.1.now }
 {
     let (count, texels) = put_parts(command, room);
     (&room[..count], texels)

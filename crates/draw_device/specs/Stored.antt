@@ -7,7 +7,7 @@ use Rattle.rc_base.specs.declared.state.Effect.TheVariants as eff
 use Rattle.textures.specs.Images.{LiesInside, texture_image, with_texture_part}
 
 -- the part names one of the textures, lies inside it, and has bytes for its texels
-pub record IsWritable (part : Part) (set : List (Option Picture)) : Type 0 where
+pub record IsStorable (part : Part) (set : List (Option Picture)) : Type 0 where
   pub low : 0 < part.name
   pub high : part.name ≤ length set
   pub whole : length part.texels ≡ 4 * (part.w * part.h)

@@ -7,7 +7,7 @@ ghost use Rattle.rc_base.specs.declared.state.Effect.TheVariants as eff;
 ghost use Rattle.textures.specs.Images.{texture_image};
 ghost use Rattle.draw_device.specs.Conditions.{IsDrawable, IsClearable, shared_of};
 ghost use Rattle.draw_device.specs.Devices.{EachTakes};
-ghost use Rattle.draw_device.specs.Stored.{IsWritable, set_after};
+ghost use Rattle.draw_device.specs.Stored.{IsStorable, set_after};
 
 use crate::device::Device;
 use rc_base::state::{Act, Effect, State};
@@ -37,7 +37,7 @@ pub fn carry_out(
 )
     requires drawable { IsDrawable state.now privates.now shared.old }
     requires clearable { IsClearable state.now }
-    requires writable { (part : Part) → effect.now ≡ eff.Shared part → IsWritable part shared.old }
+    requires writable { (part : Part) → effect.now ≡ eff.Shared part → IsStorable part shared.old }
     ensures rect { device.new.rect ≡ device.old.rect }
     ensures drawn { EachTakes (effect_step state.now (texture_image privates.now) (shared_of shared.old) effect.now) device.old device.new }
     ensures shared { shared.new ≡ set_after effect.now shared.old }

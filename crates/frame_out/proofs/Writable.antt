@@ -7,7 +7,7 @@ use Rattle.std.proofs.lemmas.List.FromFn.{length-range_with_len, length-map-rang
 use Rattle.rc_base.specs.Drawing.Images.{Pixels, rgb_of, row_bytes, rgb_bytes}
 use Rattle.rc_base.specs.declared.window.Layout.{Layout}
 use Rattle.rc_base.proofs.WithinLimits.{width_within, height_within, clients_within, few_commands}
-use Rattle.ppm_out.specs.Pictures.{IsWhole}
+use Rattle.ppm_out.specs.Pictures.{IsWholeImage}
 use Rattle.order_model.specs.Laws.{SwapsAreFew}
 use Rattle.order_model.specs.Report.{frame_count}
 use Rattle.frame_out.specs.Frames.{window_image}
@@ -32,7 +32,7 @@ pixels_whole pixels w h =
     rows ∙ count ∙ mul_assoc 3 w h
 
 module _ (l : Layout) (width : (1 ≤ l.width) × (l.width ≤ 2048)) (height : (1 ≤ l.height) × (l.height ≤ 2048)) (pixels : ℕ → Pixels) where
-  pictures_whole : (ks : List ℕ) → AllByRecursion IsWhole (map (λ (k : ℕ). window_image l (pixels k)) ks)
+  pictures_whole : (ks : List ℕ) → AllByRecursion IsWholeImage (map (λ (k : ℕ). window_image l (pixels k)) ks)
   pictures_whole [] = tt
   pictures_whole (k ∷ ks) = (record { width = width; height = height; pixels = pixels_whole (pixels k) l.width l.height }, pictures_whole ks)
 

@@ -15,11 +15,11 @@ use Rattle.rc_base.specs.declared.cluster.TilePart.{TilePart}
 use Rattle.rc_base.specs.declared.image.Image.{Image}
 use Rattle.rc_base.specs.declared.window.Layout.{Layout}
 use Rattle.rc_base.proofs.Known.{Appends-then}
-use Rattle.assembler.specs.Assembled.{layout_of, places_of, short_of, IsAssembled, IsWhole as IsComplete}
+use Rattle.assembler.specs.Assembled.{layout_of, places_of, short_of, IsAssembled, IsCompleteFrame}
 use Rattle.assembler.specs.Parts.{picture, shown, ArePartsOf}
 use Rattle.assembler.specs.Places.{in_place, AreFound, IsFound, IsTaken}
 use Rattle.assembler.specs.declared.places.Assembler.{Assembler}
-use Rattle.ppm_out.specs.Pictures.{IsWhole}
+use Rattle.ppm_out.specs.Pictures.{IsWholeImage}
 use Rattle.frame_out.specs.Laws.{NewWritersAreOnTheWay}
 use Rattle.rc_base.specs.Cluster.Lanes.{EachLane, Follows}
 use Rattle.frame_out.specs.OnTheWay.{parts_in, GaveFrames, GaveText, GivesOne, HasWritten, IsMissing, IsOnTheWay}
@@ -37,10 +37,10 @@ use Rattle.frame_out.proofs.WrittenMore.{used}
 texts_more : (images : List Image) (image : Image) → p6_texts (images ++ image ∷ []) ≡ p6_texts images ++ p6_text image
 texts_more images image = flat_map-append p6_text images (image ∷ []) ∙ ap (λ (xs : List ℕ). p6_texts images ++ xs) (append-nil (p6_text image))
 
-picture_whole : (l : Layout) → IsWindow l → (parts : List TilePart) → IsWhole (picture l parts)
+picture_whole : (l : Layout) → IsWindow l → (parts : List TilePart) → IsWholeImage (picture l parts)
 picture_whole l window parts = record { width = window.width; height = window.height; pixels = pixels_whole (shown l parts) l.width l.height }
 
-pictures_whole : (l : Layout) → IsWindow l → (frames : List (List TilePart)) → AllByRecursion IsWhole (map (picture l) frames)
+pictures_whole : (l : Layout) → IsWindow l → (frames : List (List TilePart)) → AllByRecursion IsWholeImage (map (picture l) frames)
 pictures_whole l window [] = tt
 pictures_whole l window (parts ∷ frames) = (picture_whole l window parts, pictures_whole l window frames)
 
@@ -153,7 +153,7 @@ module _ {I : Type 0} (gave : I → TilePart → I → Type 0) (same : I → I �
       | inr was ↦ was
     ]
 
-    complete : IsComplete (layout_of w.assembler) (k.whole was_ample).found image w'.assembler
+    complete : IsCompleteFrame (layout_of w.assembler) (k.whole was_ample).found image w'.assembler
     complete = (k.whole was_ample).comes
 
     image_is : image ≡ picture l complete.parts
@@ -197,7 +197,7 @@ module _ {I : Type 0} (gave : I → TilePart → I → Type 0) (same : I → I �
         let n = length-append before.frames (complete.parts ∷ []) in
         let m = count_map (picture l) before.frames in
         let fits = texts_short (map (picture l) before.frames) (pictures_whole l win before.frames) in
-        let one = texts_short (image ∷ []) (subst IsWhole (sym image_is) (picture_whole l win complete.parts), tt) in
+        let one = texts_short (image ∷ []) (subst IsWholeImage (sym image_is) (picture_whole l win complete.parts), tt) in
         let one_is = ap length (append-nil (p6_text image)) in
         subst (λ (t : List ℕ). IsCounted (used a c fa fc) t w'.written) (sym text_now)
         (counts (p6_texts (map (picture l) before.frames)) (omega (arith, fits, one, one_is, m, n, few)) (before.written (omega (arith, n, few))))

@@ -6,12 +6,12 @@ use Rattle.rc_base.specs.declared.transfer.WriteFault.{WriteFault}
 use Rattle.std.specs.List.{AllByRecursion}
 use Rattle.rc_base.specs.Outside.Ends.{Used, Failed, IsCalm, Took}
 use Rattle.rc_base.specs.declared.image.Image.{Image}
-use Rattle.ppm_out.specs.Pictures.{IsWhole}
+use Rattle.ppm_out.specs.Pictures.{IsWholeImage}
 use Rattle.frame_out.specs.declared.writing.Written.{Written}
 
 -- each of them is an image, and they are so few that their bytes can be counted
 pub record AreWritable (frames : List Image) : Type 0 where
-  pub whole : AllByRecursion IsWhole frames
+  pub whole : AllByRecursion IsWholeImage frames
   pub few : length frames ≤ 2 ^ 32
 
 -- it was given the whole, or so many bytes before it failed

@@ -2,7 +2,7 @@
 ghost use Rattle.std.specs.Prelude.{◌≡◌, ◌+◌, ◌^◌, ◌<◌, ◌≤◌, ◌++◌, ℕ, false, List, length, IfOk, OnErr};
 ghost use Rattle.rc_base.specs.Formats.Netpbm.{p6_text, p6_texts};
 ghost use Rattle.rc_base.specs.Outside.Ends.{use_of, TookFront};
-ghost use Rattle.ppm_out.specs.Pictures.{IsWhole};
+ghost use Rattle.ppm_out.specs.Pictures.{IsWholeImage};
 ghost use Rattle.frame_out.specs.Writing.{written_more, AreWritable, HasGiven, IsCounted, IsWritten};
 
 use ppm_out::put_image_text;
@@ -60,7 +60,7 @@ pub fn write_frame<K: Sink>(
     frame: &Image,
     written: Written,
 ) -> Result<Written, OutOfMemory>
-    requires { IsWhole frame.now }
+    requires { IsWholeImage frame.now }
     ensures written { IfOk result (λ more. (start : K) (text : List ℕ) → length text + length (p6_text frame.now) < 2 ^ 64
         → IsCounted (use_of K.held K.faults start image.old) text written → IsCounted (use_of K.held K.faults start image.new) (text ++ p6_text frame.now) more) }
     ensures given { IfOk result (λ more. HasGiven (K.held image.old) (K.held image.new) (p6_text frame.now) written more) }

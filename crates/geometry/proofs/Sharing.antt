@@ -6,7 +6,7 @@ use Rattle.std.proofs.Math.IntN.{*ℤ_comm}
 use borrow.Author.Differences.{same_out, le_out, at_most_in}
 use Rattle.rc_base.specs.Numbers.{floor_quotient, Within, is_within}
 use Rattle.fixed_math.proofs.Signed.{floor_from_low, floor_to_high, mul_mono, mul_anti}
-use Rattle.geometry.specs.Fractions.{IsBetweenEnds, IsCut}
+use Rattle.geometry.specs.Fractions.{IsBetweenEnds, IsFraction}
 use Rattle.rc_base.specs.Drawing.Pieces.{is_cuttable, is_in_front, clip_bound}
 use Rattle.rc_base.specs.declared.window.ClipVertex.{ClipVertex}
 
@@ -71,7 +71,7 @@ unfolding is_in_front
 behind_is c e = grind (arith, ints)
 
 -- the part of an edge that is in front, of the whole edge
-pub cut_is : (a b : ClipVertex) (part whole : ℤ) → is_in_front a ≡ true → is_in_front b ≡ false → is_cuttable a ≡ true → part ≡ a.w -ℤ pos 256 → whole ≡ a.w -ℤ b.w → IsCut part whole
+pub cut_is : (a b : ClipVertex) (part whole : ℤ) → is_in_front a ≡ true → is_in_front b ≡ false → is_cuttable a ≡ true → part ≡ a.w -ℤ pos 256 → whole ≡ a.w -ℤ b.w → IsFraction part whole
 cut_is a b part whole front behind small e f =
     let p = front_is a front in
     let q = behind_is b behind in

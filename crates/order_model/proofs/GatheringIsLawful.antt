@@ -15,7 +15,7 @@ use Rattle.rc_base.specs.declared.sync.SyncLists.{SyncLists}
 use Rattle.rc_base.specs.declared.sync.WaitAt.{WaitAt}
 use Rattle.rc_base.specs.declared.window.Layout.{Layout}
 use Rattle.order_model.specs.Gathering.{HasArrived, LegalBooksHaveLegalJournals, OverBooksAreMaximal, OverBooksWaitAlike}
-use Rattle.order_model.specs.Log.{Job, job_place, IsNext, AreSent, waits_in, Replays, StandsAt, IsComplete, jobs_after}
+use Rattle.order_model.specs.Log.{Job, job_place, IsNext, AreJobsOf, waits_in, Replays, StandsAt, IsComplete, jobs_after}
 use Rattle.order_model.specs.Log.Job.{Wait}
 use Rattle.order_model.specs.Sent.{jobs_of, IsRecordOf}
 use Rattle.order_model.specs.Standing.{Progress, IsUnderWay, IsDone, cursor_of}
@@ -97,7 +97,7 @@ no_jobs [] n h e = refl
 no_jobs (j ∷ js) n h e = absurd (omega (arith, h.1, e))
 
 -- the log of a tile that is under way and done is complete
-log_complete : (syncs : SyncLists) (js : List Entry) (jobs : ℕ → List Job) (p : Progress) → AreSent syncs jobs → IsLegal syncs js → IsUnderWay syncs js jobs p → IsDone syncs js p
+log_complete : (syncs : SyncLists) (js : List Entry) (jobs : ℕ → List Job) (p : Progress) → AreJobsOf syncs jobs → IsLegal syncs js → IsUnderWay syncs js jobs p → IsDone syncs js p
     → IsComplete syncs js jobs p.log
 log_complete syncs js jobs p sent legal h done =
     let ms = entries_of syncs js in

@@ -7,7 +7,7 @@ use Rattle.rc_base.specs.Orders.Order.{PlacedEntry, entry_at, entries_from}
 use Rattle.rc_base.specs.declared.sync.Entry.{Entry}
 use Rattle.rc_base.specs.declared.sync.SyncLists.{SyncLists}
 use Rattle.order_model.specs.Laws.{AreOfClients}
-use Rattle.order_model.specs.Log.{Job, AreSent, without, ReplaysFrom, Replays, jobs_after, entries_after}
+use Rattle.order_model.specs.Log.{Job, AreJobsOf, without, ReplaysFrom, Replays, jobs_after, entries_after}
 use Rattle.order_model.specs.Standing.{cursor_of, performed_in}
 use Rattle.order_model.specs.declared.record.LogEntry.{LogEntry}
 use Rattle.order_model.specs.declared.record.LogEntry.TheVariants.{Took, Performed}
@@ -67,7 +67,7 @@ come_from syncs s cursor (e ∷ js) jobs (Performed ∷ log) h none legal r =
       end_is = k.end_is;
     }
 
-pub has_come : (syncs : SyncLists) (js : List Entry) (jobs : ℕ → List Job) (log : List LogEntry) → AreSent syncs jobs → IsLegal syncs js → Replays syncs js jobs log
+pub has_come : (syncs : SyncLists) (js : List Entry) (jobs : ℕ → List Job) (log : List LogEntry) → AreJobsOf syncs jobs → IsLegal syncs js → Replays syncs js jobs log
     → HasCome syncs (start syncs) js jobs log
 has_come syncs js jobs log sent legal r =
     come_from syncs (start syncs) (λ c. 0) js jobs log (record { rising = sent.rising; all = sent.all }) (ops_past syncs) legal r

@@ -10,7 +10,7 @@ use Rattle.rc_base.specs.declared.sync.Entry.{Entry}
 use Rattle.rc_base.specs.declared.sync.Name.{Name}
 use Rattle.rc_base.specs.declared.sync.SyncLists.{SyncLists}
 use Rattle.plain_lemmas.proofs.Lists.{drop_is_item_first}
-use Rattle.order_model.specs.Counted.{used_by, place_or_end, AreUsed, IsCounted, logged_behind}
+use Rattle.order_model.specs.Counted.{used_by, place_or_end, AreUsed, IsOrderMade, logged_behind}
 use Rattle.order_model.specs.Log.{logged}
 use Rattle.order_model.specs.declared.record.LogEntry.{LogEntry}
 use Rattle.order_model.specs.declared.record.LogEntry.TheVariants.{Performed}
@@ -71,7 +71,7 @@ zeros n c = elim (cases_lt c n) [
 ]
 
 -- where nothing is read
-pub counted_first : (syncs : SyncLists) (js : List Entry) (k : ℕ) (used counts : List ℕ) (o : List Name) → k ≡ 0 → used ≡ replicate 8 0 → counts ≡ replicate 256 0 → o ≡ [] → IsCounted syncs js k used counts o
+pub counted_first : (syncs : SyncLists) (js : List Entry) (k : ℕ) (used counts : List ℕ) (o : List Name) → k ≡ 0 → used ≡ replicate 8 0 → counts ≡ replicate 256 0 → o ≡ [] → IsOrderMade syncs js k used counts o
 counted_first syncs js k used counts o first none none' new = record {
   within = omega arith;
   clients = ap length none;

@@ -12,7 +12,7 @@ use Rattle.rc_base.specs.declared.sync.Name.{Name}
 use Rattle.rc_base.specs.declared.sync.SyncLists.{SyncLists}
 use Rattle.rc_base.specs.declared.sync.WaitAt.{WaitAt}
 use Rattle.order_model.specs.Laws.{AreOfClients}
-use Rattle.order_model.specs.Log.{Job, waits_in, AreSent, IsNext, without, ReplaysFrom, Replays, entries_after, IsComplete, IsLawfulRecord, logged, recorded_order, job_place}
+use Rattle.order_model.specs.Log.{Job, waits_in, AreJobsOf, IsNext, without, ReplaysFrom, Replays, entries_after, IsComplete, IsLawfulRecord, logged, recorded_order, job_place}
 use Rattle.order_model.specs.Log.Job.{Work, Wait}
 use Rattle.order_model.specs.declared.record.LogEntry.{LogEntry}
 use Rattle.order_model.specs.declared.record.LogEntry.TheVariants.{Took, Performed}
@@ -162,7 +162,7 @@ made_log syncs s cursor jobs (e ∷ js) (Performed ∷ log) o none legal r done 
     ∙ made_log syncs s' mid (without (λ c. is_some ((entry_at syncs s e).at c)) jobs) js log (o ++ ones) (past_after syncs s e none) legal.1 r.1 done h'
     ∙ append_assoc o ones rest
 
-pub recorded_order_permitted : (syncs : SyncLists) (js : List Entry) (jobs : ℕ → List Job) (log : List LogEntry) → IsWellFormed syncs → IsLegal syncs js → AreSent syncs jobs
+pub recorded_order_permitted : (syncs : SyncLists) (js : List Entry) (jobs : ℕ → List Job) (log : List LogEntry) → IsWellFormed syncs → IsLegal syncs js → AreJobsOf syncs jobs
     → Replays syncs js jobs log → IsComplete syncs js jobs log → IsPermitted syncs js (recorded_order syncs js log)
 recorded_order_permitted syncs js jobs log well legal sent r complete =
     let s = start syncs in
@@ -171,7 +171,7 @@ recorded_order_permitted syncs js jobs log well legal sent r complete =
     subst (IsPermitted syncs js) (sym (made_log syncs s (λ c. 0) jobs js log [] (ops_past syncs) legal r complete.entries zeros))
     (steps_permitted syncs js (steps_of syncs s js log) well legal (right_log syncs s (λ c. 0) jobs js log h (ops_past syncs) legal r complete.entries))
 
-pub lawful_record_permitted : (syncs : SyncLists) (tiles : ℕ) (jobs : ℕ → ℕ → List Job) (kept : Record) → IsWellFormed syncs → ((tile : ℕ) → AreSent syncs (λ client. jobs client tile))
+pub lawful_record_permitted : (syncs : SyncLists) (tiles : ℕ) (jobs : ℕ → ℕ → List Job) (kept : Record) → IsWellFormed syncs → ((tile : ℕ) → AreJobsOf syncs (λ client. jobs client tile))
     → IsLawfulRecord syncs tiles jobs kept → (tile : ℕ) (log : List LogEntry) → slice_get kept.logs tile ≡ Some log
     → IsPermitted syncs kept.journal (recorded_order kept.syncs kept.journal log)
 lawful_record_permitted syncs tiles jobs kept well sent h tile log is =

@@ -20,7 +20,7 @@ use Rattle.rc_base.specs.declared.sync.SyncRow.{SyncRow}
 use Rattle.rc_base.specs.declared.sync.WaitAt.{WaitAt}
 use Rattle.rc_base.specs.declared.window.Layout.{Layout}
 use Rattle.scene_lemmas.proofs.Scenes.{scene_client_count}
-use Rattle.order_model.specs.Log.{Job, waits_in, AreSent, job_place}
+use Rattle.order_model.specs.Log.{Job, waits_in, AreJobsOf, job_place}
 use Rattle.order_model.specs.Log.Job.{Work, Wait}
 use Rattle.order_model.specs.Sent.{job_of, jobs_of}
 use Rattle.order_model.proofs.ClientsBeyond.{ops_past, length_past}
@@ -109,7 +109,7 @@ ops_are scene client = elim (cases_lt client (length scene.streams)) [
   | inr ge ↦ ops_past (sync_lists_of scene) client (omega (arith, scene_client_count scene, ge)) ∙ ap (waits_below scene client) (sym (no_stream scene client ge))
 ]
 
-pub scene_jobs_are_sent : (scene : Scene) (l : Layout) (tile : ℕ) → AreSent (sync_lists_of scene) (λ client. jobs_of scene l client tile)
+pub scene_jobs_are_sent : (scene : Scene) (l : Layout) (tile : ℕ) → AreJobsOf (sync_lists_of scene) (λ client. jobs_of scene l client tile)
 scene_jobs_are_sent scene l tile = record {
   rising = λ c.
       let n = length (stream_of scene c) in

@@ -29,7 +29,7 @@ abbrev pub AreCounts : List Name → List ℕ → Type 0
 AreCounts order counts = (client : ℕ) → names_in client order ≡ slice_index counts client
 
 -- so many entries of a journal are read, and this order is made: the operations that each client has used, and the names of each in the order
-pub record IsCounted (syncs : SyncLists) (journal : List Entry) (read : ℕ) (used counts : List ℕ) (order : List Name) : Type 0 where
+pub record IsOrderMade (syncs : SyncLists) (journal : List Entry) (read : ℕ) (used counts : List ℕ) (order : List Name) : Type 0 where
   pub within : read ≤ length journal
   pub clients : length used ≡ 8
   pub operations : AreUsed syncs (take read journal) used

@@ -20,7 +20,7 @@ use Rattle.rc_base.specs.declared.window.Layout.{Layout}
 use Rattle.rc_base.specs.declared.window.Pixel.{Pixel}
 use Rattle.order_model.specs.Commuting.{Drawing, IsLocal, pixel_after}
 use Rattle.order_model.specs.Full.{IsFull}
-use Rattle.order_model.specs.Log.{Job, AreSent, Replays, IsComplete, IsLawfulRecord, recorded_order}
+use Rattle.order_model.specs.Log.{Job, AreJobsOf, Replays, IsComplete, IsLawfulRecord, recorded_order}
 use Rattle.order_model.specs.Report.{tile_order, frame_count, image_text_of}
 use Rattle.order_model.specs.Sent.{jobs_of, IsRecordOf}
 use Rattle.order_model.specs.declared.record.LogEntry.{LogEntry}
@@ -95,12 +95,12 @@ OneClientHasOneOrder =
 
 abbrev pub RecordedOrdersArePermitted : Type 0
 RecordedOrdersArePermitted =
-    (syncs : SyncLists) (journal : List Entry) (jobs : ℕ → List Job) (log : List LogEntry) → IsWellFormed syncs → IsLegal syncs journal → AreSent syncs jobs
+    (syncs : SyncLists) (journal : List Entry) (jobs : ℕ → List Job) (log : List LogEntry) → IsWellFormed syncs → IsLegal syncs journal → AreJobsOf syncs jobs
     → Replays syncs journal jobs log → IsComplete syncs journal jobs log → IsPermitted syncs journal (recorded_order syncs journal log)
 
 abbrev pub LawfulRecordsArePermitted : Type 0
 LawfulRecordsArePermitted =
-    (syncs : SyncLists) (tiles : ℕ) (jobs : ℕ → ℕ → List Job) (kept : Record) → IsWellFormed syncs → ((tile : ℕ) → AreSent syncs (λ client. jobs client tile))
+    (syncs : SyncLists) (tiles : ℕ) (jobs : ℕ → ℕ → List Job) (kept : Record) → IsWellFormed syncs → ((tile : ℕ) → AreJobsOf syncs (λ client. jobs client tile))
     → IsLawfulRecord syncs tiles jobs kept → (tile : ℕ) (log : List LogEntry) → slice_get kept.logs tile ≡ Some log
     → IsPermitted syncs kept.journal (recorded_order kept.syncs kept.journal log)
 
@@ -127,14 +127,14 @@ OrderedScenesHaveOneFrame =
 abbrev pub LawfulRecordsShowOneImage : Type 0
 LawfulRecordsShowOneImage =
     (scene : Scene) (tiles : ℕ) (jobs : ℕ → ℕ → List Job) (kept : Record) → IsWellFormed (sync_lists_of scene)
-    → ((tile : ℕ) → AreSent (sync_lists_of scene) (λ client. jobs client tile)) → IsLawfulRecord (sync_lists_of scene) tiles jobs kept → IsOrderedScene scene kept.journal
+    → ((tile : ℕ) → AreJobsOf (sync_lists_of scene) (λ client. jobs client tile)) → IsLawfulRecord (sync_lists_of scene) tiles jobs kept → IsOrderedScene scene kept.journal
     → (tile : ℕ) (log : List LogEntry) → slice_get kept.logs tile ≡ Some log → (order : List Name) → IsPermitted (sync_lists_of scene) kept.journal order
     → (k x y : ℕ) → x < scene.decl.width → y < scene.decl.height
     → frame_pixel scene (recorded_order kept.syncs kept.journal log) k (pos x) (pos y) ≡ frame_pixel scene order k (pos x) (pos y)
 
 -- what each tile gets of a scene rises, and has exactly the scene's operations
 abbrev pub SceneJobsAreSent : Type 0
-SceneJobsAreSent = (scene : Scene) (l : Layout) (tile : ℕ) → AreSent (sync_lists_of scene) (λ client. jobs_of scene l client tile)
+SceneJobsAreSent = (scene : Scene) (l : Layout) (tile : ℕ) → AreJobsOf (sync_lists_of scene) (λ client. jobs_of scene l client tile)
 
 -- the order that a tile of a lawful record of a scene records is permitted
 abbrev pub RecordsOfScenesArePermitted : Type 0

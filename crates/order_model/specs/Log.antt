@@ -30,7 +30,7 @@ waits_in (Work place ∷ jobs) = waits_in jobs
 waits_in (Wait place ∷ jobs) = place ∷ waits_in jobs
 
 -- the jobs of each client rise in their places, and all operations of the client are among them
-pub record AreSent (syncs : SyncLists) (jobs : ℕ → List Job) : Type 0 where
+pub record AreJobsOf (syncs : SyncLists) (jobs : ℕ → List Job) : Type 0 where
   pub rising : (client : ℕ) → AreRising 0 (map job_place (jobs client)) (length_of syncs client)
   pub all : (client : ℕ) → waits_in (jobs client) ≡ places_of (ops_of syncs client)
 

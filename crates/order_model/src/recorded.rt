@@ -3,7 +3,7 @@ ghost use Rattle.std.specs.Prelude.{◌≡◌, ◌+◌, ◌-◌, ◌<◌, ◌≤
 ghost use Rattle.rc_base.specs.Orders.Journal.{is_member, reach_of, start};
 ghost use Rattle.rc_base.specs.Orders.Order.{names_from, added, all_added};
 ghost use Rattle.rc_base.specs.Orders.Sync.{client_count};
-ghost use Rattle.order_model.specs.Counted.{place_or_end, AreCounts, IsCounted, logged_behind};
+ghost use Rattle.order_model.specs.Counted.{place_or_end, AreCounts, IsOrderMade, logged_behind};
 ghost use Rattle.order_model.specs.Log.{logged, recorded_order};
 ghost use Rattle.order_model.specs.declared.record.LogEntry.{LogEntry as Line};
 ghost use Rattle.order_model.specs.declared.record.LogEntry.TheVariants.{Performed};
@@ -112,8 +112,8 @@ fn perform(
     journal: &[Entry],
 ) -> Result<(), OutOfMemory>
     requires clients { client_count syncs.now ≤ 8 }
-    requires counted { IsCounted syncs.now journal.now recording.old.read recording.old.used recording.old.counts recording.old.order }
-    ensures counted { OnOk result (IsCounted syncs.now journal.now recording.new.read recording.new.used recording.new.counts recording.new.order) }
+    requires counted { IsOrderMade syncs.now journal.now recording.old.read recording.old.used recording.old.counts recording.old.order }
+    ensures counted { OnOk result (IsOrderMade syncs.now journal.now recording.new.read recording.new.used recording.new.counts recording.new.order) }
     ensures order { OnOk result ((log : List Line) → logged_behind syncs.now journal.now recording.new.read log recording.new.order ≡ logged_behind syncs.now journal.now recording.old.read (Performed ∷ log) recording.old.order) }
 {
     if recording.read >= journal.len() {

@@ -4,9 +4,9 @@ use Rattle.std.specs.List.{AllByRecursion}
 use Rattle.rc_base.specs.declared.command.Command.{Command}
 use Rattle.rc_base.specs.Formats.Commands.{Kind, Value, Fields, IsValue, AreValues, IsCommand, opcode_of, kinds_of, fields_of}
 use Rattle.rc_base.specs.Formats.Commands.Kind.{Byte, Half, Word, Code, Bytes, Words, Image}
-use Rattle.packet_bytes.specs.Texels.{HasTexels, HaveTexels, IsWhole, IsTyped, AreTyped, HasType}
+use Rattle.packet_bytes.specs.Texels.{HasPictureTexels, HaveTexels, IsWhole, IsTyped, AreTyped, HasType}
 
-is_value : (k : Kind) (v : Value k) → IsTyped k v → HasTexels k v → IsValue k v
+is_value : (k : Kind) (v : Value k) → IsTyped k v → HasPictureTexels k v → IsValue k v
 is_value Byte v t h = t
 is_value Half v t h = t
 is_value Word v t h = t

@@ -7,18 +7,18 @@ use Rattle.rc_base.specs.Formats.Commands.{Kind, Value, Fields, AreBytes, opcode
 use Rattle.rc_base.specs.Formats.Commands.Kind.{Byte, Half, Word, Code, Bytes, Words, Image}
 
 -- four bytes for each texel of a picture
-abbrev pub HasTexels : (k : Kind) → Value k → Type 0
-HasTexels Image p = length p.texels ≡ 4 * (p.w * p.h)
-HasTexels Byte n = Unit {0}
-HasTexels Half n = Unit {0}
-HasTexels Word z = Unit {0}
-HasTexels (Code count) n = Unit {0}
-HasTexels (Bytes count) ns = Unit {0}
-HasTexels (Words count) zs = Unit {0}
+abbrev pub HasPictureTexels : (k : Kind) → Value k → Type 0
+HasPictureTexels Image p = length p.texels ≡ 4 * (p.w * p.h)
+HasPictureTexels Byte n = Unit {0}
+HasPictureTexels Half n = Unit {0}
+HasPictureTexels Word z = Unit {0}
+HasPictureTexels (Code count) n = Unit {0}
+HasPictureTexels (Bytes count) ns = Unit {0}
+HasPictureTexels (Words count) zs = Unit {0}
 
 abbrev pub HaveTexels : (ks : List Kind) → Fields ks → Type 0
 HaveTexels [] x = Unit {0}
-HaveTexels (k ∷ ks) x = HasTexels k x.0 × HaveTexels ks x.1
+HaveTexels (k ∷ ks) x = HasPictureTexels k x.0 × HaveTexels ks x.1
 
 abbrev pub IsWhole : Command → Type 0
 IsWhole c = HaveTexels (kinds_of (opcode_of c)) (fields_of c)

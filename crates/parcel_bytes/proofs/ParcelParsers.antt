@@ -16,11 +16,11 @@ use Rattle.byte_codec.specs.Reading.{both, read_byte, read_unsigned, read_word, 
 use Rattle.element_table.specs.Kinds.{kind_of, kind_of_value}
 use Rattle.element_table.specs.declared.kind.ValueKind.{ValueKind}
 use Rattle.element_table.specs.declared.kind.ValueKind.TheVariants.{Matrix, Area, Range, Flag, Code, Pair, Mask, Color, Depth, Mode, Image}
-use Rattle.parcel_bytes.specs.Spelling.{flag_byte, flag_bytes, color_bytes, value_bytes, set_bytes, vertex_bytes, part_bytes, op_bytes, act_bytes, parcel_bytes, AreWords, IsRun, IsColor, IsValue, IsSet, IsVertex, IsPart, IsOp, IsAct, IsParcel}
+use Rattle.parcel_bytes.specs.Spelling.{flag_byte, flag_bytes, color_bytes, value_bytes, set_bytes, vertex_bytes, part_bytes, op_bytes, act_bytes, parcel_bytes, AreWords, IsColor, IsValue, IsSet, IsVertex, IsPart, IsOp, IsAct, IsParcel}
 use Rattle.parcel_bytes.specs.Reading.{second, read_times, flag_from, read_flag, make_color, read_color, read_texels, make_image, make_matrix, read_value, element_from, make_set, read_set, make_vertex, read_vertex, make_part, read_part, op_from, zero_from, make_swap, read_op_name, read_op, act_tag_from, make_draw, read_vertices, nothing, make_end, read_act_body, read_act, make_parcel, read_sets, read_parcel, ActTag, OpKind}
 use Rattle.parcel_bytes.specs.Reading.OpKind.{BarrierKind, SemPKind, SemVKind, SwapKind}
 use Rattle.parcel_bytes.specs.Reading.ActTag.{DrawTag, ClearTag, SharedTag, SyncTag, EndTag}
-use Rattle.byte_codec.specs.NumberCodecs.{one_byte, IsByte, byte_codec, number_codec, wide16, wide32, word_codec, run_codec}
+use Rattle.byte_codec.specs.NumberCodecs.{one_byte, IsByte, IsRun, byte_codec, number_codec, wide16, wide32, word_codec, run_codec}
 use Rattle.parcel_bytes.proofs.Parsers.{Reader, Parser, Tags, codec_parser, sized_parser, convert_parser, convert_reader, convert_again, tag_parser, times_parser, counted_parser, AreAll, counted_bytes, AreCounted}
 
 -- ---- numbers

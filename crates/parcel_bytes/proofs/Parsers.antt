@@ -7,7 +7,7 @@ use Rattle.rc_base.specs.Formats.Commands.{AreBytes}
 use Rattle.byte_codec.specs.declared.fault.Form.{Form}
 use Rattle.byte_codec.specs.declared.fault.Form.TheVariants.{BadCount, Unknown, Truncated}
 use Rattle.byte_codec.specs.Reading.{◌>>=◌, sized, convert, known, cons}
-use Rattle.parcel_bytes.specs.Reading.{read_tag, second, read_times, counted}
+use Rattle.parcel_bytes.specs.Reading.{read_tag, second, read_times, read_counted}
 use Rattle.byte_codec.specs.Codec.{AreBytes-behind, bind_ok, bind_err, ok_no_err, CutOff, Codec}
 
 -- the bytes before it begin a spelling, and reading fails at it whatever follows
@@ -316,7 +316,7 @@ module _ {A : Type 0} {p : List ℕ → Result (A × List ℕ) Form} {s : A → 
 
   -- their number first
   pub counted_parser : (count : List ℕ → Result (ℕ × List ℕ) Form) (num : ℕ → List ℕ) (limit : ℕ) → Parser count num (λ n. n < limit) → Parser p s F
-      → Parser (counted count p) (counted_bytes s num) (AreCounted F limit)
+      → Parser (read_counted count p) (counted_bytes s num) (AreCounted F limit)
   counted_parser count num limit numbers one =
       convert_parser second (counted_bytes s num) (AreCounted F limit) (sized_parser numbers (λ n _. times_parser one n))
       (λ x fits. (ap (λ (n : ℕ). num n ++ flat_map s x.1) fits.1.0, (subst (λ (n : ℕ). n < limit) (sym fits.1.0) fits.0, fits.1.1)))

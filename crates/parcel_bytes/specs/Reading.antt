@@ -34,8 +34,8 @@ read_times p zero bytes = Ok ([], bytes)
 read_times p (suc n) bytes = convert cons (both p (read_times p n)) bytes
 
 -- their number first
-abbrev pub counted : {A : Type 0} → (List ℕ → Result (ℕ × List ℕ) Form) → (List ℕ → Result (A × List ℕ) Form) → List ℕ → Result (List A × List ℕ) Form
-counted count p = convert second (sized count (read_times p))
+abbrev pub read_counted : {A : Type 0} → (List ℕ → Result (ℕ × List ℕ) Form) → (List ℕ → Result (A × List ℕ) Form) → List ℕ → Result (List A × List ℕ) Form
+read_counted count p = convert second (sized count (read_times p))
 
 -- ---- values
 
@@ -141,7 +141,7 @@ abbrev pub make_draw : ℕ × List Vertex → Act
 make_draw x = act.Draw (record { mode = x.0; vertices = x.1 })
 
 unfoldable pub read_vertices : List ℕ → Result (List Vertex × List ℕ) Form
-read_vertices = counted (read_unsigned w16) read_vertex
+read_vertices = read_counted (read_unsigned w16) read_vertex
 
 abbrev pub nothing : List ℕ → Result (Unit {0} × List ℕ) Form
 nothing bytes = Ok (tt, bytes)
@@ -165,7 +165,7 @@ abbrev pub make_parcel : ℕ × (List ElementSet × Act) → Parcel
 make_parcel x = record { place = x.0; sets = x.1.0; act = x.1.1 }
 
 unfoldable pub read_sets : List ℕ → Result (List ElementSet × List ℕ) Form
-read_sets = counted read_byte read_set
+read_sets = read_counted read_byte read_set
 
 unfoldable pub read_parcel : List ℕ → Result (Parcel × List ℕ) Form
 read_parcel = convert make_parcel (both (read_unsigned w32) (both read_sets read_act))

@@ -2,7 +2,6 @@
 use Rattle.std.specs.Prelude.{◌≡◌, ℕ, ℤ, ◌*◌, ◌<◌, ◌≤◌, ◌^◌, Bool, true, false, List, [], ◌∷◌, ◌++◌, length, FitsSigned}
 use Rattle.std.specs.List.{flat_map, AllByRecursion}
 use Rattle.std.specs.Int.{w32}
-use Rattle.rc_base.specs.Formats.Commands.{AreBytes}
 use Rattle.rc_base.specs.Formats.Spelling.{half, long, word}
 use Rattle.rc_base.specs.Contexts.Elements.{element_count}
 use Rattle.rc_base.specs.declared.command.Part.{Part}
@@ -17,6 +16,7 @@ use Rattle.rc_base.specs.declared.state.Vertex.{Vertex}
 use Rattle.rc_base.specs.declared.sync.SyncOp.{SyncOp}
 use Rattle.rc_base.specs.declared.sync.SyncOp.TheVariants as sync
 use Rattle.element_table.specs.Kinds.{kind_of, kind_of_value}
+use Rattle.byte_codec.specs.NumberCodecs.{IsRun}
 
 -- ---- values
 
@@ -85,10 +85,6 @@ parcel_bytes p = long p.place ++ ((length p.sets ∷ flat_map set_bytes p.sets) 
 -- so many numbers of 32 bits
 abbrev pub AreWords : ℕ → List ℤ → Type 0
 AreWords n zs = (length zs ≡ n) × AllByRecursion (FitsSigned w32) zs
-
--- so many bytes
-abbrev pub IsRun : ℕ → List ℕ → Type 0
-IsRun n bytes = (length bytes ≡ n) × AreBytes bytes
 
 -- each channel is a byte
 abbrev pub IsColor : Rgba → Type 0

@@ -10,7 +10,7 @@ use Rattle.rc_base.specs.Formats.Commands.{AreBytes}
 use Rattle.rc_base.specs.declared.image.Image.{Image}
 use Rattle.ppm_out.specs.declared.header.Due.{Due}
 use Rattle.ppm_out.specs.declared.header.Due.TheVariants as due
-use Rattle.ppm_out.specs.Rest.{IsSide, Byte, Blank, Blanks, Side, Digits, Known, KnownSides, Pixels, Maximum, Height, Width, width_of, height_of, Ends, IsSound}
+use Rattle.ppm_out.specs.Rest.{IsSide, Byte, Blank, Blanks, Side, Digits, Known, KnownSides, Pixels, Maximum, Height, Width, width_of, height_of, Ends, HasReadSides}
 
 -- ---- an image doesn't end before its pixels
 
@@ -124,7 +124,7 @@ pub record Ended (d : Due) : Type 0 where
 ended : (d : Due) (m : Image) → Word (Ends d) m → Ended d
 ended d m w = record { bytes = w.0; image = m; ends = w.1 }
 
-pub can_end : (d : Due) → IsSound d → Ended d
+pub can_end : (d : Due) → HasReadSides d → Ended d
 can_end due.Letter sound =
     let one : IsSide 1 = (omega arith, omega arith) in
     ended due.Letter (black 1 1) (byte_word (Byte 54 (Blank (Blanks Width))) (black 1 1) (byte_word (Blank (Blanks Width)) (black 1 1) (blank_word (Blanks Width) (black 1 1) (width_word 1 1 one one)) 54) 80)

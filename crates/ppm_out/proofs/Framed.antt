@@ -8,7 +8,7 @@ use Rattle.rc_base.specs.Formats.Commands.{AreBytes}
 use Rattle.rc_base.specs.Formats.Netpbm.{p6_text, SpellsImage, IsNoImage}
 use Rattle.rc_base.specs.declared.image.Image.{Image}
 use Rattle.ppm_out.specs.declared.header.Header.{Header}
-use Rattle.ppm_out.specs.Pictures.{IsWhole}
+use Rattle.ppm_out.specs.Pictures.{IsWholeImage}
 use Rattle.ppm_out.specs.Headers.{IsHeader}
 use Rattle.ppm_out.proofs.Ending.{zeros_are_bytes}
 
@@ -117,7 +117,7 @@ module _ (bytes : List ℕ) where
 
 -- ---- what is written
 
-pub written_is_spelled : (m : Image) → IsWhole m → AreBytes m.rgb → SpellsImage (p6_text m) m
+pub written_is_spelled : (m : Image) → IsWholeImage m → AreBytes m.rgb → SpellsImage (p6_text m) m
 written_is_spelled m whole channels = record {
   first = 10 ∷ [];
   second = 32 ∷ [];

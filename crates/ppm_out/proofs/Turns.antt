@@ -7,7 +7,7 @@ use Rattle.rc_base.specs.declared.image.Image.{Image}
 use Rattle.ppm_out.specs.declared.header.Due.{Due}
 use Rattle.ppm_out.specs.declared.header.Next.{Next}
 use Rattle.ppm_out.specs.declared.header.Next.TheVariants as next
-use Rattle.ppm_out.specs.Rest.{IsSide, IsDigit, IsFirstDigit, IsNextDigit, Byte, Blank, Blanks, Side, Digits, Known, Ends, IsSound, Follows}
+use Rattle.ppm_out.specs.Rest.{IsSide, IsDigit, IsFirstDigit, IsNextDigit, Byte, Blank, Blanks, Side, Digits, Known, Ends, HasReadSides, Follows}
 use Rattle.ppm_out.proofs.Steps.{blank_no_digit, under, joined, byte_on, blank_on, blank_off, blanks_on, blanks_end, side_first, side_on, digits_on, digits_over, digits_end}
 
 module _ (K : List ℕ → Image → Type 0) (m : Image) (b : ℕ) (xs : List ℕ) (side : Image → ℕ) where
@@ -54,7 +54,7 @@ module _ (K : List ℕ → Image → Type 0) (m : Image) (b c : ℕ) (xs : List 
   pub byte_goes_on : b ≡ c → Byte c K (b ∷ xs) m ↔ K xs m
   byte_goes_on is = subst (λ (a : ℕ). Byte a K (b ∷ xs) m ↔ K xs m) is (byte_on K m b xs)
 
-pub expected : (d : Due) (b c : ℕ) (after : Due) (r : Next) → r ≡ (if b == c then next.Header after else next.Nothing) → IsSound after
+pub expected : (d : Due) (b c : ℕ) (after : Due) (r : Next) → r ≡ (if b == c then next.Header after else next.Nothing) → HasReadSides after
     → ((xs : List ℕ) (m : Image) → b ≡ c → Ends d (b ∷ xs) m ↔ Ends after xs m) → ((xs : List ℕ) (m : Image) → Ends d (b ∷ xs) m → b ≡ c) → Follows d b r
 expected d b c after r is sound on off = elim (cases_Bool (b == c)) [
   | inl same ↦ subst (Follows d b) (sym (is ∙ ap (λ (t : Bool). if t then next.Header after else next.Nothing) same)) (sound, λ xs m. on xs m (eqb-true b c same))

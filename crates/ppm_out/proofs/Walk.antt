@@ -10,7 +10,7 @@ use Rattle.ppm_out.specs.declared.header.Due.{Due}
 use Rattle.ppm_out.specs.declared.header.Due.TheVariants as due
 use Rattle.ppm_out.specs.declared.header.Next.TheVariants as next
 use Rattle.ppm_out.specs.declared.header.Header.{Header}
-use Rattle.ppm_out.specs.Rest.{KnownSides, Pixels, Ends, IsSound, Follows}
+use Rattle.ppm_out.specs.Rest.{KnownSides, Pixels, Ends, HasReadSides, Follows}
 use Rattle.ppm_out.specs.Headers.{IsHeader}
 use Rattle.ppm_out.proofs.Steps.{joined}
 use Rattle.ppm_out.proofs.Ending.{unended, pixels_unended, can_end}
@@ -18,7 +18,7 @@ use Rattle.ppm_out.proofs.Spelled.{spelled}
 
 -- a front was read: it is an image exactly with what ends it, and no shorter front is one
 pub record Reads (bytes : List ℕ) (i : ℕ) (d : Due) : Type 0 where
-  pub sound : IsSound d
+  pub sound : HasReadSides d
   pub goes_on : (xs : List ℕ) (m : Image) → SpellsImage (take i bytes ++ xs) m ↔ Ends d xs m
   pub none : (n : ℕ) (m : Image) → n ≤ i → SpellsImage (take n bytes) m → ⊥
 

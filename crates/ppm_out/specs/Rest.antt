@@ -96,22 +96,22 @@ Ends (due.SecondFive width height) = KnownSides width height (Byte 53 (Blank Pix
 Ends (due.LastBlank width height) = KnownSides width height (Blank Pixels)
 
 -- the sides that were read are sides
-abbrev pub IsSound : Due → Type 0
-IsSound due.Letter = Unit {0}
-IsSound due.Six = Unit {0}
-IsSound due.Blank = Unit {0}
-IsSound due.Width = Unit {0}
-IsSound (due.WidthDigit width) = IsSide width
-IsSound (due.Height width) = IsSide width
-IsSound (due.HeightDigit width height) = IsSide width × IsSide height
-IsSound (due.Maximum width height) = IsSide width × IsSide height
-IsSound (due.FirstFive width height) = IsSide width × IsSide height
-IsSound (due.SecondFive width height) = IsSide width × IsSide height
-IsSound (due.LastBlank width height) = IsSide width × IsSide height
+abbrev pub HasReadSides : Due → Type 0
+HasReadSides due.Letter = Unit {0}
+HasReadSides due.Six = Unit {0}
+HasReadSides due.Blank = Unit {0}
+HasReadSides due.Width = Unit {0}
+HasReadSides (due.WidthDigit width) = IsSide width
+HasReadSides (due.Height width) = IsSide width
+HasReadSides (due.HeightDigit width height) = IsSide width × IsSide height
+HasReadSides (due.Maximum width height) = IsSide width × IsSide height
+HasReadSides (due.FirstFive width height) = IsSide width × IsSide height
+HasReadSides (due.SecondFive width height) = IsSide width × IsSide height
+HasReadSides (due.LastBlank width height) = IsSide width × IsSide height
 
 -- a byte leads from what is due to what is due next
 abbrev pub Follows : Due → ℕ → Next → Type 0
 Follows d b next.Nothing = (xs : List ℕ) (m : Image) → Ends d (b ∷ xs) m → ⊥
-Follows d b (next.Header after) = IsSound after × ((xs : List ℕ) (m : Image) → Ends d (b ∷ xs) m ↔ Ends after xs m)
+Follows d b (next.Header after) = HasReadSides after × ((xs : List ℕ) (m : Image) → Ends d (b ∷ xs) m ↔ Ends after xs m)
 Follows d b (next.Pixels width height) =
     IsSide width × IsSide height × ((xs : List ℕ) (m : Image) → Ends d (b ∷ xs) m ↔ KnownSides width height Pixels xs m)

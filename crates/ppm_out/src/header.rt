@@ -1,7 +1,7 @@
 //! The header of an image, read byte by byte.
 ghost use Rattle.std.specs.Prelude.{◌≡◌, ◌==◌, IfOk, IfErr, if◌then◌else◌};
 ghost use Rattle.rc_base.specs.Formats.Netpbm.{is_whitespace, IsNoImage};
-ghost use Rattle.ppm_out.specs.Rest.{IsSide, IsSound, Follows, IsFirstDigit, IsNextDigit};
+ghost use Rattle.ppm_out.specs.Rest.{IsSide, HasReadSides, Follows, IsFirstDigit, IsNextDigit};
 ghost use Rattle.ppm_out.specs.Headers.{IsHeader};
 ghost use Rattle.ppm_out.specs.declared.header.Due.TheVariants as due;
 ghost use Rattle.ppm_out.specs.declared.header.Next.TheVariants as next;
@@ -102,7 +102,7 @@ fn expect(byte: u8, wanted: u8, due: Due) -> Next
 impl Due {
     // What the byte leads to.
     fn after(self, byte: u8) -> Next
-        requires { IsSound self }
+        requires { HasReadSides self }
         ensures { Follows self byte result }
     {
         match self {

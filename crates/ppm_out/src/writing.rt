@@ -2,7 +2,7 @@
 ghost use Rattle.std.specs.Prelude.{◌≡◌, ◌++◌, IfOk, OnOk};
 ghost use Rattle.rc_base.specs.Formats.Commands.{AreBytes};
 ghost use Rattle.rc_base.specs.Formats.Netpbm.{p6_text, SpellsImage};
-ghost use Rattle.ppm_out.specs.Pictures.{IsWhole};
+ghost use Rattle.ppm_out.specs.Pictures.{IsWholeImage};
 
 use rc_base::command::Bytes;
 use rc_base::image::Image;
@@ -23,7 +23,7 @@ fn put_joined(text: &mut Vec<u8>, header: &[u8], rgb: &[u8]) -> Result<(), Alloc
 
 /// Puts the text of an image in place of what the room has, whose memory is kept. Where memory lacks the room may have a part of the text.
 pub fn put_image_text(alloc: Global, text: &mut Vec<u8>, image: &Image) -> Result<(), OutOfMemory>
-    requires { IsWhole image.now }
+    requires { IsWholeImage image.now }
     ensures text { OnOk result (text.new.items ≡ p6_text image.now) }
     // What is written is an image again.
     ensures spelled { OnOk result (SpellsImage text.new.items image.now) }
@@ -36,7 +36,7 @@ pub fn put_image_text(alloc: Global, text: &mut Vec<u8>, image: &Image) -> Resul
 
 /// The text of an image: `P6`, LF, width, space, height, LF, `255`, LF, and then r, g and b of each pixel, rows from the top.
 pub fn image_text(alloc: Global, image: &Image) -> Result<Bytes, OutOfMemory>
-    requires { IsWhole image.now }
+    requires { IsWholeImage image.now }
     ensures text { IfOk result (λ text. text ≡ p6_text image.now) }
     // What is written is an image again.
     ensures spelled { IfOk result (λ text. SpellsImage text image.now) }

@@ -19,7 +19,7 @@ use Rattle.race_check.specs.Finds.{IsFirst, IsFoundIn, OrBefore, cell_at, leads,
 use Rattle.race_check.specs.Outlines.{IsReach, no_reach}
 use Rattle.race_check.specs.Races.{OverlapsAt}
 use Rattle.race_check.specs.Touches.{AreTouched, IsFoundWhere, SomePasses, block_has, clear_has}
-use Rattle.race_check.specs.Uses.{AreTables, HasEffect, IsPixelOf, IsTexture, IsUnordered, PassesMarks, Passes, named, pixel_index, window_samples, touches_one}
+use Rattle.race_check.specs.Uses.{AreTables, HasEffect, IsPixelOf, IsTexture, IsUnordered, PassesMarks, PassesTables, named, pixel_index, window_samples, touches_one}
 use Rattle.race_check.specs.declared.found.Found.{Found}
 use Rattle.race_check.specs.declared.marks.Marks.{Marks}
 use Rattle.race_check.specs.declared.verdict.Spot.TheVariants.{Pixel, Shared}
@@ -36,7 +36,7 @@ clock_is lists n d ne =
 
 -- a name passes by one clock as by another that counts the same of other clients
 pub passes_as : {T : Type 0} (AreOf : List Name → T → Type 0) (f : Footprint (ℕ × ℕ)) (a b : ℕ → ℕ) (n : Name) (old new : T) (told : Option Found) → ((d : ℕ) → d ≢ n.client → a d ≡ b d)
-    → Passes AreOf f a n old new told → Passes AreOf f b n old new told
+    → PassesTables AreOf f a n old new told → PassesTables AreOf f b n old new told
 passes_as AreOf f a b n old new told e h = record {
   tables = h.tables;
   first = λ passed t. first_of (IsUnordered f a n passed) (IsUnordered f b n passed) told

@@ -16,7 +16,7 @@ use Rattle.happens_before.specs.Timelines.{clock_of}
 use Rattle.scene_lemmas.proofs.Numbered.{is_in_behind}
 use Rattle.race_check.specs.Races.{IsVerdict, IsFirstRace}
 use Rattle.race_check.specs.Finds.{AreUnused, IsFirst}
-use Rattle.race_check.specs.Uses.{named, AreTables, AreSized, IsBehind, IsPixelOf, IsTexture, IsUnordered, Passes, pixel_index}
+use Rattle.race_check.specs.Uses.{named, AreTables, AreSized, IsBehind, IsPixelOf, IsTexture, IsUnordered, PassesTables, pixel_index}
 use Rattle.race_check.specs.declared.found.Found.{Found}
 use Rattle.race_check.specs.declared.marks.Marks.{Marks}
 use Rattle.happens_before.specs.declared.timelines.Change.{Change}
@@ -95,7 +95,7 @@ names_at syncs journal order k n p at = record {
 
 module _ {T : Type 0} (AreOf : List Name → T → Type 0) (syncs : SyncLists) (journal : List Entry) (f : Footprint (ℕ × ℕ)) (lists : List (List Change)) (order : List Name) (k : ℕ) (n : Name) (old new : T)
     (told : Option Found) (p : IsPermitted syncs journal order) (exact : IsExact syncs journal (clock_of lists)) (at : slice_get order k ≡ Some n)
-    (h : IsPassed AreOf syncs journal f (take k order) old) (c : Passes AreOf f (clock_of lists n) n old new told) where
+    (h : IsPassed AreOf syncs journal f (take k order) old) (c : PassesTables AreOf f (clock_of lists n) n old new told) where
   names : NamesAt syncs journal order k n
   names = names_at syncs journal order k n p at
 

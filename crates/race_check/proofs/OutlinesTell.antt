@@ -13,7 +13,7 @@ use Rattle.rc_base.specs.declared.sync.Entry.{Entry}
 use Rattle.rc_base.specs.declared.sync.Name.{Name}
 use Rattle.rc_base.specs.declared.sync.SyncLists.{SyncLists}
 use Rattle.race_check.specs.Finds.{AreUnused, cell_at}
-use Rattle.race_check.specs.Outlines.{AreCountedIn, AreMarked, AreOutlined, FitWindow, IsAmong, IsCounted, IsReach, PassesOutlines, TellAll, no_reach, nowhere}
+use Rattle.race_check.specs.Outlines.{AreCountedIn, AreMarked, AreOutlined, FitWindow, IsAmong, CountsAll, IsReach, PassesOutlines, TellAll, no_reach, nowhere}
 use Rattle.race_check.specs.Races.{OverlapsAt}
 use Rattle.race_check.specs.Uses.{HasEffect, IsBehind, IsUnordered, named, touches_one}
 use Rattle.race_check.specs.declared.found.Found.{Found}
@@ -77,7 +77,7 @@ told_more uses count passed old new n r h client rising among m = record { size 
 -- ---- one name
 
 module _ (f : Footprint (ℕ × ℕ)) (width height : ℕ) (clock : List ℕ) (n : Name) (s : State) (e : Effect) (reach : Reach) (old new : Outlines) (effect : HasEffect f n width height s e)
-    (is : IsReach (λ x y. touches s e (pos x) (pos y)) (may_sample s e) (writes_shared e) width height reach) (counted : IsCounted clock reach old) where
+    (is : IsReach (λ x y. touches s e (pos x) (pos y)) (may_sample s e) (writes_shared e) width height reach) (counted : CountsAll clock reach old) where
   in_window : (p : ℕ × ℕ) → f.touches n p ≡ true → (p.0 < width) × (p.1 < height) × (touches s e (pos p.0) (pos p.1) ≡ true)
   in_window p t =
       let a = and_parts (nat_lt p.0 width && nat_lt p.1 height) (touches s e (pos p.0) (pos p.1)) (sym (effect.touches p) ∙ t) in

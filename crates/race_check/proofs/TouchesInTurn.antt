@@ -12,7 +12,7 @@ use Rattle.rc_base.specs.declared.window.Span.{Span}
 use Rattle.rc_base.specs.declared.window.WindowVertex.{WindowVertex}
 use Rattle.raster.specs.Spans.{in_span, IsNextSpan, AreEmptyRows}
 use Rattle.race_check.specs.Finds.{IsFirst, IsFoundIn, IsRunIn, OrBefore, cell_at, mark, marked, run_has}
-use Rattle.race_check.specs.Touches.{AreTouched, IsFoundWhere, IsTouch, IsPartOf, SomePasses, triangle_has}
+use Rattle.race_check.specs.Touches.{AreTouched, IsFoundWhere, IsTouch, IsWithinWindow, SomePasses, triangle_has}
 use Rattle.race_check.specs.declared.found.Found.{Found}
 use Rattle.race_check.specs.declared.run.Run.{Run}
 use Rattle.race_check.specs.declared.visit.Seen.{Seen}
@@ -374,7 +374,7 @@ pub record IsSpanOf (width height : ℕ) (s : Span) : Type 0 where
   pub some : s.x0 <ℤ s.x1
   pub right : s.x1 ≤ℤ pos width
 
-pub span_of_part : (v : List WindowVertex) (width height : ℕ) (part : Rect) (z : ℤ) (s : Span) → IsPartOf width height part → IsNextSpan v part z s → part.y0 ≤ℤ z → IsSpanOf width height s
+pub span_of_part : (v : List WindowVertex) (width height : ℕ) (part : Rect) (z : ℤ) (s : Span) → IsWithinWindow width height part → IsNextSpan v part z s → part.y0 ≤ℤ z → IsSpanOf width height s
 span_of_part v width height part z s p n low =
     let a = p.left in
     let b = p.right in

@@ -20,7 +20,7 @@ use Rattle.geometry.specs.declared.near.Surrounds.{Surrounds}
 use Rattle.raster.specs.Between.{CoverLiesInBounds}
 use Rattle.raster.specs.Spans.{AreEmptyRows}
 use Rattle.raster.specs.Clips.{IsPartWhere, is_let_through}
-use Rattle.race_check.specs.Touches.{triangle_has, triangles_have, IsPartOf, part_has, clear_has}
+use Rattle.race_check.specs.Touches.{triangle_has, triangles_have, IsWithinWindow, part_has, clear_has}
 use Rattle.race_check.specs.Finds.{run_has}
 use Rattle.race_check.specs.declared.run.Run.{Run}
 use Rattle.race_check.proofs.TouchesInTurn.{outside_left, outside_right, outside_below, outside_above}
@@ -74,7 +74,7 @@ beside_has bounds s vs t part near n beside x y = by (kept_whole s vs t) refl
 pub have_then : (us vs : List (List WindowVertex)) (part : Rect) (x y : ℕ) → triangles_have (us ++ vs) part x y ≡ (triangles_have us part x y || triangles_have vs part x y)
 have_then us vs part x y = list_any-append (λ v. triangle_has v part x y) us vs
 
-pub part_of_window : (s : ℤ → ℤ → Bool) (w h : ℕ) (part : Rect) → IsPartWhere (window_rect w h) part s → IsPartOf w h part
+pub part_of_window : (s : ℤ → ℤ → Bool) (w h : ℕ) (part : Rect) → IsPartWhere (window_rect w h) part s → IsWithinWindow w h part
 part_of_window s w h part p = record { left = p.bounds.left; right = p.bounds.right; bottom = p.bounds.bottom; top = p.bounds.top }
 
 pub clear_part : (s : State) (w h : ℕ) (part : Rect) → IsPartWhere (window_rect w h) part (is_in_scissor s) → (x y : ℕ) → x < w → y < h → clear_has s x y ≡ part_has part x y

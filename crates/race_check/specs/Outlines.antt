@@ -7,7 +7,7 @@ use Rattle.rc_base.specs.declared.state.Effect.{Effect}
 use Rattle.rc_base.specs.declared.state.State.{State}
 use Rattle.rc_base.specs.declared.sync.Name.{Name}
 use Rattle.race_check.specs.Finds.{cell_at, marked}
-use Rattle.race_check.specs.Uses.{HasEffect, Passes, named}
+use Rattle.race_check.specs.Uses.{HasEffect, PassesTables, named}
 use Rattle.race_check.specs.declared.outlines.Outlines.{Outlines}
 use Rattle.race_check.specs.declared.range.Range.{Range}
 use Rattle.race_check.specs.declared.reach.Reach.{Reach}
@@ -69,7 +69,7 @@ AreCountedIn clock cells r d = (i : ℕ) → IsAmong r i → slice_index (cell_a
 
 -- The clock counts whatever may conflict with what has this reach: of each client what touched one of the rows, or what touched one of the columns, and the
 -- uses of textures that conflict.
-pub record IsCounted (clock : List ℕ) (r : Reach) (o : Outlines) : Type 0 where
+pub record CountsAll (clock : List ℕ) (r : Reach) (o : Outlines) : Type 0 where
   pub pixels : (d : ℕ) → d < 8 → AreCountedIn clock o.rows.cells.items r.rows d ⊎ AreCountedIn clock o.columns.cells.items r.columns d
   pub written : (d : ℕ) → d < 8 → AreCountedIn clock o.writers.cells.items r.writes d × AreCountedIn clock o.readers.cells.items r.writes d
   pub sampled : (d : ℕ) → d < 8 → AreCountedIn clock o.writers.cells.items r.samples d
@@ -78,7 +78,7 @@ pub record IsCounted (clock : List ℕ) (r : Reach) (o : Outlines) : Type 0 wher
 
 -- A name passes the tables of rows and columns with nothing told: all that conflicts with it is before it.
 abbrev pub PassesOutlines : Footprint (ℕ × ℕ) → ℕ → ℕ → (ℕ → ℕ) → Name → Outlines → Outlines → Type 0
-PassesOutlines f width height clock n old new = Passes (AreOutlined f width height) f clock n old new None
+PassesOutlines f width height clock n old new = PassesTables (AreOutlined f width height) f clock n old new None
 
 -- so it does in whatever footprint it has this effect
 abbrev pub IsApart : State → Effect → Decl → (ℕ → ℕ) → Name → Outlines → Outlines → Type 0

@@ -43,7 +43,7 @@ pub record IsTouch (has : ℕ → ℕ → Bool) (v : Visit) (old new : List (Lis
 -- ---- what has pixels
 
 -- the rectangle lies in the window
-pub record IsPartOf (width height : ℕ) (part : Rect) : Type 0 where
+pub record IsWithinWindow (width height : ℕ) (part : Rect) : Type 0 where
   pub left : pos 0 ≤ℤ part.x0
   pub right : part.x1 ≤ℤ pos width
   pub bottom : pos 0 ≤ℤ part.y0

@@ -88,13 +88,13 @@ abbrev pub IsBehind : List Name → Name → Type 0
 IsBehind passed n = (p : ℕ) → IsIn (named n.client p) passed → p < n.place
 
 -- A name passes the tables of the names that were passed: they become tables of it too, and of what conflicts with it and isn't counted the first is told.
-pub record Passes {T : Type 0} (AreOf : List Name → T → Type 0) (f : Footprint (ℕ × ℕ)) (clock : ℕ → ℕ) (n : Name) (old new : T) (told : Option Found) : Type 0 where
+pub record PassesTables {T : Type 0} (AreOf : List Name → T → Type 0) (f : Footprint (ℕ × ℕ)) (clock : ℕ → ℕ) (n : Name) (old new : T) (told : Option Found) : Type 0 where
   pub tables : (passed : List Name) → IsBehind passed n → AreOf passed old → AreOf (passed ++ n ∷ []) new
   pub first : (passed : List Name) → AreOf passed old → IsFirst (IsUnordered f clock n passed) told
 
 -- it passes the tables of pixels and textures
 abbrev pub PassesMarks : Footprint (ℕ × ℕ) → ℕ → ℕ → (ℕ → ℕ) → Name → Marks → Marks → Option Found → Type 0
-PassesMarks f width height = Passes (AreTables f width height) f
+PassesMarks f width height = PassesTables (AreTables f width height) f
 
 -- so it does in whatever footprint it has this effect
 abbrev pub IsCarried : State → Effect → Decl → (ℕ → ℕ) → Name → Marks → Marks → Option Found → Type 0

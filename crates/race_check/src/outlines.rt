@@ -1,7 +1,7 @@
 //! Who may have used a row or a column of the window, and a shared texture, by the boxes of commands.
 ghost use Rattle.std.specs.Prelude.{◌≡◌, ◌+◌, ◌<◌, ◌≤◌, ◌^◌, true, IfOk};
 ghost use Rattle.race_check.specs.Finds.{AreUnused};
-ghost use Rattle.race_check.specs.Outlines.{AreMarked, FitWindow, IsCounted};
+ghost use Rattle.race_check.specs.Outlines.{AreMarked, FitWindow, CountsAll};
 
 use crate::cells::Cells;
 use crate::found::{is_counted, is_either_counted};
@@ -41,7 +41,7 @@ impl Outlines {
     pub fn is_counted(&self, clock: &[u32; 8], reach: &Reach, width: u16, height: u16) -> bool
         requires fits { FitWindow width height self.now }
         requires inside { (reach.now.rows.to ≤ height) × (reach.now.columns.to ≤ width) × (reach.now.samples.to ≤ 256) × (reach.now.writes.to ≤ 256) }
-        ensures { result ≡ true → IsCounted clock.now reach.now self.now }
+        ensures { result ≡ true → CountsAll clock.now reach.now self.now }
     {
         let _width = width;
         let _height = height;

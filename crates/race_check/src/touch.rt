@@ -5,7 +5,7 @@ ghost use Rattle.geometry.specs.Beside.{AreSurrounds};
 ghost use Rattle.geometry.specs.Items.{AreBelow};
 ghost use Rattle.geometry.specs.Pieces.{found};
 ghost use Rattle.raster.specs.Clips.{IsPartWhere, is_let_through};
-ghost use Rattle.race_check.specs.Touches.{IsPartOf, IsTouch, block_has, clear_has, part_has, triangle_has, triangles_have};
+ghost use Rattle.race_check.specs.Touches.{IsWithinWindow, IsTouch, block_has, clear_has, part_has, triangle_has, triangles_have};
 
 use crate::cells::Cells;
 use crate::marks::touch_run;
@@ -46,7 +46,7 @@ fn touch_triangle(
     requires client { visit.now.name.client < 8 }
     requires place { visit.now.name.place + 1 < 2 ^ 32 }
     requires size { length pixels.old.cells.items ≡ visit.now.height * visit.now.width }
-    requires part { IsPartOf visit.now.width visit.now.height part }
+    requires part { IsWithinWindow visit.now.width visit.now.height part }
     ensures size { length pixels.new.cells.items ≡ length pixels.old.cells.items }
     ensures touched { IsTouch (triangle_has tri.now.v part) visit.now pixels.old.cells.items pixels.new.cells.items seen result }
 {
@@ -70,7 +70,7 @@ fn touch_found(
     requires client { visit.now.name.client < 8 }
     requires place { visit.now.name.place + 1 < 2 ^ 32 }
     requires size { length pixels.old.cells.items ≡ visit.now.height * visit.now.width }
-    requires part { IsPartOf visit.now.width visit.now.height part }
+    requires part { IsWithinWindow visit.now.width visit.now.height part }
     ensures size { length pixels.new.cells.items ≡ length pixels.old.cells.items }
     ensures touched { IsTouch (triangles_have (found tri.now) part) visit.now pixels.old.cells.items pixels.new.cells.items seen result }
 {
@@ -94,7 +94,7 @@ fn touch_corners(
     requires client { visit.now.name.client < 8 }
     requires place { visit.now.name.place + 1 < 2 ^ 32 }
     requires size { length pixels.old.cells.items ≡ visit.now.height * visit.now.width }
-    requires part { IsPartOf visit.now.width visit.now.height part }
+    requires part { IsWithinWindow visit.now.width visit.now.height part }
     requires near { AreSurrounds part near.now }
     requires vertices { cache.old.vertices.now ≡ block.now.vertices }
     requires corners { AreBelow (length block.now.vertices) corners }
@@ -153,7 +153,7 @@ fn touch_part(pixels: &mut Cells, visit: &Visit, part: Rect, seen: Seen) -> Seen
     requires client { visit.now.name.client < 8 }
     requires place { visit.now.name.place + 1 < 2 ^ 32 }
     requires size { length pixels.old.cells.items ≡ visit.now.height * visit.now.width }
-    requires part { IsPartOf visit.now.width visit.now.height part }
+    requires part { IsWithinWindow visit.now.width visit.now.height part }
     ensures size { length pixels.new.cells.items ≡ length pixels.old.cells.items }
     ensures touched { IsTouch (part_has part) visit.now pixels.old.cells.items pixels.new.cells.items seen result }
 {

@@ -32,7 +32,7 @@ use Rattle.run_words.specs.declared.job.Origin.TheVariants.{Read}
 use Rattle.run_words.specs.declared.work.Work.{Work}
 use Rattle.render_core.specs.Due.{Outcome, IsOutcome, IsRaced, IsRecorded, IsVerdictOn, default_ending, default_frames, found_by, journal_of}
 use Rattle.render_core.specs.Findings.{Finding, Long, Malformed, Outside, Unsuited, Sound, refused_with}
-use Rattle.render_core.specs.Foreseen.{Asking, RunOf, IsCarriedOut, DrawsOnTiles, EndsAreForeseen, ImagesAreForeseen, ShowsAreForeseen, ShowsAreDecidedBefore}
+use Rattle.render_core.specs.Foreseen.{Asking, RunOf, IsDueStatus, DrawsOnTiles, EndsAreForeseen, ImagesAreForeseen, ShowsAreForeseen, ShowsAreDecidedBefore}
 use Rattle.run_words.specs.Jobs.{AskFiltered, AskPlainly, ForTask, Task, cluster_of, origin_of, task_of}
 use Rattle.render_core.specs.Laws.{FullRecordsAreForeseen}
 use Rattle.render_core.specs.Outcomes.{IsDue, Sent, Whole, Front, IsDone, IsUnnoted, IsReported, Cause, SourceFailed, InputRefused, ImageFailed, IsRefused, Ran, Usage, Done, NotesFailed, Stuck, RaceFound, Refused, NoMemory, ShowsTheSerialImage}
@@ -69,7 +69,7 @@ refused_status (Outside limit) status e = inr (inl (sym (ap (λ (o : Option ℕ)
 refused_status (Unsuited name) status e = inr (inr (sym (ap (λ (o : Option ℕ). unwrap_or o 0) e)))
 refused_status (Sound work) status e = absurd cc
 
-not_out : (status n : ℕ) → status ≡ n → n ≢ 0 → n ≢ 5 → n ≢ 6 → n ≢ 8 → IsCarriedOut status → ⊥
+not_out : (status n : ℕ) → status ≡ n → n ≢ 0 → n ≢ 5 → n ≢ 6 → n ≢ 8 → IsDueStatus status → ⊥
 not_out status n is zero five six eight out = elim out [
   | inl a ↦ zero (sym is ∙ a)
   | inr (inl b) ↦ five (sym is ∙ b)
@@ -120,7 +120,7 @@ module _ (ask : Asking) (one : (words : List (String Global)) (a b : Task) → a
       kept_is = kept_is;
     }
 
-    caused : (line : List ℕ) → Cause task run.source run.image status line run.kept → IsCarriedOut status → Carried task input status given run.kept
+    caused : (line : List ℕ) → Cause task run.source run.image status line run.kept → IsDueStatus status → Carried task input status given run.kept
     caused line (SourceFailed reads_it is told failed none) out =
         absurd (not_out status 2 is (λ e. omega (arith, e)) (λ e. omega (arith, e)) (λ e. omega (arith, e)) (λ e. omega (arith, e)) out)
     caused line (InputRefused judged none) out = elim (refused_status judged.judged.finding status judged.judged.refused) [
@@ -132,7 +132,7 @@ module _ (ask : Asking) (one : (words : List (String Global)) (a b : Task) → a
         carried o due (neither_stuck status 6 is (λ e. omega (arith, e)) o.ending Complete complete complete_is) (λ zero. complete) (part_front o.image cut.done cut.given)
         (λ e. elim e [ inl zero ↦ absurd (omega (arith, is, zero)) | inr eight ↦ absurd (omega (arith, is, eight)) ]) of
 
-    ran : Ran (ask run.words) run.source run.image run.notes status run.kept → IsCarriedOut status → Carried task input status given run.kept
+    ran : Ran (ask run.words) run.source run.image run.notes status run.kept → IsDueStatus status → Carried task input status given run.kept
     ran (Usage is none noted unkept) out =
         absurd (not_out status 1 is (λ e. omega (arith, e)) (λ e. omega (arith, e)) (λ e. omega (arith, e)) (λ e. omega (arith, e)) out)
     ran (Done is h) out =
@@ -155,7 +155,7 @@ module _ (ask : Asking) (one : (words : List (String Global)) (a b : Task) → a
     ran (NoMemory is noted unkept) out =
         absurd (not_out status 7 is (λ e. omega (arith, e)) (λ e. omega (arith, e)) (λ e. omega (arith, e)) (λ e. omega (arith, e)) out)
 
-    pub carried_out : IsCarriedOut status → Carried task input status given run.kept
+    pub carried_out : IsDueStatus status → Carried task input status given run.kept
     carried_out out = ran run.ran out
 
 -- ---- the jobs
@@ -238,7 +238,7 @@ module _ (bytes : ScenesAreOne) (lists : ListScenesAreOne) (differ : FormsAreApa
       shows is =
           record_is.image ∙ known.1 (subst (λ (s : Scene). IsOrderedScene s (journal_of s)) (sym same) is) ∙ ap (λ (s : Scene). p6_texts (default_frames s)) same
 
-    out_of : (job : Job) → origin_of job ≡ Read Bytes → (status : ℕ) (given : List ℕ) (run : RunOf ask (task_of filters job) input status given) → IsCarriedOut status
+    out_of : (job : Job) → origin_of job ≡ Read Bytes → (status : ℕ) (given : List ℕ) (run : RunOf ask (task_of filters job) input status given) → IsDueStatus status
         → Carried (task_of filters job) input status given run.kept
     out_of job reads status given run out = carried_out ask one (task_of filters job) reads input status given run out
 

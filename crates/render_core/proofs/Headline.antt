@@ -17,7 +17,7 @@ use Rattle.run_words.specs.declared.work.Work.{Work}
 use Rattle.run_words.specs.Jobs.{ForTask, Task, cluster_of, origin_of}
 use Rattle.render_core.specs.Scenes.{HasWork, Holds}
 use Rattle.render_core.specs.Laws.{FindingsAreOne, FullRecordsAreForeseen, OrderedRecordsShowOneImage}
-use Rattle.render_core.specs.Outcomes.{IsDue, Sent, Whole, Front, IsDone, IsUnnoted, IsReported, IsRefused, Cause, SourceFailed, InputRefused, ImageFailed, Ran, Usage, Done, NotesFailed, Stuck, RaceFound, Refused, NoMemory, IsWhole, RefusesWhatItFinds, CarriesOutWhatItFinds, IsHeadline, KeepsOrders, frames_text}
+use Rattle.render_core.specs.Outcomes.{IsDue, Sent, Whole, Front, IsDone, IsUnnoted, IsReported, IsRefused, Cause, SourceFailed, InputRefused, ImageFailed, Ran, Usage, Done, NotesFailed, Stuck, RaceFound, Refused, NoMemory, IsJobDone, RefusesWhatItFinds, CarriesOutWhatItFinds, IsHeadline, KeepsOrders, frames_text}
 use Rattle.render_core.proofs.Endings.{found_in_taken, holds_calm, sent_whole, noted_whole}
 use Rattle.render_core.proofs.KeptOrders.{keeps_orders}
 
@@ -29,7 +29,7 @@ Answers job Long image notes status kept = status ≡ 4
 Answers job Malformed image notes status kept = status ≡ 3
 Answers job (Outside limit) image notes status kept = status ≡ 4
 Answers job (Unsuited name) image notes status kept = status ≡ 12
-Answers job (Sound work) image notes status kept = IsWhole job work image notes status kept
+Answers job (Sound work) image notes status kept = IsJobDone job work image notes status kept
 
 -- what is refused has its status
 by_status : (job : Job) (image notes : Used) (status : ℕ) (kept : Option Record) (finding : Finding) → refused_with finding ≡ Some status

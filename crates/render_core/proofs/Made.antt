@@ -9,13 +9,13 @@ use Rattle.rc_base.specs.Formats.Limits.{size_limit}
 use Rattle.rc_base.specs.Formats.Spelling.{IsDecl}
 use Rattle.rc_base.specs.Formats.Within.{IsWithin}
 use Rattle.scene_file.specs.Generator.{generated_scene}
-use Rattle.packet_bytes.specs.Texels.{HasTexels, HaveTexels}
+use Rattle.packet_bytes.specs.Texels.{HasPictureTexels, HaveTexels}
 use Rattle.scene_file.specs.Written.{AreWhole}
 use Rattle.run_words.specs.Asked.{IsMade}
 
 -- ---- the pictures of commands whose fields are in their ranges are whole
 
-has_texels : (k : Kind) (v : Value k) → IsValue k v → HasTexels k v
+has_texels : (k : Kind) (v : Value k) → IsValue k v → HasPictureTexels k v
 has_texels Byte v h = tt
 has_texels Half v h = tt
 has_texels Word v h = tt

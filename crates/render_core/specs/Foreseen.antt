@@ -36,8 +36,8 @@ pub record RunOf (ask : Asking) (task : Task) (input : List ℕ) (status : ℕ) 
   pub after : image.after ≡ Some (held ++ given)
 
 -- the statuses of runs that came to what is due: done, stuck, or done but for the image or the notes
-abbrev pub IsCarriedOut : ℕ → Type 0
-IsCarriedOut status = (status ≡ 0) ⊎ (status ≡ 5) ⊎ (status ≡ 6) ⊎ (status ≡ 8)
+abbrev pub IsDueStatus : ℕ → Type 0
+IsDueStatus status = (status ≡ 0) ⊎ (status ≡ 5) ⊎ (status ≡ 6) ⊎ (status ≡ 8)
 
 -- the job reads a scene and draws it on a cluster
 abbrev pub DrawsOnTiles : Job → Type 0
@@ -49,13 +49,13 @@ DrawsOnTiles _ = ⊥
 abbrev pub EndsAreForeseen : Asking → List SpuRule → List ℕ → Type 0
 EndsAreForeseen ask filters input =
     (job : Job) (status other : ℕ) (blank shown : List ℕ) → DrawsOnTiles job → RunOf ask (task_of filters Check) input status blank
-    → RunOf ask (task_of filters job) input other shown → IsCarriedOut status → IsCarriedOut other → (status ≡ 5) ↔ (other ≡ 5)
+    → RunOf ask (task_of filters job) input other shown → IsDueStatus status → IsDueStatus other → (status ≡ 5) ↔ (other ≡ 5)
 
 -- Where `race` ends with 0 they are never stuck, and write byte for byte what `serial` writes, or where the image fails a front of that.
 abbrev pub ImagesAreForeseen : Asking → List SpuRule → List ℕ → Type 0
 ImagesAreForeseen ask filters input =
     (job : Job) (status : ℕ) (blank drawn shown : List ℕ) → DrawsOnTiles job → RunOf ask (task_of filters Race) input 0 blank
-    → RunOf ask (task_of filters Serial) input 0 drawn → RunOf ask (task_of filters job) input status shown → IsCarriedOut status
+    → RunOf ask (task_of filters Serial) input 0 drawn → RunOf ask (task_of filters job) input status shown → IsDueStatus status
     → (status ≢ 5) × IsFront shown drawn × (status ≢ 6 → shown ≡ drawn)
 
 -- So it is where the scene that the input means has, behind the filters, nothing that takes a unit, and at each barrier that is named all clients meet.

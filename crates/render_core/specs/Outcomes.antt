@@ -150,7 +150,7 @@ Ended asks source image notes status = (kept : Option Record) × Ran asks source
 -- ---- what the source holds decides the status
 
 -- image and notes were given all that is due for the work, and the status and the record are those of that
-pub record IsWhole (job : Job) (work : Work) (image notes : Used) (status : ℕ) (kept : Option Record) : Type 0 where
+pub record IsJobDone (job : Job) (work : Work) (image notes : Used) (status : ℕ) (kept : Option Record) : Type 0 where
   pub o : Outcome
   pub due : IsOutcome job work o
   pub given : Took image o.image
@@ -169,7 +169,7 @@ RefusesWhatItFinds asks source status =
 abbrev pub CarriesOutWhatItFinds : (Task → Type 0) → Used → Used → Used → ℕ → Option Record → Type 0
 CarriesOutWhatItFinds asks source image notes status kept =
     (task : Task) (input : List ℕ) (work : Work) → asks task → Holds (origin_of task.job) source input → IsInput task input work
-    → (Failed image → ⊥) → (Failed notes → ⊥) → (status ≡ 7) ⊎ IsWhole task.job work image notes status kept
+    → (Failed image → ⊥) → (Failed notes → ⊥) → (status ≡ 7) ⊎ IsJobDone task.job work image notes status kept
 
 -- ---- the headline
 

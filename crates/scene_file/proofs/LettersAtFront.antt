@@ -2,9 +2,9 @@
 use Rattle.std.proofs.Common.{◌≡◌, ℕ, suc, ◌+◌, ◌<◌, ◌≤◌, ◌⊎◌, inl, inr, List, [], ◌∷◌, ◌++◌, length, take, drop, get_or, refl, sym, ap, ◌∙◌, append_assoc, arith, length-append, length-take, length-drop}
 use Rattle.std.proofs.lemmas.Bool.{cases_eq}
 use Rattle.std.proofs.lemmas.List.{append-nil, drop_more, take-append-drop}
-use Rattle.scene_file.specs.Faults.{IsPartOf, Differs}
+use Rattle.scene_file.specs.Faults.{IsProperPrefix, Differs}
 
-pub letters_cut : (letters bytes rest : List ℕ) (i : ℕ) → bytes ≡ take i letters ++ rest → length rest < 1 → i < length letters → IsPartOf letters bytes
+pub letters_cut : (letters bytes rest : List ℕ) (i : ℕ) → bytes ≡ take i letters ++ rest → length rest < 1 → i < length letters → IsProperPrefix letters bytes
 letters_cut letters bytes (b ∷ rest) i parts short lt = absurd (omega arith)
 letters_cut letters bytes [] i parts short lt = record {
   more = drop i letters;
@@ -33,7 +33,7 @@ letters_differ letters bytes (b ∷ rest) i parts lt some differs = (
 
 -- ---- more letters
 
-pub part_before : (whole bytes more : List ℕ) → IsPartOf whole bytes → IsPartOf (whole ++ more) bytes
+pub part_before : (whole bytes more : List ℕ) → IsProperPrefix whole bytes → IsProperPrefix (whole ++ more) bytes
 part_before whole bytes more h = record {
   more = h.more ++ more;
   parts = sym (append_assoc bytes h.more more) ∙ ap (λ (l : List ℕ). l ++ more) h.parts;
@@ -57,7 +57,7 @@ differs_longer ls more bytes at d = record {
 -- ---- where the letters end
 
 -- the letters stand at the front, or the bytes end among them, or differ from them
-pub begins : (letters bytes : List ℕ) → ((body : List ℕ) × (bytes ≡ letters ++ body)) ⊎ (IsPartOf letters bytes ⊎ ((at : ℕ) × Differs letters bytes at))
+pub begins : (letters bytes : List ℕ) → ((body : List ℕ) × (bytes ≡ letters ++ body)) ⊎ (IsProperPrefix letters bytes ⊎ ((at : ℕ) × Differs letters bytes at))
 begins [] bytes = inl (bytes, refl)
 begins (l ∷ ls) [] = inr (inl (record { more = l ∷ ls; parts = refl; some = omega arith }))
 begins (l ∷ ls) (b ∷ bs) = elim (cases_eq b l) [

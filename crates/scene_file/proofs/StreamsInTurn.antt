@@ -26,7 +26,7 @@ use Rattle.scene_file.specs.declared.fault.Broken.{Broken}
 use Rattle.scene_file.specs.declared.fault.Broken.TheVariants as broken
 use Rattle.scene_file.specs.Reading.{read_head, read_text, field_fault, stream_fault}
 use Rattle.scene_file.specs.Letters.{Letters, form_of}
-use Rattle.scene_file.specs.Faults.{IsPartOf, IsCutHeader, IsFirstText, HasFront, HasStreamFault, FailsAsText, FailsInStreams, HasTrailing, MagicFailsBy, TextFailsBy, SceneFailsBy}
+use Rattle.scene_file.specs.Faults.{IsProperPrefix, IsCutHeader, IsFirstText, HasFront, HasStreamFault, FailsAsText, FailsInStreams, HasTrailing, MagicFailsBy, TextFailsBy, SceneFailsBy}
 use Rattle.scene_file.specs.Counting.{DecodesFirst}
 use Rattle.scene_file.proofs.HeaderCodec.{head_text, IsHead, head_codec, text_codec}
 use Rattle.scene_file.proofs.LettersAtFront.{part_before}
@@ -91,7 +91,7 @@ module _ {C O : Type 0} (set : CommandSet C O) (letters : Letters) where
     semaphores = tt;
   }
 
-  cut_letters : (bytes : List ℕ) (version : ℕ) → letters.IsDrawn version → IsPartOf (letters.begins version) bytes → IsCutHeader form bytes
+  cut_letters : (bytes : List ℕ) (version : ℕ) → letters.IsDrawn version → IsProperPrefix (letters.begins version) bytes → IsCutHeader form bytes
   unfolding declared
   cut_letters bytes version is h = record {
     decl = declared version;

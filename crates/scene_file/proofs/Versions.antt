@@ -7,7 +7,7 @@ use Rattle.scene_lemmas.proofs.Formats.{digit_is_not_three}
 use Rattle.scene_file.specs.declared.fault.Broken.{Broken}
 use Rattle.scene_file.specs.declared.fault.Broken.TheVariants as broken
 use Rattle.scene_file.specs.Letters.{Letters, plain_letters, list_letters}
-use Rattle.scene_file.specs.Faults.{Differs, DiffersFromAll, IsPartOf, LettersFailBy, MagicFailsBy}
+use Rattle.scene_file.specs.Faults.{Differs, DiffersFromAll, IsProperPrefix, LettersFailBy, MagicFailsBy}
 use Rattle.scene_file.proofs.LettersAtFront.{part_before, differs_longer, begins}
 
 -- a fault of the bytes
@@ -88,10 +88,10 @@ digits_differ : (bytes rest : List ℕ) (byte : ℕ) → bytes ≡ letters ++ by
 digits_differ bytes rest byte parts one two = (differs_digit bytes rest 1 byte parts one, differs_digit bytes rest 2 byte parts two)
 
 -- the bytes end among the letters, or behind them
-letters_part : (bytes : List ℕ) → IsPartOf letters bytes → IsPartOf (magic 1) bytes
+letters_part : (bytes : List ℕ) → IsProperPrefix letters bytes → IsProperPrefix (magic 1) bytes
 letters_part bytes h = part_before letters bytes (digit 1 ∷ []) h
 
-letters_whole : (bytes : List ℕ) → bytes ≡ letters → IsPartOf (magic 1) bytes
+letters_whole : (bytes : List ℕ) → bytes ≡ letters → IsProperPrefix (magic 1) bytes
 letters_whole bytes e = record { more = digit 1 ∷ []; parts = ap (λ (l : List ℕ). l ++ digit 1 ∷ []) e; some = omega arith }
 
 -- a fault among the letters
@@ -104,7 +104,7 @@ magic_fails bytes (broken.Form Truncated left) h = (1, (omega arith, omega arith
 magic_fails bytes (broken.Form Trailing left) h = absurd h
 
 -- no byte behind the letters, or another one than the digits
-pub letters_end : (bytes rest : List ℕ) → bytes ≡ letters ++ rest → length rest < 1 → IsPartOf (magic 1) bytes
+pub letters_end : (bytes rest : List ℕ) → bytes ≡ letters ++ rest → length rest < 1 → IsProperPrefix (magic 1) bytes
 letters_end bytes [] e low = letters_whole bytes e
 letters_end bytes (b ∷ rest) e low = absurd (omega (arith, low))
 

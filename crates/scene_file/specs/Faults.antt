@@ -37,7 +37,7 @@ DiffersFromAll (letters ∷ []) bytes at = Differs letters bytes at
 DiffersFromAll (letters ∷ (others ∷ more)) bytes at = Differs letters bytes at × DiffersFromAll (others ∷ more) bytes at
 
 -- a part of a list, and not the whole
-pub record IsPartOf (whole bytes : List ℕ) : Type 0 where
+pub record IsProperPrefix (whole bytes : List ℕ) : Type 0 where
   pub more : List ℕ
   pub parts : bytes ++ more ≡ whole
   pub some : 0 < length more
@@ -48,13 +48,13 @@ pub record IsCutHeader {C O : Type 0} (form : SceneForm C O) (bytes : List ℕ) 
   pub clients : ℕ
   pub is_decl : IsDeclOf form decl
   pub few : clients < 256
-  pub is_part : IsPartOf (header_of form decl clients) bytes
+  pub is_part : IsProperPrefix (header_of form decl clients) bytes
 
 -- a part of a stream's length and of as many bytes as it says
 pub record IsCutText (bytes : List ℕ) : Type 0 where
   pub text : List ℕ
   pub fits : length text < 2 ^ 32
-  pub is_part : IsPartOf (stream_text text) bytes
+  pub is_part : IsProperPrefix (stream_text text) bytes
 
 -- The bytes begin with a stream's length and its bytes, which spell these commands.
 pub record IsFirstText {C O : Type 0} (set : CommandSet C O) (bytes : List ℕ) (commands : List C) (after : List ℕ) : Type 0 where
@@ -179,7 +179,7 @@ LettersFailBy letters bytes broken.Memory = ⊥
 LettersFailBy letters bytes (broken.Form BadMagic left) = (at : ℕ) × Differs letters bytes at × (at + left ≡ length bytes)
 LettersFailBy letters bytes (broken.Form BadCount left) = ⊥
 LettersFailBy letters bytes (broken.Form UnknownOpcode left) = ⊥
-LettersFailBy letters bytes (broken.Form Truncated left) = IsPartOf letters bytes × (left ≡ 0)
+LettersFailBy letters bytes (broken.Form Truncated left) = IsProperPrefix letters bytes × (left ≡ 0)
 LettersFailBy letters bytes (broken.Form Trailing left) = ⊥
 
 -- the same of the letters of a form
@@ -188,7 +188,7 @@ MagicFailsBy letters bytes broken.Memory = ⊥
 MagicFailsBy letters bytes (broken.Form BadMagic left) = (at : ℕ) × DiffersFromAll letters.all bytes at × (at + left ≡ length bytes)
 MagicFailsBy letters bytes (broken.Form BadCount left) = ⊥
 MagicFailsBy letters bytes (broken.Form UnknownOpcode left) = ⊥
-MagicFailsBy letters bytes (broken.Form Truncated left) = (version : ℕ) × letters.IsDrawn version × IsPartOf (letters.begins version) bytes × (left ≡ 0)
+MagicFailsBy letters bytes (broken.Form Truncated left) = (version : ℕ) × letters.IsDrawn version × IsProperPrefix (letters.begins version) bytes × (left ≡ 0)
 MagicFailsBy letters bytes (broken.Form Trailing left) = ⊥
 
 abbrev pub TextFailsBy : {C O : Type 0} → CommandSet C O → List ℕ → Broken → Type 0

@@ -15,13 +15,13 @@ use Rattle.scene_text.specs.Text.Faults.{rank_of, rank_after, rank_after_words, 
 use Rattle.scene_text.specs.declared.draft.Draft.{Draft}
 use Rattle.scene_text.specs.declared.parse.LineFault.{LineFault}
 use Rattle.scene_text.specs.declared.parse.LineFault.TheVariants as fault
-use Rattle.scene_text.specs.Drafts.{said, IsDraft, Reads, ReadsNamed, ReadsWords, ReadsLine, Passes, Progress}
+use Rattle.scene_text.specs.Drafts.{said, IsDraft, ReadsStatement, ReadsNamed, ReadsWords, ReadsLine, Passes, Progress}
 use Rattle.scene_text.proofs.WhatWordsSay.{says_name}
 
 -- ---- the words of a line
 
 pub named_ok : (old new : Draft) (x : Unit {0}) (name : LineName) (ws : List (List ℕ)) → may_stand old.rank name ≡ true
-    → Reads old new (Ok x) (arguments_say name ws) → ReadsNamed old new (Ok x) name ws
+    → ReadsStatement old new (Ok x) (arguments_say name ws) → ReadsNamed old new (Ok x) name ws
 named_ok old new x name ws m h = (
   h.0,
   h.1,

@@ -9,10 +9,10 @@ use Rattle.scene_text.specs.Text.Read.{is_counted, numbers_of, spelled_texels, o
 use Rattle.scene_text.specs.declared.draft.Draft.{Draft}
 use Rattle.scene_text.specs.declared.parse.LineFault.{LineFault}
 use Rattle.scene_text.specs.declared.parse.LineFault.TheVariants as fault
-use Rattle.scene_text.specs.Drafts.{Reads, TexelsRead}
+use Rattle.scene_text.specs.Drafts.{ReadsStatement, TexelsRead}
 
 pub texels_told : (old new : Draft) (name : LineName) (rest : List (List ℕ)) (numbers : List ℤ) (e : LineFault)
-    → TexelsRead name rest numbers (Err e) → Reads old new (Err e) (with_texels name rest numbers)
+    → TexelsRead name rest numbers (Err e) → ReadsStatement old new (Err e) (with_texels name rest numbers)
 texels_told old new name rest numbers (fault.Text k) h = h
 texels_told old new name rest numbers fault.OutOfMemory h = tt
 

@@ -39,10 +39,10 @@ pub record Adds (old new : Draft) (s : Statement) : Type 0 where
   pub rank : new.rank ≡ rank_of s.name
 
 -- a statement is read as it is said, or its fault is told, unless there was no memory
-abbrev pub Reads : Draft → Draft → Result (Unit {0}) LineFault → Result Statement TextKind → Type 0
-Reads old new (Ok x) say = (s : Statement) × (say ≡ Ok s) × Adds old new s
-Reads old new (Err (fault.Text k)) say = say ≡ Err k
-Reads old new (Err fault.OutOfMemory) say = Unit {0}
+abbrev pub ReadsStatement : Draft → Draft → Result (Unit {0}) LineFault → Result Statement TextKind → Type 0
+ReadsStatement old new (Ok x) say = (s : Statement) × (say ≡ Ok s) × Adds old new s
+ReadsStatement old new (Err (fault.Text k)) say = say ≡ Err k
+ReadsStatement old new (Err fault.OutOfMemory) say = Unit {0}
 
 -- the texels of a statement are read, or their fault is told, unless there was no memory
 abbrev pub TexelsRead : LineName → List (List ℕ) → List ℤ → Result (List ℕ) LineFault → Type 0

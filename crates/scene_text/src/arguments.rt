@@ -6,7 +6,7 @@ ghost use Rattle.scene_text.specs.Text.Read.{is_counted, is_rest_count, words_of
 ghost use Rattle.scene_text.specs.Text.Faults.{may_stand};
 ghost use Rattle.rc_base.specs.declared.text.LineName.{LineName as AnyLineName};
 ghost use Rattle.command_table.specs.Ranges.{AreIn};
-ghost use Rattle.scene_text.specs.Drafts.{IsDraft, Reads, TexelsRead};
+ghost use Rattle.scene_text.specs.Drafts.{IsDraft, ReadsStatement, TexelsRead};
 
 use crate::draft::{Draft, add_line};
 use crate::hex::spelled_texels;
@@ -93,7 +93,7 @@ pub(crate) fn read_arguments(
 ) -> Result<(), LineFault>
     requires draft { IsDraft draft.old }
     requires place { may_stand draft.old.rank name ≡ true }
-    ensures { Reads draft.old draft.new result (arguments_say name (words_of words.now)) }
+    ensures { ReadsStatement draft.old draft.new result (arguments_say name (words_of words.now)) }
 {
     if !is_counted(name, words) {
         return Err(LineFault::Text(TextKind::WrongCount));
@@ -124,7 +124,7 @@ fn read_statement(
     requires place { may_stand draft.old.rank name ≡ true }
     requires numbers { AreIn (line_ranges name) numbers.now }
     requires rest { line_has_picture name ≡ false → words_of rest.now ≡ [] }
-    ensures { Reads draft.old draft.new result (with_texels name (words_of rest.now) numbers.now) }
+    ensures { ReadsStatement draft.old draft.new result (with_texels name (words_of rest.now) numbers.now) }
 {
     match read_texels(alloc, numbers, rest) {
         Ok(texels) => match add_line(alloc, draft, name, numbers, texels) {

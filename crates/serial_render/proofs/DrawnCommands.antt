@@ -32,7 +32,7 @@ use Rattle.gl_context.proofs.OneMoreCommand.{goes_on}
 use Rattle.gl_context.proofs.ValidContexts.{command_of, stream_all, valid}
 use Rattle.order_model.specs.Scenes.{HasSides}
 use Rattle.draw_device.specs.Conditions.{IsDrawable, shared_of}
-use Rattle.draw_device.specs.Stored.{IsWritable, set_after}
+use Rattle.draw_device.specs.Stored.{IsStorable, set_after}
 
 -- ---- the context after a command that draws draws the same as the one before it
 
@@ -145,7 +145,7 @@ part_texels : (p : Part) → IsCommand (cmd.SharedImage p) → length p.texels �
 part_texels p i = i.1.1.1.0.2
 
 part_writable : (decl : Decl) (x : ClientContext) (texels : SharedTexels) (set : List (Option Picture)) (p : Part) → IsValidContext decl x → HasTexels decl.shared texels set
-    → fault_of x (cmd.SharedImage p) ≡ None → IsCommand (cmd.SharedImage p) → IsWritable p set
+    → fault_of x (cmd.SharedImage p) ≡ None → IsCommand (cmd.SharedImage p) → IsStorable p set
 part_writable decl x texels set p v has passes is =
     let kept = accepted x (cmd.SharedImage p) passes in
     let named : is_name p.name (length decl.shared) ≡ true = subst (λ (sizes : List (List ℕ)). is_name p.name (length sizes) ≡ true) v.shared kept.values in
@@ -164,7 +164,7 @@ part_writable decl x texels set p v has passes is =
 
 pub writable : (s : Scene) (client place : ℕ) (c : Command) (texels : SharedTexels) (set : List (Option Picture)) (p : Part)
     → AllByRecursion (AllByRecursion IsCommand) s.streams → command_at s client place ≡ Some c → HasTexels s.decl.shared texels set → effect_at s client place ≡ eff.Shared p
-    → IsWritable p set
+    → IsStorable p set
 writable s client place c texels set p all at has e =
     let x = context_after s client place in
     let passed = accepted_part x c p (sym (goes_on s client place c at).1 ∙ e) in
@@ -173,7 +173,7 @@ writable s client place c texels set p all at has e =
 
 -- the shared textures after a command
 pub texels_next : (sizes : List (List ℕ)) (texels : SharedTexels) (set : List (Option Picture)) (e : Effect) → HasTexels sizes texels set
-    → ((p : Part) → e ≡ eff.Shared p → IsWritable p set) → HasTexels sizes (stored sizes e texels) (set_after e set)
+    → ((p : Part) → e ≡ eff.Shared p → IsStorable p set) → HasTexels sizes (stored sizes e texels) (set_after e set)
 texels_next sizes texels set (eff.Shared p) has w =
     let k = w p refl in
     written sizes texels set p has k.low (omega (arith, k.high, has.count)) k.whole k.inside

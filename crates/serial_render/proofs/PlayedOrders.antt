@@ -24,7 +24,7 @@ use Rattle.rc_base.specs.declared.window.Rect.{Rect}
 use Rattle.textures.specs.Images.{texture_image}
 use Rattle.textures.specs.Stores.{HasTexels}
 use Rattle.gl_context.specs.Valid.{IsValidContext}
-use Rattle.draw_device.specs.Stored.{IsWritable, set_after}
+use Rattle.draw_device.specs.Stored.{IsStorable, set_after}
 use Rattle.draw_device.specs.Conditions.{shared_of}
 use Rattle.draw_device.specs.Devices.{DeviceView, EachTakes, pixel_of}
 use Rattle.order_model.proofs.StandsInLists.{in_append, stands_right}
@@ -126,7 +126,7 @@ frames_at_end s order d old new count h bound size images =
 -- ---- the shared textures
 
 pub texels_after : (s : Scene) (done : List Name) (n : Name) (e : Effect) (before after : List (Option Picture)) → e ≡ effect_at s n.client n.place
-    → HasTexels s.decl.shared (textures_after s done) before → ((p : Part) → e ≡ eff.Shared p → IsWritable p before) → after ≡ set_after e before
+    → HasTexels s.decl.shared (textures_after s done) before → ((p : Part) → e ≡ eff.Shared p → IsStorable p before) → after ≡ set_after e before
     → HasTexels s.decl.shared (textures_after s (done ++ n ∷ [])) after
 unfolding textures_step
 texels_after s done n e before after is has writes set =

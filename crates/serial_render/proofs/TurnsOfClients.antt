@@ -21,7 +21,7 @@ use Rattle.order_model.proofs.MoreOperations.{IsSettled, head_append}
 use Rattle.sync_manager.specs.Books.{IsBookOf, is_wanted, journal_in}
 use Rattle.sync_manager.specs.declared.book.Book.{Book}
 use Rattle.order_model.proofs.JournalsInTurn.{rising_first}
-use Rattle.serial_render.specs.Turns.{told, left_after, IsUnderWay, IsBetweenTurns, IsFrontOfDefault}
+use Rattle.serial_render.specs.Turns.{told, left_after, IsOrderUnderWay, IsBetweenTurns, IsFrontOfDefault}
 use Rattle.serial_render.specs.declared.progress.Progress.{Progress}
 use Rattle.serial_render.proofs.AddedInTurn.{own_added, other_added, none_added, all_as_meant, all_alike, all_next}
 use Rattle.serial_render.proofs.GrantedTurns.{wanted_in, wanted_is, one_waits, is_free, is_settled, rest_arrived, fronts, wanted_stop, take_more, drop_past, get_none, grant_alike, end_push, journal_granted, wanted_granted, front_first, front_next, order_next, granted_is, standing_is, left_less}
@@ -98,7 +98,7 @@ waiting_other syncs b client c (Some w) legal ne =
 same_or_not : (c client : ℕ) → (c ≡ client) ⊎ (c ≡ client → ⊥)
 same_or_not c client = elim (cases_Bool (c == client)) [ inl t ↦ inl (eqb-true c client t) | inr f ↦ inr (eqb-false c client f) ]
 
-module _ (syncs : SyncLists) (p p' : Progress) (client : ℕ) (next : Option WaitAt) (place : ℕ) (way : IsUnderWay syncs p) (lt : client < client_count syncs)
+module _ (syncs : SyncLists) (p p' : Progress) (client : ℕ) (next : Option WaitAt) (place : ℕ) (way : IsOrderUnderWay syncs p) (lt : client < client_count syncs)
     (wanted : is_wanted p.book client ≡ true) (next_is : next ≡ slice_get (ops_of syncs client) (slice_index p.arrived client))
     (place_is : place ≡ option_map_or (λ (w : WaitAt). w.place) next (length_of syncs client))
     (order_is : p'.order ≡ p.order ++ names_from client (slice_index p.issued client) (place - slice_index p.issued client))
@@ -157,7 +157,7 @@ module _ (syncs : SyncLists) (p p' : Progress) (client : ℕ) (next : Option Wai
   stop_alike : (c : ℕ) → stop syncs (sync_state_after syncs (journal_in p'.book)) c ≡ stop syncs (sync_state_after syncs (journal_in p.book)) c
   stop_alike c = ap (λ (js : List Entry). stop syncs (sync_state_after syncs js) c) journal_advanced
 
-  pub way_advanced : IsUnderWay syncs p'
+  pub way_advanced : IsOrderUnderWay syncs p'
   way_advanced = record {
     book = told syncs way.book client next;
     is_book = book_now;
@@ -329,7 +329,7 @@ module _ (syncs : SyncLists) (p : Progress) (t : IsBetweenTurns syncs p) where
       granted_book : book_after syncs t.way.book Grants ≡ record t.way.book { journal = t.way.book.journal ++ e ∷ [] }
       granted_book = granted_is syncs p.book kept t.way.book e t.way.is_book h' is
 
-      pub way_granted : IsUnderWay syncs p'
+      pub way_granted : IsOrderUnderWay syncs p'
       way_granted = record {
         book = book_after syncs t.way.book Grants;
         arrivals = ap length arrived_is ∙ t.way.arrivals;
@@ -360,7 +360,7 @@ module _ (syncs : SyncLists) (p : Progress) (t : IsBetweenTurns syncs p) where
           (λ c. stop syncs (sync_state_after syncs (journal_in p.book)) c + 1) (client_count syncs) p.order members
           (λ c inside w. ap (λ (k : ℕ). k + 1) (t.way.stops c inside (t.settled c inside)))
 
-      pub between_next : (q : Progress) → IsUnderWay syncs q → journal_in q.book ≡ journal_in p'.book
+      pub between_next : (q : Progress) → IsOrderUnderWay syncs q → journal_in q.book ≡ journal_in p'.book
           → q.order ≡ all_added (λ c. true) (stop syncs (sync_state_after syncs (journal_in p'.book))) (client_count syncs) p'.order
           → ((c : ℕ) → c < client_count syncs → is_wanted q.book c ≡ false) → IsBetweenTurns syncs q
       between_next q way journal order settled =
@@ -393,13 +393,13 @@ module _ (syncs : SyncLists) (p : Progress) (t : IsBetweenTurns syncs p) where
 
 -- the first clients have gone on, from an order on
 pub record AreAdvanced (syncs : SyncLists) (js : List Entry) (o : List Name) (client : ℕ) (q : Progress) : Type 0 where
-  pub way : IsUnderWay syncs q
+  pub way : IsOrderUnderWay syncs q
   pub journal : journal_in q.book ≡ js
   pub order : q.order ≡ all_added (λ c. true) (stop syncs (sync_state_after syncs js)) client o
   pub settled : (c : ℕ) → c < client → is_wanted q.book c ≡ false
 
 pub advanced_more : (syncs : SyncLists) (js : List Entry) (o : List Name) (client : ℕ) (q r : Progress) → client < client_count syncs → AreAdvanced syncs js o client q
-    → IsUnderWay syncs r → journal_in r.book ≡ journal_in q.book → r.order ≡ added client (stop syncs (sync_state_after syncs (journal_in q.book)) client) q.order
+    → IsOrderUnderWay syncs r → journal_in r.book ≡ journal_in q.book → r.order ≡ added client (stop syncs (sync_state_after syncs (journal_in q.book)) client) q.order
     → is_wanted r.book client ≡ false → ((c : ℕ) → c < client_count syncs → is_wanted q.book c ≡ false → is_wanted r.book c ≡ false) → AreAdvanced syncs js o (client + 1) r
 advanced_more syncs js o client q r lt h way journal order settled others =
     let places = stop syncs (sync_state_after syncs js) in
@@ -536,7 +536,7 @@ take_none xs zero e = refl
 take_none xs (suc i) e = absurd (omega (arith, e))
 
 pub way_first : (syncs : SyncLists) (kept : Book) (o : List Name) → IsBookOf syncs kept new_book → o ≡ []
-    → IsUnderWay syncs (record { book = kept; order = o; arrived = 0 ∷ 0 ∷ 0 ∷ 0 ∷ 0 ∷ 0 ∷ 0 ∷ 0 ∷ []; issued = 0 ∷ 0 ∷ 0 ∷ 0 ∷ 0 ∷ 0 ∷ 0 ∷ 0 ∷ [] })
+    → IsOrderUnderWay syncs (record { book = kept; order = o; arrived = 0 ∷ 0 ∷ 0 ∷ 0 ∷ 0 ∷ 0 ∷ 0 ∷ 0 ∷ []; issued = 0 ∷ 0 ∷ 0 ∷ 0 ∷ 0 ∷ 0 ∷ 0 ∷ 0 ∷ [] })
 unfolding zeros
 way_first syncs kept o h none = record {
   book = new_book;
@@ -555,7 +555,7 @@ way_first syncs kept o h none = record {
   ];
 }
 
-pub between_first : (syncs : SyncLists) (p q : Progress) → journal_in p.book ≡ [] → p.order ≡ [] → IsUnderWay syncs q → journal_in q.book ≡ journal_in p.book
+pub between_first : (syncs : SyncLists) (p q : Progress) → journal_in p.book ≡ [] → p.order ≡ [] → IsOrderUnderWay syncs q → journal_in q.book ≡ journal_in p.book
     → q.order ≡ all_added (λ c. true) (stop syncs (sync_state_after syncs (journal_in p.book))) (client_count syncs) p.order
     → ((c : ℕ) → c < client_count syncs → is_wanted q.book c ≡ false) → IsBetweenTurns syncs q
 between_first syncs p q none empty way journal order settled =

@@ -39,7 +39,7 @@ left_after syncs journal = operations_left (sync_state_after syncs journal).rest
 
 -- Of each client its first operations have arrived, all of them where it has ended. The order has its names up to where it stands: where it isn't
 -- wanted, that is its next operation by the journal, or the end of its stream.
-pub record IsUnderWay (syncs : SyncLists) (p : Progress) : Type 0 where
+pub record IsOrderUnderWay (syncs : SyncLists) (p : Progress) : Type 0 where
   pub book : Arrivals
   pub is_book : IsBookOf syncs p.book book
   pub arrivals : length p.arrived ≡ 8
@@ -61,7 +61,7 @@ pub record IsFrontOfDefault (syncs : SyncLists) (journal : List Entry) : Type 0 
 
 -- between two turns each client waits or has ended, and the order is the default one of the journal so far
 pub record IsBetweenTurns (syncs : SyncLists) (p : Progress) : Type 0 where
-  pub way : IsUnderWay syncs p
+  pub way : IsOrderUnderWay syncs p
   pub settled : (client : ℕ) → client < client_count syncs → is_wanted p.book client ≡ false
   pub order : p.order ≡ default_order syncs (journal_in p.book)
   pub journal : IsFrontOfDefault syncs (journal_in p.book)

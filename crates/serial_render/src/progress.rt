@@ -8,7 +8,7 @@ ghost use Rattle.rc_base.specs.Orders.Order.{names_in, names_from, added, all_ad
 ghost use Rattle.rc_base.specs.Orders.Sync.{IsWellFormed, client_count, client_row, length_of};
 ghost use Rattle.rc_base.specs.declared.sync.SyncLists.{SyncLists as SyncListsOf};
 ghost use Rattle.sync_manager.specs.Books.{IsBookOf, clients_in, is_wanted, journal_in, names_declared};
-ghost use Rattle.serial_render.specs.Turns.{AreDeclared, told, left_after, IsUnderWay, IsBetweenTurns};
+ghost use Rattle.serial_render.specs.Turns.{AreDeclared, told, left_after, IsOrderUnderWay, IsBetweenTurns};
 
 use rc_base::items::Items;
 use rc_base::out_of_memory::OutOfMemory;
@@ -109,7 +109,7 @@ impl Progress {
         requires well { IsWellFormed syncs.now }
         requires clients { client_count syncs.now ≤ 8 }
         requires barriers { length syncs.now.counts < 256 }
-        ensures way { IfOk result (λ p. IsUnderWay syncs.now p) }
+        ensures way { IfOk result (λ p. IsOrderUnderWay syncs.now p) }
         ensures journal { IfOk result (λ p. journal_in p.book ≡ []) }
         ensures order { IfOk result (λ p. p.order ≡ []) }
     {
@@ -124,12 +124,12 @@ impl Progress {
 
     /// A client that is wanted issues up to its next operation, or to the end of its stream.
     fn advance_client(&mut self, syncs: &SyncLists, client: u8) -> Result<(), OutOfMemory>
-        requires way { IsUnderWay syncs.now self.old }
+        requires way { IsOrderUnderWay syncs.now self.old }
         requires clients { client_count syncs.now ≤ 8 }
         requires declared { AreDeclared syncs.now }
         requires client { client < client_count syncs.now }
         requires wanted { is_wanted self.old.book client ≡ true }
-        ensures way { OnOk result (IsUnderWay syncs.now self.new) }
+        ensures way { OnOk result (IsOrderUnderWay syncs.now self.new) }
         ensures journal { OnOk result (journal_in self.new.book ≡ journal_in self.old.book) }
         ensures order { OnOk result (self.new.order ≡ added client (stop syncs.now (sync_state_after syncs.now (journal_in self.old.book)) client) self.old.order) }
         ensures settled { OnOk result (is_wanted self.new.book client ≡ false) }
@@ -147,10 +147,10 @@ impl Progress {
 
     /// Each client that is wanted does, clients rising.
     pub(crate) fn advance(&mut self, syncs: &SyncLists) -> Result<(), OutOfMemory>
-        requires way { IsUnderWay syncs.now self.old }
+        requires way { IsOrderUnderWay syncs.now self.old }
         requires clients { client_count syncs.now ≤ 8 }
         requires declared { AreDeclared syncs.now }
-        ensures way { OnOk result (IsUnderWay syncs.now self.new) }
+        ensures way { OnOk result (IsOrderUnderWay syncs.now self.new) }
         ensures journal { OnOk result (journal_in self.new.book ≡ journal_in self.old.book) }
         ensures order { OnOk result (self.new.order
             ≡ all_added (λ c. true) (stop syncs.now (sync_state_after syncs.now (journal_in self.old.book))) (client_count syncs.now) self.old.order) }

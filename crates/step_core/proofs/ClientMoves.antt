@@ -27,7 +27,7 @@ use Rattle.world_model.specs.World.{Client, client_total}
 use Rattle.world_model.specs.World.{World as Model}
 use Rattle.client_issue.proofs.Tallies.{looks_are}
 use Rattle.step_core.specs.Changes.{IsClientCoreStep, IsSameDepth}
-use Rattle.step_core.specs.Ports.{waiting, IsFull, IsSamePort, where_appended}
+use Rattle.step_core.specs.Ports.{waiting, HasNoRoom, IsSamePort, where_appended}
 use Rattle.step_core.specs.Worlds.{IsClientOf, IsLaneOf, IsPortRow}
 use Rattle.step_core.specs.declared.port.Port.{Port}
 use Rattle.step_core.proofs.Lanes.{at_one, with_here, with_other, first_of_some, lane_full, lane_so}
@@ -152,7 +152,7 @@ module _ (scene : Scene) (l : Layout) (depth number : ℕ) (w : Model) (core cor
     low_tile t lt = subst (λ (x : Layout). t < tile_count x) c.whose.layout lt
 
     appends : (t : ℕ) (p : Parcel) → t < tile_count (layout_of core) → left_in core ≡ ToTile t p ∷ left_in core' → client_issue.IsTallied core core' t p
-        → IsLaneAlone t (HasGot waiting (λ x. x.full_seen) IsFull p) row row' → lane' ≡ lane → Does (moved.Appended t)
+        → IsLaneAlone t (HasGot waiting (λ x. x.full_seen) HasNoRoom p) row row' → lane' ≡ lane → Does (moved.Appended t)
     appends t p lt next tallied sent same =
         let lt : t < tile_count l = low_tile t lt in
         let own : Own = record {
@@ -209,7 +209,7 @@ module _ (scene : Scene) (l : Layout) (depth number : ℕ) (w : Model) (core cor
 
     blocked_tile : (t : ℕ) (p : Parcel) → t < tile_count (layout_of core) → ComesNext (ToTile t p) core → left_in core' ≡ left_in core
         → client_issue.AreSameTallies core core'
-        → IsLaneAlone t (IsFoundFull waiting (λ x. x.full_seen) IsFull) row row' → lane' ≡ lane → Does (moved.BlockedTile t)
+        → IsLaneAlone t (IsFoundFull waiting (λ x. x.full_seen) HasNoRoom) row row' → lane' ≡ lane → Does (moved.BlockedTile t)
     blocked_tile t p lt comes left tallies sent same =
         let lt : t < tile_count l = low_tile t lt in
         let still : (d : Port) → (slice_index_or row' t d).sent ≡ None =

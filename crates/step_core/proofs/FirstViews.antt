@@ -19,7 +19,7 @@ use Rattle.world_model.specs.World.{client_total}
 use Rattle.world_model.specs.World.{World as Model}
 use Rattle.step_core.specs.NewWorlds.{IsNew}
 use Rattle.step_core.specs.Runnable.{IsLaidOut, IsNewTileCore, new_client}
-use Rattle.step_core.specs.Worlds.{AreClientsOf, AreLanesOf, ArePortsOf, AreRowsOf, ArePartsOf, IsTileOf}
+use Rattle.step_core.specs.Worlds.{AreClientsOf, AreLanesOf, ArePortsOf, AreRowsOf, ArePartsOfTile, IsTileOf}
 use Rattle.step_core.specs.declared.cluster.Cluster.{Cluster}
 use Rattle.step_core.proofs.Changes.{same_default}
 use Rattle.step_core.proofs.Lanes.{first_of_some}
@@ -39,7 +39,7 @@ scene_units scene = refl
 abbrev new_tile : ℕ → TileCore → Tile
 new_tile clients core = record { progress = tile_standing.new_progress clients; next = 0; board = board_of core; parts = []; short = false }
 
-no_parts : (l : Layout) (tile : ℕ) (parts : List TilePart) → parts ≡ [] → ArePartsOf l tile [] parts
+no_parts : (l : Layout) (tile : ℕ) (parts : List TilePart) → parts ≡ [] → ArePartsOfTile l tile [] parts
 no_parts l tile parts none = record { count = ap length none; at = λ k e d lt few. absurd (omega arith) }
 
 tile_is : (scene : Scene) (l : Layout) (i : ℕ) (core other : TileCore) → other ≡ core → IsNewTileCore scene.decl (client_total scene) l i core

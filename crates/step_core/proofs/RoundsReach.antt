@@ -24,7 +24,7 @@ use Rattle.world_model.specs.World.{client_total}
 use Rattle.world_model.specs.World.{World as Model}
 use Rattle.world_model.specs.Work.{work_in, RoundsLeaveLess, SteppedRunsHaveLittleToDo}
 use Rattle.step_core.specs.CoreRuns.{IsFinish, IsGathered}
-use Rattle.step_core.specs.Rounds.{IsOnTheWay, IsRoundOf, IsWhole, Rounds, HasRun, IsAtEnd}
+use Rattle.step_core.specs.Rounds.{IsOnTheWay, IsRoundOf, AreAmpleRounds, Rounds, HasRun, IsAtEnd}
 use Rattle.step_core.specs.Runs.{IsRunOf, IsUnderWay, seen_as}
 use Rattle.step_core.specs.Schedules.{WorldView, picks_of}
 use Rattle.step_core.specs.Worlds.{IsSeen, IsViewOf}
@@ -145,7 +145,7 @@ module _ (laws : RoundLaws) where
 
       -- where memory hasn't lacked, the round is one of moves, and leads to a world in which nobody is short
       record IsMoved : Type 0 where
-        pub was : IsWhole world n before h.model
+        pub was : AreAmpleRounds world n before h.model
         pub ample : AreAmple scene l r.later
         pub moves : List Move
         pub turns : r.turns ≡ map turn_of moves

@@ -36,7 +36,7 @@ use Rattle.world_model.specs.Tiles.{Tile, next_after, parts_after, without_pixel
 use Rattle.world_model.specs.World.{client_total}
 use Rattle.world_model.specs.World.{World as Model}
 use Rattle.step_core.specs.Changes.{IsTileStepped, ArePartsKept, with_shown}
-use Rattle.step_core.specs.Worlds.{AreShown, IsSeenAs, IsTileOf, IsPartOf, ArePartsOf, AreLanesOf, IsLaneOf}
+use Rattle.step_core.specs.Worlds.{AreShown, IsSeenAs, IsTileOf, IsPartOf, ArePartsOfTile, AreLanesOf, IsLaneOf}
 use Rattle.step_core.specs.Settling.{AreSettled, CanSettle}
 use Rattle.step_core.specs.Steps.{IsTurned}
 use Rattle.step_core.specs.declared.cluster.Cluster.{Cluster}
@@ -53,8 +53,8 @@ use Rattle.step_core.proofs.TileDeeds.{same_taken, same_granted, same_next, awai
 shown_part : (l : Layout) (tile frame : ℕ) (b : Board) (part : TilePart) → boards.IsPartOf l tile frame b part → IsPartOf l tile frame b.pixel part
 shown_part l tile frame b part h = record { tile = h.tile; frame = h.frame; count = h.count; pixel = h.pixel }
 
-one_more : (l : Layout) (tile : ℕ) (pixels : Pixels) (shown : List Pixels) (parts : List TilePart) (part : TilePart) → ArePartsOf l tile shown parts
-    → (length shown + 1 < 2 ^ 32 → IsPartOf l tile (length shown + 1) pixels part) → ArePartsOf l tile (shown ++ pixels ∷ []) (parts ++ part ∷ [])
+one_more : (l : Layout) (tile : ℕ) (pixels : Pixels) (shown : List Pixels) (parts : List TilePart) (part : TilePart) → ArePartsOfTile l tile shown parts
+    → (length shown + 1 < 2 ^ 32 → IsPartOf l tile (length shown + 1) pixels part) → ArePartsOfTile l tile (shown ++ pixels ∷ []) (parts ++ part ∷ [])
 one_more l tile pixels shown parts part h is = record {
   count = length-append parts (part ∷ []) ∙ ap (λ n. n + 1) h.count ∙ sym (length-append shown (pixels ∷ []));
   at = λ k e d lt few. elim (cases_lt k (length shown)) [
@@ -77,17 +77,17 @@ one_more l tile pixels shown parts part h is = record {
 parts_go_on : (l : Layout) (tile : ℕ) (p : Progress) (b : Board) (shown : List Pixels) (parts parts' : List TilePart) (deed : TileDeed)
     (m : TileMoved)
     → answer_of deed ≡ Ok m → IsNextDeed false p deed → IsShown l tile p b deed → length shown ≡ shown_frames p → parts' ≡ with_shown m parts
-    → ArePartsOf l tile shown parts → ArePartsOf l tile (parts_after (item_of deed) b.pixel shown) parts'
+    → ArePartsOfTile l tile shown parts → ArePartsOfTile l tile (parts_after (item_of deed) b.pixel shown) parts'
 parts_go_on l tile p b shown parts parts' deed m ok next is count kept h = elim (shows_or_not p deed m b.pixel shown parts ok next) [
   | inl s ↦
-      subst (λ (x : List Pixels). ArePartsOf l tile x parts') (sym s.2)
-      (subst (λ (x : List TilePart). ArePartsOf l tile (shown ++ b.pixel ∷ []) x) (sym (kept ∙ s.3))
+      subst (λ (x : List Pixels). ArePartsOfTile l tile x parts') (sym s.2)
+      (subst (λ (x : List TilePart). ArePartsOfTile l tile (shown ++ b.pixel ∷ []) x) (sym (kept ∙ s.3))
       (one_more l tile b.pixel shown parts s.0 h
       (subst (λ n. n + 1 < 2 ^ 32 → IsPartOf l tile (n + 1) b.pixel s.0) (sym count)
       (λ few. shown_part l tile (shown_frames p + 1) b s.0 (is s.0 s.1 few)))))
   | inr s ↦
-      subst (λ (x : List Pixels). ArePartsOf l tile x parts') (sym s.0)
-      (subst (λ (x : List TilePart). ArePartsOf l tile shown x) (sym (kept ∙ s.1)) h)
+      subst (λ (x : List Pixels). ArePartsOfTile l tile x parts') (sym s.0)
+      (subst (λ (x : List TilePart). ArePartsOfTile l tile shown x) (sym (kept ∙ s.1)) h)
 ]
 
 -- ---- the tile and the world after it
@@ -376,7 +376,7 @@ module _ (scene : Scene) (l : Layout) (depth tile : ℕ) (before : Cluster) (w :
         let ample : is_short s.core ≡ false = core_is.short ∙ all.tiles tile low in
         let whole : is_short s.core' ≡ false = s.step.step.short ∙ ap (λ b. cond b true (is_short s.core)) (no_loss s.deed m answered) ∙ ample in
         let board = core_is.board (sym core_is.short ∙ ample) in
-        let here : (d : Vec TilePart Global) → ArePartsOf l tile (parts_after (item_of s.deed) was.board.pixel was.parts) (slice_index_or parts.items tile d).items =
+        let here : (d : Vec TilePart Global) → ArePartsOfTile l tile (parts_after (item_of s.deed) was.board.pixel was.parts) (slice_index_or parts.items tile d).items =
         λ d. parts_go_on l tile was.progress was.board was.parts (slice_index_or before.parts.items tile d).items (slice_index_or parts.items tile d).items
         s.deed m answered (next_so false ample)
         (shown_at _ _ _ _ was.progress _ _ s.deed core_is.layout core_is.number_of board (s.step.step.shown was.progress core_is.progress))
@@ -384,11 +384,11 @@ module _ (scene : Scene) (l : Layout) (depth tile : ℕ) (before : Cluster) (w :
         record {
           count = kept.count ∙ shown.count;
           at = at_one (λ i. (d : Vec TilePart Global) → i < tile_count l
-              → ArePartsOf l i ((later.tiles i).parts) (slice_index_or parts.items i d).items) tile
-              (λ d lt. subst (λ (x : Tile). ArePartsOf l tile x.parts (slice_index_or parts.items tile d).items) (sym (tile_now false whole)) (here d))
-              (λ i ne d lt. subst (λ (x : Tile). ArePartsOf l i x.parts (slice_index_or parts.items i d).items)
+              → ArePartsOfTile l i ((later.tiles i).parts) (slice_index_or parts.items i d).items) tile
+              (λ d lt. subst (λ (x : Tile). ArePartsOfTile l tile x.parts (slice_index_or parts.items tile d).items) (sym (tile_now false whole)) (here d))
+              (λ i ne d lt. subst (λ (x : Tile). ArePartsOfTile l i x.parts (slice_index_or parts.items i d).items)
               (sym (with_other w.tiles tile (tile_after (is_short s.core') was s.deed s.core') i ne))
-              (subst (λ (x : Vec TilePart Global). ArePartsOf l i (w.tiles i).parts x.items) (sym (kept.others i d ne)) (shown.at i d lt)));
+              (subst (λ (x : Vec TilePart Global). ArePartsOfTile l i (w.tiles i).parts x.items) (sym (kept.others i d ne)) (shown.at i d lt)));
         }
 
     -- ---- what the step answers

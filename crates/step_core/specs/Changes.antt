@@ -16,7 +16,7 @@ use Rattle.client_issue.specs.Deeds.{ClientDeed}
 use Rattle.client_issue.specs.Deeds.{answer_of as client_answer}
 use Rattle.client_issue.specs.Steps.{AreSent, IsClientStep, IsRequested}
 use Rattle.client_issue.specs.declared.client.ClientCore.{ClientCore}
-use Rattle.step_core.specs.Ports.{waiting, IsFull, IsSamePort, IsChanged}
+use Rattle.step_core.specs.Ports.{waiting, HasNoRoom, IsSamePort, IsChanged}
 use Rattle.step_core.specs.declared.port.Port.{Port}
 use Rattle.tile_server.specs.Cores.{IsTileStep, AreTaken, AreFoundEmpty, IsHeard, IsCountedUnheard}
 use Rattle.tile_server.specs.Deeds.{answer_of}
@@ -78,7 +78,7 @@ pub record IsClientCoreStep (deed : ClientDeed) (core core' : ClientCore) (row r
   pub same_ports : EachLane (λ i x y. IsSamePort x y) row row'
   pub lane_depth : IsSameDepth lane lane'
   pub step : IsClientStep core deed core'
-  pub sent : AreSent waiting (λ x. x.full_seen) IsFull deed row row'
+  pub sent : AreSent waiting (λ x. x.full_seen) HasNoRoom deed row row'
   pub requested : IsRequested held (λ x. x.full_seen) (λ x. length (held x) ≡ depth_of x) deed lane lane'
 
 -- a client's core took a step, which was answered so, among the others

@@ -34,8 +34,8 @@ abbrev pub waiting : Port → List Parcel
 waiting port = option_to_list port.sent
 
 -- it refuses where nothing waits only when the lane is full
-abbrev pub IsFull : Port → Type 0
-IsFull port = port.sent ≡ None → port.count ≡ port.depth
+abbrev pub HasNoRoom : Port → Type 0
+HasNoRoom port = port.sent ≡ None → port.count ≡ port.depth
 
 -- as many items stand at the tile, and may stand there
 abbrev pub IsSamePort : Port → Port → Type 0

@@ -14,7 +14,7 @@ use Rattle.world_model.specs.World.{World as Model}
 use Rattle.world_model.specs.Work.{work_in}
 use Rattle.order_model.specs.Scenes.{IsRunnable}
 use Rattle.step_core.specs.Schedules.{WorldView, picks_of}
-use Rattle.step_core.specs.Steps.{IsKept}
+use Rattle.step_core.specs.Steps.{KeepsParts}
 use Rattle.step_core.specs.Worlds.{AreShown, IsSeenAs, IsViewOf}
 use Rattle.step_core.specs.declared.actor.Stepped.{Stepped}
 use Rattle.step_core.specs.declared.actor.Stepped.TheVariants as stepped
@@ -48,7 +48,7 @@ pub record IsRoundOf (scene : Scene) (l : Layout) (depth n : ℕ) (w : Model) (b
   pub turned : AreTurns scene l depth w turns later
   pub view : IsSeenAs scene l depth after later
   pub tells : IsRound round turns
-  pub kept : after.lacking ≡ false → IsKept scene l w later before after
+  pub kept : after.lacking ≡ false → KeepsParts scene l w later before after
 
 -- whatever world the cluster was seen as
 pub record IsRoundBelow (n : ℕ) (before : Cluster) (round : Round) (after : Cluster) : Type 0 where
@@ -68,7 +68,7 @@ pub record IsReached (scene : Scene) (l : Layout) (depth : ℕ) (picks : List �
       → AllHaveEnded scene l v → ⊥
 
 -- nobody is short in it, and the parts are kept
-pub record IsWhole (world : WorldView) (rounds : ℕ) (cluster : Cluster) (model : Model) : Type 0 where
+pub record AreAmpleRounds (world : WorldView) (rounds : ℕ) (cluster : Cluster) (model : Model) : Type 0 where
   pub reached : IsReached world.scene world.layout world.depth (picks_of world) rounds model
   pub ample : AreAmple world.scene world.layout model
   pub parts : AreShown world.scene world.layout model.tiles cluster.parts.items
@@ -81,7 +81,7 @@ pub record IsOnTheWay (world : WorldView) (rounds : ℕ) (cluster : Cluster) : T
   pub view : IsSeenAs world.scene world.layout world.depth cluster model
   pub flowing : IsFlowing world.scene world.layout model
   pub less : rounds + work_in world.scene world.layout model < 2 ^ 40
-  pub whole : cluster.lacking ≡ false → IsWhole world rounds cluster model
+  pub whole : cluster.lacking ≡ false → AreAmpleRounds world rounds cluster model
 
 -- The cluster is seen as where a run of a scene leads in which all have ended.
 pub record HasRun (scene : Scene) (l : Layout) (cluster : Cluster) : Type 0 where

@@ -48,7 +48,7 @@ pub record IsTurnSaid (turn : Turn) (said : Stepped) : Type 0 where
   pub goes_on : (said ≡ Ended → ⊥) → IsLastTurn turn → ⊥
 
 -- Where memory has lacked in no step until after it, nobody becomes short, and the parts that the tiles show are kept.
-pub record IsKept (scene : Scene) (l : Layout) (w later : Model) (before after : Cluster) : Type 0 where
+pub record KeepsParts (scene : Scene) (l : Layout) (w later : Model) (before after : Cluster) : Type 0 where
   pub lacking : before.lacking ≡ false
   pub ample : AreAmple scene l w → AreAmple scene l later
   pub parts : AreAmple scene l w → AreShown scene l w.tiles before.parts.items → AreShown scene l later.tiles after.parts.items
@@ -61,7 +61,7 @@ pub record IsAttempt (scene : Scene) (l : Layout) (depth number : ℕ) (w : Mode
   pub actor : number_of scene turn ≡ number
   pub tells : IsTurnSaid turn said
   pub view : IsSeenAs scene l depth after later
-  pub kept : after.lacking ≡ false → IsKept scene l w later before after
+  pub kept : after.lacking ≡ false → KeepsParts scene l w later before after
 
 abbrev pub Attempts : ℕ → Cluster → Stepped → Cluster → Type 0
 Attempts number before said after =

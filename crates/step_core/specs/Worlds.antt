@@ -73,7 +73,7 @@ pub record IsPartOf (l : Layout) (this_tile this_frame : ℕ) (pixels : Pixels) 
       → slice_get part.pixels (pixel_index (tile_rectangle l this_tile) (pos x) (pos y)) ≡ Some (pixels (pos x) (pos y))
 
 -- Of each frame that the tile has shown one part, frames rising from 1, as long as their number has 32 bits.
-pub record ArePartsOf (l : Layout) (this_tile : ℕ) (shown : List Pixels) (parts : List TilePart) : Type 0 where
+pub record ArePartsOfTile (l : Layout) (this_tile : ℕ) (shown : List Pixels) (parts : List TilePart) : Type 0 where
   pub count : length parts ≡ length shown
   pub at : (k : ℕ) (e : Pixels) (d : TilePart) → k < length shown → k + 1 < 2 ^ 32
       → IsPartOf l this_tile (k + 1) (slice_index_or shown k e) (slice_index_or parts k d)
@@ -114,7 +114,7 @@ module _ (scene : Scene) (l : Layout) where
 
   pub record AreShown (tiles : ℕ → Tile) (parts : List (Vec TilePart Global)) : Type 0 where
     pub count : length parts ≡ tile_count l
-    pub at : (i : ℕ) (d : Vec TilePart Global) → i < tile_count l → ArePartsOf l i ((tiles i).parts) (slice_index_or parts i d).items
+    pub at : (i : ℕ) (d : Vec TilePart Global) → i < tile_count l → ArePartsOfTile l i ((tiles i).parts) (slice_index_or parts i d).items
 
 -- ---- all of it
 

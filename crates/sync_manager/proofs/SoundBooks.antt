@@ -10,7 +10,7 @@ use Rattle.rc_base.specs.declared.sync.Entry.TheVariants.{Meet, Swap, Give, Take
 use Rattle.rc_base.specs.declared.sync.SyncOp.{SyncOp}
 use Rattle.rc_base.specs.declared.sync.WaitAt.{WaitAt}
 use Rattle.scene_lemmas.proofs.Numbered.{how_many_at_most}
-use Rattle.sync_manager.specs.Stored.{wait_at, is_name, is_named, grant_at, IsUnitThere, IsSound}
+use Rattle.sync_manager.specs.Stored.{wait_at, is_name, is_named, grant_at, IsUnitThere, IsSoundBook}
 use Rattle.sync_manager.proofs.FirstEntries.{IsFirst, first_is}
 use Rattle.std.proofs.lemmas.Option.{slice_get_past}
 use Rattle.std.proofs.Math.ListN.{length-set}
@@ -51,7 +51,7 @@ waits_at : (o : Option WaitAt) (op : SyncOp) → option_map (λ (w : WaitAt). w.
 waits_at None op h = absurd cc
 waits_at (Some w) op h = (w, refl, cc)
 
-module _ (n : ℕ) (counts units : List ℕ) (waiting : List (Option WaitAt)) (len cap : ℕ) (sound : IsSound n counts units waiting len cap) where
+module _ (n : ℕ) (counts units : List ℕ) (waiting : List (Option WaitAt)) (len cap : ℕ) (sound : IsSoundBook n counts units waiting len cap) where
   within : (c : ℕ) (w : WaitAt) → wait_at waiting c ≡ Some w → c < n
   within c w h = elim (cases_lt c n) [ inl lt ↦ lt | inr ge ↦ let none = sound.beyond c ge in absurd cc ]
 
@@ -106,7 +106,7 @@ module _ (n : ℕ) (counts units : List ℕ) (waiting : List (Option WaitAt)) (l
   -- it stays sound where an entry is carried out
   pub sound_granted : (e : Entry) (later : List (Option WaitAt)) (moved : List ℕ) → grant_at counts units waiting n ≡ Some e
       → ((c : ℕ) → wait_at later c ≡ cond (is_member n e c) None (wait_at waiting c)) → length later ≡ length waiting → length moved ≡ length units
-      → ((k : ℕ) → slice_index_or moved k 0 ≤ slice_index_or units k 0 + 1) → IsSound n counts moved later (len + 1) cap
+      → ((k : ℕ) → slice_index_or moved k 0 ≤ slice_index_or units k 0 + 1) → IsSoundBook n counts moved later (len + 1) cap
   sound_granted e later moved h waits kept same grown =
       let a = a_member e h in
       let m = member e h a.0 a.1 in
@@ -129,7 +129,7 @@ module _ (n : ℕ) (counts units : List ℕ) (waiting : List (Option WaitAt)) (l
 
   -- and where an operation arrives
   pub sound_arrived : (client : ℕ) (w : WaitAt) (capacity : ℕ) → client < n → is_named (length counts) (length units) w.op ≡ true → len + 8 ≤ capacity
-      → IsSound n counts units (set waiting client (Some w)) len capacity
+      → IsSoundBook n counts units (set waiting client (Some w)) len capacity
   sound_arrived client w capacity low named fits = record {
     some = sound.some;
     most = sound.most;
@@ -157,7 +157,7 @@ nobody_waits (suc n) zero = refl
 nobody_waits (suc n) (suc c) = nobody_waits n c
 
 pub sound_new : (n : ℕ) (counts units : List ℕ) (cap : ℕ) → 0 < n → n ≤ 8 → length counts < 256 → ((barrier count : ℕ) → at_name counts barrier ≡ Some count → 0 < count)
-    → ((k : ℕ) → slice_index_or units k 0 ≤ 65535) → IsSound n counts units (replicate 8 None) 0 cap
+    → ((k : ℕ) → slice_index_or units k 0 ≤ 65535) → IsSoundBook n counts units (replicate 8 None) 0 cap
 sound_new n counts units cap some most names counted bounded = record {
   some = some;
   most = most;

@@ -69,7 +69,7 @@ grant_at counts units waiting n =
 -- ---- what holds of every book
 
 -- There are 1 to 8 clients, each barrier counts one or more, only clients wait, at what is declared; and there is room for an entry of each that waits.
-pub record IsSound (clients : ℕ) (counts units : List ℕ) (waiting : List (Option WaitAt)) (entries capacity : ℕ) : Type 0 where
+pub record IsSoundBook (clients : ℕ) (counts units : List ℕ) (waiting : List (Option WaitAt)) (entries capacity : ℕ) : Type 0 where
   pub some : 0 < clients
   pub most : clients ≤ 8
   pub slots : length waiting ≡ 8

@@ -1,7 +1,7 @@
 //! The book.
 ghost use Rattle.std.specs.Prelude.{length};
 ghost use Rattle.std.specs.Vec.{vec_len, vec_capacity};
-ghost use Rattle.sync_manager.specs.Stored.{IsSound};
+ghost use Rattle.sync_manager.specs.Stored.{IsSoundBook};
 
 use crate::search::{grant_at, is_name};
 use crate::unit::{move_unit, release, widened};
@@ -21,7 +21,7 @@ pub struct Book {
     waiting: [Option<WaitAt>; 8],
     ended: [bool; 8],
     entries: Vec<Entry>,
-    pub ghost is_sound: { IsSound clients counts units.items waiting (vec_len entries) (vec_capacity entries) },
+    pub ghost is_sound: { IsSoundBook clients counts units.items waiting (vec_len entries) (vec_capacity entries) },
 }
 
 impl Book {

@@ -11,7 +11,7 @@ use Rattle.rc_base.specs.declared.sync.Name.{Name}
 use Rattle.rc_base.specs.declared.sync.SyncLists.{SyncLists}
 use Rattle.rc_base.specs.declared.sync.WaitAt.{WaitAt}
 use Rattle.order_model.specs.Laws.{AreOfClients}
-use Rattle.order_model.specs.Log.{Job, IsNext, AreSent, waits_in, ReplaysFrom, jobs_after, entries_after, logged}
+use Rattle.order_model.specs.Log.{Job, IsNext, AreJobsOf, waits_in, ReplaysFrom, jobs_after, entries_after, logged}
 use Rattle.order_model.specs.Log.Job.{Wait}
 use Rattle.order_model.specs.Standing.{Progress, IsUnderWay, cursor_of, performed_in, is_over}
 use Rattle.order_model.specs.declared.record.LogEntry.TheVariants.{Performed}
@@ -109,7 +109,7 @@ plus_one b k e = rw e (omega arith)
 pub plus_none : (b : Bool) (k : ℕ) → b ≡ false → cond {A = ℕ} b 1 0 + 0 + k ≡ k
 plus_none b k e = rw e (omega arith)
 
-pub performs : (syncs : SyncLists) (js : List Entry) (jobs : ℕ → List Job) (p : Progress) (e : Entry) → AreSent syncs jobs → IsLegal syncs js → IsUnderWay syncs js jobs p
+pub performs : (syncs : SyncLists) (js : List Entry) (jobs : ℕ → List Job) (p : Progress) (e : Entry) → AreJobsOf syncs jobs → IsLegal syncs js → IsUnderWay syncs js jobs p
     → IsAwaited p (Due e) → IsUnderWay syncs js jobs (after_performed p e)
 performs syncs js jobs p e sent legal h a =
     let n = client_count syncs in

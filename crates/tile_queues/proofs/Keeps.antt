@@ -7,7 +7,7 @@ use lib.ListN.{get_elem?}
 use Rattle.crossbeam_queue.specs.Fifo.{Pushes, Pops, Forks, Merges, Learns, Held}
 use Rattle.crossbeam_queue.proofs.Lists.{at_set, at_snoc}
 use Rattle.tile_queues.specs.declared.rule.History.{History}
-use Rattle.tile_queues.specs.Rule.{history, Fits, InOrder, new_pass, sender_pass, receiver_pass, both_passes, spent_pass, Appends, IsWithinSent, Takes, TakesNext, IsLeft, left_of}
+use Rattle.tile_queues.specs.Rule.{history, Fits, InOrder, new_pass, sender_pass, receiver_pass, both_passes, spent_pass, Appends, IsWithinSent, TakesItem, TakesNext, IsHeld, left_of}
 
 module _ {T : Type 0} where
   -- the pass that came last
@@ -58,7 +58,7 @@ module _ {T : Type 0} where
         refl,
       )
 
-  pub takes : (pass : ℕ) (h : History T) → h.takes ≡ true → Pops InOrder pass h (Takes h)
+  pub takes : (pass : ℕ) (h : History T) → h.takes ≡ true → Pops InOrder pass h (TakesItem h)
   takes pass h may x items views rule at =
       let w : History T = history h.sends h.takes h.depth h.sent (h.taken ++ x ∷ []) in
       let mine = rule.passes pass h at in
@@ -131,7 +131,7 @@ module _ {T : Type 0} where
         passes = each_set (Fits rule.sender pass rule.depth rule.sent rule.taken) vs other spent_pass ((λ p. absurd (true≢false (sym p))), λ p. absurd (true≢false (sym p))) (λ j y apart e. now j y e apart);
       }
 
-  pub is_left : (pass : ℕ) (h : History T) → h.sends ≡ true → h.takes ≡ true → Learns InOrder pass h (IsLeft h)
+  pub is_left : (pass : ℕ) (h : History T) → h.sends ≡ true → h.takes ≡ true → Learns InOrder pass h (IsHeld h)
   is_left pass h a b items views rule at =
       let mine = rule.passes pass h at in
       let sender = mine.0 a in
@@ -155,7 +155,7 @@ module _ {T : Type 0} where
 
   -- what a pop of the rest leaves
   pub drained : (r : Option T) (h w : History T) → h.sends ≡ true → h.takes ≡ true → h.sent ≡ h.taken ++ left_of h
-      → MatchOption r ((w ≡ h) × Held 0 (IsLeft h)) (λ x. TakesNext h x w)
+      → MatchOption r ((w ≡ h) × Held 0 (IsHeld h)) (λ x. TakesNext h x w)
       → Drained r h w
   drained None h w a b ordered got =
       let none : left_of h ≡ [] = left_at h got.1.0 got.1.2.0 ∙ no_items got.1.0 got.1.1 in

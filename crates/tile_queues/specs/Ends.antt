@@ -1,7 +1,7 @@
 -- What a clause says of the ends of a lane.
 use Rattle.std.specs.Prelude.{ℕ, List, slice_index}
 use Rattle.crossbeam_queue.specs.Passes.{view}
-use Rattle.tile_queues.specs.Rule.{left_of, name_of}
+use Rattle.tile_queues.specs.Rule.{left_of, lane_name}
 use Rattle.tile_queues.specs.declared.ends.LaneIn.{LaneIn}
 use Rattle.tile_queues.specs.declared.ends.LaneOut.{LaneOut}
 use Rattle.tile_queues.specs.declared.ends.Rest.{Rest}
@@ -17,11 +17,11 @@ module _ {T R : Type 0} where
 
   -- the lane of a sending end
   abbrev pub lane_in : LaneIn T R → List ℕ
-  lane_in a = name_of a.pass
+  lane_in a = lane_name a.pass
 
   -- the lane of a receiving end
   abbrev pub lane_out : LaneOut T R → List ℕ
-  lane_out b = name_of b.pass
+  lane_out b = lane_name b.pass
 
   -- all that was ever popped of a lane, by its receiving end or from its rest
   abbrev pub taken_in : Rest T R → List T
@@ -33,12 +33,12 @@ module _ {T R : Type 0} where
 
   -- the lane of a rest
   abbrev pub lane_rest : Rest T R → List ℕ
-  lane_rest r = name_of r.pass
+  lane_rest r = lane_name r.pass
 
   -- what is still to come
   abbrev pub rest_of : Rest T R → List T
   rest_of r = left_of (view r.pass)
 
 -- how many items a lane holds at most
-abbrev pub depth_of : List ℕ → ℕ
-depth_of lane = slice_index lane 0
+abbrev pub lane_depth : List ℕ → ℕ
+lane_depth lane = slice_index lane 0

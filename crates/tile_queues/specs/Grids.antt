@@ -1,7 +1,7 @@
 -- Rows and columns of the ends of lanes.
 use Rattle.std.specs.Prelude.{◌≡◌, ◌<◌, ℕ, List, [], ◌∷◌, ◌++◌, Vec, length, slice_index_or}
 use Rattle.rc_base.specs.Lists.{IsFront}
-use Rattle.tile_queues.specs.Ends.{sent_of, taken_of, lane_in, lane_out, sent_in, taken_in, lane_rest, depth_of}
+use Rattle.tile_queues.specs.Ends.{sent_of, taken_of, lane_in, lane_out, sent_in, taken_in, lane_rest, lane_depth}
 use Rattle.tile_queues.specs.declared.ends.LaneIn.{LaneIn}
 use Rattle.tile_queues.specs.declared.ends.LaneOut.{LaneOut}
 use Rattle.tile_queues.specs.declared.ends.Rest.{Rest}
@@ -10,7 +10,7 @@ module _ {T R : Type 0} where
   -- the two ends of a new lane, which holds so many items at most
   pub record IsFresh (depth : ℕ) (a : LaneIn T R) (b : LaneOut T R) : Type 0 where
     pub lane : lane_out b ≡ lane_in a
-    pub deep : depth_of (lane_in a) ≡ depth
+    pub deep : lane_depth (lane_in a) ≡ depth
     pub unsent : sent_of a ≡ []
     pub untaken : taken_of b ≡ []
 

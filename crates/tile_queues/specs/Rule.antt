@@ -55,8 +55,8 @@ module _ {T : Type 0} where
   IsWithinSent h held = length held ≤ length h.sent
 
   -- what was taken grows by the item
-  abbrev pub Takes : History T → T → History T → Type 0
-  Takes h item after = after ≡ history h.sends h.takes h.depth h.sent (h.taken ++ item ∷ [])
+  abbrev pub TakesItem : History T → T → History T → Type 0
+  TakesItem h item after = after ≡ history h.sends h.takes h.depth h.sent (h.taken ++ item ∷ [])
 
   -- the sender's pass, which knows now what the receiver took
   abbrev pub both_passes : History T → History T → History T
@@ -68,16 +68,16 @@ module _ {T : Type 0} where
 
   -- what was taken grows by the item, which was sent next
   abbrev pub TakesNext : History T → T → History T → Type 0
-  TakesNext h item after = Takes h item after × ((later : List T) × (h.sent ≡ h.taken ++ item ∷ later))
+  TakesNext h item after = TakesItem h item after × ((later : List T) × (h.sent ≡ h.taken ++ item ∷ later))
 
   -- what is held is all that was sent and not taken
-  abbrev pub IsLeft : History T → List T → Type 0
-  IsLeft h held = (h.sent ≡ h.taken ++ held) × (length held ≤ h.depth)
+  abbrev pub IsHeld : History T → List T → Type 0
+  IsHeld h held = (h.sent ≡ h.taken ++ held) × (length held ≤ h.depth)
 
   -- what was sent and not taken
   abbrev pub left_of : History T → List T
   left_of h = drop (length h.taken) h.sent
 
   -- which lane a pass is of, as a list of numbers, whose first is how many items the lane holds at most
-  abbrev pub name_of : Pass T (History T) → List ℕ
-  name_of p = p.table_id.slots ∷ p.table_id.words ∷ p.table_id.views_name ∷ p.table_id.atom ∷ p.table_id.block ∷ p.table_id.offset ∷ p.table_id.slot_names
+  abbrev pub lane_name : Pass T (History T) → List ℕ
+  lane_name p = p.table_id.slots ∷ p.table_id.words ∷ p.table_id.views_name ∷ p.table_id.atom ∷ p.table_id.block ∷ p.table_id.offset ∷ p.table_id.slot_names

@@ -1,8 +1,8 @@
 //! Making a lane, what is done at its ends, and bringing them together.
 ghost use Rattle.std.specs.Prelude.{◌≡◌, ℕ, true, List, [], ◌∷◌, ◌++◌, ◌<◌, ◌≤◌, length, IfOk, IfSome, IfNone};
 ghost use Rattle.crossbeam_queue.specs.Passes.{view, ruled_capacity, IsPassOf, IsSamePass};
-ghost use Rattle.tile_queues.specs.Ends.{sent_of, taken_of, lane_in, lane_out, rest_of, taken_in, sent_in, lane_rest, depth_of};
-ghost use Rattle.tile_queues.specs.Rule.{new_pass, sender_pass, receiver_pass, Takes, left_of};
+ghost use Rattle.tile_queues.specs.Ends.{sent_of, taken_of, lane_in, lane_out, rest_of, taken_in, sent_in, lane_rest, lane_depth};
+ghost use Rattle.tile_queues.specs.Rule.{new_pass, sender_pass, receiver_pass, TakesItem, left_of};
 
 use crate::ends::{LaneIn, LaneOut, Rest};
 use crate::rule::{Depth, Draining, History, Joining, Line, Parting, Sending, Taking};
@@ -47,7 +47,7 @@ pub fn lane<T: Drop, R: Copy>(
 ) -> Result<(LaneIn<T, R>, LaneOut<T, R>), OutOfMemory>
     requires { (1 ≤ depth) × (depth ≤ 16) }
     ensures pair { IfOk result (λ ends. lane_out ends.1 ≡ lane_in ends.0) }
-    ensures depth { IfOk result (λ ends. depth_of (lane_in ends.0) ≡ depth) }
+    ensures depth { IfOk result (λ ends. lane_depth (lane_in ends.0) ≡ depth) }
     ensures empty { IfOk result (λ ends. (sent_of ends.0 ≡ []) × (taken_of ends.1 ≡ [])) }
 {
     let (line, mut sender) = new_line(alloc, depth)?;
@@ -81,7 +81,7 @@ impl<T, R> LaneIn<T, R> {
 
 impl<T: Drop, R: Wait> Outlet<T> for LaneIn<T, R> {
     ghost use Rattle.std.specs.Prelude.{◌≤◌, length};
-    ghost use Rattle.tile_queues.specs.Ends.{sent_of, lane_in, depth_of};
+    ghost use Rattle.tile_queues.specs.Ends.{sent_of, lane_in, lane_depth};
 
     ghost sent = { sent_of };
 
@@ -89,7 +89,7 @@ impl<T: Drop, R: Wait> Outlet<T> for LaneIn<T, R> {
 
     ghost lane_of = { lane_in };
 
-    ghost full = { λ a. depth_of (lane_in a) ≤ length (sent_of a) };
+    ghost full = { λ a. lane_depth (lane_in a) ≤ length (sent_of a) };
 
     fn push(&mut self, item: T) -> Result<(), T> {
         if self.pushed >= MOST {
@@ -158,7 +158,7 @@ impl<T: Drop, R: Wait> Inlet<T> for LaneOut<T, R> {
 pub fn close<T: Drop, R: Copy>(a: LaneIn<T, R>, b: LaneOut<T, R>) -> Rest<T, R>
     requires { lane_out b ≡ lane_in a }
     ensures order { sent_of a ≡ taken_of b ++ rest_of result }
-    ensures held { length (rest_of result) ≤ depth_of (lane_in a) }
+    ensures held { length (rest_of result) ≤ lane_depth (lane_in a) }
     ensures taken { taken_in result ≡ taken_of b }
     ensures sent { sent_in result ≡ sent_of a }
     ensures lane { lane_rest result ≡ lane_in a }
@@ -190,7 +190,7 @@ fn drain<T, R: Wait>(rt: &R, line: &Line<T>, pass: &mut Pass<T, History<T>>) -> 
     ensures ordered { (view pass.new).sent ≡ (view pass.new).taken ++ left_of (view pass.new) }
     ensures some { IfSome result (λ x. left_of (view pass.old) ≡ x ∷ left_of (view pass.new)) }
     ensures none { IfNone result ((left_of (view pass.old) ≡ []) × (left_of (view pass.new) ≡ [])) }
-    ensures given { IfSome result (λ x. Takes (view pass.old) x (view pass.new)) }
+    ensures given { IfSome result (λ x. TakesItem (view pass.old) x (view pass.new)) }
     ensures same { IfNone result (view pass.new ≡ view pass.old) }
 {
     line.pop_as::<Draining, R>(rt, pass)

@@ -79,9 +79,9 @@ impl<T> Lesson<T, History<T>> for Sending {
 pub struct Taking;
 
 impl<T> Outcome<T, History<T>> for Taking {
-    ghost use Rattle.tile_queues.specs.Rule.{Takes};
+    ghost use Rattle.tile_queues.specs.Rule.{TakesItem};
 
-    ghost then = { Takes };
+    ghost then = { TakesItem };
 }
 
 impl<T> Lesson<T, History<T>> for Taking {
@@ -100,7 +100,7 @@ impl<T> Outcome<T, History<T>> for Draining {
 }
 
 impl<T> Lesson<T, History<T>> for Draining {
-    ghost use Rattle.tile_queues.specs.Rule.{IsLeft};
+    ghost use Rattle.tile_queues.specs.Rule.{IsHeld};
 
-    ghost fact = { IsLeft };
+    ghost fact = { IsHeld };
 }

@@ -28,7 +28,7 @@ use Rattle.rc_base.specs.declared.window.Pixel.{Pixel}
 use Rattle.rc_base.specs.Contexts.Context.{default_state}
 use Rattle.rc_base.specs.declared.state.Parcel.{Parcel}
 use Rattle.rc_base.specs.declared.window.Layout.{Layout}
-use Rattle.draw_device.specs.Stored.{IsWritable, set_after}
+use Rattle.draw_device.specs.Stored.{IsStorable, set_after}
 use Rattle.draw_device.specs.Conditions.{IsClearable, shared_of}
 use Rattle.draw_device.specs.Devices.{DeviceView, EachTakes, pixel_of}
 use Rattle.textures.specs.Images.{HasTexelIfAny, texture_image, with_texture_part}
@@ -166,7 +166,7 @@ module _ (d : Decl) (k : Kept) (set : List (Option Picture)) (fit : IsFit d k) (
 -- ---- writing shared textures
 
 module _ (d : Decl) (set : List (Option Picture)) (has : HasTexels d.shared (texels_in set) set) where
-  part_writable : (part : Part) → is_shared_part d part ≡ true → IsWritable part set
+  part_writable : (part : Part) → is_shared_part d part ≡ true → IsStorable part set
   part_writable part is =
       let both = and_parts (is_name part.name (length d.shared) && length part.texels == 4 * (part.w * part.h)) (lies_inside part (slice_index (shared_sides d.shared part.name) 0) (slice_index (shared_sides d.shared part.name) 1)) is in
       let first = and_parts (is_name part.name (length d.shared)) (length part.texels == 4 * (part.w * part.h)) both.0 in
@@ -180,10 +180,10 @@ module _ (d : Decl) (set : List (Option Picture)) (has : HasTexels d.shared (tex
       }
 
   -- the part that an act writes
-  pub act_writable : (a : Act) (part : Part) → is_givable_act d a ≡ true → effect_by a ≡ eff.Shared part → IsWritable part set
+  pub act_writable : (a : Act) (part : Part) → is_givable_act d a ≡ true → effect_by a ≡ eff.Shared part → IsStorable part set
   act_writable (act.Draw block) part is e = absurd cc
   act_writable (act.Clear mask) part is e = absurd cc
-  act_writable (act.Shared other) part is e = let same : other ≡ part = cc in subst (λ (q : Part). IsWritable q set) same (part_writable other is)
+  act_writable (act.Shared other) part is e = let same : other ≡ part = cc in subst (λ (q : Part). IsStorable q set) same (part_writable other is)
   act_writable (act.Sync op) part is e = absurd cc
   act_writable act.End part is e = absurd cc
 

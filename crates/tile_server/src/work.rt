@@ -7,7 +7,7 @@ ghost use Rattle.rc_base.specs.declared.state.Effect.TheVariants as eff;
 ghost use Rattle.textures.specs.Images.{texture_image};
 ghost use Rattle.draw_device.specs.Conditions.{IsDrawable, IsClearable, shared_of};
 ghost use Rattle.draw_device.specs.Devices.{EachTakes};
-ghost use Rattle.draw_device.specs.Stored.{IsWritable, set_after};
+ghost use Rattle.draw_device.specs.Stored.{IsStorable, set_after};
 
 use crate::kept::KeptClient;
 use context_switch::switch;
@@ -33,7 +33,7 @@ fn perform(
 )
     requires drawable { IsDrawable kept.now.state kept.now.images shared.old }
     requires clearable { IsClearable kept.now.state }
-    requires writable { (part : Part) → effect.now ≡ eff.Shared part → IsWritable part shared.old }
+    requires writable { (part : Part) → effect.now ≡ eff.Shared part → IsStorable part shared.old }
     ensures rect { device.new.rect ≡ device.old.rect }
     ensures drawn { EachTakes (effect_step kept.now.state (texture_image kept.now.images) (shared_of shared.old) effect.now)
         device.old device.new }
@@ -61,7 +61,7 @@ pub(crate) fn work(
 ) -> Option<Vertices>
     requires drawable { IsDrawable kept.now.state kept.now.images shared.old }
     requires clearable { IsClearable kept.now.state }
-    requires writable { (part : Part) → effect_by act ≡ eff.Shared part → IsWritable part shared.old }
+    requires writable { (part : Part) → effect_by act ≡ eff.Shared part → IsStorable part shared.old }
     ensures rect { device.new.rect ≡ device.old.rect }
     ensures drawn { EachTakes (effect_step kept.now.state (texture_image kept.now.images) (shared_of shared.old) (effect_by act))
         device.old device.new }

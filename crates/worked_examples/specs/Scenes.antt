@@ -28,8 +28,8 @@ scene_of width height streams = record {
   streams = streams;
 }
 
-abbrev pub layout_of : ℕ → ℕ → ℕ → ℕ → Layout
-layout_of width height columns rows = record { width = width; height = height; columns = columns; rows = rows }
+abbrev pub layout_with : ℕ → ℕ → ℕ → ℕ → Layout
+layout_with width height columns rows = record { width = width; height = height; columns = columns; rows = rows }
 
 -- the position x, y, 0, w
 abbrev pub at : ℤ → ℤ → ℤ → Command
@@ -197,7 +197,7 @@ lone_swap = scene_of 1 1 ([] ∷ (cmd.Swap ∷ []) ∷ [])
 
 -- the scene's window in these columns and rows of tiles
 abbrev pub tiled : Scene → ℕ → ℕ → Layout
-tiled scene columns rows = layout_of scene.decl.width scene.decl.height columns rows
+tiled scene columns rows = layout_with scene.decl.width scene.decl.height columns rows
 
 -- the parcels to a tile of the window in these columns and rows
 abbrev pub parcels_to : Scene → ℕ → ℕ → ℕ → List Parcel

@@ -96,8 +96,8 @@ abbrev pub covers_pixel : State → List WindowVertex → ℕ → ℕ → Bool
 covers_pixel state triangle x y = covers state triangle (pos x) (pos y)
 
 -- where each x / w lies in a viewport of two columns from column 1 on, in sixteenths
-abbrev pub places_of : List ℤ → List ℤ
-places_of xs = map (λ x. axis_of (pos 1) (pos 2) x one) xs
+abbrev pub window_places : List ℤ → List ℤ
+window_places xs = map (λ x. axis_of (pos 1) (pos 2) x one) xs
 
 -- the depths of each z / w in a range
 abbrev pub depths_of : ℤ → ℤ → List ℤ → List ℤ

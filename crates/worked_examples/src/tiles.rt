@@ -1,14 +1,14 @@
 //! What is sent to which tile.
 ghost use Rattle.std.specs.Prelude.{◌≡◌, [], ◌∷◌, false, map, true};
 ghost use Rattle.rc_base.specs.Cluster.Tiles.{boundary_of, tile_pixels};
-ghost use Rattle.worked_examples.specs.Scenes.{culled_front, full_blue, layout_of, lazy_state, lazy_texture, parcels_to, scissored_clear, scissored_parcels, tally};
+ghost use Rattle.worked_examples.specs.Scenes.{culled_front, full_blue, layout_with, lazy_state, lazy_texture, parcels_to, scissored_clear, scissored_parcels, tally};
 
 /// A width of 5 in four columns is cut at 0, 1, 2, 3 and 5, a height of 3 in two rows at 0, 1 and 3.
 pub fn boundaries_are_rounded_down()
     ensures columns { map (boundary_of 5 4) (0 ∷ 1 ∷ 2 ∷ 3 ∷ 4 ∷ []) ≡ 0 ∷ 1 ∷ 2 ∷ 3 ∷ 5 ∷ [] }
     ensures rows { map (boundary_of 3 2) (0 ∷ 1 ∷ 2 ∷ []) ≡ 0 ∷ 1 ∷ 3 ∷ [] }
-    ensures last { tile_pixels (layout_of 5 3 4 2) 7 4 2 ≡ true }
-    ensures not_left_of_it { tile_pixels (layout_of 5 3 4 2) 7 2 2 ≡ false }
+    ensures last { tile_pixels (layout_with 5 3 4 2) 7 4 2 ≡ true }
+    ensures not_left_of_it { tile_pixels (layout_with 5 3 4 2) 7 2 2 ≡ false }
 {}
 
 /// The clear's box meets tile 7 alone. Its parcel sets the scissor test, the scissor box and the clear colour; every tile gets the swap

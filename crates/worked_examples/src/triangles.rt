@@ -6,7 +6,7 @@ ghost use Rattle.rc_base.specs.Drawing.Kept.{oriented, three};
 ghost use Rattle.rc_base.specs.Drawing.Serial.{blank_pixel};
 ghost use Rattle.rc_base.specs.Drawing.Triangles.{triangles_of};
 ghost use Rattle.worked_examples.specs.Scenes.{minus_one, one};
-ghost use Rattle.worked_examples.specs.States.{areas_shown, colored, corner_at, covers_pixel, culling, depths_of, grey_drawn, near_to_far, origin, places_of, right_angled, scissored, seen_through, state_at_first, two};
+ghost use Rattle.worked_examples.specs.States.{areas_shown, colored, corner_at, covers_pixel, culling, depths_of, grey_drawn, near_to_far, origin, window_places, right_angled, scissored, seen_through, state_at_first, two};
 
 /// Of seven vertices the last draws nothing. A strip turns every other triangle round, so that all have one winding. All triangles of a fan
 /// have the first vertex.
@@ -37,7 +37,7 @@ pub fn corners_are_turned_counterclockwise()
 /// A viewport of 2 by 2 at (1, 1): x / w = -1, 0, 1, 3 stand at 16, 16 + 16, 16 + 32 and 16 + 64 sixteenths. The triangle (16, 16), (80, 16),
 /// (16, 80) has the centre (56, 24) of pixel (3, 1), which the viewport hasn't.
 pub fn a_viewport_moves_and_clips()
-    ensures places { places_of (minus_one ∷ pos 0 ∷ one ∷ pos 196608 ∷ []) ≡ pos 16 ∷ pos 32 ∷ pos 48 ∷ pos 80 ∷ [] }
+    ensures places { window_places (minus_one ∷ pos 0 ∷ one ∷ pos 196608 ∷ []) ≡ pos 16 ∷ pos 32 ∷ pos 48 ∷ pos 80 ∷ [] }
     ensures inside { covers_pixel (seen_through 1 1 2 2) (right_angled 16 64) 2 1 ≡ true }
     ensures right_of_it { covers_pixel (seen_through 1 1 2 2) (right_angled 16 64) 3 1 ≡ false }
     ensures whole_window { covers_pixel state_at_first (right_angled 16 64) 3 1 ≡ true }

@@ -171,7 +171,7 @@ EndedWorldsTallyAll =
 -- ---- every schedule
 
 -- What the record of a world says where all have ended: it is lawful, the parts are the frames, and the clients wait and are tallied as the scene says.
-pub record IsWhole (scene : Scene) (l : Layout) (w : World) (kept : Record) : Type 0 where
+pub record IsWorldRecord (scene : Scene) (l : Layout) (w : World) (kept : Record) : Type 0 where
   pub lawful : IsRecordOf scene l kept
   pub frames : (tile : ℕ) → tile < tile_count l → ShowsFrames scene l kept tile (w.tiles tile).parts
   pub waiting : (client : ℕ) → waiting_in (sync_lists_of scene) w.manager.book client ≡ waiting_of (sync_lists_of scene) kept.journal client
@@ -182,7 +182,7 @@ pub record IsWhole (scene : Scene) (l : Layout) (w : World) (kept : Record) : Ty
 abbrev pub FinishedRunsAreWhole : Type 0
 FinishedRunsAreWhole =
     (scene : Scene) (l : Layout) (depth rounds : ℕ) (picks : List ℕ) (moves : List Move) (w : World) (kept : Record) → IsInRange scene → HasSides scene.decl
-    → IsFinishedRun scene l depth picks rounds moves w → IsRecordIn scene l w kept → IsWhole scene l w kept
+    → IsFinishedRun scene l depth picks rounds moves w → IsRecordIn scene l w kept → IsWorldRecord scene l w kept
 
 -- and the picks determine the run: how many rounds it takes, what each actor answers, and so the journal and the logs
 abbrev pub FinishedRunsAreOne : Type 0

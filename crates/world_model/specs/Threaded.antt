@@ -78,7 +78,7 @@ pub record IsSent (depth : ℕ) (part : TilePart) (lane later : List TilePart) (
   pub free : handing ≡ None
 
 -- the lane is full, and the part waits
-pub record IsKept (depth : ℕ) (part : TilePart) (lane later : List TilePart) (handing : Option TilePart) : Type 0 where
+pub record PartWaits (depth : ℕ) (part : TilePart) (lane later : List TilePart) (handing : Option TilePart) : Type 0 where
   pub full : length lane ≡ depth
   pub same : later ≡ lane
   pub waits : handing ≡ Some part
@@ -86,7 +86,7 @@ pub record IsKept (depth : ℕ) (part : TilePart) (lane later : List TilePart) (
 -- what becomes of a tile's lane and of what it hands over, where it has this part for the caller, or none
 abbrev pub IsPut : ℕ → Option TilePart → List TilePart → List TilePart → Option TilePart → Type 0
 IsPut depth None lane later handing = (later ≡ lane) × (handing ≡ None)
-IsPut depth (Some part) lane later handing = IsSent depth part lane later handing ⊎ IsKept depth part lane later handing
+IsPut depth (Some part) lane later handing = IsSent depth part lane later handing ⊎ PartWaits depth part lane later handing
 
 -- What a tile's step has for the caller: the part that it shows, whatever its pixels are; where memory lacked, one without pixels.
 abbrev pub Offers : Result TileAnswer OutOfMemory → Option TilePart → Type 0
@@ -140,7 +140,7 @@ module _ (scene : Scene) (l : Layout) (depth : ℕ) where
 
   abbrev pub IsSentOrKept : Bool → TilePart → List TilePart → List TilePart → Option TilePart → Type 0
   IsSentOrKept true part lane later handing = IsSent depth part lane later handing
-  IsSentOrKept false part lane later handing = IsKept depth part lane later handing
+  IsSentOrKept false part lane later handing = PartWaits depth part lane later handing
 
   -- A tile that hands a part over puts it into its lane, or finds that full; its core takes no step.
   pub record IsHandOver (w : ThreadedWorld) (tile : ℕ) (sent : Bool) (later : ThreadedWorld) : Type 0 where

@@ -1,7 +1,7 @@
 use Rattle.std.proofs.Common.{Some, sym, ◌∙◌, subst, arith, set}
 use Rattle.std.specs.Vec.{vec_len, vec_capacity}
 use Rattle.rc_base.specs.declared.sync.WaitAt.{WaitAt}
-use Rattle.sync_manager.specs.Stored.{IsSound}
+use Rattle.sync_manager.specs.Stored.{IsSoundBook}
 use Rattle.sync_manager.proofs.SoundBooks.{sound_arrived}
 use Rattle.sync_manager.proofs.WaitingOperations.{standing_arrived}
 use Rattle.sync_manager.proofs.book.Book.arrive.Goals as goal
@@ -11,7 +11,7 @@ invariant_of-self-2 c =
     let s = c.args.self.now in
     let w : WaitAt = record { place = c.args.place; op = c.args.op } in
     record {
-      is_sound = subst (λ k. IsSound s.clients s.counts s.units.items (set s.waiting c.args.client (Some w)) k (vec_capacity c.reserve.new.self)) (sym c.reserve.ensures.len)
+      is_sound = subst (λ k. IsSoundBook s.clients s.counts s.units.items (set s.waiting c.args.client (Some w)) k (vec_capacity c.reserve.new.self)) (sym c.reserve.ensures.len)
           (sound_arrived s.clients s.counts s.units.items s.waiting (vec_len s.entries) (vec_capacity s.entries) s.is_sound c.args.client w (vec_capacity c.reserve.new.self)
           c.requires.client c.requires.declared (omega (arith, c.in_ok-reserve.ensures.ok, c.reserve.ensures.len)));
     }

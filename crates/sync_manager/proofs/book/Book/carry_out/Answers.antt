@@ -5,7 +5,7 @@ use Rattle.rc_base.specs.Orders.Book.BookEvent.{Grants}
 use Rattle.rc_base.specs.Orders.Grant.{grant}
 use Rattle.rc_base.specs.declared.sync.SyncOp.{SyncOp}
 use Rattle.order_model.proofs.BooksStayLegal.{books_stay_legal}
-use Rattle.sync_manager.specs.Stored.{IsSound, is_named}
+use Rattle.sync_manager.specs.Stored.{IsSoundBook, is_named}
 use Rattle.sync_manager.proofs.BookGrants.{granted}
 use Rattle.sync_manager.proofs.SoundBooks.{has_room, unit_there, sound_granted}
 use Rattle.sync_manager.proofs.WaitingOperations.{standing_granted}
@@ -30,8 +30,8 @@ invariant_of-self c =
       is_sound =
           let h = sound_granted s.clients s.counts s.units.items s.waiting (vec_len s.entries) (vec_capacity s.entries) s.is_sound c.args.entry later moved c.requires
           c.release.ensures.waiting c.release.ensures.slots c.move_unit.ensures.length c.move_unit.ensures.bounded in
-          subst (λ k. IsSound s.clients s.counts moved later k (vec_capacity c.push_reserved.new.self)) (sym c.push_reserved.ensures.len)
-          (subst (λ k. IsSound s.clients s.counts moved later (vec_len s.entries + 1) k) (sym c.push_reserved.ensures.capacity) h);
+          subst (λ k. IsSoundBook s.clients s.counts moved later k (vec_capacity c.push_reserved.new.self)) (sym c.push_reserved.ensures.len)
+          (subst (λ k. IsSoundBook s.clients s.counts moved later (vec_len s.entries + 1) k) (sym c.push_reserved.ensures.capacity) h);
     }
 
 pub returns-clause-granted : goal.returns-clause-granted

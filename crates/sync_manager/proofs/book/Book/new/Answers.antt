@@ -2,7 +2,7 @@ use Rattle.std.proofs.Common.{◌≡◌, None, replicate, length, sym, ◌∙◌
 use Rattle.std.specs.Vec.{vec_capacity}
 use Rattle.rc_base.specs.Orders.Book.{new_book, standing, is_declared}
 use Rattle.rc_base.specs.declared.sync.SyncOp.{SyncOp}
-use Rattle.sync_manager.specs.Stored.{IsSound, is_named, state_of}
+use Rattle.sync_manager.specs.Stored.{IsSoundBook, is_named, state_of}
 use Rattle.sync_manager.proofs.BookGrants.{declared_is, new_state, nobody_ended}
 use Rattle.sync_manager.proofs.SoundBooks.{sound_new}
 use Rattle.sync_manager.proofs.book.Book.new.Goals as goal
@@ -13,8 +13,8 @@ invariant_of-result c =
     let units = c.in_ok-units.units.items in
     let cap = vec_capacity c.new.result in
     record {
-      is_sound = subst (λ k. IsSound c.args.clients c.in_ok-counts.counts units (replicate 8 None) k cap) (sym c.new.ensures.len)
-          (subst (λ xs. IsSound c.args.clients xs units (replicate 8 None) 0 cap) (sym counts)
+      is_sound = subst (λ k. IsSoundBook c.args.clients c.in_ok-counts.counts units (replicate 8 None) k cap) (sym c.new.ensures.len)
+          (subst (λ xs. IsSoundBook c.args.clients xs units (replicate 8 None) 0 cap) (sym counts)
           (sound_new c.args.clients c.args.decl.now.barriers units cap c.requires.clients.0 c.requires.clients.1 c.requires.barriers c.requires.counts c.in_ok-units.ensures.bounded));
     }
 
