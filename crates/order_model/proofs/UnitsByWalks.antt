@@ -12,7 +12,7 @@ use Rattle.rc_base.specs.declared.sync.Name.{Name}
 use Rattle.rc_base.specs.declared.sync.SyncLists.{SyncLists}
 use Rattle.rc_base.specs.declared.sync.WaitAt.{WaitAt}
 use Rattle.plain_lemmas.proofs.Lists.{drop_is_item_first}
-use Rattle.order_model.specs.Checked.{first_at, spot_of, unit_names, unit_spots, unit_client, unit_spot_by}
+use Rattle.order_model.specs.Checked.{first_at, spot_of, unit_names, unit_spots, unit_client, next_spot}
 use Rattle.order_model.specs.Counted.{used_by, place_or_end, AreUsed}
 use Rattle.order_model.proofs.ClientsBeyond.{ops_past}
 use Rattle.order_model.proofs.RisingPlaces.{place_rises}
@@ -64,14 +64,14 @@ spots_at order c None = refl
 spots_at order c (Some w) = refl
 
 pub unit_spot_is : (syncs : SyncLists) (before : List Entry) (order : List Name) (used : List ℕ) (gives : Bool) (semaphore : ℕ) (e : Entry) → client_count syncs ≤ 8 → AreUsed syncs before used
-    → map (spot_of order) (unit_in gives semaphore e (entry_at syncs (sync_state_after syncs before) e).at) ≡ option_to_list (unit_spot_by syncs order used (unit_client gives semaphore e))
+    → map (spot_of order) (unit_in gives semaphore e (entry_at syncs (sync_state_after syncs before) e).at) ≡ option_to_list (next_spot syncs order used (unit_client gives semaphore e))
 unit_spot_is syncs before order used gives semaphore e few h =
     ap (map (spot_of order)) (unit_in_is gives semaphore e at) ∙ go (unit_client gives semaphore e) refl
   where
     at : ℕ → Option ℕ
     at = (entry_at syncs (sync_state_after syncs before) e).at
 
-    go : (o : Option ℕ) → unit_client gives semaphore e ≡ o → map (spot_of order) (name_by o at) ≡ option_to_list (unit_spot_by syncs order used o)
+    go : (o : Option ℕ) → unit_client gives semaphore e ≡ o → map (spot_of order) (name_by o at) ≡ option_to_list (next_spot syncs order used o)
     go None is = refl
     go (Some c) is = elim (cases_lt c 8) [
       | inl lt ↦
@@ -98,7 +98,7 @@ unit_names_more true semaphore m ms = refl
 unit_names_more false semaphore m ms = refl
 
 pub spots_more : (syncs : SyncLists) (js : List Entry) (order : List Name) (used : List ℕ) (gives : Bool) (semaphore k : ℕ) (e : Entry) (o : Option ℕ) → client_count syncs ≤ 8 → k < length js → e ≡ get_or js k e
-    → AreUsed syncs (take k js) used → o ≡ unit_spot_by syncs order used (unit_client gives semaphore e)
+    → AreUsed syncs (take k js) used → o ≡ next_spot syncs order used (unit_client gives semaphore e)
     → unit_spots syncs js order gives semaphore k ≡ option_to_list o ++ unit_spots syncs js order gives semaphore (k + 1)
 spots_more syncs js order used gives semaphore k e o few lt is h found =
     let s = sync_state_after syncs (take k js) in

@@ -1,14 +1,15 @@
 -- What the checker of an order computes: where names stand, and tests over entries and units that go by it.
-use Rattle.std.specs.Prelude.{◌≡◌, ℕ, suc, ◌+◌, ◌-◌, ◌<◌, ◌≤◌, ◌==◌, ◌&&◌, nat_lt, nat_le, bytes_eq, Bool, true, false, cond, List, [], ◌∷◌, take, drop, map, length, slice_get, slice_index, slice_set, Option, Some, None, option_map}
+use Rattle.std.specs.Prelude.{◌≡◌, ℕ, suc, ◌+◌, ◌-◌, ◌<◌, ◌≤◌, ◌==◌, ◌&&◌, nat_lt, nat_le, bytes_eq, Bool, true, false, cond, List, [], ◌∷◌, take, drop, map, length, slice_get, slice_index, slice_set, Option, Some, None, option_map, option_to_list, ◌++◌}
 use Rattle.rc_base.specs.Orders.Journal.{is_member, sync_state_after}
-use Rattle.rc_base.specs.Orders.Order.{PlacedEntry, entries_from, givers, takers}
+use Rattle.rc_base.specs.Orders.Order.{PlacedEntry, entries_from, entries_of, givers, takers}
 use Rattle.rc_base.specs.Orders.Sync.{client_count, ops_of, units_of}
 use Rattle.rc_base.specs.declared.sync.Entry.{Entry}
 use Rattle.rc_base.specs.declared.sync.Entry.TheVariants.{Meet, Swap, Give, Take}
 use Rattle.rc_base.specs.declared.sync.Name.{Name}
 use Rattle.rc_base.specs.declared.sync.SyncLists.{SyncLists}
 use Rattle.rc_base.specs.declared.sync.WaitAt.{WaitAt}
-use Rattle.order_model.specs.Counted.{place_or_end, AreUsed}
+use Rattle.order_model.specs.Counted.{place_at, place_or_end, AreUsed}
+use Rattle.order_model.specs.declared.spots.Walk.{Walk}
 
 -- ---- each client's names
 
@@ -46,6 +47,29 @@ abbrev pub all_part : List Name → ℕ → ℕ → List PlacedEntry → Bool
 all_part order a b [] = true
 all_part order a b (m ∷ ms) = are_parted order a (m.at a) b (m.at b) && all_part order a b ms
 
+-- the place of a client's operation in an entry, if it is a member, by how many operations it has used
+abbrev pub place_by : SyncLists → Entry → ℕ → ℕ → Option ℕ
+place_by syncs e client number =
+    cond (is_member (client_count syncs) e client) (place_at (ops_of syncs client) number) None
+
+-- the same of the operations of two clients in an entry, by how many each of them has used
+abbrev pub parts : SyncLists → List Name → Entry → ℕ → ℕ → ℕ → ℕ → Bool
+parts syncs order entry a used_a b used_b = are_parted order a (place_by syncs entry a used_a) b (place_by syncs entry b used_b)
+
+-- each entry parts the names of a client and of every other, or those of all
+abbrev pub EntriesPartFrom : SyncLists → List Entry → List Name → ℕ → Type 0
+EntriesPartFrom syncs journal order a = (b : ℕ) → b < client_count syncs → all_part order a b (entries_of syncs journal) ≡ true
+
+abbrev pub EntriesPart : SyncLists → List Entry → List Name → Type 0
+EntriesPart syncs journal order = (a b : ℕ) → a < client_count syncs → b < client_count syncs → all_part order a b (entries_of syncs journal) ≡ true
+
+-- where the first name of a client stands from the place before its next operation on, and from the place behind it
+abbrev pub spot_before : SyncLists → List Name → ℕ → ℕ → ℕ
+spot_before syncs order client used = first_at order client (place_or_end syncs client used - 1)
+
+abbrev pub spot_behind : SyncLists → List Name → ℕ → ℕ → ℕ
+spot_behind syncs order client used = first_at order client (place_or_end syncs client used + 1)
+
 -- ---- units that are handed over
 
 -- the first spot is before the second list's first, the second before its second, as far as both go
@@ -70,10 +94,10 @@ unit_client gives semaphore (Take k client) = cond gives None (cond (k == semaph
 unit_client gives semaphore (Meet barrier members) = None
 unit_client gives semaphore Swap = None
 
--- where the name of that client's next operation stands, by how many operations each client has used
-abbrev pub unit_spot_by : SyncLists → List Name → List ℕ → Option ℕ → Option ℕ
-unit_spot_by syncs order used None = None
-unit_spot_by syncs order used (Some client) = option_map (λ (w : WaitAt). first_at order client w.place) (slice_get (ops_of syncs client) (slice_index used client))
+-- where the name of a client's next operation stands, by how many operations each client has used
+abbrev pub next_spot : SyncLists → List Name → List ℕ → Option ℕ → Option ℕ
+next_spot syncs order used None = None
+next_spot syncs order used (Some client) = option_map (λ (w : WaitAt). first_at order client w.place) (slice_get (ops_of syncs client) (slice_index used client))
 
 -- how many entries take a unit of the semaphore
 abbrev pub takes_in : ℕ → List Entry → ℕ
@@ -83,19 +107,42 @@ takes_in semaphore (Meet barrier members ∷ es) = takes_in semaphore es
 takes_in semaphore (Swap ∷ es) = takes_in semaphore es
 takes_in semaphore (Give k client ∷ es) = takes_in semaphore es
 
+-- none of a client's names from its next operation on stands before the client's spot
+abbrev pub AreNotBehind : SyncLists → List Name → List ℕ → List ℕ → Type 0
+AreNotBehind syncs order used spots =
+    (client : ℕ) → client < 8 → slice_index spots client ≤ first_at order client (place_or_end syncs client (slice_index used client))
+
 -- A walk has read so many entries: `used` are each client's used operations, and no name from its next operation on stands before the client's spot.
 pub record IsWalk (syncs : SyncLists) (journal : List Entry) (order : List Name) (read : ℕ) (used spots : List ℕ) : Type 0 where
   pub within : read ≤ length journal
   pub clients : length used ≡ 8
   pub operations : AreUsed syncs (take read journal) used
-  pub passed : (client : ℕ) → client < 8 → slice_index spots client ≤ first_at order client (place_or_end syncs client (slice_index used client))
+  pub passed : AreNotBehind syncs order used spots
+
+-- the same of a walk
+abbrev pub IsWalkOf : SyncLists → List Entry → List Name → Walk → Type 0
+IsWalkOf syncs journal order walk = IsWalk syncs journal order walk.read walk.used walk.spots
 
 -- each unit of the semaphore beyond the first ones is given before it is taken
 abbrev pub hands_over : SyncLists → List Entry → List Name → ℕ → Bool
 hands_over syncs journal order semaphore =
     are_in_turn (unit_spots syncs journal order true semaphore 0) (drop (units_of syncs semaphore) (unit_spots syncs journal order false semaphore 0))
 
--- the place of a client's operation in an entry, if it is a member, by how many operations it has used
-abbrev pub place_by : SyncLists → Entry → ℕ → ℕ → Option ℕ
-place_by syncs e client number =
-    cond (is_member (client_count syncs) e client) (option_map (λ (w : WaitAt). w.place) (slice_get (ops_of syncs client) number)) None
+-- those of every semaphore are
+abbrev pub AllHandOver : SyncLists → List Entry → List Name → Type 0
+AllHandOver syncs journal order = (semaphore : ℕ) → hands_over syncs journal order semaphore ≡ true
+
+-- the walk went on to the next spot of such a name, and beyond it: that was the first one left
+abbrev pub Finds : SyncLists → List Entry → List Name → Bool → ℕ → Walk → Option ℕ → Walk → Type 0
+Finds syncs journal order gives semaphore before found after =
+    unit_spots syncs journal order gives semaphore before.read ≡ option_to_list found ++ unit_spots syncs journal order gives semaphore after.read
+
+-- the walk has passed the next names that take, so many of them
+abbrev pub Passes : SyncLists → List Entry → List Name → ℕ → ℕ → Walk → Walk → Type 0
+Passes syncs journal order semaphore units before after =
+    unit_spots syncs journal order false semaphore after.read ≡ drop units (unit_spots syncs journal order false semaphore before.read)
+
+-- what the one walk has left of givers stands in turn with what the other has left of takers
+abbrev pub given_first : SyncLists → List Entry → List Name → ℕ → Walk → Walk → Bool
+given_first syncs journal order semaphore givers takers =
+    are_in_turn (unit_spots syncs journal order true semaphore givers.read) (unit_spots syncs journal order false semaphore takers.read)

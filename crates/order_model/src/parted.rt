@@ -1,10 +1,9 @@
 //! Whether the entries of a journal part the names of their members in an order.
-ghost use Rattle.std.specs.Prelude.{◌≡◌, ◌+◌, ◌-◌, ◌<◌, ◌≤◌, ◌^◌, ◌↔◌, ℕ, true, cond, IsTrue, length};
+ghost use Rattle.std.specs.Prelude.{◌≡◌, ◌+◌, ◌-◌, ◌<◌, ◌≤◌, ◌^◌, ◌↔◌, true, cond, IsTrue};
 ghost use Rattle.rc_base.specs.Orders.Journal.{is_member};
 ghost use Rattle.rc_base.specs.Orders.Order.{entries_of};
 ghost use Rattle.rc_base.specs.Orders.Sync.{IsWellFormed, client_count};
-ghost use Rattle.order_model.specs.Checked.{first_at, are_parted, all_part, place_by};
-ghost use Rattle.order_model.specs.Counted.{place_or_end};
+ghost use Rattle.order_model.specs.Checked.{EntriesPart, EntriesPartFrom, all_part, parts, place_by, spot_before, spot_behind};
 
 use crate::spots::first_at;
 use crate::walk::{clients_of, place_of};
@@ -53,11 +52,11 @@ fn are_parted(
     second: &mut Side,
 ) -> bool
     requires clients { (a < 8) × (b < 8) }
-    requires first { first.old.spot ≤ first_at order.now a (place_or_end syncs.now a first.old.used - 1) }
-    requires second { second.old.spot ≤ first_at order.now b (place_or_end syncs.now b second.old.used + 1) }
-    ensures result { result ≡ are_parted order.now a (place_by syncs.now entry a first.old.used) b (place_by syncs.now entry b second.old.used) }
-    ensures first { first.new.spot ≤ first_at order.now a (place_or_end syncs.now a first.old.used - 1) }
-    ensures second { second.new.spot ≤ first_at order.now b (place_or_end syncs.now b second.old.used + 1) }
+    requires first { first.old.spot ≤ spot_before syncs.now order.now a first.old.used }
+    requires second { second.old.spot ≤ spot_behind syncs.now order.now b second.old.used }
+    ensures result { result ≡ parts syncs.now order.now entry a first.old.used b second.old.used }
+    ensures first { first.new.spot ≤ spot_before syncs.now order.now a first.old.used }
+    ensures second { second.new.spot ≤ spot_behind syncs.now order.now b second.old.used }
     ensures used { (first.new.used ≡ first.old.used) × (second.new.used ≡ second.old.used) }
 {
     if let Some(before) = place_by(syncs, entry, a, first.used) {
@@ -94,7 +93,7 @@ fn all_part(order: &[Name], syncs: &SyncLists, journal: &[Entry], a: u8, b: u8) 
 fn all_part_from(order: &[Name], syncs: &SyncLists, journal: &[Entry], a: u8) -> bool
     requires clients { (a < 8) × (client_count syncs.now ≤ 8) }
     requires lists { IsWellFormed syncs.now }
-    ensures { IsTrue result ↔ ((b : ℕ) → b < client_count syncs.now → all_part order.now a b (entries_of syncs.now journal.now) ≡ true) }
+    ensures { IsTrue result ↔ EntriesPartFrom syncs.now journal.now order.now a }
 {
     for b in 0..clients_of(syncs) as u8 {
         if !all_part(order, syncs, journal, a, b) {
@@ -108,7 +107,7 @@ fn all_part_from(order: &[Name], syncs: &SyncLists, journal: &[Entry], a: u8) ->
 pub fn entries_part(order: &[Name], syncs: &SyncLists, journal: &[Entry]) -> bool
     requires clients { client_count syncs.now ≤ 8 }
     requires lists { IsWellFormed syncs.now }
-    ensures { IsTrue result ↔ ((a b : ℕ) → a < client_count syncs.now → b < client_count syncs.now → all_part order.now a b (entries_of syncs.now journal.now) ≡ true) }
+    ensures { IsTrue result ↔ EntriesPart syncs.now journal.now order.now }
 {
     for a in 0..clients_of(syncs) as u8 {
         if !all_part_from(order, syncs, journal, a) {

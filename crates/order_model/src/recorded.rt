@@ -1,12 +1,9 @@
 //! The order that a tile's log records.
-ghost use Rattle.std.specs.Prelude.{◌≡◌, ◌+◌, ◌-◌, ◌<◌, ◌≤◌, ◌^◌, ◌++◌, true, List, [], ◌∷◌, slice_index, slice_index_or, replicate, IfOk, OnOk};
-ghost use Rattle.rc_base.specs.Orders.Journal.{is_member, reach_of, start};
-ghost use Rattle.rc_base.specs.Orders.Order.{names_from, added, all_added};
+ghost use Rattle.std.specs.Prelude.{◌≡◌, ◌+◌, ◌-◌, ◌<◌, ◌≤◌, ◌^◌, ◌++◌, [], slice_index_or, replicate, IfOk, OnOk};
+ghost use Rattle.rc_base.specs.Orders.Order.{added, names_from};
 ghost use Rattle.rc_base.specs.Orders.Sync.{client_count};
-ghost use Rattle.order_model.specs.Counted.{place_or_end, AreCounts, IsOrderMade, logged_behind};
-ghost use Rattle.order_model.specs.Log.{logged, recorded_order};
-ghost use Rattle.order_model.specs.declared.record.LogEntry.{LogEntry as Line};
-ghost use Rattle.order_model.specs.declared.record.LogEntry.TheVariants.{Performed};
+ghost use Rattle.order_model.specs.Counted.{AreCounts, HasPerformed, IsRecording, logged_in, members_added, rest_added};
+ghost use Rattle.order_model.specs.Log.{recorded_order};
 ghost use Rattle.order_model.specs.Report.{tile_order};
 
 use crate::record::{Log, LogEntry, Record};
@@ -70,7 +67,7 @@ fn add_members(
 ) -> Result<(), OutOfMemory>
     requires clients { client_count syncs.now ≤ 8 }
     requires counts { AreCounts order.old counts.old }
-    ensures order { OnOk result (order.new ≡ all_added (is_member (client_count syncs.now) entry) (λ c. place_or_end syncs.now c (slice_index used.now c) + 1) (client_count syncs.now) order.old) }
+    ensures order { OnOk result (order.new ≡ members_added syncs.now entry used.now order.old) }
     ensures counts { OnOk result (AreCounts order.new counts.new) }
 {
     let clients = clients_of(syncs);
@@ -92,7 +89,7 @@ fn add_rest(
 ) -> Result<(), OutOfMemory>
     requires clients { client_count syncs.now ≤ 8 }
     requires counts { AreCounts order.old counts.old }
-    ensures { OnOk result (order.new ≡ all_added (λ c. true) (reach_of syncs.now journal.now) (client_count syncs.now) order.old) }
+    ensures { OnOk result (order.new ≡ rest_added syncs.now journal.now order.old) }
 {
     for client in 0..clients_of(syncs) as u8 {
         add(
@@ -112,9 +109,9 @@ fn perform(
     journal: &[Entry],
 ) -> Result<(), OutOfMemory>
     requires clients { client_count syncs.now ≤ 8 }
-    requires counted { IsOrderMade syncs.now journal.now recording.old.read recording.old.used recording.old.counts recording.old.order }
-    ensures counted { OnOk result (IsOrderMade syncs.now journal.now recording.new.read recording.new.used recording.new.counts recording.new.order) }
-    ensures order { OnOk result ((log : List Line) → logged_behind syncs.now journal.now recording.new.read log recording.new.order ≡ logged_behind syncs.now journal.now recording.old.read (Performed ∷ log) recording.old.order) }
+    requires counted { IsRecording syncs.now journal.now recording.old }
+    ensures counted { OnOk result (IsRecording syncs.now journal.now recording.new) }
+    ensures order { OnOk result (HasPerformed syncs.now journal.now recording.old recording.new) }
 {
     if recording.read >= journal.len() {
         return Ok(());
@@ -156,7 +153,7 @@ fn replay(
 ) -> Result<Recording, OutOfMemory>
     requires { client_count syncs.now ≤ 8 }
     ensures counts { IfOk result (λ r. AreCounts r.order r.counts) }
-    ensures order { IfOk result (λ r. r.order ≡ logged syncs.now (start syncs.now) journal.now log.now []) }
+    ensures order { IfOk result (λ r. r.order ≡ logged_in syncs.now journal.now log.now) }
 {
     let mut recording = nothing_read(alloc);
     for line in log {

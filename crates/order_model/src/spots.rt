@@ -1,9 +1,7 @@
 //! Where names stand in an order, found along a journal.
-ghost use Rattle.std.specs.Prelude.{◌≡◌, ◌+◌, ◌<◌, ◌≤◌, ◌++◌, ℕ, [], length, slice_get, slice_index, replicate, option_map, option_to_list, IsSome, None};
-ghost use Rattle.rc_base.specs.Orders.Sync.{IsWellFormed, client_count, ops_of};
-ghost use Rattle.rc_base.specs.declared.sync.WaitAt.{WaitAt};
-ghost use Rattle.order_model.specs.Checked.{is_from, first_at, unit_client, unit_spot_by, unit_spots, IsWalk};
-ghost use Rattle.order_model.specs.Counted.{place_or_end};
+ghost use Rattle.std.specs.Prelude.{◌≡◌, ◌+◌, ◌<◌, ◌≤◌, [], length, replicate, IsSome, None};
+ghost use Rattle.rc_base.specs.Orders.Sync.{IsWellFormed, client_count};
+ghost use Rattle.order_model.specs.Checked.{AreNotBehind, Finds, IsWalkOf, first_at, is_from, next_spot, unit_client, unit_spots};
 
 use crate::walk::{advance, clients_of, place_of};
 use rc_base::sync::{Entry, Name, SyncLists};
@@ -54,9 +52,9 @@ pub fn nothing_read() -> Walk
 /// Where the name of a client's next operation stands, if it has one left.
 fn next_spot(order: &[Name], syncs: &SyncLists, walk: &mut Walk, client: u8) -> Option<usize>
     requires clients { client_count syncs.now ≤ 8 }
-    requires passed { (c : ℕ) → c < 8 → slice_index walk.old.spots c ≤ first_at order.now c (place_or_end syncs.now c (slice_index walk.old.used c)) }
-    ensures spot { result ≡ option_map (λ (w : WaitAt). first_at order.now client w.place) (slice_get (ops_of syncs.now client) (slice_index walk.old.used client)) }
-    ensures passed { (c : ℕ) → c < 8 → slice_index walk.new.spots c ≤ first_at order.now c (place_or_end syncs.now c (slice_index walk.old.used c)) }
+    requires passed { AreNotBehind syncs.now order.now walk.old.used walk.old.spots }
+    ensures spot { result ≡ next_spot syncs.now order.now walk.old.used (Some client) }
+    ensures passed { AreNotBehind syncs.now order.now walk.old.used walk.new.spots }
     ensures walk { (walk.new.read ≡ walk.old.read) × (walk.new.used ≡ walk.old.used) }
 {
     if client >= 8 {
@@ -113,9 +111,9 @@ fn unit_spot(
     semaphore: u8,
 ) -> Option<usize>
     requires clients { client_count syncs.now ≤ 8 }
-    requires passed { (c : ℕ) → c < 8 → slice_index walk.old.spots c ≤ first_at order.now c (place_or_end syncs.now c (slice_index walk.old.used c)) }
-    ensures spot { result ≡ unit_spot_by syncs.now order.now walk.old.used (unit_client gives semaphore entry) }
-    ensures passed { (c : ℕ) → c < 8 → slice_index walk.new.spots c ≤ first_at order.now c (place_or_end syncs.now c (slice_index walk.old.used c)) }
+    requires passed { AreNotBehind syncs.now order.now walk.old.used walk.old.spots }
+    ensures spot { result ≡ next_spot syncs.now order.now walk.old.used (unit_client gives semaphore entry) }
+    ensures passed { AreNotBehind syncs.now order.now walk.old.used walk.new.spots }
     ensures walk { (walk.new.read ≡ walk.old.read) × (walk.new.used ≡ walk.old.used) }
 {
     match unit_client(entry, gives, semaphore) {
@@ -135,11 +133,11 @@ fn read_entry(
 ) -> Option<usize>
     requires clients { client_count syncs.now ≤ 8 }
     requires lists { IsWellFormed syncs.now }
-    requires walk { IsWalk syncs.now journal.now order.now walk.old.read walk.old.used walk.old.spots }
+    requires walk { IsWalkOf syncs.now journal.now order.now walk.old }
     requires more { walk.old.read < length journal.now }
-    ensures walk { IsWalk syncs.now journal.now order.now walk.new.read walk.new.used walk.new.spots }
+    ensures walk { IsWalkOf syncs.now journal.now order.now walk.new }
     ensures read { walk.new.read ≡ walk.old.read + 1 }
-    ensures spots { unit_spots syncs.now journal.now order.now gives semaphore walk.old.read ≡ option_to_list result ++ unit_spots syncs.now journal.now order.now gives semaphore walk.new.read }
+    ensures spot { Finds syncs.now journal.now order.now gives semaphore walk.old result walk.new }
 {
     let entry = journal[walk.read];
     let spot = unit_spot(order, syncs, walk, entry, gives, semaphore);
@@ -159,10 +157,10 @@ pub fn next_unit(
 ) -> Option<usize>
     requires clients { client_count syncs.now ≤ 8 }
     requires lists { IsWellFormed syncs.now }
-    requires walk { IsWalk syncs.now journal.now order.now walk.old.read walk.old.used walk.old.spots }
-    ensures walk { IsWalk syncs.now journal.now order.now walk.new.read walk.new.used walk.new.spots }
+    requires walk { IsWalkOf syncs.now journal.now order.now walk.old }
+    ensures walk { IsWalkOf syncs.now journal.now order.now walk.new }
     ensures read { IsSome result → walk.old.read < walk.new.read }
-    ensures spots { unit_spots syncs.now journal.now order.now gives semaphore walk.old.read ≡ option_to_list result ++ unit_spots syncs.now journal.now order.now gives semaphore walk.new.read }
+    ensures spot { Finds syncs.now journal.now order.now gives semaphore walk.old result walk.new }
     ensures none { result ≡ None → unit_spots syncs.now journal.now order.now gives semaphore walk.old.read ≡ [] }
 {
     for index in walk.read..journal.len() {

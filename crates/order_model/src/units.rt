@@ -1,7 +1,7 @@
 //! Whether an order has each unit of a semaphore given before it is taken.
-ghost use Rattle.std.specs.Prelude.{◌≡◌, ◌≤◌, ◌↔◌, ℕ, true, false, IsTrue, drop, slice_index, replicate};
+ghost use Rattle.std.specs.Prelude.{◌≡◌, ◌≤◌, ◌↔◌, ℕ, true, false, IsTrue, slice_index, replicate};
 ghost use Rattle.rc_base.specs.Orders.Sync.{IsWellFormed, client_count, units_of};
-ghost use Rattle.order_model.specs.Checked.{are_in_turn, unit_spots, takes_in, hands_over, IsWalk};
+ghost use Rattle.order_model.specs.Checked.{AllHandOver, IsWalkOf, Passes, given_first, hands_over, takes_in};
 
 use crate::spots::{Walk, next_unit, nothing_read};
 use rc_base::sync::{Entry, Name, SyncLists};
@@ -50,9 +50,9 @@ fn pass_first(
 )
     requires clients { client_count syncs.now ≤ 8 }
     requires lists { IsWellFormed syncs.now }
-    requires walk { IsWalk syncs.now journal.now order.now takers.old.read takers.old.used takers.old.spots }
-    ensures walk { IsWalk syncs.now journal.now order.now takers.new.read takers.new.used takers.new.spots }
-    ensures spots { unit_spots syncs.now journal.now order.now false semaphore takers.new.read ≡ drop units (unit_spots syncs.now journal.now order.now false semaphore takers.old.read) }
+    requires walk { IsWalkOf syncs.now journal.now order.now takers.old }
+    ensures walk { IsWalkOf syncs.now journal.now order.now takers.new }
+    ensures spots { Passes syncs.now journal.now order.now semaphore units takers.old takers.new }
 {
     for unit in 0..units {
         let _spot = next_unit(order, syncs, journal, takers, false, semaphore);
@@ -70,9 +70,9 @@ fn are_in_turn(
 ) -> bool
     requires clients { client_count syncs.now ≤ 8 }
     requires lists { IsWellFormed syncs.now }
-    requires givers { IsWalk syncs.now journal.now order.now givers.old.read givers.old.used givers.old.spots }
-    requires takers { IsWalk syncs.now journal.now order.now takers.old.read takers.old.used takers.old.spots }
-    ensures { result ≡ are_in_turn (unit_spots syncs.now journal.now order.now true semaphore givers.old.read) (unit_spots syncs.now journal.now order.now false semaphore takers.old.read) }
+    requires givers { IsWalkOf syncs.now journal.now order.now givers.old }
+    requires takers { IsWalkOf syncs.now journal.now order.now takers.old }
+    ensures { result ≡ given_first syncs.now journal.now order.now semaphore givers.old takers.old }
 {
     for index in takers.read..journal.len() {
         match next_unit(order, syncs, journal, takers, false, semaphore) {
@@ -113,7 +113,7 @@ fn hands_over(order: &[Name], syncs: &SyncLists, journal: &[Entry], semaphore: u
 pub fn all_hand_over(order: &[Name], syncs: &SyncLists, journal: &[Entry]) -> bool
     requires clients { client_count syncs.now ≤ 8 }
     requires lists { IsWellFormed syncs.now }
-    ensures { IsTrue result ↔ ((semaphore : ℕ) → hands_over syncs.now journal.now order.now semaphore ≡ true) }
+    ensures { IsTrue result ↔ AllHandOver syncs.now journal.now order.now }
 {
     let takes = takes_of(journal);
     for number in 0..256usize {

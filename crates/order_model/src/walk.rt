@@ -1,10 +1,8 @@
 //! Walks along a journal, which count the operations that each client has used.
-ghost use Rattle.std.specs.Prelude.{◌≡◌, ◌+◌, ◌<◌, ◌≤◌, ◌^◌, ◌==◌, ℕ, cond, length, slice_get, slice_index, option_map};
-ghost use Rattle.std.specs.Option.{option_map_or};
+ghost use Rattle.std.specs.Prelude.{◌≡◌, ◌<◌, ◌≤◌, ◌^◌, ◌==◌, ℕ, slice_index};
 ghost use Rattle.rc_base.specs.Orders.Journal.{is_member, reach_of};
 ghost use Rattle.rc_base.specs.Orders.Sync.{client_count, ops_of};
-ghost use Rattle.rc_base.specs.declared.sync.WaitAt.{WaitAt};
-ghost use Rattle.order_model.specs.Counted.{used_by, place_or_end};
+ghost use Rattle.order_model.specs.Counted.{HaveUsedOneMore, place_at, place_or, place_or_end, used_by};
 
 use crate::record::Record;
 use rc_base::sync::{Entry, SyncLists, SyncRow, is_member};
@@ -33,7 +31,7 @@ fn used_by(journal: &[Entry], client: u8, clients: usize) -> usize
 /// The client has used one operation more.
 fn advance_one(used: &mut [usize; 8], client: u8)
     requires { (other : ℕ) → slice_index used.old other < 2 ^ 63 }
-    ensures { (other : ℕ) → other < 8 → slice_index used.new other ≡ cond (other == client) (slice_index used.old other + 1) (slice_index used.old other) }
+    ensures { HaveUsedOneMore (λ other. other == client) used.old used.new }
 {
     if client < 8 {
         used[client as usize] += 1;
@@ -43,7 +41,7 @@ fn advance_one(used: &mut [usize; 8], client: u8)
 /// Each member has used one operation more.
 fn advance_members(used: &mut [usize; 8], entry: Entry, clients: usize)
     requires { (client : ℕ) → slice_index used.old client < 2 ^ 63 }
-    ensures { (client : ℕ) → client < 8 → slice_index used.new client ≡ cond (is_member clients entry client) (slice_index used.old client + 1) (slice_index used.old client) }
+    ensures { HaveUsedOneMore (is_member clients entry) used.old used.new }
 {
     for client in 0..8u8 {
         if is_member(entry, client, clients) {
@@ -55,7 +53,7 @@ fn advance_members(used: &mut [usize; 8], entry: Entry, clients: usize)
 /// Each member has used one operation more.
 pub fn advance(used: &mut [usize; 8], entry: Entry, clients: usize)
     requires { (client : ℕ) → slice_index used.old client < 2 ^ 63 }
-    ensures { (client : ℕ) → client < 8 → slice_index used.new client ≡ cond (is_member clients entry client) (slice_index used.old client + 1) (slice_index used.old client) }
+    ensures { HaveUsedOneMore (is_member clients entry) used.old used.new }
 {
     match entry {
         Entry::Give { client, .. } => advance_one(used, client),
@@ -65,7 +63,7 @@ pub fn advance(used: &mut [usize; 8], entry: Entry, clients: usize)
 }
 
 fn place_in(row: &SyncRow, number: usize) -> Option<u32>
-    ensures { result ≡ option_map (λ (w : WaitAt). w.place) (slice_get row.now.ops number) }
+    ensures { result ≡ place_at row.now.ops number }
 {
     match row.ops.as_slice().get(number) {
         Some(wait) => Some(wait.place),
@@ -75,7 +73,7 @@ fn place_in(row: &SyncRow, number: usize) -> Option<u32>
 
 /// The place of a client's operation of this number.
 pub fn place_of(syncs: &SyncLists, client: u8, number: usize) -> Option<u32>
-    ensures { result ≡ option_map (λ (w : WaitAt). w.place) (slice_get (ops_of syncs.now client) number) }
+    ensures { result ≡ place_at (ops_of syncs.now client) number }
 {
     match syncs.clients.as_slice().get(client as usize) {
         Some(row) => place_in(row, number),
@@ -84,7 +82,7 @@ pub fn place_of(syncs: &SyncLists, client: u8, number: usize) -> Option<u32>
 }
 
 fn place_or_length(row: &SyncRow, number: usize) -> u32
-    ensures { result ≡ option_map_or (λ (w : WaitAt). w.place) (slice_get row.now.ops number) row.now.length }
+    ensures { result ≡ place_or row.now.ops number row.now.length }
 {
     match row.ops.as_slice().get(number) {
         Some(wait) => wait.place,

@@ -35,8 +35,8 @@ returns-clause-walk c =
       passed = still_passed syncs c.args.order.now (client_count syncs) e walk.used c.advance.new.used new.spots c.requires.lists up c.unit_spot-spot.ensures.passed;
     }
 
-pub returns-clause-spots : goal.returns-clause-spots
-returns-clause-spots c =
+pub returns-clause-spot : goal.returns-clause-spot
+returns-clause-spot c =
     let syncs = c.args.syncs.now in
     let js = c.args.journal.now in
     let walk = c.args.walk.now in

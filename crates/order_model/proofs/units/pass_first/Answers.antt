@@ -9,5 +9,5 @@ loop-unit-preserved c =
     record {
       walk = c.next_unit-spot.ensures.walk;
       spots = one_passed c.next_unit-spot.result (spots c.loop-unit.takers.read) (spots c.next_unit-spot.new.walk.read) (spots c.args.takers.now.read) c.loop-unit.unit
-          c.next_unit-spot.ensures.spots c.next_unit-spot.ensures.none c.loop-unit.invariant.spots;
+          c.next_unit-spot.ensures.spot c.next_unit-spot.ensures.none c.loop-unit.invariant.spots;
     }
