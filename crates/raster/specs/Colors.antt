@@ -1,14 +1,16 @@
 -- The colour of a triangle over the pixels, and what its corners have in common.
-use Rattle.std.specs.Prelude.{◌≡◌, ℕ, List, ℤ, pos, Bool, ◌==◌, ◌&&◌}
+use Rattle.std.specs.Prelude.{◌≡◌, ℕ, ◌+◌, ◌^◌, ◌<◌, List, ℤ, pos, ◌+ℤ◌, ◌<ℤ◌, Bool, true, ◌==◌, ◌&&◌}
 use Rattle.rc_base.specs.Numbers.{is_between}
-use Rattle.rc_base.specs.Drawing.Cover.{corner}
+use Rattle.rc_base.specs.Drawing.Cover.{corner, triangle_area, is_inside}
+use Rattle.rc_base.specs.Drawing.Fragment.{fragment_of}
 use Rattle.rc_base.specs.Drawing.Window.{depth_most}
 use Rattle.rc_base.specs.declared.command.Rgba.{Rgba}
 use Rattle.rc_base.specs.declared.window.WindowVertex.{WindowVertex}
 use Rattle.rc_base.specs.declared.window.Fragment.{Fragment}
 use Rattle.raster.specs.declared.color.ColorPlane.{ColorPlane}
 use Rattle.raster.specs.declared.color.ColorRamp.{ColorRamp}
-use Rattle.raster.specs.Planes.{IsBytePlane, IsByteRamp, IsByteRise}
+use Rattle.raster.specs.declared.triangle_setup.TriangleSetup.{TriangleSetup}
+use Rattle.raster.specs.Planes.{IsBytePlane, IsByteRamp, IsByteRise, IsTriangleSetup}
 
 -- the colour of a triangle from pixel (x, y) on
 pub record IsColorPlane (v : List WindowVertex) (x y : ℤ) (p : ColorPlane) : Type 0 where
@@ -34,6 +36,43 @@ pub record IsColorRise (v : List WindowVertex) (x y : ℤ) (k : ℕ) (p : ColorR
 abbrev pub HasColor : Rgba → Fragment → Type 0
 HasColor color f = color ≡ f.color
 
+-- the colour of the triangle from the setup's pixel on
+abbrev pub IsColorPlaneFrom : List WindowVertex → TriangleSetup → ColorPlane → Type 0
+IsColorPlaneFrom v s p = (x y : ℤ) → IsTriangleSetup v x y s → IsColorPlane v x y p
+
+-- what the plane has at the pixel i columns further and j rows up, to be stepped along the row, and up the column
+abbrev pub IsColorRampOf : ColorPlane → ℕ → ℕ → ColorRamp → Type 0
+IsColorRampOf p i j r =
+    (v : List WindowVertex) (x y : ℤ) → IsColorPlane v x y p → IsColorRamp v (x +ℤ pos i) (y +ℤ pos j) (1 + i + j) r
+
+abbrev pub IsColorRiseOf : ColorPlane → ℕ → ℕ → ColorRamp → Type 0
+IsColorRiseOf p i j r =
+    (v : List WindowVertex) (x y : ℤ) → IsColorPlane v x y p → IsColorRise v (x +ℤ pos i) (y +ℤ pos j) (1 + i + j) r
+
+-- the colour of the fragment at the pixel, which the triangle covers, after fewer than 2^12 steps along the row, and up the column
+abbrev pub IsRampColor : ColorRamp → Rgba → Type 0
+IsRampColor r color =
+    (v : List WindowVertex) (x y : ℤ) (k : ℕ) → IsColorRamp v x y k r → k < 2 ^ 12
+    → pos 0 <ℤ triangle_area v → is_inside v x y ≡ true → HasColor color (fragment_of v x y)
+
+abbrev pub IsRiseColor : ColorRamp → Rgba → Type 0
+IsRiseColor r color =
+    (v : List WindowVertex) (x y : ℤ) (k : ℕ) → IsColorRise v x y k r → k < 2 ^ 12
+    → pos 0 <ℤ triangle_area v → is_inside v x y ≡ true → HasColor color (fragment_of v x y)
+
+-- one step along the row, and one up the column
+abbrev pub IsNextColorRamp : ColorRamp → ColorRamp → Type 0
+IsNextColorRamp old new =
+    (v : List WindowVertex) (x y : ℤ) (k : ℕ) → IsColorRamp v x y k old → IsColorRamp v (x +ℤ pos 1) y (k + 1) new
+
+abbrev pub IsNextColorRise : ColorRamp → ColorRamp → Type 0
+IsNextColorRise old new =
+    (v : List WindowVertex) (x y : ℤ) (k : ℕ) → IsColorRise v x y k old → IsColorRise v x (y +ℤ pos 1) (k + 1) new
+
+-- the triangle's fragments have one colour
+abbrev pub AreFlat : List WindowVertex → Rgba → Type 0
+AreFlat v color = (i j : ℤ) → is_inside v i j ≡ true → HasColor color (fragment_of v i j)
+
 -- three colours are one
 abbrev pub are_one : Rgba → Rgba → Rgba → Bool
 are_one a b c =
@@ -50,3 +89,7 @@ is_depth z = is_between (pos 0) (pos depth_most) z
 -- each corner's depth lies in the buffer's range
 abbrev pub are_depths : List WindowVertex → Bool
 are_depths v = is_depth (corner v 0).z && (is_depth (corner v 1).z && is_depth (corner v 2).z)
+
+-- no fragment of the triangle has a depth outside the buffer's range
+abbrev pub HasDepths : List WindowVertex → Type 0
+HasDepths v = (x y : ℤ) → is_inside v x y ≡ true → is_depth (fragment_of v x y).depth ≡ true

@@ -2,11 +2,7 @@
 //!
 //! The mean at a pixel is `n / area`, where `n` is affine in the pixel. It is kept as a number of 64 bits whose top eight are the mean: in
 //! parts of 2^56, rounded up, modulo 2^64. Each step adds at most 2^44 / area parts of error, so below 2^12 steps no mean is changed by it.
-ghost use Rattle.std.specs.Prelude.{◌≡◌, ℕ, ◌^◌, ◌+◌, ◌*◌, ◌<◌, List, ℤ, pos, ◌+ℤ◌, ◌*ℤ◌, ◌<ℤ◌, true};
-ghost use Rattle.rc_base.specs.Drawing.Cover.{triangle_area, is_inside};
-ghost use Rattle.rc_base.specs.Drawing.Fragment.{interpolated};
-ghost use Rattle.rc_base.specs.declared.window.WindowVertex.{WindowVertex as AnyVertex};
-ghost use Rattle.raster.specs.Planes.{IsByteQuotient, IsBytePlane, IsByteRamp, IsByteRise, IsTriangleSetup, AreCorners, AreFromTo, sum_at};
+ghost use Rattle.raster.specs.Planes.{IsBytePlaneOf, IsBytePlaneFor, IsFlatBytePlane, IsByteMoved, IsByteThere, IsByteRampOf, IsByteRiseOf, IsRampByte, IsRiseByte, IsNextByteRamp, IsNextByteRise};
 
 use crate::edges::{gain, sum};
 use crate::quotients::byte_quotient;
@@ -28,7 +24,7 @@ pub struct ByteRamp {
 }
 
 fn byte_plane_by(s: &TriangleSetup, a: i32, b: i32, c: i32) -> BytePlane
-    ensures { (v : List AnyVertex) (x y : ℤ) (f : AnyVertex → ℤ) → IsTriangleSetup v x y s.now → AreCorners v f a b c → AreFromTo (pos 0) (pos 255) v f → IsBytePlane v x y f result }
+    ensures { IsBytePlaneOf s.now a b c result }
 {
     let here = sum(&s.here, a, b, c);
     let right = sum(&s.right, a, b, c);
@@ -42,7 +38,7 @@ fn byte_plane_by(s: &TriangleSetup, a: i32, b: i32, c: i32) -> BytePlane
 
 // Of a channel that is the same at all corners.
 fn flat_byte_plane(a: u8) -> BytePlane
-    ensures { (v : List AnyVertex) (x y : ℤ) (f : AnyVertex → ℤ) → AreCorners v f (pos a) (pos a) (pos a) → IsBytePlane v x y f result }
+    ensures { IsFlatBytePlane a result }
 {
     BytePlane {
         at: u64::from(a) * 72_057_594_037_927_936,
@@ -52,7 +48,7 @@ fn flat_byte_plane(a: u8) -> BytePlane
 }
 
 pub(crate) fn byte_plane_of(s: &TriangleSetup, a: u8, b: u8, c: u8) -> BytePlane
-    ensures { (v : List AnyVertex) (x y : ℤ) (f : AnyVertex → ℤ) → IsTriangleSetup v x y s.now → AreCorners v f (pos a) (pos b) (pos c) → IsBytePlane v x y f result }
+    ensures { IsBytePlaneFor s.now a b c result }
 {
     if a == b && b == c {
         return flat_byte_plane(a);
@@ -61,7 +57,7 @@ pub(crate) fn byte_plane_of(s: &TriangleSetup, a: u8, b: u8, c: u8) -> BytePlane
 }
 
 fn byte_moved(at: u64, by: u64, times: u64) -> u64
-    ensures { (n area : ℤ) (m : ℤ) (k : ℕ) → IsByteQuotient n area k at → IsByteQuotient m area 1 by → IsByteQuotient (n +ℤ pos times *ℤ m) area (k + times) result }
+    ensures { IsByteMoved at by times result }
 {
     at.wrapping_add(times.wrapping_mul(by))
 }
@@ -69,14 +65,14 @@ fn byte_moved(at: u64, by: u64, times: u64) -> u64
 impl BytePlane {
     // The number at the pixel `i` columns further and `j` rows up.
     fn there(&self, i: u64, j: u64) -> u64
-        ensures { (v : List AnyVertex) (x y : ℤ) (f : AnyVertex → ℤ) → IsBytePlane v x y f self.now → IsByteQuotient (sum_at v (x +ℤ pos i) (y +ℤ pos j) f) (triangle_area v) (1 + i + j) result }
+        ensures { IsByteThere self.now i j result }
     {
         byte_moved(byte_moved(self.at, self.across, i), self.up, j)
     }
 
     /// The attribute at the pixel `i` columns further and `j` rows up.
     pub(crate) fn ramp(&self, i: u64, j: u64) -> ByteRamp
-        ensures { (v : List AnyVertex) (x y : ℤ) (f : AnyVertex → ℤ) → IsBytePlane v x y f self.now → IsByteRamp v (x +ℤ pos i) (y +ℤ pos j) f (1 + i + j) result }
+        ensures { IsByteRampOf self.now i j result }
     {
         ByteRamp {
             at: self.there(i, j),
@@ -86,7 +82,7 @@ impl BytePlane {
 
     /// The same as `ramp`, to be stepped up the column.
     pub(crate) fn rise(&self, i: u64, j: u64) -> ByteRamp
-        ensures { (v : List AnyVertex) (x y : ℤ) (f : AnyVertex → ℤ) → IsBytePlane v x y f self.now → IsByteRise v (x +ℤ pos i) (y +ℤ pos j) f (1 + i + j) result }
+        ensures { IsByteRiseOf self.now i j result }
     {
         ByteRamp {
             at: self.there(i, j),
@@ -98,16 +94,16 @@ impl BytePlane {
 impl ByteRamp {
     /// The mean at the pixel.
     pub(crate) fn mean(&self) -> u8
-        ensures across { (v : List AnyVertex) (x y : ℤ) (f : AnyVertex → ℤ) (k : ℕ) → IsByteRamp v x y f k self.now → k < 2 ^ 12 → pos 0 <ℤ triangle_area v → is_inside v x y ≡ true → pos result ≡ interpolated v x y f }
-        ensures up { (v : List AnyVertex) (x y : ℤ) (f : AnyVertex → ℤ) (k : ℕ) → IsByteRise v x y f k self.now → k < 2 ^ 12 → pos 0 <ℤ triangle_area v → is_inside v x y ≡ true → pos result ≡ interpolated v x y f }
+        ensures across { IsRampByte self.now result }
+        ensures up { IsRiseByte self.now result }
     {
         (self.at >> 56) as u8
     }
 
     /// Goes to the next pixel of the row, or of the column.
     pub(crate) fn advance(&mut self)
-        ensures across { (v : List AnyVertex) (x y : ℤ) (f : AnyVertex → ℤ) (k : ℕ) → IsByteRamp v x y f k self.old → IsByteRamp v (x +ℤ pos 1) y f (k + 1) self.new }
-        ensures up { (v : List AnyVertex) (x y : ℤ) (f : AnyVertex → ℤ) (k : ℕ) → IsByteRise v x y f k self.old → IsByteRise v x (y +ℤ pos 1) f (k + 1) self.new }
+        ensures across { IsNextByteRamp self.old self.new }
+        ensures up { IsNextByteRise self.old self.new }
     {
         self.at = self.at.wrapping_add(self.gain);
     }

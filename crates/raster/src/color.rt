@@ -1,10 +1,6 @@
 //! The colour of a triangle over the pixels, channel by channel as a plane; and what its corners have in common.
-ghost use Rattle.std.specs.Prelude.{◌≡◌, ℕ, ◌+◌, ◌^◌, ◌<◌, ◌==◌, ◌&&◌, List, ℤ, pos, ◌+ℤ◌, ◌<ℤ◌, true, false, MatchOption};
-ghost use Rattle.rc_base.specs.Drawing.Cover.{triangle_area, is_inside};
-ghost use Rattle.rc_base.specs.Drawing.Fragment.{fragment_of};
-ghost use Rattle.rc_base.specs.declared.window.WindowVertex.{WindowVertex as AnyVertex};
-ghost use Rattle.raster.specs.Planes.{IsTriangleSetup};
-ghost use Rattle.raster.specs.Colors.{IsColorPlane, IsColorRamp, IsColorRise, HasColor, are_one, has_one_color, is_depth, are_depths};
+ghost use Rattle.std.specs.Prelude.{◌≡◌, ◌==◌, ◌&&◌, true, false, MatchOption};
+ghost use Rattle.raster.specs.Colors.{IsColorPlaneFrom, IsColorRampOf, IsColorRiseOf, IsRampColor, IsRiseColor, IsNextColorRamp, IsNextColorRise, AreFlat, HasDepths, are_one, has_one_color, is_depth, are_depths};
 
 use crate::byte_plane::{BytePlane, ByteRamp, byte_plane_of};
 use crate::triangle_setup::TriangleSetup;
@@ -31,7 +27,7 @@ pub struct ColorRamp {
 
 /// The colour of a triangle from the setup's pixel on.
 pub fn color_plane(tri: &WindowTriangle, setup: &TriangleSetup) -> ColorPlane
-    ensures { (x y : ℤ) → IsTriangleSetup tri.now.v x y setup.now → IsColorPlane tri.now.v x y result }
+    ensures { IsColorPlaneFrom tri.now.v setup.now result }
 {
     let [a, b, c] = &tri.v;
     ColorPlane {
@@ -45,7 +41,7 @@ pub fn color_plane(tri: &WindowTriangle, setup: &TriangleSetup) -> ColorPlane
 impl ColorPlane {
     /// The colour at the pixel `i` columns further and `j` rows up.
     pub fn ramp(&self, i: u64, j: u64) -> ColorRamp
-        ensures { (v : List AnyVertex) (x y : ℤ) → IsColorPlane v x y self.now → IsColorRamp v (x +ℤ pos i) (y +ℤ pos j) (1 + i + j) result }
+        ensures { IsColorRampOf self.now i j result }
     {
         ColorRamp {
             r: self.r.ramp(i, j),
@@ -57,7 +53,7 @@ impl ColorPlane {
 
     /// The same as `ramp`, to be stepped up the column.
     pub fn rise(&self, i: u64, j: u64) -> ColorRamp
-        ensures { (v : List AnyVertex) (x y : ℤ) → IsColorPlane v x y self.now → IsColorRise v (x +ℤ pos i) (y +ℤ pos j) (1 + i + j) result }
+        ensures { IsColorRiseOf self.now i j result }
     {
         ColorRamp {
             r: self.r.rise(i, j),
@@ -71,8 +67,8 @@ impl ColorPlane {
 impl ColorRamp {
     /// The colour of the fragment at the pixel, which the triangle covers, if fewer than 2^12 steps lead there from the plane's first pixel.
     pub fn color(&self) -> Rgba
-        ensures across { (v : List AnyVertex) (x y : ℤ) (k : ℕ) → IsColorRamp v x y k self.now → k < 2 ^ 12 → pos 0 <ℤ triangle_area v → is_inside v x y ≡ true → HasColor result (fragment_of v x y) }
-        ensures up { (v : List AnyVertex) (x y : ℤ) (k : ℕ) → IsColorRise v x y k self.now → k < 2 ^ 12 → pos 0 <ℤ triangle_area v → is_inside v x y ≡ true → HasColor result (fragment_of v x y) }
+        ensures across { IsRampColor self.now result }
+        ensures up { IsRiseColor self.now result }
     {
         Rgba {
             r: self.r.mean(),
@@ -84,8 +80,8 @@ impl ColorRamp {
 
     /// Goes to the next pixel of the row, or of the column.
     pub fn advance(&mut self)
-        ensures across { (v : List AnyVertex) (x y : ℤ) (k : ℕ) → IsColorRamp v x y k self.old → IsColorRamp v (x +ℤ pos 1) y (k + 1) self.new }
-        ensures up { (v : List AnyVertex) (x y : ℤ) (k : ℕ) → IsColorRise v x y k self.old → IsColorRise v x (y +ℤ pos 1) (k + 1) self.new }
+        ensures across { IsNextColorRamp self.old self.new }
+        ensures up { IsNextColorRise self.old self.new }
     {
         self.r.advance();
         self.g.advance();
@@ -110,8 +106,7 @@ fn are_one(a: Rgba, b: Rgba, c: Rgba) -> bool
 /// The one colour of all fragments of the triangle; none exactly where its corners have not one colour.
 pub fn flat_color(tri: &WindowTriangle) -> Option<Rgba>
     ensures answer { MatchOption result (has_one_color tri.now.v ≡ false) (λ color. has_one_color tri.now.v ≡ true) }
-    ensures color { MatchOption result (has_one_color tri.now.v ≡ false)
-        (λ color. (x y : ℤ) → is_inside tri.now.v x y ≡ true → HasColor color (fragment_of tri.now.v x y)) }
+    ensures color { MatchOption result (has_one_color tri.now.v ≡ false) (AreFlat tri.now.v) }
 {
     let [a, b, c] = &tri.v;
     if !are_one(a.color, b.color, c.color) {
@@ -129,7 +124,7 @@ fn is_depth(z: i32) -> bool
 /// Whether each corner's depth lies in the buffer's range; then each fragment's does.
 pub fn has_depths(tri: &WindowTriangle) -> bool
     ensures corners { result ≡ are_depths tri.now.v }
-    ensures fragments { result ≡ true → (x y : ℤ) → is_inside tri.now.v x y ≡ true → is_depth (fragment_of tri.now.v x y).depth ≡ true }
+    ensures fragments { result ≡ true → HasDepths tri.now.v }
 {
     is_depth(tri.v[0].z) && (is_depth(tri.v[1].z) && is_depth(tri.v[2].z))
 }

@@ -6,7 +6,7 @@ ghost use mathlib.Core.Bool.{cond};
 ghost use Rattle.rc_base.specs.Numbers.{Within};
 ghost use Rattle.rc_base.specs.Drawing.Cover.{edge_value, keeps_line, is_within_edge, centre, IsInBounds};
 ghost use Rattle.raster.specs.Lanes.{kept_value, ramp_of, edge_lanes, AreLanes, AreCoveredBits};
-ghost use Rattle.raster.specs.Spans.{IsEmptyRow, IsRowSpan};
+ghost use Rattle.raster.specs.Spans.{IsEmptyRow, IsSpanIfAny};
 
 use crate::columns::{Places, minus_1};
 use crate::coverage::keeps;
@@ -179,7 +179,7 @@ fn bit_places(tri: &WindowTriangle, bits: u64, y: i32, x0: i32, x1: i32) -> Plac
     requires order { x0 ≤ℤ x1 }
     requires few { x1 ≤ℤ (x0 +ℤ pos 8) }
     ensures none { result.x1 ≤ℤ result.x0 → IsEmptyRow tri.now.v y x0 x1 }
-    ensures some { result.x0 <ℤ result.x1 → IsRowSpan tri.now.v y x0 x1 (record { y = y; x0 = result.x0; x1 = result.x1 }) }
+    ensures some { IsSpanIfAny tri.now.v y x0 x1 result }
 {
     let _tri = tri;
     let _row = y;
@@ -204,7 +204,7 @@ pub(crate) fn narrow_places(
     requires order { x0 ≤ℤ x1 }
     requires few { x1 ≤ℤ (x0 +ℤ pos 8) }
     ensures none { result.x1 ≤ℤ result.x0 → IsEmptyRow tri.now.v y x0 x1 }
-    ensures some { result.x0 <ℤ result.x1 → IsRowSpan tri.now.v y x0 x1 (record { y = y; x0 = result.x0; x1 = result.x1 }) }
+    ensures some { IsSpanIfAny tri.now.v y x0 x1 result }
 {
     bit_places(tri, covered_bits(tri, lanes, x0, y0, y), y, x0, x1)
 }

@@ -3,6 +3,7 @@ ghost use Rattle.std.specs.Prelude.{◌≡◌, ◌^◌, pos, true, ◌+ℤ◌, �
 ghost use Rattle.rc_base.specs.Numbers.{Within, floor_quotient};
 ghost use Rattle.rc_base.specs.Drawing.Cover.{is_inside, centre, triangle_area};
 ghost use Rattle.rc_base.specs.Drawing.Fragment.{weight, weighted_sum};
+ghost use Rattle.raster.specs.Blend.{weighted_mean};
 ghost use Rattle.raster.specs.Weights.{AreWeights, narrow_area};
 
 use fixed_math::{centre_of, edge, floor_div};
@@ -62,7 +63,7 @@ fn add3(a: i128, b: i128, c: i128) -> i128
 
 // The mean of any three values.
 fn wide_mean(w: &Weights, a: i32, b: i32, c: i32) -> i32
-    ensures { result ≡ floor_quotient (weighted_sum w.now.first w.now.second w.now.third a b c) w.now.area }
+    ensures { result ≡ weighted_mean w.now.first w.now.second w.now.third w.now.area a b c }
 {
     let sum = add3(part(w.first, a), part(w.second, b), part(w.third, c));
     let quotient = floor_div(sum, i128::from(w.area));
@@ -104,7 +105,7 @@ pub(crate) fn short_floor(n: i64, d: i64) -> i64
 // The mean where the area is small: 64 bits hold the sum.
 fn short_mean(w: &Weights, a: i32, b: i32, c: i32) -> i32
     requires { w.now.area ≤ℤ pos narrow_area }
-    ensures { result ≡ floor_quotient (weighted_sum w.now.first w.now.second w.now.third a b c) w.now.area }
+    ensures { result ≡ weighted_mean w.now.first w.now.second w.now.third w.now.area a b c }
 {
     let sum = short_add3(
         short_part(w.first, a),
@@ -117,7 +118,7 @@ fn short_mean(w: &Weights, a: i32, b: i32, c: i32) -> i32
 
 /// The mean of the corners' values by weight, rounded down: it lies between the least and the greatest.
 pub(crate) fn mean(w: &Weights, a: i32, b: i32, c: i32) -> i32
-    ensures { result ≡ floor_quotient (weighted_sum w.now.first w.now.second w.now.third a b c) w.now.area }
+    ensures { result ≡ weighted_mean w.now.first w.now.second w.now.third w.now.area a b c }
 {
     if w.area <= NARROW_AREA {
         short_mean(w, a, b, c)
@@ -137,7 +138,7 @@ fn byte_of(q: i64) -> u8
 
 /// The mean of the corners' channels by weight, rounded down.
 pub(crate) fn channel_mean(w: &Weights, a: u8, b: u8, c: u8) -> u8
-    ensures { pos result ≡ floor_quotient (weighted_sum w.now.first w.now.second w.now.third (pos a) (pos b) (pos c)) w.now.area }
+    ensures { pos result ≡ weighted_mean w.now.first w.now.second w.now.third w.now.area (pos a) (pos b) (pos c) }
 {
     let sum = short_add3(
         byte_part(w.first, a),

@@ -6,7 +6,7 @@ ghost use Rattle.rc_base.specs.Drawing.Cover.{IsInBounds};
 ghost use Rattle.raster.specs.Columns.{IsTurn, AreKept};
 ghost use Rattle.raster.specs.Reciprocal.{IsInverse};
 ghost use Rattle.raster.specs.Slopes.{IsSlope, AreSlopes};
-ghost use Rattle.raster.specs.Spans.{IsEmptyRow, IsRowSpan};
+ghost use Rattle.raster.specs.Spans.{IsEmptyRow, IsSpanIfAny};
 
 use crate::column::strict;
 use crate::columns::{Places, minus_1, negated, times_16, width_of};
@@ -257,7 +257,7 @@ pub(crate) fn sloped_places(
     requires order { x0 ≤ℤ x1 }
     requires few { (x1 -ℤ x0) ≤ℤ pos (2 ^ 12) }
     ensures none { result.x1 ≤ℤ result.x0 → IsEmptyRow tri.now.v y x0 x1 }
-    ensures some { result.x0 <ℤ result.x1 → IsRowSpan tri.now.v y x0 x1 (record { y = y; x0 = result.x0; x1 = result.x1 }) }
+    ensures some { IsSpanIfAny tri.now.v y x0 x1 result }
 {
     let all = Places { x0, x1 };
     let first = kept_by(&slopes.first, &tri.v[0], &tri.v[1], y0, y, all);

@@ -1,6 +1,6 @@
 //! How the covered columns of a part's rows are found: by lanes where the part is narrow, by slopes where it is wider.
 ghost use Rattle.std.specs.Prelude.{◌≡◌, ◌^◌, pos, ◌+ℤ◌, ◌-ℤ◌, ◌≤ℤ◌, ◌<ℤ◌};
-ghost use Rattle.raster.specs.Spans.{IsEmptyRow, IsRowSpan};
+ghost use Rattle.raster.specs.Spans.{IsEmptyRow, IsSpanIfAny};
 ghost use Rattle.raster.specs.Ways.{IsWay};
 
 use crate::column::Cut;
@@ -24,7 +24,7 @@ pub(crate) enum Way {
 fn row_places(tri: &WindowTriangle, y: i32, x0: i32, x1: i32) -> Places
     requires { x0 ≤ℤ x1 }
     ensures none { result.x1 ≤ℤ result.x0 → IsEmptyRow tri.now.v y x0 x1 }
-    ensures some { result.x0 <ℤ result.x1 → IsRowSpan tri.now.v y x0 x1 (record { y = y; x0 = result.x0; x1 = result.x1 }) }
+    ensures some { IsSpanIfAny tri.now.v y x0 x1 result }
 {
     let first = kept_columns(&tri.v[0], &tri.v[1], y, Places { x0, x1 });
     let second = kept_columns(&tri.v[1], &tri.v[2], y, first);
@@ -37,7 +37,7 @@ pub(crate) fn places_in(tri: &WindowTriangle, part: Rect, way: &Way, y: i32) -> 
     requires way { IsWay tri.now.v part way.now }
     requires order { part.x0 ≤ℤ part.x1 }
     ensures none { result.x1 ≤ℤ result.x0 → IsEmptyRow tri.now.v y part.x0 part.x1 }
-    ensures some { result.x0 <ℤ result.x1 → IsRowSpan tri.now.v y part.x0 part.x1 (record { y = y; x0 = result.x0; x1 = result.x1 }) }
+    ensures some { IsSpanIfAny tri.now.v y part.x0 part.x1 result }
 {
     match way {
         Way::Lanes(lanes) => narrow_places(tri, lanes, part.y0, y, part.x0, part.x1),

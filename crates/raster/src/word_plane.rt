@@ -2,12 +2,8 @@
 //!
 //! The mean at a pixel is `n / area`, where `n` is affine in the pixel. It is kept as a number of 128 bits whose top 32 are the mean: in
 //! parts of 2^96, rounded up, modulo 2^128. Each step adds at most 2^83 / area parts of error, so below 2^12 steps no mean is changed by it.
-ghost use Rattle.std.specs.Prelude.{◌≡◌, ℕ, ◌^◌, ◌+◌, ◌*◌, ◌<◌, List, ℤ, pos, ◌+ℤ◌, ◌*ℤ◌, ◌≤ℤ◌, ◌<ℤ◌, true};
-ghost use Rattle.rc_base.specs.Numbers.{floor_quotient};
-ghost use Rattle.rc_base.specs.Drawing.Cover.{triangle_area, is_inside};
-ghost use Rattle.rc_base.specs.Drawing.Fragment.{interpolated};
 ghost use Rattle.rc_base.specs.declared.window.WindowVertex.{WindowVertex as AnyVertex};
-ghost use Rattle.raster.specs.Planes.{IsTriangleSetup, IsWordQuotient, IsWordPlane, IsWordRamp, AreCorners};
+ghost use Rattle.raster.specs.Planes.{IsFlatWordPlane, IsWordPlaneOf, IsWordPlaneFrom, IsWordMoved, IsWordFloor, IsWordRampOf, IsRampWord, IsNextWordRamp};
 
 use crate::edges::{gain, sum};
 use crate::quotients::{wide_high_parts, word_quotient};
@@ -31,7 +27,7 @@ pub struct WordRamp {
 
 // Of an attribute that is the same at all corners.
 fn flat_word_plane(a: i32) -> WordPlane
-    ensures { (v : List AnyVertex) (x y : ℤ) (f : AnyVertex → ℤ) → AreCorners v f a a a → IsWordPlane v x y f result }
+    ensures { IsFlatWordPlane a result }
 {
     WordPlane {
         at: wide_high_parts(i128::from(a)),
@@ -41,7 +37,7 @@ fn flat_word_plane(a: i32) -> WordPlane
 }
 
 fn word_plane_by(s: &TriangleSetup, a: i32, b: i32, c: i32) -> WordPlane
-    ensures { (v : List AnyVertex) (x y : ℤ) (f : AnyVertex → ℤ) → IsTriangleSetup v x y s.now → AreCorners v f a b c → IsWordPlane v x y f result }
+    ensures { IsWordPlaneOf s.now a b c result }
 {
     let here = sum(&s.here, a, b, c);
     let right = sum(&s.right, a, b, c);
@@ -54,7 +50,7 @@ fn word_plane_by(s: &TriangleSetup, a: i32, b: i32, c: i32) -> WordPlane
 }
 
 fn word_plane_of(s: &TriangleSetup, a: i32, b: i32, c: i32) -> WordPlane
-    ensures { (v : List AnyVertex) (x y : ℤ) (f : AnyVertex → ℤ) → IsTriangleSetup v x y s.now → AreCorners v f a b c → IsWordPlane v x y f result }
+    ensures { IsWordPlaneOf s.now a b c result }
 {
     if a == b && b == c {
         return flat_word_plane(a);
@@ -63,14 +59,14 @@ fn word_plane_of(s: &TriangleSetup, a: i32, b: i32, c: i32) -> WordPlane
 }
 
 fn word_moved(at: u128, by: u128, times: u64) -> u128
-    ensures { (n area : ℤ) (m : ℤ) (k : ℕ) → IsWordQuotient n area k at → IsWordQuotient m area 1 by → IsWordQuotient (n +ℤ pos times *ℤ m) area (k + times) result }
+    ensures { IsWordMoved at by times result }
 {
     at.wrapping_add(u128::from(times).wrapping_mul(by))
 }
 
 // The top 32 bits as a signed number.
 fn top(at: u128) -> i32
-    ensures { (n area : ℤ) (k : ℕ) → IsWordQuotient n area k at → k < 2 ^ 12 → pos 0 <ℤ area → pos 0 ≤ℤ (floor_quotient n area +ℤ pos (2 ^ 31)) → floor_quotient n area <ℤ pos (2 ^ 31) → result ≡ floor_quotient n area }
+    ensures { IsWordFloor at result }
 {
     let biased = at.wrapping_add(170_141_183_460_469_231_731_687_303_715_884_105_728) >> 96;
     (biased as i64 - 2_147_483_648) as i32
@@ -79,7 +75,7 @@ fn top(at: u128) -> i32
 impl WordPlane {
     /// The attribute at the pixel `i` columns further and `j` rows up.
     pub fn ramp(&self, i: u64, j: u64) -> WordRamp
-        ensures { (v : List AnyVertex) (x y : ℤ) (f : AnyVertex → ℤ) → IsWordPlane v x y f self.now → IsWordRamp v (x +ℤ pos i) (y +ℤ pos j) f (1 + i + j) result }
+        ensures { IsWordRampOf self.now i j result }
     {
         WordRamp {
             at: word_moved(word_moved(self.at, self.across, i), self.up, j),
@@ -92,14 +88,14 @@ impl WordRamp {
     /// The attribute of the fragment at the pixel, which the triangle covers, if fewer than 2^12 steps lead there from the plane's first
     /// pixel.
     pub fn mean(&self) -> i32
-        ensures { (v : List AnyVertex) (x y : ℤ) (f : AnyVertex → ℤ) (k : ℕ) → IsWordRamp v x y f k self.now → k < 2 ^ 12 → pos 0 <ℤ triangle_area v → is_inside v x y ≡ true → result ≡ interpolated v x y f }
+        ensures { IsRampWord self.now result }
     {
         top(self.at)
     }
 
     /// Goes to the next pixel of the row.
     pub fn advance(&mut self)
-        ensures { (v : List AnyVertex) (x y : ℤ) (f : AnyVertex → ℤ) (k : ℕ) → IsWordRamp v x y f k self.old → IsWordRamp v (x +ℤ pos 1) y f (k + 1) self.new }
+        ensures { IsNextWordRamp self.old self.new }
     {
         self.at = self.at.wrapping_add(self.across);
     }
@@ -107,15 +103,15 @@ impl WordRamp {
 
 /// The depth of a triangle from the setup's pixel on.
 pub fn depth_plane(tri: &WindowTriangle, setup: &TriangleSetup) -> WordPlane
-    ensures { (x y : ℤ) → IsTriangleSetup tri.now.v x y setup.now → IsWordPlane tri.now.v x y (λ (c : AnyVertex). c.z) result }
+    ensures { IsWordPlaneFrom tri.now.v setup.now (λ (c : AnyVertex). c.z) result }
 {
     word_plane_of(setup, tri.v[0].z, tri.v[1].z, tri.v[2].z)
 }
 
 /// The texture coordinates s and t of a triangle from the setup's pixel on.
 pub fn coordinate_planes(tri: &WindowTriangle, setup: &TriangleSetup) -> (WordPlane, WordPlane)
-    ensures s { (x y : ℤ) → IsTriangleSetup tri.now.v x y setup.now → IsWordPlane tri.now.v x y (λ (c : AnyVertex). c.s) result.0 }
-    ensures t { (x y : ℤ) → IsTriangleSetup tri.now.v x y setup.now → IsWordPlane tri.now.v x y (λ (c : AnyVertex). c.t) result.1 }
+    ensures s { IsWordPlaneFrom tri.now.v setup.now (λ (c : AnyVertex). c.s) result.0 }
+    ensures t { IsWordPlaneFrom tri.now.v setup.now (λ (c : AnyVertex). c.t) result.1 }
 {
     let [a, b, c] = &tri.v;
     (
