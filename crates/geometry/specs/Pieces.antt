@@ -4,13 +4,15 @@ use Rattle.std.specs.List.{filter_map}
 use Rattle.std.specs.Option.{option_map_or}
 use Rattle.rc_base.specs.Drawing.Cover.{IsInBounds}
 use Rattle.rc_base.specs.declared.state.State.{State}
+use Rattle.rc_base.specs.declared.state.Vertex.{Vertex}
 use Rattle.rc_base.specs.declared.triangle.WindowTriangle.{WindowTriangle}
 use Rattle.rc_base.specs.declared.window.WindowVertex.{WindowVertex}
 use Rattle.rc_base.specs.declared.window.ClipVertex.{ClipVertex}
 use Rattle.geometry.specs.declared.cut_triangle.Pieces.{Pieces}
 use Rattle.geometry.specs.declared.cutting.Point.{Point}
-use Rattle.rc_base.specs.Drawing.Window.{window_at, is_placed_at}
-use Rattle.rc_base.specs.Drawing.Kept.{kept_at}
+use Rattle.rc_base.specs.Drawing.Pieces.{front_pieces, kept_pieces, vertex_pieces}
+use Rattle.rc_base.specs.Drawing.Window.{clip_vertex, window_at, is_placed_at}
+use Rattle.rc_base.specs.Drawing.Kept.{kept_at, vertex_at}
 
 -- where a vertex in clip coordinates stands in the window: nowhere, if it isn't placed
 abbrev pub IsPlaceAt : State → ClipVertex → Option WindowVertex → Type 0
@@ -28,12 +30,28 @@ kept_piece s pieces k = option_map_or (kept_at s) (slice_get pieces k) None
 abbrev pub IsPiece : State → List (List ClipVertex) → ℕ → Option WindowTriangle → Type 0
 IsPiece s pieces k r = MatchOption r (kept_piece s pieces k ≡ None) (λ t. kept_piece s pieces k ≡ Some t.v)
 
+-- the pieces of the triangle of three vertices in front of the near plane
+abbrev pub front_pieces_of : State → List Vertex → List (List ClipVertex)
+front_pieces_of s vs = front_pieces (clip_vertex s (vertex_at vs 0)) (clip_vertex s (vertex_at vs 1)) (clip_vertex s (vertex_at vs 2))
+
+-- its pieces in a block of that mode, in clip coordinates
+abbrev pub corner_pieces : State → ℕ → List Vertex → List (List ClipVertex)
+corner_pieces s mode vs = vertex_pieces s mode (vertex_at vs 0) (vertex_at vs 1) (vertex_at vs 2)
+
+-- those of them that are kept, in the window
+abbrev pub kept_corner_pieces : State → ℕ → List Vertex → List (List WindowVertex)
+kept_corner_pieces s mode vs = kept_pieces s mode (vertex_at vs 0) (vertex_at vs 1) (vertex_at vs 2)
+
 -- the corners of a triangle, if there is one
 abbrev pub found : Option WindowTriangle → List (List WindowVertex)
 found r = option_map_or (λ (t : WindowTriangle). t.v ∷ []) r []
+
+-- those of both pieces
+abbrev pub found_in : Pieces → List (List WindowVertex)
+found_in p = found p.first ++ found p.second
 
 -- the triangles are those of the pieces that are kept
 pub record ArePieces (s : State) (pieces : List (List ClipVertex)) (p : Pieces) : Type 0 where
   pub first : IsPiece s pieces 0 p.first
   pub second : IsPiece s pieces 1 p.second
-  pub all : filter_map (kept_at s) pieces ≡ found p.first ++ found p.second
+  pub all : filter_map (kept_at s) pieces ≡ found_in p

@@ -1,10 +1,10 @@
 //! The pieces of a triangle of a block: itself, or what of it is in front of the near plane.
-ghost use Rattle.std.specs.Prelude.{◌≡◌, ◌^◌, ◌<◌, ◌∷◌, [], ◌++◌, pos, true, false, None, Some, MatchOption};
+ghost use Rattle.std.specs.Prelude.{◌≡◌, ◌^◌, ◌<◌, ◌∷◌, [], pos, true, false, None, Some, MatchOption};
 ghost use Rattle.rc_base.specs.Numbers.{Within};
-ghost use Rattle.rc_base.specs.Drawing.Kept.{three, oriented, vertex_at, is_kept_at};
-ghost use Rattle.rc_base.specs.Drawing.Window.{window_at, clip_vertex};
-ghost use Rattle.rc_base.specs.Drawing.Pieces.{is_cuttable, fan_of, polygon_of, front_pieces, vertex_pieces, kept_pieces};
-ghost use Rattle.geometry.specs.Pieces.{IsPlaceAt, IsPoint, IsPiece, ArePieces, found};
+ghost use Rattle.rc_base.specs.Drawing.Kept.{three, oriented, is_kept_at};
+ghost use Rattle.rc_base.specs.Drawing.Window.{window_at};
+ghost use Rattle.rc_base.specs.Drawing.Pieces.{is_cuttable, fan_of, polygon_of};
+ghost use Rattle.geometry.specs.Pieces.{IsPlaceAt, IsPoint, IsPiece, ArePieces, found_in, front_pieces_of, corner_pieces, kept_corner_pieces};
 
 use crate::clipping::{crossing_point, cuttable_vertex, is_in_front};
 use crate::cut_triangle::Pieces;
@@ -140,7 +140,7 @@ fn pieces_in_front(state: &State, a: &ClipVertex, b: &ClipVertex, c: &ClipVertex
 // The pieces of a triangle of three vertices.
 #[tactic(auto, unfolding(rc_base::specs::Drawing::Pieces::front_pieces))]
 fn cut(state: &State, corners: &[Vertex; 3]) -> Pieces
-    ensures { ArePieces state.now (front_pieces (clip_vertex state.now (vertex_at corners.now 0)) (clip_vertex state.now (vertex_at corners.now 1)) (clip_vertex state.now (vertex_at corners.now 2))) result }
+    ensures { ArePieces state.now (front_pieces_of state.now corners.now) result }
 {
     let identities = identities_of(state);
     let Some(a) = cuttable_vertex(state, identities, &corners[0]) else {
@@ -160,9 +160,9 @@ fn cut(state: &State, corners: &[Vertex; 3]) -> Pieces
 /// what is in front of it gives no piece, one, or two. A piece that lies outside the bounds of window coordinates, has no area or is culled
 /// is dropped by itself, and so is a triangle with a clip coordinate above 2^46 in size.
 pub fn pieces(state: &State, mode: u8, corners: &[Vertex; 3]) -> Pieces
-    ensures first { IsPiece state.now (vertex_pieces state.now mode (vertex_at corners.now 0) (vertex_at corners.now 1) (vertex_at corners.now 2)) 0 result.first }
-    ensures second { IsPiece state.now (vertex_pieces state.now mode (vertex_at corners.now 0) (vertex_at corners.now 1) (vertex_at corners.now 2)) 1 result.second }
-    ensures all { kept_pieces state.now mode (vertex_at corners.now 0) (vertex_at corners.now 1) (vertex_at corners.now 2) ≡ found result.first ++ found result.second }
+    ensures first { IsPiece state.now (corner_pieces state.now mode corners.now) 0 result.first }
+    ensures second { IsPiece state.now (corner_pieces state.now mode corners.now) 1 result.second }
+    ensures all { kept_corner_pieces state.now mode corners.now ≡ found_in result }
 {
     if mode < CUT_MODES {
         return Pieces {
