@@ -7,7 +7,7 @@ use Rattle.rc_base.specs.declared.command.Opcode.{Opcode}
 use Rattle.rc_base.specs.Formats.Commands.{table_row, opcode_number}
 use Rattle.spu_chain.specs.declared.rule.SpuRule.{SpuRule}
 use Rattle.spu_chain.specs.declared.rule.SpuRule.TheVariants as rule
-use Rattle.spu_chain.specs.Filter.{HasByteTint}
+use Rattle.spu_chain.specs.Filter.{HasByteTint, IsTint}
 
 -- what stands before a job: a filter, with what its words say
 pub data Filter : Type 0 where
@@ -52,6 +52,23 @@ filter_words f = filter_word f ∷ due_words f
 abbrev pub IsFilter : Filter → Type 0
 IsFilter f = HasByteTint (rule_of f)
 
+-- no filter is at the front of the words, no tint, no number of a byte, no name of a command
+abbrev pub NoFilter : List (List ℕ) → Type 0
+NoFilter words = (f : Filter) (more : List (List ℕ)) → IsFilter f → words ≡ filter_words f ++ more → ⊥
+
+abbrev pub NoTint : List (List ℕ) → Type 0
+NoTint words = (tint : Rgba) (more : List (List ℕ)) → IsTint tint → words ≡ tint_words tint ++ more → ⊥
+
+abbrev pub NoChannel : List (List ℕ) → Type 0
+NoChannel words = (n : ℕ) (more : List (List ℕ)) → n < 256 → words ≡ decimal n ∷ more → ⊥
+
+abbrev pub NoCommand : List (List ℕ) → Type 0
+NoCommand words = (o : Opcode) (more : List (List ℕ)) → words ≡ (table_row o).name ∷ more → ⊥
+
+-- a filter of this rule is at the front of the words, and these are behind it
+abbrev pub BeginsWithRule : List (List ℕ) → SpuRule → List (List ℕ) → Type 0
+BeginsWithRule words made behind = (f : Filter) × IsFilter f × (words ≡ filter_words f ++ behind) × (made ≡ rule_of f)
+
 -- the first word is one that a filter begins with
 abbrev pub BeginsFilter : List (List ℕ) → Type 0
 BeginsFilter words = (f : Filter) × (more : List (List ℕ)) × (words ≡ filter_word f ∷ more)
@@ -71,13 +88,17 @@ pub record NamesChain (words : List (List ℕ)) (rules : List SpuRule) (count : 
   pub rules_are : rules ≡ map rule_of filters
   pub count_is : count ≡ length (flat_map filter_words filters)
 
+-- the words name this chain: its rules, and how many words they take
+abbrev pub NamesRules : List (List ℕ) → List SpuRule × ℕ → Type 0
+NamesRules words chain = NamesChain words chain.0 chain.1
+
 -- Behind some filters a filter's word stands without the words that are due behind it.
 pub record LacksWords (words : List (List ℕ)) : Type 0 where
   pub filters : List Filter
   pub rest : List (List ℕ)
   pub leads : LeadsWith words filters rest
   pub begins : BeginsFilter rest
-  pub lacks : (f : Filter) (more : List (List ℕ)) → IsFilter f → rest ≡ filter_words f ++ more → ⊥
+  pub lacks : NoFilter rest
 
 -- The words begin with more than 16 filters.
 pub record HasTooMany (words : List (List ℕ)) : Type 0 where

@@ -38,6 +38,10 @@ options_of job = (row_of job).options
 abbrev pub options_due : JobName → List OptionName
 options_due job = (row_of job).due
 
+-- the word of no job
+abbrev pub NoJob : List ℕ → Type 0
+NoJob word = (job : JobName) → word ≡ job_word job → ⊥
+
 -- an option with its value
 pub data Setting : Type 0 where
   TilesOf : (columns rows : ℕ) → Setting
@@ -78,6 +82,13 @@ pub record IsCommandLine (words : List (List ℕ)) (job : JobName) (settings : L
   pub taken : (o : OptionName) → IsIn o (map option_of settings) → IsIn o (options_of job)
   pub once : NoRepeat (map option_of settings)
   pub due : (o : OptionName) → IsIn o (options_due job) → IsIn o (map option_of settings)
+
+-- the words are a line, or none
+abbrev pub IsSomeLine : List (List ℕ) → Type 0
+IsSomeLine words = (job : JobName) × (settings : List Setting) × IsCommandLine words job settings
+
+abbrev pub IsNoLine : List (List ℕ) → Type 0
+IsNoLine words = (job : JobName) (settings : List Setting) → IsCommandLine words job settings → ⊥
 
 -- ---- what the settings say, with the defaults
 

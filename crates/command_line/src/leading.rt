@@ -1,11 +1,8 @@
 //! The filters that a command line begins with.
-ghost use Rattle.std.specs.Prelude.{◌≡◌, ◌≢◌, ◌↔◌, ◌<◌, ◌≤◌, ◌∷◌, ◌++◌, [], ℕ, List, IsTrue, IsNone, IsOk, IfOk, IfSome, MatchOption, map, length, string_bytes};
+ghost use Rattle.std.specs.Prelude.{◌≡◌, ◌↔◌, ◌∷◌, ◌++◌, IsTrue, IsNone, IsOk, IfOk, IfSome, MatchOption, map, string_bytes};
 ghost use Rattle.std.specs.Fmt.{decimal};
-ghost use Rattle.rc_base.specs.declared.command.Opcode.{Opcode as AnyOpcode};
-ghost use Rattle.rc_base.specs.declared.command.Rgba.{Rgba as AnyRgba};
 ghost use Rattle.rc_base.specs.Formats.Commands.{table_row};
-ghost use Rattle.spu_chain.specs.Filter.{IsTint};
-ghost use Rattle.command_line.specs.Filters.{Filter, filter_word, filter_words, tint_words, IsFilter, rule_of, BeginsFilter, NamesChain, NamesNone};
+ghost use Rattle.command_line.specs.Filters.{Filter, filter_word, tint_words, BeginsFilter, BeginsWithRule, NamesNone, NamesRules, NoChannel, NoCommand, NoFilter, NoTint};
 
 use crate::number::number;
 use command_table::{opcode_byte, opcode_named};
@@ -22,7 +19,7 @@ const LAST_CHANNEL: u64 = 255;
 
 // The number from 0 to 255 at the front, and the words behind it.
 fn first_channel<'a>(words: &'a [String]) -> Option<(u8, &'a [String])>
-    ensures { MatchOption result ((n : ℕ) (more : List (List ℕ)) → n < 256 → map string_bytes words.now ≡ decimal n ∷ more → ⊥)
+    ensures { MatchOption result (NoChannel (map string_bytes words.now))
         (λ r. map string_bytes words.now ≡ decimal r.0 ∷ map string_bytes r.1.now) }
 {
     match words {
@@ -39,7 +36,7 @@ fn first_channel<'a>(words: &'a [String]) -> Option<(u8, &'a [String])>
 
 // The tint at the front, four numbers from 0 to 255, and the words behind it.
 fn first_tint<'a>(words: &'a [String]) -> Option<(Rgba, &'a [String])>
-    ensures { MatchOption result ((tint : AnyRgba) (more : List (List ℕ)) → IsTint tint → map string_bytes words.now ≡ tint_words tint ++ more → ⊥)
+    ensures { MatchOption result (NoTint (map string_bytes words.now))
         (λ r. map string_bytes words.now ≡ tint_words r.0 ++ map string_bytes r.1.now) }
 {
     let (r, words) = first_channel(words)?;
@@ -51,7 +48,7 @@ fn first_tint<'a>(words: &'a [String]) -> Option<(Rgba, &'a [String])>
 
 // The command's name at the front, and the words behind it.
 fn first_command<'a>(words: &'a [String]) -> Option<(Opcode, &'a [String])>
-    ensures { MatchOption result ((o : AnyOpcode) (more : List (List ℕ)) → map string_bytes words.now ≡ (table_row o).name ∷ more → ⊥)
+    ensures { MatchOption result (NoCommand (map string_bytes words.now))
         (λ r. map string_bytes words.now ≡ (table_row r.0).name ∷ map string_bytes r.1.now) }
 {
     match words {
@@ -88,8 +85,8 @@ fn begins_filter(words: &[String]) -> bool
 
 // The rule of the filter of this word, whose other words stand at the front, and the words behind it.
 fn rule_behind<'a>(word: &str, words: &'a [String]) -> Option<(SpuRule, &'a [String])>
-    ensures { MatchOption result ((f : Filter) (more : List (List ℕ)) → IsFilter f → word.now ∷ map string_bytes words.now ≡ filter_words f ++ more → ⊥)
-        (λ r. (f : Filter) × IsFilter f × (word.now ∷ map string_bytes words.now ≡ filter_words f ++ map string_bytes r.1.now) × (r.0 ≡ rule_of f)) }
+    ensures { MatchOption result (NoFilter (word.now ∷ map string_bytes words.now))
+        (λ r. BeginsWithRule (word.now ∷ map string_bytes words.now) r.0 (map string_bytes r.1.now)) }
 {
     match word {
         "recolour" => {
@@ -108,8 +105,8 @@ fn rule_behind<'a>(word: &str, words: &'a [String]) -> Option<(SpuRule, &'a [Str
 
 // The rule of the filter at the front, and the words behind it.
 fn first_rule<'a>(words: &'a [String]) -> Option<(SpuRule, &'a [String])>
-    ensures { MatchOption result ((f : Filter) (more : List (List ℕ)) → IsFilter f → map string_bytes words.now ≡ filter_words f ++ more → ⊥)
-        (λ r. (f : Filter) × IsFilter f × (map string_bytes words.now ≡ filter_words f ++ map string_bytes r.1.now) × (r.0 ≡ rule_of f)) }
+    ensures { MatchOption result (NoFilter (map string_bytes words.now))
+        (λ r. BeginsWithRule (map string_bytes words.now) r.0 (map string_bytes r.1.now)) }
 {
     match words {
         [] => None,
@@ -122,7 +119,7 @@ fn first_rule<'a>(words: &'a [String]) -> Option<(SpuRule, &'a [String])>
 /// that are due behind it, or where more than 16 filters stand there.
 pub fn filters(alloc: Global, words: &[String]) -> Result<Option<(Rules, usize)>, OutOfMemory>
     ensures none { IfOk result (λ r. IsNone r ↔ NamesNone (map string_bytes words.now)) }
-    ensures some { IfOk result (λ r. IfSome r (λ x. NamesChain (map string_bytes words.now) x.0 x.1)) }
+    ensures some { IfOk result (λ r. IfSome r (NamesRules (map string_bytes words.now))) }
     // Words that begin with no filter's word lack no memory: nothing is kept of them.
     ensures alone { (BeginsFilter (map string_bytes words.now) → ⊥) → IsOk result }
 {

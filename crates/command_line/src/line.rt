@@ -1,17 +1,14 @@
 //! Whole lines.
 ghost use Rattle.std.specs.Prelude.{◌≡◌, ◌↔◌, ℕ, List, IfOk, OnErr, IfNone, IfSome, MatchOption, map, string_bytes};
-ghost use Rattle.command_line.specs.declared.job.JobName.{JobName as SpelledJob};
-ghost use Rattle.command_line.specs.Words.{Setting as Spelled, IsCommandLine};
-ghost use Rattle.clap.specs.Words.{kind_of};
+ghost use Rattle.command_line.specs.Words.{Setting as Spelled, IsNoLine, IsSomeLine};
 ghost use Rattle.command_line.specs.Lines.{AreValues, IsLineOf};
-ghost use Rattle.command_line.specs.Texts.{AreSettings};
+ghost use Rattle.command_line.specs.Texts.{AreSettings, IsLack, IsLineBefore};
 
 use crate::job::{JobName, job_named};
 use crate::matches::option_matches;
 use crate::seen::{Seen, has_due, read};
 use crate::values::{Settings, settings_of};
 use clap::Error;
-use clap::error::ErrorKind;
 use rc_base::out_of_memory::OutOfMemory;
 use std::alloc::Global;
 
@@ -26,8 +23,8 @@ pub struct CommandLine {
 
 // The job of a line, and the words of its options.
 fn job_of<'a>(words: &'a [String]) -> Option<(JobName, &'a [String])>
-    ensures { MatchOption result ((job : SpelledJob) (ss : List Spelled) → IsCommandLine (map string_bytes words.now) job ss → ⊥)
-        (λ r. (ss : List Spelled) × IsCommandLine (map string_bytes words.now) r.0 ss × AreSettings (map string_bytes r.1.now) ss) }
+    ensures { MatchOption result (IsNoLine (map string_bytes words.now))
+        (λ r. IsLineBefore (map string_bytes words.now) r.0 (map string_bytes r.1.now)) }
 {
     match words {
         [] => None,
@@ -51,7 +48,7 @@ fn job_of<'a>(words: &'a [String]) -> Option<(JobName, &'a [String])>
 
 // Want of memory as `clap` tells it.
 fn out_of_memory(error: Error) -> OutOfMemory
-    requires { kind_of error ≡ ErrorKind.OutOfMemory }
+    requires { IsLack error }
 {
     OutOfMemory
 }
@@ -74,10 +71,10 @@ fn with_options(alloc: Global, job: JobName, words: &[String]) -> Result<Command
 /// What the words ask for, where they are a command line: a job's name, and then options of the job in any order, each at most once, each that
 /// the job must have, and each value in the next word. Every other list of words has none. The words are those after the program's own name.
 pub fn command_line(alloc: Global, words: &[String]) -> Result<Option<CommandLine>, OutOfMemory>
-    ensures none { IfOk result (λ r. IfNone r ((job : SpelledJob) (ss : List Spelled) → IsCommandLine (map string_bytes words.now) job ss → ⊥)) }
+    ensures none { IfOk result (λ r. IfNone r (IsNoLine (map string_bytes words.now))) }
     ensures some { IfOk result (λ r. IfSome r (IsLineOf (map string_bytes words.now))) }
     // Memory lacks for command lines alone.
-    ensures lacked { OnErr result ((job : SpelledJob) × (ss : List Spelled) × IsCommandLine (map string_bytes words.now) job ss) }
+    ensures lacked { OnErr result (IsSomeLine (map string_bytes words.now)) }
 {
     match job_of(words) {
         None => Ok(None),

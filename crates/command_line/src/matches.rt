@@ -1,11 +1,9 @@
 //! The options of a line as `clap` reads them.
-ghost use Rattle.std.specs.Prelude.{◌≡◌, ℕ, List, IfOk, IfErr, map, string_bytes};
-ghost use Rattle.command_line.specs.Words.{Setting as Spelled};
-ghost use Rattle.clap.specs.Words.{app_of, kind_of};
+ghost use Rattle.std.specs.Prelude.{◌≡◌, IfOk, IfErr, map, string_bytes};
+ghost use Rattle.clap.specs.Words.{app_of};
 ghost use Rattle.command_line.specs.App.{line_app};
-ghost use Rattle.command_line.specs.Texts.{AreSettings, HasTexts};
+ghost use Rattle.command_line.specs.Texts.{ForSettings, IsLack, Tell};
 
-use clap::error::ErrorKind;
 use clap::{Arg, ArgAction, ArgMatches, Command, Error};
 use std::alloc::{AllocError, Global};
 
@@ -32,8 +30,8 @@ pub(crate) fn option_matches<'a>(
     alloc: Global,
     words: &'a [String],
 ) -> Result<ArgMatches<'a>, Error>
-    ensures ok { (ss : List Spelled) → AreSettings (map string_bytes words.entry.now) ss → IfOk result (λ m. HasTexts m ss) }
-    ensures err { (ss : List Spelled) → AreSettings (map string_bytes words.entry.now) ss → IfErr result (λ e. kind_of e ≡ ErrorKind.OutOfMemory) }
+    ensures ok { ForSettings (map string_bytes words.entry.now) (λ ss. IfOk result (Tell ss)) }
+    ensures err { ForSettings (map string_bytes words.entry.now) (λ ss. IfErr result IsLack) }
 {
     option_command(alloc)?.try_get_matches_from(words)
 }

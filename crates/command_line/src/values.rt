@@ -1,10 +1,8 @@
 //! The values of a line's options.
 ghost use Rattle.std.specs.Prelude.{◌≡◌, ℕ, ◌<◌, ◌^◌, ◌++◌, List, None, Some, codes, option_map};
-ghost use Rattle.std.specs.List.{AllByRecursion};
 ghost use Rattle.std.specs.Fmt.{decimal};
-ghost use Rattle.command_line.specs.Words.{Setting as Spelled, IsSetting};
-ghost use Rattle.command_line.specs.Lines.{AreValues, ReadsNumber, ReadsTiles};
-ghost use Rattle.command_line.specs.Texts.{HasTexts};
+ghost use Rattle.command_line.specs.Lines.{ReadsNumber, ReadsTiles};
+ghost use Rattle.command_line.specs.Texts.{ReadsTexts};
 
 use crate::number::{number, tiles};
 use clap::ArgMatches;
@@ -48,7 +46,7 @@ fn tiles_or_one(text: Option<&str>) -> (u64, u64)
 
 /// The values that the matches of a line's options have.
 pub(crate) fn settings_of(matches: &ArgMatches) -> Settings
-    ensures { (ss : List Spelled) → AllByRecursion IsSetting ss → HasTexts matches.now ss → AreValues result ss }
+    ensures { ReadsTexts matches.now result }
 {
     let (columns, rows) = tiles_or_one(matches.get_str("tiles"));
     Settings {

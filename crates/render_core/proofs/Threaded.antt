@@ -37,7 +37,7 @@ use Rattle.render_core.specs.Carried.{IsCarriedOut}
 use Rattle.render_core.specs.Due.{Outcome, IsRecorded, IsOutcome, ending_by, report_due}
 use Rattle.spu_chain.specs.declared.rule.SpuRule.{SpuRule}
 use Rattle.run_words.specs.declared.work.Work.{Work}
-use Rattle.run_words.specs.Jobs.{AskPlainly, IsJob, IsThreaded, cluster_of, Reads, ShowsNothing, Task, starts_threads, job_in, origin_of, threads_of}
+use Rattle.run_words.specs.Jobs.{AskPlainly, IsJob, IsThreaded, NamesThreads, cluster_of, Reads, ShowsNothing, Task, starts_threads, job_in, origin_of, threads_of}
 use Rattle.render_core.specs.Scenes.{IsFor}
 use Rattle.run_words.specs.Asked.{layout_for, IsWell, IsWellRead}
 use Rattle.render_core.specs.Outcomes.{HaveSeenAll, IsDue, IsLeft, IsLeftByThreads, PartlyShown, PartlyWritten}
@@ -54,24 +54,21 @@ first_word : (words : List (List ℕ)) (job : JobName) (settings : List Setting)
 first_word words job settings parts = ap (λ (ws : List (List ℕ)). slice_get ws 0) parts
 
 -- a job's first word tells whether it is one
-abbrev AreThreads : List ℕ → Type 0
-AreThreads word = (word ≡ job_word name.Render) ⊎ ((word ≡ job_word name.Demo) ⊎ (word ≡ job_word name.Last))
-
 no_word : (w other : List ℕ) → bytes_eq w other ≡ false → bytes_eq other other ≡ true → w ≡ other → ⊥
 no_word w other differs own same = let none : false ≡ true = sym differs ∙ (ap (λ (v : List ℕ). bytes_eq v other) same ∙ own) in absurd cc
 
-other_word : (w : List ℕ) → bytes_eq w (codes "render") ≡ false → bytes_eq w (codes "demo") ≡ false → bytes_eq w (codes "last") ≡ false → AreThreads w → ⊥
+other_word : (w : List ℕ) → bytes_eq w (codes "render") ≡ false → bytes_eq w (codes "demo") ≡ false → bytes_eq w (codes "last") ≡ false → NamesThreads w → ⊥
 other_word w render demo last (inl same) = no_word w (codes "render") render refl same
 other_word w render demo last (inr (inl same)) = no_word w (codes "demo") demo refl same
 other_word w render demo last (inr (inr same)) = no_word w (codes "last") last refl same
 
-told_by : (job_name : JobName) (settings : List Setting) → AreThreads (job_word job_name) → starts_threads (job_in job_name settings) ≡ true
+told_by : (job_name : JobName) (settings : List Setting) → NamesThreads (job_word job_name) → starts_threads (job_in job_name settings) ≡ true
 told_by name.Render settings same = refl
 told_by name.Last settings same = refl
 told_by name.Demo settings same = refl
 told_by other settings same = absurd (other_word (job_word other) refl refl refl same)
 
-tells : (job_name : JobName) (settings : List Setting) → starts_threads (job_in job_name settings) ≡ true → AreThreads (job_word job_name)
+tells : (job_name : JobName) (settings : List Setting) → starts_threads (job_in job_name settings) ≡ true → NamesThreads (job_word job_name)
 tells name.Render settings threads = inl refl
 tells name.Last settings threads = inr (inr refl)
 tells name.Demo settings threads = inr (inl refl)
@@ -95,7 +92,7 @@ module _ (words : List (String Global)) (job : Job) (is : IsJob words job) where
 
   pub alone : (IsThreaded words → ⊥) → starts_threads job ≡ false
   alone other = go (starts_threads job) refl where
-    named : AreThreads (job_word is.name) → IsThreaded words
+    named : NamesThreads (job_word is.name) → IsThreaded words
     named (inl render) = inl (first ∙ ap (λ (w : List ℕ). Some w) render)
     named (inr (inl demo)) = inr (inl (first ∙ ap (λ (w : List ℕ). Some w) demo))
     named (inr (inr last)) = inr (inr (first ∙ ap (λ (w : List ℕ). Some w) last))

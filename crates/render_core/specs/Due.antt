@@ -140,13 +140,17 @@ pub record IsRaced (work : Work) (o : Outcome) : Type 0 where
 
 -- ---- of formats
 
--- the scene's bytes, which spell it, and nothing for the notes
-abbrev pub IsPacked : Scene → Outcome → Type 0
-IsPacked scene o = (o ≡ record { image = written scene; notes = []; ending = Complete; kept = None }) × SpellsScene o.image scene
+-- one text for the image, and nothing for the notes
+abbrev pub shown_alone : List ℕ → Outcome
+shown_alone text = record { image = text; notes = []; ending = Complete; kept = None }
 
--- the scene's text, which spells it, and nothing for the notes
+-- the scene's bytes, which spell it
+abbrev pub IsPacked : Scene → Outcome → Type 0
+IsPacked scene o = (o ≡ shown_alone (written scene)) × SpellsScene o.image scene
+
+-- the scene's text, which spells it
 abbrev pub IsUnpacked : Scene → Outcome → Type 0
-IsUnpacked scene o = (o ≡ record { image = printed scene; notes = []; ending = Complete; kept = None }) × SpellsText o.image scene
+IsUnpacked scene o = (o ≡ shown_alone (printed scene)) × SpellsText o.image scene
 
 -- ---- job by job
 

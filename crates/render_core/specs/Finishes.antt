@@ -8,7 +8,7 @@ use Rattle.run_words.specs.declared.job.Job.{Job}
 use Rattle.run_words.specs.declared.refusal.Refused.{Refused}
 use Rattle.render_core.specs.declared.run_job.Finish.{Finish}
 use Rattle.run_words.specs.declared.told.Told.{Told}
-use Rattle.run_words.specs.Jobs.{Task, IsJob, IsLine}
+use Rattle.run_words.specs.Jobs.{AskFiltered, Task, IsJob, IsLine}
 use Rattle.run_words.specs.Lines.{memory_line, usage_line}
 use Rattle.render_core.specs.Refusals.{kept_for}
 use Rattle.run_words.specs.Statuses.{IsConcluded, IsRefusalTold}
@@ -27,6 +27,10 @@ pub record IsJobless (words : List (String Global)) (notes : Used) (finish : Fin
 pub record IsTaskless (asks : Task → Type 0) (notes : Used) (finish : Finish) : Type 0 where
   pub unkept : finish.kept ≡ None
   pub why : ((finish.status ≡ 1) × ((task : Task) → asks task → ⊥) × Noted notes usage_line) ⊎ ((finish.status ≡ 7) × Noted notes memory_line)
+
+-- so it is of words that should be those of filters and of a job
+abbrev pub IsUnasked : List (String Global) → Used → Finish → Type 0
+IsUnasked words notes finish = IsTaskless (AskFiltered words) notes finish
 
 -- the run ends as its job was carried out or refused
 abbrev pub IsFinished : Used → Result Told Refused → Finish → Type 0

@@ -5,8 +5,9 @@ use Rattle.order_model.specs.declared.record.Record.{Record}
 use Rattle.std.specs.List.{AllByRecursion, flat_map}
 use Rattle.rc_base.specs.Formats.Netpbm.{p6_texts}
 use Rattle.rc_base.specs.declared.scene.Scene.{Scene}
-use Rattle.frame_out.specs.Writing.{AreWritable}
+use Rattle.frame_out.specs.Writing.{AreWritable, IsWritten}
 use Rattle.frame_out.specs.declared.writing.Written.{Written}
+use Rattle.scene_file.specs.Letters.{BeginWithLists}
 use Rattle.scene_file.specs.declared.list_scene.ListScene.{ListScene}
 use Rattle.scene_file.specs.declared.fault.SceneFault.{SceneFault}
 use Rattle.scene_file.specs.declared.fault.SceneFault.TheVariants as scene_faults
@@ -14,6 +15,7 @@ use Rattle.sort_last.specs.declared.last.LastFault.{LastFault}
 use Rattle.sort_last.specs.declared.last.LastFault.TheVariants as apart
 use Rattle.run_words.specs.declared.job.Job.{Job}
 use Rattle.run_words.specs.declared.job.Form.{Form}
+use Rattle.run_words.specs.declared.job.Form.TheVariants.{Bytes}
 use Rattle.render_core.specs.declared.due.Due.{Due}
 use Rattle.render_core.specs.declared.due.DueImage.{DueImage}
 use Rattle.render_core.specs.declared.due.DueImage.TheVariants.{Frames, OneText}
@@ -30,8 +32,8 @@ use Rattle.run_words.specs.declared.refusal.Refused.{Refused}
 use Rattle.run_words.specs.declared.refusal.Refusal.TheVariants.{Image}
 use Rattle.run_words.specs.declared.told.Told.{Told}
 use Rattle.run_words.specs.declared.job.Origin.TheVariants.{Read}
-use Rattle.render_core.specs.Due.{Outcome}
-use Rattle.rc_base.specs.Outside.Ends.{Used}
+use Rattle.render_core.specs.Due.{Outcome, IsOutcome}
+use Rattle.rc_base.specs.Outside.Ends.{Used, TookFront}
 use Rattle.render_core.specs.Findings.{IsJudged}
 use Rattle.run_words.specs.declared.work.Work.{Work}
 use Rattle.render_core.specs.declared.work.Meaning.{Meaning}
@@ -91,6 +93,13 @@ IsRefusedInput form input refusal =
     (refusal ≡ judging.OutOfMemory)
     ⊎ ((task : Task) → origin_of task.job ≡ Read form → IsJudged task input (input_status refusal) (input_line refusal))
 
+-- so it is of bytes, where they begin as those of no scene with call lists
+abbrev pub IsRefusedBytes : List ℕ → InputRefusal → Type 0
+IsRefusedBytes input refusal = IsRefusedInput Bytes input refusal
+
+abbrev pub BeginPlain : List ℕ → Type 0
+BeginPlain input = BeginWithLists input → ⊥
+
 -- the members of a chain have room for the commands of every scene, and bytes as tints
 pub record AreReady (rules : List SpuRule) : Type 0 where
   pub room : (n : ℕ) → n ≤ 2 ^ 63 → HaveRoom n rules
@@ -131,6 +140,10 @@ IsBlank (OneText bytes) = bytes ≡ []
 abbrev pub outcome_of : Due → Outcome
 outcome_of due = record { image = due_text due.image; notes = due.notes; ending = due.ending; kept = due.kept }
 
+-- it is what is due for the job's work
+abbrev pub IsMadeFor : Job → Work → Due → Type 0
+IsMadeFor job work due = IsOutcome job work (outcome_of due)
+
 -- why nothing is due where clients aren't drawn apart
 abbrev pub refusal_of : LastFault → DueRefusal
 refusal_of (apart.NotLast client place) = undue.NotLast (record { client = client; place = place })
@@ -149,6 +162,13 @@ IsNoOutcome job scene (undue.NotLast name) = IsNotFor job scene name
 IsNoOutcome job scene undue.OutOfMemory = Unit {0}
 
 -- ---- writing
+
+-- the image took what is due to it, as much of it as is told, or a front of it
+abbrev pub IsGiven : Used → DueImage → Written → Type 0
+IsGiven image due written = IsWritten image (due_text due) written
+
+abbrev pub TookSome : Used → DueImage → Type 0
+TookSome image due = TookFront image (due_text due)
 
 -- Of what was made of a scene this is left to tell, where the image took so much of it. A fault of the image adds a line to what isn't complete.
 pub record IsToldOf (notes : List ℕ) (ending : Ending) (kept : Option Record) (written : Written) (told : Told) : Type 0 where
@@ -206,6 +226,10 @@ pub data LeftBy (task : Task) (source : Used) (status : ℕ) (left : List SpuRul
 abbrev pub LeftAfter : {A : Type 0} → Task → Used → Result A Refusal → List SpuRule → Type 0
 LeftAfter task source (Ok done) left = HaveSeenAll task source left
 LeftAfter task source (Err refusal) left = LeftBy task source (refusal_status refusal) left
+
+-- it comes with the image
+abbrev pub IsLateRefusal : Refused → Type 0
+IsLateRefusal refused = (refusal_status refused.refusal ≡ 6) ⊎ (refusal_status refused.refusal ≡ 7)
 
 -- the refusal comes before the filters
 abbrev pub IsEarlyRefusal : Refusal → Type 0

@@ -1,5 +1,5 @@
 -- The scenes of tasks: what an input spells, what that means, what the filters make of it, and what limits it.
-use Rattle.std.specs.Prelude.{◌≡◌, ℕ, ◌+◌, ◌≤◌, Bool, true, false, List, [], Option, Some, None, length, map, if◌then◌else◌}
+use Rattle.std.specs.Prelude.{◌≡◌, ℕ, ◌+◌, ◌<◌, ◌≤◌, slice_index_or, Bool, true, false, List, [], Option, Some, None, length, map, if◌then◌else◌}
 use Rattle.std.specs.Option.{option_or}
 use Rattle.rc_base.specs.declared.scene.Limit.{Limit}
 use Rattle.rc_base.specs.declared.scene.Scene.{Scene}
@@ -117,6 +117,10 @@ Holds (Generated seed size) source input = input ≡ []
 -- how many actors the cluster has
 abbrev pub actors_for : Cluster → Scene → ℕ
 actors_for cluster scene = length scene.streams + 1 + tile_count (layout_for cluster scene)
+
+-- these pick among so many
+abbrev pub ArePicks : List ℕ → ℕ → Type 0
+ArePicks picks actors = (i : ℕ) → i < length picks → slice_index_or picks i 0 < actors
 
 -- Of what is found: a scene's own quantities; or with call lists those of what is read, the costs of the expansion, and those of the streams that it
 -- means.

@@ -4,7 +4,7 @@ ghost use Rattle.rc_base.specs.Formats.Limits.{limit_of};
 ghost use Rattle.rc_base.specs.declared.window.Layout.{Layout as AnyLayout};
 ghost use Rattle.run_record.specs.Told.{IsRun};
 ghost use Rattle.render_core.specs.Due.{IsStepped};
-ghost use Rattle.render_core.specs.Scenes.{actors_for};
+ghost use Rattle.render_core.specs.Scenes.{ArePicks, actors_for};
 ghost use Rattle.run_words.specs.Asked.{cluster_limit, layout_for, IsWellRead};
 ghost use Rattle.render_core.specs.Refusals.{IsWritable, outcome_of};
 ghost use Rattle.render_core.specs.Runs.{IsAccount, IsSmallRun};
@@ -76,7 +76,7 @@ pub(crate) fn cluster_due(
     requires within { limit_of work.now.scene ≡ None }
     requires asked { cluster_limit cluster work.now.scene ≡ None }
     requires tiles { layout.now ≡ layout_for cluster work.now.scene }
-    requires picks { (i : ℕ) → i < length picks.now → slice_index_or picks.now i 0 < actors_for cluster work.now.scene }
+    requires picks { ArePicks picks.now (actors_for cluster work.now.scene) }
     ensures outcome { IfOk result (λ due. IsStepped cluster picks.now work.now (outcome_of due)) }
     ensures writable { IfOk result (λ due. IsWritable due.image) }
     ensures refused { IfErr result (λ refusal. refusal ≡ NoMemory) }

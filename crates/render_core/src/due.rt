@@ -1,12 +1,13 @@
 //! What is due, job by job, for what a task works on, where no cluster runs in threads.
 ghost use Rattle.std.specs.Prelude.{◌≡◌, ◌≤◌, [], false, Some, None, is_some, length, IfOk, IfErr, MatchResult, if◌then◌else◌};
 ghost use Rattle.rc_base.specs.Formats.Limits.{limit_of};
-ghost use Rattle.render_core.specs.Due.{IsOutcome, IsPacked, IsUnpacked, found_by, journal_of, short_due};
+ghost use Rattle.render_core.specs.Due.{IsPacked, IsUnpacked, found_by, journal_of, short_due, shown_alone};
 ghost use Rattle.run_words.specs.Jobs.{ShowsNothing, origin_of, starts_threads};
 ghost use Rattle.run_words.specs.Asked.{HasTiles, cluster_limit, IsWell, IsWellRead};
 ghost use Rattle.render_core.specs.Scenes.{IsFor};
-ghost use Rattle.render_core.specs.Refusals.{IsBlank, IsWritable, outcome_of, refusal_of, IsNoOutcome};
+ghost use Rattle.render_core.specs.Refusals.{IsBlank, IsMadeFor, IsWritable, outcome_of, refusal_of, IsNoOutcome};
 ghost use Rattle.render_core.specs.Runs.{IsDefault};
+ghost use Rattle.run_words.specs.Reports.{Gives};
 ghost use Rattle.run_words.specs.declared.job.Form.TheVariants.{Bytes as OfBytes, PlainBytes as OfPlainBytes, Text as OfText};
 ghost use Rattle.run_words.specs.declared.job.Job.TheVariants.{Simulate as ToSimulate, Serial as ToSerial, Last as ToLast, Check as ToCheck, Race as ToRace};
 ghost use Rattle.run_words.specs.declared.told.Ending.TheVariants.{Complete as Whole, Stuck as IsStuck};
@@ -64,7 +65,7 @@ pub(crate) fn due_for(alloc: Global, job: Job, work: &Work) -> Result<Due, DueRe
     requires well { IsWell (origin_of job) work.now.scene }
     requires within { limit_of work.now.scene ≡ None }
     requires tiles { HasTiles job work.now.scene }
-    ensures outcome { IfOk result (λ due. IsOutcome job work.now (outcome_of due)) }
+    ensures outcome { IfOk result (IsMadeFor job work.now) }
     ensures suits { IfOk result (λ due. IsFor job work.now.scene) }
     ensures writable { IfOk result (λ due. IsWritable due.image) }
     ensures blank { IfOk result (λ due. ShowsNothing job → IsBlank due.image) }
@@ -87,7 +88,7 @@ fn simulate(alloc: Global, work: &Work, seed: u64, cluster: Cluster) -> Result<D
     requires well { IsWellRead OfBytes work.now.scene }
     requires within { limit_of work.now.scene ≡ None }
     requires tiles { cluster_limit cluster work.now.scene ≡ None }
-    ensures outcome { IfOk result (λ due. IsOutcome (ToSimulate seed cluster) work.now (outcome_of due)) }
+    ensures outcome { IfOk result (IsMadeFor (ToSimulate seed cluster) work.now) }
     ensures writable { IfOk result (λ due. IsWritable due.image) }
     ensures refused { IfErr result (λ refusal. refusal ≡ NoMemory) }
 {
@@ -149,7 +150,7 @@ fn report_of(
     told: &[u8],
 ) -> Result<Bytes, OutOfMemory>
     requires default { IsDefault work.now.scene run.now }
-    ensures { IfOk result (λ notes. notes ≡ short_due work.now told.now (journal_of work.now.scene)) }
+    ensures { Gives (short_due work.now told.now (journal_of work.now.scene)) result }
 {
     Ok(short_report(
         alloc,
@@ -165,7 +166,7 @@ fn report_of(
 fn serial(alloc: Global, work: &Work) -> Result<Due, DueRefusal>
     requires well { IsWellRead OfBytes work.now.scene }
     requires within { limit_of work.now.scene ≡ None }
-    ensures outcome { IfOk result (λ due. IsOutcome ToSerial work.now (outcome_of due)) }
+    ensures outcome { IfOk result (IsMadeFor ToSerial work.now) }
     ensures writable { IfOk result (λ due. IsWritable due.image) }
     ensures refused { IfErr result (λ refusal. refusal ≡ NoMemory) }
 {
@@ -199,7 +200,7 @@ pub(crate) fn last(
 ) -> Result<Due, DueRefusal>
     requires well { IsWellRead OfBytes work.now.scene }
     requires within { limit_of work.now.scene ≡ None }
-    ensures outcome { IfOk result (λ due. IsOutcome ToLast work.now (outcome_of due)) }
+    ensures outcome { IfOk result (IsMadeFor ToLast work.now) }
     ensures suits { IfOk result (λ due. IsFor ToLast work.now.scene) }
     ensures writable { IfOk result (λ due. IsWritable due.image) }
     ensures refused { IfErr result (IsNoOutcome ToLast work.now.scene) }
@@ -236,7 +237,7 @@ pub(crate) fn last(
 fn check(alloc: Global, work: &Work) -> Result<Due, DueRefusal>
     requires well { IsWellRead OfBytes work.now.scene }
     requires within { limit_of work.now.scene ≡ None }
-    ensures outcome { IfOk result (λ due. IsOutcome ToCheck work.now (outcome_of due)) }
+    ensures outcome { IfOk result (IsMadeFor ToCheck work.now) }
     ensures writable { IfOk result (λ due. IsWritable due.image) }
     ensures blank { IfOk result (λ due. IsBlank due.image) }
     ensures refused { IfErr result (λ refusal. refusal ≡ NoMemory) }
@@ -276,7 +277,7 @@ fn race_ending(waiting: &Option<Waiting>, verdict: &Verdict) -> Ending
 fn race(alloc: Global, work: &Work) -> Result<Due, DueRefusal>
     requires well { IsWellRead OfBytes work.now.scene }
     requires within { limit_of work.now.scene ≡ None }
-    ensures outcome { IfOk result (λ due. IsOutcome ToRace work.now (outcome_of due)) }
+    ensures outcome { IfOk result (IsMadeFor ToRace work.now) }
     ensures writable { IfOk result (λ due. IsWritable due.image) }
     ensures blank { IfOk result (λ due. IsBlank due.image) }
     ensures refused { IfErr result (λ refusal. refusal ≡ NoMemory) }
@@ -295,7 +296,7 @@ fn race(alloc: Global, work: &Work) -> Result<Due, DueRefusal>
 
 // A text for the image, and nothing for the notes.
 fn text_alone(alloc: Global, text: Bytes) -> Due
-    ensures outcome { outcome_of result ≡ record { image = text; notes = []; ending = Whole; kept = None } }
+    ensures outcome { outcome_of result ≡ shown_alone text }
     ensures writable { IsWritable result.image }
 {
     Due {

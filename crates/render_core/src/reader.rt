@@ -3,10 +3,9 @@ ghost use Rattle.std.specs.Prelude.{◌≡◌, ◌≤◌, length, IfOk, IfErr, N
 ghost use Rattle.rc_base.specs.Formats.Limits.{limit_of};
 ghost use Rattle.rc_base.specs.Formats.Spelling.{SpellsScene};
 ghost use Rattle.rc_base.specs.Outside.Transfer.{byte_limit};
-ghost use Rattle.scene_file.specs.Letters.{BeginWithLists};
 ghost use Rattle.run_words.specs.Asked.{IsWellRead};
-ghost use Rattle.render_core.specs.Refusals.{IsRefusedInput, refusal_of_scene};
-ghost use Rattle.run_words.specs.declared.job.Form.TheVariants.{Bytes as OfBytes, PlainBytes as OfPlainBytes};
+ghost use Rattle.render_core.specs.Refusals.{BeginPlain, IsRefusedBytes, IsRefusedInput, refusal_of_scene};
+ghost use Rattle.run_words.specs.declared.job.Form.TheVariants.{PlainBytes as OfPlainBytes};
 
 use rc_base::scene::{Limit, Scene};
 use run_words::refusal::InputRefusal;
@@ -33,7 +32,7 @@ pub(crate) trait SceneReader {
         ensures read { IfOk result (λ scene. SpellsScene input.now scene × (limit_of scene ≡ None)) }
         ensures well { IfOk result (IsWellRead OfPlainBytes) }
         ensures refused { IfErr result (IsRefusedInput OfPlainBytes input.now) }
-        ensures refused_bytes { (BeginWithLists input.now → ⊥) → IfErr result (IsRefusedInput OfBytes input.now) };
+        ensures refused_bytes { BeginPlain input.now → IfErr result (IsRefusedBytes input.now) };
 }
 
 /// The caller's thread.
@@ -49,7 +48,7 @@ fn scene_alone(alloc: Global, input: &[u8]) -> Result<Scene, InputRefusal>
     ensures read { IfOk result (λ scene. SpellsScene input.now scene × (limit_of scene ≡ None)) }
     ensures well { IfOk result (IsWellRead OfPlainBytes) }
     ensures refused { IfErr result (IsRefusedInput OfPlainBytes input.now) }
-    ensures refused_bytes { (BeginWithLists input.now → ⊥) → IfErr result (IsRefusedInput OfBytes input.now) }
+    ensures refused_bytes { BeginPlain input.now → IfErr result (IsRefusedBytes input.now) }
 {
     match read_scene(alloc, input) {
         Ok(scene) => Ok(scene),
@@ -62,7 +61,7 @@ fn scene_beside<R: Threads>(rt: &R, alloc: Global, input: &[u8]) -> Result<Scene
     ensures read { IfOk result (λ scene. SpellsScene input.now scene × (limit_of scene ≡ None)) }
     ensures well { IfOk result (IsWellRead OfPlainBytes) }
     ensures refused { IfErr result (IsRefusedInput OfPlainBytes input.now) }
-    ensures refused_bytes { (BeginWithLists input.now → ⊥) → IfErr result (IsRefusedInput OfBytes input.now) }
+    ensures refused_bytes { BeginPlain input.now → IfErr result (IsRefusedBytes input.now) }
 {
     match read_scene_beside(rt, alloc, input) {
         Ok(scene) => Ok(scene),

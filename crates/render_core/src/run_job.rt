@@ -2,9 +2,9 @@
 ghost use Rattle.std.specs.Prelude.{◌≡◌, ◌≤◌, ◌⊎◌, [], map, string_bytes, IfErr, IfOk, IfSome, OnOk};
 ghost use Rattle.rc_base.specs.Outside.Ends.{use_of};
 ghost use Rattle.run_words.specs.Lines.{memory_line, usage_line};
-ghost use Rattle.command_line.specs.Filters.{AreNamed, BeginsFilter};
-ghost use Rattle.render_core.specs.Finishes.{EndsNoting, IsFinished, IsJobless, IsTaskless};
-ghost use Rattle.run_words.specs.Jobs.{AskFiltered, AskPlainly, ForTask, IsJob, IsJobBehind, IsLine, IsThreaded, Reads, ShowsNothing, Task as AnyTask};
+ghost use Rattle.command_line.specs.Filters.{AreNamed};
+ghost use Rattle.render_core.specs.Finishes.{EndsNoting, IsFinished, IsJobless, IsUnasked};
+ghost use Rattle.run_words.specs.Jobs.{AskFiltered, AskPlainly, BeginsPlainly, ForTask, IsJob, IsJobBehind, IsLine, IsThreaded, NoLine, NoneReads, ShowsNothing};
 ghost use Rattle.render_core.specs.Outcomes.{Ran, RefusesWhatItFinds, CarriesOutWhatItFinds, IsHeadline, KeepsOrders, IsUnwritten, IsLeft, IsLeftByThreads, HasNotes, LeavesMembers};
 ghost use Rattle.render_core.specs.Refusals.{kept_for};
 
@@ -92,9 +92,9 @@ fn job_for<N: Sink>(alloc: Global, words: &[String], notes: &mut N) -> Result<Jo
 fn job_behind<N: Sink>(alloc: Global, words: &[String], notes: &mut N) -> Result<Job, Finish>
     ensures asked { IfOk result (IsJobBehind words.now) }
     ensures unnoted { OnOk result (notes.new ≡ notes.old) }
-    ensures none { IfErr result (IsTaskless (AskFiltered words.now) (use_of N.held N.faults notes.old notes.new)) }
+    ensures none { IfErr result (IsUnasked words.now (use_of N.held N.faults notes.old notes.new)) }
     // Words that are no command line and begin with no filter's word are told to be none, whatever memory there is.
-    ensures usage { IfErr result (λ finish. (BeginsFilter (map string_bytes words.now) → ⊥) → (IsLine words.now → ⊥) → finish.status ≡ 1) }
+    ensures usage { IfErr result (λ finish. BeginsPlainly words.now → NoLine words.now → finish.status ≡ 1) }
     ensures later { N.faults notes.old ≤ N.faults notes.new }
 {
     leading_words_have_one_reading();
@@ -157,9 +157,9 @@ pub fn run_alone<S: Source, K: Sink, N: Sink>(
     // Each order that a kept record tells keeps each client's order, every barrier and every semaphore grant.
     ensures permitted { IfSome result.kept KeepsOrders }
     // Words that are no command line are told to be none, whatever memory there is.
-    ensures usage { (IsLine words.now → ⊥) → result.status ≡ 1 }
+    ensures usage { NoLine words.now → result.status ≡ 1 }
     // Where the words are no job that reads nothing is read: a job that makes its scene leaves the source as it was.
-    ensures unread { ((task : AnyTask) → AskPlainly words.now task → Reads task.job → ⊥) → source.new ≡ source.old }
+    ensures unread { NoneReads (AskPlainly words.now) → source.new ≡ source.old }
     // The image is untouched, save where the job is carried out, or where it failed or there was no memory.
     ensures untouched { IsUnwritten result.status → image.new ≡ image.old }
     // A job that shows nothing leaves it alone, whatever the status.
@@ -232,9 +232,9 @@ where
     // Each order that a kept record tells keeps each client's order, every barrier and every semaphore grant.
     ensures permitted { IfSome result.kept KeepsOrders }
     // Words that are no command line are told to be none, whatever memory there is.
-    ensures usage { (IsLine words.now → ⊥) → result.status ≡ 1 }
+    ensures usage { NoLine words.now → result.status ≡ 1 }
     // Where the words are no job that reads nothing is read: a job that makes its scene leaves the source as it was.
-    ensures unread { ((task : AnyTask) → AskPlainly words.now task → Reads task.job → ⊥) → source.new ≡ source.old }
+    ensures unread { NoneReads (AskPlainly words.now) → source.new ≡ source.old }
     // The image is untouched, save where the job is carried out, or where it failed or there was no memory.
     ensures untouched { IsUnwritten result.status → image.new ≡ image.old }
     // A job that shows nothing leaves it alone, whatever the status.
@@ -307,9 +307,9 @@ where
     // Each order that a kept record tells keeps each client's order, every barrier and every semaphore grant.
     ensures permitted { IfSome result.kept KeepsOrders }
     // Words that are no command line and begin with no filter's word are told to be none, whatever memory there is.
-    ensures usage { (BeginsFilter (map string_bytes words.now) → ⊥) → (IsLine words.now → ⊥) → result.status ≡ 1 }
+    ensures usage { BeginsPlainly words.now → NoLine words.now → result.status ≡ 1 }
     // Where the words are no job that reads nothing is read: a job that makes its scene leaves the source as it was.
-    ensures unread { ((task : AnyTask) → AskFiltered words.now task → Reads task.job → ⊥) → source.new ≡ source.old }
+    ensures unread { NoneReads (AskFiltered words.now) → source.new ≡ source.old }
     // The image is untouched, save where the job is carried out, or where it failed or there was no memory.
     ensures untouched { IsUnwritten result.status → image.new ≡ image.old }
     // A job that shows nothing leaves it alone, whatever the status.

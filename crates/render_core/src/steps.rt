@@ -8,7 +8,7 @@ ghost use Rattle.render_core.specs.Carried.{IsCarriedOut, IsSoundWork, IsObtaine
 ghost use Rattle.render_core.specs.Due.{ending_by, report_due};
 ghost use Rattle.run_words.specs.Jobs.{Reads, Task as AnyTask, origin_of, starts_threads, task_of, threads_of};
 ghost use Rattle.render_core.specs.Outcomes.{IsDue, PartlyWritten};
-ghost use Rattle.render_core.specs.Refusals.{outcome_of, AreReady, Came, IsBlank, IsEarlyRefusal, IsWritable, IsCaused, IsRefusedFor, IsPerformed, IsToldOf, IsUntold};
+ghost use Rattle.render_core.specs.Refusals.{outcome_of, AreReady, Came, IsBlank, IsEarlyRefusal, IsLateRefusal, IsWritable, IsCaused, IsRefusedFor, IsPerformed, IsToldOf, IsUntold};
 ghost use Rattle.run_words.specs.Statuses.{refusal_status};
 ghost use Rattle.run_words.specs.Asked.{IsWell};
 ghost use Rattle.render_core.specs.Runs.{IsSmallRun};
@@ -158,7 +158,7 @@ fn show<K: Sink>(alloc: Global, image: &mut K, due: Due) -> Result<Told, Refused
     ensures part { (task : AnyTask) (source : Used) → IsDue task source (outcome_of due)
         → OnErr result (PartlyWritten task source (use_of K.held K.faults image.old image.new)) }
     ensures blank { IsBlank due.image → image.new ≡ image.old }
-    ensures late { IfErr result (λ r. (refusal_status r.refusal ≡ 6) ⊎ (refusal_status r.refusal ≡ 7)) }
+    ensures late { IfErr result IsLateRefusal }
     ensures later { K.faults image.old ≤ K.faults image.new }
 {
     let Due {

@@ -1,9 +1,9 @@
 //! What is due, written: to the image each frame's text, or the one text, by one `write_all`; and what is then left to tell.
 ghost use Rattle.std.specs.Prelude.{◌≡◌, ◌≤◌, ◌++◌, [], IfOk, IfErr, OnErr};
-ghost use Rattle.rc_base.specs.Outside.Ends.{use_of, TookFront};
+ghost use Rattle.rc_base.specs.Outside.Ends.{use_of};
 ghost use Rattle.frame_out.specs.Writing.{IsWritten};
 ghost use Rattle.run_words.specs.Lines.{image_fault_line};
-ghost use Rattle.render_core.specs.Refusals.{IsBlank, IsWritable, IsToldOf, IsUntold, due_text};
+ghost use Rattle.render_core.specs.Refusals.{IsBlank, IsGiven, IsWritable, IsToldOf, IsUntold, TookSome};
 ghost use Rattle.run_words.specs.declared.refusal.Refusal.TheVariants.{Image as OfImage};
 
 use crate::due::DueImage;
@@ -35,8 +35,8 @@ pub(crate) fn write_due<K: Sink>(
     due: &DueImage,
 ) -> Result<Written, OutOfMemory>
     requires { IsWritable due.now }
-    ensures written { IfOk result (IsWritten (use_of K.held K.faults image.old image.new) (due_text due.now)) }
-    ensures front { OnErr result (TookFront (use_of K.held K.faults image.old image.new) (due_text due.now)) }
+    ensures written { IfOk result (IsGiven (use_of K.held K.faults image.old image.new) due.now) }
+    ensures front { OnErr result (TookSome (use_of K.held K.faults image.old image.new) due.now) }
     ensures blank { IsBlank due.now → image.new ≡ image.old }
     ensures later { K.faults image.old ≤ K.faults image.new }
 {

@@ -4,7 +4,7 @@ use Rattle.std.specs.declared.string.String.{String}
 use Rattle.std.specs.Global.{Global}
 use Rattle.spu_chain.specs.declared.rule.SpuRule.{SpuRule}
 use Rattle.command_line.specs.declared.job.JobName.{JobName}
-use Rattle.command_line.specs.Filters.{AreNamed, NamesChain}
+use Rattle.command_line.specs.Filters.{AreNamed, BeginsFilter, NamesChain}
 use Rattle.command_line.specs.Words.{Setting, IsCommandLine, job_word, tiles_in, depth_in, order_in, seed_in, size_in}
 use Rattle.command_line.specs.declared.job.JobName.TheVariants as name
 use Rattle.run_words.specs.declared.job.Cluster.{Cluster}
@@ -39,12 +39,23 @@ job_in name.Demo settings = Demo (seed_in settings) (size_in settings) (cluster_
 abbrev pub IsLine : List (String Global) → Type 0
 IsLine words = (name : JobName) × (settings : List Setting) × IsCommandLine (map string_bytes words) name settings
 
+-- they are none, and they begin with no filter's word
+abbrev pub NoLine : List (String Global) → Type 0
+NoLine words = IsLine words → ⊥
+
+abbrev pub BeginsPlainly : List (String Global) → Type 0
+BeginsPlainly words = BeginsFilter (map string_bytes words) → ⊥
+
 -- they are one that asks for the job
 pub record IsJob (words : List (String Global)) (job : Job) : Type 0 where
   pub name : JobName
   pub settings : List Setting
   pub line : IsCommandLine (map string_bytes words) name settings
   pub asked : job_in name settings ≡ job
+
+-- they are none that asks for a job
+abbrev pub NoJob : List (String Global) → Type 0
+NoJob words = (job : Job) → IsJob words job → ⊥
 
 -- What is asked for: a job, and the rules of the filters that the scene goes through which it draws or judges.
 pub record Task : Type 0 where
@@ -98,6 +109,10 @@ abbrev pub starts_threads : Job → Bool
 starts_threads Last = true
 starts_threads job = has_threads job
 
+-- the word is that of such a job
+abbrev pub NamesThreads : List ℕ → Type 0
+NamesThreads word = (word ≡ job_word name.Render) ⊎ ((word ≡ job_word name.Demo) ⊎ (word ≡ job_word name.Last))
+
 -- the first word is that of a job that starts threads
 abbrev pub IsThreaded : List (String Global) → Type 0
 IsThreaded words =
@@ -128,3 +143,7 @@ origin_of (Demo seed size cluster) = Generated seed size
 -- it is read
 abbrev pub Reads : Job → Type 0
 Reads job = (form : Form) × (origin_of job ≡ Read form)
+
+-- nothing that is asked for reads the source
+abbrev pub NoneReads : (Task → Type 0) → Type 0
+NoneReads asks = (task : Task) → asks task → Reads task.job → ⊥

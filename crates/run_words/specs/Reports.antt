@@ -1,5 +1,5 @@
 -- The lines of reports.
-use Rattle.std.specs.Prelude.{ℕ, Bool, List, [], ◌∷◌, ◌++◌, length, Option, Some, None, slice_index_or, codes, if◌then◌else◌}
+use Rattle.std.specs.Prelude.{◌≡◌, Result, IfOk, ℕ, Bool, List, [], ◌∷◌, ◌++◌, length, Option, Some, None, slice_index_or, codes, if◌then◌else◌}
 use Rattle.std.specs.List.{flat_map, range_with_len}
 use Rattle.std.specs.Option.{option_map_or}
 use Rattle.std.specs.Fmt.{decimal}
@@ -13,6 +13,10 @@ use Rattle.order_model.specs.Report.{count_lines, fault_line, refused_line, join
 use Rattle.order_model.specs.declared.record.Record.{Record}
 use Rattle.run_words.specs.declared.work.Work.{Work}
 
+-- the answer is these bytes, or there was no memory
+abbrev pub Gives : {E : Type 0} → List ℕ → Result (List ℕ) E → Type 0
+Gives lines result = IfOk result (λ given. given ≡ lines)
+
 -- the lines of refused commands, client by client, with a word for what refused them
 abbrev pub lines_of_refused : List ℕ → List (List (ℕ × Fault)) → List ℕ
 lines_of_refused word faults = flat_map (λ client. flat_map (refused_line word client) (slice_index_or faults client [])) (range_with_len 0 (length faults))
@@ -21,9 +25,13 @@ lines_of_refused word faults = flat_map (λ client. flat_map (refused_line word 
 abbrev pub lines_of_faults : List (List (ℕ × Fault)) → List ℕ
 lines_of_faults faults = flat_map (λ client. flat_map (fault_line client) (slice_index_or faults client [])) (range_with_len 0 (length faults))
 
+-- the line of a client, if it waits
+abbrev pub line_of_waiting : ℕ → Option WaitAt → List ℕ
+line_of_waiting client wait = option_map_or (stuck_line client) wait []
+
 -- the lines of the first n clients that wait
 abbrev pub lines_of_waiting : List (Option WaitAt) → ℕ → List ℕ
-lines_of_waiting at n = flat_map (λ client. option_map_or (stuck_line client) (slice_index_or at client None) []) (range_with_len 0 n)
+lines_of_waiting at n = flat_map (λ client. line_of_waiting client (slice_index_or at client None)) (range_with_len 0 n)
 
 -- who is left waiting, and the refusal behind it
 abbrev pub lines_of_stuck : Option Waiting → ℕ → List ℕ
@@ -39,9 +47,13 @@ line_of_tile tile tally = joined_line
 abbrev pub lines_of_tiles : List Tally → List ℕ
 lines_of_tiles tallies = flat_map (λ tile. line_of_tile tile (slice_index_or tallies tile no_tally)) (range_with_len 0 (length tallies))
 
+-- the lines of the order that a tile's log records
+abbrev pub lines_of_order : Record → ℕ → List ℕ
+lines_of_order kept tile = flat_map (order_line tile) (tile_order kept tile)
+
 -- the lines of the recorded orders, tile by tile
 abbrev pub lines_of_orders : Record → List ℕ
-lines_of_orders kept = flat_map (λ tile. flat_map (order_line tile) (tile_order kept tile)) (range_with_len 0 (length kept.logs))
+lines_of_orders kept = flat_map (λ tile. lines_of_order kept tile) (range_with_len 0 (length kept.logs))
 
 -- all lines of a run with tiles
 abbrev pub lines_of_run : Work → List (List (ℕ × Fault)) → List Tally → Record → Option Waiting → Bool → List ℕ

@@ -2,6 +2,7 @@
 use Rattle.std.specs.Prelude.{◌≡◌, ℕ, ◌<◌, ◌⊎◌, List, length, take}
 use Rattle.rc_base.specs.Outside.Ends.{Used, Failed, IsCalm, Took, Noted}
 use Rattle.rc_base.specs.declared.transfer.ReadAllFault.{ReadAllFault}
+use Rattle.rc_base.specs.declared.transfer.WriteFault.{WriteFault}
 use Rattle.rc_base.specs.declared.transfer.ReadAllFault.TheVariants as reading
 use Rattle.run_words.specs.declared.refusal.InputRefusal.{InputRefusal}
 use Rattle.run_words.specs.declared.refusal.InputRefusal.TheVariants as judging
@@ -81,6 +82,10 @@ ending_status Stuck = 5
 ending_status RaceFound = 11
 
 -- ---- notes
+
+-- the notes failed, and took so many of the bytes
+abbrev pub IsCutOff : Used → List ℕ → WriteFault → Type 0
+IsCutOff notes lines fault = Failed notes × (fault.done < length lines) × Took notes (take fault.done lines)
 
 -- what is left to tell was told, or a front of it where the notes failed, which changes the status of a job that is done
 abbrev pub IsConcluded : Used → Told → ℕ → Type 0

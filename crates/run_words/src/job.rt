@@ -1,10 +1,8 @@
 //! The jobs, and the words that name them.
-ghost use Rattle.std.specs.Prelude.{◌≡◌, ◌↔◌, ◌⊎◌, List, IfOk, IsTrue, OnErr, MatchOption};
-ghost use Rattle.command_line.specs.Words.{Setting as Spelled, job_word};
-ghost use Rattle.command_line.specs.declared.job.JobName.TheVariants.{Render as SpelledRender, Demo as SpelledDemo, Last as SpelledLast};
+ghost use Rattle.std.specs.Prelude.{◌≡◌, ◌↔◌, List, IfOk, IsTrue, OnErr, MatchOption};
+ghost use Rattle.command_line.specs.Words.{Setting as Spelled};
 ghost use Rattle.command_line.specs.Lines.{AreValues};
-ghost use Rattle.run_words.specs.Jobs.{IsJob, IsLine, IsThreaded, cluster_in, cluster_of, job_in, origin_of, starts_threads, threads_of};
-ghost use Rattle.run_words.specs.declared.job.Job.{Job as AnyJob};
+ghost use Rattle.run_words.specs.Jobs.{IsJob, IsLine, IsThreaded, NamesThreads, NoJob, cluster_in, cluster_of, job_in, origin_of, starts_threads, threads_of};
 
 use command_line::{CommandLine, JobName, Settings, command_line, lines_have_one_reading};
 use rc_base::out_of_memory::OutOfMemory;
@@ -167,7 +165,7 @@ fn job_on(line: CommandLine) -> Job
 
 // The word is that of a job that starts threads.
 fn names_threads(word: &str) -> bool
-    ensures { IsTrue result ↔ ((word.now ≡ job_word SpelledRender) ⊎ ((word.now ≡ job_word SpelledDemo) ⊎ (word.now ≡ job_word SpelledLast))) }
+    ensures { IsTrue result ↔ NamesThreads word.now }
 {
     matches!(word, "render" | "demo" | "last")
 }
@@ -184,7 +182,7 @@ pub fn is_threaded(words: &[String]) -> bool
 
 /// The job that the words ask for, by the definition of command lines.
 pub fn job_of(alloc: Global, words: &[String]) -> Result<Option<Job>, OutOfMemory>
-    ensures job { IfOk result (λ r. MatchOption r ((job : AnyJob) → IsJob words.now job → ⊥) (IsJob words.now)) }
+    ensures job { IfOk result (λ r. MatchOption r (NoJob words.now) (IsJob words.now)) }
     // Memory lacks for command lines alone.
     ensures lacked { OnErr result (IsLine words.now) }
 {

@@ -1,7 +1,7 @@
 //! What is told in the notes.
-ghost use Rattle.std.specs.Prelude.{◌≡◌, ◌<◌, ◌≤◌, [], length, take, OnOk, IfErr};
-ghost use Rattle.rc_base.specs.Outside.Ends.{use_of, Noted, Took, IsCalm, Failed};
-ghost use Rattle.run_words.specs.Statuses.{IsConcluded, IsRefusalTold};
+ghost use Rattle.std.specs.Prelude.{◌≡◌, ◌≤◌, [], OnOk, IfErr};
+ghost use Rattle.rc_base.specs.Outside.Ends.{use_of, Noted, Took, IsCalm};
+ghost use Rattle.run_words.specs.Statuses.{IsConcluded, IsCutOff, IsRefusalTold};
 
 use crate::refusal::{OUT_OF_MEMORY, Refusal};
 use crate::told::{Ending, Told};
@@ -39,7 +39,7 @@ pub fn note_refusal<N: Sink>(alloc: Global, notes: &mut N, refusal: Refusal) -> 
 fn report<N: Sink>(notes: &mut N, lines: &[u8]) -> Result<(), WriteFault>
     ensures told { OnOk result (Took (use_of N.held N.faults notes.old notes.new) lines.now) }
     ensures calm { OnOk result (IsCalm (use_of N.held N.faults notes.old notes.new)) }
-    ensures part { IfErr result (λ fault. Failed (use_of N.held N.faults notes.old notes.new) × (fault.done < length lines.now) × Took (use_of N.held N.faults notes.old notes.new) (take fault.done lines.now)) }
+    ensures part { IfErr result (IsCutOff (use_of N.held N.faults notes.old notes.new) lines.now) }
     ensures untouched { lines.now ≡ [] → notes.new ≡ notes.old }
     ensures later { N.faults notes.old ≤ N.faults notes.new }
 {

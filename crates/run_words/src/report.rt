@@ -2,13 +2,12 @@
 //! left waiting.
 ghost use Rattle.std.specs.Prelude.{◌≡◌, ◌≤◌, ◌++◌, ◌∷◌, [], length, IfOk, OnOk, string_bytes, if◌then◌else◌};
 ghost use Rattle.std.specs.List.{flat_map};
-ghost use Rattle.std.specs.Option.{option_map_or};
 ghost use Rattle.rc_base.specs.Orders.Sync.{client_count};
-ghost use Rattle.order_model.specs.Report.{fault_name as name_of_fault, refused_line as line_of_refused, frame_count as count_of_frames, count_lines as lines_of_counts, op_text as text_of_op, order_line as line_of_order, stuck_line as line_of_stuck, tile_order as order_of_tile};
+ghost use Rattle.order_model.specs.Report.{fault_name as name_of_fault, refused_line as line_of_refused, frame_count as count_of_frames, count_lines as lines_of_counts, op_text as text_of_op, order_line as line_of_order, stuck_line as line_of_stuck};
 ghost use Rattle.spu_chain.specs.Scenes.{counts_from};
 ghost use Rattle.race_check.specs.declared.verdict.Verdict.TheVariants.{Race as IsRace};
 ghost use Rattle.run_words.specs.Lines.{filter_line as line_of_filter, filter_lines as lines_of_filters, list_fault_lines as lines_of_list_faults, race_line as line_of_race, spot_text as text_of_spot};
-ghost use Rattle.run_words.specs.Reports.{line_of_tile, lines_of_faults, lines_of_orders, lines_of_run, lines_of_refused, lines_of_stuck, lines_of_tiles, lines_of_turns, lines_of_waiting};
+ghost use Rattle.run_words.specs.Reports.{Gives, line_of_tile, line_of_waiting, lines_of_order, lines_of_faults, lines_of_orders, lines_of_run, lines_of_refused, lines_of_stuck, lines_of_tiles, lines_of_turns, lines_of_waiting};
 
 use crate::work::Work;
 use order_model::record::Record;
@@ -41,7 +40,7 @@ fn refused_line(
     client: u8,
     refused: &(u32, Fault),
 ) -> Result<String, AllocError>
-    ensures { IfOk result (λ line. string_bytes line ≡ line_of_refused word.now client refused.now) }
+    ensures { IfOk result (λ l. string_bytes l ≡ line_of_refused word.now client refused.now) }
 {
     let place = refused.0;
     let name = fault_name(refused.1);
@@ -176,7 +175,7 @@ fn waiting_line(
     client: u8,
     wait: &Option<WaitAt>,
 ) -> Result<(), AllocError>
-    ensures { OnOk result (lines.new ≡ lines.old ++ option_map_or (line_of_stuck client) wait.now []) }
+    ensures { OnOk result (lines.new ≡ lines.old ++ line_of_waiting client wait.now) }
 {
     if let Some(wait) = wait {
         let line = stuck_line(alloc, client, *wait)?;
@@ -228,7 +227,7 @@ pub fn short_report(
     waiting: &Option<Waiting>,
 ) -> Result<Bytes, AllocError>
     requires { length faults.now ≤ 8 }
-    ensures { IfOk result (λ lines. lines ≡ lines_of_turns work.now faults.now journal.now told.now waiting.now) }
+    ensures { Gives (lines_of_turns work.now faults.now journal.now told.now waiting.now) result }
 {
     let mut report = Bytes::from_slice(alloc, work.refused.as_slice())?;
     let faulty = fault_lines(alloc, faults)?;
@@ -326,7 +325,7 @@ fn lines_of(alloc: Global, tile: u8, order: &[Name]) -> Result<Bytes, AllocError
 // The lines of the order that a tile's log records.
 fn recorded_lines(alloc: Global, kept: &Record, tile: u8) -> Result<Bytes, OutOfMemory>
     requires { client_count kept.now.syncs ≤ 8 }
-    ensures { IfOk result (λ lines. lines ≡ flat_map (line_of_order tile) (order_of_tile kept.now tile)) }
+    ensures { IfOk result (λ lines. lines ≡ lines_of_order kept.now tile) }
 {
     let order = tile_order(alloc, kept, tile)?;
     Ok(lines_of(alloc, tile, order.as_slice())?)
@@ -372,7 +371,7 @@ pub fn cluster_report(
     requires faults { length faults.now ≤ 8 }
     requires clients { client_count kept.now.syncs ≤ 8 }
     requires tiles { length kept.now.logs ≤ 32 }
-    ensures { IfOk result (λ lines. lines ≡ lines_of_run work.now faults.now tallies.now kept.now waiting.now orders) }
+    ensures { Gives (lines_of_run work.now faults.now tallies.now kept.now waiting.now orders) result }
 {
     let mut report = Bytes::from_slice(alloc, work.refused.as_slice())?;
     let faulty = fault_lines(alloc, faults)?;
