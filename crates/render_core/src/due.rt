@@ -7,7 +7,7 @@ ghost use Rattle.run_words.specs.Asked.{HasTiles, cluster_limit, IsWell, IsWellR
 ghost use Rattle.render_core.specs.Scenes.{IsFor};
 ghost use Rattle.render_core.specs.Refusals.{IsBlank, IsMadeFor, IsWritable, outcome_of, refusal_of, IsNoOutcome};
 ghost use Rattle.render_core.specs.Runs.{IsDefault};
-ghost use Rattle.run_words.specs.Reports.{Gives};
+ghost use Rattle.run_words.specs.Reports.{Yields};
 ghost use Rattle.run_words.specs.declared.job.Form.TheVariants.{Bytes as OfBytes, PlainBytes as OfPlainBytes, Text as OfText};
 ghost use Rattle.run_words.specs.declared.job.Job.TheVariants.{Simulate as ToSimulate, Serial as ToSerial, Last as ToLast, Check as ToCheck, Race as ToRace};
 ghost use Rattle.run_words.specs.declared.told.Ending.TheVariants.{Complete as Whole, Stuck as IsStuck};
@@ -150,7 +150,7 @@ fn report_of(
     told: &[u8],
 ) -> Result<Bytes, OutOfMemory>
     requires default { IsDefault work.now.scene run.now }
-    ensures { Gives (short_due work.now told.now (journal_of work.now.scene)) result }
+    ensures { Yields (short_due work.now told.now (journal_of work.now.scene)) result }
 {
     Ok(short_report(
         alloc,

@@ -5,7 +5,7 @@ use Rattle.std.specs.Global.{Global}
 use Rattle.spu_chain.specs.declared.rule.SpuRule.{SpuRule}
 use Rattle.command_line.specs.declared.job.JobName.{JobName}
 use Rattle.command_line.specs.Filters.{AreNamed, BeginsFilter, NamesChain}
-use Rattle.command_line.specs.Words.{Setting, IsCommandLine, job_word, tiles_in, depth_in, order_in, seed_in, size_in}
+use Rattle.command_line.specs.Words.{Setting, IsCommandLine, IsSomeLine, job_word, tiles_in, depth_in, order_in, seed_in, size_in}
 use Rattle.command_line.specs.declared.job.JobName.TheVariants as name
 use Rattle.run_words.specs.declared.job.Cluster.{Cluster}
 use Rattle.run_words.specs.declared.job.Job.{Job}
@@ -37,7 +37,7 @@ job_in name.Demo settings = Demo (seed_in settings) (size_in settings) (cluster_
 
 -- the words are a command line
 abbrev pub IsLine : List (String Global) → Type 0
-IsLine words = (name : JobName) × (settings : List Setting) × IsCommandLine (map string_bytes words) name settings
+IsLine words = IsSomeLine (map string_bytes words)
 
 -- they are none, and they begin with no filter's word
 abbrev pub NoLine : List (String Global) → Type 0
@@ -54,8 +54,8 @@ pub record IsJob (words : List (String Global)) (job : Job) : Type 0 where
   pub asked : job_in name settings ≡ job
 
 -- they are none that asks for a job
-abbrev pub NoJob : List (String Global) → Type 0
-NoJob words = (job : Job) → IsJob words job → ⊥
+abbrev pub AskNoJob : List (String Global) → Type 0
+AskNoJob words = (job : Job) → IsJob words job → ⊥
 
 -- What is asked for: a job, and the rules of the filters that the scene goes through which it draws or judges.
 pub record Task : Type 0 where

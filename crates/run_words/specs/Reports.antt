@@ -14,8 +14,8 @@ use Rattle.order_model.specs.declared.record.Record.{Record}
 use Rattle.run_words.specs.declared.work.Work.{Work}
 
 -- the answer is these bytes, or there was no memory
-abbrev pub Gives : {E : Type 0} → List ℕ → Result (List ℕ) E → Type 0
-Gives lines result = IfOk result (λ given. given ≡ lines)
+abbrev pub Yields : {E : Type 0} → List ℕ → Result (List ℕ) E → Type 0
+Yields lines result = IfOk result (λ given. given ≡ lines)
 
 -- the lines of refused commands, client by client, with a word for what refused them
 abbrev pub lines_of_refused : List ℕ → List (List (ℕ × Fault)) → List ℕ

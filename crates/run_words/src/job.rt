@@ -2,7 +2,7 @@
 ghost use Rattle.std.specs.Prelude.{◌≡◌, ◌↔◌, List, IfOk, IsTrue, OnErr, MatchOption};
 ghost use Rattle.command_line.specs.Words.{Setting as Spelled};
 ghost use Rattle.command_line.specs.Lines.{AreValues};
-ghost use Rattle.run_words.specs.Jobs.{IsJob, IsLine, IsThreaded, NamesThreads, NoJob, cluster_in, cluster_of, job_in, origin_of, starts_threads, threads_of};
+ghost use Rattle.run_words.specs.Jobs.{IsJob, IsLine, IsThreaded, NamesThreads, AskNoJob, cluster_in, cluster_of, job_in, origin_of, starts_threads, threads_of};
 
 use command_line::{CommandLine, JobName, Settings, command_line, lines_have_one_reading};
 use rc_base::out_of_memory::OutOfMemory;
@@ -182,7 +182,7 @@ pub fn is_threaded(words: &[String]) -> bool
 
 /// The job that the words ask for, by the definition of command lines.
 pub fn job_of(alloc: Global, words: &[String]) -> Result<Option<Job>, OutOfMemory>
-    ensures job { IfOk result (λ r. MatchOption r (NoJob words.now) (IsJob words.now)) }
+    ensures job { IfOk result (λ r. MatchOption r (AskNoJob words.now) (IsJob words.now)) }
     // Memory lacks for command lines alone.
     ensures lacked { OnErr result (IsLine words.now) }
 {

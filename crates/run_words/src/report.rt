@@ -7,7 +7,7 @@ ghost use Rattle.order_model.specs.Report.{fault_name as name_of_fault, refused_
 ghost use Rattle.spu_chain.specs.Scenes.{counts_from};
 ghost use Rattle.race_check.specs.declared.verdict.Verdict.TheVariants.{Race as IsRace};
 ghost use Rattle.run_words.specs.Lines.{filter_line as line_of_filter, filter_lines as lines_of_filters, list_fault_lines as lines_of_list_faults, race_line as line_of_race, spot_text as text_of_spot};
-ghost use Rattle.run_words.specs.Reports.{Gives, line_of_tile, line_of_waiting, lines_of_order, lines_of_faults, lines_of_orders, lines_of_run, lines_of_refused, lines_of_stuck, lines_of_tiles, lines_of_turns, lines_of_waiting};
+ghost use Rattle.run_words.specs.Reports.{Yields, line_of_tile, line_of_waiting, lines_of_order, lines_of_faults, lines_of_orders, lines_of_run, lines_of_refused, lines_of_stuck, lines_of_tiles, lines_of_turns, lines_of_waiting};
 
 use crate::work::Work;
 use order_model::record::Record;
@@ -227,7 +227,7 @@ pub fn short_report(
     waiting: &Option<Waiting>,
 ) -> Result<Bytes, AllocError>
     requires { length faults.now ≤ 8 }
-    ensures { Gives (lines_of_turns work.now faults.now journal.now told.now waiting.now) result }
+    ensures { Yields (lines_of_turns work.now faults.now journal.now told.now waiting.now) result }
 {
     let mut report = Bytes::from_slice(alloc, work.refused.as_slice())?;
     let faulty = fault_lines(alloc, faults)?;
@@ -371,7 +371,7 @@ pub fn cluster_report(
     requires faults { length faults.now ≤ 8 }
     requires clients { client_count kept.now.syncs ≤ 8 }
     requires tiles { length kept.now.logs ≤ 32 }
-    ensures { Gives (lines_of_run work.now faults.now tallies.now kept.now waiting.now orders) result }
+    ensures { Yields (lines_of_run work.now faults.now tallies.now kept.now waiting.now orders) result }
 {
     let mut report = Bytes::from_slice(alloc, work.refused.as_slice())?;
     let faulty = fault_lines(alloc, faults)?;
