@@ -1,18 +1,14 @@
 -- Parts that were checked one after the other.
-use Rattle.std.proofs.Common.{◌≡◌, ℕ, zero, suc, ◌+◌, ◌*◌, ◌<◌, List, [], ◌∷◌, length, get_or, Some, inl, inr, sym, subst, ◌∙◌, arith}
+use Rattle.std.proofs.Common.{◌≡◌, ℕ, zero, suc, ◌+◌, ◌*◌, ◌<◌, List, [], ◌∷◌, length, get_or, Some, inl, inr, sym, subst, arith}
 use Rattle.std.specs.Prelude.{slice_get}
 use Rattle.std.proofs.lemmas.Bool.{cases_lt}
 use Rattle.rc_base.specs.declared.cluster.TilePart.{TilePart}
 use Rattle.rc_base.specs.declared.window.Layout.{Layout}
+use Rattle.plain_lemmas.proofs.Lists.{read_is_item}
 use Rattle.assembler.specs.Parts.{tile_height, tile_width}
 
 abbrev pub IsPart : Layout → ℕ → TilePart → Type 0
 IsPart l tile p = (p.tile ≡ tile) × (p.frame ≡ 1) × (length p.pixels ≡ tile_width l tile * tile_height l tile)
-
-same_read : {A : Type 0} (l : List A) (i : ℕ) (a b : A) → slice_get l i ≡ Some b → a ≡ get_or l i a → a ≡ b
-same_read [] i a b is read = absurd cc
-same_read (x ∷ l) zero a b is read = let e : x ≡ b = cc in read ∙ e
-same_read (x ∷ l) (suc i) a b is read = same_read l i a b is read
 
 pub one_more : (l : Layout) (parts : List TilePart) (n : ℕ) (a : TilePart) → a ≡ get_or parts n a → IsPart l n a
     → ((tile : ℕ) (p : TilePart) → tile < n → slice_get parts tile ≡ Some p → IsPart l tile p)
@@ -21,7 +17,7 @@ one_more l parts n a read here before tile p lt is = elim (cases_lt tile n) [
   | inl less ↦ before tile p less is
   | inr more ↦
       let e : tile ≡ n = omega (arith, lt, more) in
-      let same : a ≡ p = same_read parts n a p (subst (λ (k : ℕ). slice_get parts k ≡ Some p) e is) read in
+      let same : a ≡ p = read_is_item parts n a p (subst (λ (k : ℕ). slice_get parts k ≡ Some p) e is) read in
       subst (λ (k : ℕ). IsPart l k p) (sym e) (subst (IsPart l n) same here)
 ]
 

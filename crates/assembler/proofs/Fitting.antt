@@ -1,23 +1,18 @@
 -- Where the parts of a side begin, and which tile's part has a place.
-use Rattle.std.proofs.Common.{◌≡◌, ℕ, zero, suc, ◌+◌, ◌*◌, ◌/◌, ◌<◌, ◌≤◌, true, List, [], ◌∷◌, length, get_or, take, drop, Some, refl, sym, ap, ◌∙◌, arith, le-leb, lt-ltb}
+use Rattle.std.proofs.Common.{◌≡◌, ℕ, zero, suc, ◌+◌, ◌*◌, ◌<◌, ◌≤◌, true, List, [], ◌∷◌, length, get_or, take, drop, Some, refl, sym, ap, ◌∙◌, arith}
 use Rattle.std.specs.Prelude.{slice_get}
 use Rattle.std.specs.List.{flat_map}
 use Rattle.std.specs.Option.{option_map_or}
 use Rattle.std.specs.declared.option.Option.{Option}
-use Rattle.std.proofs.Math.Nat.{div-mul-le_self, div-le_self, mul-le-mul_left, mul-div_cancel_left, zero-mul}
-use Rattle.std.proofs.lemmas.Nat.{le-div, mod-mul-add, div-mul-add}
+use Rattle.std.proofs.Math.Nat.{div-le_self, mul-le-mul_left, mul-div_cancel_left, zero-mul}
+use Rattle.std.proofs.lemmas.Nat.{mod-mul-add, div-mul-add}
 use Rattle.rc_base.specs.Drawing.Images.{rgb_of}
-use Rattle.rc_base.specs.Cluster.Tiles.{boundary_of, is_in_interval, tile_column, tile_count, tile_pixels, tile_row}
+use Rattle.rc_base.specs.Cluster.Tiles.{boundary_of, tile_column, tile_count, tile_pixels, tile_row}
 use Rattle.rc_base.specs.declared.cluster.TilePart.{TilePart}
 use Rattle.rc_base.specs.declared.window.Layout.{Layout}
+use Rattle.scene_lemmas.proofs.Boundaries.{boundary_rises, in_interval}
 use Rattle.assembler.specs.Parts.{ArePartsOf, part_size}
 use Rattle.assembler.specs.Runs.{run_bytes}
-
-pub boundary_rises : (side parts i j : ℕ) → 0 < parts → i ≤ j → boundary_of side parts i ≤ boundary_of side parts j
-boundary_rises side parts i j some le =
-    let whole : i * side / parts * parts ≤ i * side = div-mul-le_self (i * side) parts in
-    let more : side * i ≤ side * j = mul-le-mul_left side le in
-    le-div (i * side / parts) (j * side) parts some (omega (arith, whole, more))
 
 pub first_boundary : (side parts : ℕ) → boundary_of side parts 0 ≡ 0
 first_boundary side parts = omega (arith, div-le_self (0 * side) parts, zero-mul side)
@@ -44,11 +39,6 @@ tile_below l row column low few =
     let more : l.columns * (row + 1) ≤ l.columns * l.rows = mul-le-mul_left l.columns (omega (arith, few)) in
     omega (arith, more, low)
 
-pub some_at : {A : Type 0} (l : List A) (i : ℕ) → i < length l → (a : A) × (slice_get l i ≡ Some a)
-some_at [] i lt = absurd (omega arith)
-some_at (a ∷ l) zero lt = (a, refl)
-some_at (a ∷ l) (suc i) lt = some_at l i (omega arith)
-
 -- the part of a tile has room for each of its lines
 pub line_fits : (l : Layout) (parts : List TilePart) (row line column : ℕ) (p : TilePart) → ArePartsOf l parts → row < l.rows → column < l.columns
     → line < part_size l.height l.rows row → slice_get parts (row * l.columns + column) ≡ Some p
@@ -62,9 +52,6 @@ line_fits l parts row line column p are few low below is =
     ∙ ap (λ (j : ℕ). wide * part_size l.height l.rows j) (row_is l row column low) in
     let more : wide * (line + 1) ≤ wide * high = mul-le-mul_left wide (omega (arith, below)) in
     omega (arith, size, more)
-
-pub in_interval : (side parts j p : ℕ) → boundary_of side parts j ≤ p → p < boundary_of side parts (j + 1) → is_in_interval side parts j p ≡ true
-in_interval side parts j p low high = rw (le-leb _ _ low, lt-ltb _ _ high) refl
 
 -- a tile has the pixels of its column and its row
 pub tile_has : (l : Layout) (tile row column x y : ℕ) → tile_column l tile ≡ column → tile_row l tile ≡ row

@@ -3,13 +3,7 @@ use Rattle.std.proofs.Common.{◌≡◌, ℕ, zero, suc, ◌+◌, ◌-◌, ◌<�
 use Rattle.std.specs.List.{flat_map, range_with_len}
 use Rattle.std.proofs.lemmas.Grind.{flat_map-append}
 use Rattle.std.proofs.lemmas.List.{append-nil, flat_map_more}
-
-pub range_more : (a n : ℕ) → range_with_len a (n + 1) ≡ range_with_len a n ++ (a + n) ∷ []
-range_more a zero = let e : a + 0 ≡ a = omega arith in rw e refl
-range_more a (suc n) =
-    let e : (a + 1) + n ≡ a + suc n = omega arith in
-    let k : suc n + 1 ≡ suc (n + 1) = omega arith in
-    rw k (ap (λ (l : List ℕ). a ∷ l) (range_more (a + 1) n ∙ ap (λ (k : ℕ). range_with_len (a + 1) n ++ k ∷ []) e))
+use Rattle.plain_lemmas.proofs.Ranges.{range_more}
 
 -- what the first pieces give and what the next one gives are what one piece more gives
 pub added : {A : Type 0} (f : ℕ → List A) (old : List A) (n : ℕ)

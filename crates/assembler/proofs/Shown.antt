@@ -1,50 +1,20 @@
 -- The parts of a frame show one picture: each pixel of the window lies in one tile alone.
-use Rattle.std.proofs.Common.{◌≡◌, ℕ, zero, suc, ◌+◌, ◌-◌, ◌*◌, ◌/◌, ◌%◌, ◌<◌, ◌≤◌, Bool, true, false, List, [], ◌∷◌, length, Some, inl, inr, refl, sym, ap, ◌∙◌, arith, leb-true, ltb-true, true≢false}
-use Rattle.std.specs.Prelude.{nat_le, nat_lt, slice_get, slice_index_or}
+use Rattle.std.proofs.Common.{◌≡◌, ℕ, zero, suc, ◌+◌, ◌-◌, ◌*◌, ◌/◌, ◌%◌, ◌<◌, ◌≤◌, Bool, true, false, List, [], ◌∷◌, length, Some, inl, inr, refl, sym, ap, ◌∙◌, arith, true≢false}
+use Rattle.std.specs.Prelude.{slice_get, slice_index_or}
 use Rattle.std.specs.List.{find, range_with_len}
 use Rattle.std.specs.Option.{option_map_or}
 use Rattle.std.specs.declared.option.Option.{Option}
 use Rattle.std.proofs.Math.Nat.{mul-le-mul_left, div-add-mod}
-use Rattle.std.proofs.lemmas.Bool.{and_parts, cases_lt}
-use Rattle.rc_base.specs.Cluster.Tiles.{boundary_of, is_in_interval, tile_at, tile_column, tile_count, tile_pixels, tile_row}
+use Rattle.std.proofs.lemmas.Bool.{cases_lt}
+use Rattle.rc_base.specs.Cluster.Tiles.{boundary_of, tile_at, tile_column, tile_count, tile_pixels, tile_row}
 use Rattle.rc_base.specs.Drawing.Serial.{blank_pixel}
 use Rattle.rc_base.specs.declared.cluster.TilePart.{TilePart}
 use Rattle.rc_base.specs.declared.window.Layout.{Layout}
+use Rattle.scene_lemmas.proofs.Boundaries.{one_part, has_place, HasPlace}
 use Rattle.assembler.specs.Parts.{ArePartsOf, ShowPixels, pixels_of, place_in_part, shown, tile_height, tile_width}
-use Rattle.assembler.proofs.Fitting.{boundary_rises}
 use Rattle.assembler.proofs.Checked.{below_length}
 
 -- ---- one tile
-
-record LiesIn (side parts j p : ℕ) : Type 0 where
-  pub low : boundary_of side parts j ≤ p
-  pub high : p < boundary_of side parts (j + 1)
-
-interval_bounds : (side parts j p : ℕ) → is_in_interval side parts j p ≡ true → LiesIn side parts j p
-interval_bounds side parts j p h =
-    let tests = and_parts (nat_le (boundary_of side parts j) p) (nat_lt p (boundary_of side parts (j + 1))) h in
-    record { low = leb-true (boundary_of side parts j) p tests.0; high = ltb-true p (boundary_of side parts (j + 1)) tests.1 }
-
--- two parts that have one place are one
-one_part : (side parts i j p : ℕ) → 0 < parts → LiesIn side parts i p → LiesIn side parts j p → i ≡ j
-one_part side parts i j p some a b =
-    elim (cases_lt i j) [
-      | inl less ↦ absurd (let r : boundary_of side parts (i + 1) ≤ boundary_of side parts j = boundary_rises side parts (i + 1) j some (omega (arith, less)) in omega (arith, r, a.high, b.low))
-      | inr more ↦ elim (cases_lt j i) [
-        | inl less ↦ absurd (let r : boundary_of side parts (j + 1) ≤ boundary_of side parts i = boundary_rises side parts (j + 1) i some (omega (arith, less)) in omega (arith, r, b.high, a.low))
-        | inr same ↦ omega (arith, more, same)
-      ]
-    ]
-
-record HasPlace (l : Layout) (tile x y : ℕ) : Type 0 where
-  pub across : LiesIn l.width l.columns (tile_column l tile) x
-  pub up : LiesIn l.height l.rows (tile_row l tile) y
-
-has_place : (l : Layout) (tile x y : ℕ) → tile_pixels l tile x y ≡ true → HasPlace l tile x y
-unfolding tile_pixels
-has_place l tile x y h =
-    let tests = and_parts (is_in_interval l.width l.columns (tile_column l tile) x) (is_in_interval l.height l.rows (tile_row l tile) y) h in
-    record { across = interval_bounds _ _ _ _ tests.0; up = interval_bounds _ _ _ _ tests.1 }
 
 one_tile : (l : Layout) (a b x y : ℕ) → 0 < l.columns → 0 < l.rows → HasPlace l a x y → HasPlace l b x y → a ≡ b
 one_tile l a b x y columns rows p q =

@@ -8,12 +8,12 @@ use Rattle.rc_base.specs.Cluster.Tiles.{tile_count}
 use Rattle.rc_base.specs.declared.cluster.TilePart.{TilePart}
 use Rattle.rc_base.specs.declared.image.Image.{Image}
 use Rattle.rc_base.specs.declared.window.Layout.{Layout}
+use Rattle.plain_lemmas.proofs.Lists.{item_within}
 use Rattle.assembler.specs.Assembled.{ComesOf, places_of, short_of}
 use Rattle.assembler.specs.declared.places.Assembler.{Assembler}
 use Rattle.assembler.specs.Parts.{picture}
 use Rattle.assembler.specs.Places.{AreFound, IsFound, in_place, no_parts, parts_in}
 use Rattle.assembler.specs.Underway.{AllGrow, GoesOn, Grows, IsUnderway, Taken, Waits, frame_parts}
-use Rattle.assembler.proofs.Fitting.{some_at}
 use Rattle.assembler.proofs.Waiting.{stands_in}
 
 -- ---- one tile
@@ -63,7 +63,7 @@ module _ (l : Layout) (k : ℕ) (places found : List (Option TilePart)) (before 
 
     part_of : (tile : ℕ) → tile < tile_count l → (p : TilePart) × (in_place found tile ≡ Some p) × Waits k (Some p) (later tile)
     part_of tile lt =
-        let got = some_at parts tile (omega (arith, lt, count_is)) in
+        let got = item_within parts tile (omega (arith, lt, count_is)) in
         let is : in_place found tile ≡ Some got.0 = ap (λ (os : List (Option TilePart)). in_place os tile) all ∙ stands_in parts tile got.0 got.1 in
         (got.0, is, subst (λ (o : Option TilePart). Waits k o (later tile)) is (found_waits tile lt))
 

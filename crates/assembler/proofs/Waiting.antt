@@ -1,5 +1,5 @@
 -- Parts in their places.
-use Rattle.std.proofs.Common.{◌≡◌, ℕ, zero, suc, ◌+◌, ◌*◌, ◌<◌, true, false, List, [], ◌∷◌, ◌++◌, Option, Some, None, is_none, length, map, get_or, take, drop, refl, ap, sym, ◌∙◌, arith, true≢false}
+use Rattle.std.proofs.Common.{◌≡◌, ℕ, zero, suc, ◌+◌, ◌*◌, ◌<◌, true, false, List, [], ◌∷◌, ◌++◌, Option, Some, None, is_none, length, map, get_or, take, drop, refl, ap, sym, ◌∙◌, arith, true≢false, replicate}
 use Rattle.std.specs.Prelude.{slice_get, option_to_list}
 use Rattle.std.proofs.lemmas.Bool.{eqb-true}
 use Rattle.std.proofs.lemmas.Grind.{flat_map-append}
@@ -45,3 +45,9 @@ all_parts l places count all fit = record {
       eqb-true (length p.pixels) (tile_width l tile * tile_height l tile)
       (fit tile p (ap (λ (o : List (Option TilePart)). in_place o tile) all ∙ stands_in (parts_in places) tile p is));
 }
+
+-- new places are empty
+pub none_in : (n tile : ℕ) → in_place (replicate n None) tile ≡ None
+none_in zero tile = refl
+none_in (suc n) zero = refl
+none_in (suc n) (suc tile) = none_in n tile

@@ -10,10 +10,12 @@ use Rattle.rc_base.specs.Cluster.Tiles.{boundary_of, tile_column, tile_row}
 use Rattle.rc_base.specs.declared.cluster.TilePart.{TilePart}
 use Rattle.rc_base.specs.declared.window.Layout.{Layout}
 use Rattle.rc_base.specs.declared.window.Pixel.{Pixel}
+use Rattle.scene_lemmas.proofs.Boundaries.{boundary_rises}
+use Rattle.plain_lemmas.proofs.Lists.{item_within}
 use Rattle.assembler.specs.Parts.{ArePartsOf, ShowPixels, part_size, place_in_part}
 use Rattle.assembler.specs.Runs.{all_bytes, line_bytes, run_bytes, tile_row_bytes}
 use Rattle.assembler.proofs.InTurn.{by_parts, down, down_by_parts, is_down, same_in_turn}
-use Rattle.assembler.proofs.Fitting.{boundary_rises, column_is, first_boundary, last_boundary, row_is, some_at, tile_below, tile_has}
+use Rattle.assembler.proofs.Fitting.{column_is, first_boundary, last_boundary, row_is, tile_below, tile_has}
 
 drop_from : {A : Type 0} (ps : List A) (at : ℕ) (a : A) → slice_get ps at ≡ Some a → drop at ps ≡ a ∷ drop (at + 1) ps
 drop_from [] at a is = absurd cc
@@ -56,7 +58,7 @@ module _ (l : Layout) (parts : List TilePart) (pixels : ℤ → ℤ → Pixel) (
       let wide = part_size l.width l.columns column in
       let c = column_is l row column low in
       let r = row_is l row column low in
-      let found = some_at parts tile (let e = tile_below l row column low few in omega (arith, e, are.count)) in
+      let found = item_within parts tile (let e = tile_below l row column low few in omega (arith, e, are.count)) in
       let p = found.0 in
       let g : ℕ → Pixel = λ x. pixels (pos x) (pos (bottom row + line)) in
       let each : (i : ℕ) → i < wide → slice_get p.pixels (line * wide + i) ≡ Some (g (left column + i)) = λ i lt.

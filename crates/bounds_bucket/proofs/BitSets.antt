@@ -6,14 +6,14 @@ use Rattle.std.specs.List.{list_any, range_with_len}
 use Rattle.std.proofs.Math.Nat.{div-zero, div-le_self, mod-le}
 use Rattle.std.proofs.lemmas.Int.{ints, int_min_is, int_max_is}
 use Rattle.std.proofs.lemmas.Nat.Bits.{bit_at_set_same, bit_at_set_other}
-use Rattle.std.proofs.lemmas.Bool.{cases_lt, or_cases, and_parts}
+use Rattle.std.proofs.lemmas.Bool.{cases_lt, and_parts, le-ltb}
 use Rattle.std.proofs.lemmas.Bool.Decides.{eqb_tells}
 use Rattle.rc_base.specs.Orders.Journal.{has}
 use Rattle.rc_base.specs.Cluster.Tiles.{boundary_of, interval_of, tile_count, tile_column, tile_row, tile_pixels, tile_rectangle, rect_meets, is_in_rect}
 use Rattle.rc_base.specs.declared.window.Layout.{Layout}
 use Rattle.rc_base.specs.declared.window.Rect.{Rect}
 use Rattle.plain_lemmas.proofs.Booleans.{same_test}
-use Rattle.plain_lemmas.proofs.Ranges.{any_in_range}
+use Rattle.plain_lemmas.proofs.Ranges.{any_in_range, found_in_range}
 use Rattle.plain_lemmas.proofs.Numbers.{int_le_true, from_int_le, int_lt_true, from_int_lt}
 use Rattle.scene_lemmas.proofs.Boundaries.{boundary_rises}
 use Rattle.bounds_bucket.specs.Ranges.{is_among}
@@ -27,12 +27,6 @@ with_one set n within k =
       | inl same ↦ rw (same.0, same.1, bit_at_set_same w32 set n within) refl
       | inr other ↦ rw (other.0, bit_at_set_other w32 set n within k other.1) refl
     ]
-
-lt_not_nat : (a b : ℕ) → b ≤ a → nat_lt a b ≡ false
-lt_not_nat a b h = same_test (nat_lt a b) false (λ e. absurd (let l = ltb-true a b e in omega (arith, l, h))) (λ e. absurd (differ e))
-  where
-    differ : false ≡ true → ⊥
-    differ h = cc
 
 -- one more number of a set
 last_met : (added equal before below f more : Bool) → equal ≡ true → before ≡ (below && f) → below ≡ false → more ≡ true → added ≡ f
@@ -56,13 +50,13 @@ one_more_met f n j before h =
     elim (eqb_tells j n) [
       | inl same ↦
           let e = same.1 in
-          last_met (f n) (j == n) before (nat_lt j n) (f j) (nat_lt j (n + 1)) same.0 h (lt_not_nat j n (omega (arith, e))) (lt-ltb j (n + 1) (omega (arith, e))) (ap f (sym e))
+          last_met (f n) (j == n) before (nat_lt j n) (f j) (nat_lt j (n + 1)) same.0 h (le-ltb j n (omega (arith, e))) (lt-ltb j (n + 1) (omega (arith, e))) (ap f (sym e))
       | inr other ↦ elim (cases_lt j n) [
         | inl less ↦ other_met (f n) (j == n) before (nat_lt j n) (f j) (nat_lt j (n + 1)) other.0 h (lt-ltb j n less ∙ sym (lt-ltb j (n + 1) (omega (arith, less))))
         | inr more ↦
             let d = other.1 in
             let past : n + 1 ≤ j = omega (arith, more, d) in
-            other_met (f n) (j == n) before (nat_lt j n) (f j) (nat_lt j (n + 1)) other.0 h (lt_not_nat j n more ∙ sym (lt_not_nat j (n + 1) past))
+            other_met (f n) (j == n) before (nat_lt j n) (f j) (nat_lt j (n + 1)) other.0 h (le-ltb j n more ∙ sym (le-ltb j (n + 1) past))
       ]
     ]
 
@@ -77,16 +71,6 @@ below_both j n h =
 pub rises : (side parts j : ℕ) → boundary_of side parts j ≤ boundary_of side parts (j + 1)
 rises side zero j = rw (div-zero (j * side)) (omega arith)
 rises side (suc parts) j = boundary_rises side (suc parts) j (j + 1) (omega arith) (omega arith)
-
-some_found : (f : ℕ → Bool) (a n : ℕ) → list_any f (range_with_len a n) ≡ true → (k : ℕ) × (a ≤ k) × (k < a + n) × (f k ≡ true)
-some_found f a zero h = absurd cc
-some_found f a (suc n) h =
-    elim (or_cases (f a) (list_any f (range_with_len (a + 1) n)) h) [
-      | inl here ↦ (a, omega arith, omega arith, here)
-      | inr later ↦
-          let k = some_found f (a + 1) n later in
-          (k.0, (let l = k.1 in omega (arith, l)), (let m = k.2 in omega (arith, m)), k.3)
-    ]
 
 -- the first number from a on that is not before the range
 first_of : ℕ → ℤ → ℕ
@@ -116,7 +100,7 @@ any_among r a e order =
     let n = int_min_is (pos e) r.end in
     same_test (list_any (λ p. is_among r (pos p)) (range_with_len a (e - a))) (int_lt low high)
     (λ h.
-    let k = some_found (λ p. is_among r (pos p)) a (e - a) h in
+    let k = found_in_range (λ p. is_among r (pos p)) a (e - a) h in
     let after : a ≤ k.0 = k.1 in
     let before : k.0 < a + (e - a) = k.2 in
     let t = and_parts (int_le r.from (pos k.0)) (int_lt (pos k.0) r.end) k.3 in
@@ -181,7 +165,7 @@ tiles_met l r columns rows t few a b met h =
           let x = a (tile_column l t) column ∙ ap (λ (q : Bool). q && part_meets l.width l.columns (record { from = r.x0; end = r.x1 }) (tile_column l t)) (lt-ltb _ _ c.column) in
           let y = b (tile_row l t) row ∙ ap (λ (q : Bool). q && part_meets l.height l.rows (record { from = r.y0; end = r.y1 }) (tile_row l t)) (lt-ltb _ _ c.row) in
           h ∙ (λ i. both i && (x i && y i)) ∙ ap (λ (q : Bool). nat_lt t (tile_count l) && q) (sym (columns_and_rows l r t))
-      | inr more ↦ h ∙ rw (below_both t (tile_count l) few, lt_not_nat t (tile_count l) more) refl
+      | inr more ↦ h ∙ rw (below_both t (tile_count l) few, le-ltb t (tile_count l) more) refl
     ]
 
 -- ---- a tile's rectangle

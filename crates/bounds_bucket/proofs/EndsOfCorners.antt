@@ -7,6 +7,7 @@ use Rattle.std.specs.List.{list_any, flat_map}
 use Rattle.std.proofs.lemmas.Int.{ints, by_lt_z, int_min_is, int_max_is}
 use Rattle.std.proofs.lemmas.List.{append-nil, map-append}
 use Rattle.std.proofs.lemmas.Grind.{flat_map-append}
+use Rattle.std.proofs.Math.Bool.{or-true}
 use Rattle.rc_base.specs.Lists.{IsIn}
 use Rattle.rc_base.specs.Drawing.Cover.{corner}
 use Rattle.rc_base.specs.declared.state.Block.{Block}
@@ -14,7 +15,7 @@ use Rattle.rc_base.specs.declared.state.State.{State}
 use Rattle.rc_base.specs.declared.triangle.WindowTriangle.{WindowTriangle}
 use Rattle.rc_base.specs.declared.window.WindowVertex.{WindowVertex}
 use Rattle.geometry.specs.Pieces.{found}
-use Rattle.plain_lemmas.proofs.Booleans.{or_true, same_test}
+use Rattle.plain_lemmas.proofs.Booleans.{same_test}
 use Rattle.plain_lemmas.proofs.Numbers.{int_le_true, from_int_le}
 use Rattle.bounds_bucket.specs.Extents.{IsHull, Spans, IsGrown, corners_from}
 use Rattle.bounds_bucket.specs.declared.extent.Ends.{Ends}
@@ -100,7 +101,7 @@ are_both a b e l g zs ws h k =
 passes_any : (f : WindowVertex → ℤ) (test : ℤ → Bool) (vs : List WindowVertex) (z : ℤ) → IsIn z (map f vs) → test z ≡ true → list_any (λ v. test (f v)) vs ≡ true
 passes_any f test [] z h e = absurd h
 passes_any f test (v ∷ vs) z (inl same) e = ap (λ (b : Bool). b || list_any (λ v. test (f v)) vs) (ap test same ∙ e)
-passes_any f test (v ∷ vs) z (inr h) e = ap (λ (b : Bool). test (f v) || b) (passes_any f test vs z h e) ∙ or_true (test (f v))
+passes_any f test (v ∷ vs) z (inr h) e = ap (λ (b : Bool). test (f v) || b) (passes_any f test vs z h e) ∙ or-true (test (f v))
 
 any_passes : (f : WindowVertex → ℤ) (test : ℤ → Bool) (vs : List WindowVertex) → list_any (λ v. test (f v)) vs ≡ true → (z : ℤ) × IsIn z (map f vs) × (test z ≡ true)
 any_passes f test [] e = absurd cc

@@ -4,6 +4,7 @@ use Rattle.std.specs.Prelude.{nat_lt}
 use Rattle.std.proofs.lemmas.Int.{ints}
 use Rattle.std.proofs.lemmas.Bool.{and_parts}
 use Rattle.std.proofs.lemmas.Bool.Decides.{nat_tests}
+use Rattle.std.proofs.Math.Bool.{and-false}
 use Rattle.rc_base.specs.Numbers.{entry}
 use Rattle.rc_base.specs.Cluster.Tiles.{is_in_rect, is_in_window_box, is_in_box}
 use Rattle.rc_base.specs.Drawing.Cover.{is_in_area, is_in_scissor}
@@ -14,7 +15,6 @@ use Rattle.rc_base.specs.declared.window.Rect.{Rect}
 use Rattle.rc_base.specs.declared.interval.Interval.{Interval}
 use Rattle.rc_base.specs.Drawing.Triangles.{cut_modes, shape_of, triangles_in}
 use Rattle.rc_base.specs.Cluster.ObjectBox.{bounding_box, clip_over, is_in_reach, block_clip, is_in_object_box}
-use Rattle.plain_lemmas.proofs.Booleans.{and_false}
 use Rattle.plain_lemmas.proofs.Numbers.{from_int_le, from_int_lt}
 use Rattle.bounds_bucket.specs.Ranges.{IsPartWhere}
 use Rattle.bounds_bucket.specs.Standing.{standing_count}
@@ -56,7 +56,7 @@ unfolding is_in_object_box
 no_corner s block window mode h x y =
     boxed_object s block window x y mode
     ∙ (let none : nat_lt 0 (length (triangles_in block)) ≡ false = some_stand (shape_of block.mode) (length block.vertices) ∙ none_is _ h in
-    rw none (and_false (is_in_rect window x y)))
+    rw none (and-false (is_in_rect window x y)))
 
 no_area : (area : List ℤ) (x y : ℤ) → ((entry area 2 <ℤ pos 0) ⊎ (entry area 3 <ℤ pos 0)) → is_in_area area x y ≡ false
 no_area area x y h = by (is_in_area area x y) refl
@@ -81,7 +81,7 @@ no_viewport s block window mode h x y =
     (never (is_in_rect window x y) (nat_lt 0 (length (triangles_in block))) (is_in_reach s (block_clip s block) x y))
   where
     never : (a b c : Bool) → (a && (b && (c && false))) ≡ false
-    never true true c = and_false c
+    never true true c = and-false c
     never true false c = refl
     never false b c = refl
 

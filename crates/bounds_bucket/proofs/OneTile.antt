@@ -2,10 +2,10 @@
 use Rattle.std.proofs.Common.{◌≡◌, ℕ, zero, suc, ◌+◌, ◌*◌, ◌/◌, ◌%◌, ◌<◌, ◌≤◌, true, refl, sym, subst, ◌∙◌, arith, inl, inr}
 use Rattle.std.proofs.Math.Nat.{div-le_self, mul-le-mul_left, mul-div_cancel_left, zero-mul, div-add-mod}
 use Rattle.std.proofs.lemmas.Nat.{mod-mul-add, div-mul-add}
-use Rattle.std.proofs.lemmas.Bool.{and_parts, cases_lt}
-use Rattle.rc_base.specs.Cluster.Tiles.{boundary_of, is_in_interval, tile_pixels, tile_column, tile_row}
+use Rattle.std.proofs.lemmas.Bool.{cases_lt}
+use Rattle.rc_base.specs.Cluster.Tiles.{boundary_of, tile_pixels, tile_column, tile_row}
 use Rattle.rc_base.specs.declared.window.Layout.{Layout}
-use Rattle.scene_lemmas.proofs.Boundaries.{in_interval, interval_bounds, one_part, LiesIn}
+use Rattle.scene_lemmas.proofs.Boundaries.{in_interval, one_part, LiesIn, has_place}
 use Rattle.bounds_bucket.specs.Tiles.{HasPixel}
 
 -- the last of some rising places that isn't above x
@@ -35,12 +35,10 @@ unfolding tile_pixels
 tile_has l tile x y a b = rw (in_interval _ _ _ _ a.low a.high, in_interval _ _ _ _ b.low b.high) refl
 
 pub column_bounds : (l : Layout) (tile x y : ℕ) → tile_pixels l tile x y ≡ true → LiesIn l.width l.columns (tile_column l tile) x
-unfolding tile_pixels
-column_bounds l tile x y h = interval_bounds _ _ _ _ (and_parts (is_in_interval l.width l.columns (tile_column l tile) x) (is_in_interval l.height l.rows (tile_row l tile) y) h).0
+column_bounds l tile x y h = (has_place l tile x y h).across
 
 pub row_bounds : (l : Layout) (tile x y : ℕ) → tile_pixels l tile x y ≡ true → LiesIn l.height l.rows (tile_row l tile) y
-unfolding tile_pixels
-row_bounds l tile x y h = interval_bounds _ _ _ _ (and_parts (is_in_interval l.width l.columns (tile_column l tile) x) (is_in_interval l.height l.rows (tile_row l tile) y) h).1
+row_bounds l tile x y h = (has_place l tile x y h).up
 
 pub each_pixel : (l : Layout) (x y : ℕ) → 0 < l.columns → 0 < l.rows → x < l.width → y < l.height
     → (tile : ℕ) × HasPixel l tile x y × ((other : ℕ) → HasPixel l other x y → other ≡ tile)

@@ -19,13 +19,11 @@ use Rattle.rc_base.specs.declared.state.Effect.{Effect}
 use Rattle.rc_base.specs.declared.state.Effect.TheVariants as eff
 use Rattle.rc_base.specs.declared.state.State.{State}
 use Rattle.rc_base.specs.declared.window.WindowVertex.{WindowVertex}
+use Rattle.plain_lemmas.proofs.Numbers.{from_int_le_false}
 use Rattle.bounds_bucket.proofs.InObjectBox.{touched_in}
 use Rattle.bounds_bucket.proofs.ObjectRects.{object_is, window_is}
 
 -- ---- one of three corners isn't above a number, where the least isn't
-
-above_of : (a p : ℤ) → int_le a p ≡ false → p <ℤ a
-above_of a p h = grind (arith, ints)
 
 low_of : (a b c p : ℤ) → int_min (int_min a b) c ≤ℤ p → (int_le a p || (int_le b p || (int_le c p || false))) ≡ true
 low_of a b c p h =
@@ -35,7 +33,7 @@ low_of a b c p h =
         | inl t ↦ rw (f, t) refl
         | inr g ↦ elim (cases_Bool (int_le c p)) [
           | inl t ↦ rw (f, g, t) refl
-          | inr k ↦ absurd (let x = above_of a p f in let y = above_of b p g in let z = above_of c p k in omega (arith, ints, x, y, z, h, int_min_is (int_min a b) c, int_min_is a b))
+          | inr k ↦ absurd (let x = from_int_le_false a p f in let y = from_int_le_false b p g in let z = from_int_le_false c p k in omega (arith, ints, x, y, z, h, int_min_is (int_min a b) c, int_min_is a b))
         ]
       ]
     ]
@@ -48,7 +46,7 @@ high_of a b c p h =
         | inl t ↦ rw (f, t) refl
         | inr g ↦ elim (cases_Bool (int_le p c)) [
           | inl t ↦ rw (f, g, t) refl
-          | inr k ↦ absurd (let x = above_of p a f in let y = above_of p b g in let z = above_of p c k in omega (arith, ints, x, y, z, h, int_max_is (int_max a b) c, int_max_is a b))
+          | inr k ↦ absurd (let x = from_int_le_false p a f in let y = from_int_le_false p b g in let z = from_int_le_false p c k in omega (arith, ints, x, y, z, h, int_max_is (int_max a b) c, int_max_is a b))
         ]
       ]
     ]

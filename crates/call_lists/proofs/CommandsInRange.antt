@@ -1,25 +1,22 @@
 -- Expanded commands have their fields in range.
-use Rattle.std.proofs.Common.{ℕ, zero, suc, List, [], ◌∷◌, ◌++◌, sym, subst}
+use Rattle.std.proofs.Common.{ℕ, zero, suc, List, [], ◌∷◌, sym, subst}
 use Rattle.std.specs.List.{flat_map, AllByRecursion}
 use Rattle.std.proofs.lemmas.List.Concat.{flat_map-cons}
 use Rattle.rc_base.specs.Formats.Commands.{IsCommand}
 use Rattle.rc_base.specs.Formats.Spelling.{IsListCommand}
 use Rattle.rc_base.specs.declared.list_command.ListCommand.{ListCommand}
 use Rattle.rc_base.specs.declared.list_command.ListCommand.TheVariants.{Plain, NewList, EndList, CallList}
+use Rattle.plain_lemmas.proofs.Lists.{all_append}
 use Rattle.call_lists.specs.Expansion.{Lists, ListState, list_at, first_state, state_after, called, met_with, met_at, met_from, met, plain_of}
 use Rattle.call_lists.specs.Expansion.ListState.{Calling, Recording}
 use Rattle.call_lists.specs.Scenes.{expanded}
 use Rattle.call_lists.proofs.ListsRecorded.{AllHold, after_holds, list_holds, first_holds}
 
-all_then : {X : Type 0} (P : X → Type 0) (xs ys : List X) → AllByRecursion P xs → AllByRecursion P ys → AllByRecursion P (xs ++ ys)
-all_then P [] ys all more = more
-all_then P (x ∷ xs) ys all more = (all.0, all_then P xs ys all.1 more)
-
 all_flat : {X Y : Type 0} (P : X → Type 0) (Q : Y → Type 0) (f : X → List Y) → ((x : X) → P x → AllByRecursion Q (f x))
     → (xs : List X) → AllByRecursion P xs → AllByRecursion Q (flat_map f xs)
 all_flat P Q f each [] all = tt
 all_flat P Q f each (x ∷ xs) all =
-    subst (AllByRecursion Q) (sym (flat_map-cons f x xs)) (all_then Q (f x) (flat_map f xs) (each x all.0) (all_flat P Q f each xs all.1))
+    subst (AllByRecursion Q) (sym (flat_map-cons f x xs)) (all_append Q (f x) (flat_map f xs) (each x all.0) (all_flat P Q f each xs all.1))
 
 -- ---- what is met
 
@@ -47,7 +44,7 @@ met_at_in_range (Recording lists name commands) (CallList other) h fits = tt
 met_from_in_range : (x : ListState) (cs : List ListCommand) → AllHold IsListCommand x → AllByRecursion IsListCommand cs → AllByRecursion IsListCommand (met_from x cs)
 met_from_in_range x [] h fits = tt
 met_from_in_range x (c ∷ cs) h fits =
-    all_then IsListCommand (met_at x c) (met_from (state_after x c) cs) (met_at_in_range x c h fits.0)
+    all_append IsListCommand (met_at x c) (met_from (state_after x c) cs) (met_at_in_range x c h fits.0)
     (met_from_in_range (state_after x c) cs (after_holds IsListCommand x c h (λ _. fits.0)) fits.1)
 
 -- ---- what is given

@@ -8,6 +8,7 @@ use Rattle.rc_base.specs.Lists.{IsIn, with_name}
 use Rattle.rc_base.specs.declared.list_command.ListCommand.{ListCommand}
 use Rattle.rc_base.specs.declared.list_command.ListCommand.TheVariants.{Plain, NewList, EndList, CallList}
 use Rattle.rc_base.specs.declared.state.Fault.{Fault}
+use Rattle.scene_lemmas.proofs.Numbered.{is_in_behind}
 use Rattle.call_lists.specs.Expansion.{Lists, ListState, list_at, is_list_name, list_fault, state_with, first_state, state_after, state_from, called, met_at, met_from, met, plain_of, plain_commands, fault_at, faults_from, list_faults}
 use Rattle.call_lists.specs.Expansion.ListState.{Calling, Recording}
 use Rattle.call_lists.proofs.CommandsMet.{plain_then}
@@ -105,10 +106,6 @@ left_out front rest c f refused =
     ∙ sym (plain_then before (met_from x rest))
     ∙ ap plain_commands (sym (met_then first_state front rest))
 
-in_behind : {A : Type 0} (a : A) (xs ys : List A) → IsIn a ys → IsIn a (xs ++ ys)
-in_behind a [] ys i = i
-in_behind a (x ∷ xs) ys i = inr (in_behind a xs ys i)
-
 noted : (front rest : List ListCommand) (c : ListCommand) (f : Fault) → list_fault (state_from first_state front) c ≡ Some f
     → IsIn (length front, f) (list_faults (front ++ c ∷ rest))
 unfolding list_faults
@@ -117,7 +114,7 @@ noted front rest c f refused =
     let more = faults_from (state_after x c) (0 + length front + 1) rest in
     let place : 0 + length front ≡ length front = omega arith in
     subst (λ (fs : List (ℕ × Fault)). IsIn (length front, f) fs) (sym (faults_then first_state 0 front (c ∷ rest)))
-    (in_behind (length front, f) (faults_from first_state 0 front) (fault_at (0 + length front) (list_fault x c) ++ more)
+    (is_in_behind (length front, f) (faults_from first_state 0 front) (fault_at (0 + length front) (list_fault x c) ++ more)
     (subst (λ o. IsIn (length front, f) (fault_at (0 + length front) o ++ more)) (sym refused) (inl (ap (λ n. (n, f)) place))))
 
 pub refused_left_out : (front rest : List ListCommand) (c : ListCommand) (f : Fault) → list_fault (state_from first_state front) c ≡ Some f

@@ -1,4 +1,3 @@
-pub mod WordBytes
 pub mod PayloadSizes
 pub mod Stored
 pub mod CommandsMet

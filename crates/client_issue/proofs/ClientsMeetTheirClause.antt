@@ -1,6 +1,7 @@
 -- A client's core meets its clause at first and after each step; and what follows where it has ended.
 use Rattle.std.proofs.Common.{◌≡◌, ◌≢◌, ℕ, ◌<◌, ◌==◌, Bool, true, false, List, [], ◌∷◌, ◌++◌, length, inl, inr, refl, sym, ap, ◌∙◌, subst, arith, append_assoc, append-nil, eqb-true, eq-eqb, true≢false}
 use Rattle.std.specs.Prelude.{slice_index_or, Ok}
+use Rattle.std.proofs.lemmas.Bool.{cases_Bool}
 use Rattle.rc_base.specs.Cluster.Parcels.{parcels_of}
 use Rattle.rc_base.specs.Cluster.Sending.{Sending, ToTile, ToManager, parcels_to, requests_in, sent_by}
 use Rattle.rc_base.specs.Cluster.Tiles.{tile_count}
@@ -9,6 +10,7 @@ use Rattle.rc_base.specs.declared.scene.Scene.{Scene}
 use Rattle.rc_base.specs.declared.state.Parcel.{Parcel}
 use Rattle.rc_base.specs.declared.sync.Request.{Request}
 use Rattle.rc_base.specs.declared.window.Layout.{Layout}
+use Rattle.scene_lemmas.proofs.Sendings.{parcels_append, requests_append}
 use Rattle.client_issue.specs.Clauses.{counted, IsSequenceOf, IsClientClause, NewClientsMeetTheirClause, ClientStepsOverLanesKeepTheClause, ClientsAreUnderWay, EndedClientsAreDone}
 use Rattle.client_issue.specs.Cores.{left_in, looks_of, short_of, tally_after, tally_of_tile, AreSameTallies, IsClientOf, IsSameCore, IsTallied}
 use Rattle.client_issue.specs.Deeds.{answer_of, ClientDeed}
@@ -16,7 +18,7 @@ use Rattle.client_issue.specs.Deeds.ClientDeed.{Appends, Requests, FindsTileFull
 use Rattle.client_issue.specs.Steps.{AreSent, IsClientStep, IsCutShort, IsFoundFull, IsLaneAlone, IsRequested}
 use Rattle.client_issue.specs.declared.client.ClientCore.{ClientCore}
 use Rattle.client_issue.proofs.Tallies.{counted_more, looks_are}
-use Rattle.client_issue.proofs.Split.{which, to_append, requests_append, all_to, all_asked}
+use Rattle.client_issue.proofs.Split.{all_to, all_asked}
 
 -- ---- at first
 
@@ -68,16 +70,16 @@ module _ (scene : Scene) (l : Layout) (client : ℕ) (core later : ClientCore) (
         whose = still_whose;
         so_far = h.so_far ++ item;
         sequence = still (h.so_far ++ item) short (moved_on (ToTile t p) next);
-        parcels = λ tile lt. elim (which (tile == t)) [
+        parcels = λ tile lt. elim (cases_Bool (tile == t)) [
           | inl y ↦
               here tile lt (eqb-true tile t y) ∙ ap (λ (ps : List Parcel). ps ++ p ∷ []) (h.parcels tile lt)
-              ∙ ap (λ (ps : List Parcel). parcels_to tile h.so_far ++ ps) (sym (one_to tile t p y)) ∙ sym (to_append tile h.so_far item)
+              ∙ ap (λ (ps : List Parcel). parcels_to tile h.so_far ++ ps) (sym (one_to tile t p y)) ∙ sym (parcels_append tile h.so_far item)
           | inr f ↦
               others tile lt (off tile f) ∙ h.parcels tile lt ∙ sym (append-nil (parcels_to tile h.so_far))
-              ∙ ap (λ (ps : List Parcel). parcels_to tile h.so_far ++ ps) (sym (none_to tile t p f)) ∙ sym (to_append tile h.so_far item)
+              ∙ ap (λ (ps : List Parcel). parcels_to tile h.so_far ++ ps) (sym (none_to tile t p f)) ∙ sym (parcels_append tile h.so_far item)
         ];
         requests = same ∙ h.requests ∙ sym (append-nil (requests_in h.so_far)) ∙ sym (requests_append h.so_far item);
-        tallies = λ tile lt. elim (which (tile == t)) [
+        tallies = λ tile lt. elim (cases_Bool (tile == t)) [
           | inl y ↦
               let e : tile ≡ t = eqb-true tile t y in
               ap (tally_of_tile later) e ∙ tallied.counted ∙ ap (λ k. tally_after (tally_of_tile core k) p (looks_of core k p)) (sym e)
@@ -99,7 +101,7 @@ module _ (scene : Scene) (l : Layout) (client : ℕ) (core later : ClientCore) (
         whose = still_whose;
         so_far = h.so_far ++ item;
         sequence = still (h.so_far ++ item) short (moved_on (ToManager r) next);
-        parcels = λ tile lt. same tile lt ∙ h.parcels tile lt ∙ sym (append-nil (parcels_to tile h.so_far)) ∙ sym (to_append tile h.so_far item);
+        parcels = λ tile lt. same tile lt ∙ h.parcels tile lt ∙ sym (append-nil (parcels_to tile h.so_far)) ∙ sym (parcels_append tile h.so_far item);
         requests = grown ∙ ap (λ (rs : List Request). rs ++ r ∷ []) h.requests ∙ sym (requests_append h.so_far item);
         tallies = λ tile lt. tallies tile ∙ h.tallies tile lt ∙ ap (counted scene l client tile) (sym (same tile lt));
         over = over;
@@ -149,7 +151,7 @@ module _ {P Q : Type 0} (sent : P → List Parcel) (full_seen : P → ℕ) (full
     same_lanes e tile lt = ap (λ (xs : List P). sent (slice_index_or xs tile d)) e
 
     blocked_same : (t : ℕ) → IsLaneAlone t (IsFoundFull sent full_seen full) tiles tiles' → (tile : ℕ) → tile < tile_count l → listed tiles' tile ≡ listed tiles tile
-    blocked_same t b tile lt = elim (which (tile == t)) [
+    blocked_same t b tile lt = elim (cases_Bool (tile == t)) [
       | inl y ↦ (b.here.at tile d (within tile lt) (eqb-true tile t y)).same
       | inr f ↦ ap sent (b.others.at tile d (within tile lt) (λ e. let same = eq-eqb tile t e in absurd cc))
     ]
@@ -196,7 +198,7 @@ under_way scene l client core sent asked ended h ample =
     let all : sent_by scene l client ≡ h.so_far ++ left_in core = subst (λ (b : Bool). IsSequenceOf b scene l client (h.so_far ++ left_in core)) ample h.sequence in
     record {
       parcels = λ tile lt.
-          sym (all_to scene l client tile lt) ∙ ap (parcels_to tile) all ∙ to_append tile h.so_far (left_in core)
+          sym (all_to scene l client tile lt) ∙ ap (parcels_to tile) all ∙ parcels_append tile h.so_far (left_in core)
           ∙ ap (λ (ps : List Parcel). ps ++ parcels_to tile (left_in core)) (sym (h.parcels tile lt));
       requests = λ lt.
           sym (all_asked scene l client lt) ∙ ap requests_in all ∙ requests_append h.so_far (left_in core)

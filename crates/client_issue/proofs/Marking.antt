@@ -8,6 +8,7 @@ use Rattle.std.specs.List.{list_any, range_with_len}
 use Rattle.std.specs.Option.{option_map_or}
 use Rattle.std.proofs.lemmas.Option.{slice_get_past}
 use Rattle.std.proofs.lemmas.Bool.{and_parts}
+use Rattle.std.proofs.Math.Bool.{and-true}
 use Rattle.rc_base.specs.Contexts.Context.{ClientContext, private_count}
 use Rattle.rc_base.specs.Contexts.Elements.{element_count, group_sizes, marks}
 use Rattle.rc_base.specs.Contexts.Faults.{fault_of, has_values, image_side_most, is_name}
@@ -119,10 +120,6 @@ pending_step : (scene : Scene) (l : Layout) (tile place e : ℕ)
 unfolding is_pending
 pending_step scene l tile place e = ap (λ (n : ℕ). is_pending scene l 0 tile n e) (one_more place)
 
-pub and_true : (b : Bool) → (b && true) ≡ b
-and_true true = refl
-and_true false = refl
-
 not_drawn : (l : Layout) (tile : ℕ) (x : ClientContext) (effect : Effect) → asks_of l x.state effect tile ≡ false → draws_on l tile x effect ≡ false
 not_drawn l tile x eff.Quiet h = refl
 not_drawn l tile x (eff.Refused fault) h = refl
@@ -139,7 +136,7 @@ quiet_pending scene l tile place e h =
     let effect = effect_at scene 0 place in
     pending_step scene l tile place e
     ∙ ap (λ (b : Bool). marks_at scene 0 place e || (is_pending scene l 0 tile place e && not (b && list_any (nat_eq e) (examined x (is_block effect))))) (not_drawn l tile x effect h)
-    ∙ ap (λ (b : Bool). marks_at scene 0 place e || b) (and_true (is_pending scene l 0 tile place e))
+    ∙ ap (λ (b : Bool). marks_at scene 0 place e || b) (and-true (is_pending scene l 0 tile place e))
 
 -- what the parcel of an act examines
 drawn_by : (l : Layout) (tile : ℕ) (x : ClientContext) (effect : Effect) (a : Act) (e : ℕ) → act_by effect ≡ Some a → goes_to l x.state a tile ≡ true

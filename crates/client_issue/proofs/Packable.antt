@@ -1,11 +1,10 @@
 -- What a client gives to a tile can be packed.
-use Rattle.std.proofs.Common.{◌≡◌, ℕ, zero, suc, ◌+◌, ◌<◌, ◌≤◌, ◌⊎◌, ◌==◌, ◌&&◌, Bool, true, false, List, [], ◌∷◌, ◌++◌, length, map, Some, None, inl, inr, refl, sym, ap, ◌∙◌, subst, arith, ltb-true, leb-true, length-append}
+use Rattle.std.proofs.Common.{◌≡◌, ℕ, zero, suc, ◌<◌, ◌≤◌, ◌⊎◌, ◌==◌, ◌&&◌, Bool, true, false, List, [], ◌∷◌, ◌++◌, length, map, Some, None, inl, inr, refl, sym, ap, ◌∙◌, subst, arith, ltb-true, leb-true}
 use Rattle.std.specs.Prelude.{if◌then◌else◌, nat_lt, nat_le, is_some, slice_index_or}
 use Rattle.std.specs.declared.option.Option.{Option}
 use Rattle.std.specs.List.{flat_map, range_with_len, AllByRecursion}
 use Rattle.std.specs.Option.{option_map_or}
 use Rattle.std.proofs.lemmas.Bool.{cases_Bool, and_parts}
-use Rattle.std.proofs.lemmas.List.{get_or_past}
 use Rattle.std.proofs.lemmas.List.Concat.{flat_map-cons}
 use Rattle.std.proofs.Math.Logic.{∥∥₁_elim}
 use Rattle.std.proofs.Props.{props}
@@ -40,8 +39,11 @@ use Rattle.gl_context.proofs.ValidContexts.{valid, command_of as is_in_range, st
 use Rattle.state_update.specs.Knowledge.{Knows}
 use Rattle.element_table.specs.declared.kind.ValueKind.{ValueKind}
 use Rattle.element_table.specs.declared.kind.ValueKind.TheVariants.{Image}
-use Rattle.element_table.specs.Kinds.{kind_of, kind_of_value, scalar_kinds}
+use Rattle.element_table.specs.Kinds.{kind_of, kind_of_value}
 use Rattle.parcel_bytes.specs.Spelling.{IsWholeValue, IsWholeSet, IsWholeAct, IsPackable}
+use Rattle.scene_lemmas.proofs.Contexts.{few_examined, written_by_shared_image}
+use Rattle.scene_lemmas.proofs.Numbered.{in_range_below}
+use Rattle.element_table.proofs.Rows.{image_kind}
 use Rattle.client_issue.specs.Acts.{act_by, act_sets}
 use Rattle.client_issue.specs.Sequence.{scene_of, IsSendingWith, heard}
 use Rattle.client_issue.specs.declared.pending.Pending.{Pending}
@@ -68,10 +70,6 @@ scalar_whole x e low = record {
   texels = wholes_at (values_of x.state) e _ (omega (arith, low))
       (tt, (tt, (tt, (tt, (tt, (tt, (tt, (tt, (tt, (tt, (tt, (tt, (tt, (tt, (tt, (tt, (tt, (tt, (tt, (tt, (tt, (tt, tt))))))))))))))))))))));
 }
-
-image_kind : (e : ℕ) → scalar_count ≤ e → kind_of e ≡ Image
-unfolding kind_of
-image_kind e high = get_or_past scalar_kinds e Image high
 
 image_whole : (x : ClientContext) (name : ℕ) (p : Picture) → 0 < name → name ≤ private_count → IsPrivateImage p → private_image x name ≡ Some p
     → IsWholeSet (record { element = image_element name; value = value_in x (image_element name) })
@@ -100,15 +98,10 @@ in_append e [] ys i = inr i
 in_append e (x ∷ xs) ys (inl same) = inl (inl same)
 in_append e (x ∷ xs) ys (inr i) = elim (in_append e xs ys i) [ inl a ↦ inl (inr a) | inr b ↦ inr b ]
 
-in_range : (a n e : ℕ) → IsIn e (range_with_len a n) → e < a + n
-in_range a zero e i = absurd i
-in_range a (suc n) e (inl same) = omega (arith, same)
-in_range a (suc n) e (inr i) = let lt = in_range (a + 1) n e i in omega (arith, lt)
-
 examined_whole : (d : Decl) (x : ClientContext) → IsValidContext d x → (draws : Bool) → (e : ℕ) → IsIn e (examined x draws) → IsWholeSet (record { element = e; value = value_in x e })
 examined_whole d x h draws e i =
     elim (in_append e (range_with_len 0 scalar_count) (if draws then sampled_images x else []) i) [
-      | inl a ↦ scalar_whole x e (let lt = in_range 0 scalar_count e a in omega (arith, lt))
+      | inl a ↦ scalar_whole x e (let lt = in_range_below 0 scalar_count e a in omega (arith, lt))
       | inr b ↦ elim (cases_Bool draws) [
         | inl t ↦ sampled_whole d x h (bound_kind x.state == 0) refl x.state.texture_on refl (private_image x (bound_name x.state)) refl e (subst (λ k. IsIn e (if k then sampled_images x else [])) t b)
         | inr f ↦ absurd (subst (λ k. IsIn e (if k then sampled_images x else [])) f b)
@@ -138,16 +131,6 @@ module _ (values : ℕ → ElementValue) (x : ClientContext) where
   few_sets (e ∷ es) =
       subst (λ (l : List ElementSet). length l ≤ suc (length es)) (sym (flat_map-cons (set_of values x) e es))
       (each_few e (length es) (flat_map (set_of values x) es) (same_value (values e) (value_in x e)) (few_sets es))
-
-few_if : (b : Bool) (n : ℕ) → length (if b then n ∷ [] else []) ≤ 1
-few_if true n = omega arith
-few_if false n = omega arith
-
-few_examined : (x : ClientContext) (draws : Bool) → length (examined x draws) ≤ 23
-few_examined x true =
-    let one = few_if (x.state.texture_on && (bound_kind x.state == 0 && is_some (private_image x (bound_name x.state)))) (image_element (bound_name x.state)) in
-    omega (arith, one, length-append (range_with_len 0 scalar_count) (sampled_images x))
-few_examined x false = omega (arith, length-append (range_with_len 0 scalar_count) (let none : List ℕ = [] in none))
 
 abbrev AreFit : List ElementSet → Type 0
 AreFit sets = (length sets ≤ 255) × AllByRecursion IsWholeSet sets
@@ -185,17 +168,8 @@ unfolding effect_of
 block_at x b None e = absurd cc
 block_at x b (Some c) e = block_of x c b (fault_of x c) e
 
-written_by : (x : ClientContext) (c : Command) (part : Part) → done_by x c ≡ eff.Shared part → c ≡ cmd.SharedImage part
-written_by x (cmd.SharedImage p) part e = let same : p ≡ part = cc in ap (λ q. cmd.SharedImage q) same
-written_by x cmd.End part e = go x.block e
-  where
-    go : (o : Option Block) → option_map_or (λ b. eff.Block b) o eff.Quiet ≡ eff.Shared part → cmd.End ≡ cmd.SharedImage part
-    go None e = absurd cc
-    go (Some b) e = absurd cc
-written_by x c part e = absurd cc
-
 written_of : (x : ClientContext) (c : Command) (part : Part) (f : Option Fault) → option_map_or (λ g. eff.Refused g) f (done_by x c) ≡ eff.Shared part → c ≡ cmd.SharedImage part
-written_of x c part None e = written_by x c part e
+written_of x c part None e = written_by_shared_image x c part e
 written_of x c part (Some g) e = absurd cc
 
 written_at : (x : ClientContext) (part : Part) (o : Option Command) → option_map_or (effect_of x) o eff.Quiet ≡ eff.Shared part → o ≡ Some (cmd.SharedImage part)

@@ -1,11 +1,12 @@
 -- A client after it has given a parcel to a tile.
-use Rattle.std.proofs.Common.{◌≡◌, ◌≢◌, ◌∙◌, ℕ, ◌+◌, ◌<◌, ◌≤◌, true, false, List, [], ◌∷◌, ◌++◌, length, Some, None, refl, sym, ap, subst, arith, inl, inr, append-nil, eqb-true, eq-eqb}
+use Rattle.std.proofs.Common.{◌≡◌, ◌≢◌, ◌∙◌, ℕ, ◌+◌, ◌<◌, ◌≤◌, true, false, List, [], ◌∷◌, ◌++◌, length, Some, None, refl, sym, ap, subst, arith, inl, inr, append-nil, eq-eqb}
 use Rattle.std.proofs.Math.Logic.{∥∥₁_elim, ∥∥₁_map}
 use Rattle.std.proofs.Props.{props}
 use Rattle.std.specs.Prelude.{IfSome, map, not, ◌==◌, ◌&&◌, ◌||◌, Bool}
 use Rattle.std.specs.declared.option.Option.{Option}
 use Rattle.std.specs.Option.{option_map_or}
-use Rattle.std.proofs.lemmas.Bool.{cases_Bool, cases_lt}
+use Rattle.std.proofs.lemmas.Bool.{cases_lt, ne_eqb}
+use Rattle.std.proofs.Math.Bool.{and-true}
 use Rattle.rc_base.specs.Contexts.Context.{ClientContext}
 use Rattle.rc_base.specs.Contexts.Issue.{context_after, effect_at}
 use Rattle.rc_base.specs.Orders.Journal.{has}
@@ -28,7 +29,7 @@ use Rattle.client_issue.specs.declared.pending.Pending.{Pending}
 use Rattle.client_issue.specs.declared.sender.Sender.{Sender}
 use Rattle.client_issue.proofs.Giving.{tail_next, tail_end, skipped_to, nothing_sent, no_parcel, parcel_is, before_next, leaves_sets}
 use Rattle.client_issue.proofs.Issuing.{heard_less, heard_more}
-use Rattle.client_issue.proofs.Marking.{and_true, given_pending, looks_given, quiet_pending, unmarked}
+use Rattle.client_issue.proofs.Marking.{given_pending, looks_given, quiet_pending, unmarked}
 
 HasBoundTexture-prop : (x : ClientContext) → IsProp (HasBoundTexture x)
 HasBoundTexture-prop x = hlevel props
@@ -203,17 +204,14 @@ marked_told s p tracker sets next h e few =
     ∙ sym (given_pending scene s.layout p.tile p.place e p.act parcels.asks (sym (parcels.goes p.tile parcels.tile) ∙ parcels.met))
     ∙ ap (λ (n : ℕ). is_pending scene s.layout 0 p.tile n e) (sym parcels.last)
 
-off : (a b : ℕ) → a ≢ b → (a == b) ≡ false
-off a b ne = elim (cases_Bool (a == b)) [ inl y ↦ absurd (ne (eqb-true a b y)) | inr n ↦ n ]
-
 -- another one
 marked_old : (s : Sender) (p : Pending) (tracker : Tracked) (sets : List ElementSet) (next : ℕ) → IsGiven s p tracker sets next
     → (tile n e : ℕ) → tile < s.count → e < element_count → tile ≢ p.tile → heard (Some p) s.issued tile ≡ n → pending tracker tile e ≡ is_pending (scene_of s) s.layout 0 tile n e
 marked_old s p tracker sets next h tile n e lt few ne is =
     let all = h.sending.tiles in
     h.examined tile e (omega (arith, lt, all))
-    ∙ ap (λ (b : Bool). pending s.tracker tile e && not (b && examines s.context p.act e)) (off tile p.tile ne)
-    ∙ and_true (pending s.tracker tile e)
+    ∙ ap (λ (b : Bool). pending s.tracker tile e && not (b && examines s.context p.act e)) (ne_eqb tile p.tile ne)
+    ∙ and-true (pending s.tracker tile e)
     ∙ h.sending.marked tile e lt few
     ∙ ap (λ (k : ℕ). is_pending (scene_of s) s.layout 0 tile k e) is
 

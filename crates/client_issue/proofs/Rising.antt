@@ -1,5 +1,5 @@
 -- The parcels of a client to a tile stand at rising places, and End is the last of them.
-use Rattle.std.proofs.Common.{◌≡◌, ◌≢◌, ◌∙◌, ℕ, zero, suc, ◌+◌, ◌⊎◌, Bool, true, false, List, [], ◌∷◌, ◌++◌, length, inl, inr, refl, sym, ap, subst, arith, append-nil}
+use Rattle.std.proofs.Common.{◌≡◌, ◌≢◌, ◌∙◌, ℕ, zero, suc, ◌⊎◌, Bool, true, false, List, [], ◌∷◌, ◌++◌, length, inl, inr, refl, sym, ap, subst, arith, append-nil}
 use Rattle.std.specs.Prelude.{if◌then◌else◌}
 use Rattle.rc_base.specs.Lists.{AreRising}
 use Rattle.rc_base.specs.Contexts.Context.{ClientContext}
@@ -12,6 +12,7 @@ use Rattle.rc_base.specs.declared.state.Effect.TheVariants as eff
 use Rattle.rc_base.specs.declared.state.ElementValue.{ElementValue}
 use Rattle.rc_base.specs.declared.state.Parcel.{Parcel}
 use Rattle.rc_base.specs.declared.window.Layout.{Layout}
+use Rattle.scene_lemmas.proofs.Numbered.{rising_further, rising_push}
 use Rattle.client_issue.specs.Laws.{places, AreCommands, EndsLast}
 
 -- a command gives no parcel, or one at its place that isn't End
@@ -41,17 +42,9 @@ gives l tile values x place (eff.Sync op) = one place (record { place = place; s
 
 -- ---- rising numbers, and the number at their end
 
-further : (p : ℕ) (ns : List ℕ) (n : ℕ) → AreRising p ns n → AreRising p ns (suc n)
-further p [] n h = omega (arith, h)
-further p (m ∷ ns) n h = (h.0, omega (arith, h.1), further (m + 1) ns n h.2)
-
-pushed : (p : ℕ) (ns : List ℕ) (n : ℕ) → AreRising p ns n → AreRising p (ns ++ n ∷ []) (suc n)
-pushed p [] n h = (h, omega arith, omega arith)
-pushed p (m ∷ ns) n h = (h.0, omega (arith, h.1), pushed (m + 1) ns n h.2)
-
 risen : (ns more : List ℕ) (n : ℕ) → (more ≡ []) ⊎ (more ≡ n ∷ []) → AreRising 0 ns n → AreRising 0 (ns ++ more) (suc n)
-risen ns more n (inl e) h = subst (λ (ms : List ℕ). AreRising 0 ms (suc n)) (sym (ap (λ (ks : List ℕ). ns ++ ks) e ∙ append-nil ns)) (further 0 ns n h)
-risen ns more n (inr e) h = subst (λ (ms : List ℕ). AreRising 0 ms (suc n)) (sym (ap (λ (ks : List ℕ). ns ++ ks) e)) (pushed 0 ns n h)
+risen ns more n (inl e) h = subst (λ (ms : List ℕ). AreRising 0 ms (suc n)) (sym (ap (λ (ks : List ℕ). ns ++ ks) e ∙ append-nil ns)) (rising_further 0 ns n h)
+risen ns more n (inr e) h = subst (λ (ms : List ℕ). AreRising 0 ms (suc n)) (sym (ap (λ (ks : List ℕ). ns ++ ks) e)) (rising_push 0 ns n h)
 
 places_of_both : (xs ys : List Parcel) → places (xs ++ ys) ≡ places xs ++ places ys
 places_of_both [] ys = refl

@@ -1,7 +1,7 @@
 -- What a client sends, lane by lane.
-use Rattle.std.proofs.Common.{◌≡◌, ◌∙◌, ℕ, zero, suc, ◌+◌, ◌==◌, ◌<◌, ◌≤◌, ◌⊎◌, Bool, true, false, List, [], ◌∷◌, ◌++◌, length, map, inl, inr, refl, sym, ap, arith, append-nil, eqb-true, eq-eqb}
+use Rattle.std.proofs.Common.{◌≡◌, ◌∙◌, ℕ, zero, suc, ◌+◌, ◌==◌, ◌<◌, ◌≤◌, true, false, List, [], ◌∷◌, ◌++◌, length, map, inl, inr, refl, sym, ap, arith, append-nil, eqb-true, eq-eqb}
 use Rattle.std.specs.List.{flat_map, range_with_len}
-use Rattle.std.proofs.lemmas.Bool.{cases_lt}
+use Rattle.std.proofs.lemmas.Bool.{cases_lt, cases_Bool}
 use Rattle.std.proofs.lemmas.List.FromFn.{get_or-map-range_with_len}
 use Rattle.std.proofs.lemmas.Option.{unwrap_or-slice_get}
 use Rattle.rc_base.specs.Contexts.Issue.{stream_of, effect_at}
@@ -16,24 +16,8 @@ use Rattle.rc_base.specs.declared.sync.Request.TheVariants as request
 use Rattle.rc_base.specs.declared.sync.SyncRow.{SyncRow}
 use Rattle.rc_base.specs.declared.sync.WaitAt.{WaitAt}
 use Rattle.rc_base.specs.declared.window.Layout.{Layout}
+use Rattle.scene_lemmas.proofs.Sendings.{parcels_append, requests_append}
 use Rattle.client_issue.specs.Laws.{IsSplit}
-
-pub which : (b : Bool) → (b ≡ true) ⊎ (b ≡ false)
-which true = inl refl
-which false = inr refl
-
-pub to_append : (tile : ℕ) (xs ys : List Sending) → parcels_to tile (xs ++ ys) ≡ parcels_to tile xs ++ parcels_to tile ys
-to_append tile [] ys = refl
-to_append tile (ToTile k p ∷ xs) ys = elim (which (tile == k)) [
-  | inl t ↦ rw t (ap (λ (ps : List Parcel). p ∷ ps) (to_append tile xs ys))
-  | inr f ↦ rw f (to_append tile xs ys)
-]
-to_append tile (ToManager r ∷ xs) ys = to_append tile xs ys
-
-pub requests_append : (xs ys : List Sending) → requests_in (xs ++ ys) ≡ requests_in xs ++ requests_in ys
-requests_append [] ys = refl
-requests_append (ToTile k p ∷ xs) ys = requests_append xs ys
-requests_append (ToManager r ∷ xs) ys = ap (λ (rs : List Request). r ∷ rs) (requests_append xs ys)
 
 -- ---- the parcels of several tiles
 
@@ -46,7 +30,7 @@ to_other tile k [] f = refl
 to_other tile k (p ∷ ps) f = rw f (to_other tile k ps f)
 
 eq_off : (k n : ℕ) → k < n → (k == n) ≡ false
-eq_off k n lt = elim (which (k == n)) [ inl t ↦ absurd (let e = eqb-true k n t in omega (arith, e)) | inr f ↦ f ]
+eq_off k n lt = elim (cases_Bool (k == n)) [ inl t ↦ absurd (let e = eqb-true k n t in omega (arith, e)) | inr f ↦ f ]
 
 abbrev tiles_from : (ℕ → List Parcel) → ℕ → ℕ → List Sending
 tiles_from f from n = flat_map (λ tile. map (λ p. ToTile tile p) (f tile)) (range_with_len from n)
@@ -55,12 +39,12 @@ tiles_from f from n = flat_map (λ tile. map (λ p. ToTile tile p) (f tile)) (ra
 to_later : (tile : ℕ) (f : ℕ → List Parcel) (from n : ℕ) → tile < from → parcels_to tile (tiles_from f from n) ≡ []
 to_later tile f from zero lt = refl
 to_later tile f from (suc n) lt =
-    to_append tile (map (λ p. ToTile from p) (f from)) (tiles_from f (from + 1) n)
+    parcels_append tile (map (λ p. ToTile from p) (f from)) (tiles_from f (from + 1) n)
     ∙ ap (λ (ps : List Parcel). ps ++ parcels_to tile (tiles_from f (from + 1) n)) (to_other tile from (f from) (eq_off tile from lt)) ∙ to_later tile f (from + 1) n (omega (arith, lt))
 
 to_within : (tile : ℕ) (f : ℕ → List Parcel) (from n : ℕ) → from ≤ tile → tile < from + n → parcels_to tile (tiles_from f from n) ≡ f tile
 to_within tile f from zero low high = absurd (omega (arith, low, high))
-to_within tile f from (suc n) low high = to_append tile (map (λ p. ToTile from p) (f from)) (tiles_from f (from + 1) n) ∙ elim (which (tile == from)) [
+to_within tile f from (suc n) low high = parcels_append tile (map (λ p. ToTile from p) (f from)) (tiles_from f (from + 1) n) ∙ elim (cases_Bool (tile == from)) [
   | inl t ↦
       let same : from ≡ tile = sym (eqb-true tile from t) in
       ap (λ (ps : List Parcel). ps ++ parcels_to tile (tiles_from f (from + 1) n)) (to_this tile from (f from) t)
@@ -109,10 +93,10 @@ module _ (scene : Scene) (l : Layout) (client : ℕ) where
       let ws = wait_of n (effect_at scene client n) in
       let items = tiles_from (of_command n) 0 (tile_count l) in
       let here : parcels_to tile (sent_at scene l client n) ≡ of_command n tile =
-      to_append tile items (map (λ (w : WaitAt). ToManager (request_of w)) ws)
+      parcels_append tile items (map (λ (w : WaitAt). ToManager (request_of w)) ws)
       ∙ ap (λ (ps : List Parcel). parcels_to tile items ++ ps) (to_manager tile ws)
       ∙ append-nil (parcels_to tile items) ∙ to_within tile (of_command n) 0 (tile_count l) (omega arith) (omega (arith, lt)) in
-      to_append tile (sent_before scene l client n) (sent_at scene l client n)
+      parcels_append tile (sent_before scene l client n) (sent_at scene l client n)
       ∙ ap (λ (ps : List Parcel). ps ++ parcels_to tile (sent_at scene l client n)) (before_to tile n lt)
       ∙ ap (λ (ps : List Parcel). parcels_before scene l client tile n ++ ps) here
 
@@ -138,8 +122,8 @@ module _ (scene : Scene) (l : Layout) (client : ℕ) where
       let last : ℕ → List Parcel = λ tile. end_parcel n ∷ [] in
       let ends = tiles_from last 0 (tile_count l) in
       let here : parcels_to tile (sent_last scene l client) ≡ end_parcel n ∷ [] =
-      to_append tile ends (ToManager request.End ∷ []) ∙ append-nil (parcels_to tile ends) ∙ to_within tile last 0 (tile_count l) (omega arith) (omega (arith, lt)) in
-      to_append tile (sent_before scene l client n) (sent_last scene l client)
+      parcels_append tile ends (ToManager request.End ∷ []) ∙ append-nil (parcels_to tile ends) ∙ to_within tile last 0 (tile_count l) (omega arith) (omega (arith, lt)) in
+      parcels_append tile (sent_before scene l client n) (sent_last scene l client)
       ∙ ap (λ (ps : List Parcel). ps ++ parcels_to tile (sent_last scene l client)) (before_to tile n lt)
       ∙ ap (λ (ps : List Parcel). parcels_before scene l client tile n ++ ps) here
 

@@ -9,6 +9,7 @@ use Rattle.rc_base.specs.Outside.Causes.{last_count}
 use Rattle.rc_base.specs.declared.scene.Scene.{Scene}
 use Rattle.rc_base.specs.declared.state.Parcel.{Parcel}
 use Rattle.rc_base.specs.declared.window.Layout.{Layout}
+use Rattle.plain_lemmas.proofs.Numbers.{min_of_min}
 use Rattle.client_issue.specs.Clauses.{counted}
 use Rattle.client_issue.specs.Cores.{looks_of, tally_after, IsClientOf}
 use Rattle.client_issue.specs.Sequence.{scene_of}
@@ -30,18 +31,15 @@ looks_more scene l client tile parcels p =
     let one : 0 + looks p ≡ looks p = omega arith in
     sum-map looks (parcels ++ p ∷ []) ∙ sum_by-append looks parcels (p ∷ []) ∙ (λ i. sym (sum-map looks parcels) i + one i)
 
-held_twice : (a b m : ℕ) → min (min a m + b) m ≡ min (a + b) m
-held_twice a b m = omega arith
-
 pub counted_more : (scene : Scene) (l : Layout) (client tile : ℕ) (parcels : List Parcel) (p : Parcel)
     → counted scene l client tile (parcels ++ p ∷ []) ≡ tally_after (counted scene l client tile parcels) p (looks_at scene l client tile p.place)
 counted_more scene l client tile parcels p =
     let a : min (length (parcels ++ p ∷ [])) last_count ≡ min (min (length parcels) last_count + 1) last_count =
-    ap (λ n. min n last_count) (length-append parcels (p ∷ [])) ∙ sym (held_twice (length parcels) 1 last_count) in
+    ap (λ n. min n last_count) (length-append parcels (p ∷ [])) ∙ sym (min_of_min (length parcels) 1 last_count) in
     let b : min (set_count (parcels ++ p ∷ [])) last_count ≡ min (min (set_count parcels) last_count + length p.sets) last_count =
-    ap (λ n. min n last_count) (sets_more parcels p) ∙ sym (held_twice (set_count parcels) (length p.sets) last_count) in
+    ap (λ n. min n last_count) (sets_more parcels p) ∙ sym (min_of_min (set_count parcels) (length p.sets) last_count) in
     let c : min (look_count scene l client tile (parcels ++ p ∷ [])) last_count ≡ min (min (look_count scene l client tile parcels) last_count + looks_at scene l client tile p.place) last_count =
-    ap (λ n. min n last_count) (looks_more scene l client tile parcels p) ∙ sym (held_twice (look_count scene l client tile parcels) (looks_at scene l client tile p.place) last_count) in
+    ap (λ n. min n last_count) (looks_more scene l client tile parcels p) ∙ sym (min_of_min (look_count scene l client tile parcels) (looks_at scene l client tile p.place) last_count) in
     λ i. record { parcels = a i; sets = b i; looks = c i }
 
 -- a core's looks are its client's

@@ -1,23 +1,14 @@
 -- Lists of a scene that were looked through one by one.
-use Rattle.std.proofs.Common.{◌≡◌, ℕ, zero, suc, ◌+◌, ◌<◌, ◌≤◌, List, [], ◌∷◌, drop, length, Some, get_or, refl, sym, subst, ap, ◌∙◌, arith}
+use Rattle.std.proofs.Common.{◌≡◌, ℕ, zero, suc, ◌+◌, ◌<◌, ◌≤◌, List, [], drop, length, Some, get_or, sym, subst, arith}
 use Rattle.std.specs.Prelude.{slice_get}
 use Rattle.std.specs.Option.{unwrap_or}
 use Rattle.std.proofs.lemmas.Option.{slice_get_within, slice_get_past, get_or_from_slice_get}
+use Rattle.std.proofs.lemmas.List.{drop_all}
 use Rattle.rc_base.specs.Lists.{at_name, AreRising}
 use Rattle.rc_base.specs.Orders.Sync.{places_of}
 use Rattle.rc_base.specs.declared.sync.SyncRow.{SyncRow}
 use Rattle.rc_base.specs.declared.sync.WaitAt.{WaitAt}
-
-drop_at : {A : Type 0} (xs : List A) (k : ℕ) (x : A) → k < length xs → x ≡ get_or xs k x → drop k xs ≡ x ∷ drop (k + 1) xs
-drop_at [] k x lt is = absurd (omega arith)
-drop_at (y ∷ xs) zero x lt is = ap (λ z. z ∷ xs) (sym is)
-drop_at (y ∷ xs) (suc k) x lt is = let step : suc k + 1 ≡ suc (k + 1) = omega arith in drop_at xs k x (omega arith) is ∙ ap (λ n. x ∷ drop n (y ∷ xs)) (sym step)
-
-drop_all : {A : Type 0} (xs : List A) (k : ℕ) → length xs ≤ k → drop k xs ≡ []
-drop_all [] zero le = refl
-drop_all [] (suc k) le = refl
-drop_all (x ∷ xs) zero le = absurd (omega arith)
-drop_all (x ∷ xs) (suc k) le = drop_all xs k (omega arith)
+use Rattle.plain_lemmas.proofs.Lists.{drop_is_item_first}
 
 pub positive : (counts : List ℕ) (n : ℕ) → length counts ≤ n → ((k : ℕ) → k < n → k < length counts → 0 < get_or counts k 1) → (barrier count : ℕ) → at_name counts barrier ≡ Some count → 0 < count
 positive counts n all each zero count is = absurd cc
@@ -27,10 +18,10 @@ positive counts n all each (suc k) count is =
 
 pub rising_step : (ops : List WaitAt) (k : ℕ) (w : WaitAt) (from end : ℕ) → k < length ops → w ≡ get_or ops k w → from ≤ w.place → w.place < end
     → AreRising (w.place + 1) (places_of (drop (k + 1) ops)) end → AreRising from (places_of (drop k ops)) end
-rising_step ops k w from end lt is low below rest = subst (λ ws. AreRising from (places_of ws) end) (sym (drop_at ops k w lt is)) (low, below, rest)
+rising_step ops k w from end lt is low below rest = subst (λ ws. AreRising from (places_of ws) end) (sym (drop_is_item_first ops k w lt is)) (low, below, rest)
 
 pub rising_end : (ops : List WaitAt) (k from end : ℕ) → length ops ≤ k → from ≤ end → AreRising from (places_of (drop k ops)) end
-rising_end ops k from end le low = subst (λ ws. AreRising from (places_of ws) end) (sym (drop_all ops k le)) low
+rising_end ops k from end le low = subst (λ ws. AreRising from (places_of ws) end) (sym (drop_all k ops le)) low
 
 abbrev pub row_at : List SyncRow → ℕ → SyncRow
 row_at rows c = unwrap_or (slice_get rows c) record { ops = []; length = 0 }

@@ -8,6 +8,7 @@ use Rattle.std.proofs.lemmas.Bool.Decides.{eqb_tells}
 use Rattle.std.proofs.lemmas.Fmt.{digits_decimal, decimal_nonempty}
 use Rattle.std.proofs.lemmas.Str.Parse.{not_in_digits}
 use Rattle.rc_base.specs.Lists.{IsIn, NoRepeat}
+use Rattle.plain_lemmas.proofs.Numbers.{decimal_numerals}
 use Rattle.command_line.specs.declared.job.OptionName.{OptionName}
 use Rattle.command_line.specs.Words.{Setting, IsSetting, option_of, setting_words, order_in}
 use Rattle.command_line.specs.declared.job.OptionName.TheVariants.{Tiles, Depth, Order, Seed, Size}
@@ -23,7 +24,6 @@ use Rattle.clap.proofs.OnLiterals.{clap_on_literals}
 use Rattle.clap.specs.declared.parser.matches.ValueSource.TheVariants.{CommandLine, DefaultValue}
 use Rattle.command_line.specs.App.{option_rule, rule_for, line_app}
 use Rattle.command_line.specs.Texts.{id_of, value_text, text_in, AreSettings}
-use Rattle.command_line.proofs.Numbers.{own}
 use Rattle.command_line.proofs.ClapRows.{new_row, fresh, row_in, row_other, row_own}
 use Rattle.command_line.proofs.ClapWords.{shape, rules, Got, with_got, Turn, Standing, nothing_stands, wanting, valued, HasValue, tiles_has_value, depth_has_value, seed_has_value, size_has_value, flag_turn, same_option, one_more}
 
@@ -46,7 +46,7 @@ no_hyphen (x ∷ xs) some n = record {
 
 number_is_plain : (n : ℕ) → n < 2 ^ 64 → IsPlain (decimal n)
 number_is_plain n small =
-    no_hyphen (decimal n) (decimal_nonempty n small) (not_in_digits own (decimal n) 45 (digits_decimal own n small) (λ h. omega arith) 0 (decimal_nonempty n small))
+    no_hyphen (decimal n) (decimal_nonempty n small) (not_in_digits decimal_numerals (decimal n) 45 (digits_decimal decimal_numerals n small) (λ h. omega arith) 0 (decimal_nonempty n small))
 
 more_is_plain : (t more : Text) → IsPlain t → IsPlain (t ++ more)
 more_is_plain t more p = record { first = p.first; others = p.others ++ more; is = ap (λ (u : Text). u ++ more) p.is; plain = p.plain }

@@ -54,14 +54,6 @@ row_own id (x ∷ xs) r h n = go (bytes_eq x.id id) n (row_own id xs r h)
     go true p ih = absurd cc
     go false p ih = ih p
 
-pub or_true : (b : Bool) → (b || true) ≡ true
-or_true true = refl
-or_true false = refl
-
-pub or_false : (b : Bool) → (b || false) ≡ b
-or_false true = refl
-or_false false = refl
-
 pub with_more : (a : Rule) (v : Text) (rows : List Row) → has_row a.id rows ≡ false
     → with_values a.id (reading_by a) CommandLine (v ∷ []) (without a.id rows) ≡ rows ++ new_row CommandLine a v ∷ []
 with_more a v rows h =

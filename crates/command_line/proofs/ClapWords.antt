@@ -2,6 +2,7 @@
 use Rattle.std.specs.Prelude.{◌≡◌, ℕ, ◌==◌, Bool, true, false, List, [], ◌∷◌, ◌++◌, Option, Some, None, codes, option_map, is_some, ◌||◌, if◌then◌else◌}
 use Rattle.std.proofs.Common.{refl, ap, subst, ◌∙◌}
 use Rattle.std.specs.Str.{bytes_eq}
+use Rattle.std.proofs.Math.Bool.{or-true, or-false}
 use Rattle.command_line.specs.declared.job.OptionName.{OptionName}
 use Rattle.command_line.specs.declared.job.OptionName.TheVariants.{Tiles, Depth, Order, Seed, Size}
 use Rattle.clap.specs.Walk.{Held, Row, Rule, Text, Walk, option, has_row, reading_by, with_values, without, walk_from, walked, settled, reacted, nothing_held}
@@ -11,7 +12,7 @@ use Rattle.clap.proofs.OnLiterals.{clap_on_literals}
 use Rattle.clap.specs.declared.parser.matches.ValueSource.TheVariants.{CommandLine}
 use Rattle.command_line.specs.App.{rule_for, line_app}
 use Rattle.command_line.specs.Texts.{id_of}
-use Rattle.command_line.proofs.ClapRows.{new_row, has_more, row_in, row_other, row_own, or_true, or_false, with_more}
+use Rattle.command_line.proofs.ClapRows.{new_row, has_more, row_in, row_other, row_own, with_more}
 
 -- ---- the command
 
@@ -164,8 +165,8 @@ one_more o h next got v s n clean uses =
   where
     has_now : (p : OptionName) (rows : List Row) (b : Bool) → has_row (id_of p) rows ≡ is_some (got p)
         → (has_row (id_of p) rows || b) ≡ is_some (if b then Some v else got p)
-    has_now p rows true h = or_true (has_row (id_of p) rows)
-    has_now p rows false h = or_false (has_row (id_of p) rows) ∙ h
+    has_now p rows true h = or-true (has_row (id_of p) rows)
+    has_now p rows false h = or-false (has_row (id_of p) rows) ∙ h
 
     row_now : (p : OptionName) (rows : List Row) (b : Bool) → bytes_eq (id_of o) (id_of p) ≡ b → has_row (id_of o) rows ≡ false
         → row_in (id_of p) rows ≡ option_map (new_row CommandLine (filled (rule_for p))) (got p)

@@ -8,14 +8,12 @@ use Rattle.std.specs.Result.{result_ok}
 use Rattle.std.proofs.Common.{Result}
 use Rattle.std.specs.Str.{all_ascii_digits}
 use Rattle.std.specs.Fmt.{decimal}
-use Rattle.std.specs.Str.Parse.{digits_value, ParsesUnsigned}
-use Rattle.std.proofs.lemmas.Str.Parse.{parse_digits, numerals_by_value, tells_all_ascii_digits, IsNumeralModel, not_in_digits}
+use Rattle.std.specs.Str.Parse.{ParsesUnsigned}
+use Rattle.std.proofs.lemmas.Str.Parse.{parse_digits, not_in_digits}
 use Rattle.std.proofs.lemmas.Fmt.{decimal-digits_value, parse-decimal, digits_decimal, decimal_nonempty, first_decimal, decimal_digit, decimal_injective}
 use Rattle.std.proofs.lemmas.Str.Pattern.{IsSplitOnceResult, split_after}
+use Rattle.plain_lemmas.proofs.Numbers.{decimal_numerals}
 use Rattle.command_line.specs.Values.{is_plain}
-
-pub own : IsNumeralModel (λ ds. all_ascii_digits ds ≡ true) (digits_value 10)
-own = numerals_by_value _ tells_all_ascii_digits
 
 both_left : (a b : Bool) → a && b ≡ true → a ≡ true
 both_left true b h = refl
@@ -48,8 +46,8 @@ plain_zero (c ∷ d ∷ cs) h z =
 
 number_ok : (E : Type 0) (bs : List ℕ) (n : ℕ) → ParsesUnsigned {E = E} 64 10 bs (Ok n) → is_plain bs ≡ true → bs ≡ decimal n
 number_ok E bs n h p =
-    let k = parse_digits own {E = E} 64 bs (Ok n) h (plain_digits bs p) in
-    sym (decimal-digits_value own bs (plain_digits bs p) (plain_some bs p) (plain_zero bs p) k.0.1) ∙ ap decimal (sym k.1)
+    let k = parse_digits decimal_numerals {E = E} 64 bs (Ok n) h (plain_digits bs p) in
+    sym (decimal-digits_value decimal_numerals bs (plain_digits bs p) (plain_some bs p) (plain_zero bs p) k.0.1) ∙ ap decimal (sym k.1)
 
 number_err : (E : Type 0) (bs : List ℕ) (e : E) → ParsesUnsigned {E = E} 64 10 bs (Err e) → (n : ℕ) → n < 2 ^ 64 → bs ≡ decimal n → ⊥
 number_err E bs e h n small is =
@@ -79,11 +77,11 @@ first_text (suc n) small z =
     absurd (omega arith)
 
 pub decimal_plain : (n : ℕ) → n < 2 ^ 64 → is_plain (decimal n) ≡ true
-decimal_plain n small = plain_text (decimal n) (digits_decimal own n small) (decimal_nonempty n small) (first_text n small)
+decimal_plain n small = plain_text (decimal n) (digits_decimal decimal_numerals n small) (decimal_nonempty n small) (first_text n small)
 
 -- a number's text has no `x`
 pub no_x : (n : ℕ) → n < 2 ^ 64 → (i : ℕ) → i < length (decimal n) → get_or (decimal n) i 0 ≢ 120
-no_x n small = not_in_digits own (decimal n) 120 (digits_decimal own n small) (λ h. omega arith)
+no_x n small = not_in_digits decimal_numerals (decimal n) 120 (digits_decimal decimal_numerals n small) (λ h. omega arith)
 
 pub no_tiles : (bs : List ℕ) → IsSplitOnceResult 120 bs None → (c r : ℕ) → c < 2 ^ 64 → r < 2 ^ 64 → bs ≡ decimal c ++ (120 ∷ decimal r) → ⊥
 no_tiles bs h c r small small' e = split_after 120 bs (decimal c) (decimal r) None h (omega arith) e (no_x c small)

@@ -1,20 +1,14 @@
 -- Counting one element more.
-use Rattle.std.proofs.Common.{◌≡◌, ℕ, zero, suc, ◌+◌, Bool, List, [], ◌∷◌, ◌++◌, cond, refl, ap, ◌∙◌, arith}
+use Rattle.std.proofs.Common.{◌≡◌, ℕ, ◌+◌, Bool, [], ◌∷◌, ◌++◌, cond, ap, ◌∙◌, arith}
 use Rattle.std.specs.Prelude.{count_by, not, slice_index_or}
 use Rattle.std.specs.List.{range_with_len}
 use Rattle.std.proofs.lemmas.List.Sums.{sum_by-append}
 use Rattle.rc_base.specs.Contexts.Elements.{values_of, same_value, no_image}
 use Rattle.rc_base.specs.declared.state.State.{State}
+use Rattle.plain_lemmas.proofs.Ranges.{range_more}
 
 abbrev pub differs : State → State → ℕ → Bool
 differs a b e = not (same_value (slice_index_or (values_of a) e no_image) (slice_index_or (values_of b) e no_image))
-
-range_more : (a n : ℕ) → range_with_len a (n + 1) ≡ range_with_len a n ++ (a + n) ∷ []
-range_more a zero = let e : a + 0 ≡ a = omega arith in rw e refl
-range_more a (suc n) =
-    let e : (a + 1) + n ≡ a + suc n = omega arith in
-    let k : suc n + 1 ≡ suc (n + 1) = omega arith in
-    rw k (ap (λ (l : List ℕ). a ∷ l) (range_more (a + 1) n ∙ ap (λ (k : ℕ). range_with_len (a + 1) n ++ k ∷ []) e))
 
 from_zero : (k : ℕ) → 0 + k ≡ k
 from_zero k = omega arith

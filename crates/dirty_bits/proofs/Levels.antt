@@ -9,9 +9,10 @@ use Rattle.std.proofs.lemmas.List.{get_or-set_same, get_or-set_other}
 use Rattle.std.proofs.lemmas.List.Sums.{sum_by-cons, sum_by_more}
 use Rattle.std.proofs.lemmas.Nat.Bits.{bit_at_ones, bit_at-zero, bit_at_clear_same, bit_at_clear_other}
 use Rattle.rc_base.specs.Contexts.Elements.{element_count, group_sizes}
+use Rattle.plain_lemmas.proofs.Ranges.{any_in_range, any_same_in_range}
 use Rattle.dirty_bits.specs.Bits.{is_dirty, is_group_dirty, is_any_dirty, IsHierarchy}
 use Rattle.element_table.specs.Groups.{group_start}
-use Rattle.dirty_bits.proofs.Ranges.{none_any, some_at, same_any, fewer_any, parts_together}
+use Rattle.dirty_bits.proofs.Ranges.{none_any, fewer_any, parts_together}
 
 -- ---- words
 
@@ -109,7 +110,7 @@ marked_hierarchy elements groups top e g count nine is h = record {
   of_groups = λ k s lt low. marked_is groups g k s (omega (arith, nine, is.group)) low ∙ by k s lt low (k == g) refl;
   of_top = λ s low.
       ap (λ (n : ℕ). n == 1) (bit_at_ones 32 s low)
-      ∙ sym (some_at (λ i. is_dirty new i s) 0 element_count e (omega arith) (omega (arith, in_all)) (here s low));
+      ∙ sym (any_in_range (λ i. is_dirty new i s) 0 element_count e (omega arith) (omega (arith, in_all)) (here s low));
 }
   where
     new : List ℕ
@@ -124,10 +125,10 @@ marked_hierarchy elements groups top e g count nine is h = record {
     by : (k s : ℕ) → k < length group_sizes → s < 32 → (b : Bool) → (k == g) ≡ b → (b || is_dirty groups k s) ≡ is_group_dirty new k s
     by k s lt low true same =
         let j : k ≡ g = eqb-true k g same in
-        sym (ap (λ (n : ℕ). is_group_dirty new n s) j ∙ some_at (λ i. is_dirty new i s) (group_start g) (slice_index group_sizes g) e is.low is.high (here s low))
+        sym (ap (λ (n : ℕ). is_group_dirty new n s) j ∙ any_in_range (λ i. is_dirty new i s) (group_start g) (slice_index group_sizes g) e is.low is.high (here s low))
     by k s lt low false other =
         h.of_groups k s lt low
-        ∙ same_any (λ i. is_dirty elements i s) (λ i. is_dirty new i s) (group_start k) (slice_index group_sizes k)
+        ∙ any_same_in_range (λ i. is_dirty elements i s) (λ i. is_dirty new i s) (group_start k) (slice_index group_sizes k)
         (λ i from to. sym (marked_is elements e i s (omega (arith, count, in_all)) low ∙ ap (λ b. b || is_dirty elements i s) (apart i from to)))
       where
         apart : (i : ℕ) → group_start k ≤ i → i < group_start k + slice_index group_sizes k → (i == e) ≡ false
@@ -185,7 +186,7 @@ module _ (old new : List ℕ) (e server : ℕ) (c : IsCleared old new e server) 
           (fewer_any (λ k. is_dirty old k s) (λ k. is_dirty new k s) a n all)
       by false other =
           ap (λ y. (bit_at word s == 1) && y) (or-true stays) ∙ and-true (bit_at word s == 1) ∙ was
-          ∙ same_any (λ k. is_dirty old k s) (λ k. is_dirty new k s) a n
+          ∙ any_same_in_range (λ k. is_dirty old k s) (λ k. is_dirty new k s) a n
           (λ k from to. sym (c.bits k s low ∙ ap (λ b. is_dirty old k s && not (k == e && b)) other ∙ ap (λ b. is_dirty old k s && not b) (and-false (k == e)) ∙ and-true (is_dirty old k s)))
 
   pub cleared_groups : (groups : List ℕ) (top g word : ℕ) (stays : Bool) → server < 32 → length groups ≡ length group_sizes → IsInGroup e g
@@ -201,7 +202,7 @@ module _ (old new : List ℕ) (e server : ℕ) (c : IsCleared old new e server) 
           ∙ ap (λ (n : ℕ). is_group_dirty new n s) (sym j)
       by false other =
           h.of_groups k s room low
-          ∙ same_any (λ i. is_dirty old i s) (λ i. is_dirty new i s) (group_start k) (slice_index group_sizes k)
+          ∙ any_same_in_range (λ i. is_dirty old i s) (λ i. is_dirty new i s) (group_start k) (slice_index group_sizes k)
           (λ i from to. sym (c.bits i s low ∙ ap (λ b. is_dirty old i s && not (b && s == server)) (apart i from to) ∙ and-true (is_dirty old i s)))
         where
           apart : (i : ℕ) → group_start k ≤ i → i < group_start k + slice_index group_sizes k → (i == e) ≡ false
@@ -224,6 +225,6 @@ module _ (old new : List ℕ) (e server : ℕ) (c : IsCleared old new e server) 
     where
       all : list_any (λ k. is_dirty (slice_set groups g word) k server) (range_with_len 0 (length group_sizes)) ≡ is_any_dirty new server
       all =
-          same_any (λ k. is_dirty (slice_set groups g word) k server) (λ k. is_group_dirty new k server) 0 (length group_sizes)
+          any_same_in_range (λ k. is_dirty (slice_set groups g word) k server) (λ k. is_group_dirty new k server) 0 (length group_sizes)
           (λ k from to. cleared_groups groups top g word stays lt nine is h l still k server (omega (arith, to)) lt)
           ∙ groups_together new server

@@ -3,9 +3,9 @@ use Rattle.std.proofs.Common.{◌≡◌, ℕ, zero, suc, ◌+◌, ◌-◌, ◌<�
 use Rattle.std.specs.Prelude.{nat_eq, nat_lt, sum}
 use Rattle.std.specs.List.{range_with_len, list_any}
 use Rattle.std.proofs.lemmas.Bool.{cases_lt, le-ltb, lt-ltb, or_parts, or_cases, or_left, or_right}
-use Rattle.std.proofs.lemmas.List.FromFn.{length-range_with_len, get_or-range_with_len}
 use Rattle.std.proofs.lemmas.List.Sums.{sum_by-cons}
-use Rattle.std.proofs.lemmas.List.Folds.{list_any_at, list_any-append}
+use Rattle.std.proofs.lemmas.List.Folds.{list_any-append}
+use Rattle.plain_lemmas.proofs.Ranges.{any_in_range}
 
 -- a range is one of its first numbers, and one of the others
 pub range_split : (a n m : ℕ) → range_with_len a (n + m) ≡ range_with_len a n ++ range_with_len (a + n) m
@@ -20,14 +20,6 @@ range_split a (suc n) m =
 
 pub any_split : (f : ℕ → Bool) (a n m : ℕ) → list_any f (range_with_len a (n + m)) ≡ (list_any f (range_with_len a n) || list_any f (range_with_len (a + n) m))
 any_split f a n m = ap (list_any f) (range_split a n m) ∙ list_any-append f (range_with_len a n) (range_with_len (a + n) m)
-
--- one that passes
-pub some_at : (f : ℕ → Bool) (a n k : ℕ) → a ≤ k → k < a + n → f k ≡ true → list_any f (range_with_len a n) ≡ true
-some_at f a n k low high passes =
-    let within : k - a < n = omega (arith, low, high) in
-    let here : a + (k - a) ≡ k = omega (arith, low) in
-    list_any_at f (range_with_len a n) (k - a) 0 (omega (arith, within, length-range_with_len a n))
-    (ap f (get_or-range_with_len a n (k - a) 0 within ∙ here) ∙ passes)
 
 -- where none passes, each fails
 pub none_at : (f : ℕ → Bool) (a n k : ℕ) → list_any f (range_with_len a n) ≡ false → a ≤ k → k < a + n → f k ≡ false
@@ -45,13 +37,6 @@ none_any f a zero none = refl
 none_any f a (suc n) none =
     ap₂ (λ (x y : Bool). x || y) (none a (omega arith) (omega arith))
     (none_any f (a + 1) n (λ k low high. none k (omega (arith, low)) (omega (arith, high))))
-
--- two tests that agree on the range
-pub same_any : (f g : ℕ → Bool) (a n : ℕ) → ((k : ℕ) → a ≤ k → k < a + n → f k ≡ g k) → list_any f (range_with_len a n) ≡ list_any g (range_with_len a n)
-same_any f g a zero same = refl
-same_any f g a (suc n) same =
-    ap₂ (λ (x y : Bool). x || y) (same a (omega arith) (omega arith))
-    (same_any f g (a + 1) n (λ k low high. same k (omega (arith, low)) (omega (arith, high))))
 
 -- where the second passes only numbers that the first passes
 pub fewer_any : (f g : ℕ → Bool) (a n : ℕ) → ((k : ℕ) → g k ≡ true → f k ≡ true) → list_any g (range_with_len a n) ≡ true → list_any f (range_with_len a n) ≡ true
@@ -85,6 +70,6 @@ parts_together f a (n ∷ ns) =
 -- a number is one of the first ones
 pub any_number : (e n : ℕ) → list_any (nat_eq e) (range_with_len 0 n) ≡ nat_lt e n
 any_number e n = elim (cases_lt e n) [
-  | inl less ↦ some_at (nat_eq e) 0 n e (omega arith) (omega (arith, less)) (eq-eqb e e refl) ∙ sym (lt-ltb e n less)
+  | inl less ↦ any_in_range (nat_eq e) 0 n e (omega arith) (omega (arith, less)) (eq-eqb e e refl) ∙ sym (lt-ltb e n less)
   | inr more ↦ none_any (nat_eq e) 0 n (λ k from to. ne_eqb e k (λ same. omega (arith, same, to, more))) ∙ sym (le-ltb e n more)
 ]

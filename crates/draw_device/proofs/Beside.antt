@@ -1,5 +1,5 @@
 -- A triangle that lies beside the part draws nothing.
-use Rattle.std.proofs.Common.{◌≡◌, ◌⊎◌, ℕ, inl, inr, List, Some, None, refl, sym}
+use Rattle.std.proofs.Common.{◌≡◌, ℕ, List, Some, None, refl, sym}
 use Rattle.std.specs.declared.option.Option.{Option}
 use Rattle.rc_base.specs.Pictures.{Picture}
 use Rattle.rc_base.specs.Drawing.Kept.{kept_whole}
@@ -8,22 +8,16 @@ use Rattle.rc_base.specs.declared.state.Vertex.{Vertex}
 use Rattle.rc_base.specs.declared.window.Pixel.{Pixel}
 use Rattle.rc_base.specs.declared.window.Rect.{Rect}
 use Rattle.rc_base.specs.declared.window.WindowVertex.{WindowVertex}
-use Rattle.geometry.specs.Beside.{AreSurrounds, AreBeside, IsBesideIfKept}
+use Rattle.geometry.specs.Beside.{AreSurrounds, IsBesideIfKept}
 use Rattle.geometry.specs.declared.near.Surrounds.{Surrounds}
-use Rattle.geometry.proofs.Outside.{not_between}
 use Rattle.raster.specs.Between.{CoverLiesInBounds}
-use Rattle.raster.proofs.Beside.{AreNotBetween, beside_empty}
+use Rattle.raster.proofs.Beside.{beside_empty}
 use Rattle.raster.specs.Clips.{IsPartWhere, is_let_through}
+use Rattle.geometry.proofs.Outside.{beside_part}
 use Rattle.draw_device.specs.Shapes.{grid_rect, corners_step, IsStepped}
 use Rattle.draw_device.specs.declared.extent.Extent.{Extent}
 use Rattle.draw_device.proofs.BlockPixels.{kept_steps}
 use Rattle.draw_device.proofs.ColumnsToPixels.{missed}
-
--- where all corners lie on one side of the part's centres, no centre lies between them
-beside_part : (near : Surrounds) (part : Rect) (v : List WindowVertex) → AreSurrounds part near → AreBeside near v
-    → AreNotBetween v (λ (a : WindowVertex). a.x) part.x0 part.x1 ⊎ AreNotBetween v (λ (a : WindowVertex). a.y) part.y0 part.y1
-beside_part near part v n (inl h) = inl (λ p low high b. not_between _ _ _ part.x0 part.x1 near.left near.right p n.left n.right h low high b.0 b.1)
-beside_part near part v n (inr h) = inr (λ p low high b. not_between _ _ _ part.y0 part.y1 near.bottom near.top p n.bottom n.top h low high b.0 b.1)
 
 -- three vertices whose triangle isn't kept
 none_steps : (s : State) (picture : Option Picture) (vs : List Vertex) (t : List ℕ) (g : Extent) (old : List Pixel)

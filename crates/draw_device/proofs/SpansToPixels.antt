@@ -2,6 +2,7 @@
 use Rattle.std.proofs.Common.{◌≡◌, ℕ, ◌+◌, ◌*◌, ◌<◌, ◌≤◌, ℤ, pos, ◌+ℤ◌, ◌≤ℤ◌, ◌<ℤ◌, Bool, true, false, ◌&&◌, arith, List, Option, ◌⊎◌, inl, inr, refl, sym, ◌∙◌, ap, subst, int_eq}
 use Rattle.std.proofs.lemmas.Int.{ints, by_lt_z}
 use Rattle.std.proofs.lemmas.Bool.Decides.{Decides-int_eq}
+use Rattle.std.proofs.Math.Bool.{and-false}
 use Rattle.rc_base.specs.Pictures.{Picture}
 use Rattle.rc_base.specs.Cluster.Tiles.{is_in_rect}
 use Rattle.rc_base.specs.Drawing.Cover.{is_inside, is_in_scissor, covers}
@@ -12,7 +13,6 @@ use Rattle.rc_base.specs.declared.window.Span.{Span}
 use Rattle.rc_base.specs.declared.window.Rect.{Rect}
 use Rattle.rc_base.specs.declared.window.Pixel.{Pixel}
 use Rattle.raster.specs.Spans.{in_span, IsNextSpan, IsRowSpan, AreEmptyRows}
-use Rattle.plain_lemmas.proofs.Booleans.{and_false}
 use Rattle.plain_lemmas.proofs.Places.{next_row}
 use Rattle.scene_lemmas.proofs.Rectangles.{inside_rect}
 use Rattle.draw_device.specs.Pixels.{pixel_at}
@@ -145,7 +145,7 @@ module _ (s : State) (picture : Option Picture) (v : List WindowVertex) (g : Ext
   pub cut_off : (i j : ℕ) → i < g.width → j < g.height → is_in_rect part (column_at g i) (row_at g j) ≡ false → (o : Pixel)
       → covered_step s picture v (column_at g i) (row_at g j) o ≡ o
   unfolding covered_step
-  cut_off i j hi hj e o = rw (covers_is s v g part i j p hi hj, e, and_false (is_inside v (column_at g i) (row_at g j))) refl
+  cut_off i j hi hj e o = rw (covers_is s v g part i j p hi hj, e, and-false (is_inside v (column_at g i) (row_at g j))) refl
 
   pub uncovered : (i j : ℕ) → i < g.width → j < g.height → is_inside v (column_at g i) (row_at g j) ≡ false → (o : Pixel)
       → covered_step s picture v (column_at g i) (row_at g j) o ≡ o

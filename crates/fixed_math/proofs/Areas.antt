@@ -3,9 +3,12 @@ use Rattle.std.proofs.Common.{◌*ℤ◌, ◌-ℤ◌, ℤ, arith, List, ◌^◌}
 use Rattle.std.proofs.lemmas.Int.{ints}
 use Rattle.rc_base.specs.Numbers.{Within}
 use Rattle.rc_base.specs.Drawing.Cover.{corner, triangle_area, AreInBounds}
+use Rattle.rc_base.specs.Drawing.Window.{place_bound}
 use Rattle.rc_base.specs.declared.window.WindowVertex.{WindowVertex}
-use Rattle.scene_lemmas.proofs.Triangles.{delta_within}
 use Rattle.fixed_math.proofs.Signed.{product_within}
+
+pub delta_within : (b a : ℤ) → Within place_bound b → Within place_bound a → Within (2 ^ 21) (b -ℤ a)
+delta_within b a h k = let p = h.0 in let q = h.1 in let r = k.0 in let s = k.1 in (omega (arith, ints), omega (arith, ints))
 
 sub_within : (p q : ℤ) → Within (2 ^ 42) p → Within (2 ^ 42) q → Within (2 ^ 44) (p -ℤ q)
 sub_within p q h k = let a = h.0 in let b = h.1 in let c = k.0 in let d = k.1 in (omega (arith, ints), omega (arith, ints))

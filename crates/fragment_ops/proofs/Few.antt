@@ -1,21 +1,17 @@
 -- The steps of states with few stages.
 use Rattle.std.proofs.Common.{◌≡◌, ℕ, ◌/◌, ◌%◌, true, false, List, refl, arith, ap, sym, ◌∙◌, slice_index, slice_index_or, not, Bool, ◌&&◌, ◌==◌, if◌then◌else◌}
-use Rattle.std.proofs.lemmas.Bool.{and_parts}
+use Rattle.std.proofs.lemmas.Bool.{and_parts, eqb-true, not-true}
+use Rattle.std.proofs.Math.Bool.{and-false}
 use Rattle.rc_base.specs.Colors.{rgba, prod}
 use Rattle.rc_base.specs.Drawing.PixelStep.{shaded, passes_alpha, passes_depth, written_color, cleared, cleared_depth}
 use Rattle.rc_base.specs.declared.command.Rgba.{Rgba}
 use Rattle.rc_base.specs.declared.state.State.{State}
 use Rattle.rc_base.specs.declared.window.Pixel.{Pixel}
-use Rattle.plain_lemmas.proofs.Booleans.{and_false}
 use Rattle.fragment_ops.specs.Shortcuts.{writes_all, writes_plainly, stores_alone, blends_by, color_over, color_sum}
 use Rattle.fragment_ops.specs.DepthTests.{passes, IsDepthTest, tested_pixel}
 use Rattle.fragment_ops.specs.Clearings.{IsClearing, cleared_by, writes_pixel}
 use Rattle.fragment_ops.specs.declared.depth.DepthTest.{DepthTest}
 use Rattle.fragment_ops.specs.declared.clear.Clearing.{Clearing}
-
-off : (a : Bool) → not a ≡ true → a ≡ false
-off false h = refl
-off true h = absurd (cc h)
 
 flags_on : (flags : List Bool) → writes_all flags ≡ true
     → (slice_index_or flags 0 false ≡ true) × (slice_index_or flags 1 false ≡ true) × (slice_index_or flags 2 false ≡ true) × (slice_index_or flags 3 false ≡ true)
@@ -25,9 +21,6 @@ flags_on flags h =
     let r = and_parts (slice_index_or flags 2 false) _ q.1 in
     (p.0, q.0, r.0, r.1)
 
-same : (x n : ℕ) → (x == n) ≡ true → x ≡ n
-same x n h = grind arith
-
 -- ---- colours
 
 pub plain_is : (s : State) (c old : Rgba) → writes_plainly s ≡ true → written_color s c old ≡ c
@@ -35,7 +28,7 @@ unfolding writes_plainly
 plain_is s c old h =
     let b = and_parts (not s.blend_on) (writes_all s.color_mask) h in
     let m = flags_on s.color_mask b.1 in
-    rw (off s.blend_on b.0, m.0, m.1, m.2, m.3) refl
+    rw (not-true s.blend_on b.0, m.0, m.1, m.2, m.3) refl
 
 -- what blending by two factors says of a state
 record IsBlended (source stored : ℕ) (s : State) : Type 0 where
@@ -54,8 +47,8 @@ blended_by source stored s h =
     record {
       blend = b.0;
       flags = flags_on s.color_mask w.0;
-      first = same (slice_index s.blend 0) source d.0;
-      second = same (slice_index s.blend 1) stored d.1;
+      first = eqb-true (slice_index s.blend 0) source d.0;
+      second = eqb-true (slice_index s.blend 1) stored d.1;
     }
 
 pub over_is : (s : State) (c old : Rgba) → blends_by 6 7 s ≡ true → color_over c old ≡ written_color s c old
@@ -100,7 +93,7 @@ pub kept_is : (s : State) (t : DepthTest) (c : Rgba) (depth stored : ℕ) (old :
 unfolding shaded
 kept_is s t c depth stored old p h d =
     let fails : passes_depth s depth old.depth ≡ false = sym (p.passes depth old.depth) ∙ ap (λ (n : ℕ). passes t depth n) d ∙ h in
-    rw (fails, and_false (passes_alpha s c.a)) refl
+    rw (fails, and-false (passes_alpha s c.a)) refl
 
 stored_is : (s : State) (c color : Rgba) (depth : ℕ) (old : Pixel) → s.alpha_on ≡ false → s.depth_on ≡ false → color ≡ written_color s c old.color
     → record { color = color; depth = old.depth } ≡ shaded s c depth old
@@ -112,7 +105,7 @@ unfolding stores_alone
 alone_is s c depth old h =
     let e = and_parts (not s.depth_on) (not s.alpha_on && writes_plainly s) h in
     let a = and_parts (not s.alpha_on) (writes_plainly s) e.1 in
-    sym (stored_is s c c depth old (off s.alpha_on a.0) (off s.depth_on e.0) (sym (plain_is s c old.color a.1)))
+    sym (stored_is s c c depth old (not-true s.alpha_on a.0) (not-true s.depth_on e.0) (sym (plain_is s c old.color a.1)))
 
 -- ---- Clear
 

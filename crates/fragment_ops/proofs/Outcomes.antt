@@ -1,10 +1,7 @@
 -- Comparisons by the outcomes that pass.
-use Rattle.std.proofs.Common.{◌≡◌, ℕ, ◌||◌, ◌==◌, not, nat_lt, nat_le, Bool, true, false, arith, refl}
+use Rattle.std.proofs.Common.{◌≡◌, ℕ, ◌==◌, not, nat_lt, nat_le, Bool, true, false, arith, refl}
+use Rattle.std.proofs.Math.Bool.{or-false}
 use Rattle.fragment_ops.specs.DepthTests.{passes}
-
-or_false : (x : Bool) → (x || false) ≡ x
-or_false true = refl
-or_false false = refl
 
 pub none_is : (stores : Bool) (a b : ℕ) → passes (record { below = false; equal = false; above = false; stores = stores }) a b ≡ false
 unfolding passes
@@ -12,11 +9,11 @@ none_is stores a b = refl
 
 pub less_is : (stores : Bool) (a b : ℕ) → passes (record { below = true; equal = false; above = false; stores = stores }) a b ≡ nat_lt a b
 unfolding passes
-less_is stores a b = or_false (nat_lt a b)
+less_is stores a b = or-false (nat_lt a b)
 
 pub equal_is : (stores : Bool) (a b : ℕ) → passes (record { below = false; equal = true; above = false; stores = stores }) a b ≡ (a == b)
 unfolding passes
-equal_is stores a b = or_false (a == b)
+equal_is stores a b = or-false (a == b)
 
 pub at_most_is : (stores : Bool) (a b : ℕ) → passes (record { below = true; equal = true; above = false; stores = stores }) a b ≡ nat_le a b
 unfolding passes

@@ -1,6 +1,6 @@
 -- What a call of the assembler takes stands behind what was taken before.
 use Rattle.std.proofs.Common.{◌≡◌, ℕ, suc, zero, List, [], ◌∷◌, ◌++◌, Some, None, refl, sym, ap, ◌∙◌, append-nil}
-use Rattle.std.specs.Prelude.{map, option_to_list, replicate, slice_get}
+use Rattle.std.specs.Prelude.{map, option_to_list, slice_get}
 use Rattle.std.specs.List.{AllByRecursion}
 use Rattle.std.specs.declared.option.Option.{Option}
 use Rattle.std.proofs.lemmas.Grind.{flat_map-append}
@@ -22,11 +22,6 @@ pub place_is : (parts : List TilePart) (tile : ℕ) → in_place (map Some parts
 place_is [] tile = refl
 place_is (p ∷ parts) zero = refl
 place_is (p ∷ parts) (suc tile) = place_is parts tile
-
-pub none_in : (n tile : ℕ) → in_place (replicate n None) tile ≡ None
-none_in zero tile = refl
-none_in (suc n) zero = refl
-none_in (suc n) (suc tile) = none_in n tile
 
 pub parts_more : (frames : List (List TilePart)) (parts : List TilePart) (tile : ℕ) → parts_in (frames ++ parts ∷ []) tile ≡ parts_in frames tile ++ option_to_list (slice_get parts tile)
 parts_more frames parts tile =

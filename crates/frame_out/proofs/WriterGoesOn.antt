@@ -20,6 +20,7 @@ use Rattle.assembler.specs.Parts.{picture, shown, ArePartsOf}
 use Rattle.assembler.specs.Places.{in_place, AreFound, IsFound, IsTaken}
 use Rattle.assembler.specs.declared.places.Assembler.{Assembler}
 use Rattle.ppm_out.specs.Pictures.{IsWholeImage}
+use Rattle.assembler.proofs.Waiting.{none_in}
 use Rattle.frame_out.specs.Laws.{NewWritersAreOnTheWay}
 use Rattle.rc_base.specs.Cluster.Lanes.{EachLane, Follows}
 use Rattle.frame_out.specs.OnTheWay.{parts_in, GaveFrames, GaveText, GivesOne, HasWritten, IsMissing, IsOnTheWay}
@@ -27,7 +28,7 @@ use Rattle.frame_out.specs.Windows.{IsWindow}
 use Rattle.frame_out.specs.Writing.{HasGiven, IsCounted}
 use Rattle.frame_out.specs.declared.on_the_way.FrameWriter.{FrameWriter}
 use Rattle.frame_out.specs.declared.writing.Written.{Written}
-use Rattle.frame_out.proofs.PartsTaken.{all_more, found_grows, map_more, none_in, parts_more, place_is}
+use Rattle.frame_out.proofs.PartsTaken.{all_more, found_grows, map_more, parts_more, place_is}
 use Rattle.frame_out.proofs.Texts.{texts_short}
 use Rattle.frame_out.proofs.Writable.{pixels_whole}
 use Rattle.frame_out.proofs.WrittenMore.{used}

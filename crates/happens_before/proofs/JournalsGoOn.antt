@@ -21,6 +21,7 @@ use Rattle.order_model.proofs.UnitsInTurn.{unit_reached}
 use Rattle.plain_lemmas.proofs.Lists.{get_in_front, get_behind}
 use Rattle.scene_lemmas.proofs.Numbered.{is_in_behind}
 use Rattle.order_model.proofs.JournalsInTurn.{entries_append}
+use Rattle.order_model.proofs.NamesInTurn.{at_in}
 use Rattle.happens_before.specs.Before.{IsBefore}
 use Rattle.happens_before.specs.Before.IsBefore.{Next, Then}
 use Rattle.happens_before.specs.Clocks.{AtMost, counts_to, up_to, raised, only, AreClocks}
@@ -179,13 +180,8 @@ pub whole_client : (syncs : SyncLists) (js : List Entry) (e : Entry) (more : Lis
 whole_client syncs js e more well c j h =
     (all_at (IsReached syncs (reach_of syncs (js ++ e ∷ more))) (placed_in syncs js e) (entries_of syncs (js ++ e ∷ more)) (all_reached syncs (js ++ e ∷ more) well) (in_whole syncs js e more) c j h).0
 
-get_in : (xs : List Name) (k : ℕ) (x : Name) → slice_get xs k ≡ Some x → IsIn x xs
-get_in [] k x e = absurd cc
-get_in (y ∷ xs) zero x e = inl cc
-get_in (y ∷ xs) (suc k) x e = inr (get_in xs k x e)
-
 giver_reached : (syncs : SyncLists) (js : List Entry) → IsWellFormed syncs → (k q : ℕ) (g : Name) → slice_get (givers k (entries_of syncs js)) q ≡ Some g → g.place < reach_of syncs js g.client
-giver_reached syncs js well k q g h = unit_reached true k syncs (reach_of syncs js) (entries_of syncs js) (all_reached syncs js well) g (get_in (givers k (entries_of syncs js)) q g h)
+giver_reached syncs js well k q g h = unit_reached true k syncs (reach_of syncs js) (entries_of syncs js) (all_reached syncs js well) g (at_in (givers k (entries_of syncs js)) q g h)
 
 -- the operations of the entries so far lie below each client's next one
 pub are_below : (syncs : SyncLists) (js : List Entry) → IsWellFormed syncs → AreBelow (entries_of syncs js) (reach_of syncs js)

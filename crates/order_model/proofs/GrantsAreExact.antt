@@ -1,6 +1,6 @@
 -- The book grants a lawful entry, and none exactly where none is lawful.
 use Rattle.std.proofs.Common.{◌≡◌, ◌≢◌, ℕ, zero, suc, ◌+◌, ◌^◌, ◌<◌, ◌≤◌, ◌==◌, ◌&&◌, min, nat_lt, nat_le, Bool, true, false, cond, ◌⊎◌, ◌↔◌, Option, Some, None, List, length, bit_or, inl, inr, refl, sym, ap, ◌∙◌, subst, arith, lt-ltb, ltb-true, le-leb, leb-true, eq-eqb, true≢false, eqb-true, ne_eqb, pow-suc}
-use Rattle.std.proofs.lemmas.Bool.{cases_lt, eqb-false, cases_Bool, and_parts, and_from}
+use Rattle.std.proofs.lemmas.Bool.{cases_lt, eqb-false, cases_Bool, and_parts, and_from, and_left, and_right}
 use Rattle.std.proofs.lemmas.Nat.{or_lt}
 use Rattle.std.proofs.lemmas.Nat.Bits.{bit_at_or, bit_at-pow_same, bit_at-pow_other, bit_at_above, bit_at-zero, bit_at-lt}
 use Rattle.std.proofs.lemmas.Option.{slice_get_within}
@@ -102,14 +102,6 @@ lowest_yes passes k n t = ap (λ b. cond b (bit_or (lowest passes k n) (2 ^ n)) 
 lowest_not : (passes : ℕ → Bool) (k n : ℕ) → (passes n && nat_lt (how_many (has (lowest passes k n)) n) k) ≡ false → lowest passes k (suc n) ≡ lowest passes k n
 lowest_not passes k n t = ap (λ b. cond b (bit_or (lowest passes k n) (2 ^ n)) (lowest passes k n)) t
 
-false_and : (a b : Bool) → a ≡ false → (a && b) ≡ false
-false_and true b h = absurd (true≢false h)
-false_and false b h = refl
-
-and_false : (a b : Bool) → b ≡ false → (a && b) ≡ false
-and_false true b h = h
-and_false false b h = refl
-
 lowest_count : (passes : ℕ → Bool) (k n : ℕ) → how_many (has (lowest passes k n)) n ≡ min k (how_many passes n)
 lowest_count passes k zero = omega arith
 lowest_count passes k (suc n) =
@@ -124,9 +116,9 @@ lowest_count passes k (suc n) =
             ap (λ m. how_many (has m) (suc n)) (lowest_yes passes k n (and_from _ _ p t)) ∙ below_yes (bit_or low (2 ^ n)) n (has_same low n) ∙ omega (arith, same, h, more_yes passes n p)
         | inr f ↦
             let ge : k ≤ how_many (has low) n = elim (cases_lt (how_many (has low) n) k) [ inl lt ↦ absurd (true≢false (sym (lt-ltb (how_many (has low) n) k lt) ∙ f)) | inr le ↦ le ] in
-            ap (λ m. how_many (has m) (suc n)) (lowest_not passes k n (and_false (passes n) _ f)) ∙ below_not low n past ∙ omega (arith, h, more_yes passes n p)
+            ap (λ m. how_many (has m) (suc n)) (lowest_not passes k n (and_right (passes n) _ f)) ∙ below_not low n past ∙ omega (arith, h, more_yes passes n p)
       ]
-      | inr q ↦ ap (λ m. how_many (has m) (suc n)) (lowest_not passes k n (false_and _ (nat_lt (how_many (has low) n) k) q)) ∙ below_not low n past ∙ omega (arith, h, more_not passes n q)
+      | inr q ↦ ap (λ m. how_many (has m) (suc n)) (lowest_not passes k n (and_left _ (nat_lt (how_many (has low) n) k) q)) ∙ below_not low n past ∙ omega (arith, h, more_not passes n q)
     ]
 
 -- a mask of clients that pass is no more than those that pass

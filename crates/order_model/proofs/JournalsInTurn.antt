@@ -1,8 +1,8 @@
 -- Journals by their entries: one entry more, two journals one behind the other, and what entries leave to clients.
-use Rattle.std.proofs.Common.{arith, ◌≡◌, List, [], ◌∷◌, ◌++◌, refl, ap, ℕ, ◌≤◌, length, inl, inr, Option, Some, None, ◌≢◌, false}
+use Rattle.std.proofs.Common.{arith, ◌≡◌, List, [], ◌∷◌, ◌++◌, refl, ap, ℕ, ◌≤◌, length, inl, inr, Option, Some, None, ◌≢◌, false, ◌+◌, drop}
 use Rattle.std.proofs.lemmas.Bool.{cases_Bool}
 use Rattle.std.proofs.lemmas.List.{length-drop}
-use Rattle.std.specs.Option.{option_map_or}
+use Rattle.std.specs.Option.{option_map_or, option_map}
 use Rattle.std.specs.Prelude.{option_to_list}
 use Rattle.rc_base.specs.Lists.{AreRising}
 use Rattle.rc_base.specs.Orders.Journal.{SyncState, after, end_of, is_member, head_wait}
@@ -12,6 +12,10 @@ use Rattle.rc_base.specs.declared.sync.Entry.{Entry}
 use Rattle.rc_base.specs.declared.sync.Entry.TheVariants.{Meet, Swap, Give, Take}
 use Rattle.rc_base.specs.declared.sync.SyncLists.{SyncLists}
 use Rattle.rc_base.specs.declared.sync.WaitAt.{WaitAt}
+use Rattle.rc_base.specs.declared.sync.SyncOp.{SyncOp}
+use Rattle.order_model.specs.declared.record.LogEntry.TheVariants.{Took, Performed}
+use Rattle.order_model.specs.declared.record.LogEntry.{LogEntry}
+use Rattle.order_model.specs.Standing.{performed_in}
 use Rattle.order_model.specs.Report.{is_swap_entry}
 
 pub end_push : (syncs : SyncLists) (s : SyncState) (js : List Entry) (e : Entry) → end_of syncs s (js ++ e ∷ []) ≡ after syncs (end_of syncs s js) e
@@ -39,3 +43,19 @@ not_swap (Meet _ _) other = refl
 not_swap Swap other = absurd (other refl)
 not_swap (Give _ _) other = refl
 not_swap (Take _ _) other = refl
+
+-- a line more of a log
+pub performed_more : (log : List LogEntry) (line : LogEntry) → performed_in (log ++ line ∷ []) ≡ performed_in log + performed_in (line ∷ [])
+performed_more [] line = omega arith
+performed_more (Took client place ∷ log) line = performed_more log line
+performed_more (Performed ∷ log) line = let h = performed_more log line in omega arith
+
+pub took_more : (log : List LogEntry) (client place : ℕ) → performed_in (log ++ Took client place ∷ []) ≡ performed_in log
+took_more [] client place = refl
+took_more (Took _ _ ∷ log) client place = took_more log client place
+took_more (Performed ∷ log) client place = let e = took_more log client place in omega (arith, e)
+
+-- an operation is taken of those that a client has left
+pub head_used : (ws : List WaitAt) (x : SyncOp) → option_map (λ (w : WaitAt). w.op) (head_wait ws) ≡ Some x → length (drop 1 ws) + 1 ≡ length ws
+head_used [] x e = absurd cc
+head_used (w ∷ ws) x e = omega arith

@@ -1,13 +1,13 @@
 -- A journal has no more Swaps than a client has commands.
-use Rattle.std.proofs.Common.{◌≡◌, ℕ, zero, suc, ◌+◌, ◌<◌, ◌≤◌, Bool, true, false, cond, List, [], ◌∷◌, length, Some, ap, ◌∙◌, arith, length-append, lt-ltb}
+use Rattle.std.proofs.Common.{◌≡◌, ℕ, zero, suc, ◌+◌, ◌<◌, ◌≤◌, Bool, true, false, cond, List, [], ◌∷◌, length, ap, ◌∙◌, arith, length-append, lt-ltb}
 use Rattle.std.proofs.lemmas.List.FromFn.{length-map-range_with_len, get_or-map-range_with_len}
 use Rattle.std.proofs.lemmas.List.Sums.{sum_by-cons}
 use Rattle.std.proofs.lemmas.Option.{slice_get-get_or}
 use Rattle.std.specs.List.{range_with_len}
 use Rattle.std.specs.Option.{unwrap_or}
-use Rattle.std.specs.Prelude.{drop, map, option_map, nat_lt}
+use Rattle.std.specs.Prelude.{drop, map, nat_lt}
 use Rattle.rc_base.specs.Contexts.Issue.{stream_of, effect_at}
-use Rattle.rc_base.specs.Orders.Journal.{SyncState, head_wait, is_member, after, IsLegalFrom}
+use Rattle.rc_base.specs.Orders.Journal.{SyncState, is_member, after, IsLegalFrom}
 use Rattle.rc_base.specs.Orders.Sync.{client_count, ops_of, waits_below, wait_of, sync_row_of, sync_lists_of}
 use Rattle.rc_base.specs.declared.scene.Scene.{Scene}
 use Rattle.rc_base.specs.declared.state.Effect.{Effect}
@@ -15,10 +15,10 @@ use Rattle.rc_base.specs.declared.state.Effect.TheVariants as effect
 use Rattle.rc_base.specs.declared.sync.Entry.{Entry}
 use Rattle.rc_base.specs.declared.sync.Entry.TheVariants.{Meet, Swap, Give, Take}
 use Rattle.rc_base.specs.declared.sync.SyncLists.{SyncLists}
-use Rattle.rc_base.specs.declared.sync.SyncOp.{SyncOp}
 use Rattle.rc_base.specs.declared.sync.SyncRow.{SyncRow}
 use Rattle.rc_base.specs.declared.sync.WaitAt.{WaitAt}
 use Rattle.scene_lemmas.proofs.Scenes.{scene_client_count}
+use Rattle.order_model.proofs.JournalsInTurn.{head_used}
 use Rattle.order_model.specs.Laws.{SwapsAreFew}
 use Rattle.order_model.specs.Report.{frame_count, is_swap_entry}
 
@@ -26,10 +26,6 @@ shorter : (b : Bool) (ws : List WaitAt) → length (cond b (drop 1 ws) ws) ≤ l
 shorter true [] = omega arith
 shorter true (w ∷ ws) = omega arith
 shorter false ws = omega arith
-
-used : (ws : List WaitAt) (x : SyncOp) → option_map (λ (w : WaitAt). w.op) (head_wait ws) ≡ Some x → length (drop 1 ws) + 1 ≡ length ws
-used [] x e = absurd cc
-used (w ∷ ws) x e = omega arith
 
 more_frames : (e : Entry) (es : List Entry) → frame_count (e ∷ es) ≡ cond (is_swap_entry e) 1 0 + frame_count es
 more_frames e es = sum_by-cons (λ x. cond (is_swap_entry x) 1 0) e es
@@ -47,7 +43,7 @@ module _ (syncs : SyncLists) (some : 0 < client_count syncs) where
       let a = swaps_within es (after syncs s Swap) h.1 in
       let b = more_frames Swap es in
       let in_it : nat_lt 0 (client_count syncs) ≡ true = lt-ltb 0 (client_count syncs) some in
-      let c = used (s.rest 0) _ (h.0.next 0 in_it) in
+      let c = head_used (s.rest 0) _ (h.0.next 0 in_it) in
       let d : length (cond (nat_lt 0 (client_count syncs)) (drop 1 (s.rest 0)) (s.rest 0)) ≡ length (drop 1 (s.rest 0)) =
       ap (λ x. length (cond x (drop 1 (s.rest 0)) (s.rest 0))) in_it in
       omega (arith, a, b, c, d)

@@ -1,21 +1,5 @@
--- Truth values: what `and`, `or` and `not` give beside a known side, and numbers chosen by one.
-use Rattle.std.proofs.Common.{◌≡◌, ◌||◌, Bool, true, false, refl, ◌&&◌, not, true≢false, sym, ℕ, cond}
-
-pub or_true : (b : Bool) → (b || true) ≡ true
-or_true true = refl
-or_true false = refl
-
-pub or_false : (b : Bool) → (b || false) ≡ b
-or_false true = refl
-or_false false = refl
-
-pub and_false : (b : Bool) → (b && false) ≡ false
-and_false true = refl
-and_false false = refl
-
-pub true_from_not_false : (b : Bool) → not b ≡ false → b ≡ true
-true_from_not_false true h = refl
-true_from_not_false false h = absurd (true≢false h)
+-- Truth values: two tests with one answer, and what a test chooses.
+use Rattle.std.proofs.Common.{◌≡◌, Bool, true, false, refl, true≢false, sym, ℕ, cond}
 
 -- two tests that follow from each other have the same answer
 pub same_test : (a b : Bool) → (a ≡ true → b ≡ true) → (b ≡ true → a ≡ true) → a ≡ b
@@ -28,3 +12,7 @@ one_if_true b e = rw e refl
 
 pub zero_if_false : (b : Bool) → b ≡ false → cond {A = ℕ} b 1 0 ≡ 0
 zero_if_false b e = rw e refl
+
+pub false_behind : (a b : Bool) → cond a true b ≡ false → b ≡ false
+false_behind true b e = absurd (true≢false e)
+false_behind false b e = e

@@ -1,7 +1,9 @@
 -- Lists that are joined, and what stands at a place of one.
-use Rattle.std.proofs.Common.{◌≡◌, List, [], ◌∷◌, ◌++◌, refl, ℕ, zero, suc, Some, ◌+◌, length, ap, ◌∙◌, arith, ◌<◌, true, drop, get_or, sym}
-use Rattle.std.specs.List.{All}
+use Rattle.std.proofs.Common.{◌≡◌, List, [], ◌∷◌, ◌++◌, refl, ℕ, zero, suc, Some, ◌+◌, length, ap, ◌∙◌, arith, ◌<◌, true, drop, get_or, sym, take}
+use Rattle.std.specs.List.{All, AllByRecursion}
 use Rattle.std.specs.Prelude.{slice_get, is_some}
+use Rattle.std.proofs.lemmas.Option.{get_or_from_slice_get}
+use Rattle.std.proofs.lemmas.List.{take_at, drop_at}
 
 pub both_empty : {A : Type 0} (xs ys : List A) → xs ++ ys ≡ [] → (xs ≡ []) × (ys ≡ [])
 both_empty [] ys e = (refl, e)
@@ -30,3 +32,23 @@ drop_is_item_first (y ∷ xs) (suc k) x lt is = let step : suc k + 1 ≡ suc (k 
 -- what holds of all items holds of all behind the first one
 pub all_behind_first : {A : Type 0} (P : A → Type 0) (t : A) (rest more : List A) → rest ≡ t ∷ more → All P rest → All P more
 all_behind_first P t rest more e all k d lt = (rw e at all) (suc k) d (omega arith)
+
+pub item_within : {A : Type 0} (xs : List A) (k : ℕ) → k < length xs → (x : A) × (slice_get xs k ≡ Some x)
+item_within [] k lt = absurd (omega (arith, lt))
+item_within (x ∷ xs) zero lt = (x, refl)
+item_within (x ∷ xs) (suc k) lt = item_within xs k (omega (arith, lt))
+
+-- an item that is read is the one that stands there
+pub read_is_item : {A : Type 0} (xs : List A) (k : ℕ) (x v : A) → slice_get xs k ≡ Some v → x ≡ get_or xs k x → x ≡ v
+read_is_item xs k x v e found = found ∙ get_or_from_slice_get xs k v x e
+
+-- two lists with fronts of one length
+pub same_parts : {A : Type 0} (a b x y : List A) → length a ≡ length b → a ++ x ≡ b ++ y → (a ≡ b) × (x ≡ y)
+same_parts a b x y size e = (
+  sym (take_at a x (length b) size) ∙ ap (take (length b)) e ∙ take_at b y (length b) refl,
+  sym (drop_at a x (length b) size) ∙ ap (drop (length b)) e ∙ drop_at b y (length b) refl,
+)
+
+pub all_append : {A : Type 0} (P : A → Type 0) (xs ys : List A) → AllByRecursion P xs → AllByRecursion P ys → AllByRecursion P (xs ++ ys)
+all_append P [] ys h k = k
+all_append P (x ∷ xs) ys h k = (h.0, all_append P xs ys h.1 k)

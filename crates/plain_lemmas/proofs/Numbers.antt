@@ -1,5 +1,5 @@
 -- Tests of numbers against bounds, and numbers that are one.
-use Rattle.std.proofs.Common.{◌≡◌, ℤ, ◌≤ℤ◌, true, arith, ◌<ℤ◌, false, ℕ, ◌<◌, nat_le, inl, inr, leb-true, ◌==◌, refl, eq-eqb, zero, suc, ◌*◌, ◌+◌}
+use Rattle.std.proofs.Common.{◌≡◌, ℤ, ◌≤ℤ◌, true, arith, ◌<ℤ◌, false, ℕ, ◌<◌, inl, inr, ◌==◌, refl, eq-eqb, zero, suc, ◌*◌, ◌+◌, subst, sym, eqb-true, ◌≢◌, true≢false, ◌∙◌}
 use Rattle.std.proofs.Math.Nat.{zero-mul}
 use Rattle.std.proofs.lemmas.Bool.{cases_Bool}
 use Rattle.std.proofs.lemmas.Int.{ints}
@@ -32,9 +32,6 @@ int_lt_false a b h = grind (arith, ints)
 pub from_int_lt_false : (a b : ℤ) → int_lt a b ≡ false → b ≤ℤ a
 from_int_lt_false a b h = grind (arith, ints)
 
-pub nat_le_false : (a b : ℕ) → b < a → nat_le a b ≡ false
-nat_le_false a b h = elim (cases_Bool (nat_le a b)) [ inl t ↦ absurd (omega (arith, leb-true a b t)) | inr f ↦ f ]
-
 pub equal_to_itself : (c : ℕ) → (c == c) ≡ true
 equal_to_itself c = eq-eqb c c refl
 
@@ -52,3 +49,10 @@ min_of_min a b m = omega arith
 -- digits of ten: the numerals are those that a value gives
 pub decimal_numerals : IsNumeralModel (λ ds. all_ascii_digits ds ≡ true) (digits_value 10)
 decimal_numerals = numerals_by_value _ tells_all_ascii_digits
+
+-- what holds of one number and of all others holds of each
+pub at_one : (Q : ℕ → Type 0) (c : ℕ) → Q c → ((k : ℕ) → (k == c) ≡ false → Q k) → (k : ℕ) → Q k
+at_one Q c here others k = elim (cases_Bool (k == c)) [ inl t ↦ subst Q (sym (eqb-true k c t)) here | inr f ↦ others k f ]
+
+pub at_one_or_other : (Q : ℕ → Type 0) (c : ℕ) → Q c → ((k : ℕ) → k ≢ c → Q k) → (k : ℕ) → Q k
+at_one_or_other Q c here others k = at_one Q c here (λ j f. others j (λ e. true≢false (sym (eq-eqb j c e) ∙ f))) k

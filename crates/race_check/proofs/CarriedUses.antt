@@ -1,8 +1,8 @@
 -- What a command uses, by what it touched, and that it passes the tables.
-use Rattle.std.proofs.Common.{◌≡◌, ◌≢◌, ℕ, zero, suc, ◌+◌, ◌*◌, ◌<◌, ◌≤◌, ◌==◌, nat_lt, ◌&&◌, ◌||◌, ◌⊎◌, Bool, true, false, List, [], length, Option, Some, None, pos, inl, inr, refl, sym, ap, ◌∙◌, subst, arith, true≢false, eqb-true, ne_eqb, lt-ltb, ltb-true}
+use Rattle.std.proofs.Common.{◌≡◌, ◌≢◌, ℕ, ◌+◌, ◌*◌, ◌<◌, ◌==◌, nat_lt, ◌&&◌, ◌⊎◌, Bool, true, false, List, [], length, Option, Some, None, pos, inl, inr, refl, sym, ap, ◌∙◌, subst, arith, true≢false, eqb-true, ne_eqb, lt-ltb, ltb-true}
 use Rattle.std.specs.Prelude.{cond, max, slice_index, slice_index_or}
 use Rattle.std.specs.List.{list_any, range_with_len}
-use Rattle.std.proofs.lemmas.Bool.{cases_Bool, cases_lt, eqb-false, and_parts, and_from}
+use Rattle.std.proofs.lemmas.Bool.{cases_Bool, eqb-false, and_parts, and_from}
 use Rattle.std.proofs.lemmas.List.{get_or-set_same, get_or-set_other}
 use Rattle.std.proofs.Math.ListN.{length-set}
 use Rattle.rc_base.specs.Drawing.Touch.{touches, may_sample, writes_shared}
@@ -15,6 +15,7 @@ use Rattle.rc_base.specs.declared.state.State.{State}
 use Rattle.rc_base.specs.declared.sync.Name.{Name}
 use Rattle.happens_before.specs.Timelines.{before_at, clock_of}
 use Rattle.happens_before.specs.declared.timelines.Change.{Change}
+use Rattle.plain_lemmas.proofs.Ranges.{any_in_range, found_in_range}
 use Rattle.race_check.specs.Finds.{IsFirst, IsFoundIn, OrBefore, cell_at, leads, mark, marked}
 use Rattle.race_check.specs.Outlines.{IsReach, no_reach}
 use Rattle.race_check.specs.Races.{OverlapsAt}
@@ -47,36 +48,16 @@ passes_as AreOf f a b n old new told e h = record {
 
 -- ---- tests of ranges
 
-range_any : (p : ℕ → Bool) (a n k : ℕ) → a ≤ k → k < a + n → p k ≡ true → list_any p (range_with_len a n) ≡ true
-range_any p a zero k le lt e = absurd (omega arith)
-range_any p a (suc n) k le lt e = elim (cases_lt a k) [
-  | inl below ↦ elim (cases_Bool (p a)) [
-    | inl t ↦ rw t refl
-    | inr f ↦ rw f (range_any p (a + 1) n k (omega arith) (omega arith) e)
-  ]
-  | inr ge ↦ let same : a ≡ k = omega arith in ap (λ b. b || list_any p (range_with_len (a + 1) n)) (ap p same ∙ e)
-]
-
-range_where : (p : ℕ → Bool) (a n : ℕ) → list_any p (range_with_len a n) ≡ true → (k : ℕ) × (a ≤ k) × (k < a + n) × (p k ≡ true)
-range_where p a zero e = absurd (true≢false (sym e))
-range_where p a (suc n) e = elim (cases_Bool (p a)) [
-  | inl t ↦ (a, omega arith, omega arith, t)
-  | inr f ↦
-      let rest : list_any p (range_with_len (a + 1) n) ≡ true = sym (ap (λ b. b || list_any p (range_with_len (a + 1) n)) f) ∙ e in
-      let r = range_where p (a + 1) n rest in
-      (r.0, omega (arith, r.1), omega (arith, r.2), r.3)
-]
-
 one_some : (w h : ℕ) (s : State) (e : Effect) (has : ℕ → ℕ → Bool) → ((x y : ℕ) → touches s e (pos x) (pos y) ≡ has x y) → touches_one w h s e ≡ true → SomePasses w h has
 one_some w h s e has touched t =
-    let r = range_where (λ y. list_any (λ x. touches s e (pos x) (pos y)) (range_with_len 0 w)) 0 h t in
-    let q = range_where (λ x. touches s e (pos x) (pos r.0)) 0 w r.3 in
+    let r = found_in_range (λ y. list_any (λ x. touches s e (pos x) (pos y)) (range_with_len 0 w)) 0 h t in
+    let q = found_in_range (λ x. touches s e (pos x) (pos r.0)) 0 w r.3 in
     record { column = q.0; row = r.0; wide = omega (arith, q.2); high = omega (arith, r.2); passes = sym (touched q.0 r.0) ∙ q.3 }
 
 some_one : (w h : ℕ) (s : State) (e : Effect) (has : ℕ → ℕ → Bool) → ((x y : ℕ) → touches s e (pos x) (pos y) ≡ has x y) → SomePasses w h has → touches_one w h s e ≡ true
 some_one w h s e has touched k =
-    range_any (λ y. list_any (λ x. touches s e (pos x) (pos y)) (range_with_len 0 w)) 0 h k.row (omega arith) (omega (arith, k.high))
-    (range_any (λ x. touches s e (pos x) (pos k.row)) 0 w k.column (omega arith) (omega (arith, k.wide)) (touched k.column k.row ∙ k.passes))
+    any_in_range (λ y. list_any (λ x. touches s e (pos x) (pos y)) (range_with_len 0 w)) 0 h k.row (omega arith) (omega (arith, k.high))
+    (any_in_range (λ x. touches s e (pos x) (pos k.row)) 0 w k.column (omega arith) (omega (arith, k.wide)) (touched k.column k.row ∙ k.passes))
 
 -- ---- what an effect uses
 

@@ -1,5 +1,5 @@
 -- The cells tell the last uses by the names that are passed.
-use Rattle.std.proofs.Common.{◌≡◌, ◌≢◌, ℕ, zero, suc, ◌+◌, ◌-◌, ◌*◌, ◌<◌, ◌≤◌, ◌==◌, Bool, true, false, cond, List, [], ◌∷◌, ◌++◌, ◌⊎◌, length, replicate, inl, inr, refl, sym, ap, ◌∙◌, subst, arith, eqb-true, true≢false, mul-le-mul}
+use Rattle.std.proofs.Common.{◌≡◌, ◌≢◌, ℕ, zero, suc, ◌+◌, ◌-◌, ◌*◌, ◌<◌, ◌≤◌, ◌==◌, Bool, true, false, cond, List, [], ◌∷◌, ◌++◌, ◌⊎◌, length, replicate, inl, inr, refl, sym, ap, ◌∙◌, subst, arith, eqb-true, true≢false}
 use Rattle.std.specs.Prelude.{slice_index, slice_index_or}
 use Rattle.std.proofs.lemmas.Bool.{cases_Bool, cases_lt, eqb-false}
 use Rattle.std.proofs.lemmas.List.{get_or-set_same, get_or-set_other, length-replicate}
@@ -8,6 +8,7 @@ use Rattle.rc_base.specs.Lists.{IsIn}
 use Rattle.rc_base.specs.declared.sync.Name.{Name}
 use Rattle.order_model.proofs.RecordedByCounts.{zeros}
 use Rattle.order_model.proofs.StandsInLists.{in_append, in_left}
+use Rattle.plain_lemmas.proofs.Places.{next_row}
 use Rattle.race_check.specs.Uses.{IsBehind, IsLast, AreLast, named}
 use Rattle.race_check.specs.Finds.{IsFoundIn, cell_at, leads, marked}
 use Rattle.race_check.specs.declared.found.Found.{Found}
@@ -114,9 +115,6 @@ used_found uses index IsThere passed cells h i ok own clock x earlier used other
     (y, record { other = other; last = omega arith; uncounted = omega arith; at = refl }, later_leads y x refl (omega arith) refl)
 
 -- ---- pixels
-
-next_row : (w r j : ℕ) → r < j → r * w + w ≤ j * w
-next_row w r j h = let m : (r + 1) * w ≤ j * w = mul-le-mul (omega arith) (omega arith) in omega arith
 
 -- rows of a window don't meet
 pub same_pixel : (w x y u v : ℕ) → x < w → u < w → y * w + x ≡ v * w + u → (y ≡ v) × (x ≡ u)

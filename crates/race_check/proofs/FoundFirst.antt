@@ -1,7 +1,7 @@
 -- Of all that is found the one that is told leads all others.
 use Rattle.std.proofs.Common.{◌≡◌, ◌≢◌, ℕ, ◌+◌, ◌-◌, ◌<◌, ◌≤◌, ◌==◌, nat_lt, nat_le, ◌&&◌, ◌||◌, Bool, true, false, List, ◌⊎◌, Option, Some, None, inl, inr, refl, sym, ap, ◌∙◌, subst, arith, lt-ltb, ltb-true, le-leb, leb-true, eq-eqb, eqb-true, true≢false}
 use Rattle.std.specs.Prelude.{length, slice_index}
-use Rattle.std.proofs.lemmas.Bool.{cases_lt, and_parts, and_from}
+use Rattle.std.proofs.lemmas.Bool.{cases_lt, and_parts, and_from, or_right, or_left}
 use Rattle.std.proofs.lemmas.List.{get_or_past}
 use Rattle.race_check.specs.Races.{IsNoLater}
 use Rattle.race_check.specs.Finds.{AreCounted, IsFirst, IsFoundIn, OrBefore, is_no_later, leads}
@@ -14,14 +14,6 @@ use Rattle.race_check.specs.declared.verdict.Spot.TheVariants.{Pixel, Shared}
 either : (a b : Bool) → (a || b) ≡ true → (a ≡ true) ⊎ (b ≡ true)
 either true b h = inl refl
 either false b h = inr h
-
-left_or : (a b : Bool) → a ≡ true → (a || b) ≡ true
-left_or true b h = refl
-left_or false b h = absurd (true≢false (sym h))
-
-right_or : (a b : Bool) → b ≡ true → (a || b) ≡ true
-right_or true b h = refl
-right_or false b h = h
 
 -- ---- spots
 
@@ -38,8 +30,8 @@ says_no_later : (s t : Spot) → IsNoLater s t → is_no_later s t ≡ true
 says_no_later (Shared a) (Shared b) h = le-leb a b h
 says_no_later (Shared a) (Pixel u v) h = refl
 says_no_later (Pixel x y) (Shared b) h = absurd h
-says_no_later (Pixel x y) (Pixel u v) (inl h) = left_or (nat_lt y v) (y == v && nat_le x u) (lt-ltb y v h)
-says_no_later (Pixel x y) (Pixel u v) (inr h) = right_or (nat_lt y v) (y == v && nat_le x u) (and_from (y == v) (nat_le x u) (eq-eqb y v h.0) (le-leb x u h.1))
+says_no_later (Pixel x y) (Pixel u v) (inl h) = or_left (nat_lt y v) (y == v && nat_le x u) (lt-ltb y v h)
+says_no_later (Pixel x y) (Pixel u v) (inr h) = or_right (nat_lt y v) (y == v && nat_le x u) (and_from (y == v) (nat_le x u) (eq-eqb y v h.0) (le-leb x u h.1))
 
 no_later_on : (s t r : Spot) → IsNoLater s t → IsNoLater t r → IsNoLater s r
 no_later_on (Shared a) (Shared b) (Shared c) h k = omega arith
@@ -86,12 +78,12 @@ leads_says a b h = elim (either (nat_lt a.client b.client) (a.client == b.client
 ]
 
 says_leads : (a b : Found) → Leads a b → leads a b ≡ true
-says_leads a b (inl h) = left_or (nat_lt a.client b.client) _ (lt-ltb a.client b.client h)
+says_leads a b (inl h) = or_left (nat_lt a.client b.client) _ (lt-ltb a.client b.client h)
 says_leads a b (inr h) =
-    right_or (nat_lt a.client b.client) _ (and_from (a.client == b.client) (nat_lt b.place a.place || (a.place == b.place && is_no_later a.spot b.spot)) (eq-eqb a.client b.client h.0)
+    or_right (nat_lt a.client b.client) _ (and_from (a.client == b.client) (nat_lt b.place a.place || (a.place == b.place && is_no_later a.spot b.spot)) (eq-eqb a.client b.client h.0)
     (elim h.1 [
-      | inl l ↦ left_or (nat_lt b.place a.place) (a.place == b.place && is_no_later a.spot b.spot) (lt-ltb b.place a.place l)
-      | inr l ↦ right_or (nat_lt b.place a.place) (a.place == b.place && is_no_later a.spot b.spot) (and_from (a.place == b.place) (is_no_later a.spot b.spot) (eq-eqb a.place b.place l.0) (says_no_later a.spot b.spot l.1))
+      | inl l ↦ or_left (nat_lt b.place a.place) (a.place == b.place && is_no_later a.spot b.spot) (lt-ltb b.place a.place l)
+      | inr l ↦ or_right (nat_lt b.place a.place) (a.place == b.place && is_no_later a.spot b.spot) (and_from (a.place == b.place) (is_no_later a.spot b.spot) (eq-eqb a.place b.place l.0) (says_no_later a.spot b.spot l.1))
     ]))
 
 leads_on : (a b c : Found) → Leads a b → Leads b c → Leads a c

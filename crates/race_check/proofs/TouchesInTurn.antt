@@ -2,15 +2,18 @@
 use Rattle.std.proofs.Common.{◌≡◌, ◌≢◌, ℕ, ◌+◌, ◌*◌, ◌<◌, ◌≤◌, ◌==◌, nat_lt, nat_le, ◌&&◌, ◌||◌, ◌⊎◌, ◌↔◌, Bool, true, false, cond, List, [], length, Option, ℤ, pos, ◌+ℤ◌, ◌≤ℤ◌, ◌<ℤ◌, inl, inr, refl, sym, ap, ◌∙◌, subst, arith, eq-eqb, eqb-true, ne_eqb, le-leb, leb-true, lt-ltb, ltb-true, true≢false, mul-le-mul}
 use Rattle.std.specs.Prelude.{int_lt}
 use Rattle.std.proofs.lemmas.List.{get_or-set_same, get_or-set_other}
-use Rattle.std.proofs.lemmas.Bool.{cases_Bool, le-ltb, and_parts, and_from}
+use Rattle.std.proofs.lemmas.Bool.{cases_Bool, le-ltb, and_parts, and_from, lt-leb}
 use Rattle.std.proofs.lemmas.Bool.Decides.{nat_tests}
 use Rattle.std.proofs.lemmas.Int.{ints, by_lt_z}
+use Rattle.std.proofs.Math.Bool.{or-true, or-false, and-false}
 use Rattle.rc_base.specs.Cluster.Tiles.{is_in_rect}
 use Rattle.rc_base.specs.Drawing.Cover.{is_inside}
 use Rattle.rc_base.specs.declared.window.Rect.{Rect}
 use Rattle.rc_base.specs.declared.window.Span.{Span}
 use Rattle.rc_base.specs.declared.window.WindowVertex.{WindowVertex}
 use Rattle.raster.specs.Spans.{in_span, IsNextSpan, AreEmptyRows}
+use Rattle.plain_lemmas.proofs.Numbers.{int_lt_true, int_lt_false}
+use Rattle.scene_lemmas.proofs.Rectangles.{inside_rect}
 use Rattle.race_check.specs.Finds.{IsFirst, IsFoundIn, IsRunIn, OrBefore, cell_at, mark, marked, run_has}
 use Rattle.race_check.specs.Touches.{AreTouched, IsFoundWhere, IsTouch, IsWithinWindow, SomePasses, triangle_has}
 use Rattle.race_check.specs.declared.found.Found.{Found}
@@ -21,18 +24,6 @@ use Rattle.race_check.specs.declared.verdict.Spot.TheVariants.{Pixel}
 use Rattle.race_check.proofs.CellsTellLast.{same_pixel}
 use Rattle.race_check.proofs.FoundFirst.{first_as, first_kept, first_then}
 use Rattle.race_check.proofs.VisitedCells.{found_before, found_behind, marked_then}
-
-or_true : (b : Bool) → (b || true) ≡ true
-or_true true = refl
-or_true false = refl
-
-or_false : (b : Bool) → (b || false) ≡ b
-or_false true = refl
-or_false false = refl
-
-and_false : (b : Bool) → (b && false) ≡ false
-and_false true = refl
-and_false false = refl
 
 -- ---- touches one after the other
 
@@ -64,7 +55,7 @@ right_passes w h a b c e s = record {
   row = s.row;
   wide = s.wide;
   high = s.high;
-  passes = e s.column s.row s.wide s.high ∙ ap (λ k. a s.column s.row || k) s.passes ∙ or_true (a s.column s.row);
+  passes = e s.column s.row s.wide s.high ∙ ap (λ k. a s.column s.row || k) s.passes ∙ or-true (a s.column s.row);
 }
 
 pub cells_none : (v : Visit) (cells : List (List ℕ)) → AreTouched (λ x y. false) v cells cells
@@ -255,15 +246,9 @@ run_some w h r before after ok e = (to before e, from before e)
         let a = and_parts (r.row == s.row) (nat_le r.from s.column && nat_lt s.column r.to) s.passes in
         let c = and_parts (nat_le r.from s.column) (nat_lt s.column r.to) a.1 in
         let lt : r.from < r.to = omega (arith, leb-true r.from s.column c.0, ltb-true s.column r.to c.1) in
-        e ∙ ap (λ k. b || k) (lt-ltb r.from r.to lt) ∙ or_true b
+        e ∙ ap (λ k. b || k) (lt-ltb r.from r.to lt) ∙ or-true b
 
 -- ---- rows of a triangle
-
-lt_true : (a b : ℤ) → a <ℤ b → int_lt a b ≡ true
-lt_true a b h = grind (arith, ints)
-
-lt_false : (a b : ℤ) → b ≤ℤ a → int_lt a b ≡ false
-lt_false a b h = grind (arith, ints)
 
 pub outside_left : (r : Rect) (x y : ℤ) → x <ℤ r.x0 → is_in_rect r x y ≡ false
 outside_left r x y h = grind (arith, ints)
@@ -277,20 +262,17 @@ outside_below r x y h = grind (arith, ints)
 pub outside_above : (r : Rect) (x y : ℤ) → r.y1 ≤ℤ y → is_in_rect r x y ≡ false
 outside_above r x y h = grind (arith, ints)
 
-pub inside_rect : (r : Rect) (x y : ℤ) → r.x0 ≤ℤ x → x <ℤ r.x1 → r.y0 ≤ℤ y → y <ℤ r.y1 → is_in_rect r x y ≡ true
-inside_rect r x y a b c d = grind (arith, ints)
-
 -- the covered pixels of the rows below z
 abbrev pub rows_below : List WindowVertex → Rect → ℤ → ℕ → ℕ → Bool
 rows_below v part z x y = triangle_has v part x y && int_lt (pos y) z
 
 has_not : (v : List WindowVertex) (part : Rect) (x y : ℕ) → is_in_rect part (pos x) (pos y) ≡ false → triangle_has v part x y ≡ false
-has_not v part x y e = ap (λ b. is_inside v (pos x) (pos y) && b) e ∙ and_false (is_inside v (pos x) (pos y))
+has_not v part x y e = ap (λ b. is_inside v (pos x) (pos y) && b) e ∙ and-false (is_inside v (pos x) (pos y))
 
 pub first_rows : (v : List WindowVertex) (part : Rect) (x y : ℕ) → rows_below v part part.y0 x y ≡ false
 first_rows v part x y =
     by_lt_z (pos y) part.y0 (λ l. ap (λ b. b && int_lt (pos y) part.y0) (has_not v part x y (outside_below part (pos x) (pos y) l)))
-    (λ g. ap (λ b. triangle_has v part x y && b) (lt_false (pos y) part.y0 g) ∙ and_false (triangle_has v part x y))
+    (λ g. ap (λ b. triangle_has v part x y && b) (int_lt_false (pos y) part.y0 g) ∙ and-false (triangle_has v part x y))
 
 -- in rows without a covered pixel
 empty_has : (v : List WindowVertex) (part : Rect) (y0 y1 : ℤ) (x y : ℕ) → AreEmptyRows v part y0 y1 → y0 ≤ℤ pos y → pos y <ℤ y1 → triangle_has v part x y ≡ false
@@ -300,7 +282,7 @@ empty_has v part y0 y1 x y e low high =
 
 pub last_rows : (v : List WindowVertex) (part : Rect) (z : ℤ) (x y : ℕ) → AreEmptyRows v part z part.y1 → triangle_has v part x y ≡ rows_below v part z x y
 last_rows v part z x y e =
-    by_lt_z (pos y) z (λ l. sym (ap (λ b. triangle_has v part x y && b) (lt_true (pos y) z l) ∙ and_true (triangle_has v part x y)))
+    by_lt_z (pos y) z (λ l. sym (ap (λ b. triangle_has v part x y && b) (int_lt_true (pos y) z l) ∙ and_true (triangle_has v part x y)))
     (λ g.
     let none : triangle_has v part x y ≡ false = by_lt_z (pos y) part.y1 (λ b. empty_has v part z part.y1 x y e g b) (λ b. has_not v part x y (outside_above part (pos x) (pos y) b)) in
     none ∙ sym (ap (λ b. b && int_lt (pos y) z) none))
@@ -311,9 +293,6 @@ last_rows v part z x y e =
 
 not_row : (x y : ℕ) (r : Run) → r.row ≢ y → run_has r x y ≡ false
 not_row x y r ne = ap (λ b. b && (nat_le r.from x && nat_lt x r.to)) (ne_eqb r.row y ne)
-
-no_le : (a b : ℕ) → b < a → nat_le a b ≡ false
-no_le a b h = elim (cases_Bool (nat_le a b)) [ inl t ↦ absurd (omega (arith, leb-true a b t)) | inr f ↦ f ]
 
 span_run : (s : Span) (r : Run) (x : ℕ) → s.x0 ≡ pos r.from → s.x1 ≡ pos r.to → in_span s (pos x) ≡ (nat_le r.from x && nat_lt x r.to)
 span_run s r x e f = grind (arith, ints, nat_tests)
@@ -327,12 +306,12 @@ row_has v part z s r x y n low row same e f =
     let left = n.span.low in
     let right = n.span.high in
     by_lt_z (pos x) part.x0
-    (λ l. has_not v part x y (outside_left part (pos x) (pos y) l) ∙ sym (here ∙ ap (λ b. b && nat_lt x r.to) (no_le r.from x (omega (arith, ints)))))
+    (λ l. has_not v part x y (outside_left part (pos x) (pos y) l) ∙ sym (here ∙ ap (λ b. b && nat_lt x r.to) (lt-leb r.from x (omega (arith, ints)))))
     (λ a. by_lt_z (pos x) part.x1
     (λ b.
     ap (λ k. is_inside v (pos x) (pos y) && k) (inside_rect part (pos x) (pos y) a b (omega (arith, ints)) (omega (arith, ints)))
     ∙ and_true (is_inside v (pos x) (pos y)) ∙ ap (is_inside v (pos x)) (sym row) ∙ n.span.exact (pos x) a b ∙ span_run s r x e f ∙ sym here)
-    (λ b. has_not v part x y (outside_right part (pos x) (pos y) b) ∙ sym (here ∙ ap (λ c. nat_le r.from x && c) (le-ltb x r.to (omega (arith, ints))) ∙ and_false (nat_le r.from x))))
+    (λ b. has_not v part x y (outside_right part (pos x) (pos y) b) ∙ sym (here ∙ ap (λ c. nat_le r.from x && c) (le-ltb x r.to (omega (arith, ints))) ∙ and-false (nat_le r.from x))))
   where
     and_true : (b : Bool) → (b && true) ≡ b
     and_true true = refl
@@ -346,7 +325,7 @@ rows_more v part z w s r x y n low next row e f =
     by_lt_z (pos y) z
     (λ l.
     let ne : r.row ≢ y = λ k. (let k' : pos r.row ≡ pos y = ap pos k in absurd (omega (arith, ints))) in
-    ap (λ b. T && b) (lt_true (pos y) w (omega (arith, ints))) ∙ sym (ap (λ b. (T && b) || run_has r x y) (lt_true (pos y) z l) ∙ ap (λ b. (T && true) || b) (not_row x y r ne) ∙ or_false (T && true)))
+    ap (λ b. T && b) (int_lt_true (pos y) w (omega (arith, ints))) ∙ sym (ap (λ b. (T && b) || run_has r x y) (int_lt_true (pos y) z l) ∙ ap (λ b. (T && true) || b) (not_row x y r ne) ∙ or-false (T && true)))
     (λ g. by_lt_z (pos y) s.y
     (λ l.
     let ne : r.row ≢ y = λ k. (let k' : pos r.row ≡ pos y = ap pos k in absurd (omega (arith, ints))) in
@@ -357,10 +336,10 @@ rows_more v part z w s r x y n low next row e f =
     let here : s.y ≡ pos y = omega (arith, ints) in
     let same : r.row ≡ y = omega (arith, ints) in
     let t = row_has v part z s r x y n low here same e f in
-    ap (λ b. T && b) (lt_true (pos y) w l) ∙ and_true T ∙ t ∙ sym (ap (λ b. (T && b) || run_has r x y) (lt_false (pos y) z g) ∙ ap (λ b. b || run_has r x y) (and_false T)))
+    ap (λ b. T && b) (int_lt_true (pos y) w l) ∙ and_true T ∙ t ∙ sym (ap (λ b. (T && b) || run_has r x y) (int_lt_false (pos y) z g) ∙ ap (λ b. b || run_has r x y) (and-false T)))
     (λ l.
     let ne : r.row ≢ y = λ k. (let k' : pos r.row ≡ pos y = ap pos k in absurd (omega (arith, ints))) in
-    ap (λ b. T && b) (lt_false (pos y) w l) ∙ and_false T ∙ sym (ap (λ b. (T && b) || run_has r x y) (lt_false (pos y) z g) ∙ ap (λ b. b || run_has r x y) (and_false T) ∙ not_row x y r ne))))
+    ap (λ b. T && b) (int_lt_false (pos y) w l) ∙ and-false T ∙ sym (ap (λ b. (T && b) || run_has r x y) (int_lt_false (pos y) z g) ∙ ap (λ b. b || run_has r x y) (and-false T) ∙ not_row x y r ne))))
   where
     and_true : (b : Bool) → (b && true) ≡ b
     and_true true = refl

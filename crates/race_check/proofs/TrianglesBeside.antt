@@ -1,5 +1,5 @@
 -- A triangle that lies beside a part of the window covers no pixel of it; one that is kept touches what it covers of the part.
-use Rattle.std.proofs.Common.{◌≡◌, ℕ, ℤ, pos, ◌≤ℤ◌, ◌+◌, ◌++◌, ◌∷◌, [], ◌⊎◌, ◌<◌, ◌≤◌, ◌≢◌, nat_le, nat_lt, ◌&&◌, ◌||◌, Bool, true, false, inl, inr, List, Option, Some, None, refl, sym, ap, ◌∙◌, arith, eq-eqb, ne_eqb, le-leb, leb-true, lt-ltb}
+use Rattle.std.proofs.Common.{◌≡◌, ℕ, ℤ, pos, ◌≤ℤ◌, ◌+◌, ◌++◌, ◌∷◌, [], ◌<◌, ◌≤◌, ◌≢◌, nat_le, nat_lt, ◌&&◌, ◌||◌, Bool, true, false, inl, inr, List, Option, Some, None, refl, sym, ap, ◌∙◌, arith, eq-eqb, ne_eqb, le-leb, leb-true, lt-ltb}
 use Rattle.std.specs.List.{list_any}
 use Rattle.std.specs.Prelude.{option_to_list}
 use Rattle.std.proofs.lemmas.List.Folds.{list_any-append}
@@ -7,27 +7,24 @@ use Rattle.std.proofs.lemmas.Int.{ints, by_lt_z}
 use Rattle.std.proofs.lemmas.Bool.{cases_Bool, cases_lt, le-ltb}
 use Rattle.std.proofs.lemmas.Bool.Decides.{nat_tests}
 use Rattle.rc_base.specs.Cluster.Tiles.{is_in_rect, window_rect}
+use Rattle.std.proofs.Math.Bool.{and-false}
 use Rattle.rc_base.specs.Drawing.Cover.{is_inside, is_in_scissor, covers}
 use Rattle.rc_base.specs.Drawing.Kept.{kept_whole}
 use Rattle.rc_base.specs.declared.state.State.{State}
 use Rattle.rc_base.specs.declared.state.Vertex.{Vertex}
 use Rattle.rc_base.specs.declared.window.Rect.{Rect}
 use Rattle.rc_base.specs.declared.window.WindowVertex.{WindowVertex}
-use Rattle.geometry.specs.Beside.{AreSurrounds, AreBeside, IsBesideIfKept}
-use Rattle.geometry.proofs.Outside.{not_between}
-use Rattle.raster.proofs.Beside.{AreNotBetween, beside_empty}
+use Rattle.geometry.specs.Beside.{AreSurrounds, IsBesideIfKept}
+use Rattle.raster.proofs.Beside.{beside_empty}
 use Rattle.geometry.specs.declared.near.Surrounds.{Surrounds}
 use Rattle.raster.specs.Between.{CoverLiesInBounds}
 use Rattle.raster.specs.Spans.{AreEmptyRows}
 use Rattle.raster.specs.Clips.{IsPartWhere, is_let_through}
 use Rattle.race_check.specs.Touches.{triangle_has, triangles_have, IsWithinWindow, part_has, clear_has}
+use Rattle.geometry.proofs.Outside.{beside_part}
 use Rattle.race_check.specs.Finds.{run_has}
 use Rattle.race_check.specs.declared.run.Run.{Run}
 use Rattle.race_check.proofs.TouchesInTurn.{outside_left, outside_right, outside_below, outside_above}
-
-and_false : (b : Bool) → (b && false) ≡ false
-and_false true = refl
-and_false false = refl
 
 pub in_window : (w h x y : ℕ) → x < w → y < h → is_in_rect (window_rect w h) (pos x) (pos y) ≡ true
 in_window w h x y lx ly = grind (arith, ints)
@@ -46,17 +43,12 @@ all_covers s (v ∷ vs) part w h p x y lx ly =
 
 none_has : (v : List WindowVertex) (part : Rect) (x y : ℕ) → AreEmptyRows v part part.y0 part.y1 → triangle_has v part x y ≡ false
 none_has v part x y e =
-    let outside : is_in_rect part (pos x) (pos y) ≡ false → triangle_has v part x y ≡ false = λ o. ap (λ b. is_inside v (pos x) (pos y) && b) o ∙ and_false (is_inside v (pos x) (pos y)) in
+    let outside : is_in_rect part (pos x) (pos y) ≡ false → triangle_has v part x y ≡ false = λ o. ap (λ b. is_inside v (pos x) (pos y) && b) o ∙ and-false (is_inside v (pos x) (pos y)) in
     by_lt_z (pos y) part.y0 (λ l. outside (outside_below part (pos x) (pos y) l))
     (λ low. by_lt_z (pos y) part.y1
     (λ high. by_lt_z (pos x) part.x0 (λ l. outside (outside_left part (pos x) (pos y) l))
     (λ left. by_lt_z (pos x) part.x1 (λ right. ap (λ b. b && is_in_rect part (pos x) (pos y)) (e (pos y) low high (pos x) left right)) (λ r. outside (outside_right part (pos x) (pos y) r))))
     (λ u. outside (outside_above part (pos x) (pos y) u)))
-
-beside_part : (near : Surrounds) (part : Rect) (v : List WindowVertex) → AreSurrounds part near → AreBeside near v
-    → AreNotBetween v (λ (a : WindowVertex). a.x) part.x0 part.x1 ⊎ AreNotBetween v (λ (a : WindowVertex). a.y) part.y0 part.y1
-beside_part near part v n (inl h) = inl (λ p low high b. not_between _ _ _ part.x0 part.x1 near.left near.right p n.left n.right h low high b.0 b.1)
-beside_part near part v n (inr h) = inr (λ p low high b. not_between _ _ _ part.y0 part.y1 near.bottom near.top p n.bottom n.top h low high b.0 b.1)
 
 -- a triangle that is dropped, or lies beside, has nothing of the part
 pub beside_has : CoverLiesInBounds → (s : State) (vs : List Vertex) (t : List ℕ) (part : Rect) (near : Surrounds) → AreSurrounds part near → IsBesideIfKept s vs t near
@@ -96,7 +88,7 @@ part_rows part r end x y a b c d = grind (arith, ints, nat_tests)
 pub rows_none : (r : Run) (x y : ℕ) → rows_up_to r r.row x y ≡ false
 rows_none r x y = elim (cases_lt y r.row) [
   | inl lt ↦ ap (λ b. (b && nat_lt y r.row) && (nat_le r.from x && nat_lt x r.to)) (no_le r.row y lt)
-  | inr ge ↦ ap (λ b. (nat_le r.row y && b) && (nat_le r.from x && nat_lt x r.to)) (le-ltb y r.row ge) ∙ ap (λ b. b && (nat_le r.from x && nat_lt x r.to)) (and_false (nat_le r.row y))
+  | inr ge ↦ ap (λ b. (nat_le r.row y && b) && (nat_le r.from x && nat_lt x r.to)) (le-ltb y r.row ge) ∙ ap (λ b. b && (nat_le r.from x && nat_lt x r.to)) (and-false (nat_le r.row y))
 ]
   where
     no_le : (a b : ℕ) → b < a → nat_le a b ≡ false

@@ -7,7 +7,7 @@ use Rattle.rc_base.specs.Cluster.Tiles.{is_in_rect}
 use Rattle.rc_base.specs.Drawing.Cover.{is_in_area, is_in_scissor}
 use Rattle.rc_base.specs.declared.state.State.{State}
 use Rattle.rc_base.specs.declared.window.Rect.{Rect}
-use Rattle.scene_lemmas.proofs.Rectangles.{above_left, below_right, above_bottom, below_top}
+use Rattle.scene_lemmas.proofs.Rectangles.{above_left, below_right, above_bottom, below_top, inside_rect}
 use Rattle.raster.specs.Clips.{IsCut, IsPart, IsPartWhere, is_let_through}
 
 low_is : (from low p : ℤ) → from ≤ℤ p → int_le low p ≡ int_le (int_max from low) p
@@ -32,9 +32,6 @@ part_is r area x0 x1 y0 y1 a b = record {
   exact = λ x y e i. a.exact x (above_left r x y e) (below_right r x y e) i && b.exact y (above_bottom r x y e) (below_top r x y e) i;
 }
 
-inside : (p : Rect) (x y : ℤ) → p.x0 ≤ℤ x → x <ℤ p.x1 → p.y0 ≤ℤ y → y <ℤ p.y1 → is_in_rect p x y ≡ true
-inside p x y a b c d = grind (arith, ints)
-
 -- what passes a test in a part of the rectangle
 narrower : (r p q : Rect) (f g : ℤ → ℤ → Bool) (x y : ℤ) → IsPartWhere r p f → IsPartWhere p q g → is_in_rect r x y ≡ true
     → (b : Bool) → is_in_rect p x y ≡ b → (f x y && g x y) ≡ is_in_rect q x y
@@ -56,7 +53,7 @@ narrower r p q f g x y h k e false i =
             let f = k.right in
             let g = k.bottom in
             let h = k.top in
-            sym (inside p x y (omega (arith, ints)) (omega (arith, ints)) (omega (arith, ints)) (omega (arith, ints))) ∙ i
+            sym (inside_rect p x y (omega (arith, ints)) (omega (arith, ints)) (omega (arith, ints)) (omega (arith, ints))) ∙ i
 
 pub both_is : (s : State) (r p q : Rect) → IsPartWhere r p (is_in_area s.viewport) → IsPartWhere p q (is_in_scissor s) → IsPartWhere r q (is_let_through s)
 both_is s r p q h k =

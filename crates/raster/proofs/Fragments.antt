@@ -1,6 +1,6 @@
 -- From the weights at a pixel to its fragment.
 use Rattle.std.proofs.Common.{◌≡◌, ℕ, ◌<◌, ◌==◌, ◌&&◌, ℤ, pos, negsuc, ◌≤ℤ◌, ◌<ℤ◌, arith, List, true}
-use Rattle.std.proofs.lemmas.Bool.{and_parts}
+use Rattle.std.proofs.lemmas.Bool.{and_parts, eqb-true}
 use Rattle.std.proofs.lemmas.Int.{ints, int_min_is, int_max_is}
 use Rattle.std.specs.Int.{int_min, int_max}
 use Rattle.rc_base.specs.Numbers.{Within, floor_quotient, natural}
@@ -80,13 +80,10 @@ flat_channel v x y channel p t e f =
     exactly n (pos m) h k = omega (arith, ints)
     exactly n (negsuc m) h k = absurd (omega (arith, ints))
 
-same : (a b : ℕ) → (a == b) ≡ true → a ≡ b
-same a b h = grind arith
-
 same_of : (a b c : ℕ) → (a == b && b == c) ≡ true → (a ≡ b) × (b ≡ c)
 same_of a b c h =
     let p = and_parts (a == b) (b == c) h in
-    (same a b p.0, same b c p.1)
+    (eqb-true a b p.0, eqb-true b c p.1)
 
 pub flat_is : (v : List WindowVertex) (x y : ℤ) → pos 0 <ℤ triangle_area v → is_inside v x y ≡ true → has_one_color v ≡ true
     → (corner v 0).color ≡ (fragment_of v x y).color

@@ -5,6 +5,7 @@ use Rattle.std.proofs.lemmas.Bool.{and_parts, and_right}
 use Rattle.std.proofs.lemmas.Bool.Decides.{Decides-int_eq}
 use Rattle.std.proofs.Math.IntN.{*ℤ_comm}
 use borrow.Author.Differences.{same_in, same_out, lt_out, sum_is_lem, neg_is}
+use Rattle.std.proofs.Math.Bool.{and-true}
 use Rattle.fixed_math.proofs.Signed.{diff_times}
 use Rattle.fixed_math.proofs.Signs.{below_is, not_below_is, off}
 use Rattle.rc_base.specs.Drawing.Cover.{edge_value, passes, is_within_edge, keeps_line, is_inside, centre, corner, covers}
@@ -34,15 +35,11 @@ passes_strictly e keeps h = grind (arith, ints)
 passes_line : (e : ℤ) (keeps : Bool) → e ≡ pos 0 → passes e keeps ≡ keeps
 passes_line e keeps h = rw h refl
 
-and_last : (a : Bool) → (a && true) ≡ a
-and_last true = refl
-and_last false = refl
-
 first_decides : (a b c : Bool) → b ≡ true → c ≡ true → (a && (b && c)) ≡ a
-first_decides a b c h k = rw (h, k) (and_last a)
+first_decides a b c h k = rw (h, k) (and-true a)
 
 second_decides : (a b c : Bool) → a ≡ true → c ≡ true → (a && (b && c)) ≡ b
-second_decides a b c h k = rw (h, k) (and_last b)
+second_decides a b c h k = rw (h, k) (and-true b)
 
 third_decides : (a b c : Bool) → a ≡ true → b ≡ true → (a && (b && c)) ≡ c
 third_decides a b c h k = rw (h, k) refl
@@ -133,7 +130,7 @@ at_most_one true false c d e = and_right c false refl
 at_most_one false q c d e = refl
 
 exactly_one : (p q c d : Bool) → p ≡ not q → c ≡ true → d ≡ true → (p && c) ≡ not (q && d)
-exactly_one p q c d e h k = rw (h, k, and_last p, and_last q) e
+exactly_one p q c d e h k = rw (h, k, and-true p, and-true q) e
 
 pub no_double_cover_holds : NoDoubleCover
 unfolding covers

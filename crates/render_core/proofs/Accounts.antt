@@ -18,11 +18,12 @@ use Rattle.order_model.specs.Report.{count_lines, fault_lines, order_line, order
 use Rattle.order_model.specs.declared.record.Record.{Record}
 use Rattle.run_record.specs.Told.{IsRun}
 use Rattle.run_words.specs.declared.work.Work.{Work}
+use Rattle.scene_lemmas.proofs.Scenes.{scene_client_count}
 use Rattle.render_core.specs.Due.{ending_by, report_due}
 use Rattle.render_core.specs.Runs.{AreOf}
 use Rattle.run_words.specs.Reports.{line_of_tile, lines_of_orders, lines_of_run, lines_of_stuck, lines_of_tiles}
 use Rattle.run_words.specs.declared.told.Ending.TheVariants.{Complete, Stuck}
-use Rattle.render_core.proofs.ReportLines.{faults_told, is_stuck_of, scene_clients, stuck_told}
+use Rattle.render_core.proofs.ReportLines.{faults_told, is_stuck_of, stuck_told}
 
 same_in_range : (f g : ℕ → List ℕ) (a n : ℕ) → ((k : ℕ) → k < n → f (a + k) ≡ g (a + k)) → flat_map f (range_with_len a n) ≡ flat_map g (range_with_len a n)
 same_in_range f g a zero same = refl
@@ -43,7 +44,7 @@ module _ (scene : Scene) (l : Layout) (kept : Record) (tallies : List Tally) (wa
   few_faults within = let k = clients_within scene within in let e = is.faults_are.clients in omega (arith, k, e)
 
   pub few_clients : limit_of scene ≡ None → client_count kept.syncs ≤ 8
-  few_clients within = let k = clients_within scene within in let e = ap client_count is.lawful.lists ∙ scene_clients scene in omega (arith, k, e)
+  few_clients within = let k = clients_within scene within in let e = ap client_count is.lawful.lists ∙ scene_client_count scene in omega (arith, k, e)
 
   pub few_logs : tile_count l ≤ 32 → length kept.logs ≤ 32
   few_logs few = let e = is.lawful.count in omega (arith, few, e)

@@ -230,9 +230,10 @@ module _ (input : List ℕ) (short : length input ≤ byte_limit) where
 
 -- ---- expansions
 
-later : (qs rs : List Quantity) → first_outside (qs ++ rs) ≡ None → first_outside rs ≡ None
-later [] rs e = e
-later (q ∷ qs) rs e = later qs rs (first_within q (qs ++ rs) e).1
+-- quantities behind those of a list
+behind_each : {A : Type 0} (f : A → Quantity) (xs : List A) (rs : List Quantity) → first_outside (map f xs ++ rs) ≡ None → first_outside rs ≡ None
+behind_each f [] rs e = e
+behind_each f (x ∷ xs) rs e = behind_each f xs rs (first_within (f x) (map f xs ++ rs) e).1
 
 -- the quantities of a declaration and of so many streams and commands, from behind some of them on
 module _ (d : Decl) (clients commands : ℕ) (rest : List Quantity) where
@@ -267,10 +268,12 @@ module _ (d : Decl) (clients commands : ℕ) (rest : List Quantity) where
 
     few : commands ≤ 1048576
     few =
-        let sides = later (quantity 4 clients 1 8 ∷ quantity 5 (length d.shared) 0 16 ∷ []) sides_on height.1 in
-        let texels = later (map side (flat_map (λ (size : List ℕ). size) d.shared)) texels_on sides in
-        let barriers = later (quantity 7 (sum_by size_area d.shared) 0 1048576 ∷ quantity 8 (length d.barriers) 0 64 ∷ []) barriers_on texels in
-        let semaphores = later (map barrier_count d.barriers) semaphores_on barriers in
+        let textures = (first_within (quantity 4 clients 1 8) (quantity 5 (length d.shared) 0 16 ∷ sides_on) height.1).1 in
+        let sides = (first_within (quantity 5 (length d.shared) 0 16) sides_on textures).1 in
+        let texels = behind_each side (flat_map (λ (size : List ℕ). size) d.shared) texels_on sides in
+        let counts = (first_within (quantity 7 (sum_by size_area d.shared) 0 1048576) (quantity 8 (length d.barriers) 0 64 ∷ barriers_on) texels).1 in
+        let barriers = (first_within (quantity 8 (length d.barriers) 0 64) barriers_on counts).1 in
+        let semaphores = behind_each barrier_count d.barriers semaphores_on barriers in
         let last = (first_within (quantity 10 (length d.semaphores) 0 64) (quantity 11 commands 0 1048576 ∷ rest) semaphores).1 in
         (in_range 11 commands 0 1048576 (first_within (quantity 11 commands 0 1048576) rest last).0).1
 

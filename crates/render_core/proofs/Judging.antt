@@ -1,10 +1,10 @@
 -- From what a reader answers to what the task finds in its input.
-use Rattle.std.proofs.Common.{◌≡◌, ℕ, ◌<◌, ◌≤◌, inl, inr, Bool, true, false, List, ◌∷◌, length, None, Some, refl, sym, ap, ap₂, subst, arith, ◌∙◌}
+use Rattle.std.proofs.Common.{◌≡◌, ℕ, ◌<◌, ◌≤◌, inl, inr, true, false, List, ◌∷◌, length, None, Some, refl, sym, ap, ap₂, subst, arith, ◌∙◌}
 use Rattle.std.proofs.lemmas.Bool.{cases_lt}
 use Rattle.std.specs.Option.{option_or}
 use Rattle.std.specs.declared.option.Option.{Option}
 use Rattle.rc_base.specs.Formats.Limits.{held_limit, limit_of, size_limit}
-use Rattle.rc_base.specs.Formats.Spelling.{IsVersion, SpellsScene, digit}
+use Rattle.rc_base.specs.Formats.Spelling.{SpellsScene}
 use Rattle.rc_base.specs.Outside.Transfer.{byte_limit}
 use Rattle.rc_base.specs.declared.scene.Limit.{Limit}
 use Rattle.rc_base.specs.declared.scene.Scene.{Scene}
@@ -20,6 +20,7 @@ use Rattle.run_words.specs.declared.job.Job.{Job}
 use Rattle.run_words.specs.declared.job.Job.TheVariants.{Render, Simulate, Last, Gen, Demo}
 use Rattle.run_words.specs.declared.job.Origin.{Origin}
 use Rattle.run_words.specs.declared.job.Origin.TheVariants.{Read, Generated}
+use Rattle.scene_lemmas.proofs.Formats.{digit_is_not_three}
 use Rattle.render_core.specs.declared.work.Meaning.{Meaning}
 use Rattle.run_words.specs.declared.work.Work.{Work}
 use Rattle.rc_base.specs.Outside.Ends.{Used}
@@ -83,13 +84,10 @@ fourth : List ℕ → ℕ
 fourth (a ∷ (b ∷ (c ∷ (d ∷ rest)))) = d
 fourth _ = 0
 
-digit_is : (version : ℕ) → IsVersion version → digit version ≡ 0x33 → ⊥
-digit_is version is e = omega (arith, is.1, e)
-
 -- and those of a scene without don't
 pub never_begins : (input : List ℕ) (s : Scene) → SpellsScene input s → BeginWithLists input → ⊥
 unfolding fourth
-never_begins input s is begin = digit_is s.decl.version is.decl.version (ap fourth (sym is.parts) ∙ ap fourth begin.1)
+never_begins input s is begin = digit_is_not_three s.decl.version is.decl.version (ap fourth (sym is.parts) ∙ ap fourth begin.1)
 
 -- ---- an input is one thing
 

@@ -1,10 +1,9 @@
 -- Records of ordered scenes show one image.
-use Rattle.std.proofs.Common.{◌≡◌, ℕ, zero, suc, ◌+◌, ◌-◌, ◌*◌, ◌<◌, ◌≤◌, inl, inr, List, [], ◌∷◌, ◌++◌, length, map, take, None, Some, refl, sym, ap, subst, ◌∙◌, length-append, arith}
+use Rattle.std.proofs.Common.{◌≡◌, ℕ, zero, suc, ◌+◌, ◌-◌, ◌*◌, ◌<◌, ◌≤◌, inl, inr, List, [], ◌∷◌, ◌++◌, length, map, None, Some, refl, sym, ap, subst, ◌∙◌, length-append, arith}
 use Rattle.std.specs.Prelude.{codes, pos}
 use Rattle.std.specs.Fmt.{decimal}
 use Rattle.std.specs.List.{flat_map, range_with_len}
 use Rattle.std.specs.declared.option.Option.{Option}
-use Rattle.std.proofs.Math.Seq.{take-append_seam}
 use Rattle.std.proofs.lemmas.Bool.{cases_lt}
 use Rattle.std.proofs.lemmas.List.{append_cancel_left}
 use Rattle.rc_base.specs.Drawing.Images.{Pixels, frame_images, image_from, rgb_bytes, rgb_of, row_bytes}
@@ -25,6 +24,7 @@ use Rattle.order_model.specs.Report.{frame_count, image_text_of, recorded_pixel}
 use Rattle.order_model.specs.Sent.{IsRecordOf}
 use Rattle.order_model.specs.declared.record.Record.{Record}
 use Rattle.scene_file.specs.Generated.{GeneratedScenesAreWithin}
+use Rattle.plain_lemmas.proofs.Lists.{same_parts}
 use Rattle.render_core.specs.Due.{default_frames}
 use Rattle.spu_chain.specs.Laws.{FilteredStaysWithin}
 use Rattle.run_words.specs.declared.work.Work.{Work}
@@ -44,11 +44,6 @@ use Rattle.rc_base.proofs.WithinLimits.{clients_within, counts_some, first_withi
 
 -- ---- texts of images of one size, one after the other, tell each image
 
-apart : (xs ys ts us : List ℕ) → length xs ≡ length ys → xs ++ ts ≡ ys ++ us → (xs ≡ ys) × (ts ≡ us)
-apart xs ys ts us sizes e =
-    let first : xs ≡ ys = sym (take-append_seam xs ts) ∙ ap (take (length xs)) e ∙ ap (λ (n : ℕ). take n (ys ++ us)) sizes ∙ take-append_seam ys us in
-    (first, append_cancel_left ys ts us (ap (λ (zs : List ℕ). zs ++ ts) (sym first) ∙ e))
-
 longer : (xs ys zs : List ℕ) → length ys ≡ length zs → length (xs ++ ys) ≡ length (xs ++ zs)
 longer xs ys zs e = length-append xs ys ∙ ap (λ (n : ℕ). length xs + n) e ∙ sym (length-append xs zs)
 
@@ -61,7 +56,7 @@ module _ (f g : ℕ → List ℕ) (sizes : (k : ℕ) → length (f k) ≡ length
       → p6_texts (map F (range_with_len a n)) ≡ p6_texts (map G (range_with_len a n)) → (k : ℕ) → a ≤ k → k < a + n → f k ≡ g k
   each_apart F G is_f is_g a zero e k low high = absurd (omega (arith, low, high))
   each_apart F G is_f is_g a (suc n) e k low high =
-      let here = apart (p6_text (F a)) (p6_text (G a)) (p6_texts (map F (range_with_len (a + 1) n))) (p6_texts (map G (range_with_len (a + 1) n)))
+      let here = same_parts (p6_text (F a)) (p6_text (G a)) (p6_texts (map F (range_with_len (a + 1) n))) (p6_texts (map G (range_with_len (a + 1) n)))
       (ap length (is_f a) ∙ sizes a ∙ sym (ap length (is_g a))) e in
       elim (cases_lt a k) [
         | inl later ↦ each_apart F G is_f is_g (a + 1) n here.1 k (omega (arith, later)) (omega (arith, high))

@@ -1,15 +1,14 @@
 -- The lines of reports, client by client.
-use Rattle.std.proofs.Common.{◌≡◌, ℕ, zero, suc, ◌+◌, inl, inr, Bool, true, false, List, [], ◌∷◌, ◌++◌, length, Option, None, Some, refl, sym, ap, ◌∙◌, arith, append_assoc}
+use Rattle.std.proofs.Common.{◌≡◌, ℕ, ◌+◌, inl, inr, Bool, true, false, List, [], ◌∷◌, ◌++◌, length, Option, None, Some, refl, sym, ap, ◌∙◌, arith, append_assoc}
 use Rattle.std.specs.Prelude.{◌↔◌, ◌||◌, IsSome, is_some, slice_index_or, codes, if◌then◌else◌}
 use Rattle.std.specs.List.{flat_map, range_with_len, list_any}
 use Rattle.std.specs.Option.{option_map_or}
 use Rattle.std.proofs.lemmas.Bool.{cases_Bool}
 use Rattle.std.proofs.lemmas.Grind.{flat_map-append}
 use Rattle.std.proofs.lemmas.List.{append-nil}
-use Rattle.std.proofs.lemmas.List.FromFn.{length-map-range_with_len}
 use Rattle.rc_base.specs.Contexts.Issue.{faults_of}
 use Rattle.rc_base.specs.Orders.Journal.{waiting_of}
-use Rattle.rc_base.specs.Orders.Sync.{client_count, sync_lists_of, sync_row_of}
+use Rattle.rc_base.specs.Orders.Sync.{client_count, sync_lists_of}
 use Rattle.rc_base.specs.declared.scene.Scene.{Scene}
 use Rattle.rc_base.specs.declared.state.Fault.{Fault}
 use Rattle.rc_base.specs.declared.sync.Entry.{Entry}
@@ -17,6 +16,8 @@ use Rattle.rc_base.specs.declared.sync.WaitAt.{WaitAt}
 use Rattle.rc_base.specs.declared.sync.Waiting.{Waiting}
 use Rattle.order_model.specs.Report.{fault_line, client_faults, fault_lines, count_lines, stuck_line, client_stuck, stuck_lines, is_stuck, short_report_of}
 use Rattle.run_words.specs.declared.work.Work.{Work}
+use Rattle.plain_lemmas.proofs.Ranges.{range_more}
+use Rattle.scene_lemmas.proofs.Scenes.{scene_client_count}
 use Rattle.render_core.specs.Due.{short_due}
 use Rattle.run_words.specs.Reports.{lines_of_faults, lines_of_stuck, lines_of_turns}
 use Rattle.render_core.specs.Runs.{AreOf}
@@ -36,14 +37,6 @@ no_lines at (x ∷ xs) none = go (at x) refl (λ rest. no_lines at xs rest) wher
   go None e later = ap (λ (w : Option WaitAt). option_map_or (stuck_line x) w [] ++ flat_map (λ client. option_map_or (stuck_line client) (at client) []) xs) e
       ∙ later (sym (ap (λ (w : Option WaitAt). is_some w || list_any (λ client. is_some (at client)) xs) e) ∙ none)
   go (Some w) e later = let some : true ≡ false = sym (ap (λ (w : Option WaitAt). is_some w || list_any (λ client. is_some (at client)) xs) e) ∙ none in cc
-
-pub scene_clients : (scene : Scene) → client_count (sync_lists_of scene) ≡ length scene.streams
-unfolding sync_lists_of
-scene_clients scene = length-map-range_with_len (sync_row_of scene) 0 (length scene.streams)
-
-pub scene_counts : (scene : Scene) → (sync_lists_of scene).counts ≡ scene.decl.barriers
-unfolding sync_lists_of
-scene_counts scene = refl
 
 pub is_stuck_of : (scene : Scene) (journal : List Entry) (waiting : Option Waiting) → (IsSome waiting ↔ (is_stuck (sync_lists_of scene) journal ≡ true))
     → is_some waiting ≡ is_stuck (sync_lists_of scene) journal
@@ -70,7 +63,7 @@ module _ (scene : Scene) (faults : List (List (ℕ × Fault))) (journal : List E
       let stuck : is_stuck (sync_lists_of scene) journal ≡ true = sym (is_stuck_of scene journal (Some w) are.stuck) in
       let waits = same_lines (λ client. option_map_or (stuck_line client) (slice_index_or w.at client None) []) (client_stuck (sync_lists_of scene) journal)
       (λ client. ap (λ (o : Option WaitAt). option_map_or (stuck_line client) o []) (are.waits client)) (range_with_len 0 (length faults)) in
-      let count : length faults ≡ client_count (sync_lists_of scene) = are.clients ∙ sym (scene_clients scene) in
+      let count : length faults ≡ client_count (sync_lists_of scene) = are.clients ∙ sym (scene_client_count scene) in
       ap (λ (l : List ℕ). l ++ codes "rc: stuck\n") (waits ∙ ap (λ (n : ℕ). flat_map (client_stuck (sync_lists_of scene) journal) (range_with_len 0 n)) count)
       ∙ sym (ap (λ (b : Bool). flat_map (client_stuck (sync_lists_of scene) journal) (range_with_len 0 (client_count (sync_lists_of scene))) ++ (if b then codes "rc: stuck\n" else [])) stuck)
 

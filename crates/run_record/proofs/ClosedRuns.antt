@@ -1,5 +1,5 @@
 -- From each core's own clause, with the lanes closed, to what holds of all of them.
-use Rattle.std.proofs.Common.{ℕ, ◌<◌, List, [], ◌∷◌, length, subst, arith}
+use Rattle.std.proofs.Common.{ℕ, ◌<◌, List, length, subst, arith}
 use Rattle.std.specs.Prelude.{slice_index_or}
 use Rattle.rc_base.specs.Lists.{IsFront}
 use Rattle.rc_base.specs.Cluster.Parcels.{parcels_of}
@@ -22,6 +22,7 @@ use Rattle.tile_model.specs.Scenes.{IsInRange, HasSides}
 use Rattle.tile_server.specs.Clauses.{EndedTilesAreDone}
 use Rattle.tile_server.specs.declared.tile_core.TileCore.{TileCore}
 use Rattle.scene_lemmas.proofs.Scenes.{scene_client_count}
+use Rattle.rc_base.proofs.Paired.{some_item}
 use Rattle.run_record.specs.Closed.{AreClosed, AreDone, IsTileFinished, ClosedRunsAreDone}
 
 -- the laws that are cited
@@ -32,18 +33,13 @@ pub record ClosingLaws : Type 0 where
   pub tiles : EndedTilesAreDone
   pub legal : LegalBooksHaveLegalJournals
 
--- a list with an element isn't empty
-pub some_of : {A : Type 0} (xs : List A) (i : ℕ) → i < length xs → A
-some_of [] i lt = absurd (omega (arith, lt))
-some_of (x ∷ xs) i lt = x
-
 module _ (laws : ClosingLaws) (scene : Scene) (l : Layout) (clients : List ClientCore) (core : ManagerCore) (tiles : List TileCore) (shown : ℕ → List TilePart)
     (range : IsInRange scene) (sides : HasSides scene.decl) (h : AreClosed scene l clients core tiles shown) where
   client_done : (c : ℕ) (d : ClientCore) → c < length scene.streams → IsClientDone scene l c (slice_index_or clients c d) (h.sent c) (h.asked c)
   client_done c d lt = let e = h.client c d lt in laws.clients scene l c (slice_index_or clients c d) (h.sent c) (h.asked c) e.clause e.ample
 
   core_of : (c : ℕ) → c < length scene.streams → ClientCore
-  core_of c lt = some_of clients c (let n = h.client_total in omega (arith, n, lt))
+  core_of c lt = some_item clients c (let n = h.client_total in omega (arith, n, lt))
 
   parcels_front : (c t : ℕ) → c < length scene.streams → t < tile_count l → IsFront (h.took t c) (parcels_of scene l c t)
   parcels_front c t lc lt = subst (λ (xs : List Parcel). IsFront (h.took t c) xs) ((client_done c (core_of c lc) lc).parcels t lt) (h.parcel_lanes c t lc lt)

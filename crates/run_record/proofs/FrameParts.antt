@@ -1,17 +1,15 @@
 -- The parts of a frame that the tiles have shown are those of its image, and the texts of the images are the record's image text.
-use Rattle.std.proofs.Common.{◌≡◌, ℕ, zero, suc, ◌+◌, ◌-◌, ◌*◌, ◌/◌, ◌<◌, ◌≤◌, inl, inr, Bool, true, false, List, ◌∷◌, length, map, get_or, take, drop, Some, refl, sym, ap, ◌∙◌, subst, arith, leb-true, ltb-true, true≢false, pos, ◌-ℤ◌}
-use Rattle.std.specs.Prelude.{nat_le, nat_lt, slice_get}
+use Rattle.std.proofs.Common.{◌≡◌, ℕ, zero, suc, ◌+◌, ◌*◌, ◌/◌, ◌<◌, ◌≤◌, inl, inr, Bool, true, false, List, ◌∷◌, length, map, get_or, take, drop, Some, refl, sym, ap, ◌∙◌, arith, true≢false, pos, ◌-ℤ◌}
+use Rattle.std.specs.Prelude.{slice_get}
 use Rattle.std.specs.List.{find, range_with_len}
 use Rattle.std.specs.Option.{option_map_or}
 use Rattle.std.specs.declared.option.Option.{Option}
-use Rattle.std.proofs.Math.Nat.{div-lt_iff_lt-mul, div-mul-le_self, mul-div_cancel, mul-div_cancel_left, mul-le-mul_left, zero-mul}
-use Rattle.std.proofs.lemmas.Bool.{and_parts, cases_lt}
-use Rattle.std.proofs.lemmas.Int.{ints}
+use Rattle.std.proofs.Math.Nat.{div-lt_iff_lt-mul, mul-div_cancel, mul-le-mul_left, zero-mul}
+use Rattle.std.proofs.lemmas.Bool.{cases_lt}
 use Rattle.std.proofs.lemmas.List.{length-take-le, length-drop, get_or-take, get_or-drop}
-use Rattle.std.proofs.lemmas.Nat.{le-div}
 use Rattle.std.proofs.lemmas.Option.{get_or_from_slice_get, slice_get-get_or, slice_get_within}
 use Rattle.rc_base.specs.Numbers.{natural}
-use Rattle.rc_base.specs.Cluster.Tiles.{boundary_of, is_in_interval, tile_at, tile_column, tile_count, tile_pixels, tile_rectangle, tile_row}
+use Rattle.rc_base.specs.Cluster.Tiles.{boundary_of, tile_at, tile_column, tile_count, tile_pixels, tile_rectangle, tile_row}
 use Rattle.rc_base.specs.Drawing.Images.{rgb_bytes}
 use Rattle.rc_base.specs.Drawing.Serial.{frame_pixel}
 use Rattle.rc_base.specs.Formats.Netpbm.{p6_texts}
@@ -25,6 +23,8 @@ use Rattle.order_model.specs.Report.{frame_count, image_text_of, recorded_pixel,
 use Rattle.order_model.specs.declared.record.Record.{Record}
 use Rattle.run_record.specs.Told.{AreFrameParts}
 use Rattle.tile_server.specs.Laws.{IsFramePart}
+use Rattle.scene_lemmas.proofs.Boundaries.{boundary_rises, boundary_most, has_place}
+use Rattle.scene_lemmas.proofs.Rectangles.{length_between}
 use Rattle.frame_out.specs.Frames.{frame_parts, frame_total, AreFrames, ShowFrames}
 use Rattle.run_record.specs.ImageText.{RecordedFramesHaveTheImageText, WholeRunsShowFrames}
 
@@ -38,21 +38,12 @@ pub some_rows : (a b : ℕ) → 0 < a * b → 0 < b
 some_rows a zero some = absurd (omega (arith, some))
 some_rows a (suc b) some = omega arith
 
-boundary_rises : (side parts i j : ℕ) → 0 < parts → i ≤ j → boundary_of side parts i ≤ boundary_of side parts j
-boundary_rises side parts i j some le =
-    let whole : i * side / parts * parts ≤ i * side = div-mul-le_self (i * side) parts in
-    let more : side * i ≤ side * j = mul-le-mul_left side le in
-    le-div (i * side / parts) (j * side) parts some (omega (arith, whole, more))
-
-gap_is : (a b : ℕ) → a ≤ b → natural (pos b -ℤ pos a) ≡ b - a
-gap_is a b le = let e : pos b -ℤ pos a ≡ pos (b - a) = omega (arith, ints) in ap natural e
-
 module _ (l : Layout) (columns : 0 < l.columns) (rows : 0 < l.rows) where
   wide_is : (tile : ℕ) → natural (pos (boundary_of l.width l.columns (tile_column l tile + 1)) -ℤ pos (boundary_of l.width l.columns (tile_column l tile))) ≡ tile_width l tile
-  wide_is tile = gap_is _ _ (boundary_rises l.width l.columns (tile_column l tile) (tile_column l tile + 1) columns (omega arith))
+  wide_is tile = length_between _ _ (boundary_rises l.width l.columns (tile_column l tile) (tile_column l tile + 1) columns (omega arith))
 
   high_is : (tile : ℕ) → natural (pos (boundary_of l.height l.rows (tile_row l tile + 1)) -ℤ pos (boundary_of l.height l.rows (tile_row l tile))) ≡ tile_height l tile
-  high_is tile = gap_is _ _ (boundary_rises l.height l.rows (tile_row l tile) (tile_row l tile + 1) rows (omega arith))
+  high_is tile = length_between _ _ (boundary_rises l.height l.rows (tile_row l tile) (tile_row l tile + 1) rows (omega arith))
 
   size_is : (tile : ℕ) → rect_size (tile_rectangle l tile) ≡ tile_width l tile * tile_height l tile
   size_is tile = rw (wide_is tile, high_is tile) refl
@@ -60,34 +51,9 @@ module _ (l : Layout) (columns : 0 < l.columns) (rows : 0 < l.rows) where
   place_is : (tile x y : ℕ) → boundary_of l.width l.columns (tile_column l tile) ≤ x → boundary_of l.height l.rows (tile_row l tile) ≤ y
       → pixel_index (tile_rectangle l tile) (pos x) (pos y) ≡ place_in_part l tile x y
   unfolding pixel_index
-  place_is tile x y across up = rw (wide_is tile, gap_is (boundary_of l.width l.columns (tile_column l tile)) x across, gap_is (boundary_of l.height l.rows (tile_row l tile)) y up) refl
+  place_is tile x y across up = rw (wide_is tile, length_between (boundary_of l.width l.columns (tile_column l tile)) x across, length_between (boundary_of l.height l.rows (tile_row l tile)) y up) refl
 
 -- ---- the tile of a pixel
-
-record HasPlace (l : Layout) (tile x y : ℕ) : Type 0 where
-  pub left : boundary_of l.width l.columns (tile_column l tile) ≤ x
-  pub right : x < boundary_of l.width l.columns (tile_column l tile + 1)
-  pub bottom : boundary_of l.height l.rows (tile_row l tile) ≤ y
-  pub top : y < boundary_of l.height l.rows (tile_row l tile + 1)
-
-in_interval : (side parts j p : ℕ) → is_in_interval side parts j p ≡ true → (boundary_of side parts j ≤ p) × (p < boundary_of side parts (j + 1))
-in_interval side parts j p h =
-    let tests = and_parts (nat_le (boundary_of side parts j) p) (nat_lt p (boundary_of side parts (j + 1))) h in
-    (leb-true (boundary_of side parts j) p tests.0, ltb-true p (boundary_of side parts (j + 1)) tests.1)
-
-has_place : (l : Layout) (tile x y : ℕ) → tile_pixels l tile x y ≡ true → HasPlace l tile x y
-unfolding tile_pixels
-has_place l tile x y h =
-    let tests = and_parts (is_in_interval l.width l.columns (tile_column l tile) x) (is_in_interval l.height l.rows (tile_row l tile) y) h in
-    let across = in_interval l.width l.columns (tile_column l tile) x tests.0 in
-    let up = in_interval l.height l.rows (tile_row l tile) y tests.1 in
-    record { left = across.0; right = across.1; bottom = up.0; top = up.1 }
-
-boundary_most : (side parts j : ℕ) → j < parts → boundary_of side parts (j + 1) ≤ side
-boundary_most side parts j low =
-    let some : 0 < parts = omega arith in
-    let rises = boundary_rises side parts (j + 1) parts some (omega arith) in
-    subst (λ (n : ℕ). boundary_of side parts (j + 1) ≤ n) (mul-div_cancel_left side some) rises
 
 found_first : (test : ℕ → Bool) (a n k : ℕ) → a ≤ k → k < a + n → test k ≡ true → ((j : ℕ) → j < a + n → test j ≡ true → j ≡ k)
     → find test (range_with_len a n) ≡ Some k
@@ -105,8 +71,8 @@ module _ (one : EachPixelHasOneTile) (l : Layout) (columns : 0 < l.columns) (row
   tile_is tile x y low has =
       let place = has_place l tile x y has in
       let row_low : tile_row l tile < l.rows = (div-lt_iff_lt-mul columns).1 (omega (arith, low)) in
-      let right : x < l.width = (let most = boundary_most l.width l.columns (tile_column l tile) (omega (arith, columns)) in omega (arith, most, place.right)) in
-      let top : y < l.height = (let most = boundary_most l.height l.rows (tile_row l tile) row_low in omega (arith, most, place.top)) in
+      let right : x < l.width = (let most = boundary_most l.width l.columns (tile_column l tile) (omega (arith, columns)) in omega (arith, most, place.across.high)) in
+      let top : y < l.height = (let most = boundary_most l.height l.rows (tile_row l tile) row_low in omega (arith, most, place.up.high)) in
       let found = one l x y columns rows right top in
       let this : tile ≡ found.0 = found.2 tile (low, has) in
       ap (λ (o : Option ℕ). option_map_or (λ (t : ℕ). t) o 0)
@@ -132,7 +98,7 @@ frame_shows one scene l kept some parts frame are tile x y p is has =
     let rows = some_rows l.columns l.rows some in
     let got = are tile p is in
     let place = has_place l tile x y has in
-    ap (slice_get p.pixels) (sym (place_is l columns rows tile x y place.left place.bottom))
+    ap (slice_get p.pixels) (sym (place_is l columns rows tile x y place.across.low place.up.low))
     ∙ got.1.pixel x y has
     ∙ ap (λ (t : ℕ). Some (frame_pixel scene (tile_order kept t) frame (pos x) (pos y))) (sym (tile_is one l columns rows tile x y got.0 has))
 

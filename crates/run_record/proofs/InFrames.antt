@@ -13,10 +13,10 @@ use Rattle.rc_base.specs.declared.scene.Scene.{Scene}
 use Rattle.rc_base.specs.declared.window.Layout.{Layout}
 use Rattle.order_model.specs.Report.{frame_count}
 use Rattle.order_model.specs.declared.record.Record.{Record}
+use Rattle.rc_base.proofs.Paired.{some_item}
 use Rattle.run_record.specs.Collected.{FramesAreInOrder}
 use Rattle.run_record.specs.Gathering.{AreInFrames, shown_by}
 use Rattle.run_record.specs.Told.{AreFrameParts, HaveFrames}
-use Rattle.run_record.proofs.ClosedRuns.{some_of}
 
 -- the list of a tile, whatever stands for a tile that there isn't
 pub shown_at : (lists : List (Vec TilePart Global)) (tile : ℕ) (d : Vec TilePart Global) → tile < length lists → shown_by lists tile ≡ (slice_index_or lists tile d).items
@@ -40,7 +40,7 @@ module _ (scene : Scene) (l : Layout) (kept : Record) (lists : List (Vec TilePar
   part_of frame tile part low is =
       let here : tile < length lists = omega (arith, tiles, low) in
       let less = less_of frame tile part low is in
-      let d = some_of lists tile here in
+      let d = some_item lists tile here in
       let at : part ≡ slice_index_or (slice_index_or lists tile d).items frame part =
       sym (get_or_from_slice_get parts (frame * tile_count l + tile) part part is)
       ∙ ap (λ x. slice_index_or parts (frame * x + tile) part) (sym tiles)

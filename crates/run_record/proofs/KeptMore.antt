@@ -17,6 +17,7 @@ use Rattle.client_issue.specs.Kept.{IsKept}
 use Rattle.client_issue.specs.declared.client.ClientCore.{ClientCore}
 use Rattle.client_issue.specs.declared.client.ClientKept.{ClientKept}
 use Rattle.rc_base.specs.Lists.{ArePaired}
+use Rattle.plain_lemmas.proofs.Numbers.{min_of_min}
 use Rattle.run_record.specs.Gathering.{HasSent, HaveSent, IsRowOf, AreFaultsOf, AreSums}
 use Rattle.run_record.specs.Kept.{together, AreAdded, AreKept, HasAdded}
 use Rattle.run_record.specs.declared.kept.KeptLists.{KeptLists}
@@ -49,12 +50,9 @@ last_sent scene l cores core h =
     let low : length cores < length (cores ++ core ∷ []) = (let n = length-append cores (core ∷ []) in omega (arith, n)) in
     subst (λ x. HasSent scene l (length cores) x) (get_or-append_seam cores core [] core) (h.at (length cores) core low)
 
-held_twice : (a b m : ℕ) → min (min a m + b) m ≡ min (a + b) m
-held_twice a b m = omega arith
-
 sum_more : (f : ClientCore → ℕ) (cores : List ClientCore) (core : ClientCore) (s : ℕ) (m : ℕ) → s ≡ min (sum_by f cores) m → min (s + f core) m ≡ min (sum_by f (cores ++ core ∷ [])) m
 sum_more f cores core s m e =
-    ap (λ n. min (n + f core) m) e ∙ held_twice (sum_by f cores) (f core) m ∙ ap (λ n. min n m) (sym (sum_by_push f cores core))
+    ap (λ n. min (n + f core) m) e ∙ min_of_min (sum_by f cores) (f core) m ∙ ap (λ n. min n m) (sym (sum_by_push f cores core))
 
 sums_more : (cores : List ClientCore) (core : ClientCore) (tiles : ℕ) (old new : List Tally) (kept : ClientKept) → IsKeptOf core kept
     → AreAdded old kept.tallies new → AreSums cores tiles old → AreSums (cores ++ core ∷ []) tiles new

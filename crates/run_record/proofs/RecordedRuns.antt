@@ -40,11 +40,11 @@ use Rattle.sync_manager.specs.declared.manager.ManagerCore.{ManagerCore}
 use Rattle.tile_server.specs.Clauses.{TileFramesStay}
 use Rattle.tile_server.specs.Laws.{IsFramePart}
 use Rattle.tile_server.specs.declared.tile_core.TileCore.{TileCore}
+use Rattle.rc_base.proofs.Paired.{some_item}
 use Rattle.run_record.specs.Closed.{AreDone, ClosedRunsAreDone}
 use Rattle.run_record.specs.Collected.{AreCollected, IsSmall, IsWholeRun, DoneRunsAreRecorded, ClosedRunsAreLawful}
 use Rattle.run_record.specs.Told.{AreTallies, AreFaults, HaveFrames, IsWaiting}
 use Rattle.run_record.proofs.ClientsBeyond.{stuck_by, someone_waits, none_refused}
-use Rattle.run_record.proofs.ClosedRuns.{some_of}
 use Rattle.run_record.proofs.FewParcels.{few_looks, few_parcels}
 use Rattle.run_record.proofs.TalliesSum.{whole_sum}
 
@@ -73,7 +73,7 @@ module _ (laws : RecordingLaws) (scene : Scene) (l : Layout) (clients : List Cli
       ext_get_or none kept.syncs.clients (map (sync_row_of scene) (range_with_len 0 (length scene.streams))) (omega (arith, all, n, m)) (λ i lt.
       let here : i < length clients = omega (arith, m, lt) in
       let low : i < length scene.streams = omega (arith, all, here) in
-      let d = some_of clients i here in
+      let d = some_item clients i here in
       k.rows.at i d none here scene l (h.sent.at i d here)
       ∙ sym (get_or-map-range_with_len (sync_row_of scene) 0 (length scene.streams) i i none low (omega arith)))
 
@@ -88,7 +88,7 @@ module _ (laws : RecordingLaws) (scene : Scene) (l : Layout) (clients : List Cli
   journal_is = k.journal (sync_lists_of scene) h.progress h.stands
 
   core_at : (t : ℕ) → t < tile_count l → TileCore
-  core_at t lt = some_of tiles t (let n = h.tile_total in omega (arith, n, lt))
+  core_at t lt = some_item tiles t (let n = h.tile_total in omega (arith, n, lt))
 
   -- what is true of a tile by its progress
   record IsTold (t : ℕ) (p : Progress) : Type 0 where
@@ -210,7 +210,7 @@ module _ (laws : RecordingLaws) (scene : Scene) (l : Layout) (clients : List Cli
         clients = m ∙ all;
         each = λ client. elim (cases_lt client (length clients)) [
           | inl lt ↦
-              let d = some_of clients client lt in
+              let d = some_item clients client lt in
               k.faults_are.at client d [] lt scene l (h.sent.at client d lt)
           | inr ge ↦
               get_or_past faults client [] (omega (arith, m, ge)) ∙ sym (none_refused scene client (omega (arith, all, ge)))

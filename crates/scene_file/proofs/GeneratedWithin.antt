@@ -12,12 +12,9 @@ use Rattle.rc_base.specs.Formats.Within.{IsWithin}
 use Rattle.scene_file.specs.Generator.{draw_of, is_lone, lone_client, triangles_before, generated_vertex, generated_triangle, generated_round, generated_stream, generated_scene}
 use Rattle.rc_base.specs.declared.command.Command.{Command}
 use Rattle.rc_base.specs.declared.command.Command.TheVariants as cmd
+use Rattle.plain_lemmas.proofs.Lists.{all_append}
 
 -- ---- lists by parts
-
-all_append : {A : Type 0} (P : A → Type 0) (xs ys : List A) → AllByRecursion P xs → AllByRecursion P ys → AllByRecursion P (xs ++ ys)
-all_append P [] ys h k = k
-all_append P (x ∷ xs) ys h k = (h.0, all_append P xs ys h.1 k)
 
 module _ {A : Type 0} (f : ℕ → List A) where
   joined_all : (P : A → Type 0) → ((n : ℕ) → AllByRecursion P (f n)) → (a n : ℕ) → AllByRecursion P (flat_map f (range_with_len a n))

@@ -1,8 +1,8 @@
 -- Bytes spell one scene at most, and bytes with a fault spell none.
-use Rattle.std.proofs.Common.{◌≡◌, ℕ, suc, ◌+◌, ◌<◌, ◌^◌, inl, inr, List, [], ◌∷◌, ◌++◌, length, take, drop, get_or, Result, Ok, refl, sym, ap, subst, ◌∙◌, append_assoc, arith, length-append}
+use Rattle.std.proofs.Common.{◌≡◌, ℕ, suc, ◌+◌, ◌<◌, ◌^◌, inl, inr, List, [], ◌∷◌, ◌++◌, length, get_or, Result, Ok, refl, sym, ap, subst, ◌∙◌, append_assoc, arith, length-append}
 use Rattle.std.specs.List.{flat_map}
 use Rattle.std.specs.Int.{w32}
-use Rattle.std.proofs.lemmas.List.{append-nil, take_at, drop_at}
+use Rattle.std.proofs.lemmas.List.{append-nil}
 use Rattle.std.proofs.lemmas.List.Concat.{flat_map-cons}
 use Rattle.rc_base.specs.declared.scene.Decl.{Decl}
 use Rattle.rc_base.specs.declared.scene.SceneKind.{SceneKind}
@@ -16,6 +16,7 @@ use Rattle.byte_codec.specs.Reading.{read_unsigned}
 use Rattle.packet_bytes.specs.Sets.{SetReader, Agrees}
 use Rattle.byte_codec.specs.NumberCodecs.{number_codec, wide32}
 use Rattle.packet_bytes.proofs.OneSpelling.{one_spelling, fails_is_none}
+use Rattle.plain_lemmas.proofs.Lists.{same_parts}
 use Rattle.scene_file.specs.declared.header.Head.{Head}
 use Rattle.scene_file.specs.Reading.{read_head}
 use Rattle.scene_file.specs.Letters.{Letters, form_of}
@@ -24,12 +25,6 @@ use Rattle.scene_file.proofs.HeaderCodec.{head_text, head_codec}
 use Rattle.scene_file.proofs.Versions.{AreApart}
 
 -- ---- what stands at the front
-
-pub same_front : (a b x y : List ℕ) → length a ≡ length b → a ++ x ≡ b ++ y → (a ≡ b) × (x ≡ y)
-same_front a b x y size e = (
-  sym (take_at a x (length b) size) ∙ ap (take (length b)) e ∙ take_at b y (length b) refl,
-  sym (drop_at a x (length b) size) ∙ ap (drop (length b)) e ∙ drop_at b y (length b) refl,
-)
 
 same_long : (a b : ℕ) (x y : List ℕ) → long a ++ x ≡ long b ++ y → a < 2 ^ 32 → b < 2 ^ 32 → (a ≡ b) × (x ≡ y)
 same_long a b x y e p q =
@@ -42,7 +37,7 @@ pub same_text : (t u x y : List ℕ) → stream_text t ++ x ≡ stream_text u ++
 same_text t u x y e p q =
     let grouped : long (length t) ++ (t ++ x) ≡ long (length u) ++ (u ++ y) = sym (append_assoc (long (length t)) t x) ∙ e ∙ append_assoc (long (length u)) u y in
     let sizes = same_long (length t) (length u) (t ++ x) (u ++ y) grouped p q in
-    same_front t u x y sizes.0 sizes.1
+    same_parts t u x y sizes.0 sizes.1
 
 head : Decl → ℕ → Head
 head d n = record { decl = d; clients = n }
@@ -63,7 +58,7 @@ pub differs_none : (letters bytes : List ℕ) (at : ℕ) (x : List ℕ) → Diff
 differs_none letters bytes at x d parts =
     let grouped : d.front ++ (d.byte ∷ d.rest) ≡ d.front ++ (d.letter ∷ (d.others ++ x)) =
     sym d.parts ∙ parts ∙ ap (λ (l : List ℕ). l ++ x) d.letters_are ∙ append_assoc d.front (d.letter ∷ d.others) x in
-    let behind = (same_front d.front d.front (d.byte ∷ d.rest) (d.letter ∷ (d.others ++ x)) refl grouped).1 in
+    let behind = (same_parts d.front d.front (d.byte ∷ d.rest) (d.letter ∷ (d.others ++ x)) refl grouped).1 in
     d.differs (ap (λ (l : List ℕ). get_or l 0 0) behind)
 
 module _ {C O : Type 0} (set : CommandSet C O) (letters : Letters) (reader : SetReader C O) (laws : Agrees set reader) (apart : AreApart letters) where

@@ -6,7 +6,7 @@ use Rattle.std.specs.Fmt.{decimal, signed_decimal}
 use Rattle.std.specs.Str.{all_ascii_digits}
 use Rattle.std.specs.Str.Parse.{digits_value}
 use Rattle.std.proofs.lemmas.Fmt.{decimal_nonempty, length-decimal-le, digits_decimal, digits_value-decimal, decimal_is_IsNumeral}
-use Rattle.std.proofs.lemmas.Str.Parse.{IsNumeralModel, numerals_by_value, tells_all_ascii_digits, digit_at}
+use Rattle.std.proofs.lemmas.Str.Parse.{digit_at}
 use Rattle.std.proofs.lemmas.Bool.{and_from, le-leb, ltb-true, ltb-false, lt-leb, and_right, ne_eqb, eq-eqb}
 use Rattle.std.proofs.lemmas.List.{take_at, drop_at, length-map}
 use Rattle.rc_base.specs.declared.command.Command.{Command}
@@ -26,11 +26,9 @@ use Rattle.command_table.proofs.ByOpcode.{same_for_each}
 use Rattle.byte_codec.specs.Codec.{AreBytes-both}
 use Rattle.command_table.proofs.NumbersInRange.{byte_in, half_in, word_in}
 use Rattle.scene_text.specs.Text.Read.{magnitude_of, is_negative, negative, spelled_number, if_in, with_first, numbers_of, hex_value, hex_pair, hex_bytes, spelled_texels, or_fault, has_version, with_texels, with_numbers, is_rest_count, is_counted, arguments_say, name_of}
+use Rattle.plain_lemmas.proofs.Numbers.{decimal_numerals}
 
 -- ---- numbers
-
-own : IsNumeralModel (λ ds. all_ascii_digits ds ≡ true) (digits_value 10)
-own = numerals_by_value _ tells_all_ascii_digits
 
 magnitude_back : (n : ℕ) → n < 10000000000 → magnitude_of (decimal n) ≡ Some n
 magnitude_back n h =
@@ -38,8 +36,8 @@ magnitude_back n h =
     let some : 0 < length (decimal n) = decimal_nonempty n small in
     let a : nat_le 1 (length (decimal n)) ≡ true = le-leb 1 (length (decimal n)) (omega arith) in
     let b : nat_le (length (decimal n)) 10 ≡ true = le-leb (length (decimal n)) 10 (length-decimal-le 10 n (omega arith) (omega arith) small) in
-    let c : all_ascii_digits (decimal n) ≡ true = digits_decimal own n small in
-    let v : digits_value 10 (decimal n) ≡ n = digits_value-decimal own n small in
+    let c : all_ascii_digits (decimal n) ≡ true = digits_decimal decimal_numerals n small in
+    let v : digits_value 10 (decimal n) ≡ n = digits_value-decimal decimal_numerals n small in
     λ i. cond (a i && b i && c i) (Some (v i)) None
 
 unsigned_plain : (n : ℕ) → n < 2 ^ 64 → is_negative (decimal n) ≡ false

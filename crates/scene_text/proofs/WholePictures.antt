@@ -1,9 +1,9 @@
 -- The pictures of a scene that a text spells.
 use Rattle.std.proofs.Common.{◌≡◌, ℕ, suc, ◌+◌, ◌-◌, ◌*◌, ◌==◌, ◌&&◌, ℤ, pos, Bool, true, false, cond, List, [], ◌∷◌, ◌++◌, length, map, take, drop, Some, None, Ok, Err, refl, sym, ap, subst, arith, inl, inr, eqb-true}
-use Rattle.std.proofs.lemmas.Bool.{leb-true}
+use Rattle.std.proofs.lemmas.Bool.{leb-true, cases_Bool}
 use Rattle.std.proofs.lemmas.List.{length-append}
 use Rattle.std.proofs.Math.Dec.{leb}
-use Rattle.std.specs.Prelude.{if◌then◌else◌, ◌⊎◌, not}
+use Rattle.std.specs.Prelude.{if◌then◌else◌, not}
 use Rattle.std.specs.declared.option.Option.{Option}
 use Rattle.std.specs.List.{flat_map, list_all, AllByRecursion}
 use Rattle.std.specs.Option.{option_map}
@@ -27,10 +27,6 @@ use Rattle.scene_text.specs.Text.Statements.{Statement, statement, line_ranges, 
 use Rattle.scene_text.proofs.WhatWordsSay.{says_name}
 use Rattle.scene_text.specs.Text.Read.{SpellsText, words_say, words_say_under, arguments_say, has_version, with_numbers, with_texels, with_first, or_fault, spelled_texels, hex_bytes, hex_pair, hex_value, is_counted, is_rest_count, name_of, numbers_of, reads_as, spoken}
 
-which : (b : Bool) → (b ≡ true) ⊎ (b ≡ false)
-which true = inl refl
-which false = inr refl
-
 -- ---- hexadecimal digits
 
 first_is : (b : Option ℕ) (bs : Option (List ℕ)) (ts : List ℕ) → with_first b bs ≡ Some ts → (xs : List ℕ) × (bs ≡ Some xs) × (length ts ≡ suc (length xs))
@@ -49,7 +45,7 @@ hex_length (c ∷ (d ∷ cs)) ts e =
 
 texels_length : (area : ℕ) (word ts : List ℕ) → spelled_texels area word ≡ Some ts → length ts ≡ 4 * area
 texels_length area word ts e =
-    elim (which (length word == 8 * area)) [
+    elim (cases_Bool (length word == 8 * area)) [
       | inl t ↦
           let bytes : hex_bytes word ≡ Some ts = rw t at e in
           let size = eqb-true (length word) (8 * area) t in
@@ -69,7 +65,7 @@ read_texels name numbers zs ts (Some us) e =
 
 no_area : (area : ℕ) → (if area == 0 then 0 == 0 else 0 == 1) ≡ true → area ≡ 0
 no_area area e =
-    elim (which (area == 0)) [
+    elim (cases_Bool (area == 0)) [
       | inl t ↦ eqb-true area 0 t
       | inr f ↦ let no' = rw f at e in absurd cc
     ]
@@ -258,7 +254,7 @@ one_or_two v e =
 version_read : (rest : List (List ℕ)) (o : Option (List ℤ)) (d : Decl) → with_numbers line.Scene rest o ≡ Ok (window_statement d) → IsVersion d.version
 version_read rest None d e = absurd cc
 version_read rest (Some zs) d e =
-    elim (which (has_version line.Scene zs)) [
+    elim (cases_Bool (has_version line.Scene zs)) [
       | inl t ↦
           let read : with_texels line.Scene rest zs ≡ Ok (window_statement d) = rw t at e in
           let same = same_numbers line.Scene rest zs (pos d.version ∷ (pos d.width ∷ (pos d.height ∷ []))) [] read in

@@ -33,6 +33,7 @@ use Rattle.gl_context.proofs.ValidContexts.{command_of, stream_all, valid}
 use Rattle.order_model.specs.Scenes.{HasSides}
 use Rattle.draw_device.specs.Conditions.{IsDrawable, shared_of}
 use Rattle.draw_device.specs.Stored.{IsStorable, set_after}
+use Rattle.scene_lemmas.proofs.Contexts.{written_by_shared_image}
 
 -- ---- the context after a command that draws draws the same as the one before it
 
@@ -127,19 +128,13 @@ no_part : (b : Option Block) (p : Part) → option_map_or (λ b. eff.Block b) b 
 no_part None p e = absurd cc
 no_part (Some b) p e = absurd cc
 
--- SharedImage alone writes one
-is_shared_image : (x : ClientContext) (c : Command) (p : Part) → done_by x c ≡ eff.Shared p → c ≡ cmd.SharedImage p
-is_shared_image x (cmd.SharedImage q) p e = let same : q ≡ p = cc in ap (λ (r : Part). cmd.SharedImage r) same
-is_shared_image x cmd.End p e = absurd (no_part x.block p e)
-is_shared_image x c p e = absurd cc
-
 accepted_part : (x : ClientContext) (c : Command) (p : Part) → effect_of x c ≡ eff.Shared p → (fault_of x c ≡ None) × (c ≡ cmd.SharedImage p)
 unfolding effect_of
 accepted_part x c p = by (fault_of x c) refl
   where
     by : (f : Option Fault) → fault_of x c ≡ f → option_map_or (λ f. eff.Refused f) f (done_by x c) ≡ eff.Shared p → (fault_of x c ≡ None) × (c ≡ cmd.SharedImage p)
     by (Some f) is e = absurd cc
-    by None is e = (is, is_shared_image x c p e)
+    by None is e = (is, written_by_shared_image x c p e)
 
 part_texels : (p : Part) → IsCommand (cmd.SharedImage p) → length p.texels ≡ 4 * (p.w * p.h)
 part_texels p i = i.1.1.1.0.2

@@ -4,7 +4,7 @@ use mathlib.Core.Path.{fun_ext}
 use Rattle.std.specs.Prelude.{nat_le, slice_get, slice_index, is_some, option_map, option_to_list}
 use Rattle.std.specs.Option.{option_map_or, option_or}
 use Rattle.std.proofs.lemmas.Bool.{cases_Bool, cases_lt}
-use Rattle.std.proofs.lemmas.List.{append-nil}
+use Rattle.std.proofs.lemmas.List.{append-nil, drop_all}
 use Rattle.rc_base.specs.Orders.Book.{Book as Arrivals, opened, standing, waiting_in, with_at, with_entry, book_after, IsLegalBook}
 use Rattle.rc_base.specs.Orders.Book.BookEvent.{Arrives, Grants}
 use Rattle.rc_base.specs.Orders.Grant.{grant, granted_from, operations_left, first, give_by, take_by, is_at_barrier, is_at_swap, lowest}
@@ -25,6 +25,7 @@ use Rattle.sync_manager.specs.Books.{IsBookOf, is_wanted, journal_in}
 use Rattle.sync_manager.specs.Stored.{wait_at}
 use Rattle.sync_manager.specs.declared.book.Book.{Book}
 use Rattle.scene_lemmas.proofs.Numbered.{with_one_behind}
+use Rattle.order_model.proofs.JournalsInTurn.{head_of_option, end_push}
 use Rattle.serial_render.specs.Turns.{left_after, IsFrontOfDefault}
 
 -- ---- lists
@@ -54,12 +55,6 @@ take_more {A = A} (y ∷ xs) (suc i) x e =
     let more : suc (i + 1) ≡ suc i + 1 = omega arith in
     ap (λ (l : List A). y ∷ l) (take_more xs i x e) ∙ ap (λ (k : ℕ). take k (y ∷ xs)) more
 
-pub drop_past : {A : Type 0} (xs : List A) (i : ℕ) → length xs ≤ i → drop i xs ≡ []
-drop_past [] zero le = refl
-drop_past [] (suc i) le = refl
-drop_past (x ∷ xs) zero le = absurd (omega (arith, le))
-drop_past (x ∷ xs) (suc i) le = drop_past xs i (omega (arith, le))
-
 pub get_none : {A : Type 0} (xs : List A) (i : ℕ) → slice_get xs i ≡ None → length xs ≤ i
 get_none [] i e = omega arith
 get_none (x ∷ xs) zero e = absurd cc
@@ -67,12 +62,8 @@ get_none (x ∷ xs) (suc i) e = omega (arith, get_none xs i e)
 
 -- ---- what the book says of a client
 
-head_of : (o : Option WaitAt) → head_wait (option_to_list o) ≡ o
-head_of None = refl
-head_of (Some w) = refl
-
 waits_is : (syncs : SyncLists) (kept : Book) (b : Arrivals) → IsBookOf syncs kept b → (c : ℕ) → wait_at kept.waiting c ≡ waiting_in syncs b c
-waits_is syncs kept b h c = sym (ap (λ (s : SyncState). head_wait (s.rest c)) h.state ∙ head_of (wait_at kept.waiting c))
+waits_is syncs kept b h c = sym (ap (λ (s : SyncState). head_wait (s.rest c)) h.state ∙ head_of_option (wait_at kept.waiting c))
 
 -- a client that neither waits nor has ended
 abbrev pub wanted_in : SyncLists → Arrivals → ℕ → Bool
@@ -129,7 +120,7 @@ fronts syncs b arrived front beyond legal =
     rest c = elim (cases_lt c (client_count syncs)) [
       | inl lt ↦ take_drop (ops_of syncs c) (slice_index arrived c) ∙ ap (λ (l : List WaitAt). l ++ drop (slice_index arrived c) (ops_of syncs c)) (sym (front c lt))
       | inr ge ↦
-          let none : [] ≡ drop (slice_index arrived c) (ops_of syncs c) = sym (drop_past (ops_of syncs c) (slice_index arrived c) (omega (arith, ap length (ops_past syncs c ge)))) in
+          let none : [] ≡ drop (slice_index arrived c) (ops_of syncs c) = sym (drop_all (slice_index arrived c) (ops_of syncs c) (omega (arith, ap length (ops_past syncs c ge)))) in
           ops_past syncs c ge ∙ none ∙ ap (λ (l : List WaitAt). l ++ drop (slice_index arrived c) (ops_of syncs c)) (sym (beyond c ge))
     ]
 
@@ -160,10 +151,6 @@ pub grant_alike : (syncs : SyncLists) (s t : SyncState) (extra : ℕ → List Wa
 grant_alike syncs s t extra h settled =
     grant_by syncs t ∙ ap (λ (f : ℕ → Option SyncOp). granted_by syncs f t.units) (fun_ext (next_alike s t extra h settled))
     ∙ ap (granted_by syncs (next s)) h.units ∙ sym (grant_by syncs s)
-
-pub end_push : (syncs : SyncLists) (s : SyncState) (js : List Entry) (e : Entry) → end_of syncs s (js ++ e ∷ []) ≡ after syncs (end_of syncs s js) e
-end_push syncs s [] e = refl
-end_push syncs s (j ∷ js) e = end_push syncs (after syncs s j) js e
 
 -- after a grant exactly the members are wanted
 member_wanted : (syncs : SyncLists) (b : Arrivals) (e : Entry) (c : ℕ) → IsLawful syncs (standing syncs b) e

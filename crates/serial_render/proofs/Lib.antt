@@ -10,5 +10,5 @@ pub mod PermittedOrders
 pub mod AddedInTurn
 pub mod GrantedTurns
 pub mod TurnsOfClients
-pub mod DeclaredOperations
+pub mod ScenesTakeTurns
 pub mod LeftWaiting

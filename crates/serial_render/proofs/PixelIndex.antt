@@ -1,5 +1,5 @@
 -- Places in a window's list of pixels.
-use Rattle.std.proofs.Common.{◌≡◌, ℕ, List, ◌+◌, ◌*◌, ◌<◌, ◌≤◌, pos, ◌-ℤ◌, true, sym, ap, ◌∙◌, arith, mul-le-mul}
+use Rattle.std.proofs.Common.{◌≡◌, ℕ, List, ◌+◌, ◌*◌, ◌<◌, pos, ◌-ℤ◌, true, sym, ap, ◌∙◌, arith}
 use Rattle.std.proofs.lemmas.Int.{ints}
 use Rattle.rc_base.specs.Numbers.{natural}
 use Rattle.rc_base.specs.Cluster.Tiles.{is_in_rect, window_rect}
@@ -11,12 +11,6 @@ use Rattle.draw_device.specs.Pixels.{pixel_at, color_at}
 use Rattle.draw_device.specs.Devices.{DeviceView, pixel_index, pixel_of, rect_size}
 use Rattle.serial_render.specs.Cells.{Shows}
 use Rattle.serial_render.specs.Steps.{Holds}
-
-next_row : (w r j : ℕ) → r < j → r * w + w ≤ j * w
-next_row w r j h = let m : (r + 1) * w ≤ j * w = mul-le-mul (omega arith) (omega arith) in omega arith
-
-pub room : (w h r t : ℕ) → r < h → t ≤ w → r * w + t ≤ w * h
-room w h r t k l = let m = next_row w r h k in omega arith
 
 from_zero : (n : ℕ) → natural (pos n -ℤ pos 0) ≡ n
 from_zero n = grind (arith, ints)

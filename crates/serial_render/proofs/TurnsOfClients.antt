@@ -1,10 +1,10 @@
 -- How far clients are after one of them went on, and after a grant.
 use mir.Val.{bool_byte}
-use Rattle.std.proofs.Common.{◌≡◌, ℕ, zero, suc, ◌+◌, ◌-◌, ◌<◌, ◌≤◌, ◌==◌, Bool, true, false, cond, not, ◌&&◌, List, [], ◌∷◌, ◌++◌, ◌⊎◌, take, drop, set, length, Option, Some, None, refl, sym, ap, subst, ◌∙◌, arith, inl, inr, eq-eqb, eqb-true, ne_eqb, length-set}
+use Rattle.std.proofs.Common.{◌≡◌, ℕ, zero, suc, ◌+◌, ◌-◌, ◌<◌, ◌≤◌, ◌==◌, Bool, true, false, cond, not, ◌&&◌, List, [], ◌∷◌, ◌++◌, ◌⊎◌, take, drop, set, length, Option, Some, None, refl, sym, ap, subst, ◌∙◌, arith, inl, inr, eqb-true, ne_eqb, length-set}
 use Rattle.std.specs.Prelude.{slice_get, slice_index, is_some, option_map, option_to_list}
 use Rattle.std.specs.Option.{option_map_or}
 use Rattle.std.proofs.lemmas.Bool.{cases_Bool, cases_lt, eqb-false}
-use Rattle.std.proofs.lemmas.List.{get_or-set_same, get_or-set_other, append-nil}
+use Rattle.std.proofs.lemmas.List.{get_or-set_same, get_or-set_other, append-nil, drop_all}
 use Rattle.rc_base.specs.Orders.Book.{Book as Arrivals, new_book, standing, waiting_in, with_at, with_entry, book_after, IsLegalBook}
 use Rattle.rc_base.specs.Orders.Book.BookEvent.{Arrives, Grants}
 use Rattle.rc_base.specs.Orders.Grant.{grant}
@@ -20,11 +20,12 @@ use Rattle.order_model.proofs.GrantsAreExact.{grant_lawful}
 use Rattle.order_model.proofs.MoreOperations.{IsSettled, head_append}
 use Rattle.sync_manager.specs.Books.{IsBookOf, is_wanted, journal_in}
 use Rattle.sync_manager.specs.declared.book.Book.{Book}
-use Rattle.order_model.proofs.JournalsInTurn.{rising_first}
+use Rattle.order_model.proofs.JournalsInTurn.{rising_first, end_push}
 use Rattle.serial_render.specs.Turns.{told, left_after, IsOrderUnderWay, IsBetweenTurns, IsFrontOfDefault}
+use Rattle.scene_lemmas.proofs.Numbered.{with_here}
 use Rattle.serial_render.specs.declared.progress.Progress.{Progress}
 use Rattle.serial_render.proofs.AddedInTurn.{own_added, other_added, none_added, all_as_meant, all_alike, all_next}
-use Rattle.serial_render.proofs.GrantedTurns.{wanted_in, wanted_is, one_waits, is_free, is_settled, rest_arrived, fronts, wanted_stop, take_more, drop_past, get_none, grant_alike, end_push, journal_granted, wanted_granted, front_first, front_next, order_next, granted_is, standing_is, left_less}
+use Rattle.serial_render.proofs.GrantedTurns.{wanted_in, wanted_is, one_waits, is_free, is_settled, rest_arrived, fronts, wanted_stop, take_more, get_none, grant_alike, journal_granted, wanted_granted, front_first, front_next, order_next, granted_is, standing_is, left_less}
 use Rattle.serial_render.proofs.SwapsOfJournals.{Rises, rises_end, first_within}
 
 -- ---- what is told of one client
@@ -32,9 +33,6 @@ use Rattle.serial_render.proofs.SwapsOfJournals.{Rises, rises_end, first_within}
 journal_told : (syncs : SyncLists) (b : Arrivals) (client : ℕ) (o : Option WaitAt) → (told syncs b client o).journal ≡ b.journal
 journal_told syncs b client None = refl
 journal_told syncs b client (Some w) = refl
-
-at_same : {A : Type 0} (f : ℕ → A) (n : ℕ) (x : A) → with_at f n x n ≡ x
-at_same f n x = rw (eq-eqb n n refl) refl
 
 at_other : {A : Type 0} (f : ℕ → A) (n k : ℕ) (x : A) → (k ≡ n → ⊥) → with_at f n x k ≡ f k
 at_other f n k x ne = rw (ne_eqb k n ne) refl
@@ -46,10 +44,10 @@ not_true false = refl
 -- the client itself is wanted no more
 told_own : (syncs : SyncLists) (b : Arrivals) (client : ℕ) (o : Option WaitAt) → IsLegalBook syncs b → (standing syncs b).rest client ≡ []
     → wanted_in syncs (told syncs b client o) client ≡ false
-told_own syncs b client None legal none = ap (λ (e : Bool). not e && not (is_some (waiting_in syncs b client))) (at_same b.ended client true)
+told_own syncs b client None legal none = ap (λ (e : Bool). not e && not (is_some (waiting_in syncs b client))) (with_here b.ended client true)
 told_own syncs b client (Some w) legal none =
     let rest : (standing syncs (book_after syncs b (Arrives client w))).rest client ≡ w ∷ [] =
-    rest_arrived syncs b client w legal client ∙ ap (λ (l : List WaitAt). l ++ with_at (λ k. []) client (w ∷ []) client) none ∙ at_same (λ k. []) client (w ∷ []) in
+    rest_arrived syncs b client w legal client ∙ ap (λ (l : List WaitAt). l ++ with_at (λ k. []) client (w ∷ []) client) none ∙ with_here (λ k. []) client (w ∷ []) in
     ap (λ (l : List WaitAt). not (b.ended client) && not (is_some (head_wait l))) rest ∙ not_true (b.ended client)
 
 -- the others as before
@@ -66,7 +64,7 @@ arrived_own : (syncs : SyncLists) (b : Arrivals) (client i j : ℕ) (o : Option 
 arrived_own syncs b client i j None front is e = let same : i ≡ j = omega (arith, e) in front ∙ ap (λ (k : ℕ). take k (ops_of syncs client)) same
 arrived_own syncs b client i j (Some w) front is e =
     let same : i + 1 ≡ j = omega (arith, e) in
-    at_same b.arrived client (b.arrived client ++ w ∷ []) ∙ ap (λ (l : List WaitAt). l ++ w ∷ []) front ∙ take_more (ops_of syncs client) i w (sym is)
+    with_here b.arrived client (b.arrived client ++ w ∷ []) ∙ ap (λ (l : List WaitAt). l ++ w ∷ []) front ∙ take_more (ops_of syncs client) i w (sym is)
     ∙ ap (λ (k : ℕ). take k (ops_of syncs client)) same
 
 arrived_other : (syncs : SyncLists) (b : Arrivals) (client c : ℕ) (o : Option WaitAt) → (c ≡ client → ⊥) → (told syncs b client o).arrived c ≡ b.arrived c
@@ -221,10 +219,10 @@ module _ (syncs : SyncLists) (p : Progress) (t : IsBetweenTurns syncs p) where
       settled : IsSettled (standing syncs t.way.book) (λ c. drop (slice_index p.arrived c) (ops_of syncs c))
       settled c = elim (cases_lt c (client_count syncs)) [
         | inl inside ↦ elim (is_settled syncs p.book t.way.book t.way.is_book c inside (t.settled c inside)) [
-          | inl ended ↦ inr (drop_past (ops_of syncs c) (slice_index p.arrived c) (t.way.ended c inside ended))
+          | inl ended ↦ inr (drop_all (slice_index p.arrived c) (ops_of syncs c) (t.way.ended c inside ended))
           | inr waits ↦ inl waits
         ]
-        | inr past ↦ inr (drop_past (ops_of syncs c) (slice_index p.arrived c) (omega (arith, ap length (ops_past syncs c past))))
+        | inr past ↦ inr (drop_all (slice_index p.arrived c) (ops_of syncs c) (omega (arith, ap length (ops_past syncs c past))))
       ]
 
   -- where the book grants nothing, all is as before
@@ -581,8 +579,8 @@ waits_alike syncs p t c =
     λ e. sym (ap head_wait (rest ∙ ap (λ (l : List WaitAt). (standing syncs b).rest c ++ l) e ∙ append-nil ((standing syncs b).rest c))) in
     elim (cases_lt c (client_count syncs)) [
       | inl inside ↦ elim (is_settled syncs p.book b t.way.is_book c inside (t.settled c inside)) [
-        | inl ended ↦ none (drop_past (ops_of syncs c) (slice_index p.arrived c) (t.way.ended c inside ended)) ∙ same
+        | inl ended ↦ none (drop_all (slice_index p.arrived c) (ops_of syncs c) (t.way.ended c inside ended)) ∙ same
         | inr waits ↦ sym (ap head_wait rest ∙ head_append ((standing syncs b).rest c) extra waits) ∙ same
       ]
-      | inr past ↦ none (drop_past (ops_of syncs c) (slice_index p.arrived c) (omega (arith, ap length (ops_past syncs c past)))) ∙ same
+      | inr past ↦ none (drop_all (slice_index p.arrived c) (ops_of syncs c) (omega (arith, ap length (ops_past syncs c past)))) ∙ same
     ]

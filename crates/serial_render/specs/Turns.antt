@@ -1,6 +1,6 @@
 -- Clients that take turns: each issues up to its next operation, then an entry is granted, again and again.
-use Rattle.std.specs.Prelude.{◌≡◌, ℕ, ◌<◌, ◌≤◌, true, false, List, [], ◌++◌, length, take, Option, Some, None, slice_get, slice_index, is_some}
-use Rattle.rc_base.specs.Orders.Book.{Book as Arrivals, book_after, is_declared, waiting_in}
+use Rattle.std.specs.Prelude.{◌≡◌, ℕ, ◌<◌, ◌≤◌, true, false, List, [], ◌++◌, length, take, Option, Some, None, slice_index, is_some}
+use Rattle.rc_base.specs.Orders.Book.{Book as Arrivals, book_after, waiting_in}
 use Rattle.rc_base.specs.Orders.Book.BookEvent.{Arrives, Ends}
 use Rattle.rc_base.specs.Orders.Grant.{granted_from, operations_left}
 use Rattle.rc_base.specs.Orders.Journal.{stop, sync_state_after, waiting_of}
@@ -10,11 +10,8 @@ use Rattle.rc_base.specs.declared.sync.Entry.{Entry}
 use Rattle.rc_base.specs.declared.sync.SyncLists.{SyncLists}
 use Rattle.rc_base.specs.declared.sync.WaitAt.{WaitAt}
 use Rattle.sync_manager.specs.Books.{IsBookOf, is_wanted, journal_in}
+use Rattle.order_model.specs.Gathering.{AreDeclared}
 use Rattle.serial_render.specs.declared.progress.Progress.{Progress}
-
--- each operation names a barrier or a semaphore that is declared
-abbrev pub AreDeclared : SyncLists → Type 0
-AreDeclared syncs = (client k : ℕ) (w : WaitAt) → slice_get (ops_of syncs client) k ≡ Some w → is_declared syncs w.op ≡ true
 
 -- lists of up to 8 clients, whose operations rise and name what is declared
 pub record CanTakeTurns (syncs : SyncLists) : Type 0 where

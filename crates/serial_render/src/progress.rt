@@ -8,7 +8,8 @@ ghost use Rattle.rc_base.specs.Orders.Order.{names_in, names_from, added, all_ad
 ghost use Rattle.rc_base.specs.Orders.Sync.{IsWellFormed, client_count, client_row, length_of};
 ghost use Rattle.rc_base.specs.declared.sync.SyncLists.{SyncLists as SyncListsOf};
 ghost use Rattle.sync_manager.specs.Books.{IsBookOf, clients_in, is_wanted, journal_in, names_declared};
-ghost use Rattle.serial_render.specs.Turns.{AreDeclared, told, left_after, IsOrderUnderWay, IsBetweenTurns};
+ghost use Rattle.serial_render.specs.Turns.{told, left_after, IsOrderUnderWay, IsBetweenTurns};
+ghost use Rattle.order_model.specs.Gathering.{AreDeclared};
 
 use rc_base::items::Items;
 use rc_base::out_of_memory::OutOfMemory;

@@ -9,9 +9,10 @@ use Rattle.rc_base.specs.Drawing.Serial.{blank_pixel}
 use Rattle.rc_base.specs.Drawing.Window.{depth_most}
 use Rattle.rc_base.specs.declared.window.Pixel.{Pixel}
 use Rattle.rc_base.specs.Drawing.Nearer.{nearer}
+use Rattle.scene_lemmas.proofs.Triangles.{nearer_is_first}
 use Rattle.sort_last.specs.Layers.{pixel_in, composite_of}
 use Rattle.sort_last.specs.Laws.{IsLayer}
-use Rattle.sort_last.proofs.Nearer.{nearer_associative, nearer_depth, blank_behind, blank_before, front_is, behind_is}
+use Rattle.sort_last.proofs.Nearer.{nearer_associative, nearer_depth, blank_behind, blank_before, behind_is}
 
 pub composite_length : (a b : List Pixel) → length (composite_of a b) ≡ max (length a) (length b)
 unfolding composite_of
@@ -74,7 +75,7 @@ composite_near a b h k = omega (arith, h k, nearer_depth (pixel_in a k) (pixel_i
 nearer_blank : (a b : Pixel) → (a.depth ≡ depth_most → a ≡ blank_pixel) → (b.depth ≡ depth_most → b ≡ blank_pixel) → (nearer a b).depth ≡ depth_most → nearer a b ≡ blank_pixel
 nearer_blank a b ha hb far = elim (cases_lt b.depth a.depth) [
   | inl lt ↦ let is = behind_is a b lt in is ∙ hb (ap (λ (p : Pixel). p.depth) (sym is) ∙ far)
-  | inr le ↦ let is = front_is a b le in is ∙ ha (ap (λ (p : Pixel). p.depth) (sym is) ∙ far)
+  | inr le ↦ let is = nearer_is_first a b le in is ∙ ha (ap (λ (p : Pixel). p.depth) (sym is) ∙ far)
 ]
 
 pub composite_layer : (a b : List Pixel) → IsLayer a → IsLayer b → IsLayer (composite_of a b)

@@ -3,6 +3,7 @@ use Rattle.std.proofs.Common.{◌≡◌, ℕ, ◌/◌, ◌%◌, ◌≤◌, Bool,
 use Rattle.std.specs.Prelude.{◌==◌, ◌&&◌, ◌||◌, not, slice_index_or, pos, negsuc, ◌≤ℤ◌, ◌*ℤ◌, if◌then◌else◌}
 use Rattle.std.specs.declared.option.Option.{Option}
 use Rattle.std.proofs.lemmas.Int.{ints}
+use Rattle.std.proofs.lemmas.Bool.{and_parts, not-false, not-true}
 use Rattle.rc_base.specs.Numbers.{natural, is_between, floor_quotient, fixed_one}
 use Rattle.rc_base.specs.Colors.{rgba}
 use Rattle.rc_base.specs.Contexts.Context.{private_image}
@@ -31,18 +32,6 @@ use Rattle.sort_last.specs.Players.{draw}
 use Rattle.sort_last.specs.Offends.{keeps_nearest, writes_all_channels, has_drawn, is_offence, offends, IsComposable}
 use Rattle.sort_last.proofs.Nearer.{Merges, merges_still, merges_one, merges_fold}
 
-and_true : (a b : Bool) → (a && b) ≡ true → (a ≡ true) × (b ≡ true)
-and_true true b h = (refl, h)
-and_true false b h = absurd cc
-
-not_true : (b : Bool) → not b ≡ true → b ≡ false
-not_true false h = refl
-not_true true h = absurd cc
-
-not_false : (b : Bool) → not b ≡ false → b ≡ true
-not_false true h = refl
-not_false false h = absurd cc
-
 -- the flags of such a state
 record KeepsNearest (s : State) : Type 0 where
   pub depth_on : s.depth_on ≡ true
@@ -58,14 +47,14 @@ flags_of : (s : State) → keeps_nearest s ≡ true → KeepsNearest s
 unfolding keeps_nearest
 flags_of s h =
     let masks = slice_index_or s.color_mask in
-    let a = and_true (s.depth_on && s.depth_mask) (s.depth_func == 1 && (not s.blend_on && writes_all_channels s)) h in
-    let b = and_true s.depth_on s.depth_mask a.0 in
-    let c = and_true (s.depth_func == 1) (not s.blend_on && writes_all_channels s) a.1 in
-    let d = and_true (not s.blend_on) (writes_all_channels s) c.1 in
-    let e = and_true (masks 0 false && masks 1 false) (masks 2 false && masks 3 false) d.1 in
-    let f = and_true (masks 0 false) (masks 1 false) e.0 in
-    let g = and_true (masks 2 false) (masks 3 false) e.1 in
-    record { depth_on = b.0; depth_mask = b.1; less = c.0; whole = not_true s.blend_on d.0; red = f.0; green = f.1; blue = g.0; opacity = g.1 }
+    let a = and_parts (s.depth_on && s.depth_mask) (s.depth_func == 1 && (not s.blend_on && writes_all_channels s)) h in
+    let b = and_parts s.depth_on s.depth_mask a.0 in
+    let c = and_parts (s.depth_func == 1) (not s.blend_on && writes_all_channels s) a.1 in
+    let d = and_parts (not s.blend_on) (writes_all_channels s) c.1 in
+    let e = and_parts (masks 0 false && masks 1 false) (masks 2 false && masks 3 false) d.1 in
+    let f = and_parts (masks 0 false) (masks 1 false) e.0 in
+    let g = and_parts (masks 2 false) (masks 3 false) e.1 in
+    record { depth_on = b.0; depth_mask = b.1; less = c.0; whole = not-true s.blend_on d.0; red = f.0; green = f.1; blue = g.0; opacity = g.1 }
 
 -- a test and then another one
 then_if : (a b : Bool) (p q : Pixel) → (if a && b then p else q) ≡ (if a then (if b then p else q) else q)
@@ -126,7 +115,7 @@ effect_merges : (s : State) (privates : ℕ → Option Picture) (shareds : ℕ �
     → is_offence (keeps_nearest s) client drawn e ≡ false → is_clear e ≡ false → Merges (effect_step s privates shareds e x y)
 effect_merges s privates shareds client drawn eff.Quiet x y h n = merges_still
 effect_merges s privates shareds client drawn (eff.Refused f) x y h n = merges_still
-effect_merges s privates shareds client drawn (eff.Block b) x y h n = block_merges s (flags_of s (not_false (keeps_nearest s) h)) _ b x y
+effect_merges s privates shareds client drawn (eff.Block b) x y h n = block_merges s (flags_of s (not-false (keeps_nearest s) h)) _ b x y
 effect_merges s privates shareds client drawn (eff.Clear m) x y h n = absurd cc
 effect_merges s privates shareds client drawn (eff.Shared p) x y h n = merges_still
 effect_merges s privates shareds client drawn (eff.Sync o) x y h n = merges_still

@@ -20,6 +20,7 @@ use Rattle.order_model.proofs.SceneListsAreWellFormed.{scene_row}
 use Rattle.serial_render.specs.Steps.{Holds}
 use Rattle.scene_lemmas.proofs.Scenes.{scene_client_count}
 use Rattle.rc_base.specs.Cluster.Tiles.{window_rect}
+use Rattle.scene_lemmas.proofs.Triangles.{nearer_is_first}
 use Rattle.sort_last.specs.Layers.{layer_pixel}
 use Rattle.sort_last.specs.Offends.{IsComposable}
 use Rattle.sort_last.specs.Players.{IsSheet, HasDrawn, HaveDrawn, shows, draw_if, start_of}
@@ -29,7 +30,7 @@ use Rattle.sort_last.specs.declared.sheet.Sheet.{Sheet}
 use Rattle.sort_last.proofs.ComposedFrames.{depths}
 use Rattle.sort_last.proofs.FrameBounds.{frame_layer}
 use Rattle.sort_last.proofs.FramesOfClients.{run_merges}
-use Rattle.sort_last.proofs.Nearer.{Merges, front_is}
+use Rattle.sort_last.proofs.Nearer.{Merges}
 
 pub some_streams : (scene : Scene) → IsWithin scene → 0 < length scene.streams
 some_streams scene within = (clients_within scene within.limits).0
@@ -44,7 +45,7 @@ is_client scene syncs client lt same = omega (arith, lt, ap client_count same, s
 
 -- what is far after a step that only puts something nearer was blank before
 far_is_blank : (g : Pixel → Pixel) → Merges g → (g blank_pixel).depth ≡ depth_most → g blank_pixel ≡ blank_pixel
-far_is_blank g m far = m blank_pixel (omega arith) ∙ front_is blank_pixel (g blank_pixel) (omega (arith, far))
+far_is_blank g m far = m blank_pixel (omega arith) ∙ nearer_is_first blank_pixel (g blank_pixel) (omega (arith, far))
 
 -- so a pixel of a layer is blank where it is as far as can be
 pub layer_blank : (scene : Scene) → IsComposable scene → (client from count : ℕ) (x y : ℤ) (p : Pixel)

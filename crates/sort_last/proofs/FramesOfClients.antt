@@ -35,9 +35,6 @@ use Rattle.sort_last.proofs.Nearer.{Merges, merges_fold, blank_behind}
 pub swaps_after_swap : (s : Scene) (client place : ℕ) → is_swap_effect (effect_at s client place) ≡ true → accepted_swaps s client (place + 1) ≡ accepted_swaps s client place + 1
 swaps_after_swap s client place is = swaps_next s client place ∙ ap (λ (b : Bool). accepted_swaps s client place + (if b then 1 else 0)) is
 
-pub swaps_after_other : (s : Scene) (client place : ℕ) → is_swap_effect (effect_at s client place) ≡ false → accepted_swaps s client (place + 1) ≡ accepted_swaps s client place
-swaps_after_other s client place is = swaps_next s client place ∙ ap (λ (b : Bool). accepted_swaps s client place + (if b then 1 else 0)) is ∙ omega arith
-
 -- ---- folds
 
 pub fold_same : {A : Type 0} (f g : A → Name → A) (o : List Name) → ((a : A) (n : Name) → IsIn n o → f a n ≡ g a n) → (a : A) → fold f a o ≡ fold g a o

@@ -35,13 +35,13 @@ use Rattle.order_model.proofs.SceneListsAreWellFormed.{scene_row}
 use Rattle.order_model.proofs.SpreadIsRun.{passed_is}
 use Rattle.order_model.proofs.StepsArePermitted.{performed_past, issued_past}
 use Rattle.rc_base.specs.Drawing.Nearer.{nearer}
-use Rattle.stream_replay.proofs.AcceptedSwaps.{swaps_le, no_swaps}
+use Rattle.stream_replay.proofs.AcceptedSwaps.{swaps_le, no_swaps, swaps_after_other}
 use Rattle.scene_lemmas.proofs.Scenes.{scene_client_count}
 use Rattle.sort_last.specs.Layers.{clears, layer_pixel, merged_pixel, cleared_pixel, composed_pixel, is_of_frame, names_of}
 use Rattle.sort_last.specs.Players.{draw, draw_if}
 use Rattle.sort_last.specs.Offends.{keeps_nearest, has_drawn, is_offence, offends, IsComposable}
 use Rattle.sort_last.proofs.DrawnByDepth.{IsDepth, name_within}
-use Rattle.sort_last.proofs.FramesOfClients.{swaps_after_swap, swaps_after_other, fold_same, fold_still, shown_is, hidden_is, swap_is_still, canvas_is, in_names, IsFrame, inside_frame, layer_is, cleared_is, clears_first, no_clears, cleared_still, run_is}
+use Rattle.sort_last.proofs.FramesOfClients.{swaps_after_swap, fold_same, fold_still, shown_is, hidden_is, swap_is_still, canvas_is, in_names, IsFrame, inside_frame, layer_is, cleared_is, clears_first, no_clears, cleared_still, run_is}
 use Rattle.sort_last.proofs.Nearer.{nearer_associative, nearer_depth, blank_behind}
 
 -- ---- a client's operations, from a place on

@@ -7,12 +7,10 @@ use Rattle.rc_base.specs.Drawing.Window.{depth_most}
 use Rattle.rc_base.specs.Lists.{IsIn}
 use Rattle.rc_base.specs.declared.window.Pixel.{Pixel}
 use Rattle.rc_base.specs.Drawing.Nearer.{nearer}
+use Rattle.scene_lemmas.proofs.Triangles.{nearer_is_first}
 
 pub behind_is : (a b : Pixel) → b.depth < a.depth → nearer a b ≡ b
 behind_is a b lt = rw (lt-ltb _ _ lt) refl
-
-pub front_is : (a b : Pixel) → a.depth ≤ b.depth → nearer a b ≡ a
-front_is a b le = rw (le-ltb _ _ le) refl
 
 pub nearer_associative : (a b c : Pixel) → nearer (nearer a b) c ≡ nearer a (nearer b c)
 nearer_associative a b c = elim (cases_lt b.depth a.depth) [
@@ -21,14 +19,14 @@ nearer_associative a b c = elim (cases_lt b.depth a.depth) [
         ap (λ p. nearer p c) (behind_is a b ba) ∙ behind_is b c cb
         ∙ sym (ap (nearer a) (behind_is b c cb) ∙ behind_is a c (omega (arith, ba, cb)))
     | inr bc ↦
-        ap (λ p. nearer p c) (behind_is a b ba) ∙ front_is b c bc
-        ∙ sym (ap (nearer a) (front_is b c bc) ∙ behind_is a b ba)
+        ap (λ p. nearer p c) (behind_is a b ba) ∙ nearer_is_first b c bc
+        ∙ sym (ap (nearer a) (nearer_is_first b c bc) ∙ behind_is a b ba)
   ]
   | inr ab ↦ elim (cases_lt c.depth b.depth) [
-    | inl cb ↦ ap (λ p. nearer p c) (front_is a b ab) ∙ sym (ap (nearer a) (behind_is b c cb))
+    | inl cb ↦ ap (λ p. nearer p c) (nearer_is_first a b ab) ∙ sym (ap (nearer a) (behind_is b c cb))
     | inr bc ↦
-        ap (λ p. nearer p c) (front_is a b ab) ∙ front_is a c (omega (arith, ab, bc))
-        ∙ sym (ap (nearer a) (front_is b c bc) ∙ front_is a b ab)
+        ap (λ p. nearer p c) (nearer_is_first a b ab) ∙ nearer_is_first a c (omega (arith, ab, bc))
+        ∙ sym (ap (nearer a) (nearer_is_first b c bc) ∙ nearer_is_first a b ab)
   ]
 ]
 
@@ -41,13 +39,13 @@ nearer_depth a b = elim (cases_lt b.depth a.depth) [
 
 -- a blank pixel changes none of a buffer
 pub blank_behind : (p : Pixel) → p.depth ≤ depth_most → nearer p blank_pixel ≡ p
-blank_behind p le = front_is p blank_pixel le
+blank_behind p le = nearer_is_first p blank_pixel le
 
 -- and one that was drawn stands before it
 pub blank_before : (p : Pixel) → p.depth ≤ depth_most → (p.depth ≡ depth_most → p ≡ blank_pixel) → nearer blank_pixel p ≡ p
 blank_before p le blank = elim (cases_lt p.depth depth_most) [
   | inl lt ↦ behind_is blank_pixel p lt
-  | inr ge ↦ front_is blank_pixel p ge ∙ sym (blank (omega (arith, le, ge)))
+  | inr ge ↦ nearer_is_first blank_pixel p ge ∙ sym (blank (omega (arith, le, ge)))
 ]
 
 -- ---- steps of a pixel

@@ -4,7 +4,7 @@ use Rattle.std.specs.Prelude.{◌==◌, ◌&&◌, ◌||◌, MatchOption}
 use Rattle.std.specs.List.{list_any, range_with_len}
 use Rattle.std.specs.Option.{option_map_or}
 use Rattle.std.specs.declared.option.Option.{Option}
-use Rattle.std.proofs.lemmas.Bool.{cases_Bool, cases_lt, ne_eqb}
+use Rattle.std.proofs.lemmas.Bool.{cases_Bool, cases_lt, ne_eqb, and_right}
 use Rattle.std.proofs.lemmas.List.{get_or_past}
 use Rattle.std.proofs.lemmas.List.Folds.{list_any-append}
 use Rattle.std.proofs.lemmas.Option.{slice_get_past}
@@ -18,18 +18,15 @@ use Rattle.rc_base.specs.declared.sync.SyncOp.TheVariants as op
 use Rattle.rc_base.specs.declared.sync.Name.{Name}
 use Rattle.gl_context.specs.Counted.{kind_of}
 use Rattle.gl_context.specs.declared.counting.EffectKind.{EffectKind}
-use Rattle.stream_replay.proofs.AcceptedSwaps.{swaps_le}
+use Rattle.stream_replay.proofs.AcceptedSwaps.{swaps_le, swaps_after_other}
+use Rattle.plain_lemmas.proofs.Ranges.{any_same_in_range}
 use Rattle.sort_last.specs.Offends.{keeps_nearest, is_block, has_drawn, is_offence, offends, IsComposable, IsFirstOffence}
 use Rattle.sort_last.specs.Runs.{kind_offends, kind_drawn, place_or, name_or, IsFirstIn, IsFirstBelow, IsFirstOf}
-use Rattle.sort_last.proofs.FramesOfClients.{swaps_after_swap, swaps_after_other}
+use Rattle.sort_last.proofs.FramesOfClients.{swaps_after_swap}
 
 range_push : (a n : ℕ) → range_with_len a (suc n) ≡ range_with_len a n ++ (a + n) ∷ []
 range_push a zero = let e : a ≡ a + 0 = omega arith in ap (λ k. k ∷ []) e
 range_push a (suc n) = let e : a + 1 + n ≡ a + suc n = omega arith in ap (λ l. a ∷ l) (range_push (a + 1) n) ∙ ap (λ k. a ∷ (range_with_len (a + 1) n ++ k ∷ [])) e
-
-any_same : (f g : ℕ → Bool) (from n : ℕ) → ((i : ℕ) → from ≤ i → i < from + n → f i ≡ g i) → list_any f (range_with_len from n) ≡ list_any g (range_with_len from n)
-any_same f g from zero h = refl
-any_same f g from (suc n) h = λ i. h from (omega arith) (omega arith) i || any_same f g (from + 1) n (λ k low high. h k (omega (arith, low)) (omega (arith, high))) i
 
 any_never : (from n : ℕ) → list_any (λ i. false) (range_with_len from n) ≡ false
 any_never from zero = refl
@@ -39,17 +36,9 @@ pub nothing_drawn : (scene : Scene) (client : ℕ) → has_drawn scene client 0 
 unfolding has_drawn
 nothing_drawn scene client = refl
 
-and_false : (b c : Bool) → c ≡ false → (b && c) ≡ false
-and_false true c h = h
-and_false false c h = refl
-
 and_same : (b c : Bool) → c ≡ true → (b && c) ≡ b
 and_same true c h = h
 and_same false c h = refl
-
-or_never : (b : Bool) → (b || false) ≡ b
-or_never true = refl
-or_never false = refl
 
 or_both : (d b : Bool) → (d || (b || false)) ≡ (b || d)
 or_both true true = refl
@@ -90,15 +79,15 @@ drawn_next scene c p =
       | inl t ↦
           let up = swaps_after_swap scene c p t in
           let never : (i : ℕ) → i ≤ p → test (p + 1) i ≡ false =
-          λ i le. and_false (is_block (effect_at scene c i)) (accepted_swaps scene c i == accepted_swaps scene c (p + 1)) (ne_eqb _ _ (λ same. omega (arith, same, up, swaps_le scene c i p le))) in
+          λ i le. and_right (is_block (effect_at scene c i)) (accepted_swaps scene c i == accepted_swaps scene c (p + 1)) (ne_eqb _ _ (λ same. omega (arith, same, up, swaps_le scene c i p le))) in
           split
-          ∙ (λ i. (any_same (test (p + 1)) (λ k. false) 0 p (λ k low high. never k (omega (arith, high))) ∙ any_never 0 p) i || (never p (omega arith) i || false))
+          ∙ (λ i. (any_same_in_range (test (p + 1)) (λ k. false) 0 p (λ k low high. never k (omega (arith, high))) ∙ any_never 0 p) i || (never p (omega arith) i || false))
           ∙ after_swap e (list_any (test p) (range_with_len 0 p)) t
       | inr f ↦
           let same = swaps_after_other scene c p f in
           let alike : (i : ℕ) → test (p + 1) i ≡ test p i = λ i. ap (λ k. is_block (effect_at scene c i) && (accepted_swaps scene c i == k)) same in
           split
-          ∙ (λ i. any_same (test (p + 1)) (test p) 0 p (λ k low high. alike k) i || ((alike p ∙ and_same (is_block e) (accepted_swaps scene c p == accepted_swaps scene c p) (eq-eqb _ _ refl)) i || false))
+          ∙ (λ i. any_same_in_range (test (p + 1)) (test p) 0 p (λ k low high. alike k) i || ((alike p ∙ and_same (is_block e) (accepted_swaps scene c p == accepted_swaps scene c p) (eq-eqb _ _ refl)) i || false))
           ∙ or_both (list_any (test p) (range_with_len 0 p)) (is_block e)
           ∙ after_other e (list_any (test p) (range_with_len 0 p)) f
     ]

@@ -1,5 +1,5 @@
 -- What a chain makes of commands whose fields are in their ranges has fields in their ranges, where the tints of its rules are bytes.
-use Rattle.std.proofs.Common.{sym, subst, arith, ℕ, ◌+◌, ◌*◌, ◌<◌, ◌≤◌, map, Bool, true, false, List, [], ◌∷◌, None, Some}
+use Rattle.std.proofs.Common.{sym, subst, arith, map, Bool, true, false, List, [], ◌∷◌, None, Some}
 use Rattle.std.specs.Prelude.{not, cond, ◌==◌, if◌then◌else◌}
 use Rattle.std.specs.List.{AllByRecursion, filter}
 use Rattle.std.specs.Option.{option_map_or}
@@ -7,8 +7,7 @@ use Rattle.rc_base.specs.declared.command.Rgba.{Rgba}
 use Rattle.rc_base.specs.declared.command.Command.{Command}
 use Rattle.rc_base.specs.declared.command.Command.TheVariants as cmd
 use Rattle.rc_base.specs.Formats.Commands.{IsCommand}
-use Rattle.std.proofs.Math.Nat.{mul-le-mul, div-lt_iff_lt-mul}
-use Rattle.rc_base.specs.Colors.{prod}
+use Rattle.fragment_ops.proofs.Halves.{prod_byte}
 use Rattle.spu_chain.specs.declared.rule.SpuRule.{SpuRule}
 use Rattle.spu_chain.specs.declared.rule.SpuRule.TheVariants.{Recolour, Cull, Drop, Count}
 use Rattle.spu_chain.specs.Filter.{recoloured, culled, is_of, IsTint, HasByteTint, passed, rule_after, rules_behind, filtered_by, rules_after}
@@ -19,11 +18,6 @@ abbrev AreWell : List Command → Type 0
 AreWell cs = AllByRecursion IsCommand cs
 
 -- ---- one command
-
-prod_byte : (a b : ℕ) → a < 256 → b < 256 → prod a b < 256
-prod_byte a b ha hb =
-    let most : a * b ≤ 255 * 255 = mul-le-mul {n₁ = a} {m₁ = b} {n₂ = 255} {m₂ = 255} (omega (arith, ha)) (omega (arith, hb)) in
-    (div-lt_iff_lt-mul {k = 255} {x = a * b + 127} {y = 256} (omega arith)).1 (omega (arith, most))
 
 recoloured_well : (tint : Rgba) → IsTint tint → (c : Command) → IsCommand c → IsCommand (recoloured tint c)
 unfolding recoloured

@@ -13,6 +13,7 @@ use Rattle.rc_base.specs.declared.scene.Decl.{Decl}
 use Rattle.rc_base.specs.declared.scene.Limit.{Limit}
 use Rattle.rc_base.specs.declared.scene.Scene.{Scene}
 use Rattle.rc_base.specs.Formats.Limits.{Quantity, quantity, is_outside, first_outside, size_area, side, barrier_count, is_swap_command, swaps_in, least_swaps, commands_in, frame_pixels, frame_quantities, quantities_with, held_limit, limit_of}
+use Rattle.rc_base.proofs.WithinLimits.{first_within}
 use Rattle.spu_chain.specs.declared.rule.SpuRule.{SpuRule}
 use Rattle.spu_chain.specs.declared.rule.SpuRule.TheVariants.{Recolour, Cull, Drop, Count}
 use Rattle.spu_chain.specs.Filter.{recoloured, culled, is_of, filtered_by, rules_after}
@@ -109,10 +110,6 @@ fewer_least rules (s ∷ t ∷ ts) =
 
 -- ---- the table
 
-passed_by : (outside : Bool) (limit : Limit) (later : Option Limit) → (if outside then Some limit else later) ≡ None → (outside ≡ false) × (later ≡ None)
-passed_by true limit later h = absurd cc
-passed_by false limit later h = (refl, h)
-
 inside : (outside : Bool) (limit : Limit) (later : Option Limit) → outside ≡ false → later ≡ None → (if outside then Some limit else later) ≡ None
 inside outside limit later h k = rw (h) k
 
@@ -120,7 +117,7 @@ inside outside limit later h k = rw (h) k
 with_tail : (qs rs ts : List Quantity) → first_outside (qs ++ rs) ≡ None → (first_outside rs ≡ None → first_outside ts ≡ None) → first_outside (qs ++ ts) ≡ None
 with_tail [] rs ts h k = k h
 with_tail (q ∷ qs) rs ts h k =
-    let p = passed_by (is_outside q) _ _ h in
+    let p = first_within q (qs ++ rs) h in
     inside (is_outside q) _ _ p.0 (with_tail qs rs ts p.1 k)
 
 -- a quantity of no least value that doesn't grow, and those behind it
@@ -131,7 +128,7 @@ module _ (what value other most : ℕ) (le : other ≤ value) where
   stays_below : (rs ts : List Quantity) → (first_outside rs ≡ None → first_outside ts ≡ None)
       → first_outside (quantity what value 0 most ∷ rs) ≡ None → first_outside (quantity what other 0 most ∷ ts) ≡ None
   stays_below rs ts k h =
-      let p = passed_by (is_outside (quantity what value 0 most)) _ _ h in
+      let p = first_within (quantity what value 0 most) rs h in
       inside (is_outside (quantity what other 0 most)) _ _ (smaller p.0) (k p.1)
 
 abbrev from_barriers : Decl → ℕ → List Quantity → List Quantity

@@ -1,11 +1,12 @@
 -- Elements in turn.
-use Rattle.std.proofs.Common.{◌≡◌, ℕ, zero, suc, ◌+◌, ◌-◌, append_assoc, ◌<◌, ◌≤◌, List, [], ◌∷◌, ◌++◌, refl, ap, sym, ◌∙◌, arith, inl, inr, subst}
+use Rattle.std.proofs.Common.{◌≡◌, ℕ, zero, suc, ◌+◌, ◌-◌, append_assoc, ◌<◌, ◌≤◌, List, [], ◌++◌, refl, ap, sym, ◌∙◌, arith, inl, inr, subst}
 use Rattle.std.proofs.lemmas.Bool.{cases_lt}
 use Rattle.std.specs.List.{flat_map, range_with_len}
 use Rattle.std.specs.Prelude.{◌≢◌}
 use Rattle.std.proofs.lemmas.Grind.{flat_map-append}
 use Rattle.std.proofs.lemmas.List.{append-nil}
 use Rattle.dirty_bits.proofs.Ranges.{range_split}
+use Rattle.plain_lemmas.proofs.Lists.{both_empty}
 
 -- a range is its first numbers and then the others
 pub range_more_than : {A : Type 0} (f : ℕ → List A) (a n m : ℕ) → flat_map f (range_with_len a (n + m)) ≡ flat_map f (range_with_len a n) ++ flat_map f (range_with_len (a + n) m)
@@ -49,16 +50,11 @@ one_of f a (suc n) k low high others = elim (cases_lt a k) [
       (ap (λ l. f a ++ l) (nothing_of f (a + 1) n (λ j from to. others j (λ same. omega (arith, same, e, from)))) ∙ append-nil (f a)))
 ]
 
--- two lists of which nothing comes are empty
-pub no_parts : {A : Type 0} (xs ys : List A) → xs ++ ys ≡ [] → (xs ≡ []) × (ys ≡ [])
-no_parts [] ys none = (refl, none)
-no_parts (x ∷ xs) ys none = absurd cc
-
 -- where all pieces give nothing, so does each
 pub nothing_in : {A : Type 0} (f : ℕ → List A) (a n k : ℕ) → flat_map f (range_with_len a n) ≡ [] → a ≤ k → k < a + n → f k ≡ []
 nothing_in f a zero k none low high = absurd (omega (arith, low, high))
 nothing_in f a (suc n) k none low high =
-    let both = no_parts (f a) (flat_map f (range_with_len (a + 1) n)) none in
+    let both = both_empty (f a) (flat_map f (range_with_len (a + 1) n)) none in
     elim (cases_lt a k) [
       | inl less ↦ nothing_in f (a + 1) n k both.1 (omega (arith, less)) (omega (arith, high))
       | inr more ↦ (let e : a ≡ k = omega (arith, low, more) in subst (λ (j : ℕ). f j ≡ []) e both.0)

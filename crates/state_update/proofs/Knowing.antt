@@ -5,10 +5,10 @@ use Rattle.std.specs.List.{flat_map, range_with_len}
 use Rattle.std.specs.Option.{option_map_or}
 use Rattle.std.specs.declared.option.Option.{Option}
 use Rattle.std.proofs.lemmas.Grind.{flat_map-append}
-use Rattle.std.proofs.lemmas.List.{append-nil, get_or_default, get_or_past, length-replicate}
+use Rattle.std.proofs.lemmas.List.{append-nil, get_or_default, length-replicate}
 use Rattle.rc_base.specs.Lists.{at_name}
 use Rattle.rc_base.specs.Pictures.{Picture}
-use Rattle.rc_base.specs.Contexts.Context.{ClientContext, default_state, private_count, private_image, edit_of}
+use Rattle.rc_base.specs.Contexts.Context.{ClientContext, private_count, private_image, edit_of}
 use Rattle.rc_base.specs.Contexts.Elements.{values_of, value_in, default_value, scalar_count, image_element, no_image, same_value}
 use Rattle.rc_base.specs.Cluster.Parcels.{sampled_images, set_of, sets_for}
 use Rattle.rc_base.specs.Drawing.Texel.{bound_kind, bound_name}
@@ -16,6 +16,7 @@ use Rattle.rc_base.specs.declared.scene.Decl.{Decl}
 use Rattle.rc_base.specs.declared.state.ElementSet.{ElementSet}
 use Rattle.rc_base.specs.declared.state.ElementValue.{ElementValue}
 use Rattle.gl_context.proofs.OneElement.{image_element_is}
+use Rattle.scene_lemmas.proofs.Contexts.{default_is_no_image}
 use Rattle.state_update.specs.declared.told.Told.{Told}
 use Rattle.state_update.specs.Knowledge.{Agrees, Knows, IsImageOf, scalar_value, edit_told, image_examined, image_of, image_set, image_sets, scalar_set, sets_by, first_told}
 use Rattle.state_update.proofs.InTurn.{same_in_turn}
@@ -29,12 +30,8 @@ zeros zero (suc k) = refl
 zeros (suc n) (suc zero) = refl
 zeros (suc n) (suc (suc k)) = zeros n (suc k)
 
-default_image : (d : Decl) (name : ℕ) → 0 < name → default_value d (image_element name) ≡ no_image
-unfolding values_of
-default_image d name some = get_or_past (values_of (default_state d)) (image_element name) no_image (omega (arith, some))
-
 first_image : (d : Decl) (name : ℕ) → 0 < name → IsImageOf (default_value d (image_element name)) (edit_told (first_told d) name)
-first_image d name some = rw (default_image d name some, zeros private_count name) refl
+first_image d name some = rw (default_is_no_image d name some, zeros private_count name) refl
 
 agrees_at_first : (d : Decl) → Agrees (first_told d) (default_value d)
 agrees_at_first d = record {

@@ -8,11 +8,14 @@ use Rattle.rc_base.specs.declared.cluster.ClientMoved.TheVariants as moved
 use Rattle.rc_base.specs.declared.plain_lane.PlainLane.{PlainLane}
 use Rattle.rc_base.specs.declared.state.Parcel.{Parcel}
 use Rattle.tile_model.specs.Items.{with_at}
+use Rattle.scene_lemmas.proofs.Numbered.{with_here, with_other}
+use Rattle.rc_base.proofs.Paired.{some_item}
+use Rattle.plain_lemmas.proofs.Numbers.{at_one_or_other}
 use Rattle.step_core.specs.Ports.{IsChanged, CanCarry, IsCarried, where_appended}
 use Rattle.step_core.specs.Worlds.{IsLaneOf, AreLanesOf, AreRowsOf, IsEmptyPort, IsPortRow, ArePortsOf}
 use Rattle.step_core.specs.declared.port.Port.{Port}
 use Rattle.step_core.proofs.ClientMoves.{IsCounted, HasAppended, HasNotAppended}
-use Rattle.step_core.proofs.Lanes.{at_one, with_here, with_other, first_of_some, lanes_as}
+use Rattle.step_core.proofs.Lanes.{lanes_as}
 
 module _ (depth clients tiles number : ℕ) (items : ℕ → ℕ → List Parcel) (rows : List (Vec (PlainLane Parcel) Global))
     (ports ports1 : List (Vec Port Global)) (row row' : Vec Port Global) (low : number < clients)
@@ -79,7 +82,7 @@ module _ (depth clients tiles number : ℕ) (items : ℕ → ℕ → List Parcel
   still : (own : ℕ → List Parcel) (rows' : List (Vec (PlainLane Parcel) Global)) (ports' : List (Vec Port Global))
       → HasNotAppended tiles (items number) own row'.items → (ports' ≡ ports1) × (rows' ≡ rows) → AreCarried own rows' ports'
   still own rows' ports' a e =
-      let same : (i t : ℕ) → now own i t ≡ items i t = λ i t. at_one (λ j. now own j t ≡ items j t) number
+      let same : (i t : ℕ) → now own i t ≡ items i t = λ i t. at_one_or_other (λ j. now own j t ≡ items j t) number
       (own_here own t ∙ ap (λ (f : ℕ → List Parcel). f t) a.now_is) (λ j ne. same_else own j t ne) i in
       record {
         rows_are = subst (λ rs. AreRowsOf depth clients tiles (now own) rs) (sym e.1) record {
@@ -88,7 +91,7 @@ module _ (depth clients tiles number : ℕ) (items : ℕ → ℕ → List Parcel
         };
         ports_are = subst (λ ps. ArePortsOf depth clients tiles (now own) ps) (sym e.0) record {
           count = changed.count ∙ q.count;
-          at = at_one (λ i. (r : Vec Port Global) → i < clients → IsPortRow depth tiles (now own i) (slice_index_or ports1 i r).items) number
+          at = at_one_or_other (λ i. (r : Vec Port Global) → i < clients → IsPortRow depth tiles (now own i) (slice_index_or ports1 i r).items) number
               (λ r li. subst (λ (x : Vec Port Global). IsPortRow depth tiles (now own number) x.items) (sym (changed.is r)) record {
                 count = row_count;
                 at = λ t d lt. record {
@@ -110,7 +113,7 @@ module _ (depth clients tiles number : ℕ) (items : ℕ → ℕ → List Parcel
     inside = let e = row_count in let f = lt in omega (arith, e, f)
 
     abbrev some_port : Port
-    some_port = first_of_some row'.items t inside
+    some_port = some_item row'.items t inside
 
     -- the line of ports that was carried from is the client's own
     line_is : k.ports_changed.line ≡ row'
@@ -147,14 +150,14 @@ module _ (depth clients tiles number : ℕ) (items : ℕ → ℕ → List Parcel
     row_now : AreLanesOf depth clients (λ client. now own client t) k.rows_changed.line'.items
     row_now = record {
       count = k.rows_changed.line_changed.count ∙ row_was.count;
-      at = at_one (λ i. (d : PlainLane Parcel) → i < clients → IsLaneOf depth (now own i t) (slice_index_or k.rows_changed.line'.items i d)) number
+      at = at_one_or_other (λ i. (d : PlainLane Parcel) → i < clients → IsLaneOf depth (now own i t) (slice_index_or k.rows_changed.line'.items i d)) number
           (λ d li. subst (λ (x : PlainLane Parcel). IsLaneOf depth (now own number t) x) (sym (k.rows_changed.line_changed.is d)) lane_now)
           (λ i ne d li. subst (λ (x : PlainLane Parcel). IsLaneOf depth (now own i t) x) (sym (k.rows_changed.line_changed.others i d ne))
           (subst (λ (xs : List Parcel). IsLaneOf depth xs (slice_index_or k.rows_changed.line.items i d)) (sym (same_else own i t ne)) (row_was.at i d li)));
     }
 
     same_away : (i : ℕ) → i ≢ t → (client : ℕ) → now own client i ≡ items client i
-    same_away i ne client = at_one (λ j. now own j i ≡ items j i) number (own_here own i ∙ own_else i ne) (λ j nj. same_else own j i nj) client
+    same_away i ne client = at_one_or_other (λ j. now own j i ≡ items j i) number (own_here own i ∙ own_else i ne) (λ j nj. same_else own j i nj) client
 
     port_now : IsEmptyPort depth (now own number t) k.port'
     port_now =
@@ -172,7 +175,7 @@ module _ (depth clients tiles number : ℕ) (items : ℕ → ℕ → List Parcel
     line_now : IsPortRow depth tiles (now own number) k.ports_changed.line'.items
     line_now = record {
       count = k.ports_changed.line_changed.count ∙ ap (λ (x : Vec Port Global). length x.items) line_is ∙ row_count;
-      at = at_one (λ i. (d : Port) → i < tiles → IsEmptyPort depth (now own number i) (slice_index_or k.ports_changed.line'.items i d)) t
+      at = at_one_or_other (λ i. (d : Port) → i < tiles → IsEmptyPort depth (now own number i) (slice_index_or k.ports_changed.line'.items i d)) t
           (λ d li. subst (λ (x : Port). IsEmptyPort depth (now own number t) x) (sym (k.ports_changed.line_changed.is d)) port_now)
           (λ i ne d li. subst (λ (x : Port). IsEmptyPort depth (now own number i) x)
           (sym (k.ports_changed.line_changed.others i d ne ∙ ap (λ (x : Vec Port Global). slice_index_or x.items i d) line_is)) record {
@@ -186,7 +189,7 @@ module _ (depth clients tiles number : ℕ) (items : ℕ → ℕ → List Parcel
     carried = record {
       rows_are = record {
         count = k.rows_changed.rows_changed.count ∙ v.count;
-        at = at_one (λ i. (d : Vec (PlainLane Parcel) Global) → i < tiles → AreLanesOf depth clients (λ client. now own client i) (slice_index_or rows' i d).items) t
+        at = at_one_or_other (λ i. (d : Vec (PlainLane Parcel) Global) → i < tiles → AreLanesOf depth clients (λ client. now own client i) (slice_index_or rows' i d).items) t
             (λ d li. subst (λ (x : Vec (PlainLane Parcel) Global). AreLanesOf depth clients (λ client. now own client t) x.items)
             (sym (k.rows_changed.rows_changed.is d)) row_now)
             (λ i ne d li. subst (λ (x : Vec (PlainLane Parcel) Global). AreLanesOf depth clients (λ client. now own client i) x.items)
@@ -195,7 +198,7 @@ module _ (depth clients tiles number : ℕ) (items : ℕ → ℕ → List Parcel
       };
       ports_are = record {
         count = k.ports_changed.rows_changed.count ∙ changed.count ∙ q.count;
-        at = at_one (λ i. (r : Vec Port Global) → i < clients → IsPortRow depth tiles (now own i) (slice_index_or ports' i r).items) number
+        at = at_one_or_other (λ i. (r : Vec Port Global) → i < clients → IsPortRow depth tiles (now own i) (slice_index_or ports' i r).items) number
             (λ r li. subst (λ (x : Vec Port Global). IsPortRow depth tiles (now own number) x.items) (sym (k.ports_changed.rows_changed.is r)) line_now)
             (port_else own ports' (λ i r ne. k.ports_changed.rows_changed.others i r ne));
       };

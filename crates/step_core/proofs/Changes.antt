@@ -2,7 +2,6 @@
 use Rattle.std.proofs.Common.{◌≡◌, ℕ, ◌<◌, List, length, sym, ap, ◌∙◌, subst, get_or-set_same, get_or-set_other, length-set}
 use Rattle.std.specs.Prelude.{slice_index_or, slice_set, Result, Vec}
 use Rattle.std.specs.Global.{Global}
-use Rattle.std.proofs.lemmas.Option.{slice_get-get_or}
 use Rattle.rc_base.specs.declared.cluster.ClientMoved.{ClientMoved}
 use Rattle.rc_base.specs.declared.cluster.TileMoved.{TileMoved}
 use Rattle.rc_base.specs.declared.cluster.TilePart.{TilePart}
@@ -13,14 +12,12 @@ use Rattle.rc_base.specs.declared.sync.Grant.{Grant}
 use Rattle.rc_base.specs.declared.sync.Request.{Request}
 use Rattle.client_issue.specs.declared.client.ClientCore.{ClientCore}
 use Rattle.tile_server.specs.declared.tile_core.TileCore.{TileCore}
+use Rattle.rc_base.proofs.Paired.{same_default}
 use Rattle.step_core.specs.Changes.{IsClientStepped, IsTileStepped, ArePartsKept}
 use Rattle.rc_base.specs.declared.cluster.ClientMoved.TheVariants as client_moved
 use Rattle.step_core.specs.Ports.{where_appended, IsCarried, IsChanged}
 use Rattle.step_core.specs.Settling.{AreSettled}
 use Rattle.step_core.specs.declared.port.Port.{Port}
-
-pub same_default : {A : Type 0} (xs : List A) (n : ℕ) (d e : A) → n < length xs → slice_index_or xs n d ≡ slice_index_or xs n e
-same_default xs n d e lt = let a = slice_get-get_or xs n d lt in let b = slice_get-get_or xs n e lt in cc
 
 pub changed : {A : Type 0} (xs : List A) (n : ℕ) (x y : A) → n < length xs → x ≡ slice_index_or xs n x → IsChanged n x y xs (slice_set xs n y)
 changed xs n x y lt is = record {

@@ -26,11 +26,14 @@ use Rattle.world_model.specs.Turns.Turn.{ClientTurn}
 use Rattle.world_model.specs.World.{Client, client_total}
 use Rattle.world_model.specs.World.{World as Model}
 use Rattle.client_issue.proofs.Tallies.{looks_are}
+use Rattle.scene_lemmas.proofs.Numbered.{with_here, with_other}
+use Rattle.rc_base.proofs.Paired.{some_item}
+use Rattle.plain_lemmas.proofs.Numbers.{at_one_or_other}
 use Rattle.step_core.specs.Changes.{IsClientCoreStep, IsSameDepth}
 use Rattle.step_core.specs.Ports.{waiting, HasNoRoom, IsSamePort, where_appended}
 use Rattle.step_core.specs.Worlds.{IsClientOf, IsLaneOf, IsPortRow}
 use Rattle.step_core.specs.declared.port.Port.{Port}
-use Rattle.step_core.proofs.Lanes.{at_one, with_here, with_other, first_of_some, lane_full, lane_so}
+use Rattle.step_core.proofs.Lanes.{lane_full, lane_so}
 
 -- ---- what a client and its lanes are after a step
 
@@ -214,7 +217,7 @@ module _ (scene : Scene) (l : Layout) (depth number : ℕ) (w : Model) (core cor
         let lt : t < tile_count l = low_tile t lt in
         let still : (d : Port) → (slice_index_or row' t d).sent ≡ None =
         λ d. none_waits (slice_index_or row' t d).sent ((sent.here.at t d (low t lt) refl).same ∙ was_empty t d lt) in
-        let d = first_of_some row t (low t lt) in
+        let d = some_item row t (low t lt) in
         let now = counted t d lt in
         record {
           own = record { client = seen core'; parcels = w.parcels number; requests = w.requests number };
@@ -222,7 +225,7 @@ module _ (scene : Scene) (l : Layout) (depth number : ℕ) (w : Model) (core cor
           requests = same_lane same;
           ports = record {
             now_is = refl;
-            none = λ i e li. at_one (λ j. (d : Port) → j < tile_count l → (slice_index_or row' j d).sent ≡ None) t (λ d ly. still d)
+            none = λ i e li. at_one_or_other (λ j. (d : Port) → j < tile_count l → (slice_index_or row' j d).sent ≡ None) t (λ d ly. still d)
                 (λ j ne d lj. others_empty t sent.others j d lj ne) i e li;
           };
           step = record {

@@ -18,6 +18,8 @@ use Rattle.world_model.specs.declared.moves.Move.{Move}
 use Rattle.world_model.specs.declared.moves.Move.TheVariants.{Client as ClientMove}
 use Rattle.world_model.specs.World.{Client, client_total}
 use Rattle.world_model.specs.World.{World as Model}
+use Rattle.scene_lemmas.proofs.Numbered.{with_here, with_other}
+use Rattle.plain_lemmas.proofs.Numbers.{at_one_or_other}
 use Rattle.step_core.specs.Changes.{IsClientStepped}
 use Rattle.step_core.specs.Ports.{CanCarry, IsCarried, where_appended}
 use Rattle.step_core.specs.Steps.{IsTurned, TellsOf}
@@ -27,7 +29,7 @@ use Rattle.step_core.specs.declared.port.Port.{Port}
 use Rattle.step_core.proofs.Carrying.{AreCarried, can_carry, are_carried}
 use Rattle.step_core.proofs.ClientMoves.{IsCounted, Turns, counted, turns, later_of, moved_in}
 use Rattle.step_core.proofs.Fits.{view_fits}
-use Rattle.step_core.proofs.Lanes.{at_one, with_here, with_other, lanes_one}
+use Rattle.step_core.proofs.Lanes.{lanes_one}
 
 -- what the step answers
 abbrev pub answer_in : ℕ → Result ClientMoved OutOfMemory → Result Move OutOfMemory
@@ -104,7 +106,7 @@ module _ (scene : Scene) (l : Layout) (depth number : ℕ) (before : Cluster) (w
     view_after = record {
       clients = record {
         count = s.cores_changed.count ∙ v.clients.count;
-        at = at_one (λ i. (d : ClientCore) → i < client_total scene → IsClientOf scene l i (later.clients i) (slice_index_or clients.items i d)) number
+        at = at_one_or_other (λ i. (d : ClientCore) → i < client_total scene → IsClientOf scene l i (later.clients i) (slice_index_or clients.items i d)) number
             (λ d lt. subst (λ (x : Client). IsClientOf scene l number x (slice_index_or clients.items number d))
             (sym (with_here w.clients number done.own.client))
             (subst (λ (x : ClientCore). IsClientOf scene l number done.own.client x) (sym (s.cores_changed.is d)) core_after))

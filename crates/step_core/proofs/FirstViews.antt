@@ -17,20 +17,16 @@ use Rattle.tile_server.specs.declared.tile_core.TileCore.{TileCore}
 use Rattle.world_model.specs.Tiles.{Tile}
 use Rattle.world_model.specs.World.{client_total}
 use Rattle.world_model.specs.World.{World as Model}
+use Rattle.scene_lemmas.proofs.Scenes.{scene_counts}
+use Rattle.rc_base.proofs.Paired.{some_item, same_default}
 use Rattle.step_core.specs.NewWorlds.{IsNew}
 use Rattle.step_core.specs.Runnable.{IsLaidOut, IsNewTileCore, new_client}
 use Rattle.step_core.specs.Worlds.{AreClientsOf, AreLanesOf, ArePortsOf, AreRowsOf, ArePartsOfTile, IsTileOf}
 use Rattle.step_core.specs.declared.cluster.Cluster.{Cluster}
-use Rattle.step_core.proofs.Changes.{same_default}
-use Rattle.step_core.proofs.Lanes.{first_of_some}
 
 scene_clients : (scene : Scene) → client_count (sync_lists_of scene) ≡ client_total scene
 unfolding sync_lists_of
 scene_clients scene = length-map-range_with_len (sync_row_of scene) 0 (client_total scene)
-
-scene_counts : (scene : Scene) → (sync_lists_of scene).counts ≡ scene.decl.barriers
-unfolding sync_lists_of
-scene_counts scene = refl
 
 scene_units : (scene : Scene) → (sync_lists_of scene).units ≡ scene.decl.semaphores
 unfolding sync_lists_of
@@ -71,7 +67,7 @@ pub first_view : (scene : Scene) (l : Layout) (depth : ℕ) (world : Cluster) �
     → ((i : ℕ) (d : Vec TilePart Global) → i < tile_count l → (slice_index_or world.parts.items i d).items ≡ [])
     → IsNew scene l depth world
 first_view scene l depth world laid clients manager_clients manager_tiles progress count tiles rows ports requests grants part_count parts =
-    let d = first_of_some world.tiles.items 0 (let a = laid.some in omega arith) in
+    let d = some_item world.tiles.items 0 (let a = laid.some in omega arith) in
     let p = progress (sync_lists_of scene) (scene_clients scene) (scene_counts scene) (scene_units scene) in
     let w : Model = record {
       clients = new_client scene l;

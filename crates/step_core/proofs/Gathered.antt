@@ -1,5 +1,5 @@
 -- What is collected of a cluster in which all have ended is what its run leaves.
-use Rattle.std.proofs.Common.{◌≡◌, ℕ, ◌+◌, ◌<◌, ◌≤◌, List, [], ◌∷◌, ◌++◌, length, take, Option, Some, refl, sym, ap, ◌∙◌, subst, arith, append-nil}
+use Rattle.std.proofs.Common.{◌≡◌, ℕ, ◌+◌, ◌<◌, ◌≤◌, List, [], ◌++◌, length, take, Option, Some, refl, sym, ap, ◌∙◌, subst, arith, append-nil}
 use Rattle.std.proofs.lemmas.List.{take-append-le}
 use Rattle.std.proofs.lemmas.List.FromFn.{length-map-range_with_len, get_or-map-range_with_len}
 use Rattle.std.proofs.lemmas.Option.{slice_get-get_or, slice_get_within, get_or_from_slice_get}
@@ -29,6 +29,7 @@ use Rattle.run_record.specs.Gathering.{AreEven, AreInFrames, HaveSent, shown_by}
 use Rattle.world_model.specs.Laws.{SteppedRunsAreSound, EndedWorldsAreOver, EndedWorldsShowFrames, EndedWorldsTallyAll, IsOver, IsRecordIn}
 use Rattle.world_model.specs.Sound.{IsSound}
 use Rattle.world_model.proofs.JournalsGoOn.{goes_on_to_itself}
+use Rattle.rc_base.proofs.Paired.{some_item}
 use Rattle.step_core.specs.CoreRuns.{IsCoreRun, IsGathered}
 use Rattle.step_core.specs.Rounds.{HasRun, IsAtEnd}
 use Rattle.step_core.specs.Worlds.{IsPartOf}
@@ -44,11 +45,6 @@ pub record GatherLaws : Type 0 where
   pub recorded : DoneRunsAreRecorded
   pub ordered : FramesAreInOrder
   pub stay : SwappedFramesStay
-
--- a list with an element isn't empty
-some_of : {A : Type 0} (xs : List A) (i : ℕ) → i < length xs → A
-some_of [] i lt = absurd (omega (arith, lt))
-some_of (x ∷ xs) i lt = x
 
 module _ (laws : GatherLaws) (scene : Scene) (l : Layout) (world : Cluster) (h : HasRun scene l world) where
   abbrev journal : List Entry
@@ -136,7 +132,7 @@ module _ (laws : GatherLaws) (scene : Scene) (l : Layout) (world : Cluster) (h :
           each = λ k part is low.
               let within : k < length list = slice_get_within list k part is in
               let inside : k < length pixels = (let c = shown.count in omega (arith, c, within)) in
-              let x = some_of pixels k inside in
+              let x = some_item pixels k inside in
               let mine = shown.at k x part inside low in
               let enough : k + 1 ≤ frame_count (take (performed_in p.log) journal) =
               (let n = shown.count in let c = tile.parts.count in omega (arith, n, c, within, swapped)) in
@@ -161,7 +157,7 @@ module _ (laws : GatherLaws) (scene : Scene) (l : Layout) (world : Cluster) (h :
   tile_finished : (t : ℕ) (d : TileCore) → t < tile_count l
       → IsTileFinished scene l t journal (slice_index_or world.tiles.items t d) (shown_by world.parts.items t)
   tile_finished t d lt =
-      let e = some_of world.parts.items t (let c = h.view.parts.count in omega (arith, c, lt)) in
+      let e = some_item world.parts.items t (let c = h.view.parts.count in omega (arith, c, lt)) in
       subst (λ (ps : List TilePart). IsTileFinished scene l t journal (slice_index_or world.tiles.items t d) ps) (sym (shown_is t e lt)) (list_finished t d e lt)
 
   all_done : AreDone scene l world.clients.items world.manager world.tiles.items (shown_by world.parts.items)
@@ -195,7 +191,7 @@ module _ (laws : GatherLaws) (scene : Scene) (l : Layout) (world : Cluster) (h :
           count = m ∙ all;
           logs = λ t lt.
               let here : t < length world.tiles.items = omega (arith, all, lt) in
-              let d = some_of world.tiles.items t here in
+              let d = some_item world.tiles.items t here in
               let core = h.view.seen.tiles.at t d lt in
               slice_get-get_or run.kept.logs t [] (omega (arith, m, here))
               ∙ ap (λ log. Some log) (k.logs.at t d [] here (h.model.tiles t).progress core.progress);

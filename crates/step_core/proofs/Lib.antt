@@ -2,7 +2,6 @@ pub mod Changes
 pub mod Lanes
 pub mod Pushes
 pub mod Said
-pub mod ShownFrames
 pub mod Fits
 pub mod FirstViews
 pub mod ClientMoves

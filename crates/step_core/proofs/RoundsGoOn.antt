@@ -1,5 +1,5 @@
 -- A round grows by one step after the other, and says whether somebody moved.
-use Rattle.std.proofs.Common.{◌≡◌, ℕ, ◌+◌, List, [], ◌∷◌, ◌++◌, length, map, true, false, Ok, Err, refl, sym, ap, ◌∙◌, subst, arith, inr, true≢false}
+use Rattle.std.proofs.Common.{◌≡◌, ℕ, ◌+◌, List, [], ◌∷◌, ◌++◌, length, map, true, Ok, Err, refl, sym, ap, ◌∙◌, subst, arith, true≢false}
 use Rattle.std.proofs.lemmas.List.{map-append}
 use Rattle.std.proofs.lemmas.List.FromFn.{map-range_with_len_more}
 use Rattle.std.specs.List.{range_with_len, AllByRecursion}
@@ -10,9 +10,9 @@ use Rattle.rc_base.specs.declared.window.Layout.{Layout}
 use Rattle.world_model.specs.declared.moves.Move.{Move}
 use Rattle.world_model.specs.Laws.{AmpleTurnsAreMoves}
 use Rattle.world_model.specs.Turns.{Turn, AreTurns, IsLastTurn, IsResting, IsTurn, number_of, turn_of}
-use Rattle.world_model.specs.Turns.Turn.{ClientTurn, ManagerTurn, TileTurn}
 use Rattle.world_model.specs.World.{client_total}
 use Rattle.world_model.specs.World.{World as Model}
+use Rattle.world_model.proofs.StoppedWorldsRest.{last_rests}
 use Rattle.step_core.specs.Rounds.{round_with, IsRound, IsRoundOf, IsRoundBelow, Rounds}
 use Rattle.step_core.specs.Actors.{said_of}
 use Rattle.step_core.specs.Steps.{Attempts, IsTurnSaid, Turns}
@@ -53,14 +53,6 @@ range_more n =
     ∙ ap (λ xs. xs ++ n ∷ []) (map_self (range_with_len 0 n))
 
 -- ---- what it says
-
-last_rests : (turn : Turn) → IsLastTurn turn → IsResting turn
-last_rests (ClientTurn client (Ok answer)) last = inr (inr last)
-last_rests (ClientTurn client (Err error)) last = last
-last_rests (ManagerTurn (Ok answer)) last = inr (inr last)
-last_rests (ManagerTurn (Err error)) last = last
-last_rests (TileTurn tile (Ok answer)) last = inr last
-last_rests (TileTurn tile (Err error)) last = last
 
 pub all_rest : (turns : List Turn) → AllByRecursion IsLastTurn turns → AllByRecursion IsResting turns
 all_rest turns h = all_by IsLastTurn IsResting last_rests turns h

@@ -20,6 +20,7 @@ use Rattle.world_model.specs.Turns.{IsTurn, number_of, turn_of}
 use Rattle.world_model.specs.declared.moves.Move.TheVariants.{Client as ClientMove, Manager as ManagerMove, Tile as TileMove}
 use Rattle.world_model.specs.World.{World as Model}
 use Rattle.world_model.specs.declared.moves.Move.{Move}
+use Rattle.rc_base.proofs.Paired.{some_item}
 use Rattle.step_core.specs.NewWorlds.{IsNew}
 use Rattle.step_core.specs.Runnable.{HasActors, IsDepth, IsLaidOut}
 use Rattle.order_model.specs.Scenes.{IsRunnable}
@@ -28,7 +29,6 @@ use Rattle.step_core.specs.Schedules.{WorldView, IsRightFor, IsLegalIn}
 use Rattle.step_core.specs.Steps.{Turns}
 use Rattle.step_core.specs.Worlds.{IsSeen}
 use Rattle.step_core.specs.declared.cluster.Cluster.{Cluster}
-use Rattle.step_core.proofs.Lanes.{first_of_some}
 
 module _ (scene : Scene) (l : Layout) (depth : ℕ) where
   moves_more : (w v later : Model) (moves : List Move) (move : Move) → AreMoves scene l depth w moves v → IsMove scene l depth v move later
@@ -89,7 +89,7 @@ module _ (scene : Scene) (l : Layout) (depth : ℕ) where
     logs = λ tile lt.
         let n = h.view.seen.tiles.count in
         let within : tile < length cluster.tiles.items = omega (arith, n, lt) in
-        let d : TileCore = first_of_some cluster.tiles.items tile within in
+        let d : TileCore = some_item cluster.tiles.items tile within in
         let core = h.view.seen.tiles.at tile d lt in
         slice_get-map log_of cluster.tiles.items tile ∙ ap (option_map log_of) (slice_get-get_or cluster.tiles.items tile d within)
         ∙ ap (λ log. Some log) (sym core.progress.ledger.log);

@@ -5,10 +5,12 @@ use Rattle.std.specs.Global.{Global}
 use Rattle.rc_base.specs.Cluster.PlainLanes.{held}
 use Rattle.rc_base.specs.declared.plain_lane.PlainLane.{PlainLane}
 use Rattle.rc_base.specs.declared.state.Parcel.{Parcel}
+use Rattle.rc_base.proofs.Paired.{some_item}
+use Rattle.plain_lemmas.proofs.Numbers.{at_one_or_other}
 use Rattle.step_core.specs.Settling.{CanSettle, AreSettled}
 use Rattle.step_core.specs.Worlds.{AreLanesOf, IsEmptyPort, IsPortRow, ArePortsOf}
 use Rattle.step_core.specs.declared.port.Port.{Port}
-use Rattle.step_core.proofs.Lanes.{at_one, first_of_some, fits}
+use Rattle.step_core.proofs.Lanes.{fits}
 
 module _ (depth clients tiles tile : ℕ) (items now : ℕ → ℕ → List Parcel) (ports : List (Vec Port Global)) (lanes : List (PlainLane Parcel)) (lt : tile < tiles)
     (q : ArePortsOf depth clients tiles items ports) (h : AreLanesOf depth clients (λ client. now client tile) lanes) where
@@ -39,13 +41,13 @@ module _ (depth clients tiles tile : ℕ) (items now : ℕ → ℕ → List Parc
 
     row_now : (i : ℕ) (r : Vec Port Global) → i < clients → IsPortRow depth tiles (now i) (slice_index_or ports' i r).items
     row_now i r li =
-        let d = first_of_some lanes i (within i li) in
+        let d = some_item lanes i (within i li) in
         let k = s.settled i r d (inside i li) in
         let row = q.at i r li in
         let lane = h.at i d li in
         record {
           count = k.changed.count ∙ row.count;
-          at = at_one (λ t. (e : Port) → t < tiles → IsEmptyPort depth (now i t) (slice_index_or (slice_index_or ports' i r).items t e)) tile
+          at = at_one_or_other (λ t. (e : Port) → t < tiles → IsEmptyPort depth (now i t) (slice_index_or (slice_index_or ports' i r).items t e)) tile
               (λ e lt. subst (λ (x : Port). IsEmptyPort depth (now i tile) x) (sym (k.changed.is e)) record {
                 empty = k.empty;
                 count = k.count ∙ ap length lane.holds;

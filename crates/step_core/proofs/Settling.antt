@@ -5,9 +5,9 @@ use Rattle.std.specs.Prelude.{slice_index_or, Vec}
 use Rattle.std.specs.Global.{Global}
 use Rattle.rc_base.specs.declared.plain_lane.PlainLane.{PlainLane}
 use Rattle.rc_base.specs.declared.state.Parcel.{Parcel}
+use Rattle.rc_base.proofs.Paired.{same_default}
 use Rattle.step_core.specs.Settling.{CanSettle, CanSettleIn, CanSettleTo, AreSettled, AreSettledBelow, IsSettledIn, IsSettledTo}
 use Rattle.step_core.specs.declared.port.Port.{Port}
-use Rattle.step_core.proofs.Changes.{same_default}
 
 pub settling_begins : (tile : ℕ) (ports : List (Vec Port Global)) (lanes : List (PlainLane Parcel)) → AreSettledBelow 0 tile ports ports lanes
 settling_begins tile ports lanes = record { count = refl; settled = λ i r d lt inside. absurd (omega (arith, lt)); rest = λ i r more. refl }

@@ -15,40 +15,20 @@ use Rattle.rc_base.specs.declared.sync.Entry.TheVariants.{Meet, Swap, Give, Take
 use Rattle.rc_base.specs.declared.sync.Grant.TheVariants as grant
 use Rattle.order_model.specs.Standing.{Progress, performed_in}
 use Rattle.tile_model.specs.Acts.{is_work}
-use Rattle.tile_model.specs.Items.{Item, after_act, after_item, shown_frames, IsAwaited, parcel_taken, grant_taken}
+use Rattle.tile_model.specs.Items.{Item, after_act, after_item, shown_frames, IsAwaited}
 use Rattle.tile_model.specs.Short.{IsFinished}
 use Rattle.tile_model.specs.Items.Item.{Nothing, Due, Granted, NoMore, Sent}
-use Rattle.step_core.proofs.ShownFrames.{after_swap, after_other, after_learnt, after_worked}
-use Rattle.tile_server.specs.Deeds.{item_of, answer_of, is_wait, taken_of, granted_of, next_after, IsNextDeed, IsFoundEmpty, IsUnheard}
+use Rattle.tile_server.specs.Deeds.{item_of, answer_of, is_wait, granted_of, next_after, IsNextDeed, IsFoundEmpty, IsUnheard}
 use Rattle.tile_server.specs.declared.deed.TileDeed.{TileDeed}
 use Rattle.tile_server.specs.declared.deed.TileDeed.TheVariants.{Performs, Shows, Fails, Learns, Takes, Rests, Finishes}
 use Rattle.tile_server.specs.declared.deed.Taking.TheVariants.{Works, Holds, Closes, Drops, Loses}
 use Rattle.world_model.specs.Tiles as model
 use Rattle.world_model.specs.Tiles.{Tile, without_pixels, answer_to_act, answer_to_entry, parts_after, HasEnded, IsTileAnswer, IsUndue, FindsNoGrant, FindsNoParcel}
 use Rattle.world_model.specs.declared.moves.TileAnswer.TheVariants.{Performed as DonePerformed, Took as DoneTook, Held as DoneHeld, Closed as DoneClosed, Dropped as DoneDropped}
+use Rattle.tile_model.proofs.ShownFrames.{after_swap, after_other, after_learnt, after_worked}
 use Rattle.step_core.specs.Changes.{with_shown}
 
 -- ---- its lanes
-
-pub same_taken : (deed : TileDeed) (i : ℕ) → taken_of deed i ≡ parcel_taken (item_of deed) i
-same_taken (Performs e) i = refl
-same_taken (Shows part) i = refl
-same_taken Fails i = refl
-same_taken (Learns (grant.Entry e)) i = refl
-same_taken (Learns grant.NoMore) i = refl
-same_taken (Takes client parcel how) i = refl
-same_taken Rests i = refl
-same_taken Finishes i = refl
-
-pub same_granted : (deed : TileDeed) → granted_of deed ≡ grant_taken (item_of deed)
-same_granted (Performs e) = refl
-same_granted (Shows part) = refl
-same_granted Fails = refl
-same_granted (Learns (grant.Entry e)) = refl
-same_granted (Learns grant.NoMore) = refl
-same_granted (Takes client parcel how) = refl
-same_granted Rests = refl
-same_granted Finishes = refl
 
 pub same_next : (next : ℕ) (deed : TileDeed) → next_after next deed ≡ model.next_after next (item_of deed)
 same_next next (Performs e) = refl
@@ -61,16 +41,6 @@ same_next next Rests = refl
 same_next next Finishes = refl
 
 -- ---- which item is next
-
-pub awaits : (p : Progress) (deed : TileDeed) → IsNextDeed false p deed → IsAwaited p (item_of deed)
-awaits p (Performs e) h = h.2
-awaits p (Shows part) h = h.1
-awaits p Fails h = tt
-awaits p (Learns (grant.Entry e)) h = h.1
-awaits p (Learns grant.NoMore) h = h.1
-awaits p (Takes client parcel how) h = (h.0.low, h.0.asked)
-awaits p Rests h = tt
-awaits p Finishes h = tt
 
 pub is_undue : (p : Progress) (deed : TileDeed) (m : TileMoved) → answer_of deed ≡ Ok m → IsNextDeed false p deed → IsUndue p (item_of deed)
 is_undue p (Performs e) m ok h = tt

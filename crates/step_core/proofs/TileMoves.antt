@@ -1,5 +1,5 @@
 -- A step of a tile's core over lanes that are seen as the model's is a turn of the tile, whether it is short, becomes so, or isn't.
-use Rattle.std.proofs.Common.{◌≡◌, ℕ, ◌+◌, ◌<◌, ◌^◌, Bool, true, false, cond, List, [], ◌∷◌, ◌++◌, length, Option, Ok, Err, inl, inr, refl, sym, ap, ◌∙◌, subst, arith, length-append, true≢false}
+use Rattle.std.proofs.Common.{◌≡◌, ℕ, ◌+◌, ◌<◌, ◌^◌, Bool, true, false, cond, List, [], ◌∷◌, ◌++◌, length, Option, Ok, Err, inl, inr, refl, sym, ap, ◌∙◌, subst, arith, length-append}
 use Rattle.std.specs.Prelude.{MatchOption, slice_index_or, Result, Vec}
 use Rattle.std.specs.Global.{Global}
 use Rattle.std.proofs.lemmas.Bool.{cases_Bool, cases_lt}
@@ -35,6 +35,11 @@ use Rattle.world_model.specs.declared.moves.Move.TheVariants.{Tile as TileMove}
 use Rattle.world_model.specs.Tiles.{Tile, next_after, parts_after, without_pixels, IsTileStep}
 use Rattle.world_model.specs.World.{client_total}
 use Rattle.world_model.specs.World.{World as Model}
+use Rattle.scene_lemmas.proofs.Numbered.{with_here, with_other}
+use Rattle.tile_server.proofs.CoresStand.{awaited}
+use Rattle.tile_server.proofs.TilesMeetTheirClause.{same_taken, same_granted}
+use Rattle.plain_lemmas.proofs.Numbers.{at_one_or_other}
+use Rattle.plain_lemmas.proofs.Booleans.{false_behind}
 use Rattle.step_core.specs.Changes.{IsTileStepped, ArePartsKept, with_shown}
 use Rattle.step_core.specs.Worlds.{AreShown, IsSeenAs, IsTileOf, IsPartOf, ArePartsOfTile, AreLanesOf, IsLaneOf}
 use Rattle.step_core.specs.Settling.{AreSettled, CanSettle}
@@ -44,9 +49,9 @@ use Rattle.step_core.specs.declared.port.Port.{Port}
 use Rattle.step_core.proofs.Said.{swap_moves}
 use Rattle.step_core.proofs.Settled.{can_settle, settled_ports}
 use Rattle.step_core.proofs.Fits.{view_fits}
-use Rattle.step_core.proofs.Lanes.{at_one, with_here, with_other, rest_of, rest_was, at_item, none_taken, lanes_give, lanes_gave, lanes_empty, lanes_as, lanes_one, lane_gives}
+use Rattle.step_core.proofs.Lanes.{rest_of, rest_was, at_item, none_taken, lanes_give, lanes_gave, lanes_empty, lanes_as, lanes_one, lane_gives}
 use Rattle.step_core.proofs.ShortDeeds.{answers_short, awaits_short, finds_no_grant_short, finds_no_parcel_short, loses, may_lose, no_grant_lost, no_loss, none_there}
-use Rattle.step_core.proofs.TileDeeds.{same_taken, same_granted, same_next, awaits, is_undue, finds_no_parcel, finds_no_grant, none_granted, answers, shows_or_not, shown_after}
+use Rattle.step_core.proofs.TileDeeds.{same_next, is_undue, finds_no_parcel, finds_no_grant, none_granted, answers, shows_or_not, shown_after}
 
 -- ---- the parts that are shown
 
@@ -126,10 +131,6 @@ shown_at : (l l' : Layout) (tile tile' : ℕ) (p : Progress) (b b' : Board) (dee
 shown_at l l' tile tile' p b b' deed e f g x =
     subst (λ (y : Layout). IsShown y tile' p b' deed) e (subst (λ y. IsShown l y p b' deed) f (subst (λ (y : Board). IsShown l tile p y deed) g x))
 
-still_false : (loss short : Bool) → cond loss true short ≡ false → short ≡ false
-still_false true short e = absurd (true≢false e)
-still_false false short e = e
-
 module _ (scene : Scene) (l : Layout) (depth tile : ℕ) (before : Cluster) (w : Model) (r : Result TileMoved OutOfMemory) (tiles : Vec TileCore Global)
     (parcels : Vec (Vec (PlainLane Parcel) Global) Global) (grants : Vec (PlainLane Grant) Global) (v : IsSeenAs scene l depth before w)
     (low : tile < tile_count l)
@@ -159,7 +160,7 @@ module _ (scene : Scene) (l : Layout) (depth tile : ℕ) (before : Cluster) (w :
 
   -- where the core isn't short after the step, it wasn't before
   was_ample : is_short s.core' ≡ false → is_short s.core ≡ false
-  was_ample e = still_false (is_loss s.deed) (is_short s.core) (sym s.step.step.short ∙ e)
+  was_ample e = false_behind (is_loss s.deed) (is_short s.core) (sym s.step.step.short ∙ e)
 
   core_after : IsTileOf scene l tile (tile_after (is_short s.core') was s.deed s.core') s.core'
   core_after = record {
@@ -172,7 +173,7 @@ module _ (scene : Scene) (l : Layout) (depth tile : ℕ) (before : Cluster) (w :
     next = s.step.step.rotation ∙ same_next (next_of s.core) s.deed ∙ ap (λ n. next_after n (item_of s.deed)) core_is.next;
     board = λ ample. rw ample refl;
     shown = λ ample. (let whole = was_ample ample in
-        rw ample (shown_after was.progress (item_of s.deed) was.board.pixel was.parts (awaits was.progress s.deed (next_so false whole)) (core_is.shown (sym core_is.short ∙ whole))));
+        rw ample (shown_after was.progress (item_of s.deed) was.board.pixel was.parts (awaited was.progress s.deed (next_so false whole)) (core_is.shown (sym core_is.short ∙ whole))));
   }
 
   row_after : AreLanesOf depth (client_total scene) (λ client. rest_of (taken_of s.deed client) (w.parcels client tile)) s.row'.items
@@ -249,7 +250,7 @@ module _ (scene : Scene) (l : Layout) (depth tile : ℕ) (before : Cluster) (w :
       let step : IsTileStep scene.decl l tile (item_of s.deed) was (tile_after false was s.deed s.core') = record {
         ample = sym core_is.short ∙ ample;
         still_ample = sym ample ∙ core_is.short;
-        awaited = awaits was.progress s.deed next;
+        awaited = awaited was.progress s.deed next;
         undue = is_undue was.progress s.deed m answered next;
         progress = refl;
         next = refl;
@@ -336,7 +337,7 @@ module _ (scene : Scene) (l : Layout) (depth tile : ℕ) (before : Cluster) (w :
       manager = v.manager;
       tiles = record {
         count = s.cores_changed.count ∙ v.tiles.count;
-        at = at_one (λ i. (d : TileCore) → i < tile_count l → IsTileOf scene l i (later.tiles i) (slice_index_or tiles.items i d)) tile
+        at = at_one_or_other (λ i. (d : TileCore) → i < tile_count l → IsTileOf scene l i (later.tiles i) (slice_index_or tiles.items i d)) tile
             (λ d lt. subst (λ (x : Tile). IsTileOf scene l tile x (slice_index_or tiles.items tile d))
             (sym (with_here w.tiles tile (tile_after (is_short s.core') was s.deed s.core')))
             (subst (λ (x : TileCore). IsTileOf scene l tile (tile_after (is_short s.core') was s.deed s.core') x) (sym (s.cores_changed.is d)) core_after))
@@ -346,7 +347,7 @@ module _ (scene : Scene) (l : Layout) (depth tile : ℕ) (before : Cluster) (w :
       };
       parcels = record {
         count = s.rows_changed.count ∙ v.parcels.count;
-        at = at_one (λ i. (d : Vec (PlainLane Parcel) Global) → i < tile_count l
+        at = at_one_or_other (λ i. (d : Vec (PlainLane Parcel) Global) → i < tile_count l
             → AreLanesOf depth (client_total scene) (λ client. later.parcels client i) (slice_index_or parcels.items i d).items) tile
             (λ d lt. row_now d)
             (λ i ne d lt. subst (λ (x : Vec (PlainLane Parcel) Global). AreLanesOf depth (client_total scene) (λ client. later.parcels client i)
@@ -383,7 +384,7 @@ module _ (scene : Scene) (l : Layout) (depth tile : ℕ) (before : Cluster) (w :
         (core_is.shown (sym core_is.short ∙ ample)) (kept.here d) (shown.at tile d low) in
         record {
           count = kept.count ∙ shown.count;
-          at = at_one (λ i. (d : Vec TilePart Global) → i < tile_count l
+          at = at_one_or_other (λ i. (d : Vec TilePart Global) → i < tile_count l
               → ArePartsOfTile l i ((later.tiles i).parts) (slice_index_or parts.items i d).items) tile
               (λ d lt. subst (λ (x : Tile). ArePartsOfTile l tile x.parts (slice_index_or parts.items tile d).items) (sym (tile_now false whole)) (here d))
               (λ i ne d lt. subst (λ (x : Tile). ArePartsOfTile l i x.parts (slice_index_or parts.items i d).items)

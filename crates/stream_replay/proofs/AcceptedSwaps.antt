@@ -1,6 +1,6 @@
 -- How many Swaps of a client were accepted, one command after the other.
 use mir.Val.{bool_byte}
-use Rattle.std.proofs.Common.{◌≡◌, ℕ, zero, suc, ◌+◌, ◌≤◌, Bool, true, false, refl, ap, arith, inl, inr, if◌then◌else◌}
+use Rattle.std.proofs.Common.{◌≡◌, ℕ, zero, suc, ◌+◌, ◌≤◌, Bool, true, false, refl, ap, arith, inl, inr, if◌then◌else◌, ◌∙◌}
 use Rattle.std.proofs.lemmas.Bool.{cases_lt}
 use Rattle.rc_base.specs.Contexts.Issue.{effect_at}
 use Rattle.rc_base.specs.Drawing.Serial.{is_swap_effect, accepted_swaps}
@@ -47,3 +47,6 @@ byte_is false = refl
 pub byte_most : (b : Bool) → bool_byte b ≤ 1
 byte_most true = omega arith
 byte_most false = omega arith
+
+pub swaps_after_other : (s : Scene) (client place : ℕ) → is_swap_effect (effect_at s client place) ≡ false → accepted_swaps s client (place + 1) ≡ accepted_swaps s client place
+swaps_after_other s client place is = swaps_next s client place ∙ ap (λ (b : Bool). accepted_swaps s client place + (if b then 1 else 0)) is ∙ omega arith

@@ -58,9 +58,6 @@ pub client_before : (s : Scene) (done : List Name) (n : Name) (xs : List Client)
     → slice_get xs n.client ≡ Some (client_after s n.client n.place)
 client_before s done n xs h place lt = h.each n.client lt ∙ ap (λ (k : ℕ). Some (client_after s n.client k)) (sym place)
 
-pub element_is : {A : Type 0} (xs : List A) (k : ℕ) (x v : A) → slice_get xs k ≡ Some v → x ≡ get_or xs k x → x ≡ v
-element_is xs k x v e found = found ∙ get_or_from_slice_get xs k v x e
-
 pub client_now : (s : Scene) (n : Name) (xs ys : List Client) (x : Client) → n.client < length xs → ys ≡ set xs n.client (client_after s n.client (n.place + 1))
     → x ≡ get_or ys n.client x → x ≡ client_after s n.client (n.place + 1)
 client_now s n xs ys x lt is found = found ∙ ap (λ (l : List Client). get_or l n.client x) is ∙ get_or-set_same xs n.client _ x lt

@@ -2,3 +2,4 @@ pub mod IssuedCommands
 pub mod AcceptedSwaps
 pub mod ListsGoOn
 pub mod ClientsInTurn
+pub mod DeclaredOperations

@@ -1,9 +1,9 @@
 -- Lanes that a step found empty, by the lanes that were asked.
 use Rattle.std.proofs.Common.{◌≡◌, ℕ, zero, suc, ◌<◌, Bool, true, false, not, List, [], ◌∷◌, length, ◌⊎◌, inl, inr, refl, sym, ◌∙◌, subst, true≢false, get_or, slice_index_or}
+use Rattle.std.proofs.lemmas.Bool.{not-false}
 use Rattle.rc_base.specs.Cluster.Lanes.{EachLane, IsAsked, IsEarlier}
 use Rattle.rc_base.specs.declared.sync.Request.{Request}
 use Rattle.rc_base.specs.declared.sync.SyncLists.{SyncLists}
-use Rattle.plain_lemmas.proofs.Booleans.{true_from_not_false}
 use Rattle.sync_manager.specs.Books.{clients_in, is_wanted}
 use Rattle.sync_manager.specs.Progress.{ManagerProgress, IsFoundEmpty, may_arrive}
 use Rattle.sync_manager.specs.Cores.{IsProgressOf}
@@ -26,7 +26,7 @@ module _ {I : Type 0} (R : I → I → Type 0) (before after : List I) (syncs : 
       → EachLane (λ i a b. IsAsked core.left i → R a b) before after → EachLane (λ i a b. IsFoundEmpty syncs d deed i → R a b) before after
   none_left deed (inl is) e = subst (λ x. EachLane (λ i a b. IsFoundEmpty syncs d x i → R a b) before after) (sym is) record {
     count = e.count;
-    at = λ i x lt left. e.at i x lt (true_from_not_false (slice_index_or core.left i true) (sym (h.drained i (subst (λ n. i < n) lanes lt)) ∙ left));
+    at = λ i x lt left. e.at i x lt (not-false (slice_index_or core.left i true) (sym (h.drained i (subst (λ n. i < n) lanes lt)) ∙ left));
   }
   none_left deed (inr is) e = subst (λ x. EachLane (λ i a b. IsFoundEmpty syncs d x i → R a b) before after) (sym is) record { count = e.count; at = λ i x lt left. absurd left }
 

@@ -1,6 +1,6 @@
 -- What a step of the manager makes of what was done.
-use Rattle.std.proofs.Common.{true≢false, ◌≡◌, ℕ, ◌+◌, ◌-◌, ◌<◌, ◌≤◌, ◌==◌, ◌||◌, not, Bool, true, false, cond, [], ◌∷◌, length, Some, inl, inr, refl, sym, ap, ◌∙◌, subst, arith, eqb-true, lt-ltb, ltb-true, length-append}
-use Rattle.std.proofs.lemmas.Bool.{cases_Bool, cases_lt, eqb-false}
+use Rattle.std.proofs.Common.{true≢false, ◌≡◌, ℕ, ◌+◌, ◌-◌, ◌<◌, ◌≤◌, ◌==◌, ◌||◌, not, Bool, true, false, cond, [], ◌∷◌, length, Some, inl, inr, refl, sym, ap, ◌∙◌, subst, arith, lt-ltb, ltb-true, length-append}
+use Rattle.std.proofs.lemmas.Bool.{cases_Bool, cases_lt, eqb-false, le-ltb}
 use Rattle.std.proofs.lemmas.Option.{slice_get_within}
 use Rattle.std.specs.Prelude.{OnOk, OnErr, nat_lt, slice_get, slice_index_or}
 use Rattle.rc_base.specs.Orders.Book.{Book as Arrivals, standing, with_at, with_entry, book_after, is_declared, IsBookOver}
@@ -14,7 +14,7 @@ use Rattle.rc_base.specs.declared.sync.Request.{Request}
 use Rattle.rc_base.specs.declared.sync.Request.TheVariants as request
 use Rattle.rc_base.specs.declared.sync.SyncLists.{SyncLists}
 use Rattle.rc_base.specs.declared.sync.SyncOp.{SyncOp}
-use Rattle.plain_lemmas.proofs.Numbers.{equal_to_itself}
+use Rattle.plain_lemmas.proofs.Numbers.{equal_to_itself, at_one}
 use Rattle.sync_manager.specs.Books.{IsBookOf, AllWaitOrEnded, clients_in, journal_in, names_declared, is_wanted}
 use Rattle.sync_manager.specs.Progress.{ManagerProgress, AllDelivered, NoMoreComes, IsGrantDue, may_arrive, IsReceiving, IsDraining, is_end, event_of, IsNextDeed, answer_of, with_taken}
 use Rattle.sync_manager.specs.Cores.{is_short, tiles_of, delivered_in, drained_in, IsProgressOf, IsManagerStep}
@@ -27,17 +27,11 @@ use Rattle.sync_manager.proofs.BookGrants.{granted, none_granted, over_is, all_w
 
 -- ---- functions with another value at one number
 
-pub at_one : (Q : ℕ → Type 0) (c : ℕ) → Q c → ((k : ℕ) → (k == c) ≡ false → Q k) → (k : ℕ) → Q k
-at_one Q c here others k = elim (cases_Bool (k == c)) [ inl t ↦ subst Q (sym (eqb-true k c t)) here | inr f ↦ others k f ]
-
 with_same : (f g : ℕ → Bool) (c : ℕ) (x : Bool) (i : ℕ) → f c ≡ g c → f i ≡ g i → with_at f c (f c || x) i ≡ with_at g c (g c || x) i
 with_same f g c x i here there = rw (here, there) refl
 
 same_below : (n : ℕ) → nat_lt n n ≡ false
 same_below n = elim (cases_Bool (nat_lt n n)) [ inl t ↦ absurd (let l = ltb-true n n t in omega arith) | inr f ↦ f ]
-
-not_below : (m n : ℕ) → n ≤ m → nat_lt m n ≡ false
-not_below m n le = elim (cases_Bool (nat_lt m n)) [ inl t ↦ absurd (let l = ltb-true m n t in omega arith) | inr f ↦ f ]
 
 -- ---- what the core's numbers say
 
@@ -51,7 +45,7 @@ module _ (syncs : SyncLists) (core : ManagerCore) (d : ManagerProgress) (h : IsP
 
   lacks_last : (tile : ℕ) → core.supplied ≤ tile → tile < core.tiles → d.delivered tile ≡ length d.book.journal - 1
   lacks_last tile le low = let at = h.delivered tile low in
-      let have : delivered_in core tile ≡ length (journal_in core.book) - 1 = rw (not_below tile core.supplied le) refl in at ∙ have ∙ ap (λ n. n - 1) entries
+      let have : delivered_in core tile ≡ length (journal_in core.book) - 1 = rw (le-ltb tile core.supplied le) refl in at ∙ have ∙ ap (λ n. n - 1) entries
 
   all_delivered : AllSupplied core → (tile : ℕ) → tile < core.tiles → d.delivered tile ≡ length d.book.journal
   all_delivered supplied tile low = elim (cases_lt tile core.supplied) [
@@ -102,7 +96,7 @@ module _ (syncs : SyncLists) (core : ManagerCore) (d : ManagerProgress) (h : IsP
     no_more due.3,
     record {
       low = due.1;
-      here = let at = h.told tile due.1 in rw (at, not_below tile core.told (omega (arith, due.0))) refl;
+      here = let at = h.told tile due.1 in rw (at, le-ltb tile core.told (omega (arith, due.0))) refl;
       lower = λ i lt. let at = h.told i (omega (arith, lt, due.1)) in rw (at, lt-ltb i core.told (omega (arith, lt, due.0))) refl;
     },
   )
@@ -148,7 +142,7 @@ module _ (syncs : SyncLists) (core : ManagerCore) (d : ManagerProgress) (h : IsP
 below_next : (k n : ℕ) → (k == n) ≡ false → nat_lt k n ≡ nat_lt k (n + 1)
 below_next k n other = elim (cases_lt k n) [
   | inl lt ↦ rw (lt-ltb k n lt, lt-ltb k (n + 1) (omega (arith, lt))) refl
-  | inr ge ↦ let apart = eqb-false k n other in rw (not_below k n ge, not_below k (n + 1) (absurd_le k n ge apart)) refl
+  | inr ge ↦ let apart = eqb-false k n other in rw (le-ltb k n ge, le-ltb k (n + 1) (absurd_le k n ge apart)) refl
 ]
   where
     absurd_le : (k n : ℕ) → n ≤ k → (k ≡ n → ⊥) → n + 1 ≤ k
@@ -229,7 +223,7 @@ module _ (core : ManagerCore) (b : Book) (starts : core.start ≤ clients_in b) 
         record {
           book = later;
           drained = λ client low. h.drained client (subst (λ n. client < n) clients low);
-          delivered = λ tile low. rw (not_below tile 0 (omega arith)) (
+          delivered = λ tile low. rw (le-ltb tile 0 (omega arith)) (
               let more = ap length later.journal in let one = length-append d.book.journal (e ∷ []) in
               omega (arith, all_delivered syncs core d h supplied tile low, more, one));
           told = h.told;

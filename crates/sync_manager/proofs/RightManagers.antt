@@ -19,12 +19,11 @@ use Rattle.rc_base.specs.declared.sync.Request.TheVariants as request
 use Rattle.rc_base.specs.declared.sync.SyncLists.{SyncLists}
 use Rattle.rc_base.specs.declared.sync.WaitAt.{WaitAt}
 use Rattle.order_model.proofs.GrantsAreExact.{grant_lawful}
-use Rattle.plain_lemmas.proofs.Numbers.{equal_to_itself}
+use Rattle.plain_lemmas.proofs.Numbers.{equal_to_itself, at_one}
 use Rattle.sync_manager.specs.Progress.{ManagerProgress, new_progress, lacks_entry, lacks_end, NoMoreComes, IsGrantDue, may_arrive, IsReceiving, is_end, event_of, IsNextDeed, with_taken, with_grant, progress_after, taken_of, sent_to}
 use Rattle.sync_manager.specs.Promises.{ends_client, IsSentRight, IsTakenRight, IsManagerRight}
 use Rattle.sync_manager.specs.declared.deed.ManagerDeed.{ManagerDeed}
 use Rattle.sync_manager.specs.declared.deed.ManagerDeed.TheVariants.{Delivers, FindsFull, Grants, Receives, Loses, FindsNoRequest, Drops, FindsNoneLeft, Finishes}
-use Rattle.sync_manager.proofs.ManagerSteps.{at_one}
 
 pub new_right : (syncs : SyncLists) (tiles : ℕ) → IsManagerRight syncs tiles (λ client. []) (λ tile. []) new_progress
 new_right syncs tiles = record {

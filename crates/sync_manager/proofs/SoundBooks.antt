@@ -1,7 +1,7 @@
 -- A book stays sound: whoever waits is a client, at something that is declared, and has room for its entry.
-use Rattle.std.proofs.Common.{◌≡◌, ℕ, zero, suc, ◌+◌, ◌<◌, ◌≤◌, ◌==◌, Bool, true, false, cond, List, [], ◌∷◌, length, set, replicate, le-leb, leb-true, nat_le, slice_index_or, Option, Some, None, inl, inr, refl, sym, ap, ◌∙◌, subst, arith, eqb-true, eq-eqb, lt-ltb, true≢false, get_or-set_same, get_or-set_other}
+use Rattle.std.proofs.Common.{◌≡◌, ℕ, zero, suc, ◌+◌, ◌<◌, ◌≤◌, ◌==◌, Bool, true, false, cond, List, length, set, replicate, le-leb, leb-true, nat_le, slice_index_or, Option, Some, None, inl, inr, refl, sym, ap, ◌∙◌, subst, arith, eqb-true, eq-eqb, lt-ltb, true≢false, get_or-set_same, get_or-set_other}
 use Rattle.std.proofs.lemmas.Bool.{cases_Bool, cases_lt, eqb-false}
-use Rattle.std.specs.Prelude.{is_some, option_map, slice_get}
+use Rattle.std.specs.Prelude.{is_some, option_map}
 use Rattle.rc_base.specs.Lists.{at_name}
 use Rattle.rc_base.specs.Orders.Journal.{how_many, has, is_member, op_of}
 use Rattle.rc_base.specs.Orders.Sync.{client_count}
@@ -11,6 +11,7 @@ use Rattle.rc_base.specs.declared.sync.SyncOp.{SyncOp}
 use Rattle.rc_base.specs.declared.sync.WaitAt.{WaitAt}
 use Rattle.scene_lemmas.proofs.Numbered.{how_many_at_most}
 use Rattle.sync_manager.specs.Stored.{wait_at, is_name, is_named, grant_at, IsUnitThere, IsSoundBook}
+use Rattle.plain_lemmas.proofs.Lists.{is_some_within}
 use Rattle.sync_manager.proofs.FirstEntries.{IsFirst, first_is}
 use Rattle.std.proofs.lemmas.Option.{slice_get_past}
 use Rattle.std.proofs.Math.ListN.{length-set}
@@ -174,16 +175,11 @@ sound_new n counts units cap some most names counted bounded = record {
     none_pass zero = refl
     none_pass (suc k) = rw (nobody_waits 8 k) (omega (arith, none_pass k))
 
-some_there : {A : Type 0} (xs : List A) (i : ℕ) → i < length xs → is_some (slice_get xs i) ≡ true
-some_there [] i lt = absurd (omega arith)
-some_there (x ∷ xs) zero lt = refl
-some_there (x ∷ xs) (suc i) lt = some_there xs i (omega arith)
-
 -- a name is declared where there is something of that name
 pub name_is : {A : Type 0} (xs : List A) (name : ℕ) → is_name (length xs) name ≡ is_some (at_name xs name)
 name_is xs zero = refl
 name_is xs (suc k) = elim (cases_lt k (length xs)) [
-  | inl lt ↦ rw (lt-ltb 0 (suc k) (omega arith), le-leb (suc k) (length xs) (omega arith)) (sym (some_there xs k lt))
+  | inl lt ↦ rw (lt-ltb 0 (suc k) (omega arith), le-leb (suc k) (length xs) (omega arith)) (sym (is_some_within xs k lt))
   | inr ge ↦ elim (cases_Bool (nat_le (suc k) (length xs))) [
     | inl t ↦ absurd (omega (arith, ge, leb-true (suc k) (length xs) t))
     | inr f ↦ rw (lt-ltb 0 (suc k) (omega arith), f) (sym (ap is_some (slice_get_past xs k ge)))

@@ -20,13 +20,15 @@ use Rattle.order_model.specs.Board.{Kept, Board, IsKeptOf, IsBoardOf, picture_in
 use Rattle.order_model.specs.Log.{Job, IsNext}
 use Rattle.order_model.specs.Log.Job.{Work}
 use Rattle.order_model.proofs.OneFoldOfTextures.{canvas_textures}
+use Rattle.scene_lemmas.proofs.Numbered.{with_here}
+use Rattle.plain_lemmas.proofs.Numbers.{at_one}
 use Rattle.tile_model.specs.Boards.{image_by, HasSets, IsCarriedOut}
 use Rattle.tile_model.specs.Items.{with_at}
 use Rattle.tile_model.specs.Lazy.{DrawsAlike, name_of}
 use Rattle.tile_model.proofs.IdleNamesChangeNothing.{BoxesHold, paint, idle_paint, idle_textures, Stays, stays_names}
 use Rattle.tile_model.proofs.JobsAreLeftBehindNames.{IsLeft, next_work}
 use Rattle.tile_model.proofs.NextInLists.{next_is, take_more}
-use Rattle.tile_model.proofs.ProgressGoesOn.{at_one, with_here, with_other}
+use Rattle.tile_model.proofs.ProgressGoesOn.{with_other}
 use Rattle.tile_model.proofs.ParcelsTellValues.{told_more}
 
 -- ---- what is kept

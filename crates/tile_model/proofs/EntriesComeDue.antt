@@ -18,10 +18,11 @@ use Rattle.order_model.specs.declared.record.LogEntry.TheVariants.{Performed}
 use Rattle.order_model.proofs.LogsLeaveJobs.{jobs_left}
 use Rattle.order_model.proofs.OrdersBySteps.{moved, passed_by}
 use Rattle.order_model.proofs.RecordedOrdersArePermitted.{Reached, took_reaches, performed_reaches, some_at, none_at}
+use Rattle.order_model.proofs.JournalsInTurn.{performed_more}
 use Rattle.tile_model.specs.Items.{IsAwaited, after_performed}
 use Rattle.tile_model.specs.Items.Item.{Due}
 use Rattle.tile_model.proofs.ClientsGoOn.{below_end, client_performed, client_later}
-use Rattle.tile_model.proofs.LogsGoOn.{GoesOn, performed_more, cursor_more, replays_more, comes_to}
+use Rattle.tile_model.proofs.LogsGoOn.{GoesOn, cursor_more, replays_more, comes_to}
 use Rattle.tile_model.proofs.NextInLists.{next_is, drop_front}
 use Rattle.tile_model.proofs.ProgressGoesOn.{client_is}
 

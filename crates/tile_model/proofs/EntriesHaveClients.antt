@@ -26,11 +26,11 @@ lawful_has_clients syncs s Swap none p = refl
 lawful_has_clients syncs s (Give k c) none p = lt-ltb c (client_count syncs) (member_within syncs s (Give k c) none p c (eq-eqb c c refl))
 lawful_has_clients syncs s (Take k c) none p = lt-ltb c (client_count syncs) (member_within syncs s (Take k c) none p c (eq-eqb c c refl))
 
-pub from_state : (syncs : SyncLists) (s : SyncState) (js : List Entry) (k : ℕ) (e : Entry) → AreOfClients syncs s → IsLegalFrom syncs s js → slice_get js k ≡ Some e → has_clients (client_count syncs) e ≡ true
-from_state syncs s [] zero e none legal is = absurd cc
-from_state syncs s [] (suc k) e none legal is = absurd cc
-from_state syncs s (d ∷ js) zero e none legal is = let same : d ≡ e = cc in subst (λ x. has_clients (client_count syncs) x ≡ true) same (lawful_has_clients syncs s d none legal.0)
-from_state syncs s (d ∷ js) (suc k) e none legal is = from_state syncs (after syncs s d) js k e (past_after syncs s d none) legal.1 is
+pub entries_of_clients : (syncs : SyncLists) (s : SyncState) (js : List Entry) (k : ℕ) (e : Entry) → AreOfClients syncs s → IsLegalFrom syncs s js → slice_get js k ≡ Some e → has_clients (client_count syncs) e ≡ true
+entries_of_clients syncs s [] zero e none legal is = absurd cc
+entries_of_clients syncs s [] (suc k) e none legal is = absurd cc
+entries_of_clients syncs s (d ∷ js) zero e none legal is = let same : d ≡ e = cc in subst (λ x. has_clients (client_count syncs) x ≡ true) same (lawful_has_clients syncs s d none legal.0)
+entries_of_clients syncs s (d ∷ js) (suc k) e none legal is = entries_of_clients syncs (after syncs s d) js k e (past_after syncs s d none) legal.1 is
 
 pub legal_entries_have_clients : (syncs : SyncLists) (js : List Entry) (k : ℕ) (e : Entry) → IsLegal syncs js → slice_get js k ≡ Some e → has_clients (client_count syncs) e ≡ true
-legal_entries_have_clients syncs js k e legal is = from_state syncs (start syncs) js k e (ops_past syncs) legal is
+legal_entries_have_clients syncs js k e legal is = entries_of_clients syncs (start syncs) js k e (ops_past syncs) legal is

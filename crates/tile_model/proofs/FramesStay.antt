@@ -27,8 +27,8 @@ use Rattle.order_model.specs.declared.record.LogEntry.{LogEntry}
 use Rattle.order_model.specs.declared.record.LogEntry.TheVariants.{Took, Performed}
 use Rattle.order_model.proofs.AddedNames.{names_append}
 use Rattle.order_model.proofs.StandsInLists.{in_append}
+use Rattle.scene_lemmas.proofs.Numbered.{is_in_behind}
 use Rattle.tile_model.proofs.IdleNamesChangeNothing.{paint}
-use Rattle.tile_model.proofs.NextInLists.{in_right}
 use Rattle.tile_model.proofs.LogsCountSwaps.{AreCounted, swaps_rise}
 
 -- ---- a frame's names
@@ -147,7 +147,7 @@ frame_stays scene m k x y o o' f clients enough =
     ap (λ (ns : List Name). (fold (paint scene (is_below_swap scene k) x y) (blank_canvas scene) ns).pixel) f.whole
     ∙ ap (λ (c : Canvas SharedTexels Pixel). c.pixel) (fold-append (paint scene (is_below_swap scene k) x y) (blank_canvas scene) o f.more)
     ∙ hidden scene k x y f.more (fold (paint scene (is_below_swap scene k) x y) (blank_canvas scene) o)
-    (λ n i. not_below (accepted_swaps scene n.client (n.place + 1)) k (enough n.client n.place (clients n (subst (IsIn n) (sym f.whole) (in_right n o f.more i))) (f.behind n i)))
+    (λ n i. not_below (accepted_swaps scene n.client (n.place + 1)) k (enough n.client n.place (clients n (subst (IsIn n) (sym f.whole) (is_in_behind n o f.more i))) (f.behind n i)))
   where
     not_below : (a b : ℕ) → b ≤ a → nat_lt a b ≡ false
     not_below a b le = elim (cases_Bool (nat_lt a b)) [ inl t ↦ absurd (omega (arith, ltb-true a b t)) | inr g ↦ g ]

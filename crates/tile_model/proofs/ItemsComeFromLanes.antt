@@ -1,5 +1,5 @@
 -- What a tile takes of its lanes is what the progress counts, and the next of the journal and of its client.
-use Rattle.std.proofs.Common.{◌≡◌, ℕ, zero, suc, ◌+◌, ◌==◌, not, Bool, true, false, cond, List, [], ◌∷◌, ◌++◌, length, map, drop, take, Some, slice_get, inl, inr, refl, sym, ap, ◌∙◌, subst, arith, append_assoc, append-nil, eqb-true, true≢false}
+use Rattle.std.proofs.Common.{◌≡◌, ℕ, ◌+◌, ◌==◌, not, Bool, true, false, cond, List, [], ◌∷◌, ◌++◌, length, map, drop, take, Some, slice_get, inl, inr, refl, sym, ap, ◌∙◌, subst, arith, append_assoc, append-nil, eqb-true, true≢false}
 use Rattle.std.proofs.lemmas.Bool.{cases_Bool, and_parts}
 use Rattle.std.proofs.lemmas.List.{map-append, take-append-drop}
 use Rattle.std.specs.Prelude.{option_to_list}
@@ -9,6 +9,7 @@ use Rattle.rc_base.specs.declared.sync.Entry.{Entry}
 use Rattle.rc_base.specs.declared.sync.Grant.{Grant}
 use Rattle.rc_base.specs.declared.sync.Grant.TheVariants as grant_item
 use Rattle.order_model.specs.Standing.{Progress, performed_in, is_listening}
+use Rattle.plain_lemmas.proofs.Lists.{get_in_front}
 use Rattle.tile_model.specs.Items.{Item, after_act, after_item, with_at, IsAwaited, parcel_taken, grant_taken, grants_heard}
 use Rattle.tile_model.specs.Items.Item.{Nothing, Due, Granted, NoMore, Sent}
 
@@ -62,12 +63,6 @@ next_sent (x ∷ sent) [] told e rest h = let same : x ≡ e = cc in ap Some sam
 next_sent [] (y ∷ learnt) told e rest h = absurd (no_entry told y (entries learnt ++ grant_item.Entry e ∷ rest) h)
 next_sent (x ∷ sent) (y ∷ learnt) told e rest h = next_sent sent learnt told e rest cc
 
-pub get_front : {A : Type 0} (xs ys : List A) (k : ℕ) (x : A) → slice_get xs k ≡ Some x → slice_get (xs ++ ys) k ≡ Some x
-get_front [] ys zero x h = absurd cc
-get_front [] ys (suc k) x h = absurd cc
-get_front (z ∷ xs) ys zero x h = h
-get_front (z ∷ xs) ys (suc k) x h = get_front xs ys k x h
-
 -- the first grant that the lane holds is the journal's next entry
 pub entry_is_next : (journal more later : List Entry) (delivered : ℕ) (told : Bool) (p : Progress) (e : Entry) (held rest : List Grant) → is_listening p ≡ true
     → entries (take delivered journal) ++ closing told ≡ grants_heard p ++ held → held ≡ grant_item.Entry e ∷ rest → later ≡ journal ++ more → slice_get later (length p.learnt) ≡ Some e
@@ -75,7 +70,7 @@ entry_is_next journal more later delivered told p e held rest listening sent is 
     let next = next_sent (take delivered journal) p.learnt told e rest (sent ∙ ap (λ (gs : List Grant). gs ++ held) (heard_open p listening) ∙ ap (λ (gs : List Grant). entries p.learnt ++ gs) is) in
     let whole : later ≡ take delivered journal ++ (drop delivered journal ++ more) =
     on ∙ ap (λ js. js ++ more) (sym (take-append-drop delivered journal)) ∙ append_assoc (take delivered journal) (drop delivered journal) more in
-    subst (λ js. slice_get js (length p.learnt) ≡ Some e) (sym whole) (get_front (take delivered journal) (drop delivered journal ++ more) (length p.learnt) e next)
+    subst (λ js. slice_get js (length p.learnt) ≡ Some e) (sym whole) (get_in_front (take delivered journal) (drop delivered journal ++ more) (length p.learnt) e next)
 
 -- ---- all entries
 

@@ -26,4 +26,3 @@ mod LogsReplayOverWhatWasTaken
 pub mod EntriesHaveClients
 pub mod ItemsComeFromLanes
 pub mod ShownFrames
-pub mod DeclaredOperations

@@ -10,8 +10,8 @@ use Rattle.rc_base.specs.Formats.Spelling.{IsDecl, IsSize}
 use Rattle.rc_base.specs.Contexts.Context.{shared_sides}
 use Rattle.rc_base.specs.declared.scene.Scene.{Scene}
 use Rattle.order_model.proofs.StandsInLists.{in_left}
+use Rattle.scene_lemmas.proofs.Numbered.{is_in_behind}
 use Rattle.tile_model.specs.Scenes.{HasSides}
-use Rattle.tile_model.proofs.NextInLists.{in_right}
 
 none_outside : (qs : List Quantity) → first_outside qs ≡ None → (q : Quantity) → IsIn q qs → is_outside q ≡ false
 none_outside [] e q i = absurd i
@@ -39,7 +39,7 @@ side_in sizes k size n e i = in_map (flat_map (λ size. size) sizes) (in_all siz
     in_all [] zero f = absurd cc
     in_all [] (suc k) f = absurd cc
     in_all (s ∷ ss) zero f = let same : s ≡ size = cc in in_left n s (flat_map (λ size. size) ss) (subst (IsIn n) (sym same) i)
-    in_all (s ∷ ss) (suc k) f = in_right n s (flat_map (λ size. size) ss) (in_all ss k f)
+    in_all (s ∷ ss) (suc k) f = is_in_behind n s (flat_map (λ size. size) ss) (in_all ss k f)
 
 is_quantity : (scene : Scene) (q : Quantity) → IsIn q (map side (flat_map (λ size. size) scene.decl.shared)) → IsIn q (quantities scene)
 is_quantity scene q i = inr (inr (inr (inr (in_left q (map side (flat_map (λ size. size) scene.decl.shared)) _ i))))

@@ -34,6 +34,7 @@ use Rattle.order_model.proofs.SceneJobsAreSent.{scene_jobs_are_sent, ops_are}
 use Rattle.order_model.proofs.StandsInLists.{in_append}
 use Rattle.order_model.proofs.StepsArePermitted.{member_place, performed_past}
 use Rattle.scene_lemmas.proofs.Scenes.{scene_client_count}
+use Rattle.stream_replay.proofs.AcceptedSwaps.{swaps_next, swaps_after_other}
 use Rattle.tile_model.proofs.EntriesComeDue.{HasReached, reached_on}
 use Rattle.tile_model.proofs.IdleNamesChangeNothing.{works_on}
 use Rattle.tile_model.proofs.JobsAreLeftBehindNames.{IsLeft, jobs_by, jobs_from, next_work, left_first, left_on}
@@ -93,20 +94,13 @@ swaps_rise scene c a (suc n) =
 abbrev pub swap_of : Entry → ℕ
 swap_of e = cond (is_swap_entry e) 1 0
 
-one_more_swap : (scene : Scene) (c n : ℕ) → accepted_swaps scene c (n + 1) ≡ accepted_swaps scene c n + (if is_swap_effect (effect_at scene c n) then 1 else 0)
-unfolding accepted_swaps
-one_more_swap scene c n = let e : n + 1 ≡ suc n = omega arith in ap (accepted_swaps scene c) e
-
-no_swap : (scene : Scene) (c n : ℕ) → is_swap_effect (effect_at scene c n) ≡ false → accepted_swaps scene c (n + 1) ≡ accepted_swaps scene c n
-no_swap scene c n f = one_more_swap scene c n ∙ ap (λ (b : Bool). accepted_swaps scene c n + (if b then 1 else 0)) f ∙ (let z : accepted_swaps scene c n + 0 ≡ accepted_swaps scene c n = omega arith in z)
-
 a_swap : (scene : Scene) (c n : ℕ) → effect_at scene c n ≡ eff.Sync op.Swap → accepted_swaps scene c (n + 1) ≡ accepted_swaps scene c n + 1
-a_swap scene c n e = one_more_swap scene c n ∙ ap (λ (x : Effect). accepted_swaps scene c n + (if is_swap_effect x then 1 else 0)) e
+a_swap scene c n e = swaps_next scene c n ∙ ap (λ (x : Effect). accepted_swaps scene c n + (if is_swap_effect x then 1 else 0)) e
 
 other_swap : (scene : Scene) (c n : ℕ) (o : SyncOp) → effect_at scene c n ≡ eff.Sync o → (o ≡ op.Swap → ⊥) → accepted_swaps scene c (n + 1) ≡ accepted_swaps scene c n
-other_swap scene c n (op.Barrier b) e ne = no_swap scene c n (ap is_swap_effect e)
-other_swap scene c n (op.SemP k) e ne = no_swap scene c n (ap is_swap_effect e)
-other_swap scene c n (op.SemV k) e ne = no_swap scene c n (ap is_swap_effect e)
+other_swap scene c n (op.Barrier b) e ne = swaps_after_other scene c n (ap is_swap_effect e)
+other_swap scene c n (op.SemP k) e ne = swaps_after_other scene c n (ap is_swap_effect e)
+other_swap scene c n (op.SemV k) e ne = swaps_after_other scene c n (ap is_swap_effect e)
 other_swap scene c n op.Swap e ne = absurd (ne refl)
 
 -- what a command gives tells whether it swaps
@@ -121,11 +115,11 @@ kind_of l tile x n (eff.Refused f) = inl (refl, refl)
 until_work : (scene : Scene) (l : Layout) (c tile a n place : ℕ) (rest : List Job) → jobs_from scene l c tile a n ≡ Work place ∷ rest → accepted_swaps scene c (place + 1) ≡ accepted_swaps scene c a
 until_work scene l c tile a zero place rest e = absurd cc
 until_work scene l c tile a (suc n) place rest e = elim (kind_of l tile (context_after scene c a) a (effect_at scene c a)) [
-  | inl w ↦ until_work scene l c tile (a + 1) n place rest (sym (ap (λ js. js ++ jobs_from scene l c tile (a + 1) n) w.0) ∙ e) ∙ no_swap scene c a w.1
+  | inl w ↦ until_work scene l c tile (a + 1) n place rest (sym (ap (λ js. js ++ jobs_from scene l c tile (a + 1) n) w.0) ∙ e) ∙ swaps_after_other scene c a w.1
   | inr (inl w) ↦
       let f : Work a ∷ jobs_from scene l c tile (a + 1) n ≡ Work place ∷ rest = sym (ap (λ js. js ++ jobs_from scene l c tile (a + 1) n) w.0) ∙ e in
       let same : place ≡ a = cc in
-      ap (λ k. accepted_swaps scene c (k + 1)) same ∙ no_swap scene c a w.1
+      ap (λ k. accepted_swaps scene c (k + 1)) same ∙ swaps_after_other scene c a w.1
   | inr (inr w) ↦ let f : Wait a ∷ jobs_from scene l c tile (a + 1) n ≡ Work place ∷ rest = sym (ap (λ js. js ++ jobs_from scene l c tile (a + 1) n) w.0) ∙ e in absurd cc
 ]
 
@@ -134,7 +128,7 @@ until_wait scene l c tile a zero place rest e = absurd cc
 until_wait scene l c tile a (suc n) place rest e = elim (kind_of l tile (context_after scene c a) a (effect_at scene c a)) [
   | inl w ↦
       let h = until_wait scene l c tile (a + 1) n place rest (sym (ap (λ js. js ++ jobs_from scene l c tile (a + 1) n) w.0) ∙ e) in
-      (h.0 ∙ no_swap scene c a w.1, let le = h.1 in omega arith)
+      (h.0 ∙ swaps_after_other scene c a w.1, let le = h.1 in omega arith)
   | inr (inl w) ↦ let f : Work a ∷ jobs_from scene l c tile (a + 1) n ≡ Wait place ∷ rest = sym (ap (λ js. js ++ jobs_from scene l c tile (a + 1) n) w.0) ∙ e in absurd cc
   | inr (inr w) ↦
       let f : Wait a ∷ jobs_from scene l c tile (a + 1) n ≡ Wait place ∷ rest = sym (ap (λ js. js ++ jobs_from scene l c tile (a + 1) n) w.0) ∙ e in

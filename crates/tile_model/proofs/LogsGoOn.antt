@@ -17,11 +17,6 @@ use Rattle.order_model.proofs.LogsLeaveJobs.{drop_then}
 
 -- ---- one more line
 
-pub performed_more : (log : List LogEntry) (l : LogEntry) → performed_in (log ++ l ∷ []) ≡ performed_in log + performed_in (l ∷ [])
-performed_more [] l = omega arith
-performed_more (Took d place ∷ log) l = performed_more log l
-performed_more (Performed ∷ log) l = let e = performed_more log l in omega arith
-
 pub cursor_more : (ms : List PlacedEntry) (log : List LogEntry) (l : LogEntry) (c : ℕ) → cursor_of ms (log ++ l ∷ []) c ≡ cursor_of (entries_after ms log) (l ∷ []) c + cursor_of ms log c
 cursor_more ms [] l c = omega arith
 cursor_more ms (Took d place ∷ log) l c = let e = cursor_more ms log l c in omega arith

@@ -4,7 +4,7 @@ use Rattle.std.specs.Prelude.{is_some}
 use Rattle.std.proofs.lemmas.Bool.{cases_Bool}
 use mathlib.Core.Path.{fun_ext}
 use Rattle.rc_base.specs.Orders.Journal.{SyncState, start, after, end_of}
-use Rattle.rc_base.specs.Orders.Order.{PlacedEntry, entry_at, entries_from, entries_of}
+use Rattle.rc_base.specs.Orders.Order.{PlacedEntry, entries_from, entries_of}
 use Rattle.rc_base.specs.declared.sync.Entry.{Entry}
 use Rattle.rc_base.specs.declared.sync.SyncLists.{SyncLists}
 use Rattle.order_model.specs.Log.{Job, IsNext, without, ReplaysFrom, Replays}
@@ -12,6 +12,7 @@ use Rattle.order_model.specs.Log.Job.{Work, Wait}
 use Rattle.order_model.specs.Standing.{Progress, IsClientAt, IsUnderWay, cursor_of, performed_in}
 use Rattle.order_model.specs.declared.record.LogEntry.{LogEntry}
 use Rattle.order_model.specs.declared.record.LogEntry.TheVariants.{Took, Performed}
+use Rattle.order_model.proofs.JournalsInTurn.{entries_append}
 
 -- ---- of the entries a front
 
@@ -20,10 +21,6 @@ fewer_entries jobs ms more [] few r = tt
 fewer_entries jobs ms more (Took d place ∷ log) few r = (r.0, fewer_entries (without (λ c. c == d) jobs) ms more log few r.1)
 fewer_entries jobs [] more (Performed ∷ log) few r = absurd (omega arith)
 fewer_entries jobs (m ∷ ms) more (Performed ∷ log) few r = (r.0, fewer_entries (without (λ c. is_some (m.at c)) jobs) ms more log (omega arith) r.1)
-
-entries_append : (syncs : SyncLists) (s : SyncState) (es more : List Entry) → entries_from syncs s (es ++ more) ≡ entries_from syncs s es ++ entries_from syncs (end_of syncs s es) more
-entries_append syncs s [] more = refl
-entries_append syncs s (e ∷ es) more = ap (λ ms. entry_at syncs s e ∷ ms) (entries_append syncs (after syncs s e) es more)
 
 entries_count : (syncs : SyncLists) (s : SyncState) (es : List Entry) → length (entries_from syncs s es) ≡ length es
 entries_count syncs s [] = refl

@@ -1,6 +1,5 @@
 -- The next element of a list, what comes behind it, and elements of a longer list.
-use Rattle.rc_base.specs.Lists.{IsIn}
-use Rattle.std.proofs.Common.{inr, ◌≡◌, ℕ, zero, suc, ◌+◌, List, [], ◌∷◌, ◌++◌, drop, take, Some, slice_get, ap, arith}
+use Rattle.std.proofs.Common.{◌≡◌, ℕ, zero, suc, ◌+◌, List, [], ◌∷◌, ◌++◌, drop, take, Some, slice_get, ap, arith}
 
 -- an element's number, and the list from there on
 pub next_is : {A : Type 0} (xs : List A) (k : ℕ) (x : A) → slice_get xs k ≡ Some x → (rest : List A) × (drop k xs ≡ x ∷ rest)
@@ -23,7 +22,3 @@ take_more (suc k) [] x rest e = absurd cc
 take_more (suc k) (y ∷ xs) x rest e = let f : suc k + 1 ≡ suc (k + 1) = omega arith in rw f (ap (λ l. y ∷ l) (take_more k xs x rest e))
 
 -- ---- membership
-
-pub in_right : {A : Type 0} (x : A) (xs ys : List A) → IsIn x ys → IsIn x (xs ++ ys)
-in_right x [] ys i = i
-in_right x (y ∷ xs) ys i = inr (in_right x xs ys i)

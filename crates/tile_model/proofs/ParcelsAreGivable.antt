@@ -22,7 +22,6 @@ use Rattle.rc_base.specs.declared.scene.Decl.{Decl}
 use Rattle.rc_base.specs.declared.scene.Scene.{Scene}
 use Rattle.rc_base.specs.declared.state.Act.{Act}
 use Rattle.rc_base.specs.declared.state.Act.TheVariants as act
-use Rattle.rc_base.specs.declared.state.Block.{Block}
 use Rattle.rc_base.specs.declared.state.Effect.TheVariants as eff
 use Rattle.rc_base.specs.declared.state.ElementSet.{ElementSet}
 use Rattle.rc_base.specs.declared.state.ElementValue.{ElementValue}
@@ -38,6 +37,8 @@ use Rattle.element_table.specs.Kinds.{has_kind, kind_of}
 use Rattle.element_table.specs.Values.{has_sides, is_binding, is_value_of}
 use Rattle.element_table.specs.declared.kind.ValueKind.{ValueKind}
 use Rattle.element_table.proofs.Rows.{image_kind}
+use Rattle.scene_lemmas.proofs.Contexts.{written_by_shared_image}
+use Rattle.scene_lemmas.proofs.Numbered.{in_range_below}
 use Rattle.tile_model.specs.Scenes.{HasSides, IsInRange}
 use Rattle.tile_model.specs.Givable.{is_shared_part, is_givable, is_givable_act}
 use Rattle.tile_model.proofs.DepthsAreInRange.{HasDepths, depths_at}
@@ -150,17 +151,12 @@ sampled_right scene client n range kind private false is o has e i = absurd i
 
 -- ---- sets
 
-in_range : (a n e : ℕ) → IsIn e (range_with_len a n) → e < a + n
-in_range a zero e i = absurd i
-in_range a (suc n) e (inl same) = omega (arith, same)
-in_range a (suc n) e (inr i) = let lt = in_range (a + 1) n e i in omega arith
-
 examined_right : (scene : Scene) (client n : ℕ) (draws : Bool) → IsInRange scene → HasSides scene.decl → (e : ℕ) → IsIn e (examined (context_after scene client n) draws)
     → is_value_of scene.decl e (value_in (context_after scene client n) e) ≡ true
 examined_right scene client n draws range sides e i =
     let x = context_after scene client n in
     elim (in_append e (range_with_len 0 scalar_count) (if draws then sampled_images x else []) i) [
-      | inl a ↦ scalar_right scene.decl x sides (valid scene range client n) (depths_at scene client n) e (let lt = in_range 0 scalar_count e a in omega arith)
+      | inl a ↦ scalar_right scene.decl x sides (valid scene range client n) (depths_at scene client n) e (let lt = in_range_below 0 scalar_count e a in omega arith)
       | inr b ↦ elim (cases_Bool draws) [
         | inl t ↦ sampled_right scene client n range (bound_kind x.state == 0) refl x.state.texture_on refl (private_image x (bound_name x.state)) refl e (subst (λ k. IsIn e (if k then sampled_images x else [])) t b)
         | inr f ↦ absurd (subst (λ k. IsIn e (if k then sampled_images x else [])) f b)
@@ -191,18 +187,9 @@ sets_right scene client n values act.End range sides = refl
 
 -- ---- parts of shared textures
 
-written_by : (x : ClientContext) (c : Command) (part : Part) → done_by x c ≡ eff.Shared part → c ≡ cmd.SharedImage part
-written_by x (cmd.SharedImage p) part e = let same : p ≡ part = cc in ap (λ q. cmd.SharedImage q) same
-written_by x cmd.End part e = go x.block e
-  where
-    go : (o : Option Block) → option_map_or (λ b. eff.Block b) o eff.Quiet ≡ eff.Shared part → cmd.End ≡ cmd.SharedImage part
-    go None e = absurd cc
-    go (Some b) e = absurd cc
-written_by x c part e = absurd cc
-
 accepted_by : (x : ClientContext) (c : Command) (part : Part) (f : Option Fault) → fault_of x c ≡ f → option_map_or (λ g. eff.Refused g) f (done_by x c) ≡ eff.Shared part
     → (fault_of x c ≡ None) × (c ≡ cmd.SharedImage part)
-accepted_by x c part None is e = (is, written_by x c part e)
+accepted_by x c part None is e = (is, written_by_shared_image x c part e)
 accepted_by x c part (Some g) is e = absurd cc
 
 -- the command that writes it

@@ -22,7 +22,7 @@ use Rattle.rc_base.specs.declared.state.Parcel.{Parcel}
 use Rattle.rc_base.specs.declared.window.Layout.{Layout}
 use Rattle.gl_context.proofs.OneElement.{begins_with_defaults}
 use Rattle.order_model.proofs.StandsInLists.{in_left}
-use Rattle.tile_model.proofs.NextInLists.{in_right}
+use Rattle.scene_lemmas.proofs.Numbered.{is_in_behind}
 use Rattle.tile_model.proofs.ParcelsAreJobs.{parcels_given}
 use Rattle.tile_model.proofs.ParcelsComeFromCommands.{sets_by, command_makes}
 
@@ -116,7 +116,7 @@ pub scalar_examined : (x : ClientContext) (draws : Bool) (e : ℕ) → e < scala
 scalar_examined x draws e low = in_left e (range_with_len 0 scalar_count) (if draws then sampled_images x else []) (in_range 0 scalar_count e (omega arith) (omega arith))
 
 pub sampled_examined : (x : ClientContext) (e : ℕ) → IsIn e (sampled_images x) → IsIn e (examined x true)
-sampled_examined x e i = in_right e (range_with_len 0 scalar_count) (sampled_images x) i
+sampled_examined x e i = is_in_behind e (range_with_len 0 scalar_count) (sampled_images x) i
 
 -- ---- along the commands
 

@@ -1,6 +1,5 @@
 -- What an item makes of a tile's progress, for the jobs of each client and a journal.
-use Rattle.std.proofs.Common.{◌≡◌, ℕ, ◌+◌, ◌<◌, ◌==◌, ◌&&◌, Bool, true, false, cond, List, [], ◌∷◌, ◌++◌, drop, length, Some, slice_get, inl, inr, refl, sym, ap, ◌∙◌, subst, arith, eqb-true, eq-eqb, length-append, add-zero}
-use Rattle.std.proofs.lemmas.Bool.{cases_Bool}
+use Rattle.std.proofs.Common.{◌≡◌, ℕ, ◌+◌, ◌<◌, ◌==◌, ◌&&◌, Bool, true, false, List, [], ◌∷◌, ◌++◌, drop, length, Some, slice_get, refl, sym, ap, ◌∙◌, subst, arith, length-append, add-zero}
 use Rattle.rc_base.specs.Orders.Order.{PlacedEntry, entries_of}
 use Rattle.rc_base.specs.Orders.Sync.{client_count}
 use Rattle.rc_base.specs.declared.sync.Entry.{Entry}
@@ -11,9 +10,13 @@ use Rattle.order_model.specs.Standing.{Progress, IsClientAt, IsUnderWay, cursor_
 use Rattle.order_model.specs.declared.record.LogEntry.{LogEntry}
 use Rattle.order_model.specs.declared.record.LogEntry.TheVariants.{Took}
 use Rattle.order_model.proofs.LogsLeaveJobs.{jobs_left}
+use Rattle.plain_lemmas.proofs.Booleans.{one_if_true, zero_if_false}
+use Rattle.plain_lemmas.proofs.Numbers.{equal_to_itself, at_one}
+use Rattle.order_model.proofs.JournalsInTurn.{performed_more}
+use Rattle.scene_lemmas.proofs.Numbered.{with_here}
 use Rattle.tile_model.specs.Items.{with_at, after_work, after_wait, after_end, after_parcel, after_entry, after_no_more}
 use Rattle.tile_model.proofs.ClientsGoOn.{client_first, client_took, client_held, client_closed, client_dropped, client_closed_late, client_later}
-use Rattle.tile_model.proofs.LogsGoOn.{performed_more, cursor_more, replays_more}
+use Rattle.tile_model.proofs.LogsGoOn.{cursor_more, replays_more}
 
 -- a new tile
 pub new_under_way : (syncs : SyncLists) (js : List Entry) (jobs : ℕ → List Job) → IsUnderWay syncs js jobs (new_progress (client_count syncs))
@@ -28,19 +31,6 @@ new_under_way syncs js jobs = record {
 
 -- ---- equal numbers and tests
 
-self : (c : ℕ) → (c == c) ≡ true
-self c = eq-eqb c c refl
-
--- one client changes
-pub at_one : (Q : ℕ → Type 0) (c : ℕ) → Q c → ((d : ℕ) → (d == c) ≡ false → Q d) → (d : ℕ) → Q d
-at_one Q c here others d = elim (cases_Bool (d == c)) [
-  | inl t ↦ subst Q (sym (eqb-true d c t)) here
-  | inr f ↦ others d f
-]
-
-pub with_here : {A : Type 0} (f : ℕ → A) (c : ℕ) (x : A) → with_at f c x c ≡ x
-with_here f c x = rw (self c) refl
-
 pub with_other : {A : Type 0} (f : ℕ → A) (c : ℕ) (x : A) (d : ℕ) → (d == c) ≡ false → with_at f c x d ≡ f d
 with_other f c x d e = rw e refl
 
@@ -51,21 +41,15 @@ client_is jobs k k' t t' h h' c c' o o' e1 e2 e3 e4 e5 x =
 
 -- ---- a line of a log and a client's cursor
 
-yes_one : (b : Bool) → b ≡ true → cond {A = ℕ} b 1 0 ≡ 1
-yes_one b e = rw e refl
-
-no_one : (b : Bool) → b ≡ false → cond {A = ℕ} b 1 0 ≡ 0
-no_one b e = rw e refl
-
 pub moved_here : (ms : List PlacedEntry) (log : List LogEntry) (c place : ℕ) → cursor_of ms (log ++ Took c place ∷ []) c ≡ 1 + cursor_of ms log c
 moved_here ms log c place =
     let e = cursor_more ms log (Took c place) c in
-    let one = yes_one (c == c) (self c) in omega arith
+    let one = one_if_true (c == c) (equal_to_itself c) in omega arith
 
 pub moved_other : (ms : List PlacedEntry) (log : List LogEntry) (c place d : ℕ) → (d == c) ≡ false → cursor_of ms (log ++ Took c place ∷ []) d ≡ cursor_of ms log d
 moved_other ms log c place d f =
     let e = cursor_more ms log (Took c place) d in
-    let none = no_one (d == c) f in omega arith
+    let none = zero_if_false (d == c) f in omega arith
 
 -- ---- steps
 

@@ -22,6 +22,8 @@ use Rattle.order_model.specs.declared.record.LogEntry.{LogEntry}
 use Rattle.order_model.specs.declared.record.LogEntry.TheVariants.{Took, Performed}
 use Rattle.order_model.proofs.LogsLeaveJobs.{jobs_left}
 use Rattle.order_model.proofs.SceneJobsAreSent.{scene_jobs_are_sent}
+use Rattle.scene_lemmas.proofs.Numbered.{with_here}
+use Rattle.plain_lemmas.proofs.Numbers.{at_one}
 use Rattle.tile_model.specs.Boards.{IsCarriedOut, IsDrawn}
 use Rattle.tile_model.specs.Givable.{is_givable}
 use Rattle.tile_model.specs.Items.{Item, with_at, after_act, after_item, IsAwaited, IsItemOf}
@@ -37,7 +39,7 @@ use Rattle.tile_model.proofs.JobsAreLeftBehindNames.{IsLeft, left_first, left_on
 use Rattle.tile_model.proofs.LazyStateDrawsAlike.{lazy_draws}
 use Rattle.tile_model.proofs.LogsGoOn.{GoesOn, logged_took, comes_to}
 use Rattle.tile_model.proofs.ParcelsAreJobs.{parcel_at}
-use Rattle.tile_model.proofs.ProgressGoesOn.{at_one, with_here, with_other, moved_here, moved_other}
+use Rattle.tile_model.proofs.ProgressGoesOn.{with_other, moved_here, moved_other}
 
 -- the jobs that a tile's log leaves are those behind the names that it added
 left_now : (scene : Scene) (l : Layout) (tile : ℕ) (js : List Entry) (p : Progress) → IsLegal (sync_lists_of scene) js → IsOnItsWay scene l tile js p

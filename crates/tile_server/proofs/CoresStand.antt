@@ -1,5 +1,5 @@
 -- Cores stand for scenes and journals, step by step.
-use Rattle.std.proofs.Common.{◌≡◌, ℕ, ◌<◌, ◌==◌, ◌&&◌, length, eqb-true, ◌+◌, Bool, true, false, cond, Some, refl, sym, ap, ◌∙◌, subst, true≢false}
+use Rattle.std.proofs.Common.{◌≡◌, ℕ, ◌<◌, ◌==◌, ◌&&◌, length, eqb-true, ◌+◌, Bool, true, false, Some, refl, sym, ap, ◌∙◌, subst, true≢false}
 use Rattle.order_model.specs.Standing.{Progress, performed_in}
 use Rattle.rc_base.specs.declared.sync.Grant.TheVariants as grant
 use Rattle.tile_model.specs.Boards.{IsDrawn}
@@ -22,10 +22,6 @@ awaited p (Learns grant.NoMore) h = h.1
 awaited p (Takes client parcel how) h = (h.0.low, h.0.asked)
 awaited p Rests h = tt
 awaited p Finishes h = tt
-
-pub ample_before : (lost before : Bool) → cond lost true before ≡ false → before ≡ false
-ample_before true before e = absurd (true≢false e)
-ample_before false before e = e
 
 pub new_stands : NewTilesStand → NewCoresStand
 new_stands stand scene l tile journal core decl layout number ample progress board = record {

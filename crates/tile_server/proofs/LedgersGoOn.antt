@@ -1,25 +1,13 @@
 -- What a ledger stands for after each of its changes.
-use Rattle.std.proofs.Common.{◌≡◌, ℕ, ◌+◌, Bool, false, cond, List, [], ◌∷◌, ◌++◌, Option, Some, None, refl, sym, ap, ◌∙◌, subst, arith, slice_index_or}
+use Rattle.std.proofs.Common.{◌≡◌, ℕ, ◌+◌, Bool, false, cond, [], ◌∷◌, ◌++◌, Option, Some, None, refl, sym, ap, ◌∙◌, subst, slice_index_or}
 use Rattle.rc_base.specs.Orders.Journal.{is_member}
 use Rattle.rc_base.specs.declared.sync.Entry.{Entry}
-use Rattle.order_model.specs.Standing.{Progress, performed_in}
-use Rattle.order_model.specs.declared.record.LogEntry.{LogEntry}
+use Rattle.order_model.specs.Standing.{Progress}
 use Rattle.order_model.specs.declared.record.LogEntry.TheVariants.{Took, Performed}
 use Rattle.tile_model.specs.Items.{after_performed, after_work}
+use Rattle.order_model.proofs.JournalsInTurn.{performed_more, took_more}
 use Rattle.tile_server.specs.Ledgers.{held_in, IsKnownOf, IsLedgerOf, IsLedgerStep, IsSameLedger}
 use Rattle.tile_server.specs.declared.ledger.Ledger.{Ledger}
-
--- ---- logs
-
-pub performed_more : (log : List LogEntry) → performed_in (log ++ Performed ∷ []) ≡ performed_in log + 1
-performed_more [] = refl
-performed_more (Took client place ∷ log) = performed_more log
-performed_more (Performed ∷ log) = let e = performed_more log in omega (arith, e)
-
-pub took_more : (log : List LogEntry) (client place : ℕ) → performed_in (log ++ Took client place ∷ []) ≡ performed_in log
-took_more [] client place = refl
-took_more (Took _ _ ∷ log) client place = took_more log client place
-took_more (Performed ∷ log) client place = let e = took_more log client place in omega (arith, e)
 
 -- ---- the same
 
@@ -52,7 +40,7 @@ module _ (ledger later : Ledger) where
       log = ap (λ xs. xs ++ Performed ∷ []) h.log ∙ sym log;
       whole = λ ample. record {
         held = λ client. rw (h.count, w.held client) (sym (held client));
-        known = subst (λ o. IsKnownOf o (after_performed p e)) (sym now) (performed_more p.log ∙ sym k.0);
+        known = subst (λ o. IsKnownOf o (after_performed p e)) (sym now) (performed_more p.log Performed ∙ sym k.0);
       };
     };
   }

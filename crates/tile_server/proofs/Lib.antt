@@ -3,7 +3,6 @@ mod TileRects
 mod DrawnParcels
 mod NewCanvases
 mod LedgersGoOn
-mod FramesGoOn
 mod TileSteps
 mod FoundLanes
 pub mod CoresStand

@@ -1,13 +1,11 @@
 -- The rectangle of a tile lies in the window, and what a device has of it is the tile's part.
-use Rattle.std.proofs.Common.{◌≡◌, ℕ, zero, suc, ◌+◌, ◌-◌, ◌*◌, ◌/◌, ◌<◌, ◌≤◌, true, length, Some, Ok, Err, sym, ap, ◌∙◌, subst, arith, ℤ, pos, ◌-ℤ◌}
+use Rattle.std.proofs.Common.{◌≡◌, ℕ, ◌+◌, ◌-◌, ◌*◌, ◌<◌, ◌≤◌, true, length, Some, Ok, Err, sym, ap, ◌∙◌, subst, arith, ℤ, pos}
 use Rattle.std.specs.Prelude.{IfOk}
 use Rattle.std.specs.declared.result.Result.{Result}
-use Rattle.std.proofs.Math.Nat.{div-lt_iff_lt-mul, div-mul-le_self, mul-le-mul_left, mul-div_cancel_left, zero-mul}
+use Rattle.std.proofs.Math.Nat.{div-lt_iff_lt-mul}
 use Rattle.std.proofs.lemmas.Int.{ints}
-use Rattle.std.proofs.lemmas.Nat.{le-div}
 use Rattle.std.proofs.lemmas.Option.{slice_get-get_or}
 use Rattle.rc_base.specs.Colors.{rgba}
-use Rattle.rc_base.specs.Numbers.{natural}
 use Rattle.rc_base.specs.Cluster.Tiles.{boundary_of, is_in_rect, tile_column, tile_count, tile_rectangle, tile_row}
 use Rattle.rc_base.specs.declared.cluster.TilePart.{TilePart}
 use Rattle.rc_base.specs.declared.window.Layout.{Layout}
@@ -16,37 +14,25 @@ use Rattle.rc_base.specs.declared.window.Rect.{Rect}
 use Rattle.draw_device.specs.Devices.{DeviceView, pixel_index, pixel_of, rect_size}
 use Rattle.draw_device.specs.Pixels.{pixel_at}
 use Rattle.order_model.specs.Board.{Board}
+use Rattle.plain_lemmas.proofs.Numbers.{factor_above_zero}
+use Rattle.plain_lemmas.proofs.Places.{place_within}
+use Rattle.scene_lemmas.proofs.Boundaries.{boundary_rises, boundary_most}
+use Rattle.scene_lemmas.proofs.Rectangles.{length_between}
 use Rattle.tile_server.specs.Boards.{IsPartOf}
 use Rattle.tile_server.specs.Works.{IsRectOf, LiesInWindow}
 
 -- ---- where a tile's rectangle lies
 
-some_columns : (a b t : ℕ) → t < a * b → 0 < a
-some_columns zero b t low = absurd (omega (arith, zero-mul b))
-some_columns (suc a) b t low = omega arith
-
-boundary_rises : (side parts i j : ℕ) → 0 < parts → i ≤ j → boundary_of side parts i ≤ boundary_of side parts j
-boundary_rises side parts i j some le =
-    let whole : i * side / parts * parts ≤ i * side = div-mul-le_self (i * side) parts in
-    let more : side * i ≤ side * j = mul-le-mul_left side le in
-    le-div (i * side / parts) (j * side) parts some (omega (arith, whole, more))
-
-boundary_most : (side parts j : ℕ) → j < parts → boundary_of side parts (j + 1) ≤ side
-boundary_most side parts j low =
-    let some : 0 < parts = omega arith in
-    let rises = boundary_rises side parts (j + 1) parts some (omega arith) in
-    subst (λ (n : ℕ). boundary_of side parts (j + 1) ≤ n) (mul-div_cancel_left side some) rises
-
 column_below : (l : Layout) (tile : ℕ) → tile < tile_count l → tile_column l tile < l.columns
-column_below l tile low = let some = some_columns l.columns l.rows tile low in omega (arith, some)
+column_below l tile low = let some = factor_above_zero l.columns l.rows tile low in omega (arith, some)
 
 row_below : (l : Layout) (tile : ℕ) → tile < tile_count l → tile_row l tile < l.rows
-row_below l tile low = (div-lt_iff_lt-mul (some_columns l.columns l.rows tile low)).1 (omega (arith, low))
+row_below l tile low = (div-lt_iff_lt-mul (factor_above_zero l.columns l.rows tile low)).1 (omega (arith, low))
 
 pub lies_in_window : (l : Layout) (tile : ℕ) (r : Rect) → tile < tile_count l → r ≡ tile_rectangle l tile → LiesInWindow l.width l.height r
 lies_in_window l tile r low is = subst (LiesInWindow l.width l.height) (sym is) (record {
   left = omega (arith, ints);
-  across = let h = boundary_rises l.width l.columns (tile_column l tile) (tile_column l tile + 1) (some_columns l.columns l.rows tile low) (omega arith) in omega (arith, ints, h);
+  across = let h = boundary_rises l.width l.columns (tile_column l tile) (tile_column l tile + 1) (factor_above_zero l.columns l.rows tile low) (omega arith) in omega (arith, ints, h);
   right = let h = boundary_most l.width l.columns (tile_column l tile) (column_below l tile low) in omega (arith, ints, h);
   bottom = omega (arith, ints);
   upward = let h = boundary_rises l.height l.rows (tile_row l tile) (tile_row l tile + 1) (let k = row_below l tile low in omega (arith, k)) (omega arith) in omega (arith, ints, h);
@@ -58,13 +44,6 @@ lies_in_window l tile r low is = subst (LiesInWindow l.width l.height) (sym is) 
 pub if_ok_both : {T E : Type 0} {P Q R : T → Type 0} (r : Result T E) → ((x : T) → P x → Q x → R x) → IfOk r P → IfOk r Q → IfOk r R
 if_ok_both (Ok x) f p q = f x p q
 if_ok_both (Err e) f p q = tt
-
-place_inside : (w h x y : ℕ) → x < w → y < h → y * w + x < w * h
-place_inside w h x y lx ly = grind arith
-
--- sides of numbers that aren't below 0
-gap_is : (a b : ℕ) → a ≤ b → natural (pos b -ℤ pos a) ≡ b - a
-gap_is a b le = let e : pos b -ℤ pos a ≡ pos (b - a) = omega (arith, ints) in ap natural e
 
 module _ (l : Layout) (tile x y : ℕ) (inside : is_in_rect (tile_rectangle l tile) (pos x) (pos y) ≡ true) where
   abbrev left : ℕ
@@ -87,8 +66,8 @@ module _ (l : Layout) (tile x y : ℕ) (inside : is_in_rect (tile_rectangle l ti
   index_below =
       let h = in_bounds left right bottom top inside in
       let low : (y - bottom) * (right - left) + (x - left) < (right - left) * (top - bottom) =
-      place_inside (right - left) (top - bottom) (x - left) (y - bottom) (omega (arith, h.0, h.1)) (omega (arith, h.2, h.3)) in
-      rw (gap_is bottom y h.2, gap_is left right (omega (arith, h.0, h.1)), gap_is left x h.0, gap_is bottom top (omega (arith, h.2, h.3))) low
+      place_within (right - left) (top - bottom) (x - left) (y - bottom) (omega (arith, h.0, h.1)) (omega (arith, h.2, h.3)) in
+      rw (length_between bottom y h.2, length_between left right (omega (arith, h.0, h.1)), length_between left x h.0, length_between bottom top (omega (arith, h.2, h.3))) low
 
 pub is_part : (l : Layout) (tile frame : ℕ) (b : Board) (d : DeviceView) → IsRectOf l tile d.rect → b.pixel ≡ pixel_of d
     → (p : TilePart) → p ≡ record { tile = tile; frame = frame; pixels = d.pixels } → length p.pixels ≡ rect_size d.rect → IsPartOf l tile frame b p

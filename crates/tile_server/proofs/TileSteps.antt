@@ -19,6 +19,7 @@ use Rattle.tile_model.specs.Givable.{is_givable}
 use Rattle.tile_model.specs.Items.{after_act, after_end, after_entry, after_no_more, after_parcel, after_performed, after_wait, after_work, shown_frames, IsAwaited}
 use Rattle.tile_model.specs.Items.Item.{Due}
 use Rattle.tile_model.specs.Short.{asks, listens, NothingIsDue}
+use Rattle.tile_model.proofs.ShownFrames.{after_swap, after_other, after_learnt, after_worked}
 use Rattle.tile_server.specs.Boards.{board_in, IsPartOf, IsSameTile}
 use Rattle.tile_server.specs.Cores.{board_of, clients_of, decl_of, is_short, layout_of, tile_of, IsProgressOf, IsSameCore, IsTileStep}
 use Rattle.tile_server.specs.Deeds.{answer_of, is_wait, progress_after, taking_answer, is_lost, MayTake}
@@ -30,7 +31,6 @@ use Rattle.tile_server.specs.declared.deed.TileDeed.{TileDeed}
 use Rattle.tile_server.specs.declared.deed.TileDeed.TheVariants.{Performs, Shows, Fails, Learns, Takes, Rests, Finishes}
 use Rattle.tile_server.specs.declared.ledger.Ledger.{Ledger}
 use Rattle.tile_server.specs.declared.tile_core.TileCore.{TileCore}
-use Rattle.tile_server.proofs.FramesGoOn.{after_swap, after_other, after_learnt, after_worked}
 use Rattle.tile_server.proofs.LedgersGoOn.{same_ledger}
 
 -- ---- what the ledger says

@@ -14,14 +14,14 @@ use Rattle.rc_base.specs.declared.cluster.TilePart.{TilePart}
 use Rattle.rc_base.specs.declared.scene.Scene.{Scene}
 use Rattle.rc_base.specs.declared.state.Parcel.{Parcel}
 use Rattle.rc_base.specs.declared.sync.Entry.{Entry}
-use Rattle.rc_base.specs.declared.sync.Entry.TheVariants.{Meet, Swap, Give, Take}
+use Rattle.rc_base.specs.declared.sync.Entry.TheVariants.{Swap}
 use Rattle.rc_base.specs.declared.sync.Grant.{Grant}
 use Rattle.rc_base.specs.declared.sync.Grant.TheVariants as grant
 use Rattle.rc_base.specs.declared.sync.Name.{Name}
 use Rattle.rc_base.specs.declared.window.Layout.{Layout}
 use Rattle.order_model.specs.Gathering.{all_grants}
 use Rattle.order_model.specs.Log.{Replays, recorded_order}
-use Rattle.order_model.specs.Report.{frame_count, is_swap_entry}
+use Rattle.order_model.specs.Report.{frame_count}
 use Rattle.order_model.specs.Sent.{jobs_of}
 use Rattle.order_model.specs.Standing.{Progress, new_progress, performed_in, is_listening, IsUnderWay}
 use Rattle.order_model.specs.declared.record.LogEntry.{LogEntry}
@@ -32,6 +32,8 @@ use Rattle.tile_model.specs.Short.{IsFinished}
 use Rattle.tile_model.specs.Laws.{added_names, SwappedFramesStay, SwapsShowAddedNames}
 use Rattle.tile_model.proofs.ItemsComeFromLanes.{listens, heard_open, heard_after, next_sent, all_heard, taken_after}
 use Rattle.tile_model.proofs.ShownFrames.{ShowsNothing, not_shown, one_shown, act_shows, learns_shows, get_push}
+use Rattle.order_model.proofs.JournalsInTurn.{not_swap}
+use Rattle.plain_lemmas.proofs.Booleans.{false_behind}
 use Rattle.tile_server.specs.Boards.{IsPartOf}
 use Rattle.tile_server.specs.Clauses.{shown_in, AreTileFrames, TileFramesStay, NewTilesMeetTheirClause, TileStepsKeepTheClause, TileStepsOverLanesKeepTheClause, EndedTilesAreDone}
 use Rattle.tile_server.specs.Cores.{board_of, is_short, layout_of, tile_of, IsProgressOf, IsShown}
@@ -42,7 +44,7 @@ use Rattle.tile_server.specs.declared.deed.Taking.TheVariants.{Works, Holds, Clo
 use Rattle.tile_server.specs.declared.deed.TileDeed.{TileDeed}
 use Rattle.tile_server.specs.declared.deed.TileDeed.TheVariants.{Performs, Shows, Fails, Learns, Takes, Rests, Finishes}
 use Rattle.tile_server.specs.declared.tile_core.TileCore.{TileCore}
-use Rattle.tile_server.proofs.CoresStand.{awaited, ample_before, over_performed}
+use Rattle.tile_server.proofs.CoresStand.{awaited, over_performed}
 
 -- ---- fronts
 
@@ -133,12 +135,6 @@ module _ (scene : Scene) (l : Layout) (tile : ℕ) (journal : List Entry) (p : P
   fits Finishes a count is fronts front = tt
 
 -- ---- the parts
-
-not_swap : (e : Entry) → e ≢ Swap → is_swap_entry e ≡ false
-not_swap (Meet _ _) other = refl
-not_swap Swap other = absurd (other refl)
-not_swap (Give _ _) other = refl
-not_swap (Take _ _) other = refl
 
 nothing_shown : (p q : Progress) → q ≡ p → ShowsNothing p q
 nothing_shown p q e = record {
@@ -274,7 +270,7 @@ step_clause keep shows stay scene l tile core deed later took took' heard heard'
   tile = step.same.tile ∙ h.tile;
   clients = step.same.clients ∙ h.clients;
   whole = λ ample.
-      let before : is_short core ≡ false = ample_before (is_loss deed) (is_short core) (sym step.short ∙ ample) in
+      let before : is_short core ≡ false = false_behind (is_loss deed) (is_short core) (sym step.short ∙ ample) in
       let p = (h.whole before).0 in
       let k = (h.whole before).1 in
       let next : IsNextDeed false p deed = subst (λ b. IsNextDeed b p deed) before (step.first p k.progress) in

@@ -1,7 +1,7 @@
 -- Two clients' order that is written out is permitted where tests say so.
-use Rattle.std.proofs.Common.{◌≡◌, ℕ, zero, suc, ◌+◌, ◌<◌, ◌==◌, ◌&&◌, nat_lt, Bool, true, false, cond, List, [], ◌∷◌, length, drop, Option, Some, None, set, get_or, inl, inr, refl, sym, ap, ◌∙◌, subst, arith, eqb-true, ltb-true, lt-ltb, true≢false, get_or-set_same, get_or-set_other}
+use Rattle.std.proofs.Common.{◌≡◌, ℕ, zero, suc, ◌+◌, ◌<◌, ◌==◌, ◌&&◌, nat_lt, Bool, true, false, cond, List, [], ◌∷◌, length, drop, Option, Some, None, set, get_or, inl, inr, refl, sym, ap, ◌∙◌, subst, arith, eqb-true, ltb-true, lt-ltb, true≢false}
 use Rattle.std.specs.Prelude.{slice_index, slice_set, bytes_eq}
-use Rattle.std.proofs.lemmas.Bool.{and_parts, cases_Bool, eqb-false}
+use Rattle.std.proofs.lemmas.Bool.{and_parts, cases_Bool}
 use Rattle.std.proofs.lemmas.Slice.Eq.{bytes_eq-Decides}
 use Rattle.std.specs.List.{AllByRecursion}
 use mathlib.Core.Path.{fun_ext}
@@ -14,7 +14,8 @@ use Rattle.rc_base.specs.declared.sync.Name.{Name}
 use Rattle.rc_base.specs.declared.sync.SyncLists.{SyncLists}
 use Rattle.order_model.proofs.ClientsBeyond.{reach_past}
 use Rattle.order_model.proofs.PermittedAsRuns.{AreServed, Uncrossed, run_permitted}
-use Rattle.order_model.proofs.RunsOfNames.{IsRun, bump}
+use Rattle.order_model.proofs.RunsOfNames.{IsRun}
+use Rattle.order_model.proofs.CheckedOrders.{bumped}
 
 -- ---- each client's names, in their order
 
@@ -24,14 +25,6 @@ run_from ends next [] = bytes_eq next ends
 run_from ends next (n ∷ ns) =
     nat_lt n.client (length next) && ((n.place == slice_index next n.client) && (nat_lt n.place (slice_index ends n.client)
     && run_from ends (slice_set next n.client (slice_index next n.client + 1)) ns))
-
-bumped : (next : List ℕ) (c : ℕ) → c < length next → (d : ℕ) → get_or (set next c (get_or next c 0 + 1)) d 0 ≡ bump (λ k. get_or next k 0) c d
-bumped next c lt d = elim (cases_Bool (d == c)) [
-  | inl t ↦
-      let e = eqb-true d c t in
-      rw t (subst (λ k. get_or (set next c (get_or next c 0 + 1)) k 0 ≡ get_or next k 0 + 1) (sym e) (get_or-set_same next c (get_or next c 0 + 1) 0 lt))
-  | inr f ↦ rw f (get_or-set_other next c d (get_or next c 0 + 1) 0 (eqb-false d c f))
-]
 
 run_by_test : (ends next : List ℕ) (o : List Name) → run_from ends next o ≡ true → IsRun (λ c. get_or ends c 0) (λ c. get_or next c 0) o
 run_by_test ends next [] h = λ c. ap (λ xs. get_or xs c 0) ((bytes_eq-Decides next ends).0 h)

@@ -8,11 +8,11 @@ use Rattle.rc_base.specs.declared.scene.Scene.{Scene}
 use Rattle.rc_base.specs.declared.state.Parcel.{Parcel}
 use Rattle.rc_base.specs.declared.sync.Request.{Request}
 use Rattle.rc_base.specs.declared.window.Layout.{Layout}
+use Rattle.plain_lemmas.proofs.Numbers.{at_one_or_other}
 use Rattle.world_model.specs.Laws.{AreAlike}
 use Rattle.world_model.specs.Moves.{IsClientStep, IsClientMove, IsIdle}
 use Rattle.world_model.specs.Tiles.{Tile}
 use Rattle.world_model.specs.World.{World, Client, client_total, LanesFit}
-use Rattle.world_model.proofs.LanesGoOn.{at_one}
 
 -- ---- a step, by its next item
 
@@ -134,7 +134,7 @@ module _ (scene : Scene) (l : Layout) (depth : ℕ) (w v w' v' : World) (client 
         y.0 ∙ sym x.0,
         record {
           left = y.1.left ∙ sym x.1.left;
-          parcels = at_one (λ tile. tile < tile_count l → v'.parcels client tile ≡ v.parcels client tile) t
+          parcels = at_one_or_other (λ tile. tile < tile_count l → v'.parcels client tile ≡ v.parcels client tile) t
               (λ lt. y.1.here ∙ ap (λ ps. ps ++ p ∷ []) same ∙ sym x.1.here)
               (λ tile ne lt. y.1.others tile ne ∙ h.parcels client tile low lt ∙ sym (x.1.others tile ne));
           requests = y.1.requests ∙ h.requests client low ∙ sym x.1.requests;
@@ -178,16 +178,16 @@ client_alike scene l depth w v w' v' client answer answer' h m fit m' fit' =
     let own = by_next scene l depth w v w' v' client m.low fit fit' h (w.clients client).left answer answer' refl m.step m'.step in (
       own.0,
       record {
-        left = at_one (λ c. c < client_total scene → (v'.clients c).left ≡ (v.clients c).left) client
+        left = at_one_or_other (λ c. c < client_total scene → (v'.clients c).left ≡ (v.clients c).left) client
             (λ lc. own.1.left)
             (λ c ne lc. ap (λ (k : Client). k.left) (m'.only.clients c lc ne) ∙ h.left c lc ∙ sym (ap (λ (k : Client). k.left) (m.only.clients c lc ne)));
         manager = m'.only.manager ∙ h.manager ∙ sym m.only.manager;
         progress = λ tile lt. ap (λ (a : Tile). a.progress) (m'.only.tiles tile lt) ∙ h.progress tile lt ∙ sym (ap (λ (a : Tile). a.progress) (m.only.tiles tile lt));
         next = λ tile lt. ap (λ (a : Tile). a.next) (m'.only.tiles tile lt) ∙ h.next tile lt ∙ sym (ap (λ (a : Tile). a.next) (m.only.tiles tile lt));
-        parcels = at_one (λ c. (tile : ℕ) → c < client_total scene → tile < tile_count l → v'.parcels c tile ≡ v.parcels c tile) client
+        parcels = at_one_or_other (λ c. (tile : ℕ) → c < client_total scene → tile < tile_count l → v'.parcels c tile ≡ v.parcels c tile) client
             (λ tile lc lt. own.1.parcels tile lt)
             (λ c ne tile lc lt. m'.only.parcels c tile lc lt ne ∙ h.parcels c tile lc lt ∙ sym (m.only.parcels c tile lc lt ne));
-        requests = at_one (λ c. c < client_total scene → v'.requests c ≡ v.requests c) client
+        requests = at_one_or_other (λ c. c < client_total scene → v'.requests c ≡ v.requests c) client
             (λ lc. own.1.requests)
             (λ c ne lc. m'.only.requests c lc ne ∙ h.requests c lc ∙ sym (m.only.requests c lc ne));
         grants = λ tile lt. m'.only.grants tile lt ∙ h.grants tile lt ∙ sym (m.only.grants tile lt);

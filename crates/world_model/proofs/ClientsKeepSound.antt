@@ -20,11 +20,12 @@ use Rattle.client_issue.proofs.Tallies.{counted_more}
 use Rattle.sync_manager.specs.Progress.{ManagerProgress}
 use Rattle.sync_manager.specs.Promises.{grants_of, IsManagerRight}
 use Rattle.tile_model.specs.Items.{grants_heard}
+use Rattle.plain_lemmas.proofs.Numbers.{at_one_or_other}
 use Rattle.world_model.specs.Moves.{IsAppended, IsRequested, IsIdle, IsClientStep, IsClientMove}
 use Rattle.world_model.specs.Sound.{IsEndOf, IsTileSound, IsParcelLane, IsSound}
 use Rattle.world_model.specs.Tiles.{Tile}
 use Rattle.world_model.specs.World.{World, Client, client_total}
-use Rattle.world_model.proofs.LanesGoOn.{at_one, moved, gains, this_tile, other_tile}
+use Rattle.world_model.proofs.LanesGoOn.{moved, gains, this_tile, other_tile}
 
 module _ (scene : Scene) (l : Layout) (depth : ℕ) (w v : World) (client : ℕ) where
   -- what is to be shown of the client's own lanes
@@ -104,7 +105,7 @@ module _ (scene : Scene) (l : Layout) (depth : ℕ) (w v : World) (client : ℕ)
     appends : (to : ℕ) → IsAppended scene l depth w client to v → OwnLanes h
     appends to m = record {
       left = left_on (ToTile to m.sent.parcel) m.sent.next;
-      parcels = at_one (λ tile. tile < tile_count l → IsParcelLane scene l client tile (v.clients client) (v.parcels client tile) (w.tiles tile)) to
+      parcels = at_one_or_other (λ tile. tile < tile_count l → IsParcelLane scene l client tile (v.clients client) (v.parcels client tile) (w.tiles tile)) to
           (λ lt. this_gets to lt m)
           (λ tile ne lt. unsent tile lt
           (ap (λ items. parcels_to tile items) m.sent.next ∙ other_tile tile to m.sent.parcel (v.clients client).left ne)
@@ -125,10 +126,10 @@ module _ (scene : Scene) (l : Layout) (depth : ℕ) (w v : World) (client : ℕ)
   client_keeps answer h m =
       let own = steps h m.low answer m.step in
       record {
-        left = at_one (λ c. c < client_total scene → IsEndOf (sent_by scene l c) (v.clients c).left) client
+        left = at_one_or_other (λ c. c < client_total scene → IsEndOf (sent_by scene l c) (v.clients c).left) client
             (λ lc. own.left)
             (λ c ne lc. subst (λ (k : Client). IsEndOf (sent_by scene l c) k.left) (sym (m.only.clients c lc ne)) (h.left c lc));
-        parcels = at_one (λ c. (tile : ℕ) → c < client_total scene → tile < tile_count l → IsParcelLane scene l c tile (v.clients c) (v.parcels c tile) (v.tiles tile)) client
+        parcels = at_one_or_other (λ c. (tile : ℕ) → c < client_total scene → tile < tile_count l → IsParcelLane scene l c tile (v.clients c) (v.parcels c tile) (v.tiles tile)) client
             (λ tile lc lt. subst (λ a. IsParcelLane scene l client tile (v.clients client) (v.parcels client tile) a) (sym (m.only.tiles tile lt)) (own.parcels tile lt))
             (λ c ne tile lc lt. moved (λ k held a. IsParcelLane scene l c tile k held a) (w.clients c) (v.clients c) (w.parcels c tile) (v.parcels c tile) (w.tiles tile) (v.tiles tile)
             (m.only.clients c lc ne) (m.only.parcels c tile lc lt ne) (m.only.tiles tile lt) (h.parcels c tile lc lt));
@@ -136,7 +137,7 @@ module _ (scene : Scene) (l : Layout) (depth : ℕ) (w v : World) (client : ℕ)
             w.manager v.manager (w.grants tile) (v.grants tile) (w.tiles tile) (v.tiles tile) m.only.manager (m.only.grants tile lt) (m.only.tiles tile lt) (h.grants tile lt);
         manager = record {
           took = h.manager.took;
-          lanes = at_one (λ c. c < client_total scene → requests_of scene c ≡ h.manager.took c ++ (v.requests c ++ requests_in (v.clients c).left)) client
+          lanes = at_one_or_other (λ c. c < client_total scene → requests_of scene c ≡ h.manager.took c ++ (v.requests c ++ requests_in (v.clients c).left)) client
               (λ lc. own.requests)
               (λ c ne lc. h.manager.lanes c lc
               ∙ ap (λ (xs : List Request). h.manager.took c ++ (xs ++ requests_in (w.clients c).left)) (sym (m.only.requests c lc ne))

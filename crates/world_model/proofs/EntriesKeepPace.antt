@@ -18,13 +18,13 @@ use Rattle.sync_manager.specs.Progress.{ManagerProgress, IsNextDeed, progress_af
 use Rattle.sync_manager.specs.declared.deed.ManagerDeed.{ManagerDeed}
 use Rattle.sync_manager.specs.declared.deed.ManagerDeed.TheVariants.{Delivers, FindsFull, Grants, Receives, Loses, FindsNoRequest, Drops, FindsNoneLeft, Finishes}
 use Rattle.tile_model.specs.Items.{shown_frames}
+use Rattle.plain_lemmas.proofs.Numbers.{at_one_or_other}
 use Rattle.world_model.specs.Flowing.{IsFlowing}
 use Rattle.world_model.specs.Moves.{IsTileMove}
 use Rattle.world_model.specs.Tiles.{Tile}
 use Rattle.world_model.specs.Turns.{Turn, IsShortTileMove, IsTurn}
 use Rattle.world_model.specs.Turns.Turn.{ClientTurn, ManagerTurn, TileTurn}
 use Rattle.world_model.specs.World.{World}
-use Rattle.world_model.proofs.LanesGoOn.{at_one}
 use Rattle.world_model.proofs.ShownParts.{frames_append, frames_of_front, lost_shows}
 use Rattle.world_model.proofs.TilesAtRest.{front}
 
@@ -109,7 +109,7 @@ module _ (scene : Scene) (l : Layout) (depth : ℕ) where
       → (tile < tile_count l → shown_frames (v.tiles tile).progress ≤ frame_count v.manager.book.journal) → KeepsPace l w → KeepsPace l v
   by_tile w v tile manager others here h = record {
     pace = λ i lt. subst (λ (d : ManagerProgress). length d.book.journal ≤ d.delivered i + 1) (sym manager) (h.pace i lt);
-    few = at_one (λ i. i < tile_count l → shown_frames (v.tiles i).progress ≤ frame_count v.manager.book.journal) tile here
+    few = at_one_or_other (λ i. i < tile_count l → shown_frames (v.tiles i).progress ≤ frame_count v.manager.book.journal) tile here
         (λ i ne lt.
         let a = ap (λ (a : Tile). shown_frames a.progress) (others i lt ne) in
         let j = ap (λ (d : ManagerProgress). frame_count d.book.journal) manager in

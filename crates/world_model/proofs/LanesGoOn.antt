@@ -1,24 +1,12 @@
 -- What one more item makes of a lane, and of functions of numbers.
-use Rattle.std.proofs.Common.{◌≡◌, ◌≢◌, ℕ, ◌==◌, true, false, List, [], ◌∷◌, ◌++◌, length, Option, Some, None, inl, inr, refl, sym, ap, ◌∙◌, subst, append_assoc, append-nil, slice_get, eqb-true, eq-eqb, true≢false}
-use Rattle.std.proofs.lemmas.Bool.{cases_Bool}
+use Rattle.std.proofs.Common.{◌≡◌, ◌≢◌, ℕ, List, [], ◌∷◌, ◌++◌, length, Option, Some, None, refl, sym, ap, ◌∙◌, subst, append_assoc, append-nil, slice_get}
+use Rattle.std.proofs.lemmas.Bool.{ne_eqb}
 use Rattle.std.specs.Prelude.{option_to_list, MatchOption}
 use Rattle.rc_base.specs.Cluster.Sending.{Sending, ToTile, parcels_to}
 use Rattle.rc_base.specs.declared.state.Parcel.{Parcel}
+use Rattle.plain_lemmas.proofs.Numbers.{equal_to_itself}
 
 -- ---- functions of numbers
-
-pub self : (n : ℕ) → (n == n) ≡ true
-self n = eq-eqb n n refl
-
-pub off : (i c : ℕ) → i ≢ c → (i == c) ≡ false
-off i c ne = elim (cases_Bool (i == c)) [ inl t ↦ absurd (ne (eqb-true i c t)) | inr f ↦ f ]
-
--- at one number, and at the others
-pub at_one : (Q : ℕ → Type 0) (c : ℕ) → Q c → ((d : ℕ) → d ≢ c → Q d) → (d : ℕ) → Q d
-at_one Q c here others d = elim (cases_Bool (d == c)) [
-  | inl t ↦ subst Q (sym (eqb-true d c t)) here
-  | inr f ↦ others d (λ e. true≢false (sym (eq-eqb d c e) ∙ f))
-]
 
 -- where three things are equal to others
 pub moved : {A B C : Type 0} (P : A → B → C → Type 0) (a a' : A) (b b' : B) (c c' : C) → a' ≡ a → b' ≡ b → c' ≡ c → P a b c → P a' b' c'
@@ -67,7 +55,7 @@ get_behind (z ∷ xs) ys x = get_behind xs ys x
 -- ---- what is still to be sent
 
 pub this_tile : (tile : ℕ) (p : Parcel) (rest : List Sending) → parcels_to tile (ToTile tile p ∷ rest) ≡ p ∷ parcels_to tile rest
-this_tile tile p rest = rw (self tile) refl
+this_tile tile p rest = rw (equal_to_itself tile) refl
 
 pub other_tile : (other tile : ℕ) (p : Parcel) (rest : List Sending) → other ≢ tile → parcels_to other (ToTile tile p ∷ rest) ≡ parcels_to other rest
-other_tile other tile p rest ne = rw (off other tile ne) refl
+other_tile other tile p rest ne = rw (ne_eqb other tile ne) refl

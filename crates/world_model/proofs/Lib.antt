@@ -27,7 +27,7 @@ mod TurnsKeepFlowing
 mod NewWorldsFlow
 mod RestingRounds
 mod RoundsMoveSomebody
-mod StoppedWorldsRest
+pub mod StoppedWorldsRest
 mod MovesAreTurns
 mod TurnsLeaveLess
 mod WorkIsBounded

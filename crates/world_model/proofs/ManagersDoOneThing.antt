@@ -21,7 +21,8 @@ use Rattle.sync_manager.specs.Progress.{ManagerProgress, IsLowest, AllDelivered,
 use Rattle.sync_manager.specs.declared.deed.ManagerDeed.{ManagerDeed}
 use Rattle.sync_manager.specs.declared.deed.ManagerDeed.TheVariants.{Delivers, FindsFull, Grants, Receives, Loses, FindsNoRequest, Drops, FindsNoneLeft, Finishes}
 use Rattle.scene_lemmas.proofs.Scenes.{scene_client_count}
-use Rattle.world_model.proofs.LanesGoOn.{self, same_rest, is_first}
+use Rattle.plain_lemmas.proofs.Numbers.{equal_to_itself}
+use Rattle.world_model.proofs.LanesGoOn.{same_rest, is_first}
 use Rattle.world_model.specs.Laws.{AreAlike}
 use Rattle.world_model.specs.Moves.{IsManagerMove}
 use Rattle.world_model.specs.Tiles.{Tile}
@@ -157,10 +158,10 @@ module _ (syncs : SyncLists) (tiles : ℕ) (d : ManagerProgress) where
       pub full : (t : ℕ) → t < tiles → IsFoundFull deed t → length (grants t) ≡ depth
 
     received : (c : ℕ) (r : Request) (n : IsNextDeed syncs tiles d (Receives c r)) → IsDone (Receives c r) → (rest : List Request) × (requests c ≡ r ∷ rest)
-    received c r n x = let low = subst (λ k. c < k) exist n.1 in rw (self c) at (x.first c low)
+    received c r n x = let low = subst (λ k. c < k) exist n.1 in rw (equal_to_itself c) at (x.first c low)
 
     dropped : (c : ℕ) (r : Request) (n : IsNextDeed syncs tiles d (Drops c r)) → IsDone (Drops c r) → (rest : List Request) × (requests c ≡ r ∷ rest)
-    dropped c r n x = let low = subst (λ k. c < k) exist n.1 in rw (self c) at (x.first c low)
+    dropped c r n x = let low = subst (λ k. c < k) exist n.1 in rw (equal_to_itself c) at (x.first c low)
 
     not_bare : (c : ℕ) (r : Request) (rest : List Request) → requests c ≡ r ∷ rest → requests c ≡ [] → ⊥
     not_bare c r rest h e = let no : r ∷ rest ≡ [] = sym h ∙ e in cc
@@ -208,7 +209,7 @@ module _ (syncs : SyncLists) (tiles : ℕ) (d : ManagerProgress) where
     no_room t g lt x y = by (x.room t lt)
       where
         by : (sent_to (Delivers t g) t ≡ []) ⊎ (length (grants t) < depth) → ⊥
-        by (inl none) = let no : g ∷ [] ≡ [] = rw (self t) at none in cc
+        by (inl none) = let no : g ∷ [] ≡ [] = rw (equal_to_itself t) at none in cc
         by (inr less) = let f = y.full t lt refl in omega (arith, less, f)
 
     delivering : (t u : ℕ) (g h : Grant) → Delivering u h ≡ Delivering t g → (u ≡ t) × (h ≡ g)

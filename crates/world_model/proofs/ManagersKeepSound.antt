@@ -1,6 +1,6 @@
 -- The manager's move leaves the world sound.
 use Rattle.std.proofs.Common.{◌≡◌, ℕ, ◌==◌, ◌<◌, ◌≤◌, false, List, [], ◌∷◌, ◌++◌, None, inl, inr, refl, sym, ap, ◌∙◌, subst, arith, append_assoc, append-nil}
-use Rattle.std.proofs.lemmas.Bool.{cases_Bool}
+use Rattle.std.proofs.lemmas.Bool.{cases_Bool, ne_eqb}
 use Rattle.std.specs.Prelude.{Ok, option_to_list}
 use Rattle.rc_base.specs.Cluster.Sending.{requests_in, sent_by, requests_of}
 use Rattle.rc_base.specs.Cluster.Tiles.{tile_count}
@@ -27,7 +27,7 @@ use Rattle.world_model.specs.Moves.{IsManagerMove}
 use Rattle.world_model.specs.Sound.{IsEndOf, IsTileSound, IsParcelLane, IsSound}
 use Rattle.world_model.specs.Tiles.{Tile}
 use Rattle.world_model.specs.World.{World, Client}
-use Rattle.world_model.proofs.LanesGoOn.{off, moved, takes}
+use Rattle.world_model.proofs.LanesGoOn.{moved, takes}
 use Rattle.world_model.proofs.JournalsGoOn.{tile_goes_on}
 
 -- ---- what a deed makes of the manager
@@ -78,7 +78,7 @@ module _ (syncs : SyncLists) (tiles : ℕ) (d : ManagerProgress) where
   journal_goes_on Finishes = ([], sym (append-nil d.book.journal))
 
   beyond : (c client : ℕ) → client_count syncs ≤ c → client < client_count syncs → (c == client) ≡ false
-  beyond c client le lt = off c client (λ e. omega (arith, e, le, lt))
+  beyond c client le lt = ne_eqb c client (λ e. omega (arith, e, le, lt))
 
   -- nothing is taken of a client that doesn't exist
   pub none_beyond : (deed : ManagerDeed) → IsNextDeed syncs tiles d deed → (c : ℕ) → client_count syncs ≤ c → taken_of deed c ≡ None

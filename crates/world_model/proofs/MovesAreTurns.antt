@@ -10,6 +10,7 @@ use Rattle.rc_base.specs.declared.window.Layout.{Layout}
 use Rattle.sync_manager.specs.Progress.{ManagerProgress, progress_after, answer_of}
 use Rattle.sync_manager.specs.declared.deed.ManagerDeed.{ManagerDeed}
 use Rattle.sync_manager.specs.declared.deed.ManagerDeed.TheVariants.{Delivers, FindsFull, Grants, Receives, Loses, FindsNoRequest, Drops, FindsNoneLeft, Finishes}
+use Rattle.plain_lemmas.proofs.Numbers.{at_one_or_other}
 use Rattle.world_model.specs.declared.moves.Move.{Move}
 use Rattle.world_model.specs.declared.moves.Move.TheVariants.{Client as ClientMove, Manager as ManagerMove, Tile as TileMove}
 use Rattle.world_model.specs.Flowing.{IsFlowing}
@@ -20,7 +21,6 @@ use Rattle.world_model.specs.Tiles.{Tile}
 use Rattle.world_model.specs.Turns.{Turn, IsShortTileMove, IsTurn, AreTurns, turn_of, AreAmple}
 use Rattle.world_model.specs.Turns.Turn.{ClientTurn, ManagerTurn, TileTurn}
 use Rattle.world_model.specs.World.{World, Client, client_total, IsNewWorld}
-use Rattle.world_model.proofs.LanesGoOn.{at_one}
 use Rattle.world_model.proofs.ManagersKeepSound.{stays_ample}
 
 pub moves_are_turns : MovesAreTurns
@@ -44,7 +44,7 @@ module _ (scene : Scene) (l : Layout) (depth : ℕ) where
 
   ample_on : (w v : World) (m : Move) → AreAmple scene l w → IsMove scene l depth w m v → AreAmple scene l v
   ample_on w v (ClientMove client answer) h m = record {
-    clients = at_one (λ c. c < client_total scene → (v.clients c).short ≡ false) client (λ lc. m.step.short ∙ h.clients client lc)
+    clients = at_one_or_other (λ c. c < client_total scene → (v.clients c).short ≡ false) client (λ lc. m.step.short ∙ h.clients client lc)
         (λ c ne lc. ap (λ (k : Client). k.short) (m.step.only.clients c lc ne) ∙ h.clients c lc);
     manager = ap (λ (d : ManagerProgress). d.short) m.step.only.manager ∙ h.manager;
     tiles = λ tile lt. ap (λ (a : Tile). a.short) (m.step.only.tiles tile lt) ∙ h.tiles tile lt;
@@ -57,7 +57,7 @@ module _ (scene : Scene) (l : Layout) (depth : ℕ) where
   ample_on w v (TileMove tile answer) h m = record {
     clients = λ c lc. ap (λ (k : Client). k.short) (m.step.only.clients c lc) ∙ h.clients c lc;
     manager = ap (λ (d : ManagerProgress). d.short) m.step.only.manager ∙ h.manager;
-    tiles = at_one (λ t. t < tile_count l → (v.tiles t).short ≡ false) tile (λ lt. m.step.step.still_ample ∙ m.step.step.ample)
+    tiles = at_one_or_other (λ t. t < tile_count l → (v.tiles t).short ≡ false) tile (λ lt. m.step.step.still_ample ∙ m.step.step.ample)
         (λ t ne lt. ap (λ (a : Tile). a.short) (m.step.only.tiles t lt ne) ∙ h.tiles t lt);
   }
 
@@ -102,7 +102,7 @@ module _ (scene : Scene) (l : Layout) (depth : ℕ) where
   was_ample : (w v : World) (turn : Turn) → IsTurn scene l depth w turn v → AreAmple scene l v → WasAmple w turn
   was_ample w v (ClientTurn client (Ok answer)) m h = record {
     ample = record {
-      clients = at_one (λ c. c < client_total scene → (w.clients c).short ≡ false) client (λ lc. sym m.step.short ∙ h.clients client lc)
+      clients = at_one_or_other (λ c. c < client_total scene → (w.clients c).short ≡ false) client (λ lc. sym m.step.short ∙ h.clients client lc)
           (λ c ne lc. ap (λ (k : Client). k.short) (sym (m.step.only.clients c lc ne)) ∙ h.clients c lc);
       manager = ap (λ (d : ManagerProgress). d.short) (sym m.step.only.manager) ∙ h.manager;
       tiles = λ tile lt. ap (λ (a : Tile). a.short) (sym (m.step.only.tiles tile lt)) ∙ h.tiles tile lt;
@@ -129,7 +129,7 @@ module _ (scene : Scene) (l : Layout) (depth : ℕ) where
         ample = record {
           clients = λ c lc. ap (λ (k : Client). k.short) (sym (t.only.clients c lc)) ∙ h.clients c lc;
           manager = ap (λ (d : ManagerProgress). d.short) (sym t.only.manager) ∙ h.manager;
-          tiles = at_one (λ i. i < tile_count l → (w.tiles i).short ≡ false) tile (λ lt. t.step.ample)
+          tiles = at_one_or_other (λ i. i < tile_count l → (w.tiles i).short ≡ false) tile (λ lt. t.step.ample)
               (λ i ne lt. ap (λ (a : Tile). a.short) (sym (t.only.tiles i lt ne)) ∙ h.tiles i lt);
         };
         move = TileMove tile answer;

@@ -8,13 +8,11 @@ use Rattle.rc_base.specs.declared.state.Parcel.{Parcel}
 use Rattle.rc_base.specs.declared.sync.Request.{Request}
 use Rattle.rc_base.specs.declared.sync.Request.TheVariants as request
 use Rattle.sync_manager.specs.Progress.{is_end as is_end_request}
+use Rattle.plain_lemmas.proofs.Lists.{both_empty}
+use Rattle.scene_lemmas.proofs.Sendings.{parcels_append}
 use Rattle.world_model.specs.Flowing.{wait_by, ask_by, waits, asks, is_end_parcel, IsInTurn, EndsWithRequest}
 
 -- ---- lists
-
-pub none_of : {A : Type 0} (xs ys : List A) → xs ++ ys ≡ [] → (xs ≡ []) × (ys ≡ [])
-none_of [] ys e = (refl, e)
-none_of (x ∷ xs) ys e = absurd cc
 
 pub waits_append : (ps qs : List Parcel) → waits (ps ++ qs) ≡ waits ps + waits qs
 waits_append [] qs = omega arith
@@ -27,19 +25,6 @@ asks_append (r ∷ rs) qs = let h = asks_append rs qs in omega (arith, h)
 pub any_append : {A : Type 0} (f : A → Bool) (xs ys : List A) → list_any f (xs ++ ys) ≡ (list_any f xs || list_any f ys)
 any_append f [] ys = refl
 any_append f (x ∷ xs) ys = elim (cases_Bool (f x)) [ inl t ↦ rw t refl | inr n ↦ rw n (any_append f xs ys) ]
-
-pub to_append : (tile : ℕ) (xs ys : List Sending) → parcels_to tile (xs ++ ys) ≡ parcels_to tile xs ++ parcels_to tile ys
-to_append tile [] ys = refl
-to_append tile (ToTile k p ∷ xs) ys = elim (cases_Bool (tile == k)) [
-  | inl t ↦ rw t (ap (λ ps. p ∷ ps) (to_append tile xs ys))
-  | inr f ↦ rw f (to_append tile xs ys)
-]
-to_append tile (ToManager r ∷ xs) ys = to_append tile xs ys
-
-pub in_append : (xs ys : List Sending) → requests_in (xs ++ ys) ≡ requests_in xs ++ requests_in ys
-in_append [] ys = refl
-in_append (ToTile k p ∷ xs) ys = in_append xs ys
-in_append (ToManager r ∷ xs) ys = ap (λ rs. r ∷ rs) (in_append xs ys)
 
 -- ---- the parcels of one tile
 
@@ -79,8 +64,8 @@ module _ (tile : ℕ) where
         let rest : parcels_to tile sent ≡ took ++ held = cc in
         elim (cases_Bool (is_end p.act)) [
           | inl y ↦
-              let none = none_of (parcels_to tile sent) (parcels_to tile left) (sym (to_append tile sent left) ∙ (h.0 t).last y) in
-              ((none_of took held (sym rest ∙ none.0)).1, none.1)
+              let none = both_empty (parcels_to tile sent) (parcels_to tile left) (sym (parcels_append tile sent left) ∙ (h.0 t).last y) in
+              ((both_empty took held (sym rest ∙ none.0)).1, none.1)
           | inr n ↦
               let not_here : is_end_parcel q ≡ false = ap is_end_parcel here ∙ n in
               end_is_last (told + wait_by p.act) asked sent left took held next rest (sym (ap (λ b. b || list_any is_end_parcel took) not_here) ∙ any)
@@ -104,7 +89,7 @@ module _ (tile : ℕ) where
         elim (cases_Bool (is_end q.act)) [
           | inl y ↦
               let none : parcels_to tile (sent ++ ToTile tile p ∷ rest) ≡ [] = turn.last y in
-              let behind = (none_of (parcels_to tile sent) (parcels_to tile (ToTile tile p ∷ rest)) (sym (to_append tile sent (ToTile tile p ∷ rest)) ∙ none)).1 in
+              let behind = (both_empty (parcels_to tile sent) (parcels_to tile (ToTile tile p ∷ rest)) (sym (parcels_append tile sent (ToTile tile p ∷ rest)) ∙ none)).1 in
               let there : p ∷ parcels_to tile rest ≡ [] = rw same at behind in
               cc
           | inr n ↦ let a = turn.asked_all n in omega (arith, a, less)
@@ -138,9 +123,9 @@ module _ (tile : ℕ) where
     λ t. record {
       asked_all = (h.0 t).asked_all;
       last = λ y.
-          let none = none_of (parcels_to tile sent) (parcels_to tile (dropped ++ last)) (sym (to_append tile sent (dropped ++ last)) ∙ (h.0 t).last y) in
-          let behind = none_of (parcels_to tile dropped) (parcels_to tile last) (sym (to_append tile dropped last) ∙ none.1) in
-          to_append tile sent last ∙ ap (λ ps. ps ++ parcels_to tile last) none.0 ∙ behind.1;
+          let none = both_empty (parcels_to tile sent) (parcels_to tile (dropped ++ last)) (sym (parcels_append tile sent (dropped ++ last)) ∙ (h.0 t).last y) in
+          let behind = both_empty (parcels_to tile dropped) (parcels_to tile last) (sym (parcels_append tile dropped last) ∙ none.1) in
+          parcels_append tile sent last ∙ ap (λ ps. ps ++ parcels_to tile last) none.0 ∙ behind.1;
     },
     cut_turns (told + cond (tile == k) (wait_by p.act) 0) asked sent dropped last h.1 any,
   )
@@ -158,9 +143,9 @@ end_request_is_last (ToManager r ∷ sent) left (q ∷ took) held h e any =
     let rest : requests_in sent ≡ took ++ held = cc in
     elim (cases_Bool (is_end_request r)) [
       | inl y ↦
-          let none = none_of sent left (h.0 y) in
+          let none = both_empty sent left (h.0 y) in
           let tail : took ++ held ≡ [] = sym rest ∙ ap requests_in none.0 in
-          ((none_of took held tail).1, none.1)
+          ((both_empty took held tail).1, none.1)
       | inr n ↦ end_request_is_last sent left took held h.1 rest (sym (ap (λ b. b || list_any is_end_request took) (ap is_end_request here ∙ n)) ∙ any)
     ]
 
@@ -169,7 +154,7 @@ cut_requests [] dropped last h e = e
 cut_requests (ToTile k p ∷ sent) dropped last h e = cut_requests sent dropped last h e
 cut_requests (ToManager r ∷ sent) dropped last h e = (
   λ y.
-      let none = none_of sent (dropped ++ last) (h.0 y) in
-      ap (λ xs. xs ++ last) none.0 ∙ (none_of dropped last none.1).1,
+      let none = both_empty sent (dropped ++ last) (h.0 y) in
+      ap (λ xs. xs ++ last) none.0 ∙ (both_empty dropped last none.1).1,
   cut_requests sent dropped last h.1 e,
 )

@@ -3,7 +3,7 @@ use Rattle.std.proofs.Common.{◌≡◌, ◌≢◌, ◌⊎◌, ℕ, zero, suc, �
 use Rattle.std.proofs.Math.Bool.{or-true}
 use Rattle.std.proofs.lemmas.Bool.{cases_Bool}
 use Rattle.std.specs.List.{list_any}
-use Rattle.std.specs.Prelude.{option_to_list, replicate, slice_get, slice_index_or, Result, Ok, Err}
+use Rattle.std.specs.Prelude.{option_to_list, slice_get, slice_index_or, Result, Ok, Err}
 use Rattle.rc_base.specs.Cluster.Tiles.{tile_count}
 use Rattle.rc_base.specs.declared.cluster.TilePart.{TilePart}
 use Rattle.rc_base.specs.declared.image.Image.{Image}
@@ -16,8 +16,9 @@ use Rattle.assembler.specs.Assembled.{layout_of, places_of, short_of, ComesOf, I
 use Rattle.assembler.specs.Parts.{ArePartsOf, tile_height, tile_width}
 use Rattle.assembler.specs.Places.{fits, in_place, AllFit, IsFound}
 use Rattle.assembler.specs.declared.places.Assembler.{Assembler}
-use Rattle.assembler.proofs.Fitting.{some_at}
-use Rattle.assembler.proofs.Waiting.{stands_in}
+use Rattle.assembler.proofs.Waiting.{stands_in, none_in}
+use Rattle.plain_lemmas.proofs.Numbers.{at_one_or_other}
+use Rattle.plain_lemmas.proofs.Lists.{item_within}
 use Rattle.world_model.specs.Flowing.{IsFlowing}
 use Rattle.world_model.specs.Laws.{TurnsKeepWorldsFlowing}
 use Rattle.world_model.specs.Moves.{IsTileMove}
@@ -29,7 +30,6 @@ use Rattle.world_model.specs.Turns.Turn.{ClientTurn, ManagerTurn, TileTurn}
 use Rattle.world_model.specs.World.{World}
 use Rattle.world_model.specs.declared.moves.TileAnswer.{TileAnswer}
 use Rattle.world_model.proofs.EntriesKeepPace.{KeepsPace, pace_kept}
-use Rattle.world_model.proofs.LanesGoOn.{at_one}
 use Rattle.world_model.proofs.OrderlySequences.{any_append}
 use Rattle.world_model.proofs.ShownParts.{parts_by_item, lost_shows, short_offers_none, put_waits}
 
@@ -95,11 +95,6 @@ module _ (l : Layout) (tile : ℕ) where
 
 -- ---- places
 
-pub none_in : (n tile : ℕ) → in_place (replicate n None) tile ≡ None
-none_in zero tile = refl
-none_in (suc n) zero = refl
-none_in (suc n) (suc tile) = none_in n tile
-
 place_back : (parts : List TilePart) (tile : ℕ) (p : TilePart) → in_place (map (λ q. Some q) parts) tile ≡ Some p → slice_get parts tile ≡ Some p
 place_back [] tile p is = absurd cc
 place_back (q ∷ parts) zero p is = is
@@ -161,7 +156,7 @@ module _ (scene : Scene) (l : Layout) (depth : ℕ) (pixels : HavePixels l) (w v
         fit = subst (λ (a : Assembler). AllFit l (places_of a)) (sym only.caller) s.fit;
         tiles = λ i lt.
             subst (λ (a : Assembler). IsTileShown l i s.frames (in_place (places_of a) i) (waiting_parts v i) (v.cluster.tiles i)) (sym only.caller)
-            (at_one (λ i. i < tile_count l → IsTileShown l i s.frames (in_place (places_of w.caller) i) (waiting_parts v i) (v.cluster.tiles i)) tile
+            (at_one_or_other (λ i. i < tile_count l → IsTileShown l i s.frames (in_place (places_of w.caller) i) (waiting_parts v i) (v.cluster.tiles i)) tile
             (λ lt. here s.frames lt (s.tiles tile lt))
             (λ i ne lt.
             let waits : waiting_parts v i ≡ waiting_parts w i =
@@ -295,7 +290,7 @@ module _ (scene : Scene) (l : Layout) (depth : ℕ) (pixels : HavePixels l) (w v
           λ tile. ap (λ (ps : List (Option TilePart)). in_place ps tile) h.places ∙ none_in (tile_count (layout_of w.caller)) tile in
           shown_on s a.found (s.frames + 1) each (completed l layout_is h.parts h.all sizes) (λ tile p is. absurd (let same = sym (none tile) ∙ is in cc))
           (λ tile lt.
-          let there = some_at h.parts tile (subst (λ n. tile < n) (sym sizes.count) lt) in
+          let there = item_within h.parts tile (subst (λ n. tile < n) (sym sizes.count) lt) in
           let one = ap (λ (ps : List (Option TilePart)). length (option_to_list (in_place ps tile))) h.all
           ∙ ap (λ (o : Option TilePart). length (option_to_list o)) (stands_in h.parts tile there.0 there.1) in
           let zero_now = ap (λ (o : Option TilePart). length (option_to_list o)) (none tile) in

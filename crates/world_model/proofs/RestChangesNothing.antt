@@ -22,6 +22,7 @@ use Rattle.sync_manager.specs.declared.deed.ManagerDeed.{ManagerDeed}
 use Rattle.sync_manager.specs.declared.deed.ManagerDeed.TheVariants.{Delivers, FindsFull, Grants, Receives, Loses, FindsNoRequest, Drops, FindsNoneLeft, Finishes}
 use Rattle.tile_model.specs.Items.{Item, parcel_taken, grant_taken}
 use Rattle.tile_model.specs.Items.Item.{Nothing, Due, Granted, NoMore, Sent}
+use Rattle.plain_lemmas.proofs.Numbers.{at_one_or_other}
 use Rattle.world_model.specs.Laws.{IsSameWorld, RestChangesNothing}
 use Rattle.world_model.specs.Moves.{IsAtRest, IsIdle, IsClientStep, IsClientMove, IsManagerMove, IsTileMove}
 use Rattle.world_model.specs.declared.moves.Move.TheVariants.{Client as ClientMove, Manager as ManagerMove, Tile as TileMove}
@@ -29,7 +30,6 @@ use Rattle.world_model.specs.declared.moves.TileAnswer.{TileAnswer}
 use Rattle.world_model.specs.Tiles.{Tile, IsTileStep, answer_to_entry, answer_to_act, IsTileAnswer}
 use Rattle.world_model.specs.declared.moves.TileAnswer.TheVariants.{Learnt, Took, Held, Dropped, Blocked, Ended}
 use Rattle.world_model.specs.World.{World, Client, client_total}
-use Rattle.world_model.proofs.LanesGoOn.{at_one}
 
 module _ (scene : Scene) (l : Layout) (depth : ℕ) (w v : World) where
   -- ---- a client
@@ -51,15 +51,15 @@ module _ (scene : Scene) (l : Layout) (depth : ℕ) (w v : World) where
   client_rests client answer rest m =
       let idle = is_idle client answer rest m.step in
       record {
-        left = at_one (λ c. c < client_total scene → (v.clients c).left ≡ (w.clients c).left) client (λ lc. idle.sent.left) (λ c ne lc. ap (λ (k : Client). k.left) (m.only.clients c lc ne));
-        tallies = at_one (λ c. (tile : ℕ) → c < client_total scene → (v.clients c).tallies tile ≡ (w.clients c).tallies tile) client
+        left = at_one_or_other (λ c. c < client_total scene → (v.clients c).left ≡ (w.clients c).left) client (λ lc. idle.sent.left) (λ c ne lc. ap (λ (k : Client). k.left) (m.only.clients c lc ne));
+        tallies = at_one_or_other (λ c. (tile : ℕ) → c < client_total scene → (v.clients c).tallies tile ≡ (w.clients c).tallies tile) client
             (λ tile lc. idle.tallies tile) (λ c ne tile lc. ap (λ (k : Client). k.tallies tile) (m.only.clients c lc ne));
-        short = at_one (λ c. c < client_total scene → (v.clients c).short ≡ (w.clients c).short) client (λ lc. m.short) (λ c ne lc. ap (λ (k : Client). k.short) (m.only.clients c lc ne));
+        short = at_one_or_other (λ c. c < client_total scene → (v.clients c).short ≡ (w.clients c).short) client (λ lc. m.short) (λ c ne lc. ap (λ (k : Client). k.short) (m.only.clients c lc ne));
         manager = m.only.manager;
         tiles = m.only.tiles;
-        parcels = at_one (λ c. (tile : ℕ) → c < client_total scene → tile < tile_count l → v.parcels c tile ≡ w.parcels c tile) client
+        parcels = at_one_or_other (λ c. (tile : ℕ) → c < client_total scene → tile < tile_count l → v.parcels c tile ≡ w.parcels c tile) client
             (λ tile lc lt. idle.sent.parcels tile) (λ c ne tile lc lt. m.only.parcels c tile lc lt ne);
-        requests = at_one (λ c. c < client_total scene → v.requests c ≡ w.requests c) client (λ lc. idle.sent.requests) (λ c ne lc. m.only.requests c lc ne);
+        requests = at_one_or_other (λ c. c < client_total scene → v.requests c ≡ w.requests c) client (λ lc. idle.sent.requests) (λ c ne lc. m.only.requests c lc ne);
         grants = m.only.grants;
       }
 
@@ -183,12 +183,12 @@ module _ (scene : Scene) (l : Layout) (depth : ℕ) (w v : World) where
         tallies = λ c t lc. ap (λ (k : Client). k.tallies t) (m.only.clients c lc);
         short = λ c lc. ap (λ (k : Client). k.short) (m.only.clients c lc);
         manager = m.only.manager;
-        tiles = at_one (λ t. t < tile_count l → v.tiles t ≡ w.tiles t) tile (λ lt. same_tile tile (w.tiles tile) (v.tiles tile) step) (λ t ne lt. m.only.tiles t lt ne);
-        parcels = λ c. at_one (λ t. c < client_total scene → t < tile_count l → v.parcels c t ≡ w.parcels c t) tile
+        tiles = at_one_or_other (λ t. t < tile_count l → v.tiles t ≡ w.tiles t) tile (λ lt. same_tile tile (w.tiles tile) (v.tiles tile) step) (λ t ne lt. m.only.tiles t lt ne);
+        parcels = λ c. at_one_or_other (λ t. c < client_total scene → t < tile_count l → v.parcels c t ≡ w.parcels c t) tile
             (λ lc lt. subst (λ i. MatchOption (parcel_taken i c) (v.parcels c tile ≡ w.parcels c tile) (λ p. w.parcels c tile ≡ p ∷ v.parcels c tile)) none (m.parcel c lc))
             (λ t ne lc lt. m.only.parcels c t lc lt ne);
         requests = m.only.requests;
-        grants = at_one (λ t. t < tile_count l → v.grants t ≡ w.grants t) tile
+        grants = at_one_or_other (λ t. t < tile_count l → v.grants t ≡ w.grants t) tile
             (λ lt. subst (λ i. MatchOption (grant_taken i) (v.grants tile ≡ w.grants tile) (λ g. w.grants tile ≡ g ∷ v.grants tile)) none m.grant)
             (λ t ne lt. m.only.grants t lt ne);
       }

@@ -12,6 +12,7 @@ use Rattle.order_model.specs.Standing.{Progress}
 use Rattle.tile_model.specs.Items.{Item, grant_taken, parcel_taken}
 use Rattle.tile_model.specs.Items.Item.{Nothing, Due, Granted, NoMore, Sent}
 use Rattle.tile_model.specs.Short.{after_lost}
+use Rattle.plain_lemmas.proofs.Numbers.{at_one_or_other}
 use Rattle.world_model.specs.Laws.{IsSameWorld, RestingTurnsChangeNothing, RestingRoundsChangeNothing}
 use Rattle.world_model.specs.Moves.{IsAtRest, IsTileMove}
 use Rattle.world_model.specs.Short.{IsShortAnswer}
@@ -23,7 +24,6 @@ use Rattle.world_model.specs.declared.moves.Move.TheVariants.{Tile as TileMove}
 use Rattle.world_model.specs.declared.moves.TileAnswer.{TileAnswer}
 use Rattle.world_model.specs.declared.moves.TileAnswer.TheVariants.{Closed, Dropped, Blocked, Ended}
 use Rattle.world_model.proofs.EndedWorldsRest.{same_self, same_on}
-use Rattle.world_model.proofs.LanesGoOn.{at_one}
 use Rattle.world_model.proofs.RestChangesNothing.{client_rests as client_still, manager_rests as manager_still, tile_rests as tile_still, equal_tiles}
 
 -- a turn, of whatever kind, of an actor that has one
@@ -59,15 +59,15 @@ module _ (scene : Scene) (l : Layout) (depth : ℕ) where
         tallies = λ c t lc. ap (λ (k : Client). k.tallies t) (m.only.clients c lc);
         short = λ c lc. ap (λ (k : Client). k.short) (m.only.clients c lc);
         manager = m.only.manager;
-        tiles = at_one (λ t. t < tile_count l → v.tiles t ≡ w.tiles t) tile
+        tiles = at_one_or_other (λ t. t < tile_count l → v.tiles t ≡ w.tiles t) tile
             (λ lt. equal_tiles scene l depth w v (w.tiles tile) (v.tiles tile) (m.progress ∙ ap (λ i. after_lost (w.tiles tile).progress i) none)
             (m.next ∙ ap (λ i. next_after (w.tiles tile).next i) none) m.board m.parts (m.still_short ∙ sym m.short))
             (λ t ne lt. m.only.tiles t lt ne);
-        parcels = λ c. at_one (λ t. c < client_total scene → t < tile_count l → v.parcels c t ≡ w.parcels c t) tile
+        parcels = λ c. at_one_or_other (λ t. c < client_total scene → t < tile_count l → v.parcels c t ≡ w.parcels c t) tile
             (λ lc lt. subst (λ i. MatchOption (parcel_taken i c) (v.parcels c tile ≡ w.parcels c tile) (λ p. w.parcels c tile ≡ p ∷ v.parcels c tile)) none (m.parcel c lc))
             (λ t ne lc lt. m.only.parcels c t lc lt ne);
         requests = m.only.requests;
-        grants = at_one (λ t. t < tile_count l → v.grants t ≡ w.grants t) tile
+        grants = at_one_or_other (λ t. t < tile_count l → v.grants t ≡ w.grants t) tile
             (λ lt. subst (λ i. MatchOption (grant_taken i) (v.grants tile ≡ w.grants tile) (λ g. w.grants tile ≡ g ∷ v.grants tile)) none m.grant)
             (λ t ne lt. m.only.grants t lt ne);
       }

@@ -18,8 +18,9 @@ use Rattle.rc_base.specs.declared.state.Parcel.{Parcel}
 use Rattle.rc_base.specs.declared.sync.Request.TheVariants as request
 use Rattle.rc_base.specs.declared.sync.WaitAt.{WaitAt}
 use Rattle.rc_base.specs.declared.window.Layout.{Layout}
+use Rattle.scene_lemmas.proofs.Sendings.{parcels_append, requests_append}
 use Rattle.world_model.specs.Flowing.{wait_by, waits, asks}
-use Rattle.world_model.proofs.OrderlySequences.{waits_append, asks_append, to_append, in_append}
+use Rattle.world_model.proofs.OrderlySequences.{waits_append, asks_append}
 
 -- ---- operations among the items of a sequence
 
@@ -40,10 +41,10 @@ module _ (tile : ℕ) where
   AreOrdered (x ∷ items) = (told_waits (x ∷ items) ≤ told_asks (x ∷ items)) × (IsTo x → told_asks (x ∷ items) ≤ told_waits (x ∷ items)) × AreOrdered items
 
   waits_of : (xs ys : List Sending) → told_waits (xs ++ ys) ≡ told_waits xs + told_waits ys
-  waits_of xs ys = ap waits (to_append tile xs ys) ∙ waits_append (parcels_to tile xs) (parcels_to tile ys)
+  waits_of xs ys = ap waits (parcels_append tile xs ys) ∙ waits_append (parcels_to tile xs) (parcels_to tile ys)
 
   asks_of : (xs ys : List Sending) → told_asks (xs ++ ys) ≡ told_asks xs + told_asks ys
-  asks_of xs ys = ap asks (in_append xs ys) ∙ asks_append (requests_in xs) (requests_in ys)
+  asks_of xs ys = ap asks (requests_append xs ys) ∙ asks_append (requests_in xs) (requests_in ys)
 
   -- in front of an ordered list with as many of both
   ordered_append : (xs ys : List Sending) → AreOrdered xs → AreOrdered ys → told_waits ys ≡ told_asks ys → AreOrdered (xs ++ ys)

@@ -1,7 +1,7 @@
 -- Where no actor can move, whoever is short, all have ended. It is shown by counts of operations alone.
-use Rattle.std.proofs.Common.{◌≡◌, ℕ, ◌+◌, ◌==◌, ◌<◌, not, Bool, true, false, cond, List, [], ◌∷◌, ◌++◌, ◌⊎◌, take, length, map, Option, Some, None, inl, inr, refl, sym, ap, ◌∙◌, subst, arith, append-nil, eq-eqb, true≢false}
+use Rattle.std.proofs.Common.{◌≡◌, ℕ, ◌+◌, ◌==◌, ◌<◌, true, false, cond, List, [], ◌∷◌, ◌++◌, ◌⊎◌, take, length, map, Option, Some, None, inl, inr, refl, sym, ap, ◌∙◌, subst, arith, append-nil, eq-eqb, true≢false}
 use Rattle.std.proofs.Math.Seq.{take-length}
-use Rattle.std.proofs.lemmas.Bool.{cases_Bool, ltb-false}
+use Rattle.std.proofs.lemmas.Bool.{cases_Bool, ltb-false, not-false}
 use Rattle.std.specs.List.{list_any}
 use Rattle.std.specs.Prelude.{is_some}
 use Rattle.rc_base.specs.Cluster.Sending.{Sending, ToTile, ToManager, parcels_to, requests_in, request_of}
@@ -81,10 +81,6 @@ not_empty xs n pos e is = let z = ap length is in omega (arith, pos, e, z)
 first_of : {A : Type 0} (xs : List A) (n : ℕ) → 0 < n → length xs ≡ n → (x : A) × (rest : List A) × (xs ≡ x ∷ rest)
 first_of [] n pos e = absurd (omega (arith, pos, e))
 first_of (x ∷ xs) n pos e = (x, xs, refl)
-
-unnot : (b : Bool) → not b ≡ false → b ≡ true
-unnot true e = refl
-unnot false e = absurd (true≢false e)
 
 no_request_ends : (ws : List WaitAt) → list_any is_end (map request_of ws) ≡ false
 no_request_ends [] = refl
@@ -245,7 +241,7 @@ module _ (members : MembersAreClients) (scene : Scene) (l : Layout) (depth : ℕ
   -- ---- where no more comes
 
   told_all : (tile : ℕ) → IsDraining syncs (tile_count l) w.manager → tile < tile_count l → w.manager.told tile ≡ true
-  told_all tile drains lt = unnot (w.manager.told tile) (drains.told tile lt)
+  told_all tile drains lt = not-false (w.manager.told tile) (drains.told tile lt)
 
   not_left : WaitsForEnds scene l depth w → ⊥
   not_left b = by (r.clients b.client b.low)

@@ -10,6 +10,7 @@ use Rattle.rc_base.specs.declared.window.Layout.{Layout}
 use Rattle.assembler.specs.Assembled.{layout_of, places_of, short_of, ComesOf, IsUnfinished}
 use Rattle.assembler.specs.Places.{in_place, IsTaken}
 use Rattle.assembler.specs.declared.places.Assembler.{Assembler}
+use Rattle.plain_lemmas.proofs.Numbers.{at_one_or_other}
 use Rattle.world_model.specs.Laws.{IsSameWorld}
 use Rattle.world_model.specs.Threaded.{PartLane, no_lane, GaveFirst, GaveNone, empties_of, IsBare, ThreadedWorld, ThreadedTurn, Steps, HandsOver, Collects, lane_of, IsPut, IsTileCoreTurn, IsHandOver, IsIdleCall, IsCall, IsThreadedTurn, AreThreadedTurns, IsStill, threaded_number, HaveThreadedTurns}
 use Rattle.world_model.specs.Turns.{IsResting}
@@ -18,7 +19,6 @@ use Rattle.world_model.specs.World.{World, client_total}
 use Rattle.world_model.specs.declared.moves.TileAnswer.{TileAnswer}
 use Rattle.world_model.specs.declared.moves.TileAnswer.TheVariants.{Swapped, Blocked, Ended}
 use Rattle.world_model.proofs.EndedWorldsRest.{same_self, same_on}
-use Rattle.world_model.proofs.LanesGoOn.{at_one}
 use Rattle.world_model.proofs.PartsAreShown.{Finds}
 use Rattle.world_model.proofs.RestingRounds.{pick_of, rest_keeps, Exists, exists}
 use Rattle.world_model.proofs.RoundsMoveSomebody.{RestsAt, rests_at, before}
@@ -153,14 +153,14 @@ module _ (scene : Scene) (l : Layout) (depth : ℕ) where
       let none = none_offered answer m.offered (tile_silent answer rest) m.offers in
       let put = subst (λ (o : Option TilePart). IsPut depth o (lane_of w tile) (lane_of v tile) (v.handing tile)) none m.put in
       by_caller w v (rest_keeps scene l depth w.cluster v.cluster (TileTurn tile (Ok answer)) rest m.step)
-      (at_one (λ i. i < tile_count l → lane_of v i ≡ lane_of w i) tile (λ lt. put.0) (λ i ne lt. m.only.lanes i lt ne))
-      (at_one (λ i. i < tile_count l → v.handing i ≡ w.handing i) tile (λ lt. put.1 ∙ sym m.free) (λ i ne lt. m.only.handing i lt ne)) m.only.caller
+      (at_one_or_other (λ i. i < tile_count l → lane_of v i ≡ lane_of w i) tile (λ lt. put.0) (λ i ne lt. m.only.lanes i lt ne))
+      (at_one_or_other (λ i. i < tile_count l → v.handing i ≡ w.handing i) tile (λ lt. put.1 ∙ sym m.free) (λ i ne lt. m.only.handing i lt ne)) m.only.caller
 
   kept_still : (w v : ThreadedWorld) (tile : ℕ) → IsHandOver scene l depth w tile false v → IsSameThreads w v
   kept_still w v tile m =
       by_caller w v (subst (λ (c : World). IsSameWorld scene l w.cluster c) (sym m.cluster) (same_self scene l w.cluster))
-      (at_one (λ i. i < tile_count l → lane_of v i ≡ lane_of w i) tile (λ lt. m.put.same) (λ i ne lt. m.only.lanes i lt ne))
-      (at_one (λ i. i < tile_count l → v.handing i ≡ w.handing i) tile (λ lt. m.put.waits ∙ sym m.waits) (λ i ne lt. m.only.handing i lt ne)) m.only.caller
+      (at_one_or_other (λ i. i < tile_count l → lane_of v i ≡ lane_of w i) tile (λ lt. m.put.same) (λ i ne lt. m.only.lanes i lt ne))
+      (at_one_or_other (λ i. i < tile_count l → v.handing i ≡ w.handing i) tile (λ lt. m.put.waits ∙ sym m.waits) (λ i ne lt. m.only.handing i lt ne)) m.only.caller
 
   pub still_keeps : (w v : ThreadedWorld) (turn : ThreadedTurn) → Fits w → IsStill turn → IsThreadedTurn scene l depth w turn v → IsSameThreads w v × Fits v
   still_keeps w v (Steps (ClientTurn client answer)) fit still m = (

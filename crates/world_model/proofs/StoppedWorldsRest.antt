@@ -22,6 +22,7 @@ use Rattle.sync_manager.specs.declared.deed.ManagerDeed.TheVariants.{Finishes}
 use Rattle.tile_model.specs.Items.{Item}
 use Rattle.tile_model.specs.Items.Item.{Nothing, Due, Granted, NoMore, Sent}
 use Rattle.tile_model.specs.Short.{IsFinished}
+use Rattle.plain_lemmas.proofs.Lists.{both_empty}
 use Rattle.world_model.specs.Laws.{IsSameWorld, StoppedWorldsRest, LastTurnsTell}
 use Rattle.world_model.specs.Moves.{IsTileMove}
 use Rattle.world_model.specs.Runs.{round_of}
@@ -33,12 +34,11 @@ use Rattle.world_model.specs.World.{World, client_total}
 use Rattle.world_model.specs.declared.moves.TileAnswer.{TileAnswer}
 use Rattle.world_model.specs.declared.moves.TileAnswer.TheVariants.{Ended}
 use Rattle.world_model.proofs.EndedWorldsRest.{same_self, same_on, client_last, tile_last, client_ends, deed_ends, has_ended}
-use Rattle.world_model.proofs.OrderlySequences.{none_of}
 use Rattle.world_model.proofs.RestChangesNothing.{no_item}
 use Rattle.world_model.proofs.RestingRounds.{no_short_item, rest_keeps, all_keep, all_known, find, Exists}
 use Rattle.world_model.proofs.RoundsMoveSomebody.{stopped_on}
 
-last_rests : (m : Turn) → IsLastTurn m → IsResting m
+pub last_rests : (m : Turn) → IsLastTurn m → IsResting m
 last_rests (ClientTurn client (Ok answer)) last = inr (inr last)
 last_rests (ClientTurn client (Err error)) last = absurd last
 last_rests (ManagerTurn (Ok answer)) last = inr (inr last)
@@ -84,7 +84,7 @@ module _ (scene : Scene) (l : Layout) (depth : ℕ) where
   has_last : (client : ℕ) (dropped : List Sending) → dropped ++ sent_last scene l client ≡ [] → ⊥
   has_last client dropped e =
       let front = to_tiles l (λ tile. end_parcel (length (stream_of scene client)) ∷ []) in
-      let end : ToManager request.End ∷ [] ≡ [] = (none_of front (ToManager request.End ∷ []) (none_of dropped (sent_last scene l client) e).1).1 in
+      let end : ToManager request.End ∷ [] ≡ [] = (both_empty front (ToManager request.End ∷ []) (both_empty dropped (sent_last scene l client) e).1).1 in
       cc
 
   answers_ended : (answer : Result ManagerMoved OutOfMemory) → Ok manager_moved.Ended ≡ answer → IsLastTurn (ManagerTurn answer)

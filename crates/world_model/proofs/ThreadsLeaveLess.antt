@@ -13,15 +13,15 @@ use Rattle.assembler.specs.Assembled.{layout_of, places_of, short_of, ComesOf, I
 use Rattle.assembler.specs.Parts.{ArePartsOf}
 use Rattle.assembler.specs.Places.{in_place, IsTaken}
 use Rattle.assembler.specs.declared.places.Assembler.{Assembler}
-use Rattle.assembler.proofs.Fitting.{some_at}
-use Rattle.assembler.proofs.Waiting.{stands_in}
+use Rattle.assembler.proofs.Waiting.{stands_in, none_in}
+use Rattle.plain_lemmas.proofs.Lists.{item_within}
 use Rattle.world_model.specs.Threaded.{PartLane, no_lane, GaveFirst, GaveNone, empties_of, IsBare, ThreadedWorld, ThreadedTurn, Steps, HandsOver, Collects, lane_of, IsPut, NoParts, OnlyPartsOf, IsTileCoreTurn, IsHandOver, IsCall, IsThreadedTurn, IsStill}
 use Rattle.world_model.specs.ThreadedFair.{placed, part_work, threaded_work, ThreadedTurnsLeaveLess, ThreadedTurnsLeaveNoMore, NewThreadedWorldsHaveLittleToDo}
 use Rattle.world_model.specs.ThreadedLaws.{IsThreadedFlowing}
 use Rattle.world_model.specs.Turns.Turn.{ClientTurn, ManagerTurn, TileTurn}
 use Rattle.world_model.specs.Work.{total, one_unless, work_in, TurnsLeaveLess, TurnsLeaveNoMore, NewWorldsHaveLittleToDo}
 use Rattle.world_model.specs.declared.moves.TileAnswer.{TileAnswer}
-use Rattle.world_model.proofs.PartsAreShown.{Finds, none_in}
+use Rattle.world_model.proofs.PartsAreShown.{Finds}
 use Rattle.world_model.proofs.RestingRounds.{exists}
 use Rattle.world_model.proofs.StillThreads.{Fits, IsSameThreads, still_keeps}
 use Rattle.world_model.proofs.TurnsLeaveLess.{total_same, total_least, total_change}
@@ -228,7 +228,7 @@ module _ (scene : Scene) (l : Layout) (depth : ℕ) (some : 0 < tile_count l) (w
           let sizes = subst (λ (k : Layout). ArePartsOf k h.parts) f.layout h.sizes in
           by_parts (ap one_unless (h.short ∙ sym ample))
           (all_less (part_work w) (part_work v) (tile_count l) some (λ tile lt.
-          let there = some_at h.parts tile (subst (λ n. tile < n) (sym sizes.count) lt) in
+          let there = item_within h.parts tile (subst (λ n. tile < n) (sym sizes.count) lt) in
           let one = ap (λ (ps : List (Option TilePart)). length (option_to_list (in_place ps tile))) h.all
           ∙ ap (λ (o : Option TilePart). length (option_to_list o)) (stands_in h.parts tile there.0 there.1) in
           let none = ap (λ (ps : List (Option TilePart)). length (option_to_list (in_place ps tile))) h.places

@@ -20,11 +20,12 @@ use Rattle.tile_model.specs.Items.{shown_frames}
 use Rattle.tile_model.specs.Laws.{MembersAreClients}
 use Rattle.assembler.specs.Assembled.{places_of, short_of}
 use Rattle.assembler.specs.Places.{in_place}
+use Rattle.assembler.proofs.Waiting.{none_in}
 use Rattle.world_model.specs.Laws.{NewWorldsFlow, TurnsKeepWorldsFlowing}
 use Rattle.world_model.specs.Threaded.{ThreadedWorld, lane_of, AllThreadsHaveStopped}
 use Rattle.world_model.specs.ThreadedLaws.{LayoutsHavePixels, waiting_parts, AreShown, IsThreadedFlowing, NewThreadedWorldsFlow, ThreadedTurnsKeepFlowing, AllThreadedTurnsKeepFlowing, ThreadedTurnsMoveSomebody, NoThreadedRunStandsStill}
 use Rattle.world_model.specs.Turns.{AllHaveStopped}
-use Rattle.world_model.proofs.PartsAreShown.{is_misfit_of, none_in, turn_keeps}
+use Rattle.world_model.proofs.PartsAreShown.{is_misfit_of, turn_keeps}
 use Rattle.world_model.proofs.RoundsMoveSomebody.{stopped_on}
 use Rattle.world_model.proofs.ShownParts.{frames_near}
 use Rattle.world_model.proofs.SomebodyCanMove.{somebody_can_move}

@@ -12,9 +12,7 @@ use Rattle.rc_base.specs.declared.scene.Scene.{Scene}
 use Rattle.rc_base.specs.declared.sync.Entry.{Entry}
 use Rattle.rc_base.specs.declared.sync.Grant.{Grant}
 use Rattle.rc_base.specs.declared.sync.Grant.TheVariants as grant_item
-use Rattle.rc_base.specs.declared.sync.Request.{Request}
 use Rattle.rc_base.specs.declared.sync.SyncLists.{SyncLists}
-use Rattle.rc_base.specs.declared.sync.WaitAt.{WaitAt}
 use Rattle.rc_base.specs.declared.window.Layout.{Layout}
 use Rattle.order_model.specs.Laws.{AreOfClients}
 use Rattle.order_model.specs.Standing.{Progress, performed_in, is_over, is_asked}
@@ -23,10 +21,13 @@ use Rattle.tile_model.specs.Laws.{MembersAreClients}
 use Rattle.tile_model.specs.Short.{listens, NothingIsDue}
 use Rattle.tile_model.specs.Short.{asks as takes_from}
 use Rattle.scene_lemmas.proofs.Scenes.{scene_client_count}
+use Rattle.plain_lemmas.proofs.Lists.{both_empty, item_within}
+use Rattle.scene_lemmas.proofs.Sendings.{no_requests}
+use Rattle.tile_model.proofs.EntriesHaveClients.{entries_of_clients}
 use Rattle.world_model.specs.Flowing.{waits, asks, uses, is_no_more, IsTileCounted, IsFlowing}
 use Rattle.world_model.specs.World.{World, client_total}
-use Rattle.world_model.proofs.OrderlySequences.{none_of, waits_append, asks_append, asked_within, end_is_last}
-use Rattle.world_model.proofs.UsedOperations.{entries, closing, uses_append, uses_more, used_up, entries_of_clients, asks_of_waits, journal_front}
+use Rattle.world_model.proofs.OrderlySequences.{waits_append, asks_append, asked_within, end_is_last}
+use Rattle.world_model.proofs.UsedOperations.{entries, closing, uses_append, uses_more, used_up, asks_of_waits, journal_front}
 
 pub record TileRests (scene : Scene) (w : World) (tile : ℕ) : Type 0 where
   pub undue : NothingIsDue (w.tiles tile).short (w.tiles tile).progress
@@ -35,15 +36,10 @@ pub record TileRests (scene : Scene) (w : World) (tile : ℕ) : Type 0 where
 
 -- ---- lists
 
-get_some : {A : Type 0} (xs : List A) (k : ℕ) → k < length xs → (x : A) × (slice_get xs k ≡ Some x)
-get_some [] k lt = absurd (omega (arith, lt))
-get_some (x ∷ xs) zero lt = (x, refl)
-get_some (x ∷ xs) (suc k) lt = get_some xs k (omega (arith, lt))
-
 -- nothing comes behind NoMore, whoever hears it
 none_behind : (sent : List Entry) (told : Bool) (heard held : List Grant) → entries sent ++ closing told ≡ heard ++ held → list_any is_no_more heard ≡ true → held ≡ []
 none_behind [] true [] held h any = absurd (true≢false (sym any))
-none_behind [] true (g ∷ heard) held h any = let tail : [] ≡ heard ++ held = cc in (none_of heard held (sym tail)).1
+none_behind [] true (g ∷ heard) held h any = let tail : [] ≡ heard ++ held = cc in (both_empty heard held (sym tail)).1
 none_behind [] false [] held h any = absurd (true≢false (sym any))
 none_behind [] false (g ∷ heard) held h any = absurd cc
 none_behind (x ∷ sent) told [] held h any = absurd (true≢false (sym any))
@@ -70,10 +66,6 @@ heard_all (x ∷ sent) (y ∷ learnt) told h =
     let r = heard_all sent learnt told cc in
     let same : y ≡ x = cc in
     (ap (λ e. e ∷ learnt) same ∙ ap (λ es. x ∷ es) r.0, r.1)
-
-none_mapped : (ws : List WaitAt) (rest : List Request) → map request_of ws ++ rest ≡ [] → ws ≡ []
-none_mapped [] rest e = refl
-none_mapped (w ∷ ws) rest e = absurd cc
 
 -- ---- a flowing world
 
@@ -144,7 +136,7 @@ module _ (scene : Scene) (l : Layout) (w : World) (f : IsFlowing scene l w) wher
   nobody_beyond client le =
       let k = f.manager.clients client in
       let low : n ≤ client = subst (λ m. m ≤ client) (scene_client_count scene) le in
-      none_mapped (book.arrived client) k.rest (sym k.arrived ∙ f.nobody_else client low)
+      no_requests (book.arrived client) k.rest (sym k.arrived ∙ f.nobody_else client low)
 
   -- ---- a tile whose core can't move
 
@@ -234,7 +226,7 @@ module _ (scene : Scene) (l : Layout) (w : World) (f : IsFlowing scene l w) wher
       pub all_performed : performed_in p.log ≡ length p.learnt
       all_performed = elim (cases_lt (performed_in p.log) (length p.learnt)) [
         | inr ge ↦ let le = (counted tile lt ample).performed in omega (arith, ge, le)
-        | inl less ↦ absurd (let e = get_some p.learnt (performed_in p.log) less in not_performed e.0 e.1 less)
+        | inl less ↦ absurd (let e = item_within p.learnt (performed_in p.log) less in not_performed e.0 e.1 less)
       ]
 
       pub equal : (performed_in p.log == length p.learnt) ≡ true

@@ -17,13 +17,14 @@ use Rattle.tile_model.specs.Items.{Item, after_item, IsAwaited, parcel_taken, gr
 use Rattle.tile_model.specs.Items.Item.{Nothing, Due, Granted, NoMore, Sent}
 use Rattle.tile_model.specs.Short.{NothingIsDue}
 use Rattle.scene_lemmas.proofs.Scenes.{scene_client_count}
+use Rattle.plain_lemmas.proofs.Numbers.{equal_to_itself, at_one_or_other}
 use Rattle.world_model.specs.Laws.{AreAlike}
 use Rattle.world_model.specs.Moves.{IsTileMove}
 use Rattle.world_model.specs.Sound.{IsSound}
 use Rattle.world_model.specs.declared.moves.TileAnswer.{TileAnswer}
 use Rattle.world_model.specs.Tiles.{Tile, next_after, IsUndue, FindsNoGrant, FindsNoParcel, IsTileAnswer}
 use Rattle.world_model.specs.World.{World, Client, client_total}
-use Rattle.world_model.proofs.LanesGoOn.{self, at_one, same_rest, is_first}
+use Rattle.world_model.proofs.LanesGoOn.{same_rest, is_first}
 use Rattle.world_model.proofs.ManagersDoOneThing.{one_earlier}
 use Rattle.world_model.proofs.WhatHasArrived.{goes_on}
 
@@ -41,7 +42,7 @@ module _ (a : Tile) (clients : ℕ) (parcels : ℕ → List Parcel) (grants : Li
     pub no_grant : FindsNoGrant a.progress item → grants ≡ []
 
   sent : (c : ℕ) (x : Parcel) → IsDone (Sent c x) → (rest : List Parcel) × (parcels c ≡ x ∷ rest)
-  sent c x i = rw (self c) at (i.parcel c (exist c i.awaited.0))
+  sent c x i = rw (equal_to_itself c) at (i.parcel c (exist c i.awaited.0))
 
   not_bare : {A : Type 0} (x : A) (rest held : List A) → held ≡ x ∷ rest → held ≡ [] → ⊥
   not_bare x rest held h e = let no : x ∷ rest ≡ [] = sym h ∙ e in cc
@@ -168,18 +169,18 @@ module _ (scene : Scene) (l : Layout) (depth : ℕ) (w v w' v' : World) (tile : 
         record {
           left = λ c lc. ap (λ (k : Client). k.left) (m'.only.clients c lc) ∙ h.left c lc ∙ sym (ap (λ (k : Client). k.left) (m.only.clients c lc));
           manager = m'.only.manager ∙ h.manager ∙ sym m.only.manager;
-          progress = at_one (λ t. t < tile_count l → (v'.tiles t).progress ≡ (v.tiles t).progress) tile
+          progress = at_one_or_other (λ t. t < tile_count l → (v'.tiles t).progress ≡ (v.tiles t).progress) tile
               (λ lt. m'.step.progress ∙ ap (λ p. after_item p m'.item) e ∙ ap (λ i. after_item a.progress i) same ∙ sym m.step.progress)
               (λ t ne lt. ap (λ (b : Tile). b.progress) (m'.only.tiles t lt ne) ∙ h.progress t lt ∙ sym (ap (λ (b : Tile). b.progress) (m.only.tiles t lt ne)));
-          next = at_one (λ t. t < tile_count l → (v'.tiles t).next ≡ (v.tiles t).next) tile
+          next = at_one_or_other (λ t. t < tile_count l → (v'.tiles t).next ≡ (v.tiles t).next) tile
               (λ lt. m'.step.next ∙ ap (λ n. next_after n m'.item) (h.next tile m.low) ∙ ap (λ i. next_after a.next i) same ∙ sym m.step.next)
               (λ t ne lt. ap (λ (b : Tile). b.next) (m'.only.tiles t lt ne) ∙ h.next t lt ∙ sym (ap (λ (b : Tile). b.next) (m.only.tiles t lt ne)));
-          parcels = λ c. at_one (λ t. c < client_total scene → t < tile_count l → v'.parcels c t ≡ v.parcels c t) tile
+          parcels = λ c. at_one_or_other (λ t. c < client_total scene → t < tile_count l → v'.parcels c t ≡ v.parcels c t) tile
               (λ lc lt. same_rest (parcel_taken m.item c) (w.parcels c tile) (w'.parcels c tile) (v.parcels c tile) (v'.parcels c tile) (h.parcels c tile lc m.low) (m.parcel c lc)
               (subst (λ i. MatchOption (parcel_taken i c) (v'.parcels c tile ≡ w'.parcels c tile) (λ x. w'.parcels c tile ≡ x ∷ v'.parcels c tile)) same (m'.parcel c lc)))
               (λ t ne lc lt. m'.only.parcels c t lc lt ne ∙ h.parcels c t lc lt ∙ sym (m.only.parcels c t lc lt ne));
           requests = λ c lc. m'.only.requests c lc ∙ h.requests c lc ∙ sym (m.only.requests c lc);
-          grants = at_one (λ t. t < tile_count l → v'.grants t ≡ v.grants t) tile
+          grants = at_one_or_other (λ t. t < tile_count l → v'.grants t ≡ v.grants t) tile
               (λ lt. same_rest (grant_taken m.item) (w.grants tile) (w'.grants tile) (v.grants tile) (v'.grants tile) (h.grants tile m.low) m.grant
               (subst (λ i. MatchOption (grant_taken i) (v'.grants tile ≡ w'.grants tile) (λ x. w'.grants tile ≡ x ∷ v'.grants tile)) same m'.grant))
               (λ t ne lt. m'.only.grants t lt ne ∙ h.grants t lt ∙ sym (m.only.grants t lt ne));

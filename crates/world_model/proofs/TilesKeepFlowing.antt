@@ -5,6 +5,7 @@ use Rattle.std.proofs.lemmas.Option.{slice_get_within}
 use Rattle.std.specs.List.{list_any}
 use Rattle.std.specs.Prelude.{option_to_list}
 use Rattle.rc_base.specs.Cluster.Parcels.{is_end}
+use Rattle.std.proofs.Math.Bool.{or-true, or-false}
 use Rattle.rc_base.specs.Orders.Journal.{is_member}
 use Rattle.rc_base.specs.declared.state.Act.{Act}
 use Rattle.rc_base.specs.declared.state.Act.TheVariants as act
@@ -16,23 +17,15 @@ use Rattle.order_model.specs.declared.record.LogEntry.TheVariants.{Took, Perform
 use Rattle.tile_model.specs.Items.{Item, after_act, after_item, grant_taken, grants_heard, parcel_taken, IsAwaited}
 use Rattle.tile_model.specs.Items.Item.{Nothing, Due, Granted, NoMore, Sent}
 use Rattle.tile_model.specs.Short.{after_lost}
+use Rattle.order_model.proofs.JournalsInTurn.{performed_more}
+use Rattle.plain_lemmas.proofs.Numbers.{equal_to_itself}
 use Rattle.world_model.specs.Flowing.{wait_by, waits, uses, is_end_parcel, is_no_more, IsTileFlowing}
 use Rattle.world_model.specs.Tiles.{Tile}
 use Rattle.tile_model.proofs.ItemsComeFromLanes.{listens, learnt_same, heard_after}
-use Rattle.world_model.proofs.LanesGoOn.{self}
 use Rattle.world_model.proofs.OrderlySequences.{waits_append, any_append}
-use Rattle.tile_model.proofs.ShownFrames.{performed_more}
 use Rattle.world_model.proofs.UsedOperations.{uses_next}
 
 -- ---- what is taken
-
-or_false : (b : Bool) → (b || false) ≡ b
-or_false true = refl
-or_false false = refl
-
-or_true : (b : Bool) → (b || true) ≡ true
-or_true true = refl
-or_true false = refl
 
 module _ (took : ℕ → List Parcel) where
   abbrev now : Item → ℕ → List Parcel
@@ -40,14 +33,14 @@ module _ (took : ℕ → List Parcel) where
 
   -- of the client that sent the parcel, and of another
   now_here : (client : ℕ) (x : Parcel) → now (Sent client x) client ≡ took client ++ x ∷ []
-  now_here client x = rw (self client) refl
+  now_here client x = rw (equal_to_itself client) refl
 
   now_off : (client c : ℕ) (x : Parcel) → (c == client) ≡ false → now (Sent client x) c ≡ took c
   now_off client c x g = rw g (append-nil (took c))
 
   ends_here : (client : ℕ) (x : Parcel) → list_any is_end_parcel (now (Sent client x) client) ≡ (list_any is_end_parcel (took client) || is_end x.act)
   ends_here client x = ap (list_any is_end_parcel) (now_here client x) ∙ any_append is_end_parcel (took client) (x ∷ [])
-      ∙ ap (λ b. list_any is_end_parcel (took client) || b) (or_false (is_end x.act))
+      ∙ ap (λ b. list_any is_end_parcel (took client) || b) (or-false (is_end x.act))
 
   -- ---- clients that are closed
 
@@ -69,13 +62,13 @@ module _ (took : ℕ → List Parcel) where
       ]
 
       closes : cond (client == client) true (p.closed client) ≡ true
-      closes = rw (self client) refl
+      closes = rw (equal_to_itself client) refl
 
       here : p.closed client ≡ list_any is_end_parcel (took client) → q.closed client ≡ list_any is_end_parcel (now (Sent client x) client)
       here k = elim (cases_Bool (is_end x.act)) [
-        | inl y ↦ ap (λ (f : ℕ → Bool). f client) (ends y) ∙ closes ∙ (sym (ends_here client x ∙ ap (λ b. list_any is_end_parcel (took client) || b) y ∙ or_true (list_any is_end_parcel (took client))))
+        | inl y ↦ ap (λ (f : ℕ → Bool). f client) (ends y) ∙ closes ∙ (sym (ends_here client x ∙ ap (λ b. list_any is_end_parcel (took client) || b) y ∙ or-true (list_any is_end_parcel (took client))))
         | inr n ↦ ap (λ (f : ℕ → Bool). f client) (not_ends n) ∙ k
-            ∙ sym (ends_here client x ∙ ap (λ b. list_any is_end_parcel (took client) || b) n ∙ or_false (list_any is_end_parcel (took client)))
+            ∙ sym (ends_here client x ∙ ap (λ b. list_any is_end_parcel (took client) || b) n ∙ or-false (list_any is_end_parcel (took client)))
       ]
 
   act_closes : (p : Progress) (client : ℕ) (a : Act) (place : ℕ) → is_end a ≡ true → (after_act p client a place).closed ≡ (λ k. cond (k == client) true (p.closed k))
@@ -116,20 +109,20 @@ module _ (heard : List Grant) where
   kept b h = h ∙ ap (list_any is_no_more) (sym (append-nil heard))
 
   one_more : (b : Bool) (g : Grant) → b ≡ list_any is_no_more heard → (b || is_no_more g) ≡ list_any is_no_more (heard ++ g ∷ [])
-  one_more b g h = ap (λ x. x || is_no_more g) h ∙ ap (λ x. list_any is_no_more heard || x) (sym (or_false (is_no_more g))) ∙ sym (any_append is_no_more heard (g ∷ []))
+  one_more b g h = ap (λ x. x || is_no_more g) h ∙ ap (λ x. list_any is_no_more heard || x) (sym (or-false (is_no_more g))) ∙ sym (any_append is_no_more heard (g ∷ []))
 
   pub no_more_after : (p : Progress) (item : Item) → p.no_more ≡ list_any is_no_more heard → (after_item p item).no_more ≡ list_any is_no_more (heard_now item)
   no_more_after p Nothing h = kept p.no_more h
   no_more_after p (Due e) h = kept p.no_more h
-  no_more_after p (Granted e) h = sym (or_false p.no_more) ∙ one_more p.no_more _ h
-  no_more_after p NoMore h = sym (or_true p.no_more) ∙ one_more p.no_more _ h
+  no_more_after p (Granted e) h = sym (or-false p.no_more) ∙ one_more p.no_more _ h
+  no_more_after p NoMore h = sym (or-true p.no_more) ∙ one_more p.no_more _ h
   no_more_after p (Sent client x) h = (learnt_same p client x.act x.place).1 ∙ kept p.no_more h
 
   pub no_more_lost : (p : Progress) (item : Item) → p.no_more ≡ list_any is_no_more heard → (after_lost p item).no_more ≡ list_any is_no_more (heard_now item)
   no_more_lost p Nothing h = kept p.no_more h
   no_more_lost p (Due e) h = kept p.no_more h
-  no_more_lost p (Granted e) h = sym (or_false p.no_more) ∙ one_more p.no_more _ h
-  no_more_lost p NoMore h = sym (or_true p.no_more) ∙ one_more p.no_more _ h
+  no_more_lost p (Granted e) h = sym (or-false p.no_more) ∙ one_more p.no_more _ h
+  no_more_lost p NoMore h = sym (or-true p.no_more) ∙ one_more p.no_more _ h
   no_more_lost p (Sent client x) h = elim (cases_Bool (is_end x.act)) [ inl y ↦ rw y (kept p.no_more h) | inr n ↦ rw n (kept p.no_more h) ]
 
 -- ---- how many clients

@@ -22,6 +22,7 @@ use Rattle.tile_model.specs.Laws.{StepsStand, SwapsShowFrames}
 use Rattle.tile_model.specs.Scenes.{IsInRange, HasSides}
 use Rattle.client_issue.specs.Clauses.{counted}
 use Rattle.scene_lemmas.proofs.Scenes.{scene_client_count}
+use Rattle.plain_lemmas.proofs.Numbers.{equal_to_itself, at_one_or_other}
 use Rattle.world_model.specs.Moves.{IsTileMove}
 use Rattle.world_model.specs.Sound.{IsEndOf, GoesOnTo, ArePartsOf, IsTileSound, IsParcelLane, IsSound}
 use Rattle.world_model.specs.declared.moves.TileAnswer.{TileAnswer}
@@ -29,7 +30,7 @@ use Rattle.world_model.specs.Tiles.{Tile}
 use Rattle.world_model.specs.World.{World, Client, client_total}
 use Rattle.tile_model.proofs.ItemsComeFromLanes.{heard_after, entry_is_next, taken_after}
 use Rattle.world_model.proofs.ItemsComeFromLanes.{parcel_is_next}
-use Rattle.world_model.proofs.LanesGoOn.{self, at_one, moved, takes, same_so_far}
+use Rattle.world_model.proofs.LanesGoOn.{moved, takes, same_so_far}
 use Rattle.world_model.proofs.PartsAreFrames.{parts_go_on}
 
 module _ (scene : Scene) (l : Layout) (depth : ℕ) (w v : World) (tile : ℕ) (answer : TileAnswer) (h : IsSound scene l w) (m : IsTileMove scene l depth w tile answer v) where
@@ -79,7 +80,7 @@ module _ (scene : Scene) (l : Layout) (depth : ℕ) (w v : World) (tile : ℕ) (
       let awaited = subst (λ i. IsAwaited p i) is m.step.awaited in
       let lc = exists later g c awaited.0 in
       let taken = subst (λ i. MatchOption (parcel_taken i c) (v.parcels c tile ≡ w.parcels c tile) (λ x. w.parcels c tile ≡ x ∷ v.parcels c tile)) is (m.parcel c lc) in
-      let held : w.parcels c tile ≡ parcel ∷ v.parcels c tile = rw (self c) at taken in
+      let held : w.parcels c tile ≡ parcel ∷ v.parcels c tile = rw (equal_to_itself c) at taken in
       parcel_is_next (parcels_of scene l c tile) (p.taken c) (w.parcels c tile) (parcels_to tile (w.clients c).left) (v.parcels c tile) parcel (h.parcels c tile lc m.low).lane held
 
   -- ---- the tile
@@ -100,11 +101,11 @@ module _ (scene : Scene) (l : Layout) (depth : ℕ) (w v : World) (tile : ℕ) (
   pub tile_keeps : StepsStand → SwapsShowFrames → IsInRange scene → HasSides scene.decl → IsSound scene l v
   tile_keeps steps shows range sides = record {
     left = λ c lc. subst (λ (k : Client). IsEndOf (sent_by scene l c) k.left) (sym (m.only.clients c lc)) (h.left c lc);
-    parcels = λ c. at_one (λ t. c < client_total scene → t < tile_count l → IsParcelLane scene l c t (v.clients c) (v.parcels c t) (v.tiles t)) tile
+    parcels = λ c. at_one_or_other (λ t. c < client_total scene → t < tile_count l → IsParcelLane scene l c t (v.clients c) (v.parcels c t) (v.tiles t)) tile
         (λ lc lt. lane_now c lc)
         (λ t ne lc lt. moved (λ k held a. IsParcelLane scene l c t k held a) (w.clients c) (v.clients c) (w.parcels c t) (v.parcels c t) (w.tiles t) (v.tiles t)
         (m.only.clients c lc) (m.only.parcels c t lc lt ne) (m.only.tiles t lt ne) (h.parcels c t lc lt));
-    grants = at_one (λ t. t < tile_count l → grants_of v.manager t ≡ grants_heard (v.tiles t).progress ++ v.grants t) tile
+    grants = at_one_or_other (λ t. t < tile_count l → grants_of v.manager t ≡ grants_heard (v.tiles t).progress ++ v.grants t) tile
         (λ lt. grants_now)
         (λ t ne lt. moved (λ (d : ManagerProgress) (held : List Grant) (a : Tile). grants_of d t ≡ grants_heard a.progress ++ held)
         w.manager v.manager (w.grants t) (v.grants t) (w.tiles t) (v.tiles t) m.only.manager (m.only.grants t lt ne) (m.only.tiles t lt ne) (h.grants t lt));
@@ -121,7 +122,7 @@ module _ (scene : Scene) (l : Layout) (depth : ℕ) (w v : World) (tile : ℕ) (
     };
     tiles = λ t lt.
         subst (λ (d : ManagerProgress). IsTileSound scene l t d.book.journal (v.tiles t)) (sym m.only.manager)
-        (at_one (λ t. t < tile_count l → IsTileSound scene l t w.manager.book.journal (v.tiles t)) tile
+        (at_one_or_other (λ t. t < tile_count l → IsTileSound scene l t w.manager.book.journal (v.tiles t)) tile
         (λ lt. tile_now steps shows range sides)
         (λ t ne lt. subst (λ a. IsTileSound scene l t w.manager.book.journal a) (sym (m.only.tiles t lt ne)) (h.tiles t lt)) t lt);
   }

@@ -1,9 +1,10 @@
 -- A turn of whichever actor, short or not, leaves a flowing world flowing.
-use Rattle.std.proofs.Common.{◌≡◌, ◌≢◌, ◌⊎◌, ℕ, zero, suc, ◌+◌, ◌==◌, ◌||◌, ◌<◌, ◌≤◌, Bool, true, false, cond, List, [], ◌∷◌, ◌++◌, length, inl, inr, refl, sym, ap, ◌∙◌, subst, arith, append_assoc, append-nil, eqb-true, eq-eqb, true≢false}
+use Rattle.std.proofs.Common.{◌≡◌, ◌≢◌, ◌⊎◌, ℕ, zero, suc, ◌+◌, ◌==◌, ◌||◌, ◌<◌, ◌≤◌, true, cond, List, [], ◌∷◌, ◌++◌, length, inl, inr, refl, sym, ap, ◌∙◌, subst, arith, append_assoc, append-nil, eqb-true, eq-eqb, true≢false}
 use mathlib.Core.Path.{fun_ext}
-use Rattle.std.proofs.lemmas.Bool.{cases_Bool}
+use Rattle.std.proofs.lemmas.Bool.{cases_Bool, ne_eqb}
 use Rattle.std.specs.List.{flat_map, list_any, range_with_len}
 use Rattle.std.specs.Prelude.{option_to_list, MatchOption, Result, Ok, Err}
+use Rattle.std.proofs.Math.Bool.{or-true}
 use Rattle.rc_base.specs.Cluster.Parcels.{end_parcel}
 use Rattle.rc_base.specs.Cluster.Sending.{Sending, ToTile, ToManager, parcels_to, requests_in, sent_last}
 use Rattle.rc_base.specs.Cluster.Tiles.{tile_count}
@@ -27,6 +28,9 @@ use Rattle.sync_manager.specs.Promises.{grants_of, IsManagerRight, StepsKeepMana
 use Rattle.tile_model.specs.Items.{Item, grant_taken, parcel_taken}
 use Rattle.tile_model.specs.Items.Item.{Nothing, Due, Granted, NoMore, Sent}
 use Rattle.scene_lemmas.proofs.Scenes.{scene_client_count}
+use Rattle.scene_lemmas.proofs.Sendings.{parcels_append, requests_append}
+use Rattle.scene_lemmas.proofs.Numbered.{with_here, with_other}
+use Rattle.plain_lemmas.proofs.Numbers.{equal_to_itself, at_one_or_other}
 use Rattle.world_model.specs.Flowing.{IsInTurn, EndsWithRequest, IsOrderly, is_end_parcel, IsTileFlowing, IsFlowing}
 use Rattle.world_model.specs.Moves.{IsIdle, OnlyClient, OnlyTile, IsClientStep, IsManagerStep, IsTileMove}
 use Rattle.world_model.specs.Short.{MayLose}
@@ -34,16 +38,10 @@ use Rattle.world_model.specs.Tiles.{Tile}
 use Rattle.world_model.specs.Turns.{Turn, IsClientLoss, IsShortTileMove, IsTurn}
 use Rattle.world_model.specs.Turns.Turn.{ClientTurn, ManagerTurn, TileTurn}
 use Rattle.world_model.specs.World.{World, Client, client_total}
-use Rattle.world_model.proofs.LanesGoOn.{self, off, at_one, same_so_far}
+use Rattle.world_model.proofs.LanesGoOn.{same_so_far}
 use Rattle.world_model.proofs.ManagersKeepSound.{stays_legal, none_beyond}
-use Rattle.world_model.proofs.OrderlySequences.{any_append, to_append, in_append, cut_turns, cut_requests}
+use Rattle.world_model.proofs.OrderlySequences.{any_append, cut_turns, cut_requests}
 use Rattle.world_model.proofs.TilesKeepFlowing.{tile_flows, short_tile_flows}
-
-here_at : {A : Type 0} (f : ℕ → A) (n : ℕ) (x : A) → with_at f n x n ≡ x
-here_at f n x = rw (self n) refl
-
-off_at : {A : Type 0} (f : ℕ → A) (n : ℕ) (x : A) (k : ℕ) → k ≢ n → with_at f n x k ≡ f k
-off_at f n x k ne = rw (off k n ne) refl
 
 -- ---- End parcels and the End request
 
@@ -53,7 +51,7 @@ module _ (place : ℕ) where
 
   none_before : (tile from n : ℕ) → tile < from → parcels_to tile (lasts from n) ≡ []
   none_before tile from zero lt = refl
-  none_before tile from (suc n) lt = rw (off tile from (λ e. omega (arith, e, lt))) (none_before tile (from + 1) n (omega (arith, lt)))
+  none_before tile from (suc n) lt = rw (ne_eqb tile from (λ e. omega (arith, e, lt))) (none_before tile (from + 1) n (omega (arith, lt)))
 
   lasts_turns : (tile from n told asked : ℕ) → IsInTurn tile told asked (lasts from n)
   lasts_turns tile from zero told asked = (tt, tt)
@@ -80,10 +78,6 @@ module _ (place : ℕ) where
   lasts_are_last from zero = (λ y. refl, tt)
   lasts_are_last from (suc n) = lasts_are_last (from + 1) n
 
-or_right : (b : Bool) → (b || true) ≡ true
-or_right true = refl
-or_right false = refl
-
 -- where only these are left, the sequence is still in order
 pub cut_orderly : (scene : Scene) (l : Layout) (client : ℕ) (sent dropped : List Sending) → IsOrderly l (sent ++ (dropped ++ sent_last scene l client))
     → IsOrderly l (sent ++ sent_last scene l client)
@@ -92,16 +86,16 @@ cut_orderly scene l client sent dropped h =
     record {
       turns = λ tile lt. cut_turns tile 0 0 sent dropped (sent_last scene l client) (h.turns tile lt) (lasts_turns place tile 0 (tile_count l));
       tile_ends = λ tile lt.
-          ap (list_any is_end_parcel) (to_append tile sent (sent_last scene l client))
+          ap (list_any is_end_parcel) (parcels_append tile sent (sent_last scene l client))
           ∙ any_append is_end_parcel (parcels_to tile sent) (parcels_to tile (sent_last scene l client))
           ∙ ap (λ b. list_any is_end_parcel (parcels_to tile sent) || b) (lasts_end place tile 0 (tile_count l) (omega arith) (omega (arith, lt)))
-          ∙ or_right (list_any is_end_parcel (parcels_to tile sent));
+          ∙ or-true (list_any is_end_parcel (parcels_to tile sent));
       last = cut_requests sent dropped (sent_last scene l client) h.last (lasts_are_last place 0 (tile_count l));
       ends =
-          ap (list_any is_end) (in_append sent (sent_last scene l client))
+          ap (list_any is_end) (requests_append sent (sent_last scene l client))
           ∙ any_append is_end (requests_in sent) (requests_in (sent_last scene l client))
           ∙ ap (λ b. list_any is_end (requests_in sent) || b) (lasts_ask place 0 (tile_count l))
-          ∙ or_right (list_any is_end (requests_in sent));
+          ∙ or-true (list_any is_end (requests_in sent));
     }
 
 -- ---- a client
@@ -119,23 +113,23 @@ module _ (scene : Scene) (l : Layout) (depth : ℕ) (w v : World) (f : IsFlowing
     took = f.took;
     asked = f.asked;
     heard = f.heard;
-    orderly = at_one (λ c. c < client_total scene → IsOrderly l (with_at f.sent client (f.sent client ++ items) c ++ (v.clients c).left)) client
-        (λ lc. subst (λ xs. IsOrderly l (xs ++ (v.clients client).left)) (sym (here_at f.sent client (f.sent client ++ items))) s.orderly)
-        (λ c ne lc. subst (λ xs. IsOrderly l (xs ++ (v.clients c).left)) (sym (off_at f.sent client (f.sent client ++ items) c ne))
+    orderly = at_one_or_other (λ c. c < client_total scene → IsOrderly l (with_at f.sent client (f.sent client ++ items) c ++ (v.clients c).left)) client
+        (λ lc. subst (λ xs. IsOrderly l (xs ++ (v.clients client).left)) (sym (with_here f.sent client (f.sent client ++ items))) s.orderly)
+        (λ c ne lc. subst (λ xs. IsOrderly l (xs ++ (v.clients c).left)) (sym (with_other f.sent client (f.sent client ++ items) c ne))
         (subst (λ (k : Client). IsOrderly l (f.sent c ++ k.left)) (sym (only.clients c lc ne)) (f.orderly c lc)));
-    parcels = at_one (λ c. (tile : ℕ) → c < client_total scene → tile < tile_count l
+    parcels = at_one_or_other (λ c. (tile : ℕ) → c < client_total scene → tile < tile_count l
         → parcels_to tile (with_at f.sent client (f.sent client ++ items) c) ≡ f.took c tile ++ v.parcels c tile) client
-        (λ tile lc lt. ap (parcels_to tile) (here_at f.sent client (f.sent client ++ items)) ∙ to_append tile (f.sent client) items
+        (λ tile lc lt. ap (parcels_to tile) (with_here f.sent client (f.sent client ++ items)) ∙ parcels_append tile (f.sent client) items
         ∙ ap (λ (ps : List Parcel). ps ++ parcels_to tile items) (f.parcels client tile lc lt)
         ∙ append_assoc (f.took client tile) (w.parcels client tile) (parcels_to tile items)
         ∙ ap (λ (ps : List Parcel). f.took client tile ++ ps) (sym (s.parcels tile lt)))
-        (λ c ne tile lc lt. ap (parcels_to tile) (off_at f.sent client (f.sent client ++ items) c ne) ∙ f.parcels c tile lc lt
+        (λ c ne tile lc lt. ap (parcels_to tile) (with_other f.sent client (f.sent client ++ items) c ne) ∙ f.parcels c tile lc lt
         ∙ ap (λ (ps : List Parcel). f.took c tile ++ ps) (sym (only.parcels c tile lc lt ne)));
-    requests = at_one (λ c. c < client_total scene → requests_in (with_at f.sent client (f.sent client ++ items) c) ≡ f.asked c ++ v.requests c) client
-        (λ lc. ap requests_in (here_at f.sent client (f.sent client ++ items)) ∙ in_append (f.sent client) items
+    requests = at_one_or_other (λ c. c < client_total scene → requests_in (with_at f.sent client (f.sent client ++ items) c) ≡ f.asked c ++ v.requests c) client
+        (λ lc. ap requests_in (with_here f.sent client (f.sent client ++ items)) ∙ requests_append (f.sent client) items
         ∙ ap (λ (rs : List Request). rs ++ requests_in items) (f.requests client lc) ∙ append_assoc (f.asked client) (w.requests client) (requests_in items)
         ∙ ap (λ (rs : List Request). f.asked client ++ rs) (sym s.requests))
-        (λ c ne lc. ap requests_in (off_at f.sent client (f.sent client ++ items) c ne) ∙ f.requests c lc
+        (λ c ne lc. ap requests_in (with_other f.sent client (f.sent client ++ items) c ne) ∙ f.requests c lc
         ∙ ap (λ (rs : List Request). f.asked c ++ rs) (sym (only.requests c lc ne)));
     nobody_else = f.nobody_else;
     grants = λ tile lt. ap (λ (d : ManagerProgress). grants_of d tile) only.manager ∙ f.grants tile lt
@@ -159,9 +153,9 @@ module _ (scene : Scene) (l : Layout) (depth : ℕ) (w v : World) (f : IsFlowing
   step_flows : (answer : ClientMoved) → IsClientStep scene l depth w client answer v → IsFlowing scene l v
   step_flows (client_moved.Appended tile) m = client_flows (ToTile tile m.sent.parcel ∷ []) record {
     orderly = goes_on (ToTile tile m.sent.parcel ∷ []) m.sent.next;
-    parcels = at_one (λ t. t < tile_count l → v.parcels client t ≡ w.parcels client t ++ parcels_to t (ToTile tile m.sent.parcel ∷ [])) tile
-        (λ lt. m.sent.appended ∙ ap (λ (ps : List Parcel). w.parcels client tile ++ ps) (rw (self tile) refl))
-        (λ t ne lt. m.sent.others t ne ∙ sym (append-nil (w.parcels client t)) ∙ ap (λ (ps : List Parcel). w.parcels client t ++ ps) (rw (off t tile ne) refl));
+    parcels = at_one_or_other (λ t. t < tile_count l → v.parcels client t ≡ w.parcels client t ++ parcels_to t (ToTile tile m.sent.parcel ∷ [])) tile
+        (λ lt. m.sent.appended ∙ ap (λ (ps : List Parcel). w.parcels client tile ++ ps) (rw (equal_to_itself tile) refl))
+        (λ t ne lt. m.sent.others t ne ∙ sym (append-nil (w.parcels client t)) ∙ ap (λ (ps : List Parcel). w.parcels client t ++ ps) (rw (ne_eqb t tile ne) refl));
     requests = m.sent.requests ∙ sym (append-nil (w.requests client));
   }
   step_flows client_moved.Requested m = client_flows (ToManager m.sent.request ∷ []) record {
@@ -238,26 +232,26 @@ module _ (scene : Scene) (l : Layout) (w v : World) (f : IsFlowing scene l w) (t
     asked = f.asked;
     heard = heard;
     orderly = λ c lc. subst (λ (k : Client). IsOrderly l (f.sent c ++ k.left)) (sym (only.clients c lc)) (f.orderly c lc);
-    parcels = λ c. at_one (λ t. c < client_total scene → t < tile_count l → parcels_to t (f.sent c) ≡ took c t ++ v.parcels c t) tile
+    parcels = λ c. at_one_or_other (λ t. c < client_total scene → t < tile_count l → parcels_to t (f.sent c) ≡ took c t ++ v.parcels c t) tile
         (λ lc lt. f.parcels c tile lc lt ∙ sym (same_so_far (parcel_taken item c) (f.took c tile) (w.parcels c tile) (v.parcels c tile) (parcel c lc))
-        ∙ ap (λ (ps : List Parcel). ps ++ v.parcels c tile) (sym (here_at (f.took c) tile (f.took c tile ++ option_to_list (parcel_taken item c)))))
+        ∙ ap (λ (ps : List Parcel). ps ++ v.parcels c tile) (sym (with_here (f.took c) tile (f.took c tile ++ option_to_list (parcel_taken item c)))))
         (λ t ne lc lt. f.parcels c t lc lt ∙ ap (λ (ps : List Parcel). f.took c t ++ ps) (sym (only.parcels c t lc lt ne))
-        ∙ ap (λ (ps : List Parcel). ps ++ v.parcels c t) (sym (off_at (f.took c) tile (f.took c tile ++ option_to_list (parcel_taken item c)) t ne)));
+        ∙ ap (λ (ps : List Parcel). ps ++ v.parcels c t) (sym (with_other (f.took c) tile (f.took c tile ++ option_to_list (parcel_taken item c)) t ne)));
     requests = λ c lc. f.requests c lc ∙ ap (λ (rs : List Request). f.asked c ++ rs) (sym (only.requests c lc));
     nobody_else = f.nobody_else;
-    grants = at_one (λ t. t < tile_count l → grants_of v.manager t ≡ heard t ++ v.grants t) tile
+    grants = at_one_or_other (λ t. t < tile_count l → grants_of v.manager t ≡ heard t ++ v.grants t) tile
         (λ lt. ap (λ (d : ManagerProgress). grants_of d tile) only.manager ∙ f.grants tile lt
         ∙ sym (same_so_far (grant_taken item) (f.heard tile) (w.grants tile) (v.grants tile) grant)
-        ∙ ap (λ (gs : List Grant). gs ++ v.grants tile) (sym (here_at f.heard tile (f.heard tile ++ option_to_list (grant_taken item)))))
+        ∙ ap (λ (gs : List Grant). gs ++ v.grants tile) (sym (with_here f.heard tile (f.heard tile ++ option_to_list (grant_taken item)))))
         (λ t ne lt. ap (λ (d : ManagerProgress). grants_of d t) only.manager ∙ f.grants t lt ∙ ap (λ (gs : List Grant). f.heard t ++ gs) (sym (only.grants t lt ne))
-        ∙ ap (λ (gs : List Grant). gs ++ v.grants t) (sym (off_at f.heard tile (f.heard tile ++ option_to_list (grant_taken item)) t ne)));
+        ∙ ap (λ (gs : List Grant). gs ++ v.grants t) (sym (with_other f.heard tile (f.heard tile ++ option_to_list (grant_taken item)) t ne)));
     manager = subst (λ (d : ManagerProgress). IsManagerRight (sync_lists_of scene) (tile_count l) f.asked (grants_of d) d) (sym only.manager) f.manager;
     legal = subst (λ (d : ManagerProgress). IsLegalBook (sync_lists_of scene) d.book) (sym only.manager) f.legal;
-    tiles = at_one (λ t. t < tile_count l → IsTileFlowing (client_total scene) (λ c. took c t) (heard t) (v.tiles t)) tile
+    tiles = at_one_or_other (λ t. t < tile_count l → IsTileFlowing (client_total scene) (λ c. took c t) (heard t) (v.tiles t)) tile
         (λ lt. flowing_as (client_total scene) (λ c. f.took c tile ++ option_to_list (parcel_taken item c)) (λ c. took c tile) (f.heard tile ++ option_to_list (grant_taken item)) (heard tile) (v.tiles tile)
-        (λ c. here_at (f.took c) tile (f.took c tile ++ option_to_list (parcel_taken item c))) (here_at f.heard tile (f.heard tile ++ option_to_list (grant_taken item))) now)
+        (λ c. with_here (f.took c) tile (f.took c tile ++ option_to_list (parcel_taken item c))) (with_here f.heard tile (f.heard tile ++ option_to_list (grant_taken item))) now)
         (λ t ne lt. flowing_as (client_total scene) (λ c. f.took c t) (λ c. took c t) (f.heard t) (heard t) (v.tiles t)
-        (λ c. off_at (f.took c) tile (f.took c tile ++ option_to_list (parcel_taken item c)) t ne) (off_at f.heard tile (f.heard tile ++ option_to_list (grant_taken item)) t ne)
+        (λ c. with_other (f.took c) tile (f.took c tile ++ option_to_list (parcel_taken item c)) t ne) (with_other f.heard tile (f.heard tile ++ option_to_list (grant_taken item)) t ne)
         (subst (λ (a : Tile). IsTileFlowing (client_total scene) (λ c. f.took c t) (f.heard t) a) (sym (only.tiles t lt ne)) (f.tiles t lt)));
   }
     where

@@ -1,6 +1,6 @@
 -- Each turn that isn't at rest leaves less to do.
 use Rattle.std.proofs.Common.{◌≡◌, ◌≢◌, ◌⊎◌, ℕ, zero, suc, ◌+◌, ◌-◌, ◌==◌, eqb-true, eq-eqb, ◌<◌, ◌≤◌, not, Bool, true, false, cond, List, [], ◌∷◌, ◌++◌, length, map, Option, Some, None, inl, inr, refl, sym, ap, ◌∙◌, subst, arith, length-append, append-nil, ltb-true, true≢false}
-use Rattle.std.proofs.lemmas.Bool.{cases_Bool, cases_lt}
+use Rattle.std.proofs.lemmas.Bool.{cases_Bool, cases_lt, ne_eqb}
 use Rattle.std.proofs.lemmas.Option.{slice_get_within}
 use Rattle.std.specs.Prelude.{Ok, Err, Result, MatchOption}
 use Rattle.rc_base.specs.Cluster.Parcels.{is_end}
@@ -37,6 +37,9 @@ use Rattle.tile_model.specs.Items.{Item, after_item, grant_taken, parcel_taken, 
 use Rattle.tile_model.specs.Items.Item.{Nothing, Due, Granted, NoMore, Sent}
 use Rattle.tile_model.specs.Short.{after_lost}
 use Rattle.scene_lemmas.proofs.Scenes.{scene_client_count}
+use Rattle.scene_lemmas.proofs.Sendings.{requests_append}
+use Rattle.order_model.proofs.JournalsInTurn.{performed_more}
+use Rattle.plain_lemmas.proofs.Numbers.{equal_to_itself}
 use Rattle.world_model.specs.Flowing.{ask_by, asks, IsFlowing}
 use Rattle.world_model.specs.Moves.{IsAtRest, IsClientMove, IsManagerStep, IsTileMove, OnlyClient, OnlyTile}
 use Rattle.world_model.specs.declared.moves.Move.TheVariants.{Client as ClientMove, Tile as TileMove}
@@ -48,9 +51,7 @@ use Rattle.world_model.specs.Turns.Turn.{ClientTurn, ManagerTurn, TileTurn}
 use Rattle.world_model.specs.Work.{total, one_unless, operations, most_in, client_work, due_to, tile_work, work_in, TurnsLeaveLess}
 use Rattle.world_model.specs.World.{World, Client, client_total}
 use Rattle.tile_model.proofs.ItemsComeFromLanes.{listens, learnt_same}
-use Rattle.world_model.proofs.LanesGoOn.{self, off}
-use Rattle.world_model.proofs.OrderlySequences.{asks_append, in_append}
-use Rattle.tile_model.proofs.ShownFrames.{performed_more}
+use Rattle.world_model.proofs.OrderlySequences.{asks_append}
 use Rattle.world_model.proofs.TilesKeepFlowing.{act_performed}
 use Rattle.world_model.proofs.TurnsKeepFlowing.{turn_flows}
 
@@ -256,7 +257,7 @@ module _ (scene : Scene) (l : Layout) (depth : ℕ) (w v : World) where
         let flag_was : one_unless (w.clients client).short ≡ 1 = ap one_unless ample in
         let flag_is : one_unless (v.clients client).short ≡ 0 = ap one_unless short in
         let ops : operations v client ≤ operations w client =
-        (let a = ap (λ items. asks (requests_in items)) before ∙ ap asks (in_append dropped (sent_last scene l client)) ∙ asks_append (requests_in dropped) (requests_in (sent_last scene l client)) in
+        (let a = ap (λ items. asks (requests_in items)) before ∙ ap asks (requests_append dropped (sent_last scene l client)) ∙ asks_append (requests_in dropped) (requests_in (sent_last scene l client)) in
         let b = ap (λ items. asks (requests_in items)) now in
         let c = ap asks requests in
         let d = ap (λ (d : ManagerProgress). length (d.book.arrived client)) only.manager in omega (arith, a, b, c, d)) in
@@ -298,7 +299,7 @@ module _ (scene : Scene) (l : Layout) (depth : ℕ) (w v : World) where
     lanes_less i is low = by i is low
       where
         not_of : (client : ℕ) (x : Parcel) (c : ℕ) → c ≢ client → parcel_taken (Sent client x) c ≡ None
-        not_of client x c ne = rw (off c client ne) refl
+        not_of client x c ne = rw (ne_eqb c client ne) refl
 
         no_parcel : (j : Item) → item ≡ j → ((c : ℕ) → parcel_taken j c ≡ None) → total (λ c. length (v.parcels c t)) n ≡ total (λ c. length (w.parcels c t)) n
         no_parcel j e none = total_same (λ c. length (w.parcels c t)) (λ c. length (v.parcels c t)) n (λ c lc. ap length
@@ -317,7 +318,7 @@ module _ (scene : Scene) (l : Layout) (depth : ℕ) (w v : World) where
             let lc = low client x refl in
             let b = ap length (grant_of (Sent client x) e) in
             let first : w.parcels client t ≡ x ∷ v.parcels client t =
-            rw (self client) at (subst (λ k. MatchOption (parcel_taken k client) (v.parcels client t ≡ w.parcels client t) (λ p. w.parcels client t ≡ p ∷ v.parcels client t)) e (parcel client lc)) in
+            rw (equal_to_itself client) at (subst (λ k. MatchOption (parcel_taken k client) (v.parcels client t ≡ w.parcels client t) (λ p. w.parcels client t ≡ p ∷ v.parcels client t)) e (parcel client lc)) in
             let one = ap length first in
             let a = total_change (λ c. length (w.parcels c t)) (λ c. length (v.parcels c t)) n client lc (λ c li ne. ap length
             (subst (λ o. MatchOption o (v.parcels c t ≡ w.parcels c t) (λ p. w.parcels c t ≡ p ∷ v.parcels c t)) (ap (λ k. parcel_taken k c) e ∙ not_of client x c ne) (parcel c li))) in
@@ -462,7 +463,7 @@ module _ (scene : Scene) (l : Layout) (depth : ℕ) (w v : World) where
         → v.manager.book.journal ≡ w.manager.book.journal → v.manager.delivered ≡ w.manager.delivered → v.manager.told ≡ w.manager.told
         → one_unless v.manager.short ≤ one_unless w.manager.short → work_in scene l v < work_in scene l w
     takes c r lc taken none arrived few journal delivered told short =
-        let here : taken_of m.deed c ≡ Some r = taken c ∙ rw (self c) refl in
+        let here : taken_of m.deed c ≡ Some r = taken c ∙ rw (equal_to_itself c) refl in
         let first : w.requests c ≡ r ∷ v.requests c = subst (λ o. MatchOption o (v.requests c ≡ w.requests c) (λ x. w.requests c ≡ x ∷ v.requests c)) here (m.taken c lc) in
         let one = ap length first in
         let clients = ap (λ (k : Client). length k.left) (m.only.clients c lc) in
@@ -477,7 +478,7 @@ module _ (scene : Scene) (l : Layout) (depth : ℕ) (w v : World) where
         (λ t lt. tile_stays t lt most delivered told (none t))
       where
         off_none : (i : ℕ) → i ≢ c → cond {A = Option Request} (i == c) (Some r) None ≡ None
-        off_none i ne = rw (off i c ne) refl
+        off_none i ne = rw (ne_eqb i c ne) refl
 
     -- an item is appended for a tile: what is due to it is one less
     gives : (t : ℕ) (x : Grant) → t < tiles → ((i : ℕ) → taken_of m.deed i ≡ None) → ((i : ℕ) → sent_to m.deed i ≡ cond (i == t) (x ∷ []) [])
@@ -501,32 +502,32 @@ module _ (scene : Scene) (l : Layout) (depth : ℕ) (w v : World) where
         (λ c lc. m.only.parcels c i lc li)) less
       where
         one_here : cond {A = List Grant} (t == t) (x ∷ []) [] ≡ x ∷ []
-        one_here = rw (self t) refl
+        one_here = rw (equal_to_itself t) refl
 
         none_off : (i : ℕ) → i ≢ t → cond {A = List Grant} (i == t) (x ∷ []) [] ≡ []
-        none_off i ne = rw (off i t ne) refl
+        none_off i ne = rw (ne_eqb i t ne) refl
 
     gives_entry : (t : ℕ) (e : Entry) → m.deed ≡ Delivers t (grant_item.Entry e) → IsGrantDue syncs tiles w.manager t (grant_item.Entry e)
         → v.manager ≡ progress_after syncs w.manager (Delivers t (grant_item.Entry e)) → work_in scene l v < work_in scene l w
     gives_entry t e is due after =
         let low = ltb-true (w.manager.delivered t) (length w.manager.book.journal) due.0.here in
         let bound = few_entries scene l w well f in
-        let now : v.manager.delivered t ≡ w.manager.delivered t + 1 = ap (λ (d : ManagerProgress). d.delivered t) after ∙ rw (self t) refl in
+        let now : v.manager.delivered t ≡ w.manager.delivered t + 1 = ap (λ (d : ManagerProgress). d.delivered t) after ∙ rw (equal_to_itself t) refl in
         let told = ap (λ (d : ManagerProgress). one_unless (d.told t)) after in
         gives t (grant_item.Entry e) due.0.low (λ i. ap (λ d. taken_of d i) is) (λ i. ap (λ d. sent_to d i) is) (ap (λ (d : ManagerProgress). d.book) after)
         (ap (λ (d : ManagerProgress). d.short) after) (λ most. omega (arith, low, bound, now, told, most))
-        (λ i ne. ap (λ (d : ManagerProgress). d.delivered i) after ∙ rw (off i t ne) refl) (λ i ne. ap (λ (d : ManagerProgress). d.told i) after)
+        (λ i ne. ap (λ (d : ManagerProgress). d.delivered i) after ∙ rw (ne_eqb i t ne) refl) (λ i ne. ap (λ (d : ManagerProgress). d.told i) after)
 
     gives_end : (t : ℕ) → m.deed ≡ Delivers t grant_item.NoMore → IsGrantDue syncs tiles w.manager t grant_item.NoMore
         → v.manager ≡ progress_after syncs w.manager (Delivers t grant_item.NoMore) → work_in scene l v < work_in scene l w
     gives_end t is due after =
         let was : one_unless (w.manager.told t) ≡ 1 = ap one_unless (unnot (w.manager.told t) due.2.here) in
-        let told : v.manager.told t ≡ true = ap (λ (d : ManagerProgress). d.told t) after ∙ rw (self t) refl in
+        let told : v.manager.told t ≡ true = ap (λ (d : ManagerProgress). d.told t) after ∙ rw (equal_to_itself t) refl in
         let now : one_unless (v.manager.told t) ≡ 0 = ap one_unless told in
         let delivered = ap (λ (d : ManagerProgress). d.delivered t) after in
         gives t grant_item.NoMore due.2.low (λ i. ap (λ d. taken_of d i) is) (λ i. ap (λ d. sent_to d i) is) (ap (λ (d : ManagerProgress). d.book) after)
         (ap (λ (d : ManagerProgress). d.short) after) (λ most. omega (arith, was, now, delivered, most))
-        (λ i ne. ap (λ (d : ManagerProgress). d.delivered i) after) (λ i ne. ap (λ (d : ManagerProgress). d.told i) after ∙ rw (off i t ne) refl)
+        (λ i ne. ap (λ (d : ManagerProgress). d.delivered i) after) (λ i ne. ap (λ (d : ManagerProgress). d.told i) after ∙ rw (ne_eqb i t ne) refl)
       where
         unnot : (b : Bool) → not b ≡ true → b ≡ false
         unnot true e = absurd (true≢false (sym e))
@@ -554,12 +555,12 @@ module _ (scene : Scene) (l : Layout) (depth : ℕ) (w v : World) where
     journal_stays c request.End = refl
 
     arrived_off : (c : ℕ) (r : Request) (i : ℕ) → i ≢ c → (book_after syncs w.manager.book (event_of syncs c r)).arrived i ≡ w.manager.book.arrived i
-    arrived_off c (request.Op place op) i ne = elim (cases_Bool (is_declared syncs op)) [ inl t ↦ rw t (rw (off i c ne) refl) | inr h ↦ rw h refl ]
+    arrived_off c (request.Op place op) i ne = elim (cases_Bool (is_declared syncs op)) [ inl t ↦ rw t (rw (ne_eqb i c ne) refl) | inr h ↦ rw h refl ]
     arrived_off c request.End i ne = refl
 
     arrived_here : (c : ℕ) (r : Request) → length ((book_after syncs w.manager.book (event_of syncs c r)).arrived c) ≤ length (w.manager.book.arrived c) + ask_by r
     arrived_here c (request.Op place op) = elim (cases_Bool (is_declared syncs op)) [
-      | inl t ↦ rw t (rw (self c) (let a = length-append (w.manager.book.arrived c) (record { place = place; op = op } ∷ []) in omega (arith, a)))
+      | inl t ↦ rw t (rw (equal_to_itself c) (let a = length-append (w.manager.book.arrived c) (record { place = place; op = op } ∷ []) in omega (arith, a)))
       | inr h ↦ rw h (omega arith)
     ]
     arrived_here c request.End = omega arith

@@ -1,21 +1,17 @@
 -- Operations that entries use: no more than arrived, and those arrived were asked for.
-use Rattle.std.proofs.Common.{◌≡◌, ℕ, zero, suc, ◌+◌, ◌≤◌, Bool, true, false, cond, List, [], ◌∷◌, ◌++◌, drop, take, length, map, Some, slice_get, inl, inr, refl, sym, ap, ◌∙◌, subst, arith, append_assoc, eq-eqb, lt-ltb}
+use Rattle.std.proofs.Common.{◌≡◌, ℕ, zero, suc, ◌+◌, ◌≤◌, Bool, true, cond, List, [], ◌∷◌, ◌++◌, drop, take, length, map, Some, slice_get, inl, inr, refl, sym, ap, ◌∙◌, arith, append_assoc}
 use Rattle.std.proofs.lemmas.Bool.{cases_Bool}
 use Rattle.std.proofs.lemmas.List.{take-append-drop}
-use Rattle.std.specs.Prelude.{◌^◌, option_map}
 use Rattle.rc_base.specs.Cluster.Sending.{request_of}
-use Rattle.rc_base.specs.Orders.Journal.{SyncState, head_wait, is_member, op_of, after, end_of, IsLawful, IsLegalFrom}
+use Rattle.rc_base.specs.Orders.Journal.{SyncState, is_member, op_of, after, end_of, IsLegalFrom}
 use Rattle.rc_base.specs.Orders.Sync.{client_count}
 use Rattle.rc_base.specs.declared.sync.Entry.{Entry}
-use Rattle.rc_base.specs.declared.sync.Entry.TheVariants.{Meet, Swap, Give, Take}
 use Rattle.rc_base.specs.declared.sync.Grant.{Grant}
 use Rattle.rc_base.specs.declared.sync.Grant.TheVariants as grant_item
 use Rattle.rc_base.specs.declared.sync.SyncLists.{SyncLists}
-use Rattle.rc_base.specs.declared.sync.SyncOp.{SyncOp}
 use Rattle.rc_base.specs.declared.sync.WaitAt.{WaitAt}
-use Rattle.order_model.specs.Laws.{AreOfClients}
-use Rattle.order_model.proofs.ClientsBeyond.{past_after, member_within}
-use Rattle.tile_model.specs.Items.{has_clients}
+use Rattle.tile_model.proofs.ItemsComeFromLanes.{no_entry}
+use Rattle.order_model.proofs.JournalsInTurn.{head_used}
 use Rattle.world_model.specs.Flowing.{asks, uses}
 
 -- ---- of a client, in entries
@@ -51,10 +47,6 @@ module _ (n client : ℕ) where
 
 -- ---- legal entries use what is there
 
-has_one : (ws : List WaitAt) (o : SyncOp) → option_map (λ (w : WaitAt). w.op) (head_wait ws) ≡ Some o → length (drop 1 ws) + 1 ≡ length ws
-has_one [] o e = absurd cc
-has_one (w ∷ ws) o e = omega arith
-
 pub used_up : (syncs : SyncLists) (s : SyncState) (js : List Entry) (client : ℕ) → IsLegalFrom syncs s js
     → uses (client_count syncs) js client + length ((end_of syncs s js).rest client) ≡ length (s.rest client)
 used_up syncs s [] client h = omega arith
@@ -62,7 +54,7 @@ used_up syncs s (e ∷ js) client h =
     let g = used_up syncs (after syncs s e) js client h.1 in
     elim (cases_Bool (is_member (client_count syncs) e client)) [
       | inl t ↦
-          let one = has_one (s.rest client) (op_of e) (h.0.next client t) in
+          let one = head_used (s.rest client) (op_of e) (h.0.next client t) in
           let rest : length ((after syncs s e).rest client) ≡ length (drop 1 (s.rest client)) = rw t refl in
           let here : cond {A = ℕ} (is_member (client_count syncs) e client) 1 0 ≡ 1 = rw t refl in
           omega (arith, g, one, rest, here)
@@ -73,20 +65,6 @@ used_up syncs s (e ∷ js) client h =
     ]
 
 -- ---- and are of clients
-
-lawful_of_clients : (syncs : SyncLists) (s : SyncState) (e : Entry) → AreOfClients syncs s → IsLawful syncs s e → has_clients (client_count syncs) e ≡ true
-lawful_of_clients syncs s (Meet b m) none p = lt-ltb m (2 ^ client_count syncs) p.counted.0
-lawful_of_clients syncs s Swap none p = refl
-lawful_of_clients syncs s (Give k c) none p = lt-ltb c (client_count syncs) (member_within syncs s (Give k c) none p c (eq-eqb c c refl))
-lawful_of_clients syncs s (Take k c) none p = lt-ltb c (client_count syncs) (member_within syncs s (Take k c) none p c (eq-eqb c c refl))
-
-pub entries_of_clients : (syncs : SyncLists) (s : SyncState) (js : List Entry) (k : ℕ) (e : Entry) → AreOfClients syncs s → IsLegalFrom syncs s js
-    → slice_get js k ≡ Some e → has_clients (client_count syncs) e ≡ true
-entries_of_clients syncs s [] zero e none legal is = absurd cc
-entries_of_clients syncs s [] (suc k) e none legal is = absurd cc
-entries_of_clients syncs s (d ∷ js) zero e none legal is =
-    let same : d ≡ e = cc in subst (λ x. has_clients (client_count syncs) x ≡ true) same (lawful_of_clients syncs s d none legal.0)
-entries_of_clients syncs s (d ∷ js) (suc k) e none legal is = entries_of_clients syncs (after syncs s d) js k e (past_after syncs s d none) legal.1 is
 
 -- ---- requests
 
@@ -101,10 +79,6 @@ entries es = map (λ e. grant_item.Entry e) es
 
 abbrev pub closing : Bool → List Grant
 closing b = cond b (grant_item.NoMore ∷ []) []
-
-no_entry : (b : Bool) (e : Entry) (rest : List Grant) → closing b ≡ grant_item.Entry e ∷ rest → ⊥
-no_entry true e rest h = cc
-no_entry false e rest h = cc
 
 learnt_front : (sent learnt : List Entry) (told seen : Bool) (held : List Grant) → entries sent ++ closing told ≡ (entries learnt ++ closing seen) ++ held
     → (more : List Entry) × (sent ≡ learnt ++ more)

@@ -17,9 +17,9 @@ use Rattle.sync_manager.specs.Promises.{grants_of}
 use Rattle.sync_manager.proofs.FrontsArrive.{still_comes, nobody_arrives}
 use Rattle.tile_model.specs.Scenes.{IsInRange}
 use Rattle.scene_lemmas.proofs.Scenes.{scene_client_count}
+use Rattle.stream_replay.proofs.DeclaredOperations.{scene_declared}
 use Rattle.world_model.specs.Sound.{GoesOnTo, IsSound}
 use Rattle.world_model.specs.World.{World, client_total}
-use Rattle.tile_model.proofs.DeclaredOperations.{scene_declared}
 use Rattle.world_model.proofs.JournalsGoOn.{goes_on_to_itself}
 
 -- ---- of a sound world

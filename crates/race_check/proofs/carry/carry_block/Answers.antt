@@ -1,18 +1,11 @@
-use Rattle.std.proofs.Common.{◌≡◌, ◌<◌, Bool, not, true, false, length, None, Some, inl, inr, arith, refl, sym, ap, ◌∙◌, subst, true≢false, rules}
+use Rattle.std.proofs.Common.{◌≡◌, ◌<◌, true, length, None, Some, inl, inr, arith, refl, sym, ap, ◌∙◌, subst, true≢false, rules}
+use Rattle.std.proofs.lemmas.Bool.{not-true, not-false}
 use Rattle.rc_base.specs.Drawing.Texel.{samples_shared}
 use Rattle.rc_base.specs.declared.state.Effect.TheVariants as eff
 use Rattle.race_check.specs.Touches.{AreTouched, SomePasses, block_has}
 use Rattle.race_check.specs.declared.cells.Cells.{Cells}
 use Rattle.race_check.proofs.CarriedUses.{use_of, passes, block_touched, bare_finds, sampled_finds}
 use Rattle.race_check.proofs.carry.carry_block.Goals as goal
-
-not_true : (b : Bool) → not b ≡ true → b ≡ false
-not_true true h = absurd (true≢false (sym h))
-not_true false h = refl
-
-not_false : (b : Bool) → not b ≡ false → b ≡ true
-not_false true h = refl
-not_false false h = absurd (true≢false h)
 
 pub returns-then-not-seen-clause-visited : goal.returns-then-not-seen-clause-visited
 returns-then-not-seen-clause-visited c f effect =
@@ -21,7 +14,7 @@ returns-then-not-seen-clause-visited c f effect =
     let m = c.args.marks.now in
     let block = c.args.block.now in
     let t = c.touch_block-seen.ensures.touched in
-    let none : SomePasses v.width v.height (block_has s block) → ⊥ = λ k. true≢false (sym (t.some.1 (inr k)) ∙ not_true _ c.if-not-seen.true) in
+    let none : SomePasses v.width v.height (block_has s block) → ⊥ = λ k. true≢false (sym (t.some.1 (inr k)) ∙ not-true _ c.if-not-seen.true) in
     passes f v s (eff.Block block) (block_has s block) None None m _ _ effect
     (use_of v.width v.height s (eff.Block block) (block_has s block) None (block_touched s block) (λ q k. absurd (true≢false (sym k))) (λ q k r. absurd (none r)) (λ q k. absurd cc))
     (record {
@@ -40,7 +33,7 @@ returns-in-Some-clause-visited c f effect =
     let m = c.args.marks.now in
     let block = c.args.block.now in
     let t = c.touch_block-seen.ensures.touched in
-    let some : SomePasses v.width v.height (block_has s block) = elim (t.some.0 (not_false _ c.if-not-seen.false)) [
+    let some : SomePasses v.width v.height (block_has s block) = elim (t.some.0 (not-false _ c.if-not-seen.false)) [
       | inl k ↦ absurd (true≢false (sym k ∙ c.nothing_seen.ensures.some))
       | inr k ↦ k
     ] in

@@ -16,13 +16,14 @@ use Rattle.draw_device.specs.Conditions.{IsDrawable, IsClearable, shared_of}
 use Rattle.draw_device.specs.Devices.{pixel_of}
 use Rattle.order_model.proofs.ScenesWithinLimits.{within_has_sides}
 use Rattle.stream_replay.specs.Clients.{AreIssued, client_after}
+use Rattle.plain_lemmas.proofs.Lists.{read_is_item}
 use Rattle.serial_render.specs.Shown.{IsShown, swaps_before}
 use Rattle.stream_replay.specs.declared.client.Client.{Client}
 use Rattle.serial_render.proofs.ClearDepths.{clearable}
 use Rattle.serial_render.proofs.DrawnCommands.{drawable, writable}
 use Rattle.stream_replay.proofs.IssuedCommands.{is_client}
 use Rattle.order_model.proofs.NamesInTurn.{order_at}
-use Rattle.stream_replay.proofs.ClientsInTurn.{first_clients, clients_next, client_before, element_is, client_now, some_command}
+use Rattle.stream_replay.proofs.ClientsInTurn.{first_clients, clients_next, client_before, client_now, some_command}
 use Rattle.serial_render.proofs.PlayedOrders.{first_shown, frames_due, shown_next, step_is, texels_after}
 use Rattle.serial_render.proofs.drawing.play.Goals as goal
 
@@ -129,7 +130,7 @@ loop-name-preserved c =
     let ys = c.issue_name.new.clients.items in
     let inv = c.loop-name.invariant in
     let was : c.index.result.now ≡ client_after s n.client n.place =
-    element_is xs n.client c.index.result.now _ (client_before s done n xs inv.clients next.0 lt)
+    read_is_item xs n.client c.index.result.now _ (client_before s done n xs inv.clients next.0 lt)
     (c.index.ensures ∙ ap (λ (k : ℕ). slice_index_or xs k c.index.result.now) c.from-client.ensures) in
     let swaps : c.index.result.now.swaps ≡ swaps_before s n = ap (λ (x : Client). x.swaps) was in
     let now : c.index-in-loop-name.result.now ≡ client_after s n.client (n.place + 1) =

@@ -1,6 +1,6 @@
 use Rattle.std.proofs.Common.{◌∙◌, sym, subst}
 use Rattle.serial_render.specs.Turns.{CanTakeTurns}
-use Rattle.serial_render.proofs.DeclaredOperations.{takes_turns}
+use Rattle.serial_render.proofs.ScenesTakeTurns.{takes_turns}
 use Rattle.serial_render.proofs.SurveyedStreams.{lists_are, faults_are, faults_count}
 use Rattle.serial_render.proofs.streams.survey_of_clients.Goals as goal
 

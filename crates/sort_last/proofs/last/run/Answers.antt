@@ -8,7 +8,7 @@ use Rattle.rc_base.proofs.WithinLimits.{clients_within, counts_some}
 use Rattle.order_model.specs.Report.{frame_count}
 use Rattle.serial_render.specs.Shown.{images_of}
 use Rattle.serial_render.specs.Turns.{CanTakeTurns}
-use Rattle.serial_render.proofs.DeclaredOperations.{takes_turns}
+use Rattle.serial_render.proofs.ScenesTakeTurns.{takes_turns}
 use Rattle.sort_last.specs.Layers.{composed_pixel}
 use Rattle.sort_last.specs.Players.{HaveFrames}
 use Rattle.sort_last.proofs.ComposedLaw.{layers_compose}

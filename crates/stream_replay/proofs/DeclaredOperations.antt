@@ -1,5 +1,5 @@
 -- Each accepted operation of a scene names what is declared.
-use Rattle.std.proofs.Common.{◌≡◌, ℕ, zero, suc, ◌<◌, Bool, true, List, [], ◌∷◌, ◌++◌, length, Some, None, refl, sym, ap, subst, ◌∙◌, arith, inl, inr, ltb-true, leb-true}
+use Rattle.std.proofs.Common.{◌≡◌, ℕ, zero, suc, Bool, true, List, [], ◌∷◌, ◌++◌, length, Some, None, refl, sym, ap, subst, ◌∙◌, arith, inl, inr, ltb-true, leb-true}
 use Rattle.std.specs.Prelude.{nat_lt, nat_le, slice_get, is_some}
 use Rattle.std.specs.declared.option.Option.{Option}
 use Rattle.std.specs.List.{AllByRecursion}
@@ -7,7 +7,6 @@ use Rattle.std.specs.Option.{option_map_or}
 use Rattle.std.proofs.lemmas.Bool.{cases_lt, and_parts}
 use Rattle.rc_base.specs.Lists.{at_name}
 use Rattle.rc_base.specs.Formats.Commands.{IsCommand}
-use Rattle.rc_base.specs.Formats.Within.{IsWithin}
 use Rattle.rc_base.specs.Contexts.Context.{ClientContext}
 use Rattle.rc_base.specs.Contexts.Faults.{fault_of, is_name}
 use Rattle.rc_base.specs.Contexts.Issue.{effect_of, done_by, command_at, context_after, effect_at, stream_of}
@@ -28,11 +27,11 @@ use Rattle.rc_base.specs.declared.sync.WaitAt.{WaitAt}
 use Rattle.gl_context.specs.Valid.{IsValidContext}
 use Rattle.gl_context.proofs.Accepted.{accepted}
 use Rattle.gl_context.proofs.ValidContexts.{valid}
+use Rattle.order_model.specs.Gathering.{AreDeclared}
 use Rattle.order_model.proofs.ClientsBeyond.{ops_past}
 use Rattle.order_model.proofs.SceneListsAreWellFormed.{scene_row}
-use Rattle.order_model.proofs.ScenesWithinLimits.{within_is_drawable}
 use Rattle.scene_lemmas.proofs.Scenes.{scene_client_count}
-use Rattle.serial_render.specs.Turns.{AreDeclared, CanTakeTurns}
+use Rattle.plain_lemmas.proofs.Lists.{is_some_within}
 
 -- an operation names one of so many barriers or semaphores
 abbrev names_of : Decl → SyncOp → Bool
@@ -41,14 +40,9 @@ names_of d (op.SemP name) = is_some (at_name d.semaphores name)
 names_of d (op.SemV name) = is_some (at_name d.semaphores name)
 names_of d op.Swap = true
 
-some_at : {A : Type 0} (xs : List A) (k : ℕ) → k < length xs → is_some (slice_get xs k) ≡ true
-some_at [] k lt = absurd (omega (arith, lt))
-some_at (x ∷ xs) zero lt = refl
-some_at (x ∷ xs) (suc k) lt = some_at xs k (omega (arith, lt))
-
 named : {A : Type 0} (xs : List A) (name : ℕ) → is_name name (length xs) ≡ true → is_some (at_name xs name) ≡ true
 named xs zero h = absurd (let both = and_parts (nat_lt 0 0) (nat_le 0 (length xs)) h in omega (arith, ltb-true 0 0 both.0))
-named xs (suc k) h = some_at xs k (omega (arith, leb-true (suc k) (length xs) (and_parts (nat_lt 0 (suc k)) (nat_le (suc k) (length xs)) h).1))
+named xs (suc k) h = is_some_within xs k (omega (arith, leb-true (suc k) (length xs) (and_parts (nat_lt 0 (suc k)) (nat_le (suc k) (length xs)) h).1))
 
 no_operation : (b : Option Block) (o : SyncOp) → option_map_or (λ b. eff.Block b) b eff.Quiet ≡ eff.Sync o → ⊥
 no_operation None o e = absurd cc
@@ -138,14 +132,3 @@ scene_declared s all client k w e = elim (cases_lt client (length s.streams)) [
     nothing_at : (k : ℕ) (w : WaitAt) → slice_get {X = WaitAt} [] k ≡ Some w → ⊥
     nothing_at zero w e = absurd cc
     nothing_at (suc k) w e = absurd cc
-
-pub scene_counts_are : (s : Scene) → (sync_lists_of s).counts ≡ s.decl.barriers
-unfolding sync_lists_of
-scene_counts_are s = refl
-
--- a scene within the limits takes turns
-pub takes_turns : (scene : Scene) → IsWithin scene → CanTakeTurns (sync_lists_of scene)
-takes_turns scene within =
-    let can = within_is_drawable scene within in
-    let counts = ap length (scene_counts_are scene) in
-    record { well = can.formed; clients = can.clients; barriers = omega (arith, counts, can.barriers); declared = scene_declared scene within.commands }
