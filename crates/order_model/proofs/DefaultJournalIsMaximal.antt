@@ -17,10 +17,6 @@ use Rattle.order_model.proofs.ClientsBeyond.{ops_past, past_after, member_within
 use Rattle.order_model.proofs.GrantsAreExact.{grant_lawful, grant_none}
 use Rattle.order_model.proofs.MemberCounts.{some_member}
 
-length_drop : {A : Type 0} (xs : List A) → length (drop 1 xs) ≤ length xs
-length_drop [] = omega arith
-length_drop (x ∷ xs) = omega arith
-
 one_less : (ws : List WaitAt) (op : SyncOp) → option_map (λ (w : WaitAt). w.op) (head_wait ws) ≡ Some op → length (drop 1 ws) < length ws
 one_less [] op h = absurd cc
 one_less (w ∷ ws) op h = omega arith

@@ -1,4 +1,4 @@
--- Journals by their entries: one entry more, two journals one behind the other, and what entries leave to clients.
+-- Journals by their entries and logs by their lines: one more, two one behind the other, and what entries leave to clients.
 use Rattle.std.proofs.Common.{arith, ◌≡◌, List, [], ◌∷◌, ◌++◌, refl, ap, ℕ, ◌≤◌, length, inl, inr, Option, Some, None, ◌≢◌, false, ◌+◌, drop}
 use Rattle.std.proofs.lemmas.Bool.{cases_Bool}
 use Rattle.std.proofs.lemmas.List.{length-drop}

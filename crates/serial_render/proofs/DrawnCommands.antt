@@ -18,7 +18,6 @@ use Rattle.rc_base.specs.declared.command.Command.TheVariants as cmd
 use Rattle.rc_base.specs.declared.command.Part.{Part}
 use Rattle.rc_base.specs.declared.scene.Decl.{Decl}
 use Rattle.rc_base.specs.declared.scene.Scene.{Scene}
-use Rattle.rc_base.specs.declared.state.Block.{Block}
 use Rattle.rc_base.specs.declared.state.Effect.{Effect}
 use Rattle.rc_base.specs.declared.state.Effect.TheVariants as eff
 use Rattle.rc_base.specs.declared.state.Fault.{Fault}
@@ -123,10 +122,6 @@ module _ (decl : Decl) (x : ClientContext) (texels : SharedTexels) (set : List (
           rw (on, t) (subst (λ (p : Picture). HasTexelIfAny (Some p)) (sym same) texel)
 
 -- ---- parts of shared textures
-
-no_part : (b : Option Block) (p : Part) → option_map_or (λ b. eff.Block b) b eff.Quiet ≡ eff.Shared p → ⊥
-no_part None p e = absurd cc
-no_part (Some b) p e = absurd cc
 
 accepted_part : (x : ClientContext) (c : Command) (p : Part) → effect_of x c ≡ eff.Shared p → (fault_of x c ≡ None) × (c ≡ cmd.SharedImage p)
 unfolding effect_of
