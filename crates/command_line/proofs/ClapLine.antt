@@ -9,6 +9,7 @@ use Rattle.std.proofs.lemmas.Fmt.{digits_decimal, decimal_nonempty}
 use Rattle.std.proofs.lemmas.Str.Parse.{not_in_digits}
 use Rattle.rc_base.specs.Lists.{IsIn, NoRepeat}
 use Rattle.plain_lemmas.proofs.Numbers.{decimal_numerals}
+use Rattle.plain_lemmas.proofs.Booleans.{if_same}
 use Rattle.command_line.specs.declared.job.OptionName.{OptionName}
 use Rattle.command_line.specs.Words.{Setting, IsSetting, option_of, setting_words, order_in}
 use Rattle.command_line.specs.declared.job.OptionName.TheVariants.{Tiles, Depth, Order, Seed, Size}
@@ -154,16 +155,11 @@ ordered (WithOrder ∷ ss) = refl
 ordered (SeedOf n ∷ ss) = ordered ss
 ordered (SizeOf n ∷ ss) = ordered ss
 
--- the flag has a default, and the options have none
-either : {X : Type 0} (b : Bool) (x : X) → (if b then x else x) ≡ x
-either true x = refl
-either false x = refl
-
 abbrev flag : Rule
 flag = with_index 1 (filled (rule_for Order))
 
 option_default : (name : Text) (rows : List Row) → with_default rows (with_index 1 (filled (option_rule name))) ≡ rows
-option_default name rows = either (has_row name rows) rows
+option_default name rows = if_same (has_row name rows) rows
 
 only_flag : (rows : List Row) → fold with_default rows rules ≡ with_default rows flag
 only_flag rows =

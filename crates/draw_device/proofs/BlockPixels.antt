@@ -1,7 +1,7 @@
 -- A block's triangles one after the other.
-use Rattle.std.proofs.Common.{◌≡◌, ℕ, ◌+◌, ◌*◌, Some, refl, ◌∙◌, List, [], ◌∷◌, ◌++◌, sym, ap, arith}
+use Rattle.std.proofs.Common.{◌≡◌, ℕ, ◌+◌, ◌*◌, Some, refl, ◌∙◌, List, [], ◌∷◌, ◌++◌, sym, ap}
 use Rattle.std.specs.Prelude.{fold}
-use Rattle.std.specs.List.{All, flat_map}
+use Rattle.std.specs.List.{flat_map}
 use Rattle.std.specs.declared.option.Option.{Option}
 use Rattle.std.proofs.lemmas.List.Sums.{fold-append}
 use Rattle.rc_base.specs.Pictures.{Picture}
@@ -26,9 +26,6 @@ pub draws_more : (f : Pixel → List WindowVertex → Pixel) (kept : List ℕ �
 draws_more f kept now new start t rest more all e step before =
     ap (λ (o : Pixel). fold f o (flat_map kept more)) step ∙ sym (fold-append f now (kept t) (flat_map kept more))
     ∙ sym (ap (λ (l : List (List ℕ)). fold f now (flat_map kept l)) e) ∙ before
-
-pub first_rest : (P : List ℕ → Type 0) (t : List ℕ) (rest more : List (List ℕ)) → rest ≡ t ∷ more → All P rest → P t
-first_rest P t rest more e all = (rw e at all) 0 [] (omega arith)
 
 -- no triple of vertices is left
 pub draws_done : (f : Pixel → List WindowVertex → Pixel) (kept : List ℕ → List (List WindowVertex)) (now start : Pixel) (rest all : List (List ℕ))

@@ -1,9 +1,9 @@
 -- Kept pieces.
-use Rattle.std.proofs.Common.{◌≡◌, ℕ, Bool, true, false, List, [], ◌∷◌, ◌++◌, Option, Some, None, MatchOption, refl, pos, ◌<ℤ◌, ◌≤ℤ◌, subst, int_lt, arith, ◌<◌, ◌≤◌}
+use Rattle.std.proofs.Common.{◌≡◌, ℕ, true, false, List, [], ◌∷◌, ◌++◌, Option, Some, None, MatchOption, refl, pos, ◌<ℤ◌, ◌≤ℤ◌, subst, int_lt, arith, ◌<◌, ◌≤◌}
 use Rattle.std.proofs.lemmas.Int.{ints}
 use Rattle.std.proofs.lemmas.Bool.{and_parts}
 use Rattle.std.proofs.lemmas.Bool.Decides.{nat_tests}
-use Rattle.std.specs.Prelude.{nat_lt, option_to_list, if◌then◌else◌}
+use Rattle.std.specs.Prelude.{nat_lt, option_to_list}
 use Rattle.std.specs.List.{filter_map, cons_option}
 use Rattle.rc_base.specs.Drawing.Window.{window_of, is_in_bounds, is_placed, clip_vertex, window_at, is_placed_at}
 use Rattle.rc_base.specs.Drawing.Cover.{IsInBounds}
@@ -14,6 +14,7 @@ use Rattle.rc_base.specs.declared.state.Vertex.{Vertex}
 use Rattle.rc_base.specs.declared.triangle.WindowTriangle.{WindowTriangle}
 use Rattle.rc_base.specs.declared.window.WindowVertex.{WindowVertex}
 use Rattle.rc_base.specs.declared.window.ClipVertex.{ClipVertex}
+use Rattle.plain_lemmas.proofs.Booleans.{if_same}
 use Rattle.geometry.specs.declared.cut_triangle.Pieces.{Pieces}
 use Rattle.rc_base.specs.Drawing.Pieces.{is_cuttable, is_in_front, front_pieces, pieces_of, vertex_pieces, kept_pieces}
 use Rattle.rc_base.proofs.Polygons.{front_all}
@@ -119,14 +120,10 @@ front_is s a b c p q r =
     let h = and_parts (is_cuttable (clip_vertex s c)) (is_in_front (clip_vertex s c)) r in
     rw (f.0, g.0, h.0) (front_all (clip_vertex s a) (clip_vertex s b) (clip_vertex s c) f.1 g.1 h.1)
 
-either_same : {A : Type 0} (t : Bool) (x : A) → (if t then x else x) ≡ x
-either_same true x = refl
-either_same false x = refl
-
 front_piece : (s : State) (mode : ℕ) (a b c : Vertex) → stands_in_front s a ≡ true → stands_in_front s b ≡ true → stands_in_front s c ≡ true
     → vertex_pieces s mode a b c ≡ (clip_vertex s a ∷ clip_vertex s b ∷ clip_vertex s c ∷ []) ∷ []
 unfolding pieces_of
-front_piece s mode a b c p q r = rw (front_is s a b c p q r) (either_same (nat_lt mode 16) ((clip_vertex s a ∷ clip_vertex s b ∷ clip_vertex s c ∷ []) ∷ []))
+front_piece s mode a b c p q r = rw (front_is s a b c p q r) (if_same (nat_lt mode 16) ((clip_vertex s a ∷ clip_vertex s b ∷ clip_vertex s c ∷ []) ∷ []))
 
 pub front_kept : (s : State) (mode : ℕ) (a b c : Vertex) → stands_in_front s a ≡ true → stands_in_front s b ≡ true → stands_in_front s c ≡ true → kept_pieces s mode a b c ≡ option_to_list (kept_of s a b c)
 unfolding kept_pieces

@@ -1,5 +1,6 @@
 -- Truth values: two tests with one answer, and what a test chooses.
 use Rattle.std.proofs.Common.{◌≡◌, Bool, true, false, refl, true≢false, sym, ℕ, cond}
+use Rattle.std.specs.Prelude.{if◌then◌else◌}
 
 -- two tests that follow from each other have the same answer
 pub same_test : (a b : Bool) → (a ≡ true → b ≡ true) → (b ≡ true → a ≡ true) → a ≡ b
@@ -16,3 +17,8 @@ zero_if_false b e = rw e refl
 pub false_behind : (a b : Bool) → cond a true b ≡ false → b ≡ false
 false_behind true b e = absurd (true≢false e)
 false_behind false b e = e
+
+-- a test between two values that are one
+pub if_same : {A : Type 0} (b : Bool) (x : A) → (if b then x else x) ≡ x
+if_same true x = refl
+if_same false x = refl

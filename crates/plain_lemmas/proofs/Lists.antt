@@ -52,3 +52,7 @@ same_parts a b x y size e = (
 pub all_append : {A : Type 0} (P : A → Type 0) (xs ys : List A) → AllByRecursion P xs → AllByRecursion P ys → AllByRecursion P (xs ++ ys)
 all_append P [] ys h k = k
 all_append P (x ∷ xs) ys h k = (h.0, all_append P xs ys h.1 k)
+
+-- and of the first one
+pub first_of_all : {A : Type 0} (P : A → Type 0) (t : A) (rest more : List A) → rest ≡ t ∷ more → All P rest → P t
+first_of_all P t rest more e all = (rw e at all) 0 t (omega arith)

@@ -20,14 +20,12 @@ use Rattle.geometry.specs.declared.near.Surrounds.{Surrounds}
 use Rattle.raster.specs.Between.{CoverLiesInBounds}
 use Rattle.raster.specs.Spans.{AreEmptyRows}
 use Rattle.raster.specs.Clips.{IsPartWhere, is_let_through}
+use Rattle.scene_lemmas.proofs.Rectangles.{in_window}
 use Rattle.race_check.specs.Touches.{triangle_has, triangles_have, IsWithinWindow, part_has, clear_has}
 use Rattle.geometry.proofs.Outside.{beside_part}
 use Rattle.race_check.specs.Finds.{run_has}
 use Rattle.race_check.specs.declared.run.Run.{Run}
 use Rattle.race_check.proofs.TouchesInTurn.{outside_left, outside_right, outside_below, outside_above}
-
-pub in_window : (w h x y : ℕ) → x < w → y < h → is_in_rect (window_rect w h) (pos x) (pos y) ≡ true
-in_window w h x y lx ly = grind (arith, ints)
 
 -- a triangle covers what it has of the part
 covers_part : (s : State) (v : List WindowVertex) (part : Rect) (w h : ℕ) → IsPartWhere (window_rect w h) part (is_let_through s) → (x y : ℕ) → x < w → y < h

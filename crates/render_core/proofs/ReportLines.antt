@@ -1,11 +1,9 @@
 -- The lines of reports, client by client.
-use Rattle.std.proofs.Common.{◌≡◌, ℕ, ◌+◌, inl, inr, Bool, true, false, List, [], ◌∷◌, ◌++◌, length, Option, None, Some, refl, sym, ap, ◌∙◌, arith, append_assoc}
+use Rattle.std.proofs.Common.{◌≡◌, ℕ, inl, inr, Bool, true, false, List, [], ◌∷◌, ◌++◌, length, Option, None, Some, refl, sym, ap, ◌∙◌, append_assoc}
 use Rattle.std.specs.Prelude.{◌↔◌, ◌||◌, IsSome, is_some, slice_index_or, codes, if◌then◌else◌}
 use Rattle.std.specs.List.{flat_map, range_with_len, list_any}
 use Rattle.std.specs.Option.{option_map_or}
 use Rattle.std.proofs.lemmas.Bool.{cases_Bool}
-use Rattle.std.proofs.lemmas.Grind.{flat_map-append}
-use Rattle.std.proofs.lemmas.List.{append-nil}
 use Rattle.rc_base.specs.Contexts.Issue.{faults_of}
 use Rattle.rc_base.specs.Orders.Journal.{waiting_of}
 use Rattle.rc_base.specs.Orders.Sync.{client_count, sync_lists_of}
@@ -16,7 +14,6 @@ use Rattle.rc_base.specs.declared.sync.WaitAt.{WaitAt}
 use Rattle.rc_base.specs.declared.sync.Waiting.{Waiting}
 use Rattle.order_model.specs.Report.{fault_line, client_faults, fault_lines, count_lines, stuck_line, client_stuck, stuck_lines, is_stuck, short_report_of}
 use Rattle.run_words.specs.declared.work.Work.{Work}
-use Rattle.plain_lemmas.proofs.Ranges.{range_more}
 use Rattle.scene_lemmas.proofs.Scenes.{scene_client_count}
 use Rattle.render_core.specs.Due.{short_due}
 use Rattle.run_words.specs.Reports.{lines_of_faults, lines_of_stuck, lines_of_turns}

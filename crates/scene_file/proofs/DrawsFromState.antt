@@ -14,7 +14,7 @@ unfolding drawn_state
 state_after seed m zero = let none : m ≡ m + 0 = omega arith in ap (drawn_state seed) none
 state_after seed m (suc n) = let more : suc (m + n) ≡ m + suc n = omega arith in ap next_state (state_after seed m n) ∙ ap (drawn_state seed) more
 
-draw_is : (seed n : ℕ) → draw_of seed n ≡ drawn_state seed (n + 1) / 2 ^ 40
+pub draw_is : (seed n : ℕ) → draw_of seed n ≡ drawn_state seed (n + 1) / 2 ^ 40
 unfolding draw_of
 draw_is seed n = refl
 

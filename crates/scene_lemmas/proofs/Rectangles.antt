@@ -1,7 +1,7 @@
 -- The bounds of a rectangle that has a place.
-use Rattle.std.proofs.Common.{◌≡◌, ℤ, ◌≤ℤ◌, true, arith, ◌<ℤ◌, ℕ, ◌-◌, ◌≤◌, ap, pos, ◌-ℤ◌}
+use Rattle.std.proofs.Common.{◌≡◌, ℤ, ◌≤ℤ◌, true, arith, ◌<ℤ◌, ℕ, ◌-◌, ◌≤◌, ap, pos, ◌-ℤ◌, ◌<◌}
 use Rattle.std.proofs.lemmas.Int.{ints}
-use Rattle.rc_base.specs.Cluster.Tiles.{is_in_rect}
+use Rattle.rc_base.specs.Cluster.Tiles.{is_in_rect, window_rect}
 use Rattle.rc_base.specs.Numbers.{natural}
 use Rattle.rc_base.specs.declared.window.Rect.{Rect}
 
@@ -23,3 +23,7 @@ inside_rect r x y a b c d = grind (arith, ints)
 -- sides of numbers that aren't below 0
 pub length_between : (a b : ℕ) → a ≤ b → natural (pos b -ℤ pos a) ≡ b - a
 length_between a b le = let e : pos b -ℤ pos a ≡ pos (b - a) = omega (arith, ints) in ap natural e
+
+-- a pixel of the window
+pub in_window : (w h x y : ℕ) → x < w → y < h → is_in_rect (window_rect w h) (pos x) (pos y) ≡ true
+in_window w h x y lx ly = grind (arith, ints)

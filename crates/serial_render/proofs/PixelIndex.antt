@@ -1,5 +1,5 @@
 -- Places in a window's list of pixels.
-use Rattle.std.proofs.Common.{◌≡◌, ℕ, List, ◌+◌, ◌*◌, ◌<◌, pos, ◌-ℤ◌, true, sym, ap, ◌∙◌, arith}
+use Rattle.std.proofs.Common.{◌≡◌, ℕ, List, ◌+◌, ◌*◌, pos, ◌-ℤ◌, sym, ap, ◌∙◌, arith}
 use Rattle.std.proofs.lemmas.Int.{ints}
 use Rattle.rc_base.specs.Numbers.{natural}
 use Rattle.rc_base.specs.Cluster.Tiles.{is_in_rect, window_rect}
@@ -9,6 +9,7 @@ use Rattle.rc_base.specs.declared.window.Pixel.{Pixel}
 use Rattle.rc_base.specs.declared.window.Rect.{Rect}
 use Rattle.draw_device.specs.Pixels.{pixel_at, color_at}
 use Rattle.draw_device.specs.Devices.{DeviceView, pixel_index, pixel_of, rect_size}
+use Rattle.scene_lemmas.proofs.Rectangles.{in_window}
 use Rattle.serial_render.specs.Cells.{Shows}
 use Rattle.serial_render.specs.Steps.{Holds}
 
@@ -24,9 +25,6 @@ index_is w h i j =
     ap (λ (n : ℕ). n * natural (pos w -ℤ pos 0) + natural (pos i -ℤ pos 0)) (from_zero j)
     ∙ ap (λ (n : ℕ). j * n + natural (pos i -ℤ pos 0)) (from_zero w)
     ∙ ap (λ (n : ℕ). j * w + n) (from_zero i)
-
-pub in_window : (w h i j : ℕ) → i < w → j < h → is_in_rect (window_rect w h) (pos i) (pos j) ≡ true
-in_window w h i j li lj = grind (arith, ints)
 
 pub pixel_is : (d : DeviceView) (w h i j : ℕ) → d.rect ≡ window_rect w h → pixel_of d (pos i) (pos j) ≡ pixel_at d.pixels (j * w + i)
 unfolding pixel_of

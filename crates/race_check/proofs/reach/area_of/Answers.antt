@@ -2,7 +2,7 @@ use Rattle.std.proofs.Common.{Option, pos, subst}
 use Rattle.rc_base.specs.declared.window.Rect.{Rect}
 use Rattle.bounds_bucket.specs.Boxes.{HoldsTouched}
 use Rattle.rc_base.specs.Cluster.Tiles.{window_rect}
-use Rattle.race_check.proofs.TrianglesBeside.{in_window}
+use Rattle.scene_lemmas.proofs.Rectangles.{in_window}
 use Rattle.race_check.proofs.reach.area_of.Goals as goal
 
 pub returns-in-Some-clause-all : goal.returns-in-Some-clause-all

@@ -7,6 +7,7 @@ use Rattle.rc_base.specs.declared.window.Rect.{Rect}
 use Rattle.rc_base.specs.declared.window.WindowVertex.{WindowVertex}
 use Rattle.raster.specs.Clips.{IsPartWhere, is_let_through}
 use Rattle.geometry.specs.Items.{AreBelow, rest_from}
+use Rattle.plain_lemmas.proofs.Lists.{first_of_all}
 use Rattle.race_check.specs.Touches.{IsTouch, triangles_have, block_has}
 use Rattle.race_check.proofs.TouchesInTurn.{touch_none, touch_as, touch_then}
 use Rattle.race_check.proofs.TrianglesBeside.{all_covers, have_then, part_of_window}
@@ -14,9 +15,6 @@ use Rattle.race_check.proofs.touch.touch_block.Goals as goal
 
 all_rest : (P : List ℕ → Type 0) (t : List ℕ) (rest more : List (List ℕ)) → rest ≡ t ∷ more → All P rest → All P more
 all_rest P t rest more e all k d lt = (rw e at all) (suc k) d (omega arith)
-
-first_rest : (P : List ℕ → Type 0) (t : List ℕ) (rest more : List (List ℕ)) → rest ≡ t ∷ more → All P rest → P t
-first_rest P t rest more e all = (rw e at all) 0 [] (omega arith)
 
 map_then : (f : List ℕ → List (List WindowVertex)) (us : List (List ℕ)) (t : List ℕ) → flat_map f (us ++ t ∷ []) ≡ flat_map f us ++ f t
 map_then f [] t = append-nil (f t)
@@ -49,7 +47,7 @@ touch_corners-seen-requires-clause-part c = part_of_window (is_let_through c.arg
 
 pub touch_corners-seen-requires-clause-corners : goal.touch_corners-seen-requires-clause-corners
 touch_corners-seen-requires-clause-corners c =
-    first_rest (AreBelow (length c.args.block.now.vertices)) c.in-Some.corners _ _ c.in-Some.ensures.steps c.cuts.invariant.below
+    first_of_all (AreBelow (length c.args.block.now.vertices)) c.in-Some.corners _ _ c.in-Some.ensures.steps c.cuts.invariant.below
 
 pub cuts-preserved : goal.cuts-preserved
 cuts-preserved c =

@@ -2,15 +2,12 @@ use Rattle.std.proofs.Common.{◌≡◌, ℕ, suc, ◌+◌, ◌/◌, ◌%◌, �
 use Rattle.std.specs.List.{range_with_len}
 use Rattle.std.proofs.lemmas.List.FromFn.{map-range_with_len_more}
 use Rattle.scene_file.specs.Generator.{next_state, drawn_state, draw_of, picks_of}
+use Rattle.scene_file.proofs.DrawsFromState.{draw_is}
 use Rattle.render_core.proofs.picks.picks_of.Goals as goal
 
 state_more : (seed n : ℕ) → drawn_state seed (n + 1) ≡ next_state (drawn_state seed n)
 unfolding drawn_state
 state_more seed n = let more : n + 1 ≡ suc n = omega arith in ap (drawn_state seed) more
-
-draw_is : (seed n : ℕ) → draw_of seed n ≡ drawn_state seed (n + 1) / 2 ^ 40
-unfolding draw_of
-draw_is seed n = refl
 
 abbrev drawn : ℕ → ℕ → ℕ → List ℕ
 drawn seed actors n = map (λ (k : ℕ). draw_of seed k % actors) (range_with_len 0 n)

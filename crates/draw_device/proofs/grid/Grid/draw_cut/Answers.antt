@@ -5,11 +5,11 @@ use Rattle.geometry.specs.Items.{AreBelow, rest_from}
 use Rattle.rc_base.specs.Drawing.Pieces.{kept_corners_of}
 use Rattle.rc_base.specs.Drawing.Triangles.{triangles_in}
 use Rattle.rc_base.specs.Drawing.PixelStep.{triangle_step}
-use Rattle.plain_lemmas.proofs.Lists.{all_behind_first}
+use Rattle.plain_lemmas.proofs.Lists.{all_behind_first, first_of_all}
 use Rattle.draw_device.specs.Pixels.{pixel_at, pixels_of}
 use Rattle.draw_device.specs.Shapes.{column_at, row_at, triangles_step, IsStepped}
 use Rattle.draw_device.specs.declared.extent.Extent.{Extent}
-use Rattle.draw_device.proofs.BlockPixels.{draws_more, draws_done, first_rest}
+use Rattle.draw_device.proofs.BlockPixels.{draws_more, draws_done}
 use Rattle.draw_device.proofs.grid.Grid.draw_cut.Goals as goal
 
 pub cuts-init : goal.cuts-init
@@ -30,7 +30,7 @@ cuts-init c =
 
 pub draw_cut_corners-requires-clause-corners : goal.draw_cut_corners-requires-clause-corners
 draw_cut_corners-requires-clause-corners c =
-    first_rest (AreBelow (length c.args.block.now.vertices)) c.in-Some.corners _ _ c.in-Some.ensures.steps c.cuts.invariant.below
+    first_of_all (AreBelow (length c.args.block.now.vertices)) c.in-Some.corners _ _ c.in-Some.ensures.steps c.cuts.invariant.below
 
 pub cuts-preserved : goal.cuts-preserved
 cuts-preserved c =

@@ -9,11 +9,11 @@ use Rattle.rc_base.specs.Drawing.Pieces.{kept_corners_of}
 use Rattle.rc_base.specs.Drawing.Triangles.{triangles_in}
 use Rattle.geometry.proofs.PiecesKept.{whole_kept}
 use Rattle.rc_base.specs.Drawing.PixelStep.{triangle_step}
-use Rattle.plain_lemmas.proofs.Lists.{all_behind_first}
+use Rattle.plain_lemmas.proofs.Lists.{all_behind_first, first_of_all}
 use Rattle.draw_device.specs.Pixels.{pixel_at, pixels_of}
 use Rattle.draw_device.specs.Shapes.{column_at, row_at, corners_step, IsStepped}
 use Rattle.draw_device.specs.declared.extent.Extent.{Extent}
-use Rattle.draw_device.proofs.BlockPixels.{draws_more, draws_done, first_rest}
+use Rattle.draw_device.proofs.BlockPixels.{draws_more, draws_done}
 use Rattle.draw_device.proofs.grid.Grid.draw_whole.Goals as goal
 
 pub draws-init : goal.draws-init
@@ -36,7 +36,7 @@ pub draw_corners-requires-clause-corners : goal.draw_corners-requires-clause-cor
 draw_corners-requires-clause-corners c =
     let v = c.draws.invariant in
     subst (λ (vs : List Vertex). AreBelow (length vs) c.in-Some.corners) (sym v.vertices)
-    (first_rest (AreBelow (length c.args.block.now.vertices)) c.in-Some.corners _ _ c.in-Some.ensures.steps v.below)
+    (first_of_all (AreBelow (length c.args.block.now.vertices)) c.in-Some.corners _ _ c.in-Some.ensures.steps v.below)
 
 pub draws-preserved : goal.draws-preserved
 draws-preserved c =
