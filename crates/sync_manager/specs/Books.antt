@@ -1,12 +1,15 @@
 -- What a book stands for.
 use Rattle.std.specs.Prelude.{◌≡◌, ℕ, ◌<◌, ◌&&◌, not, Bool, true, false, is_some, List, Option, length, slice_index_or}
-use Rattle.rc_base.specs.Orders.Book.{Book as Arrivals, standing, waiting_in, is_declared, IsLegalBook, IsBookOver}
+use Rattle.rc_base.specs.Orders.Book.{Book as Arrivals, BookEvent, book_after, new_book, standing, waiting_in, is_declared, IsLegalBook, IsBookOver}
+use Rattle.rc_base.specs.Orders.Book.BookEvent.{Arrives}
 use Rattle.rc_base.specs.Orders.Sync.{client_count}
+use Rattle.rc_base.specs.declared.scene.Decl.{Decl}
 use Rattle.rc_base.specs.declared.sync.Entry.{Entry}
 use Rattle.rc_base.specs.declared.sync.SyncLists.{SyncLists}
 use Rattle.rc_base.specs.declared.sync.SyncOp.{SyncOp}
 use Rattle.rc_base.specs.declared.sync.WaitAt.{WaitAt}
-use Rattle.sync_manager.specs.Stored.{wait_at, state_of, is_named}
+use Rattle.rc_base.specs.declared.sync.Waiting.{Waiting}
+use Rattle.sync_manager.specs.Stored.{grant_at, wait_at, state_of, is_named}
 use Rattle.sync_manager.specs.declared.book.Book.{Book}
 
 -- how many clients it is for
@@ -20,6 +23,10 @@ waiting_at kept client = wait_at kept.waiting client
 -- the operation names a barrier or a semaphore that is declared
 abbrev pub names_declared : Book → SyncOp → Bool
 names_declared kept op = is_named (length kept.counts) (length kept.units.items) op
+
+-- the first lawful entry, by what it stores
+abbrev pub first_in : Book → Option Entry
+first_in kept = grant_at kept.counts kept.units.items kept.waiting kept.clients
 
 -- the entries that it granted
 abbrev pub journal_in : Book → List Entry
@@ -56,3 +63,27 @@ pub record IsBookOf (syncs : SyncLists) (kept : Book) (b : Arrivals) : Type 0 wh
   pub ended : (client : ℕ) → client < kept.clients → has_ended kept client ≡ b.ended client
   pub journal : kept.entries.items ≡ b.journal
   pub legal : IsLegalBook syncs b
+
+-- something is so whatever the book stands for
+abbrev pub OfBook : Book → (SyncLists → Arrivals → Type 0) → Type 0
+OfBook kept is_so = (syncs : SyncLists) (b : Arrivals) → IsBookOf syncs kept b → is_so syncs b
+
+-- the book stands for what it stood for, or for that after the event
+abbrev pub IsSameBook : Book → Book → Type 0
+IsSameBook before after = OfBook before (λ syncs b. IsBookOf syncs after b)
+
+abbrev pub IsBookAfter : Book → BookEvent → Book → Type 0
+IsBookAfter before event after = OfBook before (λ syncs b. IsBookOf syncs after (book_after syncs b event))
+
+-- an operation of a client arrives
+abbrev pub arrival : ℕ → ℕ → SyncOp → BookEvent
+arrival client place op = Arrives client record { place = place; op = op }
+
+-- nothing arrived in the book, of so many clients, with barriers and units as they are declared
+abbrev pub IsNewBook : Decl → ℕ → Book → Type 0
+IsNewBook decl clients kept =
+    (syncs : SyncLists) → client_count syncs ≡ clients → syncs.counts ≡ decl.barriers → syncs.units ≡ decl.semaphores → IsBookOf syncs kept new_book
+
+-- these are the operations at which the clients wait
+abbrev pub AreWaiting : SyncLists → Arrivals → Waiting → Type 0
+AreWaiting syncs b w = (client : ℕ) → wait_at w.at client ≡ waiting_in syncs b client

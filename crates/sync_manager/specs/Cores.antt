@@ -2,11 +2,13 @@
 use Rattle.std.specs.Prelude.{◌≡◌, ℕ, ◌-◌, ◌<◌, not, nat_lt, Bool, true, false, cond, List, ◌++◌, length, slice_index_or, MatchOption}
 use Rattle.rc_base.specs.Cluster.Lanes.{EachLane}
 use Rattle.rc_base.specs.Outside.Causes.{Rose}
+use Rattle.rc_base.specs.Orders.Sync.{client_count}
+use Rattle.rc_base.specs.declared.scene.Decl.{Decl}
 use Rattle.rc_base.specs.declared.sync.Grant.{Grant}
 use Rattle.rc_base.specs.declared.sync.Request.{Request}
 use Rattle.rc_base.specs.declared.sync.SyncLists.{SyncLists}
-use Rattle.sync_manager.specs.Books.{IsBookOf, clients_in, journal_in}
-use Rattle.sync_manager.specs.Progress.{ManagerProgress, progress_after, is_loss, IsNextDeed, IsFoundEmpty, IsFoundFull, taken_of, sent_to}
+use Rattle.sync_manager.specs.Books.{IsBookOf, clients_in, is_wanted, journal_in}
+use Rattle.sync_manager.specs.Progress.{ManagerProgress, new_progress, progress_after, is_loss, IsNextDeed, IsFoundEmpty, IsFoundFull, taken_of, sent_to}
 use Rattle.sync_manager.specs.declared.book.Book.{Book}
 use Rattle.sync_manager.specs.declared.manager.ManagerCore.{ManagerCore}
 use Rattle.sync_manager.specs.declared.deed.ManagerDeed.{ManagerDeed}
@@ -43,6 +45,23 @@ pub record IsProgressOf (syncs : SyncLists) (core : ManagerCore) (d : ManagerPro
   pub told : (tile : ℕ) → tile < core.tiles → d.told tile ≡ nat_lt tile core.told
   pub next : d.next ≡ core.start
   pub short : d.short ≡ core.short
+
+-- something is so whatever the core stands for
+abbrev pub OfProgress : ManagerCore → (SyncLists → ManagerProgress → Type 0) → Type 0
+OfProgress core is_so = (syncs : SyncLists) (d : ManagerProgress) → IsProgressOf syncs core d → is_so syncs d
+
+-- nothing was done, by so many clients, with barriers and units as they are declared
+abbrev pub IsNewManager : Decl → ℕ → ManagerCore → Type 0
+IsNewManager decl clients core =
+    (syncs : SyncLists) → client_count syncs ≡ clients → syncs.counts ≡ decl.barriers → syncs.units ≡ decl.semaphores → IsProgressOf syncs core new_progress
+
+-- the clients, by number, that neither wait nor have ended
+abbrev pub AreWanted : ManagerCore → List Bool → Type 0
+AreWanted core asks = (client : ℕ) → client < clients_of core → slice_index_or asks client true ≡ is_wanted core.book client
+
+-- memory lacks for the first time
+abbrev pub BecomesShort : ManagerCore → ManagerCore → Type 0
+BecomesShort before after = (is_short before ≡ false) × (is_short after ≡ true)
 
 -- ---- a step
 

@@ -3,7 +3,7 @@ use Rattle.std.specs.Prelude.{◌≡◌, ℕ, ◌+◌, ◌<◌, ◌≤◌, ◌==
 use Rattle.std.specs.Option.{option_or, option_map_or, unwrap_or}
 use Rattle.rc_base.specs.Lists.{at_name}
 use Rattle.rc_base.specs.Orders.Grant.{first, give_by, take_by, is_at_barrier, is_at_swap, lowest}
-use Rattle.rc_base.specs.Orders.Journal.{SyncState, how_many}
+use Rattle.rc_base.specs.Orders.Journal.{SyncState, how_many, is_member, units_after}
 use Rattle.rc_base.specs.declared.sync.Entry.{Entry}
 use Rattle.rc_base.specs.declared.sync.Entry.TheVariants.{Meet, Swap, Give, Take}
 use Rattle.rc_base.specs.declared.sync.SyncOp.{SyncOp}
@@ -66,7 +66,25 @@ grant_at counts units waiting n =
     (option_or (first (λ c. take_by (units_at units) c (op_at waiting c)) 0 n)
     (option_or (first (meet_at counts waiting n) 1 (length counts)) (swap_at waiting n)))
 
+-- ---- what an entry does to what is stored
+
+-- its members wait no more, and every other client waits as before
+abbrev pub AreReleased : ℕ → Entry → List (Option WaitAt) → List (Option WaitAt) → Type 0
+AreReleased clients entry before after = (c : ℕ) → wait_at after c ≡ cond (is_member clients entry c) None (wait_at before c)
+
+-- a unit is given or taken, if the entry does that
+abbrev pub HasMoved : Entry → List ℕ → List ℕ → Type 0
+HasMoved entry before after = (k : ℕ) → units_at after k ≡ units_after entry (units_at before) k
+
+-- no semaphore has more than one unit more than before
+abbrev pub RiseByOne : List ℕ → List ℕ → Type 0
+RiseByOne before after = (k : ℕ) → slice_index_or after k 0 ≤ slice_index_or before k 0 + 1
+
 -- ---- what holds of every book
+
+-- each barrier counts one client or more
+abbrev pub CountSomeone : List ℕ → Type 0
+CountSomeone counts = (barrier count : ℕ) → at_name counts barrier ≡ Some count → 0 < count
 
 -- There are 1 to 8 clients, each barrier counts one or more, only clients wait, at what is declared; and there is room for an entry of each that waits.
 pub record IsSoundBook (clients : ℕ) (counts units : List ℕ) (waiting : List (Option WaitAt)) (entries capacity : ℕ) : Type 0 where
@@ -74,7 +92,7 @@ pub record IsSoundBook (clients : ℕ) (counts units : List ℕ) (waiting : List
   pub most : clients ≤ 8
   pub slots : length waiting ≡ 8
   pub names : length counts < 256
-  pub counted : (barrier count : ℕ) → at_name counts barrier ≡ Some count → 0 < count
+  pub counted : CountSomeone counts
   pub beyond : (client : ℕ) → clients ≤ client → wait_at waiting client ≡ None
   pub named : (client : ℕ) (w : WaitAt) → wait_at waiting client ≡ Some w → is_named (length counts) (length units) w.op ≡ true
   pub bounded : (k : ℕ) → slice_index_or units k 0 ≤ 65535 + entries

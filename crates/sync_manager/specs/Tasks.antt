@@ -8,10 +8,9 @@ use Rattle.rc_base.specs.declared.sync.Request.{Request}
 use Rattle.rc_base.specs.declared.sync.Request.TheVariants as request
 use Rattle.rc_base.specs.declared.sync.SyncLists.{SyncLists}
 use Rattle.rc_base.specs.declared.sync.SyncOp.{SyncOp}
-use Rattle.sync_manager.specs.Books.{AllWaitOrEnded, journal_in, names_declared}
+use Rattle.sync_manager.specs.Books.{AllWaitOrEnded, first_in, journal_in, names_declared}
 use Rattle.sync_manager.specs.Cores.{drained_in}
 use Rattle.sync_manager.specs.Progress.{ManagerProgress, is_end, IsFoundEmpty, IsFoundFull, taken_of, sent_to}
-use Rattle.sync_manager.specs.Stored.{grant_at}
 use Rattle.sync_manager.specs.declared.deed.ManagerDeed.{ManagerDeed}
 use Rattle.sync_manager.specs.declared.deed.ManagerDeed.TheVariants.{Receives, Loses}
 use Rattle.sync_manager.specs.declared.deed.Task.{Task}
@@ -24,7 +23,7 @@ AllSupplied core = core.supplied < core.tiles → journal_in core.book ≡ []
 
 -- the entry that the book would grant
 abbrev pub grant_in : ManagerCore → Option Entry
-grant_in core = grant_at core.book.counts core.book.units.items core.book.waiting core.book.clients
+grant_in core = first_in core.book
 
 -- no more is granted
 abbrev pub NoMoreIn : ManagerCore → Type 0
@@ -35,6 +34,10 @@ abbrev pub IsDeliveryIn : ManagerCore → ℕ → Grant → Type 0
 IsDeliveryIn core tile (grant_item.Entry e) =
     (tile ≡ core.supplied) × (tile < core.tiles) × (slice_get (journal_in core.book) (length (journal_in core.book) - 1) ≡ Some e)
 IsDeliveryIn core tile grant_item.NoMore = (tile ≡ core.told) × (tile < core.tiles) × AllSupplied core × NoMoreIn core
+
+-- the entry is the last one, and goes to the first tile without it
+abbrev pub IsOwed : ManagerCore → Entry → Type 0
+IsOwed core e = IsDeliveryIn core core.supplied (grant_item.Entry e)
 
 pub record IsReceivingIn (core : ManagerCore) : Type 0 where
   pub supplied : AllSupplied core

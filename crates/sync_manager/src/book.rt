@@ -25,24 +25,21 @@ pub struct Book {
 }
 
 impl Book {
-    ghost use Rattle.std.specs.Prelude.{◌≡◌, ◌≤◌, ◌<◌, ◌==◌, ℕ, true, false, Bool, length, is_some, Some, None, IfOk, OnOk, OnErr, IfSome, IsSome, IsNone, IsTrue, ◌↔◌};
-    ghost use Rattle.rc_base.specs.Lists.{at_name};
-    ghost use Rattle.rc_base.specs.Orders.Book.{Book as Arrivals, BookEvent, new_book, standing, book_after, IsBookOver, waiting_in};
-    ghost use Rattle.rc_base.specs.Orders.Book.BookEvent.{Arrives, Ends, Grants};
+    ghost use Rattle.std.specs.Prelude.{◌≡◌, ◌≤◌, ◌<◌, true, false, length, Some, None, IfOk, OnOk, OnErr, IfSome, IsSome, IsNone, IsTrue, ◌↔◌};
+    ghost use Rattle.rc_base.specs.Orders.Book.{standing, IsBookOver};
+    ghost use Rattle.rc_base.specs.Orders.Book.BookEvent.{Ends, Grants};
     ghost use Rattle.rc_base.specs.Orders.Grant.{grant};
     ghost use Rattle.rc_base.specs.Orders.Journal.{NothingIsLawful};
-    ghost use Rattle.rc_base.specs.Orders.Sync.{client_count};
-    ghost use Rattle.rc_base.specs.declared.sync.SyncLists.{SyncLists};
-    ghost use Rattle.sync_manager.specs.Stored.{wait_at, is_named, grant_at};
-    ghost use Rattle.sync_manager.specs.Books.{clients_in, waiting_at, names_declared, journal_in, has_ended, is_wanted, AllWaitOrEnded, SomeoneWaits, IsStuck, IsBookOf};
+    ghost use Rattle.sync_manager.specs.Stored.{CountSomeone};
+    ghost use Rattle.sync_manager.specs.Books.{clients_in, waiting_at, names_declared, journal_in, has_ended, is_wanted, arrival, first_in, AllWaitOrEnded, AreWaiting, SomeoneWaits, IsBookAfter, IsNewBook, IsSameBook, IsStuck, OfBook};
 
     /// A book in which nothing arrived, with the units as declared.
     pub fn new(alloc: Global, decl: &Decl, clients: u8) -> Result<Book, OutOfMemory>
         requires clients { (0 < clients) × (clients ≤ 8) }
         requires barriers { length decl.now.barriers < 256 }
-        requires counts { (barrier count : ℕ) → at_name decl.now.barriers barrier ≡ Some count → 0 < count }
+        requires counts { CountSomeone decl.now.barriers }
         ensures clients { IfOk result (λ kept. clients_in kept ≡ clients) }
-        ensures book { IfOk result (λ kept. (syncs : SyncLists) → client_count syncs ≡ clients → syncs.counts ≡ decl.now.barriers → syncs.units ≡ decl.now.semaphores → IsBookOf syncs kept new_book) }
+        ensures book { IfOk result (λ kept. IsNewBook decl.now clients kept) }
     {
         let counts = Items::from_slice(alloc, decl.barriers.as_slice())?;
         let units = widened(alloc, decl.semaphores.as_slice())?;
@@ -90,8 +87,8 @@ impl Book {
         requires running { has_ended self.old client ≡ false }
         requires declared { names_declared self.old op ≡ true }
         ensures clients { clients_in self.new ≡ clients_in self.old }
-        ensures arrived { OnOk result ((syncs : SyncLists) (b : Arrivals) → IsBookOf syncs self.old b → IsBookOf syncs self.new (book_after syncs b (Arrives client record { place = place; op = op }))) }
-        ensures unchanged { OnErr result ((syncs : SyncLists) (b : Arrivals) → IsBookOf syncs self.old b → IsBookOf syncs self.new b) }
+        ensures arrived { OnOk result (IsBookAfter self.old (arrival client place op) self.new) }
+        ensures unchanged { OnErr result (IsSameBook self.old self.new) }
     {
         self.entries.reserve(8)?;
         self.waiting[client as usize] = Some(WaitAt { place, op });
@@ -104,14 +101,14 @@ impl Book {
         requires free { waiting_at self.old client ≡ None }
         requires running { has_ended self.old client ≡ false }
         ensures clients { clients_in self.new ≡ clients_in self.old }
-        ensures ended { (syncs : SyncLists) (b : Arrivals) → IsBookOf syncs self.old b → IsBookOf syncs self.new (book_after syncs b (Ends client)) }
+        ensures ended { IsBookAfter self.old (Ends client) self.new }
     {
         self.ended[client as usize] = true;
     }
 
     /// The first lawful entry by what arrived.
     pub(crate) fn next_entry(&self) -> Option<Entry>
-        ensures { result ≡ grant_at self.now.counts self.now.units.items self.now.waiting self.now.clients }
+        ensures { result ≡ first_in self.now }
     {
         grant_at(
             self.counts.as_slice(),
@@ -123,9 +120,9 @@ impl Book {
 
     /// Carries out the first lawful entry.
     pub(crate) fn carry_out(&mut self, entry: Entry)
-        requires { grant_at self.old.counts self.old.units.items self.old.waiting self.old.clients ≡ Some entry }
+        requires { first_in self.old ≡ Some entry }
         ensures clients { clients_in self.new ≡ clients_in self.old }
-        ensures granted { (syncs : SyncLists) (b : Arrivals) → IsBookOf syncs self.old b → IsBookOf syncs self.new (book_after syncs b Grants) }
+        ensures granted { IsBookAfter self.old Grants self.new }
     {
         release(&mut self.waiting, self.clients, entry);
         move_unit(&mut self.units, entry);
@@ -137,9 +134,9 @@ impl Book {
     /// lawful by what arrived.
     pub fn grant(&mut self) -> Option<Entry>
         ensures clients { clients_in self.new ≡ clients_in self.old }
-        ensures entry { (syncs : SyncLists) (b : Arrivals) → IsBookOf syncs self.old b → result ≡ grant syncs (standing syncs b) }
-        ensures none { (syncs : SyncLists) (b : Arrivals) → IsBookOf syncs self.old b → IsNone result ↔ NothingIsLawful syncs (standing syncs b) }
-        ensures granted { (syncs : SyncLists) (b : Arrivals) → IsBookOf syncs self.old b → IsBookOf syncs self.new (book_after syncs b Grants) }
+        ensures entry { OfBook self.old (λ syncs b. result ≡ grant syncs (standing syncs b)) }
+        ensures none { OfBook self.old (λ syncs b. IsNone result ↔ NothingIsLawful syncs (standing syncs b)) }
+        ensures granted { IsBookAfter self.old Grants self.new }
     {
         match self.next_entry() {
             Some(entry) => {
@@ -175,15 +172,15 @@ impl Book {
 
     /// Whether the book is over: each client waits or has ended, and no entry is lawful.
     pub fn is_over(&self) -> bool
-        ensures { (syncs : SyncLists) (b : Arrivals) → IsBookOf syncs self.now b → IsTrue result ↔ IsBookOver syncs b }
+        ensures { OfBook self.now (λ syncs b. IsTrue result ↔ IsBookOver syncs b) }
     {
         self.all_wait() && self.next_entry().is_none()
     }
 
     /// Where the book is over and a client waits, the operation at which each client waits.
     pub fn stuck(&self) -> Option<Waiting>
-        ensures exact { (syncs : SyncLists) (b : Arrivals) → IsBookOf syncs self.now b → IsSome result ↔ IsStuck syncs b }
-        ensures waiting { IfSome result (λ w. (syncs : SyncLists) (b : Arrivals) → IsBookOf syncs self.now b → (client : ℕ) → wait_at w.at client ≡ waiting_in syncs b client) }
+        ensures exact { OfBook self.now (λ syncs b. IsSome result ↔ IsStuck syncs b) }
+        ensures waiting { IfSome result (λ w. OfBook self.now (λ syncs b. AreWaiting syncs b w)) }
     {
         if self.is_over() && self.someone_waits() {
             Some(Waiting { at: self.waiting })

@@ -30,15 +30,13 @@ pub struct ManagerCore {
 }
 
 impl ManagerCore {
-    ghost use Rattle.std.specs.Prelude.{◌≡◌, ◌⊎◌, ◌≤◌, ◌<◌, ℕ, true, false, not, length, slice_index_or, IfOk, OnOk, OnErr, IfSome, IfNone, IsTrue, ◌↔◌};
+    ghost use Rattle.std.specs.Prelude.{◌≡◌, ◌⊎◌, ◌≤◌, ◌<◌, true, false, length, IfOk, OnOk, OnErr, IfSome, IfNone};
     ghost use Rattle.rc_base.specs.Cluster.Lanes.{EachLane};
-    ghost use Rattle.rc_base.specs.Lists.{at_name};
-    ghost use Rattle.rc_base.specs.Orders.Sync.{client_count};
-    ghost use Rattle.rc_base.specs.declared.sync.SyncLists.{SyncLists};
-    ghost use Rattle.sync_manager.specs.Books.{clients_in, is_wanted, names_declared, IsBookOf};
-    ghost use Rattle.sync_manager.specs.Progress.{ManagerProgress, new_progress, answer_of};
-    ghost use Rattle.sync_manager.specs.Cores.{clients_of, tiles_of, book_of, drained_in, is_short, IsProgressOf, IsManagerStep, AreTaken, AreFoundEmpty, AreSent, AreFoundFull};
-    ghost use Rattle.sync_manager.specs.Tasks.{AllSupplied, IsDeliveryIn, IsReceivingIn, IsDrainingIn, IsTask, IsEnding, IsNoted, IsTaking, LeavesRequests, LeavesGrants};
+    ghost use Rattle.sync_manager.specs.Books.{clients_in, is_wanted, names_declared};
+    ghost use Rattle.sync_manager.specs.Stored.{CountSomeone};
+    ghost use Rattle.sync_manager.specs.Progress.{answer_of};
+    ghost use Rattle.sync_manager.specs.Cores.{clients_of, tiles_of, book_of, drained_in, is_short, AreWanted, BecomesShort, IsManagerStep, IsNewManager, OfProgress, AreTaken, AreFoundEmpty, AreSent, AreFoundFull};
+    ghost use Rattle.sync_manager.specs.Tasks.{AllSupplied, IsDeliveryIn, IsReceivingIn, IsDrainingIn, IsTask, IsEnding, IsNoted, IsOwed, IsTaking, LeavesRequests, LeavesGrants};
     ghost use Rattle.sync_manager.specs.declared.deed.Task.TheVariants as task;
     ghost use Rattle.sync_manager.specs.declared.deed.ManagerDeed.{ManagerDeed};
     ghost use Rattle.sync_manager.specs.declared.deed.ManagerDeed.TheVariants as deed;
@@ -52,10 +50,10 @@ impl ManagerCore {
     ) -> Result<ManagerCore, OutOfMemory>
         requires clients { (0 < clients) × (clients ≤ 8) }
         requires barriers { length decl.now.barriers < 256 }
-        requires counts { (barrier count : ℕ) → at_name decl.now.barriers barrier ≡ Some count → 0 < count }
+        requires counts { CountSomeone decl.now.barriers }
         ensures clients { IfOk result (λ core. clients_of core ≡ clients) }
         ensures tiles { IfOk result (λ core. tiles_of core ≡ tiles) }
-        ensures progress { IfOk result (λ core. (syncs : SyncLists) → client_count syncs ≡ clients → syncs.counts ≡ decl.now.barriers → syncs.units ≡ decl.now.semaphores → IsProgressOf syncs core new_progress) }
+        ensures progress { IfOk result (λ core. IsNewManager decl.now clients core) }
     {
         let book = Book::new(alloc, decl, clients)?;
         Ok(ManagerCore {
@@ -78,7 +76,7 @@ impl ManagerCore {
 
     /// The journal, handed out.
     pub fn into_journal(self) -> Journal
-        ensures { (syncs : SyncLists) (d : ManagerProgress) → IsProgressOf syncs self d → result ≡ d.book.journal }
+        ensures { OfProgress self (λ syncs d. result ≡ d.book.journal) }
     {
         let ManagerCore { book, .. } = self;
         book.into_journal()
@@ -95,7 +93,7 @@ impl ManagerCore {
 
     /// The last entry, where it isn't yet with every tile.
     fn owed(&self) -> Option<Entry>
-        ensures some { IfSome result (λ e. IsDeliveryIn self.now self.now.supplied (Grant.Entry e)) }
+        ensures some { IfSome result (λ e. IsOwed self.now e) }
         ensures none { IfNone result (AllSupplied self.now) }
     {
         if self.supplied < self.tiles {
@@ -245,7 +243,7 @@ impl ManagerCore {
 
     /// The clients that neither wait nor have ended.
     fn wanted(&self) -> [bool; 8]
-        ensures { (client : ℕ) → client < clients_of self.now → slice_index_or result client true ≡ is_wanted (book_of self.now) client }
+        ensures { AreWanted self.now result }
     {
         let mut asks = [false; 8];
         for client in 0..self.book.clients() {
@@ -361,7 +359,7 @@ impl ManagerCore {
         ensures tiles { tiles_of self.new ≡ tiles_of self.old }
         ensures request_lanes { EachLane (λ i a b. I.lane_of b ≡ I.lane_of a) requests.old requests.new }
         ensures grant_lanes { EachLane (λ i a b. O.lane_of b ≡ O.lane_of a) grants.old grants.new }
-        ensures out_of_memory { OnErr result ((is_short self.old ≡ false) × (is_short self.new ≡ true)) }
+        ensures out_of_memory { OnErr result (BecomesShort self.old self.new) }
         ensures ample { OnOk result (is_short self.new ≡ is_short self.old) }
         // the answer tells what it did: the first case that applies; it took and appended just that, and each lane that it found empty or full says so
         ensures step { (did : ManagerDeed) × (result ≡ answer_of did) × IsManagerStep self.old did self.new

@@ -1,8 +1,8 @@
 //! What an entry does to the waiting operations and to the units.
-ghost use Rattle.std.specs.Prelude.{◌≡◌, ◌≤◌, ◌<◌, ◌+◌, ◌^◌, ℕ, true, cond, length, slice_index_or, None, IfOk};
-ghost use Rattle.rc_base.specs.Orders.Journal.{is_member, units_after};
+ghost use Rattle.std.specs.Prelude.{◌≡◌, ◌≤◌, ◌<◌, ◌+◌, ◌^◌, ℕ, length, slice_index_or, None, IfOk};
+ghost use Rattle.rc_base.specs.Orders.Journal.{is_member};
 ghost use Rattle.rc_base.specs.declared.sync.Entry.{Entry};
-ghost use Rattle.sync_manager.specs.Stored.{wait_at, units_at, IsUnitThere};
+ghost use Rattle.sync_manager.specs.Stored.{AreReleased, HasMoved, IsUnitThere, RiseByOne};
 
 use rc_base::sync::{Entry, WaitAt, is_member};
 use std::alloc::{AllocError, Global};
@@ -11,7 +11,7 @@ use std::alloc::{AllocError, Global};
 pub fn release(waiting: &mut [Option<WaitAt>], clients: u8, entry: Entry)
     requires { length waiting.old ≡ 8 }
     ensures slots { length waiting.new ≡ length waiting.old }
-    ensures waiting { (c : ℕ) → wait_at waiting.new c ≡ cond (is_member clients entry c) None (wait_at waiting.old c) }
+    ensures waiting { AreReleased clients entry waiting.old waiting.new }
 {
     for client in 0..8u8 {
         if is_member(entry, client, usize::from(clients)) {
@@ -25,8 +25,8 @@ pub fn move_unit(units: &mut Vec<u64>, entry: Entry)
     requires there { IsUnitThere units.old.items entry }
     requires bounded { (k : ℕ) → slice_index_or units.old.items k 0 + 1 < 2 ^ 64 }
     ensures length { length units.new.items ≡ length units.old.items }
-    ensures units { (k : ℕ) → units_at units.new.items k ≡ units_after entry (units_at units.old.items) k }
-    ensures bounded { (k : ℕ) → slice_index_or units.new.items k 0 ≤ slice_index_or units.old.items k 0 + 1 }
+    ensures units { HasMoved entry units.old.items units.new.items }
+    ensures bounded { RiseByOne units.old.items units.new.items }
 {
     match entry {
         Entry::Give { semaphore, .. } => units[semaphore as usize - 1] += 1,
