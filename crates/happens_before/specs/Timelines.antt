@@ -1,5 +1,5 @@
 -- How clocks are kept: for each client the places from which on its names have more before them.
-use Rattle.std.specs.Prelude.{◌≡◌, ℕ, suc, ◌+◌, ◌-◌, ◌^◌, ◌<◌, ◌≤◌, ◌==◌, nat_le, max, cond, List, [], ◌∷◌, take, length, replicate, slice_get, slice_index, slice_index_or, Option, Some, None, option_map}
+use Rattle.std.specs.Prelude.{◌≡◌, ◌≢◌, ℕ, suc, ◌+◌, ◌-◌, ◌^◌, ◌<◌, ◌≤◌, ◌==◌, nat_le, nat_lt, max, cond, List, [], ◌∷◌, take, length, replicate, slice_get, slice_index, slice_index_or, Option, Some, None, option_map}
 use Rattle.rc_base.specs.Orders.Journal.{reach_of}
 use Rattle.rc_base.specs.Orders.Order.{PlacedEntry, entries_of, givers, takers}
 use Rattle.rc_base.specs.Orders.Sync.{units_of}
@@ -7,9 +7,11 @@ use Rattle.rc_base.specs.declared.sync.Entry.{Entry}
 use Rattle.rc_base.specs.declared.sync.Entry.TheVariants.{Meet, Swap, Give, Take}
 use Rattle.rc_base.specs.declared.sync.Name.{Name}
 use Rattle.rc_base.specs.declared.sync.SyncLists.{SyncLists}
+use Rattle.order_model.specs.Checked.{place_by}
 use Rattle.order_model.specs.Counted.{AreUsed}
-use Rattle.happens_before.specs.Clocks.{AtMost, up_to, AreClocks}
+use Rattle.happens_before.specs.Clocks.{AtMost, up_to, raised, AreClocks}
 use Rattle.happens_before.specs.declared.timelines.Change.{Change}
+use Rattle.happens_before.specs.declared.timelines.Timelines.{Timelines}
 use Rattle.happens_before.specs.declared.semaphores.Semaphore.{Semaphore}
 
 -- what is before a place: as the last change says that isn't behind it, else as was said first
@@ -40,6 +42,32 @@ pub record AreOrdered (lists : List (List Change)) : Type 0 where
   pub clients : length lists ≡ 8
   pub changes : (c : ℕ) → c < 8 → (end : ℕ) × AreChanges 0 (slice_index_or lists c []) end
 
+-- each number is the greater one of its own and the other list's
+abbrev pub IsJoined : List ℕ → (ℕ → ℕ) → List ℕ → Type 0
+IsJoined before other after = (client : ℕ) → slice_index after client ≡ max (slice_index before client) (other client)
+
+-- no client has changes
+abbrev pub HaveNoChanges : Timelines → Type 0
+HaveNoChanges t = (client : ℕ) → slice_index_or t.clients.items client [] ≡ []
+
+-- the client's places of changes don't fall, up to this one
+abbrev pub ChangesGoTo : Timelines → ℕ → ℕ → Type 0
+ChangesGoTo t client end = AreChanges 0 (slice_index_or t.clients.items client []) end
+
+-- a client has the changes that it had
+abbrev pub KeepsChanges : Timelines → Timelines → ℕ → Type 0
+KeepsChanges before after client = slice_index_or after.clients.items client [] ≡ slice_index_or before.clients.items client []
+
+abbrev pub OthersKeepChanges : Timelines → ℕ → Timelines → Type 0
+OthersKeepChanges before client after = (c : ℕ) → c ≢ client → KeepsChanges before after c
+
+-- from these places on, the names of the clients have these before them too
+abbrev pub IsRaised : Timelines → (ℕ → Option ℕ) → List ℕ → Timelines → Name → ℕ → Type 0
+IsRaised before from gate after n d = clock_of after.clients.items n d ≡ raised (clock_of before.clients.items) from (slice_index gate) n d
+
+abbrev pub AllRaised : Timelines → (ℕ → Option ℕ) → List ℕ → Timelines → Type 0
+AllRaised before from gate after = (n : Name) (d : ℕ) → IsRaised before from gate after n d
+
 -- ---- while a journal is read
 
 -- what entries leave of a semaphore: its first units that aren't taken, who gave units, and whose unit is taken next
@@ -51,6 +79,14 @@ pub record IsLeft (syncs : SyncLists) (ms : List PlacedEntry) (name : ℕ) (s : 
 
 abbrev pub no_semaphore : Semaphore
 no_semaphore = record { left = 0; givers = []; next = 0 }
+
+-- whose unit is taken, where none of the first ones is left
+abbrev pub giver_next : Semaphore → Option Name
+giver_next s = cond (nat_lt 0 s.left) None (slice_get s.givers s.next)
+
+-- which unit is taken after that
+abbrev pub next_after : Semaphore → ℕ
+next_after s = cond (nat_lt 0 s.left) s.next (cond (nat_lt s.next (length s.givers)) (s.next + 1) s.next)
 
 -- the semaphores and the clocks behind the entries js of a journal
 pub record IsKept (syncs : SyncLists) (journal js : List Entry) (semaphores : List Semaphore) (lists : List (List Change)) : Type 0 where
@@ -87,3 +123,29 @@ pub record IsGate (clock : Name → ℕ → ℕ) (at : ℕ → Option ℕ) (gate
 -- the places of members' operations, of eight clients
 abbrev pub places_in : List (Option ℕ) → ℕ → Option ℕ
 places_in at c = slice_index_or at c None
+
+-- ---- the members of an entry, of eight clients
+
+-- the places of their operations in the entry, by how many each client has used
+abbrev pub ArePlaces : SyncLists → Entry → List ℕ → List (Option ℕ) → Type 0
+ArePlaces syncs entry used at = (c : ℕ) → c < 8 → places_in at c ≡ place_by syncs entry c (slice_index used c)
+
+-- the gate of names at these places
+abbrev pub IsGateOf : Timelines → List (Option ℕ) → List ℕ → Type 0
+IsGateOf t at gate = IsGate (clock_of t.clients.items) (places_in at) (slice_index gate)
+
+-- the changes of a member go no further than behind its operation
+abbrev pub ChangesGoToOperations : Timelines → List (Option ℕ) → Type 0
+ChangesGoToOperations t at = (c p : ℕ) → places_in at c ≡ Some p → ChangesGoTo t c (p + 1)
+
+-- the same of the members among the eight
+abbrev pub MembersGoToOperations : Timelines → List (Option ℕ) → Type 0
+MembersGoToOperations t at = (c p : ℕ) → c < 8 → places_in at c ≡ Some p → ChangesGoTo t c (p + 1)
+
+-- who is no member has the changes that it had
+abbrev pub NoMemberChanges : Timelines → List (Option ℕ) → Timelines → Type 0
+NoMemberChanges before at after = (c : ℕ) → c < 8 → places_in at c ≡ None → KeepsChanges before after c
+
+-- from behind the members' operations on, their names have these before them too
+abbrev pub MembersRaised : Timelines → List (Option ℕ) → List ℕ → Timelines → Type 0
+MembersRaised before at gate after = (n : Name) (d : ℕ) → n.client < 8 → IsRaised before (behind (places_in at)) gate after n d

@@ -1,8 +1,7 @@
 //! Vector clocks, kept as each client's changes.
-ghost use Rattle.std.specs.Prelude.{◌≡◌, ◌≢◌, ◌+◌, ◌<◌, ◌^◌, ℕ, max, length, slice_index, slice_index_or, [], IfOk, OnOk};
-ghost use Rattle.happens_before.specs.Clocks.{up_to, raised, only};
-ghost use Rattle.happens_before.specs.Timelines.{before_at, clock_of, AreChanges, AreOrdered, AreTimelines};
-ghost use Rattle.rc_base.specs.declared.sync.Name.{Name as AnyName};
+ghost use Rattle.std.specs.Prelude.{◌≡◌, ◌+◌, ◌<◌, ◌^◌, ℕ, length, slice_index, slice_index_or, [], IfOk, OnOk};
+ghost use Rattle.happens_before.specs.Clocks.{only, up_to};
+ghost use Rattle.happens_before.specs.Timelines.{AllRaised, AreChanges, AreOrdered, AreTimelines, ChangesGoTo, HaveNoChanges, IsJoined, OthersKeepChanges, before_at, clock_of};
 
 use rc_base::items::Items;
 use rc_base::out_of_memory::OutOfMemory;
@@ -24,7 +23,7 @@ pub struct Timelines {
 
 /// The greater number of each client.
 fn join(into: &mut [u32; 8], other: &[u32; 8])
-    ensures { (client : ℕ) → slice_index into.new client ≡ max (slice_index into.old client) (slice_index other.now client) }
+    ensures { IsJoined into.old (slice_index other.now) into.new }
 {
     for client in 0..8usize {
         into[client] = into[client].max(other[client]);
@@ -47,7 +46,7 @@ impl Timelines {
     /// Nothing is before any name but the earlier ones of its client.
     pub fn new(alloc: Global) -> Result<Timelines, OutOfMemory>
         ensures timelines { IfOk result (λ t. AreTimelines t.clients.items (λ c. 0)) }
-        ensures empty { IfOk result (λ t. (client : ℕ) → slice_index_or t.clients.items client [] ≡ []) }
+        ensures empty { IfOk result (λ t. HaveNoChanges t) }
     {
         let mut clients = Vec::new(alloc);
         for _ in 0..8usize {
@@ -70,7 +69,7 @@ impl Timelines {
         requires timelines { AreOrdered self.now.clients.items }
         requires client { name.client < 8 }
         requires place { name.place + 1 < 2 ^ 32 }
-        ensures { (client : ℕ) → slice_index gate.new client ≡ max (slice_index gate.old client) (up_to (clock_of self.now.clients.items) name client) }
+        ensures { IsJoined gate.old (up_to (clock_of self.now.clients.items) name) gate.new }
     {
         let before = self.before(name.client, name.place);
         join(gate, &before);
@@ -82,10 +81,10 @@ impl Timelines {
     pub fn raise(&mut self, client: u8, from: u32, gate: &[u32; 8]) -> Result<(), OutOfMemory>
         requires timelines { AreOrdered self.old.clients.items }
         requires client { client < 8 }
-        requires late { AreChanges 0 (slice_index_or self.old.clients.items client []) from }
-        ensures clock { OnOk result ((n : AnyName) (d : ℕ) → clock_of self.new.clients.items n d ≡ raised (clock_of self.old.clients.items) (only client from) (slice_index gate.now) n d) }
-        ensures changes { OnOk result (AreChanges 0 (slice_index_or self.new.clients.items client []) from) }
-        ensures others { OnOk result ((c : ℕ) → c ≢ client → slice_index_or self.new.clients.items c [] ≡ slice_index_or self.old.clients.items c []) }
+        requires late { ChangesGoTo self.old client from }
+        ensures clock { OnOk result (AllRaised self.old (only client from) gate.now self.new) }
+        ensures changes { OnOk result (ChangesGoTo self.new client from) }
+        ensures others { OnOk result (OthersKeepChanges self.old client self.new) }
         ensures count { OnOk result (length self.new.clients.items ≡ 8) }
     {
         let mut before = self.before(client, from);

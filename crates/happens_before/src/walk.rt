@@ -1,16 +1,15 @@
 //! A journal read entry by entry: what each entry puts before what.
-ghost use Rattle.std.specs.Prelude.{◌≡◌, ◌+◌, ◌<◌, ◌≤◌, ◌^◌, ℕ, length, slice_get, slice_index, slice_index_or, option_map, Some, None, [], List, IfSome, IfOk, OnOk};
+ghost use Rattle.std.specs.Prelude.{◌≡◌, ◌+◌, ◌<◌, ◌≤◌, ◌^◌, ℕ, length, slice_get, Some, None, List, IfSome, IfOk, OnOk};
 ghost use Rattle.rc_base.specs.Lists.{AreRising};
 ghost use Rattle.rc_base.specs.Orders.Journal.{IsLegal};
 ghost use Rattle.rc_base.specs.Orders.Sync.{IsWellFormed, client_count, ops_of, places_of};
 ghost use Rattle.rc_base.specs.declared.sync.Entry.{Entry as AnyEntry};
 ghost use Rattle.rc_base.specs.declared.sync.Entry.TheVariants as entry;
-ghost use Rattle.rc_base.specs.declared.sync.Name.{Name as AnyName};
-ghost use Rattle.rc_base.specs.declared.sync.WaitAt.{WaitAt};
 ghost use Rattle.order_model.specs.Checked.{place_by};
-ghost use Rattle.happens_before.specs.Clocks.{IsExact, raised};
-ghost use Rattle.happens_before.specs.Walks.{HasRead, Keeps};
-ghost use Rattle.happens_before.specs.Timelines.{AreChanges, AreOrdered, IsGate, IsUnitEntry, behind, clock_of, places_in};
+ghost use Rattle.order_model.specs.Counted.{place_at};
+ghost use Rattle.happens_before.specs.Clocks.{IsExact};
+ghost use Rattle.happens_before.specs.Walks.{HasRead, IsAsFar, Keeps};
+ghost use Rattle.happens_before.specs.Timelines.{AreOrdered, ArePlaces, ChangesGoToOperations, IsGateOf, IsUnitEntry, MembersGoToOperations, MembersRaised, NoMemberChanges, clock_of, places_in};
 
 use crate::semaphores::Semaphore;
 use crate::timelines::Timelines;
@@ -21,7 +20,7 @@ use std::alloc::Global;
 
 fn operation_place(row: &SyncRow, number: usize) -> Option<u32>
     requires { AreRising 0 (places_of row.now.ops) row.now.length }
-    ensures place { result ≡ option_map (λ (w : WaitAt). w.place) (slice_get row.now.ops number) }
+    ensures place { result ≡ place_at row.now.ops number }
     ensures small { IfSome result (λ p. p + 1 < 2 ^ 32) }
 {
     let _end = row.length;
@@ -34,7 +33,7 @@ fn operation_place(row: &SyncRow, number: usize) -> Option<u32>
 /// The place of a client's operation of this number.
 fn place_of(syncs: &SyncLists, client: u8, number: usize) -> Option<u32>
     requires { IsWellFormed syncs.now }
-    ensures place { result ≡ option_map (λ (w : WaitAt). w.place) (slice_get (ops_of syncs.now client) number) }
+    ensures place { result ≡ place_at (ops_of syncs.now client) number }
     ensures small { IfSome result (λ p. p + 1 < 2 ^ 32) }
 {
     match syncs.clients.as_slice().get(client as usize) {
@@ -70,7 +69,7 @@ struct Walk {
 fn places(syncs: &SyncLists, entry: Entry, used: &[usize; 8]) -> [Option<u32>; 8]
     requires { IsWellFormed syncs.now }
     ensures slots { length result ≡ 8 }
-    ensures places { (c : ℕ) → c < 8 → places_in result c ≡ place_by syncs.now entry c (slice_index used.now c) }
+    ensures places { ArePlaces syncs.now entry used.now result }
     ensures small { (c p : ℕ) → places_in result c ≡ Some p → p + 1 < 2 ^ 32 }
 {
     let mut places = [None; 8];
@@ -83,7 +82,7 @@ fn places(syncs: &SyncLists, entry: Entry, used: &[usize; 8]) -> [Option<u32>; 8
 /// What is before the members' operations, and these names.
 fn gate_of(timelines: &Timelines, at: &[Option<u32>; 8]) -> [u32; 8]
     requires timelines { AreOrdered timelines.now.clients.items }
-    ensures { IsGate (clock_of timelines.now.clients.items) (places_in at.now) (slice_index result) }
+    ensures { IsGateOf timelines.now at.now result }
 {
     let mut gate = [0; 8];
     for client in 0..8u8 {
@@ -108,11 +107,11 @@ fn raise_members(
 ) -> Result<(), OutOfMemory>
     requires timelines { AreOrdered timelines.old.clients.items }
     requires small { (c p : ℕ) → places_in at.now c ≡ Some p → p + 1 < 2 ^ 32 }
-    requires late { (c p : ℕ) → places_in at.now c ≡ Some p → AreChanges 0 (slice_index_or timelines.old.clients.items c []) (p + 1) }
+    requires late { ChangesGoToOperations timelines.old at.now }
     ensures clients { OnOk result (length timelines.new.clients.items ≡ 8) }
-    ensures moved { OnOk result ((c p : ℕ) → c < 8 → places_in at.now c ≡ Some p → AreChanges 0 (slice_index_or timelines.new.clients.items c []) (p + 1)) }
-    ensures others { OnOk result ((c : ℕ) → c < 8 → places_in at.now c ≡ None → slice_index_or timelines.new.clients.items c [] ≡ slice_index_or timelines.old.clients.items c []) }
-    ensures clock { OnOk result ((n : AnyName) (d : ℕ) → n.client < 8 → clock_of timelines.new.clients.items n d ≡ raised (clock_of timelines.old.clients.items) (behind (places_in at.now)) (slice_index gate.now) n d) }
+    ensures moved { OnOk result (MembersGoToOperations timelines.new at.now) }
+    ensures others { OnOk result (NoMemberChanges timelines.old at.now timelines.new) }
+    ensures clock { OnOk result (MembersRaised timelines.old at.now gate.now timelines.new) }
 {
     for client in 0..8u8 {
         match at[client as usize] {
@@ -155,7 +154,7 @@ impl Walk {
         requires client { client < 8 }
         requires entry { slice_get journal.now self.old.read ≡ Some (entry.Give semaphore client) }
         requires read { HasRead syncs.now journal.now self.old }
-        ensures same { OnOk result ((self.new.read ≡ self.old.read) × (self.new.used ≡ self.old.used)) }
+        ensures same { OnOk result (IsAsFar self.old self.new) }
         ensures kept { OnOk result (Keeps syncs.now journal.now (self.old.read + 1) self.new) }
     {
         let _journal = journal;
@@ -178,7 +177,7 @@ impl Walk {
         requires client { client < 8 }
         requires entry { slice_get journal.now self.old.read ≡ Some (entry.Take semaphore client) }
         requires read { HasRead syncs.now journal.now self.old }
-        ensures same { OnOk result ((self.new.read ≡ self.old.read) × (self.new.used ≡ self.old.used)) }
+        ensures same { OnOk result (IsAsFar self.old self.new) }
         ensures kept { OnOk result (Keeps syncs.now journal.now (self.old.read + 1) self.new) }
     {
         let _journal = journal;
@@ -205,7 +204,7 @@ impl Walk {
         requires many { IsUnitEntry entry → ⊥ }
         requires entry { slice_get journal.now self.old.read ≡ Some entry }
         requires read { HasRead syncs.now journal.now self.old }
-        ensures same { OnOk result ((self.new.read ≡ self.old.read) × (self.new.used ≡ self.old.used)) }
+        ensures same { OnOk result (IsAsFar self.old self.new) }
         ensures kept { OnOk result (Keeps syncs.now journal.now (self.old.read + 1) self.new) }
     {
         let _journal = journal;
@@ -226,7 +225,7 @@ impl Walk {
         requires legal { IsLegal syncs.now journal.now }
         requires entry { slice_get journal.now self.old.read ≡ Some entry }
         requires read { HasRead syncs.now journal.now self.old }
-        ensures same { OnOk result ((self.new.read ≡ self.old.read) × (self.new.used ≡ self.old.used)) }
+        ensures same { OnOk result (IsAsFar self.old self.new) }
         ensures kept { OnOk result (Keeps syncs.now journal.now (self.old.read + 1) self.new) }
     {
         match entry {
