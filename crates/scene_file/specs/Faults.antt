@@ -1,12 +1,13 @@
 -- What is wrong with bytes that spell no scene, and at which place: the first fault from the left.
 use Rattle.std.specs.Prelude.{◌≡◌, ℕ, suc, ◌+◌, ◌<◌, ◌^◌, ◌⊎◌, List, [], ◌∷◌, ◌++◌, length, Option, Some, None, Result, Ok, Err}
-use Rattle.std.specs.List.{flat_map}
+use Rattle.std.specs.List.{flat_map, AllByRecursion}
 use Rattle.rc_base.specs.declared.scene.Decl.{Decl}
 use Rattle.rc_base.specs.declared.scene.Scene.{Scene}
 use Rattle.rc_base.specs.declared.scene.Limit.{Limit}
 use Rattle.rc_base.specs.declared.scene.SceneKind.{SceneKind}
 use Rattle.rc_base.specs.declared.scene.SceneKind.TheVariants.{BadMagic, BadCount, UnknownOpcode, Truncated, Trailing}
-use Rattle.rc_base.specs.Formats.Spelling.{CommandSet, SceneForm, plain_form, list_form, header_of, IsDeclOf, stream_text, SpellStreamsOf, SpellsStreamOf, SpellsSceneOf, SpellsScene}
+use Rattle.rc_base.specs.Formats.Spelling.{CommandSet, SceneForm, plain_form, list_form, header_of, IsDecl, IsDeclOf, IsListCommand, stream_text, SpellStreamsOf, SpellsStreamOf, SpellsSceneOf, SpellsScene}
+use Rattle.rc_base.specs.Formats.Commands.{IsCommand}
 use Rattle.rc_base.specs.Formats.Limits.{limit_of, read_limit}
 use Rattle.packet_bytes.specs.declared.fault.PackFault.{PackFault}
 use Rattle.packet_bytes.specs.declared.fault.PackFault.TheVariants as faults
@@ -171,6 +172,52 @@ IsListJudged s result = IsJudgedBy list_limit_of s result
 
 abbrev pub IsListBeyond : List ℕ → SceneFault → Type 0
 IsListBeyond bytes fault = IsBeyondBy SpellsListScene list_limit_of bytes fault
+
+-- ---- what readers answer unless memory runs out
+
+-- the answer is this, or that memory ran out
+abbrev pub AnswersOrLacks : {S : Type 0} → Result S SceneFault → Result S SceneFault → Type 0
+AnswersOrLacks result answer = (result ≡ answer) ⊎ (result ≡ Err scene_faults.OutOfMemory)
+
+-- a scene that the bytes spell is read, where its quantities are within their ranges
+abbrev pub ReadsEachBy : {S : Type 0} → (List ℕ → S → Type 0) → (S → Option Limit) → List ℕ → Result S SceneFault → Type 0
+ReadsEachBy {S = S} Spells limit bytes result = (s : S) → Spells bytes s → limit s ≡ None → AnswersOrLacks result (Ok s)
+
+-- malformed bytes are told so, with the fault and its place
+abbrev pub TellsEachFormBy : {S : Type 0} → (List ℕ → SceneKind → ℕ → Type 0) → List ℕ → Result S SceneFault → Type 0
+TellsEachFormBy Fails bytes result = (kind : SceneKind) → (at : ℕ) → Fails bytes kind at → AnswersOrLacks result (Err (scene_faults.Malformed kind at))
+
+-- the first quantity outside its range, of a scene that the bytes spell, is told
+abbrev pub TellsEachLimitBy : {S : Type 0} → (List ℕ → S → Type 0) → (S → Option Limit) → List ℕ → Result S SceneFault → Type 0
+TellsEachLimitBy {S = S} Spells limit bytes result =
+    (s : S) → (l : Limit) → Spells bytes s → limit s ≡ Some l → AnswersOrLacks result (Err (scene_faults.Limit l.what l.value))
+
+-- the same of scenes of the commands of the table
+abbrev pub ReadsEach : List ℕ → Result Scene SceneFault → Type 0
+ReadsEach bytes result = ReadsEachBy SpellsScene limit_of bytes result
+
+abbrev pub TellsEachForm : List ℕ → Result Scene SceneFault → Type 0
+TellsEachForm bytes result = TellsEachFormBy FailsAsScene bytes result
+
+abbrev pub TellsEachLimit : List ℕ → Result Scene SceneFault → Type 0
+TellsEachLimit bytes result = TellsEachLimitBy SpellsScene limit_of bytes result
+
+-- the same of scenes with call lists
+abbrev pub ReadsEachList : List ℕ → Result ListScene SceneFault → Type 0
+ReadsEachList bytes result = ReadsEachBy SpellsListScene list_limit_of bytes result
+
+abbrev pub TellsEachListForm : List ℕ → Result ListScene SceneFault → Type 0
+TellsEachListForm bytes result = TellsEachFormBy FailsAsListScene bytes result
+
+abbrev pub TellsEachListLimit : List ℕ → Result ListScene SceneFault → Type 0
+TellsEachListLimit bytes result = TellsEachLimitBy SpellsListScene list_limit_of bytes result
+
+-- the fields of its declaration and of its commands are in their ranges
+abbrev pub HasFields : Scene → Type 0
+HasFields s = IsDecl s.decl × AllByRecursion (AllByRecursion IsCommand) s.streams
+
+abbrev pub HasListFields : ListScene → Type 0
+HasListFields s = IsDeclOf list_form s.decl × AllByRecursion (AllByRecursion IsListCommand) s.streams
 
 -- ---- the same of faults on their way up, whose places are told by how many bytes stand from there on
 

@@ -1,10 +1,12 @@
 -- A generated scene as it grows, round by round.
-use Rattle.std.specs.Prelude.{ℕ, ◌+◌, ◌-◌, ◌*◌, ◌/◌, ◌≤◌, ◌==◌, List, [], ◌∷◌, ◌++◌, map, pos, if◌then◌else◌}
+use Rattle.std.specs.Prelude.{ℕ, ◌+◌, ◌-◌, ◌*◌, ◌/◌, ◌%◌, ◌≤◌, ◌==◌, List, [], ◌∷◌, ◌++◌, map, pos, if◌then◌else◌}
 use Rattle.std.specs.List.{flat_map, range_with_len}
+use Rattle.rc_base.specs.Colors.{rgba}
 use Rattle.rc_base.specs.declared.command.Command.{Command}
 use Rattle.rc_base.specs.declared.command.Command.TheVariants as cmd
+use Rattle.rc_base.specs.declared.command.Rgba.{Rgba}
 use Rattle.rc_base.specs.Formats.Within.{IsWithin}
-use Rattle.scene_file.specs.Generator.{generated_clients, is_lone, lone_client, generated_triangle, generated_round, generated_scene}
+use Rattle.scene_file.specs.Generator.{draw_of, drawn_state, generated_clients, is_lone, lone_client, generated_triangle, generated_round, generated_scene}
 
 -- how many triangles a client draws in a round
 abbrev pub triangles_in : ℕ → ℕ → ℕ
@@ -15,6 +17,18 @@ abbrev pub drawing_from : ℕ → ℕ → ℕ → List Command
 drawing_from state round client =
     if is_lone round then (if lone_client round == client then cmd.Disable 0 ∷ generated_triangle state 0 else [])
     else cmd.Enable 0 ∷ generated_triangle state 0
+
+-- the same before it meets the others
+abbrev pub turn_from : ℕ → ℕ → ℕ → List Command
+turn_from state round client = drawing_from state round client ++ cmd.Barrier 1 ∷ []
+
+-- the state behind that
+abbrev pub state_behind : ℕ → ℕ → ℕ → ℕ
+state_behind state round client = drawn_state state (10 * triangles_in round client)
+
+-- a colour of the first four draws from a state on
+abbrev pub color_from : ℕ → Rgba
+color_from state = rgba (draw_of state 0 % 256) (draw_of state 1 % 256) (draw_of state 2 % 256) (draw_of state 3 % 256)
 
 -- blending by alpha, and the scissor box of the client's band
 abbrev pub opening_of : ℕ → List Command

@@ -1,10 +1,27 @@
 -- Judging the quantities of a scene part by part.
-use Rattle.std.specs.Prelude.{ℕ, ◌*◌, List, [], ◌∷◌, length, map, sum_by, Option, Some, None, Result, Ok, Err}
+use Rattle.std.specs.Prelude.{◌≡◌, ℕ, ◌*◌, ◌≤◌, List, [], ◌∷◌, length, map, sum_by, Option, Some, None, Result, Ok, Err, MatchResult}
 use Rattle.std.specs.List.{flat_map}
 use Rattle.rc_base.specs.declared.scene.Decl.{Decl}
 use Rattle.rc_base.specs.declared.scene.Limit.{Limit}
 use Rattle.rc_base.specs.declared.scene.Scene.{Scene}
-use Rattle.rc_base.specs.Formats.Limits.{Quantity, first_outside, size_area, side, barrier_count, least_swaps, commands_in}
+use Rattle.rc_base.specs.Formats.Limits.{Quantity, first_outside, size_area, side, barrier_count, least_swaps, commands_in, limit_of}
+
+-- it says that no quantity is outside its range, or which one is the first
+abbrev pub Tells : Result (Unit {0}) Limit → Option Limit → Type 0
+Tells result limit = MatchResult result (λ _. limit ≡ None) (λ l. limit ≡ Some l)
+
+-- this is the first quantity outside its range of each scene with this declaration and so many clients
+abbrev pub IsLimitOfClients : Decl → ℕ → Limit → Type 0
+IsLimitOfClients decl clients limit = (s : Scene) → s.decl ≡ decl → length s.streams ≡ clients → limit_of s ≡ Some limit
+
+-- the same where they have so many commands
+abbrev pub IsLimitOfCommands : Decl → ℕ → ℕ → Limit → Type 0
+IsLimitOfCommands decl clients commands limit =
+    (s : Scene) → s.decl ≡ decl → length s.streams ≡ clients → commands_in s.streams ≡ commands → limit_of s ≡ Some limit
+
+-- a window and a number of clients that a scene may have
+abbrev pub IsWindowWithin : Decl → ℕ → Type 0
+IsWindowWithin decl clients = (decl.width ≤ 2048) × (decl.height ≤ 2048) × (clients ≤ 8)
 
 abbrev pub window_part : Decl → ℕ → List Quantity
 window_part d clients =

@@ -1,14 +1,9 @@
 //! Reading a scene whose streams are decoded side by side, each in a thread of its own.
-ghost use Rattle.std.specs.Prelude.{◌≡◌, ◌+◌, ◌-◌, ◌≤◌, ◌⊎◌, ◌∷◌, ℕ, List, length, IfOk, IfErr, IfSome, Ok, Err, Some, None};
-ghost use Rattle.std.specs.List.{AllByRecursion};
-ghost use Rattle.rc_base.specs.Formats.Commands.{IsCommand};
-ghost use Rattle.rc_base.specs.Formats.Spelling.{IsDecl, SpellsScene};
+ghost use Rattle.std.specs.Prelude.{◌≡◌, ◌+◌, ◌-◌, ◌≤◌, ◌∷◌, length, IfOk, IfErr, IfSome, Ok, Err, Some, None};
+ghost use Rattle.rc_base.specs.Formats.Spelling.{SpellsScene};
 ghost use Rattle.rc_base.specs.Formats.Limits.{limit_of};
 ghost use Rattle.rc_base.specs.Formats.Within.{IsWithin};
-ghost use Rattle.rc_base.specs.declared.scene.Scene.{Scene as AnyScene};
-ghost use Rattle.rc_base.specs.declared.scene.SceneKind.{SceneKind as AnyKind};
-ghost use Rattle.rc_base.specs.declared.scene.Limit.{Limit as AnyLimit};
-ghost use Rattle.scene_file.specs.Faults.{FailsAsScene, TellsForm, IsBeyond};
+ghost use Rattle.scene_file.specs.Faults.{HasFields, ReadsEach, TellsEachForm, TellsEachLimit, TellsForm, IsBeyond};
 ghost use Rattle.scene_file.specs.Counting.{frames_with};
 ghost use Rattle.scene_file.specs.Beside.{HoldsStream, HoldsStreams};
 
@@ -184,19 +179,19 @@ pub fn read_scene_beside<R: Threads>(
     // What is read is spelled so, and within the limits.
     ensures found { IfOk result (λ s. SpellsScene bytes.now s × (limit_of s ≡ None)) }
     // Its fields are in their ranges.
-    ensures fields { IfOk result (λ s. IsDecl s.decl × AllByRecursion (AllByRecursion IsCommand) s.streams) }
+    ensures fields { IfOk result HasFields }
     // So it is within what every call that takes a scene asks.
     ensures within { IfOk result IsWithin }
     // What is spelled so and within the limits is read, unless memory runs out.
-    ensures only { (s : AnyScene) → SpellsScene bytes.now s → limit_of s ≡ None → (result ≡ Ok s) ⊎ (result ≡ Err SceneFault.OutOfMemory) }
+    ensures only { ReadsEach bytes.now result }
     // Malformed bytes have this fault first from the left, at this place.
     ensures malformed { IfErr result (TellsForm bytes.now) }
     // Such bytes are answered so, unless memory runs out.
-    ensures malformed_only { (kind : AnyKind) → (at : ℕ) → FailsAsScene bytes.now kind at → (result ≡ Err (SceneFault.Malformed kind at)) ⊎ (result ≡ Err SceneFault.OutOfMemory) }
+    ensures malformed_only { TellsEachForm bytes.now result }
     // The scene that is spelled has this quantity outside its range, the first in the order of the table.
     ensures limit { IfErr result (IsBeyond bytes.now) }
     // Such a scene is answered so, unless memory runs out.
-    ensures limit_only { (s : AnyScene) → (l : AnyLimit) → SpellsScene bytes.now s → limit_of s ≡ Some l → (result ≡ Err (SceneFault.Limit l.what l.value)) ⊎ (result ≡ Err SceneFault.OutOfMemory) }
+    ensures limit_only { TellsEachLimit bytes.now result }
 {
     judged_beside(rt, alloc, bytes)
 }

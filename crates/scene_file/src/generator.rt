@@ -1,10 +1,9 @@
 //! The scene of a seed: eight clients that draw triangles in bands of their own, or one at a time, and meet after each round.
-ghost use Rattle.std.specs.Prelude.{◌≡◌, ◌+◌, ◌*◌, ◌%◌, ◌<◌, ◌≤◌, ◌==◌, ◌++◌, ◌∷◌, [], map, IfOk, OnOk};
+ghost use Rattle.std.specs.Prelude.{◌≡◌, ◌+◌, ◌*◌, ◌%◌, ◌<◌, ◌≤◌, ◌==◌, ◌++◌, map, IfOk, OnOk};
 ghost use Rattle.std.specs.List.{range_with_len};
-ghost use Rattle.rc_base.specs.Colors.{rgba};
 ghost use Rattle.rc_base.specs.Formats.Within.{IsWithin};
 ghost use Rattle.scene_file.specs.Generator.{next_state, drawn_state, draw_of, is_lone, lone_client, coordinate_of, generated_vertex, generated_triangle, generated_scene};
-ghost use Rattle.scene_file.specs.Generated.{triangles_in, drawing_from, opening_of, streams_at, ended};
+ghost use Rattle.scene_file.specs.Generated.{color_from, drawing_from, state_behind, turn_from, opening_of, streams_at, ended};
 
 use rc_base::{Command, Commands, Counts, Decl, OutOfMemory, Rgba, Scene, Sizes, Streams, Units};
 use std::alloc::Global;
@@ -45,7 +44,7 @@ impl Draws {
     }
 
     fn color(&mut self) -> Rgba
-        ensures color { result ≡ rgba (draw_of self.old.state 0 % 256) (draw_of self.old.state 1 % 256) (draw_of self.old.state 2 % 256) (draw_of self.old.state 3 % 256) }
+        ensures color { result ≡ color_from self.old.state }
         ensures state { self.new.state ≡ drawn_state self.old.state 4 }
     {
         let r = self.channel();
@@ -112,7 +111,7 @@ fn add_drawing(
     client: u32,
 ) -> Result<(), OutOfMemory>
     ensures stream { OnOk result (stream.new ≡ stream.old ++ drawing_from draws.old.state round client) }
-    ensures draws { OnOk result (draws.new.state ≡ drawn_state draws.old.state (10 * triangles_in round client)) }
+    ensures draws { OnOk result (draws.new.state ≡ state_behind draws.old.state round client) }
 {
     if !is_lone(round) {
         stream.push(Command::Enable { capability: 0 })?;
@@ -132,8 +131,8 @@ fn add_turn(
     round: u32,
     client: u32,
 ) -> Result<(), OutOfMemory>
-    ensures stream { OnOk result (stream.new ≡ stream.old ++ (drawing_from draws.old.state round client ++ Command.Barrier 1 ∷ [])) }
-    ensures draws { OnOk result (draws.new.state ≡ drawn_state draws.old.state (10 * triangles_in round client)) }
+    ensures stream { OnOk result (stream.new ≡ stream.old ++ turn_from draws.old.state round client) }
+    ensures draws { OnOk result (draws.new.state ≡ state_behind draws.old.state round client) }
 {
     add_drawing(stream, draws, round, client)?;
     stream.push(Command::Barrier { name: 1 })?;

@@ -1,9 +1,8 @@
 //! The limits of a scene, in the order of their table.
-ghost use Rattle.rc_base.specs.declared.scene.Scene.{Scene as AnyScene};
-ghost use Rattle.std.specs.Prelude.{◌≡◌, ◌<◌, ◌≤◌, ◌*◌, ◌∷◌, ◌++◌, [], map, length, sum_by, MatchResult, OnOk, Some, None, Err};
+ghost use Rattle.std.specs.Prelude.{◌≡◌, ◌<◌, ◌≤◌, ◌*◌, ◌∷◌, [], map, length, sum_by, OnOk, None, Err};
 ghost use Rattle.std.specs.List.{flat_map};
 ghost use Rattle.rc_base.specs.Formats.Limits.{first_outside, held_limit, limit_of, stream_limit, size_area, side, barrier_count, is_swap_command, swaps_in, least_swaps, commands_in, judged};
-ghost use Rattle.scene_file.specs.Judging.{window_part, judge_counts, judge_decl, stream_part, judge_parts, judge_read, judge_scene};
+ghost use Rattle.scene_file.specs.Judging.{IsLimitOfClients, IsLimitOfCommands, IsWindowWithin, Tells, window_part, judge_counts, judge_decl, stream_part, judge_parts, judge_read, judge_scene};
 
 use rc_base::command::{Command, Commands};
 use rc_base::scene::{Decl, Limit, Scene, judge};
@@ -103,7 +102,7 @@ fn judge_counts(decl: &Decl) -> Result<(), Limit>
 /// What is judged before the commands.
 fn judge_decl(decl: &Decl, clients: usize) -> Result<(), Limit>
     ensures judged { judged result ≡ judge_decl decl.now clients }
-    ensures within { OnOk result ((decl.now.width ≤ 2048) × (decl.now.height ≤ 2048) × (clients ≤ 8)) }
+    ensures within { OnOk result (IsWindowWithin decl.now clients) }
 {
     judge_window(decl, clients)?;
     judge_counts(decl)
@@ -155,7 +154,7 @@ fn judge_scene(scene: &Scene) -> Result<(), Limit>
 
 /// The first quantity of a scene outside its range, by the numbers of the table of limits (`docs/scene-format.md`). It takes no memory.
 pub fn check_limits(scene: &Scene) -> Result<(), Limit>
-    ensures { MatchResult result (λ _. limit_of scene.now ≡ None) (λ l. limit_of scene.now ≡ Some l) }
+    ensures { Tells result (limit_of scene.now) }
 {
     judge_scene(scene)
 }
@@ -166,7 +165,7 @@ pub fn check_streams(scene: &Scene, commands: u64) -> Result<(), Limit>
     requires width { scene.now.decl.width ≤ 2048 }
     requires height { scene.now.decl.height ≤ 2048 }
     requires stored { commands ≤ 1048576 → commands_in scene.now.streams ≡ commands }
-    ensures few { commands ≤ 1048576 → MatchResult result (λ _. stream_limit scene.now ≡ None) (λ l. stream_limit scene.now ≡ Some l) }
+    ensures few { commands ≤ 1048576 → Tells result (stream_limit scene.now) }
     ensures many { 1048576 < commands → result ≡ Err (record { what = 11; value = commands }) }
 {
     let frames = count_frames(scene.streams.as_slice()) as u64;
@@ -186,7 +185,7 @@ fn frame_pixels(decl: &Decl, frames: u64) -> u64
 /// memory.
 pub fn check_held(scene: &Scene) -> Result<(), Limit>
     requires { limit_of scene.now ≡ None }
-    ensures { MatchResult result (λ _. held_limit scene.now ≡ None) (λ l. held_limit scene.now ≡ Some l) }
+    ensures { Tells result (held_limit scene.now) }
 {
     let frames = count_frames(scene.streams.as_slice()) as u64;
     judge(19, frame_pixels(&scene.decl, frames), 0, 33_554_432)
@@ -195,7 +194,7 @@ pub fn check_held(scene: &Scene) -> Result<(), Limit>
 /// The first quantity outside its range of a scene with this declaration and too many clients, whatever their commands are.
 pub fn clients_beyond(decl: &Decl, clients: usize) -> Limit
     requires { 8 < clients }
-    ensures { (s : AnyScene) → s.decl ≡ decl.now → length s.streams ≡ clients → limit_of s ≡ Some result }
+    ensures { IsLimitOfClients decl.now clients result }
 {
     match judge_decl(decl, clients) {
         Err(limit) => limit,
@@ -209,7 +208,7 @@ pub fn clients_beyond(decl: &Decl, clients: usize) -> Limit
 /// The first quantity outside its range of a scene with this declaration and too many commands, whatever they are.
 pub fn commands_beyond(decl: &Decl, clients: usize, commands: u64) -> Limit
     requires { 1048576 < commands }
-    ensures { (s : AnyScene) → s.decl ≡ decl.now → length s.streams ≡ clients → commands_in s.streams ≡ commands → limit_of s ≡ Some result }
+    ensures { IsLimitOfCommands decl.now clients commands result }
 {
     match judge_decl(decl, clients) {
         Err(limit) => limit,

@@ -1,13 +1,8 @@
 //! Reading a scene with call lists.
-ghost use Rattle.std.specs.Prelude.{◌≡◌, ◌⊎◌, ◌++◌, ℕ, List, length, IfOk, IfErr, Ok, Err, Some, None};
-ghost use Rattle.std.specs.List.{AllByRecursion};
-ghost use Rattle.rc_base.specs.Formats.Spelling.{IsDeclOf, IsListCommand, list_form};
-ghost use Rattle.rc_base.specs.Formats.Limits.{read_limit};
-ghost use Rattle.rc_base.specs.declared.scene.SceneKind.{SceneKind as AnyKind};
-ghost use Rattle.rc_base.specs.declared.scene.Limit.{Limit as AnyLimit};
+ghost use Rattle.std.specs.Prelude.{◌≡◌, IfOk, IfErr, Ok, Err, None};
 ghost use Rattle.packet_bytes.specs.Lists.{is_list_swap};
 ghost use Rattle.scene_file.specs.declared.list_scene.ListScene.{ListScene as AnyListScene};
-ghost use Rattle.scene_file.specs.Faults.{FailsAsListScene, SpellsListScene, TellsListForm, IsListBeyond, IsListJudged};
+ghost use Rattle.scene_file.specs.Faults.{HasListFields, ReadsEachList, SpellsListScene, TellsEachListForm, TellsEachListLimit, TellsListForm, IsListBeyond, IsListJudged, list_limit_of};
 ghost use Rattle.scene_file.specs.Counting.{Counts};
 
 use crate::fault::{SceneFault, fault_at};
@@ -34,7 +29,7 @@ fn within_limits(counted: Counted<ListCommand>) -> Result<ListScene, SceneFault>
 }
 
 fn read_judged(alloc: Global, bytes: &[u8]) -> Result<ListScene, SceneFault>
-    ensures found { IfOk result (λ s. SpellsListScene bytes.now s × (read_limit s.decl s.streams ≡ None)) }
+    ensures found { IfOk result (λ s. SpellsListScene bytes.now s × (list_limit_of s ≡ None)) }
     ensures malformed { IfErr result (TellsListForm bytes.now) }
     ensures limit { IfErr result (IsListBeyond bytes.now) }
 {
@@ -48,19 +43,19 @@ fn read_judged(alloc: Global, bytes: &[u8]) -> Result<ListScene, SceneFault>
 /// and their commands as they stand.
 pub fn read_list_scene(alloc: Global, bytes: &[u8]) -> Result<ListScene, SceneFault>
     // What is read is spelled so, and within the limits.
-    ensures found { IfOk result (λ s. SpellsListScene bytes.now s × (read_limit s.decl s.streams ≡ None)) }
+    ensures found { IfOk result (λ s. SpellsListScene bytes.now s × (list_limit_of s ≡ None)) }
     // Its fields are in their ranges, and it draws as version 2.
-    ensures fields { IfOk result (λ s. IsDeclOf list_form s.decl × AllByRecursion (AllByRecursion IsListCommand) s.streams) }
+    ensures fields { IfOk result HasListFields }
     // What is spelled so and within the limits is read, unless memory runs out.
-    ensures only { (s : AnyListScene) → SpellsListScene bytes.now s → read_limit s.decl s.streams ≡ None → (result ≡ Ok s) ⊎ (result ≡ Err SceneFault.OutOfMemory) }
+    ensures only { ReadsEachList bytes.now result }
     // Malformed bytes have this fault first from the left, at this place.
     ensures malformed { IfErr result (TellsListForm bytes.now) }
     // Such bytes are answered so, unless memory runs out.
-    ensures malformed_only { (kind : AnyKind) → (at : ℕ) → FailsAsListScene bytes.now kind at → (result ≡ Err (SceneFault.Malformed kind at)) ⊎ (result ≡ Err SceneFault.OutOfMemory) }
+    ensures malformed_only { TellsEachListForm bytes.now result }
     // The scene that is spelled has this quantity outside its range, the first in the order of the table.
     ensures limit { IfErr result (IsListBeyond bytes.now) }
     // Such a scene is answered so, unless memory runs out.
-    ensures limit_only { (s : AnyListScene) → (l : AnyLimit) → SpellsListScene bytes.now s → read_limit s.decl s.streams ≡ Some l → (result ≡ Err (SceneFault.Limit l.what l.value)) ⊎ (result ≡ Err SceneFault.OutOfMemory) }
+    ensures limit_only { TellsEachListLimit bytes.now result }
 {
     read_judged(alloc, bytes)
 }

@@ -1,17 +1,13 @@
 //! Reading a scene.
-ghost use Rattle.std.specs.Prelude.{◌≡◌, ◌-◌, ◌==◌, ◌⊎◌, ◌++◌, ◌<◌, ◌^◌, ℕ, List, length, IfOk, IfErr, MatchResult, Ok, Err, Some, None};
-ghost use Rattle.std.specs.List.{AllByRecursion};
-ghost use Rattle.rc_base.specs.Formats.Commands.{IsCommand};
-ghost use Rattle.rc_base.specs.Formats.Spelling.{stream_text, IsDecl, SpellsStream, SpellsScene};
+ghost use Rattle.std.specs.Prelude.{◌≡◌, ◌-◌, ◌==◌, ◌<◌, length, IfOk, IfErr, Ok, Err, None};
+ghost use Rattle.rc_base.specs.Formats.Spelling.{SpellsScene};
 ghost use Rattle.rc_base.specs.Formats.Limits.{is_swap_command, limit_of};
 ghost use Rattle.rc_base.specs.Formats.Within.{IsWithin};
 ghost use Rattle.rc_base.specs.declared.scene.Scene.{Scene as AnyScene};
-ghost use Rattle.rc_base.specs.declared.scene.SceneKind.{SceneKind as AnyKind};
-ghost use Rattle.rc_base.specs.declared.scene.Limit.{Limit as AnyLimit};
 ghost use Rattle.byte_codec.specs.Reading.{Reads};
 ghost use Rattle.scene_file.specs.Reading.{read_text};
 ghost use Rattle.scene_file.specs.Letters.{form_of};
-ghost use Rattle.scene_file.specs.Faults.{TextFailsBy, SceneFailsBy, FailsAsScene, TellsForm, IsBeyond, IsJudged};
+ghost use Rattle.scene_file.specs.Faults.{TextFailsBy, SceneFailsBy, HasFields, ReadsEach, TellsEachForm, TellsEachLimit, TellsForm, IsBeyond, IsJudged};
 ghost use Rattle.scene_file.specs.Counting.{DecodesFirst, Counts, SpellsCounted, frames_with};
 
 use crate::fault::{Broken, SceneFault, fault_at, in_stream};
@@ -150,19 +146,19 @@ pub fn read_scene(alloc: Global, bytes: &[u8]) -> Result<Scene, SceneFault>
     // What is read is spelled so, and within the limits.
     ensures found { IfOk result (λ s. SpellsScene bytes.now s × (limit_of s ≡ None)) }
     // Its fields are in their ranges.
-    ensures fields { IfOk result (λ s. IsDecl s.decl × AllByRecursion (AllByRecursion IsCommand) s.streams) }
+    ensures fields { IfOk result HasFields }
     // So it is within what every call that takes a scene asks.
     ensures within { IfOk result IsWithin }
     // What is spelled so and within the limits is read, unless memory runs out.
-    ensures only { (s : AnyScene) → SpellsScene bytes.now s → limit_of s ≡ None → (result ≡ Ok s) ⊎ (result ≡ Err SceneFault.OutOfMemory) }
+    ensures only { ReadsEach bytes.now result }
     // Malformed bytes have this fault first from the left, at this place.
     ensures malformed { IfErr result (TellsForm bytes.now) }
     // Such bytes are answered so, unless memory runs out.
-    ensures malformed_only { (kind : AnyKind) → (at : ℕ) → FailsAsScene bytes.now kind at → (result ≡ Err (SceneFault.Malformed kind at)) ⊎ (result ≡ Err SceneFault.OutOfMemory) }
+    ensures malformed_only { TellsEachForm bytes.now result }
     // The scene that is spelled has this quantity outside its range, the first in the order of the table.
     ensures limit { IfErr result (IsBeyond bytes.now) }
     // Such a scene is answered so, unless memory runs out.
-    ensures limit_only { (s : AnyScene) → (l : AnyLimit) → SpellsScene bytes.now s → limit_of s ≡ Some l → (result ≡ Err (SceneFault.Limit l.what l.value)) ⊎ (result ≡ Err SceneFault.OutOfMemory) }
+    ensures limit_only { TellsEachLimit bytes.now result }
 {
     read_judged(alloc, bytes)
 }
