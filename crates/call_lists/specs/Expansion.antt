@@ -1,5 +1,5 @@
 -- What a stream with call lists means: the plain commands that are met when its lists are called.
-use Rattle.std.specs.Prelude.{◌≡◌, ℕ, zero, suc, ◌+◌, ◌<◌, ◌≤◌, Bool, List, [], ◌∷◌, ◌++◌, length, take, replicate, sum_by, Option, Some, None, is_some, unwrap_or, if◌then◌else◌}
+use Rattle.std.specs.Prelude.{◌≡◌, ℕ, zero, suc, ◌+◌, ◌<◌, ◌≤◌, Bool, List, [], ◌∷◌, ◌++◌, length, take, replicate, sum_by, Option, Some, None, is_some, unwrap_or, Result, Ok, Err, ◌⊎◌, if◌then◌else◌}
 use Rattle.std.specs.List.{flat_map}
 use Rattle.rc_base.specs.Lists.{at_name, with_name}
 use Rattle.rc_base.specs.Contexts.Faults.{is_name}
@@ -171,3 +171,21 @@ pub record Passes (spent : ℕ) (commands : List ListCommand) (sum : ℕ) : Type
 abbrev pub TellsTooLong : ℕ → List ListCommand → ExpandFault → Type 0
 TellsTooLong spent commands (fault.TooLong sum) = Passes spent commands sum
 TellsTooLong spent commands fault.OutOfMemory = Unit {0}
+
+-- ---- what is answered unless memory runs out
+
+-- memory ran out
+abbrev pub IsWantOfMemory : ExpandFault → Type 0
+IsWantOfMemory e = e ≡ fault.OutOfMemory
+
+-- the answer is this, or that memory ran out
+abbrev pub AnswersOrLacks : {A : Type 0} → Result A ExpandFault → Result A ExpandFault → Type 0
+AnswersOrLacks result answer = (result ≡ answer) ⊎ (result ≡ Err fault.OutOfMemory)
+
+-- the expansion of a stream is given, where the costs are within their limit
+abbrev pub GivesWithin : ℕ → List ListCommand → Result Expansion ExpandFault → Type 0
+GivesWithin spent stream result = spent + costs (met stream) ≤ most_cost → AnswersOrLacks result (Ok (expansion_of stream spent))
+
+-- the sum with which the costs pass the limit is told
+abbrev pub TellsEachSum : {A : Type 0} → ℕ → List ListCommand → Result A ExpandFault → Type 0
+TellsEachSum spent commands result = (sum : ℕ) → Passes spent commands sum → AnswersOrLacks result (Err (fault.TooLong sum))

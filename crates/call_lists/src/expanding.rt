@@ -1,6 +1,6 @@
 //! The expansion of a stream.
-ghost use Rattle.std.specs.Prelude.{◌≡◌, ◌+◌, ◌≤◌, ◌<◌, ◌^◌, ◌⊎◌, ℕ, length, Ok, Err, IfOk, IfErr};
-ghost use Rattle.call_lists.specs.Expansion.{expansion_of, met, costs, most_cost, Passes, TellsTooLong};
+ghost use Rattle.std.specs.Prelude.{◌≡◌, ◌+◌, ◌≤◌, ◌<◌, ◌^◌, length, Ok, IfOk, IfErr};
+ghost use Rattle.call_lists.specs.Expansion.{GivesWithin, TellsEachSum, expansion_of, met, costs, most_cost, TellsTooLong};
 
 use crate::answer::{ExpandFault, Expansion};
 use crate::given::Given;
@@ -56,11 +56,11 @@ pub fn expand(alloc: Global, stream: &ListCommands, spent: u64) -> Result<Expans
     // It is given only where the costs are within their limit.
     ensures within { IfOk result (λ x. spent + costs (met stream.now) ≤ most_cost) }
     // Where they are, it is given, unless memory runs out.
-    ensures expanded_only { spent + costs (met stream.now) ≤ most_cost → (result ≡ Ok (expansion_of stream.now spent)) ⊎ (result ≡ Err ExpandFault.OutOfMemory) }
+    ensures expanded_only { GivesWithin spent stream.now result }
     // Where it fails otherwise, the costs so far pass the limit at a command, and this is their sum there.
     ensures too_long { IfErr result (TellsTooLong spent (met stream.now)) }
     // Where they pass it with this sum, the answer is so, unless memory runs out.
-    ensures too_long_only { (sum : ℕ) → Passes spent (met stream.now) sum → (result ≡ Err (ExpandFault.TooLong sum)) ⊎ (result ≡ Err ExpandFault.OutOfMemory) }
+    ensures too_long_only { TellsEachSum spent (met stream.now) result }
 {
     expand_stream(alloc, stream, spent)
 }

@@ -1,6 +1,6 @@
 //! Commands that are met.
-ghost use Rattle.std.specs.Prelude.{◌≡◌, ◌<◌, ◌≤◌, ◌+◌, [], ◌∷◌, ◌++◌, length, OnOk};
-ghost use Rattle.call_lists.specs.Giving.{Meets};
+ghost use Rattle.std.specs.Prelude.{◌≡◌, ◌<◌, ◌≤◌, ◌+◌, [], ◌∷◌, OnOk};
+ghost use Rattle.call_lists.specs.Giving.{HasCounted, HasGiven, Meets};
 ghost use Rattle.call_lists.specs.Expansion.{stored, plain_of, most_cost};
 
 use crate::answer::ExpandFault;
@@ -36,7 +36,7 @@ impl Given {
     /// Adds a command, where there is room for it, and counts it.
     fn give(&mut self, alloc: Global, command: &Command) -> Result<(), OutOfMemory>
         requires { self.old.count < self.old.spent }
-        ensures given { OnOk result (self.new.commands ≡ stored (self.old.commands ++ command.now ∷ [])) }
+        ensures given { OnOk result (HasGiven self.old (command.now ∷ []) self.new) }
         ensures counted { OnOk result (self.new.count ≡ self.old.count + 1) }
         ensures spent { OnOk result (self.new.spent ≡ self.old.spent) }
     {
@@ -50,8 +50,8 @@ impl Given {
     /// Adds a command that was paid for, if it is a plain one.
     fn give_plain(&mut self, alloc: Global, command: &ListCommand) -> Result<(), OutOfMemory>
         requires { self.old.count < self.old.spent }
-        ensures given { OnOk result (self.new.commands ≡ stored (self.old.commands ++ plain_of command.now)) }
-        ensures counted { OnOk result (self.new.count ≡ self.old.count + length (plain_of command.now)) }
+        ensures given { OnOk result (HasGiven self.old (plain_of command.now) self.new) }
+        ensures counted { OnOk result (HasCounted self.old (plain_of command.now) self.new) }
         ensures spent { OnOk result (self.new.spent ≡ self.old.spent) }
     {
         match command {

@@ -1,7 +1,7 @@
 //! The expansions of all clients' streams.
-ghost use Rattle.std.specs.Prelude.{◌≡◌, ◌≤◌, ◌<◌, ◌^◌, ◌+◌, ◌⊎◌, ℕ, length, Err, IfOk, IfErr, OnOk};
+ghost use Rattle.std.specs.Prelude.{◌≤◌, ◌<◌, ◌^◌, ◌+◌, length, IfOk, IfErr, OnOk};
 ghost use Rattle.std.specs.List.{AllByRecursion};
-ghost use Rattle.call_lists.specs.Expansion.{met, costs, most_cost, Passes, TellsTooLong};
+ghost use Rattle.call_lists.specs.Expansion.{IsWantOfMemory, TellsEachSum, met, costs, most_cost, TellsTooLong};
 ghost use Rattle.call_lists.specs.Scenes.{met_in, IsShort, AreExpanded};
 ghost use Rattle.call_lists.specs.Streams.{HasExpanded};
 
@@ -79,11 +79,11 @@ pub fn expand_all(alloc: Global, streams: &ListStreams) -> Result<Expansions, Ex
     // They are given only where all costs are within their limit.
     ensures within { IfOk result (λ x. x.spent ≤ most_cost) }
     // Where these are, nothing but memory can lack.
-    ensures expanded_only { costs (met_in streams.now) ≤ most_cost → IfErr result (λ e. e ≡ ExpandFault.OutOfMemory) }
+    ensures expanded_only { costs (met_in streams.now) ≤ most_cost → IfErr result IsWantOfMemory }
     // Where it fails otherwise, the costs so far pass the limit at a command of some client, and this is their sum there.
     ensures too_long { IfErr result (TellsTooLong 0 (met_in streams.now)) }
     // Where they pass it with this sum, the answer is so, unless memory runs out.
-    ensures too_long_only { (sum : ℕ) → Passes 0 (met_in streams.now) sum → (result ≡ Err (ExpandFault.TooLong sum)) ⊎ (result ≡ Err ExpandFault.OutOfMemory) }
+    ensures too_long_only { TellsEachSum 0 (met_in streams.now) result }
 {
     expand_each(alloc, streams)
 }

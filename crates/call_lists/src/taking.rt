@@ -1,7 +1,7 @@
 //! The commands of a stream, one after the other.
-ghost use Rattle.std.specs.Prelude.{◌≡◌, ◌++◌, OnOk};
-ghost use Rattle.call_lists.specs.Expansion.{list_fault, state_after, fault_at, met_at};
-ghost use Rattle.call_lists.specs.Standing.{state_of};
+ghost use Rattle.std.specs.Prelude.{OnOk};
+ghost use Rattle.call_lists.specs.Expansion.{met_at};
+ghost use Rattle.call_lists.specs.Standing.{IsAfter, IsNoted, state_of};
 ghost use Rattle.call_lists.specs.Giving.{Meets};
 
 use crate::answer::ExpandFault;
@@ -42,8 +42,8 @@ fn judge<'a>(
     place: u32,
     command: &'a ListCommand,
 ) -> Result<(), OutOfMemory>
-    ensures state { OnOk result (state_of standing.new ≡ state_after (state_of standing.old) command.now) }
-    ensures faults { OnOk result (faults.new ≡ faults.old ++ fault_at place (list_fault (state_of standing.old) command.now)) }
+    ensures state { OnOk result (IsAfter standing.old command.now standing.new) }
+    ensures faults { OnOk result (IsNoted standing.old place command.now faults.old faults.new) }
 {
     match standing.fault_of(command) {
         Some(fault) => Ok(faults.push((place, fault))?),
@@ -60,8 +60,8 @@ pub fn take_command<'a>(
     place: u32,
     command: &'a ListCommand,
 ) -> Result<(), ExpandFault>
-    ensures state { OnOk result (state_of standing.new ≡ state_after (state_of standing.old) command.now) }
-    ensures faults { OnOk result (faults.new ≡ faults.old ++ fault_at place (list_fault (state_of standing.old) command.now)) }
+    ensures state { OnOk result (IsAfter standing.old command.now standing.new) }
+    ensures faults { OnOk result (IsNoted standing.old place command.now faults.old faults.new) }
     ensures given { Meets given.old given.new (met_at (state_of standing.old) command.now) result }
 {
     meet_at(alloc, standing, command, given)?;
