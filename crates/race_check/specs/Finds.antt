@@ -3,6 +3,7 @@ use Rattle.std.specs.Prelude.{◌≡◌, ◌≢◌, ℕ, ◌+◌, ◌<◌, ◌�
 use Rattle.rc_base.specs.declared.sync.Name.{Name}
 use Rattle.race_check.specs.declared.verdict.Spot.{Spot}
 use Rattle.race_check.specs.declared.verdict.Spot.TheVariants.{Pixel, Shared}
+use Rattle.race_check.specs.declared.cells.Cells.{Cells}
 use Rattle.race_check.specs.declared.found.Found.{Found}
 use Rattle.race_check.specs.declared.run.Run.{Run}
 
@@ -27,6 +28,10 @@ pub record IsFirst (among : Found → Type 0) (told : Option Found) : Type 0 whe
 abbrev pub OrBefore : Option Found → (Found → Type 0) → Found → Type 0
 OrBefore best finds x = (best ≡ Some x) ⊎ finds x
 
+-- of a set and what was told before, the first is told
+abbrev pub Tells : Option Found → (Found → Type 0) → Option Found → Type 0
+Tells best finds told = IsFirst (OrBefore best finds) told
+
 -- ---- a cell
 
 abbrev pub cell_at : List (List ℕ) → ℕ → List ℕ
@@ -43,6 +48,10 @@ pub record IsFoundIn (own : ℕ) (clock cell : List ℕ) (spot : Spot) (x : Foun
 abbrev pub AreCounted : List ℕ → List ℕ → ℕ → Type 0
 AreCounted clock cell n = (d : ℕ) → d < n → slice_index cell d ≤ slice_index clock d
 
+-- of each client the clock counts all uses of one of two cells
+abbrev pub AreEitherCounted : List ℕ → List ℕ → List ℕ → Type 0
+AreEitherCounted clock one other = (d : ℕ) → d < 8 → (slice_index one d ≤ slice_index clock d) ⊎ (slice_index other d ≤ slice_index clock d)
+
 -- no cell is used
 abbrev pub AreUnused : ℕ → List (List ℕ) → Type 0
 AreUnused count cells = cells ≡ replicate count (replicate 8 0)
@@ -54,6 +63,17 @@ marked n cell = slice_set cell n.client (n.place + 1)
 -- the name uses the cell at an index
 abbrev pub mark : Name → List (List ℕ) → ℕ → List (List ℕ)
 mark n cells index = slice_set cells index (marked n (cell_at cells index))
+
+abbrev pub IsMarked : Name → Cells → ℕ → Cells → Type 0
+IsMarked n before index after = after.cells.items ≡ mark n before.cells.items index
+
+-- the cell of a table at an index
+abbrev pub cell_of : Cells → ℕ → List ℕ
+cell_of table index = cell_at table.cells.items index
+
+-- the cell of a shared texture tells it
+abbrev pub IsFoundOf : Name → List ℕ → Cells → ℕ → Found → Type 0
+IsFoundOf n clock table texture x = IsFoundIn n.client clock (cell_of table texture) (Shared texture) x
 
 -- ---- pixels of a row
 

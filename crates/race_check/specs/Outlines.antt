@@ -1,5 +1,6 @@
 -- What commands may use, by the boxes of what they draw, and tables that tell no less than the last uses.
-use Rattle.std.specs.Prelude.{◌≡◌, ℕ, ◌<◌, ◌≤◌, Bool, true, List, length, slice_index, ◌⊎◌, None}
+use Rattle.std.specs.Prelude.{◌≡◌, ℕ, ◌<◌, ◌≤◌, Bool, true, List, length, slice_index, ◌⊎◌, None, pos}
+use Rattle.rc_base.specs.Drawing.Touch.{touches, may_sample, writes_shared}
 use Rattle.rc_base.specs.Lists.{IsIn}
 use Rattle.rc_base.specs.Orders.Order.{Footprint}
 use Rattle.rc_base.specs.declared.scene.Decl.{Decl}
@@ -10,6 +11,8 @@ use Rattle.race_check.specs.Finds.{cell_at, marked}
 use Rattle.race_check.specs.Uses.{HasEffect, PassesTables, named}
 use Rattle.race_check.specs.declared.outlines.Outlines.{Outlines}
 use Rattle.race_check.specs.declared.range.Range.{Range}
+use Rattle.race_check.specs.declared.cells.Cells.{Cells}
+use Rattle.race_check.specs.declared.reach.Area.{Area}
 use Rattle.race_check.specs.declared.reach.Reach.{Reach}
 
 -- ---- what a command may use
@@ -23,13 +26,29 @@ nowhere = record { from = 0; to = 0 }
 abbrev pub no_reach : Reach
 no_reach = record { rows = nowhere; columns = nowhere; samples = nowhere; writes = nowhere }
 
+-- it lies in the window, and in the names of textures
+abbrev pub IsInside : ℕ → ℕ → Reach → Type 0
+IsInside width height r = (r.rows.to ≤ height) × (r.columns.to ≤ width) × (r.samples.to ≤ 256) × (r.writes.to ≤ 256)
+
+-- the rows and columns hold all pixels of the window that pass a test
+abbrev pub HoldsAll : ℕ → ℕ → (ℕ → ℕ → Bool) → Area → Type 0
+HoldsAll width height has area = (x y : ℕ) → x < width → y < height → has x y ≡ true → IsAmong area.rows y × IsAmong area.columns x
+
+-- the effect touches the pixel in column x and row y
+abbrev pub touching : State → Effect → ℕ → ℕ → Bool
+touching s e x y = touches s e (pos x) (pos y)
+
 -- the pixels of the window that are touched lie in the rows and in the columns, and the textures that are sampled and written in theirs
 pub record IsReach (touching : ℕ → ℕ → Bool) (sampling writing : ℕ → Bool) (width height : ℕ) (r : Reach) : Type 0 where
   pub rows : (x y : ℕ) → x < width → y < height → touching x y ≡ true → IsAmong r.rows y
   pub columns : (x y : ℕ) → x < width → y < height → touching x y ≡ true → IsAmong r.columns x
   pub samples : (t : ℕ) → sampling t ≡ true → IsAmong r.samples t
   pub writes : (t : ℕ) → writing t ≡ true → IsAmong r.writes t
-  pub inside : (r.rows.to ≤ height) × (r.columns.to ≤ width) × (r.samples.to ≤ 256) × (r.writes.to ≤ 256)
+  pub inside : IsInside width height r
+
+-- so much an effect may use
+abbrev pub IsReachOf : State → Effect → ℕ → ℕ → Reach → Type 0
+IsReachOf s e width height r = IsReach (λ x y. touches s e (pos x) (pos y)) (may_sample s e) (writes_shared e) width height r
 
 -- ---- tables
 
@@ -58,6 +77,10 @@ pub record AreMarked (n : Name) (r : Range) (old new : List (List ℕ)) : Type 0
   pub size : length new ≡ length old
   pub inside : (i : ℕ) → IsAmong r i → cell_at new i ≡ marked n (cell_at old i)
   pub each : (i : ℕ) → (cell_at new i ≡ marked n (cell_at old i)) ⊎ (cell_at new i ≡ cell_at old i)
+
+-- the same of the cells of a table
+abbrev pub HasMarked : Name → Range → Cells → Cells → Type 0
+HasMarked n r before after = AreMarked n r before.cells.items after.cells.items
 
 -- each client's number isn't below any in the cells of a range
 abbrev pub IsGreatest : List (List ℕ) → Range → List ℕ → Type 0

@@ -1,7 +1,9 @@
 -- Which conflicts of commands nothing orders, and the verdict on an order of commands.
 use Rattle.std.specs.Prelude.{◌≡◌, ℕ, ◌<◌, ◌≤◌, true, List, ◌⊎◌}
 use Rattle.rc_base.specs.Lists.{Stands}
+use Rattle.rc_base.specs.Orders.Footprints.{footprint_of}
 use Rattle.rc_base.specs.Orders.Order.{Footprint, Conflicts, Uses}
+use Rattle.rc_base.specs.declared.scene.Scene.{Scene}
 use Rattle.rc_base.specs.declared.sync.Entry.{Entry}
 use Rattle.rc_base.specs.declared.sync.Name.{Name}
 use Rattle.rc_base.specs.declared.sync.SyncLists.{SyncLists}
@@ -43,3 +45,15 @@ pub record IsFirstRace (syncs : SyncLists) (journal : List Entry) (order : List 
 abbrev pub IsVerdict : SyncLists → List Entry → List Name → Footprint (ℕ × ℕ) → Verdict → Type 0
 IsVerdict syncs journal order f Ordered = AreConflictsOrdered syncs journal f
 IsVerdict syncs journal order f (Race first second spot) = IsFirstRace syncs journal order f first second spot
+
+-- nothing races in the scene: of every two conflicting commands one is before the other
+abbrev pub NoRaces : SyncLists → List Entry → Scene → Type 0
+NoRaces syncs journal scene = AreConflictsOrdered syncs journal (footprint_of scene)
+
+-- the verdict on an order of a scene's commands
+abbrev pub IsVerdictOn : Scene → SyncLists → List Entry → List Name → Verdict → Type 0
+IsVerdictOn scene syncs journal order v = IsVerdict syncs journal order (footprint_of scene) v
+
+-- the verdict says that nothing races
+abbrev pub SaysOrdered : Verdict → Type 0
+SaysOrdered v = v ≡ Ordered

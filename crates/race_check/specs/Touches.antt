@@ -1,5 +1,5 @@
 -- What a name that touches pixels leaves of their cells, and what it finds.
-use Rattle.std.specs.Prelude.{◌≡◌, ℕ, ◌+◌, ◌*◌, ◌<◌, ◌&&◌, Bool, true, cond, List, pos, ◌≤ℤ◌, ◌⊎◌, ◌↔◌}
+use Rattle.std.specs.Prelude.{◌≡◌, ℕ, ◌+◌, ◌*◌, ◌<◌, ◌&&◌, Bool, true, cond, List, pos, ◌≤ℤ◌, ◌⊎◌, ◌↔◌, Option}
 use Rattle.std.specs.List.{list_any}
 use Rattle.rc_base.specs.Cluster.Tiles.{is_in_rect}
 use Rattle.rc_base.specs.Drawing.Cover.{is_inside, is_in_scissor}
@@ -9,6 +9,7 @@ use Rattle.rc_base.specs.declared.state.State.{State}
 use Rattle.rc_base.specs.declared.window.Rect.{Rect}
 use Rattle.rc_base.specs.declared.window.WindowVertex.{WindowVertex}
 use Rattle.race_check.specs.Finds.{IsFirst, IsFoundIn, OrBefore, cell_at, marked}
+use Rattle.race_check.specs.declared.cells.Cells.{Cells}
 use Rattle.race_check.specs.declared.found.Found.{Found}
 use Rattle.race_check.specs.declared.verdict.Spot.TheVariants.{Pixel}
 use Rattle.race_check.specs.declared.visit.Seen.{Seen}
@@ -39,6 +40,16 @@ pub record IsTouch (has : ℕ → ℕ → Bool) (v : Visit) (old new : List (Lis
   pub cells : AreTouched has v old new
   pub best : IsFirst (OrBefore before.best (IsFoundWhere has v old)) after.best
   pub some : (after.some ≡ true) ↔ ((before.some ≡ true) ⊎ SomePasses v.width v.height has)
+
+-- the same of the cells of a table
+abbrev pub AreTouchedIn : (ℕ → ℕ → Bool) → Visit → Cells → Cells → Type 0
+AreTouchedIn has v before after = AreTouched has v before.cells.items after.cells.items
+
+abbrev pub TellsWhere : (ℕ → ℕ → Bool) → Visit → Cells → Option Found → Option Found → Type 0
+TellsWhere has v table best told = IsFirst (OrBefore best (IsFoundWhere has v table.cells.items)) told
+
+abbrev pub Touches : (ℕ → ℕ → Bool) → Visit → Cells → Cells → Seen → Seen → Type 0
+Touches has v before after seen later = IsTouch has v before.cells.items after.cells.items seen later
 
 -- ---- what has pixels
 

@@ -1,5 +1,5 @@
 -- What a command uses, the tables of the last uses, and what they tell of a name.
-use Rattle.std.specs.Prelude.{◌≡◌, ◌≢◌, ℕ, suc, ◌+◌, ◌*◌, ◌^◌, ◌<◌, ◌≤◌, ◌&&◌, nat_lt, Bool, true, List, [], ◌∷◌, ◌++◌, length, slice_get, slice_index, Option, Some, pos}
+use Rattle.std.specs.Prelude.{◌≡◌, ◌≢◌, ℕ, suc, ◌+◌, ◌*◌, ◌^◌, ◌<◌, ◌≤◌, ◌&&◌, nat_lt, Bool, true, List, [], ◌∷◌, ◌++◌, length, slice_get, slice_index, slice_set, Option, Some, pos}
 use Rattle.std.specs.List.{list_any, range_with_len}
 use Rattle.rc_base.specs.Contexts.Issue.{stream_of}
 use Rattle.rc_base.specs.Drawing.Touch.{touches, may_sample, writes_shared}
@@ -115,3 +115,7 @@ pub record IsNextOf (scene : Scene) (clients : List Client) (n : Name) : Type 0 
   pub before : slice_get clients n.client ≡ Some (client_after scene n.client n.place)
   pub client : n.client < 8
   pub place : n.place + 1 < 2 ^ 32
+
+-- that client has issued it
+abbrev pub HasIssued : Scene → List Client → Name → List Client → Type 0
+HasIssued scene before n after = after ≡ slice_set before n.client (client_after scene n.client (n.place + 1))

@@ -1,15 +1,14 @@
 //! The walk along an order by boxes: it settles scenes whose clients draw apart, or one behind the other.
-ghost use Rattle.std.specs.Prelude.{◌≡◌, ◌+◌, ◌<◌, ◌^◌, true, IfOk, OnOk, slice_set};
+ghost use Rattle.std.specs.Prelude.{◌≡◌, ◌+◌, ◌<◌, ◌^◌, true, IfOk, OnOk};
 ghost use Rattle.rc_base.specs.Formats.Within.{IsWithin};
 ghost use Rattle.rc_base.specs.Orders.Footprints.{footprint_of};
 ghost use Rattle.rc_base.specs.Orders.Order.{IsPermitted};
 ghost use Rattle.rc_base.specs.Orders.Sync.{sync_lists_of};
-ghost use Rattle.happens_before.specs.Before.{AreConflictsOrdered};
 ghost use Rattle.happens_before.specs.Clocks.{IsExact};
 ghost use Rattle.happens_before.specs.Timelines.{AreOrdered, clock_of};
-ghost use Rattle.stream_replay.specs.Clients.{client_after};
 ghost use Rattle.race_check.specs.Outlines.{FitWindow, IsApart, PassesOutlines};
-ghost use Rattle.race_check.specs.Uses.{IsNextOf};
+ghost use Rattle.race_check.specs.Races.{NoRaces};
+ghost use Rattle.race_check.specs.Uses.{HasIssued, IsNextOf};
 
 use crate::clock::clock_of;
 use crate::outlines::Outlines;
@@ -63,7 +62,7 @@ fn outline_name(
     requires next { IsNextOf scene.now clients.old.items name }
     requires timelines { AreOrdered timelines.now.clients.items }
     requires fits { FitWindow scene.now.decl.width scene.now.decl.height outlines.old }
-    ensures clients { OnOk result (clients.new.items ≡ slice_set clients.old.items name.client (client_after scene.now name.client (name.place + 1))) }
+    ensures clients { OnOk result (HasIssued scene.now clients.old.items name clients.new.items) }
     ensures fits { OnOk result (FitWindow scene.now.decl.width scene.now.decl.height outlines.new) }
     ensures apart { let clock = clock_of timelines.now.clients.items name in
         IfOk result (λ apart. apart ≡ true
@@ -91,7 +90,7 @@ pub fn are_apart(
     requires permitted { IsPermitted syncs.now journal.now order.now }
     requires timelines { AreOrdered timelines.now.clients.items }
     requires exact { IsExact syncs.now journal.now (clock_of timelines.now.clients.items) }
-    ensures { IfOk result (λ apart. apart ≡ true → AreConflictsOrdered syncs.now journal.now (footprint_of scene.now)) }
+    ensures { IfOk result (λ apart. apart ≡ true → NoRaces syncs.now journal.now scene.now) }
 {
     let _journal = journal;
     let _syncs = syncs;

@@ -1,6 +1,7 @@
 //! For each cell and client the last place that used the cell.
-ghost use Rattle.std.specs.Prelude.{◌≡◌, ◌+◌, ◌<◌, ◌≤◌, ◌^◌, ℕ, max, length, slice_index, IfOk};
-ghost use Rattle.race_check.specs.Finds.{AreUnused, IsFirst, IsFoundIn, OrBefore, cell_at, mark};
+ghost use Rattle.std.specs.Prelude.{◌≡◌, ◌+◌, ◌<◌, ◌≤◌, ◌^◌, length, slice_index, IfOk};
+ghost use Rattle.happens_before.specs.Timelines.{IsJoined};
+ghost use Rattle.race_check.specs.Finds.{Tells, cell_of, AreUnused, IsFoundIn, mark};
 ghost use Rattle.race_check.specs.Outlines.{AreMarked, IsGreatest};
 
 use crate::found::{Found, look};
@@ -18,7 +19,7 @@ pub struct Cells {
 
 // The greater number of each client.
 fn raise(most: &mut [u32; 8], cell: &[u32; 8])
-    ensures { (client : ℕ) → slice_index most.new client ≡ max (slice_index most.old client) (slice_index cell.now client) }
+    ensures { IsJoined most.old (slice_index cell.now) most.new }
 {
     for client in 0..8usize {
         most[client] = most[client].max(cell[client]);
@@ -45,7 +46,7 @@ impl Cells {
         best: Option<Found>,
     ) -> Option<Found>
         requires { index < length self.now.cells.items }
-        ensures { IsFirst (OrBefore best (IsFoundIn own clock.now (cell_at self.now.cells.items index) spot)) result }
+        ensures { Tells best (IsFoundIn own clock.now (cell_of self.now index) spot) result }
     {
         look(best, own, clock, &self.cells[index], spot)
     }

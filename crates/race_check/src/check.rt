@@ -1,12 +1,11 @@
 //! The race checker.
 ghost use Rattle.std.specs.Prelude.{◌≡◌, ◌↔◌, IfOk};
 ghost use Rattle.rc_base.specs.Formats.Within.{IsWithin};
-ghost use Rattle.rc_base.specs.Orders.Footprints.{footprint_of, IsOrderedScene};
+ghost use Rattle.rc_base.specs.Orders.Footprints.{IsOrderedScene};
 ghost use Rattle.rc_base.specs.Orders.Journal.{IsMaximal};
 ghost use Rattle.rc_base.specs.Orders.Order.{IsPermitted};
 ghost use Rattle.rc_base.specs.Orders.Sync.{sync_lists_of};
-ghost use Rattle.happens_before.specs.Before.{AreConflictsOrdered};
-ghost use Rattle.race_check.specs.Races.{IsVerdict};
+ghost use Rattle.race_check.specs.Races.{IsVerdictOn, NoRaces, SaysOrdered};
 ghost use Rattle.race_check.specs.declared.verdict.Verdict.TheVariants as verdict;
 
 use crate::apart::are_apart;
@@ -30,7 +29,7 @@ fn verdict_on(
     requires lists { syncs.now ≡ sync_lists_of scene.now }
     requires maximal { IsMaximal syncs.now journal.now }
     requires permitted { IsPermitted syncs.now journal.now order.now }
-    ensures { IfOk result (λ v. IsVerdict syncs.now journal.now order.now (footprint_of scene.now) v) }
+    ensures { IfOk result (IsVerdictOn scene.now syncs.now journal.now order.now) }
 {
     if scene.streams.len() < 2 {
         return Ok(Verdict::Ordered);
@@ -57,9 +56,9 @@ pub fn check_races(
     requires lists { syncs.now ≡ sync_lists_of scene.now }
     requires maximal { IsMaximal syncs.now journal.now }
     requires permitted { IsPermitted syncs.now journal.now order.now }
-    ensures verdict { IfOk result (λ v. IsVerdict syncs.now journal.now order.now (footprint_of scene.now) v) }
-    ensures exactly { IfOk result (λ v. (v ≡ verdict.Ordered) ↔ AreConflictsOrdered syncs.now journal.now (footprint_of scene.now)) }
-    ensures exactly_ordered { IfOk result (λ v. (v ≡ verdict.Ordered) ↔ IsOrderedScene scene.now journal.now) }
+    ensures verdict { IfOk result (IsVerdictOn scene.now syncs.now journal.now order.now) }
+    ensures exactly { IfOk result (λ v. SaysOrdered v ↔ NoRaces syncs.now journal.now scene.now) }
+    ensures exactly_ordered { IfOk result (λ v. SaysOrdered v ↔ IsOrderedScene scene.now journal.now) }
 {
     let verdict = verdict_on(alloc, scene, journal, order, syncs)?;
     Ok(verdict)

@@ -1,7 +1,7 @@
 //! The tables of a walk along an order: who touched each pixel last, and who wrote and who sampled each shared texture.
-ghost use Rattle.std.specs.Prelude.{◌≡◌, ◌+◌, ◌*◌, ◌<◌, ◌^◌, ◌⊎◌, ℕ, length, IfOk};
-ghost use Rattle.race_check.specs.Finds.{AreUnused, IsFirst, IsFoundIn, IsRunIn, OrBefore, cell_at, mark, run_has};
-ghost use Rattle.race_check.specs.Touches.{AreTouched, IsFoundWhere, IsTouch};
+ghost use Rattle.std.specs.Prelude.{◌≡◌, ◌+◌, ◌*◌, ◌<◌, ◌^◌, ◌⊎◌, length, IfOk};
+ghost use Rattle.race_check.specs.Finds.{IsFoundOf, IsMarked, Tells, AreUnused, IsFirst, IsRunIn, run_has};
+ghost use Rattle.race_check.specs.Touches.{AreTouchedIn, TellsWhere, Touches};
 ghost use Rattle.race_check.specs.declared.verdict.Spot.TheVariants.{Shared};
 
 use crate::cells::Cells;
@@ -21,8 +21,8 @@ fn touch_pixels(pixels: &mut Cells, visit: &Visit, run: Run, best: Option<Found>
     requires size { length pixels.old.cells.items ≡ visit.now.height * visit.now.width }
     requires run { IsRunIn visit.now.width visit.now.height run }
     ensures size { length pixels.new.cells.items ≡ length pixels.old.cells.items }
-    ensures cells { AreTouched (run_has run) visit.now pixels.old.cells.items pixels.new.cells.items }
-    ensures best { IsFirst (OrBefore best (IsFoundWhere (run_has run) visit.now pixels.old.cells.items)) result }
+    ensures cells { AreTouchedIn (run_has run) visit.now pixels.old pixels.new }
+    ensures best { TellsWhere (run_has run) visit.now pixels.old best result }
 {
     let mut best = best;
     let start = row_start(visit.width, run.row);
@@ -42,7 +42,7 @@ pub fn touch_run(pixels: &mut Cells, visit: &Visit, run: Run, seen: Seen) -> See
     requires size { length pixels.old.cells.items ≡ visit.now.height * visit.now.width }
     requires run { IsRunIn visit.now.width visit.now.height run }
     ensures size { length pixels.new.cells.items ≡ length pixels.old.cells.items }
-    ensures touched { IsTouch (run_has run) visit.now pixels.old.cells.items pixels.new.cells.items seen result }
+    ensures touched { Touches (run_has run) visit.now pixels.old pixels.new seen result }
 {
     Seen {
         best: touch_pixels(pixels, visit, run, seen.best),
@@ -80,9 +80,9 @@ impl Marks {
         requires writers { length self.old.writers.cells.items ≡ 256 }
         requires readers { length self.old.readers.cells.items ≡ 256 }
         ensures same { (self.new.pixels ≡ self.old.pixels) × (self.new.readers ≡ self.old.readers) }
-        ensures writers { self.new.writers.cells.items ≡ mark name self.old.writers.cells.items texture }
-        ensures best { IsFirst (λ x. IsFoundIn name.client clock.now (cell_at self.old.writers.cells.items texture) (Shared texture) x
-            ⊎ IsFoundIn name.client clock.now (cell_at self.old.readers.cells.items texture) (Shared texture) x) result }
+        ensures writers { IsMarked name self.old.writers texture self.new.writers }
+        ensures best { IsFirst (λ x. IsFoundOf name clock.now self.old.writers texture x
+            ⊎ IsFoundOf name clock.now self.old.readers texture x) result }
     {
         let index = texture as usize;
         let spot = Spot::Shared(texture);
@@ -105,8 +105,8 @@ impl Marks {
         requires writers { length self.old.writers.cells.items ≡ 256 }
         requires readers { length self.old.readers.cells.items ≡ 256 }
         ensures same { (self.new.pixels ≡ self.old.pixels) × (self.new.writers ≡ self.old.writers) }
-        ensures readers { self.new.readers.cells.items ≡ mark name self.old.readers.cells.items texture }
-        ensures best { IsFirst (OrBefore best (IsFoundIn name.client clock.now (cell_at self.old.writers.cells.items texture) (Shared texture))) result }
+        ensures readers { IsMarked name self.old.readers texture self.new.readers }
+        ensures best { Tells best (IsFoundOf name clock.now self.old.writers texture) result }
     {
         let index = texture as usize;
         let found = self

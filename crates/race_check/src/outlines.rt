@@ -1,7 +1,7 @@
 //! Who may have used a row or a column of the window, and a shared texture, by the boxes of commands.
-ghost use Rattle.std.specs.Prelude.{◌≡◌, ◌+◌, ◌<◌, ◌≤◌, ◌^◌, true, IfOk};
+ghost use Rattle.std.specs.Prelude.{◌≡◌, ◌+◌, ◌<◌, ◌^◌, true, IfOk};
 ghost use Rattle.race_check.specs.Finds.{AreUnused};
-ghost use Rattle.race_check.specs.Outlines.{AreMarked, FitWindow, CountsAll};
+ghost use Rattle.race_check.specs.Outlines.{HasMarked, IsInside, FitWindow, CountsAll};
 
 use crate::cells::Cells;
 use crate::found::{is_counted, is_either_counted};
@@ -40,7 +40,7 @@ impl Outlines {
     /// in other rows, or all of it in other columns.
     pub fn is_counted(&self, clock: &[u32; 8], reach: &Reach, width: u16, height: u16) -> bool
         requires fits { FitWindow width height self.now }
-        requires inside { (reach.now.rows.to ≤ height) × (reach.now.columns.to ≤ width) × (reach.now.samples.to ≤ 256) × (reach.now.writes.to ≤ 256) }
+        requires inside { IsInside width height reach.now }
         ensures { result ≡ true → CountsAll clock.now reach.now self.now }
     {
         let _width = width;
@@ -67,12 +67,12 @@ impl Outlines {
         requires client { name.client < 8 }
         requires place { name.place + 1 < 2 ^ 32 }
         requires fits { FitWindow width height self.old }
-        requires inside { (reach.now.rows.to ≤ height) × (reach.now.columns.to ≤ width) × (reach.now.samples.to ≤ 256) × (reach.now.writes.to ≤ 256) }
+        requires inside { IsInside width height reach.now }
         ensures fits { FitWindow width height self.new }
-        ensures rows { AreMarked name reach.now.rows self.old.rows.cells.items self.new.rows.cells.items }
-        ensures columns { AreMarked name reach.now.columns self.old.columns.cells.items self.new.columns.cells.items }
-        ensures writers { AreMarked name reach.now.writes self.old.writers.cells.items self.new.writers.cells.items }
-        ensures readers { AreMarked name reach.now.samples self.old.readers.cells.items self.new.readers.cells.items }
+        ensures rows { HasMarked name reach.now.rows self.old.rows self.new.rows }
+        ensures columns { HasMarked name reach.now.columns self.old.columns self.new.columns }
+        ensures writers { HasMarked name reach.now.writes self.old.writers self.new.writers }
+        ensures readers { HasMarked name reach.now.samples self.old.readers self.new.readers }
     {
         let _width = width;
         let _height = height;

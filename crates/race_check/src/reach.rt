@@ -1,11 +1,11 @@
 //! What a command may use, by the box of what it draws.
 ghost use Rattle.std.specs.Prelude.{◌≡◌, ◌≤◌, ◌<◌, ℕ, true, pos, ◌≤ℤ◌, ◌<ℤ◌, IfSome, Some};
-ghost use Rattle.rc_base.specs.Cluster.Tiles.{is_in_rect};
 ghost use Rattle.rc_base.specs.Drawing.Texel.{samples_shared};
 ghost use Rattle.rc_base.specs.Drawing.Touch.{may_sample, touches, writes_shared};
 ghost use Rattle.rc_base.specs.declared.state.State.{State as AnyState};
 ghost use Rattle.bounds_bucket.specs.Boxes.{HoldsTouched};
-ghost use Rattle.race_check.specs.Outlines.{IsAmong, IsReach, no_reach, nowhere};
+ghost use Rattle.race_check.specs.Touches.{part_has};
+ghost use Rattle.race_check.specs.Outlines.{HoldsAll, IsReachOf, touching, IsAmong, no_reach, nowhere};
 
 use crate::range::Range;
 use bounds_bucket::{block_box, clear_box};
@@ -90,7 +90,7 @@ struct Area {
 // The rows and columns of the window that a rectangle has.
 fn area_in(rect: Rect, width: u16, height: u16) -> Area
     ensures inside { (result.rows.to ≤ height) × (result.columns.to ≤ width) }
-    ensures all { (x y : ℕ) → x < width → y < height → is_in_rect rect (pos x) (pos y) ≡ true → IsAmong result.rows y × IsAmong result.columns x }
+    ensures all { HoldsAll width height (part_has rect) result }
 {
     let rows = range_in(rect.y0, rect.y1, height);
     let columns = range_in(rect.x0, rect.x1, width);
@@ -100,7 +100,7 @@ fn area_in(rect: Rect, width: u16, height: u16) -> Area
 // The rows and columns of the box of what a command draws.
 fn area_of(state: &State, effect: &Effect, width: u16, height: u16) -> Area
     ensures inside { (result.rows.to ≤ height) × (result.columns.to ≤ width) }
-    ensures all { (x y : ℕ) → x < width → y < height → touches state.now effect.now (pos x) (pos y) ≡ true → IsAmong result.rows y × IsAmong result.columns x }
+    ensures all { HoldsAll width height (touching state.now effect.now) result }
 {
     match box_of(state, effect, window_rect(width, height)) {
         Some(rect) => area_in(rect, width, height),
@@ -149,7 +149,7 @@ fn writes_of(effect: &Effect) -> Range
 
 /// Whether a command neither draws nor writes a shared texture.
 pub fn is_quiet(effect: &Effect) -> bool
-    ensures { result ≡ true → (s : AnyState) (w h : ℕ) → IsReach (λ x y. touches s effect.now (pos x) (pos y)) (may_sample s effect.now) (writes_shared effect.now) w h no_reach }
+    ensures { result ≡ true → (s : AnyState) (w h : ℕ) → IsReachOf s effect.now w h no_reach }
 {
     match effect {
         Effect::Block(_) => false,
@@ -161,7 +161,7 @@ pub fn is_quiet(effect: &Effect) -> bool
 
 /// What a command may use of a window whose sides are in pixels.
 pub fn reach_of(state: &State, effect: &Effect, width: u16, height: u16) -> Reach
-    ensures { IsReach (λ x y. touches state.now effect.now (pos x) (pos y)) (may_sample state.now effect.now) (writes_shared effect.now) width height result }
+    ensures { IsReachOf state.now effect.now width height result }
 {
     let area = area_of(state, effect, width, height);
     Reach {

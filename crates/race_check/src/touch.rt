@@ -1,11 +1,10 @@
 //! The pixels that a block or a Clear touches.
-ghost use Rattle.std.specs.Prelude.{◌≡◌, ◌+◌, ◌*◌, ◌<◌, ◌^◌, ℕ, ℤ, pos, ◌≤ℤ◌, ◌<ℤ◌, length};
+ghost use Rattle.std.specs.Prelude.{◌≡◌, ◌+◌, ◌*◌, ◌<◌, ◌^◌, ℤ, pos, ◌≤ℤ◌, ◌<ℤ◌, length};
 ghost use Rattle.rc_base.specs.Drawing.Pieces.{kept_corners_of};
 ghost use Rattle.geometry.specs.Beside.{AreSurrounds};
 ghost use Rattle.geometry.specs.Items.{AreBelow};
 ghost use Rattle.geometry.specs.Pieces.{found};
-ghost use Rattle.raster.specs.Clips.{IsPartWhere, is_let_through};
-ghost use Rattle.race_check.specs.Touches.{IsWithinWindow, IsTouch, block_has, clear_has, part_has, triangle_has, triangles_have};
+ghost use Rattle.race_check.specs.Touches.{IsWithinWindow, Touches, block_has, clear_has, part_has, triangle_has, triangles_have};
 
 use crate::cells::Cells;
 use crate::marks::touch_run;
@@ -48,7 +47,7 @@ fn touch_triangle(
     requires size { length pixels.old.cells.items ≡ visit.now.height * visit.now.width }
     requires part { IsWithinWindow visit.now.width visit.now.height part }
     ensures size { length pixels.new.cells.items ≡ length pixels.old.cells.items }
-    ensures touched { IsTouch (triangle_has tri.now.v part) visit.now pixels.old.cells.items pixels.new.cells.items seen result }
+    ensures touched { Touches (triangle_has tri.now.v part) visit.now pixels.old pixels.new seen result }
 {
     let _width = visit.width;
     let _height = visit.height;
@@ -72,7 +71,7 @@ fn touch_found(
     requires size { length pixels.old.cells.items ≡ visit.now.height * visit.now.width }
     requires part { IsWithinWindow visit.now.width visit.now.height part }
     ensures size { length pixels.new.cells.items ≡ length pixels.old.cells.items }
-    ensures touched { IsTouch (triangles_have (found tri.now) part) visit.now pixels.old.cells.items pixels.new.cells.items seen result }
+    ensures touched { Touches (triangles_have (found tri.now) part) visit.now pixels.old pixels.new seen result }
 {
     match tri {
         Some(t) => touch_triangle(pixels, visit, t, part, seen),
@@ -101,7 +100,7 @@ fn touch_corners(
     ensures state { cache.new.state.now ≡ cache.old.state.now }
     ensures vertices { cache.new.vertices.now ≡ block.now.vertices }
     ensures size { length pixels.new.cells.items ≡ length pixels.old.cells.items }
-    ensures touched { IsTouch (triangles_have (kept_corners_of cache.old.state.now block.now corners) part) visit.now pixels.old.cells.items pixels.new.cells.items seen result }
+    ensures touched { Touches (triangles_have (kept_corners_of cache.old.state.now block.now corners) part) visit.now pixels.old pixels.new seen result }
 {
     cover_lies_in_bounds();
     match cache.uncut_near(corners, near) {
@@ -127,7 +126,7 @@ pub fn touch_block(
     requires place { visit.now.name.place + 1 < 2 ^ 32 }
     requires size { length pixels.old.cells.items ≡ visit.now.height * visit.now.width }
     ensures size { length pixels.new.cells.items ≡ length pixels.old.cells.items }
-    ensures touched { IsTouch (block_has state.now block.now) visit.now pixels.old.cells.items pixels.new.cells.items seen result }
+    ensures touched { Touches (block_has state.now block.now) visit.now pixels.old pixels.new seen result }
 {
     let part = drawn_part(state, window_rect(visit.width, visit.height));
     let near = surrounds_of(part);
@@ -155,7 +154,7 @@ fn touch_part(pixels: &mut Cells, visit: &Visit, part: Rect, seen: Seen) -> Seen
     requires size { length pixels.old.cells.items ≡ visit.now.height * visit.now.width }
     requires part { IsWithinWindow visit.now.width visit.now.height part }
     ensures size { length pixels.new.cells.items ≡ length pixels.old.cells.items }
-    ensures touched { IsTouch (part_has part) visit.now pixels.old.cells.items pixels.new.cells.items seen result }
+    ensures touched { Touches (part_has part) visit.now pixels.old pixels.new seen result }
 {
     let _visit = *visit;
     if part.x1 <= part.x0 {
@@ -188,7 +187,7 @@ pub fn touch_clear(pixels: &mut Cells, visit: &Visit, state: &State, seen: Seen)
     requires place { visit.now.name.place + 1 < 2 ^ 32 }
     requires size { length pixels.old.cells.items ≡ visit.now.height * visit.now.width }
     ensures size { length pixels.new.cells.items ≡ length pixels.old.cells.items }
-    ensures touched { IsTouch (clear_has state.now) visit.now pixels.old.cells.items pixels.new.cells.items seen result }
+    ensures touched { Touches (clear_has state.now) visit.now pixels.old pixels.new seen result }
 {
     touch_part(
         pixels,

@@ -1,14 +1,13 @@
 //! The walk along an order pixel by pixel.
-ghost use Rattle.std.specs.Prelude.{◌≡◌, ◌+◌, IfOk, OnOk, slice_set};
+ghost use Rattle.std.specs.Prelude.{◌≡◌, IfOk, OnOk};
 ghost use Rattle.rc_base.specs.Formats.Within.{IsWithin};
 ghost use Rattle.rc_base.specs.Orders.Footprints.{footprint_of};
 ghost use Rattle.rc_base.specs.Orders.Order.{IsPermitted};
 ghost use Rattle.rc_base.specs.Orders.Sync.{sync_lists_of};
 ghost use Rattle.happens_before.specs.Clocks.{IsExact};
 ghost use Rattle.happens_before.specs.Timelines.{AreOrdered, clock_of};
-ghost use Rattle.stream_replay.specs.Clients.{client_after};
-ghost use Rattle.race_check.specs.Races.{IsVerdict};
-ghost use Rattle.race_check.specs.Uses.{AreSized, IsNextOf, PassesMarks};
+ghost use Rattle.race_check.specs.Races.{IsVerdictOn};
+ghost use Rattle.race_check.specs.Uses.{HasIssued, AreSized, IsNextOf, PassesMarks};
 
 use crate::carry::carry_out;
 use crate::found::Found;
@@ -33,7 +32,7 @@ fn carry_name(
     requires next { IsNextOf scene.now clients.old.items name }
     requires timelines { AreOrdered timelines.now.clients.items }
     requires sized { AreSized scene.now.decl.width scene.now.decl.height marks.old }
-    ensures clients { OnOk result (clients.new.items ≡ slice_set clients.old.items name.client (client_after scene.now name.client (name.place + 1))) }
+    ensures clients { OnOk result (HasIssued scene.now clients.old.items name clients.new.items) }
     ensures sized { OnOk result (AreSized scene.now.decl.width scene.now.decl.height marks.new) }
     ensures carried { let clock = clock_of timelines.now.clients.items name in
         IfOk result (λ told. PassesMarks (footprint_of scene.now) scene.now.decl.width scene.now.decl.height clock name marks.old marks.new told) }
@@ -60,7 +59,7 @@ pub fn first_race(
     requires permitted { IsPermitted syncs.now journal.now order.now }
     requires timelines { AreOrdered timelines.now.clients.items }
     requires exact { IsExact syncs.now journal.now (clock_of timelines.now.clients.items) }
-    ensures { IfOk result (λ v. IsVerdict syncs.now journal.now order.now (footprint_of scene.now) v) }
+    ensures { IfOk result (IsVerdictOn scene.now syncs.now journal.now order.now) }
 {
     let _journal = journal;
     let _syncs = syncs;
