@@ -2,7 +2,7 @@
 ghost use Rattle.std.specs.Prelude.{◌≡◌, ◌∷◌, ◌<◌, [], pos, map, length, true, false};
 ghost use Rattle.rc_base.specs.Numbers.{entry};
 ghost use Rattle.rc_base.specs.Formats.Commands.{ranges_of, has_picture, is_in_range, command_parts, parts_of};
-ghost use Rattle.command_table.specs.Ranges.{AreIn};
+ghost use Rattle.command_table.specs.Ranges.{AreIn, color_numbers, color_ranges, part_numbers, part_ranges};
 
 use rc_base::command::{Command, Mat4, NumberRange, Opcode, Part, Rgba, Texels};
 
@@ -25,8 +25,8 @@ pub fn half_at(numbers: &[i32], i: usize) -> u16
 }
 
 fn color_of(numbers: &[i32]) -> Rgba
-    requires { AreIn (NumberRange.Byte ∷ NumberRange.Byte ∷ NumberRange.Byte ∷ NumberRange.Byte ∷ []) numbers.now }
-    ensures { pos result.r ∷ pos result.g ∷ pos result.b ∷ pos result.a ∷ [] ≡ numbers.now }
+    requires { AreIn color_ranges numbers.now }
+    ensures { color_numbers result ≡ numbers.now }
 {
     Rgba {
         r: byte_at(numbers, 0),
@@ -37,7 +37,7 @@ fn color_of(numbers: &[i32]) -> Rgba
 }
 
 fn flags_of(numbers: &[i32]) -> [u8; 4]
-    requires { AreIn (NumberRange.Byte ∷ NumberRange.Byte ∷ NumberRange.Byte ∷ NumberRange.Byte ∷ []) numbers.now }
+    requires { AreIn color_ranges numbers.now }
     ensures { map pos result ≡ numbers.now }
 {
     [
@@ -65,8 +65,8 @@ fn matrix_of(numbers: &[i32]) -> Mat4
 }
 
 fn texture_part(numbers: &[i32], texels: Texels) -> Part
-    requires { AreIn (NumberRange.Byte ∷ NumberRange.Half ∷ NumberRange.Half ∷ NumberRange.Half ∷ NumberRange.Half ∷ []) numbers.now }
-    ensures numbers { pos result.name ∷ pos result.x ∷ pos result.y ∷ pos result.w ∷ pos result.h ∷ [] ≡ numbers.now }
+    requires { AreIn part_ranges numbers.now }
+    ensures numbers { part_numbers result ≡ numbers.now }
     ensures texels { result.texels ≡ texels }
 {
     Part {

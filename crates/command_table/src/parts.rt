@@ -1,7 +1,7 @@
 //! The numbers and the texels of a command.
 ghost use Rattle.std.specs.Prelude.{◌≡◌, ◌≤◌, ◌∷◌, [], pos, map, length, take, replicate, true};
 ghost use Rattle.rc_base.specs.Formats.Commands.{is_in_range};
-ghost use Rattle.command_table.specs.Ranges.{AreIn, AreNumbersOf, FrontHasPartsOf};
+ghost use Rattle.command_table.specs.Ranges.{AreIn, AreNumbersOf, FrontHasPartsOf, color_numbers, color_ranges, image_ranges, part_numbers, part_ranges};
 ghost use Rattle.command_table.specs.ByOpcode.{when_known};
 
 use rc_base::command::{Command, NumberRange, Part, Rgba};
@@ -51,8 +51,8 @@ fn put_words(room: &mut Numbers, words: &[i32]) -> usize
 
 fn put_color(room: &mut Numbers, color: Rgba) -> usize
     ensures count { result ≡ 4 }
-    ensures front { take 4 room.new ≡ pos color.r ∷ pos color.g ∷ pos color.b ∷ pos color.a ∷ [] }
-    ensures in_range { AreIn (replicate 4 NumberRange.Byte) (pos color.r ∷ pos color.g ∷ pos color.b ∷ pos color.a ∷ []) }
+    ensures front { take 4 room.new ≡ color_numbers color }
+    ensures in_range { AreIn color_ranges (color_numbers color) }
 {
     put_bytes(room, &[color.r, color.g, color.b, color.a])
 }
@@ -60,16 +60,15 @@ fn put_color(room: &mut Numbers, color: Rgba) -> usize
 fn put_image(room: &mut Numbers, name: u8, w: u16, h: u16) -> usize
     ensures count { result ≡ 3 }
     ensures front { take 3 room.new ≡ pos name ∷ pos w ∷ pos h ∷ [] }
-    ensures in_range { AreIn (NumberRange.Byte ∷ NumberRange.Half ∷ NumberRange.Half ∷ []) (pos name ∷ pos w ∷ pos h ∷ []) }
+    ensures in_range { AreIn image_ranges (pos name ∷ pos w ∷ pos h ∷ []) }
 {
     put_words(room, &[byte(name), half(w), half(h)])
 }
 
 fn put_part(room: &mut Numbers, part: &Part) -> usize
     ensures count { result ≡ 5 }
-    ensures front { take 5 room.new ≡ pos part.now.name ∷ pos part.now.x ∷ pos part.now.y ∷ pos part.now.w ∷ pos part.now.h ∷ [] }
-    ensures in_range { AreIn (NumberRange.Byte ∷ NumberRange.Half ∷ NumberRange.Half ∷ NumberRange.Half ∷ NumberRange.Half ∷ [])
-        (pos part.now.name ∷ pos part.now.x ∷ pos part.now.y ∷ pos part.now.w ∷ pos part.now.h ∷ []) }
+    ensures front { take 5 room.new ≡ part_numbers part.now }
+    ensures in_range { AreIn part_ranges (part_numbers part.now) }
 {
     let Part {
         name,
