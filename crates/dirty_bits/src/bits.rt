@@ -1,8 +1,7 @@
 //! The bits of servers in words of 32.
-ghost use Rattle.std.specs.Prelude.{◌≡◌, ℕ, ◌<◌, ◌≤◌, ◌-◌, ◌==◌, ◌&&◌, ◌||◌, not, length};
-ghost use Rattle.std.specs.Int.{bit_at};
-ghost use Rattle.std.specs.List.{range_with_len, list_any};
-ghost use Rattle.dirty_bits.specs.Bits.{is_dirty};
+ghost use Rattle.std.specs.Prelude.{◌≡◌, ℕ, ◌<◌, ◌≤◌, ◌-◌, ◌==◌, ◌&&◌, not, length};
+ghost use Rattle.rc_base.specs.Orders.Journal.{has};
+ghost use Rattle.dirty_bits.specs.Bits.{IsLowered, is_one_dirty};
 
 use rc_base::sync::has;
 
@@ -12,7 +11,7 @@ pub fn any_has(words: &[u32], start: u8, end: u8, server: u8) -> bool
     requires server { server < 32 }
     requires order { start ≤ end }
     requires room { end ≤ length words.now }
-    ensures { result ≡ list_any (λ e. is_dirty words.now e server) (range_with_len start (end - start)) }
+    ensures { result ≡ is_one_dirty words.now start (end - start) server }
 {
     for place in start..end {
         if has(words[usize::from(place)], server) {
@@ -25,7 +24,7 @@ pub fn any_has(words: &[u32], start: u8, end: u8, server: u8) -> bool
 /// The word without the server's bit.
 pub fn without(word: u32, server: u8) -> u32
     requires { server < 32 }
-    ensures { (s : ℕ) → s < 32 → (bit_at result s == 1) ≡ ((bit_at word s == 1) && not (s == server)) }
+    ensures { (s : ℕ) → s < 32 → has result s ≡ (has word s && not (s == server)) }
 {
     word & !(1 << server)
 }
@@ -33,7 +32,7 @@ pub fn without(word: u32, server: u8) -> u32
 /// The word, where the server's bit stays only if it is said to.
 pub fn lowered(word: u32, server: u8, stays: bool) -> u32
     requires { server < 32 }
-    ensures { (s : ℕ) → s < 32 → (bit_at result s == 1) ≡ ((bit_at word s == 1) && (stays || not (s == server))) }
+    ensures { IsLowered word server stays result }
 {
     if stays {
         return word;

@@ -1,7 +1,7 @@
 //! The bits, and what asks them.
 ghost use Rattle.std.specs.Prelude.{◌≡◌, ℕ, ◌<◌, ◌+◌, ◌^◌, ◌==◌, ◌&&◌, ◌||◌, not, false, length};
 ghost use Rattle.rc_base.specs.Contexts.Elements.{element_count, group_sizes};
-ghost use Rattle.dirty_bits.specs.Bits.{is_dirty, is_group_dirty, is_any_dirty};
+ghost use Rattle.dirty_bits.specs.Bits.{IsCleared, IsMarked, is_dirty, is_group_dirty, is_any_dirty};
 
 use crate::bits::{any_has, lowered, without};
 use crate::looks::Looks;
@@ -45,7 +45,7 @@ impl Dirty {
     pub fn mark(&mut self, element: u8)
         requires { element < element_count }
         ensures count { length self.new ≡ length self.old }
-        ensures marked { (e server : ℕ) → server < 32 → is_dirty self.new e server ≡ (e == element || is_dirty self.old e server) }
+        ensures marked { IsMarked element self.old self.new }
     {
         self.elements[usize::from(element)] = u32::MAX;
         self.groups[usize::from(group_of(element))] = u32::MAX;
@@ -57,7 +57,7 @@ impl Dirty {
         requires element { element < element_count }
         requires server { server < 32 }
         ensures count { length self.new ≡ length self.old }
-        ensures cleared { (e s : ℕ) → s < 32 → is_dirty self.new e s ≡ (is_dirty self.old e s && not (e == element && s == server)) }
+        ensures cleared { IsCleared element server self.old self.new }
     {
         let place = usize::from(element);
         if !has(self.elements[place], server) {

@@ -1,9 +1,7 @@
 //! What a parcel examines: the elements that are dirty for its tile.
-ghost use Rattle.std.specs.Prelude.{◌≡◌, ◌<◌, ◌≤◌, ◌+◌, ◌^◌, ◌++◌, [], IfOk, IsOk, OnOk, length, slice_index};
-ghost use Rattle.std.specs.List.{flat_map, range_with_len};
-ghost use Rattle.element_table.specs.Groups.{group_start};
+ghost use Rattle.std.specs.Prelude.{◌≡◌, ◌<◌, ◌≤◌, ◌+◌, ◌^◌, ◌++◌, [], IfOk, IsOk, OnOk, length};
 ghost use Rattle.rc_base.specs.Contexts.Elements.{element_count, group_sizes};
-ghost use Rattle.state_update.specs.Knowledge.{CleanElementsAreNotSet, IsPrivateName, element_looks, element_sets, looks_from, sets_by};
+ghost use Rattle.state_update.specs.Knowledge.{AddsDirtyAlone, IsPrivateName, all_looks, all_sets, group_looks, group_sets, sets_of};
 
 use crate::told::Told;
 use dirty_bits::{Dirty, Looks};
@@ -35,10 +33,10 @@ impl<'a> Examination<'a> {
         requires element { element < element_count }
         requires named { IsPrivateName self.now.image }
         requires server { self.now.tile < 32 }
-        requires clean { CleanElementsAreNotSet self.now.dirty.now self.now.tile self.now.told.now self.now.context.now self.now.image }
+        requires clean { AddsDirtyAlone self.now }
         requires room { looks.old < 2 ^ 63 }
-        ensures added { OnOk result (sets.new ≡ sets.old ++ element_sets self.now.told.now self.now.context.now self.now.image element) }
-        ensures quiet { element_sets self.now.told.now self.now.context.now self.now.image element ≡ [] → IsOk result }
+        ensures added { OnOk result (sets.new ≡ sets.old ++ sets_of self.now element) }
+        ensures quiet { sets_of self.now element ≡ [] → IsOk result }
         ensures looked { looks.new ≡ looks.old + 1 }
     {
         if !self.dirty.is_dirty(element, self.tile, looks) {
@@ -53,11 +51,11 @@ impl<'a> Examination<'a> {
         requires group { group < length group_sizes }
         requires named { IsPrivateName self.now.image }
         requires server { self.now.tile < 32 }
-        requires clean { CleanElementsAreNotSet self.now.dirty.now self.now.tile self.now.told.now self.now.context.now self.now.image }
+        requires clean { AddsDirtyAlone self.now }
         requires room { looks.old + 256 ≤ 2 ^ 63 }
-        ensures added { OnOk result (sets.new ≡ sets.old ++ flat_map (element_sets self.now.told.now self.now.context.now self.now.image) (range_with_len (group_start group) (slice_index group_sizes group))) }
-        ensures quiet { flat_map (element_sets self.now.told.now self.now.context.now self.now.image) (range_with_len (group_start group) (slice_index group_sizes group)) ≡ [] → IsOk result }
-        ensures looked { OnOk result (looks.new ≡ looks.old + 1 + element_looks self.now.dirty.now self.now.tile group) }
+        ensures added { OnOk result (sets.new ≡ sets.old ++ group_sets self.now group) }
+        ensures quiet { group_sets self.now group ≡ [] → IsOk result }
+        ensures looked { OnOk result (looks.new ≡ looks.old + 1 + group_looks self.now group) }
         ensures risen { looks.old ≤ looks.new }
     {
         if !self.dirty.group_dirty(group, self.tile, looks) {
@@ -73,11 +71,11 @@ impl<'a> Examination<'a> {
     pub fn sets(&self, looks: &mut Looks) -> Result<Sets, OutOfMemory>
         requires named { IsPrivateName self.now.image }
         requires server { self.now.tile < 32 }
-        requires clean { CleanElementsAreNotSet self.now.dirty.now self.now.tile self.now.told.now self.now.context.now self.now.image }
+        requires clean { AddsDirtyAlone self.now }
         requires room { looks.old < 2 ^ 62 + 1 }
-        ensures sets { IfOk result (λ sets. sets ≡ sets_by self.now.told.now self.now.context.now self.now.image) }
-        ensures quiet { sets_by self.now.told.now self.now.context.now self.now.image ≡ [] → IsOk result }
-        ensures looked { OnOk result (looks.new ≡ looks.old + length group_sizes + looks_from self.now.dirty.now self.now.tile 0) }
+        ensures sets { IfOk result (λ sets. sets ≡ all_sets self.now) }
+        ensures quiet { all_sets self.now ≡ [] → IsOk result }
+        ensures looked { OnOk result (looks.new ≡ looks.old + length group_sizes + all_looks self.now) }
         ensures risen { looks.old ≤ looks.new }
     {
         let mut sets = Sets::new(self.alloc);

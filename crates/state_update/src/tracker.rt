@@ -1,12 +1,8 @@
 //! What the tiles were last told by one client.
-ghost use Rattle.std.specs.Prelude.{◌≡◌, ◌≢◌, ◌<◌, ◌≤◌, ◌+◌, ◌^◌, ◌==◌, ◌&&◌, ◌||◌, not, false, nat_eq, ℕ, length, replicate, [], IfOk, IsOk, OnOk, OnErr};
-ghost use Rattle.std.specs.List.{list_any};
-ghost use Rattle.dirty_bits.specs.Bits.{is_dirty};
-ghost use Rattle.rc_base.specs.Contexts.Elements.{default_value, element_count};
+ghost use Rattle.std.specs.Prelude.{◌≡◌, ◌<◌, ◌≤◌, ◌+◌, ◌^◌, false, ℕ, length, replicate, IfOk, OnOk, OnErr};
+ghost use Rattle.rc_base.specs.Contexts.Elements.{element_count};
 ghost use Rattle.rc_base.specs.Cluster.Looks.{looks_for};
-ghost use Rattle.rc_base.specs.Cluster.Parcels.{examined, sets_for};
-ghost use Rattle.rc_base.specs.declared.state.ElementValue.{ElementValue};
-ghost use Rattle.state_update.specs.Knowledge.{HasBoundTexture, IsPrivateName, IsSettled, Knows, after_sets, is_examined, pending};
+ghost use Rattle.state_update.specs.Knowledge.{AreExaminedClean, AreExaminedTold, CountsAsTold, GivesSets, HasBoundTexture, IsOkWithoutSets, IsPendingToAll, IsPrivateName, IsSettled, KnowsDefaults, KnowsOthersStill, pending};
 
 use crate::examination::Examination;
 use crate::images::image_examined;
@@ -41,7 +37,7 @@ impl Tracker {
     /// Each tile was told the defaults, and no image, and nothing is pending.
     pub fn new(alloc: Global, decl: &Decl, tiles: u8) -> Result<Tracker, OutOfMemory>
         ensures count { IfOk result (λ t. length t.told ≡ tiles) }
-        ensures told { (tile : ℕ) → tile < tiles → IfOk result (λ t. Knows t tile (default_value decl.now)) }
+        ensures told { (tile : ℕ) → tile < tiles → IfOk result (KnowsDefaults decl.now tile) }
         ensures clean { IfOk result (λ t. (tile e : ℕ) → pending t tile e ≡ false) }
     {
         let first = Told::first(decl);
@@ -56,7 +52,7 @@ impl Tracker {
     pub fn note(&mut self, element: u8)
         requires { element < element_count }
         ensures told { self.new.told ≡ self.old.told }
-        ensures marked { (tile e : ℕ) → tile < 32 → pending self.new tile e ≡ (e == element || pending self.old tile e) }
+        ensures marked { IsPendingToAll element self.old self.new }
     {
         self.dirty.mark(element);
     }
@@ -79,11 +75,11 @@ impl Tracker {
         requires settled { IsSettled self.old tile context.now }
         requires room { looks.old < 2 ^ 62 }
         ensures count { length self.new.told ≡ length self.old.told }
-        ensures sets { (values : ℕ → ElementValue) → Knows self.old tile values → IfOk result (λ sets. sets ≡ sets_for values context.now draws) }
-        ensures told { (values : ℕ → ElementValue) → Knows self.old tile values → OnOk result (Knows self.new tile (after_sets values (sets_for values context.now draws))) }
-        ensures quiet { (values : ℕ → ElementValue) → Knows self.old tile values → sets_for values context.now draws ≡ [] → IsOk result }
-        ensures others { (other : ℕ) (values : ℕ → ElementValue) → other ≢ tile → Knows self.old other values → Knows self.new other values }
-        ensures pending { OnOk result ((t e : ℕ) → t < 32 → pending self.new t e ≡ (pending self.old t e && not (t == tile && list_any (nat_eq e) (examined context.now draws)))) }
+        ensures sets { GivesSets self.old tile context.now draws result }
+        ensures told { CountsAsTold self.old tile context.now draws self.new result }
+        ensures quiet { IsOkWithoutSets self.old tile context.now draws result }
+        ensures others { KnowsOthersStill tile self.old self.new }
+        ensures pending { OnOk result (AreExaminedTold tile context.now draws self.old self.new) }
         ensures looked { OnOk result (looks.new ≡ looks.old + looks_for (pending self.old tile)) }
         ensures err { OnErr result (self.new ≡ self.old) }
         ensures risen { looks.old ≤ looks.new }
@@ -113,7 +109,7 @@ impl Tracker {
 fn clear_examined(dirty: &mut Dirty, image: Option<u8>, tile: u8)
     requires named { IsPrivateName image }
     requires server { tile < 32 }
-    ensures { (e t : ℕ) → t < 32 → is_dirty dirty.new e t ≡ (is_dirty dirty.old e t && not (t == tile && is_examined image e)) }
+    ensures { AreExaminedClean image tile dirty.old dirty.new }
 {
     for element in 0..SCALAR_COUNT {
         dirty.clear(element, tile);
