@@ -1,13 +1,15 @@
 -- The least and greatest coordinates of the corners of kept triangles.
-use Rattle.std.specs.Prelude.{◌≡◌, ◌≤ℤ◌, ℕ, Bool, ◌&&◌, List, [], ◌++◌, map, ℤ, int_le, Option, None, Some}
+use Rattle.std.specs.Prelude.{◌≡◌, ◌≤ℤ◌, ℕ, Bool, ◌&&◌, List, [], ◌∷◌, ◌++◌, map, option_to_list, ℤ, int_le, Option, None, Some}
 use Rattle.std.specs.List.{flat_map}
 use Rattle.rc_base.specs.Lists.{IsIn}
-use Rattle.rc_base.specs.Drawing.Cover.{centre}
+use Rattle.rc_base.specs.Drawing.Cover.{centre, corner}
+use Rattle.rc_base.specs.Drawing.Kept.{kept_whole}
 use Rattle.rc_base.specs.declared.state.Block.{Block}
 use Rattle.rc_base.specs.declared.state.State.{State}
 use Rattle.rc_base.specs.declared.window.WindowVertex.{WindowVertex}
 use Rattle.rc_base.specs.Drawing.Pieces.{kept_corners_of}
 use Rattle.rc_base.specs.Cluster.Tiles.{corners_in}
+use Rattle.geometry.specs.declared.cache.VertexCache.{VertexCache}
 use Rattle.bounds_bucket.specs.declared.extent.Ends.{Ends}
 use Rattle.bounds_bucket.specs.declared.extent.Extent.{Extent}
 
@@ -17,6 +19,10 @@ pub record IsHull (e : Ends) (zs : List ℤ) : Type 0 where
   pub least : IsIn e.least zs
   pub greatest : IsIn e.greatest zs
 
+-- a coordinate of a triangle's corners
+abbrev pub corner_values : (WindowVertex → ℤ) → List WindowVertex → List ℤ
+corner_values f v = f (corner v 0) ∷ f (corner v 1) ∷ f (corner v 2) ∷ []
+
 -- what these corners span; nothing where there are none
 abbrev pub Spans : List WindowVertex → Option Extent → Type 0
 Spans corners None = corners ≡ []
@@ -25,6 +31,14 @@ Spans corners (Some e) = IsHull e.across (map (λ (v : WindowVertex). v.x) corne
 -- what corners span with these besides
 abbrev pub IsGrown : List WindowVertex → Option Extent → Option Extent → Type 0
 IsGrown more before after = (corners : List WindowVertex) → Spans corners before → Spans (corners ++ more) after
+
+-- what all corners span that two extents span
+abbrev pub IsJoined : Extent → Extent → Extent → Type 0
+IsJoined a b e = (us vs : List WindowVertex) → Spans us (Some a) → Spans vs (Some b) → Spans (us ++ vs) (Some e)
+
+-- the corners of the triangle of three vertices of a cache, where it is kept
+abbrev pub cached_corners : VertexCache → List ℕ → List WindowVertex
+cached_corners cache t = corners_in (option_to_list (kept_whole cache.state.now cache.vertices.now t))
 
 -- the corners of the kept triangles of some of a block's triples of vertices
 abbrev pub corners_from : State → Block → List (List ℕ) → List WindowVertex

@@ -1,8 +1,10 @@
 -- How tiles cut the window.
-use Rattle.std.specs.Prelude.{◌≡◌, ℕ, ◌*◌, ◌<◌, Bool, true, pos}
+use Rattle.std.specs.Prelude.{◌≡◌, ℕ, ◌*◌, ◌<◌, ◌&&◌, Bool, true, nat_lt, pos}
 use Rattle.std.specs.List.{list_any}
-use Rattle.rc_base.specs.Cluster.Tiles.{tile_pixels, interval_of}
+use Rattle.rc_base.specs.Orders.Journal.{has}
+use Rattle.rc_base.specs.Cluster.Tiles.{tile_column, tile_count, tile_pixels, tile_row, interval_of, rect_meets}
 use Rattle.rc_base.specs.declared.window.Layout.{Layout}
+use Rattle.rc_base.specs.declared.window.Rect.{Rect}
 use Rattle.bounds_bucket.specs.declared.range.Range.{Range}
 use Rattle.bounds_bucket.specs.Ranges.{is_among}
 
@@ -14,6 +16,14 @@ abbrev pub EachPixelHasOneTile : Type 0
 EachPixelHasOneTile =
     (l : Layout) (x y : ℕ) → 0 < l.columns → 0 < l.rows → x < l.width → y < l.height
     → (tile : ℕ) × HasPixel l tile x y × ((other : ℕ) → HasPixel l other x y → other ≡ tile)
+
+-- the tile is one of the layout's and has a pixel of the area
+abbrev pub meets_area : Layout → Rect → ℕ → Bool
+meets_area l area tile = nat_lt tile (tile_count l) && rect_meets l area tile
+
+-- the tile's column and row are in these sets
+abbrev pub is_crossed : ℕ → ℕ → Layout → ℕ → Bool
+is_crossed columns rows l tile = has columns (tile_column l tile) && has rows (tile_row l tile)
 
 -- a part of a side has a number of the range
 abbrev pub part_meets : ℕ → ℕ → Range → ℕ → Bool

@@ -1,14 +1,12 @@
 //! What the kept triangles of a block of version 1 span.
-ghost use Rattle.std.specs.Prelude.{◌≡◌, ◌<◌, List, [], ◌∷◌, ◌++◌, length, option_to_list, Some, ℤ};
+ghost use Rattle.std.specs.Prelude.{◌≡◌, ◌<◌, List, [], ◌∷◌, ◌++◌, length, ℤ};
 ghost use Rattle.std.specs.Int.{int_min, int_max};
-ghost use Rattle.rc_base.specs.Drawing.Cover.{corner};
 ghost use Rattle.rc_base.specs.declared.window.WindowVertex.{WindowVertex as Corner};
-ghost use Rattle.rc_base.specs.Drawing.Kept.{kept_whole};
 ghost use Rattle.rc_base.specs.Cluster.Tiles.{kept_corners, corners_in};
 ghost use Rattle.geometry.specs.Pieces.{found};
 ghost use Rattle.rc_base.specs.Drawing.Triangles.{cut_modes};
 ghost use Rattle.geometry.specs.Items.{AreBelow};
-ghost use Rattle.bounds_bucket.specs.Extents.{IsGrown, IsHull, Spans};
+ghost use Rattle.bounds_bucket.specs.Extents.{IsGrown, IsHull, IsJoined, Spans, cached_corners, corner_values};
 
 use crate::extent::{Ends, Extent};
 use geometry::{VertexCache, triangles};
@@ -46,8 +44,8 @@ fn both(a: Ends, b: Ends) -> Ends
 }
 
 fn extent_of(tri: &WindowTriangle) -> Extent
-    ensures across { IsHull result.across ((corner tri.now.v 0).x ∷ (corner tri.now.v 1).x ∷ (corner tri.now.v 2).x ∷ []) }
-    ensures up { IsHull result.up ((corner tri.now.v 0).y ∷ (corner tri.now.v 1).y ∷ (corner tri.now.v 2).y ∷ []) }
+    ensures across { IsHull result.across (corner_values (λ (c : Corner). c.x) tri.now.v) }
+    ensures up { IsHull result.up (corner_values (λ (c : Corner). c.y) tri.now.v) }
     ensures three { length tri.now.v ≡ 3 }
 {
     Extent {
@@ -57,7 +55,7 @@ fn extent_of(tri: &WindowTriangle) -> Extent
 }
 
 fn joined(a: Extent, b: Extent) -> Extent
-    ensures { (us vs : List Corner) → Spans us (Some a) → Spans vs (Some b) → Spans (us ++ vs) (Some result) }
+    ensures { IsJoined a b result }
 {
     Extent {
         across: both(a.across, b.across),
@@ -91,7 +89,7 @@ fn grown(extent: Option<Extent>, cache: &mut VertexCache<'_>, corners: [usize; 3
     requires { AreBelow (length cache.old.vertices.now) corners }
     ensures state { cache.new.state.now ≡ cache.old.state.now }
     ensures vertices { cache.new.vertices.now ≡ cache.old.vertices.now }
-    ensures grown { IsGrown (corners_in (option_to_list (kept_whole cache.old.state.now cache.old.vertices.now corners))) extent result }
+    ensures grown { IsGrown (cached_corners cache.old corners) extent result }
 {
     let tri = cache.triangle(corners);
     with_found(extent, &tri)

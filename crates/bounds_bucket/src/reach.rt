@@ -4,7 +4,7 @@ ghost use Rattle.rc_base.specs.Numbers.{Within, entry, fits_i32};
 ghost use Rattle.rc_base.specs.Drawing.Window.{axis_of};
 ghost use Rattle.rc_base.specs.Drawing.Cover.{centre};
 ghost use Rattle.rc_base.specs.Intervals.{AreEndsWithin, IsOrdered, OfEach, interval_at, transformed_over};
-ghost use Rattle.bounds_bucket.specs.Ranges.{is_among, IsPartWhere};
+ghost use Rattle.bounds_bucket.specs.Ranges.{is_among, unit_axis_over, IsPartWhere};
 ghost use Rattle.rc_base.specs.Cluster.ObjectBox.{axis_over, clip_over, dividends, divisors, moved_by, is_enclosed, may_be_near, is_amid_places, is_in_reach};
 
 use crate::boxes::rect_of;
@@ -145,7 +145,7 @@ fn unit_place(origin: i32, size: i32, x: i128) -> i128
 fn unit_axis_over(origin: i32, size: i32, x: Interval) -> Interval
     requires low { fits_i32 x.lo ≡ true }
     requires high { fits_i32 x.hi ≡ true }
-    ensures value { result ≡ record { lo = axis_of origin size x.lo (pos 65536); hi = axis_of origin size x.hi (pos 65536) } }
+    ensures value { result ≡ unit_axis_over origin size x }
     ensures small { AreEndsWithin (2 ^ 102) result }
 {
     Interval {

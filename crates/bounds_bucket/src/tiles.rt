@@ -2,8 +2,8 @@
 ghost use Rattle.std.specs.Prelude.{◌≡◌, ℕ, pos, ◌+◌, ◌*◌, ◌/◌, ◌%◌, ◌<◌, ◌≤◌, ◌&&◌, nat_lt, min};
 ghost use Rattle.std.specs.List.{list_any};
 ghost use Rattle.rc_base.specs.Orders.Journal.{has};
-ghost use Rattle.rc_base.specs.Cluster.Tiles.{tile_count, boundary_of, tile_column, tile_row, tile_pixels, is_in_rect, tile_rectangle, rect_meets};
-ghost use Rattle.bounds_bucket.specs.Tiles.{part_meets};
+ghost use Rattle.rc_base.specs.Cluster.Tiles.{tile_count, boundary_of, tile_column, tile_row, tile_pixels, is_in_rect, tile_rectangle};
+ghost use Rattle.bounds_bucket.specs.Tiles.{is_crossed, meets_area, part_meets};
 
 use crate::bits::with_if;
 use crate::range::{Range, columns_of, larger, rows_of, smaller};
@@ -76,7 +76,7 @@ fn parts_met(side: u16, parts: u8, range: Range) -> u32
 // A tile's column and row are in these sets.
 fn is_met(layout: &Layout, columns: u32, rows: u32, tile: u8) -> bool
     requires { tile < 32 }
-    ensures { result ≡ (has columns (tile_column layout.now tile) && has rows (tile_row layout.now tile)) }
+    ensures { result ≡ is_crossed columns rows layout.now tile }
 {
     has(columns, column_of(layout, tile)) && has(rows, row_of(layout, tile))
 }
@@ -90,7 +90,7 @@ fn first_tiles(layout: &Layout) -> u8
 
 /// The tiles that have a pixel of an area, of the first 32: bit `t` for tile `t`.
 pub fn meets(layout: &Layout, area: Rect) -> u32
-    ensures { (t : ℕ) → t < 32 → has result t ≡ (nat_lt t (tile_count layout.now) && rect_meets layout.now area t) }
+    ensures { (t : ℕ) → t < 32 → has result t ≡ meets_area layout.now area t }
 {
     let columns = parts_met(layout.width, layout.columns, columns_of(area));
     let rows = parts_met(layout.height, layout.rows, rows_of(area));
