@@ -15,7 +15,7 @@ use Rattle.raster.proofs.Beside.{beside_empty}
 use Rattle.raster.specs.Clips.{IsPartWhere, is_let_through}
 use Rattle.geometry.proofs.Outside.{beside_part}
 use Rattle.draw_device.specs.Shapes.{grid_rect, corners_step, IsStepped}
-use Rattle.draw_device.specs.declared.extent.Extent.{Extent}
+use Rattle.draw_device.specs.declared.grid.Extent.{Extent}
 use Rattle.draw_device.proofs.BlockPixels.{kept_steps}
 use Rattle.draw_device.proofs.ColumnsToPixels.{missed}
 

@@ -18,7 +18,7 @@ use Rattle.rc_base.specs.Drawing.PixelStep.{triangle_step, effect_step, block_st
 use Rattle.draw_device.specs.Pixels.{pixel_at}
 use Rattle.draw_device.specs.Conditions.{sampled_of, shared_of}
 use Rattle.draw_device.specs.Shapes.{column_at, row_at, covered_step, corners_step, triangles_step, IsStepped}
-use Rattle.draw_device.specs.declared.extent.Extent.{Extent}
+use Rattle.draw_device.specs.declared.grid.Extent.{Extent}
 
 -- the kept triangles of one more triple of vertices are drawn
 pub draws_more : (f : Pixel → List WindowVertex → Pixel) (kept : List ℕ → List (List WindowVertex)) (now new start : Pixel) (t : List ℕ) (rest more all : List (List ℕ))

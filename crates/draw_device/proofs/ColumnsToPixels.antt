@@ -12,7 +12,7 @@ use Rattle.rc_base.specs.declared.window.Pixel.{Pixel}
 use Rattle.rc_base.specs.declared.window.Rect.{Rect}
 use Rattle.rc_base.specs.declared.window.WindowVertex.{WindowVertex}
 use Rattle.raster.specs.Spans.{IsOnlyColumn, AreEmptyRows}
-use Rattle.raster.specs.Colors.{IsColorRise}
+use Rattle.raster.specs.Colors.{HasDepths, IsColorRise}
 use Rattle.raster.specs.declared.color.ColorRamp.{ColorRamp}
 use Rattle.raster.specs.declared.column.Column.{Column}
 use Rattle.fragment_ops.specs.DepthTests.{pixel}
@@ -21,13 +21,13 @@ use Rattle.scene_lemmas.proofs.Rectangles.{inside_rect}
 use Rattle.draw_device.specs.Pixels.{pixel_at, color_at, depth_at, pixels_of}
 use Rattle.raster.specs.Clips.{IsPartWhere, is_let_through}
 use Rattle.draw_device.specs.Columns.{place_in, column_fragment, IsColumnCovered, IsColumnStepped, IsColumnColored, IsColumnDrawn, IsRiseAt, IsOnlyRun, column_of}
-use Rattle.draw_device.specs.Loops.{HasDepths, StoresColor}
+use Rattle.draw_device.specs.Loops.{StoresColor}
 use Rattle.draw_device.specs.Plans.{AreStored}
 use Rattle.draw_device.proofs.Lists.{length_pixels, pixel_in}
 use Rattle.draw_device.proofs.Steps.{alone_step}
 use Rattle.draw_device.specs.Shapes.{column_at, row_at, grid_rect, fragment_pixel, covered_step, IsStepped}
 use Rattle.draw_device.specs.declared.column_run.ColumnRun.{ColumnRun}
-use Rattle.draw_device.specs.declared.extent.Extent.{Extent}
+use Rattle.draw_device.specs.declared.grid.Extent.{Extent}
 use Rattle.draw_device.proofs.SpansToPixels.{cut_off, uncovered, hit, outside_rows, above_rows, left_of, right_of}
 
 -- two places of one column are apart

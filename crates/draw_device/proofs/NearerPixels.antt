@@ -12,7 +12,7 @@ use Rattle.draw_device.specs.Beside.{IsBeside}
 use Rattle.draw_device.specs.Devices.{DeviceView, pixel_index, pixel_of}
 use Rattle.draw_device.specs.Pixels.{pixel_at}
 use Rattle.draw_device.specs.Shapes.{grid_rect}
-use Rattle.draw_device.specs.declared.extent.Extent.{Extent}
+use Rattle.draw_device.specs.declared.grid.Extent.{Extent}
 use Rattle.draw_device.specs.declared.pixel_run.PixelRun.{PixelRun}
 use Rattle.draw_device.proofs.Places.{place_below}
 

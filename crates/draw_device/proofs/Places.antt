@@ -11,7 +11,7 @@ use Rattle.scene_lemmas.proofs.Rectangles.{above_left, below_right, above_bottom
 use Rattle.draw_device.specs.Pixels.{pixel_at}
 use Rattle.draw_device.specs.Devices.{DeviceView, EachTakes, pixel_index, pixel_of}
 use Rattle.draw_device.specs.Shapes.{column_at, row_at, grid_rect, IsStepped}
-use Rattle.draw_device.specs.declared.extent.Extent.{Extent}
+use Rattle.draw_device.specs.declared.grid.Extent.{Extent}
 
 -- a column and a row of a grid that has the pixel (x, y)
 pub record IsPlace (g : Extent) (x y : ℤ) : Type 0 where

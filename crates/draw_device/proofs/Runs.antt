@@ -11,10 +11,11 @@ use Rattle.rc_base.specs.declared.state.State.{State}
 use Rattle.rc_base.specs.declared.window.Pixel.{Pixel}
 use Rattle.rc_base.specs.declared.window.WindowVertex.{WindowVertex}
 use Rattle.fragment_ops.specs.DepthTests.{pixel}
+use Rattle.raster.specs.Colors.{AreFlat, HasDepths}
 use Rattle.draw_device.specs.Pixels.{pixel_at, color_at, depth_at, flag_at, pixels_of}
 use Rattle.draw_device.specs.Shapes.{fragment_pixel, IsRunStepped}
-use Rattle.draw_device.specs.Loops.{run_fragment, AreCovered, IsCoveredRow, IsRunCovered, IsRunDrawn, IsColorStepped, IsVisibleFrom, IsColorRun, IsDepthRun, HasDepths, StoresColor, AreWritten, AreFlags}
-use Rattle.draw_device.specs.Plans.{AreFlat, AreStored, AreUntested}
+use Rattle.draw_device.specs.Loops.{run_fragment, AreCovered, IsCoveredRow, IsRunCovered, IsRunDrawn, IsColorStepped, IsVisibleFrom, IsColorRun, IsDepthRun, StoresColor, AreWritten, AreFlags}
+use Rattle.draw_device.specs.Plans.{AreStored, AreUntested}
 use Rattle.draw_device.proofs.Lists.{length_pixels, pixel_in, set_pixel}
 use Rattle.draw_device.proofs.Steps.{alone_step, stored_step, chosen_step}
 use Rattle.draw_device.specs.declared.run.Run.{Run}

@@ -1,5 +1,5 @@
 -- The rows of one column of a grid of pixels: what the loops over them take and leave.
-use Rattle.std.specs.Prelude.{◌≡◌, ℕ, ◌+◌, ◌*◌, ◌^◌, ◌<◌, ◌≤◌, length, List, Option, ℤ, pos, true}
+use Rattle.std.specs.Prelude.{◌≡◌, ℕ, ◌+◌, ◌*◌, ◌^◌, ◌<◌, ◌≤◌, length, List, Bool, Option, ℤ, pos, true}
 use Rattle.rc_base.specs.Pictures.{Picture}
 use Rattle.rc_base.specs.Drawing.Cover.{is_inside}
 use Rattle.rc_base.specs.Drawing.Fragment.{fragment_of}
@@ -9,14 +9,15 @@ use Rattle.rc_base.specs.declared.window.Fragment.{Fragment}
 use Rattle.rc_base.specs.declared.window.Pixel.{Pixel}
 use Rattle.rc_base.specs.declared.window.Rect.{Rect}
 use Rattle.rc_base.specs.declared.window.WindowVertex.{WindowVertex}
-use Rattle.raster.specs.Colors.{IsColorRise}
+use Rattle.raster.specs.Colors.{IsColorPlane, IsColorRise}
 use Rattle.raster.specs.Spans.{IsOnlyColumn}
+use Rattle.raster.specs.declared.color.ColorPlane.{ColorPlane}
 use Rattle.raster.specs.declared.color.ColorRamp.{ColorRamp}
 use Rattle.raster.specs.declared.column.Column.{Column}
 use Rattle.draw_device.specs.Pixels.{pixel_at, color_at, pixels_of}
 use Rattle.draw_device.specs.Shapes.{fragment_pixel}
 use Rattle.draw_device.specs.declared.column_run.ColumnRun.{ColumnRun}
-use Rattle.draw_device.specs.declared.extent.Extent.{Extent}
+use Rattle.draw_device.specs.declared.grid.Extent.{Extent}
 
 -- the index of the column's pixel in row k
 abbrev pub place_in : ColumnRun → ℕ → ℕ
@@ -26,6 +27,14 @@ place_in r k = k * r.width + r.across
 abbrev pub column_fragment : List WindowVertex → ColumnRun → ℕ → Fragment
 column_fragment v r k = fragment_of v (pos (r.left + r.across)) (pos (r.bottom + k))
 
+-- the triangle's colour there
+abbrev pub column_color : List WindowVertex → ColumnRun → ℕ → Rgba
+column_color v r k = (column_fragment v r k).color
+
+-- whether the triangle covers the pixel there
+abbrev pub is_column_inside : List WindowVertex → ColumnRun → ℕ → Bool
+is_column_inside v r k = is_inside v (pos (r.left + r.across)) (pos (r.bottom + k))
+
 -- the rows are in order, the column is one of the grid, and they are so few that no step of a plane is one too many
 pub record IsColumnRun (r : ColumnRun) : Type 0 where
   pub order : r.from ≤ r.to
@@ -34,7 +43,7 @@ pub record IsColumnRun (r : ColumnRun) : Type 0 where
 
 -- the triangle covers the rows
 abbrev pub IsColumnCovered : List WindowVertex → ColumnRun → Type 0
-IsColumnCovered v r = (k : ℕ) → r.from ≤ k → k < r.to → is_inside v (pos (r.left + r.across)) (pos (r.bottom + k)) ≡ true
+IsColumnCovered v r = (k : ℕ) → r.from ≤ k → k < r.to → is_column_inside v r k ≡ true
 
 -- the run's column of the window
 abbrev pub column_of : ColumnRun → Column
@@ -70,3 +79,8 @@ pub record IsColumnColored (color : ℕ → Rgba) (r : ColumnRun) (to : ℕ) (ol
 -- the triangle's colour at row k of the column
 abbrev pub IsRiseAt : List WindowVertex → ColumnRun → ℕ → ColorRamp → Type 0
 IsRiseAt v r k ramp = IsColorRise v (pos (r.left + r.across)) (pos (r.bottom + k)) (1 + r.across + k) ramp
+
+-- what a plane of colours has at the column's first row
+abbrev pub IsRiseStart : ColorPlane → ColumnRun → ColorRamp → Type 0
+IsRiseStart plane r ramp =
+    (v : List WindowVertex) → IsColorPlane v (pos r.left) (pos r.bottom) plane → IsRiseAt v r r.from ramp

@@ -2,6 +2,8 @@
 use Rattle.std.specs.Prelude.{◌≡◌, true, ℕ, ◌+◌, ◌*◌, List, ℤ, pos, ◌-ℤ◌, ◌≤ℤ◌}
 use Rattle.rc_base.specs.Numbers.{natural}
 use Rattle.rc_base.specs.Cluster.Tiles.{is_in_rect}
+use Rattle.rc_base.specs.Drawing.Serial.{blank_pixel}
+use Rattle.rc_base.specs.declared.cluster.TilePart.{TilePart}
 use Rattle.rc_base.specs.declared.window.Pixel.{Pixel}
 use Rattle.rc_base.specs.declared.window.Rect.{Rect}
 use Rattle.draw_device.specs.Pixels.{pixel_at}
@@ -34,3 +36,11 @@ pixel_of d x y = pixel_at d.pixels (pixel_index d.rect x y)
 -- each pixel of the rectangle took a step
 abbrev pub EachTakes : (ℤ → ℤ → Pixel → Pixel) → DeviceView → DeviceView → Type 0
 EachTakes step old new = (x y : ℤ) → is_in_rect old.rect x y ≡ true → pixel_of new x y ≡ step x y (pixel_of old x y)
+
+-- each pixel of a rectangle is blank
+abbrev pub IsBlankIn : Rect → DeviceView → Type 0
+IsBlankIn r d = (x y : ℤ) → is_in_rect r x y ≡ true → pixel_of d x y ≡ blank_pixel
+
+-- the part of an image that a tile hands out of a frame
+abbrev pub part_of : ℕ → ℕ → DeviceView → TilePart
+part_of tile frame d = record { tile = tile; frame = frame; pixels = d.pixels }

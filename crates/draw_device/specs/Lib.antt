@@ -1,10 +1,11 @@
 pub mod Pixels
-pub mod Conditions
 pub mod Devices
+pub mod Conditions
 pub mod Beside
 pub mod Shapes
 pub mod Grids
 pub mod Loops
 pub mod Columns
 pub mod Plans
+pub mod Setups
 pub mod Stored

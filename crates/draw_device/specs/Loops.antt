@@ -1,29 +1,40 @@
 -- What the loops over a run of pixels take and leave.
-use Rattle.std.specs.Prelude.{◌≡◌, ℕ, ◌+◌, ◌<◌, ◌≤◌, length, List, Bool, Option, Some, None, ℤ, pos, true}
+use Rattle.std.specs.Prelude.{◌≡◌, ℕ, ◌+◌, ◌<◌, ◌≤◌, length, List, Bool, Option, Some, None, ℤ, pos, true, if◌then◌else◌}
 use Rattle.rc_base.specs.Colors.{rgba}
 use Rattle.rc_base.specs.Pictures.{Picture}
 use Rattle.rc_base.specs.Drawing.Cover.{is_inside}
 use Rattle.rc_base.specs.Drawing.Fragment.{fragment_of}
-use Rattle.rc_base.specs.Drawing.PixelStep.{fragment_color, shaded, written_color, passes_alpha}
+use Rattle.rc_base.specs.Drawing.PixelStep.{fragment_color, fragment_step, shaded, textured, written_color, passes_alpha}
 use Rattle.rc_base.specs.Drawing.Texel.{texel_of, wrap_in_s, wrap_in_t}
 use Rattle.rc_base.specs.declared.command.Rgba.{Rgba}
 use Rattle.rc_base.specs.declared.state.State.{State}
 use Rattle.rc_base.specs.declared.window.Fragment.{Fragment}
 use Rattle.rc_base.specs.declared.window.Pixel.{Pixel}
 use Rattle.rc_base.specs.declared.window.WindowVertex.{WindowVertex}
-use Rattle.raster.specs.Colors.{IsColorRamp, is_depth}
-use Rattle.raster.specs.Planes.{IsWordRamp}
+use Rattle.raster.specs.Colors.{IsColorPlane, IsColorRamp}
+use Rattle.raster.specs.Planes.{IsWordPlane, IsWordRamp}
+use Rattle.raster.specs.declared.color.ColorPlane.{ColorPlane}
 use Rattle.raster.specs.declared.color.ColorRamp.{ColorRamp}
+use Rattle.raster.specs.declared.word_plane.WordPlane.{WordPlane}
 use Rattle.raster.specs.declared.word_plane.WordRamp.{WordRamp}
-use Rattle.fragment_ops.specs.DepthTests.{pixel}
+use Rattle.fragment_ops.specs.AlphaTests.{keeps_alpha}
+use Rattle.fragment_ops.specs.Blends.{masked_by, mixed_color}
+use Rattle.fragment_ops.specs.DepthTests.{IsDepthTest, pixel}
+use Rattle.fragment_ops.specs.declared.alpha.AlphaTest.{AlphaTest}
+use Rattle.fragment_ops.specs.declared.depth.DepthTest.{DepthTest}
 use Rattle.draw_device.specs.Pixels.{color_at, depth_at, flag_at, pixels_of}
-use Rattle.draw_device.specs.Shapes.{fragment_pixel, IsRunStepped, IsRowChanged}
-use Rattle.draw_device.specs.declared.extent.Extent.{Extent}
+use Rattle.draw_device.specs.Shapes.{fragment_pixel, IsRunStepped}
+use Rattle.draw_device.specs.declared.grid.Extent.{Extent}
+use Rattle.draw_device.specs.declared.blending.Blending.{Blending}
 use Rattle.draw_device.specs.declared.run.Run.{Run}
 
 -- the fragment at column k of the run's row
 abbrev pub run_fragment : List WindowVertex → Run → ℕ → Fragment
 run_fragment v r k = fragment_of v (pos (r.left + k)) (pos r.row)
+
+-- the triangle's colour there
+abbrev pub run_color : List WindowVertex → Run → ℕ → Rgba
+run_color v r k = (run_fragment v r k).color
 
 -- the triangle covers columns `from` to below `to` of a row whose first pixel is (left, row) of the window
 abbrev pub AreCovered : List WindowVertex → ℕ → ℕ → ℕ → ℕ → Type 0
@@ -46,11 +57,6 @@ pub record IsGridRow (v : List WindowVertex) (g : Extent) (up from to : ℕ) (co
   pub inside : to ≤ length colors
   pub alike : length depths ≡ length colors
   pub covered : AreCovered v g.left (g.bottom + up) from to
-
--- the row's colours and depths after the fragments of a triangle
-abbrev pub IsRowDrawn : State → Option Picture → List WindowVertex → Run → List Rgba → List ℕ → List Rgba → List ℕ → Type 0
-IsRowDrawn s picture v r colors depths new_colors new_depths =
-    IsRowChanged (fragment_pixel s picture v) r.left r.row r.from r.to colors depths new_colors new_depths
 
 -- the row's pixels after the fragments of a triangle
 abbrev pub IsRunDrawn : State → Option Picture → List WindowVertex → Run → List Pixel → List Pixel → Type 0
@@ -95,9 +101,14 @@ IsSAt v r k ramp = IsValueAt v r (λ (c : WindowVertex). c.s) k ramp
 abbrev pub IsTAt : List WindowVertex → Run → ℕ → WordRamp → Type 0
 IsTAt v r k ramp = IsValueAt v r (λ (c : WindowVertex). c.t) k ramp
 
--- no fragment of the triangle has a depth outside the buffer's range
-abbrev pub HasDepths : List WindowVertex → Type 0
-HasDepths v = (x y : ℤ) → is_inside v x y ≡ true → is_depth (fragment_of v x y).depth ≡ true
+-- what a plane has at the run's first column: its colours, and an attribute's values
+abbrev pub IsColorStart : ColorPlane → Run → ColorRamp → Type 0
+IsColorStart plane r ramp =
+    (v : List WindowVertex) → IsColorPlane v (pos r.left) (pos r.bottom) plane → IsColorAt v r r.from ramp
+
+abbrev pub IsValueStart : WordPlane → Run → WordRamp → Type 0
+IsValueStart plane r ramp =
+    (v : List WindowVertex) (f : WindowVertex → ℤ) → IsWordPlane v (pos r.left) (pos r.bottom) f plane → IsValueAt v r f r.from ramp
 
 -- of a fragment its colour alone is stored
 abbrev pub StoresColor : State → Type 0
@@ -111,6 +122,28 @@ pub record IsColorRun (step : ℕ → Rgba → Rgba) (from to : ℕ) (old new : 
   pub run : (k : ℕ) → from ≤ k → k < to → color_at new k ≡ step k (color_at old k)
   pub before : (k : ℕ) → k < from → color_at new k ≡ color_at old k
   pub after : (k : ℕ) → to ≤ k → color_at new k ≡ color_at old k
+
+-- the same of a run
+abbrev pub IsRunColored : Run → (ℕ → Rgba → Rgba) → List Rgba → List Rgba → Type 0
+IsRunColored r step = IsColorRun step r.from r.to
+
+-- a colour at column k written over the stored one there, mixed with it by the blend factors, or by the flags of a colour mask
+abbrev pub written_over : State → List Rgba → ℕ → Rgba → Rgba
+written_over s stored k color = written_color s color (color_at stored k)
+
+abbrev pub mixed_over : Blending → List Rgba → ℕ → Rgba → Rgba
+mixed_over b stored k color = mixed_color b.state.now color (color_at stored k)
+
+abbrev pub masked_over : List Bool → List Rgba → ℕ → Rgba → Rgba
+masked_over flags stored k color = masked_by flags color (color_at stored k)
+
+-- the other colour at column k where its flag is on
+abbrev pub chosen_over : List Bool → List Rgba → ℕ → Rgba → Rgba
+chosen_over flags others k color = if flag_at flags k then color_at others k else color
+
+-- the run's colours after the texture stage, over texels
+abbrev pub AreTextured : State → List WindowVertex → Run → List Rgba → List Rgba → Type 0
+AreTextured s v r = IsRunColored r (λ k texel. textured s (run_color v r k) texel)
 
 -- the depths of columns `from` to below `to` are one, and the others are as before
 pub record IsDepthRun (depth from to : ℕ) (old new : List ℕ) : Type 0 where
@@ -136,6 +169,10 @@ pub record IsFlagRun (flag : ℕ → Bool) (from to : ℕ) (old new : List Bool)
   pub size : length new ≡ length old
   pub run : (k : ℕ) → from ≤ k → k < to → flag_at new k ≡ flag k
 
+-- the alpha of the colour at column k passes
+abbrev pub alpha_passes : AlphaTest → List Rgba → ℕ → Bool
+alpha_passes test colors k = keeps_alpha test (color_at colors k).a
+
 -- the flags say which of the triangle's fragments pass the alpha test
 abbrev pub AreFlags : State → Option Picture → List WindowVertex → Run → List Bool → Type 0
 AreFlags s picture v r flags =
@@ -147,3 +184,25 @@ AreFlags s picture v r flags =
 abbrev pub texel_for : State → Option Picture → Fragment → Rgba
 texel_for s None f = rgba 0 0 0 0
 texel_for s (Some p) f = texel_of p f.s f.t (wrap_in_s s) (wrap_in_t s)
+
+-- ---- one fragment, by its depth and the colour that is to be written
+
+-- whatever state has this depth test, a fragment of this depth leaves each pixel of that depth as it is
+abbrev pub LeavesPixel : DepthTest → ℤ → ℕ → Type 0
+LeavesPixel test depth stored =
+    (s : State) (p : Option Picture) (f : Fragment) (color : Rgba) → IsDepthTest s test → depth ≡ f.depth
+    → fragment_step s p f (pixel color stored) ≡ pixel color stored
+
+-- whatever state has this depth test, a fragment that passes the alpha test, of this depth and written colour, makes of one pixel the other
+abbrev pub IsDepthTested : DepthTest → Rgba → ℤ → Rgba → ℕ → Rgba → ℕ → Type 0
+IsDepthTested test color depth old_color old_depth new_color new_depth =
+    (s : State) (p : Option Picture) (f : Fragment) → IsDepthTest s test → passes_alpha s (fragment_color s p f).a ≡ true
+    → color ≡ written_color s (fragment_color s p f) old_color → depth ≡ f.depth
+    → pixel new_color new_depth ≡ fragment_step s p f (pixel old_color old_depth)
+
+-- the same of a fragment whose flag says whether it passes the alpha test
+abbrev pub IsTested : DepthTest → Bool → Rgba → ℤ → Rgba → ℕ → Rgba → ℕ → Type 0
+IsTested test passes color depth old_color old_depth new_color new_depth =
+    (s : State) (p : Option Picture) (f : Fragment) → IsDepthTest s test → passes ≡ passes_alpha s (fragment_color s p f).a
+    → color ≡ written_color s (fragment_color s p f) old_color → depth ≡ f.depth
+    → pixel new_color new_depth ≡ fragment_step s p f (pixel old_color old_depth)

@@ -18,6 +18,10 @@ depth_at depths k = slice_index_or depths k 0
 abbrev pub flag_at : List Bool → ℕ → Bool
 flag_at flags k = slice_index_or flags k false
 
+-- colours and depths, paired: the pixel at an index
+abbrev pub paired : List Rgba → List ℕ → ℕ → Pixel
+paired colors depths k = pixel (color_at colors k) (depth_at depths k)
+
 -- the pixels of as many colours and depths
 unfoldable pub pixels_of : List Rgba → List ℕ → List Pixel
 pixels_of [] depths = []

@@ -2,16 +2,15 @@
 use Rattle.std.specs.Prelude.{◌≡◌, true, false, List, ℤ, Option, None, Some}
 use Rattle.std.proofs.Props.{props}
 use Rattle.rc_base.specs.Pictures.{Picture}
-use Rattle.rc_base.specs.Drawing.Cover.{is_inside}
-use Rattle.rc_base.specs.Drawing.Fragment.{fragment_of}
 use Rattle.rc_base.specs.Drawing.PixelStep.{textured, written_color}
 use Rattle.rc_base.specs.Drawing.Texel.{wrap_in_s, wrap_in_t}
 use Rattle.rc_base.specs.Colors.{modulated}
 use Rattle.rc_base.specs.declared.command.Rgba.{Rgba}
 use Rattle.rc_base.specs.declared.state.State.{State}
 use Rattle.rc_base.specs.declared.window.WindowVertex.{WindowVertex}
-use Rattle.raster.specs.Colors.{IsColorPlane, HasColor}
-use Rattle.raster.specs.Planes.{IsWordPlane}
+use Rattle.raster.specs.Colors.{AreFlat, HasDepths, IsColorPlane}
+use Rattle.raster.specs.Planes.{IsTriangleSetup, IsWordPlane}
+use Rattle.raster.specs.declared.triangle_setup.TriangleSetup.{TriangleSetup}
 use Rattle.raster.specs.declared.word_plane.WordPlane.{WordPlane}
 use Rattle.textures.specs.Images.{HasTexel, HasTexelIfAny}
 use Rattle.textures.specs.Samplers.{IsSampler}
@@ -20,7 +19,7 @@ use Rattle.fragment_ops.specs.AlphaTests.{IsAlphaTest}
 use Rattle.fragment_ops.specs.Blends.{IsBlending}
 use Rattle.fragment_ops.specs.DepthTests.{IsDepthTest}
 use Rattle.fragment_ops.specs.Shortcuts.{blends_over, blends_sum, writes_all}
-use Rattle.draw_device.specs.Loops.{StoresColor, HasDepths}
+use Rattle.draw_device.specs.Loops.{StoresColor}
 use Rattle.draw_device.specs.declared.plan.Plan.{Plan}
 use Rattle.draw_device.specs.declared.paint.Paint.{Paint}
 use Rattle.draw_device.specs.declared.paint.Paint.TheVariants as paint
@@ -74,10 +73,6 @@ IsPlan-prop s p = Prim.hlevel (props, IsWrite-prop)
 
 -- ---- once a triangle, whose planes hold from pixel (x, y) on
 
--- the fragments have one colour
-abbrev pub AreFlat : List WindowVertex → Rgba → Type 0
-AreFlat v color = (i j : ℤ) → is_inside v i j ≡ true → HasColor color (fragment_of v i j)
-
 abbrev pub IsDepthPlane : List WindowVertex → ℤ → ℤ → WordPlane → Type 0
 IsDepthPlane v x y plane = IsWordPlane v x y (λ (c : WindowVertex). c.z) plane
 
@@ -127,6 +122,13 @@ IsTests s v x y (tests.Depth plane) = AreDepthTested s v x y plane
 IsTests s v x y tests.Alpha = AreAlphaTested s v
 IsTests s v x y (tests.Both plane) = HasDepthPlane v x y plane
 IsTests s v x y (tests.Any plane) = IsDepthPlane v x y plane
+
+-- from the setup's pixel on they are made so, and take these tests
+abbrev pub IsSourceFrom : State → Option Picture → List WindowVertex → TriangleSetup → Source → Type 0
+IsSourceFrom s p v setup source = (x y : ℤ) → IsTriangleSetup v x y setup → IsSource s p v x y source
+
+abbrev pub IsTestsFrom : State → List WindowVertex → TriangleSetup → Tests → Type 0
+IsTestsFrom s v setup tests = (x y : ℤ) → IsTriangleSetup v x y setup → IsTests s v x y tests
 
 -- the fragments' colours alone are stored
 pub record AreStored (s : State) (p : Option Picture) (v : List WindowVertex) : Type 0 where

@@ -5,9 +5,11 @@ use Rattle.rc_base.specs.Pictures.{Picture}
 use Rattle.rc_base.specs.Drawing.Cover.{is_inside}
 use Rattle.rc_base.specs.Drawing.Fragment.{fragment_of}
 use Rattle.rc_base.specs.Drawing.Kept.{kept_whole}
+use Rattle.rc_base.specs.Drawing.Pieces.{kept_triangles}
 use Rattle.rc_base.specs.Drawing.PixelStep.{fragment_step, cleared, triangle_step}
-use Rattle.draw_device.specs.declared.extent.Extent.{Extent}
+use Rattle.draw_device.specs.declared.grid.Extent.{Extent}
 use Rattle.rc_base.specs.declared.command.Rgba.{Rgba}
+use Rattle.rc_base.specs.declared.state.Block.{Block}
 use Rattle.rc_base.specs.declared.state.State.{State}
 use Rattle.rc_base.specs.declared.state.Vertex.{Vertex}
 use Rattle.rc_base.specs.declared.triangle.WindowTriangle.{WindowTriangle}
@@ -109,3 +111,7 @@ triangles_step s picture ts x y old = fold (triangle_step s picture x y) old ts
 -- a pixel after three vertices of a list, by their indices, where their triangle is kept
 abbrev pub corners_step : State → Option Picture → List Vertex → List ℕ → ℤ → ℤ → Pixel → Pixel
 corners_step s picture vs t = triangles_step s picture (option_to_list (kept_whole s vs t))
+
+-- a pixel after the kept triangles of a block, one after the other
+abbrev pub drawn_step : State → Option Picture → Block → ℤ → ℤ → Pixel → Pixel
+drawn_step s picture block = triangles_step s picture (kept_triangles s block)

@@ -1,8 +1,6 @@
 //! A row of flags: which of its fragments pass the alpha test; and colours by such flags.
 ghost use Rattle.std.specs.Prelude.{◌≡◌, ◌≤◌, length, if◌then◌else◌};
-ghost use Rattle.fragment_ops.specs.AlphaTests.{keeps_alpha};
-ghost use Rattle.draw_device.specs.Pixels.{color_at, flag_at};
-ghost use Rattle.draw_device.specs.Loops.{IsColorRun, IsFlagRun};
+ghost use Rattle.draw_device.specs.Loops.{IsColorRun, IsFlagRun, alpha_passes, chosen_over};
 
 use fragment_ops::AlphaTest;
 use rc_base::command::Rgba;
@@ -13,7 +11,7 @@ pub(crate) fn flag_passing(flags: &mut [bool], colors: &[Rgba], test: AlphaTest,
     requires order { from ≤ to }
     requires room { to ≤ length flags.old }
     requires colors { to ≤ length colors.now }
-    ensures { IsFlagRun (λ k. keeps_alpha test (color_at colors.now k).a) from to flags.old flags.new }
+    ensures { IsFlagRun (alpha_passes test colors.now) from to flags.old flags.new }
 {
     for x in from..to {
         flags[x as usize] = test.passes(colors[x as usize].a);
@@ -40,7 +38,7 @@ pub(crate) fn choose_colors(
     requires room { to ≤ length colors.old }
     requires others { to ≤ length others.now }
     requires flags { to ≤ length flags.now }
-    ensures { IsColorRun (λ k old. if flag_at flags.now k then color_at others.now k else old) from to colors.old colors.new }
+    ensures { IsColorRun (chosen_over flags.now others.now) from to colors.old colors.new }
 {
     for x in from..to {
         let place = x as usize;

@@ -2,8 +2,9 @@
 ghost use Rattle.std.specs.Prelude.{◌≡◌, ℕ, ◌<◌, ◌≤◌, length};
 ghost use Rattle.rc_base.specs.Drawing.Serial.{blank_pixel};
 ghost use Rattle.rc_base.specs.Drawing.Window.{depth_most};
-ghost use Rattle.fragment_ops.specs.DepthTests.{pixel};
-ghost use Rattle.draw_device.specs.Pixels.{color_at, depth_at, pixel_at, pixels_of};
+ghost use Rattle.draw_device.specs.Beside.{EachIn, StayBefore, StayBehind};
+ghost use Rattle.draw_device.specs.Grids.{IsFarAt, grid_pixel};
+ghost use Rattle.draw_device.specs.Pixels.{depth_at, paired};
 
 use crate::grid::Grid;
 use crate::pixel_run::PixelRun;
@@ -38,7 +39,7 @@ fn drawn_end(depths: &[u32], from: usize) -> usize
     requires { from ≤ length depths.now }
     ensures order { from ≤ result }
     ensures most { result ≤ length depths.now }
-    ensures far { (k : ℕ) → result ≤ k → k < length depths.now → depth_at depths.now k ≡ depth_most }
+    ensures far { EachIn result (length depths.now) (λ k. depth_at depths.now k ≡ depth_most) }
 {
     let count = depths.len();
     for passed in 0..count - from {
@@ -57,9 +58,9 @@ fn blank_run(colors: &mut [Rgba], depths: &mut [u32], run: PixelRun)
     requires room { run.to ≤ length colors.old }
     ensures colors { length colors.new ≡ length colors.old }
     ensures depths { length depths.new ≡ length depths.old }
-    ensures among { (k : ℕ) → run.from ≤ k → k < run.to → pixel (color_at colors.new k) (depth_at depths.new k) ≡ blank_pixel }
-    ensures below { (k : ℕ) → k < run.from → pixel (color_at colors.new k) (depth_at depths.new k) ≡ pixel (color_at colors.old k) (depth_at depths.old k) }
-    ensures above { (k : ℕ) → run.to ≤ k → pixel (color_at colors.new k) (depth_at depths.new k) ≡ pixel (color_at colors.old k) (depth_at depths.old k) }
+    ensures among { EachIn run.from run.to (λ k. paired colors.new depths.new k ≡ blank_pixel) }
+    ensures below { StayBefore run (paired colors.old depths.old) (paired colors.new depths.new) }
+    ensures above { StayBehind run (paired colors.old depths.old) (paired colors.new depths.new) }
 {
     for k in run.from..run.to {
         colors[k] = CLEAR;
@@ -72,8 +73,8 @@ impl Grid {
     pub fn drawn(&self) -> PixelRun
         ensures order { result.from ≤ result.to }
         ensures inside { result.to ≤ length self.now.colors.items }
-        ensures below { (k : ℕ) → k < result.from → (pixel_at (pixels_of self.now.colors.items self.now.depths.items) k).depth ≡ depth_most }
-        ensures above { (k : ℕ) → result.to ≤ k → k < length self.now.colors.items → (pixel_at (pixels_of self.now.colors.items self.now.depths.items) k).depth ≡ depth_most }
+        ensures below { (k : ℕ) → k < result.from → IsFarAt self.now k }
+        ensures above { EachIn result.to (length self.now.colors.items) (IsFarAt self.now) }
     {
         let depths = self.depths.as_slice();
         let from = drawn_start(depths);
@@ -86,11 +87,9 @@ impl Grid {
         requires order { run.from ≤ run.to }
         requires room { run.to ≤ length self.old.colors.items }
         ensures extent { self.new.extent ≡ self.old.extent }
-        ensures among { (k : ℕ) → run.from ≤ k → k < run.to → pixel_at (pixels_of self.new.colors.items self.new.depths.items) k ≡ blank_pixel }
-        ensures below { (k : ℕ) → k < run.from → pixel_at (pixels_of self.new.colors.items self.new.depths.items) k
-            ≡ pixel_at (pixels_of self.old.colors.items self.old.depths.items) k }
-        ensures above { (k : ℕ) → run.to ≤ k → pixel_at (pixels_of self.new.colors.items self.new.depths.items) k
-            ≡ pixel_at (pixels_of self.old.colors.items self.old.depths.items) k }
+        ensures among { EachIn run.from run.to (λ k. grid_pixel self.new k ≡ blank_pixel) }
+        ensures below { StayBefore run (grid_pixel self.old) (grid_pixel self.new) }
+        ensures above { StayBehind run (grid_pixel self.old) (grid_pixel self.new) }
     {
         blank_run(self.colors.as_mut_slice(), self.depths.as_mut_slice(), run);
     }

@@ -1,10 +1,8 @@
 //! A row of colours blended with those that are stored.
 ghost use Rattle.std.specs.Prelude.{◌≡◌, ◌≤◌, length, true};
-ghost use Rattle.rc_base.specs.Drawing.PixelStep.{written_color};
-ghost use Rattle.fragment_ops.specs.Blends.{IsFactor, mixed_color, masked_by};
+ghost use Rattle.fragment_ops.specs.Blends.{IsFactor};
 ghost use Rattle.fragment_ops.specs.Shortcuts.{blends_over, blends_sum};
-ghost use Rattle.draw_device.specs.Pixels.{color_at};
-ghost use Rattle.draw_device.specs.Loops.{IsColorRun};
+ghost use Rattle.draw_device.specs.Loops.{IsColorRun, masked_over, mixed_over, written_over};
 
 use crate::blending::Blending;
 use fragment_ops::{Factor, blend_by, blend_over, blend_sum, factor_named, mask_color};
@@ -18,7 +16,7 @@ pub(crate) fn over_colors(colors: &mut [Rgba], stored: &[Rgba], state: &State, f
     requires stored { to ≤ length stored.now }
     requires colors { to ≤ length colors.old }
     requires kind { blends_over state.now ≡ true }
-    ensures { IsColorRun (λ k old. written_color state.now old (color_at stored.now k)) from to colors.old colors.new }
+    ensures { IsColorRun (written_over state.now stored.now) from to colors.old colors.new }
 {
     let _state = state;
     for x in from..to {
@@ -33,7 +31,7 @@ pub(crate) fn sum_colors(colors: &mut [Rgba], stored: &[Rgba], state: &State, fr
     requires stored { to ≤ length stored.now }
     requires colors { to ≤ length colors.old }
     requires kind { blends_sum state.now ≡ true }
-    ensures { IsColorRun (λ k old. written_color state.now old (color_at stored.now k)) from to colors.old colors.new }
+    ensures { IsColorRun (written_over state.now stored.now) from to colors.old colors.new }
 {
     let _state = state;
     for x in from..to {
@@ -55,7 +53,7 @@ fn blend_pair<const FIRST: u8, const SECOND: u8>(
     requires colors { to ≤ length colors.old }
     requires first { IsFactor FIRST blending.now.first }
     requires second { IsFactor SECOND blending.now.second }
-    ensures { IsColorRun (λ k old. mixed_color blending.now.state.now old (color_at stored.now k)) from to colors.old colors.new }
+    ensures { IsColorRun (mixed_over blending.now stored.now) from to colors.old colors.new }
 {
     let _blending = blending;
     let source = factor_named(FIRST);
@@ -78,7 +76,7 @@ fn blend_second<const FIRST: u8>(
     requires stored { to ≤ length stored.now }
     requires colors { to ≤ length colors.old }
     requires first { IsFactor FIRST blending.now.first }
-    ensures { IsColorRun (λ k old. mixed_color blending.now.state.now old (color_at stored.now k)) from to colors.old colors.new }
+    ensures { IsColorRun (mixed_over blending.now stored.now) from to colors.old colors.new }
 {
     match blending.second {
         Factor::Zero => blend_pair::<FIRST, 0>(colors, stored, blending, from, to),
@@ -107,7 +105,7 @@ pub(crate) fn blend_colors(
     requires order { from ≤ to }
     requires stored { to ≤ length stored.now }
     requires colors { to ≤ length colors.old }
-    ensures { IsColorRun (λ k old. mixed_color blending.now.state.now old (color_at stored.now k)) from to colors.old colors.new }
+    ensures { IsColorRun (mixed_over blending.now stored.now) from to colors.old colors.new }
 {
     match blending.first {
         Factor::Zero => blend_second::<0>(colors, stored, blending, from, to),
@@ -135,7 +133,7 @@ pub(crate) fn mask_colors(
     requires order { from ≤ to }
     requires stored { to ≤ length stored.now }
     requires colors { to ≤ length colors.old }
-    ensures { IsColorRun (λ k old. masked_by flags old (color_at stored.now k)) from to colors.old colors.new }
+    ensures { IsColorRun (masked_over flags stored.now) from to colors.old colors.new }
 {
     for x in from..to {
         colors[x as usize] = mask_color(flags, colors[x as usize], stored[x as usize]);

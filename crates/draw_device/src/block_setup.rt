@@ -6,7 +6,7 @@ ghost use Rattle.raster.specs.Clips.{IsPartWhere, is_let_through};
 ghost use Rattle.draw_device.specs.Plans.{IsPlan, IsPlan-prop, HasTexelIfAny-prop};
 ghost use Rattle.draw_device.specs.Shapes.{grid_rect};
 
-use crate::extent::Extent;
+use crate::grid::Extent;
 use crate::plan::Plan;
 use geometry::Surrounds;
 use rc_base::state::State;

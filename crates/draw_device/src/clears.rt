@@ -1,9 +1,8 @@
 //! A row of a Clear. Where it writes all of a pixel, colours and depths go in a loop each, eight at a time.
-ghost use Rattle.std.specs.Prelude.{◌≡◌, ℕ, ◌+◌, ◌≤◌, length, true};
+ghost use Rattle.std.specs.Prelude.{◌≡◌, ◌+◌, ◌≤◌, length, true};
 ghost use Rattle.fragment_ops.specs.Clearings.{writes_pixel};
-ghost use Rattle.draw_device.specs.Pixels.{pixels_of};
-ghost use Rattle.draw_device.specs.Shapes.{cleared_pixel, IsRunStepped, IsRowChanged};
 ghost use Rattle.draw_device.specs.Loops.{IsColorRun, IsDepthRun};
+ghost use Rattle.draw_device.specs.Setups.{IsRowCleared, IsRunCleared};
 
 use crate::clear_setup::ClearSetup;
 use crate::colors::fill_colors;
@@ -79,7 +78,7 @@ fn fill_clear(colors: &mut [Rgba], depths: &mut [u32], setup: &ClearSetup<'_>, f
     requires order { from ≤ to }
     requires colors { to ≤ length colors.old }
     requires depths { length depths.old ≡ length colors.old }
-    ensures { (left row : ℕ) → IsRowChanged (cleared_pixel setup.now.state.now setup.now.mask) left row from to colors.old depths.old colors.new depths.new }
+    ensures { IsRowCleared setup.now from to colors.old depths.old colors.new depths.new }
 {
     let cleared = setup.clearing.pixel();
     clear_colors(colors, from, to, cleared.color);
@@ -91,7 +90,7 @@ fn clear_run(colors: &mut [Rgba], depths: &mut [u32], setup: &ClearSetup<'_>, fr
     requires order { from ≤ to }
     requires colors { to ≤ length colors.old }
     requires depths { length depths.old ≡ length colors.old }
-    ensures { (left row : ℕ) → IsRowChanged (cleared_pixel setup.now.state.now setup.now.mask) left row from to colors.old depths.old colors.new depths.new }
+    ensures { IsRowCleared setup.now from to colors.old depths.old colors.new depths.new }
 {
     for x in from..to {
         let place = x as usize;
@@ -117,7 +116,7 @@ pub(crate) fn clear_row(
     requires depths { length depths.old ≡ length colors.old }
     ensures colors { length colors.new ≡ length colors.old }
     ensures depths { length depths.new ≡ length depths.old }
-    ensures drawn { (left row : ℕ) → IsRunStepped (cleared_pixel setup.now.state.now setup.now.mask) left row from to (pixels_of colors.old depths.old) (pixels_of colors.new depths.new) }
+    ensures drawn { IsRunCleared setup.now from to colors.old depths.old colors.new depths.new }
 {
     if setup.clearing.writes_pixel() {
         fill_clear(colors, depths, setup, from, to);

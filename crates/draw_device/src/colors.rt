@@ -1,13 +1,9 @@
 //! A row of colours: those of a triangle's fragments after the texture stage.
-ghost use Rattle.std.specs.Prelude.{◌≡◌, ℕ, ◌≤◌, length, pos, true};
-ghost use Rattle.rc_base.specs.Colors.{modulated};
-ghost use Rattle.rc_base.specs.Drawing.PixelStep.{textured};
-ghost use Rattle.rc_base.specs.Drawing.Texel.{wrap_in_s, wrap_in_t};
-ghost use Rattle.rc_base.specs.declared.command.Rgba.{Rgba as AnyColor};
-ghost use Rattle.textures.specs.Samplers.{IsSampler};
+ghost use Rattle.std.specs.Prelude.{◌≡◌, ◌≤◌, length};
 ghost use Rattle.draw_device.specs.Pixels.{color_at};
-ghost use Rattle.draw_device.specs.Loops.{run_fragment, texel_for, IsRunCovered, IsColorAt, IsColorRun};
-ghost use Rattle.draw_device.specs.Plans.{AreTexels};
+ghost use Rattle.draw_device.specs.Loops.{run_color, run_fragment, AreTextured, IsRunCovered, IsColorAt, IsColorRun, IsRunColored};
+ghost use Rattle.draw_device.specs.Plans.{Modulates};
+ghost use Rattle.draw_device.specs.Setups.{AreTexelsOf, IsSamplerOf, run_texel};
 
 use crate::run::Run;
 use crate::setup::Setup;
@@ -50,7 +46,7 @@ pub(crate) fn step_colors(colors: &mut [Rgba], tri: &WindowTriangle, run: Run, f
     requires room { run.to ≤ length colors.old }
     requires covered { IsRunCovered tri.now.v run }
     requires ramp { IsColorAt tri.now.v run run.from first }
-    ensures { IsColorRun (λ k old. (run_fragment tri.now.v run k).color) run.from run.to colors.old colors.new }
+    ensures { IsRunColored run (λ k old. run_color tri.now.v run k) colors.old colors.new }
 {
     let mut ramp = first;
     for x in run.from..run.to {
@@ -62,10 +58,10 @@ pub(crate) fn step_colors(colors: &mut [Rgba], tri: &WindowTriangle, run: Run, f
 // The texel at a texture coordinate.
 #[inline(always)]
 fn texel(sampler: Sampler<'_>, setup: &Setup<'_>, run: Run, x: u16, s: i32, t: i32) -> Rgba
-    requires sampler { IsSampler setup.now.texture.now (wrap_in_s setup.now.state.now) (wrap_in_t setup.now.state.now) sampler }
+    requires sampler { IsSamplerOf setup.now sampler }
     requires s { s ≡ (run_fragment setup.now.tri.now.v run x).s }
     requires t { t ≡ (run_fragment setup.now.tri.now.v run x).t }
-    ensures { result ≡ texel_for setup.now.state.now setup.now.texture.now (run_fragment setup.now.tri.now.v run x) }
+    ensures { result ≡ run_texel setup.now run x }
 {
     let _setup = setup;
     let _place = (run.left, run.row, x);
@@ -75,12 +71,12 @@ fn texel(sampler: Sampler<'_>, setup: &Setup<'_>, run: Run, x: u16, s: i32, t: i
 // The same of an image that repeats along both sides.
 #[inline(always)]
 fn repeated_texel(sampler: Sampler<'_>, setup: &Setup<'_>, run: Run, x: u16, s: i32, t: i32) -> Rgba
-    requires sampler { IsSampler setup.now.texture.now (wrap_in_s setup.now.state.now) (wrap_in_t setup.now.state.now) sampler }
+    requires sampler { IsSamplerOf setup.now sampler }
     requires across { sampler.wrap_s ≡ 0 }
     requires up { sampler.wrap_t ≡ 0 }
     requires s { s ≡ (run_fragment setup.now.tri.now.v run x).s }
     requires t { t ≡ (run_fragment setup.now.tri.now.v run x).t }
-    ensures { result ≡ texel_for setup.now.state.now setup.now.texture.now (run_fragment setup.now.tri.now.v run x) }
+    ensures { result ≡ run_texel setup.now run x }
 {
     let _setup = setup;
     let _place = (run.left, run.row, x);
@@ -99,8 +95,8 @@ pub(crate) fn texel_colors(
 )
     requires room { run.to ≤ length colors.old }
     requires covered { IsRunCovered setup.now.tri.now.v run }
-    requires texels { AreTexels setup.now.state.now setup.now.texture.now setup.now.tri.now.v (pos run.left) (pos run.bottom) sampler s_plane.now t_plane.now }
-    ensures { IsColorRun (λ k old. texel_for setup.now.state.now setup.now.texture.now (run_fragment setup.now.tri.now.v run k)) run.from run.to colors.old colors.new }
+    requires texels { AreTexelsOf setup.now run sampler s_plane.now t_plane.now }
+    ensures { IsRunColored run (λ k old. run_texel setup.now run k) colors.old colors.new }
 {
     let mut ss = value_ramp(s_plane, run);
     let mut ts = value_ramp(t_plane, run);
@@ -127,8 +123,8 @@ pub(crate) fn repeat_colors(
     requires across { sampler.wrap_s ≡ 0 }
     requires up { sampler.wrap_t ≡ 0 }
     requires covered { IsRunCovered setup.now.tri.now.v run }
-    requires texels { AreTexels setup.now.state.now setup.now.texture.now setup.now.tri.now.v (pos run.left) (pos run.bottom) sampler s_plane.now t_plane.now }
-    ensures { IsColorRun (λ k old. texel_for setup.now.state.now setup.now.texture.now (run_fragment setup.now.tri.now.v run k)) run.from run.to colors.old colors.new }
+    requires texels { AreTexelsOf setup.now run sampler s_plane.now t_plane.now }
+    ensures { IsRunColored run (λ k old. run_texel setup.now run k) colors.old colors.new }
 {
     let mut ss = value_ramp(s_plane, run);
     let mut ts = value_ramp(t_plane, run);
@@ -152,9 +148,9 @@ pub(crate) fn tint_colors(
 )
     requires room { run.to ≤ length colors.old }
     requires covered { IsRunCovered tri.now.v run }
-    requires kind { (color texel : AnyColor) → textured state.now color texel ≡ modulated color texel }
+    requires kind { Modulates state.now }
     requires ramp { IsColorAt tri.now.v run run.from first }
-    ensures { IsColorRun (λ k old. textured state.now (run_fragment tri.now.v run k).color old) run.from run.to colors.old colors.new }
+    ensures { AreTextured state.now tri.now.v run colors.old colors.new }
 {
     let _state = state;
     let mut ramp = first;

@@ -1,9 +1,6 @@
 //! Triangles that stand in one column of pixels, as most of a fine mesh do: their colours go up the column by one addition a channel and pixel.
-ghost use Rattle.std.specs.Prelude.{◌≡◌, ◌+◌, ◌*◌, ◌^◌, ◌<◌, ◌≤◌, nat_lt, length, List, pos, true};
-ghost use Rattle.rc_base.specs.Drawing.Cover.{is_inside};
-ghost use Rattle.rc_base.specs.declared.window.WindowVertex.{WindowVertex as AnyVertex};
-ghost use Rattle.raster.specs.Colors.{IsColorPlane};
-ghost use Rattle.draw_device.specs.Columns.{place_in, column_fragment, IsColumnRun, IsColumnCovered, IsColumnColored, IsRiseAt};
+ghost use Rattle.std.specs.Prelude.{◌≡◌, ◌+◌, ◌*◌, ◌^◌, ◌<◌, ◌≤◌, nat_lt, length, true};
+ghost use Rattle.draw_device.specs.Columns.{place_in, column_color, is_column_inside, IsColumnRun, IsColumnCovered, IsColumnColored, IsRiseAt, IsRiseStart};
 
 use crate::column_run::ColumnRun;
 use raster::{ColorPlane, ColorRamp};
@@ -19,10 +16,10 @@ fn place(run: ColumnRun, y: u16) -> usize
 
 // The colour that a ramp has at a row of the column.
 fn color_up(ramp: &ColorRamp, tri: &WindowTriangle, run: ColumnRun, y: u16) -> Rgba
-    requires inside { is_inside tri.now.v (pos (run.left + run.across)) (pos (run.bottom + y)) ≡ true }
+    requires inside { is_column_inside tri.now.v run y ≡ true }
     requires few { 1 + run.across + y < 2 ^ 12 }
     requires ramp { IsRiseAt tri.now.v run y ramp.now }
-    ensures { result ≡ (column_fragment tri.now.v run y).color }
+    ensures { result ≡ column_color tri.now.v run y }
 {
     let _tri = tri;
     let _place = (run, y);
@@ -31,7 +28,7 @@ fn color_up(ramp: &ColorRamp, tri: &WindowTriangle, run: ColumnRun, y: u16) -> R
 
 /// The colours of a plane from the column's first row on.
 pub(crate) fn color_rise(plane: &ColorPlane, run: ColumnRun) -> ColorRamp
-    ensures { (v : List AnyVertex) → IsColorPlane v (pos run.left) (pos run.bottom) plane.now → IsRiseAt v run run.from result }
+    ensures { IsRiseStart plane.now run result }
 {
     plane.rise(u64::from(run.across), u64::from(run.from))
 }
@@ -61,7 +58,7 @@ pub(crate) fn step_column(
     requires room { run.to * run.width ≤ length colors.old }
     requires covered { IsColumnCovered tri.now.v run }
     requires ramp { IsRiseAt tri.now.v run run.from first }
-    ensures { IsColumnColored (λ k. (column_fragment tri.now.v run k).color) run run.to colors.old colors.new }
+    ensures { IsColumnColored (column_color tri.now.v run) run run.to colors.old colors.new }
 {
     let mut ramp = first;
     for y in run.from..run.to {

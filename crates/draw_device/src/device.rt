@@ -2,19 +2,15 @@
 ghost use Rattle.std.specs.Prelude.{◌≡◌, ℕ, ◌≤◌, ℤ, pos, ◌+ℤ◌, ◌-ℤ◌, ◌≤ℤ◌, length, IfOk, true, None, Option};
 ghost use Rattle.rc_base.specs.Pictures.{Picture};
 ghost use Rattle.rc_base.specs.Cluster.Tiles.{is_in_rect};
-ghost use Rattle.rc_base.specs.Drawing.Nearer.{nearer};
 ghost use Rattle.rc_base.specs.Drawing.PixelStep.{effect_step};
 ghost use Rattle.rc_base.specs.Drawing.Serial.{blank_pixel};
-ghost use Rattle.rc_base.specs.Drawing.Window.{depth_most};
 ghost use Rattle.rc_base.specs.declared.state.Effect.TheVariants as eff;
-ghost use Rattle.textures.specs.Images.{texture_image};
-ghost use Rattle.draw_device.specs.Conditions.{IsDrawable, IsClearable, sampled_of, shared_of};
-ghost use Rattle.draw_device.specs.Devices.{IsDeviceRect, EachTakes, rect_size, pixel_of};
-ghost use Rattle.draw_device.specs.Beside.{IsBeside};
+ghost use Rattle.draw_device.specs.Conditions.{IsDrawable, IsClearable, TakesBlock, sampled_of};
+ghost use Rattle.draw_device.specs.Devices.{IsDeviceRect, IsBlankIn, EachTakes, part_of, rect_size, pixel_of};
+ghost use Rattle.draw_device.specs.Beside.{IsBlankBeside, IsFarBeside, NoneIsNearerBeside, nearer_in};
 ghost use Rattle.draw_device.specs.Pixels.{color_at, pixel_at};
 
-use crate::extent::Extent;
-use crate::grid::Grid;
+use crate::grid::{Extent, Grid};
 use crate::pixel_run::PixelRun;
 use rc_base::cluster::TilePart;
 use rc_base::command::Rgba;
@@ -79,7 +75,7 @@ impl Device {
     pub fn new(alloc: Global, rect: Rect) -> Result<Device, OutOfMemory>
         requires { IsDeviceRect rect }
         ensures rect { IfOk result (λ d. d.rect ≡ rect) }
-        ensures blank { IfOk result (λ d. (x y : ℤ) → is_in_rect rect x y ≡ true → pixel_of d x y ≡ blank_pixel) }
+        ensures blank { IfOk result (λ d. IsBlankIn rect d) }
     {
         let extent = Extent {
             left: side(0, rect.x0),
@@ -104,7 +100,7 @@ impl Device {
     pub fn draw(&mut self, state: &State, block: &Block, privates: &PrivateSet, shareds: &SharedSet)
         requires { IsDrawable state.now privates.now shareds.now }
         ensures rect { self.new.rect ≡ self.old.rect }
-        ensures drawn { EachTakes (effect_step state.now (texture_image privates.now) (shared_of shareds.now) (eff.Block block.now)) self.old self.new }
+        ensures drawn { TakesBlock state.now block.now privates.now shareds.now self.old self.new }
     {
         let none = Texture::empty(self.alloc);
         let texture = sampled_texture(state, privates, shareds, &none);
@@ -127,9 +123,9 @@ impl Device {
         requires rect { layer.now.rect ≡ self.old.rect }
         requires order { run.from ≤ run.to }
         requires inside { run.to ≤ rect_size self.old.rect }
-        requires beside { (x y : ℤ) → is_in_rect self.old.rect x y ≡ true → IsBeside run self.old.rect x y → (pixel_of self.old x y).depth ≤ (pixel_of layer.now x y).depth }
+        requires beside { NoneIsNearerBeside run layer.now self.old }
         ensures rect { self.new.rect ≡ self.old.rect }
-        ensures nearer { EachTakes (λ x y old. nearer old (pixel_of layer.now x y)) self.old self.new }
+        ensures nearer { EachTakes (nearer_in layer.now) self.old self.new }
     {
         self.grid.take_nearer(&layer.grid, run);
     }
@@ -138,7 +134,7 @@ impl Device {
     pub fn drawn(&self) -> PixelRun
         ensures order { result.from ≤ result.to }
         ensures inside { result.to ≤ rect_size self.now.rect }
-        ensures beside { (x y : ℤ) → is_in_rect self.now.rect x y ≡ true → IsBeside result self.now.rect x y → (pixel_of self.now x y).depth ≡ depth_most }
+        ensures beside { IsFarBeside result self.now }
     {
         self.grid.drawn()
     }
@@ -148,7 +144,7 @@ impl Device {
     pub fn blank(&mut self, run: PixelRun)
         requires order { run.from ≤ run.to }
         requires inside { run.to ≤ rect_size self.old.rect }
-        requires beside { (x y : ℤ) → is_in_rect self.old.rect x y ≡ true → IsBeside run self.old.rect x y → pixel_of self.old x y ≡ blank_pixel }
+        requires beside { IsBlankBeside run self.old }
         ensures rect { self.new.rect ≡ self.old.rect }
         ensures blank { EachTakes (λ x y old. blank_pixel) self.old self.new }
     {
@@ -174,7 +170,7 @@ impl Device {
 
     /// A copy of the pixels, with these two numbers.
     pub fn part(&self, tile: u8, frame: u32) -> Result<TilePart, OutOfMemory>
-        ensures part { IfOk result (λ p. p ≡ record { tile = tile; frame = frame; pixels = self.now.pixels }) }
+        ensures part { IfOk result (λ p. p ≡ part_of tile frame self.now) }
         ensures size { IfOk result (λ p. length p.pixels ≡ rect_size self.now.rect) }
     {
         Ok(TilePart {

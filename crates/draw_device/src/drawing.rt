@@ -1,31 +1,29 @@
-//! A grid of pixels that stands in the window, and what spans, triangles and blocks make of it.
-ghost use Rattle.std.specs.Prelude.{◌≡◌, ℕ, ◌+◌, ◌*◌, ◌<◌, ◌≤◌, ◌++◌, length, replicate, pos, ◌≤ℤ◌, true, Some, IfOk, IfSome, MatchOption};
+//! What spans, triangles and blocks make of a grid of pixels.
+ghost use Rattle.std.specs.Prelude.{◌≡◌, ◌+◌, ◌*◌, ◌<◌, ◌≤◌, length, pos, ◌≤ℤ◌, true, Some, IfOk, IfSome, MatchOption};
 ghost use Rattle.rc_base.specs.Cluster.Tiles.{is_in_rect};
 ghost use Rattle.rc_base.specs.Drawing.PixelStep.{clear_step};
-ghost use Rattle.rc_base.specs.Drawing.Serial.{blank_pixel};
 ghost use Rattle.rc_base.specs.Drawing.Kept.{kept_whole};
-ghost use Rattle.rc_base.specs.Drawing.Pieces.{kept_corners_of, kept_triangles};
 ghost use Rattle.rc_base.specs.Drawing.Triangles.{cut_modes};
 ghost use Rattle.geometry.specs.Beside.{IsBesideIfKept};
 ghost use Rattle.geometry.specs.Items.{AreBelow};
-ghost use Rattle.geometry.specs.Pieces.{found};
-ghost use Rattle.raster.specs.Colors.{IsColorPlane};
+ghost use Rattle.geometry.specs.Pieces.{found, found_in};
+ghost use Rattle.raster.specs.Clips.{IsPart};
+ghost use Rattle.raster.specs.Colors.{AreFlat};
 ghost use Rattle.raster.specs.Spans.{IsOnlyColumn};
 ghost use Rattle.textures.specs.Images.{HasTexelIfAny};
-ghost use Rattle.raster.specs.Clips.{IsPart, IsPartWhere, is_let_through};
-ghost use Rattle.draw_device.specs.Shapes.{IsCovered, IsSpanIn, AreRowsOf, IsCacheOf, fragment_pixel, IsStepped, span_step, covered_step, corners_step, triangles_step, grid_rect};
+ghost use Rattle.draw_device.specs.Shapes.{IsCovered, IsSpanIn, AreRowsOf, IsCacheOf, drawn_step, span_step, grid_rect};
 ghost use Rattle.draw_device.specs.Conditions.{IsClearable};
 ghost use Rattle.draw_device.specs.Columns.{IsOnlyRun};
-ghost use Rattle.draw_device.specs.Plans.{IsPaint, AreStored, AreFlat};
 ghost use Rattle.draw_device.specs.Devices.{pixel_index};
-ghost use Rattle.draw_device.specs.Pixels.{pixel_at, pixels_of};
+ghost use Rattle.draw_device.specs.Grids.{IsDrawnBy, blank_pixels, grid_pixel, grid_pixels};
+ghost use Rattle.draw_device.specs.Setups.{AreStoredIn, IsDrawnPart, IsGridPlane, IsPaintIn, IsPaintOf, IsStoredBy, block_of, cached_of, corners_of, covered_by, fragment_by, pieces_of, triangle_of, triangles_of};
 
 use crate::block_setup::BlockSetup;
 use crate::clear_setup::ClearSetup;
 use crate::clears::clear_row;
 use crate::column_run::ColumnRun;
 use crate::columns::{color_rise, fill_column, is_few, step_column};
-use crate::extent::Extent;
+use crate::grid::{Extent, Grid, Spare};
 use crate::paint::Paint;
 use crate::prepare::{
     plan_of, shared_at, source_of, stores_colors, takes_no_test, tests_of, untextured_color,
@@ -33,7 +31,6 @@ use crate::prepare::{
 use crate::rows::draw_row;
 use crate::setup::Setup;
 use crate::source::Source;
-use crate::spare::Spare;
 use crate::stages::Stages;
 use crate::tests::Tests;
 use fragment_ops::clearing_of;
@@ -50,21 +47,6 @@ use rc_base::window::{Pixel, Pixels, Rect, Span, row_start};
 use std::alloc::Global;
 use textures::Texture;
 
-/// The colours of pixels, and their depths, row by row from the lowest, each row from the left. `extent` says where they stand. They are two
-/// lists, since most draws store colours alone. `spare` is room for one row of fragments.
-#[derive(Drop)]
-pub struct Grid {
-    pub extent: Extent,
-    pub colors: Vec<Rgba>,
-    pub depths: Vec<u32>,
-    pub spare: Spare,
-    pub ghost full: { length colors.items ≡ extent.width * extent.height },
-    pub ghost deep: { length depths.items ≡ length colors.items },
-    pub ghost room: { extent.width ≡ length spare.colors.items },
-    pub ghost right: { extent.left + extent.width ≤ 65535 },
-    pub ghost top: { extent.bottom + extent.height ≤ 65535 },
-}
-
 // How far a column or row lies from another.
 fn offset(a: i32, from: u16) -> u16
     requires low { pos from ≤ℤ a }
@@ -80,7 +62,7 @@ impl Grid {
         requires right { extent.left + extent.width ≤ 65535 }
         requires top { extent.bottom + extent.height ≤ 65535 }
         ensures extent { IfOk result (λ g. g.extent ≡ extent) }
-        ensures blank { IfOk result (λ g. pixels_of g.colors.items g.depths.items ≡ replicate (extent.width * extent.height) blank_pixel) }
+        ensures blank { IfOk result (λ g. grid_pixels g ≡ blank_pixels extent) }
     {
         let color = Rgba {
             r: 0,
@@ -122,11 +104,11 @@ impl Grid {
     // Draws the pixels of a span of a triangle.
     fn draw_span(&mut self, setup: &Setup<'_>, span: Span)
         requires grid { setup.now.extent ≡ self.old.extent }
-        requires paint { IsPaint setup.now.state.now setup.now.texture.now setup.now.tri.now.v (pos setup.now.extent.left) (pos setup.now.extent.bottom) setup.now.paint }
+        requires paint { IsPaintOf setup.now }
         requires inside { IsSpanIn self.old.extent span }
         requires covered { IsCovered setup.now.tri.now.v span }
         ensures extent { self.new.extent ≡ self.old.extent }
-        ensures drawn { IsStepped (span_step (fragment_pixel setup.now.state.now setup.now.texture.now setup.now.tri.now.v) span) self.old.extent (pixels_of self.old.colors.items self.old.depths.items) (pixels_of self.new.colors.items self.new.depths.items) }
+        ensures drawn { IsDrawnBy (span_step (fragment_by setup.now) span) self.old self.new }
     {
         let _height = self.extent.height;
         let up = offset(span.y, self.extent.bottom);
@@ -148,11 +130,11 @@ impl Grid {
     // Draws the spans of a triangle in the part of the grid's rectangle that lets it through.
     fn draw_rows(&mut self, setup: &Setup<'_>, rows: SpanIter<'_>)
         requires grid { setup.now.extent ≡ self.old.extent }
-        requires paint { IsPaint setup.now.state.now setup.now.texture.now setup.now.tri.now.v (pos setup.now.extent.left) (pos setup.now.extent.bottom) setup.now.paint }
-        requires part { IsPartWhere (grid_rect self.old.extent) rows.rect (is_let_through setup.now.state.now) }
+        requires paint { IsPaintOf setup.now }
+        requires part { IsDrawnPart setup.now.state.now self.old.extent rows.rect }
         requires rows { AreRowsOf setup.now.tri.now rows.rect rows }
         ensures extent { self.new.extent ≡ self.old.extent }
-        ensures drawn { IsStepped (covered_step setup.now.state.now setup.now.texture.now setup.now.tri.now.v) self.old.extent (pixels_of self.old.colors.items self.old.depths.items) (pixels_of self.new.colors.items self.new.depths.items) }
+        ensures drawn { IsDrawnBy (covered_by setup.now) self.old self.new }
     {
         'rows: for span in rows {
             self.draw_span(setup, span);
@@ -203,12 +185,12 @@ impl Grid {
 
     // Draws a triangle of one column and one colour that is stored alone.
     fn draw_filled_column(&mut self, setup: &Setup<'_>, part: Rect, run: ColumnRun, color: Rgba)
-        requires part { IsPartWhere (grid_rect self.old.extent) part (is_let_through setup.now.state.now) }
+        requires part { IsDrawnPart setup.now.state.now self.old.extent part }
         requires run { IsOnlyRun setup.now.tri.now.v self.old.extent part run }
-        requires stored { AreStored setup.now.state.now setup.now.texture.now setup.now.tri.now.v }
+        requires stored { IsStoredBy setup.now }
         requires color { AreFlat setup.now.tri.now.v color }
         ensures extent { self.new.extent ≡ self.old.extent }
-        ensures drawn { IsStepped (covered_step setup.now.state.now setup.now.texture.now setup.now.tri.now.v) self.old.extent (pixels_of self.old.colors.items self.old.depths.items) (pixels_of self.new.colors.items self.new.depths.items) }
+        ensures drawn { IsDrawnBy (covered_by setup.now) self.old self.new }
     {
         let _setup = setup;
         let _part = part;
@@ -223,12 +205,12 @@ impl Grid {
         run: ColumnRun,
         plane: &ColorPlane,
     )
-        requires part { IsPartWhere (grid_rect self.old.extent) part (is_let_through setup.now.state.now) }
+        requires part { IsDrawnPart setup.now.state.now self.old.extent part }
         requires run { IsOnlyRun setup.now.tri.now.v self.old.extent part run }
-        requires stored { AreStored setup.now.state.now setup.now.texture.now setup.now.tri.now.v }
-        requires plane { IsColorPlane setup.now.tri.now.v (pos self.old.extent.left) (pos self.old.extent.bottom) plane.now }
+        requires stored { IsStoredBy setup.now }
+        requires plane { IsGridPlane setup.now.tri.now.v self.old.extent plane.now }
         ensures extent { self.new.extent ≡ self.old.extent }
-        ensures drawn { IsStepped (covered_step setup.now.state.now setup.now.texture.now setup.now.tri.now.v) self.old.extent (pixels_of self.old.colors.items self.old.depths.items) (pixels_of self.new.colors.items self.new.depths.items) }
+        ensures drawn { IsDrawnBy (covered_by setup.now) self.old self.new }
     {
         let _part = part;
         let first = color_rise(plane, run);
@@ -238,11 +220,11 @@ impl Grid {
     // Draws a triangle in a part by the way that was settled for it.
     fn draw_painted(&mut self, setup: &Setup<'_>, part: Rect, rows: SpanIter<'_>)
         requires grid { setup.now.extent ≡ self.old.extent }
-        requires paint { IsPaint setup.now.state.now setup.now.texture.now setup.now.tri.now.v (pos setup.now.extent.left) (pos setup.now.extent.bottom) setup.now.paint }
-        requires part { IsPartWhere (grid_rect self.old.extent) part (is_let_through setup.now.state.now) }
+        requires paint { IsPaintOf setup.now }
+        requires part { IsDrawnPart setup.now.state.now self.old.extent part }
         requires rows { AreRowsOf setup.now.tri.now part rows }
         ensures extent { self.new.extent ≡ self.old.extent }
-        ensures drawn { IsStepped (covered_step setup.now.state.now setup.now.texture.now setup.now.tri.now.v) self.old.extent (pixels_of self.old.colors.items self.old.depths.items) (pixels_of self.new.colors.items self.new.depths.items) }
+        ensures drawn { IsDrawnBy (covered_by setup.now) self.old self.new }
     {
         match (self.only_column(setup.tri, part, &rows), setup.paint) {
             (Some(run), Paint::Fill(color)) => self.draw_filled_column(setup, part, run, color),
@@ -260,10 +242,10 @@ impl Grid {
         paint: Paint<'s>,
     )
         requires grid { block.now.extent ≡ self.old.extent }
-        requires paint { IsPaint block.now.state.now block.now.texture.now tri.now.v (pos self.old.extent.left) (pos self.old.extent.bottom) paint }
+        requires paint { IsPaintIn block.now self.old.extent tri.now paint }
         requires rows { AreRowsOf tri.now block.now.part rows }
         ensures extent { self.new.extent ≡ self.old.extent }
-        ensures drawn { IsStepped (covered_step block.now.state.now block.now.texture.now tri.now.v) self.old.extent (pixels_of self.old.colors.items self.old.depths.items) (pixels_of self.new.colors.items self.new.depths.items) }
+        ensures drawn { IsDrawnBy (triangle_of block.now tri.now) self.old self.new }
     {
         let setup = Setup {
             state: block.state,
@@ -286,9 +268,9 @@ impl Grid {
     )
         requires grid { block.now.extent ≡ self.old.extent }
         requires rows { AreRowsOf tri.now block.now.part rows }
-        requires stored { AreStored block.now.state.now block.now.texture.now tri.now.v }
+        requires stored { AreStoredIn block.now tri.now }
         ensures extent { self.new.extent ≡ self.old.extent }
-        ensures drawn { IsStepped (covered_step block.now.state.now block.now.texture.now tri.now.v) self.old.extent (pixels_of self.old.colors.items self.old.depths.items) (pixels_of self.new.colors.items self.new.depths.items) }
+        ensures drawn { IsDrawnBy (triangle_of block.now tri.now) self.old self.new }
     {
         let shared = shared_at(tri, self.extent.left, self.extent.bottom);
         let plane = color_plane(tri, &shared);
@@ -307,7 +289,7 @@ impl Grid {
         requires grid { block.now.extent ≡ self.old.extent }
         requires rows { AreRowsOf tri.now block.now.part rows }
         ensures extent { self.new.extent ≡ self.old.extent }
-        ensures drawn { IsStepped (covered_step block.now.state.now block.now.texture.now tri.now.v) self.old.extent (pixels_of self.old.colors.items self.old.depths.items) (pixels_of self.new.colors.items self.new.depths.items) }
+        ensures drawn { IsDrawnBy (triangle_of block.now tri.now) self.old self.new }
     {
         let flat = untextured_color(block.texture, tri);
         if let Some(color) = flat {
@@ -337,7 +319,7 @@ impl Grid {
     fn draw_triangle(&mut self, block: &BlockSetup<'_>, tri: &WindowTriangle)
         requires grid { block.now.extent ≡ self.old.extent }
         ensures extent { self.new.extent ≡ self.old.extent }
-        ensures drawn { IsStepped (covered_step block.now.state.now block.now.texture.now tri.now.v) self.old.extent (pixels_of self.old.colors.items self.old.depths.items) (pixels_of self.new.colors.items self.new.depths.items) }
+        ensures drawn { IsDrawnBy (triangle_of block.now tri.now) self.old self.new }
     {
         let rows = spans(tri, block.part);
         if rows.is_empty() {
@@ -370,7 +352,7 @@ impl Grid {
             (IsBesideIfKept setup.now.state.now vertices.now corners setup.now.near)
             (λ t. kept_whole setup.now.state.now vertices.now corners ≡ Some t.v) }
         ensures extent { self.new.extent ≡ self.old.extent }
-        ensures drawn { IsStepped (corners_step setup.now.state.now setup.now.texture.now vertices.now corners) self.old.extent (pixels_of self.old.colors.items self.old.depths.items) (pixels_of self.new.colors.items self.new.depths.items) }
+        ensures drawn { IsDrawnBy (corners_of setup.now vertices.now corners) self.old self.new }
     {
         let _vertices = vertices;
         let _corners = corners;
@@ -393,7 +375,7 @@ impl Grid {
         requires corners { AreBelow (length cache.old.vertices.now) corners }
         ensures cache { IsCacheOf cache.old.state.now cache.old.vertices.now cache.new }
         ensures extent { self.new.extent ≡ self.old.extent }
-        ensures drawn { IsStepped (corners_step block.now.state.now block.now.texture.now cache.old.vertices.now corners) self.old.extent (pixels_of self.old.colors.items self.old.depths.items) (pixels_of self.new.colors.items self.new.depths.items) }
+        ensures drawn { IsDrawnBy (cached_of block.now cache.old corners) self.old self.new }
     {
         let tri = cache.triangle_near(corners, &block.near);
         self.draw_near(block, &tri, cache.vertices, corners);
@@ -404,7 +386,7 @@ impl Grid {
         requires mode { block.now.mode < cut_modes }
         requires grid { setup.now.extent ≡ self.old.extent }
         ensures extent { self.new.extent ≡ self.old.extent }
-        ensures drawn { IsStepped (triangles_step setup.now.state.now setup.now.texture.now (kept_triangles setup.now.state.now block.now)) self.old.extent (pixels_of self.old.colors.items self.old.depths.items) (pixels_of self.new.colors.items self.new.depths.items) }
+        ensures drawn { IsDrawnBy (block_of setup.now block.now) self.old self.new }
     {
         let mut cache = VertexCache::new(setup.state, block.vertices.as_slice());
         'draws: for corners in triangles(block) {
@@ -417,7 +399,7 @@ impl Grid {
     fn draw_found(&mut self, setup: &BlockSetup<'_>, tri: &Option<WindowTriangle>)
         requires grid { setup.now.extent ≡ self.old.extent }
         ensures extent { self.new.extent ≡ self.old.extent }
-        ensures drawn { IsStepped (triangles_step setup.now.state.now setup.now.texture.now (found tri.now)) self.old.extent (pixels_of self.old.colors.items self.old.depths.items) (pixels_of self.new.colors.items self.new.depths.items) }
+        ensures drawn { IsDrawnBy (triangles_of setup.now (found tri.now)) self.old self.new }
     {
         if let Some(t) = tri {
             self.draw_triangle(setup, t);
@@ -428,7 +410,7 @@ impl Grid {
     fn draw_pieces(&mut self, setup: &BlockSetup<'_>, given: &Pieces)
         requires grid { setup.now.extent ≡ self.old.extent }
         ensures extent { self.new.extent ≡ self.old.extent }
-        ensures drawn { IsStepped (triangles_step setup.now.state.now setup.now.texture.now (found given.now.first ++ found given.now.second)) self.old.extent (pixels_of self.old.colors.items self.old.depths.items) (pixels_of self.new.colors.items self.new.depths.items) }
+        ensures drawn { IsDrawnBy (triangles_of setup.now (found_in given.now)) self.old self.new }
     {
         self.draw_found(setup, &given.first);
         self.draw_found(setup, &given.second);
@@ -447,7 +429,7 @@ impl Grid {
         requires corners { AreBelow (length block.now.vertices) corners }
         ensures cache { IsCacheOf setup.now.state.now block.now.vertices cache.new }
         ensures extent { self.new.extent ≡ self.old.extent }
-        ensures drawn { IsStepped (triangles_step setup.now.state.now setup.now.texture.now (kept_corners_of setup.now.state.now block.now corners)) self.old.extent (pixels_of self.old.colors.items self.old.depths.items) (pixels_of self.new.colors.items self.new.depths.items) }
+        ensures drawn { IsDrawnBy (pieces_of setup.now block.now corners) self.old self.new }
     {
         match cache.uncut_near(corners, &setup.near) {
             Uncut::Whole(tri) => {
@@ -468,7 +450,7 @@ impl Grid {
     fn draw_cut(&mut self, setup: &BlockSetup<'_>, block: &Block)
         requires grid { setup.now.extent ≡ self.old.extent }
         ensures extent { self.new.extent ≡ self.old.extent }
-        ensures drawn { IsStepped (triangles_step setup.now.state.now setup.now.texture.now (kept_triangles setup.now.state.now block.now)) self.old.extent (pixels_of self.old.colors.items self.old.depths.items) (pixels_of self.new.colors.items self.new.depths.items) }
+        ensures drawn { IsDrawnBy (block_of setup.now block.now) self.old self.new }
     {
         let mut cache = VertexCache::new(setup.state, block.vertices.as_slice());
         'cuts: for corners in triangles(block) {
@@ -480,7 +462,7 @@ impl Grid {
     pub fn draw(&mut self, state: &State, texture: &Texture, block: &Block)
         requires { HasTexelIfAny texture.now }
         ensures extent { self.new.extent ≡ self.old.extent }
-        ensures drawn { IsStepped (triangles_step state.now texture.now (kept_triangles state.now block.now)) self.old.extent (pixels_of self.old.colors.items self.old.depths.items) (pixels_of self.new.colors.items self.new.depths.items) }
+        ensures drawn { IsDrawnBy (drawn_step state.now texture.now block.now) self.old self.new }
     {
         let part = drawn_part(state, self.rect());
         let plan = plan_of(state);
@@ -503,7 +485,7 @@ impl Grid {
     pub fn clear(&mut self, state: &State, mask: u8)
         requires { IsClearable state.now }
         ensures extent { self.new.extent ≡ self.old.extent }
-        ensures drawn { IsStepped (clear_step state.now mask) self.old.extent (pixels_of self.old.colors.items self.old.depths.items) (pixels_of self.new.colors.items self.new.depths.items) }
+        ensures drawn { IsDrawnBy (clear_step state.now mask) self.old self.new }
     {
         let part = scissored(state, self.rect());
         if part.x1 <= part.x0 || part.y1 <= part.y0 {
@@ -534,7 +516,7 @@ impl Grid {
     /// The pixel of a column and a row of the window.
     pub fn pixel(&self, x: i32, y: i32) -> Pixel
         requires { is_in_rect (grid_rect self.now.extent) x y ≡ true }
-        ensures { result ≡ pixel_at (pixels_of self.now.colors.items self.now.depths.items) (pixel_index (grid_rect self.now.extent) x y) }
+        ensures { result ≡ grid_pixel self.now (pixel_index (grid_rect self.now.extent) x y) }
     {
         let column = offset(x, self.extent.left);
         let row = offset(y, self.extent.bottom);
@@ -546,7 +528,7 @@ impl Grid {
     }
     /// A copy of the pixels.
     pub fn copy(&self, alloc: Global) -> Result<Pixels, OutOfMemory>
-        ensures { IfOk result (λ p. p ≡ pixels_of self.now.colors.items self.now.depths.items) }
+        ensures { IfOk result (λ p. p ≡ grid_pixels self.now) }
     {
         let colors = self.colors.as_slice();
         let depths = self.depths.as_slice();

@@ -1,7 +1,7 @@
 //! The colours of a row's fragments after the texture stage.
-ghost use Rattle.std.specs.Prelude.{◌≡◌, pos, ◌≤◌, length};
-ghost use Rattle.draw_device.specs.Loops.{run_fragment, texel_for, IsRunCovered, IsColorRun, AreColors};
-ghost use Rattle.draw_device.specs.Plans.{AreTexels, IsSource};
+ghost use Rattle.std.specs.Prelude.{◌≡◌, ◌≤◌, length};
+ghost use Rattle.draw_device.specs.Loops.{IsRunCovered, IsRunColored};
+ghost use Rattle.draw_device.specs.Setups.{AreColorsOf, AreTexelsOf, IsSourceOf, run_texel};
 
 use crate::colors::{fill_colors, repeat_colors, step_colors, texel_colors, tint_colors};
 use crate::run::Run;
@@ -23,8 +23,8 @@ fn texel_row(
 )
     requires room { run.to ≤ length colors.old }
     requires covered { IsRunCovered setup.now.tri.now.v run }
-    requires texels { AreTexels setup.now.state.now setup.now.texture.now setup.now.tri.now.v (pos run.left) (pos run.bottom) sampler ss.now ts.now }
-    ensures { IsColorRun (λ k old. texel_for setup.now.state.now setup.now.texture.now (run_fragment setup.now.tri.now.v run k)) run.from run.to colors.old colors.new }
+    requires texels { AreTexelsOf setup.now run sampler ss.now ts.now }
+    ensures { IsRunColored run (λ k old. run_texel setup.now run k) colors.old colors.new }
 {
     if sampler.wrap_s == 0 && sampler.wrap_t == 0 {
         repeat_colors(colors, setup, sampler, ss, ts, run);
@@ -37,9 +37,9 @@ fn texel_row(
 pub(crate) fn color_row(colors: &mut [Rgba], setup: &Setup<'_>, source: &Source<'_>, run: Run)
     requires room { run.to ≤ length colors.old }
     requires covered { IsRunCovered setup.now.tri.now.v run }
-    requires source { IsSource setup.now.state.now setup.now.texture.now setup.now.tri.now.v (pos run.left) (pos run.bottom) source.now }
+    requires source { IsSourceOf setup.now run source.now }
     ensures size { length colors.new ≡ length colors.old }
-    ensures done { AreColors setup.now.state.now setup.now.texture.now setup.now.tri.now.v run colors.new }
+    ensures done { AreColorsOf setup.now run colors.new }
 {
     match source {
         Source::Flat(color) => fill_colors(colors, run.from, run.to, *color),

@@ -1,13 +1,7 @@
 //! The part of a row that the depth test leaves to be drawn: what lies behind the stored depths costs no colour.
-ghost use Rattle.std.specs.Prelude.{◌≡◌, ◌≤◌, length, pos, true, false, Option};
-ghost use Rattle.rc_base.specs.Pictures.{Picture};
-ghost use Rattle.rc_base.specs.Drawing.PixelStep.{fragment_step};
-ghost use Rattle.rc_base.specs.declared.command.Rgba.{Rgba as AnyColor};
-ghost use Rattle.rc_base.specs.declared.state.State.{State as AnyState};
-ghost use Rattle.rc_base.specs.declared.window.Fragment.{Fragment as AnyFragment};
+ghost use Rattle.std.specs.Prelude.{◌≡◌, ◌≤◌, length, pos, true, false};
 ghost use Rattle.raster.specs.Colors.{is_depth};
-ghost use Rattle.fragment_ops.specs.DepthTests.{IsDepthTest, pixel};
-ghost use Rattle.draw_device.specs.Loops.{IsRunCovered, IsVisibleFrom};
+ghost use Rattle.draw_device.specs.Loops.{IsRunCovered, IsVisibleFrom, LeavesPixel};
 ghost use Rattle.draw_device.specs.Plans.{HasDepthPlane};
 
 use crate::run::Run;
@@ -20,8 +14,7 @@ use raster::WordPlane;
 #[inline(always)]
 fn passes_step(test: DepthTest, depth: i32, stored: u32) -> bool
     requires { is_depth depth ≡ true }
-    ensures { result ≡ false → (s : AnyState) (p : Option Picture) (f : AnyFragment) (color : AnyColor) → IsDepthTest s test → depth ≡ f.depth
-        → fragment_step s p f (pixel color stored) ≡ pixel color stored }
+    ensures { result ≡ false → LeavesPixel test depth stored }
 {
     test.passes(depth as u32, stored)
 }

@@ -1,8 +1,9 @@
 //! Pixels that become others which are nearer.
-ghost use Rattle.std.specs.Prelude.{◌≡◌, ℕ, ◌<◌, ◌≤◌, length};
+ghost use Rattle.std.specs.Prelude.{◌≡◌, ◌≤◌, length};
 ghost use Rattle.rc_base.specs.Drawing.Nearer.{nearer};
-ghost use Rattle.fragment_ops.specs.DepthTests.{pixel};
-ghost use Rattle.draw_device.specs.Pixels.{color_at, depth_at, pixel_at, pixels_of};
+ghost use Rattle.draw_device.specs.Beside.{StayBefore, StayBehind, TakesNearer};
+ghost use Rattle.draw_device.specs.Grids.{GridTakesNearer, grid_pixel};
+ghost use Rattle.draw_device.specs.Pixels.{paired};
 
 use crate::grid::Grid;
 use crate::pixel_run::PixelRun;
@@ -31,10 +32,10 @@ fn keep_nearer(
     requires room { run.to ≤ length colors.old }
     ensures colors { length colors.new ≡ length colors.old }
     ensures depths { length depths.new ≡ length depths.old }
-    ensures among { (k : ℕ) → run.from ≤ k → k < run.to → pixel (color_at colors.new k) (depth_at depths.new k)
-        ≡ nearer (pixel (color_at colors.old k) (depth_at depths.old k)) (pixel (color_at layer_colors.now k) (depth_at layer_depths.now k)) }
-    ensures below { (k : ℕ) → k < run.from → pixel (color_at colors.new k) (depth_at depths.new k) ≡ pixel (color_at colors.old k) (depth_at depths.old k) }
-    ensures above { (k : ℕ) → run.to ≤ k → pixel (color_at colors.new k) (depth_at depths.new k) ≡ pixel (color_at colors.old k) (depth_at depths.old k) }
+    ensures among { TakesNearer run (paired layer_colors.now layer_depths.now)
+        (paired colors.old depths.old) (paired colors.new depths.new) }
+    ensures below { StayBefore run (paired colors.old depths.old) (paired colors.new depths.new) }
+    ensures above { StayBehind run (paired colors.old depths.old) (paired colors.new depths.new) }
 {
     for k in run.from..run.to {
         let old = Pixel {
@@ -58,12 +59,9 @@ impl Grid {
         requires order { run.from ≤ run.to }
         requires room { run.to ≤ length self.old.colors.items }
         ensures extent { self.new.extent ≡ self.old.extent }
-        ensures among { (k : ℕ) → run.from ≤ k → k < run.to → pixel_at (pixels_of self.new.colors.items self.new.depths.items) k
-            ≡ nearer (pixel_at (pixels_of self.old.colors.items self.old.depths.items) k) (pixel_at (pixels_of layer.now.colors.items layer.now.depths.items) k) }
-        ensures below { (k : ℕ) → k < run.from → pixel_at (pixels_of self.new.colors.items self.new.depths.items) k
-            ≡ pixel_at (pixels_of self.old.colors.items self.old.depths.items) k }
-        ensures above { (k : ℕ) → run.to ≤ k → pixel_at (pixels_of self.new.colors.items self.new.depths.items) k
-            ≡ pixel_at (pixels_of self.old.colors.items self.old.depths.items) k }
+        ensures among { GridTakesNearer run layer.now self.old self.new }
+        ensures below { StayBefore run (grid_pixel self.old) (grid_pixel self.new) }
+        ensures above { StayBehind run (grid_pixel self.old) (grid_pixel self.new) }
     {
         keep_nearer(
             self.colors.as_mut_slice(),

@@ -1,17 +1,13 @@
 //! Rows of pixels that take their fragments' written colours, by the depth test or by both tests.
-ghost use Rattle.std.specs.Prelude.{◌≡◌, ◌≤◌, length, pos, true, Option};
-ghost use Rattle.rc_base.specs.Pictures.{Picture};
-ghost use Rattle.rc_base.specs.Drawing.PixelStep.{fragment_step, fragment_color, passes_alpha, written_color};
-ghost use Rattle.rc_base.specs.declared.state.State.{State as AnyState};
-ghost use Rattle.rc_base.specs.declared.window.Fragment.{Fragment as AnyFragment};
+ghost use Rattle.std.specs.Prelude.{◌≡◌, ◌≤◌, length, pos, true};
 ghost use Rattle.raster.specs.Colors.{is_depth};
-ghost use Rattle.fragment_ops.specs.DepthTests.{IsDepthTest, pixel};
-ghost use Rattle.draw_device.specs.Loops.{IsCoveredRow, IsRowDrawn, AreFlags, AreWritten};
-ghost use Rattle.draw_device.specs.Plans.{IsDepthPlane, AreDepthTested};
+ghost use Rattle.draw_device.specs.Loops.{IsCoveredRow, IsDepthTested, IsTested};
+ghost use Rattle.draw_device.specs.Plans.{IsDepthPlane};
+ghost use Rattle.draw_device.specs.Setups.{AreDepthTestedBy, AreFlagsOf, AreWrittenOf, IsRowDrawn};
 
+use crate::grid::Spare;
 use crate::run::Run;
 use crate::setup::Setup;
-use crate::spare::Spare;
 use crate::stepped::{depth_by, value_ramp};
 use fragment_ops::DepthTest;
 use raster::WordPlane;
@@ -26,9 +22,7 @@ fn test_step(
     stored_depth: &mut u32,
 )
     requires { is_depth depth ≡ true }
-    ensures { (s : AnyState) (p : Option Picture) (f : AnyFragment) → IsDepthTest s test → passes_alpha s (fragment_color s p f).a ≡ true
-        → color ≡ written_color s (fragment_color s p f) stored_color.old → depth ≡ f.depth
-        → pixel stored_color.new stored_depth.new ≡ fragment_step s p f (pixel stored_color.old stored_depth.old) }
+    ensures { IsDepthTested test color depth stored_color.old stored_depth.old stored_color.new stored_depth.new }
 {
     test.put(color, depth as u32, stored_color, stored_depth);
 }
@@ -45,9 +39,9 @@ pub(crate) fn test_run(
 )
     requires row { IsCoveredRow setup.now.tri.now.v run colors.old depths.old }
     requires room { run.to ≤ length written.now }
-    requires written { AreWritten setup.now.state.now setup.now.texture.now setup.now.tri.now.v run colors.old written.now }
-    requires tested { AreDepthTested setup.now.state.now setup.now.tri.now.v (pos run.left) (pos run.bottom) plane.now }
-    ensures { IsRowDrawn setup.now.state.now setup.now.texture.now setup.now.tri.now.v run colors.old depths.old colors.new depths.new }
+    requires written { AreWrittenOf setup.now run colors.old written.now }
+    requires tested { AreDepthTestedBy setup.now run plane.now }
+    ensures { IsRowDrawn setup.now run colors.old depths.old colors.new depths.new }
 {
     let test = setup.plan.depth;
     let mut ramp = value_ramp(plane, run);
@@ -81,9 +75,7 @@ fn any_step(
     stored_color: &mut Rgba,
     stored_depth: &mut u32,
 )
-    ensures { (s : AnyState) (p : Option Picture) (f : AnyFragment) → IsDepthTest s test → passes ≡ passes_alpha s (fragment_color s p f).a
-        → color ≡ written_color s (fragment_color s p f) stored_color.old → depth ≡ f.depth
-        → pixel stored_color.new stored_depth.new ≡ fragment_step s p f (pixel stored_color.old stored_depth.old) }
+    ensures { IsTested test passes color depth stored_color.old stored_depth.old stored_color.new stored_depth.new }
 {
     if !passes {
         return;
@@ -106,10 +98,10 @@ pub(crate) fn any_run(
 )
     requires row { IsCoveredRow setup.now.tri.now.v run colors.old depths.old }
     requires room { run.to ≤ length spare.now.colors.items }
-    requires written { AreWritten setup.now.state.now setup.now.texture.now setup.now.tri.now.v run colors.old spare.now.colors.items }
-    requires flags { AreFlags setup.now.state.now setup.now.texture.now setup.now.tri.now.v run spare.now.flags.items }
+    requires written { AreWrittenOf setup.now run colors.old spare.now.colors.items }
+    requires flags { AreFlagsOf setup.now run spare.now.flags.items }
     requires plane { IsDepthPlane setup.now.tri.now.v (pos run.left) (pos run.bottom) plane.now }
-    ensures { IsRowDrawn setup.now.state.now setup.now.texture.now setup.now.tri.now.v run colors.old depths.old colors.new depths.new }
+    ensures { IsRowDrawn setup.now run colors.old depths.old colors.new depths.new }
 {
     let written = spare.colors.as_slice();
     let flags = spare.flags.as_slice();

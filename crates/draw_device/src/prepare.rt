@@ -1,10 +1,11 @@
 //! What is settled once a block, and once a triangle.
-ghost use Rattle.std.specs.Prelude.{◌≡◌, pos, ℤ, true, false, None, IfSome};
+ghost use Rattle.std.specs.Prelude.{◌≡◌, pos, true, false, None, IfSome};
 ghost use Rattle.rc_base.specs.Drawing.Texel.{wrap_in_s, wrap_in_t};
+ghost use Rattle.raster.specs.Colors.{AreFlat};
 ghost use Rattle.raster.specs.Planes.{IsTriangleSetup};
 ghost use Rattle.textures.specs.Images.{HasTexel, HasTexelIfAny};
 ghost use Rattle.textures.specs.Samplers.{IsSampler};
-ghost use Rattle.draw_device.specs.Plans.{IsPlan, IsWrite, IsSource, IsTests, AreFlat, AreStored, AreUntested, Replaces, Modulates};
+ghost use Rattle.draw_device.specs.Plans.{IsPlan, IsWrite, IsSourceFrom, IsTestsFrom, AreStored, AreUntested, Replaces, Modulates};
 
 use crate::plan::Plan;
 use crate::source::Source;
@@ -112,7 +113,7 @@ fn plain_source<'a>(
 ) -> Source<'a>
     requires none { texture.now ≡ None }
     requires flat { IfSome flat (λ color. AreFlat tri.now.v color) }
-    ensures { (x y : ℤ) → IsTriangleSetup tri.now.v x y shared.now → IsSource state.now texture.now tri.now.v x y result }
+    ensures { IsSourceFrom state.now texture.now tri.now.v shared.now result }
 {
     let _state = state;
     let _texture = texture;
@@ -134,7 +135,7 @@ fn texel_source<'a>(
     requires plan { IsPlan state.now plan.now }
     requires texel { HasTexel texture.now }
     requires sampler { IsSampler texture.now (wrap_in_s state.now) (wrap_in_t state.now) sampler }
-    ensures { (x y : ℤ) → IsTriangleSetup tri.now.v x y shared.now → IsSource state.now texture.now tri.now.v x y result }
+    ensures { IsSourceFrom state.now texture.now tri.now.v shared.now result }
 {
     let _state = state;
     let _texture = texture;
@@ -153,7 +154,7 @@ pub(crate) fn tests_of(
     shared: &TriangleSetup,
 ) -> Tests
     requires { IsPlan state.now plan.now }
-    ensures { (x y : ℤ) → IsTriangleSetup tri.now.v x y shared.now → IsTests state.now tri.now.v x y result }
+    ensures { IsTestsFrom state.now tri.now.v shared.now result }
 {
     let _state = state;
     if !has_depths(tri) {
@@ -183,7 +184,7 @@ pub(crate) fn source_of<'a>(
     requires plan { IsPlan state.now plan.now }
     requires texel { HasTexelIfAny texture.now }
     requires flat { IfSome flat (λ color. AreFlat tri.now.v color) }
-    ensures { (x y : ℤ) → IsTriangleSetup tri.now.v x y shared.now → IsSource state.now texture.now tri.now.v x y result }
+    ensures { IsSourceFrom state.now texture.now tri.now.v shared.now result }
 {
     match texture.sampler(state.tex_mode[1], state.tex_mode[2]) {
         Some(sampler) => texel_source(state, texture, plan, sampler, tri, shared),

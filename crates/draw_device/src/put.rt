@@ -1,14 +1,15 @@
 //! A row of fragments that goes into the pixels, by its colours, which `spare` has, and by the tests that it takes.
 ghost use Rattle.std.specs.Prelude.{◌≡◌, ◌≤◌, length, pos};
-ghost use Rattle.draw_device.specs.Loops.{IsCoveredRow, IsRowDrawn, AreColors, AreFlags, AreWritten};
-ghost use Rattle.draw_device.specs.Plans.{AreUntested, AreAlphaTested, AreDepthTested, IsDepthPlane, IsTests};
+ghost use Rattle.draw_device.specs.Loops.{IsCoveredRow};
+ghost use Rattle.draw_device.specs.Plans.{AreUntested, AreAlphaTested, IsDepthPlane};
+ghost use Rattle.draw_device.specs.Setups.{AreColorsOf, AreDepthTestedBy, AreFlagsOf, AreWrittenOf, IsRowDrawn, IsTestsOf};
 
 use crate::alpha::{choose_colors, flag_passing};
 use crate::colors::copy_colors;
+use crate::grid::Spare;
 use crate::pixels::{any_run, test_run};
 use crate::run::Run;
 use crate::setup::Setup;
-use crate::spare::Spare;
 use crate::tests::Tests;
 use crate::writes::write_colors;
 use raster::WordPlane;
@@ -17,9 +18,9 @@ use rc_base::command::Rgba;
 // Flags the fragments whose alpha passes.
 fn flag_row(spare: &mut Spare, setup: &Setup<'_>, run: Run)
     requires room { run.to ≤ length spare.old.colors.items }
-    requires colored { AreColors setup.now.state.now setup.now.texture.now setup.now.tri.now.v run spare.old.colors.items }
+    requires colored { AreColorsOf setup.now run spare.old.colors.items }
     ensures colors { spare.new.colors ≡ spare.old.colors }
-    ensures flagged { AreFlags setup.now.state.now setup.now.texture.now setup.now.tri.now.v run spare.new.flags.items }
+    ensures flagged { AreFlagsOf setup.now run spare.new.flags.items }
 {
     flag_passing(
         spare.flags.as_mut_slice(),
@@ -34,10 +35,10 @@ fn flag_row(spare: &mut Spare, setup: &Setup<'_>, run: Run)
 fn write_row(spare: &mut Spare, stored: &[Rgba], setup: &Setup<'_>, run: Run)
     requires stored { run.to ≤ length stored.now }
     requires room { run.to ≤ length spare.old.colors.items }
-    requires colored { AreColors setup.now.state.now setup.now.texture.now setup.now.tri.now.v run spare.old.colors.items }
+    requires colored { AreColorsOf setup.now run spare.old.colors.items }
     ensures size { length spare.new.colors.items ≡ length spare.old.colors.items }
     ensures flags { spare.new.flags ≡ spare.old.flags }
-    ensures written { AreWritten setup.now.state.now setup.now.texture.now setup.now.tri.now.v run stored.now spare.new.colors.items }
+    ensures written { AreWrittenOf setup.now run stored.now spare.new.colors.items }
 {
     write_colors(spare.colors.as_mut_slice(), stored, setup, run);
 }
@@ -46,10 +47,10 @@ fn write_row(spare: &mut Spare, stored: &[Rgba], setup: &Setup<'_>, run: Run)
 fn untested_row(colors: &mut [Rgba], depths: &[u32], spare: &mut Spare, setup: &Setup<'_>, run: Run)
     requires row { IsCoveredRow setup.now.tri.now.v run colors.old depths.now }
     requires room { run.to ≤ length spare.old.colors.items }
-    requires colored { AreColors setup.now.state.now setup.now.texture.now setup.now.tri.now.v run spare.old.colors.items }
+    requires colored { AreColorsOf setup.now run spare.old.colors.items }
     requires tests { AreUntested setup.now.state.now setup.now.tri.now.v }
     ensures spare { length spare.new.colors.items ≡ length spare.old.colors.items }
-    ensures drawn { IsRowDrawn setup.now.state.now setup.now.texture.now setup.now.tri.now.v run colors.old depths.now colors.new depths.now }
+    ensures drawn { IsRowDrawn setup.now run colors.old depths.now colors.new depths.now }
 {
     let _depths = depths;
     write_row(spare, colors, setup, run);
@@ -60,10 +61,10 @@ fn untested_row(colors: &mut [Rgba], depths: &[u32], spare: &mut Spare, setup: &
 fn chosen_row(colors: &mut [Rgba], depths: &[u32], spare: &mut Spare, setup: &Setup<'_>, run: Run)
     requires row { IsCoveredRow setup.now.tri.now.v run colors.old depths.now }
     requires room { run.to ≤ length spare.old.colors.items }
-    requires colored { AreColors setup.now.state.now setup.now.texture.now setup.now.tri.now.v run spare.old.colors.items }
+    requires colored { AreColorsOf setup.now run spare.old.colors.items }
     requires tests { AreAlphaTested setup.now.state.now setup.now.tri.now.v }
     ensures spare { length spare.new.colors.items ≡ length spare.old.colors.items }
-    ensures drawn { IsRowDrawn setup.now.state.now setup.now.texture.now setup.now.tri.now.v run colors.old depths.now colors.new depths.now }
+    ensures drawn { IsRowDrawn setup.now run colors.old depths.now colors.new depths.now }
 {
     let _depths = depths;
     flag_row(spare, setup, run);
@@ -88,10 +89,10 @@ fn tested_row(
 )
     requires row { IsCoveredRow setup.now.tri.now.v run colors.old depths.old }
     requires room { run.to ≤ length spare.old.colors.items }
-    requires colored { AreColors setup.now.state.now setup.now.texture.now setup.now.tri.now.v run spare.old.colors.items }
-    requires tests { AreDepthTested setup.now.state.now setup.now.tri.now.v (pos run.left) (pos run.bottom) plane.now }
+    requires colored { AreColorsOf setup.now run spare.old.colors.items }
+    requires tests { AreDepthTestedBy setup.now run plane.now }
     ensures spare { length spare.new.colors.items ≡ length spare.old.colors.items }
-    ensures drawn { IsRowDrawn setup.now.state.now setup.now.texture.now setup.now.tri.now.v run colors.old depths.old colors.new depths.new }
+    ensures drawn { IsRowDrawn setup.now run colors.old depths.old colors.new depths.new }
 {
     write_row(spare, colors, setup, run);
     test_run(colors, depths, spare.colors.as_slice(), setup, plane, run);
@@ -108,10 +109,10 @@ fn any_row(
 )
     requires row { IsCoveredRow setup.now.tri.now.v run colors.old depths.old }
     requires room { run.to ≤ length spare.old.colors.items }
-    requires colored { AreColors setup.now.state.now setup.now.texture.now setup.now.tri.now.v run spare.old.colors.items }
+    requires colored { AreColorsOf setup.now run spare.old.colors.items }
     requires plane { IsDepthPlane setup.now.tri.now.v (pos run.left) (pos run.bottom) plane.now }
     ensures spare { length spare.new.colors.items ≡ length spare.old.colors.items }
-    ensures drawn { IsRowDrawn setup.now.state.now setup.now.texture.now setup.now.tri.now.v run colors.old depths.old colors.new depths.new }
+    ensures drawn { IsRowDrawn setup.now run colors.old depths.old colors.new depths.new }
 {
     flag_row(spare, setup, run);
     write_row(spare, colors, setup, run);
@@ -129,10 +130,10 @@ pub(crate) fn put_row(
 )
     requires row { IsCoveredRow setup.now.tri.now.v run colors.old depths.old }
     requires room { run.to ≤ length spare.old.colors.items }
-    requires colored { AreColors setup.now.state.now setup.now.texture.now setup.now.tri.now.v run spare.old.colors.items }
-    requires tests { IsTests setup.now.state.now setup.now.tri.now.v (pos run.left) (pos run.bottom) tests.now }
+    requires colored { AreColorsOf setup.now run spare.old.colors.items }
+    requires tests { IsTestsOf setup.now run tests.now }
     ensures spare { length spare.new.colors.items ≡ length spare.old.colors.items }
-    ensures drawn { IsRowDrawn setup.now.state.now setup.now.texture.now setup.now.tri.now.v run colors.old depths.old colors.new depths.new }
+    ensures drawn { IsRowDrawn setup.now run colors.old depths.old colors.new depths.new }
 {
     match tests {
         Tests::Off => untested_row(colors, depths, spare, setup, run),

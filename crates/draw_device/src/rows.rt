@@ -1,20 +1,19 @@
 //! A row of a triangle's pixels, by the way that was settled for the triangle. Slices and numbers come apart, so that a loop has them in registers.
-ghost use Rattle.std.specs.Prelude.{◌≡◌, ◌+◌, ◌≤◌, length, pos};
+ghost use Rattle.std.specs.Prelude.{◌≡◌, ◌≤◌, length, pos};
 ghost use Rattle.raster.specs.Colors.{IsColorPlane};
-ghost use Rattle.draw_device.specs.Shapes.{fragment_pixel, IsRowChanged};
-ghost use Rattle.draw_device.specs.Loops.{IsCoveredRow, IsGridRow, IsRunCovered, IsVisibleFrom, IsRowDrawn};
-ghost use Rattle.draw_device.specs.Plans.{AreStored, AreStages, IsPaint, IsTests};
+ghost use Rattle.draw_device.specs.Loops.{IsCoveredRow, IsGridRow, IsRunCovered, IsVisibleFrom};
+ghost use Rattle.draw_device.specs.Setups.{AreStagesOf, IsRowDrawnUp, IsPaintOf, IsRowDrawn, IsStoredBy, IsTestsOf};
 
 use crate::colors::{fill_colors, step_colors};
 use crate::columns::is_few;
 use crate::fragments::color_row;
+use crate::grid::Spare;
 use crate::hidden::first_passing;
 use crate::paint::Paint;
 use crate::put::put_row;
 use crate::run::Run;
 use crate::setup::Setup;
 use crate::shade::draw_run;
-use crate::spare::Spare;
 use crate::stages::Stages;
 use crate::stepped::color_ramp;
 use crate::tests::Tests;
@@ -25,7 +24,7 @@ use rc_base::command::Rgba;
 fn first_visible(depths: &[u32], setup: &Setup<'_>, tests: &Tests, run: Run) -> u16
     requires room { run.to ≤ length depths.now }
     requires covered { IsRunCovered setup.now.tri.now.v run }
-    requires tests { IsTests setup.now.state.now setup.now.tri.now.v (pos run.left) (pos run.bottom) tests.now }
+    requires tests { IsTestsOf setup.now run tests.now }
     ensures { IsVisibleFrom setup.now.state.now setup.now.tri.now.v run depths.now result }
 {
     match tests {
@@ -38,9 +37,9 @@ fn first_visible(depths: &[u32], setup: &Setup<'_>, tests: &Tests, run: Run) -> 
 // A row of a triangle of several colours that are stored alone.
 fn store_row(colors: &mut [Rgba], depths: &[u32], setup: &Setup<'_>, plane: &ColorPlane, run: Run)
     requires row { IsCoveredRow setup.now.tri.now.v run colors.old depths.now }
-    requires stored { AreStored setup.now.state.now setup.now.texture.now setup.now.tri.now.v }
+    requires stored { IsStoredBy setup.now }
     requires plane { IsColorPlane setup.now.tri.now.v (pos run.left) (pos run.bottom) plane.now }
-    ensures { IsRowDrawn setup.now.state.now setup.now.texture.now setup.now.tri.now.v run colors.old depths.now colors.new depths.now }
+    ensures { IsRowDrawn setup.now run colors.old depths.now colors.new depths.now }
 {
     let _depths = depths;
     step_colors(colors, setup.tri, run, color_ramp(plane, run));
@@ -58,9 +57,9 @@ fn stage_row(
 )
     requires row { IsCoveredRow setup.now.tri.now.v run colors.old depths.old }
     requires room { run.to ≤ length spare.old.colors.items }
-    requires stages { AreStages setup.now.state.now setup.now.texture.now setup.now.tri.now.v (pos run.left) (pos run.bottom) stages }
+    requires stages { AreStagesOf setup.now run stages }
     ensures spare { length spare.new.colors.items ≡ length spare.old.colors.items }
-    ensures drawn { IsRowDrawn setup.now.state.now setup.now.texture.now setup.now.tri.now.v run colors.old depths.old colors.new depths.new }
+    ensures drawn { IsRowDrawn setup.now run colors.old depths.old colors.new depths.new }
 {
     let from = first_visible(depths, setup, stages.tests, run);
     if from == run.to {
@@ -93,9 +92,9 @@ pub(crate) fn draw_row(
 )
     requires row { IsGridRow setup.now.tri.now.v setup.now.extent up from to colors.old depths.old }
     requires room { to ≤ length spare.old.colors.items }
-    requires paint { IsPaint setup.now.state.now setup.now.texture.now setup.now.tri.now.v (pos setup.now.extent.left) (pos setup.now.extent.bottom) setup.now.paint }
+    requires paint { IsPaintOf setup.now }
     ensures spare { length spare.new.colors.items ≡ length spare.old.colors.items }
-    ensures drawn { IsRowChanged (fragment_pixel setup.now.state.now setup.now.texture.now setup.now.tri.now.v) setup.now.extent.left (setup.now.extent.bottom + up) from to colors.old depths.old colors.new depths.new }
+    ensures drawn { IsRowDrawnUp setup.now up from to colors.old depths.old colors.new depths.new }
 {
     let row = setup.extent.bottom + up;
     match setup.paint {

@@ -2,7 +2,7 @@
 ghost use Rattle.textures.specs.Images.{HasTexelIfAny};
 ghost use Rattle.draw_device.specs.Plans.{IsPlan, IsPlan-prop, HasTexelIfAny-prop};
 
-use crate::extent::Extent;
+use crate::grid::Extent;
 use crate::paint::Paint;
 use crate::plan::Plan;
 use rc_base::state::State;

@@ -3,8 +3,8 @@ ghost use Rattle.std.specs.Prelude.{◌≡◌, ◌+◌, ◌≤◌, length, pos, 
 ghost use Rattle.rc_base.specs.Drawing.Cover.{is_inside};
 ghost use Rattle.rc_base.specs.Drawing.PixelStep.{fragment_step, fragment_color};
 ghost use Rattle.textures.specs.Images.{HasTexelIfAny};
-ghost use Rattle.draw_device.specs.Shapes.{fragment_pixel, IsRowChanged};
 ghost use Rattle.draw_device.specs.Loops.{AreCovered};
+ghost use Rattle.draw_device.specs.Setups.{IsWindowRowDrawn, fragment_by};
 
 use crate::setup::Setup;
 use fragment_ops::{shade_pixel, texture_color};
@@ -38,7 +38,7 @@ fn shade(state: &State, texture: &Texture, fragment: &Fragment, old: Pixel) -> P
 // The pixel after the triangle's fragment at a column of the grid and a row of the window.
 fn shade_at(setup: &Setup<'_>, x: u16, row: u16, old: Pixel) -> Pixel
     requires { is_inside setup.now.tri.now.v (pos (setup.now.extent.left + x)) (pos row) ≡ true }
-    ensures { result ≡ fragment_pixel setup.now.state.now setup.now.texture.now setup.now.tri.now.v (pos (setup.now.extent.left + x)) (pos row) old }
+    ensures { result ≡ fragment_by setup.now (pos (setup.now.extent.left + x)) (pos row) old }
 {
     let column = i32::from(setup.extent.left) + i32::from(x);
     let fragment = fragment_at(setup.tri, column, i32::from(row));
@@ -58,7 +58,7 @@ pub(crate) fn draw_run(
     requires colors { to ≤ length colors.old }
     requires depths { length depths.old ≡ length colors.old }
     requires covered { AreCovered setup.now.tri.now.v setup.now.extent.left row from to }
-    ensures { IsRowChanged (fragment_pixel setup.now.state.now setup.now.texture.now setup.now.tri.now.v) setup.now.extent.left row from to colors.old depths.old colors.new depths.new }
+    ensures { IsWindowRowDrawn setup.now row from to colors.old depths.old colors.new depths.new }
 {
     for x in from..to {
         let place = x as usize;

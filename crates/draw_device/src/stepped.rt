@@ -1,10 +1,7 @@
 //! What a ramp has at a column of a run, as what the triangle's fragment has there.
-ghost use Rattle.std.specs.Prelude.{◌≡◌, ◌+◌, ◌^◌, ◌<◌, ℤ, List, pos, true};
+ghost use Rattle.std.specs.Prelude.{◌≡◌, ◌+◌, ◌^◌, ◌<◌, pos, true};
 ghost use Rattle.rc_base.specs.Drawing.Cover.{is_inside};
-ghost use Rattle.rc_base.specs.declared.window.WindowVertex.{WindowVertex as AnyVertex};
-ghost use Rattle.raster.specs.Colors.{IsColorPlane};
-ghost use Rattle.raster.specs.Planes.{IsWordPlane};
-ghost use Rattle.draw_device.specs.Loops.{run_fragment, IsColorAt, IsValueAt, IsDepthAt, IsSAt, IsTAt};
+ghost use Rattle.draw_device.specs.Loops.{run_fragment, IsColorAt, IsColorStart, IsDepthAt, IsSAt, IsTAt, IsValueStart};
 
 use crate::run::Run;
 use raster::{ColorPlane, ColorRamp, WordPlane, WordRamp};
@@ -13,14 +10,14 @@ use rc_base::triangle::WindowTriangle;
 
 /// The colours of a plane from the run's first column on.
 pub(crate) fn color_ramp(plane: &ColorPlane, run: Run) -> ColorRamp
-    ensures { (v : List AnyVertex) → IsColorPlane v (pos run.left) (pos run.bottom) plane.now → IsColorAt v run run.from result }
+    ensures { IsColorStart plane.now run result }
 {
     plane.ramp(u64::from(run.from), u64::from(run.up))
 }
 
 /// An attribute's values from the run's first column on.
 pub(crate) fn value_ramp(plane: &WordPlane, run: Run) -> WordRamp
-    ensures { (v : List AnyVertex) (f : AnyVertex → ℤ) → IsWordPlane v (pos run.left) (pos run.bottom) f plane.now → IsValueAt v run f run.from result }
+    ensures { IsValueStart plane.now run result }
 {
     plane.ramp(u64::from(run.from), u64::from(run.up))
 }

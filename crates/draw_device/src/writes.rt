@@ -1,6 +1,6 @@
 //! A row of colours as they are to be written over the stored ones.
 ghost use Rattle.std.specs.Prelude.{◌≡◌, ◌≤◌, length};
-ghost use Rattle.draw_device.specs.Loops.{AreColors, AreWritten};
+ghost use Rattle.draw_device.specs.Setups.{AreColorsOf, AreWrittenOf};
 
 use crate::blending::Blending;
 use crate::blends::{blend_colors, mask_colors, over_colors, sum_colors};
@@ -13,9 +13,9 @@ use rc_base::command::Rgba;
 pub(crate) fn write_colors(colors: &mut [Rgba], stored: &[Rgba], setup: &Setup<'_>, run: Run)
     requires stored { run.to ≤ length stored.now }
     requires room { run.to ≤ length colors.old }
-    requires colored { AreColors setup.now.state.now setup.now.texture.now setup.now.tri.now.v run colors.old }
+    requires colored { AreColorsOf setup.now run colors.old }
     ensures size { length colors.new ≡ length colors.old }
-    ensures written { AreWritten setup.now.state.now setup.now.texture.now setup.now.tri.now.v run stored.now colors.new }
+    ensures written { AreWrittenOf setup.now run stored.now colors.new }
 {
     match setup.plan.write {
         Write::Plain => {}

@@ -10,7 +10,7 @@ use Rattle.plain_lemmas.proofs.Places.{row_part_within}
 use Rattle.draw_device.specs.Pixels.{pixels_of}
 use Rattle.raster.specs.Clips.{IsPartWhere}
 use Rattle.draw_device.specs.Shapes.{row_at, grid_rect, cleared_pixel}
-use Rattle.draw_device.specs.declared.extent.Extent.{Extent}
+use Rattle.draw_device.specs.declared.grid.Extent.{Extent}
 use Rattle.draw_device.proofs.Lists.{row_placed}
 use Rattle.draw_device.proofs.SpansToPixels.{below_cleared, above_cleared, none_cleared, clear_row, span_drawn, stepped_none, stepped_more, stepped_all}
 use Rattle.draw_device.proofs.grid.Grid.clear.Goals.{then-part-via-then-part, then-part-via-else-part+then-part-2}

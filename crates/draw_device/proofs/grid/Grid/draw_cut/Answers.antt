@@ -8,7 +8,7 @@ use Rattle.rc_base.specs.Drawing.PixelStep.{triangle_step}
 use Rattle.plain_lemmas.proofs.Lists.{all_behind_first, first_of_all}
 use Rattle.draw_device.specs.Pixels.{pixel_at, pixels_of}
 use Rattle.draw_device.specs.Shapes.{column_at, row_at, triangles_step, IsStepped}
-use Rattle.draw_device.specs.declared.extent.Extent.{Extent}
+use Rattle.draw_device.specs.declared.grid.Extent.{Extent}
 use Rattle.draw_device.proofs.BlockPixels.{draws_more, draws_done}
 use Rattle.draw_device.proofs.grid.Grid.draw_cut.Goals as goal
 

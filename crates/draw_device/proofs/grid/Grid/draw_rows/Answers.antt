@@ -2,7 +2,7 @@ use Rattle.std.proofs.Common.{◌≡◌, ◌∙◌, ℤ, arith, ap, refl, sym, s
 use Rattle.std.proofs.lemmas.Int.{ints}
 use Rattle.draw_device.specs.Pixels.{pixels_of}
 use Rattle.draw_device.specs.Shapes.{covered_step, fragment_pixel, span_step, IsSpanIn, IsStepped, IsSteppedBelow}
-use Rattle.draw_device.specs.declared.extent.Extent.{Extent}
+use Rattle.draw_device.specs.declared.grid.Extent.{Extent}
 use Rattle.draw_device.proofs.SpansToPixels.{stepped_none, stepped_more, stepped_all, triangle_row, below_part, rest_empty, span_in, span_covered}
 use Rattle.draw_device.proofs.grid.Grid.draw_rows.Goals as goal
 

@@ -7,7 +7,7 @@ use Rattle.rc_base.specs.Drawing.Cover.{is_inside}
 use Rattle.plain_lemmas.proofs.Places.{row_part_within}
 use Rattle.draw_device.specs.Shapes.{fragment_pixel, IsRowChanged}
 use Rattle.draw_device.specs.Loops.{IsGridRow}
-use Rattle.draw_device.specs.declared.extent.Extent.{Extent}
+use Rattle.draw_device.specs.declared.grid.Extent.{Extent}
 use Rattle.draw_device.proofs.Lists.{row_placed}
 use Rattle.draw_device.proofs.SpansToPixels.{span_drawn}
 use Rattle.draw_device.proofs.grid.Grid.draw_span.Goals as goal

@@ -2,7 +2,7 @@ use Rattle.std.proofs.Common.{subst}
 use Rattle.raster.specs.Clips.{IsPartWhere, is_let_through}
 use Rattle.draw_device.specs.Pixels.{pixels_of}
 use Rattle.draw_device.specs.Shapes.{grid_rect}
-use Rattle.draw_device.specs.declared.extent.Extent.{Extent}
+use Rattle.draw_device.specs.declared.grid.Extent.{Extent}
 use Rattle.draw_device.proofs.ColumnsToPixels.{missed}
 use Rattle.draw_device.proofs.grid.Grid.draw_triangle.Goals as goal
 

@@ -1,0 +1,156 @@
+-- What a block and a triangle are drawn with, and what rows of their fragments leave.
+use Rattle.std.specs.Prelude.{◌≡◌, ℕ, ◌+◌, List, Bool, Option, ℤ, pos}
+use Rattle.rc_base.specs.Drawing.Texel.{wrap_in_s, wrap_in_t}
+use Rattle.rc_base.specs.Drawing.Pieces.{kept_corners_of}
+use Rattle.rc_base.specs.declared.command.Rgba.{Rgba}
+use Rattle.rc_base.specs.declared.state.Block.{Block}
+use Rattle.rc_base.specs.declared.state.State.{State}
+use Rattle.rc_base.specs.declared.state.Vertex.{Vertex}
+use Rattle.rc_base.specs.declared.triangle.WindowTriangle.{WindowTriangle}
+use Rattle.rc_base.specs.declared.window.Pixel.{Pixel}
+use Rattle.rc_base.specs.declared.window.Rect.{Rect}
+use Rattle.rc_base.specs.declared.window.WindowVertex.{WindowVertex}
+use Rattle.geometry.specs.declared.cache.VertexCache.{VertexCache}
+use Rattle.raster.specs.Clips.{IsPartWhere, is_let_through}
+use Rattle.raster.specs.Colors.{IsColorPlane}
+use Rattle.raster.specs.declared.color.ColorPlane.{ColorPlane}
+use Rattle.raster.specs.declared.word_plane.WordPlane.{WordPlane}
+use Rattle.textures.specs.Samplers.{IsSampler}
+use Rattle.textures.specs.declared.sampler.Sampler.{Sampler}
+use Rattle.draw_device.specs.Pixels.{pixels_of}
+use Rattle.draw_device.specs.Loops.{AreColors, AreFlags, AreWritten, run_fragment, texel_for}
+use Rattle.draw_device.specs.Plans.{AreDepthTested, AreStages, AreStored, AreTexels, IsPaint, IsSource, IsTests}
+use Rattle.draw_device.specs.Shapes.{IsRowChanged, IsRunStepped, cleared_pixel, corners_step, covered_step, drawn_step, fragment_pixel, grid_rect, triangles_step}
+use Rattle.draw_device.specs.declared.block_setup.BlockSetup.{BlockSetup}
+use Rattle.draw_device.specs.declared.clear_setup.ClearSetup.{ClearSetup}
+use Rattle.draw_device.specs.declared.paint.Paint.{Paint}
+use Rattle.draw_device.specs.declared.grid.Extent.{Extent}
+use Rattle.draw_device.specs.declared.run.Run.{Run}
+use Rattle.draw_device.specs.declared.setup.Setup.{Setup}
+use Rattle.draw_device.specs.declared.source.Source.{Source}
+use Rattle.draw_device.specs.declared.stages.Stages.{Stages}
+use Rattle.draw_device.specs.declared.tests.Tests.{Tests}
+
+-- ---- a block's setup: steps of pixels, each with its state and its texture
+
+-- after a triangle that is kept
+abbrev pub triangle_of : BlockSetup → WindowTriangle → ℤ → ℤ → Pixel → Pixel
+triangle_of b tri = covered_step b.state.now b.texture.now tri.v
+
+-- after the triangle of three of the vertices, where it is kept
+abbrev pub corners_of : BlockSetup → List Vertex → List ℕ → ℤ → ℤ → Pixel → Pixel
+corners_of b = corners_step b.state.now b.texture.now
+
+-- after triangles, one after the other
+abbrev pub triangles_of : BlockSetup → List (List WindowVertex) → ℤ → ℤ → Pixel → Pixel
+triangles_of b = triangles_step b.state.now b.texture.now
+
+-- after the triangle of three vertices of a cache, where it is kept
+abbrev pub cached_of : BlockSetup → VertexCache → List ℕ → ℤ → ℤ → Pixel → Pixel
+cached_of b cache = corners_of b cache.vertices.now
+
+-- after the kept pieces of the triangle of three of a block's vertices
+abbrev pub pieces_of : BlockSetup → Block → List ℕ → ℤ → ℤ → Pixel → Pixel
+pieces_of b block t = triangles_of b (kept_corners_of b.state.now block t)
+
+-- after the kept triangles of a block
+abbrev pub block_of : BlockSetup → Block → ℤ → ℤ → Pixel → Pixel
+block_of b = drawn_step b.state.now b.texture.now
+
+-- the colours alone of a triangle's fragments are stored
+abbrev pub AreStoredIn : BlockSetup → WindowTriangle → Type 0
+AreStoredIn b tri = AreStored b.state.now b.texture.now tri.v
+
+-- the way that is settled for a triangle in a grid is right
+abbrev pub IsPaintIn : BlockSetup → Extent → WindowTriangle → Paint → Type 0
+IsPaintIn b g tri = IsPaint b.state.now b.texture.now tri.v (pos g.left) (pos g.bottom)
+
+-- the part of a grid's rectangle that lets a state's draws through
+abbrev pub IsDrawnPart : State → Extent → Rect → Type 0
+IsDrawnPart s g part = IsPartWhere (grid_rect g) part (is_let_through s)
+
+-- the colours of a triangle from the grid's first pixel on
+abbrev pub IsGridPlane : List WindowVertex → Extent → ColorPlane → Type 0
+IsGridPlane v g = IsColorPlane v (pos g.left) (pos g.bottom)
+
+-- ---- a triangle's setup
+
+-- a pixel that its triangle covers, after the fragment there
+abbrev pub fragment_by : Setup → ℤ → ℤ → Pixel → Pixel
+fragment_by t = fragment_pixel t.state.now t.texture.now t.tri.now.v
+
+-- a pixel after its triangle
+abbrev pub covered_by : Setup → ℤ → ℤ → Pixel → Pixel
+covered_by t = covered_step t.state.now t.texture.now t.tri.now.v
+
+-- the colours alone of its fragments are stored
+abbrev pub IsStoredBy : Setup → Type 0
+IsStoredBy t = AreStored t.state.now t.texture.now t.tri.now.v
+
+-- the way that is settled for it is right
+abbrev pub IsPaintOf : Setup → Type 0
+IsPaintOf t = IsPaint t.state.now t.texture.now t.tri.now.v (pos t.extent.left) (pos t.extent.bottom) t.paint
+
+-- ---- a run of a row of its fragments, whose planes hold from the grid's first pixel on
+
+-- they are made so, and take these tests
+abbrev pub IsSourceOf : Setup → Run → Source → Type 0
+IsSourceOf t r = IsSource t.state.now t.texture.now t.tri.now.v (pos r.left) (pos r.bottom)
+
+abbrev pub IsTestsOf : Setup → Run → Tests → Type 0
+IsTestsOf t r = IsTests t.state.now t.tri.now.v (pos r.left) (pos r.bottom)
+
+abbrev pub AreStagesOf : Setup → Run → Stages → Type 0
+AreStagesOf t r = AreStages t.state.now t.texture.now t.tri.now.v (pos r.left) (pos r.bottom)
+
+-- they take the depth test alone, by this plane
+abbrev pub AreDepthTestedBy : Setup → Run → WordPlane → Type 0
+AreDepthTestedBy t r = AreDepthTested t.state.now t.tri.now.v (pos r.left) (pos r.bottom)
+
+-- a sampler of the setup's texture
+abbrev pub IsSamplerOf : Setup → Sampler → Type 0
+IsSamplerOf t = IsSampler t.texture.now (wrap_in_s t.state.now) (wrap_in_t t.state.now)
+
+-- the sampler has the texels, and the planes are those of the coordinates
+abbrev pub AreTexelsOf : Setup → Run → Sampler → WordPlane → WordPlane → Type 0
+AreTexelsOf t r = AreTexels t.state.now t.texture.now t.tri.now.v (pos r.left) (pos r.bottom)
+
+-- the texel of the fragment at column k
+abbrev pub run_texel : Setup → Run → ℕ → Rgba
+run_texel t r k = texel_for t.state.now t.texture.now (run_fragment t.tri.now.v r k)
+
+-- a row has the fragments' colours after the texture stage
+abbrev pub AreColorsOf : Setup → Run → List Rgba → Type 0
+AreColorsOf t = AreColors t.state.now t.texture.now t.tri.now.v
+
+-- or those that are to be written over the stored ones
+abbrev pub AreWrittenOf : Setup → Run → List Rgba → List Rgba → Type 0
+AreWrittenOf t = AreWritten t.state.now t.texture.now t.tri.now.v
+
+-- the flags say which of the fragments pass the alpha test
+abbrev pub AreFlagsOf : Setup → Run → List Bool → Type 0
+AreFlagsOf t = AreFlags t.state.now t.texture.now t.tri.now.v
+
+-- ---- a row of pixels, its colours and depths before and after
+
+-- after the fragments of a run
+abbrev pub IsRowDrawn : Setup → Run → List Rgba → List ℕ → List Rgba → List ℕ → Type 0
+IsRowDrawn t r = IsRowChanged (fragment_by t) r.left r.row r.from r.to
+
+-- after those of columns `from` to below `to` of a row of the window
+abbrev pub IsWindowRowDrawn : Setup → ℕ → ℕ → ℕ → List Rgba → List ℕ → List Rgba → List ℕ → Type 0
+IsWindowRowDrawn t row = IsRowChanged (fragment_by t) t.extent.left row
+
+-- the same of the row that lies `up` rows above the grid's first
+abbrev pub IsRowDrawnUp : Setup → ℕ → ℕ → ℕ → List Rgba → List ℕ → List Rgba → List ℕ → Type 0
+IsRowDrawnUp t up = IsWindowRowDrawn t (t.extent.bottom + up)
+
+-- after a Clear of columns `from` to below `to`, wherever the row stands
+abbrev pub IsRowCleared : ClearSetup → ℕ → ℕ → List Rgba → List ℕ → List Rgba → List ℕ → Type 0
+IsRowCleared c from to colors depths new_colors new_depths =
+    (left row : ℕ) → IsRowChanged (cleared_pixel c.state.now c.mask) left row from to colors depths new_colors new_depths
+
+-- the pixels alone
+abbrev pub IsRunCleared : ClearSetup → ℕ → ℕ → List Rgba → List ℕ → List Rgba → List ℕ → Type 0
+IsRunCleared c from to colors depths new_colors new_depths =
+    (left row : ℕ) → IsRunStepped (cleared_pixel c.state.now c.mask) left row from to (pixels_of colors depths) (pixels_of new_colors new_depths)
