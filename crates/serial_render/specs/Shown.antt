@@ -9,7 +9,9 @@ use Rattle.rc_base.specs.Orders.Order.{names_in}
 use Rattle.rc_base.specs.declared.image.Image.{Image}
 use Rattle.rc_base.specs.declared.scene.Decl.{Decl}
 use Rattle.rc_base.specs.declared.scene.Scene.{Scene}
+use Rattle.rc_base.specs.declared.sync.Entry.{Entry}
 use Rattle.rc_base.specs.declared.sync.Name.{Name}
+use Rattle.order_model.specs.Report.{frame_count}
 use Rattle.draw_device.specs.Devices.{DeviceView}
 use Rattle.serial_render.specs.Steps.{Holds}
 use Rattle.rc_base.specs.Cluster.Tiles.{window_rect}
@@ -31,6 +33,17 @@ picture_after scene done x y = (painted scene (λ n. true) x y done).pixel
 -- the images of the first n pictures
 abbrev pub images_of : Decl → (ℕ → Pixels) → ℕ → List Image
 images_of decl pictures n = map (λ k. image_from decl (pictures k)) (range_with_len 1 n)
+
+-- Where the frames so far are images of a run of pictures, and the device holds those of it that lack up to a number, the new frames are images of
+-- it too.
+abbrev pub AreShownOn : Decl → DeviceView → ℕ → List Image → List Image → Type 0
+AreShownOn decl d count before after =
+    (pictures : ℕ → Pixels) → before ≡ images_of decl pictures (length before)
+    → ((k : ℕ) → length before < k → k ≤ count → Holds d (pictures k)) → after ≡ images_of decl pictures (length after)
+
+-- the frames of an order, one for each Swap of its journal
+abbrev pub frames_of : Scene → List Entry → List Name → List Image
+frames_of scene journal order = frame_images scene order (frame_count journal)
 
 -- of an order, these names were carried out: the device holds what they leave, and there is a frame for each Swap that one of them lies beyond
 pub record IsShown (scene : Scene) (order done : List Name) (d : DeviceView) (frames : List Image) : Type 0 where

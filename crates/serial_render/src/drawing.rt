@@ -1,12 +1,10 @@
 //! Carrying out the commands of an order on one device.
-ghost use Rattle.std.specs.Prelude.{◌≡◌, ℕ, ◌+◌, ◌<◌, ◌≤◌, length, max, Some, IfOk, OnOk, slice_get};
+ghost use Rattle.std.specs.Prelude.{◌≡◌, length, max, IfOk, OnOk};
 ghost use Rattle.rc_base.specs.Formats.Within.{IsWithin};
 ghost use Rattle.rc_base.specs.Cluster.Tiles.{window_rect};
-ghost use Rattle.rc_base.specs.Drawing.Images.{Pixels};
 ghost use Rattle.draw_device.specs.Devices.{IsDeviceRect};
 ghost use Rattle.stream_replay.specs.Clients.{AreIssued};
-ghost use Rattle.serial_render.specs.Shown.{IsPlayable, IsShown, images_of};
-ghost use Rattle.serial_render.specs.Steps.{Holds};
+ghost use Rattle.serial_render.specs.Shown.{IsPlayable, IsShown, AreShownOn};
 
 use crate::image::image_of;
 use draw_device::{Device, carry_out};
@@ -37,8 +35,7 @@ pub fn show_up_to(
 ) -> Result<(), OutOfMemory>
     requires { device.now.rect ≡ window_rect decl.now.width decl.now.height }
     ensures count { OnOk result (length frames.new ≡ max (length frames.old) count) }
-    ensures images { OnOk result ((pictures : ℕ → Pixels) → frames.old ≡ images_of decl.now pictures (length frames.old)
-        → ((k : ℕ) → length frames.old < k → k ≤ count → Holds device.now (pictures k)) → frames.new ≡ images_of decl.now pictures (length frames.new)) }
+    ensures images { OnOk result (AreShownOn decl.now device.now count frames.old frames.new) }
 {
     for _ in frames.len()..count {
         let image = image_of(alloc, decl.width, decl.height, device.colors())?;

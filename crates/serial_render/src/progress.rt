@@ -1,15 +1,12 @@
 //! How far clients are that take turns.
-ghost use Rattle.std.specs.Prelude.{◌≡◌, ℕ, ◌+◌, ◌-◌, ◌<◌, ◌≤◌, ◌^◌, ◌++◌, [], true, false, cond, length, is_some, Some, None, slice_get, slice_index, IfOk, OnOk};
+ghost use Rattle.std.specs.Prelude.{◌≡◌, ◌+◌, ◌-◌, ◌<◌, ◌≤◌, ◌^◌, ◌++◌, [], true, false, length, is_some, Some, slice_get, IfOk, OnOk};
 ghost use Rattle.std.specs.Option.{option_map_or};
-ghost use Rattle.rc_base.specs.Orders.Book.{Book as Arrivals};
-ghost use Rattle.rc_base.specs.Orders.Grant.{grant};
-ghost use Rattle.rc_base.specs.Orders.Journal.{stop, sync_state_after};
-ghost use Rattle.rc_base.specs.Orders.Order.{names_in, names_from, added, all_added};
-ghost use Rattle.rc_base.specs.Orders.Sync.{IsWellFormed, client_count, client_row, length_of};
-ghost use Rattle.rc_base.specs.declared.sync.SyncLists.{SyncLists as SyncListsOf};
-ghost use Rattle.sync_manager.specs.Books.{IsBookOf, clients_in, is_wanted, journal_in, names_declared};
-ghost use Rattle.serial_render.specs.Turns.{told, left_after, IsOrderUnderWay, IsBetweenTurns};
+ghost use Rattle.rc_base.specs.Orders.Order.{names_from};
+ghost use Rattle.rc_base.specs.Orders.Sync.{IsWellFormed, client_count, client_row};
+ghost use Rattle.sync_manager.specs.Books.{clients_in, is_wanted, journal_in, names_declared};
+ghost use Rattle.serial_render.specs.Turns.{IsOrderUnderWay, IsBetweenTurns};
 ghost use Rattle.order_model.specs.Gathering.{AreDeclared};
+ghost use Rattle.serial_render.specs.Advances.{IsTold, order_to_stop, order_to_stops, order_by_one, StayUnwanted, IsNoneWanted, CountsNames, HaveNamesLeft, GoOnByOne, LeavesFewer, IsNoneLawful};
 
 use rc_base::items::Items;
 use rc_base::out_of_memory::OutOfMemory;
@@ -80,7 +77,7 @@ fn tell(book: &mut Book, client: u8, next: Option<WaitAt>) -> Result<(), OutOfMe
     requires client { client < clients_in book.old }
     requires wanted { is_wanted book.old client ≡ true }
     requires declared { (w : WaitAt) → next ≡ Some w → names_declared book.old w.op ≡ true }
-    ensures { OnOk result ((syncs : SyncListsOf) (b : Arrivals) → IsBookOf syncs book.old b → IsBookOf syncs book.new (told syncs b client next)) }
+    ensures { OnOk result (IsTold client next book.old book.new) }
 {
     match next {
         Some(wait) => book.arrive(client, wait.place, wait.op)?,
@@ -132,9 +129,9 @@ impl Progress {
         requires wanted { is_wanted self.old.book client ≡ true }
         ensures way { OnOk result (IsOrderUnderWay syncs.now self.new) }
         ensures journal { OnOk result (journal_in self.new.book ≡ journal_in self.old.book) }
-        ensures order { OnOk result (self.new.order ≡ added client (stop syncs.now (sync_state_after syncs.now (journal_in self.old.book)) client) self.old.order) }
+        ensures order { OnOk result (self.new.order ≡ order_to_stop syncs.now self.old client) }
         ensures settled { OnOk result (is_wanted self.new.book client ≡ false) }
-        ensures others { OnOk result ((c : ℕ) → c < client_count syncs.now → is_wanted self.old.book c ≡ false → is_wanted self.new.book c ≡ false) }
+        ensures others { OnOk result (StayUnwanted syncs.now self.old self.new) }
     {
         let row = row_of(syncs, client);
         let next = operation(row, self.arrived[client as usize]);
@@ -153,9 +150,8 @@ impl Progress {
         requires declared { AreDeclared syncs.now }
         ensures way { OnOk result (IsOrderUnderWay syncs.now self.new) }
         ensures journal { OnOk result (journal_in self.new.book ≡ journal_in self.old.book) }
-        ensures order { OnOk result (self.new.order
-            ≡ all_added (λ c. true) (stop syncs.now (sync_state_after syncs.now (journal_in self.old.book))) (client_count syncs.now) self.old.order) }
-        ensures settled { OnOk result ((c : ℕ) → c < client_count syncs.now → is_wanted self.new.book c ≡ false) }
+        ensures order { OnOk result (self.new.order ≡ order_to_stops syncs.now self.old) }
+        ensures settled { OnOk result (IsNoneWanted syncs.now self.new) }
     {
         for client in 0..syncs.clients.len() as u8 {
             if self.book.is_wanted(client) {
@@ -169,15 +165,15 @@ impl Progress {
     fn perform(&mut self, syncs: &SyncLists) -> Result<(), OutOfMemory>
         requires clients { client_count syncs.now ≤ 8 }
         requires book { client_count syncs.now ≡ clients_in self.old.book }
-        requires issued { (c : ℕ) → c < client_count syncs.now → slice_index self.old.issued c ≡ names_in c self.old.order }
+        requires issued { CountsNames syncs.now self.old }
         requires slots { length self.old.issued ≡ 8 }
-        requires room { (c : ℕ) → c < client_count syncs.now → is_wanted self.old.book c ≡ true → slice_index self.old.issued c < length_of syncs.now c }
+        requires room { HaveNamesLeft syncs.now self.old }
         ensures book { OnOk result (self.new.book ≡ self.old.book) }
         ensures arrived { OnOk result (self.new.arrived ≡ self.old.arrived) }
-        ensures order { OnOk result (self.new.order ≡ all_added (is_wanted self.old.book) (λ c. slice_index self.old.issued c + 1) (client_count syncs.now) self.old.order) }
-        ensures issued { OnOk result ((c : ℕ) → c < client_count syncs.now → slice_index self.new.issued c ≡ slice_index self.old.issued c + cond (is_wanted self.old.book c) 1 0) }
+        ensures order { OnOk result (self.new.order ≡ order_by_one syncs.now self.old) }
+        ensures issued { OnOk result (GoOnByOne syncs.now self.old self.new) }
         ensures slots { OnOk result (length self.new.issued ≡ 8) }
-        ensures names { OnOk result ((c : ℕ) → c < client_count syncs.now → slice_index self.new.issued c ≡ names_in c self.new.order) }
+        ensures names { OnOk result (CountsNames syncs.now self.new) }
     {
         for client in 0..syncs.clients.len() as u8 {
             if self.book.is_wanted(client) {
@@ -197,8 +193,8 @@ impl Progress {
         requires declared { AreDeclared syncs.now }
         requires turns { IsBetweenTurns syncs.now self.old }
         ensures turns { OnOk result (IsBetweenTurns syncs.now self.new) }
-        ensures less { IfOk result (λ more. more ≡ true → left_after syncs.now (journal_in self.new.book) < left_after syncs.now (journal_in self.old.book)) }
-        ensures over { IfOk result (λ more. more ≡ false → grant syncs.now (sync_state_after syncs.now (journal_in self.new.book)) ≡ None) }
+        ensures less { IfOk result (λ more. more ≡ true → LeavesFewer syncs.now self.old self.new) }
+        ensures over { IfOk result (λ more. more ≡ false → IsNoneLawful syncs.now self.new) }
     {
         match self.book.grant() {
             Some(_) => {

@@ -1,9 +1,9 @@
 //! What a scene's streams say of synchronisation, and which of their commands are refused.
-ghost use Rattle.std.specs.Prelude.{◌≡◌, ℕ, ◌<◌, [], length, slice_index_or, IfOk};
+ghost use Rattle.std.specs.Prelude.{◌≡◌, ◌<◌, length, IfOk};
 ghost use Rattle.rc_base.specs.Formats.Within.{IsWithin};
 ghost use Rattle.rc_base.specs.Contexts.Issue.{faults_of};
 ghost use Rattle.rc_base.specs.Orders.Sync.{sync_row_of, sync_lists_of};
-ghost use Rattle.serial_render.specs.Surveyed.{AreSurveyed};
+ghost use Rattle.serial_render.specs.Surveyed.{AreSurveyed, AreFaultLists};
 ghost use Rattle.serial_render.specs.Turns.{CanTakeTurns};
 
 use crate::client_survey::ClientSurvey;
@@ -44,7 +44,7 @@ pub fn survey_of_clients(
     requires surveyed { AreSurveyed scene.now (length scene.now.streams) rows faults }
     ensures syncs { IfOk result (λ s. s.syncs ≡ sync_lists_of scene.now) }
     ensures clients { IfOk result (λ s. length s.faults ≡ length scene.now.streams) }
-    ensures faults { IfOk result (λ s. (client : ℕ) → slice_index_or s.faults client [] ≡ faults_of scene.now client) }
+    ensures faults { IfOk result (λ s. AreFaultLists scene.now s.faults) }
     ensures turns { IfOk result (λ s. CanTakeTurns s.syncs) }
 {
     let syncs = SyncLists {
@@ -60,7 +60,7 @@ pub fn survey(alloc: Global, scene: &Scene) -> Result<Survey, OutOfMemory>
     requires { IsWithin scene.now }
     ensures syncs { IfOk result (λ s. s.syncs ≡ sync_lists_of scene.now) }
     ensures clients { IfOk result (λ s. length s.faults ≡ length scene.now.streams) }
-    ensures faults { IfOk result (λ s. (client : ℕ) → slice_index_or s.faults client [] ≡ faults_of scene.now client) }
+    ensures faults { IfOk result (λ s. AreFaultLists scene.now s.faults) }
     ensures turns { IfOk result (λ s. CanTakeTurns s.syncs) }
 {
     let mut rows = SyncRows::new(alloc);

@@ -1,12 +1,10 @@
 //! The default journal and the default order.
-ghost use Rattle.std.specs.Prelude.{◌≡◌, ℕ, ◌↔◌, true, IfOk, IfSome, IsSome};
+ghost use Rattle.std.specs.Prelude.{◌≡◌, IfOk};
 ghost use Rattle.rc_base.specs.Formats.Within.{IsWithin};
-ghost use Rattle.rc_base.specs.Orders.Journal.{waiting_of};
 ghost use Rattle.rc_base.specs.Orders.Order.{default_journal, default_order as default_order_of};
 ghost use Rattle.rc_base.specs.Orders.Sync.{sync_lists_of};
-ghost use Rattle.sync_manager.specs.Stored.{wait_at};
-ghost use Rattle.order_model.specs.Report.{is_stuck};
 ghost use Rattle.serial_render.specs.Turns.{CanTakeTurns};
+ghost use Rattle.serial_render.specs.Waits.{TellsStuck, HasWaits};
 
 use crate::progress::Progress;
 use crate::streams::sync_lists;
@@ -32,8 +30,8 @@ pub fn turns_of(alloc: Global, syncs: &SyncLists) -> Result<Turns, OutOfMemory>
     requires { CanTakeTurns syncs.now }
     ensures journal { IfOk result (λ t. t.journal ≡ default_journal syncs.now) }
     ensures order { IfOk result (λ t. t.order ≡ default_order_of syncs.now t.journal) }
-    ensures waiting { IfOk result (λ t. IsSome t.waiting ↔ (is_stuck syncs.now t.journal ≡ true)) }
-    ensures at { IfOk result (λ t. IfSome t.waiting (λ w. (client : ℕ) → wait_at w.at client ≡ waiting_of syncs.now t.journal client)) }
+    ensures waiting { IfOk result (λ t. TellsStuck syncs.now t.journal t.waiting) }
+    ensures at { IfOk result (λ t. HasWaits syncs.now t.journal t.waiting) }
 {
     let mut progress = Progress::new(alloc, syncs)?;
     progress.advance(syncs)?;
@@ -59,8 +57,8 @@ pub fn default_order(
     requires { IsWithin scene.now }
     ensures journal { IfOk result (λ t. t.0 ≡ default_journal (sync_lists_of scene.now)) }
     ensures order { IfOk result (λ t. t.1 ≡ default_order_of (sync_lists_of scene.now) t.0) }
-    ensures waiting { IfOk result (λ t. IsSome t.2 ↔ (is_stuck (sync_lists_of scene.now) t.0 ≡ true)) }
-    ensures at { IfOk result (λ t. IfSome t.2 (λ w. (client : ℕ) → wait_at w.at client ≡ waiting_of (sync_lists_of scene.now) t.0 client)) }
+    ensures waiting { IfOk result (λ t. TellsStuck (sync_lists_of scene.now) t.0 t.2) }
+    ensures at { IfOk result (λ t. HasWaits (sync_lists_of scene.now) t.0 t.2) }
 {
     let syncs = sync_lists(alloc, scene)?;
     let Turns {
