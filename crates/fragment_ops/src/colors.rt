@@ -1,10 +1,10 @@
 //! Colours made of two: by a texel, and with the stored one.
-ghost use Rattle.std.specs.Prelude.{◌≡◌, ◌<◌, ℕ, true};
-ghost use Rattle.rc_base.specs.Colors.{rgba, prod, modulated};
+ghost use Rattle.std.specs.Prelude.{◌≡◌, ◌<◌, true};
+ghost use Rattle.rc_base.specs.Colors.{modulated};
 ghost use Rattle.rc_base.specs.Drawing.PixelStep.{written_color};
 ghost use Rattle.rc_base.specs.declared.state.State.{State as AnyState};
-ghost use Rattle.fragment_ops.specs.Pairs.{pair_of};
-ghost use Rattle.fragment_ops.specs.Shortcuts.{blends_over, blends_sum, color_over, color_sum};
+ghost use Rattle.fragment_ops.specs.Pairs.{IsOfPairs};
+ghost use Rattle.fragment_ops.specs.Shortcuts.{blends_over, blends_sum, color_by, color_over, color_sum};
 
 use crate::blend::sum;
 use crate::pairs::{products, scaled};
@@ -15,7 +15,7 @@ use rc_base::command::Rgba;
 fn unpaired(red_blue: u32, green_alpha: u32) -> Rgba
     requires red_blue { red_blue < 16777216 }
     requires green_alpha { green_alpha < 16777216 }
-    ensures { (r g b a : ℕ) → r < 256 → g < 256 → red_blue ≡ pair_of r b → green_alpha ≡ pair_of g a → result ≡ rgba r g b a }
+    ensures { IsOfPairs red_blue green_alpha result }
 {
     Rgba {
         r: (red_blue % 256) as u8,
@@ -38,7 +38,7 @@ pub fn modulate(color: Rgba, texel: Rgba) -> Rgba
 /// A colour's channels as so many parts of 255.
 #[inline(always)]
 pub(crate) fn scale_color(color: Rgba, by: u8) -> Rgba
-    ensures { result ≡ rgba (prod color.r by) (prod color.g by) (prod color.b by) (prod color.a by) }
+    ensures { result ≡ color_by color by }
 {
     let red_blue = scaled(color.r, color.b, by);
     let green_alpha = scaled(color.g, color.a, by);

@@ -4,8 +4,7 @@ ghost use Rattle.rc_base.specs.Drawing.Window.{depth_most};
 ghost use Rattle.rc_base.specs.Drawing.PixelStep.{compares, passes_alpha, written_color, shaded};
 ghost use Rattle.rc_base.specs.declared.command.Rgba.{Rgba as AnyColor};
 ghost use Rattle.rc_base.specs.declared.state.State.{State as AnyState};
-ghost use Rattle.rc_base.specs.declared.window.Pixel.{Pixel as AnyPixel};
-ghost use Rattle.fragment_ops.specs.DepthTests.{passes, IsDepthTest, pixel, tested_pixel};
+ghost use Rattle.fragment_ops.specs.DepthTests.{passes, IsDepthTest, LeavesPixels, pixel, tested_pixel};
 
 use rc_base::command::Rgba;
 use rc_base::state::State;
@@ -94,7 +93,7 @@ impl DepthTest {
     pub fn passes(&self, depth: u32, stored: u32) -> bool
         requires { depth ≤ depth_most }
         ensures test { result ≡ passes self.now depth stored }
-        ensures kept { result ≡ false → (s : AnyState) (c : AnyColor) (old : AnyPixel) → IsDepthTest s self.now → old.depth ≡ stored → shaded s c depth old ≡ old }
+        ensures kept { result ≡ false → LeavesPixels self.now depth stored }
     {
         self.compares(depth, stored)
     }

@@ -1,9 +1,8 @@
 //! States of which few stages stand between a fragment and the buffer.
-ghost use Rattle.std.specs.Prelude.{◌≡◌, ℕ, true};
-ghost use Rattle.rc_base.specs.Drawing.PixelStep.{shaded, written_color};
+ghost use Rattle.std.specs.Prelude.{◌≡◌, true};
+ghost use Rattle.rc_base.specs.Drawing.PixelStep.{written_color};
 ghost use Rattle.rc_base.specs.declared.command.Rgba.{Rgba as AnyColor};
-ghost use Rattle.rc_base.specs.declared.window.Pixel.{Pixel as AnyPixel};
-ghost use Rattle.fragment_ops.specs.Shortcuts.{writes_all, writes_plainly, stores_alone, blends_by, blends_over, blends_sum};
+ghost use Rattle.fragment_ops.specs.Shortcuts.{writes_all, writes_plainly, stores_alone, ReplacesColorsAlone, blends_by, blends_over, blends_sum};
 
 use rc_base::state::State;
 
@@ -38,7 +37,7 @@ pub fn writes_plainly(state: &State) -> bool
 /// Whether moreover no test stands between a fragment and the buffer, so that its colour is stored, and its depth isn't.
 pub fn stores_alone(state: &State) -> bool
     ensures test { result ≡ stores_alone state.now }
-    ensures stored { result ≡ true → (c : AnyColor) (depth : ℕ) (old : AnyPixel) → shaded state.now c depth old ≡ record { color = c; depth = old.depth } }
+    ensures stored { result ≡ true → ReplacesColorsAlone state.now }
 {
     stores(state)
 }
