@@ -35,6 +35,10 @@ abbrev pub IsNearestTexel : Option Picture → ℤ → ℤ → ℕ → ℕ → R
 IsNearestTexel None s t wrap_s wrap_t color = ⊥
 IsNearestTexel (Some p) s t wrap_s wrap_t color = color ≡ texel_of p s t wrap_s wrap_t
 
+-- there is an image, and these are its bytes
+abbrev pub AreTexels : Option Picture → List ℕ → Type 0
+AreTexels texture bytes = (p : Picture) × (texture ≡ Some p) × (bytes ≡ p.texels)
+
 -- a part that lies inside a whole picture, with bytes for its texels
 pub record Fits (p : Picture) (part : Part) : Type 0 where
   pub whole : IsWhole p
@@ -53,6 +57,10 @@ part name x y w h bytes = record { name = name; x = x; y = y; w = w; h = h; texe
 abbrev pub picture_with : List ℕ → List ℕ → Picture
 picture_with sides bytes = picture (slice_index sides 0) (slice_index sides 1) bytes
 
+-- the bytes of the picture of these sides after a part was written
+abbrev pub texels_with_part : List ℕ → List ℕ → Part → List ℕ
+texels_with_part sides bytes part = (with_part (picture_with sides bytes) part).texels
+
 -- the part's first rows
 abbrev pub first_rows : Part → ℕ → Part
 first_rows p n = record p { h = n }
@@ -61,15 +69,27 @@ first_rows p n = record p { h = n }
 abbrev pub blank_picture : List ℕ → Picture
 blank_picture sides = picture_with sides (replicate (4 * (slice_index sides 0 * slice_index sides 1)) 0)
 
+-- a texture after a part of its image, if it has one, was written
+abbrev pub with_image_part : Option Picture → Part → Option Picture
+with_image_part texture part = option_map (λ (p : Picture). with_part p part) texture
+
 -- ---- sets of textures, each with its image if it has one
 
 -- the image of a texture, by its name from 1
 abbrev pub texture_image : List (Option Picture) → ℕ → Option Picture
 texture_image set name = unwrap_or (at_name set name) None
 
+-- the set after the texture of a name was given an image
+abbrev pub with_texture : List (Option Picture) → ℕ → Picture → List (Option Picture)
+with_texture set name p = with_name set name (Some p)
+
+-- the texture that the part names has an image, and the part lies in it
+abbrev pub HasRoomFor : List (Option Picture) → Part → Type 0
+HasRoomFor set part = LiesInside part (texture_image set part.name)
+
 -- the set after a part was written into the texture that it names
 abbrev pub with_texture_part : List (Option Picture) → Part → List (Option Picture)
-with_texture_part set part = with_name set part.name (option_map (λ (p : Picture). with_part p part) (texture_image set part.name))
+with_texture_part set part = with_name set part.name (with_image_part (texture_image set part.name) part)
 
 -- a texture of these sides, all bytes 0
 abbrev pub blank_texture : List ℕ → Option Picture

@@ -7,6 +7,7 @@
 
 mod axis;
 pub mod laws;
+mod nearest;
 mod parts;
 mod sampler;
 mod sets;

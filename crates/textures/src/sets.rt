@@ -1,8 +1,7 @@
 //! The textures of one client.
-ghost use Rattle.std.specs.Prelude.{◌≡◌, ◌<◌, ◌≤◌, ◌*◌, IfOk, OnOk, OnErr, Some, None, length, replicate, MatchOption};
-ghost use Rattle.rc_base.specs.Lists.{with_name};
+ghost use Rattle.std.specs.Prelude.{◌≡◌, ◌<◌, ◌≤◌, ◌*◌, IfOk, OnOk, OnErr, None, length, replicate, MatchOption};
 ghost use Rattle.rc_base.specs.Contexts.Context.{private_count};
-ghost use Rattle.textures.specs.Images.{LiesInside, picture, part, texture_image, with_texture_part};
+ghost use Rattle.textures.specs.Images.{HasRoomFor, picture, part, texture_image, with_texture, with_texture_part};
 
 use crate::texture::Texture;
 use rc_base::command::Texels;
@@ -68,7 +67,7 @@ impl PrivateSet {
         requires low { 0 < name }
         requires high { name ≤ private_count }
         requires whole { length texels.now ≡ 4 * (w * h) }
-        ensures ok { OnOk result (self.new ≡ with_name self.old name (Some (picture w h texels.now))) }
+        ensures ok { OnOk result (self.new ≡ with_texture self.old name (picture w h texels.now)) }
         ensures err { OnErr result (self.new ≡ self.old) }
     {
         let copy = Texels::from_slice(self.alloc, texels.as_slice())?;
@@ -82,7 +81,7 @@ impl PrivateSet {
         requires low { 0 < name }
         requires high { name ≤ private_count }
         requires whole { length texels ≡ 4 * (w * h) }
-        ensures { self.new ≡ with_name self.old name (Some (picture w h texels)) }
+        ensures { self.new ≡ with_texture self.old name (picture w h texels) }
     {
         let mut texture = Texture::empty(self.alloc);
         texture.put_image(w, h, texels);
@@ -94,7 +93,7 @@ impl PrivateSet {
         requires low { 0 < name }
         requires high { name ≤ private_count }
         requires whole { length texels.now ≡ 4 * (w * h) }
-        requires inside { LiesInside (part name x y w h texels.now) (texture_image self.old name) }
+        requires inside { HasRoomFor self.old (part name x y w h texels.now) }
         ensures { self.new ≡ with_texture_part self.old (part name x y w h texels.now) }
     {
         set_part_of(&mut self.textures, name, x, y, w, h, texels);
@@ -104,7 +103,7 @@ impl PrivateSet {
 // Writes a part of the image of the texture of a name.
 #[tactic(auto, using(crate::proofs::Names::at_name_below, crate::proofs::Names::with_name_below), unfolding(rc_base::specs::Pictures::with_part))]
 pub(crate) fn set_part_of(
-    textures: &mut Vec<Texture>,
+    set: &mut Vec<Texture>,
     name: u8,
     x: u16,
     y: u16,
@@ -113,10 +112,10 @@ pub(crate) fn set_part_of(
     texels: &Texels,
 )
     requires low { 0 < name }
-    requires high { name ≤ length textures.old.items }
+    requires high { name ≤ length set.old.items }
     requires whole { length texels.now ≡ 4 * (w * h) }
-    requires inside { LiesInside (part name x y w h texels.now) (texture_image textures.old.items name) }
-    ensures { textures.new.items ≡ with_texture_part textures.old.items (part name x y w h texels.now) }
+    requires inside { HasRoomFor set.old.items (part name x y w h texels.now) }
+    ensures { set.new.items ≡ with_texture_part set.old.items (part name x y w h texels.now) }
 {
-    textures[usize::from(name) - 1].set_part(x, y, w, h, texels);
+    set[usize::from(name) - 1].set_part(x, y, w, h, texels);
 }

@@ -1,9 +1,9 @@
 //! One texture.
 ghost use Rattle.std.specs.Prelude.{◌≡◌, ◌+◌, ◌*◌, ◌<◌, ◌≤◌, take, drop, IfOk, ◌∷◌, [], OnOk, OnErr, Some, None, length, is_some, MatchOption};
 ghost use Rattle.std.specs.Option.{option_map};
-ghost use Rattle.rc_base.specs.Pictures.{Picture, with_part};
-ghost use Rattle.textures.specs.Images.{IsWhole, LiesInside, HasTexel, IsNearestTexel, picture, part, blank_picture};
-ghost use Rattle.textures.specs.Samplers.{IsSampler};
+ghost use Rattle.rc_base.specs.Pictures.{Picture};
+ghost use Rattle.textures.specs.Images.{IsWhole, LiesInside, HasTexel, IsNearestTexel, AreTexels, picture, part, blank_picture, with_image_part};
+ghost use Rattle.textures.specs.Samplers.{IsSamplerIfAny};
 ghost use Rattle.textures.specs.Views.{image_picture};
 
 use crate::parts::write_part;
@@ -24,7 +24,7 @@ struct Image {
 // The image for its texels, if it has one.
 fn sampler_of(image: &Image, wrap_s: u8, wrap_t: u8) -> Option<Sampler<'_>>
     requires { IsWhole (image_picture image.now) }
-    ensures { MatchOption result (HasTexel (Some (image_picture image.now)) → ⊥) (λ k. IsSampler (Some (image_picture image.now)) wrap_s wrap_t k) }
+    ensures { IsSamplerIfAny (Some (image_picture image.now)) wrap_s wrap_t result }
 {
     if image.w == 0 || image.h == 0 {
         return None;
@@ -107,7 +107,7 @@ impl Texture {
     pub fn set_part(&mut self, x: u16, y: u16, w: u16, h: u16, texels: &Texels)
         requires whole { length texels.now ≡ 4 * (w * h) }
         requires inside { LiesInside (part 0 x y w h texels.now) self.old }
-        ensures { self.new ≡ option_map (λ (p : Picture). with_part p (part 0 x y w h texels.now)) self.old }
+        ensures { self.new ≡ with_image_part self.old (part 0 x y w h texels.now) }
     {
         if let Some(image) = &mut self.image {
             write_part(
@@ -134,7 +134,7 @@ impl Texture {
 
     /// The bytes of the image, where the texture has one.
     pub fn texels(&self) -> Option<&[u8]>
-        ensures { MatchOption result (self.now ≡ None) (λ bytes. (p : Picture) × (self.now ≡ Some p) × (bytes.now ≡ p.texels)) }
+        ensures { MatchOption result (self.now ≡ None) (λ bytes. AreTexels self.now bytes.now) }
     {
         match &self.image {
             Some(image) => Some(image.texels.as_slice()),
@@ -152,7 +152,7 @@ impl Texture {
     /// The image and two wraps, REPEAT (0) or CLAMP (1), for many texels: what `sample` gives of these wraps, the sampler's `nearest` gives. There is
     /// one exactly where the texture has a texel.
     pub fn sampler(&self, wrap_s: u8, wrap_t: u8) -> Option<Sampler<'_>>
-        ensures { MatchOption result (HasTexel self.now → ⊥) (λ k. IsSampler self.now wrap_s wrap_t k) }
+        ensures { IsSamplerIfAny self.now wrap_s wrap_t result }
     {
         match &self.image {
             Some(image) => sampler_of(image, wrap_s, wrap_t),
