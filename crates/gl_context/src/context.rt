@@ -1,15 +1,15 @@
 //! The context of one client.
-ghost use Rattle.std.specs.Prelude.{◌≡◌, ◌≢◌, ℕ, ◌+◌, ◌<◌, ◌≤◌, ◌^◌, ◌*◌, true, length, IfOk, OnOk, OnErr, None, [], ◌∷◌, ◌++◌};
+ghost use Rattle.std.specs.Prelude.{◌≡◌, ◌≢◌, ◌+◌, ◌<◌, ◌≤◌, ◌^◌, ◌*◌, true, length, IfOk, OnOk, OnErr, None, []};
 ghost use Rattle.std.specs.Option.{option_map};
-ghost use Rattle.rc_base.specs.Lists.{with_name};
 ghost use Rattle.rc_base.specs.declared.state.Block.{Block as BlockOf};
 ghost use Rattle.rc_base.specs.Contexts.Context.{default_context, top, below, private_image, edit_of, shared_sides, private_count};
 ghost use Rattle.rc_base.specs.Contexts.Faults.{is_in_place, has_values, has_image, part_fits, has_room, has_below, fault_of};
-ghost use Rattle.rc_base.specs.Contexts.Issue.{carried_out, done_by, refused, issued, effect_of, with_top, with_below, with_image, last_of, front_of, block_mode};
+ghost use Rattle.rc_base.specs.Contexts.Issue.{carried_out, done_by, refused, issued, effect_of, with_top, with_image, block_mode};
 ghost use Rattle.rc_base.specs.Formats.Commands.{has_codes};
 ghost use Rattle.rc_base.specs.declared.command.Command.TheVariants as cmd;
 ghost use Rattle.textures.specs.Images.{LiesInside, picture};
 ghost use Rattle.gl_context.specs.Arguments.{HasTexels, product_asked};
+ghost use Rattle.gl_context.specs.Edits.{HasRoomForEdits, with_edit};
 
 use crate::rules;
 use crate::stacks::pop_last;
@@ -263,7 +263,7 @@ impl Context {
     }
 
     fn push_matrix(&mut self) -> Result<(), OutOfMemory>
-        ensures ok { OnOk result (self.new ≡ with_below self.old (below self.old ++ top self.old ∷ [])) }
+        ensures ok { OnOk result (self.new ≡ carried_out self.old cmd.PushMatrix) }
         ensures err { OnErr result (self.new ≡ self.old) }
     {
         let top = self.top();
@@ -277,7 +277,7 @@ impl Context {
 
     fn pop_matrix(&mut self)
         requires { 0 < length (below self.old) }
-        ensures { self.new ≡ with_below (with_top self.old (last_of (below self.old))) (front_of (below self.old)) }
+        ensures { self.new ≡ carried_out self.old cmd.PopMatrix }
     {
         if self.matrix_mode == 0 {
             self.state.modelview = pop_last(&mut self.modelviews);
@@ -320,7 +320,7 @@ impl Context {
         requires low { 0 < name }
         requires high { name ≤ private_count }
         requires room { edit_of self.old name + 1 < 2 ^ 32 }
-        ensures { self.new ≡ record self.old { edits = with_name self.old.edits name (edit_of self.old name + 1) } }
+        ensures { self.new ≡ with_edit self.old name }
     {
         self.edits[usize::from(name) - 1] += 1;
     }
@@ -377,7 +377,7 @@ impl Context {
         requires product { product ≡ product_asked self.old command.now }
         requires other { command.now ≢ cmd.End }
         requires texels { HasTexels command.now }
-        requires room { (name : ℕ) → 0 < name → name ≤ private_count → edit_of self.old name + 1 < 2 ^ 32 }
+        requires room { HasRoomForEdits self.old }
         ensures ok { OnOk result (self.new ≡ carried_out self.old command.now) }
         ensures err { OnErr result (self.new ≡ self.old) }
     {
@@ -430,7 +430,7 @@ impl Context {
         requires passes { fault_of self.old command.now ≡ None }
         requires product { product ≡ product_asked self.old command.now }
         requires texels { HasTexels command.now }
-        requires room { (name : ℕ) → 0 < name → name ≤ private_count → edit_of self.old name + 1 < 2 ^ 32 }
+        requires room { HasRoomForEdits self.old }
         ensures effect { IfOk result (λ e. e ≡ done_by self.old command.now) }
         ensures ok { OnOk result (self.new ≡ carried_out self.old command.now) }
         ensures err { OnErr result (self.new ≡ self.old) }
@@ -497,7 +497,7 @@ impl Context {
     #[tactic(auto, unfolding(rc_base::specs::Contexts::Issue::issued, rc_base::specs::Contexts::Issue::effect_of))]
     fn issue_by_rules(&mut self, place: u32, command: &Command) -> Result<Effect, OutOfMemory>
         requires texels { HasTexels command.now }
-        requires room { (name : ℕ) → 0 < name → name ≤ private_count → edit_of self.old name + 1 < 2 ^ 32 }
+        requires room { HasRoomForEdits self.old }
         ensures effect { IfOk result (λ e. e ≡ effect_of self.old command.now) }
         ensures ok { OnOk result (self.new ≡ issued self.old place command.now) }
         ensures err { OnErr result (self.new ≡ self.old) }
@@ -516,7 +516,7 @@ impl Context {
     #[tactic(auto, unfolding(rc_base::specs::Contexts::Issue::issued, rc_base::specs::Contexts::Issue::effect_of))]
     pub fn issue(&mut self, place: u32, command: &Command) -> Result<Effect, OutOfMemory>
         requires texels { HasTexels command.now }
-        requires room { (name : ℕ) → 0 < name → name ≤ private_count → edit_of self.old name + 1 < 2 ^ 32 }
+        requires room { HasRoomForEdits self.old }
         ensures effect { IfOk result (λ e. e ≡ effect_of self.old command.now) }
         ensures ok { OnOk result (self.new ≡ issued self.old place command.now) }
         ensures err { OnErr result (self.new ≡ self.old) }

@@ -1,9 +1,9 @@
 //! A context whose open block is only counted.
-ghost use Rattle.std.specs.Prelude.{◌≡◌, ℕ, ◌+◌, ◌<◌, ◌≤◌, ◌^◌, IfOk, OnOk, OnErr, Some, None};
-ghost use Rattle.rc_base.specs.Contexts.Context.{ClientContext, default_context, edit_of, private_count};
-ghost use Rattle.rc_base.specs.Contexts.Issue.{issued, effect_of, refused};
+ghost use Rattle.std.specs.Prelude.{◌≡◌, IfOk, OnOk, OnErr, Some, None};
+ghost use Rattle.rc_base.specs.Contexts.Context.{default_context};
 ghost use Rattle.gl_context.specs.Arguments.{HasTexels};
-ghost use Rattle.gl_context.specs.Counted.{counted, kind_of};
+ghost use Rattle.gl_context.specs.Edits.{HasRoomForEdits};
+ghost use Rattle.gl_context.specs.Counted.{counted, kind_of, HasKind, CountsIssued, refused_outside};
 ghost use Rattle.gl_context.specs.declared.counting.EffectKind.TheVariants as kind;
 
 use crate::context::Context;
@@ -65,7 +65,7 @@ impl CountingContext {
 
     fn refuse(&mut self, place: u32, fault: Fault) -> Result<EffectKind, OutOfMemory>
         ensures kind { IfOk result (λ k. k ≡ kind.Refused) }
-        ensures ok { OnOk result (self.new ≡ record self.old { outside = refused self.old.outside place fault }) }
+        ensures ok { OnOk result (self.new ≡ refused_outside self.old place fault) }
         ensures err { OnErr result (self.new ≡ self.old) }
     {
         self.outside.refuse(place, fault)?;
@@ -80,8 +80,8 @@ impl CountingContext {
         count: usize,
     ) -> Result<EffectKind, OutOfMemory>
         requires { self.old.vertices ≡ Some count }
-        ensures kind { IfOk result (λ k. (x : ClientContext) → self.old ≡ counted x → k ≡ kind_of (effect_of x command.now)) }
-        ensures ok { OnOk result ((x : ClientContext) → self.old ≡ counted x → self.new ≡ counted (issued x place command.now)) }
+        ensures kind { IfOk result (λ k. HasKind self.old command.now k) }
+        ensures ok { OnOk result (CountsIssued self.old place command.now self.new) }
         ensures err { OnErr result (self.new ≡ self.old) }
     {
         match command {
@@ -112,9 +112,9 @@ impl CountingContext {
     fn issue_outside(&mut self, place: u32, command: &Command) -> Result<EffectKind, OutOfMemory>
         requires closed { self.old.vertices ≡ None }
         requires texels { HasTexels command.now }
-        requires room { (name : ℕ) → 0 < name → name ≤ private_count → edit_of self.old.outside name + 1 < 2 ^ 32 }
-        ensures kind { IfOk result (λ k. (x : ClientContext) → self.old ≡ counted x → k ≡ kind_of (effect_of x command.now)) }
-        ensures ok { OnOk result ((x : ClientContext) → self.old ≡ counted x → self.new ≡ counted (issued x place command.now)) }
+        requires room { HasRoomForEdits self.old.outside }
+        ensures kind { IfOk result (λ k. HasKind self.old command.now k) }
+        ensures ok { OnOk result (CountsIssued self.old place command.now self.new) }
         ensures err { OnErr result (self.new ≡ self.old) }
     {
         let effect = self.outside.issue(place, command)?;
@@ -126,9 +126,9 @@ impl CountingContext {
     /// changed.
     pub fn issue(&mut self, place: u32, command: &Command) -> Result<EffectKind, OutOfMemory>
         requires texels { HasTexels command.now }
-        requires room { (name : ℕ) → 0 < name → name ≤ private_count → edit_of self.old.outside name + 1 < 2 ^ 32 }
-        ensures kind { IfOk result (λ k. (x : ClientContext) → self.old ≡ counted x → k ≡ kind_of (effect_of x command.now)) }
-        ensures ok { OnOk result ((x : ClientContext) → self.old ≡ counted x → self.new ≡ counted (issued x place command.now)) }
+        requires room { HasRoomForEdits self.old.outside }
+        ensures kind { IfOk result (λ k. HasKind self.old command.now k) }
+        ensures ok { OnOk result (CountsIssued self.old place command.now self.new) }
         ensures err { OnErr result (self.new ≡ self.old) }
     {
         match self.vertices {
