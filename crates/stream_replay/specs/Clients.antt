@@ -1,5 +1,6 @@
 -- What a renderer keeps of each client while it carries out an order.
-use Rattle.std.specs.Prelude.{◌≡◌, ℕ, ◌<◌, List, length, Some, slice_get}
+use Rattle.std.specs.Prelude.{◌≡◌, ℕ, ◌+◌, ◌<◌, List, length, map, Some, slice_get, slice_set}
+use Rattle.std.specs.List.{range_with_len}
 use Rattle.rc_base.specs.Contexts.Issue.{context_after}
 use Rattle.rc_base.specs.Drawing.Serial.{accepted_swaps}
 use Rattle.rc_base.specs.Orders.Order.{names_in}
@@ -10,6 +11,18 @@ use Rattle.stream_replay.specs.declared.client.Client.{Client}
 -- a client after its first n commands: its context, and how many Swaps were accepted
 abbrev pub client_after : Scene → ℕ → ℕ → Client
 client_after scene client n = record { context = context_after scene client n; swaps = accepted_swaps scene client n }
+
+-- all clients before their first commands
+abbrev pub first_clients : Scene → List Client
+first_clients scene = map (λ client. client_after scene client 0) (range_with_len 0 (length scene.streams))
+
+-- the name is the next one of its client
+abbrev pub StandsBefore : Scene → List Client → Name → Type 0
+StandsBefore scene clients name = slice_get clients name.client ≡ Some (client_after scene name.client name.place)
+
+-- the clients after the name was issued, the next one of its client
+abbrev pub issued_by : Scene → List Client → Name → List Client
+issued_by scene clients name = slice_set clients name.client (client_after scene name.client (name.place + 1))
 
 -- each client stands behind its names among those that were carried out
 pub record AreIssued (scene : Scene) (done : List Name) (clients : List Client) : Type 0 where

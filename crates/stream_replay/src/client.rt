@@ -1,10 +1,9 @@
 //! What is kept of a client while an order is carried out.
-ghost use Rattle.std.specs.Prelude.{◌≡◌, ℕ, ◌+◌, ◌<◌, length, map, Some, IfOk, OnOk, slice_get, slice_set};
-ghost use Rattle.std.specs.List.{range_with_len};
+ghost use Rattle.std.specs.Prelude.{◌≡◌, ℕ, ◌+◌, ◌<◌, length, IfOk, OnOk};
 ghost use Rattle.rc_base.specs.Formats.Within.{IsWithin};
 ghost use Rattle.rc_base.specs.Contexts.Issue.{stream_of, effect_at};
 ghost use Rattle.rc_base.specs.Drawing.Serial.{is_swap_effect};
-ghost use Rattle.stream_replay.specs.Clients.{client_after};
+ghost use Rattle.stream_replay.specs.Clients.{client_after, first_clients, StandsBefore, issued_by};
 
 use crate::replay::issue_at;
 use gl_context::Context;
@@ -62,7 +61,7 @@ impl Client {
 
 /// The clients of a scene before their first commands.
 pub fn clients_of(alloc: Global, scene: &Scene) -> Result<Vec<Client>, OutOfMemory>
-    ensures { IfOk result (λ v. v.items ≡ map (λ client. client_after scene.now client 0) (range_with_len 0 (length scene.now.streams))) }
+    ensures { IfOk result (λ v. v.items ≡ first_clients scene.now) }
 {
     let mut clients = Vec::new(alloc);
     for _ in 0..scene.streams.len() {
@@ -79,8 +78,8 @@ pub fn issue_name(
 ) -> Result<Effect, OutOfMemory>
     requires within { IsWithin scene.now }
     requires inside { name.place < length (stream_of scene.now name.client) }
-    requires before { slice_get clients.old.items name.client ≡ Some (client_after scene.now name.client name.place) }
-    ensures clients { OnOk result (clients.new.items ≡ slice_set clients.old.items name.client (client_after scene.now name.client (name.place + 1))) }
+    requires before { StandsBefore scene.now clients.old.items name }
+    ensures clients { OnOk result (clients.new.items ≡ issued_by scene.now clients.old.items name) }
     ensures effect { IfOk result (λ e. e ≡ effect_at scene.now name.client name.place) }
 {
     clients[usize::from(name.client)].issue(scene, usize::from(name.client), name.place as usize)

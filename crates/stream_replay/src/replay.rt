@@ -2,7 +2,8 @@
 ghost use Rattle.std.specs.Prelude.{◌≡◌, ◌+◌, ◌<◌, length, Some, IfOk, OnOk};
 ghost use Rattle.rc_base.specs.Formats.Within.{IsWithin};
 ghost use Rattle.rc_base.specs.Contexts.Issue.{stream_of, command_at, context_after, effect_at};
-ghost use Rattle.gl_context.specs.Counted.{counted, kind_of};
+ghost use Rattle.gl_context.specs.Counted.{kind_of};
+ghost use Rattle.stream_replay.specs.Counts.{counted_after};
 
 use gl_context::{Context, CountingContext, EffectKind};
 use rc_base::command::Command;
@@ -44,8 +45,8 @@ pub fn count_at(
 ) -> Result<EffectKind, OutOfMemory>
     requires within { IsWithin scene.now }
     requires inside { place < length (stream_of scene.now client) }
-    requires before { counting.old ≡ counted (context_after scene.now client place) }
-    ensures context { OnOk result (counting.new ≡ counted (context_after scene.now client (place + 1))) }
+    requires before { counting.old ≡ counted_after scene.now client place }
+    ensures context { OnOk result (counting.new ≡ counted_after scene.now client (place + 1)) }
     ensures kind { IfOk result (λ k. k ≡ kind_of (effect_at scene.now client place)) }
 {
     counting.issue(place as u32, command_at(scene, client, place))
