@@ -22,7 +22,8 @@ use Rattle.serial_render.proofs.ClearDepths.{clearable}
 use Rattle.serial_render.proofs.DrawnCommands.{drawable}
 use Rattle.serial_render.proofs.PlayedOrders.{step_is}
 use Rattle.stream_replay.proofs.ClientsInTurn.{some_command}
-use Rattle.sort_last.specs.Players.{IsReady, shows_effect, shows, draw_if}
+use Rattle.sort_last.specs.Apart.{IsReady}
+use Rattle.sort_last.specs.Players.{shows_effect, shows, draw_if}
 use Rattle.sort_last.specs.declared.play.Part.{Part}
 
 pub played_none : (scene : Scene) (part : Part) (client from : ℕ) (x y : ℤ) (p : Pixel) → p ≡ fold (draw_if scene x y (shows part scene)) p (names_from client from (from - from))

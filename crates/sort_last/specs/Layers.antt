@@ -1,5 +1,5 @@
 -- Layers: what each client draws of a frame by itself, and how layers are put together.
-use Rattle.std.specs.Prelude.{ℕ, zero, suc, ◌+◌, ◌==◌, ◌&&◌, not, max, Bool, true, false, List, map, fold, length, slice_index_or, ℤ}
+use Rattle.std.specs.Prelude.{◌≡◌, ◌<◌, ℕ, zero, suc, ◌+◌, ◌==◌, ◌&&◌, not, max, Bool, true, false, List, map, fold, length, slice_index_or, ℤ}
 use Rattle.std.specs.List.{range_with_len}
 use Rattle.rc_base.specs.Contexts.Issue.{stream_of, effect_at}
 use Rattle.rc_base.specs.Drawing.Serial.{blank_pixel, blank_textures, pixel_step, textures_step, canvas_after, painted, accepted_swaps}
@@ -21,6 +21,14 @@ pixel_in pixels k = slice_index_or pixels k blank_pixel
 -- two layers put together, pixel by pixel
 unfoldable pub composite_of : List Pixel → List Pixel → List Pixel
 composite_of a b = map (λ k. nearer (pixel_in a k) (pixel_in b k)) (range_with_len 0 (max (length a) (length b)))
+
+-- below a length each pixel of a list is the nearer one of two others'
+abbrev pub AreNearer : ℕ → List Pixel → List Pixel → List Pixel → Type 0
+AreNearer n front behind pixels = (k : ℕ) → k < n → pixel_in pixels k ≡ nearer (pixel_in front k) (pixel_in behind k)
+
+-- each pixel is the nearer one of two others'
+abbrev pub AreAllNearer : List Pixel → List Pixel → List Pixel → Type 0
+AreAllNearer front behind pixels = (k : ℕ) → pixel_in pixels k ≡ nearer (pixel_in front k) (pixel_in behind k)
 
 -- ---- what a client draws of a frame
 

@@ -1,5 +1,5 @@
 -- Which commands keep a scene from being drawn client by client and put together by depth.
-use Rattle.std.specs.Prelude.{◌≡◌, ℕ, ◌<◌, ◌==◌, ◌&&◌, ◌||◌, not, Bool, true, false, slice_index_or}
+use Rattle.std.specs.Prelude.{◌≡◌, ℕ, ◌<◌, ◌==◌, ◌&&◌, ◌||◌, not, Bool, true, false, slice_index_or, Option, MatchOption}
 use Rattle.std.specs.List.{list_any, range_with_len}
 use Rattle.rc_base.specs.Contexts.Issue.{context_after, effect_at}
 use Rattle.rc_base.specs.Drawing.Serial.{accepted_swaps, is_swap_effect}
@@ -55,3 +55,7 @@ pub record IsFirstOffence (scene : Scene) (n : Name) : Type 0 where
   pub is : offends scene n.client n.place ≡ true
   pub clients : (client place : ℕ) → client < n.client → offends scene client place ≡ false
   pub places : (place : ℕ) → place < n.place → offends scene n.client place ≡ false
+
+-- the first name that offends; there is none where the scene can be drawn client by client
+abbrev pub IsFirstOffenceIfAny : Scene → Option Name → Type 0
+IsFirstOffenceIfAny scene offence = MatchOption offence (IsComposable scene) (λ n. IsFirstOffence scene n)

@@ -1,11 +1,14 @@
 -- What a client's player carries out of its commands.
-use Rattle.std.specs.Prelude.{◌≡◌, ℕ, zero, suc, ◌+◌, ◌<◌, ◌≤◌, not, Bool, true, List, length, slice_index_or, Option, if◌then◌else◌, ℤ}
-use Rattle.rc_base.specs.Formats.Within.{IsWithin}
+use Rattle.std.specs.Prelude.{◌≡◌, ℕ, zero, suc, ◌+◌, ◌-◌, ◌<◌, ◌≤◌, not, Bool, true, List, fold, length, slice_index_or, Option, if◌then◌else◌, ℤ}
 use Rattle.rc_base.specs.Pictures.{Picture}
 use Rattle.rc_base.specs.Contexts.Context.{ClientContext}
-use Rattle.rc_base.specs.Contexts.Issue.{context_after, effect_at}
+use Rattle.rc_base.specs.Contexts.Issue.{stream_of, context_after, effect_at}
 use Rattle.rc_base.specs.Cluster.Tiles.{is_in_rect, window_rect}
+use Rattle.rc_base.specs.Drawing.Nearer.{nearer}
+use Rattle.rc_base.specs.Drawing.PixelStep.{effect_step}
 use Rattle.rc_base.specs.Drawing.Serial.{blank_pixel, blank_textures, pixel_step}
+use Rattle.rc_base.specs.Drawing.Window.{depth_most}
+use Rattle.rc_base.specs.Orders.Order.{names_from}
 use Rattle.rc_base.specs.Orders.Sync.{sync_row_of}
 use Rattle.rc_base.specs.declared.scene.Scene.{Scene}
 use Rattle.rc_base.specs.declared.state.Effect.{Effect}
@@ -14,12 +17,14 @@ use Rattle.rc_base.specs.declared.sync.SyncOp.TheVariants as op
 use Rattle.rc_base.specs.declared.sync.WaitAt.{WaitAt}
 use Rattle.rc_base.specs.declared.window.Pixel.{Pixel}
 use Rattle.rc_base.specs.declared.window.Rect.{Rect}
-use Rattle.textures.specs.Stores.{HasTexels}
+use Rattle.textures.specs.Images.{texture_image}
 use Rattle.draw_device.specs.Beside.{IsBeside}
-use Rattle.draw_device.specs.Devices.{pixel_of, rect_size}
+use Rattle.draw_device.specs.Conditions.{shared_of}
+use Rattle.draw_device.specs.Devices.{DeviceView, EachTakes, pixel_of, rect_size}
 use Rattle.serial_render.specs.Steps.{Holds}
 use Rattle.sort_last.specs.Layers.{is_clear, layer_pixel}
-use Rattle.sort_last.specs.Offends.{IsComposable}
+use Rattle.sort_last.specs.declared.apart.Batch.{Batch}
+use Rattle.sort_last.specs.declared.apart.ClientNames.{ClientNames}
 use Rattle.sort_last.specs.declared.play.Part.{Part}
 use Rattle.sort_last.specs.declared.play.Part.TheVariants as part
 use Rattle.sort_last.specs.declared.player.Player.{Player}
@@ -41,11 +46,37 @@ draw scene x y p n = pixel_step scene n (blank_textures scene) x y p
 abbrev pub draw_if : Scene → ℤ → ℤ → (Name → Bool) → Pixel → Name → Pixel
 draw_if scene x y shown p n = if shown n then draw scene x y p n else p
 
--- the scene's clients may be played apart, with shared textures that nothing has written
-pub record IsReady (scene : Scene) (shared : List (Option Picture)) : Type 0 where
-  pub within : IsWithin scene
-  pub blank : HasTexels scene.decl.shared (blank_textures scene) shared
-  pub composable : IsComposable scene
+-- what the effect of a command of the part does to a device's pixels; that of another command leaves them
+abbrev pub HasEffect : Part → Effect → ClientContext → List (Option Picture) → DeviceView → DeviceView → Type 0
+HasEffect p e context shared before after =
+    EachTakes (λ x y old. if shows_effect p e then effect_step context.state (texture_image context.images) (shared_of shared) e x y old else old) before after
+
+-- ---- names of a client, from one place to below another
+
+pub record StandIn (scene : Scene) (names : ClientNames) : Type 0 where
+  pub order : names.from ≤ names.to
+  pub inside : names.to ≤ length (stream_of scene names.client)
+
+-- the client's context before its names, and behind them
+abbrev pub context_before : Scene → ClientNames → ClientContext
+context_before scene names = context_after scene names.client names.from
+
+abbrev pub context_behind : Scene → ClientNames → ClientContext
+context_behind scene names = context_after scene names.client names.to
+
+-- a pixel after those of the names that are of the part
+abbrev pub pixel_behind : Scene → Part → ClientNames → ℤ → ℤ → Pixel → Pixel
+pixel_behind scene p names x y old = fold (draw_if scene x y (shows p scene)) old (names_from names.client names.from (names.to - names.from))
+
+-- each pixel of a device is as those of the names that are of the part leave it
+abbrev pub ShowsNames : Scene → Part → ClientNames → DeviceView → DeviceView → Type 0
+ShowsNames scene p names before after = EachTakes (pixel_behind scene p names) before after
+
+-- the picture that the names of the layer draw on blank pixels
+abbrev pub layer_of : Scene → ClientNames → ℤ → ℤ → Pixel
+layer_of scene names x y = pixel_behind scene part.Layer names x y blank_pixel
+
+-- ---- a client's frames
 
 -- the place of the operation at an index
 abbrev pub place_in : List WaitAt → ℕ → ℕ
@@ -56,6 +87,32 @@ abbrev pub start_of : List WaitAt → ℕ → ℕ
 start_of ops zero = 0
 start_of ops (suc k) = place_in ops k + 1
 
+-- the names are those of a client's frame, from 0, its Swap among them
+pub record AreNamesOf (scene : Scene) (client frame : ℕ) (names : ClientNames) : Type 0 where
+  pub client_is : names.client ≡ client
+  pub from_is : names.from ≡ start_of (sync_row_of scene client).ops frame
+  pub to_is : names.to ≡ start_of (sync_row_of scene client).ops (frame + 1)
+  pub stand : StandIn scene names
+
+-- the frame is one of the batch
+pub record IsInBatch (b : Batch) (frame : ℕ) : Type 0 where
+  pub low : b.first ≤ frame
+  pub less : frame < b.end
+
+-- ---- sheets
+
+-- the window of a scene
+abbrev pub scene_window : Scene → Rect
+scene_window scene = window_rect scene.decl.width scene.decl.height
+
+-- no depth of the device lies beyond the far end
+abbrev pub AreNear : DeviceView → Type 0
+AreNear d = (x y : ℤ) → is_in_rect d.rect x y ≡ true → (pixel_of d x y).depth ≤ depth_most
+
+-- each pixel becomes that of a layer, where this one is nearer
+abbrev pub TakesNearer : DeviceView → DeviceView → DeviceView → Type 0
+TakesNearer layer before after = EachTakes (λ x y old. nearer old (pixel_of layer x y)) before after
+
 -- the sheet is over the rectangle, and blank beside its run
 pub record IsSheet (rect : Rect) (s : Sheet) : Type 0 where
   pub over : s.device.rect ≡ rect
@@ -65,7 +122,7 @@ pub record IsSheet (rect : Rect) (s : Sheet) : Type 0 where
 
 -- each of them is
 abbrev pub AreSheets : Scene → List Sheet → Type 0
-AreSheets scene sheets = (k : ℕ) (s : Sheet) → k < length sheets → IsSheet (window_rect scene.decl.width scene.decl.height) (slice_index_or sheets k s)
+AreSheets scene sheets = (k : ℕ) (s : Sheet) → k < length sheets → IsSheet (scene_window scene) (slice_index_or sheets k s)
 
 -- A client has drawn its frames from 0 up to below `end`, and its sheets hold the layers of those from `first` on: its context stands behind them.
 pub record HasDrawn (scene : Scene) (client first end : ℕ) (x : ClientContext) (sheets : List Sheet) : Type 0 where
@@ -74,18 +131,46 @@ pub record HasDrawn (scene : Scene) (client first end : ℕ) (x : ClientContext)
   pub room : end ≤ first + length sheets
   pub each : (k : ℕ) (s : Sheet) → first + k < end → Holds (slice_index_or sheets k s).device (layer_pixel scene client (first + k + 1))
 
+-- a player, which is any client's, before its first frame
+abbrev pub IsAtStart : Scene → Player → Type 0
+IsAtStart scene p = (client : ℕ) → HasDrawn scene client 0 0 p.context p.sheets.items
+
+-- a client has drawn its frames up to below one, and has sheets with those of the batch among them
+abbrev pub HasPlayed : Batch → ℕ → ℕ → Player → Type 0
+HasPlayed b client frame p = HasDrawn b.scene.now client b.first frame p.context p.sheets.items
+
+-- a client has drawn its frames before the batch
+abbrev pub StartsBatch : Batch → ℕ → Player → Type 0
+StartsBatch b client p = HasPlayed b client b.first p
+
+-- and its frames of the batch too
+abbrev pub EndsBatch : Batch → ℕ → Player → Type 0
+EndsBatch b client p = HasPlayed b client b.end p
+
+-- the number is that of a client
+abbrev pub IsClientOf : Batch → ℕ → Type 0
+IsClientOf b client = client < length b.scene.now.streams
+
+-- there is a sheet for each frame of the batch
+abbrev pub HasSheets : Batch → Player → Type 0
+HasSheets b p = b.end ≤ b.first + length p.sheets.items
+
+-- there was memory for all layers of each client
+abbrev pub AreWhole : List Player → Type 0
+AreWhole players = (k : ℕ) (p : Player) → k < length players → (slice_index_or players k p).whole ≡ true
+
 -- each client has
 pub record HaveDrawn (scene : Scene) (first end : ℕ) (players : List Player) : Type 0 where
   pub count : length players ≡ length scene.streams
   pub each : (client : ℕ) (p : Player) → client < length scene.streams
       → HasDrawn scene client first end (slice_index_or players client p).context (slice_index_or players client p).sheets.items
 
+-- each client has drawn its layers of the batch
+abbrev pub HaveLayers : Batch → List Player → Type 0
+HaveLayers b players = HaveDrawn b.scene.now b.first b.end players
+
 -- each client has that had memory for it
 pub record AreDrawn (scene : Scene) (first end : ℕ) (players : List Player) : Type 0 where
   pub count : length players ≡ length scene.streams
   pub each : (client : ℕ) (p : Player) → client < length scene.streams → (slice_index_or players client p).whole ≡ true
       → HasDrawn scene client first end (slice_index_or players client p).context (slice_index_or players client p).sheets.items
-
--- each client has so many frames
-abbrev pub HaveFrames : Scene → ℕ → Type 0
-HaveFrames scene count = (client : ℕ) → client < length scene.streams → count ≤ length (sync_row_of scene client).ops

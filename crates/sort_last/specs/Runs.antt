@@ -3,13 +3,19 @@ use Rattle.std.specs.Prelude.{◌≡◌, ℕ, ◌<◌, ◌==◌, ◌&&◌, ◌||
 use Rattle.std.specs.declared.result.Result.{Result}
 use Rattle.rc_base.specs.Contexts.Issue.{faults_of}
 use Rattle.rc_base.specs.Drawing.Serial.{is_swap_effect}
-use Rattle.rc_base.specs.Orders.Sync.{sync_row_of}
+use Rattle.rc_base.specs.Drawing.Images.{frame_images}
+use Rattle.rc_base.specs.Orders.Order.{default_order}
+use Rattle.rc_base.specs.Orders.Sync.{sync_row_of, sync_lists_of}
+use Rattle.rc_base.specs.declared.image.Image.{Image}
 use Rattle.rc_base.specs.declared.out_of_memory.OutOfMemory.{OutOfMemory}
 use Rattle.rc_base.specs.declared.scene.Scene.{Scene}
 use Rattle.rc_base.specs.declared.state.Effect.TheVariants as eff
+use Rattle.rc_base.specs.declared.sync.Entry.{Entry}
 use Rattle.rc_base.specs.declared.sync.Name.{Name}
+use Rattle.rc_base.specs.declared.sync.SyncLists.{SyncLists}
 use Rattle.gl_context.specs.declared.counting.EffectKind.{EffectKind}
 use Rattle.gl_context.specs.declared.counting.EffectKind.TheVariants as kind
+use Rattle.order_model.specs.Report.{frame_count}
 use Rattle.sort_last.specs.Offends.{offends, IsFirstOffence}
 use Rattle.sort_last.specs.declared.last.LastFault.{LastFault}
 use Rattle.sort_last.specs.declared.last.LastFault.TheVariants as fault
@@ -70,6 +76,14 @@ kind_drawn kind.Block drawn = true
 kind_drawn kind.Clear drawn = drawn
 kind_drawn kind.Shared drawn = drawn
 kind_drawn (kind.Sync op) drawn = not (is_swap_effect (eff.Sync op)) && drawn
+
+-- the frames of a journal's default order
+abbrev pub frames_by : Scene → SyncLists → List Entry → List Image
+frames_by scene syncs journal = frame_images scene (default_order syncs journal) (frame_count journal)
+
+-- those that the serial renderer shows in the default order
+abbrev pub serial_frames : Scene → List Entry → List Image
+serial_frames scene journal = frames_by scene (sync_lists_of scene) journal
 
 -- a command offends, and this is the first one; want of memory is free
 abbrev pub IsLastFault : Scene → LastFault → Type 0

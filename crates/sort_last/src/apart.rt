@@ -1,14 +1,24 @@
-//! What is lent to all that draws a scene's clients apart.
+//! What is lent to all that draws the clients of a scene apart.
+ghost use Rattle.std.specs.Prelude.{◌≡◌, ◌≤◌};
+ghost use Rattle.rc_base.specs.Orders.Sync.{sync_lists_of};
+ghost use Rattle.sort_last.specs.Apart.{IsReady, IsReady-prop, AreListsOf, AreListsOf-prop, HaveFrames};
+
 use rc_base::scene::Scene;
 use rc_base::sync::SyncLists;
 use textures::SharedSet;
 
-/// A scene whose clients are drawn apart, its lists of operations, and shared textures that nothing writes.
+/// The frames from one to below another of a scene whose clients are drawn apart, with its lists of operations, and shared textures that nothing writes.
 #[derive(Clone, Copy)]
-pub(crate) struct ApartScene<'a> {
+pub(crate) struct Batch<'a> {
     pub(crate) scene: &'a Scene,
     pub(crate) syncs: &'a SyncLists,
     pub(crate) shared: &'a SharedSet,
+    pub(crate) first: usize,
+    pub(crate) end: usize,
+    pub(crate) ghost ready: { IsReady scene.now shared.now } by { IsReady-prop scene.now shared.now },
+    pub(crate) ghost lists: { AreListsOf scene.now syncs.now } by { AreListsOf-prop scene.now syncs.now },
+    pub(crate) ghost order: { first ≤ end },
+    pub(crate) ghost frames: { HaveFrames scene.now end },
 }
 
 /// Names of a client, from one place to below another.

@@ -1,19 +1,15 @@
 //! The frames of a scene whose clients are drawn apart.
-ghost use Rattle.std.specs.Prelude.{◌≡◌, ◌+◌, ◌<◌, ◌≤◌, length, map, fold, IfOk, OnOk};
-ghost use Rattle.std.specs.List.{range_with_len};
+ghost use Rattle.std.specs.Prelude.{◌≡◌, ◌+◌, ◌<◌, ◌≤◌, IfOk, OnOk};
 ghost use Rattle.rc_base.specs.Formats.Within.{IsWithin};
-ghost use Rattle.rc_base.specs.Drawing.Nearer.{nearer};
-ghost use Rattle.rc_base.specs.Drawing.Window.{depth_most};
 ghost use Rattle.rc_base.specs.Orders.Sync.{sync_lists_of};
-ghost use Rattle.draw_device.specs.Devices.{EachTakes, pixel_of};
 ghost use Rattle.serial_render.specs.Shown.{images_of};
-ghost use Rattle.rc_base.specs.Cluster.Tiles.{window_rect};
-ghost use Rattle.sort_last.specs.Composed.{IsComposed, AreNear};
-ghost use Rattle.sort_last.specs.Layers.{composed_pixel, layer_pixel};
+ghost use Rattle.sort_last.specs.Apart.{HaveFrames};
+ghost use Rattle.sort_last.specs.Composed.{IsComposed, IsUpTo, IsComposing, TakesLayers};
+ghost use Rattle.sort_last.specs.Layers.{composed_pixel};
 ghost use Rattle.sort_last.specs.Offends.{IsComposable};
-ghost use Rattle.sort_last.specs.Players.{IsReady, HaveDrawn, HaveFrames};
+ghost use Rattle.sort_last.specs.Players.{scene_window, AreNear, IsInBatch, HaveDrawn, HaveLayers};
 
-use crate::apart::ApartScene;
+use crate::apart::Batch;
 use crate::play::{Part, play};
 use crate::player::{Player, draw_batch, frame_names, player_at, players_of};
 use draw_device::Device;
@@ -58,27 +54,17 @@ fn batch_end(first: usize, ahead: usize, count: usize) -> usize
 }
 
 // A frame's layers, clients rising, are put before the window where they are nearer.
-fn put_layers(
-    apart: &ApartScene<'_>,
-    players: &[Player],
-    device: &mut Device,
-    first: usize,
-    frame: usize,
-    end: usize,
-)
-    requires players { HaveDrawn apart.now.scene.now first end players.now }
-    requires low { first ≤ frame }
-    requires order { frame < end }
-    requires rect { device.old.rect ≡ window_rect apart.now.scene.now.decl.width apart.now.scene.now.decl.height }
+fn put_layers(batch: &Batch<'_>, players: &[Player], device: &mut Device, frame: usize)
+    requires frame { IsInBatch batch.now frame }
+    requires players { HaveLayers batch.now players.now }
+    requires rect { device.old.rect ≡ scene_window batch.now.scene.now }
     requires near { AreNear device.old }
     ensures rect { device.new.rect ≡ device.old.rect }
-    ensures drawn { EachTakes (λ x y p. fold nearer p (map (λ c. layer_pixel apart.now.scene.now c (frame + 1) x y) (range_with_len 0 (length apart.now.scene.now.streams)))) device.old device.new }
+    ensures drawn { TakesLayers batch.now.scene.now (frame + 1) device.old device.new }
 {
-    let _apart = apart;
-    let _end = end;
     for client in 0..players.len() {
         player_at(players, client)
-            .layer(frame - first)
+            .layer(frame - batch.first)
             .put_before(device);
     }
 }
@@ -107,44 +93,29 @@ impl Composition {
         })
     }
 
-    // One more frame: client 0's Clears of it, and then the clients' layers where they are nearer.
+    // One more frame of the batch: client 0's Clears of it, and then the clients' layers where they are nearer.
     fn compose_frame(
         &mut self,
         alloc: Global,
-        apart: &ApartScene<'_>,
-        first: usize,
+        batch: &Batch<'_>,
         frame: usize,
-        end: usize,
     ) -> Result<(), OutOfMemory>
-        requires ready { IsReady apart.now.scene.now apart.now.shared.now }
-        requires syncs { apart.now.syncs.now ≡ sync_lists_of apart.now.scene.now }
-        requires low { first ≤ frame }
-        requires order { frame < end }
-        requires frames { HaveFrames apart.now.scene.now end }
-        requires players { HaveDrawn apart.now.scene.now first end self.old.players.items }
-        requires before { IsComposed apart.now.scene.now frame self.old }
-        ensures players { OnOk result (HaveDrawn apart.now.scene.now first end self.new.players.items) }
-        ensures after { OnOk result (IsComposed apart.now.scene.now (frame + 1) self.new) }
+        requires frame { IsInBatch batch.now frame }
+        requires before { IsComposing batch.now frame self.old }
+        ensures { OnOk result (IsComposing batch.now (frame + 1) self.new) }
     {
-        let names = frame_names(apart, 0, frame);
+        let names = frame_names(batch, 0, frame);
         play(
             Part::Clears,
-            apart,
+            batch,
             names,
             &mut self.clears,
             &mut self.device,
         )?;
-        put_layers(
-            apart,
-            self.players.as_slice(),
-            &mut self.device,
-            first,
-            frame,
-            end,
-        );
+        put_layers(batch, self.players.as_slice(), &mut self.device, frame);
         show_up_to(
             alloc,
-            &apart.scene.decl,
+            &batch.scene.decl,
             &self.device,
             &mut self.frames,
             frame + 1,
@@ -152,51 +123,45 @@ impl Composition {
         Ok(())
     }
 
-    // The frames from one to below another: each client draws its layers of them, and then they are put together frame by frame and shown.
+    // The frames of the batch: each client draws its layers of them, and then they are put together frame by frame and shown.
     fn show_batch(
         &mut self,
         rt: &(impl Threads + Sync),
         alloc: Global,
-        apart: &ApartScene<'_>,
-        first: usize,
-        end: usize,
+        batch: &Batch<'_>,
     ) -> Result<(), OutOfMemory>
-        requires ready { IsReady apart.now.scene.now apart.now.shared.now }
-        requires syncs { apart.now.syncs.now ≡ sync_lists_of apart.now.scene.now }
-        requires order { first ≤ end }
-        requires frames { HaveFrames apart.now.scene.now end }
-        requires players { HaveDrawn apart.now.scene.now first first self.old.players.items }
-        requires before { IsComposed apart.now.scene.now first self.old }
-        ensures players { OnOk result (HaveDrawn apart.now.scene.now end end self.new.players.items) }
-        ensures after { OnOk result (IsComposed apart.now.scene.now end self.new) }
+        requires { IsUpTo batch.now.scene.now batch.now.first self.old }
+        ensures { OnOk result (IsUpTo batch.now.scene.now batch.now.end self.new) }
     {
-        draw_batch(rt, alloc, apart, self.players.as_mut_slice(), first, end)?;
-        for frame in first..end {
-            self.compose_frame(alloc, apart, first, frame, end)?;
+        draw_batch(rt, alloc, batch, self.players.as_mut_slice())?;
+        for frame in batch.first..batch.end {
+            self.compose_frame(alloc, batch, frame)?;
         }
         Ok(())
     }
 
-    // So many frames in all.
+    // The same in batches of so many frames as are drawn ahead.
     fn show_frames(
         &mut self,
         rt: &(impl Threads + Sync),
         alloc: Global,
-        apart: &ApartScene<'_>,
-        count: usize,
+        all: &Batch<'_>,
     ) -> Result<(), OutOfMemory>
-        requires ready { IsReady apart.now.scene.now apart.now.shared.now }
-        requires syncs { apart.now.syncs.now ≡ sync_lists_of apart.now.scene.now }
-        requires frames { HaveFrames apart.now.scene.now count }
-        requires players { HaveDrawn apart.now.scene.now 0 0 self.old.players.items }
-        requires before { IsComposed apart.now.scene.now 0 self.old }
-        ensures { OnOk result (IsComposed apart.now.scene.now count self.new) }
+        requires { IsUpTo all.now.scene.now all.now.first self.old }
+        ensures { OnOk result (IsUpTo all.now.scene.now all.now.end self.new) }
     {
-        let ahead = frames_ahead(&apart.scene.decl);
-        let mut first = 0;
-        'batches: while first < count {
-            let end = batch_end(first, ahead, count);
-            self.show_batch(rt, alloc, apart, first, end)?;
+        let ahead = frames_ahead(&all.scene.decl);
+        let mut first = all.first;
+        'batches: while first < all.end {
+            let end = batch_end(first, ahead, all.end);
+            let batch = Batch {
+                scene: all.scene,
+                syncs: all.syncs,
+                shared: all.shared,
+                first,
+                end,
+            };
+            self.show_batch(rt, alloc, &batch)?;
             first = end;
         }
         Ok(())
@@ -218,12 +183,14 @@ pub(crate) fn draw_frames(
     ensures { IfOk result (λ v. v ≡ images_of scene.now.decl (composed_pixel scene.now) count) }
 {
     let shared = SharedSet::new(alloc, &scene.decl.shared)?;
-    let apart = ApartScene {
+    let all = Batch {
         scene,
         syncs,
         shared: &shared,
+        first: 0,
+        end: count,
     };
     let mut composition = Composition::new(alloc, scene)?;
-    composition.show_frames(rt, alloc, &apart, count)?;
+    composition.show_frames(rt, alloc, &all)?;
     Ok(composition.frames)
 }

@@ -1,14 +1,11 @@
 //! The frames of a scene, each client's part drawn apart.
-ghost use Rattle.std.specs.Prelude.{◌≡◌, ℕ, ◌↔◌, true, IfOk, IfErr, IfSome, IsSome, MatchOption};
+ghost use Rattle.std.specs.Prelude.{◌≡◌, IfOk, IfErr};
 ghost use Rattle.rc_base.specs.Formats.Within.{IsWithin};
-ghost use Rattle.rc_base.specs.Drawing.Images.{frame_images};
-ghost use Rattle.rc_base.specs.Orders.Journal.{waiting_of};
-ghost use Rattle.rc_base.specs.Orders.Order.{default_journal, default_order};
+ghost use Rattle.rc_base.specs.Orders.Order.{default_journal};
 ghost use Rattle.rc_base.specs.Orders.Sync.{sync_lists_of};
-ghost use Rattle.sync_manager.specs.Stored.{wait_at};
-ghost use Rattle.order_model.specs.Report.{frame_count, is_stuck};
-ghost use Rattle.sort_last.specs.Offends.{IsComposable, IsFirstOffence};
-ghost use Rattle.sort_last.specs.Runs.{IsLastFault};
+ghost use Rattle.serial_render.specs.Waits.{TellsStuck, HasWaits};
+ghost use Rattle.sort_last.specs.Offends.{IsComposable, IsFirstOffenceIfAny};
+ghost use Rattle.sort_last.specs.Runs.{frames_by, serial_frames, IsLastFault};
 ghost use Rattle.sort_last.specs.declared.last.LastFault.TheVariants as fault;
 
 use crate::compose::draw_frames;
@@ -55,9 +52,9 @@ fn run(
     requires syncs { syncs.now ≡ sync_lists_of scene.now }
     requires composable { IsComposable scene.now }
     ensures journal { IfOk result (λ r. r.journal ≡ default_journal syncs.now) }
-    ensures frames { IfOk result (λ r. r.frames ≡ frame_images scene.now (default_order syncs.now r.journal) (frame_count r.journal)) }
-    ensures waiting { IfOk result (λ r. IsSome r.waiting ↔ (is_stuck syncs.now r.journal ≡ true)) }
-    ensures at { IfOk result (λ r. IfSome r.waiting (λ w. (client : ℕ) → wait_at w.at client ≡ waiting_of syncs.now r.journal client)) }
+    ensures frames { IfOk result (λ r. r.frames ≡ frames_by scene.now syncs.now r.journal) }
+    ensures waiting { IfOk result (λ r. TellsStuck syncs.now r.journal r.waiting) }
+    ensures at { IfOk result (λ r. HasWaits syncs.now r.journal r.waiting) }
 {
     let Turns {
         journal,
@@ -83,13 +80,13 @@ pub fn render_judged(
 ) -> Result<LastRun, LastFault>
     requires within { IsWithin scene.now }
     requires syncs { syncs.now ≡ sync_lists_of scene.now }
-    requires offence { MatchOption offence (IsComposable scene.now) (λ n. IsFirstOffence scene.now n) }
+    requires offence { IsFirstOffenceIfAny scene.now offence }
     ensures class { IfOk result (λ r. IsComposable scene.now) }
     ensures fault { IfErr result (λ f. IsLastFault scene.now f) }
     ensures journal { IfOk result (λ r. r.journal ≡ default_journal syncs.now) }
-    ensures frames { IfOk result (λ r. r.frames ≡ frame_images scene.now (default_order syncs.now r.journal) (frame_count r.journal)) }
-    ensures waiting { IfOk result (λ r. IsSome r.waiting ↔ (is_stuck syncs.now r.journal ≡ true)) }
-    ensures at { IfOk result (λ r. IfSome r.waiting (λ w. (client : ℕ) → wait_at w.at client ≡ waiting_of syncs.now r.journal client)) }
+    ensures frames { IfOk result (λ r. r.frames ≡ frames_by scene.now syncs.now r.journal) }
+    ensures waiting { IfOk result (λ r. TellsStuck syncs.now r.journal r.waiting) }
+    ensures at { IfOk result (λ r. HasWaits syncs.now r.journal r.waiting) }
 {
     if let Some(name) = offence {
         return Err(LastFault::NotLast {
@@ -113,9 +110,9 @@ pub fn render_surveyed(
     ensures class { IfOk result (λ r. IsComposable scene.now) }
     ensures fault { IfErr result (λ f. IsLastFault scene.now f) }
     ensures journal { IfOk result (λ r. r.journal ≡ default_journal syncs.now) }
-    ensures frames { IfOk result (λ r. r.frames ≡ frame_images scene.now (default_order syncs.now r.journal) (frame_count r.journal)) }
-    ensures waiting { IfOk result (λ r. IsSome r.waiting ↔ (is_stuck syncs.now r.journal ≡ true)) }
-    ensures at { IfOk result (λ r. IfSome r.waiting (λ w. (client : ℕ) → wait_at w.at client ≡ waiting_of syncs.now r.journal client)) }
+    ensures frames { IfOk result (λ r. r.frames ≡ frames_by scene.now syncs.now r.journal) }
+    ensures waiting { IfOk result (λ r. TellsStuck syncs.now r.journal r.waiting) }
+    ensures at { IfOk result (λ r. HasWaits syncs.now r.journal r.waiting) }
 {
     let LastSurvey { offence, .. } = survey_last(rt, alloc, scene)?;
     render_judged(rt, alloc, scene, syncs, offence)
@@ -132,9 +129,9 @@ pub fn render_last(
     ensures class { IfOk result (λ r. IsComposable scene.now) }
     ensures fault { IfErr result (λ f. IsLastFault scene.now f) }
     ensures journal { IfOk result (λ r. r.journal ≡ default_journal (sync_lists_of scene.now)) }
-    ensures frames { IfOk result (λ r. r.frames ≡ frame_images scene.now (default_order (sync_lists_of scene.now) r.journal) (frame_count r.journal)) }
-    ensures waiting { IfOk result (λ r. IsSome r.waiting ↔ (is_stuck (sync_lists_of scene.now) r.journal ≡ true)) }
-    ensures at { IfOk result (λ r. IfSome r.waiting (λ w. (client : ℕ) → wait_at w.at client ≡ waiting_of (sync_lists_of scene.now) r.journal client)) }
+    ensures frames { IfOk result (λ r. r.frames ≡ serial_frames scene.now r.journal) }
+    ensures waiting { IfOk result (λ r. TellsStuck (sync_lists_of scene.now) r.journal r.waiting) }
+    ensures at { IfOk result (λ r. HasWaits (sync_lists_of scene.now) r.journal r.waiting) }
 {
     let LastSurvey { survey, offence } = survey_last(rt, alloc, scene)?;
     let Survey { syncs, .. } = survey;

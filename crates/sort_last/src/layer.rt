@@ -1,7 +1,6 @@
 //! Layers, and putting them together.
-ghost use Rattle.std.specs.Prelude.{◌≡◌, ℕ, ◌<◌, length};
-ghost use Rattle.rc_base.specs.Drawing.Nearer.{nearer};
-ghost use Rattle.sort_last.specs.Layers.{pixel_in, composite_of};
+ghost use Rattle.std.specs.Prelude.{◌≡◌, length};
+ghost use Rattle.sort_last.specs.Layers.{pixel_in, composite_of, AreNearer, AreAllNearer};
 
 use draw_device::nearer_of;
 use rc_base::command::Rgba;
@@ -40,7 +39,7 @@ fn pixel_at(pixels: &[Pixel], place: usize) -> Pixel
 // Each pixel becomes the nearer one of itself and of that behind it.
 fn put_behind(front: &mut Vec<Pixel>, behind: &[Pixel])
     ensures size { length front.new.items ≡ length front.old.items }
-    ensures each { (k : ℕ) → k < length front.old.items → pixel_in front.new.items k ≡ nearer (pixel_in front.old.items k) (pixel_in behind.now k) }
+    ensures each { AreNearer (length front.old.items) front.old.items behind.now front.new.items }
 {
     for place in 0..front.len() {
         front[place] = nearer_of(front[place], pixel_at(behind, place));
@@ -50,7 +49,7 @@ fn put_behind(front: &mut Vec<Pixel>, behind: &[Pixel])
 // Each pixel becomes the nearer one of that before it and of itself.
 fn put_before(behind: &mut Vec<Pixel>, front: &[Pixel])
     ensures size { length behind.new.items ≡ length behind.old.items }
-    ensures each { (k : ℕ) → k < length behind.old.items → pixel_in behind.new.items k ≡ nearer (pixel_in front.now k) (pixel_in behind.old.items k) }
+    ensures each { AreNearer (length behind.old.items) front.now behind.old.items behind.new.items }
 {
     for place in 0..behind.len() {
         behind[place] = nearer_of(pixel_at(front, place), behind[place]);
@@ -62,7 +61,7 @@ fn put_before(behind: &mut Vec<Pixel>, front: &[Pixel])
 /// It takes no memory. Sort-last rendering puts what its renderers drew together so (Molnar, Cox, Ellsworth and Fuchs, 1994).
 pub fn composite(a: Layer, b: Layer) -> Layer
     ensures layer { result.pixels ≡ composite_of a.pixels b.pixels }
-    ensures pixels { (k : ℕ) → pixel_in result.pixels k ≡ nearer (pixel_in a.pixels k) (pixel_in b.pixels k) }
+    ensures pixels { AreAllNearer a.pixels b.pixels result.pixels }
 {
     let mut first = a.pixels.into_vec();
     let mut second = b.pixels.into_vec();

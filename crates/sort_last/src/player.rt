@@ -1,11 +1,10 @@
 //! A client that draws its frames alone.
-ghost use Rattle.std.specs.Prelude.{◌≡◌, ℕ, ◌+◌, ◌<◌, ◌≤◌, length, slice_index_or, true, IfOk, OnOk};
-ghost use Rattle.rc_base.specs.Contexts.Issue.{stream_of};
-ghost use Rattle.rc_base.specs.Orders.Sync.{client_count, client_row, sync_row_of, sync_lists_of};
-ghost use Rattle.sort_last.specs.Players.{IsReady, start_of, HasDrawn, HaveDrawn, AreDrawn, HaveFrames};
+ghost use Rattle.std.specs.Prelude.{◌≡◌, ◌+◌, ◌<◌, ◌≤◌, length, slice_index_or, true, IfOk, OnOk};
+ghost use Rattle.rc_base.specs.Orders.Sync.{client_count, client_row};
+ghost use Rattle.sort_last.specs.Players.{start_of, AreNamesOf, IsInBatch, IsAtStart, IsClientOf, HasPlayed, StartsBatch, EndsBatch, HasSheets, HaveDrawn, HaveLayers, AreDrawn, AreWhole};
 ghost use Rattle.sort_last.specs.declared.player.Player.{Player as ThePlayer};
 
-use crate::apart::{ApartScene, ClientNames};
+use crate::apart::{Batch, ClientNames};
 use crate::sheet::Sheet;
 use gl_context::Context;
 use rayon::prelude::*;
@@ -44,18 +43,12 @@ fn frame_end(row: &SyncRow, frame: usize) -> usize
 }
 
 /// The names of a client's frame, its Swap among them.
-pub(crate) fn frame_names(apart: &ApartScene<'_>, client: usize, frame: usize) -> ClientNames
-    requires ready { IsReady apart.now.scene.now apart.now.shared.now }
-    requires syncs { apart.now.syncs.now ≡ sync_lists_of apart.now.scene.now }
-    requires client { client < length apart.now.scene.now.streams }
-    requires frame { frame < length (sync_row_of apart.now.scene.now client).ops }
-    ensures client { result.client ≡ client }
-    ensures from { result.from ≡ start_of (sync_row_of apart.now.scene.now client).ops frame }
-    ensures to { result.to ≡ start_of (sync_row_of apart.now.scene.now client).ops (frame + 1) }
-    ensures order { result.from ≤ result.to }
-    ensures inside { result.to ≤ length (stream_of apart.now.scene.now client) }
+pub(crate) fn frame_names(batch: &Batch<'_>, client: usize, frame: usize) -> ClientNames
+    requires client { IsClientOf batch.now client }
+    requires frame { frame < batch.now.end }
+    ensures { AreNamesOf batch.now.scene.now client frame result }
 {
-    let row = row_of(apart.syncs, client);
+    let row = row_of(batch.syncs, client);
     let from = frame_start(row, frame);
     let to = frame_end(row, frame);
     ClientNames { client, from, to }
@@ -75,7 +68,7 @@ pub(crate) struct Player {
 impl Player {
     /// A client before its first frame.
     fn new(alloc: Global, scene: &Scene) -> Result<Player, OutOfMemory>
-        ensures { IfOk result (λ p. (client : ℕ) → HasDrawn scene.now client 0 0 p.context p.sheets.items) }
+        ensures { IfOk result (λ p. IsAtStart scene.now p) }
     {
         Ok(Player {
             context: Context::new(alloc, &scene.decl)?,
@@ -84,23 +77,20 @@ impl Player {
         })
     }
 
-    // Sees that there are so many sheets.
+    // Sees that there is a sheet for each frame of the batch.
     fn make_room(
         &mut self,
         alloc: Global,
-        scene: &Scene,
+        batch: &Batch<'_>,
         client: usize,
-        first: usize,
-        count: usize,
     ) -> Result<(), OutOfMemory>
-        requires before { HasDrawn scene.now client first first self.old.context self.old.sheets.items }
-        ensures after { OnOk result (HasDrawn scene.now client first first self.new.context self.new.sheets.items) }
-        ensures room { OnOk result (count ≤ length self.new.sheets.items) }
+        requires before { StartsBatch batch.now client self.old }
+        ensures after { OnOk result (StartsBatch batch.now client self.new) }
+        ensures room { OnOk result (HasSheets batch.now self.new) }
     {
         let _client = client;
-        let _first = first;
-        for _ in self.sheets.len()..count {
-            self.sheets.push(Sheet::new(alloc, &scene.decl)?)?;
+        for _ in self.sheets.len()..batch.end - batch.first {
+            self.sheets.push(Sheet::new(alloc, &batch.scene.decl)?)?;
         }
         Ok(())
     }
@@ -108,68 +98,47 @@ impl Player {
     /// Draws the client's next frame.
     fn draw_frame(
         &mut self,
-        apart: &ApartScene<'_>,
+        batch: &Batch<'_>,
         client: usize,
-        first: usize,
         frame: usize,
     ) -> Result<(), OutOfMemory>
-        requires ready { IsReady apart.now.scene.now apart.now.shared.now }
-        requires syncs { apart.now.syncs.now ≡ sync_lists_of apart.now.scene.now }
-        requires client { client < length apart.now.scene.now.streams }
-        requires order { first ≤ frame }
-        requires frame { frame < length (sync_row_of apart.now.scene.now client).ops }
-        requires room { frame < first + length self.old.sheets.items }
-        requires before { HasDrawn apart.now.scene.now client first frame self.old.context self.old.sheets.items }
-        ensures count { OnOk result (length self.new.sheets.items ≡ length self.old.sheets.items) }
-        ensures after { OnOk result (HasDrawn apart.now.scene.now client first (frame + 1) self.new.context self.new.sheets.items) }
+        requires client { IsClientOf batch.now client }
+        requires frame { IsInBatch batch.now frame }
+        requires room { HasSheets batch.now self.old }
+        requires before { HasPlayed batch.now client frame self.old }
+        ensures room { OnOk result (HasSheets batch.now self.new) }
+        ensures after { OnOk result (HasPlayed batch.now client (frame + 1) self.new) }
     {
-        let names = frame_names(apart, client, frame);
-        self.sheets[frame - first].draw(apart, names, &mut self.context)?;
+        let names = frame_names(batch, client, frame);
+        self.sheets[frame - batch.first].draw(batch, names, &mut self.context)?;
         Ok(())
     }
 
-    // Draws the client's frames from one to below another.
+    // Draws the client's frames of the batch.
     fn draw_each(
         &mut self,
         alloc: Global,
-        apart: &ApartScene<'_>,
+        batch: &Batch<'_>,
         client: usize,
-        first: usize,
-        end: usize,
     ) -> Result<(), OutOfMemory>
-        requires ready { IsReady apart.now.scene.now apart.now.shared.now }
-        requires syncs { apart.now.syncs.now ≡ sync_lists_of apart.now.scene.now }
-        requires client { client < length apart.now.scene.now.streams }
-        requires order { first ≤ end }
-        requires end { end ≤ length (sync_row_of apart.now.scene.now client).ops }
-        requires before { HasDrawn apart.now.scene.now client first first self.old.context self.old.sheets.items }
-        ensures { OnOk result (HasDrawn apart.now.scene.now client first end self.new.context self.new.sheets.items) }
+        requires client { IsClientOf batch.now client }
+        requires before { StartsBatch batch.now client self.old }
+        ensures { OnOk result (EndsBatch batch.now client self.new) }
     {
-        self.make_room(alloc, apart.scene, client, first, end - first)?;
-        for frame in first..end {
-            self.draw_frame(apart, client, first, frame)?;
+        self.make_room(alloc, batch, client)?;
+        for frame in batch.first..batch.end {
+            self.draw_frame(batch, client, frame)?;
         }
         Ok(())
     }
 
-    /// Draws the client's frames from one to below another, and notes whether there was memory for all.
-    fn draw_frames(
-        &mut self,
-        alloc: Global,
-        apart: &ApartScene<'_>,
-        client: usize,
-        first: usize,
-        end: usize,
-    )
-        requires ready { IsReady apart.now.scene.now apart.now.shared.now }
-        requires syncs { apart.now.syncs.now ≡ sync_lists_of apart.now.scene.now }
-        requires client { client < length apart.now.scene.now.streams }
-        requires order { first ≤ end }
-        requires end { end ≤ length (sync_row_of apart.now.scene.now client).ops }
-        requires before { HasDrawn apart.now.scene.now client first first self.old.context self.old.sheets.items }
-        ensures { self.new.whole ≡ true → HasDrawn apart.now.scene.now client first end self.new.context self.new.sheets.items }
+    /// Draws the client's frames of the batch, and notes whether there was memory for all.
+    fn draw_frames(&mut self, alloc: Global, batch: &Batch<'_>, client: usize)
+        requires client { IsClientOf batch.now client }
+        requires before { StartsBatch batch.now client self.old }
+        ensures { self.new.whole ≡ true → EndsBatch batch.now client self.new }
     {
-        self.whole = self.draw_each(alloc, apart, client, first, end).is_ok();
+        self.whole = self.draw_each(alloc, batch, client).is_ok();
     }
 
     /// The layer of a frame, by its place from the first frame of the batch on.
@@ -200,46 +169,26 @@ pub(crate) fn player_at(players: &[Player], client: usize) -> &Player
     &players[client]
 }
 
-// Each client draws its frames from one to below another, in as many threads as there are processors.
-fn draw_layers(
-    rt: &(impl Threads + Sync),
-    alloc: Global,
-    apart: &ApartScene<'_>,
-    players: &mut [Player],
-    first: usize,
-    end: usize,
-)
-    requires ready { IsReady apart.now.scene.now apart.now.shared.now }
-    requires syncs { apart.now.syncs.now ≡ sync_lists_of apart.now.scene.now }
-    requires order { first ≤ end }
-    requires frames { HaveFrames apart.now.scene.now end }
-    requires before { HaveDrawn apart.now.scene.now first first players.old }
-    ensures { AreDrawn apart.now.scene.now first end players.new }
+// Each client draws its frames of the batch, in as many threads as there are processors.
+fn draw_layers(rt: &(impl Threads + Sync), alloc: Global, batch: &Batch<'_>, players: &mut [Player])
+    requires { HaveDrawn batch.now.scene.now batch.now.first batch.now.first players.old }
+    ensures { AreDrawn batch.now.scene.now batch.now.first batch.now.end players.new }
 {
-    let scene = apart.scene;
-    let syncs = apart.syncs;
-    let shared = apart.shared;
     par_for_each_mut(
         rt,
         players,
         |client: usize, player: &mut Player|
-            requires { IsReady scene.now shared.now × (client < length scene.now.streams) × (syncs.now ≡ sync_lists_of scene.now) × (first ≤ end) × HaveFrames scene.now end
-                × HasDrawn scene.now client first first player.now.context player.now.sheets.items }
-            ensures { player.new.whole ≡ true → HasDrawn scene.entry.now client first end player.new.context player.new.sheets.items }
+            requires { IsClientOf batch.now client × StartsBatch batch.now client player.now }
+            ensures { player.new.whole ≡ true → EndsBatch batch.entry.now client player.new }
         {
-            let apart = ApartScene {
-                scene,
-                syncs,
-                shared,
-            };
-            player.draw_frames(alloc, &apart, client, first, end);
+            player.draw_frames(alloc, batch, client);
         },
     );
 }
 
 // There was memory for all layers.
 fn are_whole(players: &[Player]) -> bool
-    ensures { result ≡ true → (k : ℕ) (p : ThePlayer) → k < length players.now → (slice_index_or players.now k p).whole ≡ true }
+    ensures { result ≡ true → AreWhole players.now }
 {
     for client in 0..players.len() {
         if !players[client].whole {
@@ -249,23 +198,17 @@ fn are_whole(players: &[Player]) -> bool
     true
 }
 
-/// Each client draws its frames from one to below another.
+/// Each client draws its frames of the batch.
 pub(crate) fn draw_batch(
     rt: &(impl Threads + Sync),
     alloc: Global,
-    apart: &ApartScene<'_>,
+    batch: &Batch<'_>,
     players: &mut [Player],
-    first: usize,
-    end: usize,
 ) -> Result<(), OutOfMemory>
-    requires ready { IsReady apart.now.scene.now apart.now.shared.now }
-    requires syncs { apart.now.syncs.now ≡ sync_lists_of apart.now.scene.now }
-    requires order { first ≤ end }
-    requires frames { HaveFrames apart.now.scene.now end }
-    requires before { HaveDrawn apart.now.scene.now first first players.old }
-    ensures { OnOk result (HaveDrawn apart.now.scene.now first end players.new) }
+    requires { HaveDrawn batch.now.scene.now batch.now.first batch.now.first players.old }
+    ensures { OnOk result (HaveLayers batch.now players.new) }
 {
-    draw_layers(rt, alloc, apart, players, first, end);
+    draw_layers(rt, alloc, batch, players);
     if !are_whole(players) {
         return Err(OutOfMemory);
     }

@@ -1,17 +1,10 @@
 //! A client's layer of a frame, on a device that is kept from frame to frame.
-ghost use Rattle.std.specs.Prelude.{◌≡◌, ◌-◌, ◌≤◌, ℤ, length, fold, true, IfOk, OnOk};
-ghost use Rattle.rc_base.specs.Cluster.Tiles.{is_in_rect, window_rect};
-ghost use Rattle.rc_base.specs.Contexts.Issue.{stream_of, context_after};
-ghost use Rattle.rc_base.specs.Drawing.Nearer.{nearer};
-ghost use Rattle.rc_base.specs.Drawing.Serial.{blank_pixel};
-ghost use Rattle.rc_base.specs.Drawing.Window.{depth_most};
-ghost use Rattle.rc_base.specs.Orders.Order.{names_from};
-ghost use Rattle.draw_device.specs.Devices.{EachTakes, pixel_of};
+ghost use Rattle.std.specs.Prelude.{◌≡◌, IfOk, OnOk};
+ghost use Rattle.rc_base.specs.Cluster.Tiles.{window_rect};
 ghost use Rattle.serial_render.specs.Steps.{Holds};
-ghost use Rattle.sort_last.specs.Players.{IsReady, IsSheet, shows, draw_if};
-ghost use Rattle.sort_last.specs.declared.play.Part.TheVariants as part;
+ghost use Rattle.sort_last.specs.Players.{StandIn, context_before, context_behind, layer_of, scene_window, AreNear, TakesNearer, IsSheet};
 
-use crate::apart::{ApartScene, ClientNames};
+use crate::apart::{Batch, ClientNames};
 use crate::play::{Part, play};
 use draw_device::{Device, PixelRun};
 use gl_context::Context;
@@ -42,22 +35,19 @@ impl Sheet {
     /// Draws the layer of these commands of a client.
     pub(crate) fn draw(
         &mut self,
-        apart: &ApartScene<'_>,
+        batch: &Batch<'_>,
         names: ClientNames,
         context: &mut Context,
     ) -> Result<(), OutOfMemory>
-        requires ready { IsReady apart.now.scene.now apart.now.shared.now }
-        requires order { names.from ≤ names.to }
-        requires inside { names.to ≤ length (stream_of apart.now.scene.now names.client) }
-        requires before { context.old ≡ context_after apart.now.scene.now names.client names.from }
-        requires sheet { IsSheet (window_rect apart.now.scene.now.decl.width apart.now.scene.now.decl.height) self.old }
-        ensures context { OnOk result (context.new ≡ context_after apart.now.scene.now names.client names.to) }
-        ensures sheet { OnOk result (IsSheet (window_rect apart.now.scene.now.decl.width apart.now.scene.now.decl.height) self.new) }
-        ensures layer { OnOk result (Holds self.new.device
-            (λ x y. fold (draw_if apart.now.scene.now x y (shows part.Layer apart.now.scene.now)) blank_pixel (names_from names.client names.from (names.to - names.from)))) }
+        requires names { StandIn batch.now.scene.now names }
+        requires before { context.old ≡ context_before batch.now.scene.now names }
+        requires sheet { IsSheet (scene_window batch.now.scene.now) self.old }
+        ensures context { OnOk result (context.new ≡ context_behind batch.now.scene.now names) }
+        ensures sheet { OnOk result (IsSheet (scene_window batch.now.scene.now) self.new) }
+        ensures layer { OnOk result (Holds self.new.device (layer_of batch.now.scene.now names)) }
     {
         self.device.blank(self.drawn);
-        play(Part::Layer, apart, names, context, &mut self.device)?;
+        play(Part::Layer, batch, names, context, &mut self.device)?;
         self.drawn = self.device.drawn();
         Ok(())
     }
@@ -65,9 +55,9 @@ impl Sheet {
     /// The window's pixels become those of the sheet, where these are nearer.
     pub(crate) fn put_before(&self, window: &mut Device)
         requires sheet { IsSheet window.old.rect self.now }
-        requires near { (x y : ℤ) → is_in_rect window.old.rect x y ≡ true → (pixel_of window.old x y).depth ≤ depth_most }
+        requires near { AreNear window.old }
         ensures rect { window.new.rect ≡ window.old.rect }
-        ensures nearer { EachTakes (λ x y p. nearer p (pixel_of self.now.device x y)) window.old window.new }
+        ensures nearer { TakesNearer self.now.device window.old window.new }
     {
         window.take_nearer(&self.device, self.drawn);
     }

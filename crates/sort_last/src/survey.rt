@@ -1,10 +1,10 @@
 //! The clients' streams, surveyed beside each other, and the first command that keeps the scene from being drawn client by client.
-ghost use Rattle.std.specs.Prelude.{◌≡◌, ℕ, ◌<◌, ◌^◌, [], length, slice_index_or, IfOk, MatchOption};
+ghost use Rattle.std.specs.Prelude.{◌≡◌, ◌<◌, ◌^◌, length, IfOk};
 ghost use Rattle.rc_base.specs.Formats.Within.{IsWithin};
-ghost use Rattle.rc_base.specs.Contexts.Issue.{faults_of};
 ghost use Rattle.rc_base.specs.Orders.Sync.{sync_lists_of};
+ghost use Rattle.serial_render.specs.Surveyed.{AreFaultLists};
 ghost use Rattle.serial_render.specs.Turns.{CanTakeTurns};
-ghost use Rattle.sort_last.specs.Offends.{IsComposable, IsFirstOffence};
+ghost use Rattle.sort_last.specs.Offends.{IsFirstOffenceIfAny};
 ghost use Rattle.sort_last.specs.Runs.{name_or, IsSurveyedClient, AreSurveyedApart};
 
 use crate::offence::{SurveyedClient, survey_client};
@@ -66,9 +66,9 @@ fn gathered(
     requires found { AreSurveyedApart scene.now found.items }
     ensures syncs { IfOk result (λ s. s.survey.syncs ≡ sync_lists_of scene.now) }
     ensures clients { IfOk result (λ s. length s.survey.faults ≡ length scene.now.streams) }
-    ensures faults { IfOk result (λ s. (client : ℕ) → slice_index_or s.survey.faults client [] ≡ faults_of scene.now client) }
+    ensures faults { IfOk result (λ s. AreFaultLists scene.now s.survey.faults) }
     ensures turns { IfOk result (λ s. CanTakeTurns s.survey.syncs) }
-    ensures offence { IfOk result (λ s. MatchOption s.offence (IsComposable scene.now) (λ n. IsFirstOffence scene.now n)) }
+    ensures offence { IfOk result (λ s. IsFirstOffenceIfAny scene.now s.offence) }
 {
     let mut rows = SyncRows::new(alloc);
     let mut faults = FaultLists::new(alloc);
@@ -93,9 +93,9 @@ pub fn survey_last(
     requires { IsWithin scene.now }
     ensures syncs { IfOk result (λ s. s.survey.syncs ≡ sync_lists_of scene.now) }
     ensures clients { IfOk result (λ s. length s.survey.faults ≡ length scene.now.streams) }
-    ensures faults { IfOk result (λ s. (client : ℕ) → slice_index_or s.survey.faults client [] ≡ faults_of scene.now client) }
+    ensures faults { IfOk result (λ s. AreFaultLists scene.now s.survey.faults) }
     ensures turns { IfOk result (λ s. CanTakeTurns s.survey.syncs) }
-    ensures offence { IfOk result (λ s. MatchOption s.offence (IsComposable scene.now) (λ n. IsFirstOffence scene.now n)) }
+    ensures offence { IfOk result (λ s. IsFirstOffenceIfAny scene.now s.offence) }
 {
     gathered(alloc, scene, survey_apart(rt, alloc, scene)?)
 }

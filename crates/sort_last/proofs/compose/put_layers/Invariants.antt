@@ -8,5 +8,5 @@ use Rattle.sort_last.proofs.compose.put_layers.Given as goal
 abbrev pub invariant-loop-client : goal.invariant-loop-client
 invariant-loop-client l = record {
   rect : l.device.rect ≡ l.fn.device.rect;
-  drawn : EachTakes (λ x y p. fold nearer p (map (λ c. layer_pixel l.apart.scene.now c (l.frame + 1) x y) (range_with_len 0 l.client))) l.fn.device l.device;
+  drawn : EachTakes (λ x y p. fold nearer p (map (λ c. layer_pixel l.batch.scene.now c (l.frame + 1) x y) (range_with_len 0 l.client))) l.fn.device l.device;
 }

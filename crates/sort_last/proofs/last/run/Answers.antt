@@ -10,7 +10,7 @@ use Rattle.serial_render.specs.Shown.{images_of}
 use Rattle.serial_render.specs.Turns.{CanTakeTurns}
 use Rattle.serial_render.proofs.ScenesTakeTurns.{takes_turns}
 use Rattle.sort_last.specs.Layers.{composed_pixel}
-use Rattle.sort_last.specs.Players.{HaveFrames}
+use Rattle.sort_last.specs.Apart.{HaveFrames}
 use Rattle.sort_last.proofs.ComposedLaw.{layers_compose}
 use Rattle.sort_last.proofs.FramesOfRuns.{have_frames, default_legal, images_are}
 use Rattle.sort_last.proofs.last.run.Goals as goal

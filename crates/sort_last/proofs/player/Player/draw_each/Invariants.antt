@@ -1,10 +1,10 @@
-use Rattle.std.proofs.Common.{◌+◌, ◌≤◌, length}
-use Rattle.sort_last.specs.Players.{HasDrawn}
+use Rattle.std.proofs.Common.{◌≤◌}
+use Rattle.sort_last.specs.Players.{HasPlayed, HasSheets}
 use Rattle.sort_last.proofs.player.Player.draw_each.Given as goal
 
 abbrev pub invariant-loop-frame : goal.invariant-loop-frame
 invariant-loop-frame l = record {
-  low : l.first ≤ l.frame;
-  room : l.end ≤ l.first + length l.self.sheets.items;
-  drawn : HasDrawn l.apart.scene.now l.client l.first l.frame l.self.context l.self.sheets.items;
+  low : l.batch.first ≤ l.frame;
+  room : HasSheets l.batch l.self;
+  drawn : HasPlayed l.batch l.client l.frame l.self;
 }

@@ -9,5 +9,5 @@ loop-preserved c =
     let items = c.in_ok-push.ensures.items in
     record {
       count = omega (arith, ap length items, length-append c.loop.self.sheets.items (s ∷ []), i.count);
-      drawn = sheet_pushed c.args.scene.now c.args.client c.args.first c.loop.self.context c.loop.self.sheets.items _ s items c.in_ok-new.ensures i.drawn;
+      drawn = sheet_pushed c.args.batch.now.scene.now c.args.client c.args.batch.now.first c.loop.self.context c.loop.self.sheets.items _ s items c.in_ok-new.ensures i.drawn;
     }
