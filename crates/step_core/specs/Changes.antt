@@ -18,7 +18,7 @@ use Rattle.client_issue.specs.Steps.{AreSent, IsClientStep, IsRequested}
 use Rattle.client_issue.specs.declared.client.ClientCore.{ClientCore}
 use Rattle.step_core.specs.Ports.{waiting, HasNoRoom, IsSamePort, IsChanged}
 use Rattle.step_core.specs.declared.port.Port.{Port}
-use Rattle.tile_server.specs.Cores.{IsTileStep, AreTaken, AreFoundEmpty, IsHeard, IsCountedUnheard}
+use Rattle.tile_server.specs.Cores.{IsTileStep, AreTaken, AreFoundEmpty, IsHeard, CountsUnheard}
 use Rattle.tile_server.specs.Deeds.{answer_of}
 use Rattle.tile_server.specs.declared.deed.TileDeed.{TileDeed}
 use Rattle.tile_server.specs.declared.tile_core.TileCore.{TileCore}
@@ -35,7 +35,7 @@ pub record IsTileCoreStep (deed : TileDeed) (core core' : TileCore) (row row' : 
   pub taken : AreTaken (λ x r y. held x ≡ r ∷ held y) (λ x y. held y ≡ held x) deed row row'
   pub empty : AreFoundEmpty (λ x. x.empty_seen) (λ x. held x ≡ []) core deed row row'
   pub heard : IsHeard (λ x r y. held x ≡ r ∷ held y) (λ x y. held y ≡ held x) deed lane lane'
-  pub unheard : IsCountedUnheard (λ x. x.empty_seen) (λ x. held x ≡ []) core deed lane lane'
+  pub unheard : CountsUnheard (λ x. x.empty_seen) (λ x. held x ≡ []) core deed lane lane'
 
 -- a tile's core took a step, which was answered so, among the others
 pub record IsTileStepped (tile : ℕ) (r : Result TileMoved OutOfMemory) (cores cores' : List TileCore) (rows rows' : List (Vec (PlainLane Parcel) Global))

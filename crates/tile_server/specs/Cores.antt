@@ -1,6 +1,7 @@
 -- What a tile's core stands for, and what a step makes of it.
 use Rattle.std.specs.Prelude.{◌≡◌, ℕ, ◌+◌, ◌<◌, ◌^◌, Bool, true, false, cond, List, MatchOption}
 use Rattle.rc_base.specs.Cluster.Lanes.{EachLane}
+use Rattle.rc_base.specs.Cluster.Parcels.{is_end}
 use Rattle.rc_base.specs.Outside.Causes.{Rose}
 use Rattle.rc_base.specs.declared.scene.Decl.{Decl}
 use Rattle.rc_base.specs.declared.state.Parcel.{Parcel}
@@ -11,11 +12,12 @@ use Rattle.order_model.specs.Standing.{Progress}
 use Rattle.tile_model.specs.Boards.{IsDrawn}
 use Rattle.tile_model.specs.Items.{shown_frames}
 use Rattle.tile_server.specs.Boards.{board_in, IsPartOf}
-use Rattle.tile_server.specs.Deeds.{item_of, is_loss, next_after, progress_after, IsNextDeed, IsFoundEmpty, IsUnheard, granted_of, taken_of}
+use Rattle.tile_server.specs.Deeds.{is_wait, item_of, is_loss, next_after, progress_after, IsNextDeed, IsFoundEmpty, IsUnheard, granted_of, taken_of}
 use Rattle.tile_server.specs.Ledgers.{IsLedgerOf}
 use Rattle.order_model.specs.declared.record.LogEntry.{LogEntry}
+use Rattle.tile_server.specs.declared.deed.Taking.{Taking}
 use Rattle.tile_server.specs.declared.deed.TileDeed.{TileDeed}
-use Rattle.tile_server.specs.declared.deed.TileDeed.TheVariants.{Shows}
+use Rattle.tile_server.specs.declared.deed.TileDeed.TheVariants.{Shows, Takes}
 use Rattle.tile_server.specs.declared.tile_core.TileCore.{TileCore}
 
 -- the declaration of the scenes that it is for
@@ -80,6 +82,29 @@ pub record IsTileStep (core : TileCore) (deed : TileDeed) (later : TileCore) : T
       → IsDrawn (decl_of core) (layout_of core) (tile_of core) p (item_of deed) (board_of core) (board_of later)
   pub shown : (p : Progress) → IsProgressOf core p → IsShown (layout_of core) (tile_of core) p (board_of core) deed
 
+-- memory lacked in the step, and hadn't before
+abbrev pub BecameShort : TileCore → TileCore → Type 0
+BecameShort core later = (is_short core ≡ false) × (is_short later ≡ true)
+
+-- whatever operation of the client the parcel that is taken has, the step is this
+abbrev pub TakesOperation : TileCore → ℕ → Taking → TileCore → Type 0
+TakesOperation core client how later = (parcel : Parcel) → is_wait parcel.act ≡ true → IsTileStep core (Takes client parcel how) later
+
+-- where it is the client's End
+abbrev pub TakesEnd : TileCore → ℕ → Taking → TileCore → Type 0
+TakesEnd core client how later = (parcel : Parcel) → is_end parcel.act ≡ true → IsTileStep core (Takes client parcel how) later
+
+-- where it is any but the End
+abbrev pub TakesMore : TileCore → ℕ → Taking → TileCore → Type 0
+TakesMore core client how later = (parcel : Parcel) → is_end parcel.act ≡ false → IsTileStep core (Takes client parcel how) later
+
+-- ---- its lanes
+
+module _ {L : Type 0} (lane_of : L → List ℕ) where
+  -- each lane is the one that it was
+  abbrev pub AreSameLanes : List L → List L → Type 0
+  AreSameLanes before after = EachLane (λ i a b. lane_of b ≡ lane_of a) before after
+
 module _ {I : Type 0} (gave : I → Parcel → I → Type 0) (same : I → I → Type 0) where
   -- each client's lane gave what was taken of it, and no other lane gave anything
   abbrev pub AreTaken : TileDeed → List I → List I → Type 0
@@ -98,6 +123,6 @@ module _ {J : Type 0} (gave : J → Grant → J → Type 0) (same : J → J → 
 
 module _ {J : Type 0} (empty_seen : J → ℕ) (bare : J → Type 0) where
   -- where the step found the lane of grants empty, that is counted
-  abbrev pub IsCountedUnheard : TileCore → TileDeed → J → J → Type 0
-  IsCountedUnheard core deed before after = (p : Progress) → IsProgressOf core p
+  abbrev pub CountsUnheard : TileCore → TileDeed → J → J → Type 0
+  CountsUnheard core deed before after = (p : Progress) → IsProgressOf core p
       → IsUnheard (is_short core) p deed → Rose (empty_seen before) (empty_seen after) × bare after

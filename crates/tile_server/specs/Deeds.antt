@@ -81,6 +81,10 @@ answer_of (Takes client parcel how) = taking_answer client how
 answer_of Rests = Ok moved.Blocked
 answer_of Finishes = Ok moved.Ended
 
+-- the answer is that of a deed of which this holds
+abbrev pub AnswersDeed : Result TileMoved OutOfMemory → (TileDeed → Type 0) → Type 0
+AnswersDeed answer holds = (did : TileDeed) × (answer ≡ answer_of did) × holds did
+
 -- ---- which deed is next, for a tile that is short or isn't
 
 -- a parcel of the client may be taken

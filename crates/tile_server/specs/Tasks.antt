@@ -1,12 +1,13 @@
 -- What a tile's core does next, by what it stores.
-use Rattle.std.specs.Prelude.{◌≡◌, ℕ, ◌+◌, ◌<◌, ◌&&◌, ◌||◌, not, min, Bool, true, false, cond, Some, None, is_none}
+use Rattle.std.specs.Prelude.{◌≡◌, ℕ, ◌+◌, ◌<◌, ◌&&◌, ◌||◌, not, min, Bool, true, false, cond, List, Some, None, is_none, slice_index_or}
+use Rattle.rc_base.specs.declared.cluster.TilePart.{TilePart}
 use Rattle.rc_base.specs.declared.state.Parcel.{Parcel}
 use Rattle.rc_base.specs.declared.sync.Entry.{Entry}
 use Rattle.order_model.specs.Standing.{Progress}
 use Rattle.tile_model.specs.Boards.{IsCarriedOut}
 use Rattle.tile_model.specs.Givable.{is_givable}
 use Rattle.tile_model.specs.Items.{after_work}
-use Rattle.tile_server.specs.Boards.{IsSameTile}
+use Rattle.tile_server.specs.Boards.{IsPartOf, IsSameTile}
 use Rattle.tile_server.specs.Cores.{board_of, clients_of, decl_of, layout_of, tile_of}
 use Rattle.tile_server.specs.Deeds.{granted_of, taken_of, IsFoundEmpty, IsUnheard}
 use Rattle.tile_server.specs.Ledgers.{closed_in, held_in, is_over_in, HoldsAll, IsLedgerStep}
@@ -32,6 +33,10 @@ asks_in core client =
     cond core.short (not (closed_in core.ledger client))
     (not (closed_in core.ledger client) && (not (held_in core.ledger client) || is_over_in core.ledger))
 
+-- these tell of each client whether it takes from it
+abbrev pub AreAsked : TileCore → List Bool → Type 0
+AreAsked core asks = (client : ℕ) → client < clients_of core → slice_index_or asks client true ≡ asks_in core client
+
 -- a parcel of the client may be taken
 pub record MayTakeIn (core : TileCore) (client : ℕ) : Type 0 where
   pub undue : NothingIsDueIn core
@@ -47,6 +52,10 @@ pub record IsFreeIn (core : TileCore) (client : ℕ) : Type 0 where
 -- the number of the frame that is shown next, as far as 32 bits go
 abbrev pub next_frame : TileCore → ℕ
 next_frame core = min (core.frames + 1) 4294967295
+
+-- the part is the tile's of the frame that is shown next, with the board's pixels
+abbrev pub IsNextPart : TileCore → TilePart → Type 0
+IsNextPart core part = IsPartOf (layout_of core) (tile_of core) (next_frame core) (board_of core) part
 
 -- nothing is left to do
 pub record IsFinishedIn (core : TileCore) : Type 0 where

@@ -1,13 +1,21 @@
 -- What a tile draws on.
-use Rattle.std.specs.Prelude.{◌≡◌, ℕ, ◌≤ℤ◌, List, length, Option, None, pos, replicate, slice_get, Some}
+use Rattle.std.specs.Prelude.{◌≡◌, ℕ, ℤ, ◌≤ℤ◌, true, List, length, Option, None, pos, replicate, slice_get, Some}
 use Rattle.rc_base.specs.Pictures.{Picture}
 use Rattle.rc_base.specs.Cluster.Tiles.{is_in_rect, tile_pixels, tile_rectangle}
 use Rattle.rc_base.specs.Contexts.Context.{private_count}
+use Rattle.rc_base.specs.Drawing.PixelStep.{effect_step}
+use Rattle.rc_base.specs.Drawing.Serial.{blank_pixel}
 use Rattle.rc_base.specs.Drawing.Texel.{SharedTexels}
+use Rattle.rc_base.specs.declared.command.Part.{Part}
+use Rattle.rc_base.specs.declared.state.Effect.{Effect}
+use Rattle.rc_base.specs.declared.state.Effect.TheVariants as eff
 use Rattle.rc_base.specs.declared.state.State.{State}
 use Rattle.rc_base.specs.declared.window.Layout.{Layout}
 use Rattle.rc_base.specs.declared.window.Rect.{Rect}
 use Rattle.draw_device.specs.Conditions.{shared_of}
+use Rattle.draw_device.specs.Devices.{pixel_of, DeviceView, EachTakes}
+use Rattle.draw_device.specs.Stored.{IsStorable}
+use Rattle.textures.specs.Images.{texture_image}
 use Rattle.tile_server.specs.declared.kept.KeptClient.{KeptClient}
 
 -- the rectangle is the tile's, and has its pixels
@@ -27,6 +35,27 @@ pub record LiesInWindow (width height : ℕ) (r : Rect) : Type 0 where
 -- the texels of a set of shared textures
 abbrev pub texels_in : List (Option Picture) → SharedTexels
 texels_in set name = (shared_of set name).texels
+
+-- each pixel of the rectangle is blank
+abbrev pub IsBlankIn : Rect → DeviceView → Type 0
+IsBlankIn r device = (x y : ℤ) → is_in_rect r x y ≡ true → pixel_of device x y ≡ blank_pixel
+
+-- each pixel of the tile is blank
+abbrev pub IsBlankTile : Layout → ℕ → DeviceView → Type 0
+IsBlankTile l tile device = (x y : ℕ) → tile_pixels l tile x y ≡ true → pixel_of device (pos x) (pos y) ≡ blank_pixel
+
+-- ---- work
+
+-- a part that the effect writes to a shared texture can be stored there
+abbrev pub MayStore : Effect → List (Option Picture) → Type 0
+MayStore effect set = (part : Part) → effect ≡ eff.Shared part → IsStorable part set
+
+-- each pixel becomes what the effect makes of it, with what is kept of its client and the shared textures
+abbrev pub TakesEffect : KeptClient → List (Option Picture) → Effect → DeviceView → DeviceView → Type 0
+TakesEffect kept set effect before after =
+    EachTakes (effect_step kept.state (texture_image kept.images) (shared_of set) effect) before after
+
+-- ---- clients
 
 -- what is kept of clients that sent nothing: their first state, and no images
 pub record AreNew (first : State) (count : ℕ) (kept : List KeptClient) : Type 0 where

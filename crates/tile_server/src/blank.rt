@@ -1,9 +1,7 @@
 //! What a new canvas is made of.
-ghost use Rattle.std.specs.Prelude.{◌≡◌, ◌<◌, ℕ, ℤ, true, pos, IfOk};
-ghost use Rattle.rc_base.specs.Cluster.Tiles.{is_in_rect, tile_count, tile_pixels};
-ghost use Rattle.rc_base.specs.Drawing.Serial.{blank_pixel};
-ghost use Rattle.draw_device.specs.Devices.{pixel_of};
-ghost use Rattle.tile_server.specs.Works.{AreNew, IsRectOf, LiesInWindow};
+ghost use Rattle.std.specs.Prelude.{◌≡◌, ◌<◌, IfOk};
+ghost use Rattle.rc_base.specs.Cluster.Tiles.{tile_count};
+ghost use Rattle.tile_server.specs.Works.{AreNew, IsBlankIn, IsBlankTile, IsRectOf, LiesInWindow};
 
 use crate::kept::KeptClient;
 use bounds_bucket::tile_rect;
@@ -36,7 +34,7 @@ pub(crate) fn new_clients(
 fn device_in(alloc: Global, width: u16, height: u16, rect: Rect) -> Result<Device, OutOfMemory>
     requires { LiesInWindow width height rect }
     ensures rect { IfOk result (λ d. d.rect ≡ rect) }
-    ensures blank { IfOk result (λ d. (x y : ℤ) → is_in_rect rect x y ≡ true → pixel_of d x y ≡ blank_pixel) }
+    ensures blank { IfOk result (IsBlankIn rect) }
 {
     Device::new(alloc, rect)
 }
@@ -45,7 +43,7 @@ fn device_in(alloc: Global, width: u16, height: u16, rect: Rect) -> Result<Devic
 pub(crate) fn blank_device(alloc: Global, layout: &Layout, tile: u8) -> Result<Device, OutOfMemory>
     requires { tile < tile_count layout.now }
     ensures rect { IfOk result (λ d. IsRectOf layout.now tile d.rect) }
-    ensures blank { IfOk result (λ d. (x y : ℕ) → tile_pixels layout.now tile x y ≡ true → pixel_of d (pos x) (pos y) ≡ blank_pixel) }
+    ensures blank { IfOk result (IsBlankTile layout.now tile) }
 {
     device_in(alloc, layout.width, layout.height, tile_rect(layout, tile))
 }

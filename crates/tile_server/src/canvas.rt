@@ -39,9 +39,8 @@ impl Canvas {
     ghost use Rattle.std.specs.Prelude.{◌≡◌, ◌<◌, true, false, IfOk};
     ghost use Rattle.rc_base.specs.Cluster.Tiles.{tile_count};
     ghost use Rattle.tile_model.specs.Acts.{is_work};
-    ghost use Rattle.tile_model.specs.Boards.{IsCarriedOut, IsNewBoard};
-    ghost use Rattle.tile_model.specs.Givable.{is_givable};
-    ghost use Rattle.tile_server.specs.Boards.{board_in, canvas_clients, IsPartOf, IsSameTile};
+    ghost use Rattle.tile_model.specs.Boards.{IsNewBoard};
+    ghost use Rattle.tile_server.specs.Boards.{board_in, canvas_clients, may_come, IsDoneOn, IsPartOf, IsSameTile};
 
     /// The canvas of a tile that was sent nothing yet.
     pub fn new(
@@ -77,8 +76,8 @@ impl Canvas {
         requires client { client < canvas_clients self.old }
         requires work { is_work parcel.act ≡ true }
         ensures same { IsSameTile self.old self.new }
-        ensures done { is_givable self.old.decl parcel ≡ true → IsCarriedOut self.old.decl self.old.layout client self.old.tile parcel (board_in self.old) (board_in self.new) }
-        ensures ignored { is_givable self.old.decl parcel ≡ false → board_in self.new ≡ board_in self.old }
+        ensures done { may_come self.old parcel ≡ true → IsDoneOn self.old client parcel self.new }
+        ensures ignored { may_come self.old parcel ≡ false → board_in self.new ≡ board_in self.old }
     {
         sets_have_stored_texels();
         if !is_givable(&self.decl, &parcel) {

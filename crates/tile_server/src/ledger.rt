@@ -1,7 +1,7 @@
 //! How far a tile is: whom it holds and who is closed, the entry that is to be performed, and its log.
-ghost use Rattle.std.specs.Prelude.{◌≡◌, ◌≤◌, ◌<◌, ℕ, true, false, cond, not, length, nat_lt, slice_index_or, IsTrue};
-ghost use Rattle.rc_base.specs.Orders.Journal.{is_member, has};
-ghost use Rattle.tile_server.specs.Ledgers.{HoldsAll, LacksOne};
+ghost use Rattle.std.specs.Prelude.{◌≡◌, ◌≤◌, ◌<◌, false, length, nat_lt, slice_index_or, IsTrue};
+ghost use Rattle.rc_base.specs.Orders.Journal.{has};
+ghost use Rattle.tile_server.specs.Ledgers.{AreReleased, HoldsAll, HoldsEach, LacksOne, LacksSome};
 
 use order_model::record::{Log, LogEntry};
 use rc_base::items::Items;
@@ -21,11 +21,10 @@ pub struct Ledger {
 }
 
 impl Ledger {
-    ghost use Rattle.std.specs.Prelude.{◌≡◌, ◌≤◌, ◌<◌, ℕ, Bool, true, false, not, cond, is_none, Some, OnOk, OnErr, IfSome, IfNone, IsTrue};
-    ghost use Rattle.order_model.specs.Standing.{Progress, new_progress};
+    ghost use Rattle.std.specs.Prelude.{◌≡◌, ◌≤◌, ◌<◌, true, false, cond, is_none, Some, OnOk, OnErr, IfSome, IfNone, IsTrue};
+    ghost use Rattle.order_model.specs.Standing.{new_progress};
     ghost use Rattle.tile_model.specs.Items.{after_end, after_entry, after_no_more, after_performed, after_wait, after_work};
-    ghost use Rattle.tile_server.specs.Ledgers.{held_in, closed_in, is_over_in, HoldsAll, IsLedgerOf, IsLedgerStep, IsSameLedger};
-    ghost use Rattle.rc_base.specs.declared.sync.Entry.{Entry};
+    ghost use Rattle.tile_server.specs.Ledgers.{held_in, closed_in, is_over_in, AreAllClosed, IsDueBy, IsLedgerOf, IsOneOpen, IsSameLedger, KeepsUp, KeepsUpShortOrNot, NothingIsDueBy};
 
     /// The ledger of a tile that took nothing yet.
     pub fn new(alloc: Global, clients: u8) -> Ledger
@@ -76,8 +75,8 @@ impl Ledger {
     /// Whether the End of each client was taken.
     pub fn all_closed(&self) -> bool
         requires { self.now.clients ≤ 8 }
-        ensures yes { IsTrue result → (client : ℕ) → client < self.now.clients → closed_in self.now client ≡ true }
-        ensures no { result ≡ false → (client : ℕ) × (client < self.now.clients) × (closed_in self.now client ≡ false) }
+        ensures yes { IsTrue result → AreAllClosed self.now }
+        ensures no { result ≡ false → IsOneOpen self.now }
     {
         for client in 0..self.clients {
             if !self.closed[client as usize] {
@@ -111,8 +110,8 @@ impl Ledger {
     /// The entry that is known, if each of its members is held.
     pub fn due(&self) -> Option<Entry>
         requires { self.now.clients ≤ 8 }
-        ensures some { IfSome result (λ e. (self.now.known ≡ Some e) × HoldsAll self.now.held self.now.clients e) }
-        ensures none { IfNone result ((e : Entry) → self.now.known ≡ Some e → HoldsAll self.now.held self.now.clients e → ⊥) }
+        ensures some { IfSome result (IsDueBy self.now) }
+        ensures none { IfNone result (NothingIsDueBy self.now) }
     {
         match self.known {
             Some(entry) => {
@@ -129,7 +128,7 @@ impl Ledger {
     /// The known entry is performed, and logged: its members are held no more. Where memory lacks for the log, nothing changes.
     pub fn perform(&mut self, entry: Entry) -> Result<(), OutOfMemory>
         requires known { self.old.known ≡ Some entry }
-        ensures done { OnOk result (IsLedgerStep false self.old (λ p. after_performed p entry) false self.new) }
+        ensures done { OnOk result (KeepsUp self.old (λ p. after_performed p entry) self.new) }
         ensures unchanged { OnErr result (IsSameLedger self.old self.new) }
     {
         self.log.push(LogEntry::Performed)?;
@@ -141,7 +140,7 @@ impl Ledger {
     /// An entry is learnt.
     pub fn learn(&mut self, entry: Entry)
         requires { is_none self.old.known ≡ true }
-        ensures { IsLedgerStep false self.old (λ p. after_entry p entry) false self.new }
+        ensures { KeepsUp self.old (λ p. after_entry p entry) self.new }
     {
         self.known = Some(entry);
     }
@@ -149,14 +148,14 @@ impl Ledger {
     /// No more is granted.
     pub fn learn_no_more(&mut self)
         ensures clients { self.new.clients ≡ self.old.clients }
-        ensures step { (short : Bool) → IsLedgerStep short self.old after_no_more short self.new }
+        ensures step { KeepsUpShortOrNot self.old after_no_more self.new }
     {
         self.no_more = true;
     }
 
     /// Work of the client, of this place, is logged. Where memory lacks for that, nothing changes.
     pub fn log_work(&mut self, client: u8, place: u32) -> Result<(), OutOfMemory>
-        ensures done { OnOk result (IsLedgerStep false self.old (λ p. after_work p client place) false self.new) }
+        ensures done { OnOk result (KeepsUp self.old (λ p. after_work p client place) self.new) }
         ensures unchanged { OnErr result (IsSameLedger self.old self.new) }
     {
         self.log.push(LogEntry::Took { client, place })?;
@@ -166,7 +165,7 @@ impl Ledger {
     /// The client is held.
     pub fn hold(&mut self, client: u8)
         requires { client < 8 }
-        ensures { IsLedgerStep false self.old (λ p. after_wait p client) false self.new }
+        ensures { KeepsUp self.old (λ p. after_wait p client) self.new }
     {
         self.held[client as usize] = true;
     }
@@ -175,7 +174,7 @@ impl Ledger {
     pub fn close(&mut self, client: u8)
         requires { client < 8 }
         ensures clients { self.new.clients ≡ self.old.clients }
-        ensures step { (short : Bool) → IsLedgerStep short self.old (λ p. after_end p client) short self.new }
+        ensures step { KeepsUpShortOrNot self.old (λ p. after_end p client) self.new }
     {
         self.closed[client as usize] = true;
     }
@@ -183,8 +182,8 @@ impl Ledger {
 
 /// Each client of the set is held.
 fn holds_set(held: &[bool; 8], members: u8) -> bool
-    ensures yes { IsTrue result → (client : ℕ) → has members client ≡ true → slice_index_or held.now client false ≡ true }
-    ensures no { result ≡ false → (client : ℕ) × (has members client ≡ true) × (slice_index_or held.now client false ≡ false) }
+    ensures yes { IsTrue result → HoldsEach held.now (has members) }
+    ensures no { result ≡ false → LacksSome held.now (has members) }
 {
     for client in 0..8u8 {
         if has(u32::from(members), client) && !held[client as usize] {
@@ -197,8 +196,8 @@ fn holds_set(held: &[bool; 8], members: u8) -> bool
 /// Each of the first so many clients is held.
 fn holds_first(held: &[bool; 8], clients: u8) -> bool
     requires { clients ≤ 8 }
-    ensures yes { IsTrue result → (client : ℕ) → nat_lt client clients ≡ true → slice_index_or held.now client false ≡ true }
-    ensures no { result ≡ false → (client : ℕ) × (nat_lt client clients ≡ true) × (slice_index_or held.now client false ≡ false) }
+    ensures yes { IsTrue result → HoldsEach held.now (λ client. nat_lt client clients) }
+    ensures no { result ≡ false → LacksSome held.now (λ client. nat_lt client clients) }
 {
     for client in 0..clients {
         if !held[client as usize] {
@@ -233,7 +232,7 @@ fn holds_all(held: &[bool; 8], clients: u8, entry: Entry) -> bool
 fn release(held: &mut [bool], clients: u8, entry: Entry)
     requires { length held.old ≡ 8 }
     ensures slots { length held.new ≡ length held.old }
-    ensures held { (client : ℕ) → slice_index_or held.new client false ≡ cond (is_member clients entry client) false (slice_index_or held.old client false) }
+    ensures held { AreReleased clients entry held.old held.new }
 {
     for client in 0..8u8 {
         if is_member(entry, client, usize::from(clients)) {

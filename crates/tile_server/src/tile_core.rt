@@ -34,24 +34,20 @@ pub struct TileCore {
 }
 
 impl TileCore {
-    ghost use Rattle.std.specs.Prelude.{◌≡◌, ◌≢◌, ◌⊎◌, ◌≤◌, ◌<◌, ◌||◌, ℕ, true, false, None, length, slice_index_or, IfOk, OnOk, OnErr, IfSome, IfNone, IsTrue};
-    ghost use Rattle.rc_base.specs.Cluster.Lanes.{EachLane};
+    ghost use Rattle.std.specs.Prelude.{◌≡◌, ◌≢◌, ◌⊎◌, ◌≤◌, ◌<◌, ◌||◌, true, false, None, length, IfOk, OnOk, OnErr, IfSome, IfNone, IsTrue};
     ghost use Rattle.rc_base.specs.Cluster.Tiles.{tile_count};
     ghost use Rattle.rc_base.specs.Cluster.Parcels.{is_end};
     ghost use Rattle.order_model.specs.Standing.{Progress, new_progress};
     ghost use Rattle.tile_model.specs.Acts.{is_work};
     ghost use Rattle.tile_model.specs.Boards.{IsNewBoard};
-    ghost use Rattle.rc_base.specs.declared.state.Parcel.{Parcel};
     ghost use Rattle.rc_base.specs.declared.sync.Entry.{Entry};
     ghost use Rattle.rc_base.specs.declared.sync.Entry.TheVariants.{Swap};
     ghost use Rattle.rc_base.specs.declared.sync.Grant.TheVariants as grant;
-    ghost use Rattle.tile_server.specs.Boards.{IsPartOf};
-    ghost use Rattle.tile_server.specs.Deeds.{answer_of, granted_of, is_wait};
+    ghost use Rattle.tile_server.specs.Deeds.{granted_of, AnswersDeed};
     ghost use Rattle.tile_server.specs.Ledgers.{held_in, is_over_in, IsSameLedger};
-    ghost use Rattle.tile_server.specs.Tasks.{asks_in, listens_in, next_frame, IsAlike, IsDueIn, IsFinishedIn, IsFreeIn, IsWorked, LeavesClients, LeavesGrants, MayTakeIn, NothingIsDueIn};
+    ghost use Rattle.tile_server.specs.Tasks.{asks_in, listens_in, AreAsked, IsAlike, IsDueIn, IsFinishedIn, IsFreeIn, IsNextPart, IsWorked, LeavesClients, LeavesGrants, MayTakeIn, NothingIsDueIn};
     ghost use Rattle.tile_server.specs.declared.deed.TileDeed.TheVariants as deed;
-    ghost use Rattle.tile_server.specs.Cores.{board_of, clients_of, decl_of, is_short, layout_of, next_of, tile_of, IsProgressOf, IsSameCore, IsTileStep, AreTaken, AreFoundEmpty, IsHeard, IsCountedUnheard};
-    ghost use Rattle.tile_server.specs.declared.deed.TileDeed.{TileDeed};
+    ghost use Rattle.tile_server.specs.Cores.{board_of, clients_of, decl_of, is_short, layout_of, next_of, tile_of, AreFoundEmpty, AreSameLanes, AreTaken, BecameShort, CountsUnheard, IsHeard, IsProgressOf, IsSameCore, IsTileStep, TakesEnd, TakesMore, TakesOperation};
 
     /// The core of a tile that was sent nothing yet.
     pub fn new(
@@ -133,7 +129,7 @@ impl TileCore {
 
     /// The clients that parcels are taken of: whom a tile holds counts as long as it isn't short and more may be performed.
     fn asked(&self) -> [bool; 8]
-        ensures { (client : ℕ) → client < clients_of self.now → slice_index_or result client true ≡ asks_in self.now client }
+        ensures { AreAsked self.now result }
     {
         let free = self.short || self.ledger.is_over();
         let mut asks = [false; 8];
@@ -179,7 +175,7 @@ impl TileCore {
     /// A Swap is performed, which shows the part.
     fn show_part(&mut self, part: TilePart) -> TileDeed
         requires due { IsDueIn self.old Swap }
-        requires part { IsPartOf (layout_of self.old) (tile_of self.old) (next_frame self.old) (board_of self.old) part }
+        requires part { IsNextPart self.old part }
         ensures step { IsTileStep self.old result self.new }
         ensures clients { LeavesClients result }
         ensures grants { LeavesGrants result }
@@ -295,7 +291,7 @@ impl TileCore {
     /// The client is held at its operation.
     fn hold(&mut self, client: u8) -> Taking
         requires free { IsFreeIn self.old client }
-        ensures { (parcel : Parcel) → is_wait parcel.act ≡ true → IsTileStep self.old (deed.Takes client parcel result) self.new }
+        ensures { TakesOperation self.old client result self.new }
     {
         self.ledger.hold(client);
         self.next = client + 1;
@@ -317,7 +313,7 @@ impl TileCore {
     /// A parcel is lost, since memory lacks for reading it.
     fn lose(&mut self, client: u8) -> Taking
         requires free { IsFreeIn self.old client }
-        ensures { (parcel : Parcel) → is_end parcel.act ≡ false → IsTileStep self.old (deed.Takes client parcel result) self.new }
+        ensures { TakesMore self.old client result self.new }
     {
         self.short = true;
         self.next = client + 1;
@@ -339,7 +335,7 @@ impl TileCore {
     /// The client is closed.
     fn close(&mut self, client: u8) -> Taking
         requires { MayTakeIn self.old client }
-        ensures { (parcel : Parcel) → is_end parcel.act ≡ true → IsTileStep self.old (deed.Takes client parcel result) self.new }
+        ensures { TakesEnd self.old client result self.new }
     {
         self.ledger.close(client);
         self.next = client + 1;
@@ -350,7 +346,7 @@ impl TileCore {
     fn drop_parcel(&mut self, client: u8) -> Taking
         requires take { MayTakeIn self.old client }
         requires dropped { (is_short self.old ≡ true) ⊎ (held_in self.old.ledger client ≡ true) }
-        ensures { (parcel : Parcel) → is_end parcel.act ≡ false → IsTileStep self.old (deed.Takes client parcel result) self.new }
+        ensures { TakesMore self.old client result self.new }
     {
         self.next = client + 1;
         Taking::Drops
@@ -393,7 +389,7 @@ impl TileCore {
         requires lanes { length clients.old ≡ clients_of self.old }
         requires undue { NothingIsDueIn self.old }
         ensures step { IsTileStep self.old result self.new }
-        ensures lanes { EachLane (λ i a b. I.lane_of b ≡ I.lane_of a) clients.old clients.new }
+        ensures lanes { AreSameLanes I.lane_of clients.old clients.new }
         ensures taken { AreTaken I.gave I.same result clients.old clients.new }
         ensures empty { AreFoundEmpty I.empty_seen I.bare self.old result clients.old clients.new }
         ensures grants { granted_of result ≡ None }
@@ -423,12 +419,12 @@ impl TileCore {
         requires undue { NothingIsDueIn self.old }
         requires listens { listens_in self.old ≡ true }
         ensures step { IsTileStep self.old result self.new }
-        ensures client_lanes { EachLane (λ i a b. I.lane_of b ≡ I.lane_of a) clients.old clients.new }
+        ensures client_lanes { AreSameLanes I.lane_of clients.old clients.new }
         ensures grant_lane { J.lane_of grants.new ≡ J.lane_of grants.old }
         ensures taken { AreTaken I.gave I.same result clients.old clients.new }
         ensures empty { AreFoundEmpty I.empty_seen I.bare self.old result clients.old clients.new }
         ensures heard { IsHeard J.gave J.same result grants.old grants.new }
-        ensures unheard { IsCountedUnheard J.empty_seen J.bare self.old result grants.old grants.new }
+        ensures unheard { CountsUnheard J.empty_seen J.bare self.old result grants.old grants.new }
     {
         match grants.pop() {
             Some(grant) => {
@@ -446,12 +442,12 @@ impl TileCore {
     ) -> TileDeed
         requires { length clients.old ≡ clients_of self.old }
         ensures step { IsTileStep self.old result self.new }
-        ensures client_lanes { EachLane (λ i a b. I.lane_of b ≡ I.lane_of a) clients.old clients.new }
+        ensures client_lanes { AreSameLanes I.lane_of clients.old clients.new }
         ensures grant_lane { J.lane_of grants.new ≡ J.lane_of grants.old }
         ensures taken { AreTaken I.gave I.same result clients.old clients.new }
         ensures empty { AreFoundEmpty I.empty_seen I.bare self.old result clients.old clients.new }
         ensures heard { IsHeard J.gave J.same result grants.old grants.new }
-        ensures unheard { IsCountedUnheard J.empty_seen J.bare self.old result grants.old grants.new }
+        ensures unheard { CountsUnheard J.empty_seen J.bare self.old result grants.old grants.new }
     {
         match self.due() {
             Some(entry) => self.perform(entry),
@@ -482,16 +478,16 @@ impl TileCore {
     ) -> Result<TileMoved, OutOfMemory>
         requires { length clients.old ≡ clients_of self.old }
         ensures same { IsSameCore self.old self.new }
-        ensures client_lanes { EachLane (λ i a b. I.lane_of b ≡ I.lane_of a) clients.old clients.new }
+        ensures client_lanes { AreSameLanes I.lane_of clients.old clients.new }
         ensures grant_lane { J.lane_of grants.new ≡ J.lane_of grants.old }
-        ensures out_of_memory { OnErr result ((is_short self.old ≡ false) × (is_short self.new ≡ true)) }
+        ensures out_of_memory { OnErr result (BecameShort self.old self.new) }
         ensures ample { OnOk result (is_short self.new ≡ is_short self.old) }
         // the answer tells what it did: the first case that applies; it took just that, and each lane that it found empty says so
-        ensures step { (did : TileDeed) × (result ≡ answer_of did) × IsTileStep self.old did self.new
+        ensures step { AnswersDeed result (λ did. IsTileStep self.old did self.new
             × AreTaken I.gave I.same did clients.old clients.new
             × AreFoundEmpty I.empty_seen I.bare self.old did clients.old clients.new
             × IsHeard J.gave J.same did grants.old grants.new
-            × IsCountedUnheard J.empty_seen J.bare self.old did grants.old grants.new }
+            × CountsUnheard J.empty_seen J.bare self.old did grants.old grants.new) }
     {
         answer(self.act(clients, grants))
     }

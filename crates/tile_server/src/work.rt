@@ -1,13 +1,9 @@
 //! Drawing, clearing and writing shared textures.
 ghost use Rattle.std.specs.Prelude.{◌≡◌};
 ghost use Rattle.rc_base.specs.Cluster.Parcels.{effect_by};
-ghost use Rattle.rc_base.specs.Drawing.PixelStep.{effect_step};
-ghost use Rattle.rc_base.specs.declared.command.Part.{Part};
-ghost use Rattle.rc_base.specs.declared.state.Effect.TheVariants as eff;
-ghost use Rattle.textures.specs.Images.{texture_image};
-ghost use Rattle.draw_device.specs.Conditions.{IsDrawable, IsClearable, shared_of};
-ghost use Rattle.draw_device.specs.Devices.{EachTakes};
-ghost use Rattle.draw_device.specs.Stored.{IsStorable, set_after};
+ghost use Rattle.draw_device.specs.Conditions.{IsDrawable, IsClearable};
+ghost use Rattle.draw_device.specs.Stored.{set_after};
+ghost use Rattle.tile_server.specs.Works.{MayStore, TakesEffect};
 
 use crate::kept::KeptClient;
 use context_switch::switch;
@@ -33,10 +29,9 @@ fn perform(
 )
     requires drawable { IsDrawable kept.now.state kept.now.images shared.old }
     requires clearable { IsClearable kept.now.state }
-    requires writable { (part : Part) → effect.now ≡ eff.Shared part → IsStorable part shared.old }
+    requires writable { MayStore effect.now shared.old }
     ensures rect { device.new.rect ≡ device.old.rect }
-    ensures drawn { EachTakes (effect_step kept.now.state (texture_image kept.now.images) (shared_of shared.old) effect.now)
-        device.old device.new }
+    ensures drawn { TakesEffect kept.now shared.old effect.now device.old device.new }
     ensures shared { shared.new ≡ set_after effect.now shared.old }
 {
     match effect {
@@ -61,10 +56,9 @@ pub(crate) fn work(
 ) -> Option<Vertices>
     requires drawable { IsDrawable kept.now.state kept.now.images shared.old }
     requires clearable { IsClearable kept.now.state }
-    requires writable { (part : Part) → effect_by act ≡ eff.Shared part → IsStorable part shared.old }
+    requires writable { MayStore (effect_by act) shared.old }
     ensures rect { device.new.rect ≡ device.old.rect }
-    ensures drawn { EachTakes (effect_step kept.now.state (texture_image kept.now.images) (shared_of shared.old) (effect_by act))
-        device.old device.new }
+    ensures drawn { TakesEffect kept.now shared.old (effect_by act) device.old device.new }
     ensures shared { shared.new ≡ set_after (effect_by act) shared.old }
 {
     let effect = effect_of(act);

@@ -21,11 +21,11 @@ returns c =
     let core : IsTileCoreStep e.step.0 a b given left g h = record {
       row_depths = e.client_lanes;
       lane_depth = e.grant_lane;
-      step = e.step.2;
-      taken = e.step.3;
-      empty = e.step.4;
-      heard = e.step.5;
-      unheard = e.step.6;
+      step = e.step.2.0;
+      taken = e.step.2.1;
+      empty = e.step.2.2;
+      heard = e.step.2.3;
+      unheard = e.step.2.4;
     } in
     let first : IsTileCoreStep e.step.0 a b row.items left g h = subst (λ (xs : List (PlainLane Parcel)). IsTileCoreStep e.step.0 a b xs left g h)
     c.deref_mut.ensures.value core in

@@ -104,7 +104,7 @@ returns-clause-steps g c =
     inl (record {
       none_waits = none_there c.args.self.now.held (sym c.is_some-waited.ensures ∙ c.if-waited.false);
       deed = told.0;
-      step = told.2;
+      step = told.2.0;
       came_is = c.attempt_of-attempt.ensures.exact ∙ ap tile_attempt told.1;
     })
 
@@ -139,7 +139,7 @@ returns-clause-leads g c scene l tile took heard shown h =
           (record { grows = λ a b x gave. gave; stays = λ a b same. same }) (record { grows = λ a b x gave. gave; stays = λ a b same. same }) scene l tile d told.0
           (record { core = w.core; clients = xs; grants = w.grants; parts = parts_of w; ended = w.ended })
           (record { core = later; clients = xs'; grants = heard'; parts = parts_of w ++ shown_in (answer_of told.0); ended = ended }) before
-          (record { count = ap length xs_are ∙ w.lanes; step = told.2; took = told.3; learnt = told.5; showed = refl; ends = λ is. sym told.1 ∙ over is }) in
+          (record { count = ap length xs_are ∙ w.lanes; step = told.2.0; took = told.2.1; learnt = told.2.3; showed = refl; ends = λ is. sym told.1 ∙ over is }) in
           let shows = subst (λ r. Holds scene l tile d later xs' (taken_of heard') (parts_of w ++ shown_in r) ended) (sym told.1) after in
           let offered = offers scene l tile later (λ client. taken_of (slice_index_or xs' client d)) (taken_of heard') ended (parts_of w) offer answer
           c.offered.ensures.shown (short_now _ _ answer step.out_of_memory) shows in
