@@ -9,7 +9,7 @@ ghost use Rattle.run_record.specs.Closed.{AreClosed};
 ghost use Rattle.run_record.specs.Collected.{IsWholeRun};
 ghost use Rattle.run_record.specs.Told.{IsRun};
 ghost use Rattle.frame_out.specs.Laws.{HasWindow};
-ghost use Rattle.frame_out.specs.Writing.{IsCounted, IsWritten};
+ghost use Rattle.frame_out.specs.Writing.{IsCounted, IsTextWritten};
 ghost use Rattle.tile_queues.specs.Names.{AreOutOf};
 ghost use Rattle.cluster_run.specs.Clusters.{LaneNames, IsEndedCluster};
 ghost use Rattle.cluster_run.specs.Fronts.{GaveFront};
@@ -133,7 +133,7 @@ where
     requires within { IsWithin scene.now }
     requires layout { IsLayoutFor scene.now layout.now depth }
     ensures run { IfOk result (λ r. IsRun scene.now layout.now r.kept r.tallies r.waiting r.faults) }
-    ensures written { IfOk result (λ r. IsWritten (use_of K.held K.faults image.old image.new) (image_text_of scene.now layout.now r.kept) r.written) }
+    ensures written { IfOk result (λ r. IsTextWritten (use_of K.held K.faults image.old image.new) (image_text_of scene.now layout.now r.kept) r.written) }
     ensures counted { IfOk result (λ r. r.written.fault ≡ false → r.written.bytes ≡ length (image_text_of scene.now layout.now r.kept)) }
     ensures front { OnErr result (GaveFront layout.now (use_of K.held K.faults image.old image.new)) }
     ensures later { K.faults image.old ≤ K.faults image.new }

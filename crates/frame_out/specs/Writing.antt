@@ -15,14 +15,14 @@ pub record AreWritable (frames : List Image) : Type 0 where
   pub few : length frames ≤ 2 ^ 32
 
 -- it was given the whole, or so many bytes before it failed
-abbrev pub IsWritten : Used → List ℕ → Written → Type 0
-IsWritten image text written =
+abbrev pub IsTextWritten : Used → List ℕ → Written → Type 0
+IsTextWritten image text written =
     ((written.fault ≡ false) × Took image text × IsCalm image)
     ⊎ ((written.fault ≡ true) × Failed image × (written.bytes < length text) × Took image (take written.bytes text))
 
 -- and the bytes that went out are counted
 pub record IsCounted (image : Used) (text : List ℕ) (written : Written) : Type 0 where
-  pub is : IsWritten image text written
+  pub is : IsTextWritten image text written
   pub count : written.fault ≡ false → written.bytes ≡ length text
 
 -- what is counted after one `write_all` more, of so many bytes

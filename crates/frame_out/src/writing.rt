@@ -3,7 +3,7 @@ ghost use Rattle.std.specs.Prelude.{◌≡◌, ◌+◌, ◌^◌, ◌<◌, ◌≤
 ghost use Rattle.rc_base.specs.Formats.Netpbm.{p6_text, p6_texts};
 ghost use Rattle.rc_base.specs.Outside.Ends.{use_of, TookFront};
 ghost use Rattle.ppm_out.specs.Pictures.{IsWholeImage};
-ghost use Rattle.frame_out.specs.Writing.{written_more, AreWritable, HasGiven, IsCounted, IsWritten};
+ghost use Rattle.frame_out.specs.Writing.{written_more, AreWritable, HasGiven, IsCounted, IsTextWritten};
 
 use ppm_out::put_image_text;
 use rc_base::image::Image;
@@ -83,7 +83,7 @@ pub fn write_frames<K: Sink>(
     frames: &[Image],
 ) -> Result<Written, OutOfMemory>
     requires { AreWritable frames.now }
-    ensures written { IfOk result (IsWritten (use_of K.held K.faults image.old image.new) (p6_texts frames.now)) }
+    ensures written { IfOk result (IsTextWritten (use_of K.held K.faults image.old image.new) (p6_texts frames.now)) }
     ensures front { OnErr result (TookFront (use_of K.held K.faults image.old image.new) (p6_texts frames.now)) }
     ensures later { K.faults image.old ≤ K.faults image.new }
 {
@@ -97,7 +97,7 @@ pub fn write_frames<K: Sink>(
 
 /// Writes a text by one `write_all`.
 pub fn write_text<K: Sink>(image: &mut K, text: &[u8]) -> Written
-    ensures written { IsWritten (use_of K.held K.faults image.old image.new) text.now result }
+    ensures written { IsTextWritten (use_of K.held K.faults image.old image.new) text.now result }
     ensures later { K.faults image.old ≤ K.faults image.new }
 {
     match write_all(image, text) {

@@ -26,7 +26,7 @@ use Rattle.run_words.specs.declared.refusal.Refusal.{Refusal}
 use Rattle.run_words.specs.declared.refusal.Refusal.TheVariants.{Reading, Input, Undue, Image}
 use Rattle.run_words.specs.declared.refusal.Refused.{Refused}
 use Rattle.run_words.specs.declared.told.Told.{Told}
-use Rattle.frame_out.specs.Writing.{IsWritten}
+use Rattle.frame_out.specs.Writing.{IsTextWritten}
 use Rattle.frame_out.specs.declared.writing.Written.{Written}
 use Rattle.render_core.specs.Due.{Outcome, IsOutcome}
 use Rattle.rc_base.specs.Outside.Ends.{Used, IsCalm, Took, TookInput, TookFront}
@@ -188,7 +188,7 @@ late_undue task source job scene undue.OutOfMemory none left seen = Behind (inr 
 -- ---- its image
 
 -- what was written is a front of the text
-pub front_of : (image : Used) (text : List ℕ) (written : Written) → IsWritten image text written → TookFront image text
+pub front_of : (image : Used) (text : List ℕ) (written : Written) → IsTextWritten image text written → TookFront image text
 front_of image text written (inl whole) =
     record { done = length text; part = omega arith; given = subst (Took image) (sym (take-length text)) whole.1 }
 front_of image text written (inr cut) = let below = cut.2 in record { done = written.bytes; part = omega (arith, below); given = cut.3 }
@@ -197,10 +197,10 @@ module _ (task : Task) (source image : Used) (o : Outcome) (due : IsDue task sou
   pub partly_written : TookFront image o.image → PartlyWritten task source image
   partly_written front = record { o = o; due = due; done = front.done; part = front.part; given = front.given }
 
-  module _ (written : Written) (is : IsWritten image o.image written) where
+  module _ (written : Written) (is : IsTextWritten image o.image written) where
     pub performed_of : (told : Told) → IsToldOf o.notes o.ending o.kept written told → IsPerformed task source image told
     performed_of told of = record { o = o; due = due; sent = record { sent = go is of.lines; ending = of.ending_is; kept = of.kept_is } } where
-      go : IsWritten image o.image written
+      go : IsTextWritten image o.image written
           → ((written.fault ≡ false) × (told.lines ≡ o.notes)) ⊎ ((written.fault ≡ true) × (o.ending ≢ Complete) × (told.lines ≡ o.notes ++ image_fault_line written.bytes))
           → Sent image o told.lines
       go (inl whole) (inl plain) = Whole whole.1 whole.2 plain.1
@@ -212,7 +212,7 @@ module _ (task : Task) (source image : Used) (o : Outcome) (due : IsDue task sou
 
     pub untold_cause : (refused : Refused) → IsUntold o.ending o.kept written refused → IsCaused task source image refused.refusal refused.kept
     untold_cause refused untold = go is untold.why where
-      go : IsWritten image o.image written
+      go : IsTextWritten image o.image written
           → (refused.refusal ≡ Image writing.OutOfMemory) ⊎ ((written.fault ≡ true) × (o.ending ≡ Complete) × (refused.refusal ≡ Image (writing.Fault written.bytes)))
           → IsCaused task source image refused.refusal refused.kept
       go w (inl memory) = inr (ap refusal_status memory, ap refusal_line memory)

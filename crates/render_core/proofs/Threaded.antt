@@ -18,7 +18,7 @@ use Rattle.rc_base.specs.declared.state.Fault.{Fault}
 use Rattle.rc_base.specs.declared.sync.Waiting.{Waiting}
 use Rattle.rc_base.specs.declared.window.Layout.{Layout}
 use Rattle.cluster_run.specs.Fronts.{GaveFront}
-use Rattle.frame_out.specs.Writing.{IsWritten}
+use Rattle.frame_out.specs.Writing.{IsTextWritten}
 use Rattle.frame_out.specs.declared.writing.Written.{Written}
 use Rattle.order_model.specs.Laws.{SceneListsAreWellFormed, RecordsOfScenesArePermitted}
 use Rattle.order_model.specs.Report.{image_text_of}
@@ -196,9 +196,9 @@ module _ (task : Task) (cluster : Cluster) (source image : Used) (work : Work) (
   }
 
   module _ (kept : Record) (tallies : List Tally) (waiting : Option Waiting) (faults : List (List (ℕ × Fault))) (written : Written) (is : IsRun work.scene l kept tallies waiting faults)
-      (given : IsWritten image (image_text_of work.scene l kept) written) where
-    here : IsWritten image (image_text_of work.scene (layout_for cluster work.scene) kept) written
-    here = subst (λ (t : Layout). IsWritten image (image_text_of work.scene t kept) written) tiles given
+      (given : IsTextWritten image (image_text_of work.scene l kept) written) where
+    here : IsTextWritten image (image_text_of work.scene (layout_for cluster work.scene) kept) written
+    here = subst (λ (t : Layout). IsTextWritten image (image_text_of work.scene t kept) written) tiles given
 
     run_given : PartlyWritten task source image
     run_given =

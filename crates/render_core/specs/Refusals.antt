@@ -5,7 +5,7 @@ use Rattle.order_model.specs.declared.record.Record.{Record}
 use Rattle.std.specs.List.{AllByRecursion, flat_map}
 use Rattle.rc_base.specs.Formats.Netpbm.{p6_texts}
 use Rattle.rc_base.specs.declared.scene.Scene.{Scene}
-use Rattle.frame_out.specs.Writing.{AreWritable, IsWritten}
+use Rattle.frame_out.specs.Writing.{AreWritable, IsTextWritten}
 use Rattle.frame_out.specs.declared.writing.Written.{Written}
 use Rattle.scene_file.specs.Letters.{BeginWithLists}
 use Rattle.scene_file.specs.declared.list_scene.ListScene.{ListScene}
@@ -165,7 +165,7 @@ IsNoOutcome job scene undue.OutOfMemory = Unit {0}
 
 -- the image took what is due to it, as much of it as is told, or a front of it
 abbrev pub IsGiven : Used → DueImage → Written → Type 0
-IsGiven image due written = IsWritten image (due_text due) written
+IsGiven image due written = IsTextWritten image (due_text due) written
 
 abbrev pub TookSome : Used → DueImage → Type 0
 TookSome image due = TookFront image (due_text due)

@@ -1,7 +1,7 @@
 //! What is due, written: to the image each frame's text, or the one text, by one `write_all`; and what is then left to tell.
 ghost use Rattle.std.specs.Prelude.{◌≡◌, ◌≤◌, ◌++◌, [], IfOk, IfErr, OnErr};
 ghost use Rattle.rc_base.specs.Outside.Ends.{use_of};
-ghost use Rattle.frame_out.specs.Writing.{IsWritten};
+ghost use Rattle.frame_out.specs.Writing.{IsTextWritten};
 ghost use Rattle.run_words.specs.Lines.{image_fault_line};
 ghost use Rattle.render_core.specs.Refusals.{IsBlank, IsGiven, IsWritable, IsToldOf, IsUntold, TookSome};
 ghost use Rattle.run_words.specs.declared.refusal.Refusal.TheVariants.{Image as OfImage};
@@ -18,7 +18,7 @@ use std::alloc::{AllocError, Global};
 
 // Writes a text, if there is one.
 fn write_some<K: Sink>(image: &mut K, text: &[u8]) -> Written
-    ensures written { IsWritten (use_of K.held K.faults image.old image.new) text.now result }
+    ensures written { IsTextWritten (use_of K.held K.faults image.old image.new) text.now result }
     ensures blank { text.now ≡ [] → image.new ≡ image.old }
     ensures later { K.faults image.old ≤ K.faults image.new }
 {

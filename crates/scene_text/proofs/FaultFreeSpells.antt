@@ -23,7 +23,7 @@ use Rattle.command_table.specs.Ranges.{AreIn}
 use Rattle.command_table.proofs.FieldsAndParts.{command_of_parts}
 use Rattle.command_table.proofs.PartsMakeCommands.{byte_again, half_again, parts_again}
 use Rattle.scene_text.specs.declared.draft.Draft.{Draft}
-use Rattle.scene_text.specs.Drafts.{said, IsDraft, Adds, ReadsNamed, ReadsWords, Passes, Progress}
+use Rattle.scene_text.specs.Drafts.{said, IsDraft, Adds, ReadsNamed, ReadsWords, TakesLine, Progress}
 use Rattle.scene_text.specs.Tally.{first_name, line_name, Grows, Totals}
 use Rattle.scene_text.proofs.DraftsGrow.{declared, attended, adds_window, adds_shared, adds_barrier, adds_semaphore, adds_first_client, adds_client, adds_command}
 use Rattle.scene_text.proofs.NumbersReadInRange.{numbers_in}
@@ -185,7 +185,7 @@ name_said : (l : List ℕ) → is_skipped l ≡ false → line_name l ≡ first_
 unfolding line_name
 name_said l e = ap (λ b. cond b None (first_name (words_of l))) e
 
-line_step : (d : Draft) (l : List ℕ) → IsDraft d → fault_of_line d.rank l ≡ None → (new : Draft) × Passes d new l × (d.rank ≡ 5 → Grows d new (line_name l))
+line_step : (d : Draft) (l : List ℕ) → IsDraft d → fault_of_line d.rank l ≡ None → (new : Draft) × TakesLine d new l × (d.rank ≡ 5 → Grows d new (line_name l))
 unfolding fault_of_line
 line_step d l hd h = elim (cases_Bool (is_text l)) [
   | inl t ↦ elim (cases_Bool (is_skipped l)) [
@@ -267,7 +267,7 @@ totals_more d new l ls s g t = record {
 }
 
 -- a line without fault leaves the clients' rank
-stays : (d new : Draft) (l : List ℕ) → Passes d new l → d.rank ≡ 5 → new.rank ≡ 5
+stays : (d new : Draft) (l : List ℕ) → TakesLine d new l → d.rank ≡ 5 → new.rank ≡ 5
 stays d new l p five = p.rank ∙ last_rank d.rank l five p.fault
 
 pub through : (text : List ℕ) (d : Draft) (n : ℕ) (rest : List (List ℕ)) → Progress text d n rest → first_fault (n + 1) d.rank rest ≡ None → Ends text d rest

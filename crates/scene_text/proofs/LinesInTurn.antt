@@ -15,7 +15,7 @@ use Rattle.scene_text.specs.Text.Faults.{rank_of, rank_after, rank_after_words, 
 use Rattle.scene_text.specs.declared.draft.Draft.{Draft}
 use Rattle.scene_text.specs.declared.parse.LineFault.{LineFault}
 use Rattle.scene_text.specs.declared.parse.LineFault.TheVariants as fault
-use Rattle.scene_text.specs.Drafts.{said, IsDraft, ReadsStatement, ReadsNamed, ReadsWords, ReadsLine, Passes, Progress}
+use Rattle.scene_text.specs.Drafts.{said, IsDraft, ReadsStatement, ReadsNamed, ReadsWords, ReadsLine, TakesLine, Progress}
 use Rattle.scene_text.proofs.WhatWordsSay.{says_name}
 
 -- ---- the words of a line
@@ -62,7 +62,7 @@ unfolding rank_after
 rank_is before line s = ap (λ b. cond b before (rank_after_words before (words_of line))) s
 
 pub line_ok : (old new : Draft) (x : Unit {0}) (line : List ℕ) → is_text line ≡ true → is_skipped line ≡ false
-    → ReadsWords old new (Ok x) (words_of line) → Passes old new line
+    → ReadsWords old new (Ok x) (words_of line) → TakesLine old new line
 line_ok old new x line t s h = record {
   draft = h.4.draft;
   text = t;
@@ -86,7 +86,7 @@ pub skipped_rank : (before : ℕ) (line : List ℕ) → is_skipped line ≡ true
 unfolding rank_after
 skipped_rank before line s = ap (λ b. cond b before (rank_after_words before (words_of line))) s
 
-pub line_skipped : (d : Draft) (line : List ℕ) → IsDraft d → is_text line ≡ true → is_skipped line ≡ true → Passes d d line
+pub line_skipped : (d : Draft) (line : List ℕ) → IsDraft d → is_text line ≡ true → is_skipped line ≡ true → TakesLine d d line
 line_skipped d line h t s = record {
   draft = h;
   text = t;
@@ -135,7 +135,7 @@ says_step whole old new l ls h (inr p) =
     ∙ ap (λ y. y ++ rest) (sym (map-append (λ x. Ok x) old (p.1.0 ∷ [])))
     ∙ sym (ap (λ y. map (λ x. Ok x) y ++ rest) p.1.2)
 
-pub onward : (text : List ℕ) (old new : Draft) (n : ℕ) (l : List ℕ) (ls all : List (List ℕ)) → all ≡ l ∷ ls → Progress text old n all → Passes old new l
+pub onward : (text : List ℕ) (old new : Draft) (n : ℕ) (l : List ℕ) (ls all : List (List ℕ)) → all ≡ l ∷ ls → Progress text old n all → TakesLine old new l
     → Progress text new (n + 1) ls
 onward text old new n l ls all e h p =
     record {

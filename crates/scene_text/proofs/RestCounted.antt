@@ -13,7 +13,7 @@ use Rattle.scene_text.specs.declared.parse.LineFault.{LineFault}
 use Rattle.scene_text.specs.declared.parse.LineFault.TheVariants as fault
 use Rattle.scene_text.specs.declared.parse.TextSceneFault.{TextSceneFault}
 use Rattle.scene_text.specs.declared.parse.TextSceneFault.TheVariants as text_fault_of
-use Rattle.scene_text.specs.Drafts.{Passes, ReadsLine, Progress, IsTextFault, line_fault_of}
+use Rattle.scene_text.specs.Drafts.{TakesLine, ReadsLine, Progress, IsTextFault, line_fault_of}
 use Rattle.scene_text.specs.Tally.{line_name, clients_by, commands_by, clients_in_lines, commands_in_lines, stored_commands, is_over, CountsRest, JudgesRest}
 use Rattle.scene_text.proofs.FaultFreeSpells.{last_rank, through}
 
@@ -30,7 +30,7 @@ pub counted_none : (text : List ℕ) (before : ℕ) → Counted text before befo
 counted_none text before = record { fault = refl; clients = omega arith; commands = omega arith; few_clients = omega arith; few_commands = omega arith; few_lines = omega arith }
 
 pub counted_more : (text : List ℕ) (before line : ℕ) (rest first after : List ℕ) (t : Tally) (more : ℕ) (most : ℕ) (d new : Draft) → Counted text before line rest t
-    → lines rest ≡ first ∷ lines after → length after < length rest → d.rank ≡ 5 → Passes d new first → more ≡ clients_by (line_name first) → most ≡ commands_by (line_name first)
+    → lines rest ≡ first ∷ lines after → length after < length rest → d.rank ≡ 5 → TakesLine d new first → more ≡ clients_by (line_name first) → most ≡ commands_by (line_name first)
     → more ≤ 1 → most ≤ 1 → Counted text before (line + 1) after (record { clients = t.clients + more; commands = t.commands + most })
 counted_more text before line rest first after t more most d new c parts less five p one two a b =
     let none : fault_of_line 5 first ≡ None = subst (λ r. fault_of_line r first ≡ None) five p.fault in

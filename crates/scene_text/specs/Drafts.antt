@@ -65,7 +65,7 @@ ReadsWords old new (Err (fault.Text k)) words = fault_of_words old.rank words �
 ReadsWords old new (Err fault.OutOfMemory) words = Unit {0}
 
 -- a line without fault is read
-pub record Passes (old new : Draft) (line : List ℕ) : Type 0 where
+pub record TakesLine (old new : Draft) (line : List ℕ) : Type 0 where
   pub draft : IsDraft new
   pub text : is_text line ≡ true
   pub fault : fault_of_line old.rank line ≡ None
@@ -75,7 +75,7 @@ pub record Passes (old new : Draft) (line : List ℕ) : Type 0 where
 
 -- a line is read, or its fault is told, unless there was no memory
 abbrev pub ReadsLine : Draft → Draft → Result (Unit {0}) LineFault → List ℕ → Type 0
-ReadsLine old new (Ok x) line = Passes old new line
+ReadsLine old new (Ok x) line = TakesLine old new line
 ReadsLine old new (Err (fault.Text k)) line = fault_of_line old.rank line ≡ Some k
 ReadsLine old new (Err fault.OutOfMemory) line = Unit {0}
 

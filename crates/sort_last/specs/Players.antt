@@ -148,8 +148,8 @@ abbrev pub EndsBatch : Batch → ℕ → Player → Type 0
 EndsBatch b client p = HasPlayed b client b.end p
 
 -- the number is that of a client
-abbrev pub IsClientOf : Batch → ℕ → Type 0
-IsClientOf b client = client < length b.scene.now.streams
+abbrev pub IsClientIn : Batch → ℕ → Type 0
+IsClientIn b client = client < length b.scene.now.streams
 
 -- there is a sheet for each frame of the batch
 abbrev pub HasSheets : Batch → Player → Type 0

@@ -1,7 +1,7 @@
 //! A client that draws its frames alone.
 ghost use Rattle.std.specs.Prelude.{◌≡◌, ◌+◌, ◌<◌, ◌≤◌, length, slice_index_or, true, IfOk, OnOk};
 ghost use Rattle.rc_base.specs.Orders.Sync.{client_count, client_row};
-ghost use Rattle.sort_last.specs.Players.{start_of, AreNamesOf, IsInBatch, IsAtStart, IsClientOf, HasPlayed, StartsBatch, EndsBatch, HasSheets, HaveDrawn, HaveLayers, AreDrawn, AreWhole};
+ghost use Rattle.sort_last.specs.Players.{start_of, AreNamesOf, IsInBatch, IsAtStart, IsClientIn, HasPlayed, StartsBatch, EndsBatch, HasSheets, HaveDrawn, HaveLayers, AreDrawn, AreWhole};
 ghost use Rattle.sort_last.specs.declared.player.Player.{Player as ThePlayer};
 
 use crate::apart::{Batch, ClientNames};
@@ -44,7 +44,7 @@ fn frame_end(row: &SyncRow, frame: usize) -> usize
 
 /// The names of a client's frame, its Swap among them.
 pub(crate) fn frame_names(batch: &Batch<'_>, client: usize, frame: usize) -> ClientNames
-    requires client { IsClientOf batch.now client }
+    requires client { IsClientIn batch.now client }
     requires frame { frame < batch.now.end }
     ensures { AreNamesOf batch.now.scene.now client frame result }
 {
@@ -102,7 +102,7 @@ impl Player {
         client: usize,
         frame: usize,
     ) -> Result<(), OutOfMemory>
-        requires client { IsClientOf batch.now client }
+        requires client { IsClientIn batch.now client }
         requires frame { IsInBatch batch.now frame }
         requires room { HasSheets batch.now self.old }
         requires before { HasPlayed batch.now client frame self.old }
@@ -121,7 +121,7 @@ impl Player {
         batch: &Batch<'_>,
         client: usize,
     ) -> Result<(), OutOfMemory>
-        requires client { IsClientOf batch.now client }
+        requires client { IsClientIn batch.now client }
         requires before { StartsBatch batch.now client self.old }
         ensures { OnOk result (EndsBatch batch.now client self.new) }
     {
@@ -134,7 +134,7 @@ impl Player {
 
     /// Draws the client's frames of the batch, and notes whether there was memory for all.
     fn draw_frames(&mut self, alloc: Global, batch: &Batch<'_>, client: usize)
-        requires client { IsClientOf batch.now client }
+        requires client { IsClientIn batch.now client }
         requires before { StartsBatch batch.now client self.old }
         ensures { self.new.whole ≡ true → EndsBatch batch.now client self.new }
     {
@@ -178,7 +178,7 @@ fn draw_layers(rt: &(impl Threads + Sync), alloc: Global, batch: &Batch<'_>, pla
         rt,
         players,
         |client: usize, player: &mut Player|
-            requires { IsClientOf batch.now client × StartsBatch batch.now client player.now }
+            requires { IsClientIn batch.now client × StartsBatch batch.now client player.now }
             ensures { player.new.whole ≡ true → EndsBatch batch.entry.now client player.new }
         {
             player.draw_frames(alloc, batch, client);

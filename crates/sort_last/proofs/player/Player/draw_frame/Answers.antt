@@ -1,4 +1,4 @@
-use Rattle.std.proofs.Common.{◌≡◌, ◌-◌, ◌<◌, ◌∙◌, ap, sym, refl, arith, subst, length, fold}
+use Rattle.std.proofs.Common.{◌-◌, ◌<◌, ◌∙◌, ap, sym, refl, arith, subst, length, fold}
 use Rattle.std.proofs.lemmas.List.{length-set}
 use Rattle.rc_base.specs.Contexts.Issue.{context_after}
 use Rattle.rc_base.specs.Drawing.Serial.{blank_pixel}
