@@ -5,15 +5,19 @@ use fixed_math::{Interval, apply, centre_of, delta, edge, floor_div, quotient, r
 use rc_base::command::{Mat4, Rgba};
 use rc_base::window::WindowVertex;
 
+// A number, what it is divided by, and the quotient.
+const QUOTIENTS: [(i128, i128, i128); 5] = [
+    (7, 2, 3),
+    (-7, 2, -4),
+    (-8, 2, -4),
+    (-1, 65536, -1),
+    (0, 5, 0),
+];
+
 #[test]
 fn quotients_round_down(rt: HostRuntime) {
-    for (n, d, want) in [
-        (7, 2, 3),
-        (-7, 2, -4),
-        (-8, 2, -4),
-        (-1, 65536, -1),
-        (0, 5, 0),
-    ] {
+    for row in &QUOTIENTS {
+        let (n, d, want) = *row;
         if d > 0 {
             assert!(rt; floor_div(n, d) == want);
         }

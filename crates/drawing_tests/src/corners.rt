@@ -79,22 +79,26 @@ fn second(
     Ok(found.map(|[a, b, c]| (a, b, c)))
 }
 
+// A mode, how many vertices there are, and the corners of the second triangle.
+const SECONDS: [(u8, u8, Option<(usize, usize, usize)>); 11] = [
+    (0, 8, Some((3, 4, 5))),
+    (1, 4, Some((2, 1, 3))),
+    (2, 4, Some((0, 2, 3))),
+    (1, 2, None),
+    (3, 9, None),
+    // The same in scenes of version 2, and modes that no scene gives.
+    (16, 8, Some((3, 4, 5))),
+    (17, 4, Some((2, 1, 3))),
+    (18, 4, Some((0, 2, 3))),
+    (19, 8, None),
+    (32, 8, None),
+    (255, 8, None),
+];
+
 #[test]
 fn blocks_have_their_triangles(rt: HostRuntime) {
-    for (mode, count, want) in [
-        (0, 8, Some((3, 4, 5))),
-        (1, 4, Some((2, 1, 3))),
-        (2, 4, Some((0, 2, 3))),
-        (1, 2, None),
-        (3, 9, None),
-        // The same in scenes of version 2, and modes that no scene gives.
-        (16, 8, Some((3, 4, 5))),
-        (17, 4, Some((2, 1, 3))),
-        (18, 4, Some((0, 2, 3))),
-        (19, 8, None),
-        (32, 8, None),
-        (255, 8, None),
-    ] {
+    for row in &SECONDS {
+        let (mode, count, want) = *row;
         assert!(rt; second(rt.alloc(), mode, count) == Ok(want));
     }
 }
@@ -143,16 +147,20 @@ fn is_near(x0: i32, y0: i32, x1: i32, y1: i32) -> bool {
     cache.triangle([0, 1, 2]).is_some() && cache.triangle_near([0, 1, 2], &near).is_some()
 }
 
+// A rectangle, and whether the triangle is near it.
+const RECTANGLES: [(i32, i32, i32, i32, bool); 6] = [
+    (0, 0, 2, 2, true),
+    (1, 1, 2, 2, true),
+    (2, 0, 4, 2, false),
+    (-2, 0, 0, 2, false),
+    (0, 2, 2, 4, false),
+    (0, -2, 2, 0, false),
+];
+
 #[test]
 fn triangles_beside_a_rectangle_are_left_out(rt: HostRuntime) {
-    for (x0, y0, x1, y1, want) in [
-        (0, 0, 2, 2, true),
-        (1, 1, 2, 2, true),
-        (2, 0, 4, 2, false),
-        (-2, 0, 0, 2, false),
-        (0, 2, 2, 4, false),
-        (0, -2, 2, 0, false),
-    ] {
+    for row in &RECTANGLES {
+        let (x0, y0, x1, y1, want) = *row;
         assert!(rt; is_near(x0, y0, x1, y1) == want);
     }
     let near = surrounds_of(Rect {

@@ -77,24 +77,28 @@ fn passes_alpha(function: u8, alpha: u8, reference: u8) -> bool {
     new.color == color && new.depth == 5
 }
 
+// A function, a fragment's alpha and the reference, and whether it passes.
+const ALPHA_TESTS: [(u8, u8, u8, bool); 14] = [
+    (0, 0, 255, false),
+    (1, 127, 128, true),
+    (1, 128, 128, false),
+    (2, 255, 255, true),
+    (2, 254, 255, false),
+    (3, 128, 128, true),
+    (3, 129, 128, false),
+    (4, 1, 0, true),
+    (4, 0, 0, false),
+    (5, 0, 1, true),
+    (5, 1, 1, false),
+    (6, 128, 128, true),
+    (6, 127, 128, false),
+    (7, 0, 255, true),
+];
+
 #[test]
 fn alpha_tests_pass_by_their_function(rt: HostRuntime) {
-    for (function, alpha, reference, want) in [
-        (0, 0, 255, false),
-        (1, 127, 128, true),
-        (1, 128, 128, false),
-        (2, 255, 255, true),
-        (2, 254, 255, false),
-        (3, 128, 128, true),
-        (3, 129, 128, false),
-        (4, 1, 0, true),
-        (4, 0, 0, false),
-        (5, 0, 1, true),
-        (5, 1, 1, false),
-        (6, 128, 128, true),
-        (6, 127, 128, false),
-        (7, 0, 255, true),
-    ] {
+    for row in &ALPHA_TESTS {
+        let (function, alpha, reference, want) = *row;
         assert!(rt; passes_alpha(function, alpha, reference) == want);
     }
 }
@@ -116,20 +120,24 @@ fn tested(function: u8, depth_mask: bool, depth: i32, stored: u32) -> (bool, u32
     (new.color == color, new.depth)
 }
 
+// A function, the depth mask, a fragment's depth and the stored one, whether it passes, and the depth that is left.
+const DEPTH_TESTS: [(u8, bool, i32, u32, bool, u32); 10] = [
+    (0, true, 0, 1, false, 1),
+    (1, true, 4, 5, true, 4),
+    (1, true, 5, 5, false, 5),
+    (2, true, 16_777_215, 16_777_215, true, 16_777_215),
+    (3, true, 5, 5, true, 5),
+    (3, true, 6, 5, false, 5),
+    (4, true, 16_777_215, 0, true, 16_777_215),
+    (5, true, 5, 5, false, 5),
+    (6, false, 7, 5, true, 5),
+    (7, true, 9, 5, true, 9),
+];
+
 #[test]
 fn depth_tests_pass_by_their_function_and_store_by_their_mask(rt: HostRuntime) {
-    for (function, mask, depth, stored, passes, left) in [
-        (0, true, 0, 1, false, 1),
-        (1, true, 4, 5, true, 4),
-        (1, true, 5, 5, false, 5),
-        (2, true, 16_777_215, 16_777_215, true, 16_777_215),
-        (3, true, 5, 5, true, 5),
-        (3, true, 6, 5, false, 5),
-        (4, true, 16_777_215, 0, true, 16_777_215),
-        (5, true, 5, 5, false, 5),
-        (6, false, 7, 5, true, 5),
-        (7, true, 9, 5, true, 9),
-    ] {
+    for row in &DEPTH_TESTS {
+        let (function, mask, depth, stored, passes, left) = *row;
         assert!(rt; tested(function, mask, depth, stored) == (passes, left));
     }
 }
@@ -157,23 +165,27 @@ fn blended(codes: [u8; 2], source: u8, stored: u8, alpha: u8, stored_alpha: u8) 
         .r
 }
 
-// ZERO, ONE, SRC_COLOR, ONE_MINUS_SRC_COLOR, DST_COLOR, ONE_MINUS_DST_COLOR, SRC_ALPHA, ONE_MINUS_SRC_ALPHA, DST_ALPHA, ONE_MINUS_DST_ALPHA
+// The codes of two factors, a channel and the stored one, both alphas, and what is left. The codes from 0 on: ZERO, ONE, SRC_COLOR,
+// ONE_MINUS_SRC_COLOR, DST_COLOR, ONE_MINUS_DST_COLOR, SRC_ALPHA, ONE_MINUS_SRC_ALPHA, DST_ALPHA, ONE_MINUS_DST_ALPHA.
+const BLENDS: [(u8, u8, u8, u8, u8, u8, u8); 12] = [
+    (0, 1, 255, 77, 255, 255, 77),
+    (1, 0, 77, 255, 0, 0, 77),
+    (1, 1, 200, 100, 0, 0, 255),
+    (2, 3, 1, 254, 0, 0, 253),
+    (3, 2, 254, 1, 0, 0, 2),
+    (4, 5, 127, 128, 0, 0, 128),
+    (5, 4, 255, 255, 0, 0, 255),
+    (6, 7, 255, 0, 128, 0, 128),
+    (6, 7, 0, 255, 128, 0, 127),
+    (7, 6, 255, 255, 1, 0, 255),
+    (8, 9, 255, 255, 0, 254, 255),
+    (9, 8, 255, 0, 0, 254, 1),
+];
+
 #[test]
 fn each_factor_blends(rt: HostRuntime) {
-    for (first, second, source, stored, alpha, stored_alpha, want) in [
-        (0, 1, 255, 77, 255, 255, 77),
-        (1, 0, 77, 255, 0, 0, 77),
-        (1, 1, 200, 100, 0, 0, 255),
-        (2, 3, 1, 254, 0, 0, 253),
-        (3, 2, 254, 1, 0, 0, 2),
-        (4, 5, 127, 128, 0, 0, 128),
-        (5, 4, 255, 255, 0, 0, 255),
-        (6, 7, 255, 0, 128, 0, 128),
-        (6, 7, 0, 255, 128, 0, 127),
-        (7, 6, 255, 255, 1, 0, 255),
-        (8, 9, 255, 255, 0, 254, 255),
-        (9, 8, 255, 0, 0, 254, 1),
-    ] {
+    for row in &BLENDS {
+        let (first, second, source, stored, alpha, stored_alpha, want) = *row;
         assert!(rt; blended([first, second], source, stored, alpha, stored_alpha) == want);
     }
 }
@@ -224,19 +236,33 @@ fn depth_after(clear_depth: i32, depth_mask: bool) -> u32 {
     cleared(&state, 2, OLD).depth
 }
 
+// A clear depth in 16.16 fixed point, and the depth that is stored.
+const CLEAR_DEPTHS: [(i32, u32); 5] = [
+    (0, 0),
+    (1, 255),
+    (32_768, 8_388_607),
+    (65_535, 16_776_959),
+    (65_536, 16_777_215),
+];
+
 #[test]
 fn clear_depths_are_rounded_down(rt: HostRuntime) {
-    for (clear_depth, stored) in [
-        (0, 0),
-        (1, 255),
-        (32_768, 8_388_607),
-        (65_535, 16_776_959),
-        (65_536, 16_777_215),
-    ] {
+    for row in &CLEAR_DEPTHS {
+        let (clear_depth, stored) = *row;
         assert!(rt; depth_after(clear_depth, true) == stored);
         assert!(rt; depth_after(clear_depth, false) == 5);
     }
 }
+
+// Two channels and their product.
+const MODULATED: [(u8, u8, u8); 6] = [
+    (255, 255, 255),
+    (128, 128, 64),
+    (1, 127, 0),
+    (1, 128, 1),
+    (254, 254, 253),
+    (0, 255, 0),
+];
 
 #[test]
 fn environments_modulate_or_replace(rt: HostRuntime) {
@@ -244,14 +270,8 @@ fn environments_modulate_or_replace(rt: HostRuntime) {
         tex_mode: [1, 0, 0],
         ..plain()
     };
-    for (a, b, want) in [
-        (255, 255, 255),
-        (128, 128, 64),
-        (1, 127, 0),
-        (1, 128, 1),
-        (254, 254, 253),
-        (0, 255, 0),
-    ] {
+    for row in &MODULATED {
+        let (a, b, want) = *row;
         let (color, texel) = (rgba(a, b, 255, a), rgba(b, 255, a, 0));
         assert!(rt; texture_color(&plain(), color, texel) == rgba(want, b, a, 0));
         assert!(rt; modulate(color, texel) == rgba(want, b, a, 0));

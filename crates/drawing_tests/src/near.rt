@@ -36,16 +36,20 @@ fn kept(state: &State, mode: u8, corners: &[Vertex; 3]) -> (bool, bool) {
     (cut.first.is_some(), cut.second.is_some())
 }
 
+// A mode, and whether its triangles are cut.
+const MODES: [(u8, bool); 6] = [
+    (0, false),
+    (2, false),
+    (15, false),
+    (16, true),
+    (18, true),
+    (255, true),
+];
+
 #[test]
 fn triangles_are_cut_from_mode_16_on(rt: HostRuntime) {
-    for (mode, cut) in [
-        (0, false),
-        (2, false),
-        (15, false),
-        (16, true),
-        (18, true),
-        (255, true),
-    ] {
+    for row in &MODES {
+        let (mode, cut) = *row;
         assert!(rt; kept(&state([0, 0, 1, 1], false), mode, &corner_in_the_eye()) == (cut, cut));
     }
 }
@@ -56,26 +60,30 @@ fn kept_by_w(ws: [i32; 3]) -> (bool, bool) {
     kept(&state([0, 0, 16, 16], false), 17, &corners)
 }
 
-// A crossing from a vertex on the plane is that vertex, so its piece may have no area.
+// The w of three corners, and whether the first piece and the second are kept. A crossing from a vertex on the plane is that vertex, so its piece may
+// have no area.
+const PIECES: [([i32; 3], bool, bool); 15] = [
+    ([256, 256, 256], true, false),
+    ([257, 257, 255], true, true),
+    ([257, 255, 257], true, true),
+    ([255, 257, 257], true, true),
+    ([257, 255, 255], true, false),
+    ([255, 257, 255], true, false),
+    ([255, 255, 257], true, false),
+    ([255, 255, 255], false, false),
+    ([256, 256, 255], false, false),
+    ([256, 255, 255], false, false),
+    ([257, 256, 255], false, true),
+    ([256, 257, 255], true, false),
+    ([255, 256, 257], false, true),
+    ([ONE, -ONE, ONE], true, true),
+    ([0, -1, -ONE], false, false),
+];
+
 #[test]
 fn what_is_in_front_makes_the_pieces(rt: HostRuntime) {
-    for (ws, first, second) in [
-        ([256, 256, 256], true, false),
-        ([257, 257, 255], true, true),
-        ([257, 255, 257], true, true),
-        ([255, 257, 257], true, true),
-        ([257, 255, 255], true, false),
-        ([255, 257, 255], true, false),
-        ([255, 255, 257], true, false),
-        ([255, 255, 255], false, false),
-        ([256, 256, 255], false, false),
-        ([256, 255, 255], false, false),
-        ([257, 256, 255], false, true),
-        ([256, 257, 255], true, false),
-        ([255, 256, 257], false, true),
-        ([ONE, -ONE, ONE], true, true),
-        ([0, -1, -ONE], false, false),
-    ] {
+    for row in &PIECES {
+        let (ws, first, second) = *row;
         assert!(rt; kept_by_w(ws) == (first, second));
     }
 }
@@ -101,17 +109,21 @@ fn uncut(w: i32, x0: i32, x1: i32) -> Option<bool> {
     }
 }
 
+// The third corner's w, columns, and whether the triangle is near them where it isn't cut.
+const IN_FRONT: [(i32, i32, i32, Option<bool>); 7] = [
+    (ONE, 0, 2, Some(true)),
+    (ONE, 2, 4, Some(false)),
+    (256, 0, 2, Some(true)),
+    (256, 2, 4, Some(false)),
+    (255, 0, 2, None),
+    (0, 0, 2, None),
+    (-ONE, 0, 2, None),
+];
+
 #[test]
 fn triangles_in_front_are_not_cut(rt: HostRuntime) {
-    for (w, x0, x1, want) in [
-        (ONE, 0, 2, Some(true)),
-        (ONE, 2, 4, Some(false)),
-        (256, 0, 2, Some(true)),
-        (256, 2, 4, Some(false)),
-        (255, 0, 2, None),
-        (0, 0, 2, None),
-        (-ONE, 0, 2, None),
-    ] {
+    for row in &IN_FRONT {
+        let (w, x0, x1, want) = *row;
         assert!(rt; uncut(w, x0, x1) == want);
     }
 }
@@ -142,19 +154,22 @@ fn far(x: i32, sums: [i32; 4], mode: u8) -> (bool, bool) {
     )
 }
 
-// 2^31 times 2^31, over 2^16, is 2^46; 2^31 - 1 times -2^31 is 2^15 more than -2^46.
+// A corner's x, the sums over 2^46, and whether it is cut. 2^31 times 2^31, over 2^16, is 2^46; 2^31 - 1 times -2^31 is 2^15 more than -2^46.
+const SUMS: [(i32, [i32; 4], bool); 8] = [
+    (i32::MIN, [0, 0, 0, 0], true),
+    (i32::MIN, [-1, -1, -1, -1], true),
+    (i32::MIN, [1, 0, 0, 0], false),
+    (i32::MIN, [0, 1, 0, 0], false),
+    (i32::MIN, [0, 0, 1, 0], false),
+    (i32::MIN, [0, 0, 0, 1], false),
+    (i32::MAX, [-32_768, 0, 0, 0], true),
+    (i32::MAX, [-32_769, 0, 0, 0], false),
+];
+
 #[test]
 fn coordinates_past_the_bound_are_not_cut(rt: HostRuntime) {
-    for (x, sums, cut) in [
-        (i32::MIN, [0, 0, 0, 0], true),
-        (i32::MIN, [-1, -1, -1, -1], true),
-        (i32::MIN, [1, 0, 0, 0], false),
-        (i32::MIN, [0, 1, 0, 0], false),
-        (i32::MIN, [0, 0, 1, 0], false),
-        (i32::MIN, [0, 0, 0, 1], false),
-        (i32::MAX, [-32_768, 0, 0, 0], true),
-        (i32::MAX, [-32_769, 0, 0, 0], false),
-    ] {
+    for row in &SUMS {
+        let (x, sums, cut) = *row;
         assert!(rt; far(x, sums, 16) == (cut, false) && far(x, sums, 0) == (true, false));
     }
 }
@@ -170,14 +185,18 @@ fn areas(culled: Option<u8>) -> (Option<i64>, Option<i64>) {
     (cut.first.map(|t| t.area), cut.second.map(|t| t.area))
 }
 
+// The facing that is culled, and the areas of the two pieces.
+const FACINGS: [(Option<u8>, Option<i64>, Option<i64>); 4] = [
+    (None, Some(123_594), Some(3132)),
+    (Some(0), None, Some(3132)),
+    (Some(1), Some(123_594), None),
+    (Some(2), None, None),
+];
+
 #[test]
 fn each_piece_is_culled_by_its_own_facing(rt: HostRuntime) {
-    for (culled, first, second) in [
-        (None, Some(123_594), Some(3132)),
-        (Some(0), None, Some(3132)),
-        (Some(1), Some(123_594), None),
-        (Some(2), None, None),
-    ] {
+    for row in &FACINGS {
+        let (culled, first, second) = *row;
         assert!(rt; areas(culled) == (first, second));
     }
 }
@@ -210,26 +229,30 @@ fn crossed(ws: [i32; 2], channels: [u8; 2], words: [i32; 2]) -> Option<(u8, u8, 
     Some((crossing.color.r, crossing.color.g, crossing.s, crossing.t))
 }
 
-// What is in front of the plane is all but a 65,281st of the edge, a half, a half, two thirds, 255 of 512; numbers are rounded down both ways.
+// The w of both ends, two channels and two coordinates, and what the crossing has. What is in front of the plane is all but a 65,281st of the edge, a
+// half, a half, two thirds, 255 of 512; numbers are rounded down both ways.
+const CROSSINGS: [([i32; 2], [u8; 2], [i32; 2], (u8, u8, i32, i32)); 5] = [
+    ([ONE, 255], [0, 255], [-3, 4], (254, 0, 3, -3)),
+    (
+        [257, 255],
+        [0, 255],
+        [i32::MIN, i32::MAX],
+        (127, 127, -1, -1),
+    ),
+    ([512, 0], [10, 30], [-3, 4], (20, 20, 0, 0)),
+    ([768, 0], [0, 255], [-3, 4], (170, 85, 1, -1)),
+    (
+        [ONE, -ONE],
+        [0, 255],
+        [i32::MIN, i32::MAX],
+        (127, 127, -8_388_609, 8_388_607),
+    ),
+];
+
 #[test]
 fn a_crossing_has_its_share_of_colour_and_coordinates(rt: HostRuntime) {
-    for (ws, channels, words, want) in [
-        ([ONE, 255], [0, 255], [-3, 4], (254, 0, 3, -3)),
-        (
-            [257, 255],
-            [0, 255],
-            [i32::MIN, i32::MAX],
-            (127, 127, -1, -1),
-        ),
-        ([512, 0], [10, 30], [-3, 4], (20, 20, 0, 0)),
-        ([768, 0], [0, 255], [-3, 4], (170, 85, 1, -1)),
-        (
-            [ONE, -ONE],
-            [0, 255],
-            [i32::MIN, i32::MAX],
-            (127, 127, -8_388_609, 8_388_607),
-        ),
-    ] {
+    for row in &CROSSINGS {
+        let (ws, channels, words, want) = *row;
         assert!(rt; crossed(ws, channels, words) == Some(want));
     }
 }
@@ -256,20 +279,24 @@ fn is_shared(front: [i32; 3], behind: [i32; 3], x: i32, y: i32) -> bool {
     }
 }
 
+// A corner in front (x, y, w), one behind, and the place of their crossing in sixteenths of a pixel.
+const SHARED_CROSSINGS: [([i32; 3], [i32; 3], i32, i32); 5] = [
+    ([-277, 383, 257], [214, -164, 0], -40, 1272),
+    ([340, -360, 1000], [214, -164, 0], 1004, 82),
+    ([1000, 77, 300], [-5000, 333, -12_345], 2470, 666),
+    (
+        [-40_000, 25_000, ONE],
+        [30_001, -20_003, -7],
+        59_952,
+        -39_134,
+    ),
+    ([123, 456, 257], [-789, 1011, 255], -154, 1978),
+];
+
 #[test]
 fn two_triangles_share_the_crossing_of_their_edge(rt: HostRuntime) {
-    for (front, behind, x, y) in [
-        ([-277, 383, 257], [214, -164, 0], -40, 1272),
-        ([340, -360, 1000], [214, -164, 0], 1004, 82),
-        ([1000, 77, 300], [-5000, 333, -12_345], 2470, 666),
-        (
-            [-40_000, 25_000, ONE],
-            [30_001, -20_003, -7],
-            59_952,
-            -39_134,
-        ),
-        ([123, 456, 257], [-789, 1011, 255], -154, 1978),
-    ] {
+    for row in &SHARED_CROSSINGS {
+        let (front, behind, x, y) = *row;
         assert!(rt; is_shared(front, behind, x, y));
     }
 }

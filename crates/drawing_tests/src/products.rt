@@ -8,17 +8,21 @@ fn diagonal(d: i32) -> Mat4 {
     }
 }
 
+// The entries of two diagonal matrices, and those of their product.
+const PRODUCTS: [(i32, i32, Option<i32>); 7] = [
+    (131_072, 131_072, Some(262_144)),
+    (2_147_483_647, 65_536, Some(2_147_483_647)),
+    (1_073_741_824, 131_072, None),
+    (1_073_741_823, 131_072, Some(2_147_483_646)),
+    (-1_073_741_824, 131_072, Some(-2_147_483_648)),
+    (-1_073_741_825, 131_072, None),
+    (-1, 1, Some(-1)),
+];
+
 #[test]
 fn products_at_the_bounds_of_32_bits(rt: HostRuntime) {
-    for (a, b, want) in [
-        (131_072, 131_072, Some(262_144)),
-        (2_147_483_647, 65_536, Some(2_147_483_647)),
-        (1_073_741_824, 131_072, None),
-        (1_073_741_823, 131_072, Some(2_147_483_646)),
-        (-1_073_741_824, 131_072, Some(-2_147_483_648)),
-        (-1_073_741_825, 131_072, None),
-        (-1, 1, Some(-1)),
-    ] {
+    for row in &PRODUCTS {
+        let (a, b, want) = *row;
         assert!(rt; multiply(&diagonal(a), &diagonal(b)) == want.map(diagonal));
     }
 }

@@ -300,15 +300,19 @@ fn alpha_tests_pass_in_a_row_as_the_stages_do(rt: HostRuntime) {
     }
 }
 
+// The depth mask, whether depths are out of range, and the alpha test.
+const DEPTH_STAGES: [(bool, bool, Option<[u8; 2]>); 4] = [
+    (true, false, None),
+    (false, false, Some([4, 100])),
+    (true, true, None),
+    (true, true, Some([1, 100])),
+];
+
 #[test]
 fn depth_tests_pass_in_a_row_as_the_stages_do(rt: HostRuntime) {
     for function in 0..8_u8 {
-        for (depth_mask, deep, alpha) in [
-            (true, false, None),
-            (false, false, Some([4, 100])),
-            (true, true, None),
-            (true, true, Some([1, 100])),
-        ] {
+        for row in &DEPTH_STAGES {
+            let (depth_mask, deep, alpha) = *row;
             let stages = Stages {
                 alpha,
                 depth: Some(function),
@@ -340,14 +344,18 @@ fn colour_masks_write_in_a_row_as_the_stages_do(rt: HostRuntime) {
     }
 }
 
+// The alpha test, and the factors of blending.
+const TEXTURE_STAGES: [(Option<[u8; 2]>, Option<[u8; 2]>); 3] = [
+    (None, None),
+    (None, Some([6, 1])),
+    (Some([4, 100]), Some([6, 7])),
+];
+
 #[test]
 fn environments_and_wraps_texture_a_row_as_the_stages_do(rt: HostRuntime) {
     for number in 0..8_u8 {
-        for (alpha, blend) in [
-            (None, None),
-            (None, Some([6, 1])),
-            (Some([4, 100]), Some([6, 7])),
-        ] {
+        for row in &TEXTURE_STAGES {
+            let (alpha, blend) = *row;
             let stages = Stages {
                 texture: Some([number % 2, number / 2 % 2, number / 4]),
                 alpha,

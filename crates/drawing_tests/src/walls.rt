@@ -142,16 +142,20 @@ fn tiles_draw_a_wall_past_the_eye_once(rt: HostRuntime) {
 // Two triangles on the two sides of the edge from (-29, 233) at w = 397 to (-212, 10) at w = 35, which the near plane cuts. In sixteenths of a pixel the
 // first one leaves a sliver with corners (474, 812), (310, 804) and (326, 804), and its neighbour a piece with (310, 804), (474, 812) and (1213, -205). By
 // rounding the sliver runs counterclockwise, where its neighbour runs clockwise.
+const SLIVER: [(i32, i32, i32); 6] = [
+    (-29, 233, 397),
+    (-212, 10, 35),
+    (-264, -84, -122),
+    (-212, 10, 35),
+    (-29, 233, 397),
+    (363, -371, 265),
+];
+
+// Both triangles, in one block.
 fn sliver(rt: &impl Abort, alloc: Global) -> Block {
     let mut vertices = Vertices::new(alloc);
-    for (x, y, w) in [
-        (-29, 233, 397),
-        (-212, 10, 35),
-        (-264, -84, -122),
-        (-212, 10, 35),
-        (-29, 233, 397),
-        (363, -371, 265),
-    ] {
+    for row in &SLIVER {
+        let (x, y, w) = *row;
         let vertex = Vertex {
             color: rgba(3, 3, 3, 3),
             ..at(x, y, w)
