@@ -52,32 +52,6 @@ fn quantities_of_a_layout_are_judged_in_their_order(rt: HostRuntime) {
     );
 }
 
-// How many of the first tiles have the pixel, up to 255.
-fn owners(cut: &Layout, tiles: u8, x: i32, y: i32) -> u8 {
-    let mut owners = 0_u8;
-    for tile in 0..tiles {
-        let r = tile_rect(cut, tile);
-        if r.x0 <= x && x < r.x1 && r.y0 <= y && y < r.y1 {
-            owners = owners.saturating_add(1);
-        }
-    }
-    owners
-}
-
-#[test]
-fn each_pixel_has_one_tile_in_every_layout(rt: HostRuntime) {
-    for columns in 1..9_u8 {
-        for rows in 1..5_u8 {
-            let cut = layout(9, 7, columns.into(), rows.into(), 1).expect(&rt, "a layout");
-            for x in 0..9 {
-                for y in 0..7 {
-                    assert!(rt; owners(&cut, columns * rows, x, y) == 1);
-                }
-            }
-        }
-    }
-}
-
 fn state(scissor_on: bool, scissor: [i32; 4]) -> State {
     let identity = Mat4 {
         m: [
@@ -134,26 +108,36 @@ fn triangle(alloc: Global, corners: [[i32; 2]; 3]) -> Result<Block, OutOfMemory>
     Ok(Block { mode: 0, vertices })
 }
 
+const LARGE: [[i32; 2]; 3] = [[-65_536, -65_536], [65_536, -65_536], [-65_536, 65_536]];
+
+const SMALL: [[i32; 2]; 3] = [[0, 0], [16_384, 0], [0, 16_384]];
+
+const TURNED: [[i32; 2]; 3] = [[0, 0], [0, 16_384], [16_384, 0]];
+
+// The box of a triangle in the window.
+fn triangle_box(
+    rt: &impl Abort,
+    alloc: Global,
+    state: &State,
+    corners: [[i32; 2]; 3],
+) -> Option<Rect> {
+    let block = triangle(alloc, corners).expect(rt, "memory");
+    block_box(state, &block, rect(0, 0, 8, 8))
+}
+
 #[test]
 fn a_large_triangle_meets_tiles_without_its_vertices(rt: HostRuntime) {
     let alloc = rt.alloc();
     let window = rect(0, 0, 8, 8);
     let cut = layout(8, 8, 4, 4, 1).expect(&rt, "a layout");
-    let large = triangle(
-        alloc,
-        [[-65_536, -65_536], [65_536, -65_536], [-65_536, 65_536]],
-    )
-    .expect(&rt, "memory");
-    let small = triangle(alloc, [[0, 0], [16_384, 0], [0, 16_384]]).expect(&rt, "memory");
-    let turned = triangle(alloc, [[0, 0], [0, 16_384], [16_384, 0]]).expect(&rt, "memory");
     let open = state(false, [0; 4]);
     let scissored = state(true, [2, 0, 4, 4]);
-    assert!(rt; block_box(&open, &large, window) == Some(window));
+    assert!(rt; triangle_box(&rt, alloc, &open, LARGE) == Some(window));
     assert!(rt; meets(&cut, window) == 0xffff);
-    assert!(rt; block_box(&open, &small, window) == Some(rect(4, 4, 5, 5)));
-    assert!(rt; block_box(&open, &turned, window) == None);
-    assert!(rt; block_box(&scissored, &large, window) == Some(rect(2, 0, 6, 4)));
-    assert!(rt; block_box(&scissored, &small, window) == None);
+    assert!(rt; triangle_box(&rt, alloc, &open, SMALL) == Some(rect(4, 4, 5, 5)));
+    assert!(rt; triangle_box(&rt, alloc, &open, TURNED) == None);
+    assert!(rt; triangle_box(&rt, alloc, &scissored, LARGE) == Some(rect(2, 0, 6, 4)));
+    assert!(rt; triangle_box(&rt, alloc, &scissored, SMALL) == None);
     assert!(rt; clear_box(&scissored, rect(0, 0, 5, 8)) == Some(rect(2, 0, 5, 4)));
     assert!(rt; clear_box(&state(true, [8, 0, 1, 1]), window) == None);
 }
@@ -204,37 +188,65 @@ const ONE_PIXEL: Option<Rect> = Some(Rect {
     y1: 5,
 });
 
-// A culled triangle has a box in version 2 alone. Vertices that are left over widen none, and without a triangle there is none.
+// Sixteen pixels in a corner, and the pixels of two viewports.
+const UPPER_RIGHT: Option<Rect> = Some(Rect {
+    x0: 4,
+    y0: 4,
+    x1: 8,
+    y1: 8,
+});
+
+const WHOLE_WINDOW: Option<Rect> = Some(Rect {
+    x0: 0,
+    y0: 0,
+    x1: 8,
+    y1: 8,
+});
+
+const SMALL_VIEWPORT: Option<Rect> = Some(Rect {
+    x0: 2,
+    y0: 1,
+    x1: 5,
+    y1: 5,
+});
+
+// A mode, vertices, and the box. A culled triangle has a box in version 2 alone. Vertices that are left over widen none, and without a triangle there is
+// none.
+const BOXES: [(u8, &[[i32; 4]], Option<Rect>); 7] = [
+    (0, &[CORNER, ABOVE, RIGHT], None),
+    (16, &[CORNER, ABOVE, RIGHT], ONE_PIXEL),
+    (16, &[CORNER, RIGHT, ABOVE, FAR, FAR], ONE_PIXEL),
+    (17, &[CORNER, RIGHT, ABOVE, FAR], UPPER_RIGHT),
+    (18, &[CORNER, RIGHT, ABOVE, FAR], UPPER_RIGHT),
+    (18, &[CORNER, FAR], None),
+    (19, &[CORNER, RIGHT, ABOVE], None),
+];
+
 #[test]
 fn the_vertices_of_triangles_make_a_box_in_version_2(rt: HostRuntime) {
-    let rows: [(u8, &[[i32; 4]], Option<Rect>); 7] = [
-        (0, &[CORNER, ABOVE, RIGHT], None),
-        (16, &[CORNER, ABOVE, RIGHT], ONE_PIXEL),
-        (16, &[CORNER, RIGHT, ABOVE, FAR, FAR], ONE_PIXEL),
-        (17, &[CORNER, RIGHT, ABOVE, FAR], Some(rect(4, 4, 8, 8))),
-        (18, &[CORNER, RIGHT, ABOVE, FAR], Some(rect(4, 4, 8, 8))),
-        (18, &[CORNER, FAR], None),
-        (19, &[CORNER, RIGHT, ABOVE], None),
-    ];
-    for (mode, positions, want) in rows {
-        assert!(rt; box_of(&rt, rt.alloc(), mode, positions, [0, 0, 8, 8]) == want);
+    for (mode, positions, want) in &BOXES {
+        assert!(rt; box_of(&rt, rt.alloc(), *mode, *positions, [0, 0, 8, 8]) == *want);
     }
 }
 
-// Where w is a 256th at each corner the triangle is divided as ever. Below it the box is the viewport; one of a side below 0 has no pixel.
+// Where w is a 256th at each corner the triangle is divided as ever.
+const AT_THE_EYE: &[[i32; 4]] = &[[0, 0, 0, 256], [64, 0, 0, 256], [0, 64, 0, 256]];
+
+const NEARER: &[[i32; 4]] = &[CORNER, RIGHT, [0, 16_384, 0, 255]];
+
+// Vertices, the viewport, and the box: nearer than a 256th it is the viewport, and one of a side below 0 has no pixel.
+const NEAR_BOXES: [(&[[i32; 4]], [i32; 4], Option<Rect>); 6] = [
+    (NEARER, [0, 0, 8, 8], WHOLE_WINDOW),
+    (NEARER, [2, 1, 3, 4], SMALL_VIEWPORT),
+    (AT_THE_EYE, [0, 0, 8, 8], ONE_PIXEL),
+    (AT_THE_EYE, [0, 0, -8, 8], None),
+    (AT_THE_EYE, [0, 0, 8, -1], None),
+    (AT_THE_EYE, [0, 0, 0, 8], None),
+];
+
 #[test]
 fn a_box_near_the_eye_is_the_viewport(rt: HostRuntime) {
-    let near: &[[i32; 4]] = &[CORNER, RIGHT, [0, 16_384, 0, 255]];
-    let at_it: &[[i32; 4]] = &[[0, 0, 0, 256], [64, 0, 0, 256], [0, 64, 0, 256]];
-    let rows: [(&[[i32; 4]], [i32; 4], Option<Rect>); 6] = [
-        (near, [0, 0, 8, 8], Some(rect(0, 0, 8, 8))),
-        (near, [2, 1, 3, 4], Some(rect(2, 1, 5, 5))),
-        (at_it, [0, 0, 8, 8], ONE_PIXEL),
-        (at_it, [0, 0, -8, 8], None),
-        (at_it, [0, 0, 8, -1], None),
-        (at_it, [0, 0, 0, 8], None),
-    ];
-    for (positions, viewport, want) in rows {
-        assert!(rt; box_of(&rt, rt.alloc(), 16, positions, viewport) == want);
+    for (positions, viewport, want) in &NEAR_BOXES {
+        assert!(rt; box_of(&rt, rt.alloc(), 16, *positions, *viewport) == *want);
     }
 }

@@ -218,75 +218,89 @@ fn play(run: &mut Run, events: &[Event]) -> Result<usize, OutOfMemory>
     Ok(events.len())
 }
 
-fn sent(tile: u8) -> Event {
-    Event::Step(ClientMoved::Appended { tile })
+const SENT_LEFT: Event = Event::Step(ClientMoved::Appended { tile: 0 });
+
+const SENT_RIGHT: Event = Event::Step(ClientMoved::Appended { tile: 1 });
+
+const FULL_LEFT: Event = Event::Step(ClientMoved::BlockedTile { tile: 0 });
+
+const FULL_RIGHT: Event = Event::Step(ClientMoved::BlockedTile { tile: 1 });
+
+const SWAP: Request = Request::Op {
+    place: 25,
+    op: SyncOp::Swap,
+};
+
+const EVENTS: [Event; 33] = [
+    SENT_LEFT,
+    SENT_RIGHT,
+    FULL_LEFT,
+    FULL_LEFT,
+    Event::Place(0, 4),
+    SENT_LEFT,
+    FULL_RIGHT,
+    Event::Place(1, 4),
+    SENT_RIGHT,
+    FULL_LEFT,
+    Event::Place(0, 11),
+    SENT_LEFT,
+    FULL_LEFT,
+    Event::Place(0, 18),
+    SENT_LEFT,
+    Event::Place(1, 11),
+    SENT_RIGHT,
+    Event::Place(0, 24),
+    SENT_LEFT,
+    Event::Place(1, 24),
+    SENT_RIGHT,
+    Event::Step(ClientMoved::Requested),
+    Event::Place(0, 25),
+    SENT_LEFT,
+    Event::Place(1, 25),
+    SENT_RIGHT,
+    Event::Step(ClientMoved::BlockedRequest),
+    Event::Asked(SWAP),
+    Event::Step(ClientMoved::Requested),
+    Event::Step(ClientMoved::Ended),
+    Event::Place(0, 26),
+    Event::Place(1, 26),
+    Event::Asked(Request::End),
+];
+
+const LEFT: Tally = Tally {
+    parcels: 6,
+    sets: 3,
+    looks: 46,
+};
+
+const RIGHT: Tally = Tally {
+    parcels: 5,
+    sets: 1,
+    looks: 31,
+};
+
+// Whether the core keeps these tallies, a stream of 26 commands, and no refused one.
+fn keeps(core: ClientCore) -> bool {
+    let kept = core.into_kept();
+    kept.tallies.as_slice() == [LEFT, RIGHT].as_slice()
+        && kept.syncs.length == 26
+        && kept.faults.as_slice().is_empty()
 }
 
-fn full(tile: u8) -> Event {
-    Event::Step(ClientMoved::BlockedTile { tile })
+// Whether the client goes through the events, with memory for all, and keeps its tallies.
+fn is_held_up(rt: &impl Abort, alloc: Global) -> bool {
+    let stream = draws(alloc).expect(rt, "memory");
+    let mut run = run_of(rt, alloc, stream, &TWO, 1);
+    let count = play(&mut run, &EVENTS).expect(rt, "memory");
+    let tallies = (run.tally(0), run.tally(1));
+    let is_short = run.core.is_short();
+    let Run { core, .. } = run;
+    count == 33 && tallies == (Some(LEFT), Some(RIGHT)) && !is_short && keeps(core)
 }
 
 #[test]
 fn full_lanes_hold_a_client_up(rt: HostRuntime) {
-    let swap = Request::Op {
-        place: 25,
-        op: SyncOp::Swap,
-    };
-    let events = [
-        sent(0),
-        sent(1),
-        full(0),
-        full(0),
-        Event::Place(0, 4),
-        sent(0),
-        full(1),
-        Event::Place(1, 4),
-        sent(1),
-        full(0),
-        Event::Place(0, 11),
-        sent(0),
-        full(0),
-        Event::Place(0, 18),
-        sent(0),
-        Event::Place(1, 11),
-        sent(1),
-        Event::Place(0, 24),
-        sent(0),
-        Event::Place(1, 24),
-        sent(1),
-        Event::Step(ClientMoved::Requested),
-        Event::Place(0, 25),
-        sent(0),
-        Event::Place(1, 25),
-        sent(1),
-        Event::Step(ClientMoved::BlockedRequest),
-        Event::Asked(swap),
-        Event::Step(ClientMoved::Requested),
-        Event::Step(ClientMoved::Ended),
-        Event::Place(0, 26),
-        Event::Place(1, 26),
-        Event::Asked(Request::End),
-    ];
-    let stream = draws(rt.alloc()).expect(&rt, "memory");
-    let mut run = run_of(&rt, rt.alloc(), stream, &TWO, 1);
-    assert!(rt; play(&mut run, &events).expect(&rt, "memory") == 33);
-    assert!(rt; !run.core.is_short());
-    let left = Tally {
-        parcels: 6,
-        sets: 3,
-        looks: 46,
-    };
-    let right = Tally {
-        parcels: 5,
-        sets: 1,
-        looks: 31,
-    };
-    assert!(rt; run.tally(0) == Some(left));
-    assert!(rt; run.tally(1) == Some(right));
-    let kept = run.core.into_kept();
-    assert!(rt; kept.tallies.as_slice() == &[left, right][..]);
-    assert!(rt; kept.syncs.length == 26);
-    assert!(rt; kept.faults.as_slice().is_empty());
+    assert!(rt; is_held_up(&rt, rt.alloc()));
 }
 
 // The draws, then a Clear, a draw and a second Swap: eight commands for each tile, and one more for the left.
@@ -399,18 +413,23 @@ fn emptied(rt: &impl Abort, alloc: Global, depth: usize) -> Taken
     taken
 }
 
+// Whether lanes of depth 1 got what lanes of depth 16 got, and held the client up.
+fn are_emptied_alike(rt: &impl Abort, alloc: Global) -> bool {
+    let deep = emptied(rt, alloc, 16);
+    let shallow = emptied(rt, alloc, 1);
+    deep.blocked == 0
+        && shallow.blocked > 0
+        && deep.left.len() == 9
+        && deep.right.len() == 8
+        && deep.requests.len() == 3
+        && shallow.left == deep.left
+        && shallow.right == deep.right
+        && shallow.requests == deep.requests
+}
+
 #[test]
 fn lanes_of_depth_1_emptied_at_random_times_get_what_deep_lanes_get(rt: HostRuntime) {
-    let deep = emptied(&rt, rt.alloc(), 16);
-    let shallow = emptied(&rt, rt.alloc(), 1);
-    assert!(rt; deep.blocked == 0);
-    assert!(rt; shallow.blocked > 0);
-    assert!(rt; deep.left.len() == 9);
-    assert!(rt; deep.right.len() == 8);
-    assert!(rt; deep.requests.len() == 3);
-    assert!(rt; shallow.left == deep.left);
-    assert!(rt; shallow.right == deep.right);
-    assert!(rt; shallow.requests == deep.requests);
+    assert!(rt; are_emptied_alike(&rt, rt.alloc()));
 }
 
 // A triangle over the window, and a Swap.
@@ -444,19 +463,35 @@ fn has_three(run: &mut Run, tile: usize) -> bool {
         && run.place(tile).is_none()
 }
 
-#[test]
-fn a_triangle_over_the_window_goes_to_nine_tiles(rt: HostRuntime) {
-    let stream = triangle(rt.alloc()).expect(&rt, "memory");
-    let mut run = run_of(&rt, rt.alloc(), stream, &NINE, 16);
-    assert!(rt; moves(&mut run, 40).expect(&rt, "memory") == 29);
+// How many of the nine tiles were sent three parcels.
+fn sent_three(run: &mut Run) -> u32 {
+    let mut count: u32 = 0;
     for tile in 0..9 {
-        assert!(rt; has_three(&mut run, tile));
+        if has_three(run, tile) {
+            count = count.saturating_add(1);
+        }
     }
+    count
+}
+
+// The requests in a lane of a client that swaps once at this place, and ends: no other.
+fn asks_to_swap(requests: &mut PlainLane<Request>, place: u32) -> bool {
     let swap = Request::Op {
-        place: 6,
+        place,
         op: SyncOp::Swap,
     };
-    assert!(rt; run.requests.pop() == Some(swap));
-    assert!(rt; run.requests.pop() == Some(Request::End));
-    assert!(rt; run.requests.pop() == None);
+    requests.pop() == Some(swap) && requests.pop() == Some(Request::End) && requests.pop() == None
+}
+
+// Whether the triangle goes to nine tiles in 29 steps.
+fn goes_to_nine(rt: &impl Abort, alloc: Global) -> bool {
+    let stream = triangle(alloc).expect(rt, "memory");
+    let mut run = run_of(rt, alloc, stream, &NINE, 16);
+    let count = moves(&mut run, 40).expect(rt, "memory");
+    count == 29 && sent_three(&mut run) == 9 && asks_to_swap(&mut run.requests, 6)
+}
+
+#[test]
+fn a_triangle_over_the_window_goes_to_nine_tiles(rt: HostRuntime) {
+    assert!(rt; goes_to_nine(&rt, rt.alloc()));
 }

@@ -129,20 +129,28 @@ fn told_along(rt: &impl Abort, alloc: Global, scene: &Scene, runs: &[Run]) -> Op
     verdict_along(alloc, scene, &order).expect(rt, "memory")
 }
 
+const EARLY: Name = Name {
+    client: 1,
+    place: 4,
+};
+
+const LATE: Name = Name {
+    client: 2,
+    place: 5,
+};
+
+// Whether the race of an End of client 1 with one of client 2 is told along the default order, the other way round along the other order, and not
+// along an order that isn't permitted.
+fn is_told(rt: &impl Abort, alloc: Global) -> bool {
+    let scene = scene_of(rt, alloc, MEETINGS_IN_A_ROW);
+    races_by_default(rt, alloc, &scene, &BY_DEFAULT, EARLY, LATE)
+        && told_along(rt, alloc, &scene, &OTHER_WAY_ROUND) == race(LATE, EARLY)
+        && told_along(rt, alloc, &scene, &NOT_PERMITTED) == None
+}
+
 #[test]
 fn a_race_is_told_along_each_permitted_order(rt: HostRuntime) {
-    let scene = scene_of(&rt, rt.alloc(), MEETINGS_IN_A_ROW);
-    let early = Name {
-        client: 1,
-        place: 4,
-    };
-    let late = Name {
-        client: 2,
-        place: 5,
-    };
-    assert!(rt; races_by_default(&rt, rt.alloc(), &scene, &BY_DEFAULT, early, late));
-    assert!(rt; told_along(&rt, rt.alloc(), &scene, &OTHER_WAY_ROUND) == race(late, early));
-    assert!(rt; told_along(&rt, rt.alloc(), &scene, &NOT_PERMITTED) == None);
+    assert!(rt; is_told(&rt, rt.alloc()));
 }
 
 // Eight counts below 10, digit by digit.
@@ -180,26 +188,23 @@ fn are_before(rt: &impl Abort, alloc: Global, text: &[u8], rows: &[(u8, u32, u64
     true
 }
 
+const IN_A_ROW: [(u8, u32, u64); 6] = [
+    (0, 0, 0),
+    (0, 1, 5_000_000),
+    (1, 5, 0),
+    (2, 0, 0),
+    (2, 1, 10_000_000),
+    (2, 5, 10_000_000),
+];
+
+const COMMAND_BETWEEN: [(u8, u32, u64); 1] = [(2, 1, 21_000_000)];
+
 // A meeting that directly follows another one hands on nothing of it; with a command between them it does.
 #[test]
 fn clocks_count_what_is_before(rt: HostRuntime) {
-    let rows = [
-        (0, 0, 0),
-        (0, 1, 5_000_000),
-        (1, 5, 0),
-        (2, 0, 0),
-        (2, 1, 10_000_000),
-        (2, 5, 10_000_000),
-    ];
-    assert!(rt; are_before(&rt, rt.alloc(), MEETINGS_IN_A_ROW, &rows));
-    assert!(rt;
-        are_before(
-            &rt,
-            rt.alloc(),
-            COMMAND_BETWEEN_MEETINGS,
-            &[(2, 1, 21_000_000)]
-        )
-    );
+    let alloc = rt.alloc();
+    assert!(rt; are_before(&rt, alloc, MEETINGS_IN_A_ROW, &IN_A_ROW));
+    assert!(rt; are_before(&rt, alloc, COMMAND_BETWEEN_MEETINGS, &COMMAND_BETWEEN));
 }
 
 // The only change of a client.

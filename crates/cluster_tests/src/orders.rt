@@ -13,6 +13,7 @@ use rc_base::sync::{
     Entry, Journal, Name, Order, SyncLists, SyncOp, SyncOps, SyncRow, SyncRows, WaitAt,
 };
 use std::alloc::Global;
+use std::process::Abort;
 
 #[tactic(auto, using(crate::proofs::Looked::positive))]
 fn are_positive(counts: &[u8]) -> bool
@@ -151,19 +152,35 @@ fn is_free(client: u8, place: u32, other: u32) -> bool {
     }
 }
 
-#[test]
-fn ninety_four_orders_of_two_clients_are_permitted(rt: HostRuntime) {
-    let syncs = two_clients(rt.alloc()).expect(&rt, "memory");
-    let journal = Journal::from_slice(rt.alloc(), &ENTRIES).expect(&rt, "memory");
+// Whether the order of a mask is permitted; none where that is judged wrongly.
+fn judged(alloc: Global, mask: u32, journal: &Journal, syncs: &SyncLists) -> Option<bool> {
+    let (order, free) = merged(alloc, mask).ok()?;
+    if permits(&order, journal, syncs) == Some(free) {
+        Some(free)
+    } else {
+        None
+    }
+}
+
+// How many of the 2,048 orders are permitted, and how many are not.
+fn counted(rt: &impl Abort, alloc: Global) -> (u32, u32) {
+    let syncs = two_clients(alloc).expect(rt, "memory");
+    let journal = Journal::from_slice(alloc, &ENTRIES).expect(rt, "memory");
     let mut permitted: u32 = 0;
+    let mut refused: u32 = 0;
     for mask in 0..2048u32 {
-        let (order, free) = merged(rt.alloc(), mask).expect(&rt, "memory");
-        assert!(rt; permits(&order, &journal, &syncs) == Some(free));
-        if free {
-            permitted = permitted.saturating_add(1);
+        match judged(alloc, mask, &journal, &syncs) {
+            Some(true) => permitted = permitted.saturating_add(1),
+            Some(false) => refused = refused.saturating_add(1),
+            None => {}
         }
     }
-    assert!(rt; permitted == 94);
+    (permitted, refused)
+}
+
+#[test]
+fn ninety_four_orders_of_two_clients_are_permitted(rt: HostRuntime) {
+    assert!(rt; counted(&rt, rt.alloc()) == (94, 1954));
 }
 
 // A client, an operation's number, its place, and the place or the end of the stream.
@@ -179,54 +196,93 @@ const PLACES: [(u8, usize, Option<u32>, u32); 6] = [
 // Where both clients stop after so many entries.
 const REACHES: [(u32, u32); 5] = [(1, 2), (3, 3), (4, 3), (4, 5), (5, 6)];
 
-#[test]
-fn operations_have_their_places(rt: HostRuntime) {
-    let syncs = two_clients(rt.alloc()).expect(&rt, "memory");
-    for (client, number, place, end) in PLACES {
-        assert!(rt; place_of(&syncs, client, number) == place);
-        assert!(rt; place_or_end(&syncs, client, number) == end);
+// Whether the operations of both clients have their places.
+fn has_places(syncs: &SyncLists) -> bool {
+    for (client, number, place, end) in &PLACES {
+        if place_of(syncs, *client, *number) != *place
+            || place_or_end(syncs, *client, *number) != *end
+        {
+            return false;
+        }
     }
+    true
+}
+
+// Whether both clients stop where they should, after each number of entries.
+fn has_reaches(syncs: &SyncLists) -> bool {
     for n in 0..5usize {
         let journal = &ENTRIES[..n];
-        assert!(rt; (reach_in(journal, &syncs, 0), reach_in(journal, &syncs, 1)) == REACHES[n]);
+        if (reach_in(journal, syncs, 0), reach_in(journal, syncs, 1)) != REACHES[n] {
+            return false;
+        }
     }
+    true
+}
+
+fn are_placed(rt: &impl Abort, alloc: Global) -> bool {
+    let syncs = two_clients(alloc).expect(rt, "memory");
+    has_places(&syncs) && has_reaches(&syncs)
+}
+
+#[test]
+fn operations_have_their_places(rt: HostRuntime) {
+    assert!(rt; are_placed(&rt, rt.alloc()));
 }
 
 // Eight clients meet in pairs, then in fours, then all.
-fn eight_clients(alloc: Global) -> Result<(SyncLists, Journal), OutOfMemory> {
-    let ops = [
-        (1, SyncOp::Barrier(1)),
-        (3, SyncOp::Barrier(2)),
-        (5, SyncOp::Barrier(3)),
-    ];
+fn eight_clients(alloc: Global) -> Result<SyncLists, OutOfMemory> {
     let mut clients = SyncRows::new(alloc);
     for _client in 0..8 {
-        clients.push(row(alloc, &ops, 7)?)?;
+        clients.push(row(alloc, &BARRIERS, 7)?)?;
     }
-    let mut journal = Journal::new(alloc);
-    for (barrier, members) in [
-        (1, 0x03),
-        (1, 0x0c),
-        (1, 0x30),
-        (1, 0xc0),
-        (2, 0x0f),
-        (2, 0xf0),
-        (3, 0xff),
-    ] {
-        journal.push(Entry::Meet { barrier, members })?;
-    }
-    let syncs = SyncLists {
+    Ok(SyncLists {
         clients,
         counts: Items::from_slice(alloc, &[2, 4, 8])?,
         units: Items::new(alloc),
-    };
-    Ok((syncs, journal))
+    })
 }
+
+const BARRIERS: [(u32, SyncOp); 3] = [
+    (1, SyncOp::Barrier(1)),
+    (3, SyncOp::Barrier(2)),
+    (5, SyncOp::Barrier(3)),
+];
+
+const MEETINGS: [Entry; 7] = [
+    Entry::Meet {
+        barrier: 1,
+        members: 0x03,
+    },
+    Entry::Meet {
+        barrier: 1,
+        members: 0x0c,
+    },
+    Entry::Meet {
+        barrier: 1,
+        members: 0x30,
+    },
+    Entry::Meet {
+        barrier: 1,
+        members: 0xc0,
+    },
+    Entry::Meet {
+        barrier: 2,
+        members: 0x0f,
+    },
+    Entry::Meet {
+        barrier: 2,
+        members: 0xf0,
+    },
+    Entry::Meet {
+        barrier: 3,
+        members: 0xff,
+    },
+];
 
 // First the clients 0 to 3 go on to the last barrier, then the others, each four place by place or client by client; then all go on.
 fn nested(alloc: Global, by_client: bool) -> Result<Order, OutOfMemory> {
     let mut order = Order::new(alloc);
-    for first in [0u8, 4] {
+    for first in &[0u8, 4] {
         for k in 0..20u8 {
             let (client, place) = if by_client {
                 (k / 5, k % 5)
@@ -234,7 +290,7 @@ fn nested(alloc: Global, by_client: bool) -> Result<Order, OutOfMemory> {
                 (k % 4, k / 4)
             };
             order.push(Name {
-                client: first + client,
+                client: *first + client,
                 place: place as u32,
             })?;
         }
@@ -248,13 +304,18 @@ fn nested(alloc: Global, by_client: bool) -> Result<Order, OutOfMemory> {
     Ok(order)
 }
 
+// Whether the journal of all meetings permits that.
+fn is_nested(rt: &impl Abort, alloc: Global, by_client: bool) -> Option<bool> {
+    let syncs = eight_clients(alloc).expect(rt, "memory");
+    let journal = Journal::from_slice(alloc, &MEETINGS).expect(rt, "memory");
+    let order = nested(alloc, by_client).expect(rt, "memory");
+    permits(&order, &journal, &syncs)
+}
+
 #[test]
 fn barriers_of_different_counts_are_nested(rt: HostRuntime) {
-    let (syncs, journal) = eight_clients(rt.alloc()).expect(&rt, "memory");
-    let apart = nested(rt.alloc(), false).expect(&rt, "memory");
-    assert!(rt; permits(&apart, &journal, &syncs) == Some(true));
-    let crossed = nested(rt.alloc(), true).expect(&rt, "memory");
-    assert!(rt; permits(&crossed, &journal, &syncs) == Some(false));
+    assert!(rt; is_nested(&rt, rt.alloc(), false) == Some(true));
+    assert!(rt; is_nested(&rt, rt.alloc(), true) == Some(false));
 }
 
 const LOG: [LogEntry; 6] = [
@@ -299,12 +360,17 @@ fn spelled(order: &[Name]) -> [u64; 2] {
     [clients, places]
 }
 
+// Whether the log tells the order that was worked out by hand, how far each client comes, and that the order is permitted.
+fn records_its_order(rt: &impl Abort, alloc: Global) -> bool {
+    let kept = short_run(alloc).expect(rt, "memory");
+    assert!(rt; are_well_formed(&kept.syncs));
+    let order = tile_order(alloc, &kept, 0).expect(rt, "memory");
+    spelled(order.as_slice()) == [100_110_011, 001_122_334]
+        && (reach(&kept, 0), reach(&kept, 1), reach(&kept, 2)) == (4, 5, 0)
+        && is_permitted(&order, &kept.journal, &kept.syncs)
+}
+
 #[test]
 fn a_log_records_its_order(rt: HostRuntime) {
-    let kept = short_run(rt.alloc()).expect(&rt, "memory");
-    assert!(rt; are_well_formed(&kept.syncs));
-    let order = tile_order(rt.alloc(), &kept, 0).expect(&rt, "memory");
-    assert!(rt; spelled(order.as_slice()) == [100_110_011, 001_122_334]);
-    assert!(rt; (reach(&kept, 0), reach(&kept, 1), reach(&kept, 2)) == (4, 5, 0));
-    assert!(rt; is_permitted(&order, &kept.journal, &kept.syncs));
+    assert!(rt; records_its_order(&rt, rt.alloc()));
 }

@@ -8,6 +8,7 @@ use rc_base::command::Rgba;
 use rc_base::out_of_memory::OutOfMemory;
 use rc_base::window::{Layout, Pixel, Pixels};
 use std::alloc::Global;
+use std::process::Abort;
 
 // Columns begin at 0, 1, 2 and 3 of 5, rows at 0 and 1 of 3.
 const LAYOUT: Layout = Layout {
@@ -88,11 +89,15 @@ const ROWS: [u8; 45] = [
     100, 7, 1, 100, 0, 0, 100, 1, 0, 100, 2, 0, 100, 3, 0, 100, 3, 1, 100,
 ];
 
+// Whether the image of all parts has these pixels.
+fn is_whole(rt: &impl Abort, alloc: Global) -> bool {
+    let parts = all_parts(alloc).expect(rt, "memory");
+    assert!(rt; are_parts(&LAYOUT, &parts));
+    let image = assemble(alloc, &LAYOUT, &parts).expect(rt, "memory");
+    image.width == 5 && image.height == 3 && image.rgb.as_slice() == ROWS.as_slice()
+}
+
 #[test]
 fn each_pixel_is_that_of_its_tile(rt: HostRuntime) {
-    let parts = all_parts(rt.alloc()).expect(&rt, "memory");
-    assert!(rt; are_parts(&LAYOUT, &parts));
-    let image = assemble(rt.alloc(), &LAYOUT, &parts).expect(&rt, "memory");
-    assert!(rt; (image.width, image.height) == (5, 3));
-    assert!(rt; image.rgb.as_slice() == ROWS.as_slice());
+    assert!(rt; is_whole(&rt, rt.alloc()));
 }

@@ -178,79 +178,96 @@ fn play(alloc: Global, run: &mut Run, events: &[Event]) -> Result<usize, OutOfMe
     Ok(events.len())
 }
 
-#[test]
-fn two_clients_clear_meet_and_swap(rt: HostRuntime) {
-    let red = Rgba {
+const RED: Rgba = Rgba {
+    r: 200,
+    g: 10,
+    b: 20,
+    a: 30,
+};
+
+const GREEN: Rgba = Rgba {
+    r: 1,
+    g: 2,
+    b: 3,
+    a: 4,
+};
+
+// The first colour, with the green of the second one.
+const SHOWN: Pixel = Pixel {
+    color: Rgba {
         r: 200,
-        g: 10,
+        g: 2,
         b: 20,
         a: 30,
-    };
-    let green = Rgba {
-        r: 1,
-        g: 2,
-        b: 3,
-        a: 4,
-    };
-    let shown = Pixel {
-        color: Rgba { g: 2, ..red },
-        depth: 16_777_215,
-    };
-    let meet = Entry::Meet {
-        barrier: 1,
-        members: 0b11,
-    };
-    let events = [
-        Event::Step(Outcome::Blocked),
-        Event::Clear(1, 5, green, [false, true, false, false]),
-        Event::Clear(0, 3, red, [true, true, true, true]),
-        Event::Step(Outcome::Took(0)),
-        Event::Wait(0, 4, SyncOp::Barrier(1)),
-        Event::Step(Outcome::Took(1)),
-        Event::Step(Outcome::Held(0)),
-        Event::Wait(0, 9, SyncOp::Swap),
-        Event::Step(Outcome::Blocked),
-        Event::Grant(Grant::Entry(meet)),
-        Event::Step(Outcome::Learnt),
-        Event::Step(Outcome::Blocked),
-        Event::Wait(1, 6, SyncOp::Barrier(1)),
-        Event::Step(Outcome::Held(1)),
-        Event::Step(Outcome::Performed),
-        Event::Step(Outcome::Held(0)),
-        Event::Grant(Grant::Entry(Entry::Swap)),
-        Event::Step(Outcome::Learnt),
-        Event::Wait(1, 7, SyncOp::Swap),
-        Event::Step(Outcome::Held(1)),
-        Event::Step(Outcome::Swapped(1, Some(shown))),
-        Event::End(0, 10),
-        Event::Step(Outcome::Closed(0)),
-        Event::Grant(Grant::NoMore),
-        Event::Step(Outcome::Learnt),
-        Event::Wait(1, 8, SyncOp::Barrier(1)),
-        Event::Step(Outcome::Held(1)),
-        Event::Clear(1, 9, red, [true, true, true, true]),
-        Event::Step(Outcome::Dropped(1)),
-        Event::End(1, 10),
-        Event::Step(Outcome::Closed(1)),
-        Event::Step(Outcome::Ended),
-    ];
-    let mut run = run_of(&rt, rt.alloc(), Sizes::new(rt.alloc()));
-    assert!(rt; play(rt.alloc(), &mut run, &events).expect(&rt, "memory") == 32);
-    assert!(rt; !run.core.is_short());
+    },
+    depth: 16_777_215,
+};
+
+const MEET: Entry = Entry::Meet {
+    barrier: 1,
+    members: 0b11,
+};
+
+const EVENTS: [Event; 32] = [
+    Event::Step(Outcome::Blocked),
+    Event::Clear(1, 5, GREEN, [false, true, false, false]),
+    Event::Clear(0, 3, RED, [true, true, true, true]),
+    Event::Step(Outcome::Took(0)),
+    Event::Wait(0, 4, SyncOp::Barrier(1)),
+    Event::Step(Outcome::Took(1)),
+    Event::Step(Outcome::Held(0)),
+    Event::Wait(0, 9, SyncOp::Swap),
+    Event::Step(Outcome::Blocked),
+    Event::Grant(Grant::Entry(MEET)),
+    Event::Step(Outcome::Learnt),
+    Event::Step(Outcome::Blocked),
+    Event::Wait(1, 6, SyncOp::Barrier(1)),
+    Event::Step(Outcome::Held(1)),
+    Event::Step(Outcome::Performed),
+    Event::Step(Outcome::Held(0)),
+    Event::Grant(Grant::Entry(Entry::Swap)),
+    Event::Step(Outcome::Learnt),
+    Event::Wait(1, 7, SyncOp::Swap),
+    Event::Step(Outcome::Held(1)),
+    Event::Step(Outcome::Swapped(1, Some(SHOWN))),
+    Event::End(0, 10),
+    Event::Step(Outcome::Closed(0)),
+    Event::Grant(Grant::NoMore),
+    Event::Step(Outcome::Learnt),
+    Event::Wait(1, 8, SyncOp::Barrier(1)),
+    Event::Step(Outcome::Held(1)),
+    Event::Clear(1, 9, RED, [true, true, true, true]),
+    Event::Step(Outcome::Dropped(1)),
+    Event::End(1, 10),
+    Event::Step(Outcome::Closed(1)),
+    Event::Step(Outcome::Ended),
+];
+
+const LOG: [LogEntry; 4] = [
+    LogEntry::Took {
+        client: 0,
+        place: 3,
+    },
+    LogEntry::Took {
+        client: 1,
+        place: 5,
+    },
+    LogEntry::Performed,
+    LogEntry::Performed,
+];
+
+// Whether the tile goes through the events, with memory for all, and keeps the log.
+fn goes_through(rt: &impl Abort, alloc: Global) -> bool {
+    let mut run = run_of(rt, alloc, Sizes::new(alloc));
+    let count = play(alloc, &mut run, &EVENTS).expect(rt, "memory");
+    let is_short = run.core.is_short();
     let Run { core, .. } = run;
-    let log = [
-        LogEntry::Took {
-            client: 0,
-            place: 3,
-        },
-        LogEntry::Took {
-            client: 1,
-            place: 5,
-        },
-        LogEntry::Performed,
-        LogEntry::Performed,
-    ];
-    assert!(rt; core.into_log().as_slice() == &log[..]);
+    count == 32 && !is_short && core.into_log().as_slice() == LOG.as_slice()
+}
+
+#[test]
+fn two_clients_clear_meet_and_swap(rt: HostRuntime) {
+    assert!(rt; goes_through(&rt, rt.alloc()));
 }
 
 // A texel that is written into this column of shared texture 1.
@@ -309,19 +326,27 @@ fn triangle(alloc: Global, texture: u8) -> Result<Parcel, OutOfMemory> {
     })
 }
 
-// The right one of two pixels in the frame that is shown after a texel was written into a texture of one column, and the texture of a name drawn.
-fn drawn(rt: &impl Abort, alloc: Global, x: u16, texture: u8) -> Option<Pixel> {
-    let shared = Sizes::from_slice(alloc, &[[1, 1]]).expect(rt, "memory");
-    let mut run = run_of(rt, alloc, shared);
+// Writes the texel, draws the triangle with the texture of a name, and lets both clients swap. Whether the grant found room.
+fn draw(rt: &impl Abort, alloc: Global, run: &mut Run, x: u16, texture: u8) -> bool {
     let texel = texel(alloc, x).expect(rt, "memory");
     run.take(alloc, 0, &texel).expect(rt, "memory");
     let triangle = triangle(alloc, texture).expect(rt, "memory");
     run.take(alloc, 0, &triangle).expect(rt, "memory");
-    let swap = parcel(alloc, 2, Act::Sync(SyncOp::Swap));
-    run.take(alloc, 0, &swap).expect(rt, "memory");
-    let swap = parcel(alloc, 0, Act::Sync(SyncOp::Swap));
-    run.take(alloc, 1, &swap).expect(rt, "memory");
-    let granted = run.grants.push(Grant::Entry(Entry::Swap)).is_ok();
+    swap(rt, alloc, run, 0, 2);
+    swap(rt, alloc, run, 1, 0);
+    run.grants.push(Grant::Entry(Entry::Swap)).is_ok()
+}
+
+fn swap(rt: &impl Abort, alloc: Global, run: &mut Run, client: usize, place: u32) {
+    let swap = parcel(alloc, place, Act::Sync(SyncOp::Swap));
+    run.take(alloc, client, &swap).expect(rt, "memory");
+}
+
+// The right one of two pixels in the frame that is shown after a texel was written into a texture of one column, and the texture of a name drawn.
+fn drawn(rt: &impl Abort, alloc: Global, x: u16, texture: u8) -> Option<Pixel> {
+    let shared = Sizes::from_slice(alloc, &[[1, 1]]).expect(rt, "memory");
+    let mut run = run_of(rt, alloc, shared);
+    let granted = draw(rt, alloc, &mut run, x, texture);
     run.step().expect(rt, "memory");
     match run.step().expect(rt, "memory") {
         Outcome::Swapped(1, pixel) if granted => pixel,
@@ -329,15 +354,36 @@ fn drawn(rt: &impl Abort, alloc: Global, x: u16, texture: u8) -> Option<Pixel> {
     }
 }
 
+// A column that is written, a texture's name, and the colour that is drawn.
+const DRAWN: [(u16, u8, Rgba); 3] = [
+    (
+        0,
+        1,
+        Rgba {
+            r: 10,
+            g: 20,
+            b: 30,
+            a: 40,
+        },
+    ),
+    (1, 1, CLEAR_BLACK),
+    (0, 2, CLEAR_BLACK),
+];
+
+const CLEAR_BLACK: Rgba = Rgba {
+    r: 0,
+    g: 0,
+    b: 0,
+    a: 0,
+};
+
 #[test]
 fn a_written_texture_is_drawn_where_its_name_is_declared(rt: HostRuntime) {
-    let pixel = |r: u8, g: u8, b: u8, a: u8| -> Option<Pixel> {
-        Some(Pixel {
-            color: Rgba { r, g, b, a },
+    for (x, texture, color) in &DRAWN {
+        let pixel = Pixel {
+            color: *color,
             depth: 16_777_215,
-        })
-    };
-    assert!(rt; drawn(&rt, rt.alloc(), 0, 1) == pixel(10, 20, 30, 40));
-    assert!(rt; drawn(&rt, rt.alloc(), 1, 1) == pixel(0, 0, 0, 0));
-    assert!(rt; drawn(&rt, rt.alloc(), 0, 2) == pixel(0, 0, 0, 0));
+        };
+        assert!(rt; drawn(&rt, rt.alloc(), *x, *texture) == Some(pixel));
+    }
 }

@@ -6,6 +6,7 @@ use rc_base::scene::{Counts, Decl, Scene, Sizes, Streams, Units};
 use rc_base::window::Layout;
 use scene_file::check_limits;
 use std::alloc::Global;
+use std::process::Abort;
 
 const VERTICES: u16 = 5_002;
 
@@ -68,16 +69,21 @@ fn commands_in(scene: &Scene) -> usize {
     count
 }
 
+const CUT: Layout = Layout {
+    width: 1024,
+    height: 768,
+    columns: 4,
+    rows: 3,
+};
+
+fn is_within(rt: &impl Abort, alloc: Global) -> bool {
+    let scene = usual(alloc).expect(rt, "memory");
+    commands_in(&scene) == 800_640
+        && check_limits(&scene) == Ok(())
+        && layout(scene.decl.width, scene.decl.height, 4, 3, 16) == Ok(CUT)
+}
+
 #[test]
 fn a_usual_scene_is_within_the_limits(rt: HostRuntime) {
-    let scene = usual(rt.alloc()).expect(&rt, "memory");
-    assert!(rt; commands_in(&scene) == 800_640);
-    assert!(rt; check_limits(&scene) == Ok(()));
-    let cut = Layout {
-        width: 1024,
-        height: 768,
-        columns: 4,
-        rows: 3,
-    };
-    assert!(rt; layout(scene.decl.width, scene.decl.height, 4, 3, 16) == Ok(cut));
+    assert!(rt; is_within(&rt, rt.alloc()));
 }
