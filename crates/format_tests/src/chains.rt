@@ -31,92 +31,133 @@ const SAND: Rgba = Rgba {
 
 // What comes out of a chain, where it has room to count the commands.
 fn given(
+    rt: &impl Abort,
     alloc: Global,
     chain: &mut Vec<Box<dyn Spu>>,
     commands: Commands,
-) -> Result<Option<Commands>, OutOfMemory> {
-    if !has_room(chain, commands.len()) {
-        return Ok(None);
-    }
-    Ok(Some(run_chain(alloc, chain, commands)?))
+) -> Commands {
+    assert!(rt; has_room(chain, commands.len()));
+    run_chain(alloc, chain, commands).expect(rt, "memory")
 }
 
-// The chain makes this of the commands.
-fn makes(
-    alloc: Global,
-    chain: &mut Vec<Box<dyn Spu>>,
-    commands: [Command; 4],
-    made: &[Command],
-) -> Result<bool, OutOfMemory> {
+fn listed(rt: &impl Abort, alloc: Global, commands: &[Command]) -> Commands {
     let mut list = Commands::new(alloc);
     for command in commands {
-        list.push(command)?;
+        list.push(command.clone().expect(rt, "memory"))
+            .expect(rt, "memory");
     }
-    match given(alloc, chain, list)? {
-        Some(given) => Ok(given.as_slice() == made),
-        None => Ok(false),
+    list
+}
+
+// Adds the member of a rule.
+fn add_member(rt: &impl Abort, alloc: Global, chain: &mut Vec<Box<dyn Spu>>, rule: SpuRule) {
+    match rule {
+        SpuRule::Recolour(tint) => chain
+            .push(Box::new(alloc, RecolourSpu::new(tint)).expect(rt, "memory"))
+            .expect(rt, "memory"),
+        SpuRule::Cull => chain
+            .push(Box::new(alloc, CullSpu).expect(rt, "memory"))
+            .expect(rt, "memory"),
+        SpuRule::Drop(opcode) => chain
+            .push(Box::new(alloc, DropSpu::new(opcode)).expect(rt, "memory"))
+            .expect(rt, "memory"),
+        SpuRule::Count(count) => chain
+            .push(Box::new(alloc, CountSpu::new(count)).expect(rt, "memory"))
+            .expect(rt, "memory"),
     }
 }
 
-// The members have these rules.
-fn have(alloc: Global, chain: &Vec<Box<dyn Spu>>, rules: &[SpuRule]) -> Result<bool, OutOfMemory> {
-    Ok(rules_of(alloc, chain)?.as_slice() == rules)
+// Adds the members of rules.
+fn add_members(rt: &impl Abort, alloc: Global, chain: &mut Vec<Box<dyn Spu>>, rules: &[SpuRule]) {
+    for rule in rules {
+        add_member(rt, alloc, chain, *rule);
+    }
 }
+
+// Whether the members have these rules.
+fn have(rt: &impl Abort, alloc: Global, chain: &Vec<Box<dyn Spu>>, rules: &[SpuRule]) -> bool {
+    rules_of(alloc, chain).expect(rt, "memory").as_slice() == rules
+}
+
+// Whether a chain of these rules makes this of the commands, and is left so.
+fn makes(
+    rt: &impl Abort,
+    alloc: Global,
+    rules: &[SpuRule],
+    commands: &[Command],
+    made: &[Command],
+    left: &[SpuRule],
+) -> bool {
+    let mut chain: Vec<Box<dyn Spu>> = Vec::new(alloc);
+    add_members(rt, alloc, &mut chain, rules);
+    let list = listed(rt, alloc, commands);
+    let given = given(rt, alloc, &mut chain, list);
+    given.as_slice() == made && have(rt, alloc, &chain, left)
+}
+
+const FOUR_RULES: [SpuRule; 4] = [
+    SpuRule::Recolour(TINT),
+    SpuRule::Drop(0x24),
+    SpuRule::Cull,
+    SpuRule::Count(0),
+];
+
+const LEFT_OF_FOUR: [SpuRule; 4] = [
+    SpuRule::Recolour(TINT),
+    SpuRule::Drop(0x24),
+    SpuRule::Cull,
+    SpuRule::Count(3),
+];
+
+const COMMANDS: [Command; 4] = [
+    Command::Color(SAND),
+    Command::Disable { capability: 4 },
+    Command::Disable { capability: 3 },
+    Command::Swap,
+];
+
+const MADE: [Command; 3] = [
+    Command::Color(Rgba {
+        r: 100,
+        g: 100,
+        b: 50,
+        a: 255,
+    }),
+    Command::Enable { capability: 4 },
+    Command::Disable { capability: 3 },
+];
 
 #[test]
 fn members_pass_commands_on_in_their_order(rt: HostRuntime) {
-    let alloc = rt.alloc();
-    let mut chain: Vec<Box<dyn Spu>> = Vec::new(alloc);
-    chain
-        .push(Box::new(alloc, RecolourSpu::new(TINT)).expect(&rt, "memory"))
-        .expect(&rt, "memory");
-    chain
-        .push(Box::new(alloc, DropSpu::new(0x24)).expect(&rt, "memory"))
-        .expect(&rt, "memory");
-    chain
-        .push(Box::new(alloc, CullSpu).expect(&rt, "memory"))
-        .expect(&rt, "memory");
-    chain
-        .push(Box::new(alloc, CountSpu::new(0)).expect(&rt, "memory"))
-        .expect(&rt, "memory");
-    let commands = [
-        Command::Color(SAND),
-        Command::Disable { capability: 4 },
-        Command::Disable { capability: 3 },
-        Command::Swap,
-    ];
-    let made = [
-        Command::Color(Rgba { r: 100, ..SAND }),
-        Command::Enable { capability: 4 },
-        Command::Disable { capability: 3 },
-    ];
-    assert!(rt; makes(alloc, &mut chain, commands, &made).expect(&rt, "memory"));
-    let rules = [
-        SpuRule::Recolour(TINT),
-        SpuRule::Drop(0x24),
-        SpuRule::Cull,
-        SpuRule::Count(3),
-    ];
-    assert!(rt; have(alloc, &chain, &rules).expect(&rt, "memory"));
+    assert!(rt;
+        makes(
+            &rt,
+            rt.alloc(),
+            &FOUR_RULES,
+            &COMMANDS,
+            &MADE,
+            &LEFT_OF_FOUR
+        )
+    );
 }
+
+const COUNTS_ROUND_A_DROP: [SpuRule; 3] = [
+    SpuRule::Count(5),
+    SpuRule::Drop(0x24),
+    SpuRule::Count(0),
+];
+
+const LEFT_ROUND_A_DROP: [SpuRule; 3] = [SpuRule::Count(9), SpuRule::Drop(0x24), SpuRule::Count(1)];
+
+const THREE_SWAPS: [Command; 4] = [Command::Swap, Command::End, Command::Swap, Command::Swap];
+
+const END_ALONE: [Command; 1] = [Command::End];
 
 #[test]
 fn a_count_before_a_drop_counts_what_is_dropped(rt: HostRuntime) {
-    let alloc = rt.alloc();
-    let mut chain: Vec<Box<dyn Spu>> = Vec::new(alloc);
-    chain
-        .push(Box::new(alloc, CountSpu::new(5)).expect(&rt, "memory"))
-        .expect(&rt, "memory");
-    chain
-        .push(Box::new(alloc, DropSpu::new(0x24)).expect(&rt, "memory"))
-        .expect(&rt, "memory");
-    chain
-        .push(Box::new(alloc, CountSpu::new(0)).expect(&rt, "memory"))
-        .expect(&rt, "memory");
-    let commands = [Command::Swap, Command::End, Command::Swap, Command::Swap];
-    assert!(rt; makes(alloc, &mut chain, commands, &[Command::End]).expect(&rt, "memory"));
-    let rules = [SpuRule::Count(9), SpuRule::Drop(0x24), SpuRule::Count(1)];
-    assert!(rt; have(alloc, &chain, &rules).expect(&rt, "memory"));
+    let rules = &COUNTS_ROUND_A_DROP;
+    let left = &LEFT_ROUND_A_DROP;
+    assert!(rt; makes(&rt, rt.alloc(), rules, &THREE_SWAPS, &END_ALONE, left));
 }
 
 // The streams of two clients.
@@ -165,23 +206,18 @@ fn made(
     Ok(Some(streams))
 }
 
-// What a chain that counts before it drops Swaps, and again behind, makes of two streams, and the rules that its members have then.
-fn counts_on(alloc: Global) -> Result<bool, OutOfMemory> {
+// Whether a chain that counts before it drops Swaps, and again behind, makes of two streams what it should, and its members are left so.
+fn counts_on(rt: &impl Abort, alloc: Global) -> bool {
     let mut chain: Vec<Box<dyn Spu>> = Vec::new(alloc);
-    chain.push(Box::new(alloc, CountSpu::new(5))?)?;
-    chain.push(Box::new(alloc, DropSpu::new(0x24))?)?;
-    chain.push(Box::new(alloc, CountSpu::new(0))?)?;
-    let mut first = Commands::new(alloc);
-    first.push(Command::Swap)?;
-    first.push(Command::End)?;
-    let mut second = Commands::new(alloc);
-    second.push(Command::Swap)?;
-    second.push(Command::Swap)?;
-    let Some(made) = made(alloc, &mut chain, first, second)? else {
-        return Ok(false);
-    };
-    let rules = [SpuRule::Count(9), SpuRule::Drop(0x24), SpuRule::Count(1)];
-    Ok(have(alloc, &chain, &rules)? && are_end_and_nothing(made.as_slice()))
+    add_members(rt, alloc, &mut chain, &COUNTS_ROUND_A_DROP);
+    let first = listed(rt, alloc, &[Command::Swap, Command::End]);
+    let second = listed(rt, alloc, &[Command::Swap, Command::Swap]);
+    match made(alloc, &mut chain, first, second).expect(rt, "memory") {
+        Some(made) => {
+            have(rt, alloc, &chain, &LEFT_ROUND_A_DROP) && are_end_and_nothing(made.as_slice())
+        }
+        None => false,
+    }
 }
 
 // The streams of two clients, an End alone and nothing.
@@ -194,18 +230,23 @@ fn are_end_and_nothing(streams: &[Commands]) -> bool {
 
 #[test]
 fn a_count_goes_on_from_client_to_client(rt: HostRuntime) {
-    assert!(rt; counts_on(rt.alloc()).expect(&rt, "memory"));
+    assert!(rt; counts_on(&rt, rt.alloc()));
 }
+
+// Whether a chain of these rules has room for so many commands.
+fn has_room_behind(rt: &impl Abort, alloc: Global, rules: &[SpuRule], count: usize) -> bool {
+    let mut chain: Vec<Box<dyn Spu>> = Vec::new(alloc);
+    add_members(rt, alloc, &mut chain, rules);
+    has_room(&chain, count)
+}
+
+const NEARLY_FULL: [SpuRule; 1] = [SpuRule::Count(9_223_372_036_854_775_807)];
 
 #[test]
 fn a_count_has_room_up_to_its_last_number(rt: HostRuntime) {
-    let alloc = rt.alloc();
-    let mut chain: Vec<Box<dyn Spu>> = Vec::new(alloc);
-    assert!(rt; has_room(&chain, 1));
-    chain
-        .push(Box::new(alloc, CountSpu::new(9_223_372_036_854_775_807)).expect(&rt, "memory"))
-        .expect(&rt, "memory");
-    assert!(rt; has_room(&chain, 1) && !has_room(&chain, 2));
+    assert!(rt; has_room_behind(&rt, rt.alloc(), &[], 1));
+    assert!(rt; has_room_behind(&rt, rt.alloc(), &NEARLY_FULL, 1));
+    assert!(rt; !has_room_behind(&rt, rt.alloc(), &NEARLY_FULL, 2));
 }
 
 // Words as the program is given them.
@@ -235,56 +276,58 @@ fn names_none(rt: &impl Abort, alloc: Global, words: &[&str]) -> bool {
         .is_none()
 }
 
+const NAMED: [(&[&str], &[SpuRule], usize); 8] = [
+    (&[], &[], 0),
+    (&["render"], &[], 0),
+    (&["Count", "render"], &[], 0),
+    (&["count"], &[SpuRule::Count(0)], 1),
+    (
+        &["cull", "cull", "serial"],
+        &[SpuRule::Cull, SpuRule::Cull],
+        2,
+    ),
+    (
+        &["drop", "Swap", "render", "cull"],
+        &[SpuRule::Drop(0x24)],
+        2,
+    ),
+    (
+        &["drop", "Begin", "drop", "End"],
+        &[SpuRule::Drop(1), SpuRule::Drop(2)],
+        4,
+    ),
+    (
+        &["recolour", "128", "255", "255", "255", "count", "render"],
+        &[SpuRule::Recolour(TINT), SpuRule::Count(0)],
+        6,
+    ),
+];
+
 #[test]
 fn leading_words_name_rules(rt: HostRuntime) {
-    let cases: [(&[&str], &[SpuRule], usize); 8] = [
-        (&[], &[], 0),
-        (&["render"], &[], 0),
-        (&["Count", "render"], &[], 0),
-        (&["count"], &[SpuRule::Count(0)], 1),
-        (
-            &["cull", "cull", "serial"],
-            &[SpuRule::Cull, SpuRule::Cull],
-            2,
-        ),
-        (
-            &["drop", "Swap", "render", "cull"],
-            &[SpuRule::Drop(0x24)],
-            2,
-        ),
-        (
-            &["drop", "Begin", "drop", "End"],
-            &[SpuRule::Drop(1), SpuRule::Drop(2)],
-            4,
-        ),
-        (
-            &["recolour", "128", "255", "255", "255", "count", "render"],
-            &[SpuRule::Recolour(TINT), SpuRule::Count(0)],
-            6,
-        ),
-    ];
-    for (words, rules, count) in cases {
-        assert!(rt; names(&rt, rt.alloc(), words, rules, count));
+    for (words, rules, count) in &NAMED {
+        assert!(rt; names(&rt, rt.alloc(), *words, *rules, *count));
     }
 }
 
+const WITHOUT_WORDS: [&[&str]; 11] = [
+    &["drop"],
+    &["drop", "swap", "render"],
+    &["drop", "NewList", "render"],
+    &["drop", "36", "render"],
+    &["recolour"],
+    &["recolour", "1", "2", "render"],
+    &["recolour", "1", "2", "3"],
+    &["recolour", "1", "2", "3", "256", "render"],
+    &["recolour", "01", "2", "3", "4", "render"],
+    &["recolour", "1", "2", "3", "-4", "render"],
+    &["count", "cull", "recolour", "1", "2", "3"],
+];
+
 #[test]
 fn a_filter_without_its_words_names_none(rt: HostRuntime) {
-    let cases: [&[&str]; 11] = [
-        &["drop"],
-        &["drop", "swap", "render"],
-        &["drop", "NewList", "render"],
-        &["drop", "36", "render"],
-        &["recolour"],
-        &["recolour", "1", "2", "render"],
-        &["recolour", "1", "2", "3"],
-        &["recolour", "1", "2", "3", "256", "render"],
-        &["recolour", "01", "2", "3", "4", "render"],
-        &["recolour", "1", "2", "3", "-4", "render"],
-        &["count", "cull", "recolour", "1", "2", "3"],
-    ];
-    for words in cases {
-        assert!(rt; names_none(&rt, rt.alloc(), words));
+    for words in &WITHOUT_WORDS {
+        assert!(rt; names_none(&rt, rt.alloc(), *words));
     }
 }
 

@@ -162,11 +162,9 @@ fn matrix(diagonal: i32) -> Mat4 {
 }
 
 // An entry of 2147483647, and 0 everywhere else.
-fn corner_matrix() -> Mat4 {
-    Mat4 {
-        m: [i32::MAX, 0, 0, 0, 0, 0, 0, 0, 0, 0, 0, 0, 0, 0, 0, 0],
-    }
-}
+const CORNER_MATRIX: Mat4 = Mat4 {
+    m: [i32::MAX, 0, 0, 0, 0, 0, 0, 0, 0, 0, 0, 0, 0, 0, 0, 0],
+};
 
 // Whether the command is refused, and leaves the context as it was but for one more fault.
 fn is_refused(context: &mut Context, twin: &Context, command: &Command, fault: Fault) -> bool {
@@ -194,153 +192,229 @@ fn empty_block(alloc: Global, version: u8, kind: u8) -> Option<(u8, usize)> {
     drawn_block(&issue(&mut context, 0, &Command::End))
 }
 
-// The argument keeps its codes.
+// A version, the argument of Begin, and the mode and number of vertices of its block. The argument keeps its codes.
+const MODES: [(u8, u8, Option<(u8, usize)>); 7] = [
+    (1, 0, Some((0, 0))),
+    (1, 2, Some((2, 0))),
+    (2, 0, Some((16, 0))),
+    (2, 1, Some((17, 0))),
+    (2, 2, Some((18, 0))),
+    (2, 3, None),
+    (2, 16, None),
+];
+
 #[test]
 fn blocks_of_version_2_have_modes_of_their_own(rt: HostRuntime) {
-    for (version, kind, due) in [
-        (1, 0, Some((0, 0))),
-        (1, 2, Some((2, 0))),
-        (2, 0, Some((16, 0))),
-        (2, 1, Some((17, 0))),
-        (2, 2, Some((18, 0))),
-        (2, 3, None),
-        (2, 16, None),
-    ] {
-        assert!(rt; empty_block(rt.alloc(), version, kind) == due);
+    for (version, kind, due) in &MODES {
+        assert!(rt; empty_block(rt.alloc(), *version, *kind) == *due);
     }
 }
 
-// All commands but Vertex, Color, TexCoord and End, with arguments that are right outside a block.
-fn outside_alone(image: Command, part: Command, shared: Command) -> [Command; 32] {
-    [
-        Command::Begin { mode: 0 },
-        Command::Enable { capability: 0 },
-        Command::Disable { capability: 0 },
-        Command::MatrixMode { mode: 1 },
-        Command::LoadIdentity,
-        Command::LoadMatrix(matrix(2)),
-        Command::MultMatrix(matrix(2)),
-        Command::PushMatrix,
-        Command::PopMatrix,
-        Command::Viewport { area: [1, 1, 1, 1] },
-        Command::DepthRange { near: 1, far: 2 },
-        Command::Scissor { area: [1, 1, 1, 1] },
-        Command::AlphaFunc {
-            function: 1,
-            reference: 1,
-        },
-        Command::DepthFunc { function: 3 },
-        Command::DepthMask { flag: 0 },
-        Command::BlendFunc {
-            source: 2,
-            destination: 2,
-        },
-        Command::ColorMask {
-            flags: [0, 0, 0, 0],
-        },
-        Command::ClearColor(Rgba {
-            r: 1,
-            g: 2,
-            b: 3,
-            a: 4,
-        }),
-        Command::ClearDepth { depth: 3 },
-        Command::Clear { mask: 3 },
-        Command::CullFace { face: 2 },
-        Command::FrontFace { direction: 1 },
-        Command::BindTexture { kind: 0, name: 2 },
-        Command::TexEnv { environment: 1 },
-        Command::TexWrap { s: 1, t: 1 },
-        image,
-        part,
-        shared,
-        Command::Barrier { name: 1 },
-        Command::SemP { name: 1 },
-        Command::SemV { name: 1 },
-        Command::Swap,
-    ]
-}
+const SMALL: Mat4 = Mat4 {
+    m: [2, 0, 0, 0, 0, 2, 0, 0, 0, 0, 2, 0, 0, 0, 0, 2],
+};
 
-#[test]
-fn inside_a_block_four_commands_are_accepted(rt: HostRuntime) {
-    let mut context = fresh(rt.alloc()).expect(&rt, "memory");
-    let mut twin = fresh(rt.alloc()).expect(&rt, "memory");
-    let square = image(rt.alloc(), 1, 1, 1).expect(&rt, "memory");
-    let spot = texture_part(rt.alloc(), (0, 1, 0, 0, 1, 1)).expect(&rt, "memory");
-    let shared = texture_part(rt.alloc(), (1, 1, 0, 0, 1, 1)).expect(&rt, "memory");
-    let refused = outside_alone(square, spot, shared);
-    let color = Command::Color(Rgba {
+// All commands without texels but Vertex, Color, TexCoord and End, with arguments that are right outside a block.
+const OUTSIDE_ALONE: [Command; 29] = [
+    Command::Begin { mode: 0 },
+    Command::Enable { capability: 0 },
+    Command::Disable { capability: 0 },
+    Command::MatrixMode { mode: 1 },
+    Command::LoadIdentity,
+    Command::LoadMatrix(SMALL),
+    Command::MultMatrix(SMALL),
+    Command::PushMatrix,
+    Command::PopMatrix,
+    Command::Viewport { area: [1, 1, 1, 1] },
+    Command::DepthRange { near: 1, far: 2 },
+    Command::Scissor { area: [1, 1, 1, 1] },
+    Command::AlphaFunc {
+        function: 1,
+        reference: 1,
+    },
+    Command::DepthFunc { function: 3 },
+    Command::DepthMask { flag: 0 },
+    Command::BlendFunc {
+        source: 2,
+        destination: 2,
+    },
+    Command::ColorMask {
+        flags: [0, 0, 0, 0],
+    },
+    Command::ClearColor(Rgba {
         r: 1,
         g: 2,
         b: 3,
         a: 4,
-    });
-    let accepted = [
-        Command::Begin { mode: 2 },
-        color,
-        Command::TexCoord { s: 5, t: 6 },
-        vertex(7),
-    ];
-    assert!(rt; are_quiet(&mut context, &accepted) && are_quiet(&mut twin, &accepted));
-    assert!(rt; are_refused(&mut context, &twin, &refused, Fault::InvalidOperation));
-    assert!(rt; is_block(&mut context, Some((2, 1))) && is_block(&mut twin, Some((2, 1))));
-    let outside = [vertex(7), Command::End];
-    assert!(rt; are_refused(&mut context, &twin, &outside, Fault::InvalidOperation));
+    }),
+    Command::ClearDepth { depth: 3 },
+    Command::Clear { mask: 3 },
+    Command::CullFace { face: 2 },
+    Command::FrontFace { direction: 1 },
+    Command::BindTexture { kind: 0, name: 2 },
+    Command::TexEnv { environment: 1 },
+    Command::TexWrap { s: 1, t: 1 },
+    Command::Barrier { name: 1 },
+    Command::SemP { name: 1 },
+    Command::SemV { name: 1 },
+    Command::Swap,
+];
+
+// The three commands with texels, with arguments that are right outside a block, once private texture 1 has an image: an image of one texel, and a part of one
+// texel of private texture 1 and of shared texture 1.
+const SQUARE: (u8, u16, u16) = (1, 1, 1);
+
+const SPOTS: [(u8, u8, u16, u16, u16, u16); 2] = [(0, 1, 0, 0, 1, 1), (1, 1, 0, 0, 1, 1)];
+
+// What begins a block of one vertex.
+const INSIDE: [Command; 4] = [
+    Command::Begin { mode: 2 },
+    Command::Color(Rgba {
+        r: 1,
+        g: 2,
+        b: 3,
+        a: 4,
+    }),
+    Command::TexCoord { s: 5, t: 6 },
+    Command::Vertex {
+        pos: [7, 0, 0, ONE],
+    },
+];
+
+const INSIDE_ALONE: [Command; 2] = [
+    Command::Vertex {
+        pos: [7, 0, 0, ONE],
+    },
+    Command::End,
+];
+
+// Whether each of these images is refused for this fault.
+fn are_refused_images(
+    context: &mut Context,
+    twin: &Context,
+    alloc: Global,
+    images: &[(u8, u16, u16)],
+    fault: Fault,
+) -> bool {
+    for (name, w, h) in images {
+        let Ok(command) = image(alloc, *name, *w, *h) else {
+            return false;
+        };
+        if !is_refused(context, twin, &command, fault) {
+            return false;
+        }
+    }
+    true
+}
+
+// Whether each of these parts is refused for this fault.
+fn are_refused_parts(
+    context: &mut Context,
+    twin: &Context,
+    alloc: Global,
+    parts: &[(u8, u8, u16, u16, u16, u16)],
+    fault: Fault,
+) -> bool {
+    for numbers in parts {
+        let Ok(command) = texture_part(alloc, *numbers) else {
+            return false;
+        };
+        if !is_refused(context, twin, &command, fault) {
+            return false;
+        }
+    }
+    true
+}
+
+// Whether each command is refused for this fault.
+fn are_refused(context: &mut Context, twin: &Context, commands: &[Command], fault: Fault) -> bool {
+    for command in commands {
+        if !is_refused(context, twin, command, fault) {
+            return false;
+        }
+    }
+    true
+}
+
+// Whether a context with an open block takes four commands alone, and one without it none of two.
+fn accepts_four(rt: &impl Abort, alloc: Global) -> bool {
+    let mut context = prepared(rt, alloc);
+    let mut twin = prepared(rt, alloc);
+    let fault = Fault::InvalidOperation;
+    are_quiet(&mut context, &INSIDE)
+        && are_quiet(&mut twin, &INSIDE)
+        && are_refused(&mut context, &twin, &OUTSIDE_ALONE, fault)
+        && are_refused_images(&mut context, &twin, alloc, &[SQUARE], fault)
+        && are_refused_parts(&mut context, &twin, alloc, &SPOTS, fault)
+        && is_block(&mut context, Some((2, 1)))
+        && is_block(&mut twin, Some((2, 1)))
+        && are_refused(&mut context, &twin, &INSIDE_ALONE, fault)
+}
+
+#[test]
+fn inside_a_block_four_commands_are_accepted(rt: HostRuntime) {
+    assert!(rt; accepts_four(&rt, rt.alloc()));
 }
 
 // Each argument with codes, behind the last of them.
-fn wrong_codes() -> [Command; 15] {
-    [
-        Command::Begin { mode: 3 },
-        Command::Enable { capability: 6 },
-        Command::Disable { capability: 255 },
-        Command::MatrixMode { mode: 2 },
-        Command::AlphaFunc {
-            function: 8,
-            reference: 0,
-        },
-        Command::DepthFunc { function: 8 },
-        Command::BlendFunc {
-            source: 10,
-            destination: 0,
-        },
-        Command::BlendFunc {
-            source: 0,
-            destination: 10,
-        },
-        Command::CullFace { face: 3 },
-        Command::FrontFace { direction: 2 },
-        // its name would be wrong too
-        Command::BindTexture { kind: 2, name: 0 },
-        Command::TexEnv { environment: 2 },
-        Command::TexWrap { s: 2, t: 0 },
-        Command::TexWrap { s: 0, t: 2 },
-        Command::MatrixMode { mode: 255 },
-    ]
-}
+const WRONG_CODES: [Command; 15] = [
+    Command::Begin { mode: 3 },
+    Command::Enable { capability: 6 },
+    Command::Disable { capability: 255 },
+    Command::MatrixMode { mode: 2 },
+    Command::AlphaFunc {
+        function: 8,
+        reference: 0,
+    },
+    Command::DepthFunc { function: 8 },
+    Command::BlendFunc {
+        source: 10,
+        destination: 0,
+    },
+    Command::BlendFunc {
+        source: 0,
+        destination: 10,
+    },
+    Command::CullFace { face: 3 },
+    Command::FrontFace { direction: 2 },
+    // its name would be wrong too
+    Command::BindTexture { kind: 2, name: 0 },
+    Command::TexEnv { environment: 2 },
+    Command::TexWrap { s: 2, t: 0 },
+    Command::TexWrap { s: 0, t: 2 },
+    Command::MatrixMode { mode: 255 },
+];
 
 // Values outside their ranges, each on one side of one of them.
-fn wrong_values() -> [Command; 15] {
-    let viewport = |area| Command::Viewport { area };
-    let scissor = |area| Command::Scissor { area };
-    [
-        viewport([0, 0, 2049, 1]),
-        viewport([0, 0, 1, -1]),
-        viewport([32_768, 0, 1, 1]),
-        viewport([0, -32_769, 1, 1]),
-        scissor([0, 0, -1, 1]),
-        scissor([0, 0, 1, -1]),
-        Command::Clear { mask: 4 },
-        Command::BindTexture { kind: 0, name: 0 },
-        Command::BindTexture { kind: 0, name: 65 },
-        Command::BindTexture { kind: 1, name: 2 },
-        Command::Barrier { name: 0 },
-        Command::Barrier { name: 3 },
-        Command::SemP { name: 2 },
-        Command::SemV { name: 0 },
-        Command::MultMatrix(corner_matrix()),
-    ]
-}
+const WRONG_VALUES: [Command; 15] = [
+    Command::Viewport {
+        area: [0, 0, 2049, 1],
+    },
+    Command::Viewport {
+        area: [0, 0, 1, -1],
+    },
+    Command::Viewport {
+        area: [32_768, 0, 1, 1],
+    },
+    Command::Viewport {
+        area: [0, -32_769, 1, 1],
+    },
+    Command::Scissor {
+        area: [0, 0, -1, 1],
+    },
+    Command::Scissor {
+        area: [0, 0, 1, -1],
+    },
+    Command::Clear { mask: 4 },
+    Command::BindTexture { kind: 0, name: 0 },
+    Command::BindTexture { kind: 0, name: 65 },
+    Command::BindTexture { kind: 1, name: 2 },
+    Command::Barrier { name: 0 },
+    Command::Barrier { name: 3 },
+    Command::SemP { name: 2 },
+    Command::SemV { name: 0 },
+    Command::MultMatrix(CORNER_MATRIX),
+];
 
 // Names and sides of images that are refused.
 const WRONG_IMAGES: [(u8, u16, u16); 4] = [(0, 1, 1), (65, 1, 1), (1, 0, 1), (1, 1, 257)];
@@ -359,67 +433,54 @@ const WRONG_PARTS: [(u8, u8, u16, u16, u16, u16); 10] = [
     (1, 1, 0, 0, 3, 3),
 ];
 
-// Whether each command is refused for this fault.
-fn are_refused(context: &mut Context, twin: &Context, commands: &[Command], fault: Fault) -> bool {
-    for command in commands {
-        if !is_refused(context, twin, command, fault) {
-            return false;
-        }
-    }
-    true
-}
-
-// Whether each of these images is refused.
-fn are_wrong_images(rt: &impl Abort, alloc: Global, context: &mut Context, twin: &Context) -> bool {
-    for (name, w, h) in WRONG_IMAGES {
-        let command = image(alloc, name, w, h).expect(rt, "memory");
-        if !is_refused(context, twin, &command, Fault::InvalidValue) {
-            return false;
-        }
-    }
-    true
-}
-
-// Whether each of these parts is refused.
-fn are_wrong_parts(rt: &impl Abort, alloc: Global, context: &mut Context, twin: &Context) -> bool {
-    for numbers in WRONG_PARTS {
-        let command = texture_part(alloc, numbers).expect(rt, "memory");
-        if !is_refused(context, twin, &command, Fault::InvalidValue) {
-            return false;
-        }
-    }
-    true
-}
-
 // A context in which private texture 1 has an image and the modelview a matrix of its own.
 fn prepared(rt: &impl Abort, alloc: Global) -> Context {
     let mut context = fresh(alloc).expect(rt, "memory");
     let square = image(alloc, 1, 2, 2).expect(rt, "memory");
     assert!(rt; is_quiet(&mut context, &square));
-    assert!(rt; is_quiet(&mut context, &Command::LoadMatrix(corner_matrix())));
+    assert!(rt; is_quiet(&mut context, &Command::LoadMatrix(CORNER_MATRIX)));
     context
+}
+
+// Whether each wrong command is refused outside a block. Without an image even a part outside of it is an operation that isn't valid.
+fn are_all_refused(rt: &impl Abort, alloc: Global) -> bool {
+    let mut context = prepared(rt, alloc);
+    let twin = prepared(rt, alloc);
+    are_refused(&mut context, &twin, &WRONG_CODES, Fault::InvalidEnum)
+        && are_refused(&mut context, &twin, &WRONG_VALUES, Fault::InvalidValue)
+        && are_refused_images(
+            &mut context,
+            &twin,
+            alloc,
+            &WRONG_IMAGES,
+            Fault::InvalidValue,
+        )
+        && are_refused_parts(
+            &mut context,
+            &twin,
+            alloc,
+            &WRONG_PARTS,
+            Fault::InvalidValue,
+        )
+        && are_refused_parts(
+            &mut context,
+            &twin,
+            alloc,
+            &[(0, 2, 9, 0, 1, 1)],
+            Fault::InvalidOperation,
+        )
+        && is_refused(
+            &mut context,
+            &twin,
+            &Command::PopMatrix,
+            Fault::StackUnderflow,
+        )
+        && context.state().modelview == CORNER_MATRIX
 }
 
 #[test]
 fn codes_values_and_images_are_refused_outside_a_block(rt: HostRuntime) {
-    let mut context = prepared(&rt, rt.alloc());
-    let twin = prepared(&rt, rt.alloc());
-    assert!(rt; are_refused(&mut context, &twin, &wrong_codes(), Fault::InvalidEnum));
-    assert!(rt; are_refused(&mut context, &twin, &wrong_values(), Fault::InvalidValue));
-    assert!(rt; are_wrong_images(&rt, rt.alloc(), &mut context, &twin));
-    assert!(rt; are_wrong_parts(&rt, rt.alloc(), &mut context, &twin));
-    // without an image even a part outside of it is an operation that isn't valid
-    let blank = texture_part(rt.alloc(), (0, 2, 9, 0, 1, 1)).expect(&rt, "memory");
-    assert!(rt; is_refused(&mut context, &twin, &blank, Fault::InvalidOperation));
-    assert!(rt;
-        are_refused(
-            &mut context,
-            &twin,
-            &[Command::PopMatrix],
-            Fault::StackUnderflow
-        )
-    );
-    assert!(rt; context.state().modelview == corner_matrix());
+    assert!(rt; are_all_refused(&rt, rt.alloc()));
 }
 
 // Whether so many matrices are pushed, and then one more is refused.
@@ -446,15 +507,20 @@ fn is_filled(context: &mut Context, twin: &Context, count: u16) -> bool {
         && is_refused(context, twin, &vertex(0), Fault::InvalidValue)
 }
 
+// Whether the stack of matrices has 32 places, and a block 16,383 vertices.
+fn are_deepest(rt: &impl Abort, alloc: Global) -> bool {
+    let mut context = fresh(alloc).expect(rt, "memory");
+    let twin = fresh(alloc).expect(rt, "memory");
+    are_pushed(&mut context, &twin, 31)
+        && is_multiplied(&mut context, matrix(2 * ONE), matrix(2 * ONE))
+        && are_popped(&mut context, &twin, 31)
+        && is_filled(&mut context, &twin, 16_383)
+        && is_block(&mut context, Some((1, 16_383)))
+}
+
 #[test]
 fn the_deepest_stack_and_the_largest_block(rt: HostRuntime) {
-    let mut context = fresh(rt.alloc()).expect(&rt, "memory");
-    let twin = fresh(rt.alloc()).expect(&rt, "memory");
-    assert!(rt; are_pushed(&mut context, &twin, 31));
-    assert!(rt; is_multiplied(&mut context, matrix(2 * ONE), matrix(2 * ONE)));
-    assert!(rt; are_popped(&mut context, &twin, 31));
-    assert!(rt; is_filled(&mut context, &twin, 16_383));
-    assert!(rt; is_block(&mut context, Some((1, 16_383))));
+    assert!(rt; are_deepest(&rt, rt.alloc()));
 }
 
 // The edit number of a private texture after an image of so many texels along each side, where it is accepted.
@@ -484,26 +550,49 @@ fn nines(context: &Context, places: [usize; 4]) -> (usize, bool) {
     (bytes.iter().filter(|b| **b == 9).count(), all)
 }
 
+// Whether each private texture takes an image of one texel.
+fn take_images(alloc: Global, context: &mut Context) -> bool {
+    for name in 1..65_u8 {
+        if edit_of_image(alloc, context, name, 1) != Some(1) {
+            return false;
+        }
+    }
+    true
+}
+
+// A texel at each corner, and a part without texels at the far one.
+const CORNERS: [(u16, u16, u16); 5] = [
+    (0, 0, 1),
+    (255, 0, 1),
+    (0, 255, 1),
+    (255, 255, 1),
+    (256, 256, 0),
+];
+
+// Whether parts of private texture 64 are written at its corners.
+fn are_written(alloc: Global, context: &mut Context) -> bool {
+    for (x, y, side) in &CORNERS {
+        if !is_written(alloc, context, *x, *y, *side) {
+            return false;
+        }
+    }
+    true
+}
+
+// Whether private textures take images and parts, and count both.
+fn are_private(rt: &impl Abort, alloc: Global) -> bool {
+    let mut context = fresh(alloc).expect(rt, "memory");
+    take_images(alloc, &mut context)
+        && edit_of_image(alloc, &mut context, 64, 256) == Some(2)
+        && are_written(alloc, &mut context)
+        && context.edit(64) == 7
+        && nines(&context, [0, 1020, 261_120, 262_140]) == (16, true)
+}
+
 #[test]
 fn private_images_and_their_parts(rt: HostRuntime) {
-    let mut context = fresh(rt.alloc()).expect(&rt, "memory");
-    for name in 1..65_u8 {
-        assert!(rt; edit_of_image(rt.alloc(), &mut context, name, 1) == Some(1));
-    }
     assert!(rt; marks(&Command::PopMatrix, 1) == Some(1));
-    assert!(rt; edit_of_image(rt.alloc(), &mut context, 64, 256) == Some(2));
-    // a texel at each corner, and a part without texels at the far one
-    for (x, y, side) in [
-        (0, 0, 1),
-        (255, 0, 1),
-        (0, 255, 1),
-        (255, 255, 1),
-        (256, 256, 0),
-    ] {
-        assert!(rt; is_written(rt.alloc(), &mut context, x, y, side));
-    }
-    assert!(rt; context.edit(64) == 7);
-    assert!(rt; nines(&context, [0, 1020, 261_120, 262_140]) == (16, true));
+    assert!(rt; are_private(&rt, rt.alloc()));
 }
 
 // What is due for a command of one part or of none: its texels' bytes, or its operation.
@@ -515,11 +604,24 @@ fn due(effect: &Option<Effect>) -> Option<(usize, Option<SyncOp>)> {
     }
 }
 
+// What is due for a part of six texels of the shared texture, and for a wait behind it.
+fn due_in_turn(
+    rt: &impl Abort,
+    alloc: Global,
+) -> (
+    Option<(usize, Option<SyncOp>)>,
+    Option<(usize, Option<SyncOp>)>,
+) {
+    let mut context = fresh(alloc).expect(rt, "memory");
+    let whole = texture_part(alloc, (1, 1, 0, 0, 3, 2)).expect(rt, "memory");
+    (
+        due(&issue(&mut context, 0, &whole)),
+        due(&issue(&mut context, 0, &Command::Barrier { name: 2 })),
+    )
+}
+
 #[test]
 fn shared_parts_and_waits_are_due(rt: HostRuntime) {
-    let mut context = fresh(rt.alloc()).expect(&rt, "memory");
-    let whole = texture_part(rt.alloc(), (1, 1, 0, 0, 3, 2)).expect(&rt, "memory");
-    assert!(rt; due(&issue(&mut context, 0, &whole)) == Some((24, None)));
-    let wait = Command::Barrier { name: 2 };
-    assert!(rt; due(&issue(&mut context, 0, &wait)) == Some((0, Some(SyncOp::Barrier(2)))));
+    let wait = Some((0, Some(SyncOp::Barrier(2))));
+    assert!(rt; due_in_turn(&rt, rt.alloc()) == (Some((24, None)), wait));
 }

@@ -4,6 +4,7 @@ use rc_base::command::{Command, Commands, Mat4, Part, Rgba, Texels};
 use rc_base::list_command::{ListCommand, ListCommands};
 use rc_base::out_of_memory::OutOfMemory;
 use std::alloc::Global;
+use std::process::Abort;
 
 // The 36 commands in the order of their opcodes, spelled by hand from the table.
 const EVERY_COMMAND: &[u8] = b"\x24\x00\
@@ -159,51 +160,77 @@ fn every_command(alloc: Global) -> Result<Commands, OutOfMemory> {
     Ok(commands)
 }
 
+// Whether the bytes are read as these commands.
+fn is_read(alloc: Global, bytes: &[u8], commands: &Commands) -> bool {
+    match decode(alloc, bytes) {
+        Ok(read) => read == *commands,
+        Err(_) => false,
+    }
+}
+
+// Whether the 36 commands are spelled so, and read again.
+fn are_spelled(rt: &impl Abort, alloc: Global) -> bool {
+    let commands = every_command(alloc).expect(rt, "memory");
+    let bytes = encode(alloc, &commands).expect(rt, "memory");
+    bytes.as_slice() == EVERY_COMMAND && is_read(alloc, EVERY_COMMAND, &commands)
+}
+
 #[test]
 fn every_command_is_spelled_and_read(rt: HostRuntime) {
-    let commands = every_command(rt.alloc()).expect(&rt, "memory");
-    let bytes = encode(rt.alloc(), &commands).expect(&rt, "memory");
-    assert!(rt; bytes.as_slice() == EVERY_COMMAND);
-    let read = decode(rt.alloc(), EVERY_COMMAND);
-    assert!(rt; read == Ok(commands));
+    assert!(rt; are_spelled(&rt, rt.alloc()));
+}
+
+// 1,025 gifts of a unit, and a Swap.
+fn many(alloc: Global) -> Result<Commands, OutOfMemory> {
+    let mut commands = Commands::new(alloc);
+    for _ in 0..1025 {
+        commands.push(Command::SemV { name: 1 })?;
+    }
+    commands.push(Command::Swap)?;
+    Ok(commands)
+}
+
+// Whether they are spelled in two packets, and read again.
+fn are_in_packets(rt: &impl Abort, alloc: Global) -> bool {
+    let commands = many(alloc).expect(rt, "memory");
+    let encoded = encode(alloc, &commands).expect(rt, "memory");
+    let bytes = encoded.as_slice();
+    bytes.len() == 2055
+        && bytes.get(..3) == Some(&[0, 4, 0x23][..])
+        && bytes.get(2050..) == Some(&[2, 0, 0x23, 0x24, 1][..])
+        && is_read(alloc, bytes, &commands)
 }
 
 #[test]
 fn packets_have_1024_commands(rt: HostRuntime) {
-    let mut commands = Commands::new(rt.alloc());
-    for _ in 0..1025 {
-        commands
-            .push(Command::SemV { name: 1 })
-            .expect(&rt, "memory");
-    }
-    commands.push(Command::Swap).expect(&rt, "memory");
-    let bytes = encode(rt.alloc(), &commands).expect(&rt, "memory");
-    let bytes = bytes.as_slice();
-    assert!(rt; bytes.len() == 2055);
-    assert!(rt; bytes.get(..3) == Some(&[0, 4, 0x23][..]));
-    assert!(rt; bytes.get(2050..) == Some(&[2, 0, 0x23, 0x24, 1][..]));
-    let read = decode(rt.alloc(), bytes);
-    assert!(rt; read == Ok(commands));
+    assert!(rt; are_in_packets(&rt, rt.alloc()));
 }
+
+// How many commands the bytes spell, or their first fault.
+fn read_of(alloc: Global, bytes: &[u8]) -> Result<usize, PackFault> {
+    let commands = decode(alloc, bytes)?;
+    Ok(commands.len())
+}
+
+const FAULTY: [(&[u8], PackFault); 10] = [
+    (&[1], PackFault::Truncated { at: 1 }),
+    (&[1, 0], PackFault::Truncated { at: 2 }),
+    (&[1, 0, 0x18], PackFault::Truncated { at: 3 }),
+    (&[1, 0, 0x00], PackFault::UnknownOpcode { at: 2 }),
+    (&[1, 0, 0x25], PackFault::UnknownOpcode { at: 2 }),
+    (&[0, 0], PackFault::BadCount { at: 0 }),
+    (&[1, 4], PackFault::BadCount { at: 0 }),
+    (&[1, 0, 0x24, 0, 0], PackFault::BadCount { at: 3 }),
+    (&[2, 0, 0x18, 0x25], PackFault::UnknownOpcode { at: 3 }),
+    (&[2, 0, 0x24], PackFault::Truncated { at: 3 }),
+];
 
 #[test]
 fn the_first_fault_is_told(rt: HostRuntime) {
-    let faulty: [(&[u8], PackFault); 10] = [
-        (&[1], PackFault::Truncated { at: 1 }),
-        (&[1, 0], PackFault::Truncated { at: 2 }),
-        (&[1, 0, 0x18], PackFault::Truncated { at: 3 }),
-        (&[1, 0, 0x00], PackFault::UnknownOpcode { at: 2 }),
-        (&[1, 0, 0x25], PackFault::UnknownOpcode { at: 2 }),
-        (&[0, 0], PackFault::BadCount { at: 0 }),
-        (&[1, 4], PackFault::BadCount { at: 0 }),
-        (&[1, 0, 0x24, 0, 0], PackFault::BadCount { at: 3 }),
-        (&[2, 0, 0x18, 0x25], PackFault::UnknownOpcode { at: 3 }),
-        (&[2, 0, 0x24], PackFault::Truncated { at: 3 }),
-    ];
-    for (bytes, fault) in faulty {
-        assert!(rt; decode(rt.alloc(), bytes) == Err(fault));
+    for (bytes, fault) in &FAULTY {
+        assert!(rt; read_of(rt.alloc(), *bytes) == Err(*fault));
     }
-    assert!(rt; decode(rt.alloc(), &[]) == Ok(Commands::new(rt.alloc())));
+    assert!(rt; read_of(rt.alloc(), &[]) == Ok(0));
 }
 
 // Commands, Swaps and stored commands of bytes for which there is so much room.
@@ -212,16 +239,31 @@ fn counted(alloc: Global, room: usize, bytes: &[u8]) -> Result<(usize, usize, us
     Ok((decoded.count, decoded.swaps, decoded.commands.len()))
 }
 
+const STORED: [(usize, usize); 5] = [(0, 0), (35, 0), (36, 36), (71, 36), (72, 72)];
+
+// Whether each room takes as much of the 36 commands twice as it should.
+fn are_counted(alloc: Global, bytes: &[u8]) -> bool {
+    for (room, stored) in &STORED {
+        if counted(alloc, *room, bytes) != Ok((72, 2, *stored)) {
+            return false;
+        }
+    }
+    true
+}
+
+// The same, and a byte behind them is told.
+fn are_counted_twice(rt: &impl Abort, alloc: Global) -> bool {
+    let mut bytes = Vec::from_slice(alloc, EVERY_COMMAND).expect(rt, "memory");
+    bytes.extend_from_slice(EVERY_COMMAND).expect(rt, "memory");
+    let whole = are_counted(alloc, bytes.as_slice());
+    bytes.push(1).expect(rt, "memory");
+    let fault = PackFault::Truncated { at: bytes.len() };
+    whole && counted(alloc, 0, bytes.as_slice()) == Err(fault)
+}
+
 #[test]
 fn what_has_no_room_is_counted(rt: HostRuntime) {
-    let mut bytes = Vec::from_slice(rt.alloc(), EVERY_COMMAND).expect(&rt, "memory");
-    bytes.extend_from_slice(EVERY_COMMAND).expect(&rt, "memory");
-    for (room, stored) in [(0, 0), (35, 0), (36, 36), (71, 36), (72, 72)] {
-        assert!(rt; counted(rt.alloc(), room, bytes.as_slice()) == Ok((72, 2, stored)));
-    }
-    bytes.push(1).expect(&rt, "memory");
-    let fault = PackFault::Truncated { at: bytes.len() };
-    assert!(rt; counted(rt.alloc(), 0, bytes.as_slice()) == Err(fault));
+    assert!(rt; are_counted_twice(&rt, rt.alloc()));
 }
 
 // A list of one Swap is made, and called.
@@ -252,21 +294,35 @@ fn reads_plainly(alloc: Global, bytes: &[u8]) -> Result<bool, PackFault> {
     Ok(decode_lists(alloc, bytes)? == commands)
 }
 
+// Whether the list commands are read.
+fn are_listed(rt: &impl Abort, alloc: Global) -> bool {
+    let commands = list_commands(alloc).expect(rt, "memory");
+    match decode_lists(alloc, &LIST_COMMANDS) {
+        Ok(read) => read == commands,
+        Err(_) => false,
+    }
+}
+
+// How many commands the bytes spell with call lists, or their first fault.
+fn lists_of(alloc: Global, bytes: &[u8]) -> Result<usize, PackFault> {
+    let commands = decode_lists(alloc, bytes)?;
+    Ok(commands.len())
+}
+
+const FAULTY_LISTS: [(&[u8], PackFault); 4] = [
+    (&[1, 0, 0x28], PackFault::UnknownOpcode { at: 2 }),
+    (&[1, 0, 0x25], PackFault::Truncated { at: 3 }),
+    (&[0, 0], PackFault::BadCount { at: 0 }),
+    (&[2, 0, 0x26, 0x00], PackFault::UnknownOpcode { at: 3 }),
+];
+
 #[test]
 fn streams_with_call_lists_are_read(rt: HostRuntime) {
-    let commands = list_commands(rt.alloc()).expect(&rt, "memory");
-    assert!(rt; decode_lists(rt.alloc(), &LIST_COMMANDS) == Ok(commands));
+    assert!(rt; are_listed(&rt, rt.alloc()));
     assert!(rt; reads_plainly(rt.alloc(), EVERY_COMMAND) == Ok(true));
-    for (room, stored) in [(3, 0), (4, 4)] {
-        assert!(rt; listed(rt.alloc(), room, &LIST_COMMANDS) == Ok((4, 1, stored)));
-    }
-    let faulty: [(&[u8], PackFault); 4] = [
-        (&[1, 0, 0x28], PackFault::UnknownOpcode { at: 2 }),
-        (&[1, 0, 0x25], PackFault::Truncated { at: 3 }),
-        (&[0, 0], PackFault::BadCount { at: 0 }),
-        (&[2, 0, 0x26, 0x00], PackFault::UnknownOpcode { at: 3 }),
-    ];
-    for (bytes, fault) in faulty {
-        assert!(rt; decode_lists(rt.alloc(), bytes) == Err(fault));
+    assert!(rt; listed(rt.alloc(), 3, &LIST_COMMANDS) == Ok((4, 1, 0)));
+    assert!(rt; listed(rt.alloc(), 4, &LIST_COMMANDS) == Ok((4, 1, 4)));
+    for (bytes, fault) in &FAULTY_LISTS {
+        assert!(rt; lists_of(rt.alloc(), *bytes) == Err(*fault));
     }
 }

@@ -234,25 +234,26 @@ fn each_kind_of_value_is_spelled_and_read(rt: HostRuntime) {
     assert!(rt; is_image_spelled(rt.alloc()));
 }
 
+const FAULTY: [(&[u8], ParcelFault); 10] = [
+    (&[], ParcelFault::Truncated { at: 0 }),
+    (&[1, 0, 0], ParcelFault::Truncated { at: 3 }),
+    (&[1, 0, 0, 0, 1, 21, 9, 9], ParcelFault::Truncated { at: 8 }),
+    (&[1, 0, 0, 0, 1, 86], ParcelFault::UnknownTag { at: 5 }),
+    (&[1, 0, 0, 0, 1, 4, 2], ParcelFault::UnknownTag { at: 6 }),
+    (
+        &[1, 0, 0, 0, 1, 16, 1, 0, 2],
+        ParcelFault::UnknownTag { at: 8 },
+    ),
+    (&[1, 0, 0, 0, 0, 5], ParcelFault::UnknownTag { at: 5 }),
+    (&[1, 0, 0, 0, 0, 3, 4], ParcelFault::UnknownTag { at: 6 }),
+    (&[1, 0, 0, 0, 0, 3, 3, 1], ParcelFault::UnknownTag { at: 7 }),
+    (&[1, 0, 0, 0, 0, 4, 0], ParcelFault::Trailing { at: 6 }),
+];
+
 #[test]
 fn the_first_fault_of_a_parcel_is_told(rt: HostRuntime) {
-    let faulty: [(&[u8], ParcelFault); 10] = [
-        (&[], ParcelFault::Truncated { at: 0 }),
-        (&[1, 0, 0], ParcelFault::Truncated { at: 3 }),
-        (&[1, 0, 0, 0, 1, 21, 9, 9], ParcelFault::Truncated { at: 8 }),
-        (&[1, 0, 0, 0, 1, 86], ParcelFault::UnknownTag { at: 5 }),
-        (&[1, 0, 0, 0, 1, 4, 2], ParcelFault::UnknownTag { at: 6 }),
-        (
-            &[1, 0, 0, 0, 1, 16, 1, 0, 2],
-            ParcelFault::UnknownTag { at: 8 },
-        ),
-        (&[1, 0, 0, 0, 0, 5], ParcelFault::UnknownTag { at: 5 }),
-        (&[1, 0, 0, 0, 0, 3, 4], ParcelFault::UnknownTag { at: 6 }),
-        (&[1, 0, 0, 0, 0, 3, 3, 1], ParcelFault::UnknownTag { at: 7 }),
-        (&[1, 0, 0, 0, 0, 4, 0], ParcelFault::Trailing { at: 6 }),
-    ];
-    for (bytes, fault) in faulty {
-        assert!(rt; fault_of(rt.alloc(), bytes) == Some(fault));
+    for (bytes, fault) in &FAULTY {
+        assert!(rt; fault_of(rt.alloc(), *bytes) == Some(*fault));
     }
 }
 
@@ -287,14 +288,15 @@ fn are_values_answered(alloc: Global, bytes: &[u8], place: usize) -> bool {
     true
 }
 
+const PARCELS: [&[u8]; 10] = [
+    RED_CLEAR, DRAW, SHARED, BARRIER, SWAP, END, MATRIX, MASK, MODE, IMAGE,
+];
+
 #[test]
 fn each_changed_byte_is_a_fault_or_another_parcel(rt: HostRuntime) {
-    let parcels: [&[u8]; 10] = [
-        RED_CLEAR, DRAW, SHARED, BARRIER, SWAP, END, MATRIX, MASK, MODE, IMAGE,
-    ];
-    for bytes in parcels {
+    for bytes in &PARCELS {
         for place in 0..bytes.len() {
-            assert!(rt; are_values_answered(rt.alloc(), bytes, place));
+            assert!(rt; are_values_answered(rt.alloc(), *bytes, place));
         }
     }
 }

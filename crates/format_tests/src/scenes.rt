@@ -7,7 +7,7 @@ use std::alloc::Global;
 use std::process::Abort;
 use test_scenes::RED_CLEAR;
 
-/// A window of 2 by 2, and one stream: a red clear colour, a clear of the colours, a swap.
+/// Whether the bytes have this first fault.
 fn fails(rt: &HostRuntime, bytes: &[u8], fault: SceneFault) -> bool {
     match read_scene(rt.alloc(), bytes) {
         Ok(_) => false,
@@ -64,9 +64,8 @@ fn is_red_in(rt: &HostRuntime, digit: u8, version: u8) -> bool {
 
 #[test]
 fn red_scene_is_read_and_written(rt: HostRuntime) {
-    for (digit, version) in [(0x31, 1), (0x32, 2)] {
-        assert!(rt; is_red_in(&rt, digit, version));
-    }
+    assert!(rt; is_red_in(&rt, 0x31, 1));
+    assert!(rt; is_red_in(&rt, 0x32, 2));
 }
 
 /// Whether a text is spelled by these bytes as well: each is read and written as the other.
@@ -86,6 +85,32 @@ fn a_scene_of_version_2_goes_there_and_back(rt: HostRuntime) {
     assert!(rt; are_one_scene(&rt, rt.alloc(), text, &bytes));
 }
 
+/// Whether the red scene with two bytes changed at a place has this first fault.
+fn fails_changed(rt: &HostRuntime, place: usize, bytes: [u8; 2], fault: SceneFault) -> bool {
+    let mut scene = RED_CLEAR;
+    if place < 25 {
+        scene[place] = bytes[0];
+        scene[place + 1] = bytes[1];
+    }
+    fails(rt, &scene, fault)
+}
+
+/// A place, two bytes that are changed there, and the kind and the place of the first fault.
+const CHANGED: [(usize, [u8; 2], SceneKind, usize); 9] = [
+    (2, [0x54, 0x31], SceneKind::BadMagic, 2),
+    (2, [0x53, 0x30], SceneKind::BadMagic, 3),
+    (2, [0x53, 0x33], SceneKind::BadMagic, 3),
+    (2, [0x53, 0x34], SceneKind::BadMagic, 3),
+    (16, [0, 0], SceneKind::BadCount, 16),
+    (16, [1, 4], SceneKind::BadCount, 16),
+    (18, [0, 0x18], SceneKind::UnknownOpcode, 18),
+    (12, [9, 0], SceneKind::Truncated, 25),
+    (12, [11, 0], SceneKind::Truncated, 26),
+];
+
+/// The red scene with a byte more.
+const LONGER: &[u8] = b"RCS1\x02\0\x02\0\x01\0\0\0\x0a\0\0\0\x03\0\x16\x18\x24\xff\0\0\xff\x01\0";
+
 #[test]
 fn each_fault_stands_at_its_place(rt: HostRuntime) {
     for n in 0..26 {
@@ -95,57 +120,48 @@ fn each_fault_stands_at_its_place(rt: HostRuntime) {
         };
         assert!(rt; fails(&rt, &RED_CLEAR[..n], fault));
     }
-    let cases = [
-        (2, [0x54, 0x31], SceneKind::BadMagic, 2),
-        (16, [0, 0], SceneKind::BadCount, 16),
-        (16, [1, 4], SceneKind::BadCount, 16),
-        (18, [0, 0x18], SceneKind::UnknownOpcode, 18),
-        (12, [9, 0], SceneKind::Truncated, 25),
-        (12, [11, 0], SceneKind::Truncated, 26),
-    ];
-    for (place, bytes, kind, at) in cases {
-        let mut scene = RED_CLEAR;
-        scene[place] = bytes[0];
-        scene[place + 1] = bytes[1];
-        assert!(rt; fails(&rt, &scene, SceneFault::Malformed { kind, at }));
-    }
-    for digit in [0x30, 0x33, 0x34] {
-        let mut scene = RED_CLEAR;
-        scene[3] = digit;
+    for (place, bytes, kind, at) in &CHANGED {
         let fault = SceneFault::Malformed {
-            kind: SceneKind::BadMagic,
-            at: 3,
+            kind: *kind,
+            at: *at,
         };
-        assert!(rt; fails(&rt, &scene, fault));
+        assert!(rt; fails_changed(&rt, *place, *bytes, fault));
     }
-    let mut longer = Vec::from_slice(rt.alloc(), &RED_CLEAR).expect(&rt, "memory");
-    longer.push(0).expect(&rt, "memory");
     let fault = SceneFault::Malformed {
         kind: SceneKind::Trailing,
         at: 26,
     };
-    assert!(rt; fails(&rt, longer.as_slice(), fault));
-    let mut narrow = RED_CLEAR;
-    narrow[4] = 0;
-    assert!(rt; fails(&rt, &narrow, SceneFault::Limit { what: 2, value: 0 }));
+    assert!(rt; fails(&rt, LONGER, fault));
+    let narrow = SceneFault::Limit { what: 2, value: 0 };
+    assert!(rt; fails_changed(&rt, 4, [0, 0], narrow));
+}
+
+/// A window of 5 by 7 with two shared textures, a barrier and a semaphore, and a stream without commands.
+const DECLARED: [u8; 27] = [
+    0x52, 0x43, 0x53, 0x31, 5, 0, 7, 0, 1, 2, 1, 1, 2, 0, 1, 0, 3, 0, 4, 0, 8, 2, 1, 0, 0, 0, 0,
+];
+
+fn is_declared(scene: &Scene) -> bool {
+    let decl = &scene.decl;
+    decl.width == 5
+        && decl.height == 7
+        && scene.streams.len() == 1
+        && decl.shared.as_slice() == [[2, 1], [3, 4]].as_slice()
+        && decl.barriers.as_slice() == [8].as_slice()
+        && decl.semaphores.as_slice() == [258].as_slice()
+}
+
+/// Whether the declarations are read.
+fn are_declared(rt: &HostRuntime) -> bool {
+    match read_scene(rt.alloc(), &DECLARED) {
+        Ok(scene) => is_declared(&scene),
+        Err(_) => false,
+    }
 }
 
 #[test]
 fn declarations_are_read_and_written(rt: HostRuntime) {
-    let bytes = [
-        0x52, 0x43, 0x53, 0x31, 5, 0, 7, 0, 1, 2, 1, 1, 2, 0, 1, 0, 3, 0, 4, 0, 8, 2, 1, 0, 0, 0, 0,
-    ];
-    match read_scene(rt.alloc(), &bytes) {
-        Ok(scene) => {
-            let decl = &scene.decl;
-            assert!(rt; decl.width == 5 && decl.height == 7 && scene.streams.len() == 1);
-            assert!(rt; decl.shared.as_slice() == [[2, 1], [3, 4]].as_slice());
-            assert!(rt; decl.barriers.as_slice() == [8].as_slice());
-            assert!(rt; decl.semaphores.as_slice() == [258].as_slice());
-        }
-        Err(_) => assert!(rt; false),
-    }
-    assert!(rt; comes_back(&rt, &bytes));
+    assert!(rt; are_declared(&rt) && comes_back(&rt, &DECLARED));
 }
 
 /// A window of 2 by 2, and one stream in which a list of one Swap is made and called.

@@ -1,11 +1,13 @@
 use rc_base::scene::TextKind;
 use scene_text::{TextSceneFault, parse_scene, print_scene};
+use std::alloc::Global;
+use std::process::Abort;
 use test_scenes::RED_CLEAR_TEXT;
 
 /// What is parsed is printed so.
-fn prints_as(rt: &HostRuntime, text: &[u8], printed: &[u8]) -> bool {
-    match parse_scene(rt.alloc(), text) {
-        Ok(scene) => match print_scene(rt.alloc(), &scene) {
+fn prints_as(alloc: Global, text: &[u8], printed: &[u8]) -> bool {
+    match parse_scene(alloc, text) {
+        Ok(scene) => match print_scene(alloc, &scene) {
             Ok(bytes) => bytes.as_slice() == printed,
             Err(_) => false,
         },
@@ -13,8 +15,8 @@ fn prints_as(rt: &HostRuntime, text: &[u8], printed: &[u8]) -> bool {
     }
 }
 
-fn fails_with(rt: &HostRuntime, text: &[u8], line: usize, kind: TextKind) -> bool {
-    match parse_scene(rt.alloc(), text) {
+fn fails_with(alloc: Global, text: &[u8], line: usize, kind: TextKind) -> bool {
+    match parse_scene(alloc, text) {
         Ok(_) => false,
         Err(fault) => fault == TextSceneFault::Text { line, kind },
     }
@@ -22,95 +24,129 @@ fn fails_with(rt: &HostRuntime, text: &[u8], line: usize, kind: TextKind) -> boo
 
 #[test]
 fn red_clear_is_parsed_and_printed(rt: HostRuntime) {
-    assert!(rt; prints_as(&rt, RED_CLEAR_TEXT, RED_CLEAR_TEXT));
+    assert!(rt; prints_as(rt.alloc(), RED_CLEAR_TEXT, RED_CLEAR_TEXT));
     assert!(rt;
         prints_as(
-            &rt,
+            rt.alloc(),
             b"# red\r\n\n  scene  01 2 0002 \r\n   \nclient\r\nClearColor 255 0 -0 255\nClear 1\nSwap",
             RED_CLEAR_TEXT
         )
     );
 }
 
+const FAULTY: [(&[u8], TextKind); 22] = [
+    (b"Clear 300", TextKind::BadNumber),
+    (b"Clear +1", TextKind::BadNumber),
+    (b"Clear 00000000001", TextKind::BadNumber),
+    (b"Clear -", TextKind::BadNumber),
+    (b"Vertex 0 0 0 2147483648", TextKind::BadNumber),
+    (b"Clera 1", TextKind::UnknownWord),
+    (b"clear 1", TextKind::UnknownWord),
+    (b" # Clear 1", TextKind::UnknownWord),
+    (b"Clear", TextKind::WrongCount),
+    (b"Clear 1 1", TextKind::WrongCount),
+    (b"Clear\t1", TextKind::NotText),
+    (b"# \x80", TextKind::NotText),
+    (b"Clear 1\r\r\n", TextKind::NotText),
+    (b"Clear 1\r", TextKind::NotText),
+    (b"scene 1 2 2", TextKind::OutOfPlace),
+    (b"barrier 2", TextKind::OutOfPlace),
+    (b"TexImage 1 1 1 0102030", TextKind::BadHex),
+    (b"TexImage 1 1 1 0102030g", TextKind::BadHex),
+    (b"TexImage 1 1 1", TextKind::WrongCount),
+    (b"TexImage 1 0 1 00", TextKind::WrongCount),
+    (b"TexImage 1 70000 1", TextKind::BadNumber),
+    (b"TexImage 1 -1 1 00", TextKind::BadNumber),
+];
+
+/// Whether a line is refused as the fourth one, behind a clear colour.
+fn line_fails(rt: &impl Abort, alloc: Global, line: &[u8], kind: TextKind) -> bool {
+    let front = b"scene 1 2 2\nclient\nClearColor 255 0 0 255\n";
+    let mut text = Vec::from_slice(alloc, front).expect(rt, "memory");
+    text.extend_from_slice(line).expect(rt, "memory");
+    fails_with(alloc, text.as_slice(), 4, kind)
+}
+
 #[test]
 fn each_fault_has_its_kind_and_line(rt: HostRuntime) {
-    let front = b"scene 1 2 2\nclient\nClearColor 255 0 0 255\n";
-    let cases: [(&[u8], TextKind); 22] = [
-        (b"Clear 300", TextKind::BadNumber),
-        (b"Clear +1", TextKind::BadNumber),
-        (b"Clear 00000000001", TextKind::BadNumber),
-        (b"Clear -", TextKind::BadNumber),
-        (b"Vertex 0 0 0 2147483648", TextKind::BadNumber),
-        (b"Clera 1", TextKind::UnknownWord),
-        (b"clear 1", TextKind::UnknownWord),
-        (b" # Clear 1", TextKind::UnknownWord),
-        (b"Clear", TextKind::WrongCount),
-        (b"Clear 1 1", TextKind::WrongCount),
-        (b"Clear\t1", TextKind::NotText),
-        (b"# \x80", TextKind::NotText),
-        (b"Clear 1\r\r\n", TextKind::NotText),
-        (b"Clear 1\r", TextKind::NotText),
-        (b"scene 1 2 2", TextKind::OutOfPlace),
-        (b"barrier 2", TextKind::OutOfPlace),
-        (b"TexImage 1 1 1 0102030", TextKind::BadHex),
-        (b"TexImage 1 1 1 0102030g", TextKind::BadHex),
-        (b"TexImage 1 1 1", TextKind::WrongCount),
-        (b"TexImage 1 0 1 00", TextKind::WrongCount),
-        (b"TexImage 1 70000 1", TextKind::BadNumber),
-        (b"TexImage 1 -1 1 00", TextKind::BadNumber),
-    ];
-    for (line, kind) in cases {
-        let mut text = Vec::from_slice(rt.alloc(), front).expect(&rt, "memory");
-        text.extend_from_slice(line).expect(&rt, "memory");
-        assert!(rt; fails_with(&rt, text.as_slice(), 4, kind));
+    for (line, kind) in &FAULTY {
+        assert!(rt; line_fails(&rt, rt.alloc(), *line, *kind));
+    }
+}
+
+/// The quantity of a text that is past its limit, and its number.
+fn limit(alloc: Global, text: &[u8]) -> Option<(u8, u64)> {
+    match parse_scene(alloc, text) {
+        Err(TextSceneFault::Limit { what, value }) => Some((what, value)),
+        _ => None,
     }
 }
 
 #[test]
 fn a_text_needs_its_lines_in_order(rt: HostRuntime) {
-    assert!(rt; fails_with(&rt, b"", 1, TextKind::NoScene));
-    assert!(rt; fails_with(&rt, b"\n# nothing\n", 1, TextKind::NoScene));
-    assert!(rt; fails_with(&rt, b"client", 1, TextKind::OutOfPlace));
-    assert!(rt; fails_with(&rt, b"scene 1 2 2\nSwap", 2, TextKind::OutOfPlace));
-    assert!(rt; fails_with(&rt, b"scene 0 2 2", 1, TextKind::BadNumber));
-    assert!(rt; fails_with(&rt, b"scene 3 2 2", 1, TextKind::BadNumber));
-    assert!(rt;
-        parse_scene(rt.alloc(), b"scene 1 0 2\nclient")
-            == Err(TextSceneFault::Limit { what: 2, value: 0 })
+    assert!(rt; fails_with(rt.alloc(), b"", 1, TextKind::NoScene));
+    assert!(rt; fails_with(rt.alloc(), b"\n# nothing\n", 1, TextKind::NoScene));
+    assert!(rt; fails_with(rt.alloc(), b"client", 1, TextKind::OutOfPlace));
+    assert!(rt; fails_with(rt.alloc(), b"scene 1 2 2\nSwap", 2, TextKind::OutOfPlace));
+    assert!(rt; fails_with(rt.alloc(), b"scene 0 2 2", 1, TextKind::BadNumber));
+    assert!(rt; fails_with(rt.alloc(), b"scene 3 2 2", 1, TextKind::BadNumber));
+    assert!(rt; limit(rt.alloc(), b"scene 1 0 2\nclient") == Some((2, 0)));
+}
+
+/// A text, a line so many times, and another text behind it.
+fn text_of(
+    rt: &impl Abort,
+    alloc: Global,
+    front: &[u8],
+    line: &[u8],
+    times: u32,
+    back: &[u8],
+) -> Vec<u8> {
+    let mut text = Vec::from_slice(alloc, front).expect(rt, "memory");
+    for _ in 0..times {
+        text.extend_from_slice(line).expect(rt, "memory");
+    }
+    text.extend_from_slice(back).expect(rt, "memory");
+    text
+}
+
+/// Whether eleven clients are told, and a wrong line behind them before that.
+fn counts_clients(rt: &impl Abort, alloc: Global) -> bool {
+    let text = text_of(rt, alloc, b"scene 1 2 2\n", b"client\nEnd\n", 11, b"");
+    let wrong = text_of(
+        rt,
+        alloc,
+        b"scene 1 2 2\n",
+        b"client\nEnd\n",
+        11,
+        b"Clera 1\n",
     );
+    limit(alloc, text.as_slice()) == Some((4, 11))
+        && fails_with(alloc, wrong.as_slice(), 24, TextKind::UnknownWord)
 }
 
 // Told from the counts, where nothing more is stored.
 #[test]
 fn too_many_clients_are_counted(rt: HostRuntime) {
-    let mut text = Vec::from_slice(rt.alloc(), b"scene 1 2 2\n").expect(&rt, "memory");
-    for _ in 0..11 {
-        text.extend_from_slice(b"client\nEnd\n")
-            .expect(&rt, "memory");
-    }
-    assert!(rt;
-        parse_scene(rt.alloc(), text.as_slice())
-            == Err(TextSceneFault::Limit { what: 4, value: 11 })
+    assert!(rt; counts_clients(&rt, rt.alloc()));
+}
+
+fn counts_commands(rt: &impl Abort, alloc: Global) -> bool {
+    let back = b"client\nSwap\n";
+    let text = text_of(
+        rt,
+        alloc,
+        b"scene 1 2 2\nclient\n",
+        b"End\n",
+        1_048_580,
+        back,
     );
-    text.extend_from_slice(b"Clera 1\n").expect(&rt, "memory");
-    assert!(rt; fails_with(&rt, text.as_slice(), 24, TextKind::UnknownWord));
+    limit(alloc, text.as_slice()) == Some((11, 1_048_581))
 }
 
 #[test]
 fn too_many_commands_are_counted(rt: HostRuntime) {
-    let mut text = Vec::from_slice(rt.alloc(), b"scene 1 2 2\nclient\n").expect(&rt, "memory");
-    for _ in 0..1_048_580 {
-        text.extend_from_slice(b"End\n").expect(&rt, "memory");
-    }
-    text.extend_from_slice(b"client\nSwap\n")
-        .expect(&rt, "memory");
-    assert!(rt;
-        parse_scene(rt.alloc(), text.as_slice())
-            == Err(TextSceneFault::Limit {
-                what: 11,
-                value: 1_048_581
-            })
-    );
+    assert!(rt; counts_commands(&rt, rt.alloc()));
 }
 
 #[test]
@@ -162,5 +198,5 @@ Swap
 client
 Swap
 ";
-    assert!(rt; prints_as(&rt, text, text));
+    assert!(rt; prints_as(rt.alloc(), text, text));
 }

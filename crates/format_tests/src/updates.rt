@@ -264,49 +264,110 @@ const GREY: Rgba = Rgba {
     a: 9,
 };
 
+// What is done with a client, and what its tiles are told.
+#[derive(Clone, Copy)]
+enum Deed {
+    Switch(u8, bool),
+    ScissorOnePixel,
+    ClearGrey,
+    Bind(u8),
+    Paint(u8, [u8; 4]),
+    Retouch(u8, [u8; 4]),
+    Tell(u8, bool, [u8; 3], u64),
+    TellImage(u8, u32, u8, u64),
+}
+
+impl Client {
+    // The deed goes as it says.
+    fn does(&mut self, rt: &impl Abort, alloc: Global, deed: Deed) -> bool
+        requires { AreTold self.old.tracker self.old.context }
+        ensures { AreTold self.new.tracker self.new.context }
+    {
+        match deed {
+            Deed::Switch(capability, on) => self.is_switched(capability, on),
+            Deed::ScissorOnePixel => self.is_issued(&Command::Scissor { area: [0, 0, 1, 1] }),
+            Deed::ClearGrey => self.is_issued(&Command::ClearColor(GREY)),
+            Deed::Bind(name) => self.is_issued(&Command::BindTexture { kind: 0, name }),
+            Deed::Paint(name, bytes) => self.is_painted(rt, alloc, name, bytes),
+            Deed::Retouch(name, bytes) => self.is_retouched(rt, alloc, name, bytes),
+            Deed::Tell(tile, draws, wanted, looks) => {
+                tile < 2 && self.tells(tile, draws, wanted, looks)
+            }
+            Deed::TellImage(tile, edit, byte, looks) => {
+                tile < 2 && self.tells_image(tile, edit, byte, looks)
+            }
+        }
+    }
+}
+
+// How many deeds go as they say.
+fn done(rt: &impl Abort, alloc: Global, deeds: &[Deed]) -> usize {
+    let mut client = Client::new(rt, alloc);
+    let mut count: usize = 0;
+    for deed in deeds {
+        if !client.does(rt, alloc, *deed) {
+            break;
+        }
+        count = count.saturating_add(1);
+    }
+    count
+}
+
+const BLEND_SET_BACK: [Deed; 13] = [
+    Deed::Tell(0, true, NOTHING, 1),
+    Deed::Tell(1, true, NOTHING, 1),
+    Deed::Switch(3, true),
+    Deed::Switch(3, false),
+    Deed::Tell(0, true, NOTHING, 15),
+    Deed::Tell(1, true, NOTHING, 15),
+    Deed::Switch(0, true),
+    Deed::ScissorOnePixel,
+    Deed::Tell(0, true, [4, 5, NONE], 15),
+    Deed::Switch(0, false),
+    Deed::Tell(0, true, [4, NONE, NONE], 15),
+    Deed::Tell(1, true, [5, NONE, NONE], 15),
+    Deed::Tell(1, false, NOTHING, 1),
+];
+
 #[test]
 fn a_blend_set_back_is_not_told_and_each_tile_is_told_in_its_time(rt: HostRuntime) {
-    let mut client = Client::new(&rt, rt.alloc());
-    assert!(rt; client.tells(0, true, NOTHING, 1) && client.tells(1, true, NOTHING, 1));
-    assert!(rt; client.is_switched(3, true) && client.is_switched(3, false));
-    assert!(rt; client.tells(0, true, NOTHING, 15) && client.tells(1, true, NOTHING, 15));
-    assert!(rt; client.is_switched(0, true));
-    assert!(rt; client.is_issued(&Command::Scissor { area: [0, 0, 1, 1] }));
-    assert!(rt; client.tells(0, true, [4, 5, NONE], 15));
-    assert!(rt; client.is_switched(0, false));
-    assert!(rt; client.tells(0, true, [4, NONE, NONE], 15));
-    assert!(rt; client.tells(1, true, [5, NONE, NONE], 15));
-    assert!(rt; client.tells(1, false, NOTHING, 1));
+    assert!(rt; done(&rt, rt.alloc(), &BLEND_SET_BACK) == 13);
 }
+
+const IMAGE_AND_PARTS: [Deed; 14] = [
+    Deed::Paint(2, [1, 2, 3, 4]),
+    Deed::Bind(2),
+    Deed::Switch(5, true),
+    Deed::Tell(0, false, [19, 20, NONE], 29),
+    Deed::TellImage(0, 1, 2, 26),
+    Deed::Tell(0, true, NOTHING, 1),
+    Deed::Retouch(2, [5, 6, 7, 8]),
+    Deed::Tell(0, false, NOTHING, 26),
+    Deed::TellImage(0, 2, 6, 26),
+    Deed::Tell(1, true, [19, 20, 23], 29),
+    Deed::Retouch(2, [9, 9, 9, 9]),
+    Deed::Switch(5, false),
+    Deed::Tell(0, true, [19, NONE, NONE], 29),
+    Deed::Tell(0, true, NOTHING, 26),
+];
 
 #[test]
 fn an_image_is_told_once_and_again_after_a_part(rt: HostRuntime) {
-    let mut client = Client::new(&rt, rt.alloc());
-    assert!(rt; client.is_painted(&rt, rt.alloc(), 2, [1, 2, 3, 4]));
-    assert!(rt; client.is_issued(&Command::BindTexture { kind: 0, name: 2 }));
-    assert!(rt; client.is_switched(5, true));
-    assert!(rt; client.tells(0, false, [19, 20, NONE], 29));
-    assert!(rt; client.tells_image(0, 1, 2, 26));
-    assert!(rt; client.tells(0, true, NOTHING, 1));
-    assert!(rt; client.is_retouched(&rt, rt.alloc(), 2, [5, 6, 7, 8]));
-    assert!(rt; client.tells(0, false, NOTHING, 26));
-    assert!(rt; client.tells_image(0, 2, 6, 26));
-    assert!(rt; client.tells(1, true, [19, 20, 23], 29));
-    assert!(rt; client.is_retouched(&rt, rt.alloc(), 2, [9, 9, 9, 9]));
-    assert!(rt; client.is_switched(5, false));
-    assert!(rt; client.tells(0, true, [19, NONE, NONE], 29));
-    assert!(rt; client.tells(0, true, NOTHING, 26));
+    assert!(rt; done(&rt, rt.alloc(), &IMAGE_AND_PARTS) == 14);
 }
+
+const PENDING_GROUPS: [Deed; 8] = [
+    Deed::ClearGrey,
+    Deed::Tell(0, false, [17, NONE, NONE], 15),
+    Deed::Paint(1, [0, 255, 0, 255]),
+    Deed::Tell(0, false, NOTHING, 26),
+    Deed::Tell(1, false, [17, NONE, NONE], 31),
+    Deed::Switch(5, true),
+    Deed::Tell(0, true, [19, 22, NONE], 29),
+    Deed::Tell(0, true, NOTHING, 1),
+];
 
 #[test]
 fn looks_are_those_of_groups_with_something_pending(rt: HostRuntime) {
-    let mut client = Client::new(&rt, rt.alloc());
-    assert!(rt; client.is_issued(&Command::ClearColor(GREY)));
-    assert!(rt; client.tells(0, false, [17, NONE, NONE], 15));
-    assert!(rt; client.is_painted(&rt, rt.alloc(), 1, [0, 255, 0, 255]));
-    assert!(rt; client.tells(0, false, NOTHING, 26));
-    assert!(rt; client.tells(1, false, [17, NONE, NONE], 31));
-    assert!(rt; client.is_switched(5, true));
-    assert!(rt; client.tells(0, true, [19, 22, NONE], 29));
-    assert!(rt; client.tells(0, true, NOTHING, 1));
+    assert!(rt; done(&rt, rt.alloc(), &PENDING_GROUPS) == 8);
 }
