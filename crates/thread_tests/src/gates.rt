@@ -203,14 +203,16 @@ where
     left.finish.status == 0 && left.image.bytes() == due && is_chosen(&left.finish.kept, &gate)
 }
 
+// The client that comes late, and the image that is due.
+const CHOICES: [(u8, &[u8]); 2] = [
+    (1, b"P6\n2 1\n255\n\x40\x00\x80\x80\x00\x40"),
+    (0, b"P6\n2 1\n255\n\x80\x00\x40\x40\x00\x80"),
+];
+
 #[test]
 fn the_gate_chooses_whom_each_tile_takes_first(rt: HostRuntime) {
-    let rows = [
-        (1u8, b"P6\n2 1\n255\n\x40\x00\x80\x80\x00\x40"),
-        (0u8, b"P6\n2 1\n255\n\x80\x00\x40\x40\x00\x80"),
-    ];
-    for (late, due) in rows {
-        assert!(rt; chooses(rt, rt.alloc(), late, due.as_slice()));
+    for (late, due) in &CHOICES {
+        assert!(rt; chooses(rt, rt.alloc(), *late, *due));
     }
 }
 
@@ -317,9 +319,11 @@ where
         && !gate.is_past.load(Ordering::SeqCst)
 }
 
+const DEPTHS: [(&str, u64); 2] = [("1", 1), ("3", 3)];
+
 #[test]
 fn lanes_are_as_deep_as_the_words_say(rt: HostRuntime) {
-    for (word, depth) in [("1", 1u64), ("3", 3u64)] {
-        assert!(rt; is_so_deep(rt, rt.alloc(), word, depth));
+    for (word, depth) in &DEPTHS {
+        assert!(rt; is_so_deep(rt, rt.alloc(), *word, *depth));
     }
 }

@@ -136,71 +136,101 @@ const LAYERS: [Row<'static>; 5] = [
 
 #[test]
 fn layers_are_put_together_frame_by_frame(rt: HostRuntime) {
-    for (parts, told, frames) in LAYERS {
-        assert!(rt; told_of(rt, rt.alloc(), parts, frames) == Some(told));
+    for (parts, told, frames) in &LAYERS {
+        assert!(rt; told_of(rt, rt.alloc(), *parts, *frames) == Some(*told));
     }
 }
+
+// The parts of a text, and the client and the place of the command that offends first.
+type Offence = (&'static [&'static [u8]], u8, u32);
+
+const OFFENCES: [Offence; 9] = [
+    (&[ONE_PIXEL, CLIENT, RED, FULL, CLEAR], 0, 7),
+    (&[ONE_PIXEL, CLIENT, CLIENT, CLEAR], 1, 1),
+    (&[ONE_PIXEL, b"client\n", FULL, CLEAR], 0, 4),
+    (&[ONE_PIXEL, CLIENT, b"DepthMask 0\n", FULL], 0, 6),
+    (&[ONE_PIXEL, CLIENT, b"DepthFunc 3\n", FULL], 0, 6),
+    (&[ONE_PIXEL, CLIENT, b"Enable 3\n", FULL], 0, 6),
+    (&[ONE_PIXEL, CLIENT, b"ColorMask 1 1 1 0\n", FULL], 0, 6),
+    (
+        &[
+            ONE_PIXEL,
+            CLIENT,
+            SWAP,
+            SWAP,
+            b"Disable 2\n",
+            FULL,
+            CLIENT,
+            SWAP,
+        ],
+        0,
+        8,
+    ),
+    (
+        &[
+            ONE_PIXEL, CLIENT, SWAP, CLIENT, RED, FULL, SWAP, CLEAR, CLIENT, CLEAR,
+        ],
+        1,
+        8,
+    ),
+];
 
 #[test]
 fn the_first_offending_command_is_named(rt: HostRuntime) {
-    let alloc = rt.alloc();
-    let rows: [(&[&[u8]], u8, u32); 9] = [
-        (&[CLIENT, RED, FULL, CLEAR], 0, 7),
-        (&[CLIENT, CLIENT, CLEAR], 1, 1),
-        (&[b"client\n", FULL, CLEAR], 0, 4),
-        (&[CLIENT, b"DepthMask 0\n", FULL], 0, 6),
-        (&[CLIENT, b"DepthFunc 3\n", FULL], 0, 6),
-        (&[CLIENT, b"Enable 3\n", FULL], 0, 6),
-        (&[CLIENT, b"ColorMask 1 1 1 0\n", FULL], 0, 6),
-        (
-            &[CLIENT, SWAP, SWAP, b"Disable 2\n", FULL, CLIENT, SWAP],
-            0,
-            8,
-        ),
-        (
-            &[CLIENT, SWAP, CLIENT, RED, FULL, SWAP, CLEAR, CLIENT, CLEAR],
-            1,
-            8,
-        ),
-    ];
-    for (parts, client, place) in rows {
-        let mut all = vec![in alloc; ONE_PIXEL].expect(&rt, "memory");
-        all.extend_from_slice(parts).expect(&rt, "memory");
-        let told = told_of(rt, alloc, all.as_slice(), &[]);
-        assert!(rt; told == Some(Told::Offends(client, place)));
+    for (parts, client, place) in &OFFENCES {
+        let told = Told::Offends(*client, *place);
+        assert!(rt; told_of(rt, rt.alloc(), *parts, &[]) == Some(told));
     }
 }
 
+// A window with a shared texture, a barrier and a semaphore.
+const SYNCHRONISED: &[u8] = b"scene 1 1 1\nshared 1 1\nbarrier 1\nsemaphore 1\n";
+
+const SYNCHRONISATION: [&[u8]; 4] = [
+    b"Barrier 1\n",
+    b"SemP 1\n",
+    b"SemV 1\n",
+    b"SharedImage 1 0 0 1 1 01020304\n",
+];
+
 #[test]
 fn synchronisation_offends(rt: HostRuntime) {
-    let alloc = rt.alloc();
-    let head: &[u8] = b"scene 1 1 1\nshared 1 1\nbarrier 1\nsemaphore 1\n";
-    for (line, place) in [
-        (b"Barrier 1\n".as_slice(), 1),
-        (b"SemP 1\n", 1),
-        (b"SemV 1\n", 1),
-        (b"SharedImage 1 0 0 1 1 01020304\n", 1),
-    ] {
-        let told = told_of(rt, alloc, &[head, CLIENT, line, SWAP], &[]);
-        assert!(rt; told == Some(Told::Offends(0, place)));
+    for line in &SYNCHRONISATION {
+        let told = told_of(rt, rt.alloc(), &[SYNCHRONISED, CLIENT, *line, SWAP], &[]);
+        assert!(rt; told == Some(Told::Offends(0, 1)));
     }
+}
+
+const COLOR: Rgba = Rgba {
+    r: 1,
+    g: 2,
+    b: 3,
+    a: 4,
+};
+
+const NEAR: Pixel = Pixel {
+    color: COLOR,
+    depth: 5,
+};
+
+const FAR: Pixel = Pixel {
+    color: COLOR,
+    depth: 9,
+};
+
+// Whether a layer of one pixel and a longer one give these pixels.
+fn gives(rt: &impl Abort, alloc: Global, pixels: &[Pixel]) -> bool {
+    let a = Pixels::from_slice(alloc, &[FAR]).expect(rt, "memory");
+    let b = Pixels::from_slice(alloc, &[NEAR, FAR]).expect(rt, "memory");
+    composite(Layer { pixels: a }, Layer { pixels: b })
+        .pixels
+        .as_slice()
+        == pixels
 }
 
 #[test]
 fn the_longer_layer_stays_long(rt: HostRuntime) {
-    let alloc = rt.alloc();
-    let color = Rgba {
-        r: 1,
-        g: 2,
-        b: 3,
-        a: 4,
-    };
-    let near = Pixel { color, depth: 5 };
-    let far = Pixel { color, depth: 9 };
-    let a = Pixels::from_slice(alloc, &[far]).expect(&rt, "memory");
-    let b = Pixels::from_slice(alloc, &[near, far]).expect(&rt, "memory");
-    let both = composite(Layer { pixels: a }, Layer { pixels: b });
-    assert!(rt; both.pixels.as_slice() == [near, far].as_slice());
+    assert!(rt; gives(&rt, rt.alloc(), &[NEAR, FAR]));
 }
 
 const WIDTH: usize = 16;
@@ -282,12 +312,13 @@ fn are_frames_of(frames: &[Image], image: &[u8]) -> bool {
     same
 }
 
-// The scene of a text shows what the serial renderer shows.
-fn is_serial<R>(rt: R, alloc: Global, text: &[u8]) -> bool
+// The scene of a seed shows what the serial renderer shows.
+fn is_serial<R>(rt: R, alloc: Global, seed: u32) -> bool
 where
     R: Abort + Threads + Wait + Copy + Send + Sync + Drop,
 {
-    let bytes = packed(rt, alloc, text);
+    let text = by_chance(&rt, alloc, seed);
+    let bytes = packed(rt, alloc, text.as_slice());
     let serial = left_by(rt, alloc, &["serial"], bytes.bytes(), &OpenGate);
     let scene = read_scene(alloc, bytes.bytes()).expect(&rt, "a scene");
     let syncs = sync_lists(alloc, &scene).expect(&rt, "memory");
@@ -299,9 +330,7 @@ where
 
 #[test]
 fn scenes_by_chance_show_what_the_serial_renderer_shows(rt: HostRuntime) {
-    let alloc = rt.alloc();
     for seed in 0..8u32 {
-        let text = by_chance(&rt, alloc, seed);
-        assert!(rt; is_serial(rt, alloc, text.as_slice()));
+        assert!(rt; is_serial(rt, rt.alloc(), seed));
     }
 }

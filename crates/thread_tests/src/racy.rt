@@ -35,34 +35,46 @@ fn coordinate(state: u32) -> i64 {
     (state >> 8) as i64 % 196_608 - 98_304
 }
 
+fn add(rt: &impl Abort, text: &mut Vec<u8>, line: &[u8]) {
+    text.extend_from_slice(line).expect(rt, "memory");
+}
+
+// Adds a vertex by chance, and gives the generator's next state.
+fn add_vertex(rt: &impl Abort, alloc: Global, text: &mut Vec<u8>, from: u32) -> u32 {
+    let state = next(from);
+    let x = coordinate(state);
+    let state = next(state);
+    let y = coordinate(state);
+    let vertex = format!(in alloc; "Vertex {x} {y} 0 65536\n").expect(rt, "memory");
+    add(rt, text, vertex.as_bytes());
+    state
+}
+
+// Adds a client's triangle by chance, and gives the generator's next state.
+fn add_triangle(rt: &impl Abort, alloc: Global, text: &mut Vec<u8>, client: u32, from: u32) -> u32 {
+    let red = client.saturating_mul(36);
+    let green = next(from) >> 24;
+    let color = format!(in alloc; "Color {red} {green} 128 160\nBegin 0\n").expect(rt, "memory");
+    add(rt, text, color.as_bytes());
+    let mut state = from;
+    for _ in 0..3 {
+        state = add_vertex(rt, alloc, text, state);
+    }
+    add(rt, text, b"End\n");
+    state
+}
+
 // Eight clients that blend triangles over one another, and swap twice.
 fn racy(rt: &impl Abort, alloc: Global, seed: u32) -> Vec<u8> {
     let mut text = Vec::from_slice(alloc, b"scene 1 16 8\n").expect(rt, "memory");
     let mut state = next(seed);
     for client in 0..8u32 {
-        text.extend_from_slice(b"client\nEnable 3\nBlendFunc 6 7\n")
-            .expect(rt, "memory");
+        add(rt, &mut text, b"client\nEnable 3\nBlendFunc 6 7\n");
         for _ in 0..2 {
             for _ in 0..3 {
-                let red = client * 36;
-                let green = next(state) >> 24;
-                let color = format!(in alloc; "Color {red} {green} 128 160\nBegin 0\n").expect(
-                    rt, "memory",
-                );
-                text.extend_from_slice(color.as_bytes())
-                    .expect(rt, "memory");
-                for _ in 0..3 {
-                    state = next(state);
-                    let x = coordinate(state);
-                    state = next(state);
-                    let y = coordinate(state);
-                    let vertex = format!(in alloc; "Vertex {x} {y} 0 65536\n").expect(rt, "memory");
-                    text.extend_from_slice(vertex.as_bytes())
-                        .expect(rt, "memory");
-                }
-                text.extend_from_slice(b"End\n").expect(rt, "memory");
+                state = add_triangle(rt, alloc, &mut text, client, state);
             }
-            text.extend_from_slice(b"Swap\n").expect(rt, "memory");
+            add(rt, &mut text, b"Swap\n");
         }
     }
     text
@@ -177,14 +189,26 @@ where
         && is_redrawn(alloc, scene, &layout, &run.kept, image.bytes()).expect(&rt, "memory")
 }
 
+// How many runs of a seed's scene, over lanes of three depths, show what their records tell.
+fn right<R>(rt: R, alloc: Global, seed: u32) -> u32
+where
+    R: Abort + Threads + Wait + Copy + Send + Sync + Drop,
+{
+    let text = racy(&rt, alloc, seed);
+    let bytes = packed(rt, alloc, text.as_slice());
+    let scene = read_scene(alloc, bytes.bytes()).expect(&rt, "a scene");
+    let mut count: u32 = 0;
+    for depth in &[1, 2, 16] {
+        if is_right(rt, alloc, &scene, *depth) {
+            count = count.saturating_add(1);
+        }
+    }
+    count
+}
+
 #[test]
 fn each_tile_shows_what_it_recorded(rt: HostRuntime) {
     for seed in 0..10u32 {
-        let text = racy(&rt, rt.alloc(), seed);
-        let bytes = packed(rt, rt.alloc(), text.as_slice());
-        let scene = read_scene(rt.alloc(), bytes.bytes()).expect(&rt, "a scene");
-        for depth in [1, 2, 16] {
-            assert!(rt; is_right(rt, rt.alloc(), &scene, depth));
-        }
+        assert!(rt; right(rt, rt.alloc(), seed) == 3);
     }
 }
