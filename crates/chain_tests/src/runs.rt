@@ -124,15 +124,23 @@ fn run_text(rt: &impl Host, alloc: Global, job: &[&str], text: &[u8]) -> Left {
     run_on(rt, alloc, job, scene.image.bytes())
 }
 
+// Whether the text is these pieces, one behind the other.
+fn is_joined(text: &[u8], pieces: &[&[u8]]) -> bool {
+    let mut rest = text;
+    for piece in pieces {
+        match rest.strip_prefix(*piece) {
+            Some(behind) => rest = behind,
+            None => return false,
+        }
+    }
+    rest.is_empty()
+}
+
 // What is left of a scene with call lists is what the other run leaves of its meaning, behind the lines of refused list commands, which a scene that isn't
 // for `last` doesn't tell.
-fn is_alike(rt: &impl Host, alloc: Global, left: &Left, other: &Left, refused: &[u8]) -> bool {
-    let mut notes = Vec::new(alloc);
-    if other.status != 12 {
-        notes.extend_from_slice(refused).expect(rt, "memory");
-    }
-    notes
-        .extend_from_slice(other.notes.bytes())
-        .expect(rt, "memory");
-    left.is(other.status, other.image.bytes(), notes.as_slice())
+fn is_alike(left: &Left, other: &Left, refused: &[u8]) -> bool {
+    let front: &[u8] = if other.status == 12 { b"" } else { refused };
+    left.status == other.status
+        && left.image.bytes() == other.image.bytes()
+        && is_joined(left.notes.bytes(), &[front, other.notes.bytes()])
 }

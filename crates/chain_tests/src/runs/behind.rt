@@ -59,6 +59,32 @@ fn rules_in(rt: &impl Host, alloc: Global, words: &[String]) -> Rules {
     }
 }
 
+// Adds the member of a rule.
+fn add_member(rt: &impl Host, alloc: Global, chain: &mut Vec<Box<dyn Spu>>, rule: SpuRule) {
+    match rule {
+        SpuRule::Recolour(tint) => chain
+            .push(Box::new(alloc, RecolourSpu::new(tint)).expect(rt, "memory"))
+            .expect(rt, "memory"),
+        SpuRule::Cull => chain
+            .push(Box::new(alloc, CullSpu).expect(rt, "memory"))
+            .expect(rt, "memory"),
+        SpuRule::Drop(opcode) => chain
+            .push(Box::new(alloc, DropSpu::new(opcode)).expect(rt, "memory"))
+            .expect(rt, "memory"),
+        SpuRule::Count(count) => chain
+            .push(Box::new(alloc, CountSpu::new(count)).expect(rt, "memory"))
+            .expect(rt, "memory"),
+    }
+}
+
+// Adds the members that the words name.
+fn add_members(rt: &impl Host, alloc: Global, chain: &mut Vec<Box<dyn Spu>>, words: &[String]) {
+    let rules = rules_in(rt, alloc, words);
+    for rule in rules.as_slice() {
+        add_member(rt, alloc, chain, *rule);
+    }
+}
+
 // What a run behind filters leaves, where puts and takes of these numbers fail.
 pub(super) fn left_behind(
     rt: &impl Host,
@@ -68,24 +94,8 @@ pub(super) fn left_behind(
     fails: [&[u64]; 3],
 ) -> Left {
     let words = texts(rt, alloc, job);
-    let rules = rules_in(rt, alloc, words.as_slice());
     let mut chain: Vec<Box<dyn Spu>> = Vec::new(alloc);
-    for rule in rules.as_slice() {
-        match *rule {
-            SpuRule::Recolour(tint) => chain
-                .push(Box::new(alloc, RecolourSpu::new(tint)).expect(rt, "memory"))
-                .expect(rt, "memory"),
-            SpuRule::Cull => chain
-                .push(Box::new(alloc, CullSpu).expect(rt, "memory"))
-                .expect(rt, "memory"),
-            SpuRule::Drop(opcode) => chain
-                .push(Box::new(alloc, DropSpu::new(opcode)).expect(rt, "memory"))
-                .expect(rt, "memory"),
-            SpuRule::Count(count) => chain
-                .push(Box::new(alloc, CountSpu::new(count)).expect(rt, "memory"))
-                .expect(rt, "memory"),
-        }
-    }
+    add_members(rt, alloc, &mut chain, words.as_slice());
     let mut left = ends(rt, alloc, input, fails);
     let finish = finish_behind(
         rt,

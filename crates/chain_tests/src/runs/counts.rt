@@ -1,7 +1,7 @@
 //! Where a report tells what filters counted, and which jobs tell it.
 use super::behind::{run_behind, text_behind};
 use super::scenes::NEAR_AND_BARRIER;
-use super::{Host, JOBS, Left, run_on, run_text};
+use super::{Host, JOBS, Left, is_joined, run_on, run_text};
 use std::alloc::Global;
 use test_scenes::{BLENDED_BEHIND_A_BARRIER, NO_UNIT, RED_CLEAR, RED_CLEAR_TEXT, SWAP_ALONE};
 
@@ -85,29 +85,28 @@ const TOLD: [Told; 8] = [
 ];
 
 // The run ends with this status, and notes these three pieces.
-fn notes(rt: &impl Host, alloc: Global, left: &Left, status: u8, pieces: [&str; 3]) -> bool {
-    let mut notes = Vec::new(alloc);
-    for piece in pieces {
-        notes
-            .extend_from_slice(piece.as_bytes())
-            .expect(rt, "memory");
-    }
-    left.status == status && left.notes.bytes() == notes.as_slice()
+fn notes(left: &Left, status: u8, pieces: [&str; 3]) -> bool {
+    let [front, line, back] = pieces;
+    left.status == status
+        && is_joined(
+            left.notes.bytes(),
+            &[front.as_bytes(), line.as_bytes(), back.as_bytes()],
+        )
 }
 
 // Behind the two filters the notes have the line, and without them they are the same but for it.
-fn tells(rt: &impl Host, alloc: Global, row: Told) -> bool {
-    let (words, text, status, front, line, back) = row;
+fn tells(rt: &impl Host, alloc: Global, row: &Told) -> bool {
+    let (words, text, status, front, line, back) = *row;
     let plain = run_text(rt, alloc, words.get(2..).expect(rt, "a job"), text);
     let left = text_behind(rt, alloc, words, text);
-    notes(rt, alloc, &plain, status, [front, "", back])
-        && notes(rt, alloc, &left, status, [front, line, back])
+    notes(&plain, status, [front, "", back])
+        && notes(&left, status, [front, line, back])
         && left.image.bytes() == plain.image.bytes()
 }
 
 #[test]
 fn counts_are_told_behind_the_frames(rt: HostRuntime) {
-    for row in TOLD {
+    for row in &TOLD {
         assert!(rt; tells(&rt, rt.alloc(), row));
     }
 }
@@ -137,17 +136,21 @@ fn changes_nothing(
 
 #[test]
 fn filters_are_nothing_to_other_jobs(rt: HostRuntime) {
-    for (words, input) in OTHER_JOBS {
-        assert!(rt; changes_nothing(&rt, rt.alloc(), words, 1, input));
+    for (words, input) in &OTHER_JOBS {
+        assert!(rt; changes_nothing(&rt, rt.alloc(), *words, 1, *input));
     }
+}
+
+// Whether the call without filters knows none.
+fn knows_no_filter(rt: &impl Host, alloc: Global) -> bool {
+    run_on(rt, alloc, &["count", "check"], &RED_CLEAR).is(1, b"", b"rc: usage\n")
 }
 
 // Without filters both calls are one, and the call without them knows none.
 #[test]
 fn an_empty_chain_changes_nothing(rt: HostRuntime) {
-    for job in JOBS {
-        assert!(rt; changes_nothing(&rt, rt.alloc(), job, 0, &RED_CLEAR));
+    for job in &JOBS {
+        assert!(rt; changes_nothing(&rt, rt.alloc(), *job, 0, &RED_CLEAR));
     }
-    let left = run_on(&rt, rt.alloc(), &["count", "check"], &RED_CLEAR);
-    assert!(rt; left.is(1, b"", b"rc: usage\n"));
+    assert!(rt; knows_no_filter(&rt, rt.alloc()));
 }

@@ -8,7 +8,7 @@ use test_scenes::{
 };
 
 // Words, a scene, and the status, image and notes that are due.
-type Row = (
+pub(super) type Row = (
     &'static [&'static str],
     &'static [u8],
     u8,
@@ -16,8 +16,8 @@ type Row = (
     &'static str,
 );
 
-fn leaves(rt: &impl Host, alloc: Global, row: Row) -> bool {
-    let (words, text, status, image, notes) = row;
+pub(super) fn leaves(rt: &impl Host, alloc: Global, row: &Row) -> bool {
+    let (words, text, status, image, notes) = *row;
     text_behind(rt, alloc, words, text).is(status, image, notes.as_bytes())
 }
 
@@ -125,7 +125,7 @@ const ROWS: [Row; 15] = [
 
 #[test]
 fn jobs_work_on_what_comes_out_of_filters(rt: HostRuntime) {
-    for row in ROWS {
+    for row in &ROWS {
         assert!(rt; leaves(&rt, rt.alloc(), row));
     }
 }

@@ -104,53 +104,62 @@ const BEHIND_FILTERS: [Row; 6] = [
 ];
 
 // The run shows nothing, and notes the quantity that is past its limit.
-fn is_past(rt: &impl Host, alloc: Global, row: Row) -> bool {
-    let (job, pieces, line) = row;
+fn is_past(rt: &impl Host, alloc: Global, row: &Row) -> bool {
+    let (job, pieces, line) = *row;
     let bytes = joined(rt, alloc, pieces);
     run_on(rt, alloc, job, bytes.as_slice()).is(4, b"", line.as_bytes())
 }
 
 #[test]
 fn what_was_read_is_judged_first(rt: HostRuntime) {
-    for row in READ {
+    for row in &READ {
         assert!(rt; is_past(&rt, rt.alloc(), row));
     }
 }
 
 #[test]
 fn costs_are_judged_before_what_lists_mean(rt: HostRuntime) {
-    for row in COSTS {
+    for row in &COSTS {
         assert!(rt; is_past(&rt, rt.alloc(), row));
     }
 }
 
-// The tiles that are asked for would be past their limit too.
-#[test]
-fn costs_go_from_one_client_to_the_next(rt: HostRuntime) {
-    let job = &["render", "--tiles", "2x1"];
-    let line = "rc: limit expansion 67110918\n";
-    assert!(rt; is_past(&rt, rt.alloc(), (job, PICTURES_OF_BOTH, line)));
-}
+// Costs go from one client to the next, before the tiles that are asked for, and end lists that call each other.
+const CHAINED_COSTS: [Row; 2] = [
+    (
+        &["render", "--tiles", "2x1"],
+        PICTURES_OF_BOTH,
+        "rc: limit expansion 67110918\n",
+    ),
+    (&["race"], RING, "rc: limit expansion 67108962\n"),
+];
 
 #[test]
-fn lists_that_call_each_other_are_ended_by_their_costs(rt: HostRuntime) {
-    let line = "rc: limit expansion 67108962\n";
-    assert!(rt; is_past(&rt, rt.alloc(), (&["race"], RING, line)));
+fn costs_go_from_one_client_to_the_next_and_end_rings(rt: HostRuntime) {
+    for row in &CHAINED_COSTS {
+        assert!(rt; is_past(&rt, rt.alloc(), row));
+    }
 }
 
 #[test]
 fn what_lists_mean_is_judged_by_its_quantities(rt: HostRuntime) {
-    for row in MEANT {
+    for row in &MEANT {
         assert!(rt; is_past(&rt, rt.alloc(), row));
     }
+}
+
+// A run behind filters shows nothing and notes the quantity that is past its limit, and no filter counts a command.
+fn is_past_before_filters(rt: &impl Host, alloc: Global, row: &Row) -> bool {
+    let (job, pieces, line) = *row;
+    let bytes = joined(rt, alloc, pieces);
+    let left = run_behind(rt, alloc, job, bytes.as_slice());
+    left.is(4, b"", line.as_bytes()) && left.has_counted_nothing()
 }
 
 // A member that has passed a command on has counted it.
 #[test]
 fn quantities_are_judged_before_filters(rt: HostRuntime) {
-    for (job, pieces, line) in BEHIND_FILTERS {
-        let bytes = joined(&rt, rt.alloc(), pieces);
-        let left = run_behind(&rt, rt.alloc(), job, bytes.as_slice());
-        assert!(rt; left.is(4, b"", line.as_bytes()) && left.has_counted_nothing());
+    for row in &BEHIND_FILTERS {
+        assert!(rt; is_past_before_filters(&rt, rt.alloc(), row));
     }
 }

@@ -11,23 +11,33 @@ pub(super) const RED_LIST: &[u8] = b"RCS3\x01\0\x01\0\x01\0\0\0\x43\0\0\0\
     \0\0\x03\0\0\0\xff\xff\0\0\0\0\0\0\x01\0\
     \0\0\xff\xff\0\0\x03\0\0\0\0\0\0\0\x01\0\x01";
 
+const RED_STEPS: [Step; 6] = [
+    New(1),
+    Plain("Color 255 0 0 255"),
+    FULL,
+    End,
+    Call(1),
+    Plain("Swap"),
+];
+
+// Whether the window is red behind `render` of these bytes.
+fn is_red(rt: &impl Host, alloc: Global, bytes: &[u8]) -> bool {
+    run_on(rt, alloc, &["render"], bytes).is(
+        0,
+        b"P6\n1 1\n255\n\xff\0\0",
+        b"tile 0 parcels 3 sets 0 looks 1\njournal 1\nframes 1\n",
+    )
+}
+
+// The same of the scene of these steps.
+fn is_red_by(rt: &impl Host, alloc: Global, steps: &[Step]) -> bool {
+    let bytes = spelled(rt, alloc, "1 1", &[steps]);
+    is_red(rt, alloc, bytes.as_slice())
+}
+
 #[test]
 fn a_list_is_drawn_where_it_is_called(rt: HostRuntime) {
-    let red = b"P6\n1 1\n255\n\xff\0\0".as_slice();
-    let report = b"tile 0 parcels 3 sets 0 looks 1\njournal 1\nframes 1\n".as_slice();
-    let left = run_on(&rt, rt.alloc(), &["render"], RED_LIST);
-    assert!(rt; left.is(0, red, report));
-    let steps = [
-        New(1),
-        Plain("Color 255 0 0 255"),
-        FULL,
-        End,
-        Call(1),
-        Plain("Swap"),
-    ];
-    let bytes = spelled(&rt, rt.alloc(), "1 1", &[&steps]);
-    let left = run_on(&rt, rt.alloc(), &["render"], bytes.as_slice());
-    assert!(rt; left.is(0, red, report));
+    assert!(rt; is_red(&rt, rt.alloc(), RED_LIST) && is_red_by(&rt, rt.alloc(), &RED_STEPS));
 }
 
 // A stream of one client in a window of 1 by 1, and the report of `check`.
@@ -95,17 +105,18 @@ fn notes(
 
 #[test]
 fn refused_list_commands_are_told(rt: HostRuntime) {
-    for (steps, report) in REFUSED {
-        assert!(rt; notes(&rt, rt.alloc(), &["check"], &[steps], 0, report));
+    for (steps, report) in &REFUSED {
+        assert!(rt; notes(&rt, rt.alloc(), &["check"], &[*steps], 0, *report));
     }
 }
 
-// Of two clients, each with refused list commands and with commands that are refused where they are issued.
-#[test]
-fn refused_list_commands_of_all_clients_are_told_first(rt: HostRuntime) {
-    let first = [Plain("End"), End, Plain("Swap"), New(0)];
-    let second = [New(0), Plain("Begin 3"), Call(65), Plain("Swap")];
-    let report = "client 0 list fault INVALID_OPERATION at 1
+// Two clients, each with refused list commands and with commands that are refused where they are issued.
+const OF_ALL: [&[Step]; 2] = [
+    &[Plain("End"), End, Plain("Swap"), New(0)],
+    &[New(0), Plain("Begin 3"), Call(65), Plain("Swap")],
+];
+
+const OF_ALL_REPORT: &str = "client 0 list fault INVALID_OPERATION at 1
 client 0 list fault INVALID_VALUE at 3
 client 1 list fault INVALID_VALUE at 0
 client 1 list fault INVALID_VALUE at 2
@@ -114,22 +125,26 @@ client 1 fault INVALID_ENUM at 0
 journal 1
 frames 1
 ";
-    assert!(rt; notes(&rt, rt.alloc(), &["check"], &[&first, &second], 0, report));
+
+#[test]
+fn refused_list_commands_of_all_clients_are_told_first(rt: HostRuntime) {
+    assert!(rt; notes(&rt, rt.alloc(), &["check"], &OF_ALL, 0, OF_ALL_REPORT));
 }
 
 // Two clients clear a pixel, and one of them waits for ever: list commands that are refused behind its place are told too.
-#[test]
-fn refused_list_commands_are_told_of_clients_that_wait(rt: HostRuntime) {
-    let first = [
+const THAT_WAIT: [&[Step]; 2] = [
+    &[
         New(7),
         Plain("Clear 1\nSwap"),
         End,
         Call(7),
         Call(7),
         Call(0),
-    ];
-    let second = [Plain("Clear 1\nSwap"), End];
-    let report = "client 0 list fault INVALID_VALUE at 6
+    ],
+    &[Plain("Clear 1\nSwap"), End],
+];
+
+const THAT_WAIT_REPORT: &str = "client 0 list fault INVALID_VALUE at 6
 client 1 list fault INVALID_OPERATION at 2
 journal 1
 frames 1
@@ -137,5 +152,8 @@ race 0 0 1 0 pixel 0 0
 stuck client 0 at 3 Swap
 rc: stuck
 ";
-    assert!(rt; notes(&rt, rt.alloc(), &["race"], &[&first, &second], 5, report));
+
+#[test]
+fn refused_list_commands_are_told_of_clients_that_wait(rt: HostRuntime) {
+    assert!(rt; notes(&rt, rt.alloc(), &["race"], &THAT_WAIT, 5, THAT_WAIT_REPORT));
 }

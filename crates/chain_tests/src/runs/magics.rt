@@ -55,24 +55,24 @@ const WITHOUT_LISTS: [Row; 4] = [
 ];
 
 // A job refuses the bytes, and so it does behind a filter.
-fn refuses(rt: &impl Host, alloc: Global, job: &[&str], behind: &[&str], row: Row) -> bool {
-    let (bytes, line) = row;
+fn refuses(rt: &impl Host, alloc: Global, job: &[&str], behind: &[&str], row: &Row) -> bool {
+    let (bytes, line) = *row;
     run_on(rt, alloc, job, bytes).is(3, b"", line.as_bytes())
         && run_behind(rt, alloc, behind, bytes).is(3, b"", line.as_bytes())
 }
 
 #[test]
 fn six_jobs_know_three_magics(rt: HostRuntime) {
-    for row in MALFORMED {
-        for job in JOBS {
-            assert!(rt; refuses(&rt, rt.alloc(), job, &["count", "check"], row));
+    for row in &MALFORMED {
+        for job in &JOBS {
+            assert!(rt; refuses(&rt, rt.alloc(), *job, &["count", "check"], row));
         }
     }
 }
 
 #[test]
 fn unpack_knows_two_magics(rt: HostRuntime) {
-    for row in WITHOUT_LISTS {
+    for row in &WITHOUT_LISTS {
         assert!(rt; refuses(&rt, rt.alloc(), &["unpack"], &["cull", "unpack"], row));
     }
 }

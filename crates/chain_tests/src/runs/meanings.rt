@@ -9,7 +9,7 @@ fn has_its_meaning(rt: &impl Host, alloc: Global, case: &Case, job: &[&str], sta
     let bytes = spelled(rt, alloc, case.declared, case.streams);
     let left = run_on(rt, alloc, job, bytes.as_slice());
     let other = run_text(rt, alloc, job, case.meaning);
-    left.status == status && is_alike(rt, alloc, &left, &other, case.refused.as_bytes())
+    left.status == status && is_alike(&left, &other, case.refused.as_bytes())
 }
 
 // Each of the six jobs leaves of the scene what it leaves of its meaning.
@@ -22,34 +22,41 @@ fn is_its_meaning(rt: &impl Host, alloc: Global, case: &Case) -> bool {
     true
 }
 
+const CASES: [&Case; 4] = [&DRAWN, &RACING, &WAITING, &CLEARED];
+
 #[test]
 fn each_job_leaves_what_it_leaves_of_the_meaning(rt: HostRuntime) {
-    for case in [&DRAWN, &RACING, &WAITING, &CLEARED] {
-        assert!(rt; is_its_meaning(&rt, rt.alloc(), case));
+    for case in &CASES {
+        assert!(rt; is_its_meaning(&rt, rt.alloc(), *case));
     }
 }
 
-// What a job leaves of a scene with call lists.
-fn shows(rt: &impl Host, alloc: Global, case: &Case, job: &str, image: &[u8], notes: &str) -> bool {
-    let bytes = spelled(rt, alloc, case.declared, case.streams);
-    let left = run_on(rt, alloc, &[job], bytes.as_slice());
-    left.image.bytes() == image && left.notes.bytes() == notes.as_bytes()
-}
+// A scene with call lists, a job, and the image and notes that it leaves of it.
+type Row = (&'static Case, &'static str, &'static [u8], &'static str);
 
 // Places are those of the meaning, refused commands are those of whole streams, and a scene that isn't for `last` tells of no refused list command.
-#[test]
-fn lists_leave_what_was_worked_out_by_hand(rt: HostRuntime) {
-    let blue_and_green = b"P6\n2 1\n255\n\0\0\xff\0\xff\0";
-    let drawn = "client 0 list fault INVALID_OPERATION at 11
+const ROWS: [Row; 4] = [
+    (
+        &DRAWN,
+        "serial",
+        b"P6\n2 1\n255\n\0\0\xff\0\xff\0",
+        "client 0 list fault INVALID_OPERATION at 11
 client 1 list fault INVALID_OPERATION at 0
 journal 2
 frames 1
-";
-    assert!(rt; shows(&rt, rt.alloc(), &DRAWN, "serial", blue_and_green, drawn));
-    let racing =
-        "client 1 list fault INVALID_VALUE at 10\njournal 1\nframes 1\nrace 0 6 1 6 pixel 0 0\n";
-    assert!(rt; shows(&rt, rt.alloc(), &RACING, "race", b"", racing));
-    let waiting = "client 1 list fault INVALID_OPERATION at 2
+",
+    ),
+    (
+        &RACING,
+        "race",
+        b"",
+        "client 1 list fault INVALID_VALUE at 10\njournal 1\nframes 1\nrace 0 6 1 6 pixel 0 0\n",
+    ),
+    (
+        &WAITING,
+        "check",
+        b"",
+        "client 1 list fault INVALID_OPERATION at 2
 client 0 fault INVALID_OPERATION at 2
 client 0 fault INVALID_OPERATION at 4
 client 1 fault INVALID_ENUM at 0
@@ -57,8 +64,22 @@ journal 1
 frames 1
 stuck client 0 at 3 Swap
 rc: stuck
-";
-    assert!(rt; shows(&rt, rt.alloc(), &WAITING, "check", b"", waiting));
-    let cleared = "rc: not for last 0 6\n";
-    assert!(rt; shows(&rt, rt.alloc(), &CLEARED, "last", b"", cleared));
+",
+    ),
+    (&CLEARED, "last", b"", "rc: not for last 0 6\n"),
+];
+
+// Whether a job leaves this of a scene with call lists.
+fn shows(rt: &impl Host, alloc: Global, row: &Row) -> bool {
+    let (case, job, image, notes) = *row;
+    let bytes = spelled(rt, alloc, case.declared, case.streams);
+    let left = run_on(rt, alloc, &[job], bytes.as_slice());
+    left.image.bytes() == image && left.notes.bytes() == notes.as_bytes()
+}
+
+#[test]
+fn lists_leave_what_was_worked_out_by_hand(rt: HostRuntime) {
+    for row in &ROWS {
+        assert!(rt; shows(&rt, rt.alloc(), row));
+    }
 }

@@ -1,9 +1,9 @@
 //! A member of another's making, which writes down the commands that it is given.
 use rc_base::command::{Command, Commands};
-use rc_base::out_of_memory::OutOfMemory;
 use spu_chain::{CullSpu, DropSpu, Spu, SpuRule, has_room, run_chain};
 use std::alloc::Global;
 use std::cell::Cell;
+use std::process::Abort;
 use std::rc::Rc;
 
 // A member that culls. What it was given stands in the cell, a digit for each command, the last one last.
@@ -41,64 +41,74 @@ impl Spu for Noting {
     }
 }
 
-// A chain of one that notes, one that drops each Swap, and another one that notes.
-fn chain_of(
+// Adds a member that notes in this cell.
+fn add_noting(
+    rt: &impl Abort,
     alloc: Global,
-    first: &Rc<Cell<u64>>,
-    second: &Rc<Cell<u64>>,
-) -> Result<Vec<Box<dyn Spu>>, OutOfMemory> {
-    let mut chain: Vec<Box<dyn Spu>> = Vec::new(alloc);
-    let given = first.clone()?;
-    chain.push(Box::new(
-        alloc,
-        Noting {
-            given,
-            cull: CullSpu,
-        },
-    )?)?;
-    chain.push(Box::new(alloc, DropSpu::new(0x24))?)?;
-    let given = second.clone()?;
-    chain.push(Box::new(
-        alloc,
-        Noting {
-            given,
-            cull: CullSpu,
-        },
-    )?)?;
-    Ok(chain)
+    chain: &mut Vec<Box<dyn Spu>>,
+    given: &Rc<Cell<u64>>,
+) {
+    let given = given.clone().expect(rt, "memory");
+    let member = Noting {
+        given,
+        cull: CullSpu,
+    };
+    chain
+        .push(Box::new(alloc, member).expect(rt, "memory"))
+        .expect(rt, "memory");
+}
+
+// Adds a member that drops each Swap.
+fn add_dropping(rt: &impl Abort, alloc: Global, chain: &mut Vec<Box<dyn Spu>>) {
+    chain
+        .push(Box::new(alloc, DropSpu::new(0x24)).expect(rt, "memory"))
+        .expect(rt, "memory");
+}
+
+const GIVEN: [Command; 5] = [
+    Command::Swap,
+    Command::Begin { mode: 0 },
+    Command::Disable { capability: 4 },
+    Command::End,
+    Command::Swap,
+];
+
+fn commands(rt: &impl Abort, alloc: Global) -> Commands {
+    let mut list = Commands::new(alloc);
+    for command in &GIVEN {
+        list.push(command.clone().expect(rt, "memory"))
+            .expect(rt, "memory");
+    }
+    list
 }
 
 // How many commands come out, where the chain has room for all.
-fn passed(
-    alloc: Global,
-    chain: &mut Vec<Box<dyn Spu>>,
-    commands: Commands,
-) -> Result<Option<usize>, OutOfMemory> {
+fn passed(rt: &impl Abort, alloc: Global, chain: &mut Vec<Box<dyn Spu>>) -> Option<usize> {
+    let commands = commands(rt, alloc);
     if !has_room(chain, commands.len()) {
-        return Ok(None);
+        return None;
     }
-    let given = run_chain(alloc, chain, commands)?;
-    Ok(Some(given.len()))
+    let given = run_chain(alloc, chain, commands).expect(rt, "memory");
+    Some(given.len())
+}
+
+fn cell(rt: &impl Abort, alloc: Global) -> Rc<Cell<u64>> {
+    Rc::new(alloc, Cell::new(0u64)).expect(rt, "memory")
+}
+
+// How many commands come out of a chain of one that notes, one that drops each Swap, and another one that notes; and what the two note.
+fn noted(rt: &impl Abort, alloc: Global) -> (Option<usize>, u64, u64) {
+    let first = cell(rt, alloc);
+    let second = cell(rt, alloc);
+    let mut chain: Vec<Box<dyn Spu>> = Vec::new(alloc);
+    add_noting(rt, alloc, &mut chain, &first);
+    add_dropping(rt, alloc, &mut chain);
+    add_noting(rt, alloc, &mut chain, &second);
+    let count = passed(rt, alloc, &mut chain);
+    (count, first.get(), second.get())
 }
 
 #[test]
 fn each_member_is_given_each_command_once(rt: HostRuntime) {
-    let alloc = rt.alloc();
-    let first = Rc::new(alloc, Cell::new(0u64)).expect(&rt, "memory");
-    let second = Rc::new(alloc, Cell::new(0u64)).expect(&rt, "memory");
-    let mut chain = chain_of(alloc, &first, &second).expect(&rt, "memory");
-    let commands = [
-        Command::Swap,
-        Command::Begin { mode: 0 },
-        Command::Disable { capability: 4 },
-        Command::End,
-        Command::Swap,
-    ];
-    let mut list = Commands::new(alloc);
-    for command in commands {
-        list.push(command).expect(&rt, "memory");
-    }
-    let count = passed(alloc, &mut chain, list).expect(&rt, "memory");
-    assert!(rt; count == Some(3));
-    assert!(rt; first.get() == 31423 && second.get() == 152);
+    assert!(rt; noted(&rt, rt.alloc()) == (Some(3), 31423, 152));
 }
