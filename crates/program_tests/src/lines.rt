@@ -1,6 +1,6 @@
 //! Lines that are taken with their values, lines that are refused, and the jobs that they name.
+use super::runs::{Host, words};
 use command_line::{CommandLine, JobName, Settings, command_line};
-use rc_base::out_of_memory::OutOfMemory;
 use render_core::job::{Cluster, Job, job_of};
 use std::alloc::Global;
 
@@ -13,129 +13,123 @@ const DEFAULTS: Settings = Settings {
     size: 0,
 };
 
-fn texts(alloc: Global, words: &[&str]) -> Result<Vec<String>, OutOfMemory> {
-    let mut all = Vec::new(alloc);
-    for word in words {
-        all.push(String::from_str(alloc, *word)?)?;
-    }
-    Ok(all)
+fn line_of(rt: &impl Host, alloc: Global, line: &[&str]) -> Option<CommandLine> {
+    let words = words(rt, alloc, line);
+    command_line(alloc, words.as_slice()).expect(rt, "memory")
 }
 
-fn line_of(alloc: Global, words: &[&str]) -> Result<Option<CommandLine>, OutOfMemory> {
-    let words = texts(alloc, words)?;
-    command_line(alloc, words.as_slice())
+fn job_by(rt: &impl Host, alloc: Global, line: &[&str]) -> Option<Job> {
+    let words = words(rt, alloc, line);
+    job_of(alloc, words.as_slice()).expect(rt, "memory")
 }
 
-fn job_by(alloc: Global, words: &[&str]) -> Result<Option<Job>, OutOfMemory> {
-    let words = texts(alloc, words)?;
-    job_of(alloc, words.as_slice())
-}
+const TAKEN: [(&[&str], JobName, Settings); 12] = [
+    (&["render"], JobName::Render, DEFAULTS),
+    (&["serial"], JobName::Serial, DEFAULTS),
+    (&["check"], JobName::Check, DEFAULTS),
+    (&["race"], JobName::Race, DEFAULTS),
+    (&["last"], JobName::Last, DEFAULTS),
+    (&["pack"], JobName::Pack, DEFAULTS),
+    (&["unpack"], JobName::Unpack, DEFAULTS),
+    (
+        &["render", "--tiles", "4x3"],
+        JobName::Render,
+        Settings {
+            columns: 4,
+            rows: 3,
+            ..DEFAULTS
+        },
+    ),
+    (
+        &["render", "--order", "--depth", "0"],
+        JobName::Render,
+        Settings {
+            order: true,
+            depth: 0,
+            ..DEFAULTS
+        },
+    ),
+    (
+        &["simulate", "--seed", "18446744073709551615"],
+        JobName::Simulate,
+        Settings {
+            seed: 18446744073709551615,
+            ..DEFAULTS
+        },
+    ),
+    (
+        &[
+            "simulate", "--depth", "2", "--tiles", "0x10", "--seed", "7", "--order",
+        ],
+        JobName::Simulate,
+        Settings {
+            columns: 0,
+            rows: 10,
+            depth: 2,
+            order: true,
+            seed: 7,
+            size: 0,
+        },
+    ),
+    (
+        &["gen", "--size", "12", "--seed", "3"],
+        JobName::Gen,
+        Settings {
+            seed: 3,
+            size: 12,
+            ..DEFAULTS
+        },
+    ),
+];
 
 #[test]
 fn lines_are_taken(rt: HostRuntime) {
-    let cases: [(&[&str], JobName, Settings); 12] = [
-        (&["render"], JobName::Render, DEFAULTS),
-        (&["serial"], JobName::Serial, DEFAULTS),
-        (&["check"], JobName::Check, DEFAULTS),
-        (&["race"], JobName::Race, DEFAULTS),
-        (&["last"], JobName::Last, DEFAULTS),
-        (&["pack"], JobName::Pack, DEFAULTS),
-        (&["unpack"], JobName::Unpack, DEFAULTS),
-        (
-            &["render", "--tiles", "4x3"],
-            JobName::Render,
-            Settings {
-                columns: 4,
-                rows: 3,
-                ..DEFAULTS
-            },
-        ),
-        (
-            &["render", "--order", "--depth", "0"],
-            JobName::Render,
-            Settings {
-                order: true,
-                depth: 0,
-                ..DEFAULTS
-            },
-        ),
-        (
-            &["simulate", "--seed", "18446744073709551615"],
-            JobName::Simulate,
-            Settings {
-                seed: 18446744073709551615,
-                ..DEFAULTS
-            },
-        ),
-        (
-            &[
-                "simulate", "--depth", "2", "--tiles", "0x10", "--seed", "7", "--order",
-            ],
-            JobName::Simulate,
-            Settings {
-                columns: 0,
-                rows: 10,
-                depth: 2,
-                order: true,
-                seed: 7,
-                size: 0,
-            },
-        ),
-        (
-            &["gen", "--size", "12", "--seed", "3"],
-            JobName::Gen,
-            Settings {
-                seed: 3,
-                size: 12,
-                ..DEFAULTS
-            },
-        ),
-    ];
-    for (words, job, settings) in &cases {
+    for (words, job, settings) in &TAKEN {
         let line = CommandLine {
             job: *job,
             settings: *settings,
         };
-        assert!(rt; line_of(rt.alloc(), *words).expect(&rt, "memory") == Some(line));
+        assert!(rt; line_of(&rt, rt.alloc(), *words) == Some(line));
     }
 }
 
+const REFUSED: [&[&str]; 30] = [
+    &[],
+    &[""],
+    &["rende"],
+    &["Render"],
+    &["--order", "render"],
+    &["render", ""],
+    &["render", "render"],
+    &["render", "--"],
+    &["render", "-h"],
+    &["render", "--help"],
+    &["render", "--ord"],
+    &["render", "--depth=8"],
+    &["render", "--depth"],
+    &["render", "--depth", "--order"],
+    &["render", "--depth", "08"],
+    &["render", "--depth", "+8"],
+    &["render", "--depth", "18446744073709551616"],
+    &["render", "--depth", "8", "8"],
+    &["render", "--order", "--order"],
+    &["render", "--depth", "8", "--depth", "8"],
+    &["render", "--tiles", "4X4"],
+    &["render", "--tiles", "4x"],
+    &["render", "--tiles", "4x4x4"],
+    &["render", "--tiles", "04x1"],
+    &["render", "--seed", "1"],
+    &["serial", "--order"],
+    &["race", "--order"],
+    &["simulate"],
+    &["simulate", "--seed", "1", "--size", "1"],
+    &["gen", "--seed", "1"],
+];
+
 #[test]
 fn other_words_are_refused(rt: HostRuntime) {
-    let cases: [&[&str]; 30] = [
-        &[],
-        &[""],
-        &["rende"],
-        &["Render"],
-        &["--order", "render"],
-        &["render", ""],
-        &["render", "render"],
-        &["render", "--"],
-        &["render", "-h"],
-        &["render", "--help"],
-        &["render", "--ord"],
-        &["render", "--depth=8"],
-        &["render", "--depth"],
-        &["render", "--depth", "--order"],
-        &["render", "--depth", "08"],
-        &["render", "--depth", "+8"],
-        &["render", "--depth", "18446744073709551616"],
-        &["render", "--depth", "8", "8"],
-        &["render", "--order", "--order"],
-        &["render", "--depth", "8", "--depth", "8"],
-        &["render", "--tiles", "4X4"],
-        &["render", "--tiles", "4x"],
-        &["render", "--tiles", "4x4x4"],
-        &["render", "--tiles", "04x1"],
-        &["render", "--seed", "1"],
-        &["serial", "--order"],
-        &["race", "--order"],
-        &["simulate"],
-        &["simulate", "--seed", "1", "--size", "1"],
-        &["gen", "--seed", "1"],
-    ];
-    for words in &cases {
-        assert!(rt; line_of(rt.alloc(), *words).expect(&rt, "memory") == None);
+    for words in &REFUSED {
+        assert!(rt; line_of(&rt, rt.alloc(), *words) == None);
     }
 }
 
@@ -146,38 +140,39 @@ const CLUSTER: Cluster = Cluster {
     orders: false,
 };
 
+const JOBS: [(&[&str], Option<Job>); 6] = [
+    (&["serial"], Some(Job::Serial)),
+    (
+        &["render", "--tiles", "4x3", "--order", "--depth", "2"],
+        Some(Job::Render(Cluster {
+            columns: 4,
+            rows: 3,
+            depth: 2,
+            orders: true,
+        })),
+    ),
+    (
+        &["simulate", "--seed", "7"],
+        Some(Job::Simulate {
+            seed: 7,
+            cluster: CLUSTER,
+        }),
+    ),
+    (
+        &["demo", "--size", "12", "--seed", "3"],
+        Some(Job::Demo {
+            seed: 3,
+            size: 12,
+            cluster: CLUSTER,
+        }),
+    ),
+    (&["gen", "--seed", "3"], None),
+    (&["cull", "serial"], None),
+];
+
 #[test]
 fn words_name_jobs(rt: HostRuntime) {
-    let cases: [(&[&str], Option<Job>); 6] = [
-        (&["serial"], Some(Job::Serial)),
-        (
-            &["render", "--tiles", "4x3", "--order", "--depth", "2"],
-            Some(Job::Render(Cluster {
-                columns: 4,
-                rows: 3,
-                depth: 2,
-                orders: true,
-            })),
-        ),
-        (
-            &["simulate", "--seed", "7"],
-            Some(Job::Simulate {
-                seed: 7,
-                cluster: CLUSTER,
-            }),
-        ),
-        (
-            &["demo", "--size", "12", "--seed", "3"],
-            Some(Job::Demo {
-                seed: 3,
-                size: 12,
-                cluster: CLUSTER,
-            }),
-        ),
-        (&["gen", "--seed", "3"], None),
-        (&["cull", "serial"], None),
-    ];
-    for (words, job) in cases {
-        assert!(rt; job_by(rt.alloc(), words).expect(&rt, "memory") == job);
+    for (words, job) in &JOBS {
+        assert!(rt; job_by(&rt, rt.alloc(), *words) == *job);
     }
 }

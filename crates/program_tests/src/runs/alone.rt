@@ -2,8 +2,8 @@
 ghost use Rattle.std.specs.Prelude.{IsTrue};
 ghost use Rattle.run_words.specs.Jobs.{IsThreaded};
 
-use super::{Host, Left, sink, source_of, words};
-use render_core::{Finish, run_alone};
+use super::{Host, Left, whole_ends, words};
+use render_core::run_alone;
 use std::alloc::Global;
 use test_scenes::{RED_CLEAR, RED_FRAME};
 
@@ -19,41 +19,39 @@ fn are_serial(words: &[String]) -> bool
 
 // What `serial` leaves of these bytes, carried out alone.
 fn serial_on(rt: &impl Host, alloc: Global, input: &[u8]) -> Left {
-    let mut left = Left {
-        status: 0,
-        kept: None,
-        source: source_of(rt, alloc, input, &[]),
-        image: sink(rt, alloc, 4, &[]),
-        notes: sink(rt, alloc, 64, &[]),
-    };
+    let mut left = whole_ends(rt, alloc, input);
     let words = words(rt, alloc, &["serial"]);
     assert!(rt; are_serial(words.as_slice()));
-    let Finish { status, kept } = run_alone(
+    let finish = run_alone(
         alloc,
         words.as_slice(),
         &mut left.source,
         &mut left.image,
         &mut left.notes,
     );
-    left.status = status;
-    left.kept = kept;
+    left.status = finish.status;
+    left.has_record = finish.kept.is_some();
     left
 }
 
+// What is given, and the status, image and notes that are left.
+type Row = (&'static [u8], u8, &'static [u8], &'static str);
+
+const ROWS: [Row; 2] = [
+    (&RED_CLEAR, 0, RED_FRAME, "journal 1\nframes 1\n"),
+    (b"RCS", 3, b"", "rc: malformed Truncated at 3\n"),
+];
+
 // Whether this is left, and no record.
-fn leaves_alone(rt: &impl Host, alloc: Global, row: (&[u8], u8, &[u8], &str)) -> bool {
-    let (input, status, image, notes) = row;
+fn leaves_alone(rt: &impl Host, alloc: Global, row: &Row) -> bool {
+    let (input, status, image, notes) = *row;
     let left = serial_on(rt, alloc, input);
-    left.is(status, image, notes.as_bytes()) && left.kept.is_none()
+    left.is(status, image, notes.as_bytes()) && !left.has_record
 }
 
 #[test]
 fn one_renderer_runs_alone(rt: HostRuntime) {
-    let rows: [(&[u8], u8, &[u8], &str); 2] = [
-        (&RED_CLEAR, 0, RED_FRAME, "journal 1\nframes 1\n"),
-        (&RED_CLEAR[..3], 3, b"", "rc: malformed Truncated at 3\n"),
-    ];
-    for row in rows {
+    for row in &ROWS {
         assert!(rt; leaves_alone(&rt, rt.alloc(), row));
     }
 }

@@ -1,6 +1,6 @@
 //! Scenes whose clients are drawn apart and put together by depth, by `last`.
 use super::rows::ADDED_QUAD;
-use super::{Host, left_on, run_on, run_text, sink, source_of};
+use super::{Host, ends_of, left_on, run_on, run_text, sink, source_of};
 use std::alloc::Global;
 use test_scenes::BLENDED_IN_TURN;
 
@@ -76,68 +76,73 @@ const CLEARED_AND_STUCK_REPORT: &str =
 // A client that waits for ever, and behind that clears what isn't its own to clear.
 const CLEARED_BEHIND_ITS_REACH: &[u8] = b"scene 1 1 1\nclient\nclient\nSwap\nClear 1\nClear 1\n";
 
+// The text of a scene, and the status, frames and notes of `last`.
+type Row = (&'static [u8], u8, &'static [u8], &'static str);
+
+const ROWS: [Row; 6] = [
+    (
+        EQUALLY_NEAR,
+        0,
+        b"P6\n1 1\n255\n\xff\0\0",
+        "journal 1\nframes 1\n",
+    ),
+    (
+        ONE_FRAME_EACH,
+        0,
+        b"P6\n1 1\n255\n\0\0\xffP6\n1 1\n255\n\0\0\xff",
+        "journal 2\nframes 2\n",
+    ),
+    (
+        CLEARED_AND_STUCK,
+        5,
+        b"P6\n1 1\n255\n\0\0\xff",
+        CLEARED_AND_STUCK_REPORT,
+    ),
+    (ADDED_QUAD, 12, b"", "rc: not for last 0 8\n"),
+    (BLENDED_IN_TURN, 12, b"", "rc: not for last 0 3\n"),
+    (CLEARED_BEHIND_ITS_REACH, 12, b"", "rc: not for last 1 1\n"),
+];
+
 // Whether `last` ends so with the scene of a text, shows these frames and keeps no record.
-fn shows(rt: &impl Host, alloc: Global, row: (&[u8], u8, &[u8], &str)) -> bool {
-    let (text, status, frames, report) = row;
+fn shows(rt: &impl Host, alloc: Global, row: &Row) -> bool {
+    let (text, status, frames, report) = *row;
     let left = run_text(rt, alloc, &["last"], text);
-    left.is(status, frames, report.as_bytes()) && left.kept.is_none()
+    left.is(status, frames, report.as_bytes()) && !left.has_record
 }
 
 #[test]
 fn layers_are_put_together_by_depth(rt: HostRuntime) {
-    let red = b"P6\n1 1\n255\n\xff\0\0".as_slice();
-    let blue = b"P6\n1 1\n255\n\0\0\xff".as_slice();
-    let blue_twice = b"P6\n1 1\n255\n\0\0\xffP6\n1 1\n255\n\0\0\xff".as_slice();
-    let rows = [
-        (EQUALLY_NEAR, 0, red, "journal 1\nframes 1\n"),
-        (ONE_FRAME_EACH, 0, blue_twice, "journal 2\nframes 2\n"),
-        (CLEARED_AND_STUCK, 5, blue, CLEARED_AND_STUCK_REPORT),
-        (ADDED_QUAD, 12, b"".as_slice(), "rc: not for last 0 8\n"),
-        (
-            BLENDED_IN_TURN,
-            12,
-            b"".as_slice(),
-            "rc: not for last 0 3\n",
-        ),
-        (
-            CLEARED_BEHIND_ITS_REACH,
-            12,
-            b"".as_slice(),
-            "rc: not for last 1 1\n",
-        ),
-    ];
-    for row in rows {
+    for row in &ROWS {
         assert!(rt; shows(&rt, rt.alloc(), row));
     }
 }
 
-// The status of `last`, and how much image and notes hold, where the image fails at its second put of 4 bytes and the notes at theirs of 16.
-fn told_in_part(rt: &impl Host, alloc: Global, text: &[u8], fails: &[u64]) -> (u8, usize, usize) {
+// The text of a scene, the puts of the image that fail, and the status of `last` and how much image and notes hold.
+type Part = (&'static [u8], &'static [u64], u8, usize, usize);
+
+const PARTS: [Part; 4] = [
+    (ADDED_QUAD, &[], 12, 0, 16),
+    (EQUALLY_NEAR, &[], 8, 14, 16),
+    (EQUALLY_NEAR, &[2], 6, 4, 16),
+    (CLEARED_AND_STUCK, &[2], 5, 4, 16),
+];
+
+// Whether `last` leaves this where the image takes 4 bytes a put, and the notes take 16 and fail at their second put.
+fn tells_in_part(rt: &impl Host, alloc: Global, part: &Part) -> bool {
+    let (text, fails, status, image, notes) = *part;
     let scene = run_on(rt, alloc, &["pack"], text);
-    let left = left_on(
-        rt,
-        alloc,
-        &["last"],
+    let ends = ends_of(
         source_of(rt, alloc, scene.image.bytes(), &[]),
         sink(rt, alloc, 4, fails),
         sink(rt, alloc, 16, &[2]),
     );
-    (
-        left.status,
-        left.image.bytes().len(),
-        left.notes.bytes().len(),
-    )
+    let left = left_on(rt, alloc, &["last"], ends);
+    left.status == status && left.image.bytes().len() == image && left.notes.bytes().len() == notes
 }
 
 #[test]
 fn failing_ends_change_no_more_than_those_of_other_jobs(rt: HostRuntime) {
-    let rows: [(&[u8], &[u64], (u8, usize, usize)); 4] = [
-        (ADDED_QUAD, &[], (12, 0, 16)),
-        (EQUALLY_NEAR, &[], (8, 14, 16)),
-        (EQUALLY_NEAR, &[2], (6, 4, 16)),
-        (CLEARED_AND_STUCK, &[2], (5, 4, 16)),
-    ];
-    for (text, fails, due) in rows {
-        assert!(rt; told_in_part(&rt, rt.alloc(), text, fails) == due);
+    for part in &PARTS {
+        assert!(rt; tells_in_part(&rt, rt.alloc(), part));
     }
 }

@@ -1,6 +1,6 @@
 //! Scenes on clusters of tiles, by `render` and `simulate`.
 use super::{Case, leaves_of};
-use test_scenes::{BARRIER_IN_BLOCK, NO_UNIT, SWAP_ALONE};
+use test_scenes::{BARRIER_IN_BLOCK, NO_UNIT, SWAP_ALONE, WHITE_PIXEL};
 
 // A blend that is set and set back, and a scissor box that is one tile: what a tile was told isn't told again.
 pub(super) const LAZY_STATE: &[u8] = b"scene 1 2 1
@@ -48,31 +48,44 @@ const NO_UNIT_IN_ORDER: &str =
 const SWAP_ALONE_REPORT: &str =
     "tile 0 parcels 3 sets 0 looks 0\njournal 0\nframes 0\nstuck client 1 at 0 Swap\nrc: stuck\n";
 
+const TWO_WHITE: &[u8] = b"P6\n2 1\n255\n\xff\xff\xff\xff\xff\xff";
+
+const CASES: [Case; 6] = [
+    (
+        &["render", "--tiles", "2x1", "--depth", "1"],
+        LAZY_STATE,
+        0,
+        TWO_WHITE,
+        LAZY_REPORT,
+    ),
+    (
+        &["simulate", "--tiles", "2x1", "--seed", "7"],
+        LAZY_STATE,
+        0,
+        TWO_WHITE,
+        LAZY_REPORT,
+    ),
+    (
+        &["render"],
+        BARRIER_IN_BLOCK,
+        0,
+        WHITE_PIXEL,
+        BARRIER_REPORT,
+    ),
+    (&["render"], NO_UNIT, 5, WHITE_PIXEL, NO_UNIT_REPORT),
+    (
+        &["render", "--order"],
+        NO_UNIT,
+        5,
+        WHITE_PIXEL,
+        NO_UNIT_IN_ORDER,
+    ),
+    (&["render"], SWAP_ALONE, 5, b"", SWAP_ALONE_REPORT),
+];
+
 #[test]
 fn clusters_draw_and_report(rt: HostRuntime) {
-    let two_white = b"P6\n2 1\n255\n\xff\xff\xff\xff\xff\xff".as_slice();
-    let white = b"P6\n1 1\n255\n\xff\xff\xff".as_slice();
-    let rows: [Case; 6] = [
-        (
-            &["render", "--tiles", "2x1", "--depth", "1"],
-            LAZY_STATE,
-            0,
-            two_white,
-            LAZY_REPORT,
-        ),
-        (
-            &["simulate", "--tiles", "2x1", "--seed", "7"],
-            LAZY_STATE,
-            0,
-            two_white,
-            LAZY_REPORT,
-        ),
-        (&["render"], BARRIER_IN_BLOCK, 0, white, BARRIER_REPORT),
-        (&["render"], NO_UNIT, 5, white, NO_UNIT_REPORT),
-        (&["render", "--order"], NO_UNIT, 5, white, NO_UNIT_IN_ORDER),
-        (&["render"], SWAP_ALONE, 5, b"", SWAP_ALONE_REPORT),
-    ];
-    for row in rows {
-        assert!(rt; leaves_of(&rt, rt.alloc(), row));
+    for case in &CASES {
+        assert!(rt; leaves_of(&rt, rt.alloc(), case));
     }
 }

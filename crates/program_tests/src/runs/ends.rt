@@ -1,11 +1,10 @@
 //! What no clause sees of a run: which calls of its ends it makes, and in which sequence.
 ghost use Rattle.std.specs.Prelude.{None};
 
-use super::{Host, finish_on, has_left, sink, source_of, words};
+use super::{Host, finish_by, finish_on, has_left, sink, source_of, whole_ends};
 use rc_base::gate::{Actor, Gate};
 use rc_base::in_memory::QuietSource;
 use rc_base::outside::{Failed, Sink, Source};
-use render_core::run;
 use std::alloc::Global;
 use std::sync::atomic::{AtomicU64, Ordering};
 use test_scenes::{RED_CLEAR, RED_CLEAR_TEXT, RED_FRAME};
@@ -27,34 +26,32 @@ fn passes(rt: &impl Host, alloc: Global, job: &[&str], input: &[u8]) -> u64 {
     let gate = CountingGate {
         passes: AtomicU64::new(0),
     };
-    let words = words(rt, alloc, job);
-    let mut source = source_of(rt, alloc, input, &[]);
-    let mut image = sink(rt, alloc, 64, &[]);
-    let mut notes = sink(rt, alloc, 64, &[]);
-    let _ = run(
-        *rt,
+    let mut left = whole_ends(rt, alloc, input);
+    let _ = finish_by(
+        rt,
         alloc,
-        words.as_slice(),
-        &mut source,
-        &mut image,
-        &mut notes,
+        job,
+        &mut left.source,
+        &mut left.image,
+        &mut left.notes,
         &gate,
     );
     gate.passes.load(Ordering::SeqCst)
 }
 
+const WITHOUT_THREADS: [(&[&str], &[u8]); 6] = [
+    (&["simulate", "--seed", "1"], &RED_CLEAR),
+    (&["serial"], &RED_CLEAR),
+    (&["check"], &RED_CLEAR),
+    (&["pack"], RED_CLEAR_TEXT),
+    (&["unpack"], &RED_CLEAR),
+    (&["draw"], &RED_CLEAR),
+];
+
 #[test]
 fn jobs_without_threads_pass_no_gate(rt: HostRuntime) {
-    let rows: [(&[&str], &[u8]); 6] = [
-        (&["simulate", "--seed", "1"], RED_CLEAR.as_slice()),
-        (&["serial"], RED_CLEAR.as_slice()),
-        (&["check"], RED_CLEAR.as_slice()),
-        (&["pack"], RED_CLEAR_TEXT),
-        (&["unpack"], RED_CLEAR.as_slice()),
-        (&["draw"], RED_CLEAR.as_slice()),
-    ];
-    for (job, input) in rows {
-        assert!(rt; passes(&rt, rt.alloc(), job, input) == 0);
+    for (job, input) in &WITHOUT_THREADS {
+        assert!(rt; passes(&rt, rt.alloc(), *job, *input) == 0);
     }
 }
 
@@ -82,11 +79,71 @@ impl Source for Terminal {
 }
 
 // A job, what its source gives before its end and behind it, and the status, image and notes that are left.
-type Row<'a> = (&'a [&'a str], &'a [u8], &'a [u8], u8, &'a [u8], &'a [u8]);
+type Row = (
+    &'static [&'static str],
+    &'static [u8],
+    &'static [u8],
+    u8,
+    &'static [u8],
+    &'static [u8],
+);
+
+// The red clear without its last byte, and that byte.
+const FRONT: &[u8] = b"RCS1\x02\0\x02\0\x01\0\0\0\x0a\0\0\0\x03\0\x16\x18\x24\xff\0\0\xff";
+
+const LAST: &[u8] = b"\x01";
+
+const CUT: &[u8] = b"rc: malformed Truncated at 25\n";
+
+const REPORT: &[u8] = b"tile 0 parcels 3 sets 1 looks 15\njournal 1\nframes 1\n";
+
+const SHORT_REPORT: &[u8] = b"journal 1\nframes 1\n";
+
+// With what comes behind it each of these inputs would be another one: two scenes, a whole scene, two swaps.
+const ROWS: [Row; 10] = [
+    (&["render"], &RED_CLEAR, &RED_CLEAR, 0, RED_FRAME, REPORT),
+    (&["render"], FRONT, LAST, 3, b"", CUT),
+    (
+        &["simulate", "--seed", "1"],
+        &RED_CLEAR,
+        &RED_CLEAR,
+        0,
+        RED_FRAME,
+        REPORT,
+    ),
+    (
+        &["serial"],
+        &RED_CLEAR,
+        &RED_CLEAR,
+        0,
+        RED_FRAME,
+        SHORT_REPORT,
+    ),
+    (&["check"], &RED_CLEAR, &RED_CLEAR, 0, b"", SHORT_REPORT),
+    (
+        &["check"],
+        b"",
+        &RED_CLEAR,
+        3,
+        b"",
+        b"rc: malformed Truncated at 0\n",
+    ),
+    (&["pack"], RED_CLEAR_TEXT, b"Swap\n", 0, &RED_CLEAR, b""),
+    (
+        &["pack"],
+        b"",
+        RED_CLEAR_TEXT,
+        3,
+        b"",
+        b"rc: malformed NoScene at 1\n",
+    ),
+    (&["unpack"], &RED_CLEAR, b"\0", 0, RED_CLEAR_TEXT, b""),
+    (&["unpack"], FRONT, LAST, 3, b"", CUT),
+];
 
 // Whether a run leaves this, and all that its source has behind the end.
-fn stops_at_the_end(rt: &impl Host, alloc: Global, row: Row) -> bool {
-    let (job, before, behind, status, image, notes) = row;
+fn stops_at_the_end(rt: &impl Host, alloc: Global, row: &Row) -> bool {
+    let (job, before, behind, status, image, notes) = *row;
     let mut source = Terminal {
         before: QuietSource::new(alloc, before, 1).expect(rt, "memory"),
         behind: QuietSource::new(alloc, behind, 64).expect(rt, "memory"),
@@ -102,48 +159,9 @@ fn stops_at_the_end(rt: &impl Host, alloc: Global, row: Row) -> bool {
         && has_left(alloc, &mut source.behind, behind)
 }
 
-// With what comes behind it each of these inputs would be another one: two scenes, a whole scene, two swaps.
 #[test]
 fn an_input_ends_at_its_first_end(rt: HostRuntime) {
-    let scene = RED_CLEAR.as_slice();
-    let report = b"tile 0 parcels 3 sets 1 looks 15\njournal 1\nframes 1\n".as_slice();
-    let short = b"journal 1\nframes 1\n".as_slice();
-    let cut = b"rc: malformed Truncated at 25\n".as_slice();
-    let none = b"".as_slice();
-    let rows: [Row; 10] = [
-        (&["render"], scene, scene, 0, RED_FRAME, report),
-        (&["render"], &scene[..25], &scene[25..], 3, none, cut),
-        (
-            &["simulate", "--seed", "1"],
-            scene,
-            scene,
-            0,
-            RED_FRAME,
-            report,
-        ),
-        (&["serial"], scene, scene, 0, RED_FRAME, short),
-        (&["check"], scene, scene, 0, none, short),
-        (
-            &["check"],
-            none,
-            scene,
-            3,
-            none,
-            b"rc: malformed Truncated at 0\n",
-        ),
-        (&["pack"], RED_CLEAR_TEXT, b"Swap\n", 0, scene, none),
-        (
-            &["pack"],
-            none,
-            RED_CLEAR_TEXT,
-            3,
-            none,
-            b"rc: malformed NoScene at 1\n",
-        ),
-        (&["unpack"], scene, b"\0", 0, RED_CLEAR_TEXT, none),
-        (&["unpack"], &scene[..25], &scene[25..], 3, none, cut),
-    ];
-    for row in rows {
+    for row in &ROWS {
         assert!(rt; stops_at_the_end(&rt, rt.alloc(), row));
     }
 }
@@ -198,23 +216,20 @@ fn taken(rt: &impl Host, alloc: Global, job: &[&str], input: &[u8]) -> (Option<u
     (notes.begun, count.load(Ordering::SeqCst))
 }
 
+// A job, its input, and how much the image has taken when the notes begin and in all.
+const BEGUN: [(&[&str], &[u8], Option<u64>, u64); 7] = [
+    (&["render"], &RED_CLEAR, Some(23), 23),
+    (&["simulate", "--seed", "1"], &RED_CLEAR, Some(23), 23),
+    (&["serial"], &RED_CLEAR, Some(23), 23),
+    (&["check"], &RED_CLEAR, Some(0), 0),
+    (&["pack"], RED_CLEAR_TEXT, None, 26),
+    (&["unpack"], &RED_CLEAR, None, 55),
+    (&["unpack"], RED_CLEAR_TEXT, Some(0), 0),
+];
+
 #[test]
 fn notes_begin_behind_the_whole_image(rt: HostRuntime) {
-    let rows: [(&[&str], &[u8], Option<u64>, u64); 7] = [
-        (&["render"], RED_CLEAR.as_slice(), Some(23), 23),
-        (
-            &["simulate", "--seed", "1"],
-            RED_CLEAR.as_slice(),
-            Some(23),
-            23,
-        ),
-        (&["serial"], RED_CLEAR.as_slice(), Some(23), 23),
-        (&["check"], RED_CLEAR.as_slice(), Some(0), 0),
-        (&["pack"], RED_CLEAR_TEXT, None, 26),
-        (&["unpack"], RED_CLEAR.as_slice(), None, 55),
-        (&["unpack"], RED_CLEAR_TEXT, Some(0), 0),
-    ];
-    for (job, input, begun, whole) in rows {
-        assert!(rt; taken(&rt, rt.alloc(), job, input) == (begun, whole));
+    for (job, input, begun, whole) in &BEGUN {
+        assert!(rt; taken(&rt, rt.alloc(), *job, *input) == (*begun, *whole));
     }
 }

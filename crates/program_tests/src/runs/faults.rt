@@ -4,7 +4,7 @@
 //! By one byte a call the red clear is 27 takes, of which the last one finds the end, its frame is 23 puts, and its report 52.
 ghost use Rattle.std.specs.Prelude.{◌<◌};
 
-use super::{Host, Left, has_left, left_on, sink};
+use super::{Host, Left, ends_of, has_left, left_on, sink};
 use rc_base::in_memory::MemSource;
 use rc_base::transfer::read_all;
 use std::alloc::Global;
@@ -91,18 +91,16 @@ fn left_by(
     requires { 0 < step }
 {
     let (take, image, notes) = fails;
-    left_on(
-        rt,
-        alloc,
-        job,
+    let ends = ends_of(
         MemSource::new(alloc, input, step, &[take]).expect(rt, "memory"),
         sink(rt, alloc, step, &[image]),
         sink(rt, alloc, step, &[notes]),
-    )
+    );
+    left_on(rt, alloc, job, ends)
 }
 
 // Whether a source that fails behind so many takes ends its run, with nothing put to the image, and keeps what it didn't give.
-fn ends_reading(rt: &impl Host, alloc: Global, row: Row, step: usize, takes: usize) -> bool
+fn ends_reading(rt: &impl Host, alloc: Global, row: &Row, step: usize, takes: usize) -> bool
     requires { 0 < step }
 {
     let given = takes.saturating_mul(step).min(row.input.len());
@@ -111,19 +109,27 @@ fn ends_reading(rt: &impl Host, alloc: Global, row: Row, step: usize, takes: usi
     left.is(2, b"", b"rc: read fault\n") && has_left(alloc, &mut left.source, &row.input[given..])
 }
 
+// Whether notes tell that the image failed behind so many bytes.
+fn tells_of(rt: &impl Host, alloc: Global, notes: &[u8], done: usize) -> bool {
+    let line = format!(in alloc; "rc: image fault after {done} bytes\n").expect(rt, "memory");
+    notes == line.as_bytes()
+}
+
 // Whether an image that fails behind so many puts has what they took, and the notes tell alone how much that is.
-fn cuts_the_image(rt: &impl Host, alloc: Global, row: Row, step: usize, puts: usize) -> bool
+fn cuts_the_image(rt: &impl Host, alloc: Global, row: &Row, step: usize, puts: usize) -> bool
     requires { 0 < step }
 {
     let done = puts.saturating_mul(step).min(row.image.len());
-    let line = format!(in alloc; "rc: image fault after {done} bytes\n").expect(rt, "memory");
     let fails = (0, next(puts), 0);
     let mut left = left_by(rt, alloc, row.job, row.input, step, fails);
-    left.is(6, &row.image[..done], line.as_bytes()) && has_left(alloc, &mut left.source, b"")
+    left.status == 6
+        && left.image.bytes() == &row.image[..done]
+        && tells_of(rt, alloc, left.notes.bytes(), done)
+        && has_left(alloc, &mut left.source, b"")
 }
 
 // Whether notes that fail behind so many puts have what they took, and the image is whole.
-fn cuts_the_notes(rt: &impl Host, alloc: Global, row: Row, step: usize, puts: usize) -> bool
+fn cuts_the_notes(rt: &impl Host, alloc: Global, row: &Row, step: usize, puts: usize) -> bool
     requires { 0 < step }
 {
     let done = puts.saturating_mul(step).min(row.notes.len());
@@ -141,7 +147,7 @@ enum End {
 }
 
 // How many calls of an end are due: those that carry its bytes, and of the source the one that finds its end.
-fn calls_of(row: Row, end: End, step: usize) -> usize
+fn calls_of(row: &Row, end: End, step: usize) -> usize
     requires { 0 < step }
 {
     match end {
@@ -152,7 +158,7 @@ fn calls_of(row: Row, end: End, step: usize) -> usize
 }
 
 // Whether the run ends as it has to where this end fails, at each call that is due, by so many bytes a call.
-fn may_fail_by(rt: &impl Host, alloc: Global, row: Row, end: End, step: usize) -> bool
+fn may_fail_by(rt: &impl Host, alloc: Global, row: &Row, end: End, step: usize) -> bool
     requires { 0 < step }
 {
     for calls in 0..calls_of(row, end, step) {
@@ -169,7 +175,7 @@ fn may_fail_by(rt: &impl Host, alloc: Global, row: Row, end: End, step: usize) -
 }
 
 // The same by one byte a call, by some, and by so many that each text is one call.
-fn may_fail(rt: &impl Host, alloc: Global, row: Row, end: End) -> bool {
+fn may_fail(rt: &impl Host, alloc: Global, row: &Row, end: End) -> bool {
     may_fail_by(rt, alloc, row, end, 1)
         && may_fail_by(rt, alloc, row, end, 4)
         && may_fail_by(rt, alloc, row, end, 64)
@@ -177,27 +183,27 @@ fn may_fail(rt: &impl Host, alloc: Global, row: Row, end: End) -> bool {
 
 #[test]
 fn a_source_may_fail_at_each_take(rt: HostRuntime) {
-    for row in ROWS {
+    for row in &ROWS {
         assert!(rt; may_fail(&rt, rt.alloc(), row, End::Source));
     }
 }
 
 #[test]
 fn an_image_may_fail_at_each_put(rt: HostRuntime) {
-    for row in ROWS {
+    for row in &ROWS {
         assert!(rt; may_fail(&rt, rt.alloc(), row, End::Image));
     }
 }
 
 #[test]
 fn notes_may_fail_at_each_put(rt: HostRuntime) {
-    for row in ROWS {
+    for row in &ROWS {
         assert!(rt; may_fail(&rt, rt.alloc(), row, End::Notes));
     }
 }
 
 // Whether a run is whole where each end fails at the call behind the last one that is due. That call of the source is left to whoever takes next.
-fn is_whole(rt: &impl Host, alloc: Global, row: Row, step: usize) -> bool
+fn is_whole(rt: &impl Host, alloc: Global, row: &Row, step: usize) -> bool
     requires { 0 < step }
 {
     let fails = (
@@ -211,7 +217,7 @@ fn is_whole(rt: &impl Host, alloc: Global, row: Row, step: usize) -> bool
 
 #[test]
 fn no_call_is_made_behind_the_last(rt: HostRuntime) {
-    for row in ROWS {
+    for row in &ROWS {
         assert!(rt; is_whole(&rt, rt.alloc(), row, 1));
         assert!(rt; is_whole(&rt, rt.alloc(), row, 4));
         assert!(rt; is_whole(&rt, rt.alloc(), row, 64));
@@ -338,8 +344,8 @@ const CASES: [Case; 18] = [
 ];
 
 // Whether the case's run leaves what it says.
-fn is_left(rt: &impl Host, alloc: Global, case: Case) -> bool {
-    let (job, input, fails, status, image, notes, taken) = case;
+fn is_left(rt: &impl Host, alloc: Global, case: &Case) -> bool {
+    let (job, input, fails, status, image, notes, taken) = *case;
     let mut left = left_by(rt, alloc, &[job], input, 1, fails);
     left.is(status, image, notes)
         && has_left(alloc, &mut left.source, &input[taken.min(input.len())..])
@@ -347,7 +353,7 @@ fn is_left(rt: &impl Host, alloc: Global, case: Case) -> bool {
 
 #[test]
 fn the_first_refusal_is_told(rt: HostRuntime) {
-    for case in CASES {
+    for case in &CASES {
         assert!(rt; is_left(&rt, rt.alloc(), case));
     }
 }

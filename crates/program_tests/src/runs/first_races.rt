@@ -1,5 +1,5 @@
 //! Which race `race` tells where there are several, and what touches, samples and orders.
-use super::leaves_of;
+use super::{Case, leaves_of};
 
 // Clients 0 and 1 draw on both sides of a barrier, client 2 without one, behind a barrier of its own.
 const TWO_CLIENTS_RACE_WITH_ONE: &[u8] = b"scene 1 1 1
@@ -202,57 +202,104 @@ End
 Swap
 ";
 
-#[test]
-fn one_race_of_several_is_told(rt: HostRuntime) {
-    let rows = [
-        (
-            TWO_CLIENTS_RACE_WITH_ONE,
-            "journal 3\nframes 1\nrace 0 0 2 1 pixel 0 0\n",
-        ),
-        (
-            TWO_PLACES_RACE_WITH_ONE,
-            "journal 1\nframes 1\nrace 0 1 1 0 pixel 0 0\n",
-        ),
-        (
-            TEXTURE_THEN_PIXEL,
-            "journal 1\nframes 1\nrace 0 1 1 6 pixel 0 0\n",
-        ),
-        (
-            UPPER_RIGHT_HALF,
-            "journal 1\nframes 1\nrace 0 0 1 4 pixel 1 0\n",
-        ),
-        (
-            BOXES_THAT_MEET,
-            "journal 1\nframes 1\nrace 0 2 1 2 pixel 2 0\n",
-        ),
-        (
-            UNIT_WITHOUT_A_GIVER,
-            "journal 3\nframes 1\nrace 0 0 1 1 pixel 0 0\n",
-        ),
-        (
-            HIDDEN_TRIANGLE,
-            "journal 1\nframes 1\nrace 0 0 1 6 pixel 0 0\n",
-        ),
-        (TWO_WRITERS, "journal 1\nframes 1\nrace 0 0 1 0 shared 1\n"),
-        (
-            CUT_TRIANGLE,
-            "journal 1\nframes 1\nrace 0 0 1 4 pixel 0 0\n",
-        ),
-    ];
-    for (text, report) in rows {
-        assert!(rt; leaves_of(&rt, rt.alloc(), (&["race"], text, 11, b"", report)));
-    }
-}
+const RACES: [Case; 13] = [
+    (
+        &["race"],
+        TWO_CLIENTS_RACE_WITH_ONE,
+        11,
+        b"",
+        "journal 3\nframes 1\nrace 0 0 2 1 pixel 0 0\n",
+    ),
+    (
+        &["race"],
+        TWO_PLACES_RACE_WITH_ONE,
+        11,
+        b"",
+        "journal 1\nframes 1\nrace 0 1 1 0 pixel 0 0\n",
+    ),
+    (
+        &["race"],
+        TEXTURE_THEN_PIXEL,
+        11,
+        b"",
+        "journal 1\nframes 1\nrace 0 1 1 6 pixel 0 0\n",
+    ),
+    (
+        &["race"],
+        UPPER_RIGHT_HALF,
+        11,
+        b"",
+        "journal 1\nframes 1\nrace 0 0 1 4 pixel 1 0\n",
+    ),
+    (
+        &["race"],
+        BOXES_THAT_MEET,
+        11,
+        b"",
+        "journal 1\nframes 1\nrace 0 2 1 2 pixel 2 0\n",
+    ),
+    (
+        &["race"],
+        UNIT_WITHOUT_A_GIVER,
+        11,
+        b"",
+        "journal 3\nframes 1\nrace 0 0 1 1 pixel 0 0\n",
+    ),
+    (
+        &["race"],
+        HIDDEN_TRIANGLE,
+        11,
+        b"",
+        "journal 1\nframes 1\nrace 0 0 1 6 pixel 0 0\n",
+    ),
+    (
+        &["race"],
+        TWO_WRITERS,
+        11,
+        b"",
+        "journal 1\nframes 1\nrace 0 0 1 0 shared 1\n",
+    ),
+    (
+        &["race"],
+        CUT_TRIANGLE,
+        11,
+        b"",
+        "journal 1\nframes 1\nrace 0 0 1 4 pixel 0 0\n",
+    ),
+    (
+        &["race"],
+        BOXES_SIDE_BY_SIDE,
+        0,
+        b"",
+        "journal 1\nframes 1\nrace none\n",
+    ),
+    (
+        &["race"],
+        UNIT_WITH_A_GIVER,
+        0,
+        b"",
+        "journal 3\nframes 1\nrace none\n",
+    ),
+    (
+        &["race"],
+        SAMPLED_OUTSIDE,
+        0,
+        b"",
+        "journal 1\nframes 1\nrace none\n",
+    ),
+    (
+        &["race"],
+        TWO_READERS,
+        0,
+        b"",
+        "journal 1\nframes 1\nrace none\n",
+    ),
+];
 
+// One race of several is told, and what meets nothing is none.
 #[test]
-fn what_meets_nothing_is_no_race(rt: HostRuntime) {
-    let rows = [
-        (BOXES_SIDE_BY_SIDE, "journal 1\nframes 1\nrace none\n"),
-        (UNIT_WITH_A_GIVER, "journal 3\nframes 1\nrace none\n"),
-        (SAMPLED_OUTSIDE, "journal 1\nframes 1\nrace none\n"),
-        (TWO_READERS, "journal 1\nframes 1\nrace none\n"),
-    ];
-    for (text, report) in rows {
-        assert!(rt; leaves_of(&rt, rt.alloc(), (&["race"], text, 0, b"", report)));
+fn the_first_race_is_told(rt: HostRuntime) {
+    for case in &RACES {
+        assert!(rt; leaves_of(&rt, rt.alloc(), case));
     }
 }

@@ -1,5 +1,5 @@
 //! Scenes that are made of a seed.
-use super::{Host, left_on, run_on, sink, source_of};
+use super::{Case, Host, ends_of, leaves, left_on, run_on, sink, source_of};
 use rc_base::command::Command;
 use rc_base::in_memory::MemSink;
 use rc_base::scene::Scene;
@@ -26,40 +26,54 @@ fn seed_7_begins_with_red_40(rt: HostRuntime) {
     assert!(rt; first_red(&scene) == Some(40));
 }
 
-// Whether a job is refused by a limit, in this line.
-fn is_refused(rt: &impl Host, alloc: Global, job: &[&str], line: &str) -> bool {
-    run_on(rt, alloc, job, b"").is(4, b"", line.as_bytes())
-}
-
 // Tiles and depth are judged before the size.
+const SIZES: [Case; 5] = [
+    (
+        &["gen", "--seed", "1", "--size", "0"],
+        b"",
+        4,
+        b"",
+        "rc: limit size 0\n",
+    ),
+    (
+        &["gen", "--size", "4097", "--seed", "7"],
+        b"",
+        4,
+        b"",
+        "rc: limit size 4097\n",
+    ),
+    (
+        &["demo", "--seed", "7", "--size", "4097"],
+        b"",
+        4,
+        b"",
+        "rc: limit size 4097\n",
+    ),
+    (
+        &["demo", "--seed", "7", "--size", "0", "--tiles", "9x1"],
+        b"",
+        4,
+        b"",
+        "rc: limit tile columns 9\n",
+    ),
+    (
+        &["demo", "--depth", "17", "--seed", "7", "--size", "4097"],
+        b"",
+        4,
+        b"",
+        "rc: limit depth 17\n",
+    ),
+];
+
 #[test]
 fn sizes_outside_their_range_are_refused(rt: HostRuntime) {
-    let rows: [(&[&str], &str); 5] = [
-        (&["gen", "--seed", "1", "--size", "0"], "rc: limit size 0\n"),
-        (
-            &["gen", "--size", "4097", "--seed", "7"],
-            "rc: limit size 4097\n",
-        ),
-        (
-            &["demo", "--seed", "7", "--size", "4097"],
-            "rc: limit size 4097\n",
-        ),
-        (
-            &["demo", "--seed", "7", "--size", "0", "--tiles", "9x1"],
-            "rc: limit tile columns 9\n",
-        ),
-        (
-            &["demo", "--depth", "17", "--seed", "7", "--size", "4097"],
-            "rc: limit depth 17\n",
-        ),
-    ];
-    for (job, line) in rows {
-        assert!(rt; is_refused(&rt, rt.alloc(), job, line));
+    for case in &SIZES {
+        assert!(rt; leaves(&rt, rt.alloc(), case));
     }
 }
 
-// Whether a job ends with status 0 and leaves this image and these notes.
-fn leaves(
+// Whether a job is done and leaves this image and these notes.
+fn makes(
     rt: &impl Host,
     alloc: Global,
     job: &[&str],
@@ -77,7 +91,7 @@ fn has_one_image(rt: &impl Host, alloc: Global, bytes: &[u8]) -> bool {
     let stepped = ["simulate", "--seed", "3", "--tiles", "8x4"];
     render.status == 0
         && image.len() == 196_623
-        && leaves(
+        && makes(
             rt,
             alloc,
             &["serial"],
@@ -85,22 +99,18 @@ fn has_one_image(rt: &impl Host, alloc: Global, bytes: &[u8]) -> bool {
             image,
             b"journal 201\nframes 1\n",
         )
-        && leaves(rt, alloc, &stepped, bytes, image, render.notes.bytes())
+        && makes(rt, alloc, &stepped, bytes, image, render.notes.bytes())
 }
 
 // The bytes of the scene of a seed. The source isn't asked: it would fail at its first take.
 fn made(rt: &impl Host, alloc: Global, seed: &str, size: &str) -> MemSink {
     let job = ["gen", "--seed", seed, "--size", size];
-    let source = source_of(rt, alloc, b"RCS1", &[1]);
-    left_on(
-        rt,
-        alloc,
-        &job,
-        source,
+    let ends = ends_of(
+        source_of(rt, alloc, b"RCS1", &[1]),
         sink(rt, alloc, 64, &[]),
         sink(rt, alloc, 64, &[]),
-    )
-    .image
+    );
+    left_on(rt, alloc, &job, ends).image
 }
 
 #[test]
@@ -112,7 +122,7 @@ fn a_generated_scene_has_one_image(rt: HostRuntime) {
 // Whether a scene's text is read again as that scene.
 fn is_read_again(rt: &impl Host, alloc: Global, bytes: &[u8]) -> bool {
     let text = run_on(rt, alloc, &["unpack"], bytes);
-    text.status == 0 && leaves(rt, alloc, &["pack"], text.image.bytes(), bytes, b"")
+    text.status == 0 && makes(rt, alloc, &["pack"], text.image.bytes(), bytes, b"")
 }
 
 #[test]
@@ -148,9 +158,9 @@ fn is_the_same(rt: &impl Host, alloc: Global, scene: &[u8]) -> bool {
         && notes.ends_with(b"journal 1025\nframes 1\n")
         && lines_of(notes, b"tile ") == 16
         && lines_of(notes, b"") == 18
-        && leaves(rt, alloc, &DEMO, b"", image, notes)
-        && leaves(rt, alloc, &narrow, b"", image, notes)
-        && leaves(
+        && makes(rt, alloc, &DEMO, b"", image, notes)
+        && makes(rt, alloc, &narrow, b"", image, notes)
+        && makes(
             rt,
             alloc,
             &["serial"],

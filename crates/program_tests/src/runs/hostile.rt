@@ -53,33 +53,36 @@ fn refuse_filled(
     true
 }
 
+const PAST: &str = "rc: limit scene bytes 33554433\n";
+
+const NO_MAGIC: &str = "rc: malformed BadMagic at 0\n";
+
+const AT_THE_LIMIT: [(usize, u8, &[(&str, u8, &str)]); 3] = [
+    (
+        33554433,
+        0,
+        &[("render", 4, PAST), ("pack", 4, PAST), ("unpack", 4, PAST)],
+    ),
+    (
+        33554432,
+        0,
+        &[
+            ("render", 3, NO_MAGIC),
+            ("unpack", 3, NO_MAGIC),
+            ("pack", 3, "rc: malformed NotText at 1\n"),
+        ],
+    ),
+    (
+        33554432,
+        b' ',
+        &[("pack", 3, "rc: malformed NoScene at 1\n")],
+    ),
+];
+
 #[test]
 fn inputs_end_at_the_limit(rt: HostRuntime) {
-    let past = "rc: limit scene bytes 33554433\n";
-    let magic = "rc: malformed BadMagic at 0\n";
-    let rows: [(usize, u8, &[(&str, u8, &str)]); 3] = [
-        (
-            33554433,
-            0,
-            &[("render", 4, past), ("pack", 4, past), ("unpack", 4, past)],
-        ),
-        (
-            33554432,
-            0,
-            &[
-                ("render", 3, magic),
-                ("unpack", 3, magic),
-                ("pack", 3, "rc: malformed NotText at 1\n"),
-            ],
-        ),
-        (
-            33554432,
-            b' ',
-            &[("pack", 3, "rc: malformed NoScene at 1\n")],
-        ),
-    ];
-    for (len, byte, jobs) in rows {
-        assert!(rt; refuse_filled(&rt, rt.alloc(), len, byte, jobs));
+    for (len, byte, jobs) in &AT_THE_LIMIT {
+        assert!(rt; refuse_filled(&rt, rt.alloc(), *len, *byte, *jobs));
     }
 }
 
@@ -91,24 +94,25 @@ const NO_TEXEL: &[u8] =
 const TEXEL_BEHIND: &[u8] =
     b"RCS1\x01\x00\x01\x00\x01\x00\x00\x00\x08\x00\x00\x00\x01\x00\x1e\x01\xff\xff\xff\xff\x00\x00\x00\x00";
 
+const ANNOUNCED: [(&str, &[u8], &str); 4] = [
+    ("unpack", NO_TEXEL, "rc: malformed Truncated at 24\n"),
+    ("unpack", TEXEL_BEHIND, "rc: malformed Truncated at 24\n"),
+    (
+        "pack",
+        b"scene 1 1 1\nclient\nTexImage 1 65535 65535\n",
+        "rc: malformed WrongCount at 3\n",
+    ),
+    (
+        "pack",
+        b"scene 1 1 1\nclient\nTexImage 1 65535 65535 00000000\n",
+        "rc: malformed BadHex at 3\n",
+    ),
+];
+
 #[test]
 fn what_is_announced_has_to_come(rt: HostRuntime) {
-    let rows: [(&str, &[u8], &str); 4] = [
-        ("unpack", NO_TEXEL, "rc: malformed Truncated at 24\n"),
-        ("unpack", TEXEL_BEHIND, "rc: malformed Truncated at 24\n"),
-        (
-            "pack",
-            b"scene 1 1 1\nclient\nTexImage 1 65535 65535\n",
-            "rc: malformed WrongCount at 3\n",
-        ),
-        (
-            "pack",
-            b"scene 1 1 1\nclient\nTexImage 1 65535 65535 00000000\n",
-            "rc: malformed BadHex at 3\n",
-        ),
-    ];
-    for (job, input, line) in rows {
-        assert!(rt; notes(&rt, rt.alloc(), &[job], input, 3, line));
+    for (job, input, line) in &ANNOUNCED {
+        assert!(rt; notes(&rt, rt.alloc(), &[*job], *input, 3, *line));
     }
 }
 
@@ -118,17 +122,19 @@ fn refuses_words(rt: &impl Host, alloc: Global, front: &[u8], word: &[u8], line:
     notes(rt, alloc, &["pack"], text.as_slice(), 3, line)
 }
 
+const WRONG_COUNT: &str = "rc: malformed WrongCount at 3\n";
+
+const MILLIONS: [(&[u8], &[u8], &str); 4] = [
+    (b"scene 1 1 1\nclient\nClear", b" 1", WRONG_COUNT),
+    (b"scene 1 1 1\nclient\n", b"Swap ", WRONG_COUNT),
+    (b"", b"a ", "rc: malformed UnknownWord at 1\n"),
+    (b"", b"#\n", "rc: malformed NoScene at 1\n"),
+];
+
 #[test]
 fn lines_of_a_million_words_are_told(rt: HostRuntime) {
-    let counts = "rc: malformed WrongCount at 3\n";
-    let rows: [(&[u8], &[u8], &str); 4] = [
-        (b"scene 1 1 1\nclient\nClear", b" 1", counts),
-        (b"scene 1 1 1\nclient\n", b"Swap ", counts),
-        (b"", b"a ", "rc: malformed UnknownWord at 1\n"),
-        (b"", b"#\n", "rc: malformed NoScene at 1\n"),
-    ];
-    for (front, word, line) in rows {
-        assert!(rt; refuses_words(&rt, rt.alloc(), front, word, line));
+    for (front, word, line) in &MILLIONS {
+        assert!(rt; refuses_words(&rt, rt.alloc(), *front, *word, *line));
     }
 }
 
@@ -149,37 +155,41 @@ fn swaps(rt: &impl Abort, alloc: Global, count: u16) -> Vec<u8> {
     bytes
 }
 
+// A job, how many Swaps it is given, and its status and notes.
+type Counted = (&'static [&'static str], u16, u8, &'static str);
+
+// `serial`, `last` and `simulate` hold all frames at once, up to eight of the largest window; a scene may have 512 of them.
+const COUNTED: [Counted; 8] = [
+    (&["check"], 9, 0, "journal 9\nframes 9\n"),
+    (&["serial"], 9, 4, "rc: limit held pixels 37748736\n"),
+    (&["last"], 9, 4, "rc: limit held pixels 37748736\n"),
+    (
+        &["simulate", "--seed", "1"],
+        9,
+        4,
+        "rc: limit held pixels 37748736\n",
+    ),
+    (
+        &["simulate", "--seed", "1", "--depth", "17"],
+        9,
+        4,
+        "rc: limit depth 17\n",
+    ),
+    (&["check"], 512, 0, "journal 512\nframes 512\n"),
+    (&["check"], 513, 4, "rc: limit pixels 2151677952\n"),
+    (&["serial"], 513, 4, "rc: limit pixels 2151677952\n"),
+];
+
 // A run of the scene of so many Swaps that ends with this status and notes these lines, and whose image stays empty.
-fn notes_swaps(rt: &impl Host, alloc: Global, row: (&[&str], u16, u8, &str)) -> bool {
-    let (job, count, status, lines) = row;
+fn notes_swaps(rt: &impl Host, alloc: Global, row: &Counted) -> bool {
+    let (job, count, status, lines) = *row;
     let scene = swaps(rt, alloc, count);
     notes(rt, alloc, job, scene.as_slice(), status, lines)
 }
 
-// `serial`, `last` and `simulate` hold all frames at once, up to eight of the largest window; a scene may have 512 of them.
 #[test]
 fn frames_of_the_largest_window_are_counted(rt: HostRuntime) {
-    let rows: [(&[&str], u16, u8, &str); 8] = [
-        (&["check"], 9, 0, "journal 9\nframes 9\n"),
-        (&["serial"], 9, 4, "rc: limit held pixels 37748736\n"),
-        (&["last"], 9, 4, "rc: limit held pixels 37748736\n"),
-        (
-            &["simulate", "--seed", "1"],
-            9,
-            4,
-            "rc: limit held pixels 37748736\n",
-        ),
-        (
-            &["simulate", "--seed", "1", "--depth", "17"],
-            9,
-            4,
-            "rc: limit depth 17\n",
-        ),
-        (&["check"], 512, 0, "journal 512\nframes 512\n"),
-        (&["check"], 513, 4, "rc: limit pixels 2151677952\n"),
-        (&["serial"], 513, 4, "rc: limit pixels 2151677952\n"),
-    ];
-    for row in rows {
+    for row in &COUNTED {
         assert!(rt; notes_swaps(&rt, rt.alloc(), row));
     }
 }

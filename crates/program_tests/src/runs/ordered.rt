@@ -1,7 +1,7 @@
 //! Ordered scenes by three patterns: each has one image, that of the serial renderer, whatever the tiles, the depth and the schedule.
 ghost use Rattle.std.specs.Prelude.{◌<◌};
 
-use super::{Host, Left, run_on};
+use super::{Host, run_on};
 use std::alloc::Global;
 use test_scenes::BLENDED_AT_ONCE;
 
@@ -19,7 +19,7 @@ enum Pattern {
 // A pattern, with so many clients and rounds.
 type Row = (Pattern, u32, u32);
 
-const ROWS: [Row; 30] = [
+const BANDS: [Row; 10] = [
     (Pattern::Bands, 2, 1),
     (Pattern::Bands, 2, 2),
     (Pattern::Bands, 2, 5),
@@ -30,6 +30,9 @@ const ROWS: [Row; 30] = [
     (Pattern::Bands, 6, 4),
     (Pattern::Bands, 7, 2),
     (Pattern::Bands, 8, 3),
+];
+
+const TEXTURES: [Row; 10] = [
     (Pattern::Texture, 2, 1),
     (Pattern::Texture, 2, 2),
     (Pattern::Texture, 2, 4),
@@ -40,6 +43,9 @@ const ROWS: [Row; 30] = [
     (Pattern::Texture, 6, 2),
     (Pattern::Texture, 7, 1),
     (Pattern::Texture, 8, 2),
+];
+
+const FRAMES: [Row; 10] = [
     (Pattern::Frames, 2, 1),
     (Pattern::Frames, 2, 2),
     (Pattern::Frames, 2, 4),
@@ -78,13 +84,22 @@ fn add_triangle(rt: &impl Host, text: &mut Vec<u8>, clients: u32) {
     }
 }
 
+// A line of a word and numbers.
+fn add_line(rt: &impl Host, alloc: Global, text: &mut Vec<u8>, word: &str, numbers: &[u32]) {
+    add(rt, text, word);
+    for number in numbers {
+        let number = format!(in alloc; " {number}").expect(rt, "memory");
+        add(rt, text, number.as_str());
+    }
+    add(rt, text, "\n");
+}
+
 // A client's colour in a round, half transparent.
 fn add_color(rt: &impl Host, alloc: Global, text: &mut Vec<u8>, client: u32, round: u32) {
     let red = client.wrapping_mul(31) % 256;
     let green = round.wrapping_mul(53) % 256;
     let blue = client.wrapping_add(round).wrapping_mul(71) % 256;
-    let line = format!(in alloc; "Color {red} {green} {blue} 128\n").expect(rt, "memory");
-    add(rt, text, line.as_str());
+    add_line(rt, alloc, text, "Color", &[red, green, blue, 128]);
 }
 
 // Two columns of pixels, which are a client's in a round.
@@ -99,8 +114,7 @@ fn add_band(
     requires { 0 < clients }
 {
     let left = client.wrapping_add(round) % clients % 8 * 2;
-    let line = format!(in alloc; "Scissor {left} 0 2 8\n").expect(rt, "memory");
-    add(rt, text, line.as_str());
+    add_line(rt, alloc, text, "Scissor", &[left, 0, 2, 8]);
     add_color(rt, alloc, text, client, round);
     add_triangle(rt, text, clients);
 }
@@ -124,6 +138,12 @@ fn add_painter(
     }
 }
 
+// A write of the texture, of one texel with two digits that change.
+fn add_write(rt: &impl Host, alloc: Global, text: &mut Vec<u8>, texel: u32) {
+    let line = format!(in alloc; "SharedImage 1 0 0 1 1 {texel}ff{texel}c0\n").expect(rt, "memory");
+    add(rt, text, line.as_str());
+}
+
 // A client that waits in each round for its unit, blends with the texture over the window, writes it, and gives the next client its unit.
 fn add_relay(rt: &impl Host, alloc: Global, text: &mut Vec<u8>, row: Row, client: u32)
     requires { 0 < row.1 }
@@ -136,20 +156,13 @@ fn add_relay(rt: &impl Host, alloc: Global, text: &mut Vec<u8>, row: Row, client
     );
     let own = client.wrapping_add(1);
     let next = own % clients;
-    let next = next.wrapping_add(1);
     for round in 0..rounds {
-        let take = format!(in alloc; "SemP {own}\n").expect(rt, "memory");
-        add(rt, text, take.as_str());
+        add_line(rt, alloc, text, "SemP", &[own]);
         add_color(rt, alloc, text, client, round);
         add_triangle(rt, text, clients);
         let texel = client.wrapping_mul(29).wrapping_add(round) % 90;
-        let texel = texel.wrapping_add(10);
-        let write = format!(in alloc; "SharedImage 1 0 0 1 1 {texel}ff{texel}c0\n").expect(
-            rt, "memory",
-        );
-        add(rt, text, write.as_str());
-        let give = format!(in alloc; "SemV {next}\n").expect(rt, "memory");
-        add(rt, text, give.as_str());
+        add_write(rt, alloc, text, texel.wrapping_add(10));
+        add_line(rt, alloc, text, "SemV", &[next.wrapping_add(1)]);
     }
 }
 
@@ -166,8 +179,7 @@ fn scene_of(rt: &impl Host, alloc: Global, row: Row) -> Vec<u8>
     }
     match pattern {
         Pattern::Bands => {
-            let line = format!(in alloc; "barrier {clients}\n").expect(rt, "memory");
-            add(rt, &mut text, line.as_str());
+            add_line(rt, alloc, &mut text, "barrier", &[clients]);
             for client in 0..clients {
                 add_painter(rt, alloc, &mut text, row, client, "Barrier 1\n");
                 add(rt, &mut text, "Swap\n");
@@ -192,10 +204,35 @@ fn scene_of(rt: &impl Host, alloc: Global, row: Row) -> Vec<u8>
     text
 }
 
-// Whether a run of the scene's bytes is whole, and shows what the serial renderer shows.
-fn shows(rt: &impl Host, alloc: Global, job: &[&str], bytes: &[u8], serial: &Left) -> bool {
+// Whether a run of the scene's bytes is whole, and shows this image.
+fn shows(rt: &impl Host, alloc: Global, job: &[&str], bytes: &[u8], image: &[u8]) -> bool {
     let left = run_on(rt, alloc, job, bytes);
-    left.status == 0 && left.image.bytes() == serial.image.bytes()
+    left.status == 0 && left.image.bytes() == image
+}
+
+// Whether both clusters show it, on these tiles with lanes of this depth.
+fn show(
+    rt: &impl Host,
+    alloc: Global,
+    (tiles, depth): (&str, &str),
+    bytes: &[u8],
+    image: &[u8],
+) -> bool {
+    let render = ["render", "--tiles", tiles, "--depth", depth];
+    let simulate = [
+        "simulate", "--seed", depth, "--tiles", tiles, "--depth", depth,
+    ];
+    shows(rt, alloc, &render, bytes, image) && shows(rt, alloc, &simulate, bytes, image)
+}
+
+// Whether they show it on several tiles with lanes of several depths.
+fn all_show(rt: &impl Host, alloc: Global, bytes: &[u8], image: &[u8]) -> bool {
+    for run in &RUNS {
+        if !show(rt, alloc, *run, bytes, image) {
+            return false;
+        }
+    }
+    true
 }
 
 // Whether the scene is drawn alike by the serial renderer, by clusters of several tiles and depths, and on several schedules.
@@ -203,46 +240,38 @@ fn is_one_image(rt: &impl Host, alloc: Global, text: &[u8]) -> bool {
     let packed = run_on(rt, alloc, &["pack"], text);
     let bytes = packed.image.bytes();
     let serial = run_on(rt, alloc, &["serial"], bytes);
-    if serial.status != 0 || serial.image.bytes().is_empty() {
-        return false;
-    }
-    for (tiles, depth) in RUNS {
-        let render = ["render", "--tiles", tiles, "--depth", depth];
-        let simulate = [
-            "simulate", "--seed", depth, "--tiles", tiles, "--depth", depth,
-        ];
-        if !shows(rt, alloc, &render, bytes, &serial)
-            || !shows(rt, alloc, &simulate, bytes, &serial)
-        {
-            return false;
-        }
-    }
-    true
+    let image = serial.image.bytes();
+    serial.status == 0 && !image.is_empty() && all_show(rt, alloc, bytes, image)
 }
 
-// Whether all scenes of a pattern are.
-fn are_one_image(rt: &impl Host, alloc: Global, from: usize, to: usize) -> bool {
-    for row in &ROWS[from.min(30)..to.min(30).max(from.min(30))] {
-        if row.1 == 0 || !is_one_image(rt, alloc, scene_of(rt, alloc, *row).as_slice()) {
-            return false;
-        }
+// Whether the scene of a pattern is.
+fn is_one(rt: &impl Host, alloc: Global, row: &Row) -> bool {
+    if row.1 == 0 {
+        return false;
     }
-    true
+    let text = scene_of(rt, alloc, *row);
+    is_one_image(rt, alloc, text.as_slice())
 }
 
 #[test]
 fn bands_between_barriers_have_one_image(rt: HostRuntime) {
-    assert!(rt; are_one_image(&rt, rt.alloc(), 0, 10));
+    for row in &BANDS {
+        assert!(rt; is_one(&rt, rt.alloc(), row));
+    }
 }
 
 #[test]
 fn a_texture_passed_on_by_semaphores_has_one_image(rt: HostRuntime) {
-    assert!(rt; are_one_image(&rt, rt.alloc(), 10, 20));
+    for row in &TEXTURES {
+        assert!(rt; is_one(&rt, rt.alloc(), row));
+    }
 }
 
 #[test]
 fn bands_between_swaps_have_one_image(rt: HostRuntime) {
-    assert!(rt; are_one_image(&rt, rt.alloc(), 20, 30));
+    for row in &FRAMES {
+        assert!(rt; is_one(&rt, rt.alloc(), row));
+    }
 }
 
 // A client draws with a texture that another one writes, and nothing says whether before or behind that.
@@ -278,24 +307,32 @@ Clear 1
 Swap
 ";
 
-// Whether two seeds give two images.
-fn has_two_images(rt: &impl Host, alloc: Global, text: &[u8]) -> bool {
+// Whether a seed's run of the scene's bytes is whole, and shows another image than this.
+fn differs(rt: &impl Host, alloc: Global, bytes: &[u8], image: &[u8], seed: u32) -> bool {
+    let seed = format!(in alloc; "{seed}").expect(rt, "memory");
+    let left = run_on(rt, alloc, &["simulate", "--seed", seed.as_str()], bytes);
+    left.status == 0 && left.image.bytes() != image
+}
+
+// How many of forty seeds give another image than the serial renderer.
+fn different(rt: &impl Host, alloc: Global, text: &[u8]) -> u32 {
     let packed = run_on(rt, alloc, &["pack"], text);
-    let serial = run_on(rt, alloc, &["serial"], packed.image.bytes());
+    let bytes = packed.image.bytes();
+    let serial = run_on(rt, alloc, &["serial"], bytes);
+    let mut count: u32 = 0;
     for seed in 0..40u32 {
-        let seed = format!(in alloc; "{seed}").expect(rt, "memory");
-        let job = ["simulate", "--seed", seed.as_str()];
-        let left = run_on(rt, alloc, &job, packed.image.bytes());
-        if left.status == 0 && left.image.bytes() != serial.image.bytes() {
-            return true;
+        if differs(rt, alloc, bytes, serial.image.bytes(), seed) {
+            count = count.saturating_add(1);
         }
     }
-    false
+    count
 }
+
+const NOT_ORDERED: [&[u8]; 3] = [BLENDED_AT_ONCE, WRITTEN_AT_ONCE, CLEARED_BEHIND_A_BARRIER];
 
 #[test]
 fn scenes_that_are_not_ordered_have_two_images(rt: HostRuntime) {
-    for text in [BLENDED_AT_ONCE, WRITTEN_AT_ONCE, CLEARED_BEHIND_A_BARRIER] {
-        assert!(rt; has_two_images(&rt, rt.alloc(), text));
+    for text in &NOT_ORDERED {
+        assert!(rt; different(&rt, rt.alloc(), *text) > 0);
     }
 }

@@ -1,7 +1,9 @@
 //! Scenes of several clients, by `serial` and `check`.
 use super::{Case, Host, leaves_of};
 use std::alloc::Global;
-use test_scenes::{BARRIER_IN_BLOCK, BLACK_PIXEL, BLENDED_IN_TURN, NO_UNIT, SWAP_ALONE};
+use test_scenes::{
+    BARRIER_IN_BLOCK, BLACK_PIXEL, BLENDED_IN_TURN, NO_UNIT, SWAP_ALONE, WHITE_PIXEL,
+};
 
 // One client writes a shared texture twice, the other one draws with it each time: one semaphore counts textures that are ready, one those that were
 // read.
@@ -78,46 +80,58 @@ const NO_SWAP: &[u8] = b"scene 1 1 1\nsemaphore 0\nclient\nclient\nClear 1\nSemV
 
 const NO_UNIT_REPORT: &str = "journal 1\nframes 1\nstuck client 0 at 3 SemP 1\nrc: stuck\n";
 
+const CASES: [Case; 9] = [
+    (
+        &["serial"],
+        BLENDED_IN_TURN,
+        0,
+        b"P6\n2 1\n255\n\x40\0\x80\x40\0\x80",
+        "journal 5\nframes 1\n",
+    ),
+    (
+        &["serial"],
+        SWAP_ALONE,
+        5,
+        b"",
+        "journal 0\nframes 0\nstuck client 1 at 0 Swap\nrc: stuck\n",
+    ),
+    (&["serial"], NO_UNIT, 5, WHITE_PIXEL, NO_UNIT_REPORT),
+    (&["check"], NO_UNIT, 5, b"", NO_UNIT_REPORT),
+    (
+        &["check"],
+        BARRIER_IN_BLOCK,
+        0,
+        b"",
+        "client 0 fault INVALID_OPERATION at 2\njournal 1\nframes 1\n",
+    ),
+    (
+        &["serial"],
+        PRODUCED_AND_CONSUMED,
+        0,
+        b"P6\n2 1\n255\n\xff\0\0\0\xff\0",
+        "journal 7\nframes 1\n",
+    ),
+    (
+        &["serial"],
+        ONE_FORK_FIRST,
+        0,
+        BLACK_PIXEL,
+        "journal 9\nframes 1\n",
+    ),
+    (
+        &["serial"],
+        A_FORK_EACH,
+        5,
+        b"",
+        "journal 3\nframes 0\nstuck client 0 at 2 SemP 2\nstuck client 1 at 2 SemP 1\nrc: stuck\n",
+    ),
+    (&["serial"], NO_SWAP, 0, b"", "journal 1\nframes 0\n"),
+];
+
 #[test]
 fn orders_are_drawn_and_reported(rt: HostRuntime) {
-    let blended = b"P6\n2 1\n255\n\x40\0\x80\x40\0\x80".as_slice();
-    let white = b"P6\n1 1\n255\n\xff\xff\xff".as_slice();
-    let unswapped = "journal 0\nframes 0\nstuck client 1 at 0 Swap\nrc: stuck\n";
-    let refused = "client 0 fault INVALID_OPERATION at 2\njournal 1\nframes 1\n";
-    let handed_on = b"P6\n2 1\n255\n\xff\0\0\0\xff\0".as_slice();
-    let held =
-        "journal 3\nframes 0\nstuck client 0 at 2 SemP 2\nstuck client 1 at 2 SemP 1\nrc: stuck\n";
-    let rows: [Case; 9] = [
-        (
-            &["serial"],
-            BLENDED_IN_TURN,
-            0,
-            blended,
-            "journal 5\nframes 1\n",
-        ),
-        (&["serial"], SWAP_ALONE, 5, b"", unswapped),
-        (&["serial"], NO_UNIT, 5, white, NO_UNIT_REPORT),
-        (&["check"], NO_UNIT, 5, b"", NO_UNIT_REPORT),
-        (&["check"], BARRIER_IN_BLOCK, 0, b"", refused),
-        (
-            &["serial"],
-            PRODUCED_AND_CONSUMED,
-            0,
-            handed_on,
-            "journal 7\nframes 1\n",
-        ),
-        (
-            &["serial"],
-            ONE_FORK_FIRST,
-            0,
-            BLACK_PIXEL,
-            "journal 9\nframes 1\n",
-        ),
-        (&["serial"], A_FORK_EACH, 5, b"", held),
-        (&["serial"], NO_SWAP, 0, b"", "journal 1\nframes 0\n"),
-    ];
-    for row in rows {
-        assert!(rt; leaves_of(&rt, rt.alloc(), row));
+    for case in &CASES {
+        assert!(rt; leaves_of(&rt, rt.alloc(), case));
     }
 }
 
@@ -132,15 +146,15 @@ fn units(rt: &impl Host, alloc: Global, count: u32) -> Vec<u8> {
     text
 }
 
+// Whether a thousand units are given, and more.
+fn gives_units(rt: &impl Host, alloc: Global) -> bool {
+    let text = units(rt, alloc, 1025);
+    let report = "journal 1026\nframes 1\n";
+    let case: Case = (&["serial"], text.as_slice(), 0, BLACK_PIXEL, report);
+    leaves_of(rt, alloc, &case)
+}
+
 #[test]
 fn a_thousand_units_are_given(rt: HostRuntime) {
-    let text = units(&rt, rt.alloc(), 1025);
-    let report = "journal 1026\nframes 1\n";
-    assert!(rt;
-        leaves_of(
-            &rt,
-            rt.alloc(),
-            (&["serial"], text.as_slice(), 0, BLACK_PIXEL, report)
-        )
-    );
+    assert!(rt; gives_units(&rt, rt.alloc()));
 }

@@ -1,6 +1,8 @@
 //! Scenes whose commands synchronisation orders, or leaves unordered, by `race`.
 use super::orders::PRODUCED_AND_CONSUMED;
-use super::{CLEAR_IN_BLOCK, Host, leaves, left_on, run_on, run_text, sink, source_of};
+use super::{
+    CLEAR_IN_BLOCK, Case, Host, ends_of, leaves, left_on, run_on, run_text, sink, source_of,
+};
 use std::alloc::Global;
 use test_scenes::{
     BLENDED_AT_ONCE, BLENDED_IN_TURN, COMMAND_BETWEEN_MEETINGS, MEETINGS_IN_A_ROW,
@@ -43,88 +45,93 @@ const CLEARED_AND_STUCK_REPORT: &str =
 // A row that is stuck and has no race.
 const STUCK_ALONE: &[u8] = b"scene 1 1 1\nbarrier 2\nclient\nClear 1\nBarrier 1\n";
 
+// The text of a scene, and the status and notes of `race`.
+type Row = (&'static [u8], u8, &'static str);
+
+const ROWS: [Row; 9] = [
+    (BLENDED_IN_TURN, 0, "journal 5\nframes 1\nrace none\n"),
+    (
+        BLENDED_AT_ONCE,
+        11,
+        "journal 1\nframes 1\nrace 0 7 1 7 pixel 0 0\n",
+    ),
+    (
+        SHARED_BEHIND_A_BARRIER,
+        0,
+        "journal 2\nframes 1\nrace none\n",
+    ),
+    (
+        SHARED_AT_ONCE,
+        11,
+        "journal 1\nframes 1\nrace 0 0 1 8 shared 1\n",
+    ),
+    (PRODUCED_AND_CONSUMED, 0, "journal 7\nframes 1\nrace none\n"),
+    (
+        MEETINGS_IN_A_ROW,
+        11,
+        "journal 3\nframes 1\nrace 1 4 2 5 pixel 0 0\n",
+    ),
+    (
+        COMMAND_BETWEEN_MEETINGS,
+        0,
+        "journal 3\nframes 1\nrace none\n",
+    ),
+    (CLEARED_AND_STUCK, 5, CLEARED_AND_STUCK_REPORT),
+    (
+        STUCK_ALONE,
+        5,
+        "journal 0\nframes 0\nrace none\nstuck client 0 at 1 Barrier 1\nrc: stuck\n",
+    ),
+];
+
 // Whether `race` ends so with the scene of a text, shows nothing and keeps no record.
-fn tells(rt: &impl Host, alloc: Global, text: &[u8], status: u8, report: &str) -> bool {
+fn tells(rt: &impl Host, alloc: Global, row: &Row) -> bool {
+    let (text, status, report) = *row;
     let left = run_text(rt, alloc, &["race"], text);
-    left.is(status, b"", report.as_bytes()) && left.kept.is_none()
+    left.is(status, b"", report.as_bytes()) && !left.has_record
 }
 
 #[test]
 fn races_are_told(rt: HostRuntime) {
-    let rows = [
-        (BLENDED_IN_TURN, 0, "journal 5\nframes 1\nrace none\n"),
-        (
-            BLENDED_AT_ONCE,
-            11,
-            "journal 1\nframes 1\nrace 0 7 1 7 pixel 0 0\n",
-        ),
-        (
-            SHARED_BEHIND_A_BARRIER,
-            0,
-            "journal 2\nframes 1\nrace none\n",
-        ),
-        (
-            SHARED_AT_ONCE,
-            11,
-            "journal 1\nframes 1\nrace 0 0 1 8 shared 1\n",
-        ),
-        (PRODUCED_AND_CONSUMED, 0, "journal 7\nframes 1\nrace none\n"),
-        (
-            MEETINGS_IN_A_ROW,
-            11,
-            "journal 3\nframes 1\nrace 1 4 2 5 pixel 0 0\n",
-        ),
-        (
-            COMMAND_BETWEEN_MEETINGS,
-            0,
-            "journal 3\nframes 1\nrace none\n",
-        ),
-        (CLEARED_AND_STUCK, 5, CLEARED_AND_STUCK_REPORT),
-        (
-            STUCK_ALONE,
-            5,
-            "journal 0\nframes 0\nrace none\nstuck client 0 at 1 Barrier 1\nrc: stuck\n",
-        ),
-    ];
-    for (text, due, report) in rows {
-        assert!(rt; tells(&rt, rt.alloc(), text, due, report));
+    for row in &ROWS {
+        assert!(rt; tells(&rt, rt.alloc(), row));
     }
 }
 
+const REFUSED_BEFORE: Case = (
+    &["race"],
+    &CLEAR_IN_BLOCK,
+    0,
+    b"",
+    "client 0 fault INVALID_OPERATION at 1\njournal 1\nframes 1\nrace none\n",
+);
+
 #[test]
 fn refused_commands_are_told_before_the_race(rt: HostRuntime) {
-    let report = "client 0 fault INVALID_OPERATION at 1\njournal 1\nframes 1\nrace none\n";
-    assert!(rt;
-        leaves(
-            &rt,
-            rt.alloc(),
-            (&["race"], &CLEAR_IN_BLOCK, 0, b"", report)
-        )
-    );
+    assert!(rt; leaves(&rt, rt.alloc(), &REFUSED_BEFORE));
 }
 
-// The status of `race`, and how much the notes hold, where they fail at their second put of 16 bytes.
-fn told_in_part(rt: &impl Host, alloc: Global, text: &[u8]) -> (u8, usize) {
+const IN_PART: [(&[u8], u8); 3] = [
+    (BLENDED_AT_ONCE, 11),
+    (CLEARED_AND_STUCK, 5),
+    (BLENDED_IN_TURN, 8),
+];
+
+// Whether `race` ends so, and the notes hold their first 16 bytes, where they fail at their second put of 16.
+fn is_told_in_part(rt: &impl Host, alloc: Global, text: &[u8], status: u8) -> bool {
     let scene = run_on(rt, alloc, &["pack"], text);
-    let left = left_on(
-        rt,
-        alloc,
-        &["race"],
+    let ends = ends_of(
         source_of(rt, alloc, scene.image.bytes(), &[]),
         sink(rt, alloc, 4, &[]),
         sink(rt, alloc, 16, &[2]),
     );
-    (left.status, left.notes.bytes().len())
+    let left = left_on(rt, alloc, &["race"], ends);
+    left.status == status && left.notes.bytes().len() == 16
 }
 
 #[test]
 fn a_race_stays_found_where_the_notes_fail(rt: HostRuntime) {
-    let rows = [
-        (BLENDED_AT_ONCE, 11),
-        (CLEARED_AND_STUCK, 5),
-        (BLENDED_IN_TURN, 8),
-    ];
-    for (text, due) in rows {
-        assert!(rt; told_in_part(&rt, rt.alloc(), text) == (due, 16));
+    for (text, status) in &IN_PART {
+        assert!(rt; is_told_in_part(&rt, rt.alloc(), *text, *status));
     }
 }

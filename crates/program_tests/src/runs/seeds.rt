@@ -3,7 +3,7 @@ ghost use Rattle.rc_base.specs.Formats.Within.{IsWithin};
 
 use super::clusters::LAZY_STATE;
 use super::orders::{ONE_FORK_FIRST, PRODUCED_AND_CONSUMED};
-use super::{Host, Left, run_on, run_text};
+use super::{Host, Left, finish_on, run_on, run_text, whole_ends};
 use order_model::record::Record;
 use order_model::{is_permitted, tile_order};
 use rc_base::out_of_memory::OutOfMemory;
@@ -91,9 +91,9 @@ const CASES: [Case; 13] = [
 ];
 
 // What a seed's run leaves.
-fn run_by(rt: &impl Host, alloc: Global, bytes: &[u8], case: Case, seed: u32) -> Left {
+fn run_by(rt: &impl Host, alloc: Global, bytes: &[u8], case: &Case, seed: u32) -> Left {
     let seed = format!(in alloc; "{seed}").expect(rt, "memory");
-    let (_, tiles, depth) = case;
+    let (_, tiles, depth) = *case;
     let job = [
         "simulate",
         "--depth",
@@ -106,15 +106,28 @@ fn run_by(rt: &impl Host, alloc: Global, bytes: &[u8], case: Case, seed: u32) ->
     run_on(rt, alloc, &job, bytes)
 }
 
+// Whether a seed's run of a scene's bytes leaves this status and this image.
+fn draws(
+    rt: &impl Host,
+    alloc: Global,
+    bytes: &[u8],
+    case: &Case,
+    seed: u32,
+    due: (u8, &[u8]),
+) -> bool {
+    let left = run_by(rt, alloc, bytes, case, seed);
+    left.status == due.0 && left.image.bytes() == due.1
+}
+
 // How many of twenty seeds give what the serial renderer gives.
-fn alike(rt: &impl Host, alloc: Global, case: Case) -> u32 {
+fn alike(rt: &impl Host, alloc: Global, case: &Case) -> u32 {
     let scene = run_on(rt, alloc, &["pack"], case.0);
     let bytes = scene.image.bytes();
     let serial = run_on(rt, alloc, &["serial"], bytes);
+    let due = (serial.status, serial.image.bytes());
     let mut count: u32 = 0;
     for seed in 0..20u32 {
-        let left = run_by(rt, alloc, bytes, case, seed);
-        if left.status == serial.status && left.image.bytes() == serial.image.bytes() {
+        if draws(rt, alloc, bytes, case, seed, due) {
             count = count.saturating_add(1);
         }
     }
@@ -123,7 +136,7 @@ fn alike(rt: &impl Host, alloc: Global, case: Case) -> u32 {
 
 #[test]
 fn twenty_seeds_draw_what_the_serial_renderer_draws(rt: HostRuntime) {
-    for case in CASES {
+    for case in &CASES {
         assert!(rt; alike(&rt, rt.alloc(), case) == 20);
     }
 }
@@ -134,23 +147,31 @@ const ON_SHORT_LANES: [Case; 2] = [
     (SHARED_BEHIND_A_BARRIER, "8x2", "1"),
 ];
 
+// How many of a hundred seeds come to the end of a scene.
+fn ended(rt: &impl Host, alloc: Global, case: &Case) -> u32 {
+    let scene = run_on(rt, alloc, &["pack"], case.0);
+    let mut count: u32 = 0;
+    for seed in 0..100u32 {
+        if run_by(rt, alloc, scene.image.bytes(), case, seed).status == 0 {
+            count = count.saturating_add(1);
+        }
+    }
+    count
+}
+
 #[test]
 fn no_seed_of_a_hundred_stands_still(rt: HostRuntime) {
-    for case in ON_SHORT_LANES {
-        let scene = run_on(&rt, rt.alloc(), &["pack"], case.0);
-        for seed in 0..100u32 {
-            let left = run_by(&rt, rt.alloc(), scene.image.bytes(), case, seed);
-            assert!(rt; left.status == 0);
-        }
+    for case in &ON_SHORT_LANES {
+        assert!(rt; ended(&rt, rt.alloc(), case) == 100);
     }
 }
 
-// Whether the journal permits the order that each tile of the record tells.
+// Whether the journal permits the order that each of the record's two tiles tells.
 fn permits(alloc: Global, scene: &Scene, kept: &Record) -> Result<bool, OutOfMemory>
     requires { IsWithin scene.now }
 {
     let lists = sync_lists(alloc, scene)?;
-    if kept.syncs.clients.len() > 8 || kept.logs.len() > 32 {
+    if kept.syncs.clients.len() > 8 || kept.logs.len() != 2 {
         return Ok(false);
     }
     for tile in 0..kept.logs.len() {
@@ -162,12 +183,8 @@ fn permits(alloc: Global, scene: &Scene, kept: &Record) -> Result<bool, OutOfMem
     Ok(kept.syncs == lists)
 }
 
-// Whether the record of a seed's run tells orders that its journal permits.
-fn keeps_orders(rt: &impl Host, alloc: Global, bytes: &[u8], seed: u32) -> bool {
-    if bytes.len() > 1000 {
-        return false;
-    }
-    let scene = read_scene(alloc, bytes).expect(rt, "a scene");
+// What a seed's run of a scene's bytes keeps, on two tiles with lanes of one item.
+fn kept_by(rt: &impl Host, alloc: Global, bytes: &[u8], seed: u32) -> Option<Record> {
     let seed = format!(in alloc; "{seed}").expect(rt, "memory");
     let job = [
         "simulate",
@@ -178,19 +195,45 @@ fn keeps_orders(rt: &impl Host, alloc: Global, bytes: &[u8], seed: u32) -> bool 
         "--tiles",
         "2x1",
     ];
-    let left = run_on(rt, alloc, &job, bytes);
-    match &left.kept {
+    let mut left = whole_ends(rt, alloc, bytes);
+    finish_on(
+        rt,
+        alloc,
+        &job,
+        &mut left.source,
+        &mut left.image,
+        &mut left.notes,
+    )
+    .kept
+}
+
+// Whether the record of a seed's run tells orders that its journal permits.
+fn keeps_orders(rt: &impl Host, alloc: Global, bytes: &[u8], seed: u32) -> bool {
+    if bytes.len() > 1000 {
+        return false;
+    }
+    let scene = read_scene(alloc, bytes).expect(rt, "a scene");
+    match &kept_by(rt, alloc, bytes, seed) {
         Some(kept) => permits(alloc, &scene, kept).expect(rt, "memory"),
         None => false,
     }
 }
 
+// How many of twenty seeds keep orders that are permitted.
+fn permitted(rt: &impl Host, alloc: Global) -> u32 {
+    let scene = run_on(rt, alloc, &["pack"], BLENDED_IN_TURN);
+    let mut count: u32 = 0;
+    for seed in 0..20u32 {
+        if keeps_orders(rt, alloc, scene.image.bytes(), seed) {
+            count = count.saturating_add(1);
+        }
+    }
+    count
+}
+
 #[test]
 fn recorded_orders_are_permitted(rt: HostRuntime) {
-    let scene = run_on(&rt, rt.alloc(), &["pack"], BLENDED_IN_TURN);
-    for seed in 0..20u32 {
-        assert!(rt; keeps_orders(&rt, rt.alloc(), scene.image.bytes(), seed));
-    }
+    assert!(rt; permitted(&rt, rt.alloc()) == 20);
 }
 
 // How often a text stands in another one.
@@ -204,11 +247,19 @@ fn times(text: &[u8], part: &[u8]) -> usize {
     count
 }
 
+// The status of a run that tells orders, and how often it tells one of each tile.
+fn orders_told(rt: &impl Host, alloc: Global) -> (u8, usize, usize) {
+    let job = ["simulate", "--seed", "0", "--tiles", "2x1", "--order"];
+    let left = run_text(rt, alloc, &job, BLENDED_AT_ONCE);
+    let notes = left.notes.bytes();
+    (
+        left.status,
+        times(notes, b"order 0 "),
+        times(notes, b"order 1 "),
+    )
+}
+
 #[test]
 fn each_tile_tells_its_order(rt: HostRuntime) {
-    let job = ["simulate", "--seed", "0", "--tiles", "2x1", "--order"];
-    let left = run_text(&rt, rt.alloc(), &job, BLENDED_AT_ONCE);
-    assert!(rt; left.status == 0);
-    assert!(rt; times(left.notes.bytes(), b"order 0 ") == 18);
-    assert!(rt; times(left.notes.bytes(), b"order 1 ") == 18);
+    assert!(rt; orders_told(&rt, rt.alloc()) == (0, 18, 18));
 }
