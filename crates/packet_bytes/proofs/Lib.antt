@@ -10,3 +10,4 @@ pub mod PartsReadAsFields
 pub mod SpelledOrFaulty
 pub mod PacketsKept
 pub mod PlainStreams
+pub mod ShortPayloads

@@ -11,6 +11,7 @@ pub mod lists;
 pub mod packets;
 mod payload;
 pub mod reading;
+mod short_payload;
 mod writing;
 
 pub use fault::PackFault;

@@ -7,6 +7,7 @@ ghost use Rattle.packet_bytes.specs.Parts.{read_number, read_numbers, texel_coun
 ghost use Rattle.byte_codec.specs.Reading.{Gives, Reads, take_bytes};
 ghost use Rattle.packet_bytes.specs.Packets.{AddsHeld, read_command};
 
+use crate::short_payload::read_short;
 use byte_codec::fault::{Form, ReadError};
 use byte_codec::fields::{read_byte, read_half, read_word, take_bytes};
 use command_table::parts::Numbers;
@@ -87,6 +88,24 @@ impl HoldsCommand for Command {
     }
 }
 
+// Adds a command that was read.
+#[inline(always)]
+fn add_read<'a, C: HoldsCommand>(
+    commands: &mut Items<C>,
+    opcode: Opcode,
+    bytes: &[u8],
+    read: Result<(Command, &'a [u8]), Form>,
+) -> Result<&'a [u8], ReadError>
+    requires { Reads (λ x. (x.0, x.1.now)) read (read_command opcode bytes.now) }
+    ensures { AddsHeld C.held (λ rest. rest.now) commands.old commands.new result (read_command opcode bytes.now) }
+{
+    let _opcode = opcode;
+    let _bytes = bytes;
+    let (command, rest) = read?;
+    commands.push(C::hold(command))?;
+    Ok(rest)
+}
+
 /// Adds the command of an opcode, by the table. It is inlined where the opcode is known, and there only this opcode's row is left of the table.
 #[inline(always)]
 fn add_any<'a, C: HoldsCommand>(
@@ -97,6 +116,9 @@ fn add_any<'a, C: HoldsCommand>(
 ) -> Result<&'a [u8], ReadError>
     ensures { AddsHeld C.held (λ rest. rest.now) commands.old commands.new result (read_command opcode bytes.now) }
 {
+    if let Some(read) = read_short(opcode, bytes) {
+        return add_read::<C>(commands, opcode, bytes, read);
+    }
     let ranges = ranges_of(opcode);
     let mut room = [0; 16];
     let rest = read_numbers(ranges, &mut room, bytes)?;
