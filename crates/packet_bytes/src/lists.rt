@@ -54,7 +54,7 @@ impl PacketCommand for ListCommand {
     #[tactic(auto, unfolding(crate::specs::Lists::read_list_command))]
     fn add_command<'a>(
         alloc: Global,
-        commands: &mut ListCommands,
+        commands: &mut Vec<ListCommand>,
         opcode: ListOpcode,
         bytes: &'a [u8],
     ) -> Result<&'a [u8], ReadError> {
@@ -62,16 +62,16 @@ impl PacketCommand for ListCommand {
             ListOpcode::Plain(plain) => add_command::<ListCommand>(alloc, commands, plain, bytes),
             ListOpcode::NewList => {
                 let (name, rest) = read_byte(bytes)?;
-                commands.push(ListCommand::NewList(name))?;
+                commands.push_reserved(ListCommand::NewList(name));
                 Ok(rest)
             }
             ListOpcode::EndList => {
-                commands.push(ListCommand::EndList)?;
+                commands.push_reserved(ListCommand::EndList);
                 Ok(bytes)
             }
             ListOpcode::CallList => {
                 let (name, rest) = read_byte(bytes)?;
-                commands.push(ListCommand::CallList(name))?;
+                commands.push_reserved(ListCommand::CallList(name));
                 Ok(rest)
             }
         }

@@ -1,5 +1,6 @@
 //! Packets of the commands of a set: what a set of commands gives, and the reader of streams over it.
-ghost use Rattle.std.specs.Prelude.{◌≡◌, count_by, IfOk, IfErr};
+ghost use Rattle.std.specs.Prelude.{◌≡◌, ◌+◌, ◌<◌, count_by, IfOk, IfErr, OnOk};
+ghost use Rattle.std.specs.Vec.{vec_len, vec_capacity};
 ghost use Rattle.rc_base.specs.Formats.Spelling.{CommandSet};
 ghost use Rattle.byte_codec.specs.Reading.{Gives, Reads, with_front};
 ghost use Rattle.packet_bytes.specs.Sets.{SetReader, Agrees};
@@ -30,14 +31,17 @@ pub trait PacketCommand: Sized + Drop {
     fn is_swap(opcode: Self::Opcode) -> bool
         ensures { result ≡ reader.is_swap opcode };
 
-    /// Adds the command of an opcode whose payload stands at the front, and gives the bytes behind it.
+    /// Adds the command of an opcode whose payload stands at the front, in room that is there, and gives the bytes behind it.
     fn add_command<'a>(
         alloc: Global,
-        commands: &mut Items<Self>,
+        commands: &mut Vec<Self>,
         opcode: Self::Opcode,
         bytes: &'a [u8],
     ) -> Result<&'a [u8], ReadError>
-        ensures { AddsCommand (λ rest. rest.now) commands.old commands.new result (reader.read opcode bytes.now) };
+        requires { vec_len commands.old < vec_capacity commands.old }
+        ensures added { AddsCommand (λ rest. rest.now) commands.old.items commands.new.items result (reader.read opcode bytes.now) }
+        ensures len { OnOk result (vec_len commands.new ≡ vec_len commands.old + 1) }
+        ensures capacity { OnOk result (vec_capacity commands.new ≡ vec_capacity commands.old) };
 
     /// They are read as they are spelled.
     ghost agrees: { Agrees set reader };
@@ -107,11 +111,11 @@ fn count_swaps<C: PacketCommand>(opcodes: &[C::Opcode]) -> usize
 /// Adds the commands with these opcodes, whose payloads stand at the front.
 fn read_payloads<'a, C: PacketCommand>(
     alloc: Global,
-    commands: &mut Items<C>,
+    commands: &mut Vec<C>,
     opcodes: &[C::Opcode],
     bytes: &'a [u8],
 ) -> Result<&'a [u8], ReadError>
-    ensures { Gives (λ rest. (commands.new, rest.now)) result (with_front commands.old (read_payloads C.reader opcodes.now bytes.now)) }
+    ensures { Gives (λ rest. (commands.new.items, rest.now)) result (with_front commands.old.items (read_payloads C.reader opcodes.now bytes.now)) }
 {
     commands.reserve(opcodes.len())?;
     let mut rest = bytes;
@@ -124,28 +128,28 @@ fn read_payloads<'a, C: PacketCommand>(
 /// The same, where the commands are kept or only looked at.
 fn keep_payloads<'a, C: PacketCommand>(
     alloc: Global,
-    commands: &mut Items<C>,
+    commands: &mut Vec<C>,
     keep: bool,
     opcodes: &[C::Opcode],
     bytes: &'a [u8],
 ) -> Result<&'a [u8], ReadError>
-    ensures { Keeps (λ rest. rest.now) keep commands.old commands.new result (read_payloads C.reader opcodes.now bytes.now) }
+    ensures { Keeps (λ rest. rest.now) keep commands.old.items commands.new.items result (read_payloads C.reader opcodes.now bytes.now) }
 {
     if keep {
         return read_payloads::<C>(alloc, commands, opcodes, bytes);
     }
-    let mut dropped = Items::new(alloc);
+    let mut dropped = Vec::new(alloc);
     read_payloads::<C>(alloc, &mut dropped, opcodes, bytes)
 }
 
 /// What the packet at the front has. Its commands are added where they are no more than there is room for.
 fn add_packet<'a, C: PacketCommand>(
     alloc: Global,
-    commands: &mut Items<C>,
+    commands: &mut Vec<C>,
     room: usize,
     bytes: &'a [u8],
 ) -> Result<(Counts, &'a [u8]), ReadError>
-    ensures { AddsPacket C.reader.shows (λ x. (x.0, x.1.now)) room commands.old commands.new result (read_packet C.reader bytes.now) }
+    ensures { AddsPacket C.reader.shows (λ x. (x.0, x.1.now)) room commands.old.items commands.new.items result (read_packet C.reader bytes.now) }
 {
     let (count, rest) = read_count(bytes)?;
     let (opcodes, rest) = read_opcodes::<C>(alloc, count, rest)?;
@@ -163,11 +167,11 @@ fn add_packet<'a, C: PacketCommand>(
 /// The same, by what the packet is.
 fn read_packet<'a, C: PacketCommand>(
     alloc: Global,
-    commands: &mut Items<C>,
+    commands: &mut Vec<C>,
     room: usize,
     bytes: &'a [u8],
 ) -> Result<(Counts, &'a [u8]), ReadError>
-    ensures found { IfOk result (λ x. Takes C.set C.reader.shows bytes.now x.1.now room x.0 commands.old commands.new) }
+    ensures found { IfOk result (λ x. Takes C.set C.reader.shows bytes.now x.1.now room x.0 commands.old.items commands.new.items) }
     ensures fails { IfErr result (FailsBy C.set bytes.now) }
 {
     add_packet::<C>(alloc, commands, room, bytes)
@@ -199,7 +203,7 @@ pub fn decode_of<C: PacketCommand>(
     ensures found { IfOk result (DecodesOf C.set C.reader.shows bytes.now room) }
     ensures fails { IfErr result (FailsAsStreamOf C.set bytes.now) }
 {
-    let mut commands = Items::new(alloc);
+    let mut commands = Vec::new(alloc);
     let mut count = 0;
     let mut swaps = 0;
     let mut rest = bytes;
@@ -214,7 +218,7 @@ pub fn decode_of<C: PacketCommand>(
         }
     }
     Ok(DecodedOf {
-        commands,
+        commands: Items::from_vec(commands),
         count,
         swaps,
     })

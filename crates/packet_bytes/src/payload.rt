@@ -1,5 +1,6 @@
 //! The reader of payloads: the numbers of a command, each as its range says, and then the texels of its picture.
-ghost use Rattle.std.specs.Prelude.{◌≡◌, ◌≤◌, length, take};
+ghost use Rattle.std.specs.Prelude.{◌≡◌, ◌+◌, ◌≤◌, ◌<◌, length, take, OnOk};
+ghost use Rattle.std.specs.Vec.{vec_len, vec_capacity};
 ghost use Rattle.rc_base.specs.declared.command.Command.{Command as AnyCommand};
 ghost use Rattle.rc_base.specs.Formats.Commands.{ranges_of, has_picture};
 ghost use Rattle.command_table.specs.Ranges.{AreIn};
@@ -13,7 +14,6 @@ use byte_codec::fields::{read_byte, read_half, read_word, take_bytes};
 use command_table::parts::Numbers;
 use command_table::{command_of, has_picture, picture_area, ranges_of};
 use rc_base::command::{Command, NumberRange, Opcode, Texels};
-use rc_base::items::Items;
 use std::alloc::Global;
 
 #[inline(always)]
@@ -91,18 +91,21 @@ impl HoldsCommand for Command {
 // Adds a command that was read.
 #[inline(always)]
 fn add_read<'a, C: HoldsCommand>(
-    commands: &mut Items<C>,
+    commands: &mut Vec<C>,
     opcode: Opcode,
     bytes: &[u8],
     read: Result<(Command, &'a [u8]), Form>,
 ) -> Result<&'a [u8], ReadError>
-    requires { Reads (λ x. (x.0, x.1.now)) read (read_command opcode bytes.now) }
-    ensures { AddsHeld C.held (λ rest. rest.now) commands.old commands.new result (read_command opcode bytes.now) }
+    requires room { vec_len commands.old < vec_capacity commands.old }
+    requires read { Reads (λ x. (x.0, x.1.now)) read (read_command opcode bytes.now) }
+    ensures added { AddsHeld C.held (λ rest. rest.now) commands.old.items commands.new.items result (read_command opcode bytes.now) }
+    ensures len { OnOk result (vec_len commands.new ≡ vec_len commands.old + 1) }
+    ensures capacity { OnOk result (vec_capacity commands.new ≡ vec_capacity commands.old) }
 {
     let _opcode = opcode;
     let _bytes = bytes;
     let (command, rest) = read?;
-    commands.push(C::hold(command))?;
+    commands.push_reserved(C::hold(command));
     Ok(rest)
 }
 
@@ -110,11 +113,14 @@ fn add_read<'a, C: HoldsCommand>(
 #[inline(always)]
 fn add_any<'a, C: HoldsCommand>(
     alloc: Global,
-    commands: &mut Items<C>,
+    commands: &mut Vec<C>,
     opcode: Opcode,
     bytes: &'a [u8],
 ) -> Result<&'a [u8], ReadError>
-    ensures { AddsHeld C.held (λ rest. rest.now) commands.old commands.new result (read_command opcode bytes.now) }
+    requires { vec_len commands.old < vec_capacity commands.old }
+    ensures added { AddsHeld C.held (λ rest. rest.now) commands.old.items commands.new.items result (read_command opcode bytes.now) }
+    ensures len { OnOk result (vec_len commands.new ≡ vec_len commands.old + 1) }
+    ensures capacity { OnOk result (vec_capacity commands.new ≡ vec_capacity commands.old) }
 {
     if let Some(read) = read_short(opcode, bytes) {
         return add_read::<C>(commands, opcode, bytes, read);
@@ -125,7 +131,7 @@ fn add_any<'a, C: HoldsCommand>(
     let numbers = &room[..ranges.len()];
     let (texels, rest) = read_texels(alloc, opcode, numbers, rest)?;
     let command = command_of(opcode, numbers, texels);
-    commands.push(C::hold(command))?;
+    commands.push_reserved(C::hold(command));
     Ok(rest)
 }
 
@@ -133,11 +139,14 @@ fn add_any<'a, C: HoldsCommand>(
 /// is read when this is compiled.
 pub fn add_command<'a, C: HoldsCommand>(
     alloc: Global,
-    commands: &mut Items<C>,
+    commands: &mut Vec<C>,
     opcode: Opcode,
     bytes: &'a [u8],
 ) -> Result<&'a [u8], ReadError>
-    ensures { AddsHeld C.held (λ rest. rest.now) commands.old commands.new result (read_command opcode bytes.now) }
+    requires { vec_len commands.old < vec_capacity commands.old }
+    ensures added { AddsHeld C.held (λ rest. rest.now) commands.old.items commands.new.items result (read_command opcode bytes.now) }
+    ensures len { OnOk result (vec_len commands.new ≡ vec_len commands.old + 1) }
+    ensures capacity { OnOk result (vec_capacity commands.new ≡ vec_capacity commands.old) }
 {
     match opcode {
         Opcode::Begin => add_any::<C>(alloc, commands, Opcode::Begin, bytes),

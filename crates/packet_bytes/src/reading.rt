@@ -34,7 +34,7 @@ impl PacketCommand for Command {
 
     fn add_command<'a>(
         alloc: Global,
-        commands: &mut Commands,
+        commands: &mut Vec<Command>,
         opcode: Opcode,
         bytes: &'a [u8],
     ) -> Result<&'a [u8], ReadError> {
