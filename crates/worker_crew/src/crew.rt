@@ -164,7 +164,8 @@ fn settle<A: Worker, B: Worker, C: Worker, G: Gate, R: Wait>(
         if clients.ended && manager.ended && tiles.ended {
             break;
         }
-        if !(clients.moved || manager.moved || tiles.moved) {
+        let turned = clients.and(manager).and(tiles);
+        if !(turned.moved || turned.spare) {
             waking.nap(rt);
         }
     }

@@ -56,7 +56,7 @@ fn attend<
         if threads_ended && turned.ended && !served {
             break;
         }
-        if turned.moved || served {
+        if turned.moved || turned.spare || served {
             waking.go_on();
         } else if turned.ended {
             waking.ring_waiting();

@@ -1,5 +1,5 @@
 //! A worker, and how far it is.
-ghost use Rattle.std.specs.Prelude.{◌≡◌, true, false, cond, IsTrue, None};
+ghost use Rattle.std.specs.Prelude.{◌≡◌, ◌&&◌, ◌||◌, true, false, cond, IsTrue, None};
 ghost use Rattle.rc_base.specs.Outside.Causes.{risen};
 ghost use Rattle.worker_crew.specs.Tasks.{IsTask};
 
@@ -42,39 +42,44 @@ impl<W: Worker> Promise<Task<W>> for Kept<W> {
     ghost kept_by = { λ p r. (w : W) → IsTask W.leads W.over w p.0.value → IsTask W.leads W.over w r };
 }
 
-/// What a turn came to: whether anything moved in it, whether all whose turn it was have ended, and for whom it waits.
+/// What a turn came to: whether anything moved in it, whether all whose turn it was have ended, for whom it waits, and whether something was done that
+/// nobody waits for.
 #[derive(Clone, Copy, Drop)]
 pub struct Turned {
     pub moved: bool,
     pub ended: bool,
     pub on: Option<Peer>,
+    pub spare: bool,
 }
 
 impl Turned {
     /// The turn of nobody.
     pub fn nobody() -> Turned
-        ensures { result ≡ record { moved = false; ended = true; on = None } }
+        ensures { result ≡ record { moved = false; ended = true; on = None; spare = false } }
     {
         Turned {
             moved: false,
             ended: true,
             on: None,
+            spare: false,
         }
     }
 
-    /// This turn and another.
+    /// This turn and another, of which it isn't known for whom they wait.
     pub fn and(self, other: Turned) -> Turned
-        ensures { result.ended ≡ true → (self.ended ≡ true) × (other.ended ≡ true) }
+        ensures { result ≡ record { moved = self.moved || other.moved; ended = self.ended && other.ended; on = None; spare = self.spare || other.spare } }
     {
         Turned {
             moved: self.moved || other.moved,
             ended: self.ended && other.ended,
             on: None,
+            spare: self.spare || other.spare,
         }
     }
 }
 
-/// Passes the gate and tries one step, unless the task has ended.
+/// Passes the gate and tries one step, unless the task has ended. Where the step moved nothing, all to whom something was given are rung, and then a part
+/// of what nobody waits for is done.
 pub fn attempt<W: Worker, G: Gate>(gate: &G, task: &mut Task<W>, waking: &mut Waking<'_>) -> Turned
     ensures kept { (w : W) → IsTask W.leads W.over w task.old → IsTask W.leads W.over w task.new }
     ensures ended { result.ended ≡ task.new.ended }
@@ -82,6 +87,7 @@ pub fn attempt<W: Worker, G: Gate>(gate: &G, task: &mut Task<W>, waking: &mut Wa
 {
     let mut moved = false;
     let mut on = None;
+    let mut spare = false;
     if !task.ended {
         gate.pass(task.worker.actor(), task.moves);
         match task.worker.step() {
@@ -92,7 +98,11 @@ pub fn attempt<W: Worker, G: Gate>(gate: &G, task: &mut Task<W>, waking: &mut Wa
                     waking.gave(peer);
                 }
             }
-            Attempt::Blocked(from) => on = from,
+            Attempt::Blocked(from) => {
+                on = from;
+                waking.settle();
+                spare = task.worker.spare();
+            }
             Attempt::Ended => task.ended = true,
         }
     }
@@ -100,6 +110,7 @@ pub fn attempt<W: Worker, G: Gate>(gate: &G, task: &mut Task<W>, waking: &mut Wa
         moved,
         ended: task.ended,
         on,
+        spare,
     }
 }
 

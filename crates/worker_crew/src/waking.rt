@@ -174,9 +174,9 @@ impl<'s> Waking<'s> {
         }
     }
 
-    /// Goes on behind a turn that moved something, and else waits.
+    /// Goes on behind a turn that moved something or had something to do that nobody waits for, and else waits.
     pub(crate) fn after<R: Wait>(&mut self, rt: &R, turned: Turned) {
-        if turned.moved {
+        if turned.moved || turned.spare {
             self.go_on();
         } else {
             self.settle();

@@ -55,6 +55,21 @@ pub trait Worker {
         ensures leads { leads self.old self.new }
         ensures over { result ≡ attempt.Ended → over self.new };
 
+    /// Whether a look at its lanes finds that a step may move, behind one that was blocked on this peer. No lane is changed by it. A worker that
+    /// has no look says no, and is woken.
+    fn may_move(&mut self, _on: Option<Peer>) -> bool
+        ensures leads { leads self.old self.new }
+    {
+        false
+    }
+
+    /// Does a part of what is left to do that nobody waits for, where a step moved nothing. Whether there was one.
+    fn spare(&mut self) -> bool
+        ensures leads { leads self.old self.new }
+    {
+        false
+    }
+
     /// No step at all is a number of steps.
     ghost stays: { (a : Self) → leads a a };
 
