@@ -38,11 +38,11 @@ pub struct Context {
     color: Rgba,
     s: i32,
     t: i32,
-    block: Option<Block>,
-    room: Vec<Vertex>,
+    pub(crate) block: Option<Block>,
+    pub(crate) room: Vec<Vertex>,
     images: PrivateSet,
     edits: [u32; 64],
-    version: u8,
+    pub(crate) version: u8,
     shared: Sizes,
     barriers: usize,
     semaphores: usize,
@@ -286,7 +286,7 @@ impl Context {
         }
     }
 
-    fn add_vertex(&mut self, pos: [i32; 4]) -> Result<(), OutOfMemory>
+    pub(crate) fn add_vertex(&mut self, pos: [i32; 4]) -> Result<(), OutOfMemory>
         ensures ok { OnOk result (self.new ≡ carried_out self.old (cmd.Vertex pos)) }
         ensures err { OnErr result (self.new ≡ self.old) }
     {
@@ -359,7 +359,7 @@ impl Context {
     }
 
     // A block without vertices, in the room of one that was given back.
-    fn empty_block(&mut self, mode: u8) -> Block
+    pub(crate) fn empty_block(&mut self, mode: u8) -> Block
         ensures block { result ≡ record { mode = mode; vertices = [] } }
         ensures same { self.new ≡ self.old }
     {
@@ -465,7 +465,7 @@ impl Context {
     }
 
     // The fault of a vertex: it stands in an open block that has room for it.
-    fn vertex_fault(&self, pos: [i32; 4]) -> Option<Fault>
+    pub(crate) fn vertex_fault(&self, pos: [i32; 4]) -> Option<Fault>
         ensures { result ≡ fault_of self.now (cmd.Vertex pos) }
     {
         let _pos = pos;
@@ -608,7 +608,7 @@ impl Context {
 }
 
 // The mode of the block that Begin opens.
-fn block_mode(version: u8, kind: u8) -> u8
+pub(crate) fn block_mode(version: u8, kind: u8) -> u8
     requires { has_codes (cmd.Begin kind) ≡ true }
     ensures { result ≡ block_mode version kind }
 {

@@ -4,6 +4,7 @@
 //! `Contexts::Faults`. Where only refused commands and kinds of effects are asked for, a `CountingContext` keeps no vertices. This crate stands on element_table, fixed_math and textures.
 #![tactic(auto)]
 
+mod block_commands;
 mod context;
 mod counting;
 mod elements;
