@@ -20,7 +20,9 @@ from scene_bytes import (
     Placed,
     Refused,
     Scene,
+    filtered,
     meaning,
+    read_bytes,
     scene_forms,
 )
 
@@ -232,3 +234,9 @@ def read(data):
         raise command.Wrong("line 1: NoScene: no line says anything")
     judge(text)
     return text
+
+
+def read_any(data, filters=()):
+    """What a scene's bytes or its text mean behind filters, and what was read."""
+    scene = read_bytes(data) if data[:3] == b"RCS" else read(data).scene
+    return filtered(filters, meaning(scene)[0]), scene
