@@ -3,6 +3,7 @@
 `findings` gives each once, as the page of a run shows it: its kind, its title and its lines.
 """
 import notes
+import reasons
 import scene_bytes
 from command import Wrong
 
@@ -48,7 +49,20 @@ def race_of(scene, match):
     return made
 
 
-def found_in(scene, read, line):
+def refused(known, scene, match, title, of_client):
+    """A refused command, and why where that is known: what was computed of its client is kept."""
+    client, place = int(match[1]), int(match[3])
+    made = finding("fault", f"{title}: {match[2]}", named(scene, client, place))
+    key = title, client
+    if key not in known:
+        known[key] = of_client(client)
+    fault, reason = known[key].get(place, ("", ""))
+    if fault == match[2]:
+        made["lines"].append(f"{reason[0].upper()}{reason[1:]}.")
+    return made
+
+
+def found_in(scene, read, line, known):
     """What one line tells, or nothing."""
     if match := notes.RACE.fullmatch(line):
         return race_of(scene, match)
@@ -58,11 +72,15 @@ def found_in(scene, read, line):
         client, place = int(match[1]), int(match[2])
         return finding("stuck", f"Client {client} waits for ever", named(scene, client, place))
     if match := notes.LIST_FAULT.fullmatch(line):
-        what = named(read, int(match[1]), int(match[3]))
-        return finding("fault", f"A list command was left out: {match[2]}", what)
+        title = "A list command was left out"
+        return refused(
+            known, read, match, title, lambda client: reasons.list_refusals(read.streams[client])
+        )
     if match := notes.FAULT.fullmatch(line):
-        what = named(scene, int(match[1]), int(match[3]))
-        return finding("fault", f"A command was refused: {match[2]}", what)
+        title = "A command was refused"
+        return refused(
+            known, scene, match, title, lambda client: reasons.refusals(scene, client)
+        )
     if line.startswith("rc: ") and line != "rc: stuck":
         return finding("fault", line, "This is how a run ended.")
     return None
@@ -72,5 +90,6 @@ def findings(scene, read, lines):
     """What the notes tell, once each. Places are those of the scene that was drawn, those of list
     commands of the one that was read.
     """
-    made = (found_in(scene, read, line) for line in dict.fromkeys(lines))
+    known = {}
+    made = (found_in(scene, read, line, known) for line in dict.fromkeys(lines))
     return [found for found in made if found]

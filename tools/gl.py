@@ -21,7 +21,10 @@
 Positions, matrices, texture coordinates and depths are numbers as OpenGL has them, and are written
 in 16.16 fixed point. Colours go from 0 to 1, angles are degrees. What the program has no command
 for is made of those it has: QUADS, QUAD_STRIP and POLYGON of triangles, rotate and its like of
-MultMatrix. examples/cube.py is a whole program.
+MultMatrix. What a scene would refuse is a ValueError at the call that makes it, with its reason.
+
+It is imported from tools/, where it stands: `PYTHONPATH=tools python3 mine.py`, or
+sys.path.append("/path/to/tools") before the import. examples/cube.py is a whole program.
 
     python3 tools/gl.py             tells the calls
 """
@@ -31,7 +34,17 @@ import math
 import struct
 
 import command
-from scene_bytes import Refused, Scene as Spelled, print_line, scene_forms
+import ranges
+import reasons
+from scene_bytes import (
+    Refused,
+    Scene as Spelled,
+    print_line,
+    scene_faults,
+    scene_forms,
+    scene_lists,
+    told_refusal,
+)
 
 ONE = 65536
 TRIANGLES, TRIANGLE_STRIP, TRIANGLE_FAN = range(3)
@@ -138,7 +151,17 @@ def rotation(degrees, x, y, z):
     ]
 
 
+def differ(**pairs):
+    """The two of each pair may not be one number."""
+    for name, (first, second) in pairs.items():
+        if first == second:
+            raise ValueError(f"{name.replace('_', ' ')} are both {first}: they have to differ")
+
+
 def frustum_matrix(left, right, bottom, top, near, far):
+    if near <= 0 or far <= 0:
+        raise ValueError(f"near {near} and far {far}: both have to be above 0")
+    differ(left_and_right=(left, right), bottom_and_top=(bottom, top), near_and_far=(near, far))
     return [
         2 * near / (right - left),
         0,
@@ -161,11 +184,16 @@ def frustum_matrix(left, right, bottom, top, near, far):
 
 def perspective_matrix(degrees, aspect, near, far):
     """Seen under so many degrees from the bottom to the top; aspect is width by height."""
+    if not 0 < degrees < 180 or aspect <= 0:
+        raise ValueError(f"{degrees} degrees and aspect {aspect}: 0 to 180, and above 0, are due")
+    if near <= 0:
+        raise ValueError(f"near is {near}: it has to be above 0")
     top = near * math.tan(math.radians(degrees) / 2)
     return frustum_matrix(-top * aspect, top * aspect, -top, top, near, far)
 
 
 def orthographic_matrix(left, right, bottom, top, near=-1.0, far=1.0):
+    differ(left_and_right=(left, right), bottom_and_top=(bottom, top), near_and_far=(near, far))
     return [
         2 / (right - left),
         0,
@@ -189,15 +217,17 @@ def orthographic_matrix(left, right, bottom, top, near=-1.0, far=1.0):
 def look_at_matrix(eye, centre, up):
     """The eye at one point, looking at another one."""
 
-    def unit(v):
+    def unit(v, what):
         length = math.sqrt(sum(n * n for n in v))
+        if length == 0:
+            raise ValueError(what)
         return [n / length for n in v]
 
     def cross(a, b):
         return [a[1] * b[2] - a[2] * b[1], a[2] * b[0] - a[0] * b[2], a[0] * b[1] - a[1] * b[0]]
 
-    f = unit([c - e for c, e in zip(centre, eye)])
-    s = unit(cross(f, up))
+    f = unit([c - e for c, e in zip(centre, eye)], "the eye stands where it looks at")
+    s = unit(cross(f, up), "up goes along the view: take another one")
     u = cross(s, f)
     turned = [s[0], u[0], -f[0], 0, s[1], u[1], -f[1], 0, s[2], u[2], -f[2], 0, 0, 0, 0, 1.0]
     return multiplied(turned, translation(*(-e for e in eye)))
@@ -212,6 +242,7 @@ class Client:
     def __init__(self, scene):
         self.scene, self.commands, self.shape, self.corners = scene, [], None, []
         self.now, self.written = {}, {}
+        self.judge, self.lists, self.record = reasons.Judge(scene), {}, None
 
     def issue(self, name, *numbers, texels=b""):
         """Any command by its name, with its numbers as the program has them."""
@@ -221,7 +252,54 @@ class Client:
         except (KeyError, struct.error):
             words = " ".join(map(str, (name, *numbers)))
             raise ValueError(f"{words[:80]}: no command has this name and these numbers") from None
+        if self.shape is not None:
+            raise ValueError(f"{name} inside a block: end() it first")
+        reason = self._judge(name, made)
+        if reason:
+            raise ValueError(f"{' '.join(map(str, (name, *numbers)))[:80]}: {reason}")
         self.commands.append(made)
+
+    def _judge(self, name, made):
+        """Why the scene would refuse a command here, or None; its context has it then."""
+        if made[0] not in scene_forms.OPCODES.values():
+            return self._judge_list(name, made)
+        if self.record is not None:
+            reason = self.judge.judge_recorded(name, made[1])
+            self.record[1].extend([] if reason else [made])
+            return reason
+        told = self.judge.issue(len(self.commands), made)
+        return told and told[1]
+
+    def _judge_list(self, name, made):
+        """The same of a list command."""
+        if self.scene.version != 3:
+            return "call lists are of version 3: gl.Scene(width, height, version=3)"
+        began = None if self.record is None else f"recording({self.record[0]})"
+        if scene_lists.fault_of(made, began is not None):
+            return reasons.list_reason(made, began)
+        if name == "NewList":
+            self.record = made[1][0], []
+        elif name == "EndList":
+            self.lists[self.record[0]], self.record = self.record[1], None
+        elif began:
+            self.record[1].append(made)
+        else:
+            return self._judge_call(made[1][0])
+        return None
+
+    def _judge_call(self, name):
+        """Why the scene would refuse a command of a list that is called here, or None."""
+        count, cost = scene_lists.sizes(self.lists, name, 1, {})
+        for limit, value in (("commands", count), ("expansion", cost)):
+            if value > ranges.RANGES[limit][1]:
+                return f"limit {limit} {value}: {ranges.told(limit)}"
+        judge = self.judge.copy()
+        for placed in scene_lists.given(self.lists, name, 1, {}):
+            told = judge.issue(len(self.commands), placed)
+            if told:
+                return f"{scene_forms.ALL_COMMANDS[placed[0]][0]} of it is refused: {told[1]}"
+        self.judge = judge
+        return None
 
     # blocks
 
@@ -236,6 +314,10 @@ class Client:
         """A vertex, with the colour and the texture coordinates that are current."""
         if self.shape is None:
             raise ValueError("vertex outside a block")
+        count = len(self.corners) + 1
+        if (count // 4 * 6 if self.shape == QUADS else count) > scene_faults.MOST_VERTICES:
+            more = " (a quad has six)" if self.shape == QUADS else ""
+            raise ValueError(f"a block has at most {scene_faults.MOST_VERTICES} vertices{more}")
         self.corners.append(([fixed(n) for n in (x, y, z, w)], dict(self.now)))
 
     def end(self):
@@ -484,32 +566,50 @@ class Client:
         self.written = {}
 
 
+def judge_ranges(**quantities):
+    """Quantities of a scene, by their names in docs/scene-format.md, lie in their ranges."""
+    for name, value in quantities.items():
+        plain = name.replace("_", " ")
+        least, most = ranges.RANGES[plain]
+        if not isinstance(value, int) or not least <= value <= most:
+            raise ValueError(f"{plain} {value}: {ranges.told(plain)}")
+
+
 class Scene:
     """A window, what its clients share, and their streams."""
 
     def __init__(self, width, height, version=2):
         if version not in (1, 2, 3):
             raise ValueError(f"version {version!r} isn't 1, 2 or 3")
+        judge_ranges(width=width, height=height)
         self.width, self.height, self.version = width, height, version
         self.shared, self.barriers, self.semaphores, self.clients = [], [], [], []
 
     def client(self):
         """A new client."""
+        judge_ranges(clients=len(self.clients) + 1)
         self.clients.append(Client(self))
         return self.clients[-1]
 
     def shared_texture(self, width, height):
         """Declares a shared texture, and gives its name."""
+        judge_ranges(shared_side=width)
+        judge_ranges(shared_side=height, shared_textures=len(self.shared) + 1)
+        judge_ranges(shared_texels=width * height + sum(w * h for w, h in self.shared))
         self.shared.append((width, height))
         return len(self.shared)
 
     def barrier(self, count):
         """Declares a barrier of so many clients, and gives its name."""
+        judge_ranges(barrier_count=count, barriers=len(self.barriers) + 1)
         self.barriers.append(count)
         return len(self.barriers)
 
     def semaphore(self, units=0):
         """Declares a semaphore with its first units, and gives its name."""
+        judge_ranges(semaphores=len(self.semaphores) + 1)
+        if not isinstance(units, int) or not 0 <= units <= 65535:
+            raise ValueError(f"units {units}: 0 to 65535")
         self.semaphores.append(units)
         return len(self.semaphores)
 
@@ -531,7 +631,7 @@ class Scene:
         try:
             scene_forms.judge(made)
         except Refused as refused:
-            raise ValueError(refused.line.decode().strip()) from None
+            raise ValueError(told_refusal(refused)) from None
         return made
 
     def bytes(self):

@@ -35,15 +35,10 @@ MOST_GROUPS, MOST_COLUMNS, MOST_MARKS, MOST_FINDINGS = 1200, 2400, 24_000, 200
 
 def read_scene(path, filters):
     """What a file of bytes or of text means, behind filters."""
-    data = command.read_file(path)
-    if data[:3] == b"RCS":
-        read = scene_bytes.read_bytes(data)
-    else:
-        try:
-            read = scene_text.read(data).scene
-        except command.Wrong as wrong:
-            raise command.Wrong(f"{path}: {wrong}") from None
-    return scene_bytes.filtered(filters, scene_bytes.meaning(read)[0]), read
+    try:
+        return scene_text.read_any(command.read_file(path), filters)
+    except command.Wrong as wrong:
+        raise command.Wrong(f"{path}: {wrong}") from None
 
 
 def kept_frames(stream, scene):

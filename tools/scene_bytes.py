@@ -6,11 +6,14 @@ and filters mean is that of bench/scene_lists.py: the second reader, by which th
 """
 import argparse
 import pathlib
+import re
 import sys
 
 import command
+import ranges
 
 sys.path.append(str(pathlib.Path(__file__).resolve().parent.parent / "bench"))
+import scene_faults  # noqa: E402, F401
 import scene_forms  # noqa: E402
 import scene_lists  # noqa: E402
 from scene_forms import ALL_COMMANDS, ALL_OPCODES, DRAWN_VERSIONS, Refused, Scene  # noqa: E402
@@ -127,13 +130,20 @@ def told_block(stream, place):
     return f"{told(stream[first])} .. End, {vertices} vertices"
 
 
+def told_refusal(refused):
+    """The program's line for a scene that it refuses, and the range of what is outside its own."""
+    line = refused.line.decode().strip()
+    limit = re.fullmatch(r"rc: limit ([a-z ]+) \d+", line)
+    return f"{line}: {ranges.told(limit[1])}" if limit else line
+
+
 def meaning(scene):
     """The scene without call lists that a scene means, and the lines of its refused list commands.
     """
     try:
         return scene_lists.meaning(scene) if scene.version == 3 else (scene, "")
     except Refused as refused:
-        raise command.Wrong(refused.line.decode().strip()) from None
+        raise command.Wrong(told_refusal(refused)) from None
 
 
 def filter_words(words):
@@ -184,7 +194,7 @@ def read_bytes(data):
     try:
         return scene_forms.read(data, DRAWN_VERSIONS)
     except Refused as refused:
-        raise command.Wrong(f"the scene's bytes: {refused.line.decode().strip()}") from None
+        raise command.Wrong(f"the scene's bytes: {told_refusal(refused)}") from None
 
 
 def print_line(placed):

@@ -10,6 +10,7 @@ import difflib
 import re
 
 import command
+import ranges
 from scene_bytes import (
     ALL_COMMANDS,
     ALL_OPCODES,
@@ -19,7 +20,9 @@ from scene_bytes import (
     Placed,
     Refused,
     Scene,
+    filtered,
     meaning,
+    read_bytes,
     scene_forms,
 )
 
@@ -80,9 +83,10 @@ class Text:
                 raise Fault("OutOfPlace", "a second `scene`")
             if own == 5:
                 raise Fault("OutOfPlace", f"{name} before any `client`")
+            meant = " (the command is Barrier)" if name == "barrier" and self.rank == 5 else ""
             raise Fault(
                 "OutOfPlace",
-                f"`{name}` behind what stands after it: shared, barrier, semaphore, client",
+                f"`{name}` behind what stands after it: shared, barrier, semaphore, client{meant}",
             )
         self.rank = own
 
@@ -210,9 +214,7 @@ def judge(text):
         name, value = re.fullmatch(r"rc: limit ([a-z ]+) (\d+)", line).groups()
         place = limit_place(text, name, int(value))
         where = f"line {place}: " if place else ""
-        raise command.Wrong(
-            f"{where}limit {name} {value}: outside the range that docs/scene-format.md tells"
-        ) from None
+        raise command.Wrong(f"{where}limit {name} {value}: {ranges.told(name)}") from None
     meaning(text.scene)
 
 
@@ -220,7 +222,7 @@ def read(data):
     """What a text says: its scene, and the lines of its declarations."""
     if len(data) > scene_forms.LONGEST:
         raise command.Wrong(
-            f"limit scene bytes: the text has more than {scene_forms.LONGEST} bytes"
+            f"limit scene bytes {scene_forms.LONGEST + 1}: {ranges.told('scene bytes')}"
         )
     text = Text()
     for number, line in enumerate(lines_of(data), 1):
@@ -232,3 +234,9 @@ def read(data):
         raise command.Wrong("line 1: NoScene: no line says anything")
     judge(text)
     return text
+
+
+def read_any(data, filters=()):
+    """What a scene's bytes or its text mean behind filters, and what was read."""
+    scene = read_bytes(data) if data[:3] == b"RCS" else read(data).scene
+    return filtered(filters, meaning(scene)[0]), scene

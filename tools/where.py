@@ -5,14 +5,27 @@
     python3 tools/where.py scene.txt < notes.txt
 
 Each line of the notes is written as it came, and behind it the line of the text that it names, for
-a block those from its `Begin` to its `End`; for a pixel its row from the top, as other viewers
-count. Of notes of `pack` it is the line that is refused. `--filters "drop Barrier"` takes places as
-they are behind these filters.
+a block those from its `Begin` to its `End`; of a refused command why it is refused; for a pixel its
+row from the top, as other viewers count; for a limit its range. Of notes of `pack` it is the line
+that is refused. `--filters "drop Barrier"` takes places as they are behind these filters.
 """
 import command
 import notes
+import ranges
+import reasons
 import scene_text
-from scene_bytes import END, block_start, filter_words, filtered, meaning, told, told_block
+from scene_bytes import (
+    CLEAR,
+    END,
+    SHARED_IMAGE,
+    block_start,
+    filter_words,
+    filtered,
+    meaning,
+    name_of,
+    told,
+    told_block,
+)
 
 # Faults of bytes have places in bytes, faults of a text have lines.
 TEXT_KINDS = (
@@ -24,8 +37,9 @@ TEXT_KINDS = (
     "BadHex",
     "NoScene",
 )
-WORDS_LIMITS = ("tile columns", "tile rows", "tiles", "depth", "size")
 LONGEST_LINE = 72
+# What a race is between: anything else has been left behind by places of another stream.
+RACING = (END, CLEAR, SHARED_IMAGE)
 
 
 class Page:
@@ -34,7 +48,7 @@ class Page:
     """
 
     def __init__(self, path, data, filters):
-        self.path, self.refused = path, None
+        self.path, self.refused, self.filters, self.known = path, None, filters, {}
         self.lines = [line.decode("ascii", "replace") for line in scene_text.lines_of(data)]
         try:
             self.text = scene_text.read(data)
@@ -44,20 +58,46 @@ class Page:
         self.scene = self.text.scene
         self.drawn = filtered(filters, meaning(self.scene)[0])
 
+    def foreign(self):
+        """What is said where the notes' places can't be those of this text."""
+        if self.filters:
+            return "this isn't the place of such a command: did the run have these filters?"
+        return "this isn't the place of such a command: had the run filters? (--filters tells them)"
+
+    def has(self, streams, client, place):
+        return not self.refused and client < len(streams) and place < len(streams[client])
+
+    def why(self, client, place, fault):
+        """Why a command of what is drawn has a fault."""
+        if client not in self.known:
+            self.known[client] = reasons.refusals(self.drawn, client)
+        name, reason = self.known[client].get(place, ("", ""))
+        return reason if name == fault else self.foreign()
+
+    def why_list(self, client, place, fault):
+        """Why a list command has a fault."""
+        name, reason = reasons.list_refusals(self.scene.streams[client]).get(place, ("", ""))
+        return reason if name == fault else self.foreign()
+
+    def words_of(self, line):
+        """The words of a line, or none where there is no such line."""
+        return self.lines[line - 1].split() if 0 < line <= len(self.lines) else []
+
     def shown(self, line):
         """A line of the text: its number, and its words."""
         words = self.lines[line - 1].strip() if 0 < line <= len(self.lines) else "(no such line)"
         words = words if len(words) <= LONGEST_LINE else f"{words[:LONGEST_LINE]} .."
         return f"{self.path}:{line}: {words}"
 
-    def command(self, streams, client, place):
-        """The line of a command; of a block that ends there its lines."""
+    def command(self, streams, client, place, is_alone=False):
+        """The line of a command; of a block that ends there its lines, where it isn't alone."""
         if self.refused:
             return f"{self.path}: {self.refused}"
         if client >= len(streams) or place >= len(streams[client]):
             return f"{self.path}: client {client} has no command {place}"
         stream = streams[client]
-        first = block_start(stream, place) if stream[place][0] == END else None
+        is_block = stream[place][0] == END and not is_alone
+        first = block_start(stream, place) if is_block else None
         if first is None:
             return f"{self.shown(stream[place].line)}{self.names(stream[place])}"
         return f"{self.path}:{stream[first].line}-{stream[place].line}: {told_block(stream, place)}"
@@ -79,15 +119,19 @@ class Page:
     def row_from_top(self, column, row):
         if self.refused:
             return f"{self.path}: {self.refused}"
-        return (
-            f"in an image viewer: column {column}, row {self.scene.height - 1 - row} from the top"
-        )
+        scene = self.scene
+        if column >= scene.width or row >= scene.height:
+            return f"the window of this text is {scene.width} by {scene.height}"
+        return f"in an image viewer: column {column}, row {scene.height - 1 - row} from the top"
 
 
 def race_lines(page, match):
     client, place, other, behind = map(int, match.groups()[:4])
-    yield page.command(page.drawn.streams if not page.refused else [], client, place)
-    yield page.command(page.drawn.streams if not page.refused else [], other, behind)
+    streams = [] if page.refused else page.drawn.streams
+    for names in ((client, place), (other, behind)):
+        yield page.command(streams, *names)
+        if page.has(streams, *names) and streams[names[0]][names[1]][0] not in RACING:
+            yield page.foreign()
     if match[5]:
         yield page.row_from_top(int(match[5]), int(match[6]))
     else:
@@ -95,15 +139,19 @@ def race_lines(page, match):
 
 
 def limit_lines(page, name):
-    if name in WORDS_LIMITS:
-        yield "this is a limit of the words behind the job, not of the scene"
-    elif page.refused and str(page.refused).startswith("line "):
-        number, what = str(page.refused)[5:].split(": ", 1)
+    range_ = f"{name}: {ranges.told(name)}"
+    if name in ranges.OF_WORDS:
+        yield f"{range_}; this is a limit of the words behind the job, not of the scene"
+        return
+    if page.refused and str(page.refused).startswith("line "):
+        number, _ = str(page.refused)[5:].split(": ", 1)
         yield page.shown(int(number))
-    elif page.refused:
+    elif page.refused and f"limit {name} " not in str(page.refused):
         yield f"{page.path}: {page.refused}"
     elif name in scene_text.SIDES:
         yield page.declaration("scene", 1)
+    if name in ranges.RANGES:
+        yield range_
 
 
 def malformed_lines(page, kind, place):
@@ -111,6 +159,8 @@ def malformed_lines(page, kind, place):
         yield page.shown(place)
         if page.refused and str(page.refused).startswith(f"line {place}: "):
             yield str(page.refused).split(": ", 1)[1]
+        elif kind == "BadNumber" and page.words_of(place)[:2] == ["scene", "3"]:
+            yield "texts of version 3 are for tools/pack.py: `pack` writes versions 1 and 2"
     else:
         yield f"byte {place} of what the job read, which isn't this text: pack it first"
 
@@ -119,12 +169,21 @@ def spoken_of(page, line):
     """What a line of the notes speaks of, line by line."""
     drawn, read = ([], []) if page.refused else (page.drawn.streams, page.scene.streams)
     if match := notes.LIST_FAULT.fullmatch(line):
-        yield page.command(read, int(match[1]), int(match[3]))
+        client, place = int(match[1]), int(match[3])
+        yield page.command(read, client, place)
+        if page.has(read, client, place):
+            yield page.why_list(client, place, match[2])
     elif match := notes.FAULT.fullmatch(line):
-        yield page.command(drawn, int(match[1]), int(match[3]))
+        client, place = int(match[1]), int(match[3])
+        yield page.command(drawn, client, place, is_alone=True)
+        if page.has(drawn, client, place):
+            yield page.why(client, place, match[2])
     elif match := notes.STUCK.fullmatch(line):
-        yield page.command(drawn, int(match[1]), int(match[2]))
+        client, place = int(match[1]), int(match[2])
+        yield page.command(drawn, client, place)
         kind, *number = match[3].split()
+        if page.has(drawn, client, place) and name_of(drawn[client][place]) != kind:
+            yield page.foreign()
         if number:
             yield page.declaration("barrier" if kind == "Barrier" else "semaphore", int(number[0]))
     elif match := notes.RACE.fullmatch(line):

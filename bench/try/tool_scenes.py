@@ -10,6 +10,8 @@ from tool_calls import EXAMPLES, SCENE, changed, check, drawn, packed, refuses, 
 
 import command
 import gl
+import ranges
+import reasons
 import scene_text
 
 
@@ -140,20 +142,38 @@ def try_by_program(seed, rounds=400):
 
 # ---- where.py
 
+FOREIGN = "this isn't the place of such a command: had the run filters? (--filters tells them)"
 SAID = {
-    "client 0 fault INVALID_VALUE at 0": ["scene.txt:7: ClearColor 255 0 0 255"],
+    "client 0 fault INVALID_VALUE at 0": ["scene.txt:7: ClearColor 255 0 0 255", FOREIGN],
     "race 0 6 1 0 pixel 3 0": [
         "scene.txt:9-13: Begin 0 (TRIANGLES) .. End, 3 vertices",
         "scene.txt:17: Barrier 1",
+        FOREIGN,
         "in an image viewer: column 3, row 1 from the top",
     ],
+    "race 0 6 0 1 pixel 4 0": [
+        "scene.txt:9-13: Begin 0 (TRIANGLES) .. End, 3 vertices",
+        "scene.txt:8: Clear 1 (COLOR)",
+        "the window of this text is 4 by 2",
+    ],
     "stuck client 1 at 0 Barrier 1": ["scene.txt:17: Barrier 1", "scene.txt:4: barrier 2"],
+    "stuck client 0 at 6 Swap": [
+        "scene.txt:9-13: Begin 0 (TRIANGLES) .. End, 3 vertices",
+        FOREIGN,
+    ],
     "race 0 1 1 1 shared 1": [
         "scene.txt:8: Clear 1 (COLOR)",
         "scene.txt:18: Swap",
+        FOREIGN,
         "scene.txt:3: shared 1 1",
     ],
-    "rc: limit width 4": ["scene.txt:2: scene 1 4 2"],
+    "rc: limit width 4": ["scene.txt:2: scene 1 4 2", "width: 1 to 2048"],
+    "rc: limit held pixels 4": [
+        "held pixels: 0 to 33554432 in all frames of `serial`, `last` and `simulate`"
+    ],
+    "rc: limit depth 17": [
+        "depth: 1 to 16; this is a limit of the words behind the job, not of the scene"
+    ],
     "rc: not for last 0 1": ["scene.txt:8: Clear 1 (COLOR)"],
     "client 9 fault INVALID_VALUE at 3": ["scene.txt: client 9 has no command 3"],
     "client 0 fault INVALID_VALUE at 99999": ["scene.txt: client 0 has no command 99999"],
@@ -185,15 +205,19 @@ def try_where(folder):
         same(f"where.py: {note}", got.get(note), due)
     note = "client 0 fault INVALID_VALUE at 0"
     got = said(folder, "scene.txt", [note], "--filters", "drop ClearColor")
-    same("where.py: behind a filter", got[note], ["scene.txt:8: Clear 1 (COLOR)"])
+    due = FOREIGN.replace("had the run filters? (--filters tells them)", "did the run have these filters?")
+    same("where.py: behind a filter", got[note], ["scene.txt:8: Clear 1 (COLOR)", due])
     text = (
         "scene 3 1 1\nclient\nNewList 1\nClear 1\nClear 9\nEndList\nCallList 1\nCallList 1\nSwap\n"
     )
     (folder / "lists.txt").write_text(text)
     lists = {
-        "client 0 list fault INVALID_VALUE at 4": ["lists.txt:7: CallList 1"],
-        "client 0 fault INVALID_VALUE at 3": ["lists.txt:5: Clear 9"],
-        "client 0 fault INVALID_VALUE at 4": ["lists.txt:9: Swap"],
+        "client 0 list fault INVALID_VALUE at 4": ["lists.txt:7: CallList 1", FOREIGN],
+        "client 0 fault INVALID_VALUE at 3": [
+            "lists.txt:5: Clear 9",
+            "9 has other bits than 1 (colour) and 2 (depth)",
+        ],
+        "client 0 fault INVALID_VALUE at 4": ["lists.txt:9: Swap", FOREIGN],
     }
     same("where.py: call lists", said(folder, "lists.txt", lists), lists)
     (folder / "wrong.txt").write_text("scene 1 1 1\nclient\nColor 1 2 3\n")
@@ -202,6 +226,68 @@ def try_where(folder):
     is_told = got[0] == "wrong.txt:3: Color 1 2 3" and "4 numbers (r g b a)" in got[1]
     check("where.py: a refused text", is_told, got)
     same("where.py: no notes", said(folder, "scene.txt", []), {})
+
+
+# What is told of a refused command, by the commands of a client behind refusals.HEAD.
+REASONS = {
+    "Begin 1;Vertex 0 0 0 1;Swap": (2, "the block that line 6 opens"),
+    "Begin 7;Vertex 0 0 0 1": (1, "the Begin of line 6 was refused"),
+    "Begin 0;End;End": (2, "the End of line 7 has ended the block before"),
+    "Barrier 2": (0, "barrier 2 isn't declared: there is one"),
+    "SemV 3": (0, "semaphore 3 isn't declared: there is one"),
+    "BindTexture 1 2": (0, "shared texture 2 isn't declared: there is one"),
+    f"TexImage 1 257 1 {'00000000' * 257}": (0, "257 by 1 is above 256 by 256"),
+    "TexImage 1 0 1;TexPart 1 0 0 0 0": (1, "the TexImage of line 6 was refused"),
+    "TexPart 9 0 0 0 0": (0, "texture 9 has no image: it needs a TexImage first"),
+    "SharedImage 1 0 2 0 0": (0, "rows 2 to 2 aren't inside the texture, which is 1 high"),
+    "Enable 6": (0, "capability 6 is none of 0 SCISSOR, 1 ALPHA, 2 DEPTH"),
+    "MatrixMode 1;PopMatrix": (1, "the projection stack has one matrix"),
+    "Viewport 0 0 0 2049": (0, "0 by 2049: each is from 0 to 2048"),
+}
+
+
+def reason_of(folder, commands, line):
+    """What where.py says behind the line of a refused command."""
+    (folder / "one.txt").write_bytes(refusals.HEAD + refusals.text_of(commands))
+    return said(folder, "one.txt", [line])[line][1:]
+
+
+def try_reasons(folder):
+    """Each refused command of docs/scene-format.md has a reason, and those above have theirs."""
+    tables = refusals.tables()
+    rows = [row for head, rows in tables if head == ("commands", "line", "rule") for row in rows]
+    check("where.py: the table of refused commands is there", len(rows) > 40, len(rows))
+    without = []
+    for commands, line, _ in rows:
+        reason = reason_of(folder, commands, line)
+        without += [commands] if len(reason) != 1 or reason == [FOREIGN] else []
+    same("where.py: refused commands without a reason", without, [])
+    for commands, (place, due) in REASONS.items():
+        (folder / "one.txt").write_bytes(refusals.HEAD + refusals.text_of(commands))
+        scene = scene_text.read((folder / "one.txt").read_bytes()).scene
+        fault, reason = reasons.refusals(scene, 0)[place]
+        check(f"where.py: why {commands[:40]}", due in reason, reason)
+        told = reason_of(folder, commands, f"client 0 fault {fault} at {place}")
+        same(f"where.py: told why {commands[:40]}", told, [reason])
+
+
+def try_list_reasons(folder):
+    head = ("commands of version 3", "line", "rule")
+    rows = [row for names, rows in refusals.tables() if names == head for row in rows]
+    check("where.py: the table of refused list commands is there", len(rows) > 5, len(rows))
+    for commands, line, _ in rows:
+        text = f"scene 3 1 1\nclient\n{commands.replace(';', chr(10))}\n"
+        (folder / "one.txt").write_text(text)
+        told = said(folder, "one.txt", [line])[line]
+        check(f"where.py: why {commands}", len(told) == 2 and told[1] != FOREIGN, told)
+
+
+def try_ranges():
+    """The ranges are those of docs/scene-format.md."""
+    rows = next(rows for head, rows in refusals.tables() if head[:2] == ("no.", "name"))
+    told = {name: re.match(r"(\d+) to (\d+)", range_).groups() for _, name, _, range_ in rows}
+    due = {name: tuple(map(str, range_)) for name, range_ in ranges.RANGES.items()}
+    same("the ranges of limits", told, due)
 
 
 # ---- gl.py
@@ -244,6 +330,54 @@ def quad_scene():
     return scene, client
 
 
+def wrong_calls(scene, client):
+    """Calls that are refused, each with what is told of it."""
+    third = gl.Scene(4, 4, version=3).client()
+
+    def inside():
+        other = scene.client()
+        with other.block(gl.QUADS):
+            other.swap()
+
+    def many():
+        other = scene.client()
+        with other.block(gl.TRIANGLES):
+            for _ in range(16_384):
+                other.vertex(0, 0)
+
+    def called():
+        with third.recording(2):
+            third.pop()
+        third.call(2)
+
+    return {
+        "a number that doesn't fit": (lambda: gl.fixed(40000), "16.16"),
+        "no number": (lambda: gl.fixed(float("nan")), "16.16"),
+        "a vertex outside a block": (lambda: client.vertex(0, 0), "outside a block"),
+        "a wide window": (lambda: gl.Scene(4096, 2), "1 to 2048"),
+        "texels that are too few": (lambda: client.tex_image(1, 2, 2, bytes(4)), "16 bytes"),
+        "a byte that is none": (lambda: client.issue("Clear", 256), "these numbers"),
+        "a large texture": (
+            lambda: client.tex_image(1, 512, 512, bytes(4 << 18)),
+            "512 by 512 is above 256 by 256",
+        ),
+        "a part of no image": (lambda: client.tex_part(2, 0, 0, 0, 0, b""), "has no image"),
+        "a barrier that isn't declared": (lambda: client.barrier(2), "there is one"),
+        "a unit of no semaphore": (lambda: client.semaphore_take(1), "there are none"),
+        "a swap inside a block": (inside, "inside a block"),
+        "a block of many vertices": (many, "at most 16383 vertices"),
+        "a pop of the last matrix": (client.pop, "none below it"),
+        "a code that is none": (lambda: client.enable(6), "5 TEXTURE"),
+        "a list in version 2": (lambda: client.call(1), "version=3"),
+        "a list that pops too much": (called, "PopMatrix of it is refused"),
+        "a list's name": (lambda: third.call(65), "1 to 64"),
+        "a barrier of nine": (lambda: scene.barrier(9), "1 to 8"),
+        "an eye where it looks at": (lambda: client.look_at((0, 0, 1), (0, 0, 1)), "the eye"),
+        "up along the view": (lambda: client.look_at((0, 2, 0), (0, 0, 0)), "up goes along"),
+        "a near plane at 0": (lambda: client.perspective(45, 1, 0, 9), "above 0"),
+    }
+
+
 def try_scene(folder):
     scene, client = quad_scene()
     corners = ["0 0 0 65536", "65536 0 0 65536", "65536 65536 0 65536", "0 65536 0 65536"]
@@ -254,20 +388,14 @@ def try_scene(folder):
     scene.save(folder / "quad.rcs")
     text, data = (folder / "quad.txt").read_bytes(), (folder / "quad.rcs").read_bytes()
     same("gl.py: saved as text and as bytes", verdict(text), data)
-    wrongs = {
-        "a number that doesn't fit": lambda: gl.fixed(40000),
-        "no number": lambda: gl.fixed(float("nan")),
-        "a vertex outside a block": lambda: client.vertex(0, 0),
-        "a wide window": lambda: gl.Scene(4096, 2).text(),
-        "texels that are too few": lambda: client.tex_image(1, 2, 2, bytes(4)),
-        "a byte that is none": lambda: client.issue("Clear", 256),
-    }
-    for what, call in wrongs.items():
+    for what, (call, due) in wrong_calls(scene, client).items():
+        count = len(client.commands)
         try:
             call()
             check(f"gl.py: {what}", False, "it is taken")
-        except ValueError:
-            check(f"gl.py: {what}", True)
+        except ValueError as wrong:
+            check(f"gl.py: {what}", due in str(wrong), wrong)
+        same(f"gl.py: nothing is written of {what}", len(client.commands), count)
 
 
 def try_recorded():
@@ -310,6 +438,9 @@ def try_all(folder, seed):
     try_wrong_texts()
     try_lists()
     try_where(folder)
+    try_reasons(folder)
+    try_list_reasons(folder)
+    try_ranges()
     try_numbers()
     try_scene(folder)
     try_recorded()
