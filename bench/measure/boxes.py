@@ -3,9 +3,8 @@ as a scene of version 2 (docs/cluster.md, 'Boxes'), and how many pixels more the
 
     python3 bench/measure/boxes.py [--tiles 4x3] [SCENE ..]
 
-Where the program sort_report is built, the parcels that it tells of the scene as version 2 are compared with what is computed here, box by box, by the
-documents alone:
-    cd crates/sort_report && rt run -- 1 1 < ../../examples/red.rcs
+Where the program is built, the parcels that its report tells of the scene as version 2 are compared with what is computed here, box by box, by the documents
+alone.
 """
 import argparse
 import pathlib
@@ -16,11 +15,10 @@ sys.path.insert(0, str(pathlib.Path(__file__).resolve().parent.parent))
 
 import scene_forms
 import scene_lists
-from program import EXAMPLES, standing
+from program import EXAMPLES, PROGRAM, is_built
 from scene_boxes import Context
 from scene_forms import OPCODES
 
-PROGRAM = standing("sort_report")
 SENT_TO_ALL = {OPCODES[name] for name in ("SharedImage", "Barrier", "SemP", "SemV", "Swap")}
 
 
@@ -69,10 +67,10 @@ def counted(scene, tiles):
 
 
 def told(data, tiles):
-    """The parcels that sort_report tells."""
-    words = [PROGRAM, str(len(tiles.columns)), str(len(tiles.rows))]
-    lines = subprocess.run(words, input=data, stdout=subprocess.PIPE, check=True).stdout.decode().splitlines()
-    return sum(int(line.split()[3]) for line in lines)
+    """The parcels to all tiles, by the report of a run."""
+    words = [PROGRAM, "render", "--tiles", f"{len(tiles.columns)}x{len(tiles.rows)}"]
+    notes = subprocess.run(words, input=data, stdout=subprocess.DEVNULL, stderr=subprocess.PIPE).stderr.decode()
+    return sum(int(line.split()[3]) for line in notes.splitlines() if line.startswith("tile "))
 
 
 def main():
@@ -81,9 +79,9 @@ def main():
     parser.add_argument("scenes", nargs="*", type=pathlib.Path, help="scene files (all of examples/)")
     args = parser.parse_args()
     columns, rows = (int(side) for side in args.tiles.split("x"))
-    built = PROGRAM.exists()
+    built = is_built()
     if not built:
-        print("sort_report isn't built: nothing is compared", file=sys.stderr)
+        print("the program isn't built: nothing is compared", file=sys.stderr)
     print(f"{'scene':<18} {'blocks':>7} {'near':>5} {'exact':>8} {'object':>8} {'more':>6} {'all, more':>10} {'pixels, more':>13}")
     for path in args.scenes or sorted(EXAMPLES.glob("*.rcs")):
         data = scene_lists.expanded(path.read_bytes())
@@ -94,7 +92,7 @@ def main():
         if not blocks:
             continue
         if built and told(data, tiles) != over + others:
-            sys.exit(f"{path.stem}: sort_report tells {told(data, tiles)} parcels, and not {over + others}")
+            sys.exit(f"{path.stem}: the report tells {told(data, tiles)} parcels, and not {over + others}")
         more = [f"{n / max(d, 1) - 1:.1%}" for n, d in ((over, exact), (over + others, exact + others), (boxed, covered))]
         print(f"{path.stem:<18} {blocks:>7} {near:>5} {exact:>8} {over:>8} {more[0]:>6} {more[1]:>10} {more[2]:>13}", flush=True)
 

@@ -5,8 +5,7 @@ and in processor seconds. What reading takes is measured on the same scene with 
 and writing what the swaps add. Mesa prints its own seconds of drawing, those of all its threads together. Processor seconds are user and system time, so that
 what else the machine does counts little.
 
-Where the program sort_report is built (SORT_REPORT names another place), what issuing and sorting take is its run less the reading. Where BEFORE names a program
-that was built earlier, reading and drawing of scenes without lists and filters are compared with it.
+Where BEFORE names a program that was built earlier, reading and drawing of scenes without lists and filters are compared with it.
 """
 import os
 import subprocess
@@ -16,7 +15,6 @@ import time
 program, scenes, work = sys.argv[1:]
 mesa = os.path.join(work, "mesa")
 here = os.path.dirname(os.path.abspath(__file__))
-sorter = os.environ.get("SORT_REPORT", os.path.join(here, "../../crates/sort_report/out/sort_report"))
 PIXELS = 1024 * 768
 
 
@@ -152,8 +150,6 @@ def main():
     state_ratios()
     cluster_ratios()
     thread_ratios()
-    if os.path.exists(sorter):
-        sort_ratios()
     depth_ratios()
 
 
@@ -292,32 +288,6 @@ def thread_ratios():
         threads = clocked([program, "render", *words.split()], scene)
         stepped = clocked([program, "simulate", "--seed", "1", *words.split()], scene)
         print(f"{name}, {words}: render {threads[0]:.3f} s ({threads[1]:.3f})   simulate {stepped[0]:.3f} s   render : simulate = {threads[0] / stepped[0]:.2f} : 1", flush=True)
-
-
-def sort_ratios():
-    """Seconds to issue and sort one client's stream to the tiles, behind reading it."""
-    scene = path("usual")
-    read = run("render", path("usual", "unread"))[0]
-    print("reading : issuing and sorting = 1 :", end="")
-    for columns, rows in ((1, 1), (2, 2), (4, 4), (8, 4)):
-        seconds, _, status = best_of([sorter, str(columns), str(rows)], scene)
-        told = f"{(seconds - read) / read:.2f}" if status == 0 else f"status {status}"
-        print(f"  {columns}x{rows} {told}", end="", flush=True)
-    print("\nissuing and sorting as version 2 to version 1, 8x4:", end="")
-    for name in ("usual", "turned", "small", "lone"):
-        print(f" {name} {sort_ratio(name):.2f}", end="", flush=True)
-    print()
-
-
-def sort_ratio(name):
-    """What issuing and sorting a scene as one of version 2 takes to version 1. The runs take turns, since clocks vary."""
-    read = [best_of([sorter, "8", "4"], path(name, *words, "unread"))[0] for words in ((), ("v2",))]
-    sorted_ = [[], []]
-    for _ in range(5):
-        for seconds, words in zip(sorted_, ((), ("v2",))):
-            seconds.append(best_of([sorter, "8", "4"], path(name, *words))[0])
-    one, other = (max(min(seconds) - before, 1e-9) for seconds, before in zip(sorted_, read))
-    return other / one
 
 
 main()

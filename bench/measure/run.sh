@@ -2,8 +2,6 @@
 # Prints how long the built program takes to read, draw and write the scenes of scenes.py, as ratios of one run, and where Mesa's off-screen OpenGL
 # is installed (Debian's libosmesa6-dev) how its two software renderers do on the same scenes. Build the program first:
 #     cd crates/render_cli && rt run -- render < ../../examples/red.rcs > /dev/null
-# and, for what issuing and sorting to the tiles take:
-#     cd crates/sort_report && rt run -- 1 1 < ../../examples/red.rcs
 set -eu
 here=$(cd "$(dirname "$0")" && pwd)
 program=${1:-$(python3 "$here/../program.py")}

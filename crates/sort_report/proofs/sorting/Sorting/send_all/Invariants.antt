@@ -1,8 +1,0 @@
-use Rattle.std.proofs.Common.{◌≡◌, length}
-use Rattle.rc_base.specs.Cluster.Tiles.{tile_count}
-use Rattle.client_issue.specs.Cores.{layout_of}
-use Rattle.sort_report.proofs.sorting.Sorting.send_all.Given as goal
-
--- there is a lane for each of the client's tiles
-abbrev pub invariant-loop : goal.invariant-loop
-invariant-loop l = length l.self.tiles.items ≡ tile_count (layout_of l.self.core)
