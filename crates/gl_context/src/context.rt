@@ -286,6 +286,7 @@ impl Context {
         }
     }
 
+    #[inline(always)]
     pub(crate) fn add_vertex(&mut self, pos: [i32; 4]) -> Result<(), OutOfMemory>
         ensures ok { OnOk result (self.new ≡ carried_out self.old (cmd.Vertex pos)) }
         ensures err { OnErr result (self.new ≡ self.old) }
@@ -302,12 +303,14 @@ impl Context {
         Ok(())
     }
 
+    #[inline(always)]
     pub(crate) fn set_color(&mut self, color: Rgba)
         ensures { self.new ≡ record self.old { color = color } }
     {
         self.color = color;
     }
 
+    #[inline(always)]
     pub(crate) fn set_coordinate(&mut self, s: &i32, t: &i32)
         ensures { self.new ≡ record self.old { s = s.now; t = t.now } }
     {
@@ -456,6 +459,7 @@ impl Context {
     // ---- one command
 
     // Notes the fault of a refused command.
+    #[inline(never)]
     pub(crate) fn refuse(&mut self, place: u32, fault: Fault) -> Result<(), OutOfMemory>
         ensures ok { OnOk result (self.new ≡ refused self.old place fault) }
         ensures err { OnErr result (self.new ≡ self.old) }
@@ -465,6 +469,7 @@ impl Context {
     }
 
     // The fault of a vertex: it stands in an open block that has room for it.
+    #[inline(always)]
     pub(crate) fn vertex_fault(&self, pos: [i32; 4]) -> Option<Fault>
         ensures { result ≡ fault_of self.now (cmd.Vertex pos) }
     {
@@ -475,6 +480,7 @@ impl Context {
         }
     }
 
+    #[inline(always)]
     #[tactic(auto, unfolding(rc_base::specs::Contexts::Issue::issued, rc_base::specs::Contexts::Issue::effect_of))]
     fn issue_vertex(&mut self, place: u32, pos: [i32; 4]) -> Result<Effect, OutOfMemory>
         ensures effect { IfOk result (λ e. e ≡ effect_of self.old (cmd.Vertex pos)) }
@@ -494,6 +500,7 @@ impl Context {
     }
 
     // Tries each rule in turn.
+    #[inline(never)]
     #[tactic(auto, unfolding(rc_base::specs::Contexts::Issue::issued, rc_base::specs::Contexts::Issue::effect_of))]
     fn issue_by_rules(&mut self, place: u32, command: &Command) -> Result<Effect, OutOfMemory>
         requires texels { HasTexels command.now }
@@ -513,6 +520,7 @@ impl Context {
     }
 
     /// Carries out the command at its place, or refuses it and notes its fault. Where memory is wanting, nothing is changed.
+    #[inline(always)]
     #[tactic(auto, unfolding(rc_base::specs::Contexts::Issue::issued, rc_base::specs::Contexts::Issue::effect_of))]
     pub fn issue(&mut self, place: u32, command: &Command) -> Result<Effect, OutOfMemory>
         requires texels { HasTexels command.now }
@@ -531,11 +539,24 @@ impl Context {
                 self.set_coordinate(s, t);
                 Ok(Effect::Quiet)
             }
+            Command::Begin { mode } => {
+                if self.begin(*mode) {
+                    return Ok(Effect::Quiet);
+                }
+                self.issue_by_rules(place, command)
+            }
+            Command::End => {
+                if let Some(block) = self.end() {
+                    return Ok(Effect::Block(block));
+                }
+                self.issue_by_rules(place, command)
+            }
             _ => self.issue_by_rules(place, command),
         }
     }
 
     /// Takes back what a command did and is done with, so that the next block has the room of this one.
+    #[inline(always)]
     pub fn take_back(&mut self, effect: Effect)
         ensures { self.new ≡ self.old }
     {

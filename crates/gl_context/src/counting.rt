@@ -73,6 +73,7 @@ impl CountingContext {
     }
 
     // Issues a command where a block of so many vertices is open.
+    #[inline(always)]
     fn issue_inside(
         &mut self,
         place: u32,
@@ -109,6 +110,7 @@ impl CountingContext {
     }
 
     // Issues a command where none is open.
+    #[inline(never)]
     fn issue_outside(&mut self, place: u32, command: &Command) -> Result<EffectKind, OutOfMemory>
         requires closed { self.old.vertices ≡ None }
         requires texels { HasTexels command.now }
@@ -124,6 +126,7 @@ impl CountingContext {
 
     /// Carries out the command at its place, or refuses it and notes its fault, and gives the kind of its effect. Where memory is wanting, nothing is
     /// changed.
+    #[inline(always)]
     pub fn issue(&mut self, place: u32, command: &Command) -> Result<EffectKind, OutOfMemory>
         requires texels { HasTexels command.now }
         requires room { HasRoomForEdits self.old.outside }

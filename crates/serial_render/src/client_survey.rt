@@ -24,6 +24,7 @@ pub struct ClientSurvey {
 }
 
 // Adds the operation of synchronisation that a command is.
+#[inline(always)]
 fn add_operation(ops: &mut SyncOps, place: u32, kind: EffectKind) -> Result<(), OutOfMemory>
     ensures { OnOk result (ops.new ≡ ops.old ++ waits_at place kind) }
 {
@@ -45,6 +46,7 @@ impl ClientSurvey {
     }
 
     /// Issues the client's next command, and gives the kind of its effect.
+    #[inline(always)]
     pub fn issue(
         &mut self,
         scene: &Scene,

@@ -26,6 +26,7 @@ pub fn window(decl: &Decl) -> Rect
 }
 
 /// Adds images of the device until there are so many frames.
+#[inline(always)]
 pub fn show_up_to(
     alloc: Global,
     decl: &Decl,

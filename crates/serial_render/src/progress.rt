@@ -13,6 +13,7 @@ use rc_base::out_of_memory::OutOfMemory;
 use rc_base::scene::{Decl, Sizes};
 use rc_base::sync::{Name, Order, SyncLists, SyncRow, WaitAt};
 use std::alloc::Global;
+use std::mem::replace;
 use sync_manager::book::Book;
 
 /// The book, the order so far, and for each client how many of its operations have arrived and how many of its names the order has.
@@ -63,12 +64,21 @@ fn place_behind(place: u32, end: u32) -> u32
 }
 
 // Adds the names of a client from one place to another.
-fn add_names(order: &mut Order, client: u8, from: u32, to: u32) -> Result<(), OutOfMemory>
+fn add_names(
+    alloc: Global,
+    order: &mut Order,
+    client: u8,
+    from: u32,
+    to: u32,
+) -> Result<(), OutOfMemory>
     ensures { OnOk result (order.new ≡ order.old ++ names_from client from (to - from)) }
 {
+    let mut names = replace(order, Order::new(alloc)).into_vec();
+    names.reserve(to.saturating_sub(from) as usize)?;
     for place in from..to {
-        order.push(Name { client, place })?;
+        names.push_reserved(Name { client, place });
     }
+    *order = Order::from_vec(names);
     Ok(())
 }
 
@@ -121,7 +131,12 @@ impl Progress {
     }
 
     /// A client that is wanted issues up to its next operation, or to the end of its stream.
-    fn advance_client(&mut self, syncs: &SyncLists, client: u8) -> Result<(), OutOfMemory>
+    fn advance_client(
+        &mut self,
+        alloc: Global,
+        syncs: &SyncLists,
+        client: u8,
+    ) -> Result<(), OutOfMemory>
         requires way { IsOrderUnderWay syncs.now self.old }
         requires clients { client_count syncs.now ≤ 8 }
         requires declared { AreDeclared syncs.now }
@@ -136,7 +151,8 @@ impl Progress {
         let row = row_of(syncs, client);
         let next = operation(row, self.arrived[client as usize]);
         let place = place_of(next, row.length);
-        add_names(&mut self.order, client, self.issued[client as usize], place)?;
+        let first = self.issued[client as usize];
+        add_names(alloc, &mut self.order, client, first, place)?;
         self.issued[client as usize] = place;
         self.arrived[client as usize] += usize::from(next.is_some());
         tell(&mut self.book, client, next)?;
@@ -144,7 +160,7 @@ impl Progress {
     }
 
     /// Each client that is wanted does, clients rising.
-    pub(crate) fn advance(&mut self, syncs: &SyncLists) -> Result<(), OutOfMemory>
+    pub(crate) fn advance(&mut self, alloc: Global, syncs: &SyncLists) -> Result<(), OutOfMemory>
         requires way { IsOrderUnderWay syncs.now self.old }
         requires clients { client_count syncs.now ≤ 8 }
         requires declared { AreDeclared syncs.now }
@@ -155,14 +171,14 @@ impl Progress {
     {
         for client in 0..syncs.clients.len() as u8 {
             if self.book.is_wanted(client) {
-                self.advance_client(syncs, client)?;
+                self.advance_client(alloc, syncs, client)?;
             }
         }
         Ok(())
     }
 
     /// The clients that are wanted after a grant, which are the members of its entry, add the names of their operations.
-    fn perform(&mut self, syncs: &SyncLists) -> Result<(), OutOfMemory>
+    fn perform(&mut self, alloc: Global, syncs: &SyncLists) -> Result<(), OutOfMemory>
         requires clients { client_count syncs.now ≤ 8 }
         requires book { client_count syncs.now ≡ clients_in self.old.book }
         requires issued { CountsNames syncs.now self.old }
@@ -179,7 +195,7 @@ impl Progress {
             if self.book.is_wanted(client) {
                 let place = self.issued[client as usize];
                 let behind = place_behind(place, row_of(syncs, client).length);
-                add_names(&mut self.order, client, place, behind)?;
+                add_names(alloc, &mut self.order, client, place, behind)?;
                 self.issued[client as usize] = behind;
             }
         }
@@ -187,7 +203,7 @@ impl Progress {
     }
 
     /// One entry is granted and performed, and its members go on. The answer is whether there was one.
-    pub(crate) fn turn(&mut self, syncs: &SyncLists) -> Result<bool, OutOfMemory>
+    pub(crate) fn turn(&mut self, alloc: Global, syncs: &SyncLists) -> Result<bool, OutOfMemory>
         requires well { IsWellFormed syncs.now }
         requires clients { client_count syncs.now ≤ 8 }
         requires declared { AreDeclared syncs.now }
@@ -198,8 +214,8 @@ impl Progress {
     {
         match self.book.grant() {
             Some(_) => {
-                self.perform(syncs)?;
-                self.advance(syncs)?;
+                self.perform(alloc, syncs)?;
+                self.advance(alloc, syncs)?;
                 Ok(true)
             }
             None => Ok(false),

@@ -34,9 +34,9 @@ pub fn turns_of(alloc: Global, syncs: &SyncLists) -> Result<Turns, OutOfMemory>
     ensures at { IfOk result (λ t. HasWaits syncs.now t.journal t.waiting) }
 {
     let mut progress = Progress::new(alloc, syncs)?;
-    progress.advance(syncs)?;
+    progress.advance(alloc, syncs)?;
     loop {
-        if !progress.turn(syncs)? {
+        if !progress.turn(alloc, syncs)? {
             break;
         }
     }

@@ -40,6 +40,7 @@ impl Client {
     }
 
     /// Issues the client's next command.
+    #[inline(always)]
     fn issue(&mut self, scene: &Scene, client: usize, place: usize) -> Result<Effect, OutOfMemory>
         requires within { IsWithin scene.now }
         requires inside { place < length (stream_of scene.now client) }
@@ -52,6 +53,7 @@ impl Client {
         Ok(effect)
     }
 
+    #[inline(always)]
     fn take_back(&mut self, effect: Effect)
         ensures { self.new ≡ self.old }
     {
@@ -71,6 +73,7 @@ pub fn clients_of(alloc: Global, scene: &Scene) -> Result<Vec<Client>, OutOfMemo
 }
 
 /// Issues the command of a name, the next one of its client.
+#[inline(always)]
 pub fn issue_name(
     clients: &mut Vec<Client>,
     scene: &Scene,
@@ -86,6 +89,7 @@ pub fn issue_name(
 }
 
 /// Gives a client back what one of its commands did and is done with, so that its next block has the room of this one.
+#[inline(always)]
 pub fn take_back(clients: &mut Vec<Client>, client: usize, effect: Effect)
     requires { client < length clients.old.items }
     ensures { clients.new.items ≡ clients.old.items }

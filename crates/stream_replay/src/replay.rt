@@ -12,6 +12,7 @@ use rc_base::scene::Scene;
 use rc_base::state::Effect;
 
 /// The command of a client at a place.
+#[inline(always)]
 fn command_at(scene: &Scene, client: usize, place: usize) -> &Command
     requires { place < length (stream_of scene.now client) }
     ensures { command_at scene.now client place ≡ Some result.now }
@@ -21,6 +22,7 @@ fn command_at(scene: &Scene, client: usize, place: usize) -> &Command
 }
 
 /// Issues the command of a client at a place, where its commands before it were issued.
+#[inline(always)]
 pub fn issue_at(
     context: &mut Context,
     scene: &Scene,
@@ -37,6 +39,7 @@ pub fn issue_at(
 }
 
 /// The same in a context whose open block is only counted: it gives the kind of the command's effect.
+#[inline(always)]
 pub fn count_at(
     counting: &mut CountingContext,
     scene: &Scene,

@@ -10,7 +10,9 @@ loop-place-init c =
     let none : c.args.from - c.args.from ≡ 0 = omega arith in
     record {
       most = omega arith;
-      names = sym (ap (λ (n : ℕ). c.args.order.now ++ names_from c.args.client c.args.from n) none ∙ append-nil c.args.order.now);
+      names = c.in_ok-reserve.ensures.items ∙ c.into_vec-names.ensures ∙ c.replace.ensures.value
+          ∙ sym (ap (λ (n : ℕ). c.args.order.now ++ names_from c.args.client c.args.from n) none ∙ append-nil c.args.order.now);
+      room = omega (arith, c.in_ok-reserve.ensures.ok, c.reserve.ensures.len, c.saturating_sub.ensures);
     }
 
 pub loop-place-preserved : goal.loop-place-preserved
@@ -23,15 +25,16 @@ loop-place-preserved c =
     let more : place + 1 - from ≡ n + 1 = omega (arith, c.loop-place.auto.place) in
     record {
       most = omega (arith, c.loop-place-test.true);
-      names = c.in_ok-push.ensures.items
+      names = c.push_reserved.ensures.items
           ∙ ap (λ (l : List Name). l ++ name ∷ []) c.loop-place.invariant.names
           ∙ append_assoc c.args.order.now (names_from client from n) (name ∷ [])
           ∙ ap (λ (l : List Name). c.args.order.now ++ l) (sym (names_from_more client from n place (omega (arith, c.loop-place.auto.place))))
           ∙ ap (λ (k : ℕ). c.args.order.now ++ names_from client from k) (sym more);
+      room = omega (arith, c.push_reserved.ensures.len, c.push_reserved.ensures.capacity, c.loop-place.invariant.room, c.loop-place-test.true);
     }
 
 pub returns : goal.returns
 returns c =
     let last : c.loop-place.place - c.args.from ≡ c.args.to - c.args.from =
     omega (arith, c.loop-place.invariant.most, c.loop-place.auto.place, c.loop-place-test.false) in
-    c.loop-place.invariant.names ∙ ap (λ (k : ℕ). c.args.order.now ++ names_from c.args.client c.args.from k) last
+    c.from_vec.ensures ∙ c.loop-place.invariant.names ∙ ap (λ (k : ℕ). c.args.order.now ++ names_from c.args.client c.args.from k) last
