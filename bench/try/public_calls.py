@@ -7,8 +7,9 @@ A public call is a function, or a method of a type or trait, that the root file 
 - each that no other crate's source names: nothing but its own crate would notice a body that always lacks memory (`nobody CRATE CALL`); laws, functions
   without parameters and without an answer, compute nothing and are left out, and so are the methods that a trait asks for;
 - each, a trait's methods and laws among them, that has no row in docs/proved.md (`no row CRATE CALL`), and each call of a row there that the crate doesn't hand out (`no call CRATE CALL`).
-With --table or --callers only that part is done; with names of crates only these. Crates of tests, programs and the scenes that tests share hand out nothing. It reads the
-sources as text: a call is named where its name stands behind a dot, `::` or an import, in a crate that stands on its own one.
+With --table or --callers only that part is done; with names of crates only these. Crates of tests, programs, examples, callers that are proved alone (`uses`) and the scenes
+that tests share hand out nothing, and what these callers name is named by nobody. It reads the sources as text: a call is named where its name stands behind a dot, `::` or an
+import, in a crate that stands on its own one.
 
 The last line is 'N passed, M failed'; the status is 1 where a line was printed, and 2 where the call is wrong."""
 import re
@@ -18,6 +19,8 @@ from pathlib import Path
 TOP = Path(__file__).resolve().parent.parent.parent
 CRATES = TOP / "crates"
 WORD = r"[A-Za-z_][A-Za-z0-9_]*"
+# Crates that hand out no call to other crates.
+HAND_OUT_NOTHING = {"test_scenes", "worked_examples", "uses"}
 # Methods that std's traits ask for, or that contracts alone need: they are their trait's, and no call of the crate's own.
 OF_STD = {"clone", "drop", "fmt", "from", "eq", "ne", "size_hint", "source", "into_iter"}
 
@@ -196,7 +199,7 @@ def main(words):
         if not word.startswith("-") and word not in below:
             stop(f"there is no crate {word!r}")
     both = "--table" in words and "--callers" in words or not any(word.startswith("-") for word in words)
-    judged = [name for name in below if not name.endswith("_tests") and name not in ("test_scenes", "worked_examples") and not is_of_program(name)]
+    judged = [name for name in below if not name.endswith("_tests") and name not in HAND_OUT_NOTHING and not is_of_program(name)]
     crates = {name: Crate(name) for name in judged if not only or name in only}
     texts = {name: "\n".join(path.read_text() for path in sources(name)) for name in below}
     passed, failed = 0, 0
@@ -209,7 +212,7 @@ def main(words):
 
     if both or "--callers" in words:
         for name, crate in crates.items():
-            above = [text for other, text in texts.items() if other != name]
+            above = [text for other, text in texts.items() if other not in (name, "uses")]
             for kind, call in crate.calls():
                 shown = f"{kind}::{call}" if kind else call
                 if kind not in crate.of_traits:

@@ -1,0 +1,21 @@
+-- What callers say of parts, of tallies and of crews.
+use Rattle.std.specs.Prelude.{◌≡◌, ℕ, ◌<◌, ◌⊎◌, List, ◌∷◌, length, slice_index_or}
+use Rattle.rc_base.specs.Cluster.PlainLanes.{held}
+use Rattle.rc_base.specs.declared.cluster.TilePart.{TilePart}
+use Rattle.rc_base.specs.declared.plain_lane.PlainLane.{PlainLane}
+use Rattle.worker_crew.specs.declared.crew.Crew.{Crew}
+use Rattle.worker_crew.specs.declared.task.Task.{Task}
+
+-- a lane holds what it held, or all of it but the first part
+abbrev pub GivesOneAtMost : PlainLane TilePart → PlainLane TilePart → Type 0
+GivesOneAtMost before after = (held after ≡ held before) ⊎ ((part : TilePart) × (held before ≡ part ∷ held after))
+
+-- so of each lane
+abbrev pub GiveOneAtMost : List (PlainLane TilePart) → List (PlainLane TilePart) → Type 0
+GiveOneAtMost before after = (tile : ℕ) (d : PlainLane TilePart) → tile < length before → GivesOneAtMost (slice_index_or before tile d) (slice_index_or after tile d)
+
+-- each worker of a crew has nothing left to do
+pub record AreOver {A B C : Type 0} (a_over : A → Type 0) (b_over : B → Type 0) (c_over : C → Type 0) (tasks : Crew (Task A) (Task B) (Task C)) : Type 0 where
+  pub clients : (i : ℕ) (d : Task A) → i < length tasks.clients.items → a_over (slice_index_or tasks.clients.items i d).worker
+  pub manager : b_over tasks.manager.worker
+  pub tiles : (i : ℕ) (d : Task C) → i < length tasks.tiles.items → c_over (slice_index_or tasks.tiles.items i d).worker

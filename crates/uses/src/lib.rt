@@ -1,0 +1,8 @@
+//! Callers of the crates' public calls, each of which leans on one clause: it says of a call what a wrong body would break, and is proved by the call's
+//! contract alone. So no body that meets that contract does it.
+#![tactic(auto)]
+
+pub mod cluster;
+pub mod contexts;
+pub mod formats;
+pub mod orders;
