@@ -807,7 +807,9 @@ VERSIONS = {"road": ("1",), "forest": ("2",)}
 
 def main():
     name, *version = sys.argv[1:] or [""]
-    if name not in [*TEXTS, "forest"] or version and (len(version) > 1 or version[0] not in VERSIONS.get(name, ())):
+    if name and name not in [*TEXTS, "forest"]:
+        sys.exit(f"make.py: {name!r} is none of {', '.join([*TEXTS, 'forest'])}")
+    if not name or version and (len(version) > 1 or version[0] not in VERSIONS.get(name, ())):
         sys.exit(__doc__)
     if name == "forest":
         sys.stdout.buffer.write(forest(*map(int, version)))

@@ -62,7 +62,7 @@ def first_difference(program, scenes, frame):
 
 def main():
     words = command.Words(__doc__)
-    words.add_argument("name", help="the picture's name without .png")
+    words.add_argument("name", type=command.file_name, help="the picture's name without .png")
     words.add_argument(
         "--race", type=two_commands, metavar="'C I D J'", help="the two commands (what `race` says)"
     )

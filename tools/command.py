@@ -54,6 +54,13 @@ def number_in(least, most):
     return read
 
 
+def file_name(word):
+    """What a file's name begins with."""
+    if not word or word.endswith("/"):
+        raise argparse.ArgumentTypeError(f"{word!r} is no name of a file")
+    return word
+
+
 def standard_input():
     """The stream of bytes that a tool is given."""
     if sys.stdin is None:

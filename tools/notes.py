@@ -32,7 +32,7 @@ def read_lines(path):
     """The lines of a file of notes."""
     data = command.read_file(path)
     if len(data) > LONGEST:
-        raise command.Wrong(f"{path}: notes of more than {LONGEST} bytes")
+        raise command.Wrong(f"{path}: notes of more than {LONGEST} bytes: run without --order")
     if b"\0" in data:
         raise command.Wrong(f"{path}: these are no notes of a run")
     return text_lines(data)

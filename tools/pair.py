@@ -39,7 +39,7 @@ def write_beside(name, images, labels, scale):
 
 def main():
     words = command.Words(__doc__)
-    words.add_argument("name", help="the file's name without .png")
+    words.add_argument("name", type=command.file_name, help="the file's name without .png")
     words.add_argument(
         "--scale", type=command.number_in(1, 16), default=1, help="how large a pixel is drawn (1)"
     )

@@ -8,7 +8,10 @@
 
 Each file's name is told on standard output.
 """
+import argparse
+import fractions
 import os
+import re
 import struct
 import zlib
 
@@ -76,7 +79,10 @@ def png(width, height, rgb):
 
 
 def frame_control(number, width, height, rate):
-    return chunk(b"fcTL", struct.pack(">IIIIIHHBB", number, width, height, 0, 0, 1, rate, 0, 0))
+    body = struct.pack(
+        ">IIIIIHHBB", number, width, height, 0, 0, rate.denominator, rate.numerator, 0, 0
+    )
+    return chunk(b"fcTL", body)
 
 
 def write_animation(path, images, rate):
@@ -125,12 +131,24 @@ def write_each(prefix, images):
     yield f"{prefix}-{number + 1}.png" if number else f"{prefix}.png", waiting
 
 
+def rate(word):
+    """Images a second, as a fraction of two numbers of 16 bits."""
+    if not re.fullmatch(r"[0-9]{1,4}(\.[0-9]{1,3})?", word) or not 0 < float(word) <= 1000:
+        raise argparse.ArgumentTypeError(f"{word!r} isn't a rate from 0.001 to 1000")
+    made = fractions.Fraction(word)
+    while made.numerator > 65535:
+        made = made.limit_denominator(made.denominator // 2)
+    return made
+
+
 def main():
     words = command.Words(__doc__)
-    words.add_argument("prefix", help="what the names of the files begin with")
+    words.add_argument(
+        "prefix", type=command.file_name, help="what the names of the files begin with"
+    )
     words.add_argument("--apng", action="store_true", help="one file PREFIX.png that moves")
     words.add_argument(
-        "--fps", type=command.number_in(1, 1000), help="images a second of --apng (12)"
+        "--fps", type=rate, help="images a second of --apng, as 8 or 23.976 (12)"
     )
     given = words.parse_args()
     if given.fps and not given.apng:
@@ -140,7 +158,9 @@ def main():
         first = next(images)
         path = f"{given.prefix}.png"
         write_animation(
-            path, (picture for part in ([first], images) for picture in part), given.fps or 12
+            path,
+            (picture for part in ([first], images) for picture in part),
+            given.fps or fractions.Fraction(12),
         )
         print(path)
         return

@@ -11,6 +11,21 @@ from command import Wrong
 
 HEADER = re.compile(rb"P6[ \t\n]+([0-9]{1,5})[ \t\n]+([0-9]{1,5})[ \t\n]+255[ \t\n]")
 LONGEST_HEADER = 64
+OTHER_DEPTH = re.compile(rb"P6[ \t\n]+[0-9]+[ \t\n]+[0-9]+[ \t\n]+([0-9]{1,5})[ \t\n]")
+DUE = "P6, two sides and 255 are due"
+
+
+def wrong_header(head):
+    """What is wrong with the beginning of an image."""
+    if head[:2] != b"P6":
+        return f"is not one that render writes: {DUE}"
+    if match := OTHER_DEPTH.match(head):
+        return f"has channels of 0 to {int(match[1])}: {DUE}"
+    if b"#" in head[: head.find(b"255") if b"255" in head else len(head)]:
+        return f"has a comment in its header: {DUE}"
+    if len(head) < LONGEST_HEADER:
+        return f"is cut: {DUE}"
+    return f"is not one that render writes: {DUE}"
 
 
 def frames(stream):
@@ -22,12 +37,7 @@ def frames(stream):
         number += 1
         match = HEADER.match(head)
         if not match:
-            what = (
-                "cut"
-                if b"P6" == head[:2] and len(head) < LONGEST_HEADER
-                else "not one that render writes"
-            )
-            raise Wrong(f"image {number} is {what}: P6, two sides and 255 are due")
+            raise Wrong(f"image {number} {wrong_header(head)}")
         width, height = int(match[1]), int(match[2])
         if width == 0 or height == 0:
             raise Wrong(f"image {number} has no pixels: {width} by {height}")

@@ -90,7 +90,9 @@ def write_parts(images, prefix, cut):
 
 def main():
     words = command.Words(__doc__)
-    words.add_argument("prefix", help="what the names of the files begin with")
+    words.add_argument(
+        "prefix", type=command.file_name, help="what the names of the files begin with"
+    )
     words.add_argument(
         "tiles", type=command.pair_of_sides, metavar="CxR", help="columns and rows of tiles"
     )
