@@ -5,4 +5,3 @@ pub mod WrittenMore
 pub mod PartsTaken
 pub mod WriterGoesOn
 pub mod PartsCounted
-pub mod PartsWait

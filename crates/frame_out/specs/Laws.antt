@@ -1,5 +1,5 @@
 -- Laws of writers of frames, and of the frames of scenes within the limits.
-use Rattle.std.specs.Prelude.{◌≡◌, ℕ, ◌+◌, ◌<◌, ◌≤◌, List, [], ◌++◌, length, None}
+use Rattle.std.specs.Prelude.{◌≡◌, ℕ, ◌<◌, List, [], None}
 use Rattle.rc_base.specs.Cluster.Tiles.{tile_count}
 use Rattle.rc_base.specs.Drawing.Images.{Pixels}
 use Rattle.rc_base.specs.Formats.Limits.{limit_of}
@@ -12,7 +12,7 @@ use Rattle.rc_base.specs.declared.sync.Entry.{Entry}
 use Rattle.rc_base.specs.declared.window.Layout.{Layout}
 use Rattle.order_model.specs.Report.{frame_count}
 use Rattle.frame_out.specs.Frames.{window_images}
-use Rattle.frame_out.specs.OnTheWay.{HasWritten, IsNewWriter, IsOnTheWay}
+use Rattle.frame_out.specs.OnTheWay.{IsNewWriter, IsOnTheWay}
 use Rattle.frame_out.specs.Writing.{AreWritable}
 use Rattle.frame_out.specs.declared.on_the_way.FrameWriter.{FrameWriter}
 
@@ -32,11 +32,3 @@ abbrev pub NewWritersAreOnTheWay : Type 0
 NewWritersAreOnTheWay =
     (l : Layout) (image : Used) (took : ℕ → List TilePart) (w : FrameWriter) → IsNewWriter l w → Took image [] → IsCalm image
     → ((tile : ℕ) → tile < tile_count l → took tile ≡ []) → IsOnTheWay l image took w
-
--- What a tile has shown is what was taken of it, what its lane of parts holds, and at most one part that it hands over. So it is no further ahead of the
--- frames that are complete than the depth of its lane and two: of a tile so many parts wait at most, however many frames there are.
-abbrev pub NoTileRunsAway : Type 0
-NoTileRunsAway =
-    (l : Layout) (image : Used) (took : ℕ → List TilePart) (w : FrameWriter) (depth tile : ℕ) (shown lane handing : List TilePart)
-    → (has : HasWritten l image took w) → tile < tile_count l → shown ≡ took tile ++ (lane ++ handing) → length lane ≤ depth → length handing ≤ 1
-    → length shown ≤ length has.frames + depth + 2

@@ -20,11 +20,11 @@ use Rattle.sync_manager.specs.declared.deed.ManagerDeed.TheVariants.{Delivers, F
 use Rattle.tile_model.specs.Items.{shown_frames}
 use Rattle.plain_lemmas.proofs.Numbers.{at_one_or_other}
 use Rattle.world_model.specs.Flowing.{IsFlowing}
-use Rattle.world_model.specs.Moves.{IsTileMove}
+use Rattle.world_model.specs.Moves.{IsTileMoveSeeing}
 use Rattle.world_model.specs.Tiles.{Tile}
-use Rattle.world_model.specs.Turns.{Turn, IsShortTileMove, IsTurn}
+use Rattle.world_model.specs.Turns.{Turn, IsShortTileMoveSeeing, IsTurnSeeing}
 use Rattle.world_model.specs.Turns.Turn.{ClientTurn, ManagerTurn, TileTurn}
-use Rattle.world_model.specs.World.{World}
+use Rattle.world_model.specs.World.{World, Lanes}
 use Rattle.world_model.proofs.ShownParts.{frames_append, frames_of_front, lost_shows}
 use Rattle.world_model.proofs.TilesAtRest.{front}
 
@@ -132,15 +132,15 @@ module _ (scene : Scene) (l : Layout) (depth : ℕ) where
       let more = front scene l v f tile lt ample in
       frames_of_front (performed_in (v.tiles tile).progress.log) (v.tiles tile).progress.learnt more.0 v.manager.book.journal more.1
 
-  pub pace_kept : (w v : World) (turn : Turn) → IsFlowing scene l v → IsTurn scene l depth w turn v → KeepsPace l w → KeepsPace l v
-  pace_kept w v (ClientTurn client (Ok answer)) f m h = alike w v m.step.only.manager m.step.only.tiles h
-  pace_kept w v (ClientTurn client (Err error)) f m h = alike w v m.step.only.manager m.step.only.tiles h
-  pace_kept w v (ManagerTurn answer) f m h = by_manager w v m.step.deed m.step.next m.step.manager m.step.only.tiles h
-  pace_kept w v (TileTurn tile (Ok answer)) f m h = by m.step
+  pub pace_kept : (w v : World) (seen : Lanes) (turn : Turn) → IsFlowing scene l v → IsTurnSeeing scene l depth w seen turn v → KeepsPace l w → KeepsPace l v
+  pace_kept w v seen (ClientTurn client (Ok answer)) f m h = alike w v m.step.only.manager m.step.only.tiles h
+  pace_kept w v seen (ClientTurn client (Err error)) f m h = alike w v m.step.only.manager m.step.only.tiles h
+  pace_kept w v seen (ManagerTurn answer) f m h = by_manager w v m.step.deed m.step.next m.step.manager m.step.only.tiles h
+  pace_kept w v seen (TileTurn tile (Ok answer)) f m h = by m.step
     where
-      by : IsTileMove scene l depth w tile answer v ⊎ IsShortTileMove scene l depth w tile answer v → KeepsPace l v
+      by : IsTileMoveSeeing scene l depth w seen tile answer v ⊎ IsShortTileMoveSeeing scene l depth w seen tile answer v → KeepsPace l v
       by (inl t) = by_tile w v tile t.only.manager t.only.tiles (λ lt. front_few v f tile lt (t.step.still_ample ∙ t.step.ample)) h
       by (inr t) = by_tile w v tile t.only.manager t.only.tiles
           (still_few w v tile t.only.manager (ap (λ (q : Progress). shown_frames q) t.progress ∙ lost_shows (w.tiles tile).progress t.item) h) h
-  pace_kept w v (TileTurn tile (Err error)) f m h = by_tile w v tile m.step.only.manager m.step.only.tiles
+  pace_kept w v seen (TileTurn tile (Err error)) f m h = by_tile w v tile m.step.only.manager m.step.only.tiles
       (still_few w v tile m.step.only.manager (ap (λ (q : Progress). shown_frames q) m.step.progress ∙ lost_shows (w.tiles tile).progress m.step.item) h) h

@@ -11,7 +11,7 @@ use Rattle.world_model.specs.Flowing.{IsFlowing}
 use Rattle.world_model.specs.Laws.{NewWorldsFlow, TurnsKeepWorldsFlowing, RoundsKeepWorldsFlowing}
 use Rattle.world_model.specs.Turns.{Turn, AreTurns, IsResting, number_of, AllHaveStopped}
 use Rattle.world_model.specs.Work.{work_in, TurnsLeaveLess, TurnsLeaveNoMore, RoundsLeaveLess, NewWorldsHaveLittleToDo}
-use Rattle.world_model.specs.World.{World}
+use Rattle.world_model.specs.World.{World, all_lanes}
 use Rattle.world_model.proofs.WorkIsBounded.{rests}
 
 -- whether all of some turns, of whatever kind, are of a sort, where that can be told of each
@@ -100,17 +100,17 @@ module _ (keep : TurnsKeepWorldsFlowing) (less : TurnsLeaveLess) (more : TurnsLe
   count : (moving : ℕ) (turns : List Turn) (w v : World) → IsFlowing scene l w → AreTurns scene l depth w turns v → AreMoving moving turns → moving + work_in scene l v ≤ work_in scene l w
   count zero [] w v f goes m = let e = ap (work_in scene l) goes in omega (arith, e)
   count zero (t ∷ turns) w v f goes m =
-      let a = more scene l depth w goes.0 t well f goes.1 in
-      let b = count zero turns goes.0 v (keep scene l depth w goes.0 t f goes.1) goes.2 m.1 in
+      let a = more scene l depth w goes.0 (all_lanes w) t well f goes.1 in
+      let b = count zero turns goes.0 v (keep scene l depth w goes.0 (all_lanes w) t f goes.1) goes.2 m.1 in
       omega (arith, a, b)
   count (suc n) [] w v f goes m = absurd m
   count (suc n) (t ∷ turns) w v f goes (inl m) =
-      let a = more scene l depth w goes.0 t well f goes.1 in
-      let b = count (suc n) turns goes.0 v (keep scene l depth w goes.0 t f goes.1) goes.2 m.1 in
+      let a = more scene l depth w goes.0 (all_lanes w) t well f goes.1 in
+      let b = count (suc n) turns goes.0 v (keep scene l depth w goes.0 (all_lanes w) t f goes.1) goes.2 m.1 in
       omega (arith, a, b)
   count (suc n) (t ∷ turns) w v f goes (inr m) =
-      let a = less scene l depth w goes.0 t well f goes.1 m.0 in
-      let b = count n turns goes.0 v (keep scene l depth w goes.0 t f goes.1) goes.2 m.1 in
+      let a = less scene l depth w goes.0 (all_lanes w) t well f goes.1 m.0 in
+      let b = count n turns goes.0 v (keep scene l depth w goes.0 (all_lanes w) t f goes.1) goes.2 m.1 in
       omega (arith, a, b)
 
 pub few_turns_move : TurnsKeepWorldsFlowing → TurnsLeaveLess → TurnsLeaveNoMore → FewTurnsMove

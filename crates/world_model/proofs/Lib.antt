@@ -40,4 +40,7 @@ mod StillThreads
 mod ThreadsMoveSomebody
 mod TilesHavePixels
 mod ThreadsLeaveLess
+mod LanesAsTheyStand
+mod LooseTurnsMoveSomebody
 mod FairThreadsEnd
+mod FewPartsAreHeld

@@ -20,7 +20,7 @@ use Rattle.world_model.specs.Moves.{IsMove, AreMoves, IsTileMove}
 use Rattle.world_model.specs.Tiles.{Tile}
 use Rattle.world_model.specs.Turns.{Turn, IsShortTileMove, IsTurn, AreTurns, turn_of, AreAmple}
 use Rattle.world_model.specs.Turns.Turn.{ClientTurn, ManagerTurn, TileTurn}
-use Rattle.world_model.specs.World.{World, Client, client_total, IsNewWorld}
+use Rattle.world_model.specs.World.{World, Client, all_lanes, client_total, IsNewWorld}
 use Rattle.world_model.proofs.ManagersKeepSound.{stays_ample}
 
 pub moves_are_turns : MovesAreTurns
@@ -67,7 +67,7 @@ module _ (scene : Scene) (l : Layout) (depth : ℕ) where
 
   pub all_flow : TurnsKeepWorldsFlowing → (w v : World) (turns : List Turn) → IsFlowing scene l w → AreTurns scene l depth w turns v → IsFlowing scene l v
   all_flow keep w v [] h m = subst (IsFlowing scene l) (sym m) h
-  all_flow keep w v (turn ∷ turns) h r = all_flow keep r.0 v turns (keep scene l depth w r.0 turn h r.1) r.2
+  all_flow keep w v (turn ∷ turns) h r = all_flow keep r.0 v turns (keep scene l depth w r.0 (all_lanes w) turn h r.1) r.2
 
   -- ---- a turn that answers is a move
 

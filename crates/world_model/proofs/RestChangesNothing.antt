@@ -24,32 +24,33 @@ use Rattle.tile_model.specs.Items.{Item, parcel_taken, grant_taken}
 use Rattle.tile_model.specs.Items.Item.{Nothing, Due, Granted, NoMore, Sent}
 use Rattle.plain_lemmas.proofs.Numbers.{at_one_or_other}
 use Rattle.world_model.specs.Laws.{IsSameWorld, RestChangesNothing}
-use Rattle.world_model.specs.Moves.{IsAtRest, IsIdle, IsClientStep, IsClientMove, IsManagerMove, IsTileMove}
+use Rattle.world_model.specs.Moves.{IsAtRest, IsIdle, IsClientStepSeeing, IsClientMoveSeeing, IsManagerStepSeeing, IsTileMoveSeeing}
 use Rattle.world_model.specs.declared.moves.Move.TheVariants.{Client as ClientMove, Manager as ManagerMove, Tile as TileMove}
 use Rattle.world_model.specs.declared.moves.TileAnswer.{TileAnswer}
 use Rattle.world_model.specs.Tiles.{Tile, IsTileStep, answer_to_entry, answer_to_act, IsTileAnswer}
 use Rattle.world_model.specs.declared.moves.TileAnswer.TheVariants.{Learnt, Took, Held, Dropped, Blocked, Ended}
-use Rattle.world_model.specs.World.{World, Client, client_total}
+use Rattle.world_model.specs.World.{World, Client, Lanes, all_lanes, client_total}
 
 module _ (scene : Scene) (l : Layout) (depth : ℕ) (w v : World) where
   -- ---- a client
 
-  is_idle : (client : ℕ) (answer : ClientMoved) → IsAtRest (ClientMove client answer) → IsClientStep scene l depth w client answer v → IsIdle w client v
-  is_idle client (client_moved.Appended tile) rest step = absurd (elim rest [ inl a ↦ no_tile a.0 a.1 | inr b ↦ elim b [ inl c ↦ cc | inr d ↦ cc ] ])
+  is_idle : (seen : Lanes) (client : ℕ) (answer : ClientMoved) → IsAtRest (ClientMove client answer) → IsClientStepSeeing scene l depth w seen client answer v → IsIdle w client v
+  is_idle seen client (client_moved.Appended tile) rest step = absurd (elim rest [ inl a ↦ no_tile a.0 a.1 | inr b ↦ elim b [ inl c ↦ cc | inr d ↦ cc ] ])
     where
       no_tile : (t : ℕ) → client_moved.Appended tile ≡ client_moved.BlockedTile t → ⊥
       no_tile t e = cc
-  is_idle client client_moved.Requested rest step = absurd (elim rest [ inl a ↦ no_tile a.0 a.1 | inr b ↦ elim b [ inl c ↦ cc | inr d ↦ cc ] ])
+  is_idle seen client client_moved.Requested rest step = absurd (elim rest [ inl a ↦ no_tile a.0 a.1 | inr b ↦ elim b [ inl c ↦ cc | inr d ↦ cc ] ])
     where
       no_tile : (t : ℕ) → client_moved.Requested ≡ client_moved.BlockedTile t → ⊥
       no_tile t e = cc
-  is_idle client (client_moved.BlockedTile tile) rest step = step.idle
-  is_idle client client_moved.BlockedRequest rest step = step.idle
-  is_idle client client_moved.Ended rest step = step.1
+  is_idle seen client (client_moved.BlockedTile tile) rest step = step.idle
+  is_idle seen client client_moved.BlockedRequest rest step = step.idle
+  is_idle seen client client_moved.Ended rest step = step.1
 
-  pub client_rests : (client : ℕ) (answer : ClientMoved) → IsAtRest (ClientMove client answer) → IsClientMove scene l depth w client answer v → IsSameWorld scene l w v
-  client_rests client answer rest m =
-      let idle = is_idle client answer rest m.step in
+  pub client_rests : (seen : Lanes) (client : ℕ) (answer : ClientMoved) → IsAtRest (ClientMove client answer) → IsClientMoveSeeing scene l depth w seen client answer v
+      → IsSameWorld scene l w v
+  client_rests seen client answer rest m =
+      let idle = is_idle seen client answer rest m.step in
       record {
         left = at_one_or_other (λ c. c < client_total scene → (v.clients c).left ≡ (w.clients c).left) client (λ lc. idle.sent.left) (λ c ne lc. ap (λ (k : Client). k.left) (m.only.clients c lc ne));
         tallies = at_one_or_other (λ c. (tile : ℕ) → c < client_total scene → (v.clients c).tallies tile ≡ (w.clients c).tallies tile) client
@@ -105,8 +106,8 @@ module _ (scene : Scene) (l : Layout) (depth : ℕ) (w v : World) where
   is_still d FindsNoneLeft answer rest e = record { after = refl; taken = λ client. refl; sent = λ tile. refl }
   is_still d Finishes answer rest e = record { after = refl; taken = λ client. refl; sent = λ tile. refl }
 
-  pub manager_rests : (answer : ManagerMoved) → IsAtRest (ManagerMove answer) → IsManagerMove scene l depth w answer v → IsSameWorld scene l w v
-  manager_rests answer rest m =
+  pub manager_rests : (seen : Lanes) (answer : ManagerMoved) → IsAtRest (ManagerMove answer) → IsManagerStepSeeing scene l depth w seen (Ok answer) v → IsSameWorld scene l w v
+  manager_rests seen answer rest m =
       let s = is_still w.manager m.deed answer rest m.answered in
       record {
         left = λ c lc. ap (λ (k : Client). k.left) (m.only.clients c lc);
@@ -174,8 +175,8 @@ module _ (scene : Scene) (l : Layout) (depth : ℕ) (w v : World) where
   same_tile : (tile : ℕ) (a b : Tile) → IsTileStep scene.decl l tile Nothing a b → b ≡ a
   same_tile tile a b s = equal_tiles a b s.progress s.next s.board s.parts s.still_ample
 
-  pub tile_rests : (tile : ℕ) (answer : TileAnswer) → IsAtRest (TileMove tile answer) → IsTileMove scene l depth w tile answer v → IsSameWorld scene l w v
-  tile_rests tile answer rest m =
+  pub tile_rests : (seen : Lanes) (tile : ℕ) (answer : TileAnswer) → IsAtRest (TileMove tile answer) → IsTileMoveSeeing scene l depth w seen tile answer v → IsSameWorld scene l w v
+  tile_rests seen tile answer rest m =
       let none = no_item (w.tiles tile).progress m.item answer m.answered rest in
       let step = subst (λ i. IsTileStep scene.decl l tile i (w.tiles tile) (v.tiles tile)) none m.step in
       record {
@@ -194,6 +195,6 @@ module _ (scene : Scene) (l : Layout) (depth : ℕ) (w v : World) where
       }
 
 pub rest_changes_nothing : RestChangesNothing
-rest_changes_nothing scene l depth w v (ClientMove client answer) rest m = client_rests scene l depth w v client answer rest m.step
-rest_changes_nothing scene l depth w v (ManagerMove answer) rest m = manager_rests scene l depth w v answer rest m.step
-rest_changes_nothing scene l depth w v (TileMove tile answer) rest m = tile_rests scene l depth w v tile answer rest m.step
+rest_changes_nothing scene l depth w v (ClientMove client answer) rest m = client_rests scene l depth w v (all_lanes w) client answer rest m.step
+rest_changes_nothing scene l depth w v (ManagerMove answer) rest m = manager_rests scene l depth w v (all_lanes w) answer rest m.step
+rest_changes_nothing scene l depth w v (TileMove tile answer) rest m = tile_rests scene l depth w v (all_lanes w) tile answer rest m.step

@@ -14,12 +14,12 @@ use Rattle.tile_model.specs.Items.Item.{Nothing, Due, Granted, NoMore, Sent}
 use Rattle.tile_model.specs.Short.{after_lost}
 use Rattle.plain_lemmas.proofs.Numbers.{at_one_or_other}
 use Rattle.world_model.specs.Laws.{IsSameWorld, RestingTurnsChangeNothing, RestingRoundsChangeNothing}
-use Rattle.world_model.specs.Moves.{IsAtRest, IsTileMove}
+use Rattle.world_model.specs.Moves.{IsAtRest, IsTileMoveSeeing}
 use Rattle.world_model.specs.Short.{IsShortAnswer}
 use Rattle.world_model.specs.Tiles.{next_after}
-use Rattle.world_model.specs.Turns.{Turn, IsShortTileMove, IsTurn, AreTurns, IsResting, number_of}
+use Rattle.world_model.specs.Turns.{Turn, IsShortTileMoveSeeing, IsTurnSeeing, IsTurn, AreTurns, IsResting, number_of}
 use Rattle.world_model.specs.Turns.Turn.{ClientTurn, ManagerTurn, TileTurn}
-use Rattle.world_model.specs.World.{World, Client, client_total}
+use Rattle.world_model.specs.World.{World, Client, Lanes, all_lanes, client_total}
 use Rattle.world_model.specs.declared.moves.Move.TheVariants.{Tile as TileMove}
 use Rattle.world_model.specs.declared.moves.TileAnswer.{TileAnswer}
 use Rattle.world_model.specs.declared.moves.TileAnswer.TheVariants.{Closed, Dropped, Blocked, Ended}
@@ -51,8 +51,9 @@ module _ (scene : Scene) (l : Layout) (depth : ℕ) where
 
   -- ---- a turn at rest changes nothing
 
-  short_still : (w v : World) (tile : ℕ) (answer : TileAnswer) → IsAtRest (TileMove tile answer) → IsShortTileMove scene l depth w tile answer v → IsSameWorld scene l w v
-  short_still w v tile answer rest m =
+  short_still : (w v : World) (seen : Lanes) (tile : ℕ) (answer : TileAnswer) → IsAtRest (TileMove tile answer) → IsShortTileMoveSeeing scene l depth w seen tile answer v
+      → IsSameWorld scene l w v
+  short_still w v seen tile answer rest m =
       let none = no_short_item (w.tiles tile).progress m.item answer m.answered rest in
       record {
         left = λ c lc. ap (λ (k : Client). k.left) (m.only.clients c lc);
@@ -72,21 +73,21 @@ module _ (scene : Scene) (l : Layout) (depth : ℕ) where
             (λ t ne lt. m.only.grants t lt ne);
       }
 
-  pub rest_keeps : (w v : World) (turn : Turn) → IsResting turn → IsTurn scene l depth w turn v → IsSameWorld scene l w v
-  rest_keeps w v (ClientTurn client (Ok answer)) rest m = client_still scene l depth w v client answer rest m.step
-  rest_keeps w v (ClientTurn client (Err error)) rest m = absurd rest
-  rest_keeps w v (ManagerTurn (Ok answer)) rest m = manager_still scene l depth w v answer rest m.step
-  rest_keeps w v (ManagerTurn (Err error)) rest m = absurd rest
-  rest_keeps w v (TileTurn tile (Ok answer)) rest m = by m.step
+  pub rest_keeps : (w v : World) (seen : Lanes) (turn : Turn) → IsResting turn → IsTurnSeeing scene l depth w seen turn v → IsSameWorld scene l w v
+  rest_keeps w v seen (ClientTurn client (Ok answer)) rest m = client_still scene l depth w v seen client answer rest m.step
+  rest_keeps w v seen (ClientTurn client (Err error)) rest m = absurd rest
+  rest_keeps w v seen (ManagerTurn (Ok answer)) rest m = manager_still scene l depth w v seen answer rest m.step
+  rest_keeps w v seen (ManagerTurn (Err error)) rest m = absurd rest
+  rest_keeps w v seen (TileTurn tile (Ok answer)) rest m = by m.step
     where
-      by : IsTileMove scene l depth w tile answer v ⊎ IsShortTileMove scene l depth w tile answer v → IsSameWorld scene l w v
-      by (inl t) = tile_still scene l depth w v tile answer rest t
-      by (inr t) = short_still w v tile answer rest t
-  rest_keeps w v (TileTurn tile (Err error)) rest m = absurd rest
+      by : IsTileMoveSeeing scene l depth w seen tile answer v ⊎ IsShortTileMoveSeeing scene l depth w seen tile answer v → IsSameWorld scene l w v
+      by (inl t) = tile_still scene l depth w v seen tile answer rest t
+      by (inr t) = short_still w v seen tile answer rest t
+  rest_keeps w v seen (TileTurn tile (Err error)) rest m = absurd rest
 
   pub all_keep : (w v : World) (turns : List Turn) → AllByRecursion IsResting turns → AreTurns scene l depth w turns v → IsSameWorld scene l w v
   all_keep w v [] rest h = subst (λ u. IsSameWorld scene l w u) (sym h) (same_self scene l w)
-  all_keep w v (m ∷ turns) rest h = same_on scene l w h.0 v (rest_keeps w h.0 m rest.0 h.1) (all_keep h.0 v turns rest.1 h.2)
+  all_keep w v (m ∷ turns) rest h = same_on scene l w h.0 v (rest_keeps w h.0 (all_lanes w) m rest.0 h.1) (all_keep h.0 v turns rest.1 h.2)
 
   -- ---- what each turn says
 
@@ -96,16 +97,16 @@ module _ (scene : Scene) (l : Layout) (depth : ℕ) where
   Exists (ManagerTurn answer) = Unit {0}
   Exists (TileTurn tile answer) = tile < tile_count l
 
-  pub exists : (w v : World) (m : Turn) → IsTurn scene l depth w m v → Exists m
-  exists w v (ClientTurn client (Ok answer)) m = m.step.low
-  exists w v (ClientTurn client (Err error)) m = m.step.low
-  exists w v (ManagerTurn answer) m = tt
-  exists w v (TileTurn tile (Ok answer)) m = by m.step
+  pub exists : (w v : World) (seen : Lanes) (m : Turn) → IsTurnSeeing scene l depth w seen m v → Exists m
+  exists w v seen (ClientTurn client (Ok answer)) m = m.step.low
+  exists w v seen (ClientTurn client (Err error)) m = m.step.low
+  exists w v seen (ManagerTurn answer) m = tt
+  exists w v seen (TileTurn tile (Ok answer)) m = by m.step
     where
-      by : IsTileMove scene l depth w tile answer v ⊎ IsShortTileMove scene l depth w tile answer v → tile < tile_count l
+      by : IsTileMoveSeeing scene l depth w seen tile answer v ⊎ IsShortTileMoveSeeing scene l depth w seen tile answer v → tile < tile_count l
       by (inl t) = t.low
       by (inr t) = t.low
-  exists w v (TileTurn tile (Err error)) m = m.step.low
+  exists w v seen (TileTurn tile (Err error)) m = m.step.low
 
   -- turns of a kind that rest, each of which says something of the world that it leads from
   module _ (Kind : Turn → Type 0) (Says : World → Turn → Type 0) (rests : (m : Turn) → Kind m → IsResting m)
@@ -122,8 +123,8 @@ module _ (scene : Scene) (l : Layout) (depth : ℕ) where
     pub all_known : (w v : World) (turns : List Turn) → AllByRecursion Kind turns → AreTurns scene l depth w turns v → AllByRecursion (Known w) turns
     all_known w v [] kind h = tt
     all_known w v (m ∷ turns) kind h = (
-      (exists w h.0 m h.1, says w h.0 m kind.0 h.1),
-      all_before w h.0 turns (rest_keeps w h.0 m (rests m kind.0) h.1) (all_known h.0 v turns kind.1 h.2),
+      (exists w h.0 (all_lanes w) m h.1, says w h.0 m kind.0 h.1),
+      all_before w h.0 turns (rest_keeps w h.0 (all_lanes w) m (rests m kind.0) h.1) (all_known h.0 v turns kind.1 h.2),
     )
 
   -- ---- each actor has a turn in the round
@@ -141,7 +142,7 @@ module _ (scene : Scene) (l : Layout) (depth : ℕ) where
       ]
 
 pub rest_still : RestingTurnsChangeNothing
-rest_still scene l depth w v turn rest m = rest_keeps scene l depth w v turn rest m
+rest_still scene l depth w v seen turn rest m = rest_keeps scene l depth w v seen turn rest m
 
 pub rests_still : RestingRoundsChangeNothing
 rests_still scene l depth w v turns rest m = all_keep scene l depth w v turns rest m

@@ -124,8 +124,8 @@ short_offers_none p (Sent client parcel) answer offered is h = none_offered answ
 -- ---- a part on its way
 
 -- what is put waits, in the lane or for it
-pub put_waits : (depth : ℕ) (offered : Option TilePart) (lane later : List TilePart) (handing : Option TilePart) → IsPut depth offered lane later handing
+pub put_waits : (depth : ℕ) (offered : Option TilePart) (lane seen later : List TilePart) (handing : Option TilePart) → IsPut depth offered lane seen later handing
     → later ++ option_to_list handing ≡ lane ++ option_to_list offered
-put_waits depth None lane later handing h = ap (λ (o : Option TilePart). later ++ option_to_list o) h.1 ∙ ap (λ (ps : List TilePart). ps ++ []) h.0
-put_waits depth (Some part) lane later handing (inl s) = ap (λ (o : Option TilePart). later ++ option_to_list o) s.free ∙ append-nil later ∙ s.appended
-put_waits depth (Some part) lane later handing (inr k) = ap (λ (o : Option TilePart). later ++ option_to_list o) k.waits ∙ ap (λ (ps : List TilePart). ps ++ part ∷ []) k.same
+put_waits depth None lane seen later handing h = ap (λ (o : Option TilePart). later ++ option_to_list o) h.1 ∙ ap (λ (ps : List TilePart). ps ++ []) h.0
+put_waits depth (Some part) lane seen later handing (inl s) = ap (λ (o : Option TilePart). later ++ option_to_list o) s.free ∙ append-nil later ∙ s.appended
+put_waits depth (Some part) lane seen later handing (inr k) = ap (λ (o : Option TilePart). later ++ option_to_list o) k.waits ∙ ap (λ (ps : List TilePart). ps ++ part ∷ []) k.same

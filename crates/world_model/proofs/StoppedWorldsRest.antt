@@ -30,7 +30,7 @@ use Rattle.world_model.specs.Short.{IsAwaitedShort, IsShortAnswer, MayLose}
 use Rattle.world_model.specs.Tiles.{Tile, HasEnded, IsTileAnswer}
 use Rattle.world_model.specs.Turns.{Turn, IsShortTileMove, IsTurn, AreTurns, IsResting, IsLastTurn, number_of, AllHaveStopped}
 use Rattle.world_model.specs.Turns.Turn.{ClientTurn, ManagerTurn, TileTurn}
-use Rattle.world_model.specs.World.{World, client_total}
+use Rattle.world_model.specs.World.{World, all_lanes, client_total}
 use Rattle.world_model.specs.declared.moves.TileAnswer.{TileAnswer}
 use Rattle.world_model.specs.declared.moves.TileAnswer.TheVariants.{Ended}
 use Rattle.world_model.proofs.EndedWorldsRest.{same_self, same_on, client_last, tile_last, client_ends, deed_ends, has_ended}
@@ -110,7 +110,7 @@ module _ (scene : Scene) (l : Layout) (depth : ℕ) where
   all_last finish [] w later done m = (tt, subst (λ v. IsSameWorld scene l w v) (sym m) (same_self scene l w))
   all_last finish (turn ∷ turns) w later done m =
       let last = turn_last finish w m.0 turn done m.1 in
-      let same = rest_keeps scene l depth w m.0 turn (last_rests turn last) m.1 in
+      let same = rest_keeps scene l depth w m.0 (all_lanes w) turn (last_rests turn last) m.1 in
       let more = all_last finish turns m.0 later (stopped_on scene l w m.0 same done) m.2 in
       ((last, more.0), same_on scene l w m.0 later same more.1)
 

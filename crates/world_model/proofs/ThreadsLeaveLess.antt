@@ -1,4 +1,4 @@
--- Each turn of the cluster that runs on threads that moves something leaves less to do, and no turn leaves more.
+-- Each turn of the cluster that runs on threads that moves something leaves less to do, and no turn leaves more, whatever its actor saw of its lanes.
 use Rattle.std.proofs.Common.{◌≡◌, ◌⊎◌, ℕ, zero, suc, ◌+◌, ◌<◌, ◌≤◌, Bool, true, false, cond, List, [], ◌∷◌, length, Option, Some, None, inl, inr, refl, sym, ap, ◌∙◌, subst, arith, length-append, true≢false}
 use Rattle.std.proofs.lemmas.Bool.{cases_Bool, cases_lt}
 use Rattle.std.specs.Prelude.{option_to_list, slice_index_or, Result}
@@ -15,7 +15,7 @@ use Rattle.assembler.specs.Places.{in_place, IsTaken}
 use Rattle.assembler.specs.declared.places.Assembler.{Assembler}
 use Rattle.assembler.proofs.Waiting.{stands_in, none_in}
 use Rattle.plain_lemmas.proofs.Lists.{item_within}
-use Rattle.world_model.specs.Threaded.{PartLane, no_lane, GaveFirst, GaveNone, empties_of, IsBare, ThreadedWorld, ThreadedTurn, Steps, HandsOver, Collects, lane_of, IsPut, NoParts, OnlyPartsOf, IsTileCoreTurn, IsHandOver, IsCall, IsThreadedTurn, IsStill}
+use Rattle.world_model.specs.Threaded.{PartLane, no_lane, GaveFirst, GaveNone, empties_of, HoldsAny, ThreadedWorld, ThreadedTurn, Steps, HandsOver, Collects, SeenLanes, lane_of, IsPut, NoParts, OnlyPartsOf, IsTileCoreTurn, IsHandOver, IsCall, IsThreadedTurnSeeing, IsStill}
 use Rattle.world_model.specs.ThreadedFair.{placed, part_work, threaded_work, ThreadedTurnsLeaveLess, ThreadedTurnsLeaveNoMore, NewThreadedWorldsHaveLittleToDo}
 use Rattle.world_model.specs.ThreadedLaws.{IsThreadedFlowing}
 use Rattle.world_model.specs.Turns.Turn.{ClientTurn, ManagerTurn, TileTurn}
@@ -57,17 +57,17 @@ held_one : (o : Option TilePart) → o ≡ None → length (option_to_list o) �
 held_one o e = ap (λ (o : Option TilePart). length (option_to_list o)) e
 
 -- what is put is three things to do at most
-put_work : (depth : ℕ) (offered : Option TilePart) (lane later : List TilePart) (handing : Option TilePart) → IsPut depth offered lane later handing
+put_work : (depth : ℕ) (offered : Option TilePart) (lane seen later : List TilePart) (handing : Option TilePart) → IsPut depth offered lane seen later handing
     → length (option_to_list handing) + length (option_to_list handing) + length (option_to_list handing) + (length later + length later) ≤ length lane + length lane + 3
-put_work depth None lane later handing h =
+put_work depth None lane seen later handing h =
     let a = ap length h.0 in
     let b = held_one handing h.1 in
     omega (arith, a, b)
-put_work depth (Some part) lane later handing (inl s) =
+put_work depth (Some part) lane seen later handing (inl s) =
     let a = ap length s.appended ∙ length-append lane (part ∷ []) in
     let b = held_one handing s.free in
     omega (arith, a, b)
-put_work depth (Some part) lane later handing (inr k) =
+put_work depth (Some part) lane seen later handing (inr k) =
     let a = ap length k.same in
     let b = ap (λ (o : Option TilePart). length (option_to_list o)) k.waits in
     omega (arith, a, b)
@@ -83,19 +83,19 @@ found_work l tile None (Some p) lane later h = let a = ap length h in omega (ari
 found_work l tile None None lane later h = let a = ap length h.0 in omega (arith, a)
 
 -- of a lane whose place is full nothing is taken; and what it holds is the same where so many are left
-found_lane : (l : Layout) (tile : ℕ) (place found : Option TilePart) (lane later : PartLane) → Finds l tile place lane found later
+pub found_lane : (l : Layout) (tile : ℕ) (place found : Option TilePart) (lane later : PartLane) → Finds l tile place lane found later
     → (length later.parts ≤ length lane.parts) × (length later.parts ≡ length lane.parts → later.parts ≡ lane.parts)
 found_lane l tile (Some p) found lane later h = (let b = ap (λ (x : PartLane). length x.parts) h.1 in omega (arith, b), λ same. ap (λ (x : PartLane). x.parts) h.1)
 found_lane l tile None (Some p) lane later h = (let a = ap length h in omega (arith, a), λ same. absurd (let a = ap length h in omega (arith, a, same)))
 found_lane l tile None None lane later h = (let a = ap length h.0 in omega (arith, a), λ same. h.0)
 
-dropped_lane : (part : Option TilePart) (lane later : PartLane)
-    → IsTaken GaveFirst GaveNone empties_of IsBare lane part later
+pub dropped_lane : (part : Option TilePart) (lane later : PartLane)
+    → IsTaken GaveFirst GaveNone empties_of HoldsAny lane part later
     → (length later.parts ≤ length lane.parts) × (length later.parts ≡ length lane.parts → later.parts ≡ lane.parts)
 dropped_lane (Some p) lane later h = (let a = ap length h in omega (arith, a), λ same. absurd (let a = ap length h in omega (arith, a, same)))
 dropped_lane None lane later h = (let a = ap length h.0 in omega (arith, a), λ same. h.0)
 
-module _ (scene : Scene) (l : Layout) (depth : ℕ) (some : 0 < tile_count l) (w v : ThreadedWorld) (f : IsThreadedFlowing scene l w) where
+module _ (scene : Scene) (l : Layout) (depth frames : ℕ) (some : 0 < tile_count l) (w v : ThreadedWorld) (seen : SeenLanes) (f : IsThreadedFlowing scene l frames w) where
   -- ---- what tiles show is as it was
 
   same_placed : (tile : ℕ) → v.caller ≡ w.caller → placed v tile ≡ placed w tile
@@ -125,18 +125,18 @@ module _ (scene : Scene) (l : Layout) (depth : ℕ) (some : 0 < tile_count l) (w
       → total (part_work v) (tile_count l) ≤ total (part_work w) (tile_count l) + 3 → threaded_work scene l v < threaded_work scene l w
   by_cluster less short parts = omega (arith, less, short, parts)
 
-  core_less : (tile : ℕ) (answer : Result TileAnswer OutOfMemory) → tile < tile_count l → IsTileCoreTurn scene l depth w tile answer v
+  core_less : (tile : ℕ) (answer : Result TileAnswer OutOfMemory) → tile < tile_count l → IsTileCoreTurn scene l depth w seen tile answer v
       → total (part_work v) (tile_count l) ≤ total (part_work w) (tile_count l) + 3
   core_less tile answer lt m =
       let c = one_change tile lt m.only in
-      let p = put_work depth m.offered (lane_of w tile) (lane_of v tile) (v.handing tile) m.put in
+      let p = put_work depth m.offered (lane_of w tile) (seen.parts tile) (lane_of v tile) (v.handing tile) m.put in
       let free = held_one (w.handing tile) m.free in
       let same = same_placed tile m.only.caller in
       omega (arith, c, p, free, same)
 
   -- ---- a part is sent
 
-  sent_less : (tile : ℕ) → IsHandOver scene l depth w tile true v → threaded_work scene l v < threaded_work scene l w
+  sent_less : (tile : ℕ) → IsHandOver scene l depth w seen tile true v → threaded_work scene l v < threaded_work scene l w
   sent_less tile m =
       let c = one_change tile m.low m.only in
       let a = ap length m.put.appended ∙ length-append (lane_of w tile) (m.part ∷ []) in
@@ -149,7 +149,7 @@ module _ (scene : Scene) (l : Layout) (depth : ℕ) (some : 0 < tile_count l) (w
 
   -- ---- the caller's turn
 
-  module _ (m : IsCall scene l depth w true v) where
+  module _ (frame : Option Image) (m : IsCall scene l depth w seen true frame v) where
     low_lane : (tile : ℕ) → tile < tile_count l → tile < length w.lanes
     low_lane tile lt = subst (λ n. tile < n) (sym f.lanes) lt
 
@@ -164,7 +164,7 @@ module _ (scene : Scene) (l : Layout) (depth : ℕ) (some : 0 < tile_count l) (w
     by_parts short less = let c = cluster_same in omega (arith, short, less, c)
 
     -- where the frame doesn't come, and lanes of as many parts are the same
-    by_lanes : m.frame ≡ None → short_of v.caller ≡ short_of w.caller
+    by_lanes : frame ≡ None → short_of v.caller ≡ short_of w.caller
         → ((tile : ℕ) → tile < tile_count l → part_work v tile ≤ part_work w tile)
         → ((tile : ℕ) → tile < tile_count l → part_work v tile ≡ part_work w tile → lane_of v tile ≡ lane_of w tile)
         → threaded_work scene l v < threaded_work scene l w
@@ -196,7 +196,7 @@ module _ (scene : Scene) (l : Layout) (depth : ℕ) (some : 0 < tile_count l) (w
         omega (arith, same, b, c, d)))
 
     module _ (ample : short_of w.caller ≡ false) where
-      a : IsAssembledOf GaveFirst GaveNone empties_of IsBare w.caller w.lanes m.frame v.caller v.lanes
+      a : IsAssembledOf GaveFirst GaveNone empties_of HoldsAny w.caller w.lanes frame v.caller v.lanes
       a = m.step.whole ample
 
       each : (tile : ℕ) → tile < tile_count l
@@ -223,7 +223,7 @@ module _ (scene : Scene) (l : Layout) (depth : ℕ) (some : 0 < tile_count l) (w
           let after : one_unless (short_of v.caller) ≡ 0 = ap one_unless short in
           omega (arith, parts, c, before, after)
 
-      comes : (frame : Option Image) → m.frame ≡ frame → ComesOf (layout_of w.caller) a.found frame v.caller → threaded_work scene l v < threaded_work scene l w
+      comes : (o : Option Image) → frame ≡ o → ComesOf (layout_of w.caller) a.found o v.caller → threaded_work scene l v < threaded_work scene l w
       comes (Some image) e h =
           let sizes = subst (λ (k : Layout). ArePartsOf k h.parts) f.layout h.sizes in
           by_parts (ap one_unless (h.short ∙ sym ample))
@@ -261,7 +261,7 @@ module _ (scene : Scene) (l : Layout) (depth : ℕ) (some : 0 < tile_count l) (w
       comes None e (inr h) = spoilt h.short
 
       collecting : threaded_work scene l v < threaded_work scene l w
-      collecting = comes m.frame refl a.comes
+      collecting = comes frame refl a.comes
 
     call_less : threaded_work scene l v < threaded_work scene l w
     call_less = elim (cases_Bool (short_of w.caller)) [ inl short ↦ dropping short | inr ample ↦ collecting ample ]
@@ -295,50 +295,50 @@ module _ (scene : Scene) (l : Layout) (depth : ℕ) (some : 0 < tile_count l) (w
 
   -- ---- whoever has it
 
-  pub turn_less : TurnsLeaveLess → IsWellFormed (sync_lists_of scene) → (turn : ThreadedTurn) → IsThreadedTurn scene l depth w turn v → (IsStill turn → ⊥)
+  pub turn_less : TurnsLeaveLess → IsWellFormed (sync_lists_of scene) → (turn : ThreadedTurn) → IsThreadedTurnSeeing scene l depth w seen turn v → (IsStill turn → ⊥)
       → threaded_work scene l v < threaded_work scene l w
   turn_less less well (Steps (ClientTurn client answer)) m moves =
       let parts = no_parts_change m.parts in
-      by_cluster (less scene l depth w.cluster v.cluster (ClientTurn client answer) well f.cluster m.step moves) (same_short m.parts.caller) (omega (arith, parts))
+      by_cluster (less scene l depth w.cluster v.cluster seen.cluster (ClientTurn client answer) well f.cluster m.step moves) (same_short m.parts.caller) (omega (arith, parts))
   turn_less less well (Steps (ManagerTurn answer)) m moves =
       let parts = no_parts_change m.parts in
-      by_cluster (less scene l depth w.cluster v.cluster (ManagerTurn answer) well f.cluster m.step moves) (same_short m.parts.caller) (omega (arith, parts))
+      by_cluster (less scene l depth w.cluster v.cluster seen.cluster (ManagerTurn answer) well f.cluster m.step moves) (same_short m.parts.caller) (omega (arith, parts))
   turn_less less well (Steps (TileTurn tile answer)) m moves =
-      by_cluster (less scene l depth w.cluster v.cluster (TileTurn tile answer) well f.cluster m.step moves) (same_short m.only.caller)
-      (core_less tile answer (exists scene l depth w.cluster v.cluster (TileTurn tile answer) m.step) m)
+      by_cluster (less scene l depth w.cluster v.cluster seen.cluster (TileTurn tile answer) well f.cluster m.step moves) (same_short m.only.caller)
+      (core_less tile answer (exists scene l depth w.cluster v.cluster seen.cluster (TileTurn tile answer) m.step) m)
   turn_less less well (HandsOver tile true) m moves = sent_less tile m
   turn_less less well (HandsOver tile false) m moves = absurd (moves refl)
-  turn_less less well (Collects true) m moves = call_less m
-  turn_less less well (Collects false) m moves = absurd (moves refl)
+  turn_less less well (Collects true frame) m moves = call_less frame m
+  turn_less less well (Collects false frame) m moves = absurd (moves refl)
 
-  still_no_more : TurnsLeaveNoMore → IsWellFormed (sync_lists_of scene) → (turn : ThreadedTurn) → IsThreadedTurn scene l depth w turn v → IsStill turn
+  still_no_more : TurnsLeaveNoMore → IsWellFormed (sync_lists_of scene) → (turn : ThreadedTurn) → IsThreadedTurnSeeing scene l depth w seen turn v → IsStill turn
       → threaded_work scene l v ≤ threaded_work scene l w
   still_no_more more well (Steps (ClientTurn client answer)) m still =
-      still_same (still_keeps scene l depth w v (Steps (ClientTurn client answer)) fit still m).0 (more scene l depth w.cluster v.cluster (ClientTurn client answer) well f.cluster m.step)
+      still_same (still_keeps scene l depth w v seen (Steps (ClientTurn client answer)) fit still m).0 (more scene l depth w.cluster v.cluster seen.cluster (ClientTurn client answer) well f.cluster m.step)
   still_no_more more well (Steps (ManagerTurn answer)) m still =
-      still_same (still_keeps scene l depth w v (Steps (ManagerTurn answer)) fit still m).0 (more scene l depth w.cluster v.cluster (ManagerTurn answer) well f.cluster m.step)
+      still_same (still_keeps scene l depth w v seen (Steps (ManagerTurn answer)) fit still m).0 (more scene l depth w.cluster v.cluster seen.cluster (ManagerTurn answer) well f.cluster m.step)
   still_no_more more well (Steps (TileTurn tile answer)) m still =
-      still_same (still_keeps scene l depth w v (Steps (TileTurn tile answer)) fit still m).0 (more scene l depth w.cluster v.cluster (TileTurn tile answer) well f.cluster m.step)
+      still_same (still_keeps scene l depth w v seen (Steps (TileTurn tile answer)) fit still m).0 (more scene l depth w.cluster v.cluster seen.cluster (TileTurn tile answer) well f.cluster m.step)
   still_no_more more well (HandsOver tile sent) m still =
-      still_same (still_keeps scene l depth w v (HandsOver tile sent) fit still m).0 (let e = ap (work_in scene l) m.cluster in omega (arith, e))
-  still_no_more more well (Collects moved) m still =
-      still_same (still_keeps scene l depth w v (Collects moved) fit still m).0 (let e = ap (work_in scene l) m.cluster in omega (arith, e))
+      still_same (still_keeps scene l depth w v seen (HandsOver tile sent) fit still m).0 (let e = ap (work_in scene l) m.cluster in omega (arith, e))
+  still_no_more more well (Collects moved frame) m still =
+      still_same (still_keeps scene l depth w v seen (Collects moved frame) fit still m).0 (let e = ap (work_in scene l) m.cluster in omega (arith, e))
 
 -- whether the turn moves nothing
 pub stands : (turn : ThreadedTurn) → IsStill turn ⊎ (IsStill turn → ⊥)
 stands (Steps turn) = rests turn
 stands (HandsOver tile true) = inr (λ e. true≢false e)
 stands (HandsOver tile false) = inl refl
-stands (Collects true) = inr (λ e. true≢false e)
-stands (Collects false) = inl refl
+stands (Collects true frame) = inr (λ e. true≢false e)
+stands (Collects false frame) = inl refl
 
 pub threads_leave_less : TurnsLeaveLess → ThreadedTurnsLeaveLess
-threads_leave_less less scene l depth w later turn some well f m moves = turn_less scene l depth some w later f less well turn m moves
+threads_leave_less less scene l depth frames w later seen turn some well f m moves = turn_less scene l depth frames some w later seen f less well turn m moves
 
 pub threads_leave_no_more : TurnsLeaveNoMore → ThreadedTurnsLeaveLess → ThreadedTurnsLeaveNoMore
-threads_leave_no_more more less scene l depth w later turn some well f m = elim (stands turn) [
-  | inl still ↦ still_no_more scene l depth some w later f more well turn m still
-  | inr moves ↦ let k = less scene l depth w later turn some well f m moves in omega (arith, k)
+threads_leave_no_more more less scene l depth frames w later seen turn some well f m = elim (stands turn) [
+  | inl still ↦ still_no_more scene l depth frames some w later seen f more well turn m still
+  | inr moves ↦ let k = less scene l depth frames w later seen turn some well f m moves in omega (arith, k)
 ]
 
 pub new_threads_little : NewWorldsHaveLittleToDo → NewThreadedWorldsHaveLittleToDo

@@ -22,7 +22,7 @@ use Rattle.assembler.specs.Assembled.{places_of, short_of}
 use Rattle.assembler.specs.Places.{in_place}
 use Rattle.assembler.proofs.Waiting.{none_in}
 use Rattle.world_model.specs.Laws.{NewWorldsFlow, TurnsKeepWorldsFlowing}
-use Rattle.world_model.specs.Threaded.{ThreadedWorld, lane_of, AllThreadsHaveStopped}
+use Rattle.world_model.specs.Threaded.{ThreadedWorld, lane_of, frames_by, frames_in, AllThreadsHaveStopped}
 use Rattle.world_model.specs.ThreadedLaws.{LayoutsHavePixels, waiting_parts, AreShown, IsThreadedFlowing, NewThreadedWorldsFlow, ThreadedTurnsKeepFlowing, AllThreadedTurnsKeepFlowing, ThreadedTurnsMoveSomebody, NoThreadedRunStandsStill}
 use Rattle.world_model.specs.Turns.{AllHaveStopped}
 use Rattle.world_model.proofs.PartsAreShown.{is_misfit_of, turn_keeps}
@@ -47,7 +47,8 @@ closing_length : (b : Bool) → length (closing b) ≡ cond {A = ℕ} b 1 0
 closing_length true = refl
 closing_length false = refl
 
-module _ (members : MembersAreClients) (scene : Scene) (l : Layout) (depth : ℕ) (pos : 0 < depth) (w : ThreadedWorld) (f : IsThreadedFlowing scene l w) (r : AllThreadsRest scene l depth w) where
+module _ (members : MembersAreClients) (scene : Scene) (l : Layout) (depth frames : ℕ) (pos : 0 < depth) (w : ThreadedWorld) (f : IsThreadedFlowing scene l frames w)
+    (r : AllThreadsRest scene l depth w) where
   abbrev journal : List Entry
   journal = w.cluster.manager.book.journal
 
@@ -80,7 +81,7 @@ module _ (members : MembersAreClients) (scene : Scene) (l : Layout) (depth : ℕ
   -- ---- where it waits for a part
 
   module _ (whole : short_of w.caller ≡ false) where
-    s : AreShown l w
+    s : AreShown l frames w
     s = f.shown whole
 
     -- the tile whose part it misses
@@ -109,7 +110,7 @@ module _ (members : MembersAreClients) (scene : Scene) (l : Layout) (depth : ℕ
     ]
 
     -- it has shown the frames that are complete
-    shown_here : shown_frames (p_of g) ≡ s.frames
+    shown_here : shown_frames (p_of g) ≡ frames
     shown_here =
         let c = (s.tiles g low).count in
         let place = ap (λ (o : Option TilePart). length (option_to_list o)) (r.caller.gap whole).2 in
@@ -143,7 +144,7 @@ module _ (members : MembersAreClients) (scene : Scene) (l : Layout) (depth : ℕ
         omega (arith, n, a, b, c, d)
 
     -- so at most one frame more was granted
-    granted : frame_count journal ≤ s.frames + 1
+    granted : frame_count journal ≤ frames + 1
     granted =
         let pace = f.pace g low in
         let n = learnt_length in
@@ -180,7 +181,7 @@ module _ (members : MembersAreClients) (scene : Scene) (l : Layout) (depth : ℕ
     free tile lt = elim (r.tiles tile lt) [ inl x ↦ x | inr k ↦ absurd (not_kept tile lt k) ]
 
     -- where all have stopped, all frames are complete
-    complete : frame_count journal ≡ s.frames
+    complete : frame_count journal ≡ frames
     complete =
         let stopped = (cluster_stopped free).tiles g low in
         let whole_told = (f.cluster.manager.tiles_are g low).whole (sym told ∙ stopped.no_more) in
@@ -203,7 +204,7 @@ module _ (members : MembersAreClients) (scene : Scene) (l : Layout) (depth : ℕ
       | inl short ↦ absurd (by_misfit short)
     ]
       where
-        c : s.frames + length (option_to_list (in_place (places_of w.caller) tile)) + length (waiting_parts w tile)
+        c : frames + length (option_to_list (in_place (places_of w.caller) tile)) + length (waiting_parts w tile)
             ≡ shown_frames (p_of tile) + cond {A = ℕ} (w.cluster.tiles tile).short 1 0
         c = (s.tiles tile lt).count
 
@@ -213,7 +214,7 @@ module _ (members : MembersAreClients) (scene : Scene) (l : Layout) (depth : ℕ
         few : shown_frames (p_of tile) ≤ frame_count journal
         few = f.few tile lt
 
-        all : frame_count journal ≡ s.frames
+        all : frame_count journal ≡ frames
         all = complete
 
         some : (ps : List TilePart) → list_any (is_misfit_of l tile) ps ≡ true → 0 < length ps
@@ -241,7 +242,7 @@ module _ (members : MembersAreClients) (scene : Scene) (l : Layout) (depth : ℕ
 
 -- ---- the laws
 
-threads_stopped_on : (scene : Scene) (l : Layout) (depth : ℕ) (w v : ThreadedWorld) → IsSameThreads scene l depth w v → AllThreadsHaveStopped scene l w → AllThreadsHaveStopped scene l v
+pub threads_stopped_on : (scene : Scene) (l : Layout) (depth : ℕ) (w v : ThreadedWorld) → IsSameThreads scene l depth w v → AllThreadsHaveStopped scene l w → AllThreadsHaveStopped scene l v
 threads_stopped_on scene l depth w v same h = record {
   cluster = stopped_on scene l w.cluster v.cluster same.cluster h.cluster;
   handing = λ tile lt. same.handing tile lt ∙ h.handing tile lt;
@@ -252,18 +253,22 @@ threads_stopped_on scene l depth w v same h = record {
 }
 
 pub threads_move : MembersAreClients → ThreadedTurnsMoveSomebody
-threads_move members scene l depth turns w later pos flows has goes still =
+threads_move members scene l depth turns w later frames pos flows has goes still =
     let fit : Fits scene l depth w = record { lanes = flows.lanes; layout = flows.layout } in
     threads_stopped_on scene l depth w later (all_still scene l depth w later turns fit still goes)
-    (all_threads_stopped members scene l depth pos w flows (all_rest scene l depth w later turns fit has still goes))
+    (all_threads_stopped members scene l depth frames pos w flows (all_rest scene l depth w later turns fit has still goes))
 
 pub threads_keep : TurnsKeepWorldsFlowing → ThreadedTurnsKeepFlowing
-threads_keep keep scene l depth w later turn pixels flows goes = turn_keeps scene l depth pixels w later flows keep turn goes
+threads_keep keep scene l depth frames w later seen turn pixels flows goes = turn_keeps scene l depth frames pixels w later seen flows keep turn goes
 
 pub all_threads_keep : TurnsKeepWorldsFlowing → AllThreadedTurnsKeepFlowing
-all_threads_keep keep scene l depth w later [] pixels flows goes = subst (λ (v : ThreadedWorld). IsThreadedFlowing scene l v) (sym goes) flows
-all_threads_keep keep scene l depth w later (turn ∷ turns) pixels flows goes =
-    all_threads_keep keep scene l depth goes.0 later turns pixels (threads_keep keep scene l depth w goes.0 turn pixels flows goes.1) goes.2
+all_threads_keep keep scene l depth frames w later [] pixels flows goes =
+    let same : frames ≡ frames + 0 = omega arith in
+    subst (λ n. IsThreadedFlowing scene l n later) same (subst (λ (v : ThreadedWorld). IsThreadedFlowing scene l frames v) (sym goes) flows)
+all_threads_keep keep scene l depth frames w later (turn ∷ turns) pixels flows goes =
+    let first = threads_keep keep scene l depth frames w goes.0 goes.1.0 turn pixels flows goes.1.1 in
+    let same : (frames + frames_by turn) + frames_in turns ≡ frames + (frames_by turn + frames_in turns) = omega arith in
+    subst (λ n. IsThreadedFlowing scene l n later) same (all_threads_keep keep scene l depth (frames + frames_by turn) goes.0 later turns pixels first goes.2)
 
 pub new_threads_flow : NewWorldsFlow → NewThreadedWorldsFlow
 new_threads_flow new scene l w h = record {
@@ -275,7 +280,6 @@ new_threads_flow new scene l w h = record {
   layout = h.caller.layout;
   lanes = h.count;
   shown = λ whole. record {
-    frames = 0;
     fit = λ tile p is. absurd (let same = sym (no_part tile) ∙ is in cc);
     tiles = λ tile lt.
         let p = ap (λ (q : Progress). shown_frames q) (h.cluster.tiles tile lt).progress in
@@ -296,4 +300,5 @@ new_threads_flow new scene l w h = record {
 pub no_thread_stands_still : LayoutsHavePixels → NewThreadedWorldsFlow → AllThreadedTurnsKeepFlowing → ThreadedTurnsMoveSomebody → NoThreadedRunStandsStill
 no_thread_stands_still pixels new keep moves scene l depth turns round first w later fits begins leads has goes still =
     let deep = (depth_within scene l depth fits).0 in
-    moves scene l depth round w later (omega (arith, deep)) (keep scene l depth first w turns (pixels scene l depth fits) (new scene l first begins) leads) has goes still
+    moves scene l depth round w later (0 + frames_in turns) (omega (arith, deep)) (keep scene l depth 0 first w turns (pixels scene l depth fits) (new scene l first begins) leads)
+    has goes still

@@ -3,10 +3,13 @@ use Rattle.std.proofs.Common.{◌≡◌, ℕ, ◌+◌, ◌*◌, ◌/◌, ◌<◌
 use Rattle.std.proofs.Math.Nat.{div-mul-le_self, mul-pos}
 use Rattle.std.proofs.lemmas.Nat.{le-div}
 use Rattle.std.specs.Prelude.{min}
-use Rattle.rc_base.specs.Cluster.Tiles.{tile_column, tile_row}
+use Rattle.rc_base.specs.Cluster.Tiles.{tile_count, tile_column, tile_row}
 use Rattle.rc_base.specs.Formats.Limits.{quantity, layout_limit}
 use Rattle.rc_base.proofs.WithinLimits.{first_within, in_range}
 use Rattle.assembler.specs.Parts.{part_size}
+use Rattle.rc_base.specs.Formats.Within.{IsLayoutFor}
+use Rattle.rc_base.specs.declared.scene.Scene.{Scene}
+use Rattle.rc_base.specs.declared.window.Layout.{Layout}
 use Rattle.world_model.specs.ThreadedLaws.{LayoutsHavePixels}
 
 -- a side that is cut into no more parts than it is long has a pixel in each
@@ -32,3 +35,10 @@ have_pixels scene l depth fits tile lt =
     let r = s.1.0 in
     let h = s.1.1 in
     mul-pos (some_part l.width l.columns (tile_column l tile) (omega (arith, c)) (omega (arith, w))) (some_part l.height l.rows (tile_row l tile) (omega (arith, r)) (omega (arith, h)))
+
+pub have_tiles : (scene : Scene) (l : Layout) (depth : ℕ) → IsLayoutFor scene l depth → 0 < tile_count l
+have_tiles scene l depth fits =
+    let s = sides_within l.width l.height l.columns l.rows depth fits.limits in
+    let c = s.0.0 in
+    let r = s.1.0 in
+    mul-pos (omega (arith, c)) (omega (arith, r))

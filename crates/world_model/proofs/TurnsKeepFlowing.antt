@@ -32,12 +32,12 @@ use Rattle.scene_lemmas.proofs.Sendings.{parcels_append, requests_append}
 use Rattle.scene_lemmas.proofs.Numbered.{with_here, with_other}
 use Rattle.plain_lemmas.proofs.Numbers.{equal_to_itself, at_one_or_other}
 use Rattle.world_model.specs.Flowing.{IsInTurn, EndsWithRequest, IsOrderly, is_end_parcel, IsTileFlowing, IsFlowing}
-use Rattle.world_model.specs.Moves.{IsIdle, OnlyClient, OnlyTile, IsClientStep, IsManagerStep, IsTileMove}
+use Rattle.world_model.specs.Moves.{IsIdle, OnlyClient, OnlyTile, IsClientStepSeeing, IsManagerStepSeeing, IsTileMoveSeeing}
 use Rattle.world_model.specs.Short.{MayLose}
 use Rattle.world_model.specs.Tiles.{Tile}
-use Rattle.world_model.specs.Turns.{Turn, IsClientLoss, IsShortTileMove, IsTurn}
+use Rattle.world_model.specs.Turns.{Turn, IsClientLoss, IsShortTileMoveSeeing, IsTurnSeeing}
 use Rattle.world_model.specs.Turns.Turn.{ClientTurn, ManagerTurn, TileTurn}
-use Rattle.world_model.specs.World.{World, Client, client_total}
+use Rattle.world_model.specs.World.{World, Client, Lanes, client_total}
 use Rattle.world_model.proofs.LanesGoOn.{same_so_far}
 use Rattle.world_model.proofs.ManagersKeepSound.{stays_legal, none_beyond}
 use Rattle.world_model.proofs.OrderlySequences.{any_append, cut_turns, cut_requests}
@@ -150,22 +150,22 @@ module _ (scene : Scene) (l : Layout) (depth : ℕ) (w v : World) (f : IsFlowing
     requests = i.sent.requests ∙ sym (append-nil (w.requests client));
   }
 
-  step_flows : (answer : ClientMoved) → IsClientStep scene l depth w client answer v → IsFlowing scene l v
-  step_flows (client_moved.Appended tile) m = client_flows (ToTile tile m.sent.parcel ∷ []) record {
+  step_flows : (seen : Lanes) (answer : ClientMoved) → IsClientStepSeeing scene l depth w seen client answer v → IsFlowing scene l v
+  step_flows seen (client_moved.Appended tile) m = client_flows (ToTile tile m.sent.parcel ∷ []) record {
     orderly = goes_on (ToTile tile m.sent.parcel ∷ []) m.sent.next;
     parcels = at_one_or_other (λ t. t < tile_count l → v.parcels client t ≡ w.parcels client t ++ parcels_to t (ToTile tile m.sent.parcel ∷ [])) tile
         (λ lt. m.sent.appended ∙ ap (λ (ps : List Parcel). w.parcels client tile ++ ps) (rw (equal_to_itself tile) refl))
         (λ t ne lt. m.sent.others t ne ∙ sym (append-nil (w.parcels client t)) ∙ ap (λ (ps : List Parcel). w.parcels client t ++ ps) (rw (ne_eqb t tile ne) refl));
     requests = m.sent.requests ∙ sym (append-nil (w.requests client));
   }
-  step_flows client_moved.Requested m = client_flows (ToManager m.sent.request ∷ []) record {
+  step_flows seen client_moved.Requested m = client_flows (ToManager m.sent.request ∷ []) record {
     orderly = goes_on (ToManager m.sent.request ∷ []) m.sent.next;
     parcels = λ tile lt. m.sent.parcels tile ∙ sym (append-nil (w.parcels client tile));
     requests = m.sent.appended;
   }
-  step_flows (client_moved.BlockedTile tile) m = idle_flows m.idle
-  step_flows client_moved.BlockedRequest m = idle_flows m.idle
-  step_flows client_moved.Ended m = idle_flows m.1
+  step_flows seen (client_moved.BlockedTile tile) m = idle_flows m.idle
+  step_flows seen client_moved.BlockedRequest m = idle_flows m.idle
+  step_flows seen client_moved.Ended m = idle_flows m.1
 
 loss_flows : (scene : Scene) (l : Layout) (depth : ℕ) (w v : World) (client : ℕ) → IsFlowing scene l w → IsClientLoss scene l depth w client v → IsFlowing scene l v
 loss_flows scene l depth w v client f m = client_flows scene l depth w v f client m.low m.only [] record {
@@ -179,9 +179,9 @@ loss_flows scene l depth w v client f m = client_flows scene l depth w v f clien
 
 -- ---- the manager
 
-manager_flows : BooksStayLegal → StepsKeepManagersRight → (scene : Scene) (l : Layout) (depth : ℕ) (w v : World) (answer : Result ManagerMoved OutOfMemory)
-    → IsFlowing scene l w → IsManagerStep scene l depth w answer v → IsFlowing scene l v
-manager_flows books steps scene l depth w v answer f m =
+manager_flows : BooksStayLegal → StepsKeepManagersRight → (scene : Scene) (l : Layout) (depth : ℕ) (w v : World) (seen : Lanes) (answer : Result ManagerMoved OutOfMemory)
+    → IsFlowing scene l w → IsManagerStepSeeing scene l depth w seen answer v → IsFlowing scene l v
+manager_flows books steps scene l depth w v seen answer f m =
     let syncs = sync_lists_of scene in
     let d = w.manager in
     let asked : ℕ → List Request = λ c. f.asked c ++ option_to_list (taken_of m.deed c) in
@@ -260,19 +260,19 @@ module _ (scene : Scene) (l : Layout) (w v : World) (f : IsFlowing scene l w) (t
       flowing_as n took took' heard heard' a e g h =
           subst (λ hs. IsTileFlowing n took' hs a) (sym g) (subst (λ (ts : ℕ → List Parcel). IsTileFlowing n ts heard a) (sym (fun_ext e)) h)
 
-pub turn_flows : BooksStayLegal → StepsKeepManagersRight → (scene : Scene) (l : Layout) (depth : ℕ) (w v : World) (turn : Turn) → IsFlowing scene l w
-    → IsTurn scene l depth w turn v → IsFlowing scene l v
-turn_flows books steps scene l depth w v (ClientTurn client (Ok answer)) f m = step_flows scene l depth w v f client m.step.low m.step.only answer m.step.step
-turn_flows books steps scene l depth w v (ClientTurn client (Err error)) f m = loss_flows scene l depth w v client f m.step
-turn_flows books steps scene l depth w v (ManagerTurn answer) f m = manager_flows books steps scene l depth w v answer f m.step
-turn_flows books steps scene l depth w v (TileTurn tile (Ok answer)) f m = by m.step
+pub turn_flows : BooksStayLegal → StepsKeepManagersRight → (scene : Scene) (l : Layout) (depth : ℕ) (w v : World) (seen : Lanes) (turn : Turn) → IsFlowing scene l w
+    → IsTurnSeeing scene l depth w seen turn v → IsFlowing scene l v
+turn_flows books steps scene l depth w v seen (ClientTurn client (Ok answer)) f m = step_flows scene l depth w v f client m.step.low m.step.only seen answer m.step.step
+turn_flows books steps scene l depth w v seen (ClientTurn client (Err error)) f m = loss_flows scene l depth w v client f m.step
+turn_flows books steps scene l depth w v seen (ManagerTurn answer) f m = manager_flows books steps scene l depth w v seen answer f m.step
+turn_flows books steps scene l depth w v seen (TileTurn tile (Ok answer)) f m = by m.step
   where
-    by : IsTileMove scene l depth w tile answer v ⊎ IsShortTileMove scene l depth w tile answer v → IsFlowing scene l v
+    by : IsTileMoveSeeing scene l depth w seen tile answer v ⊎ IsShortTileMoveSeeing scene l depth w seen tile answer v → IsFlowing scene l v
     by (inl t) = takes_flow scene l w v f tile t.low t.only t.item t.parcel t.grant
         (tile_flows (client_total scene) (λ c. f.took c tile) (f.heard tile) (w.tiles tile) (v.tiles tile) t.item (f.tiles tile t.low) t.step.ample t.step.awaited t.step.progress)
     by (inr t) = takes_flow scene l w v f tile t.low t.only t.item t.parcel t.grant
         (short_tile_flows (client_total scene) (λ c. f.took c tile) (f.heard tile) (w.tiles tile) (v.tiles tile) t.item (f.tiles tile t.low) t.still_short t.progress)
-turn_flows books steps scene l depth w v (TileTurn tile (Err error)) f m =
+turn_flows books steps scene l depth w v seen (TileTurn tile (Err error)) f m =
     let t = m.step in
     takes_flow scene l w v f tile t.low t.only t.item t.parcel (no_grant (w.tiles tile).progress t.item t.may t.grant)
     (short_tile_flows (client_total scene) (λ c. f.took c tile) (f.heard tile) (w.tiles tile) (v.tiles tile) t.item (f.tiles tile t.low) t.short t.progress)

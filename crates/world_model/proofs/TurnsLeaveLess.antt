@@ -41,15 +41,15 @@ use Rattle.scene_lemmas.proofs.Sendings.{requests_append}
 use Rattle.order_model.proofs.JournalsInTurn.{performed_more}
 use Rattle.plain_lemmas.proofs.Numbers.{equal_to_itself}
 use Rattle.world_model.specs.Flowing.{ask_by, asks, IsFlowing}
-use Rattle.world_model.specs.Moves.{IsAtRest, IsClientMove, IsManagerStep, IsTileMove, OnlyClient, OnlyTile}
+use Rattle.world_model.specs.Moves.{IsAtRest, IsClientMoveSeeing, IsManagerStepSeeing, IsTileMoveSeeing, OnlyClient, OnlyTile}
 use Rattle.world_model.specs.declared.moves.Move.TheVariants.{Client as ClientMove, Tile as TileMove}
 use Rattle.world_model.specs.Short.{IsAwaitedShort, IsShortAnswer, MayLose}
 use Rattle.world_model.specs.Tiles.{Tile, IsTileAnswer}
 use Rattle.world_model.specs.declared.moves.TileAnswer.{TileAnswer}
-use Rattle.world_model.specs.Turns.{IsShortTileMove, IsTileLoss, IsResting}
+use Rattle.world_model.specs.Turns.{IsShortTileMoveSeeing, IsTileLoss, IsResting}
 use Rattle.world_model.specs.Turns.Turn.{ClientTurn, ManagerTurn, TileTurn}
 use Rattle.world_model.specs.Work.{total, one_unless, operations, most_in, client_work, due_to, tile_work, work_in, TurnsLeaveLess}
-use Rattle.world_model.specs.World.{World, Client, client_total}
+use Rattle.world_model.specs.World.{World, Client, Lanes, client_total}
 use Rattle.tile_model.proofs.ItemsComeFromLanes.{listens, learnt_same}
 use Rattle.world_model.proofs.OrderlySequences.{asks_append}
 use Rattle.world_model.proofs.TilesKeepFlowing.{act_performed}
@@ -266,13 +266,14 @@ module _ (scene : Scene) (l : Layout) (depth : ℕ) (w v : World) where
         (let e = ap (λ (d : ManagerProgress). one_unless d.short) only.manager in omega (arith, e))
         (λ t lt. tile_least t most (delivered_same t) (told_same t) (only.tiles t lt) (only.grants t lt) (parcels_same t lt (parcels t lt)))
 
-  client_less : (client : ℕ) (answer : ClientMoved) → (IsAtRest (ClientMove client answer) → ⊥) → IsClientMove scene l depth w client answer v → work_in scene l v < work_in scene l w
-  client_less client (client_moved.Appended tile) moving m =
+  client_less : (seen : Lanes) (client : ℕ) (answer : ClientMoved) → (IsAtRest (ClientMove client answer) → ⊥) → IsClientMoveSeeing scene l depth w seen client answer v
+      → work_in scene l v < work_in scene l w
+  client_less seen client (client_moved.Appended tile) moving m =
       sends_parcel client m.low m.only tile m.step.sent.parcel m.step.low m.step.sent.next m.step.sent.appended m.step.sent.others m.step.sent.requests m.short
-  client_less client client_moved.Requested moving m = sends_request client m.low m.only m.step.sent.request m.step.sent.next m.step.sent.parcels m.step.sent.appended m.short
-  client_less client (client_moved.BlockedTile tile) moving m = absurd (moving (inl (tile, refl)))
-  client_less client client_moved.BlockedRequest moving m = absurd (moving (inr (inl refl)))
-  client_less client client_moved.Ended moving m = absurd (moving (inr (inr refl)))
+  client_less seen client client_moved.Requested moving m = sends_request client m.low m.only m.step.sent.request m.step.sent.next m.step.sent.parcels m.step.sent.appended m.short
+  client_less seen client (client_moved.BlockedTile tile) moving m = absurd (moving (inl (tile, refl)))
+  client_less seen client client_moved.BlockedRequest moving m = absurd (moving (inr (inl refl)))
+  client_less seen client client_moved.Ended moving m = absurd (moving (inr (inr refl)))
 
   -- ---- a tile
 
@@ -337,9 +338,9 @@ module _ (scene : Scene) (l : Layout) (depth : ℕ) (w v : World) where
         (λ c lc. only.parcels c k lc li ne)) (omega (arith, less, most, lanes, a, b))
 
   -- of a tile that isn't short
-  whole_less : (t : ℕ) (answer : TileAnswer) → (count : (w.tiles t).progress.count ≡ n) → (performed_in (w.tiles t).progress.log ≤ length (w.tiles t).progress.learnt)
-      → (IsAtRest (TileMove t answer) → ⊥) → IsTileMove scene l depth w t answer v → work_in scene l v < work_in scene l w
-  whole_less t answer count within moving m = by m.item refl m.step.awaited m.answered m.step.progress
+  whole_less : (seen : Lanes) (t : ℕ) (answer : TileAnswer) → (count : (w.tiles t).progress.count ≡ n) → (performed_in (w.tiles t).progress.log ≤ length (w.tiles t).progress.learnt)
+      → (IsAtRest (TileMove t answer) → ⊥) → IsTileMoveSeeing scene l depth w seen t answer v → work_in scene l v < work_in scene l w
+  whole_less seen t answer count within moving m = by m.item refl m.step.awaited m.answered m.step.progress
     where
       p : Progress
       p = (w.tiles t).progress
@@ -388,9 +389,9 @@ module _ (scene : Scene) (l : Layout) (depth : ℕ) (w v : World) where
       by NoMore = refl
       by (Sent client x) = elim (cases_Bool (is_end x.act)) [ inl y ↦ rw y refl | inr g ↦ rw g refl ]
 
-  short_less : (t : ℕ) (answer : TileAnswer) → (count : (w.tiles t).progress.count ≡ n) → (IsAtRest (TileMove t answer) → ⊥) → IsShortTileMove scene l depth w t answer v
+  short_less : (seen : Lanes) (t : ℕ) (answer : TileAnswer) → (count : (w.tiles t).progress.count ≡ n) → (IsAtRest (TileMove t answer) → ⊥) → IsShortTileMoveSeeing scene l depth w seen t answer v
       → work_in scene l v < work_in scene l w
-  short_less t answer count moving m = by m.item refl m.awaited m.answered m.progress
+  short_less seen t answer count moving m = by m.item refl m.awaited m.answered m.progress
     where
       flag : one_unless (v.tiles t).short ≡ one_unless (w.tiles t).short
       flag = ap one_unless (m.still_short ∙ sym m.short)
@@ -445,7 +446,7 @@ module _ (scene : Scene) (l : Layout) (depth : ℕ) (w v : World) where
 
   -- ---- the manager
 
-  module _ (well : IsWellFormed (sync_lists_of scene)) (f : IsFlowing scene l w) (g : IsFlowing scene l v) (answer : Result ManagerMoved OutOfMemory) (m : IsManagerStep scene l depth w answer v) where
+  module _ (well : IsWellFormed (sync_lists_of scene)) (f : IsFlowing scene l w) (g : IsFlowing scene l v) (seen : Lanes) (answer : Result ManagerMoved OutOfMemory) (m : IsManagerStepSeeing scene l depth w seen answer v) where
     abbrev syncs : SyncLists
     syncs = sync_lists_of scene
 
@@ -595,14 +596,14 @@ module _ (scene : Scene) (l : Layout) (depth : ℕ) (w v : World) where
     manager_less moving = by_deed m.deed refl moving m.next m.answered m.manager
 
 pub turns_leave_less : BooksStayLegal → StepsKeepManagersRight → TurnsLeaveLess
-turns_leave_less books steps scene l depth w v (ClientTurn client (Ok answer)) well f m moving = client_less scene l depth w v client answer moving m.step
-turns_leave_less books steps scene l depth w v (ClientTurn client (Err error)) well f m moving =
+turns_leave_less books steps scene l depth w v seen (ClientTurn client (Ok answer)) well f m moving = client_less scene l depth w v seen client answer moving m.step
+turns_leave_less books steps scene l depth w v seen (ClientTurn client (Err error)) well f m moving =
     let k = m.step in loses scene l depth w v client k.low k.only k.dropped k.before k.left k.parcels k.requests k.ample k.short
-turns_leave_less books steps scene l depth w v (ManagerTurn answer) well f m moving =
-    manager_less scene l depth w v well f (turn_flows books steps scene l depth w v (ManagerTurn answer) f m) answer m.step moving
-turns_leave_less books steps scene l depth w v (TileTurn tile (Ok answer)) well f m moving = by m.step
+turns_leave_less books steps scene l depth w v seen (ManagerTurn answer) well f m moving =
+    manager_less scene l depth w v well f (turn_flows books steps scene l depth w v seen (ManagerTurn answer) f m) seen answer m.step moving
+turns_leave_less books steps scene l depth w v seen (TileTurn tile (Ok answer)) well f m moving = by m.step
   where
-    by : IsTileMove scene l depth w tile answer v ⊎ IsShortTileMove scene l depth w tile answer v → work_in scene l v < work_in scene l w
-    by (inl t) = whole_less scene l depth w v tile answer (f.tiles tile t.low).count ((f.tiles tile t.low).ample t.step.ample).performed moving t
-    by (inr t) = short_less scene l depth w v tile answer (f.tiles tile t.low).count moving t
-turns_leave_less books steps scene l depth w v (TileTurn tile (Err error)) well f m moving = lost_less scene l depth w v tile (f.tiles tile m.step.low).count m.step
+    by : IsTileMoveSeeing scene l depth w seen tile answer v ⊎ IsShortTileMoveSeeing scene l depth w seen tile answer v → work_in scene l v < work_in scene l w
+    by (inl t) = whole_less scene l depth w v seen tile answer (f.tiles tile t.low).count ((f.tiles tile t.low).ample t.step.ample).performed moving t
+    by (inr t) = short_less scene l depth w v seen tile answer (f.tiles tile t.low).count moving t
+turns_leave_less books steps scene l depth w v seen (TileTurn tile (Err error)) well f m moving = lost_less scene l depth w v tile (f.tiles tile m.step.low).count m.step

@@ -25,7 +25,7 @@ use Rattle.world_model.specs.declared.moves.TileAnswer.TheVariants.{Performed, S
 use Rattle.world_model.specs.Turns.{Turn, AreTurns, IsResting, turn_of}
 use Rattle.world_model.specs.Turns.Turn.{ClientTurn, ManagerTurn, TileTurn}
 use Rattle.world_model.specs.Work.{total, one_unless, operations, client_work, tile_work, work_in, TurnsLeaveLess, TurnsLeaveNoMore, RoundsLeaveLess, NewWorldsHaveLittleToDo, SteppedRunsHaveLittleToDo}
-use Rattle.world_model.specs.World.{World, client_total}
+use Rattle.world_model.specs.World.{World, all_lanes, client_total}
 use Rattle.world_model.proofs.MovesAreTurns.{all_turns}
 use Rattle.world_model.proofs.SequencesAreOrdered.{few_parcels}
 
@@ -189,11 +189,11 @@ rests (TileTurn tile (Ok Ended)) = inl (inr refl)
 rests (TileTurn tile (Err error)) = inr (λ h. h)
 
 pub no_more : RestingTurnsChangeNothing → TurnsLeaveLess → TurnsLeaveNoMore
-no_more still less scene l depth w v turn well f m = by (rests turn)
+no_more still less scene l depth w v seen turn well f m = by (rests turn)
   where
     by : IsResting turn ⊎ (IsResting turn → ⊥) → work_in scene l v ≤ work_in scene l w
-    by (inl rest) = let e = same_work scene l w v (still scene l depth w v turn rest m) in omega (arith, e)
-    by (inr moving) = let e = less scene l depth w v turn well f m moving in omega (arith, e)
+    by (inl rest) = let e = same_work scene l w v (still scene l depth w v seen turn rest m) in omega (arith, e)
+    by (inr moving) = let e = less scene l depth w v seen turn well f m moving in omega (arith, e)
 
 -- ---- turns one after the other
 
@@ -201,21 +201,21 @@ module _ (keep : TurnsKeepWorldsFlowing) (less : TurnsLeaveLess) (more : TurnsLe
   all_no_more : (w v : World) (turns : List Turn) → IsFlowing scene l w → AreTurns scene l depth w turns v → work_in scene l v ≤ work_in scene l w
   all_no_more w v [] f m = let e = ap (work_in scene l) m in omega (arith, e)
   all_no_more w v (turn ∷ turns) f m =
-      let a = more scene l depth w m.0 turn well f m.1 in
-      let b = all_no_more m.0 v turns (keep scene l depth w m.0 turn f m.1) m.2 in
+      let a = more scene l depth w m.0 (all_lanes w) turn well f m.1 in
+      let b = all_no_more m.0 v turns (keep scene l depth w m.0 (all_lanes w) turn f m.1) m.2 in
       omega (arith, a, b)
 
   all_less : (w v : World) (turns : List Turn) → IsFlowing scene l w → AreTurns scene l depth w turns v → (AllByRecursion IsResting turns → ⊥) → work_in scene l v < work_in scene l w
   all_less w v [] f m moving = absurd (moving tt)
   all_less w v (turn ∷ turns) f m moving =
-      let flows = keep scene l depth w m.0 turn f m.1 in
+      let flows = keep scene l depth w m.0 (all_lanes w) turn f m.1 in
       elim (rests turn) [
         | inl rest ↦
-            let a = more scene l depth w m.0 turn well f m.1 in
+            let a = more scene l depth w m.0 (all_lanes w) turn well f m.1 in
             let b = all_less m.0 v turns flows m.2 (λ all. moving (rest, all)) in
             omega (arith, a, b)
         | inr moves ↦
-            let a = less scene l depth w m.0 turn well f m.1 moves in
+            let a = less scene l depth w m.0 (all_lanes w) turn well f m.1 moves in
             let b = all_no_more m.0 v turns flows m.2 in
             omega (arith, a, b)
       ]

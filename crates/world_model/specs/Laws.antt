@@ -23,8 +23,8 @@ use Rattle.world_model.specs.Moves.{IsMove, AreMoves, IsAtRest, IsLast}
 use Rattle.world_model.specs.Flowing.{IsFlowing}
 use Rattle.world_model.specs.Runs.{AllHaveEnded, actor_of, round_of, IsSteppedRun, IsFinishedRun}
 use Rattle.world_model.specs.Sound.{IsSound}
-use Rattle.world_model.specs.Turns.{Turn, IsTurn, AreTurns, IsResting, IsLastTurn, turn_of, number_of, AllHaveStopped, AreAmple}
-use Rattle.world_model.specs.World.{World, client_total, IsNewWorld}
+use Rattle.world_model.specs.Turns.{Turn, IsTurnSeeing, IsTurn, AreTurns, IsResting, IsLastTurn, turn_of, number_of, AllHaveStopped, AreAmple}
+use Rattle.world_model.specs.World.{World, Lanes, client_total, IsNewWorld}
 
 -- ---- the induction
 
@@ -203,10 +203,11 @@ FinishedRunsLeaveOneRecord =
 abbrev pub NewWorldsFlow : Type 0
 NewWorldsFlow = (scene : Scene) (l : Layout) (w : World) → IsNewWorld scene l w → IsFlowing scene l w
 
--- a turn of whichever actor, short or not, and one in which memory lacks, leaves a flowing world flowing
+-- a turn of whichever actor, short or not, and one in which memory lacks, leaves a flowing world flowing, whatever its actor saw of its lanes
 abbrev pub TurnsKeepWorldsFlowing : Type 0
 TurnsKeepWorldsFlowing =
-    (scene : Scene) (l : Layout) (depth : ℕ) (w later : World) (turn : Turn) → IsFlowing scene l w → IsTurn scene l depth w turn later → IsFlowing scene l later
+    (scene : Scene) (l : Layout) (depth : ℕ) (w later : World) (seen : Lanes) (turn : Turn) → IsFlowing scene l w → IsTurnSeeing scene l depth w seen turn later
+    → IsFlowing scene l later
 
 -- and so do turns one after the other
 abbrev pub RoundsKeepWorldsFlowing : Type 0
@@ -244,10 +245,11 @@ AmpleWorldsEnd = (scene : Scene) (l : Layout) (w : World) → AreAmple scene l w
 
 -- ---- turns that move nothing
 
--- the turn of an actor that is blocked or has ended changes nothing
+-- the turn of an actor that is blocked or has ended changes nothing, whatever it saw of its lanes
 abbrev pub RestingTurnsChangeNothing : Type 0
 RestingTurnsChangeNothing =
-    (scene : Scene) (l : Layout) (depth : ℕ) (w later : World) (turn : Turn) → IsResting turn → IsTurn scene l depth w turn later → IsSameWorld scene l w later
+    (scene : Scene) (l : Layout) (depth : ℕ) (w later : World) (seen : Lanes) (turn : Turn) → IsResting turn → IsTurnSeeing scene l depth w seen turn later
+    → IsSameWorld scene l w later
 
 -- and so do turns one after the other that move nothing
 abbrev pub RestingRoundsChangeNothing : Type 0

@@ -12,3 +12,4 @@ pub mod Fair
 pub mod Threaded
 pub mod ThreadedLaws
 pub mod ThreadedFair
+pub mod Held

@@ -1,4 +1,5 @@
--- The moves of the stepped cluster: an actor's step, what it takes of its lanes and appends to them, and its answer.
+-- The moves of the stepped cluster: an actor's step, what it takes of its lanes and appends to them, and its answer. An actor looks at its lanes before it moves; what it
+-- saw of them, empty or full, is what they hold in the stepped cluster, and may be past where actors run at once.
 use Rattle.std.specs.Prelude.{◌≡◌, ◌≢◌, ℕ, ◌<◌, List, [], ◌∷◌, ◌++◌, length, ◌⊎◌, Result, Ok, MatchOption}
 use Rattle.rc_base.specs.Cluster.Looks.{looks_at}
 use Rattle.rc_base.specs.Cluster.Sending.{Sending, ToTile, ToManager}
@@ -23,7 +24,7 @@ use Rattle.world_model.specs.declared.moves.Move.{Move}
 use Rattle.world_model.specs.declared.moves.Move.TheVariants.{Client as ClientMove, Manager as ManagerMove, Tile as TileMove}
 use Rattle.world_model.specs.Tiles.{IsTileStep, FindsNoGrant, FindsNoParcel, IsTileAnswer}
 use Rattle.world_model.specs.declared.moves.TileAnswer.TheVariants.{Blocked, Ended}
-use Rattle.world_model.specs.World.{World, lanes_of, client_total, LanesFit}
+use Rattle.world_model.specs.World.{World, Lanes, all_lanes, lanes_of, client_total, LanesFit}
 
 -- ---- a client
 
@@ -49,29 +50,32 @@ module _ (scene : Scene) (l : Layout) (depth : ℕ) where
     pub tallied : (later.clients client).tallies tile ≡ tally_after ((w.clients client).tallies tile) sent.parcel (looks_at scene l client tile sent.parcel.place)
     pub others : (other : ℕ) → other ≢ tile → (later.clients client).tallies other ≡ (w.clients client).tallies other
 
-  -- the next item is for a tile whose lane is full
-  pub record IsBlockedTile (w : World) (client tile : ℕ) (later : World) : Type 0 where
+  -- the next item is for a tile whose lane was full
+  pub record IsBlockedTile (w : World) (seen : Lanes) (client tile : ℕ) (later : World) : Type 0 where
     pub low : tile < tile_count l
     pub parcel : Parcel
     pub rest : List Sending
     pub next : (w.clients client).left ≡ ToTile tile parcel ∷ rest
-    pub full : length (w.parcels client tile) ≡ depth
+    pub full : length (seen.parcels client tile) ≡ depth
     pub idle : IsIdle w client later
 
-  -- the next item is for the manager, and the lane is full
-  pub record IsBlockedRequest (w : World) (client : ℕ) (later : World) : Type 0 where
+  -- the next item is for the manager, and the lane was full
+  pub record IsBlockedRequest (w : World) (seen : Lanes) (client : ℕ) (later : World) : Type 0 where
     pub request : Request
     pub rest : List Sending
     pub next : (w.clients client).left ≡ ToManager request ∷ rest
-    pub full : length (w.requests client) ≡ depth
+    pub full : length (seen.requests client) ≡ depth
     pub idle : IsIdle w client later
 
+  abbrev pub IsClientStepSeeing : World → Lanes → ℕ → ClientMoved → World → Type 0
+  IsClientStepSeeing w seen client (client_moved.Appended tile) later = IsAppended w client tile later
+  IsClientStepSeeing w seen client client_moved.Requested later = IsRequested w client later
+  IsClientStepSeeing w seen client (client_moved.BlockedTile tile) later = IsBlockedTile w seen client tile later
+  IsClientStepSeeing w seen client client_moved.BlockedRequest later = IsBlockedRequest w seen client later
+  IsClientStepSeeing w seen client client_moved.Ended later = ((w.clients client).left ≡ []) × IsIdle w client later
+
   abbrev pub IsClientStep : World → ℕ → ClientMoved → World → Type 0
-  IsClientStep w client (client_moved.Appended tile) later = IsAppended w client tile later
-  IsClientStep w client client_moved.Requested later = IsRequested w client later
-  IsClientStep w client (client_moved.BlockedTile tile) later = IsBlockedTile w client tile later
-  IsClientStep w client client_moved.BlockedRequest later = IsBlockedRequest w client later
-  IsClientStep w client client_moved.Ended later = ((w.clients client).left ≡ []) × IsIdle w client later
+  IsClientStep w client answer later = IsClientStepSeeing w (all_lanes w) client answer later
 
 -- ---- what a move leaves as it was
 
@@ -103,31 +107,37 @@ module _ (scene : Scene) (l : Layout) where
 -- ---- moves
 
 module _ (scene : Scene) (l : Layout) (depth : ℕ) where
-  -- The client sends the next item of its sequence, unless its lane is full.
-  pub record IsClientMove (w : World) (client : ℕ) (answer : ClientMoved) (later : World) : Type 0 where
+  -- The client sends the next item of its sequence, unless its lane was full.
+  pub record IsClientMoveSeeing (w : World) (seen : Lanes) (client : ℕ) (answer : ClientMoved) (later : World) : Type 0 where
     pub low : client < client_total scene
-    pub step : IsClientStep scene l depth w client answer later
+    pub step : IsClientStepSeeing scene l depth w seen client answer later
     pub short : (later.clients client).short ≡ (w.clients client).short
     pub only : OnlyClient scene l w client later
 
-  -- The manager does what comes first, and takes and appends just that. A lane that it tried before was empty, and one that it is blocked at is full.
-  pub record IsManagerStep (w : World) (answer : Result ManagerMoved OutOfMemory) (later : World) : Type 0 where
+  abbrev pub IsClientMove : World → ℕ → ClientMoved → World → Type 0
+  IsClientMove w client answer later = IsClientMoveSeeing w (all_lanes w) client answer later
+
+  -- The manager does what comes first, and takes and appends just that. A lane that it tried before was empty, and one that it is blocked at full.
+  pub record IsManagerStepSeeing (w : World) (seen : Lanes) (answer : Result ManagerMoved OutOfMemory) (later : World) : Type 0 where
     pub deed : ManagerDeed
     pub answered : answer_of deed ≡ answer
     pub next : IsNextDeed (sync_lists_of scene) (tile_count l) w.manager deed
     pub manager : later.manager ≡ progress_after (sync_lists_of scene) w.manager deed
     pub taken : (client : ℕ) → client < client_total scene
         → MatchOption (taken_of deed client) (later.requests client ≡ w.requests client) (λ r. w.requests client ≡ r ∷ later.requests client)
-    pub empty : (client : ℕ) → client < client_total scene → IsFoundEmpty (sync_lists_of scene) w.manager deed client → w.requests client ≡ []
+    pub empty : (client : ℕ) → client < client_total scene → IsFoundEmpty (sync_lists_of scene) w.manager deed client → seen.requests client ≡ []
     pub sent : (tile : ℕ) → tile < tile_count l → later.grants tile ≡ w.grants tile ++ sent_to deed tile
-    pub full : (tile : ℕ) → tile < tile_count l → IsFoundFull deed tile → length (w.grants tile) ≡ depth
+    pub full : (tile : ℕ) → tile < tile_count l → IsFoundFull deed tile → length (seen.grants tile) ≡ depth
     pub only : OnlyManager scene l w later
+
+  abbrev pub IsManagerStep : World → Result ManagerMoved OutOfMemory → World → Type 0
+  IsManagerStep w answer later = IsManagerStepSeeing w (all_lanes w) answer later
 
   abbrev pub IsManagerMove : World → ManagerMoved → World → Type 0
   IsManagerMove w answer later = IsManagerStep w (Ok answer) later
 
   -- The tile does its step with the item that comes first, which comes from its lane. A lane that it tried before was empty.
-  pub record IsTileMove (w : World) (tile : ℕ) (answer : TileAnswer) (later : World) : Type 0 where
+  pub record IsTileMoveSeeing (w : World) (seen : Lanes) (tile : ℕ) (answer : TileAnswer) (later : World) : Type 0 where
     pub low : tile < tile_count l
     pub item : Item
     pub answered : IsTileAnswer (w.tiles tile).progress item answer
@@ -135,10 +145,13 @@ module _ (scene : Scene) (l : Layout) (depth : ℕ) where
     pub parcel : (client : ℕ) → client < client_total scene
         → MatchOption (parcel_taken item client) (later.parcels client tile ≡ w.parcels client tile)
         (λ p. w.parcels client tile ≡ p ∷ later.parcels client tile)
-    pub no_parcel : (client : ℕ) → client < client_total scene → FindsNoParcel (w.tiles tile) item client → w.parcels client tile ≡ []
+    pub no_parcel : (client : ℕ) → client < client_total scene → FindsNoParcel (w.tiles tile) item client → seen.parcels client tile ≡ []
     pub grant : MatchOption (grant_taken item) (later.grants tile ≡ w.grants tile) (λ g. w.grants tile ≡ g ∷ later.grants tile)
-    pub no_grant : FindsNoGrant (w.tiles tile).progress item → w.grants tile ≡ []
+    pub no_grant : FindsNoGrant (w.tiles tile).progress item → seen.grants tile ≡ []
     pub only : OnlyTile scene l w tile later
+
+  abbrev pub IsTileMove : World → ℕ → TileAnswer → World → Type 0
+  IsTileMove w tile answer later = IsTileMoveSeeing w (all_lanes w) tile answer later
 
   abbrev pub IsStepOf : World → Move → World → Type 0
   IsStepOf w (ClientMove client answer) later = IsClientMove w client answer later

@@ -12,8 +12,8 @@ use Rattle.assembler.specs.Assembled.{layout_of, places_of, short_of}
 use Rattle.assembler.specs.Parts.{tile_height, tile_width}
 use Rattle.assembler.specs.Places.{fits, in_place, AllFit}
 use Rattle.world_model.specs.Flowing.{IsFlowing}
-use Rattle.world_model.specs.Threaded.{ThreadedWorld, ThreadedTurn, lane_of, IsNewThreadedWorld}
-use Rattle.world_model.specs.Threaded.{IsThreadedTurn, AreThreadedTurns, IsStill, HaveThreadedTurns, AllThreadsHaveStopped}
+use Rattle.world_model.specs.Threaded.{ThreadedWorld, ThreadedTurn, SeenLanes, lane_of, frames_by, frames_in, IsNewThreadedWorld}
+use Rattle.world_model.specs.Threaded.{IsThreadedTurnSeeing, AreLooseTurns, AreThreadedTurns, IsStill, HaveThreadedTurns, AllThreadsHaveStopped}
 use Rattle.world_model.specs.Tiles.{Tile}
 
 -- ---- what is true of every world that turns lead to
@@ -29,20 +29,19 @@ pub record IsTileShown (l : Layout) (tile frames : ℕ) (place : Option TilePart
   pub told : a.short ≡ true → list_any (λ part. not (fits l tile part)) waiting ≡ true
 
 -- so of each tile, and the parts in places fit
-pub record AreShown (l : Layout) (w : ThreadedWorld) : Type 0 where
-  pub frames : ℕ
+pub record AreShown (l : Layout) (frames : ℕ) (w : ThreadedWorld) : Type 0 where
   pub fit : AllFit l (places_of w.caller)
   pub tiles : (tile : ℕ) → tile < tile_count l → IsTileShown l tile frames (in_place (places_of w.caller) tile) (waiting_parts w tile) (w.cluster.tiles tile)
 
--- The cluster flows; each entry but the last is with each tile; no tile has shown more frames than were granted; and while the caller isn't short, it has taken
--- what the tiles have shown, but for what waits.
-pub record IsThreadedFlowing (scene : Scene) (l : Layout) (w : ThreadedWorld) : Type 0 where
+-- The cluster flows; each entry but the last is with each tile; no tile has shown more frames than were granted; and while the caller isn't short, it has completed so
+-- many frames of what the tiles have shown, and the rest waits.
+pub record IsThreadedFlowing (scene : Scene) (l : Layout) (frames : ℕ) (w : ThreadedWorld) : Type 0 where
   pub cluster : IsFlowing scene l w.cluster
   pub pace : (tile : ℕ) → tile < tile_count l → length w.cluster.manager.book.journal ≤ w.cluster.manager.delivered tile + 1
   pub few : (tile : ℕ) → tile < tile_count l → shown_frames (w.cluster.tiles tile).progress ≤ frame_count w.cluster.manager.book.journal
   pub layout : layout_of w.caller ≡ l
   pub lanes : length w.lanes ≡ tile_count l
-  pub shown : short_of w.caller ≡ false → AreShown l w
+  pub shown : short_of w.caller ≡ false → AreShown l frames w
 
 -- each tile has pixels
 abbrev pub HavePixels : Layout → Type 0
@@ -55,30 +54,30 @@ LayoutsHavePixels = (scene : Scene) (l : Layout) (depth : ℕ) → IsLayoutFor s
 -- ---- laws
 
 abbrev pub NewThreadedWorldsFlow : Type 0
-NewThreadedWorldsFlow = (scene : Scene) (l : Layout) (w : ThreadedWorld) → IsNewThreadedWorld scene l w → IsThreadedFlowing scene l w
+NewThreadedWorldsFlow = (scene : Scene) (l : Layout) (w : ThreadedWorld) → IsNewThreadedWorld scene l w → IsThreadedFlowing scene l 0 w
 
--- a turn of whichever actor, short or not, and one in which memory lacks, leaves a flowing world flowing
+-- a turn of whichever actor, short or not, and one in which memory lacks, leaves a flowing world flowing, whatever its actor saw of its lanes
 abbrev pub ThreadedTurnsKeepFlowing : Type 0
 ThreadedTurnsKeepFlowing =
-    (scene : Scene) (l : Layout) (depth : ℕ) (w later : ThreadedWorld) (turn : ThreadedTurn) → HavePixels l → IsThreadedFlowing scene l w
-    → IsThreadedTurn scene l depth w turn later → IsThreadedFlowing scene l later
+    (scene : Scene) (l : Layout) (depth frames : ℕ) (w later : ThreadedWorld) (seen : SeenLanes) (turn : ThreadedTurn) → HavePixels l
+    → IsThreadedFlowing scene l frames w → IsThreadedTurnSeeing scene l depth w seen turn later → IsThreadedFlowing scene l (frames + frames_by turn) later
 
 -- and so do turns one after the other
 abbrev pub AllThreadedTurnsKeepFlowing : Type 0
 AllThreadedTurnsKeepFlowing =
-    (scene : Scene) (l : Layout) (depth : ℕ) (w later : ThreadedWorld) (turns : List ThreadedTurn) → HavePixels l → IsThreadedFlowing scene l w
-    → AreThreadedTurns scene l depth w turns later → IsThreadedFlowing scene l later
+    (scene : Scene) (l : Layout) (depth frames : ℕ) (w later : ThreadedWorld) (turns : List ThreadedTurn) → HavePixels l
+    → IsThreadedFlowing scene l frames w → AreLooseTurns scene l depth w turns later → IsThreadedFlowing scene l (frames + frames_in turns) later
 
 -- Turns in any sequence, among which each actor has one and so has the caller, move somebody until all have stopped and no part waits: for lanes of every depth
 -- above 0, whoever is short.
 abbrev pub ThreadedTurnsMoveSomebody : Type 0
 ThreadedTurnsMoveSomebody =
-    (scene : Scene) (l : Layout) (depth : ℕ) (turns : List ThreadedTurn) (w later : ThreadedWorld) → 0 < depth → IsThreadedFlowing scene l w
+    (scene : Scene) (l : Layout) (depth : ℕ) (turns : List ThreadedTurn) (w later : ThreadedWorld) (frames : ℕ) → 0 < depth → IsThreadedFlowing scene l frames w
     → HaveThreadedTurns scene l turns → AreThreadedTurns scene l depth w turns later → AllByRecursion IsStill turns → AllThreadsHaveStopped scene l later
 
 -- So nothing stands still on a layout within the limits, whatever turns led there from a new world.
 abbrev pub NoThreadedRunStandsStill : Type 0
 NoThreadedRunStandsStill =
     (scene : Scene) (l : Layout) (depth : ℕ) (turns round : List ThreadedTurn) (first w later : ThreadedWorld) → IsLayoutFor scene l depth
-    → IsNewThreadedWorld scene l first → AreThreadedTurns scene l depth first turns w → HaveThreadedTurns scene l round
+    → IsNewThreadedWorld scene l first → AreLooseTurns scene l depth first turns w → HaveThreadedTurns scene l round
     → AreThreadedTurns scene l depth w round later → AllByRecursion IsStill round → AllThreadsHaveStopped scene l later

@@ -15,10 +15,10 @@ use Rattle.tile_model.specs.Short.{after_lost, IsFinished}
 use Rattle.world_model.specs.declared.moves.Move.{Move}
 use Rattle.world_model.specs.declared.moves.Move.TheVariants.{Client as ClientMove, Manager as ManagerMove, Tile as TileMove}
 use Rattle.world_model.specs.declared.moves.TileAnswer.{TileAnswer}
-use Rattle.world_model.specs.Moves.{IsAtRest, IsLast, OnlyClient, OnlyTile, IsClientMove, IsManagerStep, IsTileMove}
+use Rattle.world_model.specs.Moves.{IsAtRest, IsLast, OnlyClient, OnlyTile, IsClientMoveSeeing, IsManagerStepSeeing, IsTileMoveSeeing}
 use Rattle.world_model.specs.Short.{IsAwaitedShort, IsShortAnswer, FindsNoGrantShort, FindsNoParcelShort, MayLose}
 use Rattle.world_model.specs.Tiles.{next_after}
-use Rattle.world_model.specs.World.{World, client_total, LanesFit}
+use Rattle.world_model.specs.World.{World, Lanes, all_lanes, client_total, LanesFit}
 
 -- an actor's step, by its answer; where memory lacks in it, its actor is short from then on
 pub data Turn : Type 0 where
@@ -40,7 +40,7 @@ module _ (scene : Scene) (l : Layout) (depth : ℕ) where
     pub only : OnlyClient scene l w client later
 
   -- A step of a tile that is short: what it takes is dropped.
-  pub record IsShortTileMove (w : World) (tile : ℕ) (answer : TileAnswer) (later : World) : Type 0 where
+  pub record IsShortTileMoveSeeing (w : World) (seen : Lanes) (tile : ℕ) (answer : TileAnswer) (later : World) : Type 0 where
     pub low : tile < tile_count l
     pub short : (w.tiles tile).short ≡ true
     pub still_short : (later.tiles tile).short ≡ true
@@ -54,10 +54,13 @@ module _ (scene : Scene) (l : Layout) (depth : ℕ) where
     pub parcel : (client : ℕ) → client < client_total scene
         → MatchOption (parcel_taken item client) (later.parcels client tile ≡ w.parcels client tile)
         (λ p. w.parcels client tile ≡ p ∷ later.parcels client tile)
-    pub no_parcel : (client : ℕ) → client < client_total scene → FindsNoParcelShort (w.tiles tile) item client → w.parcels client tile ≡ []
+    pub no_parcel : (client : ℕ) → client < client_total scene → FindsNoParcelShort (w.tiles tile) item client → seen.parcels client tile ≡ []
     pub grant : MatchOption (grant_taken item) (later.grants tile ≡ w.grants tile) (λ g. w.grants tile ≡ g ∷ later.grants tile)
-    pub no_grant : FindsNoGrantShort (w.tiles tile).progress item → w.grants tile ≡ []
+    pub no_grant : FindsNoGrantShort (w.tiles tile).progress item → seen.grants tile ≡ []
     pub only : OnlyTile scene l w tile later
+
+  abbrev pub IsShortTileMove : World → ℕ → TileAnswer → World → Type 0
+  IsShortTileMove w tile answer later = IsShortTileMoveSeeing w (all_lanes w) tile answer later
 
   -- Memory lacks in a tile's step: it is short from then on, and what it took is dropped.
   pub record IsTileLoss (w : World) (tile : ℕ) (later : World) : Type 0 where
@@ -74,17 +77,24 @@ module _ (scene : Scene) (l : Layout) (depth : ℕ) where
     pub grant : later.grants tile ≡ w.grants tile
     pub only : OnlyTile scene l w tile later
 
-  abbrev pub IsStepOf : World → Turn → World → Type 0
-  IsStepOf w (ClientTurn client (Ok answer)) later = IsClientMove scene l depth w client answer later
-  IsStepOf w (ClientTurn client (Err error)) later = IsClientLoss w client later
-  IsStepOf w (ManagerTurn answer) later = IsManagerStep scene l depth w answer later
-  IsStepOf w (TileTurn tile (Ok answer)) later = IsTileMove scene l depth w tile answer later ⊎ IsShortTileMove w tile answer later
-  IsStepOf w (TileTurn tile (Err error)) later = IsTileLoss w tile later
+  abbrev pub IsStepSeeing : World → Lanes → Turn → World → Type 0
+  IsStepSeeing w seen (ClientTurn client (Ok answer)) later = IsClientMoveSeeing scene l depth w seen client answer later
+  IsStepSeeing w seen (ClientTurn client (Err error)) later = IsClientLoss w client later
+  IsStepSeeing w seen (ManagerTurn answer) later = IsManagerStepSeeing scene l depth w seen answer later
+  IsStepSeeing w seen (TileTurn tile (Ok answer)) later = IsTileMoveSeeing scene l depth w seen tile answer later ⊎ IsShortTileMoveSeeing w seen tile answer later
+  IsStepSeeing w seen (TileTurn tile (Err error)) later = IsTileLoss w tile later
 
-  -- no turn appends to a lane that is full
-  pub record IsTurn (w : World) (turn : Turn) (later : World) : Type 0 where
-    pub step : IsStepOf w turn later
+  abbrev pub IsStepOf : World → Turn → World → Type 0
+  IsStepOf w turn later = IsStepSeeing w (all_lanes w) turn later
+
+  -- A turn of an actor that saw this of its lanes. No turn appends to a lane that is full.
+  pub record IsTurnSeeing (w : World) (seen : Lanes) (turn : Turn) (later : World) : Type 0 where
+    pub step : IsStepSeeing w seen turn later
     pub fit : LanesFit scene l depth later
+
+  -- it saw its lanes as they stand
+  abbrev pub IsTurn : World → Turn → World → Type 0
+  IsTurn w turn later = IsTurnSeeing w (all_lanes w) turn later
 
   -- turns one after the other
   abbrev pub AreTurns : World → List Turn → World → Type 0

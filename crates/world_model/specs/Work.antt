@@ -11,8 +11,8 @@ use Rattle.order_model.specs.Standing.{performed_in}
 use Rattle.world_model.specs.declared.moves.Move.{Move}
 use Rattle.world_model.specs.Flowing.{asks, IsFlowing}
 use Rattle.world_model.specs.Runs.{IsSteppedRun}
-use Rattle.world_model.specs.Turns.{Turn, IsTurn, AreTurns, IsResting}
-use Rattle.world_model.specs.World.{World, client_total, IsNewWorld}
+use Rattle.world_model.specs.Turns.{Turn, IsTurnSeeing, AreTurns, IsResting}
+use Rattle.world_model.specs.World.{World, Lanes, client_total, IsNewWorld}
 
 -- the sum of the first n numbers
 abbrev pub total : (ℕ → ℕ) → ℕ → ℕ
@@ -53,16 +53,17 @@ work_in scene l w =
 
 -- ---- turns
 
+-- whatever an actor saw of its lanes
 abbrev pub TurnsLeaveLess : Type 0
 TurnsLeaveLess =
-    (scene : Scene) (l : Layout) (depth : ℕ) (w later : World) (turn : Turn) → IsWellFormed (sync_lists_of scene) → IsFlowing scene l w
-    → IsTurn scene l depth w turn later → (IsResting turn → ⊥) → work_in scene l later < work_in scene l w
+    (scene : Scene) (l : Layout) (depth : ℕ) (w later : World) (seen : Lanes) (turn : Turn) → IsWellFormed (sync_lists_of scene) → IsFlowing scene l w
+    → IsTurnSeeing scene l depth w seen turn later → (IsResting turn → ⊥) → work_in scene l later < work_in scene l w
 
 -- and no turn leaves more
 abbrev pub TurnsLeaveNoMore : Type 0
 TurnsLeaveNoMore =
-    (scene : Scene) (l : Layout) (depth : ℕ) (w later : World) (turn : Turn) → IsWellFormed (sync_lists_of scene) → IsFlowing scene l w
-    → IsTurn scene l depth w turn later → work_in scene l later ≤ work_in scene l w
+    (scene : Scene) (l : Layout) (depth : ℕ) (w later : World) (seen : Lanes) (turn : Turn) → IsWellFormed (sync_lists_of scene) → IsFlowing scene l w
+    → IsTurnSeeing scene l depth w seen turn later → work_in scene l later ≤ work_in scene l w
 
 -- so turns one after the other, of which one isn't at rest, leave less
 abbrev pub RoundsLeaveLess : Type 0

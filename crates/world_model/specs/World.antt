@@ -28,6 +28,16 @@ pub record World : Type 0 where
   pub requests : ℕ → List Request
   pub grants : ℕ → List Grant
 
+-- What the lanes hold, or held where each was looked at.
+pub record Lanes : Type 0 where
+  pub parcels : ℕ → ℕ → List Parcel
+  pub requests : ℕ → List Request
+  pub grants : ℕ → List Grant
+
+-- what they hold in a world
+abbrev pub all_lanes : World → Lanes
+all_lanes w = record { parcels = w.parcels; requests = w.requests; grants = w.grants }
+
 -- a client with what its own lanes hold
 abbrev pub lanes_of : World → ℕ → ClientLanes
 lanes_of w client = record { left = (w.clients client).left; parcels = w.parcels client; requests = w.requests client }

@@ -9,7 +9,8 @@ ghost use Rattle.world_model.specs.Laws.{MovesAreTurns, AmpleTurnsAreMoves, Turn
 ghost use Rattle.world_model.specs.Laws.{RestingTurnsChangeNothing, RestingRoundsChangeNothing, StoppedWorldsRest, LastTurnsTell};
 ghost use Rattle.world_model.specs.Fair.{FairTurnsMoveSomebody, FairSchedulesEnd, FairRunsEnd, FewTurnsMove, NewRunsMoveSeldom};
 ghost use Rattle.world_model.specs.ThreadedFair.{ThreadedTurnsLeaveLess, ThreadedTurnsLeaveNoMore, NewThreadedWorldsHaveLittleToDo};
-ghost use Rattle.world_model.specs.ThreadedFair.{FairThreadedSchedulesEnd, FairThreadedRunsEnd, NewThreadedRunsMoveSeldom};
+ghost use Rattle.world_model.specs.ThreadedFair.{ThreadedSchedulesAreLoose, LooseTurnsMoveSomebody, FairLooseSchedulesEnd, FairLooseRunsEnd, NewThreadedRunsMoveSeldom};
+ghost use Rattle.world_model.specs.Held.{ThreadedRunsHoldLittle, NoTileRunsAhead, FewPartsOfEachTileAreHeld, FewPartsAreHeld};
 ghost use Rattle.world_model.specs.ThreadedLaws.{LayoutsHavePixels, NewThreadedWorldsFlow, ThreadedTurnsKeepFlowing, AllThreadedTurnsKeepFlowing};
 ghost use Rattle.world_model.specs.ThreadedLaws.{ThreadedTurnsMoveSomebody, NoThreadedRunStandsStill};
 ghost use Rattle.world_model.specs.Work.{TurnsLeaveLess, TurnsLeaveNoMore, RoundsLeaveLess, NewWorldsHaveLittleToDo, SteppedRunsHaveLittleToDo};
@@ -207,18 +208,34 @@ pub fn threads_move_somebody()
     turns_keep_worlds_flowing();
 }
 
-/// Every fair schedule of the cluster that runs on threads ends: whatever the sequence of turns without end, if each actor has one again and again, and so has
-/// the caller, all come to have stopped and no part waits. For each turn that moves something leaves less to do: from a new world of a scene within the limits
-/// fewer than 2^42 turns do. That a thread has turns at all is up to the system.
+/// Every fair schedule of the cluster that runs on threads ends, whose actors look at one lane after the other: a turn that moves something does so whatever its
+/// actor saw before, and one that moves nothing saw each lane that it waits for, empty or full, at some moment since its actor's last turn. Whatever the sequence
+/// of such turns without end, if each actor has one again and again, and so has the caller, all come to have stopped and no part waits. For each turn that moves
+/// something leaves less to do: from a new world of a scene within the limits fewer than 2^42 turns do. That a thread has turns at all is up to the system.
 pub fn fair_threads_end()
     ensures less { ThreadedTurnsLeaveLess }
     ensures no_more { ThreadedTurnsLeaveNoMore }
     ensures little { NewThreadedWorldsHaveLittleToDo }
-    ensures ends { FairThreadedSchedulesEnd }
-    ensures runs { FairThreadedRunsEnd }
+    ensures one_moment { ThreadedSchedulesAreLoose }
+    ensures some { LooseTurnsMoveSomebody }
+    ensures ends { FairLooseSchedulesEnd }
+    ensures runs { FairLooseRunsEnd }
     ensures seldom { NewThreadedRunsMoveSeldom }
 {
     scenes_within_limits();
+    entries_have_clients();
     threads_move_somebody();
     turns_leave_less();
+}
+
+/// In the cluster that runs on threads few parts are held, however many frames there are, and whatever actors see of their lanes. While the caller isn't short, the
+/// frames that its calls gave, and the parts of a tile in its place, in its lane and handed over, are the frames that the tile has shown, and one more where it is
+/// short. So a tile has shown at most depth + 2 frames beyond those that were given, and fewer than depth + 2 parts for each tile are held.
+pub fn threads_hold_few_parts()
+    ensures count { ThreadedRunsHoldLittle }
+    ensures ahead { NoTileRunsAhead }
+    ensures each { FewPartsOfEachTileAreHeld }
+    ensures all { FewPartsAreHeld }
+{
+    threads_move_somebody();
 }

@@ -1,5 +1,6 @@
-use Rattle.world_model.specs.ThreadedFair.{ThreadedTurnsLeaveLess, ThreadedTurnsLeaveNoMore, FairThreadedSchedulesEnd}
-use Rattle.world_model.proofs.FairThreadsEnd.{fair_threads_end, fair_thread_runs_end, new_threads_move_seldom}
+use Rattle.world_model.specs.ThreadedFair.{ThreadedTurnsLeaveLess, ThreadedTurnsLeaveNoMore, FairLooseSchedulesEnd}
+use Rattle.world_model.proofs.FairThreadsEnd.{threads_are_loose, fair_loose_end, fair_loose_runs_end, new_threads_move_seldom}
+use Rattle.world_model.proofs.LooseTurnsMoveSomebody.{loose_turns_move}
 use Rattle.world_model.proofs.ThreadsLeaveLess.{threads_leave_less, threads_leave_no_more, new_threads_little}
 use Rattle.world_model.proofs.laws.fair_threads_end.Goals as goal
 
@@ -12,17 +13,23 @@ returns-clause-no_more c = threads_leave_no_more c.turns_leave_less.ensures.no_m
 pub returns-clause-little : goal.returns-clause-little
 returns-clause-little c = new_threads_little c.turns_leave_less.ensures.first
 
+pub returns-clause-one_moment : goal.returns-clause-one_moment
+returns-clause-one_moment c = threads_are_loose
+
+pub returns-clause-some : goal.returns-clause-some
+returns-clause-some c = loose_turns_move c.entries_have_clients.ensures.members
+
 pub returns-clause-ends : goal.returns-clause-ends
 returns-clause-ends c =
     let less : ThreadedTurnsLeaveLess = threads_leave_less c.turns_leave_less.ensures.less in
-    fair_threads_end c.threads_move_somebody.ensures.next less (threads_leave_no_more c.turns_leave_less.ensures.no_more less) c.threads_move_somebody.ensures.some
+    fair_loose_end c.threads_move_somebody.ensures.next less (threads_leave_no_more c.turns_leave_less.ensures.no_more less) (loose_turns_move c.entries_have_clients.ensures.members)
 
 pub returns-clause-runs : goal.returns-clause-runs
 returns-clause-runs c =
     let less : ThreadedTurnsLeaveLess = threads_leave_less c.turns_leave_less.ensures.less in
-    let ends : FairThreadedSchedulesEnd =
-    fair_threads_end c.threads_move_somebody.ensures.next less (threads_leave_no_more c.turns_leave_less.ensures.no_more less) c.threads_move_somebody.ensures.some in
-    fair_thread_runs_end c.scenes_within_limits.ensures.drawable c.scenes_within_limits.ensures.runnable c.threads_move_somebody.ensures.pixels c.threads_move_somebody.ensures.first
+    let ends : FairLooseSchedulesEnd =
+    fair_loose_end c.threads_move_somebody.ensures.next less (threads_leave_no_more c.turns_leave_less.ensures.no_more less) (loose_turns_move c.entries_have_clients.ensures.members) in
+    fair_loose_runs_end c.scenes_within_limits.ensures.drawable c.scenes_within_limits.ensures.runnable c.threads_move_somebody.ensures.pixels c.threads_move_somebody.ensures.first
     ends
 
 pub returns-clause-seldom : goal.returns-clause-seldom
