@@ -7,5 +7,6 @@ pub mod Grids
 pub mod Loops
 pub mod Columns
 pub mod Plans
+pub mod Shades
 pub mod Setups
 pub mod Stored

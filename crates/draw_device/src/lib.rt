@@ -46,6 +46,8 @@ mod rows;
 mod run;
 mod setup;
 mod shade;
+mod shades;
+mod short_rows;
 mod source;
 mod stages;
 mod stepped;

@@ -14,7 +14,7 @@ use raster::WordPlane;
 use rc_base::command::Rgba;
 
 #[inline(always)]
-fn test_step(
+pub(crate) fn test_step(
     test: DepthTest,
     color: Rgba,
     depth: i32,

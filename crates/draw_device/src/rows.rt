@@ -14,6 +14,7 @@ use crate::put::put_row;
 use crate::run::Run;
 use crate::setup::Setup;
 use crate::shade::draw_run;
+use crate::short_rows::{draw_short, is_short, laid_by, shades_of};
 use crate::stages::Stages;
 use crate::stepped::color_ramp;
 use crate::tests::Tests;
@@ -61,6 +62,16 @@ fn stage_row(
     ensures spare { length spare.new.colors.items ≡ length spare.old.colors.items }
     ensures drawn { IsRowDrawn setup.now run colors.old depths.old colors.new depths.new }
 {
+    if is_short(run) {
+        if let Tests::Depth(plane) = stages.tests {
+            if let Some(over) = laid_by(setup) {
+                if let Some(shades) = shades_of(setup, stages.source, run) {
+                    draw_short(colors, depths, setup, plane, shades, over, run);
+                    return;
+                }
+            }
+        }
+    }
     let from = first_visible(depths, setup, stages.tests, run);
     if from == run.to {
         return;
