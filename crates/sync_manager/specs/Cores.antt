@@ -1,5 +1,5 @@
 -- What a manager's core stands for.
-use Rattle.std.specs.Prelude.{◌≡◌, ℕ, ◌-◌, ◌<◌, not, nat_lt, Bool, true, false, cond, List, ◌++◌, length, slice_index_or, MatchOption}
+use Rattle.std.specs.Prelude.{◌≡◌, ℕ, ◌-◌, ◌<◌, ◌≤◌, not, nat_lt, Bool, true, false, cond, List, ◌++◌, length, slice_index_or, MatchOption}
 use Rattle.rc_base.specs.Cluster.Lanes.{EachLane}
 use Rattle.rc_base.specs.Outside.Causes.{Rose}
 use Rattle.rc_base.specs.Orders.Sync.{client_count}
@@ -58,6 +58,14 @@ IsNewManager decl clients core =
 -- the clients, by number, that neither wait nor have ended
 abbrev pub AreWanted : ManagerCore → List Bool → Type 0
 AreWanted core asks = (client : ℕ) → client < clients_of core → slice_index_or asks client true ≡ is_wanted core.book client
+
+-- NoMore is with every tile
+abbrev pub HasToldAll : ManagerCore → Type 0
+HasToldAll core = core.tiles ≤ core.told
+
+-- the clients, by number, whose End wasn't taken
+abbrev pub AreLeft : ManagerCore → List Bool → Type 0
+AreLeft core asks = (client : ℕ) → not (slice_index_or asks client true) ≡ drained_in core client
 
 -- memory lacks for the first time
 abbrev pub BecomesShort : ManagerCore → ManagerCore → Type 0

@@ -35,7 +35,7 @@ impl ManagerCore {
     ghost use Rattle.sync_manager.specs.Books.{clients_in, is_wanted, names_declared};
     ghost use Rattle.sync_manager.specs.Stored.{CountSomeone};
     ghost use Rattle.sync_manager.specs.Progress.{answer_of};
-    ghost use Rattle.sync_manager.specs.Cores.{clients_of, tiles_of, book_of, drained_in, is_short, AreWanted, BecomesShort, IsManagerStep, IsNewManager, OfProgress, AreTaken, AreFoundEmpty, AreSent, AreFoundFull};
+    ghost use Rattle.sync_manager.specs.Cores.{clients_of, tiles_of, book_of, drained_in, is_short, AreLeft, AreWanted, BecomesShort, HasToldAll, IsManagerStep, IsNewManager, OfProgress, AreTaken, AreFoundEmpty, AreSent, AreFoundFull};
     ghost use Rattle.sync_manager.specs.Tasks.{AllSupplied, IsDeliveryIn, IsReceivingIn, IsDrainingIn, IsTask, IsEnding, IsNoted, IsOwed, IsTaking, LeavesRequests, LeavesGrants};
     ghost use Rattle.sync_manager.specs.declared.deed.Task.TheVariants as task;
     ghost use Rattle.sync_manager.specs.declared.deed.ManagerDeed.{ManagerDeed};
@@ -250,6 +250,19 @@ impl ManagerCore {
             asks[client as usize] = self.book.is_wanted(client);
         }
         asks
+    }
+
+    /// The clients whose requests a step takes, where it takes one: those that neither wait nor have ended, and once each tile has NoMore those whose End
+    /// wasn't taken.
+    pub fn asked(&self) -> [bool; 8]
+        ensures receiving { (HasToldAll self.now → ⊥) → AreWanted self.now result }
+        ensures draining { HasToldAll self.now → AreLeft self.now result }
+    {
+        if self.told >= self.tiles {
+            self.left
+        } else {
+            self.wanted()
+        }
     }
 
     // ---- a step

@@ -77,6 +77,16 @@ impl<T, R> LaneIn<T, R> {
     {
         self.full_seen
     }
+
+    /// Whether the lane looks full. Nothing is counted.
+    pub fn is_full(&mut self) -> bool
+        ensures lane { lane_in self.new ≡ lane_in self.old }
+        ensures sent { sent_of self.new ≡ sent_of self.old }
+        ensures count { self.new.full_seen ≡ self.old.full_seen }
+        ensures full { result ≡ true → lane_depth (lane_in self.old) ≤ length (sent_of self.old) }
+    {
+        self.queue.is_full_as::<Sending>(&mut self.pass)
+    }
 }
 
 impl<T: Drop, R: Wait> Outlet<T> for LaneIn<T, R> {
@@ -114,6 +124,15 @@ impl<T, R> LaneOut<T, R> {
         ensures { result ≡ self.now.empty_seen }
     {
         self.empty_seen
+    }
+
+    /// Whether the lane looks empty. Nothing is counted.
+    pub fn is_empty(&mut self) -> bool
+        ensures lane { lane_out self.new ≡ lane_out self.old }
+        ensures taken { taken_of self.new ≡ taken_of self.old }
+        ensures count { self.new.empty_seen ≡ self.old.empty_seen }
+    {
+        self.queue.is_empty_as::<Taking>(&mut self.pass)
     }
 }
 

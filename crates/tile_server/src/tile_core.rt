@@ -108,7 +108,7 @@ impl TileCore {
     }
 
     /// Whether grants are taken.
-    fn listens(&self) -> bool
+    pub fn listens(&self) -> bool
         ensures { result ≡ listens_in self.now }
     {
         if self.short {
@@ -128,7 +128,7 @@ impl TileCore {
     }
 
     /// The clients that parcels are taken of: whom a tile holds counts as long as it isn't short and more may be performed.
-    fn asked(&self) -> [bool; 8]
+    pub fn asked(&self) -> [bool; 8]
         ensures { AreAsked self.now result }
     {
         let free = self.short || self.ledger.is_over();
