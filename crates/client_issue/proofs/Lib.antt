@@ -5,6 +5,7 @@ mod Issuing
 mod ParcelGiven
 mod Packable
 mod Requesting
+mod BlockCommands
 mod Ends
 mod Prepared
 mod Steps

@@ -114,14 +114,15 @@ impl Sender {
         } = pending;
         let parcel = Parcel { place, sets, act };
         let packed = packed(self.alloc, &parcel, made)?;
+        let Parcel { act, .. } = parcel;
         if next == self.count {
+            self.take_back(act);
             return Ok(Item::Parcel {
                 tile,
                 parcel: packed,
                 looks,
             });
         }
-        let Parcel { act, .. } = parcel;
         let kept = packed.clone()?;
         self.pending = Some(Pending {
             place,

@@ -1,19 +1,21 @@
 //! Issuing the next command.
-ghost use Rattle.std.specs.Prelude.{◌≡◌, ℕ, ◌+◌, ◌<◌, ◌&&◌, ◌||◌, ◌++◌, false, is_none, length, OnOk, None};
+ghost use Rattle.std.specs.Prelude.{◌≡◌, ℕ, ◌+◌, ◌<◌, ◌&&◌, ◌||◌, ◌++◌, false, is_none, length, slice_index_or, OnOk, None};
 ghost use Rattle.std.specs.Option.{option_to_list};
 ghost use Rattle.std.specs.Vec.{vec_capacity, vec_len};
+ghost use Rattle.rc_base.specs.declared.command.Command.TheVariants as cmd;
 ghost use Rattle.client_issue.specs.Sequence.{IsIssuing, IsSame, IsSending, left_of};
 ghost use Rattle.client_issue.specs.Issued.{is_refused, sets_element, wait_in};
 ghost use Rattle.gl_context.specs.Arguments.{HasName};
 ghost use Rattle.state_update.specs.Knowledge.{pending};
 
-use crate::pending::pending_of;
+use crate::pending::{first_of, pending_of};
 use crate::sender::Sender;
+use crate::stored::Stored;
 use gl_context::laws::{commands_have_texels, streams_go_on_by_issue};
 use gl_context::marks;
 use rc_base::command::Command;
 use rc_base::out_of_memory::OutOfMemory;
-use rc_base::state::Effect;
+use rc_base::state::{Act, Effect};
 use rc_base::sync::WaitAt;
 use state_update::Tracker;
 
@@ -52,14 +54,104 @@ fn note(tracker: &mut Tracker, command: &Command, mode: u8, effect: &Effect)
 
 impl Sender {
     /// Nothing of the command that was issued last is left.
+    #[inline(always)]
     pub(crate) fn is_resting(&self) -> bool
         ensures { result ≡ (is_none self.now.pending && is_none self.now.request) }
     {
         self.pending.is_none() && self.request.is_none()
     }
 
-    /// Issues the next command.
+    /// Takes back an act that no other tile is given, so that the next block has the room of this one.
+    pub(crate) fn take_back(&mut self, act: Act)
+        ensures { self.new ≡ self.old }
+    {
+        if let Act::Draw(block) = act {
+            self.context.take_vertices(block.vertices);
+        }
+    }
+
+    // Issues the next command, which is a Begin.
+    fn issue_begin(&mut self, mode: u8) -> Result<(), OutOfMemory>
+        requires sending { IsSending self.old }
+        requires pending { self.old.pending ≡ None }
+        requires request { self.old.request ≡ None }
+        requires more { self.old.issued < length self.old.stream }
+        requires command { slice_index_or self.old.stream self.old.issued cmd.End ≡ cmd.Begin mode }
+        ensures same { IsSame self.old self.new }
+        ensures sending { OnOk result (IsSending self.new) }
+        ensures left { OnOk result (left_of self.new ≡ left_of self.old) }
+        ensures issuing { IsIssuing self.new }
+        ensures issued { OnOk result (self.new.issued ≡ self.old.issued + 1) }
+    {
+        streams_go_on_by_issue();
+        if !self.context.begin(mode) {
+            return self.issue_any();
+        }
+        self.issued += 1;
+        Ok(())
+    }
+
+    // Issues the next command, which is an End.
+    fn issue_end(&mut self) -> Result<(), OutOfMemory>
+        requires sending { IsSending self.old }
+        requires pending { self.old.pending ≡ None }
+        requires request { self.old.request ≡ None }
+        requires more { self.old.issued < length self.old.stream }
+        requires command { slice_index_or self.old.stream self.old.issued cmd.End ≡ cmd.End }
+        ensures same { IsSame self.old self.new }
+        ensures sending { OnOk result (IsSending self.new) }
+        ensures left { OnOk result (left_of self.new ≡ left_of self.old) }
+        ensures issuing { IsIssuing self.new }
+        ensures issued { OnOk result (self.new.issued ≡ self.old.issued + 1) }
+    {
+        streams_go_on_by_issue();
+        let Some(block) = self.context.end() else {
+            return self.issue_any();
+        };
+        match first_of(
+            &self.layout,
+            self.count,
+            self.context.state(),
+            self.issued,
+            Act::Draw(block),
+        ) {
+            Ok(pending) => self.pending = Some(pending),
+            Err(act) => self.take_back(act),
+        }
+        self.issued += 1;
+        Ok(())
+    }
+
+    /// Issues the next command. Those of blocks are most of a stream, and are issued as they are kept.
+    #[inline(always)]
     pub(crate) fn issue_next(&mut self) -> Result<(), OutOfMemory>
+        requires sending { IsSending self.old }
+        requires pending { self.old.pending ≡ None }
+        requires request { self.old.request ≡ None }
+        requires more { self.old.issued < length self.old.stream }
+        ensures same { IsSame self.old self.new }
+        ensures sending { OnOk result (IsSending self.new) }
+        ensures left { OnOk result (left_of self.new ≡ left_of self.old) }
+        ensures issuing { IsIssuing self.new }
+        ensures issued { OnOk result (self.new.issued ≡ self.old.issued + 1) }
+    {
+        streams_go_on_by_issue();
+        let place = self.issued;
+        match self.stream.form(place as usize) {
+            Stored::Vertex { pos } => self.context.vertex(place, pos)?,
+            Stored::Color(color) => self.context.color(color),
+            Stored::TexCoord { s, t } => self.context.tex_coord(s, t),
+            Stored::Begin { mode } => return self.issue_begin(mode),
+            Stored::End => return self.issue_end(),
+            Stored::Other(_) => return self.issue_any(),
+        }
+        self.issued += 1;
+        Ok(())
+    }
+
+    // Issues the next command, whichever it is.
+    #[inline(never)]
+    fn issue_any(&mut self) -> Result<(), OutOfMemory>
         requires sending { IsSending self.old }
         requires pending { self.old.pending ≡ None }
         requires request { self.old.request ≡ None }

@@ -1,7 +1,8 @@
 //! Parcels of a command that are still to be made.
-ghost use Rattle.std.specs.Prelude.{◌≡◌, ℕ, ◌<◌, ◌≤◌, MatchOption, false};
+ghost use Rattle.std.specs.Prelude.{◌≡◌, ℕ, ◌<◌, ◌≤◌, MatchOption, MatchResult, Some, false};
 ghost use Rattle.rc_base.specs.Cluster.Tiles.{tile_count};
-ghost use Rattle.client_issue.specs.Acts.{asks_of};
+ghost use Rattle.rc_base.specs.declared.state.Effect.{Effect};
+ghost use Rattle.client_issue.specs.Acts.{act_by, asks_of};
 ghost use Rattle.client_issue.specs.First.{IsFirst};
 
 use crate::acts::{act_of, next_tile, tiles_of};
@@ -19,6 +20,34 @@ pub(crate) struct Pending {
     pub made: Option<Packed>,
 }
 
+/// What an act gives to tiles, or the act, where it goes to none.
+pub(crate) fn first_of(
+    layout: &Layout,
+    count: u8,
+    state: &State,
+    place: u32,
+    act: Act,
+) -> Result<Pending, Act>
+    requires count { count ≡ tile_count layout.now }
+    requires few { count ≤ 32 }
+    ensures { (effect : Effect) → act_by effect ≡ Some act
+        → MatchResult result (IsFirst layout.now state.now place effect) (λ _. (t : ℕ) → t < count → asks_of layout.now state.now effect t ≡ false) }
+{
+    let tiles = tiles_of(layout, state, &act);
+    let tile = next_tile(tiles, 0, count);
+    if tile < count {
+        Ok(Pending {
+            place,
+            act,
+            tiles,
+            tile,
+            made: None,
+        })
+    } else {
+        Err(act)
+    }
+}
+
 /// What an effect gives to tiles, if anything.
 pub(crate) fn pending_of(
     layout: &Layout,
@@ -32,17 +61,5 @@ pub(crate) fn pending_of(
     ensures { MatchOption result ((t : ℕ) → t < count → asks_of layout.now state.now effect t ≡ false) (IsFirst layout.now state.now place effect) }
 {
     let act = act_of(effect)?;
-    let tiles = tiles_of(layout, state, &act);
-    let tile = next_tile(tiles, 0, count);
-    if tile < count {
-        Some(Pending {
-            place,
-            act,
-            tiles,
-            tile,
-            made: None,
-        })
-    } else {
-        None
-    }
+    first_of(layout, count, state, place, act).ok()
 }

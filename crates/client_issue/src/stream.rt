@@ -1,7 +1,8 @@
 //! A client's commands, in less room than a list of them takes.
 ghost use Rattle.std.specs.Prelude.{◌≡◌, ◌<◌, ◌^◌, IfOk, length, slice_index_or};
 ghost use Rattle.std.specs.Cow.{cow_value};
-ghost use Rattle.client_issue.specs.Streams.{GrewByAtMostOne, IsStoredAs};
+ghost use Rattle.rc_base.specs.declared.command.Command.TheVariants as cmd;
+ghost use Rattle.client_issue.specs.Streams.{GrewByAtMostOne, IsFormOf, IsStoredAs};
 
 use crate::stored::Stored;
 use rc_base::command::Command;
@@ -49,6 +50,15 @@ impl Stream {
         ensures { result ≡ length self.now }
     {
         self.kept.len()
+    }
+
+    /// The form in which the command at a place is kept.
+    #[inline(always)]
+    pub fn form(&self, place: usize) -> Stored
+        requires { place < length self.now }
+        ensures { IsFormOf result (slice_index_or self.now place cmd.End) }
+    {
+        self.kept[place]
     }
 
     /// The command at a place.

@@ -7,6 +7,7 @@ use Rattle.state_update.specs.Knowledge.{pending}
 use Rattle.client_issue.specs.Acts.{act_looks}
 use Rattle.client_issue.specs.Sequence.{IsSendingWith, left_of, scene_of}
 use Rattle.client_issue.specs.declared.pending.Pending.{Pending}
+use Rattle.client_issue.specs.declared.sender.Sender.{Sender}
 use Rattle.client_issue.proofs.Packable.{packable}
 use Rattle.client_issue.proofs.ParcelGiven.{bound_texture, IsGiven, given_all, given_one, left_last, left_more, looks_of_parcel, settled}
 use Rattle.client_issue.proofs.sender.Sender.give_parcel.Goals.{After-next_tile-next}
@@ -38,8 +39,9 @@ given c = record {
 pub returns-then-next-self-clause-sending : goal.returns-then-next-self-clause-sending
 returns-then-next-self-clause-sending c =
     let s = c.args.self.now in
-    subst (λ (o : Option Pending). IsSendingWith (record s { tracker = c.sets_with.new.tracker; pending = o }) o) (sym c.requires.none)
-    (given_all s c.args.pending c.sets_with.new.tracker c.in_ok-sets.sets c.next_tile-next.result (given (goal.at.returns-then-next-self-clause-sending c).After-next_tile-next) c.if-next-self.true)
+    subst (λ (t : Sender). IsSendingWith t t.pending) (sym c.take_back.ensures)
+    (subst (λ (o : Option Pending). IsSendingWith (record s { tracker = c.sets_with.new.tracker; pending = o }) o) (sym c.requires.none)
+    (given_all s c.args.pending c.sets_with.new.tracker c.in_ok-sets.sets c.next_tile-next.result (given (goal.at.returns-then-next-self-clause-sending c).After-next_tile-next) c.if-next-self.true))
 
 pub returns-then-next-self-clause-left : goal.returns-then-next-self-clause-left
 returns-then-next-self-clause-left c =
@@ -47,6 +49,7 @@ returns-then-next-self-clause-left c =
     let p = c.args.pending in
     left_last s p c.sets_with.new.tracker c.in_ok-sets.sets c.next_tile-next.result (given (goal.at.returns-then-next-self-clause-left c).After-next_tile-next) c.if-next-self.true
     ∙ (λ i. ToTile p.tile (sym c.in_ok-packed.ensures i) ∷ left_of (record s { tracker = c.sets_with.new.tracker; pending = sym c.requires.none i }))
+    ∙ ap (λ (t : Sender). ToTile p.tile c.in_ok-packed.packed ∷ left_of t) (sym c.take_back.ensures)
 
 pub returns-clause-sending : goal.returns-clause-sending
 returns-clause-sending c =

@@ -17,8 +17,8 @@ use Rattle.client_issue.specs.declared.pending.Pending.{Pending}
 use Rattle.client_issue.specs.declared.sender.Sender.{Sender}
 use Rattle.client_issue.proofs.Issuing.{IsIssued, HasTexels-prop, command_in, command_is, issued_sending, issued_left}
 use Rattle.client_issue.proofs.Requesting.{issuing_of}
-use Rattle.client_issue.proofs.sender.Sender.issue_next.Goals.{After-pending_of, in-Owned+in-TexImage-2, in-Owned+in-TexPart-2, in-Owned+in-SharedImage-2, in-Owned+in-Begin-2, in-Borrowed-2}
-use Rattle.client_issue.proofs.sender.Sender.issue_next.Goals as goal
+use Rattle.client_issue.proofs.sender.Sender.issue_any.Goals.{After-pending_of, in-Owned+in-TexImage-2, in-Owned+in-TexPart-2, in-Owned+in-SharedImage-2, in-Owned+in-Begin-2, in-Borrowed-2}
+use Rattle.client_issue.proofs.sender.Sender.issue_any.Goals as goal
 
 found_at : (s : Sender) (x y : Command) → x ≡ y → y ≡ get_or s.stream s.issued y → x ≡ get_or s.stream s.issued x
 found_at s x y same at = same ∙ at ∙ ap (λ (d : Command). get_or s.stream s.issued d) (sym same)

@@ -1,0 +1,40 @@
+use Rattle.std.proofs.Common.{◌∙◌, ◌+◌, ap, subst, sym}
+use Rattle.rc_base.specs.declared.command.Command.TheVariants as cmd
+use Rattle.client_issue.specs.Sequence.{left_of, IsIssuing, IsSendingWith}
+use Rattle.client_issue.specs.declared.sender.Sender.{Sender}
+use Rattle.client_issue.proofs.BlockCommands.{color_quiet, moved_issuing, moved_left, moved_sending, tex_coord_quiet, vertex_quiet, whole_coordinate}
+use Rattle.client_issue.proofs.sender.Sender.issue_next.Goals.{in-Vertex+in_ok-vertex-in-Vertex, in-Color, in-TexCoord}
+use Rattle.client_issue.proofs.sender.Sender.issue_next.Goals as goal
+
+pub returns-clause-sending : goal.returns-clause-sending
+returns-clause-sending c =
+    let s = c.args.self.now in
+    let h = c.requires in
+    let law = c.streams_go_on_by_issue.ensures.next in
+    elim c.match-form.branch [
+      | in-Vertex+in_ok-vertex-in-Vertex w ↦ subst (λ (t : Sender). IsSendingWith (record t { issued = t.issued + 1 }) t.pending) (sym w.self-is) (moved_sending s (cmd.Vertex w.in-Vertex.pos) law h.sending h.pending h.request h.more w.in-Vertex.ensures (vertex_quiet w.in-Vertex.pos) w.vertex.new.self w.in_ok-vertex-in-Vertex.ensures.ok)
+      | in-Color w ↦ subst (λ (t : Sender). IsSendingWith (record t { issued = t.issued + 1 }) t.pending) (sym w.self-is) (moved_sending s (cmd.Color w.in-Color.color) law h.sending h.pending h.request h.more w.in-Color.ensures (color_quiet w.in-Color.color) w.color.new.self (w.color.ensures s.issued))
+      | in-TexCoord w ↦ subst (λ (t : Sender). IsSendingWith (record t { issued = t.issued + 1 }) t.pending) (sym w.self-is) (moved_sending s (cmd.TexCoord w.in-TexCoord.s w.in-TexCoord.t) law h.sending h.pending h.request h.more w.in-TexCoord.ensures (tex_coord_quiet w.in-TexCoord.s w.in-TexCoord.t) w.tex_coord.new.self (w.tex_coord.ensures s.issued ∙ whole_coordinate s.context s.issued w.in-TexCoord.s w.in-TexCoord.t (search) (search)))
+    ]
+
+pub returns-clause-left : goal.returns-clause-left
+returns-clause-left c =
+    let s = c.args.self.now in
+    let h = c.requires in
+    let law = c.streams_go_on_by_issue.ensures.next in
+    elim c.match-form.branch [
+      | in-Vertex+in_ok-vertex-in-Vertex w ↦ ap (λ (t : Sender). left_of (record t { issued = t.issued + 1 })) w.self-is ∙ (moved_left s (cmd.Vertex w.in-Vertex.pos) law h.sending h.pending h.request h.more w.in-Vertex.ensures (vertex_quiet w.in-Vertex.pos) w.vertex.new.self w.in_ok-vertex-in-Vertex.ensures.ok)
+      | in-Color w ↦ ap (λ (t : Sender). left_of (record t { issued = t.issued + 1 })) w.self-is ∙ (moved_left s (cmd.Color w.in-Color.color) law h.sending h.pending h.request h.more w.in-Color.ensures (color_quiet w.in-Color.color) w.color.new.self (w.color.ensures s.issued))
+      | in-TexCoord w ↦ ap (λ (t : Sender). left_of (record t { issued = t.issued + 1 })) w.self-is ∙ (moved_left s (cmd.TexCoord w.in-TexCoord.s w.in-TexCoord.t) law h.sending h.pending h.request h.more w.in-TexCoord.ensures (tex_coord_quiet w.in-TexCoord.s w.in-TexCoord.t) w.tex_coord.new.self (w.tex_coord.ensures s.issued ∙ whole_coordinate s.context s.issued w.in-TexCoord.s w.in-TexCoord.t (search) (search)))
+    ]
+
+pub returns-clause-issuing : goal.returns-clause-issuing
+returns-clause-issuing c =
+    let s = c.args.self.now in
+    let h = c.requires in
+    let law = c.streams_go_on_by_issue.ensures.next in
+    elim c.match-form.branch [
+      | in-Vertex+in_ok-vertex-in-Vertex w ↦ subst (λ (t : Sender). IsIssuing (record t { issued = t.issued + 1 })) (sym w.self-is) (moved_issuing s (cmd.Vertex w.in-Vertex.pos) law h.sending h.pending h.request h.more w.in-Vertex.ensures (vertex_quiet w.in-Vertex.pos) w.vertex.new.self w.in_ok-vertex-in-Vertex.ensures.ok)
+      | in-Color w ↦ subst (λ (t : Sender). IsIssuing (record t { issued = t.issued + 1 })) (sym w.self-is) (moved_issuing s (cmd.Color w.in-Color.color) law h.sending h.pending h.request h.more w.in-Color.ensures (color_quiet w.in-Color.color) w.color.new.self (w.color.ensures s.issued))
+      | in-TexCoord w ↦ subst (λ (t : Sender). IsIssuing (record t { issued = t.issued + 1 })) (sym w.self-is) (moved_issuing s (cmd.TexCoord w.in-TexCoord.s w.in-TexCoord.t) law h.sending h.pending h.request h.more w.in-TexCoord.ensures (tex_coord_quiet w.in-TexCoord.s w.in-TexCoord.t) w.tex_coord.new.self (w.tex_coord.ensures s.issued ∙ whole_coordinate s.context s.issued w.in-TexCoord.s w.in-TexCoord.t (search) (search)))
+    ]
