@@ -9,3 +9,4 @@ pub mod Columns
 pub mod Plans
 pub mod Setups
 pub mod Stored
+pub mod Prepared
