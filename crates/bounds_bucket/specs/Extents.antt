@@ -9,6 +9,7 @@ use Rattle.rc_base.specs.declared.state.State.{State}
 use Rattle.rc_base.specs.declared.window.WindowVertex.{WindowVertex}
 use Rattle.rc_base.specs.Drawing.Pieces.{kept_corners_of}
 use Rattle.rc_base.specs.Cluster.Tiles.{corners_in}
+use Rattle.geometry.specs.Listed.{listed}
 use Rattle.geometry.specs.declared.cache.VertexCache.{VertexCache}
 use Rattle.bounds_bucket.specs.declared.extent.Ends.{Ends}
 use Rattle.bounds_bucket.specs.declared.extent.Extent.{Extent}
@@ -38,7 +39,7 @@ IsJoined a b e = (us vs : List WindowVertex) → Spans us (Some a) → Spans vs 
 
 -- the corners of the triangle of three vertices of a cache, where it is kept
 abbrev pub cached_corners : VertexCache → List ℕ → List WindowVertex
-cached_corners cache t = corners_in (option_to_list (kept_whole cache.state.now cache.vertices.now t))
+cached_corners cache t = corners_in (option_to_list (kept_whole cache.state.now (listed cache.vertices) t))
 
 -- the corners of the kept triangles of some of a block's triples of vertices
 abbrev pub corners_from : State → Block → List (List ℕ) → List WindowVertex

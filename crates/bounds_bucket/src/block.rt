@@ -6,6 +6,7 @@ ghost use Rattle.rc_base.specs.Cluster.Tiles.{kept_corners, corners_in};
 ghost use Rattle.geometry.specs.Pieces.{found};
 ghost use Rattle.rc_base.specs.Drawing.Triangles.{cut_modes};
 ghost use Rattle.geometry.specs.Items.{AreBelow};
+ghost use Rattle.geometry.specs.Listed.{listed};
 ghost use Rattle.bounds_bucket.specs.Extents.{IsGrown, IsHull, IsJoined, Spans, cached_corners, corner_values};
 
 use crate::extent::{Ends, Extent};
@@ -86,9 +87,9 @@ fn with_found(extent: Option<Extent>, tri: &Option<WindowTriangle>) -> Option<Ex
 
 // Adds the corners of a triangle of vertices, where it is kept.
 fn grown(extent: Option<Extent>, cache: &mut VertexCache<'_>, corners: [usize; 3]) -> Option<Extent>
-    requires { AreBelow (length cache.old.vertices.now) corners }
+    requires { AreBelow (length (listed cache.old.vertices)) corners }
     ensures state { cache.new.state.now ≡ cache.old.state.now }
-    ensures vertices { cache.new.vertices.now ≡ cache.old.vertices.now }
+    ensures vertices { listed cache.new.vertices ≡ listed cache.old.vertices }
     ensures grown { IsGrown (cached_corners cache.old corners) extent result }
 {
     let tri = cache.triangle(corners);

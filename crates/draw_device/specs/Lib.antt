@@ -10,3 +10,4 @@ pub mod Plans
 pub mod Shades
 pub mod Setups
 pub mod Stored
+pub mod Prepared

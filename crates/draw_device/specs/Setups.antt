@@ -10,6 +10,7 @@ use Rattle.rc_base.specs.declared.triangle.WindowTriangle.{WindowTriangle}
 use Rattle.rc_base.specs.declared.window.Pixel.{Pixel}
 use Rattle.rc_base.specs.declared.window.Rect.{Rect}
 use Rattle.rc_base.specs.declared.window.WindowVertex.{WindowVertex}
+use Rattle.geometry.specs.Listed.{listed}
 use Rattle.geometry.specs.declared.cache.VertexCache.{VertexCache}
 use Rattle.raster.specs.Clips.{IsPartWhere, is_let_through}
 use Rattle.raster.specs.Colors.{IsColorPlane}
@@ -47,7 +48,7 @@ triangles_of b = triangles_step b.state.now b.texture.now
 
 -- after the triangle of three vertices of a cache, where it is kept
 abbrev pub cached_of : BlockSetup → VertexCache → List ℕ → ℤ → ℤ → Pixel → Pixel
-cached_of b cache = corners_of b cache.vertices.now
+cached_of b cache = corners_of b (listed cache.vertices)
 
 -- after the kept pieces of the triangle of three of a block's vertices
 abbrev pub pieces_of : BlockSetup → Block → List ℕ → ℤ → ℤ → Pixel → Pixel

@@ -17,6 +17,7 @@ use Rattle.rc_base.specs.declared.window.Pixel.{Pixel}
 use Rattle.rc_base.specs.declared.window.Rect.{Rect}
 use Rattle.rc_base.specs.declared.window.Span.{Span}
 use Rattle.rc_base.specs.declared.window.WindowVertex.{WindowVertex}
+use Rattle.geometry.specs.Listed.{listed}
 use Rattle.geometry.specs.declared.cache.VertexCache.{VertexCache}
 use Rattle.raster.specs.Spans.{in_span}
 use Rattle.raster.specs.declared.rows.SpanIter.{SpanIter}
@@ -88,7 +89,7 @@ pub record AreRowsOf (tri : WindowTriangle) (part : Rect) (rows : SpanIter) : Ty
 -- the cache brings these vertices to the window, as the state has it
 pub record IsCacheOf (s : State) (vs : List Vertex) (cache : VertexCache) : Type 0 where
   pub state : cache.state.now ≡ s
-  pub vertices : cache.vertices.now ≡ vs
+  pub vertices : listed cache.vertices ≡ vs
 
 -- each pixel of the grid took a step
 pub record IsStepped (step : ℤ → ℤ → Pixel → Pixel) (g : Extent) (old new : List Pixel) : Type 0 where

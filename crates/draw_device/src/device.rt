@@ -9,9 +9,13 @@ ghost use Rattle.draw_device.specs.Conditions.{IsDrawable, IsClearable, TakesBlo
 ghost use Rattle.draw_device.specs.Devices.{IsDeviceRect, IsBlankIn, EachTakes, part_of, rect_size, pixel_of};
 ghost use Rattle.draw_device.specs.Beside.{IsBlankBeside, IsFarBeside, NoneIsNearerBeside, nearer_in};
 ghost use Rattle.draw_device.specs.Pixels.{color_at, pixel_at};
+ghost use Rattle.draw_device.specs.Prepared.{IsPreparedFor};
+ghost use Rattle.geometry.specs.Listed.{listed_block};
 
 use crate::grid::{Extent, Grid};
 use crate::pixel_run::PixelRun;
+use crate::prepared::Prepared;
+use geometry::{ListedBlock, listed};
 use rc_base::cluster::TilePart;
 use rc_base::command::Rgba;
 use rc_base::out_of_memory::OutOfMemory;
@@ -102,9 +106,35 @@ impl Device {
         ensures rect { self.new.rect ≡ self.old.rect }
         ensures drawn { TakesBlock state.now block.now privates.now shareds.now self.old self.new }
     {
+        let prepared = self.prepare(state);
+        let listed = listed(block);
+        self.draw_prepared(state, &prepared, &listed, privates, shareds);
+    }
+
+    /// What is settled for all blocks that are drawn with a state: a renderer settles it once for a run of them.
+    pub fn prepare(&self, state: &State) -> Prepared
+        ensures { IsPreparedFor state.now self.now.rect result }
+    {
+        self.grid.prepare(state)
+    }
+
+    /// What `draw` does, of a block whose vertices are stored or spelt by bytes, with what is settled for the state.
+    pub fn draw_prepared(
+        &mut self,
+        state: &State,
+        prepared: &Prepared,
+        block: &ListedBlock<'_>,
+        privates: &PrivateSet,
+        shareds: &SharedSet,
+    )
+        requires drawable { IsDrawable state.now privates.now shareds.now }
+        requires prepared { IsPreparedFor state.now self.old.rect prepared.now }
+        ensures rect { self.new.rect ≡ self.old.rect }
+        ensures drawn { TakesBlock state.now (listed_block block.now) privates.now shareds.now self.old self.new }
+    {
         let none = Texture::empty(self.alloc);
         let texture = sampled_texture(state, privates, shareds, &none);
-        self.grid.draw(state, texture, block);
+        self.grid.draw(state, prepared, texture, block);
     }
 
     /// Clears colour (bit 0 of the mask) and depth (bit 1) of each pixel of the rectangle that the scissor box lets through.

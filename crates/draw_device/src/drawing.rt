@@ -6,11 +6,13 @@ ghost use Rattle.rc_base.specs.Drawing.Kept.{kept_whole};
 ghost use Rattle.rc_base.specs.Drawing.Triangles.{cut_modes};
 ghost use Rattle.geometry.specs.Beside.{IsBesideIfKept};
 ghost use Rattle.geometry.specs.Items.{AreBelow};
+ghost use Rattle.geometry.specs.Listed.{listed, listed_block};
 ghost use Rattle.geometry.specs.Pieces.{found, found_in};
 ghost use Rattle.raster.specs.Clips.{IsPart};
 ghost use Rattle.raster.specs.Colors.{AreFlat};
 ghost use Rattle.raster.specs.Spans.{IsOnlyColumn};
 ghost use Rattle.textures.specs.Images.{HasTexelIfAny};
+ghost use Rattle.draw_device.specs.Prepared.{IsPreparedFor};
 ghost use Rattle.draw_device.specs.Shapes.{IsCovered, IsSpanIn, AreRowsOf, IsCacheOf, drawn_step, span_step, grid_rect};
 ghost use Rattle.draw_device.specs.Conditions.{IsClearable};
 ghost use Rattle.draw_device.specs.Columns.{IsOnlyRun};
@@ -25,6 +27,7 @@ use crate::column_run::ColumnRun;
 use crate::columns::{color_rise, fill_column, is_few, step_column};
 use crate::grid::{Extent, Grid, Spare};
 use crate::paint::Paint;
+use crate::prepared::Prepared;
 use crate::prepare::{
     plan_of, shared_at, source_of, stores_colors, takes_no_test, tests_of, untextured_color,
 };
@@ -34,14 +37,16 @@ use crate::source::Source;
 use crate::stages::Stages;
 use crate::tests::Tests;
 use fragment_ops::clearing_of;
-use geometry::{Pieces, Uncut, VertexCache, pieces, surrounds_of, triangles, vertices_at};
+use geometry::{
+    ListedBlock, Pieces, Uncut, VertexCache, VertexList, identities_of, pieces, surrounds_of,
+};
 use raster::{
     ColorPlane, Column, SpanIter, color_plane, cover_lies_in_bounds, drawn_part, flat_color,
     scissored, spans,
 };
 use rc_base::command::Rgba;
 use rc_base::out_of_memory::OutOfMemory;
-use rc_base::state::{Block, CUT_MODES, State, Vertex};
+use rc_base::state::{CUT_MODES, State};
 use rc_base::triangle::WindowTriangle;
 use rc_base::window::{Pixel, Pixels, Rect, Span, row_start};
 use std::alloc::Global;
@@ -344,15 +349,15 @@ impl Grid {
         &mut self,
         setup: &BlockSetup<'_>,
         tri: &Option<WindowTriangle>,
-        vertices: &[Vertex],
+        vertices: &VertexList<'_>,
         corners: [usize; 3],
     )
         requires grid { setup.now.extent ≡ self.old.extent }
         requires near { MatchOption tri.now
-            (IsBesideIfKept setup.now.state.now vertices.now corners setup.now.near)
-            (λ t. kept_whole setup.now.state.now vertices.now corners ≡ Some t.v) }
+            (IsBesideIfKept setup.now.state.now (listed vertices.now) corners setup.now.near)
+            (λ t. kept_whole setup.now.state.now (listed vertices.now) corners ≡ Some t.v) }
         ensures extent { self.new.extent ≡ self.old.extent }
-        ensures drawn { IsDrawnBy (corners_of setup.now vertices.now corners) self.old self.new }
+        ensures drawn { IsDrawnBy (corners_of setup.now (listed vertices.now) corners) self.old self.new }
     {
         let _vertices = vertices;
         let _corners = corners;
@@ -372,24 +377,26 @@ impl Grid {
     )
         requires grid { block.now.extent ≡ self.old.extent }
         requires state { cache.old.state.now ≡ block.now.state.now }
-        requires corners { AreBelow (length cache.old.vertices.now) corners }
-        ensures cache { IsCacheOf cache.old.state.now cache.old.vertices.now cache.new }
+        requires corners { AreBelow (length (listed cache.old.vertices)) corners }
+        ensures cache { IsCacheOf cache.old.state.now (listed cache.old.vertices) cache.new }
         ensures extent { self.new.extent ≡ self.old.extent }
         ensures drawn { IsDrawnBy (cached_of block.now cache.old corners) self.old self.new }
     {
         let tri = cache.triangle_near(corners, &block.near);
-        self.draw_near(block, &tri, cache.vertices, corners);
+        self.draw_near(block, &tri, &cache.vertices, corners);
     }
 
     // Draws the triangles of a block of a mode whose triangles aren't cut. A vertex that several triangles share is brought to the window once.
-    fn draw_whole(&mut self, setup: &BlockSetup<'_>, block: &Block)
+    fn draw_whole(&mut self, setup: &BlockSetup<'_>, block: &ListedBlock<'_>)
         requires mode { block.now.mode < cut_modes }
         requires grid { setup.now.extent ≡ self.old.extent }
         ensures extent { self.new.extent ≡ self.old.extent }
-        ensures drawn { IsDrawnBy (block_of setup.now block.now) self.old self.new }
+        ensures drawn { IsDrawnBy (block_of setup.now (listed_block block.now)) self.old self.new }
     {
-        let mut cache = VertexCache::new(setup.state, block.vertices.as_slice());
-        'draws: for corners in triangles(block) {
+        let mut cache = VertexCache::with(setup.state, setup.identities, block.vertices);
+        let count = block.triangle_count();
+        'draws: for i in 0..count {
+            let corners = block.corners(i);
             self.draw_corners(setup, &mut cache, corners);
         }
     }
@@ -420,59 +427,77 @@ impl Grid {
     fn draw_cut_corners(
         &mut self,
         setup: &BlockSetup<'_>,
-        block: &Block,
+        block: &ListedBlock<'_>,
         cache: &mut VertexCache<'_>,
         corners: [usize; 3],
     )
         requires grid { setup.now.extent ≡ self.old.extent }
-        requires cache { IsCacheOf setup.now.state.now block.now.vertices cache.old }
-        requires corners { AreBelow (length block.now.vertices) corners }
-        ensures cache { IsCacheOf setup.now.state.now block.now.vertices cache.new }
+        requires cache { IsCacheOf setup.now.state.now (listed block.now.vertices) cache.old }
+        requires corners { AreBelow (length (listed block.now.vertices)) corners }
+        ensures cache { IsCacheOf setup.now.state.now (listed block.now.vertices) cache.new }
         ensures extent { self.new.extent ≡ self.old.extent }
-        ensures drawn { IsDrawnBy (pieces_of setup.now block.now corners) self.old self.new }
+        ensures drawn { IsDrawnBy (pieces_of setup.now (listed_block block.now) corners) self.old self.new }
     {
         match cache.uncut_near(corners, &setup.near) {
             Uncut::Whole(tri) => {
-                self.draw_near(setup, &tri, block.vertices.as_slice(), corners);
+                self.draw_near(setup, &tri, &block.vertices, corners);
             }
             Uncut::No => {
-                let given = pieces(
-                    setup.state,
-                    block.mode,
-                    &vertices_at(block.vertices.as_slice(), corners),
-                );
+                let three = block.vertices.three(corners);
+                let given = pieces(setup.state, block.mode, &three);
                 self.draw_pieces(setup, &given);
             }
         }
     }
 
     // Draws the triangles of a block of any mode. Those that the near plane doesn't cut go the way of those that are drawn whole.
-    fn draw_cut(&mut self, setup: &BlockSetup<'_>, block: &Block)
+    fn draw_cut(&mut self, setup: &BlockSetup<'_>, block: &ListedBlock<'_>)
         requires grid { setup.now.extent ≡ self.old.extent }
         ensures extent { self.new.extent ≡ self.old.extent }
-        ensures drawn { IsDrawnBy (block_of setup.now block.now) self.old self.new }
+        ensures drawn { IsDrawnBy (block_of setup.now (listed_block block.now)) self.old self.new }
     {
-        let mut cache = VertexCache::new(setup.state, block.vertices.as_slice());
-        'cuts: for corners in triangles(block) {
+        let mut cache = VertexCache::with(setup.state, setup.identities, block.vertices);
+        let count = block.triangle_count();
+        'cuts: for i in 0..count {
+            let corners = block.corners(i);
             self.draw_cut_corners(setup, block, &mut cache, corners);
         }
     }
 
-    /// Draws the kept triangles of a block, one after the other, with the texture that the state samples.
-    pub fn draw(&mut self, state: &State, texture: &Texture, block: &Block)
-        requires { HasTexelIfAny texture.now }
-        ensures extent { self.new.extent ≡ self.old.extent }
-        ensures drawn { IsDrawnBy (drawn_step state.now texture.now block.now) self.old self.new }
+    /// What is settled for all blocks that are drawn with a state.
+    pub fn prepare(&self, state: &State) -> Prepared
+        ensures { IsPreparedFor state.now (grid_rect self.now.extent) result }
     {
         let part = drawn_part(state, self.rect());
-        let plan = plan_of(state);
+        Prepared {
+            plan: plan_of(state),
+            part,
+            near: surrounds_of(part),
+            identities: identities_of(state),
+        }
+    }
+
+    /// Draws the kept triangles of a block, one after the other, with the texture that the state samples.
+    pub fn draw(
+        &mut self,
+        state: &State,
+        prepared: &Prepared,
+        texture: &Texture,
+        block: &ListedBlock<'_>,
+    )
+        requires texel { HasTexelIfAny texture.now }
+        requires prepared { IsPreparedFor state.now (grid_rect self.old.extent) prepared.now }
+        ensures extent { self.new.extent ≡ self.old.extent }
+        ensures drawn { IsDrawnBy (drawn_step state.now texture.now (listed_block block.now)) self.old self.new }
+    {
         let setup = BlockSetup {
             state,
             texture,
-            plan: &plan,
+            plan: &prepared.plan,
             extent: self.extent,
-            part,
-            near: surrounds_of(part),
+            part: prepared.part,
+            near: prepared.near,
+            identities: prepared.identities,
         };
         if block.mode < CUT_MODES {
             self.draw_whole(&setup, block);

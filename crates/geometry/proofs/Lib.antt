@@ -10,3 +10,4 @@ pub mod Identity
 pub mod Oriented
 pub mod EachKept
 pub mod Outside
+mod SameNumbers

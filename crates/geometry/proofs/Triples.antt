@@ -114,3 +114,8 @@ indices_below zero n = subst (All (AreBelow n)) (sym (of_separate 0 n refl)) (al
 indices_below (suc zero) n = subst (All (AreBelow n)) (sym (of_strip 1 n refl)) (all_mapped (AreBelow n) strip (n - 2) (strip_below n))
 indices_below (suc (suc zero)) n = subst (All (AreBelow n)) (sym (of_fan 2 n refl)) (all_mapped (AreBelow n) fan (n - 2) (λ i h. three_below 0 (i + 1) (i + 2) n (omega arith) (omega arith) (omega arith)))
 indices_below (suc (suc (suc m))) n = λ k d h. absurd (let e = none_count (suc (suc (suc m))) n (omega arith) in omega arith)
+
+-- the indices of a triangle are those of vertices
+pub triple_below : (m n i : ℕ) → i < length (triangles_of m n) → AreBelow n (triple_at m n i)
+unfolding triple_at
+triple_below m n i low = indices_below m n i [] low

@@ -1,4 +1,5 @@
 pub mod Vertices
+pub mod Listed
 pub mod Items
 pub mod Placed
 pub mod Beside

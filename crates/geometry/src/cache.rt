@@ -6,9 +6,11 @@ ghost use Rattle.rc_base.specs.Drawing.Window.{window_of};
 ghost use Rattle.geometry.specs.Beside.{IsBesideIfKept};
 ghost use Rattle.geometry.specs.Uncut.{IsUncut};
 ghost use Rattle.geometry.specs.Items.{AreBelow};
+ghost use Rattle.geometry.specs.Listed.{listed};
 ghost use Rattle.geometry.specs.Placed.{AreIdentities, IsCorner, IsCached};
 
 use crate::identities::{Identities, identities_of};
+use crate::list::VertexList;
 use crate::near::{Surrounds, are_beside};
 use crate::vertex::stand_of;
 use crate::window::assemble;
@@ -38,32 +40,46 @@ pub enum Uncut {
 #[derive(Drop)]
 pub struct VertexCache<'a> {
     pub state: &'a State,
-    pub vertices: &'a [Vertex],
+    pub vertices: VertexList<'a>,
     identities: Identities,
     first: Corner,
     second: Corner,
     third: Corner,
     ghost products: { AreIdentities state.now identities },
-    ghost first_cached: { IsCached state.now vertices.now first } by { Prim.hlevel props },
-    ghost second_cached: { IsCached state.now vertices.now second } by { Prim.hlevel props },
-    ghost third_cached: { IsCached state.now vertices.now third } by { Prim.hlevel props },
+    ghost first_cached: { IsCached state.now (listed vertices) first } by { Prim.hlevel props },
+    ghost second_cached: { IsCached state.now (listed vertices) second } by { Prim.hlevel props },
+    ghost third_cached: { IsCached state.now (listed vertices) third } by { Prim.hlevel props },
 }
 
 impl<'a> VertexCache<'a> {
     /// No vertex is in the window yet.
     pub fn new(state: &'a State, vertices: &'a [Vertex]) -> VertexCache<'a>
         ensures state { result.state.now ≡ state.now }
-        ensures vertices { result.vertices.now ≡ vertices.now }
+        ensures vertices { listed result.vertices ≡ vertices.now }
+    {
+        let list = VertexList::Stored(vertices);
+        VertexCache::with(state, identities_of(state), list)
+    }
+
+    /// The same of any list, with what is known of the state.
+    pub fn with(
+        state: &'a State,
+        identities: Identities,
+        vertices: VertexList<'a>,
+    ) -> VertexCache<'a>
+        requires { AreIdentities state.now identities }
+        ensures state { result.state.now ≡ state.now }
+        ensures vertices { listed result.vertices ≡ listed vertices.entry }
     {
         let none = Corner {
-            index: vertices.len(),
+            index: vertices.count(),
             at: None,
             front: false,
         };
         VertexCache {
             state,
             vertices,
-            identities: identities_of(state),
+            identities,
             first: none,
             second: none,
             third: none,
@@ -73,11 +89,12 @@ impl<'a> VertexCache<'a> {
     // Brings a vertex to the window.
     #[inline(always)]
     fn placed(&self, index: usize) -> Corner
-        requires { index < length self.now.vertices.now }
+        requires { index < length (listed self.now.vertices) }
         ensures index { result.index ≡ index }
-        ensures at { IsCorner self.now.state.now self.now.vertices.now result }
+        ensures at { IsCorner self.now.state.now (listed self.now.vertices) result }
     {
-        let stand = stand_of(self.state, self.identities, &self.vertices[index]);
+        let vertex = self.vertices.vertex(index);
+        let stand = stand_of(self.state, self.identities, &vertex);
         Corner {
             index,
             at: stand.at,
@@ -88,13 +105,13 @@ impl<'a> VertexCache<'a> {
     // The oriented triangle, where it has an area and isn't culled.
     #[tactic(auto, unfolding(rc_base::specs::Drawing::Kept::is_kept_at, rc_base::specs::Drawing::Window::is_placed, rc_base::specs::Drawing::Window::window_of))]
     fn kept(&self, a: Corner, b: Corner, c: Corner) -> Option<WindowTriangle>
-        requires a { IsCorner self.now.state.now self.now.vertices.now a }
-        requires b { IsCorner self.now.state.now self.now.vertices.now b }
-        requires c { IsCorner self.now.state.now self.now.vertices.now c }
+        requires a { IsCorner self.now.state.now (listed self.now.vertices) a }
+        requires b { IsCorner self.now.state.now (listed self.now.vertices) b }
+        requires c { IsCorner self.now.state.now (listed self.now.vertices) c }
         ensures { MatchOption result
-            (is_kept_at self.now.state.now (clip_corners self.now.state.now (vertex_at self.now.vertices.now a.index) (vertex_at self.now.vertices.now b.index) (vertex_at self.now.vertices.now c.index)) ≡ false)
-            (λ t. (is_kept_at self.now.state.now (clip_corners self.now.state.now (vertex_at self.now.vertices.now a.index) (vertex_at self.now.vertices.now b.index) (vertex_at self.now.vertices.now c.index)) ≡ true)
-            × (t.v ≡ oriented (window_of self.now.state.now (vertex_at self.now.vertices.now a.index)) (window_of self.now.state.now (vertex_at self.now.vertices.now b.index)) (window_of self.now.state.now (vertex_at self.now.vertices.now c.index)))) }
+            (is_kept_at self.now.state.now (clip_corners self.now.state.now (vertex_at (listed self.now.vertices) a.index) (vertex_at (listed self.now.vertices) b.index) (vertex_at (listed self.now.vertices) c.index)) ≡ false)
+            (λ t. (is_kept_at self.now.state.now (clip_corners self.now.state.now (vertex_at (listed self.now.vertices) a.index) (vertex_at (listed self.now.vertices) b.index) (vertex_at (listed self.now.vertices) c.index)) ≡ true)
+            × (t.v ≡ oriented (window_of self.now.state.now (vertex_at (listed self.now.vertices) a.index)) (window_of self.now.state.now (vertex_at (listed self.now.vertices) b.index)) (window_of self.now.state.now (vertex_at (listed self.now.vertices) c.index)))) }
     {
         let first = a.at?;
         let second = b.at?;
@@ -104,22 +121,22 @@ impl<'a> VertexCache<'a> {
 
     // The triangle of three corners.
     fn assembled(&self, a: Corner, b: Corner, c: Corner) -> Option<WindowTriangle>
-        requires a { IsCorner self.now.state.now self.now.vertices.now a }
-        requires b { IsCorner self.now.state.now self.now.vertices.now b }
-        requires c { IsCorner self.now.state.now self.now.vertices.now c }
+        requires a { IsCorner self.now.state.now (listed self.now.vertices) a }
+        requires b { IsCorner self.now.state.now (listed self.now.vertices) b }
+        requires c { IsCorner self.now.state.now (listed self.now.vertices) c }
         ensures { MatchOption result
-            (kept_whole self.now.state.now self.now.vertices.now (a.index ∷ b.index ∷ c.index ∷ []) ≡ None)
-            (λ t. kept_whole self.now.state.now self.now.vertices.now (a.index ∷ b.index ∷ c.index ∷ []) ≡ Some t.v) }
+            (kept_whole self.now.state.now (listed self.now.vertices) (a.index ∷ b.index ∷ c.index ∷ []) ≡ None)
+            (λ t. kept_whole self.now.state.now (listed self.now.vertices) (a.index ∷ b.index ∷ c.index ∷ []) ≡ Some t.v) }
     {
         self.kept(a, b, c)
     }
 
     // Whether the cache's three corners lie beside; then their triangle does, unless it is dropped.
     fn lies_beside(&self, near: &Surrounds) -> bool
-        requires a { IsCorner self.now.state.now self.now.vertices.now self.now.first }
-        requires b { IsCorner self.now.state.now self.now.vertices.now self.now.second }
-        requires c { IsCorner self.now.state.now self.now.vertices.now self.now.third }
-        ensures { result ≡ true → IsBesideIfKept self.now.state.now self.now.vertices.now (self.now.first.index ∷ self.now.second.index ∷ self.now.third.index ∷ []) near.now }
+        requires a { IsCorner self.now.state.now (listed self.now.vertices) self.now.first }
+        requires b { IsCorner self.now.state.now (listed self.now.vertices) self.now.second }
+        requires c { IsCorner self.now.state.now (listed self.now.vertices) self.now.third }
+        ensures { result ≡ true → IsBesideIfKept self.now.state.now (listed self.now.vertices) (self.now.first.index ∷ self.now.second.index ∷ self.now.third.index ∷ []) near.now }
     {
         let Some(first) = &self.first.at else {
             return false;
@@ -135,15 +152,15 @@ impl<'a> VertexCache<'a> {
 
     // Brings three vertices to the window, and keeps them. Of a strip and a fan two corners are kept, and one of them stays in its place.
     fn bring(&mut self, corners: [usize; 3])
-        requires { AreBelow (length self.old.vertices.now) corners }
+        requires { AreBelow (length (listed self.old.vertices)) corners }
         ensures state { self.new.state.now ≡ self.old.state.now }
-        ensures vertices { self.new.vertices.now ≡ self.old.vertices.now }
+        ensures vertices { (listed self.new.vertices) ≡ (listed self.old.vertices) }
         ensures first { self.new.first.index ≡ slice_index corners 0 }
         ensures second { self.new.second.index ≡ slice_index corners 1 }
         ensures third { self.new.third.index ≡ slice_index corners 2 }
-        ensures first_at { IsCorner self.old.state.now self.old.vertices.now self.new.first }
-        ensures second_at { IsCorner self.old.state.now self.old.vertices.now self.new.second }
-        ensures third_at { IsCorner self.old.state.now self.old.vertices.now self.new.third }
+        ensures first_at { IsCorner self.old.state.now (listed self.old.vertices) self.new.first }
+        ensures second_at { IsCorner self.old.state.now (listed self.old.vertices) self.new.second }
+        ensures third_at { IsCorner self.old.state.now (listed self.old.vertices) self.new.third }
     {
         if self.first.index == corners[0] && self.third.index == corners[1] {
             self.second = self.third;
@@ -158,12 +175,12 @@ impl<'a> VertexCache<'a> {
 
     /// The triangle of three vertices in window coordinates, by their indices: as `to_window` gives it of the same vertices.
     pub fn triangle(&mut self, corners: [usize; 3]) -> Option<WindowTriangle>
-        requires { AreBelow (length self.old.vertices.now) corners }
+        requires { AreBelow (length (listed self.old.vertices)) corners }
         ensures state { self.new.state.now ≡ self.old.state.now }
-        ensures vertices { self.new.vertices.now ≡ self.old.vertices.now }
+        ensures vertices { (listed self.new.vertices) ≡ (listed self.old.vertices) }
         ensures triangle { MatchOption result
-            (kept_whole self.old.state.now self.old.vertices.now corners ≡ None)
-            (λ t. kept_whole self.old.state.now self.old.vertices.now corners ≡ Some t.v) }
+            (kept_whole self.old.state.now (listed self.old.vertices) corners ≡ None)
+            (λ t. kept_whole self.old.state.now (listed self.old.vertices) corners ≡ Some t.v) }
     {
         self.bring(corners);
         self.assembled(self.first, self.second, self.third)
@@ -172,12 +189,12 @@ impl<'a> VertexCache<'a> {
     /// The same triangle, or `None` also where all its corners lie on one side of the centres that bound a rectangle's pixels, so that it
     /// covers none of them.
     pub fn triangle_near(&mut self, corners: [usize; 3], near: &Surrounds) -> Option<WindowTriangle>
-        requires { AreBelow (length self.old.vertices.now) corners }
+        requires { AreBelow (length (listed self.old.vertices)) corners }
         ensures state { self.new.state.now ≡ self.old.state.now }
-        ensures vertices { self.new.vertices.now ≡ self.old.vertices.now }
+        ensures vertices { (listed self.new.vertices) ≡ (listed self.old.vertices) }
         ensures triangle { MatchOption result
-            (IsBesideIfKept self.old.state.now self.old.vertices.now corners near.now)
-            (λ t. kept_whole self.old.state.now self.old.vertices.now corners ≡ Some t.v) }
+            (IsBesideIfKept self.old.state.now (listed self.old.vertices) corners near.now)
+            (λ t. kept_whole self.old.state.now (listed self.old.vertices) corners ≡ Some t.v) }
     {
         self.bring(corners);
         self.brought_near(near)
@@ -186,12 +203,12 @@ impl<'a> VertexCache<'a> {
     // The triangle of the cache's three corners, unless it lies beside.
     #[inline(always)]
     fn brought_near(&self, near: &Surrounds) -> Option<WindowTriangle>
-        requires a { IsCorner self.now.state.now self.now.vertices.now self.now.first }
-        requires b { IsCorner self.now.state.now self.now.vertices.now self.now.second }
-        requires c { IsCorner self.now.state.now self.now.vertices.now self.now.third }
+        requires a { IsCorner self.now.state.now (listed self.now.vertices) self.now.first }
+        requires b { IsCorner self.now.state.now (listed self.now.vertices) self.now.second }
+        requires c { IsCorner self.now.state.now (listed self.now.vertices) self.now.third }
         ensures { MatchOption result
-            (IsBesideIfKept self.now.state.now self.now.vertices.now (self.now.first.index ∷ self.now.second.index ∷ self.now.third.index ∷ []) near.now)
-            (λ t. kept_whole self.now.state.now self.now.vertices.now (self.now.first.index ∷ self.now.second.index ∷ self.now.third.index ∷ []) ≡ Some t.v) }
+            (IsBesideIfKept self.now.state.now (listed self.now.vertices) (self.now.first.index ∷ self.now.second.index ∷ self.now.third.index ∷ []) near.now)
+            (λ t. kept_whole self.now.state.now (listed self.now.vertices) (self.now.first.index ∷ self.now.second.index ∷ self.now.third.index ∷ []) ≡ Some t.v) }
     {
         if self.lies_beside(near) {
             return None;
@@ -201,10 +218,10 @@ impl<'a> VertexCache<'a> {
 
     /// The same where all three vertices stand in front of the near plane, so that the triangle is cut in no block.
     pub fn uncut_near(&mut self, corners: [usize; 3], near: &Surrounds) -> Uncut
-        requires { AreBelow (length self.old.vertices.now) corners }
+        requires { AreBelow (length (listed self.old.vertices)) corners }
         ensures state { self.new.state.now ≡ self.old.state.now }
-        ensures vertices { self.new.vertices.now ≡ self.old.vertices.now }
-        ensures triangle { IsUncut self.old.state.now self.old.vertices.now corners near.now result }
+        ensures vertices { (listed self.new.vertices) ≡ (listed self.old.vertices) }
+        ensures triangle { IsUncut self.old.state.now (listed self.old.vertices) corners near.now result }
     {
         self.bring(corners);
         if self.first.front && self.second.front && self.third.front {

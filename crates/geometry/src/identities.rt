@@ -1,5 +1,7 @@
 //! Which of a state's matrices move no vector, and whether its viewport and depth range are usual ones.
-ghost use Rattle.std.specs.Prelude.{◌≡◌, ◌↔◌, ◌^◌, pos, IsTrue, true};
+ghost use Rattle.std.specs.Prelude.{◌≡◌, ◌↔◌, ◌^◌, ◌<◌, pos, IsTrue, true};
+ghost use Rattle.std.specs.Ordering.{int_eq};
+ghost use Rattle.std.specs.Cmp.Lexicographic.{pointwise};
 ghost use Rattle.rc_base.specs.Numbers.{Within, entry};
 ghost use Rattle.rc_base.specs.Contexts.Context.{identity};
 ghost use Rattle.geometry.specs.Placed.{FixesVectors, AreIdentities};
@@ -25,12 +27,31 @@ pub struct Identities {
     pub usual: bool,
 }
 
+#[inline(always)]
+fn is_same(a: &[i32; 16], b: &[i32; 16], i: usize) -> bool
+    requires { i < 16 }
+    ensures { result ≡ int_eq (entry a.now i) (entry b.now i) }
+{
+    a[i] == b[i]
+}
+
+// Whether all numbers are the same. The loop has no way out, so that it becomes a few steps over all of them.
+fn are_same(a: &[i32; 16], b: &[i32; 16]) -> bool
+    ensures { result ≡ pointwise int_eq a.now b.now }
+{
+    let mut same = true;
+    for i in 0..16usize {
+        same = same & is_same(a, b, i);
+    }
+    same
+}
+
 /// Whether a matrix is the identity, which moves no vector.
 pub fn is_identity(m: &Mat4) -> bool
     ensures identity { IsTrue result ↔ m.now.m ≡ identity.m }
     ensures fixes { result ≡ true → FixesVectors m.now.m }
 {
-    *m == IDENTITY
+    are_same(&m.m, &IDENTITY.m)
 }
 
 fn is_side(side: i32) -> bool
@@ -55,7 +76,8 @@ fn is_usual(state: &State) -> bool
     state.depth_range[0] == 0 && state.depth_range[1] == ONE
 }
 
-pub(crate) fn identities_of(state: &State) -> Identities
+/// What is known of a state's matrices, viewport and depth range.
+pub fn identities_of(state: &State) -> Identities
     ensures { AreIdentities state.now result }
 {
     Identities {

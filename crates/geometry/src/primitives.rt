@@ -1,12 +1,16 @@
 //! The triangles of a block, as triples of vertex indices.
-ghost use Rattle.std.specs.Prelude.{◌≡◌, ◌-◌, ◌/◌, ◌<◌, length, slice_index};
+ghost use Rattle.std.specs.Prelude.{◌≡◌, ◌-◌, ◌/◌, ◌<◌, ◌+◌, ◌∷◌, length, slice_index};
 ghost use Rattle.std.specs.Iterator.{YieldsFirst, item_count};
 ghost use Rattle.std.specs.List.{All};
 ghost use Rattle.rc_base.specs.Drawing.Triangles.{triangles_of, separate, strip, fan, shape_of, triangles_in};
 ghost use Rattle.rc_base.specs.Drawing.Kept.{vertex_at};
 ghost use Rattle.geometry.specs.Items.{rest_from, triple_at, AreBelow};
+ghost use Rattle.geometry.specs.Listed.{listed, listed_block};
+ghost use Rattle.vertex_bytes.specs.Spelt.{spelt_block};
 
+use crate::list::VertexList;
 use rc_base::state::{Block, CUT_MODES, Vertex};
+use vertex_bytes::SpeltBlock;
 
 // What a block of a mode is.
 fn shape_of(mode: u8) -> u8
@@ -104,6 +108,51 @@ pub fn triangles(block: &Block) -> TriangleIter<'_>
     ensures indices { All (AreBelow (length block.now.vertices)) (triangles_in block.now) }
 {
     TriangleIter { block, given: 0 }
+}
+
+/// A block whose vertices are stored or spelt by bytes.
+#[derive(Clone, Copy)]
+pub struct ListedBlock<'a> {
+    pub mode: u8,
+    pub vertices: VertexList<'a>,
+}
+
+impl ListedBlock<'_> {
+    /// How many triangles the block has.
+    pub fn triangle_count(&self) -> usize
+        ensures { result ≡ length (triangles_in (listed_block self.now)) }
+    {
+        count(shape_of(self.mode), self.vertices.count())
+    }
+
+    /// The vertex indices of the triangle of a number.
+    pub fn corners(&self, i: usize) -> [usize; 3]
+        requires { i < length (triangles_in (listed_block self.now)) }
+        ensures next { rest_from (listed_block self.now) i ≡ result ∷ rest_from (listed_block self.now) (i + 1) }
+        ensures below { AreBelow (length (listed self.now.vertices)) result }
+    {
+        triple(shape_of(self.mode), self.vertices.count(), i)
+    }
+}
+
+/// A block as it is stored.
+pub fn listed(block: &Block) -> ListedBlock<'_>
+    ensures { listed_block result ≡ block.now }
+{
+    ListedBlock {
+        mode: block.mode,
+        vertices: VertexList::Stored(block.vertices.as_slice()),
+    }
+}
+
+/// A block as bytes spell it.
+pub fn spelt(block: SpeltBlock<'_>) -> ListedBlock<'_>
+    ensures { listed_block result ≡ spelt_block block.entry }
+{
+    ListedBlock {
+        mode: block.mode,
+        vertices: VertexList::Spelt(block.vertices),
+    }
 }
 
 /// Three vertices of a list, by their indices.

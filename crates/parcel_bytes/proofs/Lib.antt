@@ -6,3 +6,4 @@ pub mod TimesInTurn
 pub mod VertexBytes
 pub mod ShortVertices
 pub mod Fronts
+pub mod SpeltBlocks

@@ -68,7 +68,7 @@ word_length z = wide32.len (cast_unsigned w32 z)
 behind_word : (z : ℤ) (rest : List ℕ) → length (word z ++ rest) ≡ 4 + length rest
 behind_word z rest = length-append (word z) rest ∙ ap (λ (n : ℕ). n + length rest) (word_length z)
 
-vertex_length : (v : Vertex) → length v.pos ≡ 4 → length (vertex_bytes v) ≡ 28
+pub vertex_length : (v : Vertex) → length v.pos ≡ 4 → length (vertex_bytes v) ≡ 28
 vertex_length v four =
     let tail = color_bytes v.color ++ (word v.s ++ word v.t) in
     let x = get_or v.pos 0 (pos 0) in

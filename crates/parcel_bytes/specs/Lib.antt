@@ -2,3 +2,4 @@ pub mod Spelling
 pub mod Reading
 pub mod Faults
 pub mod Fronts
+pub mod Blocks

@@ -1,8 +1,13 @@
 //! A parcel as the bytes that spell it.
-ghost use Rattle.std.specs.Prelude.{◌≡◌, IfOk, length};
+ghost use Rattle.std.specs.Prelude.{◌≡◌, ◌≤◌, IfOk, MatchOption, length};
+ghost use Rattle.parcel_bytes.specs.Blocks.{IsNoDraw};
 ghost use Rattle.parcel_bytes.specs.Fronts.{IsWritten};
 ghost use Rattle.parcel_bytes.specs.Reading.{parcel_in};
-ghost use Rattle.parcel_bytes.specs.Spelling.{IsPackable};
+ghost use Rattle.parcel_bytes.specs.Spelling.{IsAct, IsPackable, SpellsParcel, act_bytes};
+ghost use Rattle.rc_base.specs.declared.state.Act.{Act as ActValue};
+ghost use Rattle.rc_base.specs.declared.state.Act.TheVariants as act;
+ghost use Rattle.rc_base.specs.declared.state.Parcel.{Parcel as ParcelValue};
+ghost use Rattle.vertex_bytes.specs.Spelt.{spelt_block};
 ghost use Rattle.rc_base.specs.Cluster.Parcels.{is_end};
 
 use crate::reading::{read_parcel, read_parcel_in};
@@ -14,6 +19,7 @@ use rc_base::state::{Act, ElementSet, Parcel};
 use std::alloc::{AllocError, Global};
 use std::marker::Model;
 use std::sync::Arc;
+use vertex_bytes::{SpeltBlock, SpeltVertices};
 
 /// The bytes of one parcel, as `encode_parcel` makes them. Contracts see the parcel.
 ///
@@ -79,6 +85,21 @@ impl Packed {
         ensures { result ≡ is_end self.now.act }
     {
         self.end
+    }
+
+    /// The place of the parcel's command. Takes no memory.
+    pub fn place(&self) -> u32
+        ensures { result ≡ self.now.place }
+    {
+        place_in(self.bytes())
+    }
+
+    /// The block of a parcel that draws, as the bytes that spell it. Takes no memory.
+    pub fn block(&self) -> Option<SpeltBlock<'_>>
+        ensures { MatchOption result (IsNoDraw self.now.act) (λ b. self.now.act ≡ act.Draw (spelt_block b)) }
+    {
+        let (bytes, at) = self.parts();
+        block_in(act_in(bytes, at))
     }
 
     /// The parcel that the bytes spell.
@@ -147,6 +168,40 @@ fn is_end(act: &Act) -> bool
         Act::End => true,
         _ => false,
     }
+}
+
+// The place of the parcel that the bytes spell.
+fn place_in(bytes: &[u8]) -> u32
+    ensures { (p : ParcelValue) → SpellsParcel bytes.now p → result ≡ p.place }
+{
+    if bytes.len() < 4 {
+        return 0;
+    }
+    u32::from_le_bytes([bytes[0], bytes[1], bytes[2], bytes[3]])
+}
+
+// The bytes of the act of a parcel that the bytes spell.
+fn act_in(bytes: &[u8], at: usize) -> &[u8]
+    requires { at ≤ length bytes.now }
+    ensures { (p : ParcelValue) → IsWritten bytes.now at p → IsAct p.act × (result.now ≡ act_bytes p.act) }
+{
+    &bytes[at..]
+}
+
+// The block of an act that the bytes spell, if it is one.
+fn block_in(bytes: &[u8]) -> Option<SpeltBlock<'_>>
+    ensures { (a : ActValue) → IsAct a → bytes.now ≡ act_bytes a → MatchOption result (IsNoDraw a) (λ b. a ≡ act.Draw (spelt_block b)) }
+{
+    if bytes.len() < 4 {
+        return None;
+    }
+    if bytes[0] != 0 {
+        return None;
+    }
+    Some(SpeltBlock {
+        mode: bytes[1],
+        vertices: SpeltVertices { bytes: &bytes[4..] },
+    })
 }
 
 // The bytes with what is asked of their parcel without reading it.

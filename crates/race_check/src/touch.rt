@@ -3,6 +3,7 @@ ghost use Rattle.std.specs.Prelude.{◌≡◌, ◌+◌, ◌*◌, ◌<◌, ◌^�
 ghost use Rattle.rc_base.specs.Drawing.Pieces.{kept_corners_of};
 ghost use Rattle.geometry.specs.Beside.{AreSurrounds};
 ghost use Rattle.geometry.specs.Items.{AreBelow};
+ghost use Rattle.geometry.specs.Listed.{listed};
 ghost use Rattle.geometry.specs.Pieces.{found};
 ghost use Rattle.race_check.specs.Touches.{IsWithinWindow, Touches, block_has, clear_has, part_has, triangle_has, triangles_have};
 
@@ -95,10 +96,10 @@ fn touch_corners(
     requires size { length pixels.old.cells.items ≡ visit.now.height * visit.now.width }
     requires part { IsWithinWindow visit.now.width visit.now.height part }
     requires near { AreSurrounds part near.now }
-    requires vertices { cache.old.vertices.now ≡ block.now.vertices }
+    requires vertices { listed cache.old.vertices ≡ block.now.vertices }
     requires corners { AreBelow (length block.now.vertices) corners }
     ensures state { cache.new.state.now ≡ cache.old.state.now }
-    ensures vertices { cache.new.vertices.now ≡ block.now.vertices }
+    ensures vertices { listed cache.new.vertices ≡ block.now.vertices }
     ensures size { length pixels.new.cells.items ≡ length pixels.old.cells.items }
     ensures touched { Touches (triangles_have (kept_corners_of cache.old.state.now block.now corners) part) visit.now pixels.old pixels.new seen result }
 {

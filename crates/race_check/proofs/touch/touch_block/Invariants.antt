@@ -3,6 +3,7 @@ use Rattle.std.specs.List.{All, flat_map}
 use Rattle.rc_base.specs.Drawing.Pieces.{kept_corners_of}
 use Rattle.rc_base.specs.Drawing.Triangles.{triangles_in}
 use Rattle.geometry.specs.Items.{AreBelow, rest_from}
+use Rattle.geometry.specs.Listed.{listed}
 use Rattle.raster.specs.Clips.{IsPartWhere, is_let_through}
 use Rattle.race_check.specs.Touches.{IsTouch, triangles_have}
 use Rattle.rc_base.specs.Cluster.Tiles.{window_rect}
@@ -11,7 +12,7 @@ use Rattle.race_check.proofs.touch.touch_block.Given as goal
 abbrev pub invariant-cuts : goal.invariant-cuts
 invariant-cuts l = record {
   state : l.cache.state.now ≡ l.state;
-  vertices : l.cache.vertices.now ≡ l.fn.block.vertices;
+  vertices : listed l.cache.vertices ≡ l.fn.block.vertices;
   part : IsPartWhere (window_rect l.visit.width l.visit.height) l.part (is_let_through l.state);
   below : All (AreBelow (length l.fn.block.vertices)) (rest_from l.corners-iterator.block.now l.corners-iterator.given);
   size : length l.pixels.cells.items ≡ length l.fn.pixels.cells.items;

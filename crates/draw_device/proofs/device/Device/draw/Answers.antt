@@ -1,20 +1,13 @@
+use Rattle.std.proofs.Common.{ap, ◌∙◌}
 use Rattle.rc_base.specs.Drawing.PixelStep.{effect_step}
+use Rattle.rc_base.specs.declared.state.Block.{Block}
 use Rattle.rc_base.specs.declared.state.Effect.TheVariants as eff
 use Rattle.textures.specs.Images.{texture_image}
-use Rattle.draw_device.specs.Pixels.{pixels_of}
 use Rattle.draw_device.specs.Conditions.{shared_of}
-use Rattle.draw_device.proofs.BlockPixels.{block_steps}
-use Rattle.draw_device.proofs.Places.{view_takes}
+use Rattle.draw_device.specs.Devices.{pixel_of}
 use Rattle.draw_device.proofs.device.Device.draw.Goals as goal
 
 pub returns-clause-drawn : goal.returns-clause-drawn
-returns-clause-drawn c =
-    let s = c.args.state.now in
-    let ps = c.args.privates.now in
-    let ss = c.args.shareds.now in
-    let block = c.args.block.now in
-    let g = c.self.inside.grid.extent in
-    let old = (pixels_of c.self.inside.grid.colors.items c.self.inside.grid.depths.items) in
-    let new = (pixels_of c.draw.new.self.colors.items c.draw.new.self.depths.items) in
-    view_takes (effect_step s (texture_image ps) (shared_of ss) (eff.Block block)) g c.draw.new.self.extent old new _ c.self.view_is c.draw.ensures.extent
-    (block_steps s ps ss c.sampled_texture-texture.result.now block g old new c.sampled_texture-texture.ensures c.draw.ensures.drawn)
+returns-clause-drawn c x y inside =
+    c.draw_prepared.ensures.drawn x y inside
+    ∙ ap (λ (b : Block). effect_step c.args.state.now (texture_image c.args.privates.now) (shared_of c.args.shareds.now) (eff.Block b) x y (pixel_of c.args.self.now x y)) c.listed-listed.ensures

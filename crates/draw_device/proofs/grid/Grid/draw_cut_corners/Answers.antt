@@ -6,17 +6,18 @@ use Rattle.rc_base.specs.Drawing.PixelStep.{triangle_step}
 use Rattle.rc_base.specs.declared.state.State.{State}
 use Rattle.rc_base.specs.declared.state.Vertex.{Vertex}
 use Rattle.rc_base.specs.declared.window.WindowVertex.{WindowVertex}
+use Rattle.geometry.specs.Listed.{listed_block}
 use Rattle.geometry.specs.Placed.{AllStandInFront}
 use Rattle.geometry.proofs.PiecesKept.{front_kept}
 use Rattle.draw_device.specs.Pixels.{pixel_at, pixels_of}
-use Rattle.draw_device.specs.Shapes.{column_at, row_at, corners_step, IsStepped}
+use Rattle.draw_device.specs.Shapes.{column_at, row_at}
 use Rattle.draw_device.proofs.grid.Grid.draw_cut_corners.Goals as goal
 
 pub returns-in-Whole-clause-drawn : goal.returns-in-Whole-clause-drawn
 returns-in-Whole-clause-drawn c =
     let s = c.args.setup.now.state.now in
     let p = c.args.setup.now.texture.now in
-    let block = c.args.block.now in
+    let block = listed_block c.args.block.now in
     let vs = block.vertices in
     let t = c.args.corners in
     let g = c.args.self.now.extent in
@@ -26,7 +27,7 @@ returns-in-Whole-clause-drawn c =
     (subst (λ (us : List Vertex). AllStandInFront c.args.cache.now.state.now us t) c.requires.cache.vertices c.in-Whole.ensures.triangle.0) in
     let whole : kept_corners_of s block t ≡ option_to_list (kept_whole s vs t) =
     front_kept s block.mode (vertex_at vs (slice_index t 0)) (vertex_at vs (slice_index t 1)) (vertex_at vs (slice_index t 2)) front.0 front.1 front.2 in
-    let drawn = subst (λ (us : List Vertex). IsStepped (corners_step s p us t) g old new) c.as_slice.ensures c.draw_near.ensures.drawn in
+    let drawn = c.draw_near.ensures.drawn in
     record {
       each = λ i j hi hj. drawn.each i j hi hj
           ∙ ap (λ (us : List (List WindowVertex)). fold (triangle_step s p (column_at g i) (row_at g j)) (pixel_at old (j * g.width + i)) us) (sym whole);

@@ -1,6 +1,7 @@
 use Rattle.std.proofs.Common.{◌≡◌, Some, rules, subst}
 use Rattle.rc_base.specs.Drawing.Kept.{kept_whole}
 use Rattle.geometry.specs.Beside.{IsBesideIfKept}
+use Rattle.geometry.specs.Listed.{listed}
 use Rattle.raster.specs.Clips.{IsPartWhere, is_let_through}
 use Rattle.draw_device.specs.Pixels.{pixels_of}
 use Rattle.draw_device.specs.Shapes.{grid_rect}
@@ -11,15 +12,15 @@ use Rattle.draw_device.proofs.grid.Grid.draw_near.Goals as goal
 
 pub returns-clause-drawn : goal.returns-clause-drawn
 returns-clause-drawn c =
-    let kept : kept_whole c.args.setup.now.state.now c.args.vertices.now c.args.corners ≡ Some c.in-Some.tri.v = search rules in
-    kept_steps c.args.setup.now.state.now c.args.setup.now.texture.now c.in-Some.tri.v c.args.vertices.now c.args.corners c.args.self.now.extent (pixels_of c.args.self.now.colors.items c.args.self.now.depths.items)
+    let kept : kept_whole c.args.setup.now.state.now (listed c.args.vertices.now) c.args.corners ≡ Some c.in-Some.tri.v = search rules in
+    kept_steps c.args.setup.now.state.now c.args.setup.now.texture.now c.in-Some.tri.v (listed c.args.vertices.now) c.args.corners c.args.self.now.extent (pixels_of c.args.self.now.colors.items c.args.self.now.depths.items)
     (pixels_of c.draw_triangle.new.self.colors.items c.draw_triangle.new.self.depths.items) kept c.draw_triangle.ensures.drawn
 
 pub returns-in_default-clause-drawn : goal.returns-in_default-clause-drawn
 returns-in_default-clause-drawn c =
     let b = c.args.setup.now in
     let s = b.state.now in
-    let vs = c.args.vertices.now in
+    let vs = listed c.args.vertices.now in
     let t = c.args.corners in
     let near = b.near in
     let beside : IsBesideIfKept s vs t near = search rules in

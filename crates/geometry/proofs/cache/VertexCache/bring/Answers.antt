@@ -1,4 +1,5 @@
 use Rattle.std.proofs.Common.{◌≡◌, ◌<◌, length, slice_index, rules}
+use Rattle.geometry.specs.Listed.{listed}
 use Rattle.geometry.proofs.Cached.{cached_corner}
 use Rattle.geometry.proofs.cache.VertexCache.bring.Goals as goal
 
@@ -7,9 +8,9 @@ returns-clause-first_at c =
     let n = c.if-self-corners.self in
     let o = c.args.self.now in
     let e : n.state.now ≡ o.state.now = search rules in
-    let g : n.vertices.now ≡ o.vertices.now = search rules in
+    let g : listed n.vertices ≡ listed o.vertices = search rules in
     let h : n.first.index ≡ slice_index c.args.corners 0 = search rules in
-    let l : slice_index c.args.corners 0 < length o.vertices.now = search rules in
+    let l : slice_index c.args.corners 0 < length (listed o.vertices) = search rules in
     cached_corner _ _ _ _ _ _ n.first_cached e g h l
 
 pub returns-clause-second_at : goal.returns-clause-second_at
@@ -17,7 +18,7 @@ returns-clause-second_at c =
     let n = c.if-self-corners.self in
     let o = c.args.self.now in
     let e : n.state.now ≡ o.state.now = search rules in
-    let g : n.vertices.now ≡ o.vertices.now = search rules in
+    let g : listed n.vertices ≡ listed o.vertices = search rules in
     let h : n.second.index ≡ slice_index c.args.corners 1 = search rules in
-    let l : slice_index c.args.corners 1 < length o.vertices.now = search rules in
+    let l : slice_index c.args.corners 1 < length (listed o.vertices) = search rules in
     cached_corner _ _ _ _ _ _ n.second_cached e g h l

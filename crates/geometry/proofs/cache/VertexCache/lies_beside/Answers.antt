@@ -1,11 +1,12 @@
 use Rattle.rc_base.specs.Drawing.Kept.{vertex_at}
+use Rattle.geometry.specs.Listed.{listed}
 use Rattle.geometry.proofs.Beside.{kept_beside, place_is}
 use Rattle.geometry.proofs.cache.VertexCache.lies_beside.Goals as goal
 
 pub returns : goal.returns
 returns c yes' =
     let s = c.args.self.now.state.now in
-    let vs = c.args.self.now.vertices.now in
+    let vs = listed c.args.self.now.vertices in
     let a = vertex_at vs c.args.self.now.first.index in
     let b = vertex_at vs c.args.self.now.second.index in
     let d = vertex_at vs c.args.self.now.third.index in
