@@ -1,4 +1,5 @@
 """Vertices: between glBegin and glEnd, from arrays of the program's memory, and from buffers."""
+import re
 import struct
 
 from .drawing import draw
@@ -14,6 +15,10 @@ SCALED = ("GL_COLOR_ARRAY", "GL_NORMAL_ARRAY")
 # What an element of an array has where the array gives fewer numbers.
 FILLED = {"GL_VERTEX_ARRAY": (0.0, 0.0, 0.0, 1.0), "GL_COLOR_ARRAY": (0.0, 0.0, 0.0, 1.0),
           "GL_NORMAL_ARRAY": (0.0, 0.0, 1.0), "GL_TEXTURE_COORD_ARRAY": (0.0, 0.0, 0.0, 1.0)}
+# What the letters of an interleaved form stand for: its arrays follow one another in its name.
+ARRAYS = {"T": "GL_TEXTURE_COORD_ARRAY", "C": "GL_COLOR_ARRAY", "N": "GL_NORMAL_ARRAY",
+          "V": "GL_VERTEX_ARRAY"}
+INTERLEAVED = re.compile("([TCNV])([234])(F|UB)")
 
 
 class VertexCalls:
@@ -69,8 +74,14 @@ class VertexCalls:
 
     def draw_filled(self, run):
         setting = self.now()
-        if setting is not None:
+        if self.values["framebuffer"]:
+            self.notes.weigh("left out", "what is drawn into a frame buffer object",
+                             len(run.points))
+        elif setting is not None:
             self.vertices += len(run.points)
+            self.drawing, self.concerns = len(run.points), []
+            for kind, what in setting.concerns(run.mode):
+                self.concern(kind, what)
             draw(self, setting, run)
 
     # -- arrays --
@@ -92,6 +103,21 @@ class VertexCalls:
     def do_TexCoordPointer(self, *array):
         if not self.client_unit:
             self.pointer("GL_TEXTURE_COORD_ARRAY", *array)
+
+    def do_InterleavedArrays(self, form, stride, data):
+        """The pointers of a form such as GL_T2F_C4UB_V3F, and which arrays are on."""
+        parts = [INTERLEAVED.fullmatch(part).groups() for part in form[3:].split("_")]
+        sizes = [int(count) * (1 if kind == "UB" else 4) for _, count, kind in parts]
+        blob, at = as_bytes(data), 0
+        for name in FILLED:
+            self.do_EnableClientState(name, False)
+        for (letter, count, kind), size in zip(parts, sizes):
+            name = ARRAYS[letter]
+            if not (self.client_unit and name == "GL_TEXTURE_COORD_ARRAY"):
+                self.pointer(name, int(count), "GL_UNSIGNED_BYTE" if kind == "UB" else "GL_FLOAT",
+                             stride or sum(sizes), data + at if blob is None else blob[at:])
+                self.do_EnableClientState(name)
+            at += size
 
     def do_ClientActiveTexture(self, name):
         self.client_unit = int(name != "GL_TEXTURE0")
@@ -151,7 +177,7 @@ class VertexCalls:
         if not len(indices):
             return
         if self.recording is None and not self.wanted:
-            indices = indices[-1:]      # which sets what is current behind the draw
+            return
         run = Run(mode)
         run.points = self.column("GL_VERTEX_ARRAY", indices)
         if run.points is None:
@@ -164,7 +190,13 @@ class VertexCalls:
             self.recording.calls.append((None, run))
             if self.recording.mode == "GL_COMPILE":
                 return
+            self.draw_run(run)
+            return
+        # A draw that no list records leaves what is current as it was, as Mesa has it.
+        values = self.values
+        current = {name: values[name] for name in ("normal", "color", "coordinate")}
         self.draw_run(run)
+        values.update(current)
 
     def do_DrawArrays(self, mode, first, count):
         self.draw_arrays(mode, range(first, first + max(0, count)))

@@ -25,16 +25,10 @@ class Told(unittest.TestCase):
                                  ("glEnable", "GL_STENCIL_TEST"), ("glEnable", "GL_LINE_SMOOTH"),
                                  ("glGetError",), SWAP))
         self.assertEqual(made.lines, [
-            "from_apitrace: approximated glEnable(GL_LINE_SMOOTH) 1",
-            "from_apitrace: left out glEnable(GL_STENCIL_TEST) 1",
-            "from_apitrace: left out glUseProgram 2",
+            "from_apitrace: approximated glEnable(GL_LINE_SMOOTH) 1: 0 vertices, 0 pixels",
+            "from_apitrace: left out glEnable(GL_STENCIL_TEST) 1: 0 vertices, 0 pixels",
+            "from_apitrace: left out glUseProgram 2: 0 vertices, 0 pixels",
             "from_apitrace: 64x64, version 1, 1 clients, 2 items, 2 commands, 21 bytes"])
-
-    def test_several_windows_are_told(self):
-        made = converted(pickled(("glXMakeCurrent", 1, 2, 7), WINDOW, CLEAR, SWAP,
-                                 ("glXMakeCurrent", 1, 3, 7), CLEAR, SWAP), "--frames", "0:2")
-        self.assertIn("from_apitrace: approximated a window of several, which are drawn as one 2",
-                      made.lines)
 
     def test_a_frame_that_begins_without_a_clear_is_told(self):
         made = converted(pickled(WINDOW, SWAP))
