@@ -164,11 +164,9 @@ class Drawing:
         """Whether the image is laid on as a linear filter has it, which is told where it isn't."""
         setting, machine, options = self.setting, self.machine, self.machine.options
         found = Filtered(level, options.texture_side, setting.clamps(), options.cut_textures)
-        if not options.nearest and machine.filtered < MOST_TEXELS:
-            made = len(level.parts)
+        level.made = machine.filtered
+        if not options.nearest and machine.filtered[0] < MOST_TEXELS:
             found.choose([[self.corners.coordinates[i] for i in fan] for fan, _ in faces])
-            if len(level.parts) > made:
-                machine.filtered += level.parts[next(reversed(level.parts))].width ** 2
         if found.times < found.due:
             machine.concern("approximated", "a linear filter by " + (
                 "the nearest texel" if found.times == 1 else f"steps of 1/{found.times} texel"))

@@ -14,6 +14,7 @@ from .images import Image
 # texel is off by half a step at most, which is 12 to 14 of 255.
 FACTORS = ((24, 1), (72, 3), (130, 5), (255, 9))
 LOOKED_AT = 64          # rows of an image, by which its differences are taken
+SPOT = 0.1              # of a texel
 MOST_CELLS = 12         # images that one texture is cut into, or that a primitive has
 MOST_REGIONS = 128      # images of polygons that a texture has
 MOST_TEXELS = 4_194_304     # of all images that are made so
@@ -37,9 +38,9 @@ def factor(image):
     return next(times for most, times in FACTORS if contrast(image) <= most)
 
 
-def ends(place, times, size, clamped):
-    """The two texels that a filter mixes in the middle of a step, and the share of the second."""
-    x = (place + 0.5) / times - 0.5
+def ends(x, size, clamped):
+    """The two texels that a filter mixes at a place, and the share of the second. Places are in
+    texels, from the middle of the first one."""
     first = math.floor(x)
     if clamped:
         return max(0, min(size - 1, first)), max(0, min(size - 1, first + 1)), x - first
@@ -55,16 +56,19 @@ def enlarged(image, times, box, clamped):
     key = times, box, clamped
     if key not in image.parts:
         left, low, width, height = box
-        columns = [ends(left + i, times, image.width, clamped[0]) for i in range(width)]
+        columns = [ends((left + i + 0.5) / times - 0.5, image.width, clamped[0])
+                   for i in range(width)]
         wide, out = {}, []
         for j in range(height):
-            first, second, share = ends(low + j, times, image.height, clamped[1])
+            place = (low + j + 0.5) / times - 0.5
+            first, second, share = ends(place, image.height, clamped[1])
             for row in {first, second} - set(wide):
                 wide[row] = widened(image, row, columns)
             out += mixed(wide[first], wide[second], share)
         made = Image(width, height, bytes(int(x + 0.5) for x in out), image.base)
         made.times = times
         image.parts[key] = made
+        image.made[0] += width * height
     return image.parts[key]
 
 
@@ -75,6 +79,14 @@ def widened(image, row, columns):
         a, b = start + 4 * a, start + 4 * b
         out += mixed(texels[a:a + 4], texels[b:b + 4], share)
     return out
+
+
+def spot(image, s, t, clamped):
+    """An image of one texel, which has what the filter gives at these coordinates."""
+    column = ends(s * image.width - 0.5, image.width, clamped[0])
+    first, second, share = ends(t * image.height - 0.5, image.height, clamped[1])
+    texel = mixed(*(widened(image, row, [column]) for row in (first, second)), share)
+    return Image(1, 1, bytes(int(x + 0.5) for x in texel), image.base)
 
 
 class Steps:
@@ -110,9 +122,6 @@ def region(steps, coordinates):
         size, low, high = (steps.width, steps.height)[i], min(places), max(places)
         if steps.clamps[i]:
             low, high = (max(-1 / size, min(1 + 1 / size, x)) for x in (low, high))
-        if (high - low) * size < 0.5:       # one colour, wherever a step begins
-            found.append((math.floor((low + high) / 2 * size), 1))
-            continue
         first = math.floor(low * size + 1e-6)
         found.append((first, max(1, math.ceil(high * size - 1e-6) - first)))
     (left, width), (low, height) = found
@@ -129,8 +138,16 @@ class Filtered:
         self.times = 1
 
     def choose(self, faces):
-        """Looks for the largest of the numbers that fits; faces are lists of coordinates."""
+        """Looks for the largest of the numbers that fits; faces are lists of coordinates. What
+        reaches a small part of one texel has one colour, and no step may begin in it."""
         sides = max(self.image.width, self.image.height)
+        lows, highs = ([choose(axis) for axis in zip(*(place for face in faces for place in face))]
+                       for choose in (min, max))
+        if self.due > 1 and (highs[0] - lows[0]) * self.image.width < SPOT \
+                and (highs[1] - lows[1]) * self.image.height < SPOT:
+            self.times, self.level = self.due, spot(
+                self.image, (lows[0] + highs[0]) / 2, (lows[1] + highs[1]) / 2, self.clamps)
+            return
         for times in (9, 5, 3):
             if times > self.due:
                 continue

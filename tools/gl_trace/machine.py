@@ -60,7 +60,7 @@ class Machine(WindowCalls, StateCalls, MatrixCalls, TextureCalls, ListCalls, Ver
         self.wanted = self.first == 0
         self.vertices = self.commands = self.steps = 0
         self.contexts, self.handlers, self.setting = {}, {}, None
-        self.lamps, self.concerns, self.drawing, self.filtered = {}, [], 0, 0
+        self.lamps, self.concerns, self.drawing, self.filtered = {}, [], 0, [0]
         self.begin_windows(options.size)
         self.begin_lists()
         self.begin_textures()

@@ -15,10 +15,10 @@ class Run:
     """Vertices of a primitive. In the columns of current values None is what is current where the
     run is drawn, and comes first alone. Materials: from which vertex on, front, back."""
 
-    __slots__ = ("mode", "points", "normals", "colors", "coordinates", "materials")
+    __slots__ = ("mode", "points", "normals", "colors", "coordinates", "materials", "of_arrays")
 
     def __init__(self, mode):
-        self.mode = mode
+        self.mode, self.of_arrays = mode, False
         self.points, self.normals, self.colors, self.coordinates = [], [], [], []
         self.materials = []
 

@@ -18,6 +18,7 @@ FILLED = {"GL_VERTEX_ARRAY": (0.0, 0.0, 0.0, 1.0), "GL_COLOR_ARRAY": (0.0, 0.0, 
 # What the letters of an interleaved form stand for: its arrays follow one another in its name.
 ARRAYS = {"T": "GL_TEXTURE_COORD_ARRAY", "C": "GL_COLOR_ARRAY", "N": "GL_NORMAL_ARRAY",
           "V": "GL_VERTEX_ARRAY"}
+LEFT = "light by the normal that arrays of a display list left"
 INTERLEAVED = re.compile("([TCNV])([234])(F|UB)")
 
 
@@ -27,6 +28,8 @@ class VertexCalls:
     def begin_vertices(self):
         self.open, self.buffers, self.bound, self.client_unit = None, {}, {}, 0
         self.buffered = 0
+        # The current normal where a list's arrays left it, which OpenGL doesn't define.
+        self.normal_of_arrays = self.uncertain = None
 
     # -- one by one --
 
@@ -66,11 +69,16 @@ class VertexCalls:
             filled.normals = filled_up(run.normals, values["normal"])
             filled.colors = filled_up(run.colors, values["color"])
             filled.coordinates = filled_up(run.coordinates, values["coordinate"])
+            if run.normals[0] is None and self.normal_of_arrays is values["normal"]:
+                self.uncertain = LEFT
             self.draw_filled(filled)
+            self.uncertain = None
         for name, column in (("normal", run.normals), ("color", run.colors),
                              ("coordinate", run.coordinates)):
             if column[-1] is not None:
                 values[name] = column[-1]
+        if run.of_arrays:
+            self.normal_of_arrays = values["normal"]
 
     def draw_filled(self, run):
         setting = self.now()
@@ -82,6 +90,8 @@ class VertexCalls:
             self.drawing, self.concerns = len(run.points), []
             for kind, what in setting.concerns(run.mode):
                 self.concern(kind, what)
+            if self.uncertain and setting.lighting:
+                self.concern("approximated", self.uncertain)
             draw(self, setting, run)
 
     # -- arrays --
@@ -179,6 +189,7 @@ class VertexCalls:
         if self.recording is None and not self.wanted:
             return
         run = Run(mode)
+        run.of_arrays = True
         run.points = self.column("GL_VERTEX_ARRAY", indices)
         if run.points is None:
             return

@@ -203,7 +203,8 @@ class Hostile(unittest.TestCase):
         done = subprocess.run([*COMMAND, "--help"], capture_output=True, timeout=SECONDS)
         self.assertEqual((done.returncode, done.stderr), (0, b""))
         for word in (b"--frames", b"--clients", b"--size", b"--columns", b"--texture-side",
-                     b"--cut-textures", b"--no-lists", b"--by-depth", b"--version"):
+                     b"--cut-textures", b"--nearest", b"--pieces", b"--to", b"--no-lists",
+                     b"--by-depth", b"--version"):
             self.assertIn(word, done.stdout)
 
     def test_an_output_that_ends_early_is_quiet_and_a_full_one_is_told(self):
