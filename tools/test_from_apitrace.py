@@ -13,6 +13,9 @@ from trials.clients import Clients  # noqa: F401
 from trials.drawing import Clipping, Light, Places, Primitives  # noqa: F401
 from trials.ends import Hostile, Limits, Told  # noqa: F401
 from trials.following import Lists, Textures, Values  # noqa: F401
+from trials.films import Films  # noqa: F401
+from trials.filters import Filters, Weights  # noqa: F401
+from trials.windows import Windows  # noqa: F401
 
 
 def main():

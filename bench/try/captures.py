@@ -2,10 +2,11 @@
 """Traces real programs, converts a frame of each, and holds the picture of it against the
 program's own frame. What the programs are is in docs/real-programs.md.
 
-    captures.py [--frame N] [--seconds S] [--keep FOLDER] [--without-shaders] [NAME ..]
+    captures.py [--frame N] [--seconds S] [--cache FOLDER] [--longest S] [NAME ..]
 
-Without names these are glxgears of Debian's mesa-utils and the programs of xscreensaver-gl, as far
-as they are installed, beside apitrace and Xvfb, which is started here. The program is built by
+Without names these are all programs of capture_programs.py that are installed: the OpenGL programs
+of xscreensaver-gl and xscreensaver-gl-extra, and games and demonstrations of Debian. apitrace and
+Xvfb have to be there; Xvfb is started here. The program is built by
     cd crates/render_cli && rt run -- render < ../../examples/red.rcs > /dev/null
 
 Each line of the table has, of one frame (N, or the last but one where there are fewer):
@@ -14,14 +15,19 @@ vertices    that the program draws, commands and bytes of the scene
 seconds     of a processor for converting, without those of reading the trace
 us          microseconds of those spent on the frame itself, a vertex that the program draws, and a
             vertex of the scene, where lines are quads and what is seen close is cut finer
-serial      and render --tiles 4x3: milliseconds by the clock, the least of five
+serial      and render --tiles 4x3: milliseconds by the clock, the least of three
 mean, off   the mean difference of a channel, and the share of pixels with one off by over 16
-Behind the table stands what was left out or approximated of each, by name and number. The status
-is 1 where a conversion ended in anything but a scene or a refusal of one line.
+Behind the table stand how many are within half a percent of pixels, and what was left out or
+approximated of each, by name, number and weight. The status is 1 where a conversion ended in
+anything but a scene or a refusal of one line.
 
-Traces that a FOLDER has are taken as they are; traces, scenes and pictures are kept there.
+A FOLDER keeps traces, scenes, pictures and figures, and those that it has are taken as they are:
+figures as long as the converter's text is the same. So a run that was broken off goes on where it
+was. No program is traced for more than S seconds, and nothing else of it takes longer than the
+seconds of --longest; a trace that has 100 MB is ended.
 """
 import argparse
+import hashlib
 import json
 import os
 import pathlib
@@ -34,24 +40,16 @@ import time
 BENCH = pathlib.Path(__file__).resolve().parent.parent
 sys.path.insert(0, str(BENCH))
 
+import capture_programs
 import pictures
 from program import built
-SAVERS = pathlib.Path("/usr/libexec/xscreensaver")
-sys.path.insert(0, str(BENCH.parent / "tools"))
+
+TOOLS = BENCH.parent / "tools"
+sys.path.insert(0, str(TOOLS))
 HEAD = ("program", "frame", "drawn %", "vertices", "commands", "bytes", "seconds", "us a vertex",
         "us a scene's", "serial ms", "render 4x3 ms", "mean", "off %")
-LONGEST = 600       # seconds that a conversion, or apitrace drawing a frame anew, may take
-# Programs of xscreensaver-gl that show pictures of a disk or a screen, and one that is none.
-WITHOUT_FRAMES = {"glslideshow", "mapscroller", "mapscroller.pl", "xscreensaver-gl-visual",
-                  "gleidescope", "flipscreen3d", "antspotlight"}
-
-
-def programs():
-    """Names of the programs that are installed."""
-    names = ["glxgears"] if pathlib.Path("/usr/bin/glxgears").exists() else []
-    if SAVERS.is_dir():
-        names += sorted(p.name for p in SAVERS.iterdir() if p.name not in WITHOUT_FRAMES)
-    return names
+NEAR = 0.5          # a picture is near the program's own where no more of 100 pixels are off
+EMPTY = 0.05        # and shows nothing where no more of 100 pixels aren't black
 
 
 class Display:
@@ -60,7 +58,7 @@ class Display:
     def __enter__(self):
         reading, writing = os.pipe()
         self.server = subprocess.Popen(
-            ["Xvfb", "-displayfd", str(writing), "-screen", "0", "1024x768x24"],
+            ["Xvfb", "-noreset", "-displayfd", str(writing), "-screen", "0", "1280x1024x24"],
             pass_fds=[writing], stdout=subprocess.DEVNULL, stderr=subprocess.DEVNULL)
         os.close(writing)
         number = b""
@@ -77,19 +75,6 @@ class Display:
         self.server.wait()
 
 
-def trace(name, path, seconds, environment):
-    """Traces a program for so many seconds. xscreensaver's programs are EGL programs, and
-    apitrace waits for ever where it is told of the other interface. What a program's own
-    children are traced to lies beside it."""
-    path = path.resolve()
-    command = ["apitrace", "trace", "-o", str(path), "glxgears"]
-    if name != "glxgears":
-        command = ["apitrace", "trace", "--api", "egl", "-o", str(path), str(SAVERS / name),
-                   "-geometry", "400x300"]
-    subprocess.run(["timeout", "-k", "1", str(seconds), *command], env=environment,
-                   cwd=path.parent, stdout=subprocess.DEVNULL, stderr=subprocess.DEVNULL)
-
-
 def swaps(path):
     """The numbers of the calls that end frames."""
     told = subprocess.run(["apitrace", "dump", "--calls=frame", "--color=never", str(path)],
@@ -97,15 +82,15 @@ def swaps(path):
     return [int(line.split()[0]) for line in told.splitlines() if "SwapBuffers" in line]
 
 
-def own_frame(name, path, calls, environment):
+def own_frame(program, path, calls, options, environment):
     """The program's own picture at the first of two calls that end frames, as apitrace draws it
     anew. The other picture comes behind it and pushes it out of apitrace's buffer; the rest of the
     trace needn't be drawn."""
-    player = "glretrace" if name == "glxgears" else "eglretrace"
+    player = "eglretrace" if program.api == "egl" else "glretrace"
     wanted = ",".join(map(str, calls))
     with subprocess.Popen([player, "-s", "-", "-S", wanted, str(path)], env=environment,
                           stdout=subprocess.PIPE, stderr=subprocess.DEVNULL) as child:
-        patience, data = threading.Timer(LONGEST, child.kill), b""
+        patience, data = threading.Timer(options.longest, child.kill), b""
         patience.start()
         while True:
             more = child.stdout.read1(1 << 20)
@@ -170,7 +155,7 @@ def convert(path, frame, out):
                       "scene": drawing / max(1, cut), "bytes": len(data), "notes": notes.lines()}))
 
 
-def clocked(command, scene, times=5):
+def clocked(command, scene, times=3):
     """The least of so many runs by the clock, in milliseconds, and what the last one wrote."""
     least, data = float("inf"), scene.read_bytes()
     for _ in range(times):
@@ -186,8 +171,12 @@ def clocked(command, scene, times=5):
 class Row:
     """What one program comes to."""
 
-    def __init__(self, name, frame):
-        self.name, self.frame, self.figures, self.failed = name, frame, {}, None
+    def __init__(self, name, frame, figures=None, failed=None):
+        self.name, self.frame, self.figures, self.failed = name, frame, figures or {}, failed
+
+    def shows(self):
+        """Whether there is a picture of both, and something in the program's own."""
+        return not self.failed and self.figures["drawn"] > EMPTY
 
     def cells(self):
         if self.failed:
@@ -198,12 +187,13 @@ class Row:
                 f"{f['serial']:.1f}", f"{f['render']:.1f}", f"{f['mean']:.2f}", f"{f['off']:.2f}"]
 
 
-def judged(name, options, folder, environment):
+def judged(program, options, folder, environment):
     """Traces, converts, draws and compares a program's frame."""
+    name = program.name
     path, scene = folder / f"{name}.trace", folder / f"{name}.rcs"
     if not path.exists():
-        trace(name, path, options.seconds, environment)
-    ends = swaps(path)
+        capture_programs.trace(program, path, options.seconds, environment)
+    ends = swaps(path) if path.exists() else []
     if len(ends) < 3:
         return failed(name, "-", f"{len(ends)} frames in {options.seconds} seconds")
     # apitrace sizes its window late, so its first frame may be nearly black.
@@ -212,9 +202,9 @@ def judged(name, options, folder, environment):
     try:
         child = subprocess.run(
             [sys.executable, __file__, "--convert", str(path), str(frame), str(scene)],
-            stdout=subprocess.PIPE, stderr=subprocess.PIPE, timeout=LONGEST)
+            stdout=subprocess.PIPE, stderr=subprocess.PIPE, timeout=options.longest)
     except subprocess.TimeoutExpired:
-        return failed(name, frame, f"FAILED: no end in {LONGEST} seconds")
+        return failed(name, frame, f"FAILED: no end in {options.longest} seconds")
     if child.returncode:
         return failed(name, frame, "FAILED: " + child.stderr.decode().splitlines()[-1])
     row.figures = json.loads(child.stdout)
@@ -223,9 +213,10 @@ def judged(name, options, folder, environment):
     row.figures["serial"], data = clocked([options.program, "serial"], scene)
     row.figures["render"], _ = clocked([options.program, "render", "--tiles", "4x3"], scene)
     ours = pictures.picture_at(data)[0]
-    theirs = own_frame(name, path, ends[frame:frame + 2], environment)
+    theirs = own_frame(program, path, ends[frame:frame + 2], options, environment)
     if theirs is None or theirs[:2] != ours[:2]:
-        return failed(name, frame, "apitrace draws no frame of that size")
+        size = "none" if theirs is None else f"one of {theirs[0]}x{theirs[1]}"
+        return failed(name, frame, f"of {ours[0]}x{ours[1]} here, and apitrace draws {size}")
     row.figures.update(pictures.difference(ours, theirs)._asdict())
     for whose, picture in (("ours", ours), ("own", theirs)):
         head = f"P6\n{picture.width} {picture.height}\n255\n".encode()
@@ -233,10 +224,29 @@ def judged(name, options, folder, environment):
     return row
 
 
-def failed(name, frame, why):
-    row = Row(name, frame)
-    row.failed = why
+def kept(program, options, folder, environment, mark):
+    """What a program comes to, of an earlier run where that was made by the same converter."""
+    path = folder / f"{program.name}.json"
+    try:
+        found = json.loads(path.read_text())
+        if found["mark"] == mark:
+            return Row(found["name"], found["frame"], found["figures"], found["failed"])
+    except (OSError, ValueError, KeyError):
+        pass
+    row = judged(program, options, folder, environment)
+    path.write_text(json.dumps({"mark": mark, "name": row.name, "frame": row.frame,
+                                "figures": row.figures, "failed": row.failed}))
     return row
+
+
+def mark_of(options):
+    """What figures are made by: the converter's text, and the frame that is asked for."""
+    texts = [path.read_bytes() for path in sorted((TOOLS / "gl_trace").glob("*.py"))]
+    return hashlib.sha256(b"".join(texts) + str(options.frame).encode()).hexdigest()
+
+
+def failed(name, frame, why):
+    return Row(name, frame, failed=why)
 
 
 def words():
@@ -244,9 +254,8 @@ def words():
     parser.add_argument("names", nargs="*", metavar="NAME")
     parser.add_argument("--frame", type=int, default=60, metavar="N")
     parser.add_argument("--seconds", type=int, default=8, metavar="S")
-    parser.add_argument("--keep", metavar="FOLDER")
-    parser.add_argument("--without-shaders", action="store_true",
-                        help="trace with OpenGL 1.5, under which some programs use no shaders")
+    parser.add_argument("--longest", type=int, default=300, metavar="S")
+    parser.add_argument("--cache", metavar="FOLDER")
     parser.add_argument("--program", help="a program other than the built one")
     return parser.parse_args()
 
@@ -257,20 +266,23 @@ def main():
         return 0
     options = words()
     options.program = built(options.program)
-    names, notes, bad = options.names or programs(), [], 0
+    chosen = capture_programs.chosen(options.names)
     with tempfile.TemporaryDirectory() as made, Display() as environment:
-        folder = pathlib.Path(options.keep or made)
+        folder = pathlib.Path(options.cache or made)
         folder.mkdir(exist_ok=True)
-        if options.without_shaders:
-            environment["MESA_GL_VERSION_OVERRIDE"] = "1.5"
         print("| " + " | ".join(HEAD) + " |\n" + "|---" * len(HEAD) + "|", flush=True)
-        for name in names:
-            row = judged(name, options, folder, environment)
-            print("| " + " | ".join(map(str, row.cells())) + " |", flush=True)
-            notes += [f"{name}: {line}" for line in row.figures.get("notes", [])]
-            bad += bool(row.failed) and row.failed.startswith("FAILED")
-    print("\n" + "\n".join(notes))
-    return 1 if bad else 0
+        rows, mark = [], mark_of(options)
+        for program in chosen:
+            rows.append(kept(program, options, folder, environment, mark))
+            print("| " + " | ".join(map(str, rows[-1].cells())) + " |", flush=True)
+    shown = [row for row in rows if row.shows()]
+    near = [row for row in shown if row.figures["off"] <= NEAR]
+    print(f"\n{len(near)} of {len(shown)} that show something are within {NEAR} % of pixels")
+    for row in sorted(set(shown) - set(near), key=lambda row: row.figures["off"]):
+        print(f"{row.name}: {row.figures['off']:.2f} % off")
+    print("\n" + "\n".join(f"{row.name}: {line}" for row in rows
+                           for line in row.figures.get("notes", [])))
+    return 1 if any(row.failed and row.failed.startswith("FAILED") for row in rows) else 0
 
 
 if __name__ == "__main__":

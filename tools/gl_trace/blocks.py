@@ -2,7 +2,7 @@
 import math
 import struct
 
-from .items import Block, W
+from .items import FAN, TRIANGLES, Block, W
 from .limits import OPCODES
 
 VERTEX, COLOR, COORDINATE = (OPCODES[name] for name in ("Vertex", "Color", "TexCoord"))
@@ -51,6 +51,21 @@ def box_of(state, across, up):
         x, y, w, h = state.scissor
         left, low, right, high = max(left, x), max(low, y), min(right, x + w), min(high, y + h)
     return (left, low, right, high) if left < right and low < high else None
+
+
+def pixels_of(block, mode, places):
+    """About how many pixels a block of these places has: the area of its triangles, where that is
+    less than its box."""
+    _, _, width, height = block.state.viewport
+    across = [v[0] / v[3] * width / 2 for v in places]
+    up = [v[1] / v[3] * height / 2 for v in places]
+    corners = range(2, len(places), 3 if mode == TRIANGLES else 1)
+    firsts = (lambda i: 0) if mode == FAN else (lambda i: i - 2)
+    area = sum(abs((across[i - 1] - across[firsts(i)]) * (up[i] - up[firsts(i)])
+                   - (up[i - 1] - up[firsts(i)]) * (across[i] - across[firsts(i)]))
+               for i in corners) / 2
+    left, low, right, high = block.box
+    return min(area, (right - left) * (high - low))
 
 
 def fixed_coordinates(coordinates, clamped):

@@ -52,8 +52,12 @@ class Finer:
 
     def __init__(self, viewport, level, replaces):
         self.half_width, self.half_height = viewport[2] / 2, viewport[3] / 2
-        self.texels = (level.width, level.height) if level else None
         self.colored = not replaces
+        self.use(level)
+
+    def use(self, level):
+        """Takes texture coordinates as those of this image, in texels of the program's."""
+        self.texels = (level.width / level.times, level.height / level.times) if level else None
 
     def far(self, a, b):
         """Whether the middle of an edge shows something else than half way between its ends."""

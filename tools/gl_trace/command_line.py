@@ -7,15 +7,18 @@ import os
 import re
 import resource
 import sys
+import time
 
 from .dealing import deal, wall
 from .encoding import scene_bytes
 from .faults import Notes, Refused
 from .limits import MOST_CLIENTS, MOST_MEMORY, MOST_SIDE, MOST_TEXTURE_SIDE
 from .machine import Machine
+from .pieces import Pieces
 from .reading import calls_of
 
 NAME = "from_apitrace"
+PATIENCE = 10       # seconds
 
 
 def pair(between, holds, form):
@@ -53,10 +56,14 @@ def parser():
     words.add_argument("--clients", type=number(1, MOST_CLIENTS, "a number"), default=1,
                        metavar="N", help="deal the blocks of one trace to N clients; the picture "
                        "stays that of one")
+    words.add_argument("--pieces", type=number(1, 10 ** 8, "a number"), metavar="N",
+                       help="write scene after scene of at most N frames each, NAME-0000.rcs and "
+                       "on, while the trace is read once")
+    words.add_argument("--to", metavar="NAME", help="how the files of --pieces begin")
     words.add_argument("--by-depth", action="store_true", help="let opaque blocks of several "
                        "clients overlap: right but where two have one depth")
     words.add_argument("--size", type=SIZE, metavar="WxH",
-                       help="the window, where it isn't the first viewport")
+                       help="the window, where it isn't that of the context that swaps first")
     words.add_argument("--columns", type=number(1, MOST_CLIENTS, "a number"), metavar="C",
                        help="columns of a wall of several traces")
     words.add_argument("--texture-side", type=number(1, MOST_TEXTURE_SIDE, "a side"),
@@ -64,17 +71,35 @@ def parser():
                        help="textures are boxed down to sides of at most T (256)")
     words.add_argument("--cut-textures", action="store_true", help="cut larger textures into parts "
                        "of that size instead, and polygons with them")
+    words.add_argument("--nearest", action="store_true", help="sample textures at their nearest "
+                       "texels where a program has a linear filter: smaller scenes")
     words.add_argument("--no-lists", action="store_true", help="write no call lists")
     words.add_argument("--version", type=number(1, 2, "a version"), default=1, metavar="V",
                        help="of a scene without call lists (1)")
     return words
 
 
-def followed(options, notes):
+class Progress:
+    """Tells behind ten seconds, and every ten from then on, how far a trace is read."""
+
+    def __init__(self, stream, frames):
+        self.stream, self.frames, self.due = stream, frames, time.monotonic() + PATIENCE
+
+    def at(self, call, frame):
+        now = time.monotonic()
+        if now >= self.due:
+            self.due = now + PATIENCE
+            told([f"call {call} of the trace is read, in frame {frame}; asked for are frames "
+                  "{}:{}".format(*self.frames)], self.stream)
+
+
+def followed(options, notes, stream):
     """Size and items of each trace."""
     programs = []
     for path in options.trace:
-        machine = Machine(options.frames, options, notes)
+        progress = Progress(stream, options.frames)
+        pieces = Pieces(options, lambda line: told([line], stream)) if options.pieces else None
+        machine = Machine(options.frames, options, notes, pieces, progress)
         machine.run(calls_of(path))
         if machine.size is None:
             raise Refused(f"{path}: no viewport is set: give --size")
@@ -88,8 +113,11 @@ def converted(options, notes):
         raise Refused(f"{len(options.trace)} traces, and a scene has at most {MOST_CLIENTS} "
                       "clients: give fewer")
     # Of a pickle that asks for more memory than there is, Python tells in lines of its own.
+    stream = sys.stderr
     with contextlib.redirect_stderr(io.StringIO()):
-        programs = followed(options, notes)
+        programs = followed(options, notes, stream)
+    if options.pieces:
+        return b"", None
     if len(programs) == 1:
         size, items = programs[0]
         streams = deal(items, options.clients, options.by_depth, size[0])
@@ -102,12 +130,13 @@ def converted(options, notes):
                   f"{items} items, {commands} commands, {len(data)} bytes")
 
 
-def told(lines):
+def told(lines, stream=None):
     """Lines on standard error, if that takes them."""
+    stream = stream or sys.stderr
     try:
         for line in lines:
-            print(f"{NAME}: {line}", file=sys.stderr)
-        sys.stderr.flush()
+            print(f"{NAME}: {line}", file=stream)
+        stream.flush()
     except OSError:
         pass
 
@@ -138,6 +167,10 @@ def main(words=None):
     options = parser().parse_args(words)
     if len(options.trace) > 1 and options.clients > 1:
         parser().error("several traces are one client each: --clients is for one trace")
+    if bool(options.pieces) != (options.to is not None):
+        parser().error("--pieces N and --to NAME go together")
+    if options.pieces and len(options.trace) > 1:
+        parser().error("--pieces is for one trace")
     notes = Notes()
     hold_memory()
     try:
@@ -150,5 +183,5 @@ def main(words=None):
         return 1
     except KeyboardInterrupt:
         return 1
-    told([*notes.lines(), line])
+    told([*notes.lines(), line] if line else notes.lines())
     return written(data)

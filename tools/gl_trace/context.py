@@ -13,6 +13,12 @@ Generation = collections.namedtuple("Generation", "mode object_plane eye_plane")
 BLACK, WHITE = (0.0, 0.0, 0.0, 1.0), (1.0, 1.0, 1.0, 1.0)
 PLAIN = Material((0.2, 0.2, 0.2, 1.0), (0.8, 0.8, 0.8, 1.0), BLACK, BLACK, 0.0)
 LIGHTS, PLANES = range(8), range(6)
+# Newer names that apitrace prints for what OpenGL 1.x has others for.
+OLDER = {**{f"GL_CLIP_DISTANCE{i}": f"GL_CLIP_PLANE{i}" for i in PLANES},
+         "GL_INDEX_LOGIC_OP": "GL_LOGIC_OP", "GL_FOG_COORD": "GL_FOG_COORDINATE",
+         "GL_FOG_COORD_SRC": "GL_FOG_COORDINATE_SOURCE",
+         **{f"GL_SRC{i}_{part}": f"GL_SOURCE{i}_{part}" for i in range(3)
+            for part in ("RGB", "ALPHA")}}
 
 CAPABILITIES = [
     *(f"GL_LIGHT{i}" for i in LIGHTS), *(f"GL_CLIP_PLANE{i}" for i in PLANES),
@@ -21,10 +27,14 @@ CAPABILITIES = [
         "LIGHTING FOG TEXTURE_1D TEXTURE_2D DEPTH_TEST BLEND ALPHA_TEST SCISSOR_TEST CULL_FACE "
         "COLOR_MATERIAL NORMALIZE RESCALE_NORMAL POLYGON_OFFSET_FILL LINE_SMOOTH POINT_SMOOTH "
         "DITHER MULTISAMPLE POLYGON_SMOOTH LINE_STIPPLE STENCIL_TEST POLYGON_STIPPLE "
-        "COLOR_LOGIC_OP AUTO_NORMAL").split())]
-# Those that a scene hasn't, and those that it draws without what they ask for.
-WITHOUT = {"GL_LINE_STIPPLE", "GL_STENCIL_TEST", "GL_POLYGON_STIPPLE", "GL_COLOR_LOGIC_OP"}
-NEARLY = {"GL_LINE_SMOOTH", "GL_POINT_SMOOTH", "GL_POLYGON_SMOOTH"}
+        "COLOR_LOGIC_OP AUTO_NORMAL VERTEX_PROGRAM_ARB FRAGMENT_PROGRAM_ARB").split())]
+# Those that a scene hasn't, and those that it draws without what they ask for, with the
+# primitives that each is about.
+EVERY, LINES, POINTS, POLYGONS = "every", "lines", "points", "polygons"
+WITHOUT = {"GL_LINE_STIPPLE": LINES, "GL_STENCIL_TEST": EVERY, "GL_POLYGON_STIPPLE": POLYGONS,
+           "GL_COLOR_LOGIC_OP": EVERY, "GL_VERTEX_PROGRAM_ARB": EVERY,
+           "GL_FRAGMENT_PROGRAM_ARB": EVERY}
+NEARLY = {"GL_LINE_SMOOTH": LINES, "GL_POINT_SMOOTH": POINTS, "GL_POLYGON_SMOOTH": POLYGONS}
 
 # What each bit of glPushAttrib keeps.
 GROUPS = {
@@ -34,7 +44,7 @@ GROUPS = {
     "GL_LIGHTING_BIT": "GL_LIGHTING GL_COLOR_MATERIAL shade color_material front back model "
                        + " ".join(f"GL_LIGHT{i} light{i}" for i in LIGHTS),
     "GL_COLOR_BUFFER_BIT": "GL_ALPHA_TEST GL_BLEND GL_COLOR_LOGIC_OP alpha_func blend_func "
-                           "color_mask clear_color",
+                           "blend_alpha blend_equation color_mask clear_color",
     "GL_DEPTH_BUFFER_BIT": "GL_DEPTH_TEST depth_func depth_mask clear_depth",
     "GL_STENCIL_BUFFER_BIT": "GL_STENCIL_TEST",
     "GL_VIEWPORT_BIT": "viewport depth_range",
@@ -58,10 +68,13 @@ def first_values():
         viewport=None, depth_range=(0.0, 1.0), scissor=None, shade="GL_SMOOTH",
         color_material=("GL_FRONT_AND_BACK", "GL_AMBIENT_AND_DIFFUSE"), front=PLAIN, back=PLAIN,
         model=LightModel((0.2, 0.2, 0.2, 1.0), False, False), alpha_func=("GL_ALWAYS", 0.0),
-        blend_func=("GL_ONE", "GL_ZERO"), color_mask=(1, 1, 1, 1), clear_color=(0.0,) * 4,
+        blend_func=("GL_ONE", "GL_ZERO"), blend_alpha=None, blend_equation="GL_FUNC_ADD",
+        program=0, framebuffer=0, further=frozenset(), color_mask=(1, 1, 1, 1),
+        clear_color=(0.0,) * 4,
         depth_func="GL_LESS", depth_mask=1, clear_depth=1.0, texture1=0, texture2=0,
         environment="GL_MODULATE", generation={}, cull_face="GL_BACK", front_face="GL_CCW",
-        polygon_mode="GL_FILL", offset=(0.0, 0.0), line_width=1.0, point_size=1.0, list_base=0,
+        polygon_mode=("GL_FILL",) * 2, offset=(0.0, 0.0), line_width=1.0, point_size=1.0,
+        list_base=0,
         unit=0, fog=Fog("GL_EXP", 1.0, 0.0, 1.0, (0.0,) * 4))
     for i in LIGHTS:
         shine = WHITE if i == 0 else BLACK

@@ -8,6 +8,7 @@ import math
 from .blocks import block_of
 from .clipping import (LEAST_SPREAD, Finer, Parts, beyond_a_side, cut, finite,
                        moved_in_depth)
+from .filters import MOST_TEXELS, Filtered
 from .items import FAN, STRIP, TRIANGLES
 from .limits import MOST_VERTICES
 from .setting import GUARD, TINY
@@ -16,6 +17,7 @@ from .strokes import Strokes, is_front
 
 BLOCK = 240         # vertices of a block of single triangles: small blocks have small boxes
 MOST_PARTS = 256    # of a texture, that a primitive reaches
+FILLED = ("GL_FILL", "GL_FILL")     # front and back
 STROKES = ("GL_POINTS", "GL_LINES", "GL_LINE_STRIP", "GL_LINE_LOOP")
 POLYGONS = ("GL_TRIANGLES", "GL_TRIANGLE_STRIP", "GL_TRIANGLE_FAN", "GL_QUADS", "GL_QUAD_STRIP",
             "GL_POLYGON")
@@ -65,18 +67,36 @@ class Drawing:
         self.corners = shaded(setting, self.run, False)
         if setting.texture:
             self.choose_level(faces)
-        if setting.values["polygon_mode"] != "GL_FILL":
-            Strokes(self.machine, setting, self.run, self.corners, self.level).outlines(faces)
-            return
+        if setting.values["polygon_mode"] != FILLED:
+            faces = self.outlines(faces)
+            if not faces:
+                return
         outside = self.outside()
         finer = None if outside is not None and all(outside) else self.finer(outside, faces)
         flat = setting.flat and any(c != self.corners.fronts[0] for c in self.corners.fronts)
-        if not (outside or finer or flat or self.parts or setting.two_sided or setting.offset) \
-                and self.whole_block(faces):
+        every = setting.values["polygon_mode"] == FILLED
+        if every and not (outside or finer or flat or self.parts or setting.two_sided
+                          or setting.offset) and self.whole_block(faces):
             return
         for fan, provoking in faces:
             self.face(fan, provoking if flat else None, outside, finer)
         self.flush()
+
+    def outlines(self, faces):
+        """Draws the outlines of polygons on whose side they are asked for, and gives those that
+        are to be filled. The order among both is that of OpenGL where one kind is asked for."""
+        setting, filled, drawn = self.setting, [], set()
+        strokes = Strokes(self.machine, setting, self.run, self.corners, self.level)
+        for fan, provoking in faces:
+            front = is_front(setting, [self.corners.places[i] for i in fan])
+            mode = setting.values["polygon_mode"][0 if front else 1]
+            if setting.culls(front):
+                continue
+            if mode == "GL_FILL":
+                filled.append((fan, provoking))
+            else:
+                strokes.outline(fan, provoking, front, mode == "GL_LINE", drawn)
+        return filled
 
     # -- which way --
 
@@ -119,14 +139,18 @@ class Drawing:
     def varies(self, coordinates, level, spread):
         """Whether an edge of these texture coordinates may be off by over a quarter texel."""
         return any(spread * (max(c) - min(c)) * side > 0.25
-                   for c, side in zip(zip(*coordinates), (level.width, level.height)))
+                   for c, side in zip(zip(*coordinates), (level.width / level.times,
+                                                          level.height / level.times)))
 
     def choose_level(self, faces):
         """The image that the primitive's size in pixels asks for, whole or in parts."""
         setting, options = self.setting, self.machine.options
         image, side = setting.texture["image"], options.texture_side
-        number = self.level_number(faces, image) if setting.mipmapped() else 0
+        size = self.texels_in_a_pixel(faces, image)
+        number = max(0, int(math.log2(size) + 0.5)) if setting.mipmapped() else 0
         level = image.level(number, 0)
+        if setting.is_linear(size > 1) and self.filtered(level, faces):
+            return
         if options.cut_textures and max(level.width, level.height) > side:
             reach = [max(c) - min(c) + 1 for c in zip(*self.corners.coordinates)]
             count = math.ceil(reach[0] * level.width / side) \
@@ -136,8 +160,21 @@ class Drawing:
                 return
         self.level = image.level(number, side)
 
-    def level_number(self, faces, image):
-        """By areas in texels and in pixels, of at most some 32 polygons."""
+    def filtered(self, level, faces):
+        """Whether the image is laid on as a linear filter has it, which is told where it isn't."""
+        setting, machine, options = self.setting, self.machine, self.machine.options
+        found = Filtered(level, options.texture_side, setting.clamps(), options.cut_textures)
+        level.made = machine.filtered
+        if not options.nearest and machine.filtered[0] < MOST_TEXELS:
+            found.choose([[self.corners.coordinates[i] for i in fan] for fan, _ in faces])
+        if found.times < found.due:
+            machine.concern("approximated", "a linear filter by " + (
+                "the nearest texel" if found.times == 1 else f"steps of 1/{found.times} texel"))
+        self.level, self.parts = found.level or level, found.parts
+        return found.times > 1
+
+    def texels_in_a_pixel(self, faces, image):
+        """Along a side, by the areas of at most some 32 polygons; 1 where these are none."""
         corners, (_, _, width, height) = self.corners, self.setting.viewport
         pixels = texels = 0.0
         for fan, _ in faces[::-(-len(faces) // 32) or 1]:
@@ -148,8 +185,8 @@ class Drawing:
                 texels += area(*(corners.coordinates[i] for i in fan[:3])) \
                     * image.width * image.height
         if not (0 < pixels < math.inf and 0 < texels < math.inf):
-            return 0
-        return max(0, int(math.log2(texels / pixels) / 2 + 0.5))
+            return 1.0
+        return math.sqrt(texels / pixels)
 
     # -- blocks --
 
@@ -179,7 +216,7 @@ class Drawing:
 
     def block(self, mode, places, colors, coordinates, level, turned=False):
         state = self.setting.state(level, self.parts is not None, turned=turned)
-        self.machine.add(block_of(state, mode, places, colors, coordinates))
+        self.machine.add(block_of(state, mode, places, colors, coordinates), mode, places)
 
     def flush(self):
         places, colors, coordinates = self.single
@@ -230,6 +267,8 @@ class Drawing:
 
     def finer_face(self, face, finer, level):
         """A polygon as one fan, or as triangles where an edge is to be cut."""
+        if finer:
+            finer.use(level)
         far = finer and any(finer.far(a, b) for a, b in zip(face, face[1:] + face[:1]))
         if not far and 3 < len(face) <= MOST_VERTICES:
             self.fan(*split(face), level)

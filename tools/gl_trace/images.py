@@ -24,6 +24,8 @@ class Image:
     def __init__(self, width, height, texels, base):
         self.width, self.height, self.texels, self.base = width, height, texels, base
         self.smaller, self.parts = None, {}
+        self.differs, self.times = None, 1      # of neighbours; texels in one of the program's
+        self.made = [0]     # how many texels linear filters have made so far, of all images
 
     @property
     def has_alpha(self):

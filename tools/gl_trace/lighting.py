@@ -1,7 +1,7 @@
 """Colours of vertices by OpenGL's lights and materials."""
 import math
 
-from .matrices import normal_rows, unit
+from .matrices import normal_rows, rescaled, unit
 
 TRACKED = {"GL_AMBIENT_AND_DIFFUSE": ("ambient", "diffuse"), "GL_AMBIENT": ("ambient",),
            "GL_DIFFUSE": ("diffuse",), "GL_SPECULAR": ("specular",), "GL_EMISSION": ("emission",)}
@@ -54,12 +54,17 @@ def kept_lamp(lamps, light, local):
     return lamps[key]
 
 
+def rows_of_normals(values, modelview):
+    """What normals are multiplied by on their way to the eye, before GL_NORMALIZE."""
+    rows = normal_rows(modelview)
+    return rescaled(rows) if values["GL_RESCALE_NORMAL"] and not values["GL_NORMALIZE"] else rows
+
+
 class Lighting:
     """The lights of a state under a modelview matrix. Lamps are kept from one to the next."""
 
     def __init__(self, values, modelview, lamps):
-        self.rows = normal_rows(modelview)
-        self.unit = values["GL_NORMALIZE"] or values["GL_RESCALE_NORMAL"]
+        self.rows, self.unit = rows_of_normals(values, modelview), values["GL_NORMALIZE"]
         self.model = values["model"]
         self.lamps = [kept_lamp(lamps, values["light%d" % i], self.model.local)
                       for i in range(8) if values["GL_LIGHT%d" % i]]

@@ -2,16 +2,19 @@
 import re
 import struct
 
+from .blocks import pixels_of
 from .context import Context
 from .faults import Refused
 from .items import SWAP, Clear
 from .limits import MOST_COMMANDS, MOST_STEPS
 from .list_calls import ListCalls
 from .matrix_calls import MatrixCalls
+from .reading import WINDOW
 from .setting import Setting
 from .state_calls import StateCalls
 from .texture_calls import TextureCalls
 from .vertex_calls import VertexCalls
+from .window_calls import WindowCalls
 
 SUFFIX = re.compile(r"(.*?)([1234]?)(ub|us|ui|b|s|i|f|d)(v?)$")
 SCALES = {"ub": 1 / 255, "us": 1 / 65535, "ui": 1 / 4294967295, "b": 1 / 127, "s": 1 / 32767,
@@ -22,12 +25,13 @@ QUIET = re.compile(
     r"DrawBuffer$|ReadPixels|AreTextures|Prioritize|StringMarker|EdgeFlag)|egl|X")
 # What lists don't record. (A draw from arrays is recorded as the vertices that it gives.)
 IMMEDIATE = re.compile(r"(NewList|EndList|Draw.*|PixelStore|.*Pointer|.*Client.*|DeleteLists|"
-                       r"DeleteTextures|BindBuffer|Buffer(Sub)?Data)$")
+                       r"InterleavedArrays|DeleteTextures|BindBuffer|Buffer(Sub)?Data)$")
 # What takes its numbers in a list though its name doesn't end in v.
 SPREAD = {"Rect", "LoadMatrix", "MultMatrix", "LoadTransposeMatrix", "MultTransposeMatrix"}
 # What sets nothing that a setting is made of.
 OF_VERTICES = set("""Begin End Vertex Normal Color TexCoord MultiTexCoord Rect CallList CallLists
     NewList EndList DrawArrays DrawElements DrawRangeElements VertexPointer NormalPointer
+    InterleavedArrays
     ColorPointer TexCoordPointer EnableClientState DisableClientState BindBuffer BufferData
     BufferSubData Clear PushMatrix MatrixMode""".split())
 FAULTS = (TypeError, ValueError, KeyError, IndexError, AttributeError, OverflowError,
@@ -46,16 +50,18 @@ class Handler:
         self.changes = base not in OF_VERTICES
 
 
-class Machine(StateCalls, MatrixCalls, TextureCalls, ListCalls, VertexCalls):
+class Machine(WindowCalls, StateCalls, MatrixCalls, TextureCalls, ListCalls, VertexCalls):
     """The contexts of a program, and the items that its frames give."""
 
-    def __init__(self, frames, options, notes):
+    def __init__(self, frames, options, notes, pieces=None, progress=None):
         self.first, self.last, self.options, self.notes = *frames, options, notes
-        self.frame, self.items, self.size = 0, [], options.size
+        self.pieces, self.progress = pieces, progress
+        self.frame, self.items = 0, []
         self.wanted = self.first == 0
         self.vertices = self.commands = self.steps = 0
-        self.contexts, self.handlers, self.windows, self.setting = {}, {}, set(), None
-        self.lamps = {}
+        self.contexts, self.handlers, self.setting = {}, {}, None
+        self.lamps, self.concerns, self.drawing, self.filtered = {}, [], 0, [0]
+        self.begin_windows(options.size)
         self.begin_lists()
         self.begin_textures()
         self.begin_vertices()
@@ -70,8 +76,10 @@ class Machine(StateCalls, MatrixCalls, TextureCalls, ListCalls, VertexCalls):
 
     def run(self, calls):
         """Follows calls to the end of the last frame that is wanted."""
-        handlers = self.handlers
+        handlers, progress = self.handlers, self.progress
         for number, name, arguments in calls:
+            if progress and not number & 1023:
+                progress.at(number, self.frame)
             handler = handlers.get(name)
             try:
                 if handler is None:
@@ -86,15 +94,15 @@ class Machine(StateCalls, MatrixCalls, TextureCalls, ListCalls, VertexCalls):
         else:
             raise Refused(f"the trace has {self.frame} whole frames, and --frames asks for "
                           f"{self.first}:{self.last}")
-        self.note_beginning()
+        if not self.pieces:
+            self.note_beginning(self.first)
+        self.note_windows()
 
-    def note_beginning(self):
+    def note_beginning(self, frame):
         first = self.items[0] if self.items else None
         if not (isinstance(first, Clear) and first.mask & 1 and first.scissor is None):
-            self.notes.approximated(f"frame {self.first}, which begins without a clear of the "
-                                    "whole window")
-        for _ in self.windows if len(self.windows) > 1 else ():
-            self.notes.approximated("a window of several, which are drawn as one")
+            self.notes.approximated(f"frame {frame}, which begins without a clear of the whole "
+                                    "window")
 
     def carry_out(self, handler, arguments):
         if handler.method is None:
@@ -119,6 +127,8 @@ class Machine(StateCalls, MatrixCalls, TextureCalls, ListCalls, VertexCalls):
             return Handler("Client MakeCurrent", self.make_current, False, None)
         if name.endswith("SwapBuffers"):
             return Handler("Client SwapBuffers", self.swap, False, None)
+        if name == WINDOW:
+            return Handler("Client Window", self.do_Viewport, False, None)
         base = re.sub("(ARB|EXT)$", "", name[2:]) if name.startswith("gl") else ""
         method = getattr(self, "do_" + base, None)
         if method:
@@ -132,14 +142,12 @@ class Machine(StateCalls, MatrixCalls, TextureCalls, ListCalls, VertexCalls):
         handler.base = None if QUIET.match(name) else name
         return handler
 
-    def make_current(self, *arguments):
-        self.use(arguments[-1])
-        if arguments[-1] and len(arguments) > 2:
-            self.windows.add(arguments[1])
-
-    def swap(self, *_):
+    def swap(self, *arguments):
         if self.wanted:
+            self.settle_size(arguments[-1] if arguments else None)
             self.items.append(SWAP)
+            if self.pieces and self.size:
+                self.pieces.frame(self)
         self.frame += 1
         self.steps = 0
         self.lamps.clear()
@@ -162,10 +170,20 @@ class Machine(StateCalls, MatrixCalls, TextureCalls, ListCalls, VertexCalls):
             self.setting = Setting(self)
         return self.setting
 
-    def add(self, block):
+    def concern(self, kind, what):
+        """Keeps that a note is about what is drawn now, up to the next primitive."""
+        self.concerns.append((kind, what))
+        self.notes.weigh(kind, what, vertices=self.drawing)
+
+    def add(self, block, mode, places):
         """Keeps a block, unless the scene would have too many commands."""
         if block is None:
             return
+        self.drawn_in.add(self.window)
+        if self.concerns:
+            pixels = pixels_of(block, mode, places)
+            for kind, what in self.concerns:
+                self.notes.weigh(kind, what, pixels=pixels)
         self.items.append(block)
         self.commands += len(block.opcodes)
         if self.commands > MOST_COMMANDS:
@@ -178,7 +196,7 @@ class Machine(StateCalls, MatrixCalls, TextureCalls, ListCalls, VertexCalls):
         """The scissor box, or None where the test is off."""
         if not self.values["GL_SCISSOR_TEST"]:
             return None
-        return self.values["scissor"] or (0, 0, *(self.size or (0, 0)))
+        return self.values["scissor"] or (0, 0, *(self.size_now() or (0, 0)))
 
 
 def spread_out(arguments):

@@ -45,6 +45,14 @@ def normal_rows(m):
     return tuple(tuple(over * x for x in row) for row in rows)
 
 
+def rescaled(rows):
+    """The rows by which normals are multiplied under GL_RESCALE_NORMAL: by one factor, which
+    undoes what a matrix of turns and one scale does to their lengths."""
+    size = math.sqrt(sum(row[2] * row[2] for row in rows))
+    over = 1.0 / size if size else 1.0
+    return tuple(tuple(over * x for x in row) for row in rows)
+
+
 def inverse(m):
     """By Gauss and Jordan; the identity of a matrix that has none."""
     rows = [[float(m[row + 4 * column]) for column in range(4)]

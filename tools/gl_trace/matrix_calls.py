@@ -1,4 +1,5 @@
 """Calls that change the matrix on top of a stack, and clip planes, which a matrix places."""
+from .context import OLDER
 from .faults import Refused
 from .limits import MOST_STACK
 from .matrices import (IDENTITY, inverse, multiply, orthographic, perspective, plane_by, rotation,
@@ -67,4 +68,4 @@ class MatrixCalls:
 
     def do_ClipPlane(self, plane, equation):
         matrix = inverse(self.context.stacks["GL_MODELVIEW"][-1])
-        self.context.planes[plane] = plane_by(equation, matrix)
+        self.context.planes[OLDER.get(plane, plane)] = plane_by(equation, matrix)

@@ -13,6 +13,9 @@ from .faults import Refused
 
 BROKEN = (pickle.UnpicklingError, EOFError, ValueError, TypeError, AttributeError, KeyError,
           IndexError, OverflowError, RecursionError, MemoryError)
+FAKE = 1        # the flag of a call that apitrace adds to those of the program
+# What a viewport is named by which apitrace tells a window's size, where one is first current.
+WINDOW = "window glViewport"
 
 
 class PlainUnpickler(pickle.Unpickler):
@@ -42,10 +45,12 @@ def calls_in(stream, path):
     last = None
     try:
         while peek(1):
-            number, name, arguments, _, _ = load()
+            number, name, arguments, _, flags = load()
             last = number
             if name.__class__ is not str:
                 raise ValueError("a call without a name")
+            if flags == FAKE and name == "glViewport":
+                name = WINDOW
             yield number, name, [value for _, value in arguments]
     except BROKEN as fault:
         place = "at its beginning" if last is None else f"behind call {last}"

@@ -1,8 +1,9 @@
 """What drawing needs of a context's state, made once for all primitives between two changes."""
+from .context import EVERY, LINES, NEARLY, POINTS, POLYGONS, WITHOUT
 from .fog import FogLaw
 from .items import FACES, FACTORS, FUNCTIONS, State, channels
-from .lighting import Lighting
-from .matrices import IDENTITY, multiply, normal_rows
+from .lighting import Lighting, rows_of_normals
+from .matrices import IDENTITY, multiply
 
 TINY = 1e-7     # the least w
 GUARD = 16.0    # what reaches further out than so many viewports is clipped
@@ -10,7 +11,34 @@ GUARD = 16.0    # what reaches further out than so many viewports is clipped
 PLANES = [lambda v: v[3] - TINY, lambda v: v[2] + v[3], lambda v: v[3] - v[2],
           lambda v: GUARD * v[3] + v[0], lambda v: GUARD * v[3] - v[0],
           lambda v: GUARD * v[3] + v[1], lambda v: GUARD * v[3] - v[1]]
+STROKES = {"GL_POINTS": POINTS, "GL_LINES": LINES, "GL_LINE_STRIP": LINES, "GL_LINE_LOOP": LINES}
+GENERATED = {"GL_SPHERE_MAP", "GL_OBJECT_LINEAR", "GL_EYE_LINEAR"}
 FIRST_DISTANCE = 10     # of a corner: where its distances to clip planes begin
+
+
+def told_of(values):
+    """What a scene draws otherwise than these values ask for: a kind, what it is, and of what."""
+    told = [("left out", f"glEnable({name})", of) for name, of in WITHOUT.items() if values[name]]
+    told += [("approximated", f"glEnable({name})", of) for name, of in NEARLY.items()
+             if values[name]]
+    if values["program"]:
+        told.append(("left out", "glUseProgram", EVERY))
+    if values["further"]:
+        told.append(("left out", "glEnable of a further texture unit", EVERY))
+    if values["GL_BLEND"]:
+        told += [("approximated", what, EVERY) for what in blending(values)]
+    return told
+
+
+def blending(values):
+    """What of a blending is another one in a scene."""
+    factors, alphas = values["blend_func"], values["blend_alpha"]
+    found = [f"glBlendFunc({factor})" for factor in sorted(set(map(str, factors)) - set(FACTORS))]
+    if alphas and tuple(alphas) != factors:
+        found.append("glBlendFuncSeparate, whose factors of alpha are those of the colours")
+    if values["blend_equation"] != "GL_FUNC_ADD":
+        found.append(f"glBlendEquation({values['blend_equation']})")
+    return found
 
 
 class Setting:
@@ -34,6 +62,7 @@ class Setting:
             self.clips = PLANES + [lambda v, i=FIRST_DISTANCE + i: v[i]
                                    for i in range(len(self.planes))]
         self.offset = values["offset"] if values["GL_POLYGON_OFFSET_FILL"] else None
+        self.told = told_of(values)
         self.states, self.scissor = {}, machine.scissor()
         self.use_texture()
         lit_by_place = self.lighting and not self.lighting.far
@@ -52,8 +81,10 @@ class Setting:
         for i, letter in enumerate("STQ"):
             if values["GL_TEXTURE_GEN_" + letter]:
                 self.generated.append((i if i < 2 else 3, values["generation"].get("GL_" + letter)))
+        for mode in sorted({str(made.mode) for _, made in self.generated if made} - GENERATED):
+            self.told.append(("approximated", f"glTexGen({mode})", EVERY))
         if any(made and made.mode == "GL_SPHERE_MAP" for _, made in self.generated):
-            self.normals = normal_rows(self.modelview)
+            self.normals = rows_of_normals(values, self.modelview)
         matrix = self.stacks["GL_TEXTURE"][-1]
         self.texture_matrix = None if matrix == IDENTITY else matrix
         self.use_environment(self.texture["image"], values["environment"])
@@ -65,15 +96,29 @@ class Setting:
             if image.has_alpha:
                 self.replaces = 1
                 if mode == "GL_DECAL":
-                    self.machine.notes.approximated("GL_DECAL of a texture with alpha")
+                    self.told.append(("approximated", "GL_DECAL of a texture with alpha", EVERY))
             else:
                 self.keeps = "color" if image.base == "ALPHA" else "alpha"
         elif mode != "GL_MODULATE":
-            self.machine.notes.approximated(f"glTexEnv({mode})")
+            self.told.append(("approximated", f"glTexEnv({mode})", EVERY))
+
+    def concerns(self, mode):
+        """What is told of a primitive of this mode, whatever it draws."""
+        kind = STROKES.get(mode, POLYGONS)
+        outlined = kind == POLYGONS and "GL_LINE" in self.values["polygon_mode"]
+        return [note[:2] for note in self.told
+                if note[2] in (EVERY, kind) or outlined and note[2] == LINES]
 
     def mipmapped(self):
         return "MIPMAP" in str(self.texture.get("GL_TEXTURE_MIN_FILTER",
                                                 "GL_NEAREST_MIPMAP_LINEAR"))
+
+    def is_linear(self, minified):
+        """Whether texels are mixed, of a texture that is shown smaller or larger than it is."""
+        if minified:
+            name = self.texture.get("GL_TEXTURE_MIN_FILTER", "GL_NEAREST_MIPMAP_LINEAR")
+            return str(name).startswith("GL_LINEAR")
+        return self.texture.get("GL_TEXTURE_MAG_FILTER") != "GL_NEAREST"
 
     def clamps(self):
         """Whether coordinates are held to the texture, in s and in t."""

@@ -15,10 +15,10 @@ class Run:
     """Vertices of a primitive. In the columns of current values None is what is current where the
     run is drawn, and comes first alone. Materials: from which vertex on, front, back."""
 
-    __slots__ = ("mode", "points", "normals", "colors", "coordinates", "materials")
+    __slots__ = ("mode", "points", "normals", "colors", "coordinates", "materials", "of_arrays")
 
     def __init__(self, mode):
-        self.mode = mode
+        self.mode, self.of_arrays = mode, False
         self.points, self.normals, self.colors, self.coordinates = [], [], [], []
         self.materials = []
 
@@ -115,21 +115,22 @@ def generated(setting, run, i, eyes, coordinate):
         plane = tuple(float(number == k) for k in range(4))
         mode = made.mode if made else "GL_EYE_LINEAR"
         if mode == "GL_SPHERE_MAP":
-            found[number] = mirrored(setting.normals, run.normals[i], eyes[i])[number]
+            found[number] = mirrored(setting, run.normals[i], eyes[i])[number]
         elif mode == "GL_OBJECT_LINEAR":
             plane = made.object_plane or plane
             found[number] = sum(a * b for a, b in zip(plane, run.points[i]))
         elif mode == "GL_EYE_LINEAR":
             plane = made and made.eye_plane or plane
             found[number] = sum(a * b for a, b in zip(plane, eyes[i]))
-        else:
-            setting.machine.notes.approximated(f"glTexGen({mode})")
     return tuple(found)
 
 
-def mirrored(rows, normal, eye):
-    """Where a sphere map is seen in a vertex: by the view that its normal mirrors."""
-    n = unit(tuple(dot(row, normal) for row in rows))
+def mirrored(setting, normal, eye):
+    """Where a sphere map is seen in a vertex: by the view that its normal mirrors, which has the
+    length of one only where GL_NORMALIZE gives it that."""
+    n = tuple(dot(row, normal) for row in setting.normals)
+    if setting.values["GL_NORMALIZE"]:
+        n = unit(n)
     u = unit(eye[:3])
     d = 2 * dot(n, u)
     x, y, z = (a - d * b for a, b in zip(u, n))

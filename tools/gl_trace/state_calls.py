@@ -1,5 +1,5 @@
 """Calls that set values of a context: capabilities, attributes, lights, materials, fog, clears."""
-from .context import CAPABILITIES, GROUPS, NEARLY, WITHOUT
+from .context import CAPABILITIES, GROUPS, NEARLY, OLDER, WITHOUT
 from .faults import Refused
 from .items import FACTORS, FUNCTIONS, Clear, channels
 from .lighting import TRACKED
@@ -33,12 +33,16 @@ class StateCalls:
     # -- capabilities and attributes --
 
     def do_Enable(self, name, on=True):
+        name = OLDER.get(name, name)
         if str(name).startswith("GL_TEXTURE") and self.beyond_first("glEnable"):
+            change = {self.values["unit"]} if not str(name).startswith("GL_TEXTURE_GEN") else set()
+            further = self.values["further"]
+            self.values["further"] = further | change if on else further - change
             return
         if on and (name not in CAPABILITIES or name in WITHOUT):
-            self.notes.left_out(f"glEnable({name})")
+            self.notes.left_out(f"glEnable({name})", name in WITHOUT)
         if on and name in NEARLY:
-            self.notes.approximated(f"glEnable({name})")
+            self.notes.approximated(f"glEnable({name})", True)
         if name == "GL_COLOR_MATERIAL" and self.values[name] and not on:
             self.settle_material()
         if name in CAPABILITIES:
@@ -92,9 +96,7 @@ class StateCalls:
                           f"{MOST_SIDE}: trace the program in a smaller window")
         x, y = (max(-32768, min(32767, int(place))) for place in (x, y))
         self.values["viewport"] = (x, y, max(0, int(w)), max(0, int(h)))
-        # apitrace writes a viewport of the window behind the call that makes a context current.
-        if self.size is None and w > 0 and h > 0:
-            self.size = (int(w), int(h))
+        self.see_window(x, y, int(w), int(h))
 
     def do_Scissor(self, x, y, w, h):
         x, y = (max(-32768, min(32767, int(place))) for place in (x, y))
@@ -115,9 +117,29 @@ class StateCalls:
         self.values["depth_mask"] = int(true(flag))
 
     def do_BlendFunc(self, source, destination):
-        for factor in {source, destination} - set(FACTORS):
-            self.notes.approximated(f"glBlendFunc({factor})")
-        self.values["blend_func"] = (source, destination)
+        self.values["blend_func"], self.values["blend_alpha"] = (source, destination), None
+
+    def do_BlendFuncSeparate(self, source, destination, *alphas):
+        self.values["blend_func"], self.values["blend_alpha"] = (source, destination), alphas
+
+    def do_BlendEquation(self, equation):
+        self.values["blend_equation"] = equation
+
+    def do_BlendEquationSeparate(self, equation, of_alpha):
+        self.do_BlendEquation(equation)
+
+    # -- what draws otherwise than by these values --
+
+    def do_UseProgram(self, program):
+        self.notes.left_out("glUseProgram", True)
+        self.values["program"] = program
+
+    def do_UseProgramObject(self, program):
+        self.do_UseProgram(program)
+
+    def do_BindFramebuffer(self, target, name):
+        if target != "GL_READ_FRAMEBUFFER":
+            self.values["framebuffer"] = name
 
     def do_ColorMask(self, red, green, blue, alpha):
         self.values["color_mask"] = tuple(int(true(flag)) for flag in (red, green, blue, alpha))
@@ -139,10 +161,9 @@ class StateCalls:
         self.values["shade"] = model
 
     def do_PolygonMode(self, face, mode):
-        if face == "GL_BACK" and mode != "GL_FILL":
-            self.notes.left_out("glPolygonMode(GL_BACK)")
-        elif face != "GL_BACK":
-            self.values["polygon_mode"] = mode
+        front, back = self.values["polygon_mode"]
+        self.values["polygon_mode"] = (front if face == "GL_BACK" else mode,
+                                       back if face == "GL_FRONT" else mode)
 
     def do_PolygonOffset(self, factor, units):
         self.values["offset"] = (float(factor), float(units))
@@ -160,11 +181,13 @@ class StateCalls:
         for name in {name for name in names if name not in BUFFERS}:
             self.notes.left_out(f"glClear({name})")
         bits = sum(1 << i for i, name in enumerate(BUFFERS) if name in names)
-        if not bits or self.size is None:
+        size = self.size_now()
+        if not bits or size is None or self.values["framebuffer"]:
             return
         values, scissor = self.values, self.scissor()
-        x, y, w, h = scissor or (0, 0, *self.size)
-        box = (max(0, x), max(0, y), min(self.size[0], x + w), min(self.size[1], y + h))
+        x, y, w, h = scissor or (0, 0, *size)
+        box = (max(0, x), max(0, y), min(size[0], x + w), min(size[1], y + h))
+        self.drawn_in.add(self.window)
         self.items.append(Clear(scissor, values["color_mask"], values["depth_mask"],
                                 channels(values["clear_color"]),
                                 round(65536 * values["clear_depth"]), bits, box))

@@ -38,21 +38,25 @@ class Strokes:
             a, b = corners.corner(i), corners.corner(j)
             self.line(a[:4] + b[4:8] + a[8:] if self.setting.flat else a, b)
 
-    def outlines(self, faces):
-        """Edges or corners of polygons, each once."""
-        drawn, corners, setting = set(), self.corners, self.setting
-        as_lines = setting.values["polygon_mode"] == "GL_LINE"
-        for fan, _ in faces:
-            if setting.culls(is_front(setting, [corners.places[i] for i in fan])):
+    def outline(self, fan, provoking, front, as_lines, drawn):
+        """The edges or corners of a polygon in the colours of the side that is seen, without those
+        that were drawn with it."""
+        corners, flat = self.corners, self.setting.flat
+        back = corners.backs is not None and not front
+        of = provoking if flat else back
+        for i, j in zip(fan, fan[1:] + fan[:1]):
+            key = (min(i, j), max(i, j), of) if as_lines else (i, of)
+            if key in drawn:
                 continue
-            for i, j in zip(fan, fan[1:] + fan[:1]):
-                key = (min(i, j), max(i, j)) if as_lines else i
-                if key not in drawn:
-                    drawn.add(key)
-                    if as_lines:
-                        self.line(corners.corner(i), corners.corner(j))
-                    else:
-                        self.point(corners.corner(i))
+            drawn.add(key)
+            a, b = corners.corner(i, back), corners.corner(j, back)
+            if flat:
+                shade = [*(corners.backs if back else corners.fronts)[provoking]]
+                a, b = a[:4] + shade + a[8:], b[:4] + shade + b[8:]
+            if as_lines:
+                self.line(a, b)
+            else:
+                self.point(a)
 
     def cut_for_fog(self, run):
         """The same lines in pieces along which fog is nearly linear."""
@@ -115,7 +119,7 @@ class Strokes:
             coordinates = (a[8:10], b[8:10], b[8:10], a[8:10])
         state = self.setting.state(self.level, cull=False)
         self.machine.add(block_of(state, FAN, places, (first, second, second, first),
-                                  coordinates))
+                                  coordinates), FAN, places)
 
 
 def inside(corner):

@@ -1,4 +1,5 @@
 """Vertices: between glBegin and glEnd, from arrays of the program's memory, and from buffers."""
+import re
 import struct
 
 from .drawing import draw
@@ -14,6 +15,11 @@ SCALED = ("GL_COLOR_ARRAY", "GL_NORMAL_ARRAY")
 # What an element of an array has where the array gives fewer numbers.
 FILLED = {"GL_VERTEX_ARRAY": (0.0, 0.0, 0.0, 1.0), "GL_COLOR_ARRAY": (0.0, 0.0, 0.0, 1.0),
           "GL_NORMAL_ARRAY": (0.0, 0.0, 1.0), "GL_TEXTURE_COORD_ARRAY": (0.0, 0.0, 0.0, 1.0)}
+# What the letters of an interleaved form stand for: its arrays follow one another in its name.
+ARRAYS = {"T": "GL_TEXTURE_COORD_ARRAY", "C": "GL_COLOR_ARRAY", "N": "GL_NORMAL_ARRAY",
+          "V": "GL_VERTEX_ARRAY"}
+LEFT = "light by the normal that arrays of a display list left"
+INTERLEAVED = re.compile("([TCNV])([234])(F|UB)")
 
 
 class VertexCalls:
@@ -22,6 +28,8 @@ class VertexCalls:
     def begin_vertices(self):
         self.open, self.buffers, self.bound, self.client_unit = None, {}, {}, 0
         self.buffered = 0
+        # The current normal where a list's arrays left it, which OpenGL doesn't define.
+        self.normal_of_arrays = self.uncertain = None
 
     # -- one by one --
 
@@ -61,16 +69,29 @@ class VertexCalls:
             filled.normals = filled_up(run.normals, values["normal"])
             filled.colors = filled_up(run.colors, values["color"])
             filled.coordinates = filled_up(run.coordinates, values["coordinate"])
+            if run.normals[0] is None and self.normal_of_arrays is values["normal"]:
+                self.uncertain = LEFT
             self.draw_filled(filled)
+            self.uncertain = None
         for name, column in (("normal", run.normals), ("color", run.colors),
                              ("coordinate", run.coordinates)):
             if column[-1] is not None:
                 values[name] = column[-1]
+        if run.of_arrays:
+            self.normal_of_arrays = values["normal"]
 
     def draw_filled(self, run):
         setting = self.now()
-        if setting is not None:
+        if self.values["framebuffer"]:
+            self.notes.weigh("left out", "what is drawn into a frame buffer object",
+                             len(run.points))
+        elif setting is not None:
             self.vertices += len(run.points)
+            self.drawing, self.concerns = len(run.points), []
+            for kind, what in setting.concerns(run.mode):
+                self.concern(kind, what)
+            if self.uncertain and setting.lighting:
+                self.concern("approximated", self.uncertain)
             draw(self, setting, run)
 
     # -- arrays --
@@ -92,6 +113,21 @@ class VertexCalls:
     def do_TexCoordPointer(self, *array):
         if not self.client_unit:
             self.pointer("GL_TEXTURE_COORD_ARRAY", *array)
+
+    def do_InterleavedArrays(self, form, stride, data):
+        """The pointers of a form such as GL_T2F_C4UB_V3F, and which arrays are on."""
+        parts = [INTERLEAVED.fullmatch(part).groups() for part in form[3:].split("_")]
+        sizes = [int(count) * (1 if kind == "UB" else 4) for _, count, kind in parts]
+        blob, at = as_bytes(data), 0
+        for name in FILLED:
+            self.do_EnableClientState(name, False)
+        for (letter, count, kind), size in zip(parts, sizes):
+            name = ARRAYS[letter]
+            if not (self.client_unit and name == "GL_TEXTURE_COORD_ARRAY"):
+                self.pointer(name, int(count), "GL_UNSIGNED_BYTE" if kind == "UB" else "GL_FLOAT",
+                             stride or sum(sizes), data + at if blob is None else blob[at:])
+                self.do_EnableClientState(name)
+            at += size
 
     def do_ClientActiveTexture(self, name):
         self.client_unit = int(name != "GL_TEXTURE0")
@@ -151,8 +187,9 @@ class VertexCalls:
         if not len(indices):
             return
         if self.recording is None and not self.wanted:
-            indices = indices[-1:]      # which sets what is current behind the draw
+            return
         run = Run(mode)
+        run.of_arrays = True
         run.points = self.column("GL_VERTEX_ARRAY", indices)
         if run.points is None:
             return
@@ -164,7 +201,13 @@ class VertexCalls:
             self.recording.calls.append((None, run))
             if self.recording.mode == "GL_COMPILE":
                 return
+            self.draw_run(run)
+            return
+        # A draw that no list records leaves what is current as it was, as Mesa has it.
+        values = self.values
+        current = {name: values[name] for name in ("normal", "color", "coordinate")}
         self.draw_run(run)
+        values.update(current)
 
     def do_DrawArrays(self, mode, first, count):
         self.draw_arrays(mode, range(first, first + max(0, count)))

@@ -110,6 +110,21 @@ class Primitives(unittest.TestCase):
         blocks = scene(("glPolygonMode", "GL_FRONT_AND_BACK", "GL_LINE"), *strip).blocks
         self.assertEqual(len(blocks), 5)
 
+    def test_outlines_have_the_colours_of_the_side_that_is_seen(self):
+        calls = [*Light.LIGHT, ("glLightModeli", "GL_LIGHT_MODEL_TWO_SIDE", "GL_TRUE"),
+                 ("glMaterialfv", "GL_BACK", "GL_DIFFUSE", [0.0, 1.0, 0.0, 1.0]),
+                 ("glPolygonMode", "GL_FRONT_AND_BACK", "GL_LINE"),
+                 ("glNormal3f", 0.0, 0.0, -1.0)]
+        blocks = scene(*calls, *primitive("GL_TRIANGLES", (8, 8), (8, 24), (24, 8))).blocks
+        self.assertEqual([colors(block)[0] for block in blocks], [(10, 255, 10)] * 3)
+
+    def test_each_side_has_its_own_mode(self):
+        front, back = ((8, 8), (24, 8), (8, 24)), ((32, 32), (32, 48), (48, 32))
+        calls = [("glPolygonMode", "GL_FRONT", "GL_FILL"), ("glPolygonMode", "GL_BACK", "GL_LINE")]
+        blocks = scene(*calls, *primitive("GL_TRIANGLES", *front, *back)).blocks
+        self.assertEqual(sorted((block.mode, len(block.vertices)) for block in blocks),
+                         [("FAN", 4)] * 3 + [("TRIANGLES", 3)])
+
     def test_polygon_offset_moves_depth_by_units(self):
         calls = [("glEnable", "GL_POLYGON_OFFSET_FILL"), ("glPolygonOffset", 0.0, 4096.0)]
         block, = scene(*calls, *primitive("GL_TRIANGLES", *CORNERS[:3])).blocks
@@ -136,6 +151,12 @@ class Clipping(unittest.TestCase):
     def test_a_clip_plane_keeps_the_side_where_its_equation_is_above_0(self):
         calls = [("glClipPlane", "GL_CLIP_PLANE0", [1.0, 0.0, 0.0, -32.0]),
                  ("glEnable", "GL_CLIP_PLANE0")]
+        block, = scene(*calls, *primitive("GL_POLYGON", *CORNERS)).blocks
+        self.assertEqual(set(places(block)), {(32, 0), (64, 0), (64, 64), (32, 64)})
+
+    def test_a_clip_plane_has_a_newer_name_too(self):
+        calls = [("glClipPlane", "GL_CLIP_DISTANCE1", [1.0, 0.0, 0.0, -32.0]),
+                 ("glEnable", "GL_CLIP_DISTANCE1")]
         block, = scene(*calls, *primitive("GL_POLYGON", *CORNERS)).blocks
         self.assertEqual(set(places(block)), {(32, 0), (64, 0), (64, 64), (32, 64)})
 
@@ -203,6 +224,18 @@ class Light(unittest.TestCase):
 
     def test_a_normal_that_is_turned_away_has_the_ambient_part_alone(self):
         self.assertEqual(self.lit(normal=(0.0, 0.0, -1.0)), (10, 10, 10, 255))
+
+    def test_a_normal_is_as_long_as_it_is_unless_it_is_normalised_or_scaled_back(self):
+        # Half as long: 0.04 + 0.8 / 2 is 0.44; of length one it is 0.84.
+        half = {"normal": (0.0, 0.0, 0.5)}
+        self.assertEqual(self.lit(**half), (112, 112, 112, 255))
+        self.assertEqual(self.lit(("glEnable", "GL_NORMALIZE"), **half), (214, 214, 214, 255))
+        self.assertEqual(self.lit(("glEnable", "GL_RESCALE_NORMAL"), **half), (112, 112, 112, 255))
+        # A matrix that doubles lengths halves normals, which the scale gives back.
+        doubled = ("glScalef", 2.0, 2.0, 2.0)
+        self.assertEqual(self.lit(doubled), (112, 112, 112, 255))
+        self.assertEqual(self.lit(doubled, ("glEnable", "GL_RESCALE_NORMAL")),
+                         (214, 214, 214, 255))
 
     def test_a_slanting_normal_has_the_cosine_of_its_angle(self):
         # 0.04 + 0.8 * 0.6 is 0.52.

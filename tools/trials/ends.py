@@ -25,16 +25,10 @@ class Told(unittest.TestCase):
                                  ("glEnable", "GL_STENCIL_TEST"), ("glEnable", "GL_LINE_SMOOTH"),
                                  ("glGetError",), SWAP))
         self.assertEqual(made.lines, [
-            "from_apitrace: approximated glEnable(GL_LINE_SMOOTH) 1",
-            "from_apitrace: left out glEnable(GL_STENCIL_TEST) 1",
-            "from_apitrace: left out glUseProgram 2",
+            "from_apitrace: approximated glEnable(GL_LINE_SMOOTH) 1: 0 vertices, 0 pixels",
+            "from_apitrace: left out glEnable(GL_STENCIL_TEST) 1: 0 vertices, 0 pixels",
+            "from_apitrace: left out glUseProgram 2: 0 vertices, 0 pixels",
             "from_apitrace: 64x64, version 1, 1 clients, 2 items, 2 commands, 21 bytes"])
-
-    def test_several_windows_are_told(self):
-        made = converted(pickled(("glXMakeCurrent", 1, 2, 7), WINDOW, CLEAR, SWAP,
-                                 ("glXMakeCurrent", 1, 3, 7), CLEAR, SWAP), "--frames", "0:2")
-        self.assertIn("from_apitrace: approximated a window of several, which are drawn as one 2",
-                      made.lines)
 
     def test_a_frame_that_begins_without_a_clear_is_told(self):
         made = converted(pickled(WINDOW, SWAP))
@@ -209,7 +203,8 @@ class Hostile(unittest.TestCase):
         done = subprocess.run([*COMMAND, "--help"], capture_output=True, timeout=SECONDS)
         self.assertEqual((done.returncode, done.stderr), (0, b""))
         for word in (b"--frames", b"--clients", b"--size", b"--columns", b"--texture-side",
-                     b"--cut-textures", b"--no-lists", b"--by-depth", b"--version"):
+                     b"--cut-textures", b"--nearest", b"--pieces", b"--to", b"--no-lists",
+                     b"--by-depth", b"--version"):
             self.assertIn(word, done.stdout)
 
     def test_an_output_that_ends_early_is_quiet_and_a_full_one_is_told(self):

@@ -1,10 +1,19 @@
 """State, display lists, arrays and textures, as a trace has them."""
+import re
+import struct
 import unittest
 
 from .hand_traces import (BLUE, CLEAR, GREEN, PLANE, RED, SIX, SWAP, WHITE, WINDOW, blob, colors,
                           converted, image, pickled, places, primitive, scene, textured,
                           vertices)
 
+
+
+# The forms of glInterleavedArrays, with the bytes of a vertex, as OpenGL's table has them.
+INTERLEAVED = {"GL_V2F": 8, "GL_V3F": 12, "GL_C4UB_V2F": 12, "GL_C4UB_V3F": 16, "GL_C3F_V3F": 24,
+               "GL_N3F_V3F": 24, "GL_C4F_N3F_V3F": 40, "GL_T2F_V3F": 20, "GL_T4F_V4F": 32,
+               "GL_T2F_C4UB_V3F": 24, "GL_T2F_C3F_V3F": 32, "GL_T2F_N3F_V3F": 32,
+               "GL_T2F_C4F_N3F_V3F": 48, "GL_T4F_C4F_N3F_V4F": 60}
 
 
 class Values(unittest.TestCase):
@@ -17,6 +26,17 @@ class Values(unittest.TestCase):
             block, = scene(*calls, ("glBlendFunc", *names), *self.TRIANGLE).blocks
             self.assertEqual(block.state["BlendFunc"], (0, 1), names)
             self.assertEqual(block.state["DepthMask"], (0,))
+
+    def test_factors_of_alpha_are_those_of_the_colours(self):
+        for alphas, told in ((("GL_ONE", "GL_ONE"), 1), (("GL_SRC_ALPHA", "GL_ONE"), 0)):
+            calls = [("glEnable", "GL_BLEND"),
+                     ("glBlendFuncSeparateEXT", "GL_SRC_ALPHA", "GL_ONE", *alphas)]
+            made = converted(pickled(WINDOW, CLEAR, PLANE, *calls, *self.TRIANGLE, SWAP))
+            self.assertEqual(made.scene.blocks[0].state["BlendFunc"], (6, 1))
+            # Half of 9 by 9 pixels.
+            self.assertEqual([line for line in made.lines if "glBlendFuncSeparate" in line],
+                             ["from_apitrace: approximated glBlendFuncSeparate, whose factors of "
+                              "alpha are those of the colours 1: 3 vertices, 40 pixels"][:told])
 
     def test_attributes_are_pushed_and_popped_by_groups(self):
         calls = [("glColor3ub", 255, 0, 0), ("glEnable", "GL_BLEND"),
@@ -57,6 +77,39 @@ class Lists(unittest.TestCase):
         block, = scene(*calls).blocks
         self.assertEqual(places(block), [(8, 8), (24, 8), (8, 24)])
         self.assertEqual(colors(block), [RED] * 3)
+
+    def test_a_draw_that_no_list_has_leaves_what_is_current(self):
+        reds = blob("9B", *[255, 0, 0] * 3)
+        colored = [*self.ARRAY, ("glColorPointer", 3, "GL_UNSIGNED_BYTE", 0, reds),
+                   ("glEnableClientState", "GL_COLOR_ARRAY"), ("glColor3ub", 0, 255, 0)]
+        draw = ("glDrawArrays", "GL_TRIANGLES", 0, 3)
+        after = primitive("GL_TRIANGLES", (0, 0), (9, 0), (0, 9))
+        first, second = scene(*colored, draw, *after).blocks
+        self.assertEqual((colors(first)[0], colors(second)[0]), (RED, GREEN))
+        listed = [("glNewList", 1, "GL_COMPILE"), draw, ("glEndList",), ("glCallList", 1)]
+        self.assertEqual(colors(scene(*colored, *listed, *after).blocks[-1])[0], RED)
+
+    def test_interleaved_arrays(self):
+        # The fourteen forms; what a form hasn't is current: white, and texture coordinates of 0.
+        for form, has in INTERLEAVED.items():
+            counts = dict(re.findall(r"([TCNV])([234])", form))
+            data = b""
+            for x, y in ((8, 8), (24, 8), (8, 24)):
+                for letter, count in re.findall(r"([TCNV])([234])", form):
+                    if letter == "C" and "C4UB" in form:
+                        data += bytes((255, 0, 0, 255))
+                        continue
+                    values = {"T": (0.5, 0.25, 0.0, 1.0), "C": (1.0, 0.0, 0.0, 1.0),
+                              "N": (0.0, 0.0, 1.0), "V": (x, y, 0.0, 1.0)}[letter]
+                    data += struct.pack(f"<{count}f", *values[:int(count)])
+            self.assertEqual(len(data), 3 * has, form)
+            calls = [*image(1, 1, b"\xff" * 4),
+                     ("glInterleavedArrays", form, 0, data.decode("latin1")),
+                     ("glDrawArrays", "GL_TRIANGLES", 0, 3)]
+            block, = scene(*calls).blocks
+            self.assertEqual(places(block), [(8, 8), (24, 8), (8, 24)], form)
+            self.assertEqual(colors(block)[0], RED if "C" in counts else WHITE, form)
+            self.assertEqual(block.vertices[0].coordinate, (0.5, 0.25) if "T" in counts else (0, 0))
 
     def test_elements_and_buffers(self):
         data = blob("2f3B2f3B2f3B", 8, 8, 255, 0, 0, 24, 8, 0, 255, 0, 8, 24, 0, 0, 255)
@@ -212,3 +265,14 @@ class Textures(unittest.TestCase):
         block, = scene(*image(1, 1, bytes(4)), *calls,
                        *primitive("GL_TRIANGLES", (0, 0), (64, 0), (0, 64))).blocks
         self.assertEqual([vertex.coordinate[0] for vertex in block.vertices], [0, 2, 0])
+
+    def test_a_sphere_map_takes_a_normal_as_long_as_it_is(self):
+        # The view is u = (1, 1, 0) / sqrt 2, and r = u - 2 n (n u): (0.3536, 0.7071, 0) by the
+        # normal itself, whose s is 0.3536 / 2.5495 + 0.5, and (-0.7071, 0.7071, 0) by a unit one.
+        calls = [("glEnable", "GL_TEXTURE_GEN_S"),
+                 ("glTexGeni", "GL_S", "GL_TEXTURE_GEN_MODE", "GL_SPHERE_MAP"),
+                 ("glNormal3f", 0.5, 0.0, 0.0)]
+        face = primitive("GL_TRIANGLES", (32, 32), (64, 32), (32, 64))
+        for more, s in (([], 0.6387), ([("glEnable", "GL_NORMALIZE")], 0.25)):
+            block, = scene(*image(1, 1, bytes(4)), *calls, *more, *face).blocks
+            self.assertAlmostEqual(block.vertices[0].coordinate[0], s, places=3)

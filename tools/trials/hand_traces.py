@@ -69,6 +69,7 @@ def image(width, height, texels, form="GL_RGBA", internal="GL_RGBA", kind="GL_UN
     """Texture 1 with an image, sampled where it is nearest."""
     return [("glEnable", "GL_TEXTURE_2D"), ("glBindTexture", "GL_TEXTURE_2D", 1),
             ("glTexParameteri", "GL_TEXTURE_2D", "GL_TEXTURE_MIN_FILTER", "GL_NEAREST"),
+            ("glTexParameteri", "GL_TEXTURE_2D", "GL_TEXTURE_MAG_FILTER", "GL_NEAREST"),
             ("glTexImage2D", "GL_TEXTURE_2D", 0, internal, width, height, 0, form, kind,
              texels.decode("latin1"))]
 
