@@ -278,7 +278,6 @@ def try_table():
     paths = (EXAMPLES.parent / "tools").glob("*.py")
     tools = {path.name for path in paths if path.read_text().startswith("#!")}
     tools -= {name for name in tools if name.startswith("test_")}
-    tools.add("gl.py")
     same("docs/program.md: the table of tools", named, tools)
 
 
