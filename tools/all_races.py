@@ -69,8 +69,8 @@ class Mended:
         ]
 
 
-def races(program, scene, most):
-    """The lines of the races; and what is left behind them, in words."""
+def races(program, scene, most, print_=print):
+    """The lines of the races, each told at once; and what is left behind them, in words."""
     mended = Mended(scene)
     made, found = mended.spelled(), []
     first_journal = mended.journal(made)
@@ -87,7 +87,7 @@ def races(program, scene, most):
         ]
         meeting = f"pixel {match[5]} {match[6]}" if match[5] else f"shared {match[7]}"
         found.append(" ".join(map(str, ["race", *names[0], *names[1], meeting])))
-        print(found[-1], flush=True)
+        print_(found[-1])
         mended.add(*names)
         made = mended.spelled()
         if mended.journal(made) != first_journal:
@@ -106,7 +106,7 @@ def main():
     given = words.parse_args()
     program = running.built(given.program)
     scene = scene_text.read_any(command.read_input(), given.filters)[0]
-    found, rest = races(program, scene, given.most)
+    found, rest = races(program, scene, given.most, lambda line: print(line, flush=True))
     print(f"races {len(found)}, {rest}" if found else "race none")
 
 

@@ -2,7 +2,7 @@
 from scene_bytes import ALL_OPCODES, Placed, name_of, scene_faults
 
 IDENTITY = scene_faults.IDENTITY
-SCISSOR, DEPTH = 0, 2
+SCISSOR, DEPTH, BLEND = 0, 2, 3
 
 
 def placed(name, *numbers, texels=b""):

@@ -56,22 +56,16 @@ def ends_behind(run, client, place):
     a meeting pass it together.
     """
     ends, found = [0] * len(run.reach), None
+    operations = {member for entry in run.entries for member in entry.members}
     for other, first, end, entry in run.segments():
-        if found is not None and (found != entry or not is_operation(run, other, first)):
+        if found is not None and (found != entry or (other, first) not in operations):
             break
         if other == client and first <= place < end:
-            end = place + 1
-            found = entry
-            if not is_operation(run, client, place):
-                ends[other] = end
-                break
+            end, found = place + 1, entry
         ends[other] = max(ends[other], end)
+        if found is not None and (client, place) not in operations:
+            break
     return ends
-
-
-def is_operation(run, client, place):
-    members = {member for entry in run.entries for member in entry.members}
-    return (client, place) in members
 
 
 # ---- what is written

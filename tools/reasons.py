@@ -7,7 +7,17 @@ commands.
 """
 import copy
 
-from scene_bytes import ALL_OPCODES, CODES, FIELDS, name_of, scene_faults, scene_lists
+from contexts import BLEND, DEPTH, Context
+from scene_bytes import (
+    ALL_OPCODES,
+    CLEAR,
+    CODES,
+    END,
+    FIELDS,
+    name_of,
+    scene_faults,
+    scene_lists,
+)
 
 STACKS = ("modelview", "projection")
 DECLARED = {"Barrier": "barrier", "SemP": "semaphore", "SemV": "semaphore"}
@@ -156,6 +166,32 @@ def refusals(scene, client):
         if told:
             found[place] = told
     return found
+
+
+# ---- what keeps a scene from `last`
+
+
+def last_reason(scene, client, place):
+    """Why `last` doesn't draw a scene that has this command, by docs/cluster.md ('Sort-first and
+    sort-last').
+    """
+    opcode = scene.streams[client][place][0]
+    if opcode == CLEAR:
+        return "a Clear of another client than 0" if client else "a Clear behind a block of its frame"
+    if opcode != END:
+        return f"{name_of(scene.streams[client][place])} orders clients, and each is drawn alone"
+    context = Context(scene)
+    for placed in scene.streams[client][: place + 1]:
+        context.issue(placed)
+    values = context.values
+    broken = {
+        "without the depth test": DEPTH not in context.enabled,
+        "whose depth function isn't LESS": values["DepthFunc"] != (1,),
+        "that stores no depth": not values["DepthMask"][0],
+        "that is blended": BLEND in context.enabled,
+        "that leaves a channel out": not all(values["ColorMask"]),
+    }
+    return next((f"a block {words}" for words, is_so in broken.items() if is_so), "")
 
 
 # ---- list commands

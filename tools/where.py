@@ -189,7 +189,10 @@ def spoken_of(page, line):
     elif match := notes.RACE.fullmatch(line):
         yield from race_lines(page, match)
     elif match := notes.NOT_FOR_LAST.fullmatch(line):
-        yield page.command(drawn, int(match[1]), int(match[2]))
+        client, place = int(match[1]), int(match[2])
+        yield page.command(drawn, client, place)
+        if page.has(drawn, client, place):
+            yield reasons.last_reason(page.drawn, client, place) or page.foreign()
     elif match := notes.ORDER.fullmatch(line):
         yield page.command(drawn, int(match[2]), int(match[3]))
     elif match := notes.MALFORMED.fullmatch(line):

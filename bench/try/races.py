@@ -196,16 +196,23 @@ def told(line_of_spot):
     return " ".join([kind] + [str(number) for number in numbers])
 
 
-def compare(program, random):
-    """One scene: whether it is small enough, and then whether it has a race."""
+def any_scene(random):
+    """A scene: its text, its streams, the counts of its barriers and the units of its semaphore."""
     clients = random.choice((2, 2, 3))
     streams = [prepared(random, stream(random, random.randrange(1, 4))) for _ in range(clients)]
     counts, units = {1: 2, 2: 2}, {1: random.choice((0, 0, 1))}
+    text = "scene 1 2 1\nshared 1 1\n" + "".join(f"barrier {count}\n" for count in counts.values()) + f"semaphore {units[1]}\n"
+    text += "".join("client\n" + "".join(one.line + "\n" for one in commands) for commands in streams)
+    return text, streams, counts, units
+
+
+def compare(program, random):
+    """One scene: whether it is small enough, and then whether it has a race."""
+    text, streams, counts, units = any_scene(random)
+    clients = len(streams)
     journal, reach = journal_of(streams, counts, units)
     if sum(reach) > LONGEST:
         return None
-    text = "scene 1 2 1\nshared 1 1\n" + "".join(f"barrier {count}\n" for count in counts.values()) + f"semaphore {units[1]}\n"
-    text += "".join("client\n" + "".join(one.line + "\n" for one in commands) for commands in streams)
     command = lambda name: streams[name[0]][name[1]]
     names, pairs = preceding(journal, reach, units)
     every = list(orders(names, pairs, reach))

@@ -21,6 +21,9 @@ CALLS = {
     "pair.py": ["made"],
     "layers.py": ["made"],
     "where.py": ["scene.txt"],
+    "cut.py": [],
+    "both_orders.py": ["made"],
+    "all_races.py": [],
     "page.py": ["--scene", "scene.txt", "--notes", "notes.txt", "--tiles", "2x1"],
     "../examples/cube.py": [],
 }

@@ -3,7 +3,6 @@ png_reader.py, and pictures of docs/ that they made are made again.
 """
 import random
 import resource
-import shutil
 import subprocess
 import sys
 
@@ -41,6 +40,7 @@ def wrong_images():
         "half an image": sound[:14],
         "a second image that is cut": sound + sound[:-4],
         "a byte more": sound + b"x",
+        "a comment": sound.replace(b"P6\n", b"P6\n# by hand\n"),
         "another depth": sound.replace(b"255", b"127"),
         "P5": sound.replace(b"P6", b"P5"),
         "no pixels": b"P6\n0 2\n255\n",
@@ -90,10 +90,15 @@ def try_several(folder):
     images, delays = png_reader.read((folder / "moving.png").read_bytes())
     same("png.py: images of a moving one", images, [(9, 4, body(data, 9, 4)) for data in several])
     same("png.py: its delays", delays, [(1, 8)] * 3)
+    run("png.py", "moving", "--apng", "--fps", "23.976", data=whole, cwd=folder)
+    delays = png_reader.read((folder / "moving.png").read_bytes())[1]
+    # 23.976 is 2997 / 125
+    same("png.py: delays of a rate that isn't whole", delays, [(125, 2997)] * 3)
     for what, more in {"a cut one": several[1][:-1], "sizes that differ": image(4, 9)}.items():
         refuses(what, 1, "png.py", "broken", "--apng", data=several[0] + more, cwd=folder)
         check(f"png.py: nothing is left of {what}", not (folder / "broken.png").exists())
-    if shutil.which("convert"):
+    version = subprocess.run(["sh", "-c", "convert -version"], capture_output=True, check=False)
+    if version.stdout.startswith(b"Version: ImageMagick"):
         words = ["convert", str(folder / "more-2.png"), "-depth", "8", "rgb:-"]
         other = subprocess.run(words, capture_output=True, check=False).stdout
         same("png.py: as ImageMagick reads it", other, body(several[1], 9, 4))

@@ -174,7 +174,18 @@ SAID = {
     "rc: limit depth 17": [
         "depth: 1 to 16; this is a limit of the words behind the job, not of the scene"
     ],
-    "rc: not for last 0 1": ["scene.txt:8: Clear 1 (COLOR)"],
+    "rc: not for last 0 1": [
+        "scene.txt:8: Clear 1 (COLOR)",
+        "a Clear behind a block of its frame",
+    ],
+    "rc: not for last 0 6": [
+        "scene.txt:9-13: Begin 0 (TRIANGLES) .. End, 3 vertices",
+        "a block without the depth test",
+    ],
+    "rc: not for last 1 0": [
+        "scene.txt:17: Barrier 1",
+        "Barrier orders clients, and each is drawn alone",
+    ],
     "client 9 fault INVALID_VALUE at 3": ["scene.txt: client 9 has no command 3"],
     "client 0 fault INVALID_VALUE at 99999": ["scene.txt: client 0 has no command 99999"],
     "rc: malformed WrongCount at 8": ["scene.txt:8: Clear 1"],
@@ -280,6 +291,20 @@ def try_list_reasons(folder):
         (folder / "one.txt").write_text(text)
         told = said(folder, "one.txt", [line])[line]
         check(f"where.py: why {commands}", len(told) == 2 and told[1] != FOREIGN, told)
+
+
+def try_last_reasons(folder):
+    """What keeps scenes from `last`, as docs/scene-format.md says it."""
+    head = ("text", "line", "what keeps it from that")
+    rows = [row for names, rows in refusals.tables() if names == head for row in rows]
+    check("where.py: the table of scenes that aren't for last is there", len(rows) > 6, len(rows))
+    for text, line, due in rows:
+        (folder / "one.txt").write_bytes(refusals.text_of(text))
+        told = said(folder, "one.txt", [line])[line][1:]
+        due = due.replace("`", "")
+        is_due = told == [due] or due.startswith("a barrier") and "orders clients" in told[0]
+        is_due = is_due or due.replace("the first", "0") == told[0]
+        check(f"where.py: why {line} of {text[:60]}", len(told) == 1 and is_due, told)
 
 
 def try_ranges():
@@ -440,6 +465,7 @@ def try_all(folder, seed):
     try_where(folder)
     try_reasons(folder)
     try_list_reasons(folder)
+    try_last_reasons(folder)
     try_ranges()
     try_numbers()
     try_scene(folder)

@@ -20,7 +20,9 @@ import tempfile
 sys.path.insert(0, str(pathlib.Path(__file__).resolve().parent.parent))
 
 import program
+import tool_cuts
 import tool_images
+import tool_orders
 import tool_pages
 import tool_scenes
 from tool_calls import (
@@ -48,7 +50,17 @@ WRONG_WORDS = [
     ("tiles.py", "no notes", ["made", "2x1"]),
     ("png.py", "--fps without --apng", ["made", "--fps", "3"]),
     ("png.py", "a rate of 0", ["made", "--apng", "--fps", "0"]),
+    ("png.py", "a rate of three words", ["made", "--apng", "--fps", "23,976"]),
+    ("png.py", "no name", [""]),
+    ("tiles.py", "no name", ["", "2x1", "notes.txt"]),
     ("pair.py", "a scale of 0", ["made", "--scale", "0"]),
+    ("pair.py", "a folder's name", ["made/"]),
+    ("cut.py", "frames that end before they begin", ["--frames", "3:2"]),
+    ("cut.py", "frames that are none", ["--frames", "1-2"]),
+    ("cut.py", "a command that is none", ["--until", "1"]),
+    ("cut.py", "frames and a command", ["--frames", "1:2", "--until", "0 1"]),
+    ("both_orders.py", "a race that is none", ["made", "--race", "pixel 0 0"]),
+    ("all_races.py", "no race at most", ["--most", "0"]),
     ("layers.py", "a client that is no number", ["client", "one"]),
     ("layers.py", "two names", ["one", "1"]),
     ("where.py", "filters that are none", ["scene.txt", "--filters", "drop Nothing"]),
@@ -59,6 +71,7 @@ WRONG_WORDS = [
 WRITING = {
     "pack.py": SCENE.encode(),
     "where.py": NOTES.encode() * 3000,
+    "cut.py": SCENE.encode(),
     "gl.py": b"",
     "../examples/cube.py": b"",
     "page.py": image(4, 2),
@@ -132,7 +145,7 @@ def try_garbage(folder, seed):
         for path, data in sound.items():
             made = changed(pick, data) if pick.random() < 0.8 else pick.randbytes(200)
             (folder / path).write_bytes(made)
-        for name in ("where.py", "page.py", "tiles.py", "layers.py", "pack.py"):
+        for name in ("where.py", "page.py", "tiles.py", "layers.py", "pack.py", "cut.py"):
             kinds = [image(4, 2), NOTES.encode(), SCENE.encode()]
             data = changed(pick, pick.choice(kinds)) if number % 4 else pick.randbytes(300)
             status, _, err = run(name, *CALLS[name], data=data, cwd=folder)
@@ -188,6 +201,8 @@ def main():
         tool_images.try_all(CALLS, folder)
         tool_scenes.try_all(folder, seed)
         tool_pages.try_all(folder)
+        tool_orders.try_all(folder, seed)
+        tool_cuts.try_all(folder)
         try_garbage(folder, seed)
         try_test_runner(folder)
         if program.is_built():
@@ -195,6 +210,8 @@ def main():
             tool_scenes.try_drawn_cube()
             tool_images.try_pictures(folder)
             tool_pages.try_examples(folder)
+            tool_orders.try_by_program(folder, seed)
+            tool_cuts.try_by_program(folder, seed)
             tool_pages.try_large(folder)
         else:
             print(f"left out what needs the program: {program.HOW}")
