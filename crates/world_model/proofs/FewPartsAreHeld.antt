@@ -14,7 +14,7 @@ use Rattle.assembler.specs.declared.places.Assembler.{Assembler}
 use Rattle.assembler.proofs.Waiting.{none_in}
 use Rattle.plain_lemmas.proofs.Numbers.{at_one_or_other}
 use Rattle.world_model.specs.Held.{held_of, ThreadedRunsHoldLittle, NoTileRunsAhead, FewPartsOfEachTileAreHeld, FewPartsAreHeld}
-use Rattle.world_model.specs.Threaded.{no_lane, ThreadedWorld, ThreadedTurn, Steps, HandsOver, Collects, SeenLanes, lane_of, frames_by, frames_in, IsPut, NoParts, OnlyPartsOf, IsCall, IsThreadedTurnSeeing, AreLooseTurns, IsNewThreadedWorld}
+use Rattle.world_model.specs.Threaded.{no_lane, ThreadedWorld, ThreadedTurn, Steps, HandsOver, Collects, SeenLanes, lane_of, frames_by, IsPut, NoParts, OnlyPartsOf, IsCall, IsThreadedTurnSeeing, AreLooseTurns, IsNewThreadedWorld}
 use Rattle.world_model.specs.ThreadedLaws.{LayoutsHavePixels, HavePixels, IsThreadedFlowing, NewThreadedWorldsFlow, ThreadedTurnsKeepFlowing, AllThreadedTurnsKeepFlowing}
 use Rattle.world_model.specs.Turns.Turn.{ClientTurn, ManagerTurn, TileTurn}
 use Rattle.world_model.specs.Work.{total}
