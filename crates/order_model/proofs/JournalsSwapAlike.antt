@@ -11,8 +11,8 @@ use Rattle.rc_base.specs.declared.sync.SyncLists.{SyncLists}
 use Rattle.rc_base.specs.declared.sync.SyncOp.{SyncOp}
 use Rattle.rc_base.specs.declared.sync.SyncOp.TheVariants as op
 use Rattle.rc_base.specs.declared.sync.WaitAt.{WaitAt}
-use Rattle.order_model.specs.Full.{IsFull}
 use Rattle.order_model.specs.Report.{is_swap_entry}
+use Rattle.order_model.specs.Uncontended.{TakesAlone}
 use Rattle.order_model.proofs.MaximalJournalsAgree.{end_agrees}
 
 -- one for a Swap, and their sum over operations
@@ -74,10 +74,10 @@ swaps_used : (syncs : SyncLists) (js : List Entry) → IsLegalFrom syncs (start 
     → swaps_in (ops_of syncs c) ≡ count_by is_swap_entry js + swaps_in ((end_of syncs (start syncs) js).rest c)
 swaps_used syncs js h c lt = all_entries syncs (start syncs) js h c lt ∙ ap (λ n. n + swaps_in ((end_of syncs (start syncs) js).rest c)) (swap_entries_counted js)
 
--- maximal journals of full scenes have as many
-pub swaps_agree : (syncs : SyncLists) → IsWellFormed syncs → IsFull syncs → (j k : List Entry) → IsMaximal syncs j → IsMaximal syncs k → count_by is_swap_entry j ≡ count_by is_swap_entry k
-swaps_agree syncs well full j k m n =
+-- where takers are alone all maximal journals have as many
+pub swaps_agree : (syncs : SyncLists) → IsWellFormed syncs → TakesAlone syncs → (j k : List Entry) → IsMaximal syncs j → IsMaximal syncs k → count_by is_swap_entry j ≡ count_by is_swap_entry k
+swaps_agree syncs well alone j k m n =
     let a = swaps_used syncs j m.0 0 well.some in
     let b = swaps_used syncs k n.0 0 well.some in
-    let e : swaps_in ((end_of syncs (start syncs) j).rest 0) ≡ swaps_in ((end_of syncs (start syncs) k).rest 0) = ap (λ (s : SyncState). swaps_in (s.rest 0)) (end_agrees syncs well full j k m n) in
+    let e : swaps_in ((end_of syncs (start syncs) j).rest 0) ≡ swaps_in ((end_of syncs (start syncs) k).rest 0) = ap (λ (s : SyncState). swaps_in (s.rest 0)) (end_agrees syncs alone j k m n) in
     omega (arith, a, b, e)

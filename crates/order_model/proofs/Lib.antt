@@ -6,7 +6,9 @@ pub mod ClientsBeyond
 mod PrefixesAreLegal
 pub mod GrantsAreExact
 pub mod DefaultJournalIsMaximal
+mod LawfulEntriesCommute
 mod MaximalJournalsAgree
+mod FullScenesAreUncontended
 pub mod JournalsSwapAlike
 pub mod MoreOperations
 pub mod BooksStayLegal

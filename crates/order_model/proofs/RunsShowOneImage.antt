@@ -16,15 +16,15 @@ use Rattle.rc_base.specs.declared.image.Image.{Image}
 use Rattle.rc_base.specs.declared.scene.Scene.{Scene}
 use Rattle.rc_base.specs.declared.sync.Name.{Name}
 use Rattle.rc_base.specs.declared.window.Layout.{Layout}
-use Rattle.order_model.specs.Full.{IsFull}
 use Rattle.order_model.specs.Log.{recorded_order}
 use Rattle.order_model.specs.Report.{frame_count, recorded_pixel, recorded_frame, image_text_of}
 use Rattle.order_model.specs.Sent.{IsRecordOf, jobs_of}
+use Rattle.order_model.specs.Uncontended.{IsUncontended}
 use Rattle.order_model.specs.declared.record.Record.{Record}
 use Rattle.order_model.proofs.DefaultJournalIsMaximal.{default_maximal}
 use Rattle.order_model.proofs.DefaultOrderIsPermitted.{default_permitted}
 use Rattle.order_model.proofs.JournalsSwapAlike.{swaps_agree}
-use Rattle.order_model.proofs.MaximalJournalsAgree.{reach_and_orders_agree}
+use Rattle.order_model.proofs.MaximalJournalsAgree.{orders_agree}
 use Rattle.order_model.proofs.OrderedScenesHaveOneFrame.{ordered_frames_agree}
 use Rattle.order_model.proofs.RecordedOrdersArePermitted.{lawful_record_permitted}
 use Rattle.order_model.proofs.SceneJobsAreSent.{scene_jobs_are_sent}
@@ -84,13 +84,13 @@ unfolding image_text_of
 permitted_image scene l kept well some h ordered order p =
     ap p6_texts (same_pictures (recorded_frame scene l kept) (frame_image scene order) (one_picture scene l kept well some h ordered order p) (range_with_len 1 (frame_count kept.journal)))
 
-pub default_image : (scene : Scene) (l : Layout) (kept : Record) → IsWellFormed (sync_lists_of scene) → 0 < tile_count l → IsFull (sync_lists_of scene) → IsRecordOf scene l kept → IsOrderedScene scene kept.journal
+pub default_image : (scene : Scene) (l : Layout) (kept : Record) → IsWellFormed (sync_lists_of scene) → 0 < tile_count l → IsUncontended (sync_lists_of scene) → IsRecordOf scene l kept → IsOrderedScene scene kept.journal
     → image_text_of scene l kept
     ≡ (let journal = default_journal (sync_lists_of scene) in p6_texts (frame_images scene (default_order (sync_lists_of scene) journal) (frame_count journal)))
-default_image scene l kept well some full h ordered =
+default_image scene l kept well some uncontended h ordered =
     let s = sync_lists_of scene in
     let j = default_journal s in
     let m = default_maximal s well in
     let o = default_order s j in
-    let p = (((reach_and_orders_agree s well full j kept.journal m h.maximal).1) o).0 (default_permitted s j well m.0) in
-    permitted_image scene l kept well some h ordered o p ∙ ap (λ n. p6_texts (frame_images scene o n)) (swaps_agree s well full kept.journal j h.maximal m)
+    let p = (orders_agree s uncontended j kept.journal m h.maximal o).0 (default_permitted s j well m.0) in
+    permitted_image scene l kept well some h ordered o p ∙ ap (λ n. p6_texts (frame_images scene o n)) (swaps_agree s well uncontended.alone kept.journal j h.maximal m)

@@ -44,7 +44,7 @@ unit_in_is false semaphore (Give k c) at = refl
 unit_in_is true semaphore (Take k c) at = refl
 unit_in_is false semaphore (Take k c) at = elim (cases_Bool (k == semaphore)) [ inl t ↦ rw t refl | inr f ↦ rw f refl ]
 
-is_its_client : (n : ℕ) (gives : Bool) (semaphore : ℕ) (e : Entry) (c : ℕ) → unit_client gives semaphore e ≡ Some c → is_member n e c ≡ true
+pub is_its_client : (n : ℕ) (gives : Bool) (semaphore : ℕ) (e : Entry) (c : ℕ) → unit_client gives semaphore e ≡ Some c → is_member n e c ≡ true
 is_its_client n gives semaphore (Meet b m) c h = absurd cc
 is_its_client n gives semaphore Swap c h = absurd cc
 is_its_client n true semaphore (Give k d) c h = elim (cases_Bool (k == semaphore)) [

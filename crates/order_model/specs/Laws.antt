@@ -23,6 +23,7 @@ use Rattle.order_model.specs.Full.{IsFull}
 use Rattle.order_model.specs.Log.{Job, AreJobsOf, Replays, IsComplete, IsLawfulRecord, recorded_order}
 use Rattle.order_model.specs.Report.{tile_order, frame_count, image_text_of}
 use Rattle.order_model.specs.Sent.{jobs_of, IsRecordOf}
+use Rattle.order_model.specs.Uncontended.{TakesAlone, IsUncontended}
 use Rattle.order_model.specs.declared.record.LogEntry.{LogEntry}
 use Rattle.order_model.specs.declared.record.Record.{Record}
 
@@ -52,22 +53,22 @@ NothingIsGrantedExactlyWhenOver = (syncs : SyncLists) (s : SyncState) → AreOfC
 abbrev pub DefaultJournalIsMaximal : Type 0
 DefaultJournalIsMaximal = (syncs : SyncLists) → IsWellFormed syncs → IsMaximal syncs (default_journal syncs)
 
--- where nothing takes a unit and each barrier counts all clients, a maximal journal leaves the same clients waiting at the same operations as the
--- default journal does
-abbrev pub MaximalJournalsWaitAlike : Type 0
-MaximalJournalsWaitAlike =
-    (syncs : SyncLists) → IsWellFormed syncs → IsFull syncs → (journal : List Entry) → IsMaximal syncs journal
-    → (client : ℕ) → waiting_of syncs journal client ≡ waiting_of syncs (default_journal syncs) client
+-- Where one client takes from each semaphore, and no barrier is named by more clients than it counts, all maximal journals leave the same clients waiting
+-- at the same operations, and reach the same places.
+abbrev pub MaximalJournalsEndAlike : Type 0
+MaximalJournalsEndAlike =
+    (syncs : SyncLists) → IsWellFormed syncs → TakesAlone syncs → (journal other : List Entry) → IsMaximal syncs journal → IsMaximal syncs other
+    → (client : ℕ) → (waiting_of syncs journal client ≡ waiting_of syncs other client) × (reach_of syncs journal client ≡ reach_of syncs other client)
 
-abbrev pub MaximalJournalsReachAlike : Type 0
-MaximalJournalsReachAlike =
-    (syncs : SyncLists) → IsWellFormed syncs → IsFull syncs → (journal other : List Entry) → IsMaximal syncs journal → IsMaximal syncs other
-    → (client : ℕ) → reach_of syncs journal client ≡ reach_of syncs other client
-
-abbrev pub MaximalJournalsPermitAlike : Type 0
-MaximalJournalsPermitAlike =
-    (syncs : SyncLists) → IsWellFormed syncs → IsFull syncs → (journal other : List Entry) → IsMaximal syncs journal → IsMaximal syncs other
+-- Where besides one client gives to each semaphore that is taken from, they permit the same orders.
+abbrev pub MaximalJournalsAgree : Type 0
+MaximalJournalsAgree =
+    (syncs : SyncLists) → IsWellFormed syncs → IsUncontended syncs → (journal other : List Entry) → IsMaximal syncs journal → IsMaximal syncs other
     → (order : List Name) → IsPermitted syncs journal order ↔ IsPermitted syncs other order
+
+-- where nothing takes a unit and all clients meet at each barrier, nobody contends
+abbrev pub FullScenesAreUncontended : Type 0
+FullScenesAreUncontended = (syncs : SyncLists) → IsFull syncs → IsUncontended syncs
 
 -- ---- books
 
@@ -142,10 +143,10 @@ RecordsOfScenesArePermitted =
     (scene : Scene) (l : Layout) (kept : Record) → IsWellFormed (sync_lists_of scene) → IsRecordOf scene l kept
     → (tile : ℕ) → tile < tile_count l → IsPermitted (sync_lists_of scene) kept.journal (tile_order kept tile)
 
--- maximal journals of full scenes have as many Swaps
+-- where takers are alone, all maximal journals have as many Swaps
 abbrev pub MaximalJournalsSwapAlike : Type 0
 MaximalJournalsSwapAlike =
-    (syncs : SyncLists) → IsWellFormed syncs → IsFull syncs → (journal other : List Entry) → IsMaximal syncs journal → IsMaximal syncs other
+    (syncs : SyncLists) → IsWellFormed syncs → TakesAlone syncs → (journal other : List Entry) → IsMaximal syncs journal → IsMaximal syncs other
     → frame_count journal ≡ frame_count other
 
 -- a legal journal of a scene has no more Swaps than the first client has commands
@@ -161,10 +162,10 @@ OrderedRunsShowOneImage =
     → (order : List Name) → IsPermitted (sync_lists_of scene) kept.journal order
     → image_text_of scene l kept ≡ p6_texts (frame_images scene order (frame_count kept.journal))
 
--- and of a full one that of the default order, whatever the tiles and the journal
-abbrev pub FullOrderedRunsShowTheDefaultImage : Type 0
-FullOrderedRunsShowTheDefaultImage =
-    (scene : Scene) (l : Layout) (kept : Record) → IsWellFormed (sync_lists_of scene) → 0 < tile_count l → IsFull (sync_lists_of scene) → IsRecordOf scene l kept
+-- and where nobody contends that of the default order, whatever the tiles and the journal
+abbrev pub UncontendedRunsShowTheDefaultImage : Type 0
+UncontendedRunsShowTheDefaultImage =
+    (scene : Scene) (l : Layout) (kept : Record) → IsWellFormed (sync_lists_of scene) → 0 < tile_count l → IsUncontended (sync_lists_of scene) → IsRecordOf scene l kept
     → IsOrderedScene scene kept.journal
     → image_text_of scene l kept
     ≡ (let journal = default_journal (sync_lists_of scene) in p6_texts (frame_images scene (default_order (sync_lists_of scene) journal) (frame_count journal)))

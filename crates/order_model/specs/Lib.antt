@@ -1,6 +1,7 @@
 pub mod Scenes
 pub mod Log
 pub mod Full
+pub mod Uncontended
 pub mod Commuting
 pub mod Laws
 pub mod Sent

@@ -1,7 +1,7 @@
 //! Laws of journals, orders and logs. Each function's contract is a law, and its body is empty: there is nothing to compute.
 ghost use Rattle.order_model.specs.Gathering.{GatheringIsLawful, LegalBooksHaveLegalJournals, OverBooksAreMaximal, OverBooksWaitAlike};
 ghost use Rattle.order_model.specs.Scenes.{ScenesWithinLimitsAreDrawable, ScenesWithinLimitsAreRunnable};
-ghost use Rattle.order_model.specs.Laws.{SceneListsAreWellFormed, PrefixesAreLegal, GrantsAreLawful, NothingIsGrantedExactlyWhenOver, DefaultJournalIsMaximal, MaximalJournalsWaitAlike, MaximalJournalsReachAlike, MaximalJournalsPermitAlike, DefaultOrdersArePermitted, OneClientHasOneOrder, RecordedOrdersArePermitted, LawfulRecordsArePermitted, OrderedScenesDrawAlike, OrderedScenesHaveOneFrame, LawfulRecordsShowOneImage, SceneJobsAreSent, RecordsOfScenesArePermitted, MaximalJournalsSwapAlike, CanvasTexturesAreTextures, BooksStayLegal, BooksGrantWhatIsLawful, OrderedRunsShowOneImage, FullOrderedRunsShowTheDefaultImage, SwapsAreFew};
+ghost use Rattle.order_model.specs.Laws.{SceneListsAreWellFormed, PrefixesAreLegal, GrantsAreLawful, NothingIsGrantedExactlyWhenOver, DefaultJournalIsMaximal, MaximalJournalsEndAlike, MaximalJournalsAgree, FullScenesAreUncontended, DefaultOrdersArePermitted, OneClientHasOneOrder, RecordedOrdersArePermitted, LawfulRecordsArePermitted, OrderedScenesDrawAlike, OrderedScenesHaveOneFrame, LawfulRecordsShowOneImage, SceneJobsAreSent, RecordsOfScenesArePermitted, MaximalJournalsSwapAlike, CanvasTexturesAreTextures, BooksStayLegal, BooksGrantWhatIsLawful, OrderedRunsShowOneImage, UncontendedRunsShowTheDefaultImage, SwapsAreFew};
 
 /// A scene within the limits can be drawn by one renderer, and run by a cluster on a layout within them: all that their calls need of it follows.
 pub fn scenes_within_limits()
@@ -36,12 +36,16 @@ pub fn default_journal_is_maximal()
     ensures { DefaultJournalIsMaximal }
 {}
 
-/// Where nothing takes a unit and all clients meet at each barrier, a maximal journal leaves waiting exactly those clients that the default one
-/// does, all reach the same places, and all permit the same orders.
+/// Where one client takes from each semaphore and no barrier is named by more clients than it counts, all maximal journals leave the same clients
+/// waiting and reach the same places. Where besides one client gives each unit that is taken, all permit the same orders.
 pub fn maximal_journals_agree()
-    ensures waiting { MaximalJournalsWaitAlike }
-    ensures reach { MaximalJournalsReachAlike }
-    ensures orders { MaximalJournalsPermitAlike }
+    ensures ends { MaximalJournalsEndAlike }
+    ensures orders { MaximalJournalsAgree }
+{}
+
+/// Nobody contends where nothing takes a unit and all clients meet at each barrier.
+pub fn full_scenes_are_uncontended()
+    ensures { FullScenesAreUncontended }
 {}
 
 /// The default order of a legal journal is permitted by it.
@@ -96,9 +100,9 @@ pub fn swaps_are_few()
     ensures { SwapsAreFew }
 {}
 
-/// Runs of an ordered scene show the frames of every permitted order; those of a full one, the frames of the default order.
+/// Runs of an ordered scene show the frames of every permitted order; where nobody contends, those of the default order.
 pub fn runs_show_one_image()
     ensures swaps { MaximalJournalsSwapAlike }
     ensures permitted { OrderedRunsShowOneImage }
-    ensures default { FullOrderedRunsShowTheDefaultImage }
+    ensures default { UncontendedRunsShowTheDefaultImage }
 {}

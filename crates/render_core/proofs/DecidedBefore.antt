@@ -1,4 +1,4 @@
--- Of full scenes `check`, `race` and `serial` decide before the show what `render` and `simulate` do.
+-- Where nobody contends, `check`, `race` and `serial` decide before the show what `render` and `simulate` do.
 use Rattle.std.proofs.Common.{◌≡◌, ◌≢◌, ◌↔◌, ℕ, ◌⊎◌, inl, inr, Bool, true, false, List, [], ◌++◌, take, drop, None, Some, refl, sym, ap, subst, ◌∙◌, take-append-drop, append-nil, arith}
 use Rattle.std.specs.Prelude.{String, unwrap_or, if◌then◌else◌}
 use Rattle.std.specs.Global.{Global}
@@ -13,8 +13,8 @@ use Rattle.rc_base.specs.Outside.Ends.{Took, TookInput}
 use Rattle.rc_base.specs.declared.scene.Scene.{Scene}
 use Rattle.command_line.specs.Laws.{OneChain, OneReading}
 use Rattle.happens_before.specs.Laws.{ScenesOfOrderedConflictsAreOrdered}
-use Rattle.order_model.specs.Full.{IsFull}
 use Rattle.order_model.specs.Report.{is_stuck}
+use Rattle.order_model.specs.Uncontended.{TakesAlone, IsUncontended}
 use Rattle.order_model.specs.declared.record.Record.{Record}
 use Rattle.race_check.specs.declared.verdict.Verdict.{Verdict}
 use Rattle.race_check.specs.declared.verdict.Verdict.TheVariants as verdict
@@ -30,11 +30,11 @@ use Rattle.run_words.specs.declared.job.Job.TheVariants.{Render, Simulate, Seria
 use Rattle.run_words.specs.declared.job.Origin.{Origin}
 use Rattle.run_words.specs.declared.job.Origin.TheVariants.{Read}
 use Rattle.run_words.specs.declared.work.Work.{Work}
-use Rattle.render_core.specs.Due.{Outcome, IsOutcome, IsRaced, IsRecorded, IsVerdictOn, default_ending, default_frames, found_by, journal_of}
+use Rattle.render_core.specs.Due.{Outcome, IsOutcome, IsRaced, IsRecorded, IsVerdictOn, default_ending, default_frames, ending_by, found_by, journal_of}
 use Rattle.render_core.specs.Findings.{Finding, Long, Malformed, Outside, Unsuited, Sound, refused_with}
-use Rattle.render_core.specs.Foreseen.{Asking, RunOf, IsDueStatus, DrawsOnTiles, EndsAreForeseen, ImagesAreForeseen, ShowsAreForeseen, ShowsAreDecidedBefore}
+use Rattle.render_core.specs.Foreseen.{Asking, RunOf, IsDueStatus, DrawsOnTiles, EndsAreForeseen, ImagesAreForeseen, ShowsAreForeseen, ShowsAreDecidedBefore, DealtShowsAreForeseen, DealtShowsAreDecidedBefore}
 use Rattle.run_words.specs.Jobs.{AskFiltered, AskPlainly, ForTask, Task, cluster_of, origin_of, task_of}
-use Rattle.render_core.specs.Laws.{FullRecordsAreForeseen}
+use Rattle.render_core.specs.Laws.{RecordsAreForeseen}
 use Rattle.render_core.specs.Outcomes.{IsDue, Sent, Whole, Front, IsDone, IsUnnoted, IsReported, Cause, SourceFailed, InputRefused, ImageFailed, IsRefused, Ran, Usage, Done, NotesFailed, Stuck, RaceFound, Refused, NoMemory, ShowsTheSerialImage}
 use Rattle.render_core.specs.Scenes.{Found, HasWork, IsInput, Spells, Gives, Takes, is_filtered, meant}
 use Rattle.render_core.proofs.Endings.{front_whole, same_filtered, same_task}
@@ -208,9 +208,9 @@ module _ (bytes : ScenesAreOne) (lists : ListScenesAreOne) (differ : FormsAreApa
       ∙ ap (λ (f : Found). scene_by task.filters (meant f))
       (one_given bytes lists differ text (Read Bytes) input is.found found (subst (λ (o : Origin). Gives o input is.found) reads is.gives) spelled)
 
-  module _ (foreseen : FullRecordsAreForeseen) (ordered : ScenesOfOrderedConflictsAreOrdered) (ask : Asking)
+  module _ (foreseen : RecordsAreForeseen) (ordered : ScenesOfOrderedConflictsAreOrdered) (ask : Asking)
       (one : (words : List (String Global)) (a b : Task) → ask words a → ask words b → a ≡ b) (filters : List SpuRule) (input : List ℕ) (found : Found)
-      (spelled : Spells Bytes input found) (full : IsFull (sync_lists_of (scene_by filters (meant found)))) where
+      (spelled : Spells Bytes input found) where
     abbrev scene : Scene
     scene = scene_by filters (meant found)
 
@@ -224,47 +224,49 @@ module _ (bytes : ScenesAreOne) (lists : ListScenesAreOne) (differ : FormsAreApa
       record_is : IsRecorded cluster c.work c.o
       record_is = recorded job draws c.work c.o c.due
 
-      known : (c.o.ending ≡ default_ending c.work.scene)
-          × (IsOrderedScene c.work.scene (journal_of c.work.scene) → ShowsTheSerialImage cluster c.work.scene record_is.record_kept)
-      known =
-          let by = foreseen (task_of filters job) cluster input c.work record_is.record_kept (tiles_of job draws).1 c.is record_is.lawful
-          (subst (λ (s : Scene). IsFull (sync_lists_of s)) (sym same) full) in
-          (record_is.ending ∙ by.0, by.1)
+      known : (TakesAlone (sync_lists_of c.work.scene) → ending_by c.work.scene record_is.record_kept.journal ≡ default_ending c.work.scene)
+          × (IsUncontended (sync_lists_of c.work.scene) → IsOrderedScene c.work.scene (journal_of c.work.scene)
+          → ShowsTheSerialImage cluster c.work.scene record_is.record_kept)
+      known = foreseen (task_of filters job) cluster input c.work record_is.record_kept (tiles_of job draws).1 c.is record_is.lawful
 
-      ends : c.o.ending ≡ default_ending scene
-      ends = known.0 ∙ ap default_ending same
+      ends : TakesAlone (sync_lists_of scene) → c.o.ending ≡ default_ending scene
+      ends alone = record_is.ending ∙ known.0 (subst (λ (s : Scene). TakesAlone (sync_lists_of s)) (sym same) alone) ∙ ap default_ending same
 
-      shows : IsOrderedScene scene (journal_of scene) → c.o.image ≡ p6_texts (default_frames scene)
-      shows is =
-          record_is.image ∙ known.1 (subst (λ (s : Scene). IsOrderedScene s (journal_of s)) (sym same) is) ∙ ap (λ (s : Scene). p6_texts (default_frames s)) same
+      shows : IsUncontended (sync_lists_of scene) → IsOrderedScene scene (journal_of scene) → c.o.image ≡ p6_texts (default_frames scene)
+      shows uncontended is =
+          record_is.image ∙ known.1 (subst (λ (s : Scene). IsUncontended (sync_lists_of s)) (sym same) uncontended) (subst (λ (s : Scene). IsOrderedScene s (journal_of s)) (sym same) is) ∙ ap (λ (s : Scene). p6_texts (default_frames s)) same
 
     out_of : (job : Job) → origin_of job ≡ Read Bytes → (status : ℕ) (given : List ℕ) (run : RunOf ask (task_of filters job) input status given) → IsDueStatus status
         → Carried (task_of filters job) input status given run.kept
     out_of job reads status given run out = carried_out ask one (task_of filters job) reads input status given run out
 
-    ends_foreseen : EndsAreForeseen ask filters input
-    ends_foreseen job status other blank shown draws checked drawn out late =
+    -- `serial` that ends with 0 writes the frames of the default order
+    serial_shows : (drawn : List ℕ) → RunOf ask (task_of filters Serial) input 0 drawn → drawn ≡ p6_texts (default_frames scene)
+    serial_shows drawn serial =
+        let b = out_of Serial refl 0 drawn serial (inl refl) in
+        b.whole (inl refl) ∙ drawn_image b.work b.o b.due
+        ∙ ap (λ (s : Scene). p6_texts (default_frames s)) (scene_is (task_of filters Serial) refl input found spelled b.work b.is)
+
+    ends_foreseen : TakesAlone (sync_lists_of scene) → EndsAreForeseen ask filters input
+    ends_foreseen alone job status other blank shown draws checked drawn out late =
         let a = out_of Check refl status blank checked out in
         let b = out_of job (tiles_of job draws).2 other shown drawn late in
         let told : a.o.ending ≡ default_ending scene =
         checked_end a.work a.o a.due ∙ ap default_ending (scene_is (task_of filters Check) refl input found spelled a.work a.is) in
-        let is = ends job draws other shown drawn.kept b in
+        let is = ends job draws other shown drawn.kept b alone in
         (λ five. b.stuck.1 (is ∙ sym told ∙ a.stuck.0 five), λ five. a.stuck.1 (told ∙ sym is ∙ b.stuck.0 five))
 
-    images_foreseen : ImagesAreForeseen ask filters input
-    images_foreseen job status blank drawn shown draws raced serial run out =
+    images_foreseen : IsUncontended (sync_lists_of scene) → ImagesAreForeseen ask filters input
+    images_foreseen uncontended job status blank drawn shown draws raced serial run out =
         let a = out_of Race refl 0 blank raced (inl refl) in
-        let b = out_of Serial refl 0 drawn serial (inl refl) in
         let c = out_of job (tiles_of job draws).2 status shown run out in
         let race_scene = scene_is (task_of filters Race) refl input found spelled a.work a.is in
         let none = raced_none ordered a.work a.o a.due (a.done refl) in
         let is_ordered : IsOrderedScene scene (journal_of scene) = subst (λ (s : Scene). IsOrderedScene s (journal_of s)) race_scene none.0 in
         let complete : default_ending scene ≡ Complete = ap default_ending (sym race_scene) ∙ none.1 in
         let image : c.o.image ≡ drawn =
-        shows job draws status shown run.kept c is_ordered
-        ∙ ap (λ (s : Scene). p6_texts (default_frames s)) (sym (scene_is (task_of filters Serial) refl input found spelled b.work b.is))
-        ∙ sym (drawn_image b.work b.o b.due) ∙ sym (b.whole (inl refl)) in
-        let never : status ≢ 5 = λ five. complete_is (sym complete ∙ sym (ends job draws status shown run.kept c) ∙ c.stuck.0 five) in (
+        shows job draws status shown run.kept c uncontended is_ordered ∙ sym (serial_shows drawn serial) in
+        let never : status ≢ 5 = λ five. complete_is (sym complete ∙ sym (ends job draws status shown run.kept c uncontended.alone) ∙ c.stuck.0 five) in (
           never,
           subst (IsFront shown) image c.front,
           λ six. elim out [
@@ -275,11 +277,25 @@ module _ (bytes : ScenesAreOne) (lists : ListScenesAreOne) (differ : FormsAreApa
           ],
         )
 
-  pub shows_foreseen : FullRecordsAreForeseen → ScenesOfOrderedConflictsAreOrdered → (ask : Asking)
+  pub shows_foreseen : RecordsAreForeseen → ScenesOfOrderedConflictsAreOrdered → (ask : Asking)
       → ((words : List (String Global)) (a b : Task) → ask words a → ask words b → a ≡ b) → ShowsAreForeseen ask
-  shows_foreseen foreseen ordered ask one filters input found spelled full =
-      (ends_foreseen foreseen ordered ask one filters input found spelled full, images_foreseen foreseen ordered ask one filters input found spelled full)
+  shows_foreseen foreseen ordered ask one filters input found spelled =
+      (ends_foreseen foreseen ordered ask one filters input found spelled, images_foreseen foreseen ordered ask one filters input found spelled)
 
-  pub decided_before : FullRecordsAreForeseen → ScenesOfOrderedConflictsAreOrdered → OneReading → OneChain → ShowsAreDecidedBefore
+  dealt_foreseen : RecordsAreForeseen → ScenesOfOrderedConflictsAreOrdered → (ask : Asking)
+      → ((words : List (String Global)) (a b : Task) → ask words a → ask words b → a ≡ b) → DealtShowsAreForeseen ask
+  dealt_foreseen foreseen ordered ask one filters dealt single found other spelled single_spelled uncontended blank text raced serial same job status shown drawn
+      draws run out again =
+      let alike : text ≡ drawn =
+      serial_shows foreseen ordered ask one filters single other single_spelled text same
+      ∙ sym (serial_shows foreseen ordered ask one filters single other single_spelled drawn again) in
+      images_foreseen foreseen ordered ask one filters dealt found spelled uncontended job status blank drawn shown draws raced
+      (subst (RunOf ask (task_of filters Serial) dealt 0) alike serial) run out
+
+  pub dealt_before : RecordsAreForeseen → ScenesOfOrderedConflictsAreOrdered → OneReading → OneChain → DealtShowsAreDecidedBefore
+  dealt_before foreseen ordered reading chain =
+      (dealt_foreseen foreseen ordered AskPlainly (same_task reading), dealt_foreseen foreseen ordered AskFiltered (same_filtered reading chain))
+
+  pub decided_before : RecordsAreForeseen → ScenesOfOrderedConflictsAreOrdered → OneReading → OneChain → ShowsAreDecidedBefore
   decided_before foreseen ordered reading chain =
       (shows_foreseen foreseen ordered AskPlainly (same_task reading), shows_foreseen foreseen ordered AskFiltered (same_filtered reading chain))

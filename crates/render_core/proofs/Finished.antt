@@ -10,7 +10,7 @@ use Rattle.run_words.specs.declared.told.Told.{Told}
 use Rattle.render_core.specs.Carried.{IsCarriedOut}
 use Rattle.render_core.specs.Finishes.{IsFinished, IsTaskless}
 use Rattle.run_words.specs.Jobs.{ForTask, Reads, ShowsNothing, Task}
-use Rattle.render_core.specs.Laws.{FindingsAreOne, FullRecordsAreForeseen, OrderedRecordsShowOneImage}
+use Rattle.render_core.specs.Laws.{FindingsAreOne, RecordsAreForeseen, OrderedRecordsShowOneImage}
 use Rattle.render_core.specs.Outcomes.{Ran, RefusesWhatItFinds, CarriesOutWhatItFinds, IsHeadline, KeepsOrders, IsUnwritten, IsLeftByThreads, HasNotes, LeavesMembers, PartlyGiven}
 use Rattle.render_core.proofs.Finishing.{left_by, members_by, ran_by, silent_by, unasked, unasked_done, unasked_members, unwritten_by}
 use Rattle.render_core.proofs.Headline.{completes, headline, permits, refuses}
@@ -29,7 +29,7 @@ pub record IsEnded (asks : Task → Type 0) (source image notes : Used) (SourceS
   pub silent : f.status ≡ 0 → NotesStay ⊎ HasNotes asks source image notes f.kept
   pub members : LeavesMembers asks source f.status rules left
 
-module _ (findings : FindingsAreOne) (shows : OrderedRecordsShowOneImage) (foreseen : FullRecordsAreForeseen) (asks : Task → Type 0)
+module _ (findings : FindingsAreOne) (shows : OrderedRecordsShowOneImage) (foreseen : RecordsAreForeseen) (asks : Task → Type 0)
     (one : (a b : Task) → asks a → asks b → a ≡ b) (source image : Used) (SourceStays ImageStays : Type 0) (f : Finish) where
   -- a run whose words ask for nothing, or lacked memory for it
   pub unasked_ended : (notes : Used) (NotesStay : Type 0) (rules : List SpuRule) → IsTaskless asks notes f → SourceStays → ImageStays

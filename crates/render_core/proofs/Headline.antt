@@ -16,7 +16,7 @@ use Rattle.render_core.specs.Findings.{Finding, Long, Malformed, Outside, Unsuit
 use Rattle.run_words.specs.declared.work.Work.{Work}
 use Rattle.run_words.specs.Jobs.{ForTask, Task, cluster_of, origin_of}
 use Rattle.render_core.specs.Scenes.{HasWork, Holds}
-use Rattle.render_core.specs.Laws.{FindingsAreOne, FullRecordsAreForeseen, OrderedRecordsShowOneImage}
+use Rattle.render_core.specs.Laws.{FindingsAreOne, RecordsAreForeseen, OrderedRecordsShowOneImage}
 use Rattle.render_core.specs.Outcomes.{IsDue, Sent, Whole, Front, IsDone, IsUnnoted, IsReported, IsRefused, Cause, SourceFailed, InputRefused, ImageFailed, Ran, Usage, Done, NotesFailed, Stuck, RaceFound, Refused, NoMemory, IsJobDone, RefusesWhatItFinds, CarriesOutWhatItFinds, IsHeadline, KeepsOrders, frames_text}
 use Rattle.render_core.proofs.Endings.{found_in_taken, holds_calm, sent_whole, noted_whole}
 use Rattle.render_core.proofs.KeptOrders.{keeps_orders}
@@ -135,7 +135,7 @@ complete_is e = absurd cc
 race_is : EndsRaceFound ≢ EndsStuck
 race_is e = absurd cc
 
-module _ (shows : OrderedRecordsShowOneImage) (foreseen : FullRecordsAreForeseen) (asks : Task → Type 0) (source image notes : Used) (status : ℕ) (kept : Record) where
+module _ (shows : OrderedRecordsShowOneImage) (foreseen : RecordsAreForeseen) (asks : Task → Type 0) (source image notes : Used) (status : ℕ) (kept : Record) where
   module _ (task : Task) (is_task : asks task) (o : Outcome) (due : IsDue task source o) (e : Some kept ≡ o.kept) where
     headline_of : TookFront image o.image → ((status ≡ 0) ⊎ (status ≡ 8) → Took image o.image) → (status ≡ 5 → (Failed image → ⊥) → Took image o.image)
         → (status ≡ 5) ↔ (o.ending ≡ EndsStuck) → IsHeadline asks source image status kept
@@ -162,9 +162,9 @@ module _ (shows : OrderedRecordsShowOneImage) (foreseen : FullRecordsAreForeseen
             unfailed = λ five calm. subst (Took image) text (unfailed five calm);
             one_image = λ ordered. (one ordered).0;
             serial_image = λ ordered. (one ordered).1;
-            same_end = λ full.
-                (λ five. sym (known full).0 ∙ sym is.ending ∙ stuck.0 five, λ ends. stuck.1 (is.ending ∙ (known full).0 ∙ ends));
-            foreseen_image = λ full. (known full).1;
+            same_end = λ alone.
+                (λ five. sym (known.0 alone) ∙ sym is.ending ∙ stuck.0 five, λ ends. stuck.1 (is.ending ∙ known.0 alone ∙ ends));
+            foreseen_image = known.1;
           })
 
   not_whole : (n : ℕ) → status ≡ n → n ≢ 0 → n ≢ 8 → (status ≡ 0) ⊎ (status ≡ 8) → ⊥
@@ -205,7 +205,7 @@ module _ (shows : OrderedRecordsShowOneImage) (foreseen : FullRecordsAreForeseen
   of_ran (Refused h) = of_cause h.0 h.1 h.2.line h.2.cause
   of_ran (NoMemory is told unkept) = absurd cc
 
-module _ (shows : OrderedRecordsShowOneImage) (foreseen : FullRecordsAreForeseen) (asks : Task → Type 0) (source image notes : Used) (status : ℕ) where
+module _ (shows : OrderedRecordsShowOneImage) (foreseen : RecordsAreForeseen) (asks : Task → Type 0) (source image notes : Used) (status : ℕ) where
   pub headline : (kept : Option Record) → Ran asks source image notes status kept → IfSome kept (IsHeadline asks source image status)
   headline None ran = tt
   headline (Some kept) ran = of_ran shows foreseen asks source image notes status kept ran

@@ -19,7 +19,7 @@ use Rattle.rc_base.specs.declared.scene.Decl.{Decl}
 use Rattle.rc_base.specs.declared.scene.Limit.{Limit}
 use Rattle.rc_base.specs.declared.scene.Scene.{Scene}
 use Rattle.rc_base.specs.declared.sync.Name.{Name}
-use Rattle.order_model.specs.Laws.{SceneListsAreWellFormed, OrderedRunsShowOneImage, FullOrderedRunsShowTheDefaultImage}
+use Rattle.order_model.specs.Laws.{SceneListsAreWellFormed, OrderedRunsShowOneImage, UncontendedRunsShowTheDefaultImage}
 use Rattle.order_model.specs.Report.{frame_count, image_text_of, recorded_pixel}
 use Rattle.order_model.specs.Sent.{IsRecordOf}
 use Rattle.order_model.specs.declared.record.Record.{Record}
@@ -138,7 +138,7 @@ module _ (made : GeneratedScenesAreWithin) (stays : FilteredStaysWithin) (task :
     some_tiles : 1 ≤ (layout_for cluster work.scene).columns * (layout_for cluster work.scene).rows
     some_tiles = (layout_tiles work.scene (layout_for cluster work.scene) cluster.depth (layout_within cluster work.scene asked)).0
 
-module _ (formed : SceneListsAreWellFormed) (made : GeneratedScenesAreWithin) (stays : FilteredStaysWithin) (permitted : OrderedRunsShowOneImage) (default : FullOrderedRunsShowTheDefaultImage) where
+module _ (formed : SceneListsAreWellFormed) (made : GeneratedScenesAreWithin) (stays : FilteredStaysWithin) (permitted : OrderedRunsShowOneImage) (default : UncontendedRunsShowTheDefaultImage) where
   module _ (task : Task) (cluster : Cluster) (input : List ℕ) (work : Work) (kept : Record) (of : cluster_of task.job ≡ Some cluster) (is : IsInput task input work)
       (lawful : IsRecordOf work.scene (layout_for cluster work.scene) kept) (ordered : IsOrderedScene work.scene kept.journal) where
     abbrev scene : Scene
@@ -161,6 +161,6 @@ module _ (formed : SceneListsAreWellFormed) (made : GeneratedScenesAreWithin) (s
   unfolding default_frames
   one_image task cluster input work kept of is lawful ordered = (
     shows task cluster input work kept of is lawful ordered,
-    λ full. default work.scene (layout_for cluster work.scene) kept (well made stays task input work is formed)
-        (let least = some_tiles made stays task input work is cluster of in omega (arith, least)) full lawful ordered,
+    λ uncontended. default work.scene (layout_for cluster work.scene) kept (well made stays task input work is formed)
+        (let least = some_tiles made stays task input work is cluster of in omega (arith, least)) uncontended lawful ordered,
   )

@@ -1,12 +1,12 @@
--- What is decided before a show: where nothing takes a unit and all clients meet at each barrier, `check` tells how each `render` of the scene ends, and
--- where `race` finds nothing, `serial` shows what each shows.
+-- What is decided before a show: where takers are alone `check` tells how each `render` of the scene ends, and where nobody contends and `race` finds
+-- nothing, `serial` shows what each shows.
 use Rattle.std.specs.Prelude.{◌≡◌, ◌≢◌, ℕ, ◌⊎◌, ◌↔◌, List, ◌++◌, Option, Some}
 use Rattle.std.specs.declared.string.String.{String}
 use Rattle.std.specs.Global.{Global}
 use Rattle.rc_base.specs.Lists.{IsFront}
 use Rattle.rc_base.specs.Orders.Sync.{sync_lists_of}
 use Rattle.rc_base.specs.Outside.Ends.{Used}
-use Rattle.order_model.specs.Full.{IsFull}
+use Rattle.order_model.specs.Uncontended.{TakesAlone, IsUncontended}
 use Rattle.order_model.specs.declared.record.Record.{Record}
 use Rattle.spu_chain.specs.Scenes.{scene_by}
 use Rattle.spu_chain.specs.declared.rule.SpuRule.{SpuRule}
@@ -58,12 +58,28 @@ ImagesAreForeseen ask filters input =
     → RunOf ask (task_of filters Serial) input 0 drawn → RunOf ask (task_of filters job) input status shown → IsDueStatus status
     → (status ≢ 5) × IsFront shown drawn × (status ≢ 6 → shown ≡ drawn)
 
--- So it is where the scene that the input means has, behind the filters, nothing that takes a unit, and at each barrier that is named all clients meet.
+-- So it is by the scene that the input means, behind the filters: the ends where one client takes from each semaphore and no barrier is named by more clients
+-- than it counts, the images where besides one client gives each unit that is taken.
 abbrev pub ShowsAreForeseen : Asking → Type 0
 ShowsAreForeseen ask =
-    (filters : List SpuRule) (input : List ℕ) (found : Found) → Spells Bytes input found → IsFull (sync_lists_of (scene_by filters (meant found)))
-    → EndsAreForeseen ask filters input × ImagesAreForeseen ask filters input
+    (filters : List SpuRule) (input : List ℕ) (found : Found) → Spells Bytes input found
+    → (TakesAlone (sync_lists_of (scene_by filters (meant found))) → EndsAreForeseen ask filters input)
+    × (IsUncontended (sync_lists_of (scene_by filters (meant found))) → ImagesAreForeseen ask filters input)
+
+-- One stream was dealt to several clients: where nobody contends in what came of it, `race` ended with 0 on that, and `serial` wrote the same bytes of both
+-- inputs, every run of the dealt one on tiles writes what every `serial` of the one stream writes.
+abbrev pub DealtShowsAreForeseen : Asking → Type 0
+DealtShowsAreForeseen ask =
+    (filters : List SpuRule) (dealt single : List ℕ) (found other : Found) → Spells Bytes dealt found → Spells Bytes single other
+    → IsUncontended (sync_lists_of (scene_by filters (meant found)))
+    → (blank text : List ℕ) → RunOf ask (task_of filters Race) dealt 0 blank → RunOf ask (task_of filters Serial) dealt 0 text
+    → RunOf ask (task_of filters Serial) single 0 text
+    → (job : Job) (status : ℕ) (shown drawn : List ℕ) → DrawsOnTiles job → RunOf ask (task_of filters job) dealt status shown → IsDueStatus status
+    → RunOf ask (task_of filters Serial) single 0 drawn → (status ≢ 5) × IsFront shown drawn × (status ≢ 6 → shown ≡ drawn)
 
 -- of `run`, and of `run_filtered`
 abbrev pub ShowsAreDecidedBefore : Type 0
 ShowsAreDecidedBefore = ShowsAreForeseen AskPlainly × ShowsAreForeseen AskFiltered
+
+abbrev pub DealtShowsAreDecidedBefore : Type 0
+DealtShowsAreDecidedBefore = DealtShowsAreForeseen AskPlainly × DealtShowsAreForeseen AskFiltered

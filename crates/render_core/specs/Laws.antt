@@ -10,8 +10,8 @@ use Rattle.rc_base.specs.Orders.Sync.{sync_lists_of}
 use Rattle.rc_base.specs.Outside.Ends.{Used, Failed, IsCalm}
 use Rattle.rc_base.specs.declared.list_command.ListCommand.TheVariants.{Plain as PlainCommand}
 use Rattle.scene_file.specs.declared.list_scene.ListScene.{ListScene}
-use Rattle.order_model.specs.Full.{IsFull}
 use Rattle.order_model.specs.Sent.{IsRecordOf}
+use Rattle.order_model.specs.Uncontended.{TakesAlone, IsUncontended}
 use Rattle.order_model.specs.declared.record.Record.{Record}
 use Rattle.run_words.specs.declared.job.Cluster.{Cluster}
 use Rattle.run_words.specs.declared.job.Job.{Job}
@@ -38,22 +38,21 @@ OneOutcomeIsDue =
 abbrev pub KeptOrdersArePermitted : Type 0
 KeptOrdersArePermitted = (job : Job) (work : Work) (o : Outcome) → IsOutcome job work o → IfSome o.kept KeepsOrders
 
--- A lawful record of a job's ordered scene shows the image of every order that its journal permits; where nothing takes a unit and all clients meet at
--- each barrier that is named, also that of `serial`.
+-- A lawful record of a job's ordered scene shows the image of every order that its journal permits; where nobody contends, also that of `serial`.
 abbrev pub OrderedRecordsShowOneImage : Type 0
 OrderedRecordsShowOneImage =
     (task : Task) (cluster : Cluster) (input : List ℕ) (work : Work) (kept : Record) → cluster_of task.job ≡ Some cluster → IsInput task input work
     → IsRecordOf work.scene (layout_for cluster work.scene) kept → IsOrderedScene work.scene kept.journal
-    → ShowsEveryPermittedOrder cluster work.scene kept × (IsFull (sync_lists_of work.scene) → ShowsTheSerialImage cluster work.scene kept)
+    → ShowsEveryPermittedOrder cluster work.scene kept × (IsUncontended (sync_lists_of work.scene) → ShowsTheSerialImage cluster work.scene kept)
 
--- Of a job's scene in which nothing takes a unit, and all clients meet at each barrier that is named, the default journal is enough: a lawful record's
--- journal ends as it does, and where the scene is ordered for the default journal the record shows the image of `serial`.
-abbrev pub FullRecordsAreForeseen : Type 0
-FullRecordsAreForeseen =
+-- Of a job's scene the default journal is enough: where takers are alone a lawful record's journal ends as it does, and where nobody contends and the
+-- scene is ordered for the default journal, the record shows the image of `serial`.
+abbrev pub RecordsAreForeseen : Type 0
+RecordsAreForeseen =
     (task : Task) (cluster : Cluster) (input : List ℕ) (work : Work) (kept : Record) → cluster_of task.job ≡ Some cluster → IsInput task input work
-    → IsRecordOf work.scene (layout_for cluster work.scene) kept → IsFull (sync_lists_of work.scene)
-    → (ending_by work.scene kept.journal ≡ default_ending work.scene)
-    × (IsOrderedScene work.scene (journal_of work.scene) → ShowsTheSerialImage cluster work.scene kept)
+    → IsRecordOf work.scene (layout_for cluster work.scene) kept
+    → (TakesAlone (sync_lists_of work.scene) → ending_by work.scene kept.journal ≡ default_ending work.scene)
+    × (IsUncontended (sync_lists_of work.scene) → IsOrderedScene work.scene (journal_of work.scene) → ShowsTheSerialImage cluster work.scene kept)
 
 -- The tasks of words without filters are those of words that name filters, where no filter's word comes first.
 abbrev pub PlainTasksAreFilteredOnes : Type 0

@@ -8,9 +8,9 @@ use Rattle.rc_base.specs.Orders.Order.{IsPermitted}
 use Rattle.rc_base.specs.Orders.Sync.{sync_lists_of}
 use Rattle.rc_base.specs.declared.scene.Scene.{Scene}
 use Rattle.rc_base.specs.declared.sync.Name.{Name}
-use Rattle.order_model.specs.Full.{IsFull}
 use Rattle.order_model.specs.Report.{frame_count, image_text_of, recorded_frame, tile_order}
 use Rattle.order_model.specs.Sent.{IsRecordOf}
+use Rattle.order_model.specs.Uncontended.{TakesAlone, IsUncontended}
 use Rattle.order_model.specs.declared.record.Record.{Record}
 use Rattle.run_words.specs.declared.job.Cluster.{Cluster}
 use Rattle.run_words.specs.declared.job.Job.{Job}
@@ -200,8 +200,8 @@ ShowsTheSerialImage cluster scene kept = frames_text cluster scene kept ≡ p6_t
 -- The record that is kept is lawful for the scene that the source's bytes mean, or that the job makes, behind the filters, and for the tiles of the
 -- words: where it comes from, read, expanded, made and filtered, is the task's work. The image was
 -- given its frames: all of them with the statuses 0 and 8, and with 5 and 6 a front of their text, which with 5 is the whole unless the image failed.
--- Where besides nothing takes a unit, and at each barrier that is named all clients meet, the image is that of `serial`. Of such a scene the default journal,
--- which is known before any run, tells how each run ends, and where the scene is ordered for it, what each run shows.
+-- Where besides nobody contends, the image is that of `serial`. The default journal is known before any run: where takers are alone it tells how each run
+-- ends, and where nobody contends and the scene is ordered for it, what each run shows.
 pub record IsHeadline (asks : Task → Type 0) (source image : Used) (status : ℕ) (kept : Record) : Type 0 where
   pub task : Task
   pub named : asks task
@@ -215,9 +215,9 @@ pub record IsHeadline (asks : Task → Type 0) (source image : Used) (status : �
   pub whole : (status ≡ 0) ⊎ (status ≡ 8) → Took image (frames_text cluster work.scene kept)
   pub unfailed : status ≡ 5 → (Failed image → ⊥) → Took image (frames_text cluster work.scene kept)
   pub one_image : IsOrderedScene work.scene kept.journal → ShowsEveryPermittedOrder cluster work.scene kept
-  pub serial_image : IsOrderedScene work.scene kept.journal → IsFull (sync_lists_of work.scene) → ShowsTheSerialImage cluster work.scene kept
-  pub same_end : IsFull (sync_lists_of work.scene) → (status ≡ 5) ↔ (default_ending work.scene ≡ EndsStuck)
-  pub foreseen_image : IsFull (sync_lists_of work.scene) → IsOrderedScene work.scene (journal_of work.scene) → ShowsTheSerialImage cluster work.scene kept
+  pub serial_image : IsOrderedScene work.scene kept.journal → IsUncontended (sync_lists_of work.scene) → ShowsTheSerialImage cluster work.scene kept
+  pub same_end : TakesAlone (sync_lists_of work.scene) → (status ≡ 5) ↔ (default_ending work.scene ≡ EndsStuck)
+  pub foreseen_image : IsUncontended (sync_lists_of work.scene) → IsOrderedScene work.scene (journal_of work.scene) → ShowsTheSerialImage cluster work.scene kept
 
 -- ---- what a run leaves alone
 

@@ -1,8 +1,8 @@
 //! Laws on what a job finds in its input, on what is due for a scene, and on the order in which a job is refused. Each function's contract is a law,
 //! and its body calls the laws that it follows from: there is nothing to compute.
-ghost use Rattle.render_core.specs.Foreseen.{ShowsAreDecidedBefore};
+ghost use Rattle.render_core.specs.Foreseen.{DealtShowsAreDecidedBefore, ShowsAreDecidedBefore};
 ghost use Rattle.render_core.specs.Shows.{RendersShowTheirRecords};
-ghost use Rattle.render_core.specs.Laws.{FindingsAreOne, OneOutcomeIsDue, KeptOrdersArePermitted, OrderedRecordsShowOneImage, FullRecordsAreForeseen, PlainTasksAreFilteredOnes, ListScenesMeanTheirExpansions, RefusalsComeInOrder};
+ghost use Rattle.render_core.specs.Laws.{FindingsAreOne, OneOutcomeIsDue, KeptOrdersArePermitted, OrderedRecordsShowOneImage, RecordsAreForeseen, PlainTasksAreFilteredOnes, ListScenesMeanTheirExpansions, RefusalsComeInOrder};
 
 use call_lists::laws::plain_streams_mean_themselves;
 use command_line::{leading_words_have_one_reading, lines_begin_no_filter, lines_have_one_reading};
@@ -49,7 +49,7 @@ pub fn kept_orders_are_permitted()
 {}
 
 /// Where every two commands that touch a common pixel or shared texture are ordered, a run shows the image of every permitted order: a lawful record of
-/// an ordered scene has its frames, and where all clients meet at each barrier and none takes a unit, those of the serial renderer.
+/// an ordered scene has its frames, and where nobody contends, those of the serial renderer.
 pub fn ordered_records_show_one_image()
     ensures { OrderedRecordsShowOneImage }
 {
@@ -59,10 +59,10 @@ pub fn ordered_records_show_one_image()
     runs_show_one_image();
 }
 
-/// Where nothing takes a unit and all clients meet at each barrier, the default journal tells beforehand how each run of a scene ends, and where it orders
-/// the scene, that each shows the image of the serial renderer.
-pub fn full_records_are_foreseen()
-    ensures { FullRecordsAreForeseen }
+/// The default journal tells beforehand, where one client takes from each semaphore and no barrier is named by more clients than it counts, how each run of a
+/// scene ends; where besides one client gives each unit that is taken, and it orders the scene, each run shows the image of the serial renderer.
+pub fn records_are_foreseen()
+    ensures { RecordsAreForeseen }
 {
     scene_lists_are_well_formed();
     generated_scenes_are_within_limits();
@@ -87,17 +87,19 @@ pub fn renders_show_their_records()
     ordered_records_show_one_image();
 }
 
-/// What is decided before a show. In scenes in which nothing takes a unit and all clients meet at each barrier, `render` and `simulate` are stuck exactly
-/// where `check` says so; and where `race` ends with 0, they write, at any tiles, depth and schedule, byte for byte what `serial` writes. So it is behind
-/// filters too.
+/// What is decided before a show. In scenes in which one client takes from each semaphore and no barrier is named by more clients than it counts, `render` and
+/// `simulate` are stuck exactly where `check` says so. Where besides one client gives each unit that is taken and `race` ends with 0, they write, at any tiles,
+/// depth and schedule, byte for byte what `serial` writes. So it is behind filters too. Where `serial` wrote the same bytes of one stream and of what it was
+/// dealt to, they write what it writes of the one stream.
 pub fn shows_are_decided_before()
-    ensures { ShowsAreDecidedBefore }
+    ensures shows { ShowsAreDecidedBefore }
+    ensures dealt { DealtShowsAreDecidedBefore }
 {
     bytes_spell_one_scene();
     bytes_spell_one_list_scene();
     forms_are_apart();
     texts_spell_one_scene();
-    full_records_are_foreseen();
+    records_are_foreseen();
     what_is_before_stands_before();
     lines_have_one_reading();
     leading_words_have_one_reading();

@@ -9,8 +9,8 @@ ghost use Rattle.render_core.specs.Outcomes.{Ran, RefusesWhatItFinds, CarriesOut
 ghost use Rattle.render_core.specs.Refusals.{kept_for};
 
 use crate::laws::{
-    findings_are_one, full_records_are_foreseen, ordered_records_show_one_image,
-    plain_tasks_are_filtered_ones,
+    findings_are_one, ordered_records_show_one_image, plain_tasks_are_filtered_ones,
+    records_are_foreseen,
 };
 use crate::steps::{perform, perform_any, perform_in_threads};
 use command_line::{
@@ -181,7 +181,7 @@ pub fn run_alone<S: Source, K: Sink, N: Sink>(
     lines_have_one_reading();
     findings_are_one();
     ordered_records_show_one_image();
-    full_records_are_foreseen();
+    records_are_foreseen();
     let job = match job_for(alloc, words, notes) {
         Ok(job) => job,
         Err(finish) => return finish,
@@ -259,7 +259,7 @@ where
     lines_have_one_reading();
     findings_are_one();
     ordered_records_show_one_image();
-    full_records_are_foreseen();
+    records_are_foreseen();
     let job = match job_for(alloc, words, notes) {
         Ok(job) => job,
         Err(finish) => return finish,
@@ -337,7 +337,7 @@ where
     lines_have_one_reading();
     findings_are_one();
     ordered_records_show_one_image();
-    full_records_are_foreseen();
+    records_are_foreseen();
     let job = match job_behind(alloc, words, notes) {
         Ok(job) => job,
         Err(finish) => return finish,

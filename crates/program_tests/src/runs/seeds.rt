@@ -141,6 +141,43 @@ fn twenty_seeds_draw_what_the_serial_renderer_draws(rt: HostRuntime) {
     }
 }
 
+// Two clients take from one semaphore of one unit, and one gives to it: who comes first has the first unit, and the other the one that client 0 gives.
+const TWO_TAKERS: &[u8] = b"scene 1 1 1
+semaphore 1
+client
+ClearColor 255 0 0 255
+Clear 1
+SemV 1
+Swap
+client
+SemP 1
+Swap
+client
+SemP 1
+ClearColor 0 255 0 255
+Clear 1
+Swap
+";
+
+// Its picture by the default journal, in which client 2 has client 0's unit, and by one in which it has the first.
+const GREEN: &[u8] = b"P6\n1 1\n255\n\x00\xff\x00";
+
+const RED: &[u8] = b"P6\n1 1\n255\n\xff\x00\x00";
+
+#[test]
+fn another_journal_of_two_takers_shows_another_picture(rt: HostRuntime) {
+    let alloc = rt.alloc();
+    let scene = run_on(&rt, alloc, &["pack"], TWO_TAKERS);
+    let bytes = scene.image.bytes();
+    let case = (TWO_TAKERS, "1x1", "1");
+    let race = run_on(&rt, alloc, &["race"], bytes);
+    assert!(rt; race.is(0, b"", b"journal 4\nframes 1\nrace none\n"));
+    let serial = run_on(&rt, alloc, &["serial"], bytes);
+    assert!(rt; serial.image.bytes() == GREEN);
+    assert!(rt; draws(&rt, alloc, bytes, &case, 11, (0, GREEN)));
+    assert!(rt; draws(&rt, alloc, bytes, &case, 12, (0, RED)));
+}
+
 // Two scenes on lanes of one item.
 const ON_SHORT_LANES: [Case; 2] = [
     (BLENDED_IN_TURN, "2x1", "1"),

@@ -11,7 +11,7 @@ pub returns-in-Err : goal.returns-in-Err
 returns-in-Err g c =
     let notes = use_of g.N.Sink.held g.N.Sink.faults c.args.notes.now c.job_behind.new.notes in
     let ended =
-    unasked_ended c.findings_are_one.ensures c.ordered_records_show_one_image.ensures c.full_records_are_foreseen.ensures (AskFiltered c.args.words.now)
+    unasked_ended c.findings_are_one.ensures c.ordered_records_show_one_image.ensures c.records_are_foreseen.ensures (AskFiltered c.args.words.now)
     (same_filtered c.lines_have_one_reading.ensures c.leading_words_have_one_reading.ensures.one c.args.words.now) (use_of g.S.Source.left g.S.Source.faults c.args.source.now c.args.source.now)
     (use_of g.K.Sink.held g.K.Sink.faults c.args.image.now c.args.image.now) (c.args.source.now ≡ c.args.source.now)
     (c.args.image.now ≡ c.args.image.now) c.in-Err.finish notes (c.job_behind.new.notes ≡ c.args.notes.now) _
@@ -38,7 +38,7 @@ returns-in-Err g c =
 pub returns : goal.returns
 returns g c =
     let ended =
-    task_ended c.findings_are_one.ensures c.ordered_records_show_one_image.ensures c.full_records_are_foreseen.ensures (AskFiltered c.args.words.now)
+    task_ended c.findings_are_one.ensures c.ordered_records_show_one_image.ensures c.records_are_foreseen.ensures (AskFiltered c.args.words.now)
     (same_filtered c.lines_have_one_reading.ensures c.leading_words_have_one_reading.ensures.one c.args.words.now) (use_of g.S.Source.left g.S.Source.faults c.args.source.now c.perform_any-performed.new.source)
     (use_of g.K.Sink.held g.K.Sink.faults c.args.image.now c.perform_any-performed.new.image) _ _ c.finish_of.result
     g.N.Sink.held g.N.Sink.faults c.args.notes.now _ c.finish_of.new.notes c.in-Ok.ensures.unnoted _ (c.in-Ok.ensures.asked _ c.requires.named) _ c.perform_any-performed.result
