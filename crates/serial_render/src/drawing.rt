@@ -1,9 +1,15 @@
 //! Carrying out the commands of an order on one device.
-ghost use Rattle.std.specs.Prelude.{◌≡◌, length, max, IfOk, OnOk};
+ghost use Rattle.std.specs.Prelude.{◌≡◌, ◌<◌, length, max, IfOk, OnOk};
 ghost use Rattle.rc_base.specs.Formats.Within.{IsWithin};
 ghost use Rattle.rc_base.specs.Cluster.Tiles.{window_rect};
+ghost use Rattle.rc_base.specs.Contexts.Issue.{stream_of};
+ghost use Rattle.rc_base.specs.declared.command.Part.{Part};
+ghost use Rattle.rc_base.specs.declared.state.Effect.TheVariants as eff;
+ghost use Rattle.draw_device.specs.Conditions.{IsClearable, IsDrawable};
 ghost use Rattle.draw_device.specs.Devices.{IsDeviceRect};
-ghost use Rattle.stream_replay.specs.Clients.{AreIssued};
+ghost use Rattle.draw_device.specs.Stored.{IsStorable, set_after};
+ghost use Rattle.stream_replay.specs.Clients.{AreIssued, StandsBefore, issued_by};
+ghost use Rattle.serial_render.specs.Performed.{TakesEffect, effect_by, images_behind, state_behind};
 ghost use Rattle.serial_render.specs.Shown.{IsPlayable, IsShown, AreShownOn};
 
 use crate::image::image_of;
@@ -14,7 +20,7 @@ use rc_base::scene::{Decl, Scene};
 use rc_base::sync::Name;
 use rc_base::window::{Rect, window_rect};
 use std::alloc::Global;
-use stream_replay::{Client, clients_of, issue_name, take_back};
+use stream_replay::{Client, clients_of, issue_name, issue_still, take_back};
 use textures::SharedSet;
 
 /// The rectangle of the whole window.
@@ -53,6 +59,37 @@ pub(crate) struct Played {
     pub(crate) frames: Frames,
 }
 
+// Issues the command of a name, the next one of its client, and carries out what it does beyond its client's context.
+#[inline(always)]
+fn perform(
+    clients: &mut Vec<Client>,
+    scene: &Scene,
+    name: Name,
+    device: &mut Device,
+    shared: &mut SharedSet,
+) -> Result<(), OutOfMemory>
+    requires within { IsWithin scene.now }
+    requires inside { name.place < length (stream_of scene.now name.client) }
+    requires before { StandsBefore scene.now clients.old.items name }
+    requires drawable { IsDrawable (state_behind scene.now name) (images_behind scene.now name) shared.old }
+    requires clearable { IsClearable (state_behind scene.now name) }
+    requires writable { (part : Part) → effect_by scene.now name ≡ eff.Shared part → IsStorable part shared.old }
+    ensures clients { OnOk result (clients.new.items ≡ issued_by scene.now clients.old.items name) }
+    ensures rect { OnOk result (device.new.rect ≡ device.old.rect) }
+    ensures drawn { OnOk result (TakesEffect scene.now name shared.old device.old device.new) }
+    ensures shared { OnOk result (shared.new ≡ set_after (effect_by scene.now name) shared.old) }
+{
+    if issue_still(clients, scene, name)? {
+        return Ok(());
+    }
+    let client = usize::from(name.client);
+    let effect = issue_name(clients, scene, name)?;
+    let context = &clients[client].context;
+    carry_out(&effect, context.state(), context.private(), device, shared);
+    take_back(clients, client, effect);
+    Ok(())
+}
+
 /// Carries out the names of an order, one after the other. The picture of a frame is taken before the first name that lies beyond its client's Swap.
 pub(crate) fn play(alloc: Global, scene: &Scene, order: &[Name]) -> Result<Played, OutOfMemory>
     requires within { IsWithin scene.now }
@@ -73,16 +110,7 @@ pub(crate) fn play(alloc: Global, scene: &Scene, order: &[Name]) -> Result<Playe
             &mut frames,
             clients[client].swaps,
         )?;
-        let effect = issue_name(&mut clients, scene, *name)?;
-        let context = &clients[client].context;
-        carry_out(
-            &effect,
-            context.state(),
-            context.private(),
-            &mut device,
-            &mut shared,
-        );
-        take_back(&mut clients, client, effect);
+        perform(&mut clients, scene, *name, &mut device, &mut shared)?;
     }
     Ok(Played {
         clients,

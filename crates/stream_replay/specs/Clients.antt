@@ -5,6 +5,8 @@ use Rattle.rc_base.specs.Contexts.Issue.{context_after}
 use Rattle.rc_base.specs.Drawing.Serial.{accepted_swaps}
 use Rattle.rc_base.specs.Orders.Order.{names_in}
 use Rattle.rc_base.specs.declared.scene.Scene.{Scene}
+use Rattle.rc_base.specs.declared.state.Effect.{Effect}
+use Rattle.rc_base.specs.declared.state.Effect.TheVariants as eff
 use Rattle.rc_base.specs.declared.sync.Name.{Name}
 use Rattle.stream_replay.specs.declared.client.Client.{Client}
 
@@ -23,6 +25,15 @@ StandsBefore scene clients name = slice_get clients name.client ≡ Some (client
 -- the clients after the name was issued, the next one of its client
 abbrev pub issued_by : Scene → List Client → Name → List Client
 issued_by scene clients name = slice_set clients name.client (client_after scene name.client (name.place + 1))
+
+-- nothing is done beyond the command's context: it is quiet, or refused
+abbrev pub IsStill : Effect → Type 0
+IsStill eff.Quiet = Unit {0}
+IsStill (eff.Refused fault) = Unit {0}
+IsStill (eff.Block block) = ⊥
+IsStill (eff.Clear mask) = ⊥
+IsStill (eff.Shared part) = ⊥
+IsStill (eff.Sync op) = ⊥
 
 -- each client stands behind its names among those that were carried out
 pub record AreIssued (scene : Scene) (done : List Name) (clients : List Client) : Type 0 where

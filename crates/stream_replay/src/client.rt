@@ -1,11 +1,11 @@
 //! What is kept of a client while an order is carried out.
-ghost use Rattle.std.specs.Prelude.{◌≡◌, ℕ, ◌+◌, ◌<◌, length, IfOk, OnOk};
+ghost use Rattle.std.specs.Prelude.{◌≡◌, ℕ, ◌+◌, ◌<◌, length, true, false, IfOk, OnOk};
 ghost use Rattle.rc_base.specs.Formats.Within.{IsWithin};
 ghost use Rattle.rc_base.specs.Contexts.Issue.{stream_of, effect_at};
 ghost use Rattle.rc_base.specs.Drawing.Serial.{is_swap_effect};
-ghost use Rattle.stream_replay.specs.Clients.{client_after, first_clients, StandsBefore, issued_by};
+ghost use Rattle.stream_replay.specs.Clients.{client_after, first_clients, IsStill, StandsBefore, issued_by};
 
-use crate::replay::issue_at;
+use crate::replay::{issue_at, issue_still_at};
 use gl_context::Context;
 use rc_base::out_of_memory::OutOfMemory;
 use rc_base::scene::Scene;
@@ -53,6 +53,24 @@ impl Client {
         Ok(effect)
     }
 
+    /// Issues the client's next command, where it is one that does nothing beyond its context. Whether it was issued.
+    #[inline(always)]
+    fn issue_still(
+        &mut self,
+        scene: &Scene,
+        client: usize,
+        place: usize,
+    ) -> Result<bool, OutOfMemory>
+        requires within { IsWithin scene.now }
+        requires inside { place < length (stream_of scene.now client) }
+        requires before { self.old ≡ client_after scene.now client place }
+        ensures client { IfOk result (λ done. done ≡ true → self.new ≡ client_after scene.now client (place + 1)) }
+        ensures still { IfOk result (λ done. done ≡ true → IsStill (effect_at scene.now client place)) }
+        ensures left { IfOk result (λ done. done ≡ false → self.new ≡ self.old) }
+    {
+        issue_still_at(&mut self.context, scene, client, place)
+    }
+
     #[inline(always)]
     fn take_back(&mut self, effect: Effect)
         ensures { self.new ≡ self.old }
@@ -86,6 +104,28 @@ pub fn issue_name(
     ensures effect { IfOk result (λ e. e ≡ effect_at scene.now name.client name.place) }
 {
     clients[usize::from(name.client)].issue(scene, usize::from(name.client), name.place as usize)
+}
+
+/// Issues the command of a name, the next one of its client, where it is a Vertex, a Color or a TexCoord, which do nothing beyond their client's
+/// context; another command is left alone. Whether it was issued.
+#[inline(always)]
+pub fn issue_still(
+    clients: &mut Vec<Client>,
+    scene: &Scene,
+    name: Name,
+) -> Result<bool, OutOfMemory>
+    requires within { IsWithin scene.now }
+    requires inside { name.place < length (stream_of scene.now name.client) }
+    requires before { StandsBefore scene.now clients.old.items name }
+    ensures clients { IfOk result (λ done. done ≡ true → clients.new.items ≡ issued_by scene.now clients.old.items name) }
+    ensures still { IfOk result (λ done. done ≡ true → IsStill (effect_at scene.now name.client name.place)) }
+    ensures left { IfOk result (λ done. done ≡ false → clients.new.items ≡ clients.old.items) }
+{
+    clients[usize::from(name.client)].issue_still(
+        scene,
+        usize::from(name.client),
+        name.place as usize,
+    )
 }
 
 /// Gives a client back what one of its commands did and is done with, so that its next block has the room of this one.

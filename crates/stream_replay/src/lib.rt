@@ -9,5 +9,5 @@
 mod client;
 mod replay;
 
-pub use client::{Client, clients_of, issue_name, take_back};
-pub use replay::{count_at, issue_at};
+pub use client::{Client, clients_of, issue_name, issue_still, take_back};
+pub use replay::{count_at, issue_at, issue_still_at};

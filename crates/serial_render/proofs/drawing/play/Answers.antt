@@ -1,8 +1,8 @@
-use Rattle.std.proofs.Common.{◌≡◌, ℕ, ◌+◌, List, Option, length, take, drop, ◌∙◌, ap, sym, subst, arith}
+use Rattle.std.proofs.Common.{◌≡◌, ℕ, ◌+◌, List, Option, length, take, drop, ◌∙◌, ap, refl, sym, subst, arith}
 use Rattle.std.specs.Prelude.{slice_index_or, max}
 use Rattle.std.proofs.lemmas.Option.{slice_get-get_or}
 use Rattle.rc_base.specs.Cluster.Tiles.{is_in_rect}
-use Rattle.rc_base.specs.Contexts.Issue.{context_after}
+use Rattle.rc_base.specs.Contexts.Issue.{context_after, effect_at}
 use Rattle.rc_base.specs.Drawing.PixelStep.{effect_step}
 use Rattle.rc_base.specs.Drawing.Serial.{textures_after, frame_pixel}
 use Rattle.rc_base.specs.Pictures.{Picture}
@@ -48,72 +48,38 @@ index-requires c =
     let next = c.requires.playable.next i n (slice_get-get_or c.args.order.now i none c.loop-name-test.true) in
     omega (arith, is_client s n.client n.place next.1, c.from-client.ensures, c.loop-name.clients.ok, c.loop-name.invariant.clients.count)
 
-pub issue_name-requires-clause-inside : goal.issue_name-requires-clause-inside
-issue_name-requires-clause-inside c =
+pub perform-requires-clause-inside : goal.perform-requires-clause-inside
+perform-requires-clause-inside c =
     let i = c.loop-name.name-index in
     (c.requires.playable.next i (slice_index_or c.args.order.now i none) (slice_get-get_or c.args.order.now i none c.loop-name-test.true)).1
 
-pub issue_name-requires-clause-before : goal.issue_name-requires-clause-before
-issue_name-requires-clause-before c =
+pub perform-requires-clause-before : goal.perform-requires-clause-before
+perform-requires-clause-before c =
     let s = c.args.scene.now in
     let i = c.loop-name.name-index in
     let n = slice_index_or c.args.order.now i none in
     let next = c.requires.playable.next i n (slice_get-get_or c.args.order.now i none c.loop-name-test.true) in
     client_before s (take i c.args.order.now) n c.loop-name.clients.items c.loop-name.invariant.clients next.0 (is_client s n.client n.place next.1)
 
-pub index-requires-in-loop-name : goal.index-requires-in-loop-name
-index-requires-in-loop-name c =
+pub perform-requires-clause-drawable : goal.perform-requires-clause-drawable
+perform-requires-clause-drawable c =
     let s = c.args.scene.now in
     let i = c.loop-name.name-index in
     let n = slice_index_or c.args.order.now i none in
-    let next = c.requires.playable.next i n (slice_get-get_or c.args.order.now i none c.loop-name-test.true) in
-    let lt = is_client s n.client n.place next.1 in
-    let later = clients_next s (take i c.args.order.now) n c.loop-name.clients.items c.issue_name.new.clients.items c.loop-name.invariant.clients next.0 lt c.in_ok-effect.ensures.clients in
-    omega (arith, lt, c.from-client.ensures, c.issue_name.new.clients.ok, later.count)
+    drawable s.decl (context_after s n.client (n.place + 1)) (textures_after s (take i c.args.order.now)) c.loop-name.shared (valid s c.requires.within.commands n.client (n.place + 1)) c.loop-name.invariant.texels (within_has_sides s c.requires.within)
 
-pub take_back-requires : goal.take_back-requires
-take_back-requires c =
-    let s = c.args.scene.now in
-    let i = c.loop-name.name-index in
-    let n = slice_index_or c.args.order.now i none in
-    let next = c.requires.playable.next i n (slice_get-get_or c.args.order.now i none c.loop-name-test.true) in
-    let lt = is_client s n.client n.place next.1 in
-    let later = clients_next s (take i c.args.order.now) n c.loop-name.clients.items c.issue_name.new.clients.items c.loop-name.invariant.clients next.0 lt c.in_ok-effect.ensures.clients in
-    omega (arith, lt, c.from-client.ensures, c.issue_name.new.clients.ok, later.count)
+pub perform-requires-clause-clearable : goal.perform-requires-clause-clearable
+perform-requires-clause-clearable c =
+    let n = slice_index_or c.args.order.now c.loop-name.name-index none in
+    clearable c.args.scene.now n.client (n.place + 1)
 
-pub carry_out-requires-clause-drawable : goal.carry_out-requires-clause-drawable
-carry_out-requires-clause-drawable c =
+pub perform-requires-clause-writable : goal.perform-requires-clause-writable
+perform-requires-clause-writable c part is =
     let s = c.args.scene.now in
     let i = c.loop-name.name-index in
     let n = slice_index_or c.args.order.now i none in
     let next = c.requires.playable.next i n (slice_get-get_or c.args.order.now i none c.loop-name-test.true) in
-    let lt = is_client s n.client n.place next.1 in
-    let found = c.index-in-loop-name.ensures ∙ ap (λ (k : ℕ). slice_index_or c.issue_name.new.clients.items k c.index-in-loop-name.result.now) c.from-client.ensures in
-    let now = client_now s n c.loop-name.clients.items c.issue_name.new.clients.items c.index-in-loop-name.result.now (omega (arith, lt, c.loop-name.invariant.clients.count)) c.in_ok-effect.ensures.clients found in
-    subst (λ (v : State). IsDrawable v c.private.result.now c.loop-name.shared) (sym c.state.ensures)
-    (subst (λ (v : List (Option Picture)). IsDrawable c.index-in-loop-name.result.now.context.state v c.loop-name.shared) (sym c.private.ensures)
-    (subst (λ (x : Client). IsDrawable x.context.state x.context.images c.loop-name.shared) (sym now)
-    (drawable s.decl (context_after s n.client (n.place + 1)) (textures_after s (take i c.args.order.now)) c.loop-name.shared (valid s c.requires.within.commands n.client (n.place + 1)) c.loop-name.invariant.texels (within_has_sides s c.requires.within))))
-
-pub carry_out-requires-clause-clearable : goal.carry_out-requires-clause-clearable
-carry_out-requires-clause-clearable c =
-    let s = c.args.scene.now in
-    let i = c.loop-name.name-index in
-    let n = slice_index_or c.args.order.now i none in
-    let next = c.requires.playable.next i n (slice_get-get_or c.args.order.now i none c.loop-name-test.true) in
-    let lt = is_client s n.client n.place next.1 in
-    let found = c.index-in-loop-name.ensures ∙ ap (λ (k : ℕ). slice_index_or c.issue_name.new.clients.items k c.index-in-loop-name.result.now) c.from-client.ensures in
-    let now = client_now s n c.loop-name.clients.items c.issue_name.new.clients.items c.index-in-loop-name.result.now (omega (arith, lt, c.loop-name.invariant.clients.count)) c.in_ok-effect.ensures.clients found in
-    subst (λ (v : State). IsClearable v) (sym c.state.ensures) (subst (λ (x : Client). IsClearable x.context.state) (sym now) (clearable s n.client (n.place + 1)))
-
-pub carry_out-requires-clause-writable : goal.carry_out-requires-clause-writable
-carry_out-requires-clause-writable c part is =
-    let s = c.args.scene.now in
-    let i = c.loop-name.name-index in
-    let n = slice_index_or c.args.order.now i none in
-    let next = c.requires.playable.next i n (slice_get-get_or c.args.order.now i none c.loop-name-test.true) in
-    writable s n.client n.place _ (textures_after s (take i c.args.order.now)) c.loop-name.shared part c.requires.within.commands (some_command s n.client n.place next.1) c.loop-name.invariant.texels
-    (sym c.in_ok-effect.ensures.effect ∙ is)
+    writable s n.client n.place _ (textures_after s (take i c.args.order.now)) c.loop-name.shared part c.requires.within.commands (some_command s n.client n.place next.1) c.loop-name.invariant.texels is
 
 pub loop-name-preserved : goal.loop-name-preserved
 loop-name-preserved c =
@@ -127,35 +93,29 @@ loop-name-preserved c =
     let parts = order_at order i n at in
     let lt = is_client s n.client n.place next.1 in
     let xs = c.loop-name.clients.items in
-    let ys = c.issue_name.new.clients.items in
+    let ys = c.perform.new.clients.items in
     let inv = c.loop-name.invariant in
     let was : c.index.result.now ≡ client_after s n.client n.place =
     read_is_item xs n.client c.index.result.now _ (client_before s done n xs inv.clients next.0 lt)
     (c.index.ensures ∙ ap (λ (k : ℕ). slice_index_or xs k c.index.result.now) c.from-client.ensures) in
     let swaps : c.index.result.now.swaps ≡ swaps_before s n = ap (λ (x : Client). x.swaps) was in
-    let now : c.index-in-loop-name.result.now ≡ client_after s n.client (n.place + 1) =
-    client_now s n xs ys c.index-in-loop-name.result.now (omega (arith, lt, inv.clients.count)) c.in_ok-effect.ensures.clients
-    (c.index-in-loop-name.ensures ∙ ap (λ (k : ℕ). slice_index_or ys k c.index-in-loop-name.result.now) c.from-client.ensures) in
     let old = c.loop-name.frames in
     let new = c.show_up_to.new.frames in
     let d = c.loop-name.device in
+    let e = effect_at s n.client n.place in
     let count : length new ≡ max (length old) (swaps_before s n) = c.in_ok-show_up_to.ensures.count ∙ ap (max (length old)) swaps in
     let rest = drop (i + 1) order in
     let images = c.in_ok-show_up_to.ensures.images (frame_pixel s order) inv.shown.frames_are
-    (λ k low high. frames_due s order done rest n d c.carry_out.new.device old new c.requires.playable parts.0 inv.shown count k low (omega (arith, high, swaps))) in
+    (λ k low high. frames_due s order done rest n d c.perform.new.device old new c.requires.playable parts.0 inv.shown count k low (omega (arith, high, swaps))) in
     record {
-      clients = subst (λ (zs : List Client). AreIssued s (take (i + 1) order) zs) (sym c.take_back.ensures)
-          (subst (λ (l : List Name). AreIssued s l ys) (sym parts.1) (clients_next s done n xs ys inv.clients next.0 lt c.in_ok-effect.ensures.clients));
+      clients = subst (λ (l : List Name). AreIssued s l ys) (sym parts.1) (clients_next s done n xs ys inv.clients next.0 lt c.in_ok-perform.ensures.clients);
       texels = rw parts.1
-          (texels_after s done n c.in_ok-effect.effect c.loop-name.shared c.carry_out.new.shared c.in_ok-effect.ensures.effect inv.texels
-          (λ p is. writable s n.client n.place _ (textures_after s done) c.loop-name.shared p c.requires.within.commands (some_command s n.client n.place next.1) inv.texels (sym c.in_ok-effect.ensures.effect ∙ is))
-          c.carry_out.ensures.shared);
-      shown = subst (λ (l : List Name). IsShown s order l c.carry_out.new.device new) (sym parts.1)
-          (shown_next s order done rest n d c.carry_out.new.device old new c.requires.playable parts.0 inv.shown count images c.carry_out.ensures.rect
-          (λ x y inside. c.carry_out.ensures.drawn x y inside
-          ∙ ap (λ (v : State). effect_step v (texture_image c.private.result.now) (shared_of c.loop-name.shared) c.in_ok-effect.effect x y (pixel_of d x y)) c.state.ensures
-          ∙ ap (λ (v : List (Option Picture)). effect_step c.index-in-loop-name.result.now.context.state (texture_image v) (shared_of c.loop-name.shared) c.in_ok-effect.effect x y (pixel_of d x y))
-          c.private.ensures
-          ∙ step_is s n _ (textures_after s done) c.loop-name.shared c.index-in-loop-name.result.now.context c.in_ok-effect.effect x y (pixel_of d x y) (some_command s n.client n.place next.1)
-          (ap (λ (z : Client). z.context) now) c.in_ok-effect.ensures.effect (valid s c.requires.within.commands n.client (n.place + 1)) inv.texels));
+          (texels_after s done n e c.loop-name.shared c.perform.new.shared refl inv.texels
+          (λ p is. writable s n.client n.place _ (textures_after s done) c.loop-name.shared p c.requires.within.commands (some_command s n.client n.place next.1) inv.texels is)
+          c.in_ok-perform.ensures.shared);
+      shown = subst (λ (l : List Name). IsShown s order l c.perform.new.device new) (sym parts.1)
+          (shown_next s order done rest n d c.perform.new.device old new c.requires.playable parts.0 inv.shown count images c.in_ok-perform.ensures.rect
+          (λ x y inside. c.in_ok-perform.ensures.drawn x y inside
+          ∙ step_is s n _ (textures_after s done) c.loop-name.shared (context_after s n.client (n.place + 1)) e x y (pixel_of d x y) (some_command s n.client n.place next.1) refl refl
+          (valid s c.requires.within.commands n.client (n.place + 1)) inv.texels));
     }
