@@ -28,6 +28,7 @@ pub fn effect_of(act: Act) -> Effect
 
 /// Does what an effect asks of pixels and shared textures, with a state and private textures: each pixel of the device takes the effect's step, and a part
 /// is written into its shared texture. An operation, a refused command and a quiet one change nothing. It takes no memory.
+#[inline(always)]
 pub fn carry_out(
     effect: &Effect,
     state: &State,

@@ -27,10 +27,10 @@ use crate::column_run::ColumnRun;
 use crate::columns::{color_rise, fill_column, is_few, step_column};
 use crate::grid::{Extent, Grid, Spare};
 use crate::paint::Paint;
-use crate::prepared::Prepared;
 use crate::prepare::{
     plan_of, shared_at, source_of, stores_colors, takes_no_test, tests_of, untextured_color,
 };
+use crate::prepared::Prepared;
 use crate::rows::draw_row;
 use crate::setup::Setup;
 use crate::source::Source;

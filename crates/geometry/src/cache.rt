@@ -103,6 +103,7 @@ impl<'a> VertexCache<'a> {
     }
 
     // The oriented triangle, where it has an area and isn't culled.
+    #[inline(always)]
     #[tactic(auto, unfolding(rc_base::specs::Drawing::Kept::is_kept_at, rc_base::specs::Drawing::Window::is_placed, rc_base::specs::Drawing::Window::window_of))]
     fn kept(&self, a: Corner, b: Corner, c: Corner) -> Option<WindowTriangle>
         requires a { IsCorner self.now.state.now (listed self.now.vertices) a }
@@ -120,6 +121,7 @@ impl<'a> VertexCache<'a> {
     }
 
     // The triangle of three corners.
+    #[inline(always)]
     fn assembled(&self, a: Corner, b: Corner, c: Corner) -> Option<WindowTriangle>
         requires a { IsCorner self.now.state.now (listed self.now.vertices) a }
         requires b { IsCorner self.now.state.now (listed self.now.vertices) b }
@@ -132,6 +134,7 @@ impl<'a> VertexCache<'a> {
     }
 
     // Whether the cache's three corners lie beside; then their triangle does, unless it is dropped.
+    #[inline(always)]
     fn lies_beside(&self, near: &Surrounds) -> bool
         requires a { IsCorner self.now.state.now (listed self.now.vertices) self.now.first }
         requires b { IsCorner self.now.state.now (listed self.now.vertices) self.now.second }
@@ -151,6 +154,7 @@ impl<'a> VertexCache<'a> {
     }
 
     // Brings three vertices to the window, and keeps them. Of a strip and a fan two corners are kept, and one of them stays in its place.
+    #[inline(always)]
     fn bring(&mut self, corners: [usize; 3])
         requires { AreBelow (length (listed self.old.vertices)) corners }
         ensures state { self.new.state.now ≡ self.old.state.now }
@@ -188,6 +192,7 @@ impl<'a> VertexCache<'a> {
 
     /// The same triangle, or `None` also where all its corners lie on one side of the centres that bound a rectangle's pixels, so that it
     /// covers none of them.
+    #[inline(always)]
     pub fn triangle_near(&mut self, corners: [usize; 3], near: &Surrounds) -> Option<WindowTriangle>
         requires { AreBelow (length (listed self.old.vertices)) corners }
         ensures state { self.new.state.now ≡ self.old.state.now }

@@ -54,6 +54,7 @@ fn are_outside(a: i32, b: i32, c: i32, low: i64, high: i64) -> bool
 }
 
 // All three corners lie on one side.
+#[inline(always)]
 pub(crate) fn are_beside(
     near: &Surrounds,
     a: &WindowVertex,

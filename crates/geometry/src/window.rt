@@ -12,6 +12,7 @@ use rc_base::state::{State, Vertex};
 use rc_base::triangle::WindowTriangle;
 use rc_base::window::WindowVertex;
 
+#[inline(always)]
 fn culled(state: &State, area: i64) -> bool
     ensures { result ≡ is_culled state.now area }
 {
@@ -23,6 +24,7 @@ fn culled(state: &State, area: i64) -> bool
     state.cull_on && (state.cull_face == 2 || (if state.cull_face == 0 { front } else { !front }))
 }
 
+#[inline(always)]
 fn make(a: WindowVertex, b: WindowVertex, c: WindowVertex, area: i64) -> WindowTriangle
     requires a { IsInBounds a }
     requires b { IsInBounds b }
@@ -34,6 +36,7 @@ fn make(a: WindowVertex, b: WindowVertex, c: WindowVertex, area: i64) -> WindowT
     WindowTriangle { v: [a, b, c], area }
 }
 
+#[inline(always)]
 fn signed_area(a: &WindowVertex, b: &WindowVertex, c: &WindowVertex) -> i64
     requires a { IsInBounds a.now }
     requires b { IsInBounds b.now }
@@ -51,6 +54,7 @@ fn opposite(area: i64) -> i64
     -area
 }
 
+#[inline(always)]
 pub(crate) fn assemble(
     state: &State,
     a: WindowVertex,
