@@ -11,3 +11,5 @@ mod grids;
 mod lanes;
 #[cfg(test)]
 mod served;
+#[cfg(test)]
+mod spare;

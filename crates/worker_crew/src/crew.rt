@@ -3,9 +3,10 @@ ghost use Rattle.std.specs.Prelude.{◌≡◌, List, ◌≤◌, ◌<◌, ℕ, tr
 ghost use Rattle.rc_base.specs.Lists.{ArePaired};
 ghost use Rattle.worker_crew.specs.Tasks.{AreStarted, HaveAllEnded, GoOn, StartedGoOn, IsTask, IsStarted, HasEnded};
 
-use crate::seat::Row;
+use crate::crowd::Crowd;
+use crate::row::Row;
 use crate::start::{Started, joined, start_with};
-use crate::task::{Task, Turned, attempt};
+use crate::task::{Task, Turned, turn};
 use crate::waking::Waking;
 use crate::watch::Watch;
 use crate::worker::Worker;
@@ -49,9 +50,7 @@ fn turn_for<W: Worker, G: Gate>(gate: &G, task: &mut Task<W>, waking: &mut Wakin
     ensures { (w : W) → IsTask W.leads W.over w task.old → IsTask W.leads W.over w task.new }
 {
     waking.act_as(task.worker.actor());
-    let turned = attempt(gate, task, waking);
-    waking.settle();
-    turned
+    turn(gate, task, waking)
 }
 
 /// Tries one step of a worker that came back.
@@ -111,7 +110,7 @@ pub fn turn_tasks<W: Worker, G: Gate>(
 {
     let mut all = Turned::nobody();
     for i in 0..tasks.len() {
-        all = all.and(attempt(gate, &mut tasks[i], waking));
+        all = all.and(turn(gate, &mut tasks[i], waking));
     }
     all
 }
@@ -155,11 +154,12 @@ fn settle<A: Worker, B: Worker, C: Worker, G: Gate, R: Wait>(
     ensures manager_ends { crew.new.manager.ended ≡ true }
     ensures tiles_end { (i : ℕ) (d : Task C) → i < vec_len crew.new.tiles → (slice_index_or crew.new.tiles.items i d).ended ≡ true }
 {
+    let crowd = Crowd::new();
     let watch = Watch::new();
-    let mut waking = Waking::alone(&watch);
+    let mut waking = Waking::new(Row::empty(&crowd, &watch), 0);
     for _ in rt.forever() {
         let clients = turn_tasks(gate, &mut crew.clients, &mut waking);
-        let manager = attempt(gate, &mut crew.manager, &mut waking);
+        let manager = turn(gate, &mut crew.manager, &mut waking);
         let tiles = turn_tasks(gate, &mut crew.tiles, &mut waking);
         if clients.ended && manager.ended && tiles.ended {
             break;

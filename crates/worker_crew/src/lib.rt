@@ -7,13 +7,17 @@
 #![tactic(auto)]
 
 mod crew;
+mod crowd;
 mod foreground;
+mod owed;
 mod ready;
+mod row;
 mod run;
 mod scope;
 mod seat;
 mod start;
 mod task;
+mod waits;
 mod waking;
 mod watch;
 mod worker;

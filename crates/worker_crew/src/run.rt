@@ -31,7 +31,7 @@ where
     R: Threads + Wait + Copy + Send,
     ensures { HaveEnded A.leads A.over B.leads B.over C.leads C.over ready.crew result }
 {
-    let row = seats.row(ready.crew.clients.len(), ready.crew.tiles.len());
+    let row = seats.row(&rt, ready.crew.clients.len(), ready.crew.tiles.len());
     thread::scope(
         thread::scope_env(),
         &rt,

@@ -6,7 +6,8 @@ ghost use Rattle.worker_crew.specs.Tasks.{IsStarted, StartedGoOn};
 use crate::crew::{Crew, join_crew, start_all, turn_one, turn_started};
 use crate::foreground::Foreground;
 use crate::ready::Ready;
-use crate::seat::{Row, Seats};
+use crate::row::Row;
+use crate::seat::Seats;
 use crate::start::{Started, start_with};
 use crate::task::Task;
 use crate::waking::Waking;
@@ -45,6 +46,7 @@ fn attend<
     ensures tiles { StartedGoOn C.leads C.over crew.old.tiles.items crew.new.tiles.items }
     ensures served { J.served foreground.old foreground.new }
 {
+    row.crowd().wakes();
     let mut waking = Waking::new(row, row.caller());
     for _ in rt.forever() {
         let threads_ended = row.all_ended();
@@ -60,11 +62,12 @@ fn attend<
             waking.go_on();
         } else if turned.ended {
             waking.ring_waiting();
-            waking.after(rt, turned);
+            waking.rest(rt);
         } else {
             waking.nap(rt);
         }
     }
+    row.crowd().rests();
 }
 
 /// Starts each worker in a thread of its own, serves the foreground, steps the workers for which no thread could be made, and joins all.
@@ -131,7 +134,7 @@ where
     R: Threads + Wait + Copy + Send,
     ensures { (m : J) × (tasks : _) × J.served foreground.old m × HaveEnded A.leads A.over B.leads B.over C.leads C.over ready.crew tasks × J.keeps m tasks foreground.new }
 {
-    let row = seats.row(ready.crew.clients.len(), ready.crew.tiles.len());
+    let row = seats.row(&rt, ready.crew.clients.len(), ready.crew.tiles.len());
     let _foreground = thread::scope(
         thread::scope_env(),
         &rt,

@@ -1,7 +1,10 @@
 //! The places of a crew's workers: whether each has ended, for whom it sleeps, and where.
+ghost use Rattle.std.specs.Prelude.{◌≡◌, ◌≢◌, ◌<◌, ◌+◌, ◌^◌};
+ghost use Rattle.worker_crew.specs.Owing.{IsNothing};
 
+use crate::crowd::Crowd;
+use crate::owed::Owed;
 use crate::watch::Watch;
-use crate::worker::Peer;
 use crossbeam_utils::CachePadded;
 use rc_base::out_of_memory::OutOfMemory;
 use std::alloc::Global;
@@ -15,6 +18,12 @@ const AWAKE: u64 = 0;
 
 // Anybody is waited for.
 const ANYBODY: u64 = 1;
+
+// How long a sleep lasts at most, in microseconds: what was given within a step that takes long is found by then.
+const SLEEP: u64 = 20_000;
+
+// How long a thread without a place naps, in microseconds.
+const NAP: u64 = 50;
 
 /// Whom a sleeper waits for, as one number: 0 nobody, 1 anybody, and n + 2 the worker of place n.
 #[derive(Clone, Copy, Debug, PartialEq, Eq)]
@@ -34,6 +43,21 @@ impl Awaited {
     /// The worker of this place alone.
     pub(crate) fn of(place: usize) -> Awaited {
         Awaited((place as u64).saturating_add(2))
+    }
+}
+
+/// That the worker of a place was rung: what it was given is no longer owed to it. Only `ring` makes one.
+#[derive(Drop)]
+pub(crate) struct Rung {
+    place: usize,
+}
+
+impl Rung {
+    /// Whose place it is.
+    pub(crate) fn place(&self) -> usize
+        ensures { result ≡ self.now.place }
+    {
+        self.place
     }
 }
 
@@ -60,50 +84,92 @@ impl Seat {
         self.ended.load(Ordering::SeqCst)
     }
 
-    /// Its worker has ended, or is held back.
+    /// No thread steps its worker.
     pub(crate) fn end(&self) {
         self.ended.store(true, Ordering::SeqCst);
     }
 
-    /// Its worker is about to sleep for whom this says, or stays awake.
-    pub(crate) fn announce(&self, whom: Awaited) {
-        self.waits.store(whom.0, Ordering::SeqCst);
+    /// Its worker has ended, and owes no ring.
+    pub(crate) fn leave(&self, owed: &Owed)
+        requires { IsNothing owed.now.given }
+    {
+        let _owed = owed;
+        self.end();
     }
 
-    /// Sleeps until it is woken, or so many microseconds have passed.
-    pub(crate) fn sleep<R: Wait>(&self, rt: &R, micros: u64) {
-        self.parker.park_timeout(rt, Duration::from_micros(micros));
-        self.announce(Awaited::nobody());
+    /// Its worker says that it is about to sleep for whom this says, or stays awake, where it said this before. If it says so no longer, somebody woke it
+    /// meanwhile, and counted it.
+    pub(crate) fn announce(&self, before: Awaited, whom: Awaited, crowd: &Crowd) {
+        if self.waits.swap(whom.0, Ordering::SeqCst) != before.0 {
+            crowd.rests();
+        }
+    }
+
+    /// Sleeps until it is woken, for some milliseconds at most. Nobody sleeps who owes a ring.
+    pub(crate) fn sleep<R: Wait>(&self, rt: &R, crowd: &Crowd, owed: &Owed)
+        requires { IsNothing owed.now.given }
+    {
+        let _owed = owed;
+        crowd.rests();
+        self.parker.park_timeout(rt, Duration::from_micros(SLEEP));
+        if self.waits.swap(AWAKE, Ordering::SeqCst) != AWAKE {
+            crowd.wakes();
+        }
     }
 
     /// Wakes its worker, where that sleeps.
-    fn wake(&self) {
+    pub(crate) fn wake(&self, crowd: &Crowd) {
         if self.waits.swap(AWAKE, Ordering::SeqCst) != AWAKE {
+            crowd.wakes();
             self.parker.unpark();
         }
     }
 
     /// Wakes its worker, where that sleeps for the giver or for anybody.
-    pub(crate) fn ring(&self, giver: Awaited) {
+    fn ring(&self, giver: Awaited, crowd: &Crowd) {
         let waits = self.waits.load(Ordering::SeqCst);
         if waits == ANYBODY || waits == giver.0 {
-            self.wake();
+            self.wake(crowd);
         }
     }
 
     /// Wakes its worker, where that sleeps for just the giver.
-    pub(crate) fn ring_just(&self, giver: Awaited) {
+    pub(crate) fn ring_just(&self, giver: Awaited, crowd: &Crowd) {
         if self.waits.load(Ordering::SeqCst) == giver.0 {
-            self.wake();
+            self.wake(crowd);
         }
     }
+}
+
+/// Wakes the worker of a place, where there is one and it sleeps for the giver or for anybody.
+pub(crate) fn ring(
+    places: &[CachePadded<Seat>],
+    place: usize,
+    giver: Awaited,
+    crowd: &Crowd,
+) -> Rung
+    ensures { result.place ≡ place }
+{
+    if let Some(seat) = places.get(place) {
+        seat.ring(giver, crowd);
+    }
+    Rung { place }
+}
+
+/// Naps a moment, where a thread has no place to be woken at. Nobody naps who owes a ring.
+pub(crate) fn nap<R: Wait>(rt: &R, owed: &Owed)
+    requires { IsNothing owed.now.given }
+{
+    let _owed = owed;
+    Parker::new().park_timeout(rt, Duration::from_micros(NAP));
 }
 
 /// The places of a crew: the clients first, then the manager, then the tiles, then the caller. A worker without a place is stepped by the caller.
 #[derive(Drop)]
 pub struct Seats {
-    places: Vec<CachePadded<Seat>>,
-    watch: CachePadded<Watch>,
+    pub(crate) places: Vec<CachePadded<Seat>>,
+    pub(crate) crowd: CachePadded<Crowd>,
+    pub(crate) watch: CachePadded<Watch>,
 }
 
 impl Seats {
@@ -115,96 +181,16 @@ impl Seats {
         }
         Ok(Seats {
             places,
+            crowd: CachePadded::new(Crowd::new()),
             watch: CachePadded::new(Watch::new()),
         })
     }
 
-    /// The worker of this place is held back: it comes back unstepped, and the caller steps it.
+    /// The worker of this place is held back: it comes back unstepped, and the caller steps it once all other threads have ended. So this is for a worker for
+    /// which no other one waits, and is called before the crew runs.
     pub fn hold_back(&self, place: usize) {
         if let Some(seat) = self.places.get(place) {
             seat.end();
-        }
-    }
-
-    /// The row of these places, for a crew of so many clients and tiles.
-    pub(crate) fn row(&self, clients: usize, tiles: usize) -> Row<'_> {
-        Row {
-            places: self.places.as_slice(),
-            watch: &self.watch,
-            clients,
-            caller: clients.saturating_add(tiles).saturating_add(1),
-        }
-    }
-}
-
-/// The places of a crew, and which is whose.
-#[derive(Clone, Copy, Drop)]
-pub(crate) struct Row<'s> {
-    places: &'s [CachePadded<Seat>],
-    watch: &'s Watch,
-    clients: usize,
-    caller: usize,
-}
-
-impl<'s> Row<'s> {
-    /// The row without places.
-    pub(crate) fn empty(watch: &'s Watch) -> Row<'s> {
-        Row {
-            places: &[],
-            watch,
-            clients: 0,
-            caller: 0,
-        }
-    }
-
-    /// The number of a peer's place.
-    pub(crate) fn place_of(&self, peer: Peer) -> usize {
-        match peer {
-            Peer::Client(client) => client as usize,
-            Peer::Manager => self.clients,
-            Peer::Tile(tile) => self.clients.saturating_add(1).saturating_add(tile as usize),
-            Peer::Caller => self.caller,
-        }
-    }
-
-    /// The place of this number, if there is one.
-    pub(crate) fn seat(&self, place: usize) -> Option<&'s Seat> {
-        match self.places.get(place) {
-            Some(seat) => Some(seat),
-            None => None,
-        }
-    }
-
-    /// The number of the caller's place.
-    pub(crate) fn caller(&self) -> usize {
-        self.caller
-    }
-
-    /// The crew's clock.
-    pub(crate) fn watch(&self) -> &'s Watch {
-        self.watch
-    }
-
-    /// Whether each worker has ended. Then no thread takes a step any more.
-    pub(crate) fn all_ended(&self) -> bool {
-        let mut all = true;
-        for seat in self.places.iter().take(self.caller) {
-            all &= seat.has_ended();
-        }
-        all
-    }
-
-    /// Wakes the caller.
-    pub(crate) fn wake_caller(&self) {
-        if let Some(seat) = self.places.get(self.caller) {
-            seat.wake();
-        }
-    }
-
-    /// Wakes all that sleep for just the worker of this place.
-    pub(crate) fn ring_waiting(&self, place: usize) {
-        for seat in self.places {
-            seat.ring_just(Awaited::of(place));
         }
     }
 }

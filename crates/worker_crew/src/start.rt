@@ -1,7 +1,8 @@
 //! Starting a worker, and its join.
 ghost use Rattle.worker_crew.specs.Tasks.{IsTask, IsStarted};
 
-use crate::seat::{Row, Seat};
+use crate::row::Row;
+use crate::seat::Seat;
 use crate::task::{Kept, Task, work};
 use crate::worker::Worker;
 use rc_base::gate::Gate;

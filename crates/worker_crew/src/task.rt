@@ -3,7 +3,8 @@ ghost use Rattle.std.specs.Prelude.{◌≡◌, ◌&&◌, ◌||◌, true, false, 
 ghost use Rattle.rc_base.specs.Outside.Causes.{risen};
 ghost use Rattle.worker_crew.specs.Tasks.{IsTask};
 
-use crate::seat::{Row, Seat};
+use crate::row::Row;
+use crate::seat::Seat;
 use crate::waking::Waking;
 use crate::worker::{Attempt, Peer, Worker};
 use rc_base::gate::Gate;
@@ -78,8 +79,7 @@ impl Turned {
     }
 }
 
-/// Passes the gate and tries one step, unless the task has ended. Where the step moved nothing, all to whom something was given are rung, and then a part
-/// of what nobody waits for is done.
+/// Passes the gate and tries one step, unless the task has ended.
 pub fn attempt<W: Worker, G: Gate>(gate: &G, task: &mut Task<W>, waking: &mut Waking<'_>) -> Turned
     ensures kept { (w : W) → IsTask W.leads W.over w task.old → IsTask W.leads W.over w task.new }
     ensures ended { result.ended ≡ task.new.ended }
@@ -87,7 +87,6 @@ pub fn attempt<W: Worker, G: Gate>(gate: &G, task: &mut Task<W>, waking: &mut Wa
 {
     let mut moved = false;
     let mut on = None;
-    let mut spare = false;
     if !task.ended {
         gate.pass(task.worker.actor(), task.moves);
         match task.worker.step() {
@@ -98,10 +97,11 @@ pub fn attempt<W: Worker, G: Gate>(gate: &G, task: &mut Task<W>, waking: &mut Wa
                     waking.gave(peer);
                 }
             }
-            Attempt::Blocked(from) => {
-                on = from;
-                waking.settle();
-                spare = task.worker.spare();
+            Attempt::Blocked(from) => on = from,
+            Attempt::Lacked => {
+                task.moves = task.moves.saturating_add(1);
+                moved = true;
+                waking.gave_any();
             }
             Attempt::Ended => task.ended = true,
         }
@@ -110,8 +110,22 @@ pub fn attempt<W: Worker, G: Gate>(gate: &G, task: &mut Task<W>, waking: &mut Wa
         moved,
         ended: task.ended,
         on,
-        spare,
+        spare: false,
     }
+}
+
+/// A turn of a task that no thread steps: it passes the gate and tries one step, unless the task has ended. All to whom something was given are rung, and
+/// where nothing moved a part of what nobody waits for is done.
+pub fn turn<W: Worker, G: Gate>(gate: &G, task: &mut Task<W>, waking: &mut Waking<'_>) -> Turned
+    ensures kept { (w : W) → IsTask W.leads W.over w task.old → IsTask W.leads W.over w task.new }
+    ensures ended { result.ended ≡ task.new.ended }
+{
+    let mut turned = attempt(gate, task, waking);
+    waking.settle();
+    if !turned.moved && !turned.ended {
+        turned.spare = waking.spare(&mut task.worker);
+    }
+    turned
 }
 
 /// Steps a task to its end, unless it is held back; then it comes back unstepped.
@@ -135,7 +149,7 @@ fn work_unless<W: Worker, G: Gate, R: Wait + Copy>(
         if turned.ended {
             break;
         }
-        waking.after(&rt, turned);
+        waking.after(&rt, turned, &mut task.worker);
     }
     task
 }
@@ -152,12 +166,13 @@ pub fn work<W: Worker, G: Gate, R: Wait + Copy>(
 ) -> Task<W>
     ensures { (w : W) → IsTask W.leads W.over w task → IsTask W.leads W.over w result }
 {
+    row.crowd().wakes();
     let mut waking = Waking::new(row, number);
     let task = work_unless(seat.has_ended(), rt, gate, &mut waking, task);
-    waking.settle();
-    seat.end();
+    waking.leave(seat);
     if row.all_ended() {
         row.wake_caller();
     }
+    row.crowd().rests();
     task
 }

@@ -3,66 +3,83 @@
 //! No wake-up is lost. Who is about to sleep says so at its place, and then tries its step once more; who gave something, an item or room for one,
 //! looks at the place of its peer behind that. All of it is in one order, so either the giver finds the peer asleep, or the peer's second try finds what
 //! was given. A giver may look later, when it has given some more; it looks before it waits itself, before it ends, and after some steps in any case.
+ghost use Rattle.std.specs.Prelude.{◌≡◌, ◌<◌, ◌+◌, ◌^◌};
+ghost use Rattle.worker_crew.specs.Owing.{IsNothing, IsGift, IsSettled};
+ghost use Rattle.worker_crew.specs.Places.{place_in};
 
-use crate::seat::{Awaited, Row, Seat};
+use crate::owed::{Owed, PLACES};
+use crate::row::Row;
+use crate::seat::{Awaited, Seat, nap};
 use crate::task::Turned;
-use crate::watch::Watch;
-use crate::worker::Peer;
+use crate::waits::{Budget, Next, next_for};
+use crate::worker::{Peer, Worker};
 use rc_base::gate::Actor;
 use std::hint;
 use std::sync::Wait;
-use std::thread::Parker;
-use std::time::Duration;
-
-// So many fruitless turns are spun over, each longer than the one before.
-const SPINS: u64 = 6;
-
-// Behind these, so many give the processor to another thread, where that is cheap.
-const YIELDS: u64 = 8;
-
-// A peer that was given so much, by one worker, is rung.
-const BATCH: u8 = 4;
 
 // After so many moved steps all to whom something was given are rung.
 const ROUND: u64 = 32;
 
-// How long a sleep lasts at most, in microseconds: what was given within a step that takes long is found by then.
-const SLEEP: u64 = 20_000;
+// Before it rings anybody, who found nothing to do glances at its lanes so often: for less time than it takes to wake a sleeper.
+const GLANCES: u32 = 64;
 
-// How long a thread without a place naps, in microseconds.
-const NAP: u64 = 50;
+// Behind a turn that moved something it gives its processor away so often at most before it sleeps.
+const YIELDS: u32 = 8;
 
-/// How a thread waits, and whom it has to wake: how much was given to each peer, by place, since that was last rung.
+/// How a thread waits, and whom it has to wake.
 #[derive(Drop)]
 pub(crate) struct Waking<'s> {
     row: Row<'s>,
     own: usize,
     acting: usize,
-    given: [u8; 128],
-    owes: bool,
+    owed: Owed,
     moved: u64,
-    fruitless: u64,
+    budget: Budget,
+    glanced: bool,
+    looked: bool,
+    yields: u32,
     announced: Awaited,
+}
+
+// Looks at a worker's lanes so often. Whether it may move.
+fn looks_out<W: Worker>(worker: &mut W, on: Option<Peer>, looks: u32) -> bool
+    ensures { W.leads worker.old worker.new }
+{
+    for _ in 0..looks {
+        if worker.may_move(on) {
+            return true;
+        }
+        hint::spin_loop();
+    }
+    false
+}
+
+// Does a part of what is left for a worker to do that nobody waits for, where nobody is owed a ring. Whether there was one.
+fn spare_of<W: Worker>(worker: &mut W, owed: &Owed) -> bool
+    requires { IsNothing owed.now.given }
+    ensures { W.leads worker.old worker.new }
+{
+    let _owed = owed;
+    worker.spare()
 }
 
 impl<'s> Waking<'s> {
     /// The thread whose place has this number.
-    pub(crate) fn new(row: Row<'s>, own: usize) -> Waking<'s> {
+    pub(crate) fn new(row: Row<'s>, own: usize) -> Waking<'s>
+        ensures { IsNothing result.owed.given }
+    {
         Waking {
             row,
             own,
             acting: own,
-            given: [0; 128],
-            owes: false,
+            owed: Owed::new(),
             moved: 0,
-            fruitless: 0,
+            budget: Budget::new(),
+            glanced: false,
+            looked: false,
+            yields: YIELDS,
             announced: Awaited::nobody(),
         }
-    }
-
-    /// The caller, where no other thread is left.
-    pub(crate) fn alone(watch: &'s Watch) -> Waking<'s> {
-        Waking::new(Row::empty(watch), 0)
     }
 
     /// From here on what is given is given by this actor.
@@ -76,41 +93,60 @@ impl<'s> Waking<'s> {
     }
 
     // Wakes the worker of a place, where it sleeps for who acts, or for anybody.
-    fn ring(&self, place: usize) {
-        if let Some(seat) = self.row.seat(place) {
-            seat.ring(Awaited::of(self.acting));
-        }
+    fn ring(&mut self, place: usize)
+        ensures { IsSettled place self.old.owed.given self.new.owed.given }
+    {
+        let rung = self.row.ring(place, self.acting);
+        self.owed.settle(rung);
     }
 
-    /// Something was given to a peer.
-    pub(crate) fn gave(&mut self, peer: Peer) {
+    /// Something was given to a peer: it is counted, or the peer is rung.
+    pub(crate) fn gave(&mut self, peer: Peer)
+        ensures { self.old.row.clients + 257 < 2 ^ 64 → IsGift (place_in self.old.row.clients self.old.row.caller peer) self.old.owed.given self.new.owed.given }
+    {
         let place = self.row.place_of(peer);
-        let count = match self.given.get_mut(place) {
-            Some(count) => count,
-            None => return self.ring(place),
-        };
-        *count = count.saturating_add(1);
-        if *count < BATCH {
-            self.owes = true;
-            return;
-        }
-        *count = 0;
-        self.ring(place);
+        self.gave_at(place);
     }
 
-    /// Rings all to whom something was given since they were last rung.
-    pub(crate) fn settle(&mut self) {
-        self.moved = 0;
-        if !self.owes {
-            return;
+    // Something was given to the worker of a place.
+    fn gave_at(&mut self, place: usize)
+        ensures { IsGift place self.old.owed.given self.new.owed.given }
+    {
+        if self.owed.count(place) {
+            self.ring(place);
         }
-        self.owes = false;
-        for place in 0..self.given.len() {
-            if self.given[place] > 0 {
-                self.given[place] = 0;
+    }
+
+    // Rings all to whom something was given.
+    fn ring_owed(&mut self)
+        ensures { IsNothing self.new.owed.given }
+    {
+        for place in 0..PLACES {
+            if self.owed.is_owed(place) {
                 self.ring(place);
             }
         }
+        self.owed.close();
+    }
+
+    /// Rings all to whom something was given since they were last rung.
+    pub(crate) fn settle(&mut self)
+        ensures { IsNothing self.new.owed.given }
+    {
+        self.moved = 0;
+        if self.owed.is_any() {
+            self.ring_owed();
+        }
+    }
+
+    /// Something was given to peers that aren't told: all are rung.
+    pub(crate) fn gave_any(&mut self)
+        ensures { IsNothing self.new.owed.given }
+    {
+        for place in 0..PLACES {
+            self.ring(place);
+        }
+        self.owed.close();
     }
 
     /// Wakes all that sleep for just this thread.
@@ -118,51 +154,134 @@ impl<'s> Waking<'s> {
         self.row.ring_waiting(self.own);
     }
 
-    // Sleeps, where that was announced before the turn that moved nothing; else announces it.
-    fn sleep_at<R: Wait>(&mut self, rt: &R, seat: &Seat, whom: Awaited) {
-        if self.announced != whom {
-            seat.announce(whom);
-            self.announced = whom;
-            return;
+    // Glances at its lanes, once behind a turn that moved something. Whether the worker may move.
+    fn glance<W: Worker>(&mut self, worker: &mut W, on: Option<Peer>) -> bool
+        ensures leads { W.leads worker.old worker.new }
+    {
+        if self.glanced {
+            return false;
         }
-        self.announced = Awaited::nobody();
-        seat.sleep(rt, SLEEP);
+        self.glanced = true;
+        looks_out(worker, on, GLANCES)
     }
 
-    fn sleep<R: Wait>(&mut self, rt: &R, on: Option<Peer>) {
+    // Looks out for what it waits for, a few looks at a time, as long as no more threads are awake than there are processors. Whether the worker may move;
+    // it learns whether the looks were of use, unless they were cut off.
+    fn look<W: Worker>(&mut self, worker: &mut W, on: Option<Peer>, looks: u32) -> bool
+        ensures leads { W.leads worker.old worker.new }
+        ensures owed { self.new.owed ≡ self.old.owed }
+    {
+        self.looked = true;
+        for _ in 0..looks / 16 {
+            if self.row.is_crowded() {
+                return false;
+            }
+            if looks_out(worker, on, 16) {
+                self.budget.double();
+                return true;
+            }
+        }
+        self.budget.quarter();
+        false
+    }
+
+    // Says for whom it is about to sleep, or that it stays awake.
+    fn announce(&mut self, seat: &Seat, whom: Awaited)
+        ensures owed { self.new.owed ≡ self.old.owed }
+    {
+        seat.announce(self.announced, whom, self.row.crowd());
+        self.announced = whom;
+    }
+
+    // Whether it has announced a sleep.
+    fn has_announced(&self) -> bool {
+        self.announced != Awaited::nobody()
+    }
+
+    // How many looks it may have now: none where it has looked since a turn moved something, or has announced a sleep.
+    fn looks(&mut self, is_crowded: bool) -> u32
+        ensures { self.new.owed ≡ self.old.owed }
+    {
+        if self.looked || is_crowded || self.has_announced() {
+            return 0;
+        }
+        self.budget.take()
+    }
+
+    // What comes next, where the thread waits for these.
+    fn next_for(&mut self, whom: Awaited) -> Next
+        ensures { self.new.owed ≡ self.old.owed }
+    {
+        let is_crowded = self.row.is_crowded();
+        let looks = self.looks(is_crowded);
+        let yields = if self.has_announced() { 0 } else { self.yields };
+        next_for(self.announced == whom, looks, yields, is_crowded)
+    }
+
+    // Gives its processor away, or announces a sleep where that is dear.
+    fn give_way(&mut self, seat: &Seat, whom: Awaited)
+        ensures { self.new.owed ≡ self.old.owed }
+    {
+        self.yields = self.yields.saturating_sub(1);
+        if !self.row.watch().give_way() {
+            self.announce(seat, whom);
+        }
+    }
+
+    // Sleeps for whom it announced.
+    fn sleep<R: Wait>(&mut self, rt: &R, seat: &Seat)
+        requires { IsNothing self.old.owed.given }
+        ensures { self.new.owed ≡ self.old.owed }
+    {
+        seat.sleep(rt, self.row.crowd(), &self.owed);
+        self.announced = Awaited::nobody();
+        self.glanced = false;
+        self.looked = false;
+        self.yields = YIELDS;
+    }
+
+    // Waits at its place: it looks out for what the worker waits for, as often as that was of use, and then sleeps until it is woken.
+    fn wait_at<W: Worker, R: Wait>(&mut self, rt: &R, seat: &Seat, on: Option<Peer>, worker: &mut W)
+        requires { IsNothing self.old.owed.given }
+        ensures { W.leads worker.old worker.new }
+    {
         let whom = match on {
             Some(peer) => Awaited::of(self.row.place_of(peer)),
             None => Awaited::anybody(),
         };
-        match self.row.seat(self.own) {
-            Some(seat) => self.sleep_at(rt, seat, whom),
-            None => Parker::new().park_timeout(rt, Duration::from_micros(NAP)),
+        match self.next_for(whom) {
+            Next::Look(looks) => {
+                let _found = self.look(worker, on, looks);
+            }
+            Next::Yield => self.give_way(seat, whom),
+            Next::Announce => self.announce(seat, whom),
+            Next::Sleep => self.sleep(rt, seat),
         }
     }
 
-    // Waits after a turn that moved nothing: a moment at first, then for a turn of other threads, and then until it is woken.
-    fn wait<R: Wait>(&mut self, rt: &R, on: Option<Peer>) {
-        if self.fruitless < SPINS {
-            for _ in 0..8u64.saturating_mul(self.fruitless) {
-                hint::spin_loop();
-            }
-            self.fruitless += 1;
-        } else if self.fruitless < SPINS + YIELDS && self.row.watch().give_way() {
-            self.fruitless += 1;
+    // Waits at its place for anybody, without a look.
+    fn rest_at<R: Wait>(&mut self, rt: &R, seat: &Seat)
+        requires { IsNothing self.old.owed.given }
+    {
+        if self.announced == Awaited::anybody() {
+            self.sleep(rt, seat);
         } else {
-            self.sleep(rt, on);
+            self.announce(seat, Awaited::anybody());
         }
     }
 
     // The thread is awake, and a step of it moved.
-    fn stay_awake(&mut self) {
+    fn stay_awake(&mut self)
+        ensures { self.new.owed ≡ self.old.owed }
+    {
+        self.glanced = false;
+        self.looked = false;
+        self.yields = YIELDS;
         if self.announced != Awaited::nobody() {
-            self.announced = Awaited::nobody();
             if let Some(seat) = self.row.seat(self.own) {
-                seat.announce(Awaited::nobody());
+                self.announce(seat, Awaited::nobody());
             }
         }
-        self.fruitless = 0;
     }
 
     /// Goes on behind a turn that moved something.
@@ -174,19 +293,56 @@ impl<'s> Waking<'s> {
         }
     }
 
-    /// Goes on behind a turn that moved something or had something to do that nobody waits for, and else waits.
-    pub(crate) fn after<R: Wait>(&mut self, rt: &R, turned: Turned) {
-        if turned.moved || turned.spare {
+    /// Rings all to whom something was given, and does a part of what is left for the worker to do that nobody waits for. Whether there was one.
+    pub(crate) fn spare<W: Worker>(&mut self, worker: &mut W) -> bool
+        ensures leads { W.leads worker.old worker.new }
+        ensures owed { IsNothing self.new.owed.given }
+    {
+        self.settle();
+        spare_of(worker, &self.owed)
+    }
+
+    /// Goes on behind a turn that moved something. Behind another it glances at the worker's lanes, rings all to whom something was given, does a part of what
+    /// nobody waits for, and where there is none it waits.
+    pub(crate) fn after<W: Worker, R: Wait>(&mut self, rt: &R, turned: Turned, worker: &mut W)
+        ensures { W.leads worker.old worker.new }
+    {
+        if turned.moved {
             self.go_on();
-        } else {
-            self.settle();
-            self.wait(rt, turned.on);
+        } else if !self.glance(worker, turned.on) && !self.spare(worker) {
+            self.wait(rt, turned.on, worker);
         }
     }
 
-    /// Waits a moment after a turn of the caller's that moved nothing while workers are left to it.
+    // Waits at its place, or a moment where it has none.
+    fn wait<W: Worker, R: Wait>(&mut self, rt: &R, on: Option<Peer>, worker: &mut W)
+        requires { IsNothing self.old.owed.given }
+        ensures { W.leads worker.old worker.new }
+    {
+        match self.row.seat(self.own) {
+            Some(seat) => self.wait_at(rt, seat, on, worker),
+            None => nap(rt, &self.owed),
+        }
+    }
+
+    /// Waits behind a turn of the caller's that moved nothing, until it is woken.
+    pub(crate) fn rest<R: Wait>(&mut self, rt: &R) {
+        self.settle();
+        match self.row.seat(self.own) {
+            Some(seat) => self.rest_at(rt, seat),
+            None => nap(rt, &self.owed),
+        }
+    }
+
+    /// Waits a moment behind a turn of the caller's that moved nothing while workers are left to it.
     pub(crate) fn nap<R: Wait>(&mut self, rt: &R) {
         self.settle();
-        Parker::new().park_timeout(rt, Duration::from_micros(NAP));
+        nap(rt, &self.owed);
+    }
+
+    /// The worker has ended, and nobody is owed anything.
+    pub(crate) fn leave(&mut self, seat: &Seat) {
+        self.settle();
+        seat.leave(&self.owed);
     }
 }

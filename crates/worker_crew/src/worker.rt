@@ -22,6 +22,8 @@ pub enum Peer {
 pub enum Attempt {
     /// The worker moved. At most one peer was given something by it, an item or room for one.
     Moved(Option<Peer>),
+    /// The worker moved, and memory lacked in it. Each peer may have been given something by it.
+    Lacked,
     /// Nothing could be done, since a lane that it waits for was full or empty: a lane of this peer, or of any.
     Blocked(Option<Peer>),
     /// Nothing is left to do.

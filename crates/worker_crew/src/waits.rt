@@ -1,0 +1,113 @@
+//! What a thread does that found nothing to do, and how often it looks out for something. Few numbers decide it; nothing that is shared is read here.
+ghost use Rattle.std.specs.Prelude.{◌≡◌, ◌<◌, ◌≤◌, ◌+◌, ◌*◌, ◌/◌, ℕ, true, false};
+ghost use Rattle.worker_crew.specs.declared.waits.Next.TheVariants as comes;
+
+// How often a thread looks at its lanes before it sleeps: at first, at least, and at most. A look takes some 50 nanoseconds.
+const FIRST: u32 = 400;
+
+const LEAST: u32 = 80;
+
+const MOST: u32 = 1_000;
+
+// Of the waits of a thread that looks no more, one of so many has looks all the same.
+const EACH: u32 = 16;
+
+/// What a thread does behind a turn that moved nothing and had nothing to spare.
+#[derive(Clone, Copy, Debug, PartialEq, Eq)]
+pub(crate) enum Next {
+    /// It looks at its lanes, so often at most.
+    Look(u32),
+    /// It gives its processor to another thread, where that is cheap.
+    Yield,
+    /// It says at its place for whom it is about to sleep, and tries its step once more.
+    Announce,
+    /// It sleeps until it is woken.
+    Sleep,
+}
+
+/// What comes next: it sleeps exactly where that was announced. Else it looks, where it may have looks and no more threads are awake than there are
+/// processors; else it gives its processor away, where it may do so.
+pub(crate) fn next_for(is_announced: bool, looks: u32, yields: u32, is_crowded: bool) -> Next
+    ensures sleeps { is_announced ≡ true → result ≡ comes.Sleep }
+    ensures announced { result ≡ comes.Sleep → is_announced ≡ true }
+    ensures looks { is_announced ≡ false → is_crowded ≡ false → 0 < looks → result ≡ comes.Look looks }
+    ensures seldom { (n : ℕ) → result ≡ comes.Look n → (is_crowded ≡ false) × (n ≡ looks) × (0 < n) }
+    ensures yields { result ≡ comes.Yield → 0 < yields }
+    ensures announces { is_announced ≡ false → looks ≡ 0 → yields ≡ 0 → result ≡ comes.Announce }
+{
+    if is_announced {
+        Next::Sleep
+    } else if !is_crowded && looks > 0 {
+        Next::Look(looks)
+    } else if yields > 0 {
+        Next::Yield
+    } else {
+        Next::Announce
+    }
+}
+
+/// How often a thread looks at its lanes before it sleeps, as it has learnt, and how many waits it has let pass without a look.
+#[derive(Clone, Copy, Drop)]
+pub(crate) struct Budget {
+    looks: u32,
+    passed: u32,
+    ghost bound: { looks ≤ 1000 },
+    ghost few: { passed < 16 },
+}
+
+impl Budget {
+    /// Before the first wait.
+    pub(crate) fn new() -> Budget
+        ensures { (result.looks ≡ 400) × (result.passed ≡ 0) }
+    {
+        Budget {
+            looks: FIRST,
+            passed: 0,
+        }
+    }
+
+    /// How often it looks in this wait. A thread whose looks were in vain looks in one wait of sixteen, a little.
+    pub(crate) fn take(&mut self) -> u32
+        ensures kept { self.new.looks ≡ self.old.looks }
+        ensures learnt { 0 < self.old.looks → (result ≡ self.old.looks) × (self.new.passed ≡ self.old.passed) }
+        ensures none { self.old.looks ≡ 0 → self.old.passed < 15 → (result ≡ 0) × (self.new.passed ≡ self.old.passed + 1) }
+        ensures some { self.old.looks ≡ 0 → self.old.passed ≡ 15 → (result ≡ 80) × (self.new.passed ≡ 0) }
+    {
+        if self.looks > 0 {
+            return self.looks;
+        }
+        if self.passed + 1 < EACH {
+            self.passed += 1;
+            return 0;
+        }
+        self.passed = 0;
+        LEAST
+    }
+
+    /// Looks ended in time: there will be twice as many, from a least number to a most.
+    pub(crate) fn double(&mut self)
+        ensures passed { self.new.passed ≡ self.old.passed }
+        ensures least { 2 * self.old.looks ≤ 160 → self.new.looks ≡ 160 }
+        ensures double { 160 ≤ 2 * self.old.looks → 2 * self.old.looks ≤ 1000 → self.new.looks ≡ 2 * self.old.looks }
+        ensures most { 1000 ≤ 2 * self.old.looks → self.new.looks ≡ 1000 }
+    {
+        let more = 2 * self.looks;
+        self.looks = if more < 2 * LEAST {
+            2 * LEAST
+        } else if more > MOST {
+            MOST
+        } else {
+            more
+        };
+    }
+
+    /// Looks were in vain: there will be a quarter as many, or none, where that is below a least number.
+    pub(crate) fn quarter(&mut self)
+        ensures passed { self.new.passed ≡ self.old.passed }
+        ensures none { self.old.looks / 4 < 80 → self.new.looks ≡ 0 }
+        ensures quarter { 80 ≤ self.old.looks / 4 → self.new.looks ≡ self.old.looks / 4 }
+    {
+        let less = self.looks / 4;
+        self.looks = if less < LEAST { 0 } else { less };
+    }
+}
