@@ -1,8 +1,12 @@
 -- What callers say of parts, of tallies and of crews.
-use Rattle.std.specs.Prelude.{◌≡◌, ℕ, ◌<◌, ◌⊎◌, List, ◌∷◌, length, slice_index_or}
+use Rattle.std.specs.Prelude.{◌≡◌, ℕ, ◌<◌, ◌≤◌, ◌⊎◌, List, ◌∷◌, length, min, slice_index_or}
 use Rattle.rc_base.specs.Cluster.PlainLanes.{held}
+use Rattle.rc_base.specs.Outside.Causes.{last_count}
+use Rattle.rc_base.specs.declared.cluster.Tally.{Tally}
 use Rattle.rc_base.specs.declared.cluster.TilePart.{TilePart}
 use Rattle.rc_base.specs.declared.plain_lane.PlainLane.{PlainLane}
+use Rattle.client_issue.specs.Cores.{no_tally, tally_of_tile}
+use Rattle.client_issue.specs.declared.client.ClientCore.{ClientCore}
 use Rattle.worker_crew.specs.declared.crew.Crew.{Crew}
 use Rattle.worker_crew.specs.declared.task.Task.{Task}
 
@@ -13,6 +17,12 @@ GivesOneAtMost before after = (held after ≡ held before) ⊎ ((part : TilePart
 -- so of each lane
 abbrev pub GiveOneAtMost : List (PlainLane TilePart) → List (PlainLane TilePart) → Type 0
 GiveOneAtMost before after = (tile : ℕ) (d : PlainLane TilePart) → tile < length before → GivesOneAtMost (slice_index_or before tile d) (slice_index_or after tile d)
+
+-- the tallies count no fewer parcels to a tile than any client has sent there, up to their type's end
+abbrev pub CountEach : List ClientCore → ℕ → List Tally → Type 0
+CountEach cores tiles sums =
+    (client tile : ℕ) (d : ClientCore) → client < length cores → tile < tiles
+    → min (tally_of_tile (slice_index_or cores client d) tile).parcels last_count ≤ (slice_index_or sums tile no_tally).parcels
 
 -- each worker of a crew has nothing left to do
 pub record AreOver {A B C : Type 0} (a_over : A → Type 0) (b_over : B → Type 0) (c_over : C → Type 0) (tasks : Crew (Task A) (Task B) (Task C)) : Type 0 where

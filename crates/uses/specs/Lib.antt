@@ -1,3 +1,4 @@
 pub mod Cluster
+pub mod Drawing
 pub mod Formats
 pub mod Orders

@@ -1,17 +1,35 @@
 //! Parts of tiles, frames that are written, and what a cluster leaves.
-ghost use Rattle.std.specs.Prelude.{◌≡◌, IfOk, length};
+ghost use Rattle.std.specs.Prelude.{◌≡◌, false, List, IfOk, length, slice_index_or};
+ghost use Rattle.rc_base.specs.Cluster.Lanes.{Follows};
 ghost use Rattle.rc_base.specs.Cluster.Tiles.{tile_count};
+ghost use Rattle.rc_base.specs.Formats.Netpbm.{p6_texts};
+ghost use Rattle.rc_base.specs.Outside.Ends.{use_of, Took};
+ghost use Rattle.rc_base.specs.declared.cluster.TilePart.{TilePart as AnyPart};
+ghost use Rattle.rc_base.specs.declared.scene.Scene.{Scene as AnyScene};
+ghost use Rattle.rc_base.specs.declared.window.Layout.{Layout as AnyLayout};
 ghost use Rattle.assembler.specs.Assembled.{layout_of};
-ghost use Rattle.uses.specs.Cluster.{AreOver, GiveOneAtMost};
+ghost use Rattle.frame_out.specs.OnTheWay.{GaveFrames, IsOnTheWay};
+ghost use Rattle.frame_out.specs.Writing.{AreWritable};
+ghost use Rattle.run_record.specs.Gathering.{HaveSent};
+ghost use Rattle.uses.specs.Cluster.{AreOver, CountEach, GiveOneAtMost};
 
 use assembler::Assembler;
+use client_issue::ClientCore;
+use frame_out::{FrameWriter, Written, write_frames};
 use rc_base::cluster::TilePart;
 use rc_base::gate::Gate;
+use rc_base::image::Image;
+use rc_base::lane::Inlet;
 use rc_base::out_of_memory::OutOfMemory;
+use rc_base::outside::Sink;
 use rc_base::plain_lane::PlainLane;
+use rc_base::scene::Decl;
+use run_record::{Collected, collect};
 use std::alloc::Global;
 use std::sync::Wait;
 use std::thread::Threads;
+use sync_manager::ManagerCore;
+use tile_server::TileCore;
 use worker_crew::{Crew, Task, Worker, run_to_end};
 
 /// Puts parts together. Of each tile's lane the first part is taken, or none: no part is lost.
@@ -20,6 +38,47 @@ pub fn advanced(assembler: &mut Assembler, lanes: &mut [PlainLane<TilePart>]) ->
     ensures { GiveOneAtMost lanes.old lanes.new }
 {
     assembler.advance(lanes)
+}
+
+/// What cores leave that have ended. The tally of a tile counts the parcels of each client.
+pub fn collected(
+    alloc: Global,
+    decl: &Decl,
+    clients: Vec<ClientCore>,
+    manager: ManagerCore,
+    tiles: Vec<TileCore>,
+) -> Result<Collected, OutOfMemory>
+    ensures { (scene : AnyScene) (l : AnyLayout) → HaveSent scene l clients.items
+        → IfOk result (λ c. CountEach clients.items (length tiles.items) c.tallies) }
+{
+    collect(alloc, decl, clients, manager, tiles)
+}
+
+/// Writes frames. Where the image didn't fail, it was given the text of each of them.
+pub fn written<K: Sink>(
+    alloc: Global,
+    image: &mut K,
+    frames: &[Image],
+) -> Result<Written, OutOfMemory>
+    requires { AreWritable frames.now }
+    ensures { IfOk result (λ w. w.fault ≡ false → Took (use_of K.held K.faults image.old image.new) (p6_texts frames.now)) }
+{
+    write_frames(alloc, image, frames)
+}
+
+/// Takes parts for the next frame, and writes it where it is complete. What the image was given are the texts of the first frames, up to one that lacked
+/// memory: none stands behind such a one.
+pub fn served<I: Inlet<TilePart>, K: Sink>(
+    writer: &mut FrameWriter,
+    lanes: &mut [I],
+    image: &mut K,
+) -> bool
+    requires lanes { length lanes.old ≡ tile_count (layout_of writer.old.assembler) }
+    ensures { (taken : I → List AnyPart) (l : AnyLayout) (start : K) (d : I) → Follows I.gave I.same taken
+        → IsOnTheWay l (use_of K.held K.faults start image.old) (λ tile. taken (slice_index_or lanes.old tile d)) writer.old
+        → GaveFrames l (use_of K.held K.faults start image.new) (λ tile. taken (slice_index_or lanes.new tile d)) writer.new.written }
+{
+    writer.serve(lanes, image)
 }
 
 /// Runs a crew. At its end each client, the manager and each tile are over.

@@ -2,6 +2,7 @@
 ghost use Rattle.std.specs.Prelude.{◌≡◌, ◌≢◌, ℕ, ◌++◌, ◌∷◌, [], ◌<◌, ◌^◌, ◌⊎◌, List, Err, IfOk, length};
 ghost use Rattle.rc_base.specs.Formats.Spelling.{half};
 ghost use Rattle.rc_base.specs.declared.command.Command.{Command as AnyCommand};
+ghost use Rattle.rc_base.specs.declared.scene.TextKind.TheVariants.{UnknownWord};
 ghost use Rattle.rc_base.specs.declared.state.Parcel.{Parcel as AnyParcel};
 ghost use Rattle.parcel_bytes.specs.Spelling.{SpellsParcel};
 ghost use Rattle.uses.specs.Formats.{recorded_anew, BeginsNoImage};
@@ -15,7 +16,9 @@ use ppm_out::{PpmFault, read_ppm};
 use rc_base::command::Commands;
 use rc_base::image::Image;
 use rc_base::list_command::ListCommands;
+use rc_base::scene::Scene;
 use rc_base::state::Parcel;
+use scene_text::{TextSceneFault, parse_scene};
 use std::alloc::Global;
 
 /// The commands of a stream. One that begins with a packet of no commands is refused there, whatever follows.
@@ -42,6 +45,13 @@ pub fn image_of(alloc: Global, bytes: &[u8]) -> Result<(Image, usize), PpmFault>
     ensures { BeginsNoImage bytes.now → result ≢ Err PpmFault.OutOfMemory }
 {
     read_ppm(alloc, bytes)
+}
+
+/// The scene of a text whose one line is a word that no line begins with: its fault is the word, and not that no words follow it.
+pub fn unknown_word(alloc: Global) -> Result<Scene, TextSceneFault>
+    ensures { (result ≡ Err (TextSceneFault.Text 1 UnknownWord)) ⊎ (result ≡ Err TextSceneFault.OutOfMemory) }
+{
+    parse_scene(alloc, b"swop\n")
 }
 
 /// What a stream means that records a list which calls another one, and then records that one anew: the call gives what was recorded last.

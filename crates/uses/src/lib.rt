@@ -4,5 +4,7 @@
 
 pub mod cluster;
 pub mod contexts;
+pub mod drawing;
 pub mod formats;
 pub mod orders;
+pub mod program;

@@ -1,10 +1,21 @@
 //! Orders of commands, and races.
-ghost use Rattle.std.specs.Prelude.{◌≤◌, IsTrue};
-ghost use Rattle.rc_base.specs.Orders.Sync.{client_count, IsWellFormed};
-ghost use Rattle.uses.specs.Orders.{PartsNames};
+ghost use Rattle.std.specs.Prelude.{◌≡◌, ◌≢◌, ◌<◌, ◌≤◌, ◌↔◌, IfOk, IsTrue};
+ghost use Rattle.rc_base.specs.Formats.Within.{IsWithin};
+ghost use Rattle.rc_base.specs.Orders.Journal.{reach_of, IsLegal, IsMaximal};
+ghost use Rattle.rc_base.specs.Orders.Order.{IsPermitted};
+ghost use Rattle.rc_base.specs.Orders.Sync.{sync_lists_of, client_count, IsWellFormed};
+ghost use Rattle.rc_base.specs.declared.sync.Name.{Name as AnyName};
+ghost use Rattle.happens_before.specs.Before.{IsBefore};
+ghost use Rattle.race_check.specs.Races.{SaysOrdered};
+ghost use Rattle.uses.specs.Orders.{NoneConflict, PartsNames, RaceAtAPixel};
 
+use happens_before::clocks_of;
 use order_model::is_permitted;
-use rc_base::sync::{Journal, Order, SyncLists};
+use race_check::{Verdict, check_races};
+use rc_base::out_of_memory::OutOfMemory;
+use rc_base::scene::Scene;
+use rc_base::sync::{Entry, Journal, Name, Order, SyncLists};
+use std::alloc::Global;
 
 /// Whether a journal permits an order. One that is permitted has each name before a member's operation before each name behind another member's,
 /// whichever of the two clients has the lower number.
@@ -14,4 +25,58 @@ pub fn parts_names(order: &Order, journal: &Journal, syncs: &SyncLists) -> bool
     ensures { IsTrue result → PartsNames syncs.now journal.now order.now }
 {
     is_permitted(order, journal, syncs)
+}
+
+/// Whether a name is before another client's, whatever order is taken: the clocks tell no fewer names, and no more.
+pub fn is_before(
+    alloc: Global,
+    journal: &[Entry],
+    syncs: &SyncLists,
+    first: Name,
+    second: Name,
+) -> Result<bool, OutOfMemory>
+    requires lists { IsWellFormed syncs.now }
+    requires clients { client_count syncs.now ≤ 8 }
+    requires legal { IsLegal syncs.now journal.now }
+    requires names { (first.client < 8) × (second.client < 8) × (first.client ≢ second.client) }
+    requires reached { second.place < reach_of syncs.now journal.now second.client }
+    ensures { IfOk result (λ r. IsTrue r ↔ IsBefore syncs.now journal.now first second) }
+{
+    let timelines = clocks_of(alloc, journal, syncs)?;
+    let before = timelines.before(second.client, second.place);
+    Ok(first.place < before[first.client as usize])
+}
+
+/// The verdict on a scene. Where no two commands conflict, as where two clients sample one texture, nothing races.
+pub fn told_of_readers(
+    alloc: Global,
+    scene: &Scene,
+    journal: &Journal,
+    order: &Order,
+    syncs: &SyncLists,
+) -> Result<Verdict, OutOfMemory>
+    requires within { IsWithin scene.now }
+    requires lists { syncs.now ≡ sync_lists_of scene.now }
+    requires maximal { IsMaximal syncs.now journal.now }
+    requires permitted { IsPermitted syncs.now journal.now order.now }
+    ensures { NoneConflict syncs.now journal.now scene.now → IfOk result SaysOrdered }
+{
+    check_races(alloc, scene, journal, order, syncs)
+}
+
+/// The verdict on a scene. Where two clients touch one pixel and neither name is before the other, a race is told, whatever tests their drawing has to pass.
+pub fn told_of_pixels(
+    alloc: Global,
+    scene: &Scene,
+    journal: &Journal,
+    order: &Order,
+    syncs: &SyncLists,
+) -> Result<Verdict, OutOfMemory>
+    requires within { IsWithin scene.now }
+    requires lists { syncs.now ≡ sync_lists_of scene.now }
+    requires maximal { IsMaximal syncs.now journal.now }
+    requires permitted { IsPermitted syncs.now journal.now order.now }
+    ensures { (a b : AnyName) → RaceAtAPixel syncs.now journal.now scene.now a b → IfOk result (λ v. SaysOrdered v → ⊥) }
+{
+    check_races(alloc, scene, journal, order, syncs)
 }

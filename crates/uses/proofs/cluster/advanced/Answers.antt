@@ -1,4 +1,4 @@
-use Rattle.std.proofs.Common.{◌≡◌, ℕ, ◌<◌, Bool, true, false, List, ◌∷◌, length, Option, Some, None, inl, inr, refl, ap}
+use Rattle.std.proofs.Common.{◌≡◌, ℕ, Bool, true, false, List, ◌∷◌, Option, Some, None, inl, inr, refl, ap}
 use Rattle.std.specs.Prelude.{slice_index_or}
 use Rattle.rc_base.specs.Cluster.PlainLanes.{held}
 use Rattle.rc_base.specs.declared.cluster.TilePart.{TilePart}

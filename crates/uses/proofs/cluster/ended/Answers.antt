@@ -1,6 +1,5 @@
-use Rattle.std.proofs.Common.{◌≡◌, ◌<◌, ℕ, List, length, Result, Ok, Err, arith}
+use Rattle.std.proofs.Common.{◌<◌, ℕ, List, length, Result, Ok, Err, arith}
 use Rattle.std.specs.Prelude.{IfOk, slice_index_or}
-use Rattle.rc_base.specs.Lists.{ArePaired}
 use Rattle.rc_base.specs.declared.out_of_memory.OutOfMemory.{OutOfMemory}
 use Rattle.worker_crew.specs.Crews.{HaveEnded}
 use Rattle.worker_crew.specs.Tasks.{HaveAllEnded}

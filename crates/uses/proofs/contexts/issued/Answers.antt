@@ -1,4 +1,4 @@
-use Rattle.std.proofs.Common.{◌≡◌, ℕ, Result, Ok, Err, Some, refl, ap, subst, sym, ◌∙◌}
+use Rattle.std.proofs.Common.{◌≡◌, ℕ, Result, Ok, Err, Some, ap, ◌∙◌}
 use Rattle.std.specs.Prelude.{OnOk, OnErr, Option}
 use Rattle.std.specs.Option.{option_map_or}
 use Rattle.rc_base.specs.Contexts.Context.{ClientContext}
@@ -6,7 +6,6 @@ use Rattle.rc_base.specs.Contexts.Faults.{fault_of}
 use Rattle.rc_base.specs.Contexts.Issue.{issued, refused, carried_out}
 use Rattle.rc_base.specs.declared.command.Command.{Command}
 use Rattle.rc_base.specs.declared.out_of_memory.OutOfMemory.{OutOfMemory}
-use Rattle.rc_base.specs.declared.state.Block.{Block}
 use Rattle.rc_base.specs.declared.state.Effect.{Effect}
 use Rattle.rc_base.specs.declared.state.Fault.{Fault}
 use Rattle.uses.proofs.contexts.issued.Goals as goal

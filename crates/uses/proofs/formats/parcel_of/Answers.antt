@@ -1,4 +1,4 @@
-use Rattle.std.proofs.Common.{◌≡◌, ℕ, List, ◌++◌, ◌<◌, ◌⊎◌, Result, Ok, Err, inl, inr, refl, ap, length}
+use Rattle.std.proofs.Common.{◌≡◌, ℕ, List, ◌⊎◌, Result, Ok, Err, inl, inr, refl, ap, length}
 use Rattle.std.specs.Prelude.{IfOk, IfErr}
 use Rattle.rc_base.specs.declared.state.Parcel.{Parcel}
 use Rattle.parcel_bytes.specs.Spelling.{SpellsParcel}
