@@ -6,12 +6,14 @@ use Rattle.rc_base.specs.declared.sync.Request.{Request}
 use Rattle.rc_base.specs.declared.sync.SyncLists.{SyncLists}
 use Rattle.rc_base.proofs.Paired.{after_slice}
 use Rattle.sync_manager.specs.Clauses.{IsManagerClause}
+use Rattle.sync_manager.specs.Cores.{AreSent, AreTaken}
 use Rattle.sync_manager.specs.declared.manager.ManagerCore.{ManagerCore}
 use Rattle.tile_queues.specs.Ends.{sent_of, taken_of}
 use Rattle.tile_queues.specs.declared.ends.LaneIn.{LaneIn}
 use Rattle.tile_queues.specs.declared.ends.LaneOut.{LaneOut}
 use Rattle.tile_queues.specs.Names.{AreInto, AreOutOf}
 use Rattle.cluster_run.specs.Attempts.{manager_attempt}
+use Rattle.cluster_run.specs.Steps.{Took, TookNone}
 use Rattle.cluster_run.proofs.Named.{into_goes_on, out_goes_on}
 use Rattle.cluster_run.proofs.workers.ManagerWorker.advance.Goals as goal
 
@@ -22,8 +24,22 @@ Holds syncs tiles d e core requests grants ended =
 
 pub returns-clause-steps : goal.returns-clause-steps
 returns-clause-steps g c =
-    let told = c.step-answer.ensures.step in
-    record { deed = told.0; step = told.2; came_is = c.attempt_of-attempt.ensures.exact ∙ ap manager_attempt told.1 }
+    let step = c.step-answer.ensures in
+    let told = step.step in
+    let w = c.args.self.now in
+    let xs' = c.step-answer.new.requests in
+    let ys' = c.step-answer.new.grants in
+    let xs_are = c.deref_mut.ensures.value in
+    let ys_are = c.deref_mut-2.ensures.value in
+    let xs_left = after_slice w.requests.len xs' w.requests.items w.requests.ok.0 (step.request_lanes.count ∙ ap length xs_are) in
+    let ys_left = after_slice w.grants.len ys' w.grants.items w.grants.ok.0 (step.grant_lanes.count ∙ ap length ys_are) in
+    record {
+      deed = told.0;
+      step = told.2;
+      came_is = c.attempt_of-attempt.ensures.exact ∙ ap manager_attempt told.1;
+      requests = subst (λ ends. AreTaken Took TookNone told.0 w.requests.items ends) (sym xs_left) (subst (λ ends. AreTaken Took TookNone told.0 ends xs') xs_are told.3);
+      grants = subst (λ ends. AreSent sent_of told.0 w.grants.items ends) (sym ys_left) (subst (λ ends. AreSent sent_of told.0 ends ys') ys_are told.5);
+    }
 
 pub returns-clause-leads : goal.returns-clause-leads
 returns-clause-leads g c syncs tiles asked granted h =

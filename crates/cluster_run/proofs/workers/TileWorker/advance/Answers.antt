@@ -9,7 +9,7 @@ use Rattle.rc_base.specs.declared.sync.Grant.{Grant}
 use Rattle.rc_base.specs.declared.window.Layout.{Layout}
 use Rattle.rc_base.proofs.Paired.{after_slice}
 use Rattle.tile_server.specs.Clauses.{IsTileClause, shown_in}
-use Rattle.tile_server.specs.Cores.{is_short}
+use Rattle.tile_server.specs.Cores.{is_short, AreTaken}
 use Rattle.tile_server.specs.Deeds.{answer_of}
 use Rattle.tile_server.specs.declared.tile_core.TileCore.{TileCore}
 use Rattle.tile_queues.specs.Ends.{sent_of, taken_of}
@@ -17,6 +17,7 @@ use Rattle.tile_queues.specs.declared.ends.LaneOut.{LaneOut}
 use Rattle.tile_queues.specs.Names.{AreOutOf}
 use Rattle.rc_base.specs.declared.cluster.TileMoved.TheVariants as moved
 use Rattle.cluster_run.specs.Attempts.{tile_attempt}
+use Rattle.cluster_run.specs.Steps.{Took, TookNone}
 use Rattle.cluster_run.specs.Tiles.{parts_of}
 use Rattle.cluster_run.proofs.Named.{out_goes_on}
 use Rattle.cluster_run.proofs.workers.TileWorker.advance.Goals as goal
@@ -88,7 +89,7 @@ pub returns-then-not-put_held-clause-steps : goal.returns-then-not-put_held-clau
 returns-then-not-put_held-clause-steps g c =
     let put = c.put_held.ensures in
     let still = put.waits c.if-not-put_held.true in
-    inr (record { waits = λ none. still (put.none none); core_is = refl; came_is = inr (refl, still) })
+    inr (record { waits = λ none. still (put.none none); core_is = refl; came_is = inr (refl, still); clients = refl; grants = refl; parts = put.kept })
 
 pub returns-then-waited-clause-steps : goal.returns-then-waited-clause-steps
 returns-then-waited-clause-steps g c =
@@ -96,16 +97,37 @@ returns-then-waited-clause-steps g c =
       waits = λ none. true≢false (sym c.if-waited.true ∙ c.is_some-waited.ensures ∙ ap (λ (o : Option TilePart). is_some o) none);
       core_is = refl;
       came_is = inl (refl, c.put_held.ensures.put c.if-not-put_held.false);
+      clients = refl;
+      grants = refl;
+      parts = c.put_held.ensures.kept;
     })
 
 pub returns-clause-steps : goal.returns-clause-steps
 returns-clause-steps g c =
-    let told = c.step-answer.ensures.step in
+    let step = c.step-answer.ensures in
+    let told = step.step in
+    let w = c.args.self.now in
+    let xs' = c.step-answer.new.clients in
+    let xs_are = c.deref_mut.ensures.value in
+    let left = after_slice w.clients.len xs' w.clients.items w.clients.ok.0 (step.client_lanes.count ∙ ap length xs_are) in
+    let put = c.put_held.ensures in
+    let offer = c.offered.result in
+    let none = none_there w.held (sym c.is_some-waited.ensures ∙ c.if-waited.false) in
+    let first : sent_of c.put_held.new.parts ≡ parts_of w =
+    sym (append-nil (sent_of c.put_held.new.parts))
+    ∙ ap (λ (o : Option TilePart). sent_of c.put_held.new.parts ++ option_to_list o) (sym (put.put c.if-not-put_held.false)) ∙ put.kept in
+    let before : parts_of w ≡ sent_of w.parts = ap (λ (o : Option TilePart). sent_of w.parts ++ option_to_list o) none ∙ append-nil (sent_of w.parts) in
     inl (record {
-      none_waits = none_there c.args.self.now.held (sym c.is_some-waited.ensures ∙ c.if-waited.false);
+      none_waits = none;
       deed = told.0;
       step = told.2.0;
       came_is = c.attempt_of-attempt.ensures.exact ∙ ap tile_attempt told.1;
+      clients = subst (λ ends. AreTaken Took TookNone told.0 w.clients.items ends) (sym left) (subst (λ ends. AreTaken Took TookNone told.0 ends xs') xs_are told.2.1);
+      grants = told.2.3;
+      offered = offer;
+      shown = subst (λ (r : Result TileMoved OutOfMemory). IfOk r (λ did. option_to_list offer ≡ shown_in (Ok did))) told.1 c.offered.ensures.shown;
+      lacked = subst (λ (r : Result TileMoved OutOfMemory). OnErr r ((part : TilePart) × (offer ≡ Some part) × (part.pixels ≡ []))) told.1 c.offered.ensures.lacked;
+      parts = c.put_held-sent.ensures.kept ∙ ap (λ (ps : List TilePart). ps ++ option_to_list offer) (first ∙ before);
     })
 
 pub returns-clause-leads : goal.returns-clause-leads
