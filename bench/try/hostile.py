@@ -18,14 +18,15 @@ told to do so for two). It has to end by itself with a status that its job has.
   more than 20,000 commands, or with much to draw, is given to `check` alone.
 - Of a sound scene `unpack` has to write its text, and `pack` of that the scene's bytes in packets of 1,024 commands; each report is a report and tells the
   refused commands that scene_faults.py finds, each image has the size of the frames that its report tells, and `check` tells what `serial` does. Where
-  `render`, `simulate` and `serial` all end with 0, their reports agree. Where no client takes a unit and each barrier that is named counts all clients, the
+  `render`, `simulate` and `serial` all end with 0, their reports agree, and so they do where one client takes from each semaphore and no barrier is named by
+  more clients than it counts. Where no client takes a unit and each barrier that is named counts all clients, the
   ends of all three and the last lines of their reports are computed. Where the frames are more than `serial` and `simulate` hold, these two have to say so,
   and `render` isn't run.
 - Where the scene is ordered, `render`, `simulate` and `serial` give one image.
 
 Ordered is judged by conditions that are sufficient, and not necessary: the scene has one client; or no client takes a unit, each barrier that is named
 counts all clients, and no two clients draw, clear or write a shared texture between the same two meetings; or one client alone does that and all three end
-with 0. The clause `serial_image` of `run` and docs/synchronisation.md say why.
+with 0; or nobody contends and `race` ends with 0. The clauses `serial_image` and `foreseen_image` of `run` and docs/synchronisation.md say why.
 
 For each seed a line tells how many inputs it made, how many of them ended with each status (scenes by `render`, texts by `pack`), of how many the images
 were compared as those of an ordered scene, and the seconds. At the first difference the input is written to FOLDER (hostile-found), the command that
@@ -328,6 +329,20 @@ class Due:
         rounds = [{r for r in drawn if r <= met} for _, _, drawn in walks]
         self.is_ordered = clients == 1 or self.is_full and sum(map(len, rounds)) == len(set().union(*rounds))
         self.draws_alone = sum(1 for _, _, drawn in walks if drawn) <= 1
+        # One client takes from each semaphore, and no barrier is named by more clients than it counts; besides, one client gives each unit that is taken.
+        takers, givers, naming = (clients_by(walks, name) for name in ("SemP", "SemV", "Barrier"))
+        self.takes_alone = all(len(c) == 1 for c in takers.values()) and all(len(c) <= scene.barriers[b - 1] for b, c in naming.items())
+        self.is_uncontended = self.takes_alone and all(len(givers.get(semaphore, ())) <= 1 for semaphore in takers)
+
+
+def clients_by(walks, name):
+    """The clients whose streams have this operation, by the number of what it names."""
+    clients = collections.defaultdict(set)
+    for client, (_, operations, _) in enumerate(walks):
+        for _, other, numbers in operations:
+            if other == name:
+                clients[numbers[0]].add(client)
+    return clients
 
 
 def last_lines(walks, meetings, met):
@@ -444,14 +459,14 @@ def judge_sound(rng, data, scene, list_lines=""):
     (status, image, told), (_, stepped, steps), (ended, drawn, serial) = ends
     expect((ended, b"", serial[0].encode()), ["check"], data)
     all_done = all(end[0] == 0 for end in ends)
-    if all_done or due.is_full:
+    if all_done or due.takes_alone:
         for words, (_, _, other) in ((render, ends[0]), (simulate, ends[1])):
             same = all(other[part] == serial[part] for part in ("last", "stuck"))
             demand(same, f"its report isn't that of `serial`: {other[0][:300]!r} and {serial[0][:300]!r}", words, data)
         demand(told["tiles"] == steps["tiles"], "`render` and `simulate` tell the tiles otherwise", render, data)
     if due.is_full:
         demand((serial["last"] + serial["stuck"]).splitlines() == due.lines, f"{serial[0][-300:]!r} for {due.lines}", ["serial"], data)
-    compared = due.is_ordered or due.draws_alone and all_done
+    compared = due.is_ordered or due.draws_alone and all_done or due.is_uncontended and run(["race"], data)[0] == 0
     if compared:
         demand(image == drawn, "the scene is ordered, and the image isn't that of `serial`", render, data)
         demand(stepped == drawn, "the scene is ordered, and the image isn't that of `serial`", simulate, data)
