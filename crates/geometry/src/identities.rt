@@ -1,5 +1,5 @@
 //! Which of a state's matrices move no vector, and whether its viewport and depth range are usual ones.
-ghost use Rattle.std.specs.Prelude.{◌≡◌, ◌↔◌, ◌^◌, pos, IsTrue, true};
+ghost use Rattle.std.specs.Prelude.{◌≡◌, ◌↔◌, ◌^◌, pos, IsTrue, true, false};
 ghost use Rattle.rc_base.specs.Numbers.{Within, entry};
 ghost use Rattle.rc_base.specs.Contexts.Context.{identity};
 ghost use Rattle.geometry.specs.Placed.{FixesVectors, AreIdentities};
@@ -25,12 +25,26 @@ pub struct Identities {
     pub usual: bool,
 }
 
+// Whether all numbers are the same. There is no way out of the loop, so that it is compiled to a few steps over all of them.
+fn are_same(a: &[i32; 16], b: &[i32; 16]) -> bool
+    ensures yes { result ≡ true → a.now ≡ b.now }
+    ensures no { result ≡ false → a.now ≡ b.now → ⊥ }
+{
+    let mut same = true;
+    for i in 0..16usize {
+        if a[i] != b[i] {
+            same = false;
+        }
+    }
+    same
+}
+
 /// Whether a matrix is the identity, which moves no vector.
 pub fn is_identity(m: &Mat4) -> bool
     ensures identity { IsTrue result ↔ m.now.m ≡ identity.m }
     ensures fixes { result ≡ true → FixesVectors m.now.m }
 {
-    *m == IDENTITY
+    are_same(&m.m, &IDENTITY.m)
 }
 
 fn is_side(side: i32) -> bool

@@ -1,13 +1,10 @@
-use Rattle.std.proofs.Common.{sym, ◌∙◌}
-use Rattle.std.specs.Cmp.Rules.{signed_items}
-use Rattle.rc_base.specs.Contexts.Context.{identity}
+use Rattle.std.proofs.Common.{inl, inr}
+use Rattle.std.proofs.lemmas.Bool.{cases_Bool}
 use Rattle.geometry.proofs.Identity.{fixed_by}
 use Rattle.geometry.proofs.identities.is_identity.Goals as goal
 
 pub returns-clause-identity : goal.returns-clause-identity
-returns-clause-identity c =
-    let same = signed_items c.args.m.now.m identity.m in
-    (λ h. same.0 (sym c.eq.ensures ∙ h), λ e. c.eq.ensures ∙ same.1 e)
+returns-clause-identity c = (c.are_same.ensures.yes, λ e. elim (cases_Bool c.are_same.result) [ inl t ↦ t | inr f ↦ absurd (c.are_same.ensures.no f e) ])
 
 pub returns-clause-fixes : goal.returns-clause-fixes
-returns-clause-fixes c h = fixed_by c.args.m.now ((signed_items c.args.m.now.m identity.m).0 (sym c.eq.ensures ∙ h))
+returns-clause-fixes c h = fixed_by c.args.m.now (c.are_same.ensures.yes h)
