@@ -25,7 +25,7 @@ pub struct Identities {
     pub usual: bool,
 }
 
-// Whether all numbers are the same. There is no way out of the loop, so that it is compiled to a few steps over all of them.
+// Whether all numbers are the same. There is no way out of the loop: of the identity `==`, which has one, takes twice the steps.
 fn are_same(a: &[i32; 16], b: &[i32; 16]) -> bool
     ensures yes { result ≡ true → a.now ≡ b.now }
     ensures no { result ≡ false → a.now ≡ b.now → ⊥ }
