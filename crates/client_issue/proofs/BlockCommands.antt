@@ -1,6 +1,6 @@
 -- A client after it has issued a command of a block as it is kept.
-use Rattle.std.proofs.Common.{◌≡◌, ◌∙◌, ℕ, ◌+◌, ◌<◌, Bool, true, false, ◌++◌, length, get_or, Some, None, refl, sym, ap, subst, append-nil, arith, to_z, of_z}
-use Rattle.std.specs.Prelude.{MatchOption, MatchResult, Result, Ok, Err, FitsSigned, not, ◌&&◌, ◌||◌, ℤ, List, nat_eq}
+use Rattle.std.proofs.Common.{◌≡◌, ◌∙◌, ℕ, ◌+◌, ◌<◌, Bool, true, false, ◌++◌, length, get_or, Some, None, refl, sym, ap, subst, append-nil, to_z, of_z}
+use Rattle.std.specs.Prelude.{MatchOption, FitsSigned, not, ◌&&◌, ◌||◌, ℤ, List, nat_eq}
 use Rattle.std.specs.declared.option.Option.{Option}
 use Rattle.std.specs.Int.{w32}
 use Rattle.std.proofs.lemmas.Int.{to_z-of_z}
@@ -18,14 +18,13 @@ use Rattle.rc_base.specs.declared.state.Block.{Block}
 use Rattle.rc_base.specs.declared.state.Effect.{Effect}
 use Rattle.rc_base.specs.declared.state.Effect.TheVariants as eff
 use Rattle.rc_base.specs.declared.state.Fault.{Fault}
-use Rattle.rc_base.specs.declared.state.State.{State}
 use Rattle.rc_base.specs.declared.sync.WaitAt.{WaitAt}
 use Rattle.gl_context.specs.Streams.{StreamsGoOnByIssue}
 use Rattle.state_update.specs.Knowledge.{pending}
 use Rattle.client_issue.specs.Acts.{act_by, asks_of, goes_to}
 use Rattle.client_issue.specs.First.{IsFirst}
 use Rattle.client_issue.specs.Issued.{is_refused, sets_element, wait_in}
-use Rattle.client_issue.specs.Sequence.{scene_of, left_of, IsIssuing, IsSame, IsSending, IsSendingWith}
+use Rattle.client_issue.specs.Sequence.{scene_of, left_of, IsIssuing, IsSending, IsSendingWith}
 use Rattle.client_issue.specs.declared.pending.Pending.{Pending}
 use Rattle.client_issue.specs.declared.sender.Sender.{Sender}
 use Rattle.client_issue.proofs.Issuing.{IsIssued, command_is, issued_left, issued_sending}

@@ -1,5 +1,4 @@
 use Rattle.std.proofs.Common.{◌≡◌, ◌∙◌, ◌+◌, ◌<◌, ℕ, false, Some, None, refl, ap, subst, sym}
-use Rattle.std.specs.declared.option.Option.{Option}
 use Rattle.rc_base.specs.declared.state.Effect.TheVariants as eff
 use Rattle.rc_base.specs.declared.state.State.{State}
 use Rattle.client_issue.specs.Acts.{asks_of}
