@@ -62,16 +62,6 @@ fn stage_row(
     ensures spare { length spare.new.colors.items ≡ length spare.old.colors.items }
     ensures drawn { IsRowDrawn setup.now run colors.old depths.old colors.new depths.new }
 {
-    if is_short(run) {
-        if let Tests::Depth(plane) = stages.tests {
-            if let Some(over) = laid_by(setup) {
-                if let Some(shades) = shades_of(setup, stages.source, run) {
-                    draw_short(colors, depths, setup, plane, shades, over, run);
-                    return;
-                }
-            }
-        }
-    }
     let from = first_visible(depths, setup, stages.tests, run);
     if from == run.to {
         return;
@@ -84,6 +74,16 @@ fn stage_row(
         from,
         to: run.to,
     };
+    if is_short(run) {
+        if let Tests::Depth(plane) = stages.tests {
+            if let Some(over) = laid_by(setup) {
+                if let Some(shades) = shades_of(setup, stages.source, run) {
+                    draw_short(colors, depths, setup, plane, shades, over, run);
+                    return;
+                }
+            }
+        }
+    }
     color_row(spare.colors.as_mut_slice(), setup, stages.source, run);
     put_row(colors, depths, spare, setup, stages.tests, run);
 }
