@@ -10,4 +10,4 @@ mod client;
 mod replay;
 
 pub use client::{Client, clients_of, issue_name, issue_still, take_back};
-pub use replay::{count_at, issue_at, issue_still_at};
+pub use replay::{count_at, issue_at};

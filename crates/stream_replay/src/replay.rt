@@ -41,7 +41,7 @@ pub fn issue_at(
 
 /// The same of a Vertex, a Color or a TexCoord, which do nothing beyond their context; another command is left alone. Whether it was issued.
 #[inline(always)]
-pub fn issue_still_at(
+pub(crate) fn issue_still_at(
     context: &mut Context,
     scene: &Scene,
     client: usize,
