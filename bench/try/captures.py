@@ -22,15 +22,16 @@ approximated of each, by name, number and weight. The status is 1 where a conver
 anything but a scene or a refusal of one line.
 
 A FOLDER keeps traces, scenes, pictures and figures, and those that it has are taken as they are:
-figures as long as the converter's text is the same. So a run that was broken off goes on where it
-was. No program is traced for more than S seconds, and nothing else of it takes longer than the
-seconds of --longest; a trace that has 100 MB is ended.
+figures as long as the converter's text is the same, but for failures. So a run that was broken off
+goes on where it was. No program is traced for more than S seconds, and nothing else of it takes
+longer than the seconds of --longest; a trace that has 100 MB is ended.
 """
 import argparse
 import hashlib
 import json
 import os
 import pathlib
+import signal
 import subprocess
 import sys
 import tempfile
@@ -209,7 +210,8 @@ def judged(program, options, folder, environment):
         return failed(name, frame, "FAILED: " + child.stderr.decode().splitlines()[-1])
     row.figures = json.loads(child.stdout)
     if "refused" in row.figures:
-        return failed(name, frame, row.figures["refused"].replace(str(folder) + "/", ""))
+        row.failed = row.figures["refused"].replace(str(folder) + "/", "")
+        return row
     row.figures["serial"], data = clocked([options.program, "serial"], scene)
     row.figures["render"], _ = clocked([options.program, "render", "--tiles", "4x3"], scene)
     ours = pictures.picture_at(data)[0]
@@ -234,6 +236,8 @@ def kept(program, options, folder, environment, mark):
     except (OSError, ValueError, KeyError):
         pass
     row = judged(program, options, folder, environment)
+    if row.failed and "refused" not in row.figures:
+        return row
     path.write_text(json.dumps({"mark": mark, "name": row.name, "frame": row.frame,
                                 "figures": row.figures, "failed": row.failed}))
     return row
@@ -267,6 +271,7 @@ def main():
     options = words()
     options.program = built(options.program)
     chosen = capture_programs.chosen(options.names)
+    signal.signal(signal.SIGTERM, lambda *_: sys.exit(143))      # which ends the server too
     with tempfile.TemporaryDirectory() as made, Display() as environment:
         folder = pathlib.Path(options.cache or made)
         folder.mkdir(exist_ok=True)

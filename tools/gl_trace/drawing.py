@@ -8,7 +8,7 @@ import math
 from .blocks import block_of
 from .clipping import (LEAST_SPREAD, Finer, Parts, beyond_a_side, cut, finite,
                        moved_in_depth)
-from .filters import MOST_TEXELS, Filtered
+from .filters import Filtered
 from .items import FAN, STRIP, TRIANGLES
 from .limits import MOST_VERTICES
 from .setting import GUARD, TINY
@@ -86,7 +86,10 @@ class Drawing:
         """Draws the outlines of polygons on whose side they are asked for, and gives those that
         are to be filled. The order among both is that of OpenGL where one kind is asked for."""
         setting, filled, drawn = self.setting, [], set()
-        strokes = Strokes(self.machine, setting, self.run, self.corners, self.level)
+        level = self.level
+        if self.parts:      # of which a line takes none
+            level = level.level(0, self.machine.options.texture_side)
+        strokes = Strokes(self.machine, setting, self.run, self.corners, level)
         for fan, provoking in faces:
             front = is_front(setting, [self.corners.places[i] for i in fan])
             mode = setting.values["polygon_mode"][0 if front else 1]
@@ -165,7 +168,7 @@ class Drawing:
         setting, machine, options = self.setting, self.machine, self.machine.options
         found = Filtered(level, options.texture_side, setting.clamps(), options.cut_textures)
         level.made = machine.filtered
-        if not options.nearest and machine.filtered[0] < MOST_TEXELS:
+        if not options.nearest:
             found.choose([[self.corners.coordinates[i] for i in fan] for fan, _ in faces])
         if found.times < found.due:
             machine.concern("approximated", "a linear filter by " + (
