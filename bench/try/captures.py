@@ -10,6 +10,7 @@ Xvfb have to be there; Xvfb is started here. The program is built by
     cd crates/render_cli && rt run -- render < ../../examples/red.rcs > /dev/null
 
 Each line of the table has, of one frame (N, or the last but one where there are fewer):
+A frame that begins without a clear is drawn with all before it, and the last picture is taken.
 drawn       the share of the program's own pixels that aren't black: near 0 a line says little
 vertices    that the program draws, commands and bytes of the scene
 seconds     of a processor for converting, without those of reading the trace
@@ -133,10 +134,10 @@ class Timed:
             yield call
 
 
-def convert(path, frame, out):
-    """Converts a frame of a trace as the command does, and prints figures."""
+def convert(path, first, last, out):
+    """Converts frames of a trace as the command does, and prints figures."""
     from gl_trace import command_line, encoding, faults, machine, reading
-    words = ["--frames", f"{frame}:{frame + 1}", "--cut-textures", path]
+    words = ["--frames", f"{first}:{last}", "--cut-textures", path]
     options, notes = command_line.parser().parse_args(words), faults.Notes()
     begun = time.process_time()
     try:
@@ -188,6 +189,16 @@ class Row:
                 f"{f['serial']:.1f}", f"{f['render']:.1f}", f"{f['mean']:.2f}", f"{f['off']:.2f}"]
 
 
+def converted(path, first, last, scene, options):
+    """The figures of a conversion in a process of its own."""
+    child = subprocess.run(
+        [sys.executable, __file__, "--convert", str(path), str(first), str(last), str(scene)],
+        stdout=subprocess.PIPE, stderr=subprocess.PIPE, timeout=options.longest)
+    if child.returncode:
+        raise ValueError(child.stderr.decode().splitlines()[-1])
+    return json.loads(child.stdout)
+
+
 def judged(program, options, folder, environment):
     """Traces, converts, draws and compares a program's frame."""
     name = program.name
@@ -201,20 +212,21 @@ def judged(program, options, folder, environment):
     frame = max(1, min(options.frame, len(ends) - 2))
     row = Row(name, frame)
     try:
-        child = subprocess.run(
-            [sys.executable, __file__, "--convert", str(path), str(frame), str(scene)],
-            stdout=subprocess.PIPE, stderr=subprocess.PIPE, timeout=options.longest)
+        row.figures = converted(path, frame, frame + 1, scene, options)
+        if any("begins without a clear" in line for line in row.figures["notes"]):
+            whole = converted(path, 0, frame + 1, scene.with_suffix(".whole"), options)
+            if "refused" not in whole:
+                row.figures, scene = whole, scene.with_suffix(".whole")
     except subprocess.TimeoutExpired:
         return failed(name, frame, f"FAILED: no end in {options.longest} seconds")
-    if child.returncode:
-        return failed(name, frame, "FAILED: " + child.stderr.decode().splitlines()[-1])
-    row.figures = json.loads(child.stdout)
+    except ValueError as fault:
+        return failed(name, frame, f"FAILED: {fault}")
     if "refused" in row.figures:
         row.failed = row.figures["refused"].replace(str(folder) + "/", "")
         return row
     row.figures["serial"], data = clocked([options.program, "serial"], scene)
     row.figures["render"], _ = clocked([options.program, "render", "--tiles", "4x3"], scene)
-    ours = pictures.picture_at(data)[0]
+    ours = pictures.pictures_of(data)[-1]
     theirs = own_frame(program, path, ends[frame:frame + 2], options, environment)
     if theirs is None or theirs[:2] != ours[:2]:
         size = "none" if theirs is None else f"one of {theirs[0]}x{theirs[1]}"
@@ -266,7 +278,7 @@ def words():
 
 def main():
     if sys.argv[1:2] == ["--convert"]:
-        convert(sys.argv[2], int(sys.argv[3]), sys.argv[4])
+        convert(sys.argv[2], int(sys.argv[3]), int(sys.argv[4]), sys.argv[5])
         return 0
     options = words()
     options.program = built(options.program)
