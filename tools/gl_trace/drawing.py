@@ -8,7 +8,7 @@ import math
 from .blocks import block_of
 from .clipping import (LEAST_SPREAD, Finer, Parts, beyond_a_side, cut, finite,
                        moved_in_depth)
-from .filters import Filtered
+from .filters import FACTORS, Filtered, contrast
 from .items import FAN, STRIP, TRIANGLES
 from .limits import MOST_VERTICES
 from .setting import GUARD, TINY
@@ -78,6 +78,9 @@ class Drawing:
         if every and not (outside or finer or flat or self.parts or setting.two_sided
                           or setting.offset) and self.whole_block(faces):
             return
+        if finer and setting.texture and contrast(self.level) > FACTORS[0][0]:
+            self.machine.concern("approximated", "perspective of a texture by pieces that are "
+                                 "linear in the window")
         for fan, provoking in faces:
             self.face(fan, provoking if flat else None, outside, finer)
         self.flush()
@@ -140,8 +143,8 @@ class Drawing:
         return None
 
     def varies(self, coordinates, level, spread):
-        """Whether an edge of these texture coordinates may be off by over a quarter texel."""
-        return any(spread * (max(c) - min(c)) * side > 0.25
+        """Whether an edge of these texture coordinates may be off by over a sixteenth texel."""
+        return any(spread * (max(c) - min(c)) * side > 0.0625
                    for c, side in zip(zip(*coordinates), (level.width / level.times,
                                                           level.height / level.times)))
 
