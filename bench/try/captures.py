@@ -199,6 +199,16 @@ def converted(path, first, last, scene, options):
     return json.loads(child.stdout)
 
 
+def part_of(picture, width, height):
+    """The part at the lower left of a picture, or all of one that has none of that size: apitrace
+    makes its window as large as the viewports reach."""
+    if picture.width < width or picture.height < height:
+        return picture
+    rows = range(picture.height - height, picture.height)
+    rgb = b"".join(picture.rgb[3 * row * picture.width:][:3 * width] for row in rows)
+    return pictures.Picture(width, height, rgb)
+
+
 def judged(program, options, folder, environment):
     """Traces, converts, draws and compares a program's frame."""
     name = program.name
@@ -228,6 +238,7 @@ def judged(program, options, folder, environment):
     row.figures["render"], _ = clocked([options.program, "render", "--tiles", "4x3"], scene)
     ours = pictures.pictures_of(data)[-1]
     theirs = own_frame(program, path, ends[frame:frame + 2], options, environment)
+    theirs = theirs and part_of(theirs, *ours[:2])
     if theirs is None or theirs[:2] != ours[:2]:
         size = "none" if theirs is None else f"one of {theirs[0]}x{theirs[1]}"
         return failed(name, frame, f"of {ours[0]}x{ours[1]} here, and apitrace draws {size}")

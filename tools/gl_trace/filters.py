@@ -145,15 +145,13 @@ class Filtered:
 
     def choose(self, faces):
         """Looks for the largest of the numbers that fits; faces are lists of coordinates. What
-        reaches a small part of one texel has one colour, and no step may begin in it."""
-        if self.due == 1:
-            return
+        reaches a small part of one texel has one colour, and no step or texel may begin in it."""
         lows, highs = ([choose(axis) for axis in zip(*(place for face in faces for place in face))]
                        for choose in (min, max))
         reach = [high - low for low, high in zip(lows, highs)]
         if reach[0] * self.image.width < SPOT and reach[1] * self.image.height < SPOT:
             places = ((low + high) / 2 for low, high in zip(lows, highs))
-            self.times, self.level = self.due, spot(self.image, *places, self.clamps)
+            self.times, self.level = FACTORS[-1][1], spot(self.image, *places, self.clamps)
             return
         for times in (9, 5, 3):
             if times <= self.due:
