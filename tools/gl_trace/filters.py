@@ -14,7 +14,7 @@ from .images import Image
 # texel is off by half a step at most, which is 12 to 14 of 255.
 FACTORS = ((24, 1), (72, 3), (130, 5), (255, 9))
 LOOKED_AT = 64          # rows of an image, by which its differences are taken
-SPOT = 0.1              # of a texel
+SPOT = 0.2              # of a texel
 MOST_CELLS = 12         # images that one texture is cut into, or that a primitive has
 MOST_REACHED = 256      # cells that a primitive of a repeated texture reaches
 MOST_REGIONS = 128      # images of polygons that a texture has
