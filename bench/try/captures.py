@@ -18,6 +18,7 @@ us          microseconds of those spent on the frame itself, a vertex that the p
             vertex of the scene, where lines are quads and what is seen close is cut finer
 serial      and render --tiles 4x3: milliseconds by the clock, the least of three
 mean, off   the mean difference of a channel, and the share of pixels with one off by over 16
+told        the heaviest notes of a picture that is off in more than half a percent of pixels
 Behind the table stand how many are within half a percent of pixels, and what was left out or
 approximated of each, by name, number and weight. The status is 1 where a conversion ended in
 anything but a scene or a refusal of one line.
@@ -32,6 +33,7 @@ import hashlib
 import json
 import os
 import pathlib
+import re
 import signal
 import subprocess
 import sys
@@ -49,7 +51,7 @@ from program import built
 TOOLS = BENCH.parent / "tools"
 sys.path.insert(0, str(TOOLS))
 HEAD = ("program", "frame", "drawn %", "vertices", "commands", "bytes", "seconds", "us a vertex",
-        "us a scene's", "serial ms", "render 4x3 ms", "mean", "off %")
+        "us a scene's", "serial ms", "render 4x3 ms", "mean", "off %", "what is told")
 NEAR = 0.5          # a picture is near the program's own where no more of 100 pixels are off
 EMPTY = 0.05        # and shows nothing where no more of 100 pixels aren't black
 
@@ -170,6 +172,13 @@ def clocked(command, scene, times=3):
     return least, done.stdout
 
 
+def heaviest(notes, most=2):
+    """The notes about most of the pixels; of none that are about any, the first ones."""
+    found = [(int(told[1]), note) for note in notes
+             if (told := re.search(r", (\d+) pixels$", note)) and int(told[1])]
+    return [note for _, note in sorted(found, reverse=True)[:most]] or notes[:most]
+
+
 class Row:
     """What one program comes to."""
 
@@ -186,7 +195,8 @@ class Row:
         f = self.figures
         return [self.name, self.frame, f"{f['drawn']:.0f}", f["vertices"], f["commands"],
                 f["bytes"], f"{f['seconds']:.2f}", f"{f['each']:.1f}", f"{f['scene']:.1f}",
-                f"{f['serial']:.1f}", f"{f['render']:.1f}", f"{f['mean']:.2f}", f"{f['off']:.2f}"]
+                f"{f['serial']:.1f}", f"{f['render']:.1f}", f"{f['mean']:.2f}", f"{f['off']:.2f}",
+                "; ".join(heaviest(f["notes"])) if f["off"] > NEAR else ""]
 
 
 def converted(path, first, last, scene, options):
