@@ -10,6 +10,7 @@ Xvfb have to be there; Xvfb is started here. The program is built by
     cd crates/render_cli && rt run -- render < ../../examples/red.rcs > /dev/null
 
 Each line of the table has, of one frame (N, or the last but one where there are fewer):
+A frame that begins without a clear is drawn with all before it, and the last picture is taken.
 drawn       the share of the program's own pixels that aren't black: near 0 a line says little
 vertices    that the program draws, commands and bytes of the scene
 seconds     of a processor for converting, without those of reading the trace
@@ -17,20 +18,23 @@ us          microseconds of those spent on the frame itself, a vertex that the p
             vertex of the scene, where lines are quads and what is seen close is cut finer
 serial      and render --tiles 4x3: milliseconds by the clock, the least of three
 mean, off   the mean difference of a channel, and the share of pixels with one off by over 16
+told        the heaviest notes of a picture that is off in more than half a percent of pixels
 Behind the table stand how many are within half a percent of pixels, and what was left out or
 approximated of each, by name, number and weight. The status is 1 where a conversion ended in
 anything but a scene or a refusal of one line.
 
 A FOLDER keeps traces, scenes, pictures and figures, and those that it has are taken as they are:
-figures as long as the converter's text is the same. So a run that was broken off goes on where it
-was. No program is traced for more than S seconds, and nothing else of it takes longer than the
-seconds of --longest; a trace that has 100 MB is ended.
+figures as long as the converter's text is the same, but for failures. So a run that was broken off
+goes on where it was. No program is traced for more than S seconds, and nothing else of it takes
+longer than the seconds of --longest; a trace that has 100 MB is ended.
 """
 import argparse
 import hashlib
 import json
 import os
 import pathlib
+import re
+import signal
 import subprocess
 import sys
 import tempfile
@@ -47,7 +51,7 @@ from program import built
 TOOLS = BENCH.parent / "tools"
 sys.path.insert(0, str(TOOLS))
 HEAD = ("program", "frame", "drawn %", "vertices", "commands", "bytes", "seconds", "us a vertex",
-        "us a scene's", "serial ms", "render 4x3 ms", "mean", "off %")
+        "us a scene's", "serial ms", "render 4x3 ms", "mean", "off %", "what is told")
 NEAR = 0.5          # a picture is near the program's own where no more of 100 pixels are off
 EMPTY = 0.05        # and shows nothing where no more of 100 pixels aren't black
 
@@ -132,10 +136,10 @@ class Timed:
             yield call
 
 
-def convert(path, frame, out):
-    """Converts a frame of a trace as the command does, and prints figures."""
+def convert(path, first, last, out):
+    """Converts frames of a trace as the command does, and prints figures."""
     from gl_trace import command_line, encoding, faults, machine, reading
-    words = ["--frames", f"{frame}:{frame + 1}", "--cut-textures", path]
+    words = ["--frames", f"{first}:{last}", "--cut-textures", path]
     options, notes = command_line.parser().parse_args(words), faults.Notes()
     begun = time.process_time()
     try:
@@ -168,6 +172,13 @@ def clocked(command, scene, times=3):
     return least, done.stdout
 
 
+def heaviest(notes, most=2):
+    """The notes about most of the pixels; of none that are about any, the first ones."""
+    found = [(int(told[1]), note) for note in notes
+             if (told := re.search(r", (\d+) pixels$", note)) and int(told[1])]
+    return [note for _, note in sorted(found, reverse=True)[:most]] or notes[:most]
+
+
 class Row:
     """What one program comes to."""
 
@@ -184,7 +195,28 @@ class Row:
         f = self.figures
         return [self.name, self.frame, f"{f['drawn']:.0f}", f["vertices"], f["commands"],
                 f["bytes"], f"{f['seconds']:.2f}", f"{f['each']:.1f}", f"{f['scene']:.1f}",
-                f"{f['serial']:.1f}", f"{f['render']:.1f}", f"{f['mean']:.2f}", f"{f['off']:.2f}"]
+                f"{f['serial']:.1f}", f"{f['render']:.1f}", f"{f['mean']:.2f}", f"{f['off']:.2f}",
+                "; ".join(heaviest(f["notes"])) if f["off"] > NEAR else ""]
+
+
+def converted(path, first, last, scene, options):
+    """The figures of a conversion in a process of its own."""
+    child = subprocess.run(
+        [sys.executable, __file__, "--convert", str(path), str(first), str(last), str(scene)],
+        stdout=subprocess.PIPE, stderr=subprocess.PIPE, timeout=options.longest)
+    if child.returncode:
+        raise ValueError(child.stderr.decode().splitlines()[-1])
+    return json.loads(child.stdout)
+
+
+def part_of(picture, width, height):
+    """The part at the lower left of a picture, or all of one that has none of that size: apitrace
+    makes its window as large as the viewports reach."""
+    if picture.width < width or picture.height < height:
+        return picture
+    rows = range(picture.height - height, picture.height)
+    rgb = b"".join(picture.rgb[3 * row * picture.width:][:3 * width] for row in rows)
+    return pictures.Picture(width, height, rgb)
 
 
 def judged(program, options, folder, environment):
@@ -200,20 +232,23 @@ def judged(program, options, folder, environment):
     frame = max(1, min(options.frame, len(ends) - 2))
     row = Row(name, frame)
     try:
-        child = subprocess.run(
-            [sys.executable, __file__, "--convert", str(path), str(frame), str(scene)],
-            stdout=subprocess.PIPE, stderr=subprocess.PIPE, timeout=options.longest)
+        row.figures = converted(path, frame, frame + 1, scene, options)
+        if any("begins without a clear" in line for line in row.figures["notes"]):
+            whole = converted(path, 0, frame + 1, scene.with_suffix(".whole"), options)
+            if "refused" not in whole:
+                row.figures, scene = whole, scene.with_suffix(".whole")
     except subprocess.TimeoutExpired:
         return failed(name, frame, f"FAILED: no end in {options.longest} seconds")
-    if child.returncode:
-        return failed(name, frame, "FAILED: " + child.stderr.decode().splitlines()[-1])
-    row.figures = json.loads(child.stdout)
+    except ValueError as fault:
+        return failed(name, frame, f"FAILED: {fault}")
     if "refused" in row.figures:
-        return failed(name, frame, row.figures["refused"].replace(str(folder) + "/", ""))
+        row.failed = row.figures["refused"].replace(str(folder) + "/", "")
+        return row
     row.figures["serial"], data = clocked([options.program, "serial"], scene)
     row.figures["render"], _ = clocked([options.program, "render", "--tiles", "4x3"], scene)
-    ours = pictures.picture_at(data)[0]
+    ours = pictures.pictures_of(data)[-1]
     theirs = own_frame(program, path, ends[frame:frame + 2], options, environment)
+    theirs = theirs and part_of(theirs, *ours[:2])
     if theirs is None or theirs[:2] != ours[:2]:
         size = "none" if theirs is None else f"one of {theirs[0]}x{theirs[1]}"
         return failed(name, frame, f"of {ours[0]}x{ours[1]} here, and apitrace draws {size}")
@@ -234,6 +269,8 @@ def kept(program, options, folder, environment, mark):
     except (OSError, ValueError, KeyError):
         pass
     row = judged(program, options, folder, environment)
+    if row.failed and "refused" not in row.figures:
+        return row
     path.write_text(json.dumps({"mark": mark, "name": row.name, "frame": row.frame,
                                 "figures": row.figures, "failed": row.failed}))
     return row
@@ -262,11 +299,12 @@ def words():
 
 def main():
     if sys.argv[1:2] == ["--convert"]:
-        convert(sys.argv[2], int(sys.argv[3]), sys.argv[4])
+        convert(sys.argv[2], int(sys.argv[3]), int(sys.argv[4]), sys.argv[5])
         return 0
     options = words()
     options.program = built(options.program)
     chosen = capture_programs.chosen(options.names)
+    signal.signal(signal.SIGTERM, lambda *_: sys.exit(143))      # which ends the server too
     with tempfile.TemporaryDirectory() as made, Display() as environment:
         folder = pathlib.Path(options.cache or made)
         folder.mkdir(exist_ok=True)

@@ -6,7 +6,7 @@ import math
 
 FINEST = 8          # how often an edge is halved at most
 MOST_MOVED = 8.0    # in depth, of which the window has 2
-LEAST_SPREAD = 0.02     # of w along an edge, below which it is never cut
+LEAST_SPREAD = 0.0005   # of w along an edge, below which it is never cut
 
 
 def cut(face, planes):
@@ -67,11 +67,11 @@ class Finer:
             return False
         across = (a[0] / wa - b[0] / wb) * self.half_width
         up = (a[1] / wa - b[1] / wb) * self.half_height
-        if off * math.hypot(across, up) < 1:
+        if off * math.hypot(across, up) < 0.5:
             return False
         if self.texels:
             width, height = self.texels
-            if off * max(abs(a[8] - b[8]) * width, abs(a[9] - b[9]) * height) > 0.25:
+            if off * max(abs(a[8] - b[8]) * width, abs(a[9] - b[9]) * height) > 0.0625:
                 return True
         return self.colored and off * max(abs(a[4] - b[4]), abs(a[5] - b[5]), abs(a[6] - b[6]),
                                           abs(a[7] - b[7])) > 6

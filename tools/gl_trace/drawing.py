@@ -8,7 +8,7 @@ import math
 from .blocks import block_of
 from .clipping import (LEAST_SPREAD, Finer, Parts, beyond_a_side, cut, finite,
                        moved_in_depth)
-from .filters import MOST_TEXELS, Filtered
+from .filters import FACTORS, Filtered, contrast
 from .items import FAN, STRIP, TRIANGLES
 from .limits import MOST_VERTICES
 from .setting import GUARD, TINY
@@ -78,6 +78,9 @@ class Drawing:
         if every and not (outside or finer or flat or self.parts or setting.two_sided
                           or setting.offset) and self.whole_block(faces):
             return
+        if finer and setting.texture and contrast(self.level) > FACTORS[0][0]:
+            self.machine.concern("approximated", "perspective of a texture by pieces that are "
+                                 "linear in the window")
         for fan, provoking in faces:
             self.face(fan, provoking if flat else None, outside, finer)
         self.flush()
@@ -86,7 +89,10 @@ class Drawing:
         """Draws the outlines of polygons on whose side they are asked for, and gives those that
         are to be filled. The order among both is that of OpenGL where one kind is asked for."""
         setting, filled, drawn = self.setting, [], set()
-        strokes = Strokes(self.machine, setting, self.run, self.corners, self.level)
+        level = self.level
+        if self.parts:      # of which a line takes none
+            level = level.level(0, self.machine.options.texture_side)
+        strokes = Strokes(self.machine, setting, self.run, self.corners, level)
         for fan, provoking in faces:
             front = is_front(setting, [self.corners.places[i] for i in fan])
             mode = setting.values["polygon_mode"][0 if front else 1]
@@ -137,8 +143,8 @@ class Drawing:
         return None
 
     def varies(self, coordinates, level, spread):
-        """Whether an edge of these texture coordinates may be off by over a quarter texel."""
-        return any(spread * (max(c) - min(c)) * side > 0.25
+        """Whether an edge of these texture coordinates may be off by over a sixteenth texel."""
+        return any(spread * (max(c) - min(c)) * side > 0.0625
                    for c, side in zip(zip(*coordinates), (level.width / level.times,
                                                           level.height / level.times)))
 
@@ -165,7 +171,7 @@ class Drawing:
         setting, machine, options = self.setting, self.machine, self.machine.options
         found = Filtered(level, options.texture_side, setting.clamps(), options.cut_textures)
         level.made = machine.filtered
-        if not options.nearest and machine.filtered[0] < MOST_TEXELS:
+        if not options.nearest:
             found.choose([[self.corners.coordinates[i] for i in fan] for fan, _ in faces])
         if found.times < found.due:
             machine.concern("approximated", "a linear filter by " + (
@@ -217,6 +223,10 @@ class Drawing:
     def block(self, mode, places, colors, coordinates, level, turned=False):
         state = self.setting.state(level, self.parts is not None, turned=turned)
         self.machine.add(block_of(state, mode, places, colors, coordinates), mode, places)
+        if self.setting.veil:
+            veils = self.setting.fog.veils(v[3] for v in places)
+            self.machine.add(block_of(self.setting.veil_state(state), mode, places, veils, None),
+                             mode, places)
 
     def flush(self):
         places, colors, coordinates = self.single

@@ -221,5 +221,5 @@ def scene_bytes(size, streams, lists, version):
     data += b"".join(struct.pack("<I", len(stream.data)) + stream.data for stream in made)
     if len(data) > MOST_BYTES:
         raise Refused(f"{len(data)} bytes, and a scene has at most {MOST_BYTES}: choose fewer "
-                      "frames, or --texture-side 64")
+                      "frames, --nearest or --texture-side 64")
     return data, sum(stream.commands for stream in made)

@@ -14,8 +14,9 @@ from .images import Image
 # texel is off by half a step at most, which is 12 to 14 of 255.
 FACTORS = ((24, 1), (72, 3), (130, 5), (255, 9))
 LOOKED_AT = 64          # rows of an image, by which its differences are taken
-SPOT = 0.1              # of a texel
+SPOT = 0.2              # of a texel
 MOST_CELLS = 12         # images that one texture is cut into, or that a primitive has
+MOST_REACHED = 256      # cells that a primitive of a repeated texture reaches
 MOST_REGIONS = 128      # images of polygons that a texture has
 MOST_TEXELS = 4_194_304     # of all images that are made so
 
@@ -82,11 +83,16 @@ def widened(image, row, columns):
 
 
 def spot(image, s, t, clamped):
-    """An image of one texel, which has what the filter gives at these coordinates."""
-    column = ends(s * image.width - 0.5, image.width, clamped[0])
-    first, second, share = ends(t * image.height - 0.5, image.height, clamped[1])
-    texel = mixed(*(widened(image, row, [column]) for row in (first, second)), share)
-    return Image(1, 1, bytes(int(x + 0.5) for x in texel), image.base)
+    """An image of one texel, which has what the filter gives at these coordinates, to a 64th of a
+    texel."""
+    s, t = (round(64 * x) / 64 for x in (s * image.width, t * image.height))
+    key = "spot", s, t, clamped
+    if key not in image.parts:
+        column = ends(s - 0.5, image.width, clamped[0])
+        first, second, share = ends(t - 0.5, image.height, clamped[1])
+        texel = mixed(*(widened(image, row, [column]) for row in (first, second)), share)
+        image.parts[key] = Image(1, 1, bytes(int(x + 0.5) for x in texel), image.base)
+    return image.parts[key]
 
 
 class Steps:
@@ -139,31 +145,54 @@ class Filtered:
 
     def choose(self, faces):
         """Looks for the largest of the numbers that fits; faces are lists of coordinates. What
-        reaches a small part of one texel has one colour, and no step may begin in it."""
-        sides = max(self.image.width, self.image.height)
+        reaches a small part of one texel has one colour, and no step or texel may begin in it."""
         lows, highs = ([choose(axis) for axis in zip(*(place for face in faces for place in face))]
                        for choose in (min, max))
-        if self.due > 1 and (highs[0] - lows[0]) * self.image.width < SPOT \
-                and (highs[1] - lows[1]) * self.image.height < SPOT:
-            self.times, self.level = self.due, spot(
-                self.image, (lows[0] + highs[0]) / 2, (lows[1] + highs[1]) / 2, self.clamps)
+        reach = [high - low for low, high in zip(lows, highs)]
+        if reach[0] * self.image.width < SPOT and reach[1] * self.image.height < SPOT:
+            places = ((low + high) / 2 for low, high in zip(lows, highs))
+            self.times, self.level = FACTORS[-1][1], spot(self.image, *places, self.clamps)
             return
         for times in (9, 5, 3):
-            if times > self.due:
-                continue
-            if sides * times <= self.side:
-                self.times = times
-                self.level = enlarged(self.image, times, (0, 0, self.image.width * times,
-                                                          self.image.height * times), self.clamps)
-                return
-            steps = Steps(self.image, times, self.side, self.clamps, False)
-            boxes = [region(steps, face) for face in faces]
-            if all(max(box[2:]) <= self.side for box in boxes) and len(set(boxes)) <= MOST_CELLS \
-                    and len(self.image.parts) < MOST_REGIONS:
-                self.times, self.parts = times, steps
-                return
-            cells = -(-steps.width // self.side) * -(-steps.height // self.side)
-            if self.cuts and cells <= MOST_CELLS:
-                self.times, self.parts = times, Steps(self.image, times, self.side, self.clamps,
-                                                      True)
-                return
+            if times <= self.due:
+                steps = Steps(self.image, times, self.side, self.clamps, False)
+                if self.whole(steps) or self.by_polygon(steps, faces) \
+                        or self.by_grid(steps, reach):
+                    self.times = times
+                    return
+
+    def has_room(self, keys, texels):
+        """Whether these images are there, or may still be made."""
+        return all(key in self.image.parts for key in keys) \
+            or self.image.made[0] + texels <= MOST_TEXELS
+
+    def whole(self, steps):
+        box = (0, 0, steps.width, steps.height)
+        if max(box) > self.side or not self.has_room([(steps.times, box, self.clamps)],
+                                                     steps.width * steps.height):
+            return False
+        self.level = enlarged(self.image, steps.times, box, self.clamps)
+        return True
+
+    def by_polygon(self, steps, faces):
+        boxes = {region(steps, face) for face in faces}
+        keys = [(steps.times, box, self.clamps) for box in boxes]
+        new = sum(key not in self.image.parts for key in keys)
+        if len(boxes) > MOST_CELLS or len(self.image.parts) + new > MOST_REGIONS \
+                or any(max(box[2:]) > self.side for box in boxes) \
+                or not self.has_room(keys, sum(w * h for _, _, w, h in boxes)):
+            return False
+        self.parts = steps
+        return True
+
+    def by_grid(self, steps, reach):
+        cells = [-(-size // self.side) for size in (steps.width, steps.height)]
+        reached = [math.ceil((span + 1) * count) for span, count in zip(reach, cells)]
+        made = ("grid", steps.times, self.clamps)
+        if not self.cuts or cells[0] * cells[1] > MOST_CELLS \
+                or reached[0] * reached[1] > MOST_REACHED \
+                or not self.has_room([made], steps.width * steps.height):
+            return False
+        self.image.parts[made] = None
+        self.parts = Steps(self.image, steps.times, self.side, self.clamps, True)
+        return True

@@ -30,6 +30,11 @@ class FogLaw:
             found.append((f * r + rest * red, f * g + rest * green, f * b + rest * blue, a))
         return found
 
+    def veils(self, distances):
+        """The fog's colour at these distances, in channels from 0 to 255, as thick as it is."""
+        red, green, blue = (255 * max(0.0, min(1.0, x)) for x in self.fog.color[:3])
+        return [(red, green, blue, 255 * (1 - self.left(abs(w)))) for w in distances]
+
     def cuts(self, near, far, depth=FINEST):
         """Where a line from one distance to another is cut, from 0 to 1, so that fog is nearly
         linear along each piece: a long line may be in fog at both its ends and not between."""

@@ -5,6 +5,7 @@ from .matrices import normal_rows, rescaled, unit
 
 TRACKED = {"GL_AMBIENT_AND_DIFFUSE": ("ambient", "diffuse"), "GL_AMBIENT": ("ambient",),
            "GL_DIFFUSE": ("diffuse",), "GL_SPECULAR": ("specular",), "GL_EMISSION": ("emission",)}
+FARTHEST = 3.4e38      # squared
 
 
 def products(a, b):
@@ -34,11 +35,13 @@ class Lamp:
         else:
             x, y, z = self.place
             x, y, z = x - point[0], y - point[1], z - point[2]
-            d = math.sqrt(x * x + y * y + z * z)
+            square = x * x + y * y + z * z
+            d = math.sqrt(square)
             light = self.light
             fading = light.constant + light.linear * d + light.quadratic * d * d
             strength = 1.0 / fading if fading else 1.0
-            to = (x / d, y / d, z / d) if d else (0.0, 0.0, 0.0)
+            # Beyond the numbers of a graphics card a light comes from nowhere.
+            to = (x / d, y / d, z / d) if 0 < square < FARTHEST else (0.0, 0.0, 0.0)
         if self.spot:
             (x, y, z), least = self.spot
             cosine = -(to[0] * x + to[1] * y + to[2] * z)

@@ -13,6 +13,7 @@ PLANES = [lambda v: v[3] - TINY, lambda v: v[2] + v[3], lambda v: v[3] - v[2],
           lambda v: GUARD * v[3] + v[1], lambda v: GUARD * v[3] - v[1]]
 STROKES = {"GL_POINTS": POINTS, "GL_LINES": LINES, "GL_LINE_STRIP": LINES, "GL_LINE_LOOP": LINES}
 GENERATED = {"GL_SPHERE_MAP", "GL_OBJECT_LINEAR", "GL_EYE_LINEAR"}
+EQUAL = FUNCTIONS["GL_EQUAL"]
 FIRST_DISTANCE = 10     # of a corner: where its distances to clip planes begin
 
 
@@ -65,6 +66,7 @@ class Setting:
         self.told = told_of(values)
         self.states, self.scissor = {}, machine.scissor()
         self.use_texture()
+        self.veil = self.texture and self.fog and self.has_veil()
         lit_by_place = self.lighting and not self.lighting.far
         self.needs_eyes = bool(self.fog or lit_by_place or self.planes or self.generated)
 
@@ -108,6 +110,22 @@ class Setting:
         outlined = kind == POLYGONS and "GL_LINE" in self.values["polygon_mode"]
         return [note[:2] for note in self.told
                 if note[2] in (EVERY, kind) or outlined and note[2] == LINES]
+
+    def has_veil(self):
+        """Whether fog is laid over a texture by blocks of its own, for which fragments have to be
+        opaque, and w the distance from the viewer. Else it is laid over colours under it."""
+        last = self.stacks["GL_PROJECTION"][-1][3::4], self.modelview[3::4]
+        veiled = last == ((0.0, 0.0, -1.0, 0.0), (0.0, 0.0, 0.0, 1.0)) \
+            and not (self.values["GL_BLEND"] or self.values["GL_ALPHA_TEST"])
+        if not veiled:
+            self.told.append(("approximated", "fog under a texture", EVERY))
+        return veiled
+
+    def veil_state(self, state):
+        """Of blocks that lay fog over those of a state: where these were drawn, and no others."""
+        depth = state.depth and ((EQUAL, 0) if state.depth[1] else (state.depth[0], 0))
+        return state._replace(depth=depth, blend=(FACTORS["GL_SRC_ALPHA"],
+                                                  FACTORS["GL_ONE_MINUS_SRC_ALPHA"]), texture=None)
 
     def mipmapped(self):
         return "MIPMAP" in str(self.texture.get("GL_TEXTURE_MIN_FILTER",

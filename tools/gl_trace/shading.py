@@ -47,7 +47,7 @@ def shaded(setting, run, unfilled):
         fronts = lighting.colors(eyes, run.normals, run.colors, sides[0], 1.0)
         if setting.two_sided and not unfilled:
             backs = lighting.colors(eyes, run.normals, run.colors, sides[1], -1.0)
-    if setting.fog:
+    if setting.fog and (unfilled or not setting.veil):
         fronts = setting.fog.laid_over(fronts, eyes)
         backs = backs and setting.fog.laid_over(backs, eyes)
     corners.fronts = as_channels(fronts, setting.keeps)

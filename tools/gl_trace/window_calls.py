@@ -1,4 +1,4 @@
-"""Calls that make a context current for a window, and how large the window is that a scene shows."""
+"""Calls that make a context current for a window, and how large the window is that is shown."""
 from .items import Clear
 
 

@@ -282,6 +282,27 @@ class Light(unittest.TestCase):
         block, = scene(*self.LIGHT, *calls).blocks
         self.assertEqual(colors(block), [(10, 255, 10)] * 3)
 
+    def test_fog_lies_over_a_texture(self):
+        # The eye stands at 0, and fog takes half at a distance of 2.
+        calls = [*Clipping.FRUSTUM, *image(1, 1, bytes((255, 255, 255, 255))),
+                 ("glEnable", "GL_DEPTH_TEST"), ("glEnable", "GL_FOG"),
+                 ("glFogi", "GL_FOG_MODE", "GL_LINEAR"), ("glFogf", "GL_FOG_START", 1.0),
+                 ("glFogf", "GL_FOG_END", 3.0), ("glFogfv", "GL_FOG_COLOR", [0.0, 0.0, 1.0, 1.0]),
+                 ("glColor3f", 1.0, 0.0, 0.0)]
+        wall = [("glBegin", "GL_TRIANGLES")] + [("glVertex3f", x, y, -2.0) for x, y in (
+            (-1.0, -1.0), (1.0, -1.0), (-1.0, 1.0))] + [("glEnd",)]
+        plain, veil = scene(*calls, *wall).blocks
+        self.assertEqual((colors(plain), veil.texels), ([RED] * 3, None))
+        self.assertEqual([vertex.color for vertex in veil.vertices], [(0, 0, 255, 128)] * 3)
+        self.assertEqual([vertex[:3] for vertex in veil.vertices],
+                         [vertex[:3] for vertex in plain.vertices])
+        # Drawn where depth is equal, and mixed by its alpha.
+        self.assertEqual((veil.state["DepthFunc"], veil.state["DepthMask"],
+                          veil.state["BlendFunc"]), ((2,), (0,), (6, 7)))
+        # What is blended with what is behind it has fog under its texture.
+        block, = scene(*calls, ("glEnable", "GL_BLEND"), *wall).blocks
+        self.assertEqual(colors(block), [(128, 0, 128)] * 3)
+
     def test_fog_is_mixed_by_distance_and_a_line_is_cut_where_it_bends(self):
         fog = [("glEnable", "GL_FOG"), ("glFogi", "GL_FOG_MODE", "GL_LINEAR"),
                ("glFogf", "GL_FOG_START", 0.0), ("glFogf", "GL_FOG_END", 1.0),

@@ -52,6 +52,10 @@ class Filters(unittest.TestCase):
                                         (64, 64, 0.001, 0.5), (0, 64, -0.001, 0.5))]
         block, = scene(*image(2, 1, BLACK + WHITE), *calls).blocks
         self.assertEqual(block.texels, (1, 1, bytes((128, 128, 128, 255))))
+        # So it is where neighbours hardly differ, and the ends do.
+        ramp = b"".join(bytes((20 * i, 0, 0, 255)) for i in range(12))
+        block, = scene(*image(12, 1, ramp), *calls).blocks
+        self.assertEqual(block.texels, (1, 1, bytes((110, 0, 0, 255))))
 
     def test_the_nearest_texel_may_be_asked_for_and_is_told_with_its_weight(self):
         made = converted(pickled(WINDOW, CLEAR, PLANE, *image(2, 1, BLACK + WHITE), *LINEAR, *FACE,
