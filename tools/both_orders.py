@@ -86,6 +86,8 @@ def main():
         print(match[0])
         names = tuple(zip(*[map(int, match.groups()[:4])] * 2))
     run = orders.Run(scene)
+    if not run.swaps[0]:
+        raise command.Wrong("the scene has no frame: nothing is shown before a Swap of all clients")
     judge_race(run, *names)
     scenes = [orders.scene_of(run, order) for order in orders.both_orders(run, *names)]
     if given.scenes:

@@ -129,8 +129,10 @@ class Part:
             raise command.Wrong("a semaphore has more than 65535 units there")
         return made
 
-    def body(self, client, barrier):
-        """A client's own commands: Swaps before the first frame are meetings."""
+    def body(self, client, barrier, declared):
+        """A client's own commands: Swaps before the first frame are meetings. A refused Barrier
+        that would be taken now is left out.
+        """
         stream, refused = self.scene.streams[client], self.run.refused[client]
         hidden = set(self.run.swaps[client][self.drawn : self.first])
         made = []
@@ -138,7 +140,7 @@ class Part:
             one = stream[place]
             if place in hidden:
                 made += [placed("Barrier", barrier)] if len(self.scene.streams) > 1 else []
-            elif place not in refused or one[0] != BARRIER:
+            elif place not in refused or one[0] != BARRIER or not 1 <= one[1][0] <= declared:
                 made.append(one)
         return made
 
@@ -161,7 +163,8 @@ class Part:
             fresh = first_values(self.scene.width, self.scene.height)
             made += context.commands(values if client == 0 else fresh)
             counts.append(len(made))
-            made += closed(self.body(client, name)) if with_swap else self.body(client, name)
+            body = self.body(client, name, len(barriers))
+            made += closed(body) if with_swap else body
             streams.append(made + ([placed("Swap")] if with_swap else []))
         scene = self.scene
         made = Scene(

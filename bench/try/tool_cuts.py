@@ -55,6 +55,41 @@ def try_films():
                 check(f"cut.py: {stem} {filters}, frames {first} to {end - 1}", made == due)
 
 
+# A shared texture that is written in frame 0 and drawn over the window in frame 1, for a unit that
+# was given in frame 0 and one of frame 1.
+HANDED_ON = """scene 1 4 4
+shared 1 1
+semaphore 0
+client
+SharedImage 1 0 0 1 1 ff8000ff
+SemV 1
+Swap
+Clear 3
+SemV 1
+Swap
+client
+Enable 5
+BindTexture 1 1
+TexEnv 1
+Swap
+SemP 1
+SemP 1
+Begin 0
+Vertex -65536 -65536 0 65536
+Vertex 196608 -65536 0 65536
+Vertex -65536 196608 0 65536
+End
+Swap
+"""
+
+
+def try_handed_on():
+    found = orders.Run(scene_text.read(HANDED_ON.encode()).scene)
+    made, notes = serial(cut.cut_frames(found, 1, 2)[0])
+    due = [(4, 4, b"\xff\x80\0" * 16)]
+    check("cut.py: a shared texture and a unit of the frame before", made == due, notes)
+
+
 def is_film(path):
     return "frames 1\n" not in drawn(path.read_bytes(), "check")[1]
 
@@ -245,5 +280,6 @@ def try_all(folder):
 
 
 def try_by_program(_, seed):
-    try_films()
+    try_handed_on()
     try_random(seed)
+    try_films()
