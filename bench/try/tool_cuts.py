@@ -116,7 +116,7 @@ def block(pick):
 
 
 def sides(pick):
-    return pick.randrange(-3, 6), pick.randrange(-3, 6), pick.randrange(1, 14), pick.randrange(1, 14)
+    return *(pick.randrange(-3, 6) for _ in range(2)), *(pick.randrange(1, 14) for _ in range(2))
 
 
 # Commands that set something, with what makes their numbers.
@@ -163,10 +163,11 @@ def piece(pick):
         w, h = pick.randrange(1, 4), pick.randrange(1, 4)
         return [contexts.placed("TexImage", pick.randrange(1, 3), w, h, texels=texels(pick, w, h))]
     if kind == 6:
-        return [contexts.placed("TexPart", pick.randrange(1, 3), 0, 0, 1, 1, texels=texels(pick, 1, 1))]
+        name, part = pick.randrange(1, 3), texels(pick, 1, 1)
+        return [contexts.placed("TexPart", name, 0, 0, 1, 1, texels=part)]
     if kind == 7:
-        x, y = pick.randrange(2), pick.randrange(2)
-        return [contexts.placed("SharedImage", pick.randrange(1, 3), x, y, 1, 1, texels=texels(pick, 1, 1))]
+        name, x, y = pick.randrange(1, 3), pick.randrange(2), pick.randrange(2)
+        return [contexts.placed("SharedImage", name, x, y, 1, 1, texels=texels(pick, 1, 1))]
     name = pick.choice(list(SETTING))
     return [contexts.placed(name, *map(int, SETTING[name](pick)))]
 
