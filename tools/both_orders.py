@@ -101,6 +101,8 @@ def main():
     number, images = found
     mask = difference.mask_of(*images)
     print(f"frame {number}: {difference.told(mask, scene.width)}")
+    if not mask.count(255):
+        print("these two make no difference there: --race takes another race of the scene")
     labels = [f"{client} {place} first" for client, place in names] + [f"{mask.count(255)} pixels"]
     pictures = [*images, difference.marked(images[0], mask)]
     pair.write_beside(given.name, pictures, labels, given.scale)
