@@ -86,6 +86,8 @@ def main():
         print(match[0])
         names = tuple(zip(*[map(int, match.groups()[:4])] * 2))
     run = orders.Run(scene)
+    if not run.swaps[0]:
+        raise command.Wrong("the scene has no frame: nothing is shown before a Swap of all clients")
     judge_race(run, *names)
     scenes = [orders.scene_of(run, order) for order in orders.both_orders(run, *names)]
     if given.scenes:
@@ -99,6 +101,8 @@ def main():
     number, images = found
     mask = difference.mask_of(*images)
     print(f"frame {number}: {difference.told(mask, scene.width)}")
+    if not mask.count(255):
+        print("these two make no difference there: --race takes another race of the scene")
     labels = [f"{client} {place} first" for client, place in names] + [f"{mask.count(255)} pixels"]
     pictures = [*images, difference.marked(images[0], mask)]
     pair.write_beside(given.name, pictures, labels, given.scale)

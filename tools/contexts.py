@@ -57,7 +57,8 @@ class Context(scene_faults.Context):
         elif name == "TexImage":
             self.pictures[numbers[0]] = *numbers[1:], command[2]
         elif name == "TexPart":
-            self.pictures[numbers[0]] = with_part(self.pictures[numbers[0]], numbers[1:], command[2])
+            picture = self.pictures[numbers[0]]
+            self.pictures[numbers[0]] = with_part(picture, numbers[1:], command[2])
         return None
 
     def is_whole(self):
@@ -72,8 +73,10 @@ class Context(scene_faults.Context):
         """The commands that make this context of a fresh one with these values of elements. A block
         that is open isn't begun.
         """
-        made = [placed("TexImage", name, w, h, texels=texels)
-                for name, (w, h, texels) in sorted(self.pictures.items())]
+        made = [
+            placed("TexImage", name, w, h, texels=texels)
+            for name, (w, h, texels) in sorted(self.pictures.items())
+        ]
         made += [
             placed(name, *numbers)
             for name, numbers in self.values.items()

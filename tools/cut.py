@@ -129,18 +129,22 @@ class Part:
             raise command.Wrong("a semaphore has more than 65535 units there")
         return made
 
-    def body(self, client, barrier):
-        """A client's own commands: Swaps before the first frame are meetings."""
+    def body(self, client, barrier, declared):
+        """A client's own commands: Swaps before the first frame are meetings. A refused Barrier
+        that would be taken now is left out, and so is a block that is open at the end.
+        """
         stream, refused = self.scene.streams[client], self.run.refused[client]
         hidden = set(self.run.swaps[client][self.drawn : self.first])
-        made = []
+        made, begun = [], None
         for place in range(self.starts[client], self.ends[client]):
             one = stream[place]
+            if place not in refused and one[0] in (BEGIN, END):
+                begun = len(made) if one[0] == BEGIN else None
             if place in hidden:
                 made += [placed("Barrier", barrier)] if len(self.scene.streams) > 1 else []
-            elif place not in refused or one[0] != BARRIER:
+            elif place not in refused or one[0] != BARRIER or not 1 <= one[1][0] <= declared:
                 made.append(one)
-        return made
+        return made[:begun]
 
     def is_met(self, window):
         """Whether all clients have to meet, somewhere in what is written."""
@@ -161,24 +165,13 @@ class Part:
             fresh = first_values(self.scene.width, self.scene.height)
             made += context.commands(values if client == 0 else fresh)
             counts.append(len(made))
-            made += closed(self.body(client, name)) if with_swap else self.body(client, name)
+            made += self.body(client, name, len(barriers))
             streams.append(made + ([placed("Swap")] if with_swap else []))
         scene = self.scene
         made = Scene(
             scene.width, scene.height, scene.shared, barriers, self.units(), streams, scene.version
         )
         return made, counts
-
-
-def closed(stream):
-    """A stream without the block that is open at its end."""
-    begun = None
-    for place, one in enumerate(stream):
-        if one[0] == BEGIN and begun is None:
-            begun = place
-        elif one[0] == END:
-            begun = None
-    return stream if begun is None else stream[:begun]
 
 
 def cut_frames(run, first, end):

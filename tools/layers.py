@@ -47,7 +47,11 @@ def write_layers(name):
 
 def main():
     words = command.Words(__doc__)
-    words.add_argument("name", type=command.file_name, help="the picture's name without .png; or the word `client`")
+    words.add_argument(
+        "name",
+        type=command.file_name,
+        help="the picture's name without .png; or the word `client`",
+    )
     words.add_argument(
         "client",
         nargs="?",

@@ -146,9 +146,8 @@ def left_out(frames, count, lanes, found):
     """What isn't in the page, in lines."""
     told = []
     if len(frames) < count:
-        told.append(
-            f"{len(frames)} of {count} frames are in the page: tools/cut.py makes a scene of some of them"
-        )
+        here = f"{len(frames)} of {count} frames are in the page"
+        told.append(f"{here}: tools/cut.py makes a scene of some of them")
     if lanes is None:
         told.append("the notes have no logs: run with --order to see them")
     else:

@@ -6,7 +6,7 @@
     python3 tools/pair.py NAME < both.ppm         NAME.png, labelled `version 1` and `version 2`
     python3 tools/pair.py NAME --scale 4 --left "with the barrier" --right "without it" < both.ppm
     python3 tools/pair.py NAME --difference < both.ppm
-        beside them a third one, in which the pixels that differ are marked; how many they are is told
+        beside them a third one, in which the pixels that differ are marked; their number is told
 
 `--scale N` draws each pixel as a square of N pixels a side. A label of no letters isn't written.
 """

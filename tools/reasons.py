@@ -177,7 +177,8 @@ def last_reason(scene, client, place):
     """
     opcode = scene.streams[client][place][0]
     if opcode == CLEAR:
-        return "a Clear of another client than 0" if client else "a Clear behind a block of its frame"
+        which = "of another client than 0" if client else "behind a block of its frame"
+        return f"a Clear {which}"
     if opcode != END:
         return f"{name_of(scene.streams[client][place])} orders clients, and each is drawn alone"
     context = Context(scene)

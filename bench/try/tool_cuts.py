@@ -55,6 +55,41 @@ def try_films():
                 check(f"cut.py: {stem} {filters}, frames {first} to {end - 1}", made == due)
 
 
+# A shared texture that is written in frame 0 and drawn over the window in frame 1, for a unit that
+# was given in frame 0 and one of frame 1.
+HANDED_ON = """scene 1 4 4
+shared 1 1
+semaphore 0
+client
+SharedImage 1 0 0 1 1 ff8000ff
+SemV 1
+Swap
+Clear 3
+SemV 1
+Swap
+client
+Enable 5
+BindTexture 1 1
+TexEnv 1
+Swap
+SemP 1
+SemP 1
+Begin 0
+Vertex -65536 -65536 0 65536
+Vertex 196608 -65536 0 65536
+Vertex -65536 196608 0 65536
+End
+Swap
+"""
+
+
+def try_handed_on():
+    found = orders.Run(scene_text.read(HANDED_ON.encode()).scene)
+    made, notes = serial(cut.cut_frames(found, 1, 2)[0])
+    due = [(4, 4, b"\xff\x80\0" * 16)]
+    check("cut.py: a shared texture and a unit of the frame before", made == due, notes)
+
+
 def is_film(path):
     return "frames 1\n" not in drawn(path.read_bytes(), "check")[1]
 
@@ -81,7 +116,7 @@ def block(pick):
 
 
 def sides(pick):
-    return pick.randrange(-3, 6), pick.randrange(-3, 6), pick.randrange(1, 14), pick.randrange(1, 14)
+    return *(pick.randrange(-3, 6) for _ in range(2)), *(pick.randrange(1, 14) for _ in range(2))
 
 
 # Commands that set something, with what makes their numbers.
@@ -128,10 +163,11 @@ def piece(pick):
         w, h = pick.randrange(1, 4), pick.randrange(1, 4)
         return [contexts.placed("TexImage", pick.randrange(1, 3), w, h, texels=texels(pick, w, h))]
     if kind == 6:
-        return [contexts.placed("TexPart", pick.randrange(1, 3), 0, 0, 1, 1, texels=texels(pick, 1, 1))]
+        name, part = pick.randrange(1, 3), texels(pick, 1, 1)
+        return [contexts.placed("TexPart", name, 0, 0, 1, 1, texels=part)]
     if kind == 7:
-        x, y = pick.randrange(2), pick.randrange(2)
-        return [contexts.placed("SharedImage", pick.randrange(1, 3), x, y, 1, 1, texels=texels(pick, 1, 1))]
+        name, x, y = pick.randrange(1, 3), pick.randrange(2), pick.randrange(2)
+        return [contexts.placed("SharedImage", name, x, y, 1, 1, texels=texels(pick, 1, 1))]
     name = pick.choice(list(SETTING))
     return [contexts.placed(name, *map(int, SETTING[name](pick)))]
 
@@ -245,5 +281,6 @@ def try_all(folder):
 
 
 def try_by_program(_, seed):
-    try_films()
+    try_handed_on()
     try_random(seed)
+    try_films()

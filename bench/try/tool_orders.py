@@ -214,7 +214,8 @@ def try_both(folder):
         status, out, err = run("both_orders.py", *words, data=data, cwd=folder)
         lines = out.decode().splitlines()
         names = ["both-1.rcs", "both-2.rcs", "both.png"]
-        same(f"both_orders.py: {stem}", (status, [lines[1], lines[2], lines[4]], err), (0, names, []))
+        got = status, [lines[1], lines[2], lines[4]], err
+        same(f"both_orders.py: {stem}", got, (0, names, []))
         told = drawn(data, *filters.split(), "race")[1].splitlines()
         check(f"both_orders.py: {stem}, the race", lines[0] in told, lines)
         scenes = [(folder / name).read_bytes() for name in names[:2]]
@@ -264,7 +265,8 @@ def try_difference(folder):
     words = ["pair", "--difference", "--left", "", "--right", ""]
     status, out, err = run("pair.py", *words, data=data, cwd=folder)
     told = "3 of 63 pixels differ: columns 2 to 5, rows 1 to 6 from the top"
-    same("pair.py: --difference", (status, out.decode().splitlines(), err), (0, [told, "pair.png"], []))
+    got = status, out.decode().splitlines(), err
+    same("pair.py: --difference", got, (0, [told, "pair.png"], []))
     words = ["pair", "--difference", "--scale", "3"]
     same_ = picture(width, height, bytes(first)) * 2
     out = run("pair.py", *words, data=same_, cwd=folder)[1].decode()

@@ -9,8 +9,10 @@ import re
 import png_reader
 from tool_calls import CALLS, DOCS, EXAMPLES, NOTES, body, check, drawn, image, refuses, run, same
 
+import findings
 import page as pages
 import scene_bytes
+import scene_text
 import sent
 
 WORDS = CALLS["page.py"]
@@ -117,6 +119,17 @@ def try_wrong_notes(folder):
     write_notes(folder)
 
 
+def try_reasons():
+    """Refused commands are told with their reasons, where the notes are those of the scene."""
+    text = b"scene 3 1 1\nclient\nBarrier 3\nNewList 1\nCallList 65\nEndList\nSwap\n"
+    drawn_, read = scene_text.read_any(text)
+    lines = ["client 0 list fault INVALID_VALUE at 2", "client 0 fault INVALID_VALUE at 0"]
+    lines.append("client 0 fault INVALID_VALUE at 1")
+    told = [found["lines"][1:] for found in findings.findings(drawn_, read, lines)]
+    due = [["Lists are 1 to 64, and this is 65."], ["Barrier 3 isn't declared: there are none."], []]
+    same("page.py: reasons", told, due)
+
+
 def try_parcels():
     """The parcels that are computed for the examples, by docs/cluster.md's table of lanes."""
     row = r"(?m)^\| `([a-z-]+)`[^|]* \| (\d+) \| [\d,]+ \| [\d,]+ \| [\d,]+ \| [\d.]+ \|$"
@@ -178,5 +191,6 @@ def try_large(folder):
 
 def try_all(folder):
     try_parcels()
+    try_reasons()
     try_page(folder)
     try_wrong_notes(folder)

@@ -216,7 +216,7 @@ def try_where(folder):
         same(f"where.py: {note}", got.get(note), due)
     note = "client 0 fault INVALID_VALUE at 0"
     got = said(folder, "scene.txt", [note], "--filters", "drop ClearColor")
-    due = FOREIGN.replace("had the run filters? (--filters tells them)", "did the run have these filters?")
+    due = f"{FOREIGN.split(': ')[0]}: did the run have these filters?"
     same("where.py: behind a filter", got[note], ["scene.txt:8: Clear 1 (COLOR)", due])
     text = (
         "scene 3 1 1\nclient\nNewList 1\nClear 1\nClear 9\nEndList\nCallList 1\nCallList 1\nSwap\n"
