@@ -120,6 +120,8 @@ enum Event {
     End(usize, u32),
     Grant(Grant),
     Step(Outcome),
+    // Of which of both clients parcels are taken, and whether grants are.
+    Asked([bool; 2], bool),
 }
 
 impl Run {
@@ -151,6 +153,11 @@ impl Run {
         Ok(outcome_of(moved))
     }
 
+    fn asks(&self, clients: [bool; 2], grants: bool) -> bool {
+        let asked = self.core.asked();
+        asked[0] == clients[0] && asked[1] == clients[1] && self.core.listens() == grants
+    }
+
     // The event goes as it says.
     fn goes(&mut self, alloc: Global, event: Event) -> Result<bool, OutOfMemory> {
         match event {
@@ -164,6 +171,7 @@ impl Run {
             Event::End(client, place) => self.put(alloc, client, &parcel(alloc, place, Act::End)),
             Event::Grant(grant) => Ok(self.grants.push(grant).is_ok()),
             Event::Step(told) => Ok(self.step()? == told),
+            Event::Asked(clients, grants) => Ok(self.asks(clients, grants)),
         }
     }
 }
@@ -208,14 +216,16 @@ const MEET: Entry = Entry::Meet {
     members: 0b11,
 };
 
-const EVENTS: [Event; 32] = [
+const EVENTS: [Event; 36] = [
     Event::Step(Outcome::Blocked),
+    Event::Asked([true, true], true),
     Event::Clear(1, 5, GREEN, [false, true, false, false]),
     Event::Clear(0, 3, RED, [true, true, true, true]),
     Event::Step(Outcome::Took(0)),
     Event::Wait(0, 4, SyncOp::Barrier(1)),
     Event::Step(Outcome::Took(1)),
     Event::Step(Outcome::Held(0)),
+    Event::Asked([false, true], true),
     Event::Wait(0, 9, SyncOp::Swap),
     Event::Step(Outcome::Blocked),
     Event::Grant(Grant::Entry(MEET)),
@@ -234,12 +244,14 @@ const EVENTS: [Event; 32] = [
     Event::Step(Outcome::Closed(0)),
     Event::Grant(Grant::NoMore),
     Event::Step(Outcome::Learnt),
+    Event::Asked([false, true], false),
     Event::Wait(1, 8, SyncOp::Barrier(1)),
     Event::Step(Outcome::Held(1)),
     Event::Clear(1, 9, RED, [true, true, true, true]),
     Event::Step(Outcome::Dropped(1)),
     Event::End(1, 10),
     Event::Step(Outcome::Closed(1)),
+    Event::Asked([false, false], false),
     Event::Step(Outcome::Ended),
 ];
 
@@ -262,7 +274,7 @@ fn goes_through(rt: &impl Abort, alloc: Global) -> bool {
     let count = play(alloc, &mut run, &EVENTS).expect(rt, "memory");
     let is_short = run.core.is_short();
     let Run { core, .. } = run;
-    count == 32 && !is_short && core.into_log().as_slice() == LOG.as_slice()
+    count == 36 && !is_short && core.into_log().as_slice() == LOG.as_slice()
 }
 
 #[test]

@@ -5,6 +5,8 @@ ghost use Rattle.draw_device.specs.Devices.{IsDeviceRect};
 use crate::corners::at;
 use crate::stages::{PLAIN, Stages, is_drawable, rgba, state as state_of};
 use draw_device::Device;
+use geometry::spelt;
+use rc_base::command::Rgba;
 use rc_base::items::Items;
 use rc_base::scene::Sizes;
 use rc_base::state::{Block, State, Vertex, Vertices};
@@ -12,6 +14,7 @@ use rc_base::window::{Pixel, Rect};
 use std::alloc::Global;
 use std::process::Abort;
 use textures::{PrivateSet, SharedSet};
+use vertex_bytes::{SpeltBlock, SpeltVertices};
 
 // A window of 64 by 16, in which colours are added.
 fn state() -> State {
@@ -52,7 +55,23 @@ fn squares(rt: &impl Abort, alloc: Global, row: i32) -> Block {
     Block { mode: 17, vertices }
 }
 
-// Draws a row of squares.
+// The bytes that spell the vertices, 28 each.
+fn spelt_bytes(rt: &impl Abort, alloc: Global, vertices: &[Vertex]) -> Vec<u8> {
+    let mut bytes = Vec::new(alloc);
+    for vertex in vertices {
+        let [x, y, z, w] = vertex.pos;
+        let Rgba { r, g, b, a } = vertex.color;
+        let color = i32::from_le_bytes([r, g, b, a]);
+        for word in [x, y, z, w, color, vertex.s, vertex.t] {
+            bytes
+                .extend_from_slice(&word.to_le_bytes())
+                .expect(rt, "memory");
+        }
+    }
+    bytes
+}
+
+// Draws a row of squares, each other one by the bytes that spell its vertices.
 fn draw_row(
     rt: &impl Abort,
     alloc: Global,
@@ -64,7 +83,20 @@ fn draw_row(
     let state = state();
     let block = squares(rt, alloc, row);
     assert!(rt; is_drawable(&state, privates, shareds));
-    device.draw(&state, &block, privates, shareds);
+    if row & 1 == 0 {
+        device.draw(&state, &block, privates, shareds);
+        return;
+    }
+    let bytes = spelt_bytes(rt, alloc, block.vertices.as_slice());
+    let prepared = device.prepare(&state);
+    let vertices = SpeltVertices {
+        bytes: bytes.as_slice(),
+    };
+    let block = spelt(SpeltBlock {
+        mode: block.mode,
+        vertices,
+    });
+    device.draw_prepared(&state, &prepared, &block, privates, shareds);
 }
 
 // The pixels of the device after the wall.
