@@ -218,12 +218,12 @@ module _ (d : Decl) (set : List (Option Picture)) (has : HasTexels d.shared (tex
 
 -- ---- one client's place in the list of all
 
-set_here : {A : Type 0} (xs : List A) (i : ℕ) (v : A) → i < length xs → slice_get (slice_set xs i v) i ≡ Some v
+pub set_here : {A : Type 0} (xs : List A) (i : ℕ) (v : A) → i < length xs → slice_get (slice_set xs i v) i ≡ Some v
 set_here [] i v low = absurd (omega arith)
 set_here (x ∷ xs) zero v low = refl
 set_here (x ∷ xs) (suc i) v low = set_here xs i v (omega arith)
 
-set_beside : {A : Type 0} (xs : List A) (i j : ℕ) (v : A) → (j ≡ i → ⊥) → slice_get (slice_set xs i v) j ≡ slice_get xs j
+pub set_beside : {A : Type 0} (xs : List A) (i j : ℕ) (v : A) → (j ≡ i → ⊥) → slice_get (slice_set xs i v) j ≡ slice_get xs j
 set_beside [] i j v ne = refl
 set_beside (x ∷ xs) zero zero v ne = absurd (ne refl)
 set_beside (x ∷ xs) zero (suc j) v ne = refl

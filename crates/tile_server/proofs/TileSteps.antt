@@ -1,5 +1,6 @@
 -- What a tile's core stores tells what its step may do, and each deed makes of the core what the definition of a step says.
 use Rattle.std.proofs.Common.{◌≡◌, ◌≢◌, ℕ, ◌+◌, ◌<◌, ◌≤◌, ◌^◌, ◌==◌, ◌&&◌, ◌||◌, not, Bool, true, false, cond, length, ◌⊎◌, inl, inr, Option, Some, None, refl, sym, ap, ◌∙◌, subst, arith, true≢false, add-one, eq-eqb, eqb-true, ne_eqb}
+use Rattle.std.proofs.Props.{props}
 use Rattle.std.specs.Prelude.{is_none, slice_get, OnOk, OnErr}
 use Rattle.std.proofs.lemmas.Option.{slice_get_within}
 use Rattle.rc_base.specs.Orders.Journal.{is_member}
@@ -18,13 +19,13 @@ use Rattle.tile_model.specs.Boards.{is_carried_out}
 use Rattle.tile_model.specs.Givable.{is_givable}
 use Rattle.tile_model.specs.Items.{after_act, after_end, after_entry, after_no_more, after_parcel, after_performed, after_wait, after_work, shown_frames, IsAwaited}
 use Rattle.tile_model.specs.Items.Item.{Due}
-use Rattle.tile_model.specs.Short.{asks, listens, NothingIsDue}
+use Rattle.tile_model.specs.Short.{asks, listens, IsFinished, NothingIsDue}
 use Rattle.tile_model.proofs.ShownFrames.{after_swap, after_other, after_learnt, after_worked}
-use Rattle.tile_server.specs.Boards.{board_in, IsPartOf, IsSameTile}
+use Rattle.tile_server.specs.Boards.{board_in, canvas_clients, IsPartOf, IsSameTile}
 use Rattle.tile_server.specs.Cores.{board_of, clients_of, decl_of, is_short, layout_of, tile_of, IsProgressOf, IsSameCore, IsTileStep}
 use Rattle.tile_server.specs.Deeds.{answer_of, is_wait, progress_after, taking_answer, is_lost, MayTake}
 use Rattle.tile_server.specs.Ledgers.{closed_in, held_in, is_over_in, IsKnownOf, IsLedgerOf, IsLedgerStep, IsSameLedger, IsWholeLedger}
-use Rattle.tile_server.specs.Tasks.{asks_in, listens_in, next_frame, IsDueIn, IsFreeIn, IsWorked, MayTakeIn, NothingIsDueIn}
+use Rattle.tile_server.specs.Tasks.{asks_in, listens_in, next_frame, IsDueIn, IsFreeIn, IsFinishedIn, IsWorked, MayTakeIn, NothingIsDueIn}
 use Rattle.tile_server.specs.declared.deed.Taking.{Taking}
 use Rattle.tile_server.specs.declared.deed.Taking.TheVariants.{Works, Holds, Closes, Drops, Loses}
 use Rattle.tile_server.specs.declared.deed.TileDeed.{TileDeed}
@@ -455,6 +456,72 @@ module _ (core later : TileCore) where
       where
         loses : (p : Progress) → progress_after true p (Takes client parcel Loses) ≡ after_parcel p client
         loses p = rw more refl
+
+-- ---- the same core, whatever its ghost fields are proved by
+
+module _ (core : TileCore) where
+  abbrev pub regiven : core.ledger.clients ≤ 8 → canvas_clients core.canvas ≡ core.ledger.clients → core.next ≤ core.ledger.clients → TileCore
+  regiven few clients turn = record {
+    ledger = core.ledger; canvas = core.canvas; room = core.room; next = core.next; frames = core.frames; short = core.short;
+    few = few; clients = clients; turn = turn;
+  }
+
+  pub regiven_is : (few : core.ledger.clients ≤ 8) (clients : canvas_clients core.canvas ≡ core.ledger.clients) (turn : core.next ≤ core.ledger.clients)
+      → regiven few clients turn ≡ core
+  regiven_is few clients turn =
+      let few_prop : IsProp (core.ledger.clients ≤ 8) = hlevel props in
+      let clients_prop : IsProp (canvas_clients core.canvas ≡ core.ledger.clients) = hlevel props in
+      let turn_prop : IsProp (core.next ≤ core.ledger.clients) = hlevel props in
+      ap (λ f. regiven f clients turn) (few_prop few core.few) ∙ ap (λ f. regiven core.few f turn) (clients_prop clients core.clients)
+      ∙ ap (λ f. regiven core.few core.clients f) (turn_prop turn core.turn)
+
+-- ---- nothing is taken
+
+module _ (core : TileCore) (undue : NothingIsDueIn core) where
+  finished_so : IsFinishedIn core → (p : Progress) → IsProgressOf core p → IsFinished core.short p
+  finished_so done p h = record {
+    no_more = h.ledger.no_more ∙ done.no_more;
+    performed = λ ample. sym (over_is core p h ample) ∙ done.performed ample;
+    closed = λ client low. h.ledger.closed client ∙ done.closed client (subst (λ n. client < n) h.ledger.count low);
+  }
+
+  finished_in : (p : Progress) → IsProgressOf core p → IsFinished core.short p → IsFinishedIn core
+  finished_in p h done = record {
+    no_more = sym h.ledger.no_more ∙ done.no_more;
+    performed = λ ample. over_is core p h ample ∙ done.performed ample;
+    closed = λ client low. sym (h.ledger.closed client) ∙ done.closed client (subst (λ n. client < n) (sym h.ledger.count) low);
+  }
+
+  either : (b : Bool) (q : Progress) → cond b q q ≡ q
+  either true q = refl
+  either false q = refl
+
+  unchanged : IsSameCore core core
+  unchanged = record { decl = refl; clients = refl; layout = refl; tile = refl }
+
+  pub rested_step : (IsFinishedIn core → ⊥) → IsTileStep core Rests core
+  rested_step open_ = record {
+    same = unchanged;
+    short = refl;
+    ample = λ l. absurd (true≢false (sym l));
+    rotation = refl;
+    first = λ p h. (nothing_due core p h undue, λ done. open_ (finished_in p h done));
+    after = λ p h. subst (IsProgressOf core) (sym (either core.short p)) h;
+    drawn = λ p h ample. refl;
+    shown = λ p h part is. absurd cc;
+  }
+
+  pub finished_step : IsFinishedIn core → IsTileStep core Finishes core
+  finished_step done = record {
+    same = unchanged;
+    short = refl;
+    ample = λ l. absurd (true≢false (sym l));
+    rotation = refl;
+    first = λ p h. (nothing_due core p h undue, finished_so done p h);
+    after = λ p h. subst (IsProgressOf core) (sym (either core.short p)) h;
+    drawn = λ p h ample. refl;
+    shown = λ p h part is. absurd cc;
+  }
 
 -- ---- what the answer says of memory
 

@@ -2,6 +2,7 @@ pub mod Deeds
 pub mod Boards
 pub mod Kepts
 pub mod Works
+pub mod Switched
 pub mod Ledgers
 pub mod Cores
 pub mod Tasks

@@ -1,10 +1,14 @@
 //! A tile's pixels, and what it keeps to draw them.
+ghost use Rattle.std.specs.Prelude.{◌≡◌};
+ghost use Rattle.std.proofs.Props.{props};
 ghost use Rattle.textures.specs.Stores.{HasTexels};
 ghost use Rattle.tile_server.specs.Kepts.{AreFit};
+ghost use Rattle.tile_server.specs.Switched.{IsStateOf};
 ghost use Rattle.tile_server.specs.Works.{IsRectOf, texels_in};
 
 use crate::blank::{blank_device, new_clients};
 use crate::givable::is_givable;
+use crate::hardware::{Hardware, are_told};
 use crate::kept::KeptClient;
 use crate::work::work;
 use draw_device::Device;
@@ -12,27 +16,28 @@ use element_table::default_state;
 use rc_base::cluster::TilePart;
 use rc_base::out_of_memory::OutOfMemory;
 use rc_base::scene::{Decl, copy_of_decl};
-use rc_base::state::{Parcel, State, Vertices};
+use rc_base::state::{Parcel, Vertices};
 use rc_base::window::Layout;
 use std::alloc::Global;
 use textures::SharedSet;
 use textures::laws::sets_have_stored_texels;
 
-/// The pixels of one tile, what the tile keeps of each client, and the shared textures. The device draws with one state, which is switched from client to
-/// client.
+/// The pixels of one tile, what the tile keeps of each client, and the shared textures. The device draws with one state, which is switched where the
+/// client or its state is another one than at the last block.
 #[derive(Drop)]
 pub struct Canvas {
     decl: Decl,
     layout: Layout,
     tile: u8,
-    // the state that the device draws with
-    hw: State,
+    hw: Hardware,
     kept: Vec<KeptClient>,
     shared: SharedSet,
     device: Device,
     ghost place: { IsRectOf layout tile device.rect },
     ghost whole: { HasTexels decl.shared (texels_in shared) shared },
     ghost fit: { AreFit decl kept.items },
+    ghost aimed: { hw.rect ≡ device.rect },
+    ghost switched: { IsStateOf hw.of hw.state kept.items } by { Prim.hlevel props },
 }
 
 impl Canvas {
@@ -58,15 +63,17 @@ impl Canvas {
         ensures blank { IfOk result (λ c. IsNewBoard decl.now layout.now tile (board_in c)) }
     {
         sets_have_stored_texels();
-        let hw = default_state(decl);
+        let first = default_state(decl);
+        let device = blank_device(alloc, layout, tile)?;
+        let hw = Hardware::new(first, &device);
         Ok(Canvas {
             decl: copy_of_decl(alloc, decl)?,
             layout: *layout,
             tile,
             hw,
-            kept: new_clients(alloc, hw, clients)?,
+            kept: new_clients(alloc, first, clients)?,
             shared: SharedSet::new(alloc, &decl.shared)?,
-            device: blank_device(alloc, layout, tile)?,
+            device,
         })
     }
 
@@ -83,11 +90,15 @@ impl Canvas {
         if !is_givable(&self.decl, &parcel) {
             return None;
         }
+        let of = client;
         let client = usize::from(client);
         let Parcel { sets, act, .. } = parcel;
+        let told = are_told(&sets);
+        self.hw.expect(told);
         self.kept[client].apply_all(sets);
         work(
             &mut self.hw,
+            of,
             &self.kept[client],
             act,
             &mut self.device,

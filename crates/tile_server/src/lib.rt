@@ -8,6 +8,7 @@ mod blank;
 mod canvas;
 mod deed;
 mod givable;
+mod hardware;
 mod kept;
 pub mod laws;
 mod ledger;

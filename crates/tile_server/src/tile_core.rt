@@ -34,7 +34,7 @@ pub struct TileCore {
 }
 
 impl TileCore {
-    ghost use Rattle.std.specs.Prelude.{◌≡◌, ◌≢◌, ◌⊎◌, ◌≤◌, ◌<◌, ◌||◌, true, false, None, length, IfOk, OnOk, OnErr, IfSome, IfNone, IsTrue};
+    ghost use Rattle.std.specs.Prelude.{◌≡◌, ◌≢◌, ◌⊎◌, ◌≤◌, ◌<◌, ◌||◌, cond, not, true, false, None, length, IfOk, OnOk, OnErr, IfSome, IfNone, IsTrue};
     ghost use Rattle.rc_base.specs.Cluster.Tiles.{tile_count};
     ghost use Rattle.rc_base.specs.Cluster.Parcels.{is_end};
     ghost use Rattle.order_model.specs.Standing.{Progress, new_progress};
@@ -133,10 +133,20 @@ impl TileCore {
     {
         let free = self.short || self.ledger.is_over();
         let mut asks = [false; 8];
-        for client in 0..8u8 {
+        for client in 0..self.ledger.clients() {
             asks[client as usize] = self.asks(client, free);
         }
         asks
+    }
+
+    /// Whether an entry may still be performed, where none is to come.
+    fn may_perform(&self) -> bool
+        ensures { result ≡ cond (is_short self.now) false (not (is_over_in self.now.ledger)) }
+    {
+        if self.short {
+            return false;
+        }
+        !self.ledger.is_over()
     }
 
     /// Whether nothing is left to do.
@@ -147,7 +157,7 @@ impl TileCore {
         if !self.ledger.saw_no_more() {
             return false;
         }
-        if !self.short && !self.ledger.is_over() {
+        if self.may_perform() {
             return false;
         }
         self.ledger.all_closed()

@@ -1,14 +1,18 @@
 //! Drawing, clearing and writing shared textures.
-ghost use Rattle.std.specs.Prelude.{◌≡◌};
+ghost use Rattle.std.specs.Prelude.{◌≡◌, Some};
 ghost use Rattle.rc_base.specs.Cluster.Parcels.{effect_by};
+ghost use Rattle.rc_base.specs.declared.state.Effect.TheVariants as eff;
+ghost use Rattle.geometry.specs.Listed.{listed_block};
 ghost use Rattle.draw_device.specs.Conditions.{IsDrawable, IsClearable};
 ghost use Rattle.draw_device.specs.Stored.{set_after};
+ghost use Rattle.tile_server.specs.Switched.{IsStateNow, IsSwitched};
 ghost use Rattle.tile_server.specs.Works.{MayStore, TakesEffect};
 
+use crate::hardware::Hardware;
 use crate::kept::KeptClient;
-use context_switch::switch;
 use draw_device::{Device, carry_out, effect_of};
-use rc_base::state::{Act, Effect, State, Vertices};
+use geometry::{ListedBlock, listed};
+use rc_base::state::{Act, Effect, Vertices};
 use textures::SharedSet;
 
 // The vertices of a block that was drawn.
@@ -19,49 +23,75 @@ fn vertices_of(done: Effect) -> Option<Vertices> {
     }
 }
 
-// Does what an effect asks. Before a block and a Clear the state that the device draws with becomes the client's.
+// Does what an effect asks. Before a block the state that the device draws with becomes the client's.
 fn perform(
-    hw: &mut State,
+    hw: &mut Hardware,
+    client: u8,
     kept: &KeptClient,
     effect: &Effect,
     device: &mut Device,
     shared: &mut SharedSet,
 )
+    requires aimed { hw.old.rect ≡ device.old.rect }
+    requires known { hw.old.of ≡ Some client → hw.old.state ≡ kept.now.state }
     requires drawable { IsDrawable kept.now.state kept.now.images shared.old }
     requires clearable { IsClearable kept.now.state }
     requires writable { MayStore effect.now shared.old }
     ensures rect { device.new.rect ≡ device.old.rect }
+    ensures aimed { hw.new.rect ≡ hw.old.rect }
+    ensures switched { IsSwitched client kept.now.state hw.old hw.new }
     ensures drawn { TakesEffect kept.now shared.old effect.now device.old device.new }
     ensures shared { shared.new ≡ set_after effect.now shared.old }
 {
-    match effect {
-        Effect::Block(_) | Effect::Clear(_) => {
-            switch(hw, &kept.state);
-            carry_out(effect, hw, &kept.images, device, shared)
-        }
-        Effect::Shared(_) | Effect::Sync(_) | Effect::Quiet | Effect::Refused(_) => {
-            carry_out(effect, &kept.state, &kept.images, device, shared)
-        }
-    }
+    let Effect::Block(block) = effect else {
+        carry_out(effect, &kept.state, &kept.images, device, shared);
+        return;
+    };
+    draw(hw, client, kept, &listed(block), device, shared);
 }
 
-/// Does what an act asks, with what is kept of its client: before a block and a Clear the state that the device draws with becomes the client's. A
-/// block's vertices are handed back.
+// Draws a block, with what is kept of its client: the state that the device draws with becomes the client's, where it isn't known to be.
+fn draw(
+    hw: &mut Hardware,
+    client: u8,
+    kept: &KeptClient,
+    block: &ListedBlock<'_>,
+    device: &mut Device,
+    shared: &SharedSet,
+)
+    requires aimed { hw.old.rect ≡ device.old.rect }
+    requires known { hw.old.of ≡ Some client → hw.old.state ≡ kept.now.state }
+    requires drawable { IsDrawable kept.now.state kept.now.images shared.now }
+    ensures rect { device.new.rect ≡ device.old.rect }
+    ensures aimed { hw.new.rect ≡ hw.old.rect }
+    ensures switched { IsStateNow client kept.now.state hw.new }
+    ensures drawn { TakesEffect kept.now shared.now (eff.Block (listed_block block.now)) device.old device.new }
+{
+    hw.settle(client, &kept.state, device);
+    device.draw_prepared(&hw.state, &hw.prepared, block, &kept.images, shared);
+}
+
+/// Does what an act asks, with what is kept of its client. A block's vertices are handed back.
 pub(crate) fn work(
-    hw: &mut State,
+    hw: &mut Hardware,
+    client: u8,
     kept: &KeptClient,
     act: Act,
     device: &mut Device,
     shared: &mut SharedSet,
 ) -> Option<Vertices>
+    requires aimed { hw.old.rect ≡ device.old.rect }
+    requires known { hw.old.of ≡ Some client → hw.old.state ≡ kept.now.state }
     requires drawable { IsDrawable kept.now.state kept.now.images shared.old }
     requires clearable { IsClearable kept.now.state }
     requires writable { MayStore (effect_by act) shared.old }
     ensures rect { device.new.rect ≡ device.old.rect }
+    ensures aimed { hw.new.rect ≡ hw.old.rect }
+    ensures switched { IsSwitched client kept.now.state hw.old hw.new }
     ensures drawn { TakesEffect kept.now shared.old (effect_by act) device.old device.new }
     ensures shared { shared.new ≡ set_after (effect_by act) shared.old }
 {
     let effect = effect_of(act);
-    perform(hw, kept, &effect, device, shared);
+    perform(hw, client, kept, &effect, device, shared);
     vertices_of(effect)
 }

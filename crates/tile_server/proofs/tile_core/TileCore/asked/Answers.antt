@@ -18,5 +18,5 @@ pub loop-client-preserved : goal.loop-client-preserved
 loop-client-preserved c =
     let l = c.loop-client in (
       length-set l.asks l.client c.asks.result ∙ l.invariant.0,
-      one_more l.asks (asks_in c.args.self.now) l.client c.asks.result (omega (arith, l.invariant.0, c.loop-client-test.true)) c.asks.ensures l.invariant.1,
+      one_more l.asks (asks_in c.args.self.now) l.client c.asks.result (omega (arith, l.invariant.0, c.loop-client-test.true, c.clients-client-end.ensures, c.args.self.now.few)) c.asks.ensures l.invariant.1,
     )
