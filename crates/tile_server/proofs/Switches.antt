@@ -5,11 +5,10 @@ use Rattle.std.specs.declared.option.Option.{Option}
 use Rattle.std.proofs.lemmas.Bool.{cases_eq}
 use Rattle.std.proofs.lemmas.Option.{slice_get_within}
 use Rattle.rc_base.specs.declared.state.ElementSet.{ElementSet}
-use Rattle.rc_base.specs.declared.state.State.{State}
 use Rattle.element_table.proofs.SameValues.{state_is}
 use Rattle.tile_model.specs.Boards.{HasSets}
 use Rattle.tile_server.specs.Kepts.{kept_of}
-use Rattle.tile_server.specs.Switched.{IsSameState, IsStateNow, IsStateOf, IsSwitched}
+use Rattle.tile_server.specs.Switched.{IsSameState, IsStateOf, IsSwitched}
 use Rattle.tile_server.specs.declared.hardware.Hardware.{Hardware}
 use Rattle.tile_server.specs.declared.kept.KeptClient.{KeptClient}
 use Rattle.tile_server.proofs.DrawnParcels.{set_beside, set_here}
@@ -56,12 +55,12 @@ module _ (kept : List KeptClient) (client : ℕ) (k later : KeptClient) (sets : 
   told_of other x named here = elim (still sets has hw told expected) [
     | inl none ↦ absurd (not_named other none named)
     | inr same ↦ elim (cases_eq other client) [
-        | inl one ↦
-            let found : Some later ≡ Some x = sym (set_here kept client later (slice_get_within kept client k at)) ∙ subst (λ (n : ℕ). slice_get (slice_set kept client later) n ≡ Some x) one here in
-            let is : later ≡ x = cc in
-            known_now (subst (λ (n : ℕ). told.of ≡ Some n) one named) ∙ ap (λ (y : KeptClient). y.state) is
-        | inr ne ↦ same.1.state ∙ before.same other x (sym same.1.of ∙ named) (sym (set_beside kept client other later ne) ∙ here)
-      ]
+      | inl one ↦
+          let found : Some later ≡ Some x = sym (set_here kept client later (slice_get_within kept client k at)) ∙ subst (λ (n : ℕ). slice_get (slice_set kept client later) n ≡ Some x) one here in
+          let is : later ≡ x = cc in
+          known_now (subst (λ (n : ℕ). told.of ≡ Some n) one named) ∙ ap (λ (y : KeptClient). y.state) is
+      | inr ne ↦ same.1.state ∙ before.same other x (sym same.1.of ∙ named) (sym (set_beside kept client other later ne) ∙ here)
+    ]
   ]
 
   -- and so it is after the client's work

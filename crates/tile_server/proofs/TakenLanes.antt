@@ -1,5 +1,5 @@
 -- What the clients' lanes gave, by the deed.
-use Rattle.std.proofs.Common.{◌≡◌, ◌≢◌, ℕ, ◌==◌, Bool, true, false, List, Option, Some, None, cond, ◌⊎◌, inl, inr, refl, sym, ◌∙◌, subst, true≢false, eq-eqb, eqb-true}
+use Rattle.std.proofs.Common.{◌≡◌, ◌≢◌, ℕ, ◌==◌, Bool, true, false, List, Some, None, cond, ◌⊎◌, inl, inr, refl, sym, ◌∙◌, subst, true≢false, eq-eqb, eqb-true}
 use Rattle.std.specs.Prelude.{MatchOption, slice_index_or}
 use Rattle.rc_base.specs.Cluster.Lanes.{EachLane}
 use Rattle.rc_base.specs.declared.state.Parcel.{Parcel}

@@ -204,6 +204,10 @@ short_ledger short ledger p h = record { count = h.count; closed = h.closed; no_
 
 -- ---- afterwards
 
+either : (b : Bool) (q : Progress) → cond b q q ≡ q
+either true q = refl
+either false q = refl
+
 module _ (core later : TileCore) where
   -- a tile that isn't short has its whole ledger
   ample_after : (made : Progress → Progress) (p : Progress) → core.short ≡ false → later.short ≡ false
@@ -324,10 +328,6 @@ module _ (core later : TileCore) where
       drawn = λ p h ample. same_board canvas clients;
       shown = λ p h part is. absurd cc;
     }
-      where
-        either : (b : Bool) (q : Progress) → cond b q q ≡ q
-        either true q = refl
-        either false q = refl
 
   -- ---- parcels
 
@@ -461,10 +461,7 @@ module _ (core later : TileCore) where
 
 module _ (core : TileCore) where
   abbrev pub regiven : core.ledger.clients ≤ 8 → canvas_clients core.canvas ≡ core.ledger.clients → core.next ≤ core.ledger.clients → TileCore
-  regiven few clients turn = record {
-    ledger = core.ledger; canvas = core.canvas; room = core.room; next = core.next; frames = core.frames; short = core.short;
-    few = few; clients = clients; turn = turn;
-  }
+  regiven few clients turn = record core { few = few; clients = clients; turn = turn }
 
   pub regiven_is : (few : core.ledger.clients ≤ 8) (clients : canvas_clients core.canvas ≡ core.ledger.clients) (turn : core.next ≤ core.ledger.clients)
       → regiven few clients turn ≡ core
@@ -491,10 +488,6 @@ module _ (core : TileCore) (undue : NothingIsDueIn core) where
     performed = λ ample. over_is core p h ample ∙ done.performed ample;
     closed = λ client low. sym (h.ledger.closed client) ∙ done.closed client (subst (λ n. client < n) (sym h.ledger.count) low);
   }
-
-  either : (b : Bool) (q : Progress) → cond b q q ≡ q
-  either true q = refl
-  either false q = refl
 
   unchanged : IsSameCore core core
   unchanged = record { decl = refl; clients = refl; layout = refl; tile = refl }

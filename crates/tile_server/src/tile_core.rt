@@ -117,7 +117,7 @@ impl TileCore {
         self.ledger.is_listening()
     }
 
-    /// Whether parcels of the client are taken. It has no branch, so the eight of `asked` are found together.
+    /// Whether parcels of the client are taken. It has no branch, since `asked` calls it for each client.
     #[tactic(auto, using(crate::proofs::Asked::asked_by))]
     fn asks(&self, client: u8, free: bool) -> bool
         requires client { client < 8 }

@@ -11,4 +11,4 @@ use Rattle.tile_server.proofs.work.draw.Goals as goal
 pub returns-clause-drawn : goal.returns-clause-drawn
 returns-clause-drawn c =
     subst (λ (s : State). EachTakes (effect_step s (texture_image c.args.kept.now.images) (shared_of c.args.shared.now) (eff.Block (listed_block c.args.block.now))) c.args.device.now
-        c.draw_prepared.new.self) c.settle.ensures.state c.draw_prepared.ensures.drawn
+    c.draw_prepared.new.self) c.settle.ensures.state c.draw_prepared.ensures.drawn
