@@ -66,7 +66,10 @@ fn new_idler(actor: Actor, parts: u32) -> Idler {
 
 fn crew_of(rt: &impl Abort, alloc: Global) -> Crew<Idler, Idler, Idler> {
     let clients = vec![in alloc; new_idler(Actor::Client(0), 1000)];
-    let tiles = vec![in alloc; new_idler(Actor::Tile(0), 1), new_idler(Actor::Tile(1), 300)];
+    let tiles = vec![in alloc;
+        new_idler(Actor::Tile(0), 1),
+        new_idler(Actor::Tile(1), 300),
+    ];
     Crew {
         clients: clients.expect(rt, "memory"),
         manager: new_idler(Actor::Manager, 0),
