@@ -1,5 +1,5 @@
 //! Vector clocks, kept as each client's changes.
-ghost use Rattle.std.specs.Prelude.{◌≡◌, ◌+◌, ◌<◌, ◌^◌, ℕ, length, slice_index, slice_index_or, [], IfOk, OnOk};
+ghost use Rattle.std.specs.Prelude.{◌≡◌, ◌+◌, ◌<◌, ◌^◌, ℕ, length, slice_index, slice_index_or, [], IfOk, OnOk, OnErr};
 ghost use Rattle.happens_before.specs.Clocks.{only, up_to};
 ghost use Rattle.happens_before.specs.Timelines.{AllRaised, AreChanges, AreOrdered, AreTimelines, ChangesGoTo, HaveNoChanges, IsJoined, OthersKeepChanges, before_at, clock_of};
 
@@ -77,7 +77,8 @@ impl Timelines {
         gate[own] = gate[own].max(name.place + 1);
     }
 
-    /// From a place on, which lies at or behind all changes of the client, its names have these before them too.
+    /// From a place on, which lies at or behind all changes of the client, its names have these before them too. Where memory
+    /// is wanting, the timelines are as before.
     pub fn raise(&mut self, client: u8, from: u32, gate: &[u32; 8]) -> Result<(), OutOfMemory>
         requires timelines { AreOrdered self.old.clients.items }
         requires client { client < 8 }
@@ -86,6 +87,7 @@ impl Timelines {
         ensures changes { OnOk result (ChangesGoTo self.new client from) }
         ensures others { OnOk result (OthersKeepChanges self.old client self.new) }
         ensures count { OnOk result (length self.new.clients.items ≡ 8) }
+        ensures err { OnErr result (self.new ≡ self.old) }
     {
         let mut before = self.before(client, from);
         join(&mut before, gate);

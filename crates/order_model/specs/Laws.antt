@@ -47,8 +47,8 @@ AreOfClients syncs s = (client : ℕ) → client_count syncs ≤ client → s.re
 abbrev pub GrantsAreLawful : Type 0
 GrantsAreLawful = (syncs : SyncLists) (s : SyncState) (e : Entry) → grant syncs s ≡ Some e → IsLawful syncs s e
 
-abbrev pub NothingIsGrantedExactlyWhenOver : Type 0
-NothingIsGrantedExactlyWhenOver = (syncs : SyncLists) (s : SyncState) → AreOfClients syncs s → (grant syncs s ≡ None) ↔ NothingIsLawful syncs s
+abbrev pub NothingIsGrantedExactlyWhereNoneIsLawful : Type 0
+NothingIsGrantedExactlyWhereNoneIsLawful = (syncs : SyncLists) (s : SyncState) → AreOfClients syncs s → (grant syncs s ≡ None) ↔ NothingIsLawful syncs s
 
 abbrev pub DefaultJournalIsMaximal : Type 0
 DefaultJournalIsMaximal = (syncs : SyncLists) → IsWellFormed syncs → IsMaximal syncs (default_journal syncs)

@@ -1,7 +1,7 @@
 //! Laws of journals, orders and logs. Each function's contract is a law, and its body is empty: there is nothing to compute.
 ghost use Rattle.order_model.specs.Gathering.{GatheringIsLawful, LegalBooksHaveLegalJournals, OverBooksAreMaximal, OverBooksWaitAlike};
 ghost use Rattle.order_model.specs.Scenes.{ScenesWithinLimitsAreDrawable, ScenesWithinLimitsAreRunnable};
-ghost use Rattle.order_model.specs.Laws.{SceneListsAreWellFormed, PrefixesAreLegal, GrantsAreLawful, NothingIsGrantedExactlyWhenOver, DefaultJournalIsMaximal, MaximalJournalsEndAlike, MaximalJournalsAgree, FullScenesAreUncontended, DefaultOrdersArePermitted, OneClientHasOneOrder, RecordedOrdersArePermitted, LawfulRecordsArePermitted, OrderedScenesDrawAlike, OrderedScenesHaveOneFrame, LawfulRecordsShowOneImage, SceneJobsAreSent, RecordsOfScenesArePermitted, MaximalJournalsSwapAlike, CanvasTexturesAreTextures, BooksStayLegal, BooksGrantWhatIsLawful, OrderedRunsShowOneImage, UncontendedRunsShowTheDefaultImage, SwapsAreFew};
+ghost use Rattle.order_model.specs.Laws.{SceneListsAreWellFormed, PrefixesAreLegal, GrantsAreLawful, NothingIsGrantedExactlyWhereNoneIsLawful, DefaultJournalIsMaximal, MaximalJournalsEndAlike, MaximalJournalsAgree, FullScenesAreUncontended, DefaultOrdersArePermitted, OneClientHasOneOrder, RecordedOrdersArePermitted, LawfulRecordsArePermitted, OrderedScenesDrawAlike, OrderedScenesHaveOneFrame, LawfulRecordsShowOneImage, SceneJobsAreSent, RecordsOfScenesArePermitted, MaximalJournalsSwapAlike, CanvasTexturesAreTextures, BooksStayLegal, BooksGrantWhatIsLawful, OrderedRunsShowOneImage, UncontendedRunsShowTheDefaultImage, SwapsAreFew};
 
 /// A scene within the limits can be drawn by one renderer, and run by a cluster on a layout within them: all that their calls need of it follows.
 pub fn scenes_within_limits()
@@ -22,7 +22,7 @@ pub fn prefixes_are_legal()
 /// What is granted is lawful, and nothing is granted exactly where no entry is lawful.
 pub fn grants_are_exact()
     ensures lawful { GrantsAreLawful }
-    ensures none { NothingIsGrantedExactlyWhenOver }
+    ensures none { NothingIsGrantedExactlyWhereNoneIsLawful }
 {}
 
 /// A book stays legal along arrivals, ends and grants, and it grants nothing exactly where no entry is lawful by what arrived.

@@ -37,8 +37,8 @@ fn is_within(a: &WindowVertex, b: &WindowVertex, px: i64, py: i64) -> bool
     e > 0 || (e == 0 && keeps(a, b))
 }
 
-/// Whether the centre of pixel (`x`, `y`) is inside the triangle, by OpenGL's rule for points on an edge: the left edges and the top one
-/// keep theirs.
+/// Whether the centre of pixel (`x`, `y`) is inside the triangle, by one rule for points on an edge: the left edges and the top one keep
+/// theirs. (OpenGL leaves the rule open: it asks that of two triangles beside an edge one has such a point.)
 #[tactic(auto, unfolding(rc_base::specs::Drawing::Cover::is_inside))]
 pub fn covers(tri: &WindowTriangle, x: i32, y: i32) -> bool
     ensures { result ≡ is_inside tri.now.v x y }

@@ -45,7 +45,8 @@ impl ClientSurvey {
         })
     }
 
-    /// Issues the client's next command, and gives the kind of its effect.
+    /// Issues the client's next command, and gives the kind of its effect. Where memory is wanting, the context may have the command whose operation
+    /// is missing.
     #[inline(always)]
     pub fn issue(
         &mut self,

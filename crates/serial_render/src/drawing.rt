@@ -31,7 +31,7 @@ pub fn window(decl: &Decl) -> Rect
     window_rect(decl.width, decl.height)
 }
 
-/// Adds images of the device until there are so many frames.
+/// Adds images of the device until there are so many frames. Where memory is wanting, some of them are added.
 #[inline(always)]
 pub fn show_up_to(
     alloc: Global,

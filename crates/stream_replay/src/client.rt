@@ -1,5 +1,5 @@
 //! What is kept of a client while an order is carried out.
-ghost use Rattle.std.specs.Prelude.{◌≡◌, ℕ, ◌+◌, ◌<◌, length, true, false, IfOk, OnOk};
+ghost use Rattle.std.specs.Prelude.{◌≡◌, ℕ, ◌+◌, ◌<◌, length, true, false, IfOk, OnOk, OnErr};
 ghost use Rattle.rc_base.specs.Formats.Within.{IsWithin};
 ghost use Rattle.rc_base.specs.Contexts.Issue.{stream_of, effect_at};
 ghost use Rattle.rc_base.specs.Drawing.Serial.{is_swap_effect};
@@ -47,6 +47,7 @@ impl Client {
         requires before { self.old ≡ client_after scene.now client place }
         ensures client { OnOk result (self.new ≡ client_after scene.now client (place + 1)) }
         ensures effect { IfOk result (λ e. e ≡ effect_at scene.now client place) }
+        ensures err { OnErr result (self.new ≡ self.old) }
     {
         let effect = issue_at(&mut self.context, scene, client, place)?;
         self.swaps += usize::from(is_swap(&effect));
@@ -102,6 +103,7 @@ pub fn issue_name(
     requires before { StandsBefore scene.now clients.old.items name }
     ensures clients { OnOk result (clients.new.items ≡ issued_by scene.now clients.old.items name) }
     ensures effect { IfOk result (λ e. e ≡ effect_at scene.now name.client name.place) }
+    ensures err { OnErr result (clients.new.items ≡ clients.old.items) }
 {
     clients[usize::from(name.client)].issue(scene, usize::from(name.client), name.place as usize)
 }

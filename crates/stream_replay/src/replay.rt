@@ -1,5 +1,5 @@
 //! Commands of a scene, issued by client and place.
-ghost use Rattle.std.specs.Prelude.{◌≡◌, ◌+◌, ◌<◌, length, true, false, Some, IfOk, OnOk};
+ghost use Rattle.std.specs.Prelude.{◌≡◌, ◌+◌, ◌<◌, length, true, false, Some, IfOk, OnOk, OnErr};
 ghost use Rattle.rc_base.specs.Formats.Within.{IsWithin};
 ghost use Rattle.rc_base.specs.Contexts.Issue.{stream_of, command_at, context_after, effect_at};
 ghost use Rattle.gl_context.specs.Counted.{kind_of};
@@ -35,6 +35,7 @@ pub fn issue_at(
     requires before { context.old ≡ context_after scene.now client place }
     ensures context { OnOk result (context.new ≡ context_after scene.now client (place + 1)) }
     ensures effect { IfOk result (λ e. e ≡ effect_at scene.now client place) }
+    ensures err { OnErr result (context.new ≡ context.old) }
 {
     context.issue(place as u32, command_at(scene, client, place))
 }
@@ -84,6 +85,7 @@ pub fn count_at(
     requires before { counting.old ≡ counted_after scene.now client place }
     ensures context { OnOk result (counting.new ≡ counted_after scene.now client (place + 1)) }
     ensures kind { IfOk result (λ k. k ≡ kind_of (effect_at scene.now client place)) }
+    ensures err { OnErr result (counting.new ≡ counting.old) }
 {
     counting.issue(place as u32, command_at(scene, client, place))
 }
