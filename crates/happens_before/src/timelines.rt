@@ -87,7 +87,7 @@ impl Timelines {
         ensures changes { OnOk result (ChangesGoTo self.new client from) }
         ensures others { OnOk result (OthersKeepChanges self.old client self.new) }
         ensures count { OnOk result (length self.new.clients.items ≡ 8) }
-        ensures err { OnErr result (self.new ≡ self.old) }
+        ensures err { OnErr result (self.new.clients.items ≡ self.old.clients.items) }
     {
         let mut before = self.before(client, from);
         join(&mut before, gate);

@@ -1,5 +1,6 @@
-use Rattle.std.proofs.Common.{◌≡◌, ◌<◌, ℕ, max, length, slice_index, slice_index_or, [], List, ◌∷◌, ◌++◌, slice_set, ap, ◌∙◌, sym, arith, refl, subst, get_or-set_same, get_or-set_other}
-use Rattle.std.proofs.lemmas.List.{get_or_default}
+use Rattle.std.proofs.Common.{◌≡◌, ◌<◌, ℕ, max, length, slice_index, slice_index_or, [], List, ◌∷◌, ◌++◌, slice_set, ap, ◌∙◌, sym, arith, refl, subst, Result, Ok, Err, get_or-set_same, get_or-set_other}
+use Rattle.std.specs.Prelude.{OnErr}
+use Rattle.std.proofs.lemmas.List.{get_or_default, set-get_or}
 use Rattle.happens_before.specs.Timelines.{AreChanges}
 use Rattle.happens_before.specs.declared.timelines.Change.{Change}
 use Rattle.happens_before.proofs.ChangesInTurn.{push_raises, push_changes}
@@ -27,3 +28,14 @@ returns-clause-changes c =
     let lt : c.args.client < length old = omega (arith, c.requires.client, c.requires.timelines.clients) in
     subst (λ xs. AreChanges 0 xs c.args.from) (sym (mine old c.args.client c.index_mut.result.now c.push.new.self x lt c.index_mut.ensures.value c.in_ok-push.ensures.items))
     (push_changes 0 (slice_index_or old c.args.client []) x c.requires.late)
+
+on_err : {X E : Type 0} (r : Result X E) (P : Type 0) → P → OnErr r P
+on_err (Ok x) P p = tt
+on_err (Err e) P p = p
+
+pub returns-in_err-push-clause-err : goal.returns-in_err-push-clause-err
+returns-in_err-push-clause-err c =
+    let old = c.args.self.now.clients.items in
+    let was = c.index_mut.result.now in
+    on_err c.from_residual.result (slice_set old c.args.client c.push.new.self ≡ old)
+    (ap (λ (xs : List Change). slice_set old c.args.client xs) (c.in_err-push.ensures.items ∙ c.index_mut.ensures.value) ∙ set-get_or old c.args.client was)
