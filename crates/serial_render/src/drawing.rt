@@ -1,26 +1,31 @@
 //! Carrying out the commands of an order on one device.
-ghost use Rattle.std.specs.Prelude.{◌≡◌, ◌<◌, length, max, IfOk, OnOk};
+ghost use Rattle.std.specs.Prelude.{◌≡◌, ◌<◌, length, max, Some, IfOk, OnOk};
 ghost use Rattle.rc_base.specs.Formats.Within.{IsWithin};
 ghost use Rattle.rc_base.specs.Cluster.Tiles.{window_rect};
 ghost use Rattle.rc_base.specs.Contexts.Issue.{stream_of};
 ghost use Rattle.rc_base.specs.declared.command.Part.{Part};
 ghost use Rattle.rc_base.specs.declared.state.Effect.TheVariants as eff;
-ghost use Rattle.draw_device.specs.Conditions.{IsClearable, IsDrawable};
+ghost use Rattle.draw_device.specs.Conditions.{IsClearable, IsDrawable, TakesBlock};
 ghost use Rattle.draw_device.specs.Devices.{IsDeviceRect};
+ghost use Rattle.draw_device.specs.Prepared.{IsPreparedFor};
 ghost use Rattle.draw_device.specs.Stored.{IsStorable, set_after};
 ghost use Rattle.stream_replay.specs.Clients.{AreIssued, StandsBefore, issued_by};
-ghost use Rattle.serial_render.specs.Performed.{TakesEffect, effect_by, images_behind, state_behind};
+ghost use Rattle.serial_render.specs.Performed.{IsSettled, TakesEffect, effect_by, images_behind, state_behind};
 ghost use Rattle.serial_render.specs.Shown.{IsPlayable, IsShown, AreShownOn};
 
+use crate::brush::Brush;
 use crate::image::image_of;
 use draw_device::{Device, carry_out};
+use element_table::default_state;
+use geometry::listed;
 use rc_base::image::Frames;
 use rc_base::out_of_memory::OutOfMemory;
 use rc_base::scene::{Decl, Scene};
+use rc_base::state::{Block, Effect};
 use rc_base::sync::Name;
 use rc_base::window::{Rect, window_rect};
 use std::alloc::Global;
-use stream_replay::{Client, clients_of, issue_name, issue_still, take_back};
+use stream_replay::{Client, InBlock, clients_of, issue_in_block, issue_name, take_back};
 use textures::SharedSet;
 
 /// The rectangle of the whole window.
@@ -59,12 +64,43 @@ pub(crate) struct Played {
     pub(crate) frames: Frames,
 }
 
-// Issues the command of a name, the next one of its client, and carries out what it does beyond its client's context.
+// Draws a block that a command of a client closed.
+#[inline(always)]
+fn draw(
+    client: &Client,
+    of: u8,
+    block: &Block,
+    brush: &mut Brush,
+    device: &mut Device,
+    shared: &SharedSet,
+)
+    requires drawable { IsDrawable client.now.context.state client.now.context.images shared.now }
+    requires known { brush.old.of ≡ Some of → IsPreparedFor client.now.context.state device.old.rect brush.old.prepared }
+    ensures rect { device.new.rect ≡ device.old.rect }
+    ensures of { brush.new.of ≡ Some of }
+    ensures prepared { IsPreparedFor client.now.context.state device.old.rect brush.new.prepared }
+    ensures drawn { TakesBlock client.now.context.state block.now client.now.context.images shared.now device.old device.new }
+{
+    let state = client.context.state();
+    brush.settle(of, state, device);
+    let listed = listed(block);
+    device.draw_prepared(
+        state,
+        &brush.prepared,
+        &listed,
+        client.context.private(),
+        shared,
+    );
+}
+
+// Issues the command of a name, the next one of its client, and carries out what it does beyond its client's context. The commands of blocks, which are most
+// of a stream, make no effect.
 #[inline(always)]
 fn perform(
     clients: &mut Vec<Client>,
     scene: &Scene,
     name: Name,
+    brush: &mut Brush,
     device: &mut Device,
     shared: &mut SharedSet,
 ) -> Result<(), OutOfMemory>
@@ -74,19 +110,29 @@ fn perform(
     requires drawable { IsDrawable (state_behind scene.now name) (images_behind scene.now name) shared.old }
     requires clearable { IsClearable (state_behind scene.now name) }
     requires writable { (part : Part) → effect_by scene.now name ≡ eff.Shared part → IsStorable part shared.old }
+    requires settled { IsSettled clients.old.items device.old.rect brush.old }
     ensures clients { OnOk result (clients.new.items ≡ issued_by scene.now clients.old.items name) }
     ensures rect { OnOk result (device.new.rect ≡ device.old.rect) }
     ensures drawn { OnOk result (TakesEffect scene.now name shared.old device.old device.new) }
     ensures shared { OnOk result (shared.new ≡ set_after (effect_by scene.now name) shared.old) }
+    ensures settled { OnOk result (IsSettled clients.new.items device.old.rect brush.new) }
 {
-    if issue_still(clients, scene, name)? {
-        return Ok(());
+    match issue_in_block(clients, scene, name)? {
+        InBlock::Quiet => {}
+        InBlock::Draws(block) => {
+            let client = usize::from(name.client);
+            draw(&clients[client], name.client, &block, brush, device, shared);
+            take_back(clients, client, Effect::Block(block));
+        }
+        InBlock::Left => {
+            let client = usize::from(name.client);
+            let effect = issue_name(clients, scene, name)?;
+            let context = &clients[client].context;
+            carry_out(&effect, context.state(), context.private(), device, shared);
+            take_back(clients, client, effect);
+            brush.forget();
+        }
     }
-    let client = usize::from(name.client);
-    let effect = issue_name(clients, scene, name)?;
-    let context = &clients[client].context;
-    carry_out(&effect, context.state(), context.private(), device, shared);
-    take_back(clients, client, effect);
     Ok(())
 }
 
@@ -100,6 +146,7 @@ pub(crate) fn play(alloc: Global, scene: &Scene, order: &[Name]) -> Result<Playe
     let mut clients = clients_of(alloc, scene)?;
     let mut shared = SharedSet::new(alloc, &scene.decl.shared)?;
     let mut device = Device::new(alloc, window(&scene.decl))?;
+    let mut brush = Brush::new(&default_state(&scene.decl), &device);
     let mut frames = Frames::new(alloc);
     for name in order {
         let client = usize::from(name.client);
@@ -110,7 +157,14 @@ pub(crate) fn play(alloc: Global, scene: &Scene, order: &[Name]) -> Result<Playe
             &mut frames,
             clients[client].swaps,
         )?;
-        perform(&mut clients, scene, *name, &mut device, &mut shared)?;
+        perform(
+            &mut clients,
+            scene,
+            *name,
+            &mut brush,
+            &mut device,
+            &mut shared,
+        )?;
     }
     Ok(Played {
         clients,

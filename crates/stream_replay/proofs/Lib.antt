@@ -3,4 +3,4 @@ pub mod AcceptedSwaps
 pub mod ListsGoOn
 pub mod ClientsInTurn
 pub mod DeclaredOperations
-pub mod StillCommands
+pub mod BlockCommands

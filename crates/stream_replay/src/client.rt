@@ -1,11 +1,13 @@
 //! What is kept of a client while an order is carried out.
-ghost use Rattle.std.specs.Prelude.{◌≡◌, ℕ, ◌+◌, ◌<◌, length, true, false, IfOk, OnOk, OnErr};
+ghost use Rattle.std.specs.Prelude.{◌≡◌, ℕ, ◌+◌, ◌<◌, length, IfOk, OnOk, OnErr};
 ghost use Rattle.rc_base.specs.Formats.Within.{IsWithin};
 ghost use Rattle.rc_base.specs.Contexts.Issue.{stream_of, effect_at};
 ghost use Rattle.rc_base.specs.Drawing.Serial.{is_swap_effect};
-ghost use Rattle.stream_replay.specs.Clients.{client_after, first_clients, IsStill, StandsBefore, issued_by};
+ghost use Rattle.stream_replay.specs.Blocks.{ClientIsBehind, ClientsAreBehind, is_of_block_at, was_issued};
+ghost use Rattle.stream_replay.specs.Clients.{client_after, first_clients, StandsBefore, issued_by};
 
-use crate::replay::{issue_at, issue_still_at};
+use crate::in_block::InBlock;
+use crate::replay::{issue_at, issue_in_block_at};
 use gl_context::Context;
 use rc_base::out_of_memory::OutOfMemory;
 use rc_base::scene::Scene;
@@ -54,22 +56,21 @@ impl Client {
         Ok(effect)
     }
 
-    /// Issues the client's next command, where it is one that does nothing beyond its context. Whether it was issued.
+    /// Issues the client's next command, where it is one of a block.
     #[inline(always)]
-    fn issue_still(
+    fn issue_in_block(
         &mut self,
         scene: &Scene,
         client: usize,
         place: usize,
-    ) -> Result<bool, OutOfMemory>
+    ) -> Result<InBlock, OutOfMemory>
         requires within { IsWithin scene.now }
         requires inside { place < length (stream_of scene.now client) }
         requires before { self.old ≡ client_after scene.now client place }
-        ensures client { IfOk result (λ done. done ≡ true → self.new ≡ client_after scene.now client (place + 1)) }
-        ensures still { IfOk result (λ done. done ≡ true → IsStill (effect_at scene.now client place)) }
-        ensures left { IfOk result (λ done. done ≡ false → self.new ≡ self.old) }
+        ensures issued { IfOk result (ClientIsBehind scene.now client place self.old self.new) }
+        ensures exact { IfOk result (λ r. was_issued r ≡ is_of_block_at scene.now client place) }
     {
-        issue_still_at(&mut self.context, scene, client, place)
+        issue_in_block_at(&mut self.context, scene, client, place)
     }
 
     #[inline(always)]
@@ -108,22 +109,21 @@ pub fn issue_name(
     clients[usize::from(name.client)].issue(scene, usize::from(name.client), name.place as usize)
 }
 
-/// Issues the command of a name, the next one of its client, where it is a Vertex, a Color or a TexCoord, which do nothing beyond their client's
-/// context; another command is left alone. Whether it was issued.
+/// Issues the command of a name, the next one of its client, where it is one of a block: a Vertex, a Color, a TexCoord, and a Begin or an End that breaks
+/// no rule, which leave the client's state as it is. Another command is left alone.
 #[inline(always)]
-pub fn issue_still(
+pub fn issue_in_block(
     clients: &mut Vec<Client>,
     scene: &Scene,
     name: Name,
-) -> Result<bool, OutOfMemory>
+) -> Result<InBlock, OutOfMemory>
     requires within { IsWithin scene.now }
     requires inside { name.place < length (stream_of scene.now name.client) }
     requires before { StandsBefore scene.now clients.old.items name }
-    ensures clients { IfOk result (λ done. done ≡ true → clients.new.items ≡ issued_by scene.now clients.old.items name) }
-    ensures still { IfOk result (λ done. done ≡ true → IsStill (effect_at scene.now name.client name.place)) }
-    ensures left { IfOk result (λ done. done ≡ false → clients.new.items ≡ clients.old.items) }
+    ensures issued { IfOk result (ClientsAreBehind scene.now name clients.old.items clients.new.items) }
+    ensures exact { IfOk result (λ r. was_issued r ≡ is_of_block_at scene.now name.client name.place) }
 {
-    clients[usize::from(name.client)].issue_still(
+    clients[usize::from(name.client)].issue_in_block(
         scene,
         usize::from(name.client),
         name.place as usize,

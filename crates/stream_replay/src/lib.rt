@@ -7,7 +7,9 @@
 #![tactic(auto)]
 
 mod client;
+mod in_block;
 mod replay;
 
-pub use client::{Client, clients_of, issue_name, issue_still, take_back};
+pub use client::{Client, clients_of, issue_in_block, issue_name, take_back};
+pub use in_block::InBlock;
 pub use replay::{count_at, issue_at};

@@ -1,11 +1,13 @@
 //! Commands of a scene, issued by client and place.
-ghost use Rattle.std.specs.Prelude.{◌≡◌, ◌+◌, ◌<◌, length, true, false, Some, IfOk, OnOk, OnErr};
+ghost use Rattle.std.specs.Prelude.{◌≡◌, ◌+◌, ◌<◌, length, Some, IfOk, OnOk, OnErr};
 ghost use Rattle.rc_base.specs.Formats.Within.{IsWithin};
 ghost use Rattle.rc_base.specs.Contexts.Issue.{stream_of, command_at, context_after, effect_at};
 ghost use Rattle.gl_context.specs.Counted.{kind_of};
-ghost use Rattle.stream_replay.specs.Clients.{IsStill};
+ghost use Rattle.rc_base.specs.declared.command.Command.TheVariants as cmd;
+ghost use Rattle.stream_replay.specs.Blocks.{IsIssuedInBlock, is_of_block_at, was_issued};
 ghost use Rattle.stream_replay.specs.Counts.{counted_after};
 
+use crate::in_block::InBlock;
 use gl_context::{Context, CountingContext, EffectKind};
 use rc_base::command::Command;
 use rc_base::out_of_memory::OutOfMemory;
@@ -40,35 +42,72 @@ pub fn issue_at(
     context.issue(place as u32, command_at(scene, client, place))
 }
 
-/// The same of a Vertex, a Color or a TexCoord, which do nothing beyond their context; another command is left alone. Whether it was issued.
+// A Begin, issued where it breaks no rule.
 #[inline(always)]
-pub(crate) fn issue_still_at(
+fn begun(context: &mut Context, scene: &Scene, client: usize, place: usize, mode: u8) -> InBlock
+    requires at { command_at scene.now client place ≡ Some (cmd.Begin mode) }
+    requires before { context.old ≡ context_after scene.now client place }
+    ensures issued { IsIssuedInBlock scene.now client place context.new result }
+    ensures exact { was_issued result ≡ is_of_block_at scene.now client place }
+{
+    let _scene = scene;
+    let _client = client;
+    let _place = place;
+    if context.begin(mode) {
+        InBlock::Quiet
+    } else {
+        InBlock::Left
+    }
+}
+
+// An End, issued where a block is open.
+#[inline(always)]
+fn ended(context: &mut Context, scene: &Scene, client: usize, place: usize) -> InBlock
+    requires at { command_at scene.now client place ≡ Some cmd.End }
+    requires before { context.old ≡ context_after scene.now client place }
+    ensures issued { IsIssuedInBlock scene.now client place context.new result }
+    ensures exact { was_issued result ≡ is_of_block_at scene.now client place }
+{
+    let _scene = scene;
+    let _client = client;
+    let _place = place;
+    match context.end() {
+        Some(block) => InBlock::Draws(block),
+        None => InBlock::Left,
+    }
+}
+
+/// The same of a command of a block: a Vertex, a Color, a TexCoord, and a Begin or an End that breaks no rule, which leave the state as it is. Another
+/// command is left alone.
+#[inline(always)]
+pub(crate) fn issue_in_block_at(
     context: &mut Context,
     scene: &Scene,
     client: usize,
     place: usize,
-) -> Result<bool, OutOfMemory>
+) -> Result<InBlock, OutOfMemory>
     requires within { IsWithin scene.now }
     requires inside { place < length (stream_of scene.now client) }
     requires before { context.old ≡ context_after scene.now client place }
-    ensures context { IfOk result (λ done. done ≡ true → context.new ≡ context_after scene.now client (place + 1)) }
-    ensures still { IfOk result (λ done. done ≡ true → IsStill (effect_at scene.now client place)) }
-    ensures left { IfOk result (λ done. done ≡ false → context.new ≡ context.old) }
+    ensures issued { IfOk result (IsIssuedInBlock scene.now client place context.new) }
+    ensures exact { IfOk result (λ r. was_issued r ≡ is_of_block_at scene.now client place) }
 {
     match command_at(scene, client, place) {
         Command::Vertex { pos } => {
             context.vertex(place as u32, *pos)?;
-            Ok(true)
+            Ok(InBlock::Quiet)
         }
         Command::Color(color) => {
             context.color(*color);
-            Ok(true)
+            Ok(InBlock::Quiet)
         }
         Command::TexCoord { s, t } => {
             context.tex_coord(*s, *t);
-            Ok(true)
+            Ok(InBlock::Quiet)
         }
-        _ => Ok(false),
+        Command::Begin { mode } => Ok(begun(context, scene, client, place, *mode)),
+        Command::End => Ok(ended(context, scene, client, place)),
+        _ => Ok(InBlock::Left),
     }
 }
 

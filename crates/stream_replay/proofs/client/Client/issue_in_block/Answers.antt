@@ -1,0 +1,16 @@
+use Rattle.std.proofs.Common.{◌≡◌, ℕ, ◌∙◌, Result, Ok, Err, ap, sym}
+use Rattle.std.specs.Prelude.{IfOk}
+use Rattle.std.proofs.lemmas.Result.{IfOk-weaker}
+use Rattle.stream_replay.specs.Blocks.{ClientIsBehind, IsIssuedInBlock}
+use Rattle.stream_replay.proofs.BlockCommands.{client_behind}
+use Rattle.stream_replay.proofs.client.Client.issue_in_block.Goals as goal
+
+pub returns-clause-issued : goal.returns-clause-issued
+returns-clause-issued c =
+    let s = c.args.scene.now in
+    let client = c.args.client in
+    let place = c.args.place in
+    IfOk-weaker c.issue_in_block_at.result (IsIssuedInBlock s client place c.issue_in_block_at.new.context)
+    (ClientIsBehind s client place c.args.self.now (record c.args.self.now { context = c.issue_in_block_at.new.context }))
+    (λ r h. client_behind s client place c.args.self.now c.issue_in_block_at.new.context c.requires.before r h)
+    c.issue_in_block_at.ensures.issued
