@@ -5,6 +5,7 @@ pub mod PaintedOrders
 pub mod SwapsOfJournals
 pub mod ClearDepths
 pub mod DrawnCommands
+pub mod SettledBrushes
 pub mod PlayedOrders
 pub mod PermittedOrders
 pub mod AddedInTurn

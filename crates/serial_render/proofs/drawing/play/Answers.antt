@@ -1,29 +1,26 @@
 use Rattle.std.proofs.Common.{◌≡◌, ℕ, ◌+◌, List, Option, length, take, drop, ◌∙◌, ap, refl, sym, subst, arith}
 use Rattle.std.specs.Prelude.{slice_index_or, max}
+use Rattle.std.specs.Option.{option_map_or}
 use Rattle.std.proofs.lemmas.Option.{slice_get-get_or}
 use Rattle.rc_base.specs.Cluster.Tiles.{is_in_rect}
 use Rattle.rc_base.specs.Contexts.Issue.{context_after, effect_at}
-use Rattle.rc_base.specs.Drawing.PixelStep.{effect_step}
 use Rattle.rc_base.specs.Drawing.Serial.{textures_after, frame_pixel}
-use Rattle.rc_base.specs.Pictures.{Picture}
-use Rattle.rc_base.specs.declared.state.State.{State}
 use Rattle.rc_base.specs.declared.sync.Name.{Name}
 use Rattle.rc_base.specs.declared.window.Rect.{Rect}
-use Rattle.textures.specs.Images.{texture_image}
 use Rattle.textures.proofs.Stored.{blank}
 use Rattle.gl_context.proofs.ValidContexts.{valid}
-use Rattle.draw_device.specs.Conditions.{IsDrawable, IsClearable, shared_of}
 use Rattle.draw_device.specs.Devices.{pixel_of}
 use Rattle.order_model.proofs.ScenesWithinLimits.{within_has_sides}
 use Rattle.stream_replay.specs.Clients.{AreIssued, client_after}
 use Rattle.plain_lemmas.proofs.Lists.{read_is_item}
+use Rattle.serial_render.specs.Performed.{IsSettled}
 use Rattle.serial_render.specs.Shown.{IsShown, swaps_before}
 use Rattle.stream_replay.specs.declared.client.Client.{Client}
 use Rattle.serial_render.proofs.ClearDepths.{clearable}
 use Rattle.serial_render.proofs.DrawnCommands.{drawable, writable}
 use Rattle.stream_replay.proofs.IssuedCommands.{is_client}
 use Rattle.order_model.proofs.NamesInTurn.{order_at}
-use Rattle.stream_replay.proofs.ClientsInTurn.{first_clients, clients_next, client_before, client_now, some_command}
+use Rattle.stream_replay.proofs.ClientsInTurn.{first_clients, clients_next, client_before, some_command}
 use Rattle.serial_render.proofs.PlayedOrders.{first_shown, frames_due, shown_next, step_is, texels_after}
 use Rattle.serial_render.proofs.drawing.play.Goals as goal
 
@@ -36,6 +33,9 @@ loop-name-init c =
     record {
       clients = first_clients s c.in_ok-clients.clients.items c.in_ok-clients.ensures;
       texels = rw (c.in_ok-shared.ensures) (blank s);
+      settled = λ client x of at.
+          let no = ap {B = ℕ} (λ (o : Option ℕ). option_map_or (λ k. 1) o 0) (sym c.new-brush.ensures ∙ of) in
+          absurd (omega (arith, no));
       shown = first_shown s c.args.order.now c.in_ok-device.device c.new-frames.result (c.in_ok-device.ensures.rect ∙ c.window.ensures.sides)
           (λ x y inside. c.in_ok-device.ensures.blank x y (ap (λ (r : Rect). is_in_rect r x y) c.window.ensures.sides ∙ inside)) c.new-frames.ensures;
     }
@@ -113,6 +113,7 @@ loop-name-preserved c =
           (texels_after s done n e c.loop-name.shared c.perform.new.shared refl inv.texels
           (λ p is. writable s n.client n.place _ (textures_after s done) c.loop-name.shared p c.requires.within.commands (some_command s n.client n.place next.1) inv.texels is)
           c.in_ok-perform.ensures.shared);
+      settled = subst (λ (r : Rect). IsSettled ys r c.perform.new.brush) (sym c.in_ok-perform.ensures.rect) c.in_ok-perform.ensures.settled;
       shown = subst (λ (l : List Name). IsShown s order l c.perform.new.device new) (sym parts.1)
           (shown_next s order done rest n d c.perform.new.device old new c.requires.playable parts.0 inv.shown count images c.in_ok-perform.ensures.rect
           (λ x y inside. c.in_ok-perform.ensures.drawn x y inside

@@ -1,8 +1,7 @@
-use Rattle.std.proofs.Common.{◌≡◌, ℕ, ◌∙◌, ap, sym}
+use Rattle.std.proofs.Common.{◌≡◌, ℕ, ◌∙◌, ap}
 use Rattle.std.specs.Prelude.{slice_index_or, slice_set}
 use Rattle.std.proofs.lemmas.Result.{IfOk-weaker}
 use Rattle.stream_replay.specs.Blocks.{ClientIsBehind, ClientsAreBehind}
-use Rattle.stream_replay.specs.declared.client.Client.{Client}
 use Rattle.stream_replay.proofs.BlockCommands.{clients_behind}
 use Rattle.stream_replay.proofs.client.issue_in_block.Goals as goal
 

@@ -11,8 +11,7 @@ returns-then-begin-clause-issued c =
     let s = c.args.scene.now in
     let client = c.args.client in
     let place = c.args.place in
-    let command = cmd.Begin c.args.mode in
-    (
+    let command = cmd.Begin c.args.mode in (
       behind s client place command c.args.context.now c.begin.new.self c.requires.at c.requires.before (c.begin.ensures.issued c.if-begin.true place) refl,
       subst (λ (e : Effect). IsStill e) (sym (does s client place command c.requires.at)) (still_begin (context_after s client place) c.args.mode),
     )

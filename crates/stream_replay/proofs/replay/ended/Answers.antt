@@ -9,8 +9,7 @@ pub returns-in-Some-clause-issued : goal.returns-in-Some-clause-issued
 returns-in-Some-clause-issued c =
     let s = c.args.scene.now in
     let client = c.args.client in
-    let place = c.args.place in
-    (
+    let place = c.args.place in (
       behind s client place cmd.End c.args.context.now c.end.new.self c.requires.at c.requires.before (c.in-Some.ensures.issued place) refl,
       does s client place cmd.End c.requires.at ∙ ap (λ (x : ClientContext). effect_of x cmd.End) (sym c.requires.before) ∙ c.in-Some.ensures.effect,
     )

@@ -17,8 +17,7 @@ returns-in_ok-vertex-in-Vertex-clause-issued c =
     let client = c.args.client in
     let place = c.args.place in
     let command = cmd.Vertex c.in-Vertex.pos in
-    let at = c.command_at.ensures ∙ ap (λ (z : Command). Some z) c.in-Vertex.is in
-    (
+    let at = c.command_at.ensures ∙ ap (λ (z : Command). Some z) c.in-Vertex.is in (
       behind s client place command c.args.context.now c.vertex.new.self at c.requires.before c.in_ok-vertex-in-Vertex.ensures.ok refl,
       subst (λ (e : Effect). IsStill e) (sym (does s client place command at)) (still_vertex (context_after s client place) c.in-Vertex.pos),
     )
@@ -29,8 +28,7 @@ returns-in-Color-clause-issued c =
     let client = c.args.client in
     let place = c.args.place in
     let command = cmd.Color c.in-Color.color in
-    let at = c.command_at.ensures ∙ ap (λ (z : Command). Some z) c.in-Color.is in
-    (
+    let at = c.command_at.ensures ∙ ap (λ (z : Command). Some z) c.in-Color.is in (
       behind s client place command c.args.context.now c.color.new.self at c.requires.before (c.color.ensures place) refl,
       subst (λ (e : Effect). IsStill e) (sym (does s client place command at)) (still_color (context_after s client place) c.in-Color.color),
     )
@@ -44,8 +42,7 @@ returns-in-TexCoord-clause-issued c =
     let at = c.command_at.ensures ∙ ap (λ (z : Command). Some z) c.in-TexCoord.is in
     let low : FitsSigned w32 c.in-TexCoord.s = search rules in
     let high : FitsSigned w32 c.in-TexCoord.t = search rules in
-    let done = rw (to_z-of_z low, to_z-of_z high) at (c.tex_coord.ensures place) in
-    (
+    let done = rw (to_z-of_z low, to_z-of_z high) at (c.tex_coord.ensures place) in (
       behind s client place command c.args.context.now c.tex_coord.new.self at c.requires.before done refl,
       subst (λ (e : Effect). IsStill e) (sym (does s client place command at)) (still_coordinate (context_after s client place) c.in-TexCoord.s c.in-TexCoord.t),
     )

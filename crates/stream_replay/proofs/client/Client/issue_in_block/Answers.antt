@@ -1,5 +1,3 @@
-use Rattle.std.proofs.Common.{◌≡◌, ℕ, ◌∙◌, Result, Ok, Err, ap, sym}
-use Rattle.std.specs.Prelude.{IfOk}
 use Rattle.std.proofs.lemmas.Result.{IfOk-weaker}
 use Rattle.stream_replay.specs.Blocks.{ClientIsBehind, IsIssuedInBlock}
 use Rattle.stream_replay.proofs.BlockCommands.{client_behind}
