@@ -12,7 +12,8 @@ Each client begins with commands that set what it has set by then: matrices, ele
 window has what was drawn before and isn't cleared: frames before the first one are drawn where
 that is needed, and not shown. The scene that is read is bytes or a text, what is written is without
 call lists. Drawn by `serial`, the frames are those of the whole, byte for byte; by other jobs where
-the scene is ordered.
+the scene is ordered. A part from frame 0 on is each stream up to its last Swap there, and nothing
+else.
 """
 import argparse
 import re
@@ -135,14 +136,14 @@ class Part:
         """
         stream, refused = self.scene.streams[client], self.run.refused[client]
         hidden = set(self.run.swaps[client][self.drawn : self.first])
-        made, begun = [], None
+        made, begun, known = [], None, len(self.scene.barriers)
         for place in range(self.starts[client], self.ends[client]):
             one = stream[place]
             if place not in refused and one[0] in (BEGIN, END):
                 begun = len(made) if one[0] == BEGIN else None
             if place in hidden:
                 made += [placed("Barrier", barrier)] if len(self.scene.streams) > 1 else []
-            elif place not in refused or one[0] != BARRIER or not 1 <= one[1][0] <= declared:
+            elif place not in refused or one[0] != BARRIER or not known < one[1][0] <= declared:
                 made.append(one)
         return made[:begun]
 

@@ -246,6 +246,31 @@ def try_random(seed, count=30):
     same(f"cut.py: {count} random films", wrong, [])
 
 
+# ---- the first frames
+
+
+def try_fronts(seed, count=30):
+    """The first frames are each stream up to its Swap there, as it was declared: the `front` of
+    docs/synchronisation.md.
+    """
+    pick, wrong = random.Random(seed), []
+    scenes = [scene_text.read_any(path.read_bytes(), [])[0] for path in EXAMPLES.glob("*.rcs")]
+    for number, scene in enumerate(scenes + [any_film(pick) for _ in range(count)]):
+        found = orders.Run(scene)
+        for end in range(1, len(found.swaps[0]) + 1):
+            made = cut.cut_frames(found, 0, end)[0]
+            pairs = zip(scene.streams, found.swaps)
+            streams = [stream[: swaps[end - 1] + 1] for stream, swaps in pairs]
+            if made.streams != streams or declared(made) != declared(scene):
+                wrong.append((number, end))
+    same("cut.py: the first frames are the streams up to there", wrong, [])
+
+
+def declared(scene):
+    window = scene.version, scene.width, scene.height
+    return window, scene.shared, scene.barriers, scene.semaphores
+
+
 # ---- words
 
 
@@ -278,6 +303,7 @@ def try_words(folder):
 
 def try_all(folder):
     try_words(folder)
+    try_fronts(7)
 
 
 def try_by_program(_, seed):
