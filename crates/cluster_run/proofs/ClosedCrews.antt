@@ -33,6 +33,7 @@ use Rattle.cluster_run.specs.Apart.{AreOfClients, AreOfTiles}
 use Rattle.cluster_run.specs.Clusters.{LaneNames, IsEndedCluster}
 use Rattle.cluster_run.specs.Serving.{shown_in_lanes}
 use Rattle.cluster_run.specs.Tiles.{parts_of}
+use Rattle.cluster_run.specs.Workers.{AreOrderly}
 use Rattle.cluster_run.specs.declared.cores.ClientParts.{ClientParts}
 use Rattle.cluster_run.specs.declared.cores.TileParts.{TileParts}
 use Rattle.cluster_run.specs.declared.workers.ClientWorker.{ClientWorker}
@@ -230,6 +231,20 @@ module _ {R : Type 0} (scene : Scene) (l : Layout) (names : LaneNames) (tasks : 
               (ended.clients_end c w low) ((ended.client c w low).clause sender);
           ample = core.ample;
         }
+
+    pub orderly : AreOrderly (length scene.streams) (tile_count l) tasks
+    orderly = record {
+      parcels = λ c t w v a b low t_low.
+          subst (λ (x : Column R × Row R). IsFront (taken_of (slice_index_or x.0.items c b)) (sent_of (slice_index_or x.1.items t a)))
+          (λ i. (tiles.columns_are.at t v a_column (tile_low t t_low) i, clients.rows_are.at c w a_row (client_low c low) i))
+          (parcel_fronts c t a_row a_column a b (let n = row_total in omega (arith, n, low)) (let n = column_total in omega (arith, n, t_low)));
+      requests = λ c w b low.
+          subst (λ (a : LaneIn Request R). IsFront (taken_of (slice_index_or requests c b)) (sent_of a)) (clients.requests_are.at c w asker (client_low c low))
+          (request_fronts.at c asker b (let n = asking_into.size in omega (arith, n, low)));
+      grants = λ t v a low.
+          subst (λ (b : LaneOut Grant R). IsFront (taken_of b) (sent_of (slice_index_or grants t a))) (tiles.grants_are.at t v hearer (tile_low t low))
+          (grant_fronts.at t a hearer (let n = ended.manager.grants_are.size in omega (arith, n, low)));
+    }
 
     -- what was sent by the lane of a tile's parts is all that it has shown
     shown_is : (t : ℕ) (w : Task (TileWorker R)) → t < tile_count l → shown_in_lanes of_tiles.parts.items t ≡ parts_of (slice_index_or tasks.tiles.items t w).worker

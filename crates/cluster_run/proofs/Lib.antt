@@ -7,3 +7,6 @@ mod Apart
 mod ClosedCrews
 mod Runs
 mod Serving
+mod Turns
+mod Grown
+mod WorkersTurned

@@ -25,6 +25,7 @@ use Rattle.cluster_run.specs.Managers.{IsManagerWorker}
 use Rattle.cluster_run.specs.Tiles.{IsTileWorker, parts_of}
 use Rattle.cluster_run.specs.Clusters.{LaneNames, AreSoDeep, IsCluster}
 use Rattle.cluster_run.specs.NewWorkers.{AreNewClients, AreNewTiles, AreUntaken, IsNewManager}
+use Rattle.cluster_run.specs.Workers.{AreUnused}
 use Rattle.cluster_run.specs.declared.workers.ClientWorker.{ClientWorker}
 use Rattle.cluster_run.specs.declared.workers.ManagerWorker.{ManagerWorker}
 use Rattle.cluster_run.specs.declared.workers.TileWorker.{TileWorker}
@@ -179,7 +180,35 @@ module _ {R : Type 0} (scene : Scene) (l : Layout) (depth : ℕ) (ins : List (Ve
         (tiles.parts_are.at t a_tile (some_item parts.items t (let n = tiles.parts_are.count in omega (arith, n, in_crew))) in_crew).deep;
   }
 
-  pub new_crew_is : (names : LaneNames) × IsCluster scene l names crew × AreUntaken (tile_count l) names.parts parts.items × AreSoDeep (length scene.streams) (tile_count l) depth names
+  unused : AreUnused (length scene.streams) (tile_count l) crew
+  unused = record {
+    unsent = λ c t w d low below.
+        let in_rows : c < length ins = (let n = grid.rows in omega (arith, n, low)) in
+        subst (λ (v : Vec (LaneIn Parcel R) Global). sent_of (get_or v.items t d) ≡ []) (sym (clients.workers_are.at c a_row w in_rows).tiles_are)
+        (grid.fresh c t a_row a_column d a_receiver low below).unsent;
+    unasked = λ c w low.
+        let in_crew : c < length crew.clients.items = omega (arith, client_total, low) in
+        (clients.requests_are.at c w (some_item requests.items c (let n = clients.requests_are.count in omega (arith, n, in_crew))) in_crew).unsent;
+    unreceived = λ c b low.
+        subst (λ (v : Vec (LaneOut Request R) Global). taken_of (get_or v.items c b) ≡ []) (sym manager.requests_are)
+        (clients.requests_are.at c a_client b (omega (arith, client_total, low))).untaken;
+    ungranted = λ t a low.
+        subst (λ (v : Vec (LaneIn Grant R) Global). sent_of (get_or v.items t a) ≡ []) (sym manager.grants_are)
+        (tiles.grants_are.at t a_tile a (omega (arith, tile_total, low))).unsent;
+    untaken = λ t c w b low below.
+        let in_columns : t < length outs = (let n = grid.columns in omega (arith, n, low)) in
+        subst (λ (v : Vec (LaneOut Parcel R) Global). taken_of (get_or v.items c b) ≡ []) (sym (tiles.workers_are.at t a_column w in_columns).clients_are)
+        (grid.fresh c t a_row a_column a_sender b below low).untaken;
+    unheard = λ t w low.
+        let in_crew : t < length crew.tiles.items = omega (arith, tile_total, low) in
+        (tiles.grants_are.at t w (some_item grants.items t (let n = tiles.grants_are.count in omega (arith, n, in_crew))) in_crew).untaken;
+    unshown = λ t w low.
+        let in_crew : t < length crew.tiles.items = omega (arith, tile_total, low) in
+        (tiles.parts_are.at t w (some_item parts.items t (let n = tiles.parts_are.count in omega (arith, n, in_crew))) in_crew).unsent;
+  }
+
+  pub new_crew_is : (names : LaneNames) × IsCluster scene l names crew × AreUntaken (tile_count l) names.parts parts.items
+      × AreSoDeep (length scene.streams) (tile_count l) depth names × AreUnused (length scene.streams) (tile_count l) crew
   new_crew_is = (
     names_of,
     record {
@@ -191,4 +220,5 @@ module _ {R : Type 0} (scene : Scene) (l : Layout) (depth : ℕ) (ins : List (Ve
     },
     untaken_parts,
     so_deep,
+    unused,
   )

@@ -18,7 +18,7 @@ use Rattle.frame_out.specs.OnTheWay.{GivesOne, GoesOn, HasWritten, IsMissing, Is
 use Rattle.frame_out.specs.declared.on_the_way.FrameWriter.{FrameWriter}
 use Rattle.tile_queues.specs.Grids.{AreJoined}
 use Rattle.tile_queues.specs.Names.{AreOutOf}
-use Rattle.tile_queues.specs.Ends.{lane_out, sent_of, sent_in, taken_in, taken_of, rest_of}
+use Rattle.tile_queues.specs.Ends.{lane_out, sent_of, sent_in, taken_in, taken_of, rest_of, Took, TookNone}
 use Rattle.tile_queues.specs.declared.ends.LaneIn.{LaneIn}
 use Rattle.tile_queues.specs.declared.ends.LaneOut.{LaneOut}
 use Rattle.tile_queues.specs.declared.ends.Rest.{Rest}
@@ -56,12 +56,12 @@ module _ {R K : Type 0} (held : K → Option (List ℕ)) (faults : K → ℕ) (w
     (layout : layout_of w'.assembler ≡ layout_of w.assembler) (later : faults image ≤ faults image') where
   -- with lanes
   pub lanes_served : (xs ys : List (LaneOut TilePart R)) → EachLane (λ i a b. lane_out b ≡ lane_out a) xs ys
-      → GoesOn (λ a x b. taken_of b ≡ taken_of a ++ x ∷ []) (λ a b. taken_of b ≡ taken_of a) (use_of held faults) w xs image w' ys image'
+      → GoesOn Took TookNone (use_of held faults) w xs image w' ys image'
       → HasServed lane_out taken_of held faults w xs image w' ys image'
   lanes_served xs ys same on = record {
     layout = layout;
     same = same;
-    goes_on = λ l start d h. on taken_of l start d (record { grows = λ a b x e. e; stays = λ a b e. e }) h;
+    goes_on = λ l start d h. on taken_of l start d (record { grows = λ a b x e. e.0; stays = λ a b e. e.0 }) h;
     later = later;
   }
 

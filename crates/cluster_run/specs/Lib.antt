@@ -1,5 +1,6 @@
 pub mod Attempts
 pub mod Steps
+pub mod Turns
 pub mod Clients
 pub mod Managers
 pub mod Tiles
@@ -7,5 +8,6 @@ pub mod Clusters
 pub mod NewWorkers
 pub mod Coreless
 pub mod Apart
+pub mod Workers
 pub mod Fronts
 pub mod Serving

@@ -12,7 +12,7 @@ use Rattle.assembler.specs.Places.{in_place}
 use Rattle.frame_out.specs.OnTheWay.{HasWritten, IsOnTheWay}
 use Rattle.frame_out.specs.declared.on_the_way.FrameWriter.{FrameWriter}
 use Rattle.frame_out.specs.declared.writing.Written.{Written}
-use Rattle.tile_queues.specs.Ends.{sent_in, sent_of, taken_in, taken_of, lane_out}
+use Rattle.tile_queues.specs.Ends.{empties_of, sent_in, sent_of, taken_in, taken_of, lane_out, Took, TookNone}
 use Rattle.tile_queues.specs.declared.ends.LaneIn.{LaneIn}
 use Rattle.tile_queues.specs.declared.ends.LaneOut.{LaneOut}
 use Rattle.tile_queues.specs.declared.ends.Rest.{Rest}
@@ -36,8 +36,7 @@ module _ {I K A : Type 0} (fixed : I → A) (taken : I → List TilePart) (held 
 -- A turn has taken at most one part of each tile whose part of the next frame was missing, and tells whether that completed the frame: of what lanes held,
 abbrev pub HasAdvanced : {R : Type 0} → FrameWriter → List (LaneOut TilePart R) → Bool → FrameWriter → List (LaneOut TilePart R) → Type 0
 HasAdvanced {R} before lanes completed after lanes' =
-    Advances (λ (a : LaneOut TilePart R) part b. taken_of b ≡ taken_of a ++ part ∷ []) (λ a b. taken_of b ≡ taken_of a) (λ a. a.empty_seen) (λ _. ⊤)
-    before.assembler lanes lanes' completed after.assembler
+    Advances (λ (a : LaneOut TilePart R) part b. Took a part b) (λ a b. TookNone a b) (λ a. empties_of a) (λ _. ⊤) before.assembler lanes lanes' completed after.assembler
 
 -- and of what is left of them
 abbrev pub HasAdvancedByRests : {R : Type 0} → FrameWriter → List (Rest TilePart R) → Bool → FrameWriter → List (Rest TilePart R) → Type 0

@@ -4,7 +4,8 @@ ghost use Rattle.rc_base.specs.declared.cluster.ClientMoved.TheVariants as moved
 ghost use Rattle.worker_crew.specs.declared.worker.Attempt.TheVariants as attempt;
 ghost use Rattle.cluster_run.specs.Attempts.{client_attempt};
 ghost use Rattle.cluster_run.specs.Clients.{ClientLeads};
-ghost use Rattle.cluster_run.specs.Steps.{IsClientTurn};
+ghost use Rattle.cluster_run.specs.Steps.{IsClientTurn, client_came};
+ghost use Rattle.cluster_run.specs.Turns.{IsTurn, TurnsGoOn};
 
 use crate::workers::{ClientWorker, has_ended};
 use client_issue::laws::clients_meet_their_clause_over_lanes;
@@ -35,8 +36,9 @@ fn attempt_of(answer: Result<ClientMoved, OutOfMemory>) -> Attempt
 impl<R: Wait> ClientWorker<R> {
     /// Tries one step of the core over the worker's own lanes.
     fn advance(&mut self) -> Attempt
-        ensures steps { IsClientTurn self.old result self.new }
+        ensures steps { IsTurn IsClientTurn client_came self.old result self.new }
         ensures leads { ClientLeads self.old self.new }
+        ensures turns { TurnsGoOn IsClientTurn self.old self.new }
         ensures ended { result ≡ attempt.Ended → self.new.ended ≡ true }
     {
         clients_meet_their_clause_over_lanes::<LaneIn<Packed, R>, LaneIn<Request, R>>();
@@ -51,19 +53,20 @@ impl<R: Wait> Worker for ClientWorker<R> {
     ghost use Rattle.std.specs.Prelude.{◌≡◌, true};
     ghost use Rattle.rc_base.specs.declared.gate.Actor.TheVariants as actor;
     ghost use Rattle.cluster_run.specs.Clients.{ClientLeads};
-    ghost use Rattle.cluster_run.specs.Steps.{IsClientTurn};
+    ghost use Rattle.cluster_run.specs.Steps.{IsClientTurn, client_came};
+    ghost use Rattle.cluster_run.specs.Turns.{IsTurn, TurnsGoOn};
 
-    ghost leads = { ClientLeads };
+    ghost leads = { λ a b. ClientLeads a b × TurnsGoOn IsClientTurn a b };
 
     ghost over = { λ w. w.ended ≡ true };
 
     ghost who = { λ w. actor.Client w.number };
 
-    ghost steps = { IsClientTurn };
+    ghost steps = { IsTurn IsClientTurn client_came };
 
-    ghost stays = { λ a scene l client sent asked h. h };
+    ghost stays = { λ a. ((λ scene l client sent asked h. h), (λ first h. h)) };
 
-    ghost goes_on = { λ a b c f g scene l client sent asked h. g scene l client sent asked (f scene l client sent asked h) };
+    ghost goes_on = { λ a b c f g. ((λ scene l client sent asked h. g.0 scene l client sent asked (f.0 scene l client sent asked h)), (λ first h. g.1 first (f.1 first h))) };
 
     fn actor(&self) -> Actor {
         Actor::Client(self.number)

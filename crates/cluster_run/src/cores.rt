@@ -1,5 +1,5 @@
 //! A crew that has ended, taken apart: its lanes are closed, and what is left is its cores and the tiles' ends of the lanes of parts.
-ghost use Rattle.std.specs.Prelude.{◌<◌, vec_len, IfOk};
+ghost use Rattle.std.specs.Prelude.{◌≡◌, ◌<◌, length, vec_len, IfOk, OnOk};
 ghost use Rattle.rc_base.specs.declared.scene.Scene.{Scene};
 ghost use Rattle.rc_base.specs.declared.window.Layout.{Layout};
 ghost use Rattle.rc_base.specs.Cluster.Tiles.{tile_count};
@@ -8,6 +8,7 @@ ghost use Rattle.tile_queues.specs.Names.{AreInto};
 ghost use Rattle.cluster_run.specs.Apart.{AreOfClients, AreOfTiles};
 ghost use Rattle.cluster_run.specs.Clusters.{LaneNames, IsEndedCluster};
 ghost use Rattle.cluster_run.specs.Serving.{shown_in_lanes};
+ghost use Rattle.cluster_run.specs.Workers.{AreCoresOf, AreOrderly};
 
 use crate::workers::{ClientWorker, ManagerWorker, TileWorker};
 use client_issue::ClientCore;
@@ -127,6 +128,9 @@ pub(crate) fn cores_of<R: Copy>(
     requires ended { (scene : Scene) × (l : Layout) × (names : LaneNames) × IsEndedCluster scene l names crew }
     ensures closed { (scene : Scene) (l : Layout) (names : LaneNames) → IsEndedCluster scene l names crew
         → IfOk result (λ c. AreClosed scene l c.clients.items c.manager c.tiles.items (shown_in_lanes c.parts.items)) }
+    ensures orderly { (scene : Scene) (l : Layout) (names : LaneNames) → IsEndedCluster scene l names crew
+        → OnOk result (AreOrderly (length scene.streams) (tile_count l) crew) }
+    ensures cores { IfOk result (λ c. (c.manager ≡ crew.manager.worker.core) × AreCoresOf crew c.clients.items c.tiles.items) }
     ensures parts { (scene : Scene) (l : Layout) (names : LaneNames) → IsEndedCluster scene l names crew
         → IfOk result (λ c. AreInto (tile_count l) names.parts c.parts.items) }
 {

@@ -4,7 +4,8 @@ ghost use Rattle.rc_base.specs.declared.cluster.ManagerMoved.TheVariants as move
 ghost use Rattle.worker_crew.specs.declared.worker.Attempt.TheVariants as attempt;
 ghost use Rattle.cluster_run.specs.Attempts.{manager_attempt};
 ghost use Rattle.cluster_run.specs.Managers.{ManagerLeads};
-ghost use Rattle.cluster_run.specs.Steps.{IsManagerTurn};
+ghost use Rattle.cluster_run.specs.Steps.{IsManagerTurn, manager_came};
+ghost use Rattle.cluster_run.specs.Turns.{IsTurn, TurnsGoOn};
 
 use crate::workers::{ManagerWorker, has_ended};
 use rc_base::cluster::ManagerMoved;
@@ -36,8 +37,9 @@ fn attempt_of(answer: Result<ManagerMoved, OutOfMemory>) -> Attempt
 impl<R: Wait> ManagerWorker<R> {
     /// Tries one step of the core over the worker's own lanes.
     fn advance(&mut self) -> Attempt
-        ensures steps { IsManagerTurn self.old result self.new }
+        ensures steps { IsTurn IsManagerTurn manager_came self.old result self.new }
         ensures leads { ManagerLeads self.old self.new }
+        ensures turns { TurnsGoOn IsManagerTurn self.old self.new }
         ensures ended { result ≡ attempt.Ended → self.new.ended ≡ true }
     {
         managers_meet_their_clause_over_lanes::<LaneOut<Request, R>, LaneIn<Grant, R>>();
@@ -52,19 +54,20 @@ impl<R: Wait> Worker for ManagerWorker<R> {
     ghost use Rattle.std.specs.Prelude.{◌≡◌, true};
     ghost use Rattle.rc_base.specs.declared.gate.Actor.TheVariants as actor;
     ghost use Rattle.cluster_run.specs.Managers.{ManagerLeads};
-    ghost use Rattle.cluster_run.specs.Steps.{IsManagerTurn};
+    ghost use Rattle.cluster_run.specs.Steps.{IsManagerTurn, manager_came};
+    ghost use Rattle.cluster_run.specs.Turns.{IsTurn, TurnsGoOn};
 
-    ghost leads = { ManagerLeads };
+    ghost leads = { λ a b. ManagerLeads a b × TurnsGoOn IsManagerTurn a b };
 
     ghost over = { λ w. w.ended ≡ true };
 
     ghost who = { λ w. actor.Manager };
 
-    ghost steps = { IsManagerTurn };
+    ghost steps = { IsTurn IsManagerTurn manager_came };
 
-    ghost stays = { λ a syncs tiles asked granted h. h };
+    ghost stays = { λ a. ((λ syncs tiles asked granted h. h), (λ first h. h)) };
 
-    ghost goes_on = { λ a b c f g syncs tiles asked granted h. g syncs tiles asked granted (f syncs tiles asked granted h) };
+    ghost goes_on = { λ a b c f g. ((λ syncs tiles asked granted h. g.0 syncs tiles asked granted (f.0 syncs tiles asked granted h)), (λ first h. g.1 first (f.1 first h))) };
 
     fn actor(&self) -> Actor {
         Actor::Manager

@@ -1,12 +1,14 @@
 //! A run of the cluster on threads.
-ghost use Rattle.std.specs.Prelude.{◌≡◌, ◌<◌, ◌≤◌, ℕ, false, List, length, vec_len, slice_index_or, IfOk, OnErr};
+ghost use Rattle.std.specs.Prelude.{◌≡◌, ◌<◌, ◌≤◌, ℕ, false, List, length, vec_len, slice_index_or, IfOk, OnErr, OnOk};
 ghost use Rattle.rc_base.specs.Cluster.Tiles.{tile_count};
 ghost use Rattle.rc_base.specs.Formats.Within.{IsWithin, IsLayoutFor};
 ghost use Rattle.rc_base.specs.Outside.Ends.{use_of};
 ghost use Rattle.rc_base.specs.declared.cluster.TilePart.{TilePart};
 ghost use Rattle.order_model.specs.Report.{image_text_of};
 ghost use Rattle.run_record.specs.Closed.{AreClosed};
-ghost use Rattle.run_record.specs.Collected.{IsWholeRun};
+ghost use Rattle.client_issue.specs.declared.client.ClientCore.{ClientCore};
+ghost use Rattle.tile_server.specs.declared.tile_core.TileCore.{TileCore};
+ghost use Rattle.run_record.specs.Collected.{AreCollected, IsWholeRun};
 ghost use Rattle.run_record.specs.Told.{IsRun};
 ghost use Rattle.frame_out.specs.Laws.{HasWindow};
 ghost use Rattle.frame_out.specs.Writing.{IsCounted, IsTextWritten};
@@ -14,6 +16,7 @@ ghost use Rattle.tile_queues.specs.Names.{AreOutOf};
 ghost use Rattle.cluster_run.specs.Clusters.{LaneNames, IsEndedCluster};
 ghost use Rattle.cluster_run.specs.Fronts.{GaveFront};
 ghost use Rattle.cluster_run.specs.Serving.{IsSince};
+ghost use Rattle.cluster_run.specs.Workers.{AreCoresOf, AreOrderly, IsRunOfWorkers};
 
 use crate::cores::{Cores, cores_of};
 use crate::crew::{NewCrew, new_crew};
@@ -62,8 +65,9 @@ fn gather(
     tiles: Vec<TileCore>,
 ) -> Result<Collected, OutOfMemory>
     requires { IsWithin scene.now }
-    ensures { (shown : ℕ → List TilePart) → AreClosed scene.now layout.now clients.items manager tiles.items shown
+    ensures whole { (shown : ℕ → List TilePart) → AreClosed scene.now layout.now clients.items manager tiles.items shown
         → IfOk result (λ c. IsWholeRun scene.now layout.now c.kept c.tallies c.waiting c.faults shown) }
+    ensures collected { IfOk result (λ c. AreCollected scene.now.decl clients.items manager tiles.items c.kept c.tallies c.waiting c.faults) }
 {
     scenes_within_limits();
     closed_runs_are_lawful();
@@ -89,6 +93,8 @@ fn complete<K: Sink, R: Wait + Copy>(
         → IfOk result (λ r. IsCounted (use_of K.held K.faults start image.new) (image_text_of scene.now layout.now r.kept) r.written) }
     ensures front { (start : K) → IsSince K.held K.faults layout.now start frames image.old → GaveFront layout.now (use_of K.held K.faults start image.new) }
     ensures later { K.faults image.old ≤ K.faults image.new }
+    ensures orderly { OnOk result (AreOrderly (length scene.now.streams) (tile_count layout.now) ended) }
+    ensures collected { IfOk result (λ r. (clients : List ClientCore) × (tiles : List TileCore) × AreCoresOf ended clients tiles × AreCollected scene.now.decl clients ended.manager.worker.core tiles r.kept r.tallies r.waiting r.faults) }
 {
     named_ends_are_paired::<TilePart, R>();
     frames_of_scenes_are_writable();
@@ -137,6 +143,7 @@ where
     ensures counted { IfOk result (λ r. r.written.fault ≡ false → r.written.bytes ≡ length (image_text_of scene.now layout.now r.kept)) }
     ensures front { OnErr result (GaveFront layout.now (use_of K.held K.faults image.old image.new)) }
     ensures later { K.faults image.old ≤ K.faults image.new }
+    ensures workers { IfOk result (λ r. IsRunOfWorkers R scene.now layout.now depth r.kept r.tallies r.waiting r.faults) }
 {
     scenes_within_limits();
     clusters_end::<R>();

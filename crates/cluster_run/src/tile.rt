@@ -6,8 +6,9 @@ ghost use Rattle.tile_server.specs.Clauses.{shown_in};
 ghost use Rattle.tile_queues.specs.Ends.{sent_of, lane_in};
 ghost use Rattle.worker_crew.specs.declared.worker.Attempt.TheVariants as attempt;
 ghost use Rattle.cluster_run.specs.Attempts.{tile_attempt};
-ghost use Rattle.cluster_run.specs.Steps.{IsTileTurn};
+ghost use Rattle.cluster_run.specs.Steps.{IsPut, IsTileTurn, tile_came};
 ghost use Rattle.cluster_run.specs.Tiles.{TileLeads};
+ghost use Rattle.cluster_run.specs.Turns.{IsTurn, TurnsGoOn};
 
 use crate::workers::{TileWorker, has_ended};
 use parcel_bytes::Packed;
@@ -60,6 +61,7 @@ fn offered(alloc: Global, tile: u8, answer: Result<TileMoved, OutOfMemory>) -> O
 
 /// Sends the part that waits. Whether none waits any more.
 fn put_held<R: Wait>(parts: &mut LaneIn<TilePart, R>, held: &mut Option<TilePart>) -> bool
+    ensures handed { IsPut held.old result parts.old parts.new held.new }
     ensures lane { lane_in parts.new ≡ lane_in parts.old }
     ensures kept { sent_of parts.new ++ option_to_list held.new ≡ sent_of parts.old ++ option_to_list held.old }
     ensures put { result ≡ true → held.new ≡ None }
@@ -82,8 +84,9 @@ impl<R: Wait> TileWorker<R> {
     /// Tries one step of the core over the worker's own lanes, and sends the part that it shows. While a part waits from before, a step sends it and does
     /// nothing else.
     fn advance(&mut self) -> Attempt
-        ensures steps { IsTileTurn self.old result self.new }
+        ensures steps { IsTurn IsTileTurn tile_came self.old result self.new }
         ensures leads { TileLeads self.old self.new }
+        ensures turns { TurnsGoOn IsTileTurn self.old self.new }
         ensures ended { result ≡ attempt.Ended → self.new.ended ≡ true }
     {
         tiles_meet_their_clause_over_lanes::<LaneOut<Packed, R>, LaneOut<Grant, R>>();
@@ -106,20 +109,21 @@ impl<R: Wait> TileWorker<R> {
 impl<R: Wait> Worker for TileWorker<R> {
     ghost use Rattle.std.specs.Prelude.{◌≡◌, true};
     ghost use Rattle.rc_base.specs.declared.gate.Actor.TheVariants as actor;
-    ghost use Rattle.cluster_run.specs.Steps.{IsTileTurn};
+    ghost use Rattle.cluster_run.specs.Steps.{IsTileTurn, tile_came};
     ghost use Rattle.cluster_run.specs.Tiles.{TileLeads};
+    ghost use Rattle.cluster_run.specs.Turns.{IsTurn, TurnsGoOn};
 
-    ghost leads = { TileLeads };
+    ghost leads = { λ a b. TileLeads a b × TurnsGoOn IsTileTurn a b };
 
     ghost over = { λ w. w.ended ≡ true };
 
     ghost who = { λ w. actor.Tile w.number };
 
-    ghost steps = { IsTileTurn };
+    ghost steps = { IsTurn IsTileTurn tile_came };
 
-    ghost stays = { λ a scene l tile took heard shown h. h };
+    ghost stays = { λ a. ((λ scene l tile took heard shown h. h), (λ first h. h)) };
 
-    ghost goes_on = { λ a b c f g scene l tile took heard shown h. g scene l tile took heard shown (f scene l tile took heard shown h) };
+    ghost goes_on = { λ a b c f g. ((λ scene l tile took heard shown h. g.0 scene l tile took heard shown (f.0 scene l tile took heard shown h)), (λ first h. g.1 first (f.1 first h))) };
 
     fn actor(&self) -> Actor {
         Actor::Tile(self.number)

@@ -10,6 +10,7 @@ ghost use Rattle.rc_base.specs.declared.window.Layout.{Layout};
 ghost use Rattle.cluster_run.specs.Clusters.{HasRun};
 ghost use Rattle.cluster_run.specs.Fronts.{GaveFront};
 ghost use Rattle.cluster_run.specs.Serving.{HasAdvanced, HasAdvancedByRests, HasFinished, IsServed, IsSince, KeepsServed, shown_in_lanes};
+ghost use Rattle.cluster_run.specs.Workers.{HaveGoneOn};
 
 use crate::on_the_way::OnTheWay;
 use crate::workers::{ClientWorker, ManagerWorker, TileWorker};
@@ -83,6 +84,7 @@ pub(crate) fn run_crew<G: Gate, K: Sink, R>(
 where
     R: Threads + Wait + Copy + Send + Sync + Drop,
     ensures ended { IfOk result (λ tasks. HasRun crew tasks) }
+    ensures turned { IfOk result (λ tasks. HaveGoneOn crew tasks) }
     ensures served { IsServed K.held K.faults frames.old image.old frames.new image.new }
 {
     let mut kept = None;

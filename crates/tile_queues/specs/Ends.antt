@@ -1,10 +1,15 @@
 -- What a clause says of the ends of a lane.
-use Rattle.std.specs.Prelude.{ℕ, List, slice_index}
+use Rattle.std.specs.Prelude.{◌≡◌, ℕ, ◌≤◌, ◌⊎◌, List, [], ◌∷◌, ◌++◌, length, slice_index}
 use Rattle.crossbeam_queue.specs.Passes.{view}
+use Rattle.rc_base.specs.Outside.Causes.{risen}
 use Rattle.tile_queues.specs.Rule.{left_of, lane_name}
 use Rattle.tile_queues.specs.declared.ends.LaneIn.{LaneIn}
 use Rattle.tile_queues.specs.declared.ends.LaneOut.{LaneOut}
 use Rattle.tile_queues.specs.declared.ends.Rest.{Rest}
+
+-- how many items a lane holds at most
+abbrev pub lane_depth : List ℕ → ℕ
+lane_depth lane = slice_index lane 0
 
 module _ {T R : Type 0} where
   -- all that was ever pushed
@@ -39,6 +44,22 @@ module _ {T R : Type 0} where
   abbrev pub rest_of : Rest T R → List T
   rest_of r = left_of (view r.pass)
 
--- how many items a lane holds at most
-abbrev pub lane_depth : List ℕ → ℕ
-lane_depth lane = slice_index lane 0
+  -- how often a sending end found its lane full
+  abbrev pub fulls_of : LaneIn T R → ℕ
+  fulls_of a = a.full_seen
+
+  -- how often a receiving end found its lane empty
+  abbrev pub empties_of : LaneOut T R → ℕ
+  empties_of b = b.empty_seen
+
+  -- what the sending end of a full lane knows of it: as many items were sent as it holds
+  abbrev pub MayBeFull : LaneIn T R → Type 0
+  MayBeFull a = lane_depth (lane_in a) ≤ length (sent_of a)
+
+  -- a receiving end took this item, and didn't find its lane empty
+  abbrev pub Took : LaneOut T R → T → LaneOut T R → Type 0
+  Took b x c = (taken_of c ≡ taken_of b ++ x ∷ []) × (empties_of c ≡ empties_of b)
+
+  -- it took none: it wasn't asked, or found its lane empty, which it counted once
+  abbrev pub TookNone : LaneOut T R → LaneOut T R → Type 0
+  TookNone b c = (taken_of c ≡ taken_of b) × ((empties_of c ≡ empties_of b) ⊎ (empties_of c ≡ risen (empties_of b)))

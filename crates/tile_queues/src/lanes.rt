@@ -90,16 +90,15 @@ impl<T, R> LaneIn<T, R> {
 }
 
 impl<T: Drop, R: Wait> Outlet<T> for LaneIn<T, R> {
-    ghost use Rattle.std.specs.Prelude.{◌≤◌, length};
-    ghost use Rattle.tile_queues.specs.Ends.{sent_of, lane_in, lane_depth};
+    ghost use Rattle.tile_queues.specs.Ends.{sent_of, fulls_of, lane_in, MayBeFull};
 
     ghost sent = { sent_of };
 
-    ghost full_seen = { λ a. a.full_seen };
+    ghost full_seen = { fulls_of };
 
     ghost lane_of = { lane_in };
 
-    ghost full = { λ a. lane_depth (lane_in a) ≤ length (sent_of a) };
+    ghost full = { MayBeFull };
 
     fn push(&mut self, item: T) -> Result<(), T> {
         if self.pushed >= MOST {
@@ -149,20 +148,21 @@ impl<T, R: Wait> LaneOut<T, R> {
 }
 
 impl<T: Drop, R: Wait> Inlet<T> for LaneOut<T, R> {
-    ghost use Rattle.std.specs.Prelude.{◌≡◌, [], ◌∷◌, ◌++◌, ⊤, refl};
-    ghost use Rattle.tile_queues.specs.Ends.{taken_of, lane_out};
+    ghost use Rattle.std.specs.Prelude.{⊤, refl};
+    ghost use Rattle.std.proofs.Common.{inl};
+    ghost use Rattle.tile_queues.specs.Ends.{empties_of, lane_out, Took, TookNone};
 
-    ghost gave = { λ b x c. taken_of c ≡ taken_of b ++ x ∷ [] };
+    ghost gave = { Took };
 
-    ghost same = { λ b c. taken_of c ≡ taken_of b };
+    ghost same = { TookNone };
 
-    ghost empty_seen = { λ b. b.empty_seen };
+    ghost empty_seen = { empties_of };
 
     ghost lane_of = { lane_out };
 
     ghost bare = { λ b. ⊤ };
 
-    ghost same_here = { λ a. refl };
+    ghost same_here = { λ a. (refl, inl refl) };
 
     fn pop(&mut self) -> Option<T> {
         let front = self.take();

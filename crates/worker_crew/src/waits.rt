@@ -1,6 +1,6 @@
 //! What a thread does that found nothing to do, and how often it looks out for something. Few numbers decide it; nothing that is shared is read here.
-ghost use Rattle.std.specs.Prelude.{◌≡◌, ◌<◌, ◌≤◌, ◌+◌, ◌*◌, ◌/◌, ℕ, true, false};
-ghost use Rattle.worker_crew.specs.declared.waits.Next.TheVariants as comes;
+ghost use Rattle.std.specs.Prelude.{◌≡◌, ◌<◌, ◌≤◌, ◌+◌, ◌*◌, ◌/◌};
+ghost use Rattle.worker_crew.specs.Waits.{next_after};
 
 // How often a thread looks at its lanes before it sleeps: at first, at least, and at most. A look takes some 50 nanoseconds.
 const FIRST: u32 = 400;
@@ -28,12 +28,7 @@ pub(crate) enum Next {
 /// What comes next: it sleeps exactly where that was announced. Else it looks, where it may have looks and no more threads are awake than there are
 /// processors; else it gives its processor away, where it may do so.
 pub(crate) fn next_for(is_announced: bool, looks: u32, yields: u32, is_crowded: bool) -> Next
-    ensures sleeps { is_announced ≡ true → result ≡ comes.Sleep }
-    ensures announced { result ≡ comes.Sleep → is_announced ≡ true }
-    ensures looks { is_announced ≡ false → is_crowded ≡ false → 0 < looks → result ≡ comes.Look looks }
-    ensures seldom { (n : ℕ) → result ≡ comes.Look n → (is_crowded ≡ false) × (n ≡ looks) × (0 < n) }
-    ensures yields { result ≡ comes.Yield → 0 < yields }
-    ensures announces { is_announced ≡ false → looks ≡ 0 → yields ≡ 0 → result ≡ comes.Announce }
+    ensures { result ≡ next_after is_announced looks yields is_crowded }
 {
     if is_announced {
         Next::Sleep

@@ -1,10 +1,10 @@
-use Rattle.std.proofs.Common.{List, sym, ◌∙◌, subst, arith}
+use Rattle.std.proofs.Common.{List, refl, sym, ◌∙◌, subst, arith}
 use Rattle.std.specs.Prelude.{Vec}
 use Rattle.std.specs.Global.{Global}
 use Rattle.rc_base.specs.declared.state.Parcel.{Parcel}
 use Rattle.tile_queues.specs.Grids.{AreGrid}
 use Rattle.tile_queues.specs.declared.ends.LaneOut.{LaneOut}
-use Rattle.cluster_run.proofs.ClosedCrews.{AreFronts, asking_paired, closed, grid, hearing_paired, showing_into}
+use Rattle.cluster_run.proofs.ClosedCrews.{AreFronts, asking_paired, closed, grid, hearing_paired, orderly, showing_into}
 use Rattle.cluster_run.proofs.cores.cores_of.Goals as goal
 
 pub close_all-requires : goal.close_all-requires
@@ -40,6 +40,26 @@ returns-clause-closed g c scene l names ended =
     (subst (λ (columns : List (Vec (LaneOut Parcel g.row.R.Denot) Global)). AreFronts clients.rows.items columns) c.deref_mut.ensures.value
     (λ i t d e a b low t_low. c.close_all.ensures i t d e a b (omega (arith, low, rows)) t_low))
     c.close_list.ensures c.close_list-2.ensures
+
+pub returns-clause-orderly : goal.returns-clause-orderly
+returns-clause-orderly g c scene l names ended =
+    let clients = c.in_ok-clients.field-0 in
+    let n = c.args.crew.clients.ok.0 in
+    let m = c.args.crew.tiles.ok.0 in
+    let rows = clients.rows.ok.0 in
+    orderly scene l names c.args.crew ended clients c.in_ok-clients.ensures c.in_ok-tiles.field-0 c.in_ok-tiles.ensures
+    (let some = c.requires.some.0 in let all = ended.clients in omega (arith, some, all, n))
+    (let some = c.requires.some.1 in let all = ended.tiles in omega (arith, some, all, m))
+    (sym c.is_short.ensures ∙ c.if-is_short.false)
+    (subst (λ (columns : List (Vec (LaneOut Parcel g.row.R.Denot) Global)). AreFronts clients.rows.items columns) c.deref_mut.ensures.value
+    (λ i t d e a b low t_low. c.close_all.ensures i t d e a b (omega (arith, low, rows)) t_low))
+    c.close_list.ensures c.close_list-2.ensures
+
+pub returns-clause-cores : goal.returns-clause-cores
+returns-clause-cores g c = (
+  refl,
+  record { clients_are = c.in_ok-clients.ensures.cores_are; ample = sym c.is_short.ensures ∙ c.if-is_short.false; tiles_are = c.in_ok-tiles.ensures.cores_are },
+)
 
 pub returns-clause-parts : goal.returns-clause-parts
 returns-clause-parts g c scene l names ended =

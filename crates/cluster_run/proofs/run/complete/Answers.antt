@@ -1,6 +1,8 @@
-use Rattle.std.proofs.Common.{◌≡◌, ◌<◌, length, arith}
+use Rattle.std.proofs.Common.{◌≡◌, ◌<◌, length, subst, arith}
 use Rattle.rc_base.proofs.Paired.{some_item}
 use Rattle.rc_base.specs.Cluster.Tiles.{tile_count}
+use Rattle.run_record.specs.Collected.{AreCollected}
+use Rattle.sync_manager.specs.declared.manager.ManagerCore.{ManagerCore}
 use Rattle.cluster_run.specs.Serving.{shown_in_lanes}
 use Rattle.cluster_run.proofs.Runs.{text_written}
 use Rattle.cluster_run.proofs.Serving.{gave_front}
@@ -46,16 +48,31 @@ pub returns-clause-run : goal.returns-clause-run
 returns-clause-run g c =
     let e = c.requires.ended in
     let shown = shown_in_lanes c.in_ok-clients.field-0.parts.items in
-    (c.in_ok-kept.ensures shown (c.in_ok-clients.ensures.closed c.args.scene.now c.args.layout.now e.0 e.1)).run
+    (c.in_ok-kept.ensures.whole shown (c.in_ok-clients.ensures.closed c.args.scene.now c.args.layout.now e.0 e.1)).run
 
 pub returns-clause-written : goal.returns-clause-written
 returns-clause-written g c start on =
     let e = c.requires.ended in
     let shown = shown_in_lanes c.in_ok-clients.field-0.parts.items in
-    let whole = c.in_ok-kept.ensures shown (c.in_ok-clients.ensures.closed c.args.scene.now c.args.layout.now e.0 e.1) in
+    let whole = c.in_ok-kept.ensures.whole shown (c.in_ok-clients.ensures.closed c.args.scene.now c.args.layout.now e.0 e.1) in
     let m = e.1.tiles in
     let k = c.args.ended.tiles.ok.0 in
     let some = c.requires.some.1 in
     let tiles : 0 < tile_count c.args.layout.now = omega (arith, m, k, some) in
     text_written c.whole_runs_are_written.ensures c.frames_of_scenes_are_writable.ensures c.args.scene.now c.args.layout.now _ _ _ _ shown _ _
     c.requires.within c.requires.window tiles whole (c.in_ok-written.ensures.finished c.args.layout.now start on)
+
+pub returns-clause-orderly : goal.returns-clause-orderly
+returns-clause-orderly g c = let e = c.requires.ended in c.in_ok-clients.ensures.orderly c.args.scene.now c.args.layout.now e.0 e.1
+
+pub returns-clause-collected : goal.returns-clause-collected
+returns-clause-collected g c =
+    let cores = c.in_ok-clients.field-0 in
+    let are = c.in_ok-clients.ensures.cores in
+    let kept = c.in_ok-kept.field-0 in (
+      cores.clients.items,
+      cores.tiles.items,
+      are.1,
+      subst (λ (core : ManagerCore). AreCollected c.args.scene.now.decl cores.clients.items core cores.tiles.items kept.kept kept.tallies kept.waiting kept.faults) are.0
+          c.in_ok-kept.ensures.collected,
+    )

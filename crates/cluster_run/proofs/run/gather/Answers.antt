@@ -2,8 +2,8 @@ use Rattle.std.proofs.lemmas.Result.{IfOk-weaker}
 use Rattle.cluster_run.proofs.Runs.{is_small}
 use Rattle.cluster_run.proofs.run.gather.Goals as goal
 
-pub returns : goal.returns
-returns c shown closed =
+pub returns-clause-whole : goal.returns-clause-whole
+returns-clause-whole c shown closed =
     let scene = c.args.scene.now in
     let can = c.scenes_within_limits.ensures.drawable scene c.requires in
     IfOk-weaker c.collect.result _ _

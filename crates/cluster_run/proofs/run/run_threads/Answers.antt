@@ -2,8 +2,10 @@ use Rattle.std.proofs.Common.{◌≡◌, ◌<◌, length, arith, ap, ◌∙◌}
 use Rattle.std.proofs.lemmas.Result.{IfOk-weaker}
 use Rattle.run_record.proofs.FrameParts.{some_columns, some_rows}
 use Rattle.frame_out.proofs.Prefixes.{on_err}
-use Rattle.cluster_run.proofs.Runs.{is_window}
+use Rattle.cluster_run.specs.Workers.{IsRunOfWorkers}
+use Rattle.cluster_run.proofs.Runs.{both_ok, is_window}
 use Rattle.cluster_run.proofs.Serving.{front_since, nothing_given, out_still, since_then}
+use Rattle.cluster_run.proofs.WorkersTurned.{have_turned}
 use Rattle.cluster_run.proofs.run.run_threads.Goals as goal
 
 pub returns-in_err-crew-clause-front : goal.returns-in_err-crew-clause-front
@@ -83,3 +85,27 @@ returns-clause-front g c =
     on_err c.complete.result (c.complete.ensures.front c.args.image.now
     (since_then g.K.Sink.held g.K.Sink.faults c.args.layout.now c.new_writers_are_on_the_way.ensures c.args.image.now c.in_ok-frames.frames c.in_ok-frames.ensures.new
     made.0.parts _ (ap (λ v. v.items) c.in_ok-frames.ensures.lanes) made.2 c.run_crew.new.frames c.run_crew.new.image c.in_ok-ended.ensures.served))
+
+pub returns-clause-workers : goal.returns-clause-workers
+returns-clause-workers g c =
+    let scene = c.args.scene.now in
+    let l = c.args.layout.now in
+    let made = c.in_ok-crew.ensures in
+    let crew = c.in_ok-crew.field-0.crew in
+    let tasks = c.in_ok-ended.ended in
+    both_ok c.complete.result _ (λ r. IsRunOfWorkers g.row.R.Denot scene l c.args.depth r.kept r.tallies r.waiting r.faults) _
+    (λ r cores orderly.
+    record {
+      names = made.0;
+      deep = made.3;
+      crew = crew;
+      begins = made.1;
+      tasks = tasks;
+      ends = c.clusters_end.ensures scene l made.0 crew tasks made.1 c.in_ok-ended.ensures.ended;
+      turned = have_turned scene l made.0 crew tasks made.1 made.4 c.in_ok-ended.ensures.turned;
+      orderly = orderly;
+      clients = cores.0;
+      tiles = cores.1;
+      cores = cores.2;
+      collected = cores.3;
+    }) c.complete.ensures.collected c.complete.ensures.orderly

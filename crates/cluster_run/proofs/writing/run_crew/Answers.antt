@@ -5,7 +5,9 @@ use Rattle.cluster_run.specs.Clusters.{HasRun}
 use Rattle.cluster_run.specs.Serving.{IsServed}
 use Rattle.cluster_run.specs.declared.on_the_way.OnTheWay.{OnTheWay}
 use Rattle.cluster_run.specs.declared.writing.Writing.{Writing}
+use Rattle.cluster_run.specs.Workers.{HaveGoneOn}
 use Rattle.cluster_run.proofs.Serving.{unserved}
+use Rattle.cluster_run.proofs.WorkersTurned.{has_run, have_gone_on}
 use Rattle.cluster_run.proofs.writing.run_crew.Goals as goal
 
 given : {A : Type 0} → A → Option A → A
@@ -32,7 +34,17 @@ returns-clause-ended g c =
     let keeps = did.4 in
     let kept = c.kept-2-1.given in
     let some = sym c.in-Some.is ∙ kept.1 (sym (keeps.2 ∙ names.2)) ∙ keeps.3 in
-    subst (HasRun c.args.crew) (sym (ap (given did.1) some)) did.3
+    subst (HasRun c.args.crew) (sym (ap (given did.1) some)) (has_run c.args.crew did.1 did.3)
+
+pub returns-clause-turned : goal.returns-clause-turned
+unfolding given
+returns-clause-turned g c =
+    let did = c.in_ok-run_beside.ensures.run in
+    let names = did.2 in
+    let keeps = did.4 in
+    let kept = c.kept-2-1.given in
+    let some = sym c.in-Some.is ∙ kept.1 (sym (keeps.2 ∙ names.2)) ∙ keeps.3 in
+    subst (HaveGoneOn c.args.crew) (sym (ap (given did.1) some)) (have_gone_on c.args.crew did.1 did.3)
 
 pub returns-clause-served : goal.returns-clause-served
 returns-clause-served g c =

@@ -1,7 +1,5 @@
-use Rattle.std.proofs.Common.{◌≡◌, ◌==◌, ◌≤◌, ap, sym, ◌∙◌, ◌++◌, ◌∷◌, [], ℕ, Bool, cond, List, length, subst, inl, inr, append-nil, eqb-true, eq-eqb, true≢false}
-use Rattle.std.proofs.lemmas.Bool.{cases_Bool}
+use Rattle.std.proofs.Common.{ap, sym, ◌∙◌, ℕ, Bool, List, length, subst, refl}
 use Rattle.std.specs.Prelude.{slice_index_or}
-use Rattle.rc_base.specs.Cluster.Lanes.{EachLane}
 use Rattle.rc_base.specs.Cluster.Tiles.{tile_count}
 use Rattle.rc_base.specs.declared.scene.Scene.{Scene}
 use Rattle.rc_base.specs.declared.state.Parcel.{Parcel}
@@ -10,92 +8,45 @@ use Rattle.rc_base.specs.declared.window.Layout.{Layout}
 use Rattle.rc_base.proofs.Paired.{after_slice}
 use Rattle.client_issue.specs.Clauses.{IsClientClause}
 use Rattle.client_issue.specs.Deeds.{ClientDeed}
-use Rattle.client_issue.specs.Deeds.ClientDeed.{Appends, Requests, FindsTileFull, FindsManagerFull, Finishes, Loses}
-use Rattle.client_issue.specs.Steps.{HasGot, IsFoundFull, IsLaneAlone, AreSent, IsRequested}
+use Rattle.client_issue.specs.Steps.{AreSent}
 use Rattle.client_issue.specs.declared.client.ClientCore.{ClientCore}
-use Rattle.tile_queues.specs.Ends.{sent_of, lane_in, lane_depth}
+use Rattle.tile_queues.specs.Ends.{fulls_of, sent_of, MayBeFull}
 use Rattle.tile_queues.specs.declared.ends.LaneIn.{LaneIn}
 use Rattle.tile_queues.specs.Names.{AreInto}
 use Rattle.cluster_run.specs.Attempts.{client_attempt}
-use Rattle.cluster_run.specs.Steps.{parcels_by, requests_by}
+use Rattle.cluster_run.specs.Steps.{IsClientTurn}
 use Rattle.cluster_run.proofs.Named.{into_goes_on}
+use Rattle.cluster_run.proofs.Turns.{goes_on}
 use Rattle.cluster_run.proofs.workers.ClientWorker.advance.Goals as goal
 
 -- the core's clause over these ends
 abbrev Holds : {R : Type 0} → Scene → Layout → ℕ → LaneIn Parcel R → ClientCore → List (LaneIn Parcel R) → List Request → Bool → Type 0
 Holds scene l client d core ends asked ended = IsClientClause scene l client core (λ tile. sent_of (slice_index_or ends tile d)) asked ended
 
--- ---- what the ends were given
-
-module _ {R : Type 0} where
-  abbrev Grow : (ℕ → List Parcel) → List (LaneIn Parcel R) → List (LaneIn Parcel R) → Type 0
-  Grow by xs ys = EachLane (λ i a b. sent_of b ≡ sent_of a ++ by i) xs ys
-
-  none_grows : (xs ys : List (LaneIn Parcel R)) → ys ≡ xs → Grow (λ i. []) xs ys
-  none_grows xs ys e = record {
-    count = ap length e;
-    at = λ i d lt. ap (λ (zs : List (LaneIn Parcel R)). sent_of (slice_index_or zs i d)) e ∙ sym (append-nil (sent_of (slice_index_or xs i d)));
-  }
-
-  one_grows : (tile : ℕ) (items : List Parcel) (became : LaneIn Parcel R → LaneIn Parcel R → Type 0) → ((a b : LaneIn Parcel R) → became a b → sent_of b ≡ sent_of a ++ items)
-      → (xs ys : List (LaneIn Parcel R)) → IsLaneAlone tile became xs ys → Grow (λ i. cond (i == tile) items []) xs ys
-  one_grows tile items became says xs ys h = record {
-    count = h.here.count;
-    at = λ i d lt. elim (cases_Bool (i == tile)) [
-      | inl t ↦ rw t (says (slice_index_or xs i d) (slice_index_or ys i d) (h.here.at i d lt (eqb-true i tile t)))
-      | inr f ↦ rw f (ap sent_of (h.others.at i d lt (λ e. true≢false (sym (eq-eqb i tile e) ∙ f))) ∙ sym (append-nil (sent_of (slice_index_or xs i d))))
-    ];
-  }
-
-  one_stays : (tile : ℕ) (became : LaneIn Parcel R → LaneIn Parcel R → Type 0) → ((a b : LaneIn Parcel R) → became a b → sent_of b ≡ sent_of a)
-      → (xs ys : List (LaneIn Parcel R)) → IsLaneAlone tile became xs ys → Grow (λ i. []) xs ys
-  one_stays tile became says xs ys h = record {
-    count = h.here.count;
-    at = λ i d lt. elim (cases_Bool (i == tile)) [
-      | inl t ↦ says (slice_index_or xs i d) (slice_index_or ys i d) (h.here.at i d lt (eqb-true i tile t)) ∙ sym (append-nil (sent_of (slice_index_or xs i d)))
-      | inr f ↦ ap sent_of (h.others.at i d lt (λ e. true≢false (sym (eq-eqb i tile e) ∙ f))) ∙ sym (append-nil (sent_of (slice_index_or xs i d)))
-    ];
-  }
-
-  parcels_grow : (full_seen : LaneIn Parcel R → ℕ) (full : LaneIn Parcel R → Type 0) (deed : ClientDeed) (xs ys : List (LaneIn Parcel R))
-      → AreSent sent_of full_seen full deed xs ys → Grow (parcels_by deed) xs ys
-  parcels_grow full_seen full (Appends tile parcel) xs ys h = one_grows tile (parcel ∷ []) (HasGot sent_of full_seen full parcel) (λ a b got. got.appended) xs ys h
-  parcels_grow full_seen full (Requests r) xs ys h = none_grows xs ys h
-  parcels_grow full_seen full (FindsTileFull tile parcel) xs ys h = one_stays tile (IsFoundFull sent_of full_seen full) (λ a b found. found.same) xs ys h
-  parcels_grow full_seen full (FindsManagerFull r) xs ys h = none_grows xs ys h
-  parcels_grow full_seen full Finishes xs ys h = none_grows xs ys h
-  parcels_grow full_seen full Loses xs ys h = none_grows xs ys h
-
-  stays : (a b : LaneIn Request R) → b ≡ a → sent_of b ≡ sent_of a ++ []
-  stays a b e = ap sent_of e ∙ sym (append-nil (sent_of a))
-
-  requests_grow : (full_seen : LaneIn Request R → ℕ) (full : LaneIn Request R → Type 0) (deed : ClientDeed) (a b : LaneIn Request R)
-      → IsRequested sent_of full_seen full deed a b → sent_of b ≡ sent_of a ++ requests_by deed
-  requests_grow full_seen full (Appends tile parcel) a b h = stays a b h
-  requests_grow full_seen full (Requests r) a b h = h.appended
-  requests_grow full_seen full (FindsTileFull tile parcel) a b h = stays a b h
-  requests_grow full_seen full (FindsManagerFull r) a b h = h.same ∙ sym (append-nil (sent_of a))
-  requests_grow full_seen full Finishes a b h = stays a b h
-  requests_grow full_seen full Loses a b h = stays a b h
+-- what became of these ends
+abbrev Sent : {R : Type 0} → ClientDeed → List (LaneIn Parcel R) → List (LaneIn Parcel R) → Type 0
+Sent {R} deed xs ys = AreSent sent_of fulls_of MayBeFull deed xs ys
 
 pub returns-clause-steps : goal.returns-clause-steps
 returns-clause-steps g c =
     let step = c.step-answer.ensures in
     let told = step.step in
     let w = c.args.self.now in
-    let xs = c.deref_mut.result.now in
     let xs' = c.step-answer.new.tiles in
     let xs_are = c.deref_mut.ensures.value in
-    let left = after_slice w.tiles.len xs' w.tiles.items w.tiles.ok.0 (step.tile_lanes.count ∙ ap length xs_are) in
-    let grown = parcels_grow (λ (a : LaneIn Parcel _). a.full_seen) (λ (a : LaneIn Parcel _). lane_depth (lane_in a) ≤ length (sent_of a)) told.0 xs xs' told.3 in
-    record {
-      deed = told.0;
-      step = told.2;
-      came_is = c.attempt_of-attempt.ensures.exact ∙ ap client_attempt told.1;
-      parcels = subst (λ ends. Grow (parcels_by told.0) w.tiles.items ends) (sym left) (subst (λ ends. Grow (parcels_by told.0) ends xs') xs_are grown);
-      requests = requests_grow (λ (a : LaneIn Request _). a.full_seen) (λ (a : LaneIn Request _). lane_depth (lane_in a) ≤ length (sent_of a)) told.0 w.requests
-          c.step-answer.new.requests told.4;
-    }
+    let left = after_slice w.tiles.len xs' w.tiles.items w.tiles.ok.0 (step.tile_lanes.count ∙ ap length xs_are) in (
+      told.0,
+      record {
+        number = refl;
+        step = told.2;
+        parcels = subst (λ ends. Sent told.0 w.tiles.items ends) (sym left) (subst (λ ends. Sent told.0 ends xs') xs_are told.3);
+        requests = told.4;
+      },
+      c.attempt_of-attempt.ensures.exact ∙ ap client_attempt told.1,
+    )
+
+pub returns-clause-turns : goal.returns-clause-turns
+returns-clause-turns g c = let turn = returns-clause-steps g c in goes_on IsClientTurn _ _ turn.0 turn.1
 
 pub returns-clause-leads : goal.returns-clause-leads
 returns-clause-leads g c scene l client sent asked h =
