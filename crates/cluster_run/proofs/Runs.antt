@@ -42,6 +42,6 @@ text_written law few scene l kept tallies waiting faults shown image written wit
     h.has h.fronts h.tile h.low h.missing h.all)
 
 -- of an answer two facts are known
-pub both_ok : {A E : Type 0} (result : Result A E) (P Q : A → Type 0) (O : Type 0) → ((x : A) → P x → O → Q x) → IfOk result P → OnOk result O → IfOk result Q
-both_ok (Ok x) P Q O f h o = f x h o
-both_ok (Err e) P Q O f h o = tt
+pub both_ok : {A E : Type 0} (result : Result A E) (P Q : A → Type 0) (O : Type 0) → IfOk result P → OnOk result O → ((x : A) → P x → O → Q x) → IfOk result Q
+both_ok (Ok x) P Q O h o f = f x h o
+both_ok (Err e) P Q O h o f = tt

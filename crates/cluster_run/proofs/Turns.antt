@@ -3,11 +3,11 @@ use Rattle.std.proofs.Common.{◌≡◌, ◌<◌, ℕ, List, [], ◌∷◌, ◌+
 use Rattle.std.specs.Prelude.{slice_index_or}
 use Rattle.std.specs.List.{flat_map}
 use Rattle.rc_base.specs.Cluster.Lanes.{EachLane}
-use Rattle.cluster_run.specs.Turns.{AreTurns, TurnsGoOn, TurnsLead}
+use Rattle.cluster_run.specs.Turns.{AreWorkerTurns, TurnsGoOn, TurnsLead}
 
 module _ {W D : Type 0} (turn : W → D → W → Type 0) where
   -- one turn more
-  one_more : (first between last : W) (turns : List D) (did : D) → AreTurns turn first turns between → turn between did last → AreTurns turn first (turns ++ did ∷ []) last
+  one_more : (first between last : W) (turns : List D) (did : D) → AreWorkerTurns turn first turns between → turn between did last → AreWorkerTurns turn first (turns ++ did ∷ []) last
   one_more first between last [] did same is = (last, subst (λ w. turn w did last) same is, refl)
   one_more first between last (t ∷ turns) did more is = (more.0, more.1, one_more more.0 between last turns did more.2 is)
 
@@ -22,7 +22,7 @@ module _ {W D : Type 0} (turn : W → D → W → Type 0) where
 
 module _ {W D X : Type 0} (turn : W → D → W → Type 0) (list_of : W → List X) (by : D → List X)
     (grows : (before after : W) (did : D) → turn before did after → list_of after ≡ list_of before ++ by did) where
-  pub end_grows : (first last : W) (turns : List D) → AreTurns turn first turns last → list_of last ≡ list_of first ++ flat_map by turns
+  pub end_grows : (first last : W) (turns : List D) → AreWorkerTurns turn first turns last → list_of last ≡ list_of first ++ flat_map by turns
   end_grows first last [] same = ap list_of same ∙ sym (append-nil (list_of first))
   end_grows first last (did ∷ turns) more =
       end_grows more.0 last turns more.2
@@ -30,12 +30,12 @@ module _ {W D X : Type 0} (turn : W → D → W → Type 0) (list_of : W → Lis
       ∙ append_assoc (list_of first) (by did) (flat_map by turns)
 
   -- from nothing on
-  pub end_has : (first last : W) (turns : List D) → list_of first ≡ [] → AreTurns turn first turns last → list_of last ≡ flat_map by turns
+  pub end_has : (first last : W) (turns : List D) → list_of first ≡ [] → AreWorkerTurns turn first turns last → list_of last ≡ flat_map by turns
   end_has first last turns none are = end_grows first last turns are ∙ ap (λ xs. xs ++ flat_map by turns) none
 
 module _ {W D E X : Type 0} (turn : W → D → W → Type 0) (ends : W → List E) (list_of : E → List X) (by : D → ℕ → List X)
     (grows : (before after : W) (did : D) → turn before did after → EachLane (λ i a b. list_of b ≡ list_of a ++ by did i) (ends before) (ends after)) where
-  pub ends_grow : (first last : W) (turns : List D) → AreTurns turn first turns last
+  pub ends_grow : (first last : W) (turns : List D) → AreWorkerTurns turn first turns last
       → EachLane (λ i a b. list_of b ≡ list_of a ++ flat_map (λ did. by did i) turns) (ends first) (ends last)
   ends_grow first last [] same = record {
     count = ap (λ w. length (ends w)) same;
@@ -53,7 +53,7 @@ module _ {W D E X : Type 0} (turn : W → D → W → Type 0) (ends : W → List
       }
 
   pub ends_have : (count : ℕ) (first last : W) (turns : List D) → length (ends first) ≡ count
-      → ((i : ℕ) (d : E) → i < count → list_of (slice_index_or (ends first) i d) ≡ []) → AreTurns turn first turns last
+      → ((i : ℕ) (d : E) → i < count → list_of (slice_index_or (ends first) i d) ≡ []) → AreWorkerTurns turn first turns last
       → (i : ℕ) (d : E) → i < count → list_of (slice_index_or (ends last) i d) ≡ flat_map (λ did. by did i) turns
   ends_have count first last turns total none are i d low =
       (ends_grow first last turns are).at i d (omega (arith, total, low)) ∙ ap (λ xs. xs ++ flat_map (λ did. by did i) turns) (none i d low)

@@ -4,19 +4,19 @@ use Rattle.worker_crew.specs.declared.worker.Attempt.{Attempt}
 
 module _ {W D : Type 0} (turn : W → D → W → Type 0) where
   -- each begins where the one before it ended
-  abbrev pub AreTurns : W → List D → W → Type 0
-  AreTurns first [] last = last ≡ first
-  AreTurns first (did ∷ turns) last = (next : W) × turn first did next × AreTurns next turns last
+  abbrev pub AreWorkerTurns : W → List D → W → Type 0
+  AreWorkerTurns first [] last = last ≡ first
+  AreWorkerTurns first (did ∷ turns) last = (next : W) × turn first did next × AreWorkerTurns next turns last
 
   -- turns lead from the one worker to the other
   pub record TurnsLead (first last : W) : Type 0 where
     pub turns : List D
-    pub are : AreTurns first turns last
+    pub are : AreWorkerTurns first turns last
 
   -- from whatever worker turns lead to the one, from that they lead to the other
   abbrev pub TurnsGoOn : W → W → Type 0
   TurnsGoOn before after = (first : W) → TurnsLead first before → TurnsLead first after
 
   -- one turn, and what it comes to for who steps the worker
-  abbrev pub IsTurn : (D → Attempt) → W → Attempt → W → Type 0
-  IsTurn attempt_of before came after = (did : D) × turn before did after × (came ≡ attempt_of did)
+  abbrev pub IsWorkerTurn : (D → Attempt) → W → Attempt → W → Type 0
+  IsWorkerTurn attempt_of before came after = (did : D) × turn before did after × (came ≡ attempt_of did)

@@ -28,7 +28,7 @@ use Rattle.worker_crew.specs.declared.task.Task.{Task}
 use Rattle.cluster_run.specs.Apart.{IsAmpleClient, IsAmpleTile}
 use Rattle.cluster_run.specs.Clusters.{LaneNames, AreSoDeep, IsCluster, IsEndedCluster}
 use Rattle.cluster_run.specs.Steps.{TileTurn, parcels_by, requests_by, parcels_in, grants_in, parts_by, IsClientTurn, IsManagerTurn, IsTileTurn}
-use Rattle.cluster_run.specs.Turns.{AreTurns, TurnsLead}
+use Rattle.cluster_run.specs.Turns.{AreWorkerTurns, TurnsLead}
 use Rattle.cluster_run.specs.declared.workers.ClientWorker.{ClientWorker}
 use Rattle.cluster_run.specs.declared.workers.ManagerWorker.{ManagerWorker}
 use Rattle.cluster_run.specs.declared.workers.TileWorker.{TileWorker}
@@ -53,14 +53,14 @@ module _ {R : Type 0} where
   -- Turns lead a client's worker to its end, and its ends were sent just what these turns append.
   pub record HasClientTurned (tiles : ℕ) (first last : ClientWorker R) : Type 0 where
     pub turns : List ClientDeed
-    pub are : AreTurns IsClientTurn first turns last
+    pub are : AreWorkerTurns IsClientTurn first turns last
     pub sent : (tile : ℕ) (a : LaneIn Parcel R) → tile < tiles → sent_of (slice_index_or last.tiles.items tile a) ≡ flat_map (λ did. parcels_by did tile) turns
     pub asked : sent_of last.requests ≡ flat_map requests_by turns
 
   -- so the manager's, whose ends took just what these turns take, and were sent what they append
   pub record HasManagerTurned (clients tiles : ℕ) (first last : ManagerWorker R) : Type 0 where
     pub turns : List ManagerDeed
-    pub are : AreTurns IsManagerTurn first turns last
+    pub are : AreWorkerTurns IsManagerTurn first turns last
     pub received : (client : ℕ) (b : LaneOut Request R) → client < clients
         → taken_of (slice_index_or last.requests.items client b) ≡ flat_map (λ did. option_to_list (received_by did client)) turns
     pub granted : (tile : ℕ) (a : LaneIn Grant R) → tile < tiles → sent_of (slice_index_or last.grants.items tile a) ≡ flat_map (λ did. sent_to did tile) turns
@@ -68,7 +68,7 @@ module _ {R : Type 0} where
   -- and so a tile's
   pub record HasTileTurned (clients : ℕ) (first last : TileWorker R) : Type 0 where
     pub turns : List TileTurn
-    pub are : AreTurns IsTileTurn first turns last
+    pub are : AreWorkerTurns IsTileTurn first turns last
     pub took : (client : ℕ) (b : LaneOut Parcel R) → client < clients
         → taken_of (slice_index_or last.clients.items client b) ≡ flat_map (λ turn. parcels_in turn client) turns
     pub heard : taken_of last.grants ≡ flat_map grants_in turns

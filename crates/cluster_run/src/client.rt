@@ -5,7 +5,7 @@ ghost use Rattle.worker_crew.specs.declared.worker.Attempt.TheVariants as attemp
 ghost use Rattle.cluster_run.specs.Attempts.{client_attempt};
 ghost use Rattle.cluster_run.specs.Clients.{ClientLeads};
 ghost use Rattle.cluster_run.specs.Steps.{IsClientTurn, client_came};
-ghost use Rattle.cluster_run.specs.Turns.{IsTurn, TurnsGoOn};
+ghost use Rattle.cluster_run.specs.Turns.{IsWorkerTurn, TurnsGoOn};
 
 use crate::workers::{ClientWorker, has_ended};
 use client_issue::laws::clients_meet_their_clause_over_lanes;
@@ -36,7 +36,7 @@ fn attempt_of(answer: Result<ClientMoved, OutOfMemory>) -> Attempt
 impl<R: Wait> ClientWorker<R> {
     /// Tries one step of the core over the worker's own lanes.
     fn advance(&mut self) -> Attempt
-        ensures steps { IsTurn IsClientTurn client_came self.old result self.new }
+        ensures steps { IsWorkerTurn IsClientTurn client_came self.old result self.new }
         ensures leads { ClientLeads self.old self.new }
         ensures turns { TurnsGoOn IsClientTurn self.old self.new }
         ensures ended { result ≡ attempt.Ended → self.new.ended ≡ true }
@@ -54,7 +54,7 @@ impl<R: Wait> Worker for ClientWorker<R> {
     ghost use Rattle.rc_base.specs.declared.gate.Actor.TheVariants as actor;
     ghost use Rattle.cluster_run.specs.Clients.{ClientLeads};
     ghost use Rattle.cluster_run.specs.Steps.{IsClientTurn, client_came};
-    ghost use Rattle.cluster_run.specs.Turns.{IsTurn, TurnsGoOn};
+    ghost use Rattle.cluster_run.specs.Turns.{IsWorkerTurn, TurnsGoOn};
 
     ghost leads = { λ a b. ClientLeads a b × TurnsGoOn IsClientTurn a b };
 
@@ -62,7 +62,7 @@ impl<R: Wait> Worker for ClientWorker<R> {
 
     ghost who = { λ w. actor.Client w.number };
 
-    ghost steps = { IsTurn IsClientTurn client_came };
+    ghost steps = { IsWorkerTurn IsClientTurn client_came };
 
     ghost stays = { λ a. ((λ scene l client sent asked h. h), (λ first h. h)) };
 

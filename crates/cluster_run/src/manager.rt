@@ -5,7 +5,7 @@ ghost use Rattle.worker_crew.specs.declared.worker.Attempt.TheVariants as attemp
 ghost use Rattle.cluster_run.specs.Attempts.{manager_attempt};
 ghost use Rattle.cluster_run.specs.Managers.{ManagerLeads};
 ghost use Rattle.cluster_run.specs.Steps.{IsManagerTurn, manager_came};
-ghost use Rattle.cluster_run.specs.Turns.{IsTurn, TurnsGoOn};
+ghost use Rattle.cluster_run.specs.Turns.{IsWorkerTurn, TurnsGoOn};
 
 use crate::workers::{ManagerWorker, has_ended};
 use rc_base::cluster::ManagerMoved;
@@ -37,7 +37,7 @@ fn attempt_of(answer: Result<ManagerMoved, OutOfMemory>) -> Attempt
 impl<R: Wait> ManagerWorker<R> {
     /// Tries one step of the core over the worker's own lanes.
     fn advance(&mut self) -> Attempt
-        ensures steps { IsTurn IsManagerTurn manager_came self.old result self.new }
+        ensures steps { IsWorkerTurn IsManagerTurn manager_came self.old result self.new }
         ensures leads { ManagerLeads self.old self.new }
         ensures turns { TurnsGoOn IsManagerTurn self.old self.new }
         ensures ended { result ≡ attempt.Ended → self.new.ended ≡ true }
@@ -55,7 +55,7 @@ impl<R: Wait> Worker for ManagerWorker<R> {
     ghost use Rattle.rc_base.specs.declared.gate.Actor.TheVariants as actor;
     ghost use Rattle.cluster_run.specs.Managers.{ManagerLeads};
     ghost use Rattle.cluster_run.specs.Steps.{IsManagerTurn, manager_came};
-    ghost use Rattle.cluster_run.specs.Turns.{IsTurn, TurnsGoOn};
+    ghost use Rattle.cluster_run.specs.Turns.{IsWorkerTurn, TurnsGoOn};
 
     ghost leads = { λ a b. ManagerLeads a b × TurnsGoOn IsManagerTurn a b };
 
@@ -63,7 +63,7 @@ impl<R: Wait> Worker for ManagerWorker<R> {
 
     ghost who = { λ w. actor.Manager };
 
-    ghost steps = { IsTurn IsManagerTurn manager_came };
+    ghost steps = { IsWorkerTurn IsManagerTurn manager_came };
 
     ghost stays = { λ a. ((λ syncs tiles asked granted h. h), (λ first h. h)) };
 

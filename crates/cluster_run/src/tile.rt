@@ -8,7 +8,7 @@ ghost use Rattle.worker_crew.specs.declared.worker.Attempt.TheVariants as attemp
 ghost use Rattle.cluster_run.specs.Attempts.{tile_attempt};
 ghost use Rattle.cluster_run.specs.Steps.{IsPut, IsTileTurn, tile_came};
 ghost use Rattle.cluster_run.specs.Tiles.{TileLeads};
-ghost use Rattle.cluster_run.specs.Turns.{IsTurn, TurnsGoOn};
+ghost use Rattle.cluster_run.specs.Turns.{IsWorkerTurn, TurnsGoOn};
 
 use crate::workers::{TileWorker, has_ended};
 use parcel_bytes::Packed;
@@ -84,7 +84,7 @@ impl<R: Wait> TileWorker<R> {
     /// Tries one step of the core over the worker's own lanes, and sends the part that it shows. While a part waits from before, a step sends it and does
     /// nothing else.
     fn advance(&mut self) -> Attempt
-        ensures steps { IsTurn IsTileTurn tile_came self.old result self.new }
+        ensures steps { IsWorkerTurn IsTileTurn tile_came self.old result self.new }
         ensures leads { TileLeads self.old self.new }
         ensures turns { TurnsGoOn IsTileTurn self.old self.new }
         ensures ended { result ≡ attempt.Ended → self.new.ended ≡ true }
@@ -111,7 +111,7 @@ impl<R: Wait> Worker for TileWorker<R> {
     ghost use Rattle.rc_base.specs.declared.gate.Actor.TheVariants as actor;
     ghost use Rattle.cluster_run.specs.Steps.{IsTileTurn, tile_came};
     ghost use Rattle.cluster_run.specs.Tiles.{TileLeads};
-    ghost use Rattle.cluster_run.specs.Turns.{IsTurn, TurnsGoOn};
+    ghost use Rattle.cluster_run.specs.Turns.{IsWorkerTurn, TurnsGoOn};
 
     ghost leads = { λ a b. TileLeads a b × TurnsGoOn IsTileTurn a b };
 
@@ -119,7 +119,7 @@ impl<R: Wait> Worker for TileWorker<R> {
 
     ghost who = { λ w. actor.Tile w.number };
 
-    ghost steps = { IsTurn IsTileTurn tile_came };
+    ghost steps = { IsWorkerTurn IsTileTurn tile_came };
 
     ghost stays = { λ a. ((λ scene l tile took heard shown h. h), (λ first h. h)) };
 

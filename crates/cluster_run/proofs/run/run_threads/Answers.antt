@@ -94,6 +94,7 @@ returns-clause-workers g c =
     let crew = c.in_ok-crew.field-0.crew in
     let tasks = c.in_ok-ended.ended in
     both_ok c.complete.result _ (λ r. IsRunOfWorkers g.row.R.Denot scene l c.args.depth r.kept r.tallies r.waiting r.faults) _
+    c.complete.ensures.collected c.complete.ensures.orderly
     (λ r cores orderly.
     record {
       names = made.0;
@@ -108,4 +109,4 @@ returns-clause-workers g c =
       tiles = cores.1;
       cores = cores.2;
       collected = cores.3;
-    }) c.complete.ensures.collected c.complete.ensures.orderly
+    })
