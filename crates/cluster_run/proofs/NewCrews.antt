@@ -23,9 +23,9 @@ use Rattle.scene_lemmas.proofs.Scenes.{scene_client_count}
 use Rattle.cluster_run.specs.Clients.{IsClientWorker}
 use Rattle.cluster_run.specs.Managers.{IsManagerWorker}
 use Rattle.cluster_run.specs.Tiles.{IsTileWorker, parts_of}
-use Rattle.cluster_run.specs.Clusters.{LaneNames, AreSoDeep, IsCluster}
+use Rattle.cluster_run.specs.Clusters.{LaneNames, AreSoDeep}
 use Rattle.cluster_run.specs.NewWorkers.{AreNewClients, AreNewTiles, AreUntaken, IsNewManager}
-use Rattle.cluster_run.specs.Workers.{AreUnused}
+use Rattle.cluster_run.specs.Workers.{AreUnused, IsNewCluster}
 use Rattle.cluster_run.specs.declared.workers.ClientWorker.{ClientWorker}
 use Rattle.cluster_run.specs.declared.workers.ManagerWorker.{ManagerWorker}
 use Rattle.cluster_run.specs.declared.workers.TileWorker.{TileWorker}
@@ -207,18 +207,11 @@ module _ {R : Type 0} (scene : Scene) (l : Layout) (depth : ℕ) (ins : List (Ve
         (tiles.parts_are.at t w (some_item parts.items t (let n = tiles.parts_are.count in omega (arith, n, in_crew))) in_crew).unsent;
   }
 
-  pub new_crew_is : (names : LaneNames) × IsCluster scene l names crew × AreUntaken (tile_count l) names.parts parts.items
-      × AreSoDeep (length scene.streams) (tile_count l) depth names × AreUnused (length scene.streams) (tile_count l) crew
-  new_crew_is = (
-    names_of,
-    record {
-      clients = client_total;
-      tiles = tile_total;
-      client = new_client_is;
-      manager = new_manager_is;
-      tile = new_tile_is;
-    },
-    untaken_parts,
-    so_deep,
-    unused,
-  )
+  pub new_crew_is : IsNewCluster scene l depth crew parts.items
+  new_crew_is = record {
+    names = names_of;
+    cluster = record { clients = client_total; tiles = tile_total; client = new_client_is; manager = new_manager_is; tile = new_tile_is };
+    untaken = untaken_parts;
+    deep = so_deep;
+    unused = unused;
+  }

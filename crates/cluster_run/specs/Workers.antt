@@ -4,6 +4,7 @@ use Rattle.std.specs.List.{flat_map}
 use Rattle.rc_base.specs.Cluster.Tiles.{tile_count}
 use Rattle.rc_base.specs.Lists.{ArePaired, IsFront}
 use Rattle.rc_base.specs.declared.cluster.Tally.{Tally}
+use Rattle.rc_base.specs.declared.scene.Decl.{Decl}
 use Rattle.rc_base.specs.declared.scene.Scene.{Scene}
 use Rattle.rc_base.specs.declared.cluster.TilePart.{TilePart}
 use Rattle.rc_base.specs.declared.state.Fault.{Fault}
@@ -27,6 +28,7 @@ use Rattle.worker_crew.specs.declared.crew.Crew.{Crew}
 use Rattle.worker_crew.specs.declared.task.Task.{Task}
 use Rattle.cluster_run.specs.Apart.{IsAmpleClient, IsAmpleTile}
 use Rattle.cluster_run.specs.Clusters.{LaneNames, AreSoDeep, IsCluster, IsEndedCluster}
+use Rattle.cluster_run.specs.NewWorkers.{AreUntaken}
 use Rattle.cluster_run.specs.Steps.{TileTurn, parcels_by, requests_by, parcels_in, grants_in, parts_by, IsClientTurn, IsManagerTurn, IsTileTurn}
 use Rattle.cluster_run.specs.Turns.{AreWorkerTurns, TurnsLead}
 use Rattle.cluster_run.specs.declared.workers.ClientWorker.{ClientWorker}
@@ -47,6 +49,15 @@ module _ {R : Type 0} where
         → taken_of (slice_index_or (slice_index_or crew.tiles.items t w).clients.items c b) ≡ []
     pub unheard : (t : ℕ) (w : TileWorker R) → t < tiles → taken_of (slice_index_or crew.tiles.items t w).grants ≡ []
     pub unshown : (t : ℕ) (w : TileWorker R) → t < tiles → sent_of (slice_index_or crew.tiles.items t w).parts ≡ []
+
+  -- The workers of a scene on the tiles of a layout, joined by new lanes that hold so many items, and the receiving ends of the lanes of parts.
+  pub record IsNewCluster (scene : Scene) (l : Layout) (depth : ℕ) (crew : Crew (ClientWorker R) (ManagerWorker R) (TileWorker R)) (parts : List (LaneOut TilePart R))
+      : Type 0 where
+    pub names : LaneNames
+    pub cluster : IsCluster scene l names crew
+    pub untaken : AreUntaken (tile_count l) names.parts parts
+    pub deep : AreSoDeep (length scene.streams) (tile_count l) depth names
+    pub unused : AreUnused (length scene.streams) (tile_count l) crew
 
   -- ---- turns
 
@@ -109,6 +120,14 @@ module _ {R : Type 0} where
     pub ample : is_manager_short tasks.manager.worker.core ≡ false
     pub tiles_are : ArePaired IsAmpleTile tasks.tiles.items tiles
 
+  -- what is told of a run is what was collected of the cores of these tasks
+  pub record IsLeftBy (decl : Decl) (tasks : Crew (Task (ClientWorker R)) (Task (ManagerWorker R)) (Task (TileWorker R))) (kept : Record) (tallies : List Tally)
+      (waiting : Option Waiting) (faults : List (List (ℕ × Fault))) : Type 0 where
+    pub clients : List ClientCore
+    pub tiles : List TileCore
+    pub cores : AreCoresOf tasks clients tiles
+    pub collected : AreCollected decl clients tasks.manager.worker.core tiles kept tallies waiting faults
+
 -- A run, as each worker by itself knows it. There are workers of the scene's clients, of the manager and of the tiles, joined by lanes that hold so many items. By turns of its
 -- own, one behind the other, each came to its end; of each lane a front of what was sent was taken; and what the run tells is what was collected of their cores.
 pub record IsRunOfWorkers (R : Type 0) (scene : Scene) (l : Layout) (depth : ℕ) (kept : Record) (tallies : List Tally) (waiting : Option Waiting)
@@ -121,7 +140,4 @@ pub record IsRunOfWorkers (R : Type 0) (scene : Scene) (l : Layout) (depth : ℕ
   pub ends : IsEndedCluster scene l names tasks
   pub turned : HaveTurned (length scene.streams) (tile_count l) crew tasks
   pub orderly : AreOrderly (length scene.streams) (tile_count l) tasks
-  pub clients : List ClientCore
-  pub tiles : List TileCore
-  pub cores : AreCoresOf tasks clients tiles
-  pub collected : AreCollected scene.decl clients tasks.manager.worker.core tiles kept tallies waiting faults
+  pub left : IsLeftBy scene.decl tasks kept tallies waiting faults

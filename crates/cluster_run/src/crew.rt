@@ -2,9 +2,8 @@
 ghost use Rattle.std.specs.Prelude.{◌≡◌, length, IfOk};
 ghost use Rattle.rc_base.specs.Cluster.Tiles.{tile_count};
 ghost use Rattle.rc_base.specs.Formats.Within.{IsWithin, IsLayoutFor};
-ghost use Rattle.cluster_run.specs.Clusters.{LaneNames, AreSoDeep, IsCluster};
-ghost use Rattle.cluster_run.specs.NewWorkers.{AreUntaken, IsNewManager};
-ghost use Rattle.cluster_run.specs.Workers.{AreUnused};
+ghost use Rattle.cluster_run.specs.NewWorkers.{IsNewManager};
+ghost use Rattle.cluster_run.specs.Workers.{IsNewCluster};
 
 use crate::clients::new_clients;
 use crate::tiles::new_tiles;
@@ -65,7 +64,7 @@ pub(crate) fn new_crew<R: Threads + Copy + Send + Sync + Drop>(
 ) -> Result<NewCrew<R>, OutOfMemory>
     requires within { IsWithin scene.now }
     requires layout { IsLayoutFor scene.now layout.now depth }
-    ensures { IfOk result (λ new. (names : LaneNames) × IsCluster scene.now layout.now names new.crew × AreUntaken (tile_count layout.now) names.parts new.parts.items × AreSoDeep (length scene.now.streams) (tile_count layout.now) depth names × AreUnused (length scene.now.streams) (tile_count layout.now) new.crew) }
+    ensures { IfOk result (λ new. IsNewCluster scene.now layout.now depth new.crew new.parts.items) }
 {
     scenes_within_limits();
     let tile_count = layout.columns * layout.rows;

@@ -6,8 +6,6 @@ ghost use Rattle.rc_base.specs.Outside.Ends.{use_of};
 ghost use Rattle.rc_base.specs.declared.cluster.TilePart.{TilePart};
 ghost use Rattle.order_model.specs.Report.{image_text_of};
 ghost use Rattle.run_record.specs.Closed.{AreClosed};
-ghost use Rattle.client_issue.specs.declared.client.ClientCore.{ClientCore};
-ghost use Rattle.tile_server.specs.declared.tile_core.TileCore.{TileCore};
 ghost use Rattle.run_record.specs.Collected.{AreCollected, IsWholeRun};
 ghost use Rattle.run_record.specs.Told.{IsRun};
 ghost use Rattle.frame_out.specs.Laws.{HasWindow};
@@ -16,7 +14,7 @@ ghost use Rattle.tile_queues.specs.Names.{AreOutOf};
 ghost use Rattle.cluster_run.specs.Clusters.{LaneNames, IsEndedCluster};
 ghost use Rattle.cluster_run.specs.Fronts.{GaveFront};
 ghost use Rattle.cluster_run.specs.Serving.{IsSince};
-ghost use Rattle.cluster_run.specs.Workers.{AreCoresOf, AreOrderly, IsRunOfWorkers};
+ghost use Rattle.cluster_run.specs.Workers.{AreOrderly, IsLeftBy, IsRunOfWorkers};
 
 use crate::cores::{Cores, cores_of};
 use crate::crew::{NewCrew, new_crew};
@@ -94,7 +92,7 @@ fn complete<K: Sink, R: Wait + Copy>(
     ensures front { (start : K) → IsSince K.held K.faults layout.now start frames image.old → GaveFront layout.now (use_of K.held K.faults start image.new) }
     ensures later { K.faults image.old ≤ K.faults image.new }
     ensures orderly { OnOk result (AreOrderly (length scene.now.streams) (tile_count layout.now) ended) }
-    ensures collected { IfOk result (λ r. (clients : List ClientCore) × (tiles : List TileCore) × AreCoresOf ended clients tiles × AreCollected scene.now.decl clients ended.manager.worker.core tiles r.kept r.tallies r.waiting r.faults) }
+    ensures left { IfOk result (λ r. IsLeftBy scene.now.decl ended r.kept r.tallies r.waiting r.faults) }
 {
     named_ends_are_paired::<TilePart, R>();
     frames_of_scenes_are_writable();

@@ -65,14 +65,15 @@ returns-clause-written g c start on =
 pub returns-clause-orderly : goal.returns-clause-orderly
 returns-clause-orderly g c = let e = c.requires.ended in c.in_ok-clients.ensures.orderly c.args.scene.now c.args.layout.now e.0 e.1
 
-pub returns-clause-collected : goal.returns-clause-collected
-returns-clause-collected g c =
+pub returns-clause-left : goal.returns-clause-left
+returns-clause-left g c =
     let cores = c.in_ok-clients.field-0 in
     let are = c.in_ok-clients.ensures.cores in
-    let kept = c.in_ok-kept.field-0 in (
-      cores.clients.items,
-      cores.tiles.items,
-      are.1,
-      subst (λ (core : ManagerCore). AreCollected c.args.scene.now.decl cores.clients.items core cores.tiles.items kept.kept kept.tallies kept.waiting kept.faults) are.0
-          c.in_ok-kept.ensures.collected,
-    )
+    let left = c.in_ok-kept.field-0 in
+    record {
+      clients = cores.clients.items;
+      tiles = cores.tiles.items;
+      cores = are.1;
+      collected = subst (λ (core : ManagerCore). AreCollected c.args.scene.now.decl cores.clients.items core cores.tiles.items left.kept left.tallies left.waiting left.faults) are.0
+          c.in_ok-kept.ensures.collected;
+    }
