@@ -3,7 +3,7 @@ use Rattle.std.specs.Prelude.{◌≡◌, ℕ, ◌⊎◌, Bool, true, false, List
 use Rattle.rc_base.specs.declared.cluster.TilePart.{TilePart}
 use Rattle.rc_base.specs.declared.image.Image.{Image}
 use Rattle.rc_base.specs.declared.window.Layout.{Layout}
-use Rattle.assembler.specs.Parts.{ArePartsOf, picture}
+use Rattle.assembler.specs.Parts.{ArePartsOf, black_image, picture}
 use Rattle.assembler.specs.Places.{AllFit, AreDropped, AreFound, HasGap, HasMisfit, no_parts}
 use Rattle.assembler.specs.declared.places.Assembler.{Assembler}
 
@@ -18,7 +18,7 @@ short_of a = a.short
 abbrev pub places_of : Assembler → List (Option TilePart)
 places_of a = a.places.items
 
--- its image, of the last frame that was completed
+-- its image
 abbrev pub image_in : Assembler → Image
 image_in a = a.image
 
@@ -27,8 +27,10 @@ abbrev pub shows : Bool → Assembler → Option Image
 shows true a = Some a.image
 shows false a = None
 
+-- no part was taken, and its image is black
 pub record IsNewAssembler (l : Layout) (a : Assembler) : Type 0 where
   pub layout : layout_of a ≡ l
+  pub image : image_in a ≡ black_image l
   pub short : short_of a ≡ false
   pub places : places_of a ≡ no_parts l
 
@@ -72,8 +74,10 @@ module _ {I : Type 0} (gave : I → TilePart → I → Type 0) (same : I → I �
     pub short : short_of after ≡ true
     pub each : AreDropped gave same empty_seen bare lanes later
 
+  -- of any: where no frame is completed the image stays
   pub record IsAssembled (before : Assembler) (lanes : List I) (result : Option Image) (after : Assembler) (later : List I) : Type 0 where
     pub layout : layout_of after ≡ layout_of before
+    pub kept : result ≡ None → image_in after ≡ image_in before
     pub whole : short_of before ≡ false → IsAssembledOf before lanes result after later
     pub refused : short_of before ≡ true → IsRefused lanes result after later
 

@@ -1,5 +1,5 @@
 -- The parts of a frame, one for each tile, and the pixels that they have.
-use Rattle.std.specs.Prelude.{◌≡◌, ℕ, ◌+◌, ◌-◌, ◌*◌, true, List, [], length, Some, slice_get, slice_index_or, ℤ, pos}
+use Rattle.std.specs.Prelude.{◌≡◌, ℕ, ◌+◌, ◌-◌, ◌*◌, true, List, [], length, replicate, Some, slice_get, slice_index_or, ℤ, pos}
 use Rattle.std.specs.Option.{option_map_or}
 use Rattle.rc_base.specs.Numbers.{natural}
 use Rattle.rc_base.specs.Drawing.Images.{Pixels, rgb_bytes}
@@ -59,6 +59,10 @@ window_image l pixels = record { width = l.width; height = l.height; rgb = rgb_b
 -- the image of parts: each pixel from its tile's part
 abbrev pub picture : Layout → List TilePart → Image
 picture l parts = window_image l (shown l parts)
+
+-- the image of the window that is black all over
+abbrev pub black_image : Layout → Image
+black_image l = record { width = l.width; height = l.height; rgb = replicate (3 * l.width * l.height) 0 }
 
 -- an image with the window's sides and their number of bytes
 pub record IsRoomFor (l : Layout) (image : Image) : Type 0 where

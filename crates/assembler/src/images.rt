@@ -1,6 +1,6 @@
 //! The image of one frame, written over one that stands.
-ghost use Rattle.std.specs.Prelude.{◌≡◌, ◌<◌, ◌*◌, length, IfOk};
-ghost use Rattle.assembler.specs.Parts.{ArePartsOf, IsRoomFor, picture};
+ghost use Rattle.std.specs.Prelude.{◌≡◌, ◌<◌, IfOk};
+ghost use Rattle.assembler.specs.Parts.{ArePartsOf, IsRoomFor, black_image, picture};
 
 use crate::rows::write_rows;
 use rc_base::cluster::TilePart;
@@ -12,7 +12,8 @@ use std::alloc::Global;
 
 /// A black image of the window.
 pub fn blank_image(alloc: Global, layout: &Layout) -> Result<Image, OutOfMemory>
-    ensures { IfOk result (IsRoomFor layout.now) }
+    ensures black { IfOk result (λ image. image ≡ black_image layout.now) }
+    ensures sides { IfOk result (IsRoomFor layout.now) }
 {
     let Layout { width, height, .. } = *layout;
     let mut rgb = Vec::new(alloc);

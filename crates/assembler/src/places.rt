@@ -144,6 +144,7 @@ impl Assembler {
     fn settle(&mut self) -> bool
         requires { short_of self.old ≡ false }
         ensures layout { layout_of self.new ≡ layout_of self.old }
+        ensures kept { result ≡ false → image_in self.new ≡ image_in self.old }
         ensures comes { ComesOf (layout_of self.old) (places_of self.old) (shows result self.new) self.new }
     {
         if has_misfit(&self.layout, self.places.as_slice()) {

@@ -20,7 +20,7 @@ use Rattle.serial_render.proofs.ClearDepths.{clearable}
 use Rattle.sort_last.specs.Layers.{layer_pixel, merged_pixel, cleared_pixel, composed_pixel}
 use Rattle.sort_last.specs.Offends.{IsComposable}
 use Rattle.sort_last.specs.Players.{AreNear, shows, draw_if, start_of}
-use Rattle.sort_last.specs.declared.play.Part.TheVariants as part
+use Rattle.sort_last.specs.declared.play.DrawPass.TheVariants as pass
 use Rattle.sort_last.proofs.DrawnByDepth.{IsDepth}
 use Rattle.sort_last.proofs.FrameBounds.{frame_cleared}
 use Rattle.sort_last.proofs.FramesOfJournals.{cleared_depths, frame_depths}
@@ -47,7 +47,7 @@ composed_near scene d frame x y = frame_depths scene d (depths scene) 0 x y fram
 module _ (scene : Scene) (d : IsComposable scene) (frame : ℕ) (some : 0 < length scene.streams) (inside : frame < length (sync_row_of scene 0).ops) (old mid : DeviceView)
     (same : mid.rect ≡ old.rect) (holds : Holds old (composed_pixel scene frame))
     (cleared : (let ops = (sync_row_of scene 0).ops in
-    EachTakes (λ x y p. fold (draw_if scene x y (shows part.Clears scene)) p (names_from 0 (start_of ops frame) (start_of ops (frame + 1) - start_of ops frame))) old mid)) where
+    EachTakes (λ x y p. fold (draw_if scene x y (shows pass.Clears scene)) p (names_from 0 (start_of ops frame) (start_of ops (frame + 1) - start_of ops frame))) old mid)) where
   background : (x y : ℤ) → is_in_rect mid.rect x y ≡ true → pixel_of mid x y ≡ cleared_pixel scene (frame + 1) x y (composed_pixel scene frame x y)
   background x y in_mid =
       let in_old : is_in_rect old.rect x y ≡ true = ap (λ (r : Rect). is_in_rect r x y) (sym same) ∙ in_mid in

@@ -24,7 +24,7 @@ use Rattle.scene_lemmas.proofs.Triangles.{nearer_is_first}
 use Rattle.sort_last.specs.Layers.{layer_pixel}
 use Rattle.sort_last.specs.Offends.{IsComposable}
 use Rattle.sort_last.specs.Players.{IsSheet, HasDrawn, HaveDrawn, shows, draw_if, start_of}
-use Rattle.sort_last.specs.declared.play.Part.TheVariants as part
+use Rattle.sort_last.specs.declared.play.DrawPass.TheVariants as pass
 use Rattle.sort_last.specs.declared.player.Player.{Player}
 use Rattle.sort_last.specs.declared.sheet.Sheet.{Sheet}
 use Rattle.sort_last.proofs.ComposedFrames.{depths}
@@ -49,17 +49,17 @@ far_is_blank g m far = m blank_pixel (omega arith) ∙ nearer_is_first blank_pix
 
 -- so a pixel of a layer is blank where it is as far as can be
 pub layer_blank : (scene : Scene) → IsComposable scene → (client from count : ℕ) (x y : ℤ) (p : Pixel)
-    → p ≡ fold (draw_if scene x y (shows part.Layer scene)) blank_pixel (names_from client from count) → p.depth ≡ depth_most → p ≡ blank_pixel
+    → p ≡ fold (draw_if scene x y (shows pass.Layer scene)) blank_pixel (names_from client from count) → p.depth ≡ depth_most → p ≡ blank_pixel
 layer_blank scene d client from count x y p is far =
     let names = names_from client from count in
-    is ∙ far_is_blank (λ p. fold (draw_if scene x y (shows part.Layer scene)) p names) (run_merges scene d (depths scene) x y names) (ap (λ (q : Pixel). q.depth) (sym is) ∙ far)
+    is ∙ far_is_blank (λ p. fold (draw_if scene x y (shows pass.Layer scene)) p names) (run_merges scene d (depths scene) x y names) (ap (λ (q : Pixel). q.depth) (sym is) ∙ far)
 
 -- one more frame
 pub frame_added : (scene : Scene) → IsComposable scene → (client frame : ℕ) → client < length scene.streams → frame < length (sync_row_of scene client).ops
     → (first from to : ℕ) (x y : ClientContext) (s : Sheet) (old new : List Sheet) → first ≤ frame → frame < first + length old
     → from ≡ start_of (sync_row_of scene client).ops frame → to ≡ start_of (sync_row_of scene client).ops (frame + 1) → y ≡ context_after scene client to
     → IsSheet (window_rect scene.decl.width scene.decl.height) s
-    → Holds s.device (λ x y. fold (draw_if scene x y (shows part.Layer scene)) blank_pixel (names_from client from (to - from)))
+    → Holds s.device (λ x y. fold (draw_if scene x y (shows pass.Layer scene)) blank_pixel (names_from client from (to - from)))
     → new ≡ slice_set old (frame - first) s → HasDrawn scene client first frame x old → HasDrawn scene client first (frame + 1) y new
 frame_added scene d client frame lt inside first from to x y s old new low room a b c sheet holds items h =
     let at = frame - first in
@@ -67,7 +67,7 @@ frame_added scene d client frame lt inside first from to x y s old new low room 
     let here : Holds s.device (layer_pixel scene client (frame + 1)) =
     λ x y within.
     holds x y within
-    ∙ (λ i. fold (draw_if scene x y (shows part.Layer scene)) blank_pixel (names_from client (a i) (b i - a i)))
+    ∙ (λ i. fold (draw_if scene x y (shows pass.Layer scene)) blank_pixel (names_from client (a i) (b i - a i)))
     ∙ frame_layer scene d client lt frame inside x y in
     let new_at = λ (k : ℕ) (m : Sheet) (e : k ≡ at). ap (λ ls. slice_index_or ls k m) items ∙ get_or-set_at old at k s m e (omega (arith, low, room)) in
     let old_at = λ (k : ℕ) (m : Sheet) (ne : k ≡ at → ⊥). ap (λ ls. slice_index_or ls k m) items ∙ get_or-set_other old at k s m ne in

@@ -25,7 +25,7 @@ use Rattle.stream_replay.proofs.AcceptedSwaps.{no_swaps}
 use Rattle.sort_last.specs.Layers.{layer_pixel, cleared_pixel, clears}
 use Rattle.sort_last.specs.Offends.{IsComposable}
 use Rattle.sort_last.specs.Players.{draw_if, shows, place_in, start_of}
-use Rattle.sort_last.specs.declared.play.Part.TheVariants as part
+use Rattle.sort_last.specs.declared.play.DrawPass.TheVariants as pass
 use Rattle.sort_last.proofs.FramesOfClients.{swap_is_still, IsFrame, others, layer_is, cleared_is}
 use Rattle.sort_last.proofs.FramesOfJournals.{IsAt, waits_from, below_is, stop_in, next_in, frame_at, next_kinds, swap_next}
 
@@ -118,13 +118,13 @@ module _ (scene : Scene) (d : IsComposable scene) (c : ℕ) (lt : c < length sce
       ∙ swap_is_still scene x y shown (fold f p (names_from c a (b - a))) n (ends k le)
 
   pub frame_layer : (k : ℕ) → k < length ops → (x y : ℤ)
-      → fold (draw_if scene x y (shows part.Layer scene)) blank_pixel (names_from c (start_of ops k) (start_of ops (k + 1) - start_of ops k)) ≡ layer_pixel scene c (k + 1) x y
+      → fold (draw_if scene x y (shows pass.Layer scene)) blank_pixel (names_from c (start_of ops k) (start_of ops (k + 1) - start_of ops k)) ≡ layer_pixel scene c (k + 1) x y
   frame_layer k le x y = frame_fold k le (others scene) x y blank_pixel ∙ sym (layer_is scene d c k (start_of ops k) (place_in ops k) (bounds k le) x y)
 
 -- client 0's Clears of a frame
 pub frame_cleared : (scene : Scene) → IsComposable scene → 0 < length scene.streams → (k : ℕ) → k < length (sync_row_of scene 0).ops → (x y : ℤ) (p : Pixel)
     → (let ops = (sync_row_of scene 0).ops in
-    fold (draw_if scene x y (shows part.Clears scene)) p (names_from 0 (start_of ops k) (start_of ops (k + 1) - start_of ops k)) ≡ cleared_pixel scene (k + 1) x y p)
+    fold (draw_if scene x y (shows pass.Clears scene)) p (names_from 0 (start_of ops k) (start_of ops (k + 1) - start_of ops k)) ≡ cleared_pixel scene (k + 1) x y p)
 frame_cleared scene d lt k le x y p =
     let ops = (sync_row_of scene 0).ops in
     frame_fold scene d 0 lt k le (clears scene) x y p ∙ sym (cleared_is scene d k (start_of ops k) (place_in ops k) (bounds scene d 0 lt k le) x y p)

@@ -25,17 +25,17 @@ use Rattle.serial_render.specs.Steps.{Holds}
 use Rattle.sort_last.specs.Layers.{is_clear, layer_pixel}
 use Rattle.sort_last.specs.declared.apart.Batch.{Batch}
 use Rattle.sort_last.specs.declared.apart.ClientNames.{ClientNames}
-use Rattle.sort_last.specs.declared.play.Part.{Part}
-use Rattle.sort_last.specs.declared.play.Part.TheVariants as part
+use Rattle.sort_last.specs.declared.play.DrawPass.{DrawPass}
+use Rattle.sort_last.specs.declared.play.DrawPass.TheVariants as pass
 use Rattle.sort_last.specs.declared.player.Player.{Player}
 use Rattle.sort_last.specs.declared.sheet.Sheet.{Sheet}
 
-abbrev pub shows_effect : Part → Effect → Bool
-shows_effect part.Layer e = not (is_clear e)
-shows_effect part.Clears e = is_clear e
+abbrev pub shows_effect : DrawPass → Effect → Bool
+shows_effect pass.Layer e = not (is_clear e)
+shows_effect pass.Clears e = is_clear e
 
--- the name is of the part
-abbrev pub shows : Part → Scene → Name → Bool
+-- the name is of the pass
+abbrev pub shows : DrawPass → Scene → Name → Bool
 shows p scene n = shows_effect p (effect_at scene n.client n.place)
 
 -- a pixel after a name, where no shared texture was written
@@ -46,8 +46,8 @@ draw scene x y p n = pixel_step scene n (blank_textures scene) x y p
 abbrev pub draw_if : Scene → ℤ → ℤ → (Name → Bool) → Pixel → Name → Pixel
 draw_if scene x y shown p n = if shown n then draw scene x y p n else p
 
--- what the effect of a command of the part does to a device's pixels; that of another command leaves them
-abbrev pub HasEffect : Part → Effect → ClientContext → List (Option Picture) → DeviceView → DeviceView → Type 0
+-- what the effect of a command of the pass does to a device's pixels; that of another command leaves them
+abbrev pub HasEffect : DrawPass → Effect → ClientContext → List (Option Picture) → DeviceView → DeviceView → Type 0
 HasEffect p e context shared before after =
     EachTakes (λ x y old. if shows_effect p e then effect_step context.state (texture_image context.images) (shared_of shared) e x y old else old) before after
 
@@ -64,17 +64,17 @@ context_before scene names = context_after scene names.client names.from
 abbrev pub context_behind : Scene → ClientNames → ClientContext
 context_behind scene names = context_after scene names.client names.to
 
--- a pixel after those of the names that are of the part
-abbrev pub pixel_behind : Scene → Part → ClientNames → ℤ → ℤ → Pixel → Pixel
+-- a pixel after those of the names that are of the pass
+abbrev pub pixel_behind : Scene → DrawPass → ClientNames → ℤ → ℤ → Pixel → Pixel
 pixel_behind scene p names x y old = fold (draw_if scene x y (shows p scene)) old (names_from names.client names.from (names.to - names.from))
 
--- each pixel of a device is as those of the names that are of the part leave it
-abbrev pub ShowsNames : Scene → Part → ClientNames → DeviceView → DeviceView → Type 0
+-- each pixel of a device is as those of the names that are of the pass leave it
+abbrev pub ShowsNames : Scene → DrawPass → ClientNames → DeviceView → DeviceView → Type 0
 ShowsNames scene p names before after = EachTakes (pixel_behind scene p names) before after
 
 -- the picture that the names of the layer draw on blank pixels
 abbrev pub layer_of : Scene → ClientNames → ℤ → ℤ → Pixel
-layer_of scene names x y = pixel_behind scene part.Layer names x y blank_pixel
+layer_of scene names x y = pixel_behind scene pass.Layer names x y blank_pixel
 
 -- ---- a client's frames
 

@@ -10,7 +10,7 @@ ghost use Rattle.sort_last.specs.Offends.{IsComposable};
 ghost use Rattle.sort_last.specs.Players.{scene_window, AreNear, IsInBatch, HaveDrawn, HaveLayers};
 
 use crate::apart::Batch;
-use crate::play::{Part, play};
+use crate::play::{DrawPass, play};
 use crate::player::{Player, draw_batch, frame_names, player_at, players_of};
 use draw_device::Device;
 use gl_context::Context;
@@ -106,7 +106,7 @@ impl Composition {
     {
         let names = frame_names(batch, 0, frame);
         play(
-            Part::Clears,
+            DrawPass::Clears,
             batch,
             names,
             &mut self.clears,

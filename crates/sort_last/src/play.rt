@@ -1,8 +1,8 @@
-//! Carrying out a part of a client's commands on a device.
+//! One pass over a client's commands, carried out on a device.
 ghost use Rattle.std.specs.Prelude.{◌≡◌, OnOk};
 ghost use Rattle.draw_device.specs.Conditions.{IsDrawable, IsClearable};
 ghost use Rattle.sort_last.specs.Players.{HasEffect, StandIn, context_before, context_behind, ShowsNames};
-ghost use Rattle.sort_last.specs.declared.play.Part.TheVariants as parts;
+ghost use Rattle.sort_last.specs.declared.play.DrawPass.TheVariants as passes;
 
 use crate::apart::{Batch, ClientNames};
 use draw_device::Device;
@@ -12,9 +12,9 @@ use rc_base::state::Effect;
 use stream_replay::issue_at;
 use textures::SharedSet;
 
-/// Which of a client's commands draw: those of its layer, or its Clears.
+/// A pass over a client's commands: which of them draw, those of its layer or its Clears.
 #[derive(Clone, Copy)]
-pub(crate) enum Part {
+pub(crate) enum DrawPass {
     Layer,
     Clears,
 }
@@ -23,7 +23,7 @@ pub(crate) enum Part {
 fn draw_block(effect: &Effect, context: &Context, device: &mut Device, shared: &SharedSet)
     requires { IsDrawable context.now.state context.now.images shared.now }
     ensures rect { device.new.rect ≡ device.old.rect }
-    ensures drawn { HasEffect parts.Layer effect.now context.now shared.now device.old device.new }
+    ensures drawn { HasEffect passes.Layer effect.now context.now shared.now device.old device.new }
 {
     if let Effect::Block(block) = effect {
         device.draw(context.state(), block, context.private(), shared);
@@ -34,7 +34,7 @@ fn draw_block(effect: &Effect, context: &Context, device: &mut Device, shared: &
 fn clear(effect: &Effect, context: &Context, device: &mut Device, shared: &SharedSet)
     requires { IsClearable context.now.state }
     ensures rect { device.new.rect ≡ device.old.rect }
-    ensures drawn { HasEffect parts.Clears effect.now context.now shared.now device.old device.new }
+    ensures drawn { HasEffect passes.Clears effect.now context.now shared.now device.old device.new }
 {
     let _shared = shared;
     if let Effect::Clear(mask) = effect {
@@ -42,9 +42,9 @@ fn clear(effect: &Effect, context: &Context, device: &mut Device, shared: &Share
     }
 }
 
-// What a command of the part does beyond its context.
+// What a command of the pass does beyond its context.
 fn carry_out(
-    part: Part,
+    pass: DrawPass,
     effect: &Effect,
     context: &Context,
     device: &mut Device,
@@ -53,17 +53,17 @@ fn carry_out(
     requires drawable { IsDrawable context.now.state context.now.images shared.now }
     requires clearable { IsClearable context.now.state }
     ensures rect { device.new.rect ≡ device.old.rect }
-    ensures drawn { HasEffect part effect.now context.now shared.now device.old device.new }
+    ensures drawn { HasEffect pass effect.now context.now shared.now device.old device.new }
 {
-    match part {
-        Part::Layer => draw_block(effect, context, device, shared),
-        Part::Clears => clear(effect, context, device, shared),
+    match pass {
+        DrawPass::Layer => draw_block(effect, context, device, shared),
+        DrawPass::Clears => clear(effect, context, device, shared),
     }
 }
 
-/// Issues these commands of a client, and carries out those of the part.
+/// Issues these commands of a client, and carries out those of the pass.
 pub(crate) fn play(
-    part: Part,
+    pass: DrawPass,
     batch: &Batch<'_>,
     names: ClientNames,
     context: &mut Context,
@@ -73,11 +73,11 @@ pub(crate) fn play(
     requires before { context.old ≡ context_before batch.now.scene.now names }
     ensures context { OnOk result (context.new ≡ context_behind batch.now.scene.now names) }
     ensures rect { OnOk result (device.new.rect ≡ device.old.rect) }
-    ensures drawn { OnOk result (ShowsNames batch.now.scene.now part names device.old device.new) }
+    ensures drawn { OnOk result (ShowsNames batch.now.scene.now pass names device.old device.new) }
 {
     for place in names.from..names.to {
         let effect = issue_at(context, batch.scene, names.client, place)?;
-        carry_out(part, &effect, context, device, batch.shared);
+        carry_out(pass, &effect, context, device, batch.shared);
         context.take_back(effect);
     }
     Ok(())

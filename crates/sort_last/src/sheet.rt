@@ -5,7 +5,7 @@ ghost use Rattle.serial_render.specs.Steps.{Holds};
 ghost use Rattle.sort_last.specs.Players.{StandIn, context_before, context_behind, layer_of, scene_window, AreNear, TakesNearer, IsSheet};
 
 use crate::apart::{Batch, ClientNames};
-use crate::play::{Part, play};
+use crate::play::{DrawPass, play};
 use draw_device::{Device, PixelRun};
 use gl_context::Context;
 use rc_base::out_of_memory::OutOfMemory;
@@ -47,7 +47,7 @@ impl Sheet {
         ensures layer { OnOk result (Holds self.new.device (layer_of batch.now.scene.now names)) }
     {
         self.device.blank(self.drawn);
-        play(Part::Layer, batch, names, context, &mut self.device)?;
+        play(DrawPass::Layer, batch, names, context, &mut self.device)?;
         self.drawn = self.device.drawn();
         Ok(())
     }

@@ -34,10 +34,23 @@ End
 Swap
 ";
 
-// One client, with more acts than a lane of three items holds.
-const FIVE_CLEARS: &[u8] = b"scene 1 1 1
+// One client, with more acts than the deepest lane holds.
+const EIGHTEEN_CLEARS: &[u8] = b"scene 1 1 1
 client
 ClearColor 255 0 0 255
+Clear 1
+Clear 1
+Clear 1
+Clear 1
+Clear 1
+Clear 1
+Clear 1
+Clear 1
+Clear 1
+Clear 1
+Clear 1
+Clear 1
+Clear 1
 Clear 1
 Clear 1
 Clear 1
@@ -305,7 +318,7 @@ fn is_so_deep<R>(rt: R, alloc: Global, word: &str, depth: u64) -> bool
 where
     R: Abort + Threads + Wait + Copy + Send + Sync + Drop,
 {
-    let scene = packed(rt, alloc, FIVE_CLEARS);
+    let scene = packed(rt, alloc, EIGHTEEN_CLEARS);
     let gate = HoldsTile::new(depth);
     let left = left_by(
         rt,
@@ -319,7 +332,7 @@ where
         && !gate.is_past.load(Ordering::SeqCst)
 }
 
-const DEPTHS: [(&str, u64); 2] = [("1", 1), ("3", 3)];
+const DEPTHS: [(&str, u64); 3] = [("1", 1), ("3", 3), ("16", 16)];
 
 #[test]
 fn lanes_are_as_deep_as_the_words_say(rt: HostRuntime) {

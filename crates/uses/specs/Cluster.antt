@@ -4,6 +4,7 @@ use Rattle.rc_base.specs.Cluster.PlainLanes.{held}
 use Rattle.rc_base.specs.Outside.Causes.{last_count}
 use Rattle.rc_base.specs.declared.cluster.Tally.{Tally}
 use Rattle.rc_base.specs.declared.cluster.TilePart.{TilePart}
+use Rattle.rc_base.specs.declared.image.Image.{Image}
 use Rattle.rc_base.specs.declared.plain_lane.PlainLane.{PlainLane}
 use Rattle.client_issue.specs.Cores.{no_tally, tally_of_tile}
 use Rattle.client_issue.specs.declared.client.ClientCore.{ClientCore}
@@ -17,6 +18,10 @@ GivesOneAtMost before after = (held after ≡ held before) ⊎ ((part : TilePart
 -- so of each lane
 abbrev pub GiveOneAtMost : List (PlainLane TilePart) → List (PlainLane TilePart) → Type 0
 GiveOneAtMost before after = (tile : ℕ) (d : PlainLane TilePart) → tile < length before → GivesOneAtMost (slice_index_or before tile d) (slice_index_or after tile d)
+
+-- each byte of the image is 0
+abbrev pub IsBlack : Image → Type 0
+IsBlack m = (i : ℕ) → slice_index_or m.rgb i 0 ≡ 0
 
 -- the tallies count no fewer parcels to a tile than any client has sent there, up to their type's end
 abbrev pub CountEach : List ClientCore → ℕ → List Tally → Type 0

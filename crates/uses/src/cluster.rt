@@ -1,5 +1,5 @@
 //! Parts of tiles, frames that are written, and what a cluster leaves.
-ghost use Rattle.std.specs.Prelude.{◌≡◌, false, List, IfOk, length, slice_index_or};
+ghost use Rattle.std.specs.Prelude.{◌≡◌, ◌<◌, false, List, IfOk, IfSome, length, slice_index_or};
 ghost use Rattle.rc_base.specs.Cluster.Lanes.{Follows};
 ghost use Rattle.rc_base.specs.Cluster.Tiles.{tile_count};
 ghost use Rattle.rc_base.specs.Formats.Netpbm.{p6_texts};
@@ -7,11 +7,11 @@ ghost use Rattle.rc_base.specs.Outside.Ends.{use_of, Took};
 ghost use Rattle.rc_base.specs.declared.cluster.TilePart.{TilePart as AnyPart};
 ghost use Rattle.rc_base.specs.declared.scene.Scene.{Scene as AnyScene};
 ghost use Rattle.rc_base.specs.declared.window.Layout.{Layout as AnyLayout};
-ghost use Rattle.assembler.specs.Assembled.{layout_of};
+ghost use Rattle.assembler.specs.Assembled.{image_in, layout_of};
 ghost use Rattle.frame_out.specs.OnTheWay.{GaveFrames, IsOnTheWay};
 ghost use Rattle.frame_out.specs.Writing.{AreWritable};
 ghost use Rattle.run_record.specs.Gathering.{HaveSent};
-ghost use Rattle.uses.specs.Cluster.{AreOver, CountEach, GiveOneAtMost};
+ghost use Rattle.uses.specs.Cluster.{AreOver, CountEach, GiveOneAtMost, IsBlack};
 
 use assembler::Assembler;
 use client_issue::ClientCore;
@@ -24,6 +24,7 @@ use rc_base::out_of_memory::OutOfMemory;
 use rc_base::outside::Sink;
 use rc_base::plain_lane::PlainLane;
 use rc_base::scene::Decl;
+use rc_base::window::Layout;
 use run_record::{Collected, collect};
 use std::alloc::Global;
 use std::sync::Wait;
@@ -38,6 +39,24 @@ pub fn advanced(assembler: &mut Assembler, lanes: &mut [PlainLane<TilePart>]) ->
     ensures { GiveOneAtMost lanes.old lanes.new }
 {
     assembler.advance(lanes)
+}
+
+/// Makes an assembler, and takes parts once. Where they complete no frame its image is black all over.
+pub fn begun(
+    alloc: Global,
+    layout: &Layout,
+    lanes: &mut [PlainLane<TilePart>],
+) -> Result<Option<Assembler>, OutOfMemory>
+    requires columns { 0 < layout.now.columns }
+    requires rows { 0 < layout.now.rows }
+    requires lanes { length lanes.old ≡ tile_count layout.now }
+    ensures { IfOk result (λ begun. IfSome begun (λ a. IsBlack (image_in a))) }
+{
+    let mut assembler = Assembler::new(alloc, layout)?;
+    if assembler.advance(lanes) {
+        return Ok(None);
+    }
+    Ok(Some(assembler))
 }
 
 /// What cores leave that have ended. The tally of a tile counts the parcels of each client.

@@ -7,7 +7,7 @@ use Rattle.serial_render.specs.Shown.{images_of}
 use Rattle.serial_render.specs.Steps.{Holds}
 use Rattle.sort_last.specs.Layers.{composed_pixel}
 use Rattle.sort_last.specs.Players.{shows, draw_if}
-use Rattle.sort_last.specs.declared.play.Part.TheVariants as part
+use Rattle.sort_last.specs.declared.play.DrawPass.TheVariants as pass
 use Rattle.sort_last.proofs.ComposedFrames.{background_near, composed_next}
 use Rattle.sort_last.proofs.DrawnFrames.{some_streams}
 use Rattle.sort_last.proofs.compose.Composition.compose_frame.Goals as goal
@@ -37,7 +37,7 @@ put_layers-requires-clause-near c =
     let played = c.in_ok-play.ensures in
     let inside : frame < length (sync_row_of s 0).ops = omega (arith, c.requires.frame.less, b.frames 0 some) in
     background_near s b.ready.composable frame some inside old c.play.new.device played.rect c.requires.before.composed.holds
-    (λ x y within. played.drawn x y within ∙ (λ i. fold (draw_if s x y (shows part.Clears s)) (pixel_of old x y) (names_from (n.client_is i) (n.from_is i) (n.to_is i - n.from_is i))))
+    (λ x y within. played.drawn x y within ∙ (λ i. fold (draw_if s x y (shows pass.Clears s)) (pixel_of old x y) (names_from (n.client_is i) (n.from_is i) (n.to_is i - n.from_is i))))
 
 pub returns : goal.returns
 returns c =
@@ -53,7 +53,7 @@ returns c =
     let device = c.put_layers.new.device in
     let holds : Holds device (composed_pixel s (frame + 1)) =
     composed_next s b.ready.composable frame some inside old c.play.new.device played.rect before.holds
-    (λ x y within. played.drawn x y within ∙ (λ i. fold (draw_if s x y (shows part.Clears s)) (pixel_of old x y) (names_from (n.client_is i) (n.from_is i) (n.to_is i - n.from_is i))))
+    (λ x y within. played.drawn x y within ∙ (λ i. fold (draw_if s x y (shows pass.Clears s)) (pixel_of old x y) (names_from (n.client_is i) (n.from_is i) (n.to_is i - n.from_is i))))
     device c.put_layers.ensures.rect c.put_layers.ensures.drawn in
     let shown = c.in_ok-show_up_to.ensures in
     let count : length c.show_up_to.new.frames ≡ frame + 1 = omega (arith, shown.count, before.count) in

@@ -5,7 +5,7 @@ use Rattle.rc_base.specs.Drawing.Serial.{blank_pixel}
 use Rattle.rc_base.specs.Orders.Order.{names_from}
 use Rattle.rc_base.specs.Orders.Sync.{sync_row_of}
 use Rattle.sort_last.specs.Players.{scene_window, IsSheet, shows, draw_if}
-use Rattle.sort_last.specs.declared.play.Part.TheVariants as part
+use Rattle.sort_last.specs.declared.play.DrawPass.TheVariants as pass
 use Rattle.sort_last.proofs.DrawnFrames.{frame_added}
 use Rattle.sort_last.proofs.player.Player.draw_frame.Goals as goal
 
@@ -39,5 +39,5 @@ returns-clause-after c =
     let inside : c.args.frame < length (sync_row_of s c.args.client).ops = omega (arith, c.requires.frame.less, b.frames c.args.client c.requires.client) in
     frame_added s b.ready.composable c.args.client c.args.frame c.requires.client inside b.first names.from names.to _ _ c.draw.new.self c.args.self.now.sheets.items _
     c.requires.frame.low (omega (arith, c.requires.room, c.requires.frame.less)) n.from_is n.to_is (drawn.context ∙ ap (λ k. context_after s k names.to) n.client_is) drawn.sheet
-    (λ x y inside. drawn.layer x y inside ∙ ap (λ k. fold (draw_if s x y (shows part.Layer s)) blank_pixel (names_from k names.from (names.to - names.from))) n.client_is)
+    (λ x y inside. drawn.layer x y inside ∙ ap (λ k. fold (draw_if s x y (shows pass.Layer s)) blank_pixel (names_from k names.from (names.to - names.from))) n.client_is)
     refl c.requires.before

@@ -4,7 +4,7 @@ use Rattle.rc_base.specs.Orders.Order.{names_from}
 use Rattle.rc_base.specs.declared.window.Pixel.{Pixel}
 use Rattle.rc_base.specs.declared.window.Rect.{Rect}
 use Rattle.sort_last.specs.Players.{shows, draw_if}
-use Rattle.sort_last.specs.declared.play.Part.TheVariants as part
+use Rattle.sort_last.specs.declared.play.DrawPass.TheVariants as pass
 use Rattle.sort_last.proofs.DrawnFrames.{layer_blank}
 use Rattle.sort_last.proofs.sheet.Sheet.draw.Goals as goal
 
@@ -15,7 +15,7 @@ returns-clause-layer c x y inside =
     let blank_in : is_in_rect c.blank.new.self.rect x y ≡ true = ap (λ (r : Rect). is_in_rect r x y) (sym c.in_ok-play.ensures.rect) ∙ inside in
     let old_in : is_in_rect c.args.self.now.device.rect x y ≡ true = ap (λ (r : Rect). is_in_rect r x y) (sym c.blank.ensures.rect) ∙ blank_in in
     c.in_ok-play.ensures.drawn x y blank_in
-    ∙ ap (λ (p : Pixel). fold (draw_if s x y (shows part.Layer s)) p (names_from n.client n.from (n.to - n.from))) (c.blank.ensures.blank x y old_in)
+    ∙ ap (λ (p : Pixel). fold (draw_if s x y (shows pass.Layer s)) p (names_from n.client n.from (n.to - n.from))) (c.blank.ensures.blank x y old_in)
 
 pub returns-clause-sheet : goal.returns-clause-sheet
 returns-clause-sheet c =

@@ -24,17 +24,17 @@ use Rattle.serial_render.proofs.PlayedOrders.{step_is}
 use Rattle.stream_replay.proofs.ClientsInTurn.{some_command}
 use Rattle.sort_last.specs.Apart.{IsReady}
 use Rattle.sort_last.specs.Players.{shows_effect, shows, draw_if}
-use Rattle.sort_last.specs.declared.play.Part.{Part}
+use Rattle.sort_last.specs.declared.play.DrawPass.{DrawPass}
 
-pub played_none : (scene : Scene) (part : Part) (client from : ℕ) (x y : ℤ) (p : Pixel) → p ≡ fold (draw_if scene x y (shows part scene)) p (names_from client from (from - from))
-played_none scene part client from x y p = let e : 0 ≡ from - from = omega arith in ap (λ n. fold (draw_if scene x y (shows part scene)) p (names_from client from n)) e
+pub played_none : (scene : Scene) (pass : DrawPass) (client from : ℕ) (x y : ℤ) (p : Pixel) → p ≡ fold (draw_if scene x y (shows pass scene)) p (names_from client from (from - from))
+played_none scene pass client from x y p = let e : 0 ≡ from - from = omega arith in ap (λ n. fold (draw_if scene x y (shows pass scene)) p (names_from client from n)) e
 
-pub played_next : (scene : Scene) (part : Part) (client from place : ℕ) → from ≤ place → (x y : ℤ) (p q r : Pixel)
-    → q ≡ fold (draw_if scene x y (shows part scene)) p (names_from client from (place - from))
-    → r ≡ draw_if scene x y (shows part scene) q (record { client = client; place = place })
-    → r ≡ fold (draw_if scene x y (shows part scene)) p (names_from client from (place + 1 - from))
-played_next scene part client from place le x y p q r before step =
-    let f = draw_if scene x y (shows part scene) in
+pub played_next : (scene : Scene) (pass : DrawPass) (client from place : ℕ) → from ≤ place → (x y : ℤ) (p q r : Pixel)
+    → q ≡ fold (draw_if scene x y (shows pass scene)) p (names_from client from (place - from))
+    → r ≡ draw_if scene x y (shows pass scene) q (record { client = client; place = place })
+    → r ≡ fold (draw_if scene x y (shows pass scene)) p (names_from client from (place + 1 - from))
+played_next scene pass client from place le x y p q r before step =
+    let f = draw_if scene x y (shows pass scene) in
     let n : Name = record { client = client; place = place } in
     let count : place - from + 1 ≡ place + 1 - from = omega (arith, le) in
     step ∙ ap (λ s. f s n) before
@@ -42,15 +42,15 @@ played_next scene part client from place le x y p q r before step =
     ∙ ap (fold f p) (sym (names_from_more client from (place - from) place (omega (arith, le))))
     ∙ ap (λ k. fold f p (names_from client from k)) count
 
--- what a command of the part does on the device is what its name draws
-pub part_step : (scene : Scene) (shared : List (Option Picture)) (part : Part) (client place : ℕ) (context : ClientContext) (e : Effect) (x y : ℤ) (p : Pixel)
+-- what a command of the pass does on the device is what its name draws
+pub pass_step : (scene : Scene) (shared : List (Option Picture)) (pass : DrawPass) (client place : ℕ) (context : ClientContext) (e : Effect) (x y : ℤ) (p : Pixel)
     → IsReady scene shared → place < length (stream_of scene client) → context ≡ context_after scene client (place + 1) → e ≡ effect_at scene client place
-    → (if shows_effect part e then effect_step context.state (texture_image context.images) (shared_of shared) e x y p else p)
-    ≡ draw_if scene x y (shows part scene) p (record { client = client; place = place })
-part_step scene shared part client place context e x y p ready lt now is =
+    → (if shows_effect pass e then effect_step context.state (texture_image context.images) (shared_of shared) e x y p else p)
+    ≡ draw_if scene x y (shows pass scene) p (record { client = client; place = place })
+pass_step scene shared pass client place context e x y p ready lt now is =
     let n : Name = record { client = client; place = place } in
     let step = step_is scene n _ (blank_textures scene) shared context e x y p (some_command scene client place lt) now is (valid scene ready.within.commands client (place + 1)) ready.blank in
-    λ i. if shows_effect part (is i) then step i else p
+    λ i. if shows_effect pass (is i) then step i else p
 
 pub ready_drawable : (scene : Scene) (shared : List (Option Picture)) (client n : ℕ) (context : ClientContext) → IsReady scene shared → context ≡ context_after scene client n
     → IsDrawable context.state context.images shared
