@@ -1,7 +1,6 @@
 -- A crew that has ended, taken apart and with its lanes closed, is a closed cluster.
 use Rattle.std.proofs.Common.{◌≡◌, ◌<◌, ℕ, Bool, true, false, List, [], ◌∷◌, ◌++◌, length, sym, ap, ◌∙◌, subst, arith, append-nil, zero, suc, refl}
-use Rattle.std.specs.Prelude.{slice_index_or, slice_get, option_to_list, None, Option, Vec}
-use Rattle.std.specs.Option.{option_map_or}
+use Rattle.std.specs.Prelude.{slice_index_or, option_to_list, Option, Vec}
 use Rattle.std.specs.Global.{Global}
 use Rattle.rc_base.proofs.Paired.{some_item}
 use Rattle.rc_base.specs.Lists.{ArePaired, IsFront}

@@ -5,7 +5,6 @@ use Rattle.std.specs.Prelude.{slice_index_or, option_to_list, MatchOption, None,
 use Rattle.rc_base.specs.Cluster.Lanes.{EachLane}
 use Rattle.rc_base.specs.declared.cluster.TilePart.{TilePart}
 use Rattle.rc_base.specs.declared.state.Parcel.{Parcel}
-use Rattle.rc_base.specs.declared.sync.Grant.{Grant}
 use Rattle.rc_base.specs.declared.sync.Request.{Request}
 use Rattle.client_issue.specs.Deeds.{ClientDeed}
 use Rattle.client_issue.specs.Deeds.ClientDeed.{Appends, Requests, FindsTileFull, FindsManagerFull, Finishes, Loses}

@@ -1,8 +1,8 @@
 -- A run of a scene within the limits.
-use Rattle.std.proofs.Common.{◌≡◌, ◌<◌, ◌≤◌, ℕ, List, sym, ◌∙◌, subst}
+use Rattle.std.proofs.Common.{◌≡◌, ◌<◌, ◌≤◌, ℕ, List, sym, subst}
 use Rattle.std.specs.Prelude.{Option, Result, Ok, Err, IfOk, OnOk}
 use Rattle.rc_base.specs.Cluster.Tiles.{tile_count}
-use Rattle.rc_base.specs.Formats.Within.{IsWithin, IsLayoutFor}
+use Rattle.rc_base.specs.Formats.Within.{IsWithin}
 use Rattle.rc_base.specs.Outside.Ends.{Used}
 use Rattle.rc_base.specs.declared.cluster.Tally.{Tally}
 use Rattle.rc_base.specs.declared.cluster.TilePart.{TilePart}

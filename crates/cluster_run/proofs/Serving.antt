@@ -1,10 +1,9 @@
 -- Serving, again and again, and to the end.
 use Rattle.std.proofs.Common.{◌≡◌, ℕ, ◌<◌, ◌≤◌, false, List, [], ◌∷◌, ◌++◌, length, inl, inr, refl, sym, ap, ◌∙◌, subst, arith}
-use Rattle.std.specs.Prelude.{Option, None, map, slice_index_or}
+use Rattle.std.specs.Prelude.{Option, map, slice_index_or}
 use Rattle.std.specs.List.{AllByRecursion}
 use Rattle.rc_base.specs.Cluster.Lanes.{EachLane}
 use Rattle.rc_base.specs.Cluster.Tiles.{tile_count}
-use Rattle.rc_base.specs.Lists.{ArePaired, IsFront}
 use Rattle.rc_base.specs.Outside.Ends.{use_of, Used}
 use Rattle.rc_base.specs.declared.cluster.TilePart.{TilePart}
 use Rattle.rc_base.specs.declared.image.Image.{Image}
@@ -14,11 +13,11 @@ use Rattle.rc_base.proofs.Paired.{some_item}
 use Rattle.assembler.specs.Assembled.{layout_of, short_of}
 use Rattle.assembler.specs.Parts.{picture}
 use Rattle.frame_out.specs.Laws.{NewWritersAreOnTheWay}
-use Rattle.frame_out.specs.OnTheWay.{GivesOne, GoesOn, HasWritten, IsMissing, IsNewWriter, IsOnTheWay}
+use Rattle.frame_out.specs.OnTheWay.{GivesOne, GoesOn, IsMissing, IsNewWriter, IsOnTheWay}
 use Rattle.frame_out.specs.declared.on_the_way.FrameWriter.{FrameWriter}
 use Rattle.tile_queues.specs.Grids.{AreJoined}
 use Rattle.tile_queues.specs.Names.{AreOutOf}
-use Rattle.tile_queues.specs.Ends.{lane_out, sent_of, sent_in, taken_in, taken_of, rest_of, Took, TookNone}
+use Rattle.tile_queues.specs.Ends.{lane_out, sent_in, taken_in, taken_of, rest_of, Took, TookNone}
 use Rattle.tile_queues.specs.declared.ends.LaneIn.{LaneIn}
 use Rattle.tile_queues.specs.declared.ends.LaneOut.{LaneOut}
 use Rattle.tile_queues.specs.declared.ends.Rest.{Rest}

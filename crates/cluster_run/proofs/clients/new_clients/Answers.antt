@@ -1,4 +1,3 @@
-use Rattle.std.proofs.Common.{◌∙◌, arith}
 use Rattle.cluster_run.proofs.Waiting.{may_get, with_cores_are}
 use Rattle.cluster_run.proofs.clients.new_clients.Goals as goal
 

@@ -1,4 +1,4 @@
-use Rattle.std.proofs.Common.{◌≡◌, ◌<◌, length, subst, arith}
+use Rattle.std.proofs.Common.{◌<◌, subst, arith}
 use Rattle.rc_base.proofs.Paired.{some_item}
 use Rattle.rc_base.specs.Cluster.Tiles.{tile_count}
 use Rattle.run_record.specs.Collected.{AreCollected}

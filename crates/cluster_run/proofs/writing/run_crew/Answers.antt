@@ -1,4 +1,4 @@
-use Rattle.std.proofs.Common.{◌≡◌, Some, None, ap, sym, subst, ◌∙◌}
+use Rattle.std.proofs.Common.{Some, None, ap, sym, subst, ◌∙◌}
 use Rattle.std.specs.Prelude.{Option}
 use Rattle.tile_queues.specs.Ends.{lane_out, taken_of}
 use Rattle.cluster_run.specs.Clusters.{HasRun}

@@ -1,4 +1,4 @@
-use Rattle.std.proofs.Common.{◌≡◌, ℕ, Bool, true, false, ap, sym, ◌∙◌, ◌++◌, List, [], length, take, drop, subst, refl, true≢false, Ok, Err, inl, inr, append-nil}
+use Rattle.std.proofs.Common.{◌≡◌, ℕ, Bool, true, false, ap, sym, ◌∙◌, ◌++◌, List, [], length, take, drop, subst, refl, true≢false, Ok, Err, append-nil}
 use Rattle.std.specs.Prelude.{slice_index_or, option_to_list, is_some, Option, None, Some, Result, IfOk, OnErr}
 use Rattle.rc_base.specs.declared.cluster.TileMoved.{TileMoved}
 use Rattle.rc_base.specs.declared.cluster.TilePart.{TilePart}
