@@ -21,6 +21,7 @@ import orders
 import pair
 import running
 import scene_bytes
+import scene_forms
 import scene_text
 
 
@@ -93,7 +94,7 @@ def main():
     if given.scenes:
         for number, made in enumerate(scenes, 1):
             path = f"{given.name}-{number}.rcs"
-            command.write_file(path, scene_bytes.scene_forms.scene_bytes(made))
+            command.write_file(path, scene_forms.scene_bytes(made))
             print(path)
     found = first_difference(program, scenes, run.frame_of(*names[0]))
     if found is None:

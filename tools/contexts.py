@@ -1,5 +1,6 @@
 """All that a client's commands have set: its context, and the commands that set it anew."""
-from scene_bytes import ALL_OPCODES, Placed, name_of, scene_faults
+import scene_faults
+from scene_bytes import ALL_OPCODES, Placed, name_of
 
 IDENTITY = scene_faults.IDENTITY
 SCISSOR, DEPTH, BLEND = 0, 2, 3

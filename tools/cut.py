@@ -21,10 +21,11 @@ import re
 import command
 import orders
 import ranges
+import scene_forms
 import scene_text
 import standing
 from contexts import Context, first_values, placed
-from scene_bytes import BARRIER, BEGIN, END, SWAP, Scene, filter_words, print_line, scene_forms
+from scene_bytes import BARRIER, BEGIN, END, SWAP, Scene, filter_words, print_line
 
 
 def frames_word(word):

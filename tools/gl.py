@@ -47,13 +47,13 @@ from gl_matrices import (  # noqa: F401 (a part of them is for those who import 
     scaling,
     translation,
 )
+import scene_faults
+import scene_forms
+import scene_lists
 from scene_bytes import (
     Refused,
     Scene as Spelled,
     print_line,
-    scene_faults,
-    scene_forms,
-    scene_lists,
     told_refusal,
 )
 

@@ -5,6 +5,7 @@ Scenes are those that are drawn, without call lists. `Run(scene)` has the defaul
 """
 import bisect
 
+import scene_faults
 from run_log import Entry
 from scene_bytes import (
     BARRIER,
@@ -18,7 +19,6 @@ from scene_bytes import (
     TAKE,
     Placed,
     Scene,
-    scene_faults,
 )
 
 # What touches pixels or shared textures: all else changes a client's own context alone.

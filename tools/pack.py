@@ -9,8 +9,8 @@ HEIGHT` may have call lists: `NewList N`, `EndList` and `CallList N` stand among
 Wrong text is told with its line, and the status is then 1.
 """
 import command
+import scene_forms
 import scene_text
-from scene_bytes import scene_forms
 
 
 def main():

@@ -7,6 +7,8 @@ commands.
 """
 import copy
 
+import scene_faults
+import scene_lists
 from contexts import BLEND, DEPTH, Context
 from scene_bytes import (
     ALL_OPCODES,
@@ -15,8 +17,6 @@ from scene_bytes import (
     END,
     FIELDS,
     name_of,
-    scene_faults,
-    scene_lists,
 )
 
 STACKS = ("modelview", "projection")

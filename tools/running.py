@@ -8,9 +8,8 @@ import tempfile
 import command
 import notes
 import ppm
-from scene_bytes import scene_forms
-
-import program  # bench/program.py
+import program
+import scene_forms
 
 ORDERED, STUCK, RACING = 0, 5, 11
 

@@ -1,22 +1,17 @@
 """Scenes as the tools have them: what a scene's bytes or its text spell, with the lines of the
 text, and what it means.
 
-The table of commands and both forms of a scene are those of bench/scene_forms.py, what call lists
-and filters mean is that of bench/scene_lists.py: the second reader, by which the program is tried.
+The table of commands and both forms of a scene are those of scene_forms.py, what call lists and
+filters mean is that of scene_lists.py: the second reader, by which the program is tried.
 """
 import argparse
-import pathlib
 import re
-import sys
 
 import command
 import ranges
-
-sys.path.append(str(pathlib.Path(__file__).resolve().parent.parent / "bench"))
-import scene_faults  # noqa: E402, F401
-import scene_forms  # noqa: E402
-import scene_lists  # noqa: E402
-from scene_forms import ALL_COMMANDS, ALL_OPCODES, DRAWN_VERSIONS, Refused, Scene  # noqa: E402
+import scene_forms
+import scene_lists
+from scene_forms import ALL_COMMANDS, ALL_OPCODES, DRAWN_VERSIONS, Refused, Scene
 
 OPERATIONS = [ALL_OPCODES[name] for name in ("Barrier", "SemP", "SemV", "Swap")]
 BARRIER, TAKE, GIVE, SWAP = OPERATIONS

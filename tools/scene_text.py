@@ -11,6 +11,7 @@ import re
 
 import command
 import ranges
+import scene_forms
 from scene_bytes import (
     ALL_COMMANDS,
     ALL_OPCODES,
@@ -23,7 +24,6 @@ from scene_bytes import (
     filtered,
     meaning,
     read_bytes,
-    scene_forms,
 )
 
 DECLARED, PICTURES = scene_forms.DECLARED, scene_forms.PICTURES

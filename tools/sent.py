@@ -1,13 +1,12 @@
 """What the clients of a scene send to which tile: the boxes of drawings, by docs/cluster.md
 ('Boxes', 'Parcels').
 
-The boxes are those of bench/scene_boxes.py. What was refused is told by the notes, and is left out here.
+The boxes are those of scene_boxes.py. What was refused is told by the notes, and is left out here.
 """
 import scene_bytes
 from command import Wrong
-from scene_bytes import BARRIER, CLEAR, END, GIVE, SHARED_IMAGE, SWAP, TAKE, name_of
-
 import scene_boxes as boxes
+from scene_bytes import BARRIER, CLEAR, END, GIVE, SHARED_IMAGE, SWAP, TAKE, name_of
 
 OPERATIONS = (BARRIER, TAKE, GIVE, SWAP)
 # Boxes of more vertices aren't computed.

@@ -1,14 +1,18 @@
 #!/usr/bin/env python3
 """Counts what a house of crates weighs: lines, functions, bodies, clauses, parameters, words, lemmas that stand twice, and the longest chain.
 
-    python3 bench/measure/house.py [--twice] [--wide] [--words] [TOP]
+    python3 bench/measure/house.py [--twice] [--alike] [--wide] [--words] [--single] [TOP]
+    python3 bench/measure/house.py --held [TOP]
 
 It reads crates.txt and crates/ of the repository at TOP (this one) and prints a line for each figure. --twice lists the lemma statements that stand
-in more than one crate, --wide the clauses of contracts with a line of more than 100 columns, the widest first, --words the public words of
-definitions that stand in three modules and more. It changes nothing.
+in more than one crate, --alike those that do up to the names that they bind, lemmas of specs/ among them, --wide the clauses of contracts with a line of more than
+100 columns, the widest first, --words the public words of definitions that stand in three modules and more, --single those that one clause alone cites and no other
+definition. --held prints no figures, but the statements that stand in more than one crate, last `N passed, M failed`;
+its status is 1 where there is one. It changes nothing.
 
 A lemma is a signature at the head of a line in proofs/, and its statement is what stands behind the colon, with white space taken together and
-bound names as they are; two lemmas of one statement stand twice whatever they are called. A public word is what specs/ defines by `pub`, but for the
+bound names as they are; two lemmas of one statement stand twice whatever they are called. In specs/ a lemma is a signature that has an equation, and isn't one of
+a word that others unfold. A clause's joined length is that of its lines with white space taken together. A public word is what specs/ defines by `pub`, but for the
 fields of records; keywords such as `module` and `unfolding` are none. Bodies, clauses and parameters are those outside tests, and lines are those
 that aren't blank. A chain is a list of crates each of which stands on the one before.
 """
@@ -28,6 +32,9 @@ FUNCTION = re.compile(r"(\s*)(?:pub(?:\([a-z]+\))? )?(?:const )?(?:unsafe )?fn (
 IMPORT = re.compile(r"\s*(?:pub )?(?:ghost )?use ")
 LENT = re.compile(r"\s*let _(\w+) = (\w+);")
 CITED = re.compile(r"(?:pub )?use Rattle\.(\w+)\.proofs\.")
+BINDER = re.compile(r"[({]([^\s(){}:][^(){}:]*?) : |λ ([^.]+)\.")
+TOKEN = re.compile(r"[^\s(){}\[\],;.:]+|[(){}\[\],;.:]")
+NAME = re.compile(r"[\w◌-]+")
 OWN_LEMMAS = ("Answers.antt", "Invariants.antt", "Proof.antt", "Lib.antt")
 
 
@@ -101,6 +108,15 @@ def parameters(signature):
     return count + bool(word.strip())
 
 
+def renamed(statement):
+    """A statement with the names that it binds numbered in the order in which they come."""
+    bound = {name for found in BINDER.finditer(statement) for name in (found[1] or found[2]).split()}
+    numbers, told = {}, []
+    for token in TOKEN.findall(statement):
+        told.append(f"#{numbers.setdefault(token, len(numbers))}" if token in bound else token)
+    return " ".join(told)
+
+
 class Function:
     """A function of a file: its parameters, the lines of each of its clauses, and the lines of its body, if it has one."""
 
@@ -152,13 +168,17 @@ class House:
         self.code = self.product = self.specs = self.proofs = self.tests = self.edits = self.imports = self.lent = self.cited = 0
         self.sources, self.papers, self.clauses, self.bodies, self.inputs, self.many = [], [], [], [], [], []
         self.lemmas, self.modules = collections.defaultdict(list), collections.defaultdict(list)
+        self.alike, self.texts, self.joined = collections.defaultdict(list), {}, []
+        self.cited_by, self.spoken = collections.defaultdict(list), collections.Counter()
         self.lines, self.items, self.count = collections.Counter(), collections.Counter(), 0
+        self.functions_of, self.code_of = collections.Counter(), collections.Counter()
         for crate in self.edges:
             for path in files(top, crate, "src", ".rt"):
                 self.read_source(crate, path, path.relative_to(top))
             for path in files(top, crate, "specs", ".antt"):
                 lines = self.read_paper(crate, path, path.relative_to(top))
                 self.specs += filled(lines)
+                self.read_definitions(crate, path, lines, path.relative_to(top))
                 for word in words(lines):
                     self.modules[word].append(f"{crate}/{path.relative_to(top / 'crates' / crate / 'specs').with_suffix('')}")
             for path in files(top, crate, "proofs", ".antt"):
@@ -179,10 +199,16 @@ class House:
         found = functions(lines)
         self.count += len(found)
         self.items[crate] += len(found)
+        self.functions_of[crate] += len(found)
+        self.code_of[crate] += weight
         for it in [] if is_tests else found:
             self.inputs.append((it.parameters, f"{place}:{it.line}"))
             self.many.append((len(it.clauses), f"{place}:{it.line}"))
             self.clauses += [(max(map(len, text)), f"{place}:{number}") for number, text in it.clauses]
+            for number, text in it.clauses:
+                self.joined.append((len(" ".join(" ".join(text).split())), f"{place}:{number}"))
+                for name in set(NAME.findall(" ".join(text))):
+                    self.cited_by[name].append(f"{place}:{number}")
             if it.body is not None:
                 self.bodies.append((it.body, f"{place}:{it.line}"))
 
@@ -193,6 +219,17 @@ class House:
         self.imports += sum(1 for line in lines if IMPORT.match(line))
         return lines
 
+    def read_definitions(self, crate, path, lines, place):
+        """The lemmas that stand among definitions, and the words that definitions speak of."""
+        for name, statement in statements(lines):
+            if "≡" in statement:
+                self.alike[renamed(statement)].append((crate, f"{place} {name}"))
+        for line in lines:
+            if not line.startswith(("use ", "pub use ", "--")):
+                # the head of a word's own lines isn't a use of it
+                own = line.split()[:1] if line and not line[0].isspace() else []
+                self.spoken.update(set(NAME.findall(line)) - set(own) - words([line]))
+
     def read_proof(self, crate, path, place):
         lines = self.read_paper(crate, path, place)
         self.proofs += filled(lines)
@@ -202,11 +239,23 @@ class House:
         if path.name not in OWN_LEMMAS:
             for name, statement in found:
                 self.lemmas[statement].append((crate, f"{place} {name}"))
+                self.alike[renamed(statement)].append((crate, f"{place} {name}"))
 
     def twice(self):
         """Statements that stand in more than one file, and of these the ones in more than one crate."""
         more = {s: at for s, at in self.lemmas.items() if len({where.split()[0] for _, where in at}) > 1}
         return more, {s: at for s, at in more.items() if len({crate for crate, _ in at}) > 1}
+
+    def alike_across(self):
+        """Statements that stand in more than one crate, up to the names that they bind."""
+        return {s: at for s, at in self.alike.items() if len({crate for crate, _ in at}) > 1}
+
+    def single(self):
+        """The public words that one clause cites, and no other clause or definition."""
+        return {word: self.cited_by[word][0] for word in self.modules if len(self.cited_by[word]) == 1 and not self.spoken[word]}
+
+    def crowded(self):
+        return [name for name in self.edges if self.functions_of[name] > 100 or self.code_of[name] > 1500]
 
     def wide(self):
         return [it for it in self.clauses if it[0] > WIDE]
@@ -227,11 +276,17 @@ class House:
         print(f"files of definitions and proofs over 600 lines {sum(size > 600 for size, _ in self.papers)}, the longest {max(self.papers)[0]} ({max(self.papers)[1]})")
         print(f"clauses {count}, their widest line: median {statistics.median(it[0] for it in self.clauses):g}, over {WIDE} columns {over} ({over * share:.1f} of 100), "
               f"over 150 {sum(it[0] > 150 for it in self.clauses)}, the widest {max(self.clauses)[0]} ({max(self.clauses)[1]})")
+        print(f"clauses, lines joined: mean {statistics.mean(it[0] for it in self.joined):.0f}, over 100 characters {sum(it[0] > 100 for it in self.joined)}, "
+              f"over 150 {sum(it[0] > 150 for it in self.joined)}, the longest {max(self.joined)[0]} ({max(self.joined)[1]})")
         print(f"functions of 12 clauses and more {sum(it[0] >= 12 for it in self.many)}, of 8 parameters and more {sum(it[0] >= 8 for it in self.inputs)}, "
               f"the most {max(self.inputs)[0]} ({max(self.inputs)[1]})")
         print(f"values lent to contracts alone (`let _x = x;`) {self.lent}")
         print(f"lemmas {sum(map(len, self.lemmas.values()))}, statements in more than one file {len(twice)}, in more than one crate {len(across)}; "
               f"citations of lemma files of crates below {self.cited}")
+        print(f"statements in more than one crate up to the names that they bind, specs/ too: {len(self.alike_across())}")
+        print(f"public words that serve one clause alone: {len(self.single())}")
+        crowded = self.crowded()
+        print(f"crates of more than 100 functions or 1,500 lines of code: {len(crowded)}" + (f" ({', '.join(crowded)})" if crowded else ""))
         stand = collections.Counter(min(len(at), 4) for at in self.modules.values())
         print(f"public words of definitions {len(self.modules)}, in two modules {stand[2]}, in three {stand[3]}, in four and more {stand[4]}")
         for what, weights in (("crates", dict.fromkeys(self.edges, 1)), ("lines", self.lines), ("functions and lemmas", self.items)):
@@ -244,6 +299,9 @@ def main():
     parser = argparse.ArgumentParser(description=__doc__, formatter_class=argparse.RawDescriptionHelpFormatter)
     parser.add_argument("--twice", action="store_true", help="list the lemma statements that stand in more than one crate")
     parser.add_argument("--wide", action="store_true", help=f"list the clauses with a line of more than {WIDE} columns, the widest first")
+    parser.add_argument("--alike", action="store_true", help="list those that do up to the names that they bind, specs/ too")
+    parser.add_argument("--single", action="store_true", help="list the public words that one clause alone cites, with that clause")
+    parser.add_argument("--held", action="store_true", help="hold that no statement stands in more than one crate")
     parser.add_argument("--words", action="store_true", help="list the public words of definitions that stand in three modules and more")
     parser.add_argument("top", nargs="?", default=pathlib.Path(__file__).resolve().parents[2], type=pathlib.Path, help="the repository")
     args = parser.parse_args()
@@ -252,12 +310,23 @@ def main():
     house = House(args.top)
     if not house.clauses or not house.bodies:
         sys.exit(f"house.py: the crates of {args.top} have no function with a contract")
-    house.tell()
-    if args.twice:
+    if not args.held:
+        house.tell()
+    if args.twice or args.held:
         for statement, at in sorted(house.twice()[1].items(), key=lambda it: -len(it[1])):
             print(statement[:120])
             for _, where in at:
                 print(f"    {where}")
+    for statement, at in sorted(house.alike_across().items(), key=lambda it: -len(it[1])) if args.alike else []:
+        print(statement[:120])
+        for _, where in at:
+            print(f"    {where}")
+    for word, where in sorted(house.single().items()) if args.single else []:
+        print(f"{word} {where}")
+    if args.held:
+        across = len(house.twice()[1])
+        print(f"{len(house.lemmas) - across} passed, {across} failed")
+        sys.exit(1 if across else 0)
     if args.words:
         for word, at in sorted(house.modules.items(), key=lambda it: (-len(it[1]), it[0])):
             if len(at) >= 3:

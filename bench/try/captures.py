@@ -42,14 +42,13 @@ import threading
 import time
 
 BENCH = pathlib.Path(__file__).resolve().parent.parent
-sys.path.insert(0, str(BENCH))
+TOOLS = BENCH.parent / "tools"
+sys.path[:0] = [str(TOOLS), str(BENCH)]
 
 import capture_programs
 import pictures
 from program import built
 
-TOOLS = BENCH.parent / "tools"
-sys.path.insert(0, str(TOOLS))
 HEAD = ("program", "frame", "drawn %", "vertices", "commands", "bytes", "seconds", "us a vertex",
         "us a scene's", "serial ms", "render 4x3 ms", "mean", "off %", "what is told")
 NEAR = 0.5          # a picture is near the program's own where no more of 100 pixels are off

@@ -1,7 +1,8 @@
 #!/usr/bin/env python3
 """Runs every command of README.md and docs/*.md from the top of a copy of the repository, and compares what it prints with what the document says.
 
-    documents.py [PROGRAM] [--slow] [--draw] [--only NAME]
+    documents.py [PROGRAM] [--slow] [--draw] [--only NAME] [--seconds N]
+    documents.py --unbuilt
 
 Commands stand in fenced blocks, whose first line says what they are:
 - `sh`: each line is a command that has to end with status 0, or with the one that a comment behind it names: `# status 11`;
@@ -11,23 +12,25 @@ Commands stand in fenced blocks, whose first line says what they are:
 
 Then: no command stands in a block that isn't marked, and each script that a document names is there; each link leads to a file and a heading; what commands wrote into the
 top folder is ignored by git; each picture of docs/ that the commands drew anew is what it was, pixel by pixel (with --draw they are written
-in its place); README.md has at most 1,000 words. The last line is `N passed, M failed`, and the status is 1 where something failed.
+in its place); README.md has at most 1,000 words. With --unbuilt, and where nothing is built, all this is tried but for the commands and what they write; with
+--seconds no command begins behind so many seconds. What isn't run is told. The last line is `N passed, M failed`, and the status is 1 where something failed.
 """
 import argparse
 import os
 import pathlib
 import re
 import shutil
+import signal
 import subprocess
 import sys
 import tempfile
 import time
 import zlib
 
-sys.path.insert(0, str(pathlib.Path(__file__).resolve().parent.parent))
+sys.path.append(str(pathlib.Path(__file__).resolve().parents[2] / "tools"))
 
 import png_reader
-from program import ROOT, built
+from program import HOW, ROOT, built, is_built
 
 PAGES = [ROOT / "README.md", *sorted((ROOT / "docs").glob("*.md"))]
 FENCE = re.compile(r"^```(.*)$")
@@ -40,8 +43,16 @@ SECONDS = 600
 class Count:
     """What passed and what failed."""
 
-    def __init__(self):
+    def __init__(self, seconds=None):
         self.passed, self.failed, self.skipped = 0, 0, []
+        self.end = None if seconds is None else time.monotonic() + seconds
+
+    def seconds(self):
+        """How long a command may take: none where the time is over."""
+        return SECONDS if self.end is None else min(SECONDS, self.end - time.monotonic())
+
+    def skipped_for_time(self):
+        return any(line.endswith("(the time is over)") for line in self.skipped)
 
     def judge(self, right, what, why=""):
         if right:
@@ -87,12 +98,21 @@ def fits(told, said):
     return bool(told) and told[0] == said[0] and fits(told[1:], said[1:])
 
 
-def run(command, folder, program):
-    """Status and both outputs of a command of a shell. A player of films opens no window."""
+def run(command, folder, program, seconds):
+    """Status and both outputs of a command of a shell, or None where it takes longer. A player of films opens no window."""
     environment = dict(os.environ, program=program, MPV_HOME=str(folder / "player"))
-    done = subprocess.run(["bash", "-c", command], cwd=folder, env=environment, stdin=subprocess.DEVNULL, stdout=subprocess.PIPE, stderr=subprocess.STDOUT,
-                          timeout=SECONDS, check=False)
-    return done.returncode, done.stdout.decode(errors="replace")
+    with tempfile.TemporaryFile() as told:
+        done = subprocess.Popen(["bash", "-c", command], cwd=folder, env=environment, stdin=subprocess.DEVNULL, stdout=told, stderr=subprocess.STDOUT,
+                                start_new_session=True)
+        try:
+            status = done.wait(seconds)
+        except subprocess.TimeoutExpired:
+            # the shell and all that it started
+            os.killpg(done.pid, signal.SIGKILL)
+            done.wait()
+            return None
+        told.seek(0)
+        return status, told.read().decode(errors="replace")
 
 
 def try_command(count, name, command, said, folder, program):
@@ -101,11 +121,19 @@ def try_command(count, name, command, said, folder, program):
     if absent:
         count.skipped.append(f"{name}: {command} ({absent[0]} isn't installed)")
         return
-    try:
-        status, told = run(command, folder, program)
-    except subprocess.TimeoutExpired:
-        count.judge(False, f"{name}: {command}", f"no end after {SECONDS} s")
+    seconds = count.seconds() if program else 0
+    if seconds <= 0:
+        count.skipped.append(f"{name}: {command} ({'the time is over' if program else 'nothing is built'})")
         return
+    done = run(command, folder, program, seconds)
+    if done is None:
+        # only a command that had all its time is at fault
+        if seconds < SECONDS:
+            count.skipped.append(f"{name}: {command} (the time is over)")
+        else:
+            count.judge(False, f"{name}: {command}", f"no end after {SECONDS} s")
+        return
+    status, told = done
     if status != (int(due[1]) if due else 0):
         count.judge(False, f"{name}: {command}", f"status {status}, {told[-400:]!r}")
     elif said is not None and not fits(told.splitlines(), said):
@@ -215,18 +243,25 @@ def copied(folder, program, slow):
     return str(stands.relative_to(folder))
 
 
+def is_clone():
+    """Whether git can say what it ignores here."""
+    return shutil.which("git") is not None and (ROOT / ".git").exists()
+
+
 def main():
     parser = argparse.ArgumentParser(description=__doc__, formatter_class=argparse.RawDescriptionHelpFormatter)
     parser.add_argument("program", nargs="?", help="the built program (crates/render_cli/out/render_cli)")
     parser.add_argument("--slow", action="store_true", help="run the slow commands too, which compile")
     parser.add_argument("--draw", action="store_true", help="write the pictures that commands draw into docs/")
     parser.add_argument("--only", metavar="NAME", help="this page alone, as README.md")
+    parser.add_argument("--seconds", metavar="N", type=int, help="begin no command behind so many seconds")
+    parser.add_argument("--unbuilt", action="store_true", help="run no command, whatever is built")
     args = parser.parse_args()
-    program = built(args.program)
-    count = Count()
+    program = None if args.unbuilt or not args.program and not is_built() else built(args.program)
+    count = Count(args.seconds)
     with tempfile.TemporaryDirectory() as work:
         folder = pathlib.Path(work)
-        stands = copied(folder, program, args.slow)
+        stands = copied(folder, program, args.slow) if program else None
         before = set(folder.iterdir())
         for page in PAGES:
             if args.only and page.name != args.only:
@@ -239,15 +274,18 @@ def main():
                 else:
                     try_block(count, page, first, kind, lines, folder, stands, args.slow)
             print(f"{page.name}: {count.passed - passed} passed, {time.monotonic() - begun:.0f} s", flush=True)
-        drawn = try_pictures(count, folder, args.draw)
-        print(f"pictures of docs/ that were drawn anew: {drawn}")
-        for path in sorted(set(folder.iterdir()) - before):
+        if program and not count.skipped_for_time():
+            drawn = try_pictures(count, folder, args.draw)
+            print(f"pictures of docs/ that were drawn anew: {drawn}")
+        for path in sorted(set(folder.iterdir()) - before) if is_clone() else []:
             known = subprocess.run(["git", "check-ignore", "-q", "--no-index", path.name], cwd=ROOT, check=False).returncode == 0
             count.judge(known, f"{path.name}, which a command writes, isn't ignored by git")
     words = len((ROOT / "README.md").read_text().split())
     count.judge(words <= MOST_WORDS, f"README.md has {words} words, and may have {MOST_WORDS}")
-    for skipped in count.skipped:
+    for skipped in count.skipped if program else []:
         print(f"not run: {skipped}")
+    if not program:
+        print(f"not run: {len(count.skipped)} commands, since nothing is built ({HOW})")
     print(f"{count.passed} passed, {count.failed} failed")
     sys.exit(1 if count.failed else 0)
 

@@ -153,9 +153,11 @@ class Crate:
 
 
 def is_named(kind, name, text, crate, aliases):
+    if name not in text:
+        return False
     if kind is not None:
-        kinds = "|".join([kind, *aliases])
-        return re.search(rf"(?:\.|\b(?:{kinds})(?:::<[^;]*?>)?::){name}\b", text) is not None
+        before = re.compile(rf"(?:\.|\b(?:{'|'.join([kind, *aliases])})(?:::<[^;]*?>)?::)$")
+        return any(before.search(text, max(0, found.start() - 200), found.start()) for found in re.finditer(rf"{name}\b", text))
     if re.search(rf"\b{crate}::(?:{WORD}::)*{name}\b", text):
         return True
     return any(re.search(rf"\b{name}\b", tree) for tree in re.findall(rf"^\s*(?:pub )?use {crate}::([^;]+);", text, re.M))

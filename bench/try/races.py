@@ -15,7 +15,7 @@ import random
 import subprocess
 import sys
 
-sys.path.insert(0, str(pathlib.Path(__file__).resolve().parent.parent))
+sys.path.append(str(pathlib.Path(__file__).resolve().parents[2] / "tools"))
 
 from program import built
 FULL = ["Begin 0", "Vertex -65536 -65536 0 65536", "Vertex 196608 -65536 0 65536", "Vertex -65536 196608 0 65536", "End"]

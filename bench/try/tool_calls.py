@@ -4,13 +4,12 @@ import random
 import subprocess
 import sys
 
-sys.path.insert(0, str(pathlib.Path(__file__).resolve().parent.parent))
+sys.path.append(str(pathlib.Path(__file__).resolve().parents[2] / "tools"))
 
 import program
 
 ROOT = program.ROOT
 TOOLS, EXAMPLES, DOCS = ROOT / "tools", ROOT / "examples", ROOT / "docs"
-sys.path.append(str(TOOLS))
 LONGEST = 300
 # A right call of each tool, by which its words are tried: its input is standard input.
 CALLS = {

@@ -11,8 +11,9 @@ import cut
 import orders
 import ppm
 import scene_bytes
+import scene_forms
 import scene_text
-from scene_bytes import Scene, scene_forms
+from scene_bytes import Scene
 
 # Examples with several frames, each behind these filters.
 FILMS = {

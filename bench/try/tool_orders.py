@@ -15,8 +15,8 @@ import orders
 import ppm
 import program
 import scene_bytes
+import scene_forms
 import scene_text
-from scene_bytes import scene_forms
 
 FILTERED = {
     "barrier": ["", "drop Barrier"],

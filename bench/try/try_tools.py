@@ -14,10 +14,12 @@ import pathlib
 import random
 import re
 import shlex
+import shutil
+import subprocess
 import sys
 import tempfile
 
-sys.path.insert(0, str(pathlib.Path(__file__).resolve().parent.parent))
+sys.path.append(str(pathlib.Path(__file__).resolve().parents[2] / "tools"))
 
 import program
 import tool_cuts
@@ -155,6 +157,16 @@ def try_garbage(folder, seed):
         (folder / path).write_bytes(data)
 
 
+def try_alone(folder):
+    """The tools by themselves, without the rest of the repository."""
+    alone = folder / "alone"
+    shutil.copytree(TOOLS, alone, ignore=shutil.ignore_patterns("__pycache__"))
+    for path in sorted(alone.glob("*.py")):
+        if path.read_text().startswith("#!"):
+            done = subprocess.run([sys.executable, path, "--help"], cwd=folder, stdin=subprocess.DEVNULL, capture_output=True, timeout=60, check=False)
+            check(f"{path.name}: tools/ alone", done.returncode == 0, done.stderr[-300:])
+
+
 # What stands in for `rt try --test` in a crate: its lines and its status, and what ./try-tests has to tell of them.
 TEST_RUNS = {
     "lane_tests": ("test a::b ... ok\ntest a::c ... ok\ntest result: ok. 2 passed; 0 failed; 0 ignored; 0 filtered out\n", "2 passed, 0 failed"),
@@ -205,6 +217,7 @@ def main():
         tool_cuts.try_all(folder)
         try_garbage(folder, seed)
         try_test_runner(folder)
+        try_alone(folder)
         if program.is_built():
             tool_scenes.try_by_program(seed)
             tool_scenes.try_drawn_cube()

@@ -16,7 +16,7 @@ import sys
 import time
 
 BENCH = pathlib.Path(__file__).resolve().parent.parent
-sys.path.insert(0, str(BENCH))
+sys.path.append(str(BENCH.parent / "tools"))
 from program import built
 
 SCENES = ("hands 16", "meets 8", "shows 6", "gives 8 16", "mesh 2 4")

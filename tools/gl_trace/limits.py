@@ -1,11 +1,6 @@
 """What a scene may hold (docs/scene-format.md), and how much a trace may ask for."""
-import pathlib
-import sys
-
-sys.path.append(str(pathlib.Path(__file__).resolve().parents[2] / "bench"))
-
-from scene_forms import ALL_OPCODES as OPCODES, LAYOUTS  # noqa: E402, F401
-from scene_forms import LONGEST as MOST_BYTES, MOST_COMMANDS  # noqa: E402, F401
+from scene_forms import ALL_OPCODES as OPCODES, LAYOUTS  # noqa: F401
+from scene_forms import LONGEST as MOST_BYTES, MOST_COMMANDS  # noqa: F401
 
 MOST_SIDE = 2048
 MOST_CLIENTS = 8

@@ -1,12 +1,8 @@
 """What a scene draws, block by block, for tests: in sixteenths of a pixel, with its state."""
 import collections
-import pathlib
-import sys
 
-sys.path.append(str(pathlib.Path(__file__).resolve().parents[2] / "bench"))
-
-import scene_lists  # noqa: E402
-from scene_forms import COMMANDS  # noqa: E402
+import scene_lists
+from scene_forms import COMMANDS
 
 # A vertex is a place in sixteenths of a pixel, a depth from -1 to 1, a colour, and s and t.
 Vertex = collections.namedtuple("Vertex", "x y z color coordinate")

@@ -1,8 +1,4 @@
-#!/usr/bin/env python3
-"""Where the built program stands, and how one builds it where it isn't there.
-
-    program.py      prints its path
-"""
+"""Where the built program stands, and how one builds it where it isn't there."""
 import pathlib
 import sys
 
@@ -25,9 +21,3 @@ def built(given=None):
 
 def is_built():
     return PROGRAM.is_file()
-
-
-if __name__ == "__main__":
-    if sys.argv[1:]:
-        sys.exit(__doc__)
-    print(built())
