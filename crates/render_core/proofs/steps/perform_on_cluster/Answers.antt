@@ -1,5 +1,6 @@
 use Rattle.std.proofs.Common.{refl}
 use Rattle.rc_base.specs.Outside.Ends.{use_of}
+use Rattle.rc_base.proofs.WithinLimits.{tiles_within}
 use Rattle.render_core.proofs.CarriedOut.{refused_before}
 use Rattle.render_core.proofs.Recorded.{layout_fits, scene_within}
 use Rattle.render_core.proofs.Threaded.{cluster_asked, read_or_made, run_carried, short_of_memory}
@@ -21,6 +22,20 @@ pub run_threads-requires-clause-within : goal.run_threads-requires-clause-within
 run_threads-requires-clause-within g c κs within =
     let work = c.in-Ok.ensures.obtained.given in
     scene_within c.in-Ok.work.scene (read_or_made c.args.job c.args.cluster c.in-Ok.work.scene c.requires.threads work.well) work.within
+
+pub told_run-requires : goal.told_run-requires
+told_run-requires g c =
+    let scene = c.in-Ok.work.scene in
+    let layout = c.tiles_of-layout.result in
+    let given = c.in-Ok.ensures.obtained.given in
+    let fits = layout_fits c.args.cluster scene layout (given.tiles c.args.cluster (cluster_asked c.args.job c.args.cluster c.requires.threads)) c.tiles_of-layout.ensures in
+    record {
+      scene = scene;
+      layout = layout;
+      within = given.within;
+      tiles = (tiles_within scene layout c.args.cluster.depth fits).1;
+      run = c.in-Ok-run_threads.ensures.run;
+    }
 
 pub returns-in-Ok-run_threads-clause-carried : goal.returns-in-Ok-run_threads-clause-carried
 returns-in-Ok-run_threads-clause-carried g c =
