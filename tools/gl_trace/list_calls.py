@@ -31,6 +31,8 @@ def without_runs(calls):
     vertex, which has their last values."""
     kept, left = [], None
     for handler, arguments in calls:
+        if handler is None and arguments.of_arrays:
+            continue
         if handler is not None:
             kept += [(None, left)] if left else []
             left = None

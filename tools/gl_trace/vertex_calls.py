@@ -73,12 +73,12 @@ class VertexCalls:
                 self.uncertain = LEFT
             self.draw_filled(filled)
             self.uncertain = None
+        if run.of_arrays:
+            return
         for name, column in (("normal", run.normals), ("color", run.colors),
                              ("coordinate", run.coordinates)):
             if column[-1] is not None:
                 values[name] = column[-1]
-        if run.of_arrays:
-            self.normal_of_arrays = values["normal"]
 
     def draw_filled(self, run):
         setting = self.now()
