@@ -8,16 +8,17 @@ import subprocess
 import time
 
 SAVERS = pathlib.Path("/usr/libexec/xscreensaver")
-PATH = os.environ.get("PATH", "") + ":/usr/games"
+PATH = os.environ.get("PATH", "") + f":/usr/games:{SAVERS}"
 PACKAGES = ("xscreensaver-gl", "xscreensaver-gl-extra")
-# Files of those packages that are no programs of their own, and programs that show pictures of a
-# disk, a screen or a network.
+# Files of those packages that are no programs of their own, and a program that shows what a network
+# has. Those that show pictures of a screen or a disk show colour bars, where xscreensaver itself is
+# installed, and else wait for ever.
 NO_PROGRAMS = {"mapscroller.pl", "xscreensaver-gl-visual"}
-WITHOUT_PICTURES = {"glslideshow", "mapscroller", "gleidescope", "flipscreen3d", "antspotlight",
-                    "carousel", "photopile"}
+OF_A_NETWORK = {"mapscroller"}
+COLOR_BARS = "grabDesktopImages: False\ngrabVideoFrames: False\nchooseRandomImages: False\n"
 # Programs that draw by shaders where they find them, and without them under OpenGL 1.5.
 BY_SHADERS = {"MESA_GL_VERSION_OVERRIDE": "1.5"}
-SHADED = set()
+SHADED = {"etruscanvenus", "hypertorus", "klein", "projectiveplane", "romanboy", "sphereeversion"}
 
 # What makes a program's frames: words, by which interface apitrace traces it, and what is in its
 # environment.
@@ -92,7 +93,7 @@ def savers():
     names = sorted(path.name for path in map(pathlib.Path, told.split()) if path.parent == SAVERS)
     return [program(name, str(SAVERS / name), "-geometry", "400x300", api="egl",
                     env=BY_SHADERS if name in SHADED else None)
-            for name in names if name not in NO_PROGRAMS | WITHOUT_PICTURES]
+            for name in names if name not in NO_PROGRAMS | OF_A_NETWORK]
 
 
 def chosen(names):
@@ -108,6 +109,7 @@ def trace(program, path, seconds, environment):
     path = path.resolve()
     home = path.parent / "home"
     home.mkdir(exist_ok=True)
+    (home / ".xscreensaver").write_text(COLOR_BARS)
     environment = dict(environment, HOME=str(home), PATH=PATH, SDL_AUDIODRIVER="dummy",
                        ALSOFT_DRIVERS="null", **program.env)
     api = ["--api", "egl"] if program.api == "egl" else []

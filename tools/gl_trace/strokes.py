@@ -15,6 +15,11 @@ from .shading import Run, shaded
 
 WITHOUT_SIDES = (0, 1, 2)       # of a setting's planes: points are cut by these and its own
 FIRST_OWN = 7
+# The viewport's sides as planes, and whether a corner is further out than twice as far.
+SIDES = ((lambda v: v[3] - v[0], lambda v: v[0] > 2 * v[3]),
+         (lambda v: v[3] + v[0], lambda v: -v[0] > 2 * v[3]),
+         (lambda v: v[3] - v[1], lambda v: v[1] > 2 * v[3]),
+         (lambda v: v[3] + v[1], lambda v: -v[1] > 2 * v[3]))
 
 
 class Strokes:
@@ -23,7 +28,7 @@ class Strokes:
     def __init__(self, machine, setting, run, corners=None, level=None):
         self.machine, self.setting, self.level = machine, setting, level
         self.mode, self.corners = run.mode, corners
-        self.joined = {}    # the first vertex of a piece of a line: whether it goes on at each end
+        self.whole = []     # where lines begin of which there are pieces, and which are smooth
         if corners is None:
             if setting.fog and run.mode != "GL_POINTS":
                 run = self.cut_for_fog(run)
@@ -39,10 +44,13 @@ class Strokes:
             for i in range(len(corners.places)):
                 self.point(corners.corner(i))
             return
+        if self.whole:
+            for first, last in zip(self.whole, self.whole[1:] + [len(corners.places)]):
+                self.smooth_pieces([corners.corner(i) for i in range(first, last)])
+            return
         for i, j in pairs(self.mode, len(corners.places)):
             a, b = corners.corner(i), corners.corner(j)
-            self.line(a[:4] + b[4:8] + a[8:] if self.setting.flat else a, b,
-                      self.joined.get(i, (False, False)))
+            self.line(a[:4] + b[4:8] + a[8:] if self.setting.flat else a, b)
 
     def outline(self, fan, provoking, front, as_lines, drawn):
         """The edges or corners of a polygon in the colours of the side that is seen, without those
@@ -70,8 +78,9 @@ class Strokes:
         depths = [transform(setting.modelview, *point)[2] for point in run.points]
         for i, j in pairs(run.mode, len(run.points)):
             places = [0.0, *setting.fog.cuts(depths[i], depths[j]), 1.0]
+            if setting.values["GL_LINE_SMOOTH"]:
+                self.whole.append(len(pieces.points))
             for ends in zip(places, places[1:]):
-                self.joined[len(pieces.points)] = ends[0] > 0, ends[1] < 1
                 for t in ends:
                     pieces.points.append(between(run.points[i], run.points[j], t))
                     pieces.normals.append(run.normals[i] if t < 1 else run.normals[j])
@@ -99,7 +108,10 @@ class Strokes:
         half = max(1, round(self.setting.values["point_size"])) / 2
         self.quad((x - half, y, z), (x + half, y, z), corner, corner, (0.0, half))
 
-    def line(self, a, b, joined=(False, False)):
+    def line(self, a, b):
+        if self.setting.values["GL_LINE_SMOOTH"]:
+            self.smooth_pieces([a, b])
+            return
         if not (inside(a) and inside(b)):
             if not finite([a, b]):
                 self.machine.notes.left_out("a line with an end that isn't finite")
@@ -109,9 +121,6 @@ class Strokes:
                 return
             a, b = ends[:2]
         start, end = self.window(a), self.window(b)
-        if self.setting.values["GL_LINE_SMOOTH"]:
-            self.smooth_line(start, end, a, b, joined)
-            return
         half = max(1, round(self.setting.values["line_width"])) / 2
         flat = abs(end[0] - start[0]) >= abs(end[1] - start[1])
         self.quad(start, end, a, b, (0.0, half) if flat else (half, 0.0))
@@ -142,26 +151,51 @@ class Strokes:
         values = self.setting.values
         return values["GL_BLEND"] or values["GL_ALPHA_TEST"]
 
-    def smooth_line(self, start, end, a, b, joined):
-        """A line that fades over a pixel at each side, and at each end where it doesn't go on."""
+    def smooth_pieces(self, corners):
+        """A line of which there are the ends of pieces one behind the other."""
+        if not finite(corners):
+            self.machine.notes.left_out("a line with an end that isn't finite")
+            return
+        clips = self.setting.clips
+        planes = [clips[i] for i in WITHOUT_SIDES] + clips[FIRST_OWN:]
+        # A line that reaches out of twice the viewport ends at its side, as it does in Mesa.
+        planes += [plane for plane, beyond in SIDES
+                   if any(beyond(corner) for corner in (corners[0], corners[-1]))]
+        line = []
+        for a, b in zip(corners[::2], corners[1::2]):
+            ends = cut([a, b], planes)[:2]
+            line += ends if not line else ends[1:]
+        if len(line) > 1:
+            self.smooth_line(line)
+
+    def smooth_line(self, line):
+        """A line that fades over a pixel at each side and at each end, given by corners in order.
+        """
+        places = [self.window(corner) for corner in line]
+        if places[0] > places[-1]:  # so that a line drawn twice has the same depths both times
+            places, line = places[::-1], line[::-1]
+        start, end = places[0], places[-1]
         across, up = end[0] - start[0], end[1] - start[1]
         length = math.hypot(across, up)
         if not length:
             return
-        across, up, fades = across / length, up / length, self.fades()
-        rows, places = [], ends_of(length, joined, fades)
-        first, last = places[0][0], places[-1][0]
-        for side, of_side in sides_of(self.setting.values["line_width"], fades):
+        across, up = across / length, up / length
+        along = [((x - start[0]) * across + (y - start[1]) * up) / length for x, y, _ in places]
+        along[0], along[-1] = 0.0, 1.0
+        cover = Coverage(length, self.setting.values["line_width"], line[0][3], line[-1][3],
+                         self.fades())
+        rows = []
+        for u in sorted({*along, *cover.stations}):
+            corner = color_at(line, along, u)
+            place = u * (length + 1) - 0.5
             rows.append([])
-            for place, of_place in places:
-                t = (place - first) / (last - first)
-                corner = [x + (y - x) * t for x, y in zip(a[4:10], b[4:10])]
-                corner[3] *= of_side * of_place
+            for side, covered in cover.sides(u):
+                faded = [*corner[:3], corner[3] * covered, *corner[4:]]
                 rows[-1].append((start[0] + place * across - side * up,
                                  start[1] + place * up + side * across,
-                                 start[2] + (end[2] - start[2]) * t, corner))
+                                 start[2] + (end[2] - start[2]) * u, faded))
         corners = []
-        for low, high in zip(rows, rows[1:]):
+        for low, high in zip(zip(*rows), list(zip(*rows))[1:]):
             strip = [corner for both in zip(low, high) for corner in both]
             # A strip goes on in the next one by triangles without an area.
             corners += [corners[-1], strip[0], *strip] if corners else strip
@@ -207,27 +241,50 @@ class Strokes:
                                   coordinates), mode, places)
 
 
-def sides_of(width, fades):
-    """How far to the side a smooth line is covered, and how much."""
-    half = max(1.0, (width + 1) / 2)
-    if not fades:
-        return (-half, 1.0), (half, 1.0)
-    middle = ((0.0, 1.0),) if half == 1.0 else ((1 - half, 1.0), (half - 1, 1.0))
-    return (-half, 0.0), *middle, (half, 0.0)
+def color_at(line, along, u):
+    """Colour and coordinates of a line at a share of its length, by its corners there."""
+    k = next(i for i in range(1, len(line)) if u <= along[i])
+    a, b, span = line[k - 1], line[k], along[k] - along[k - 1]
+    share = (u - along[k - 1]) / span if span > 0 else 1.0
+    share = share * a[3] / ((1 - share) * b[3] + share * a[3])
+    return [x + (y - x) * share for x, y in zip(a[4:10], b[4:10])]
 
 
-def ends_of(length, joined, fades):
-    """Where along a smooth line it is covered, and how much."""
-    if length <= 1 and fades and True not in joined:
-        return (-0.5, 0.0), (length / 2, length), (length + 0.5, 0.0)
-    inner = min(0.5, length / 2)
-    ends = []
-    for goes_on, outer, full in ((joined[0], -0.5, inner), (joined[1], length + 0.5,
-                                                            length - inner)):
-        at = 0.0 if outer < 0 else length
-        ends.append([(at, 1.0)] if goes_on else [(outer, 0.0), (full, 1.0)] if fades
-                    else [(outer, 1.0)])
-    return *ends[0], *ends[1][::-1]
+class Coverage:
+    """How much of a pixel a smooth line covers, as Mesa has it: a quad that is half a pixel longer
+    at each end and wider at each side, in which the distances to its sides and ends are followed
+    in perspective, by two triangles with the quad's diagonal between them. Along the line places
+    are shares u of its length, `near` and `far` are 1 / w at its ends."""
+
+    def __init__(self, length, width, first, last, fades):
+        self.half, self.fades = max(1.0, (width + 1) / 2), fades
+        self.near, self.far = q, r = 1 / first, 1 / last
+        self.reach = length / 2 + 0.5 if length >= 1 else length
+        self.stations = []
+        if not fades:
+            return
+        if self.reach <= 1:
+            self.stations = [q / (q + r)]
+        else:
+            self.stations = [q / (2 * r * self.reach - r + q),
+                             1 - r / (2 * q * self.reach - q + r)]
+        if abs(q - r) > 0.02 * (q + r):     # where the borders of the fading go over the diagonal
+            self.stations += [q * (2 * self.half - 1) / (r - q + 2 * self.half * q),
+                              q / (2 * self.half * r - r + q)]
+
+    def sides(self, u):
+        """Pixels to the side, and how much is covered there."""
+        half = self.half
+        if not self.fades:
+            return (-half, 1.0), (half, 1.0)
+        q, r = self.near, self.far
+        mean = (1 - u) * q + u * r
+        along = max(0.0, min(1.0, self.reach * (1 - abs(u * r - (1 - u) * q) / mean)))
+        borders = []
+        for x in sorted({1 / half - 1, 1 - 1 / half}):
+            side = mean / q * (x + 1) - 1
+            borders.append(side if side <= 1 - 2 * u else 1 - mean / r * (1 - x))
+        return (-half, 0.0), *((half * max(-1.0, min(1.0, x)), along) for x in borders), (half, 0.0)
 
 
 def inside(corner):
