@@ -203,16 +203,14 @@ def judge(size, streams, frames):
     if commands > MOST_COMMANDS:
         raise Refused(f"{commands} commands, and a scene has at most {MOST_COMMANDS}: choose "
                       "fewer frames")
-    cost = sum(stream.cost for stream in streams)
-    if any(stream.lists for stream in streams) and cost > MOST_COST:
-        raise Refused(f"call lists that cost {cost}, and at most {MOST_COST} fit: choose fewer "
-                      "frames, or --no-lists")
 
 
 def scene_bytes(size, streams, lists, version):
     """The bytes of a scene with these streams of items, and how many commands it means."""
     frames = min(sum(1 for item in items if item == SWAP) for items in streams)
     made = [Stream(items, lists) for items in streams]
+    if any(stream.lists for stream in made) and sum(stream.cost for stream in made) > MOST_COST:
+        made = [Stream(items, False) for items in streams]
     judge(size, made, frames)
     meets = any(item == BARRIER for items in streams for item in items)
     digit = b"3" if any(stream.lists for stream in made) else b"%d" % version

@@ -23,6 +23,10 @@ SCALES = {"ub": 1 / 255, "us": 1 / 65535, "ui": 1 / 4294967295, "b": 1 / 127, "s
 QUIET = re.compile(
     r"gl(X|Get|Is|Flush|Finish|Hint|Gen|CheckFramebuffer|Delete(Buffers|Framebuffers)|ReadBuffer|"
     r"DrawBuffer$|ReadPixels|AreTextures|Prioritize|StringMarker|EdgeFlag)|egl|X")
+# What makes shaders. Whatever is drawn by them is told with glUseProgram.
+SHADERS = re.compile(
+    r"gl(Create|Delete|Attach|Detach|Compile|Link|Validate)(Shader|Program|Object)|glShaderSource|"
+    r"glBindAttribLocation|glUniform|gl(Enable|Disable)?VertexAttrib|glLinkProgram")
 # What lists don't record. (A draw from arrays is recorded as the vertices that it gives.)
 IMMEDIATE = re.compile(r"(NewList|EndList|Draw.*|PixelStore|.*Pointer|.*Client.*|DeleteLists|"
                        r"InterleavedArrays|DeleteTextures|BindBuffer|Buffer(Sub)?Data)$")
@@ -139,7 +143,7 @@ class Machine(WindowCalls, StateCalls, MatrixCalls, TextureCalls, ListCalls, Ver
             scale = SCALES.get(match[3]) if match[1] in ("Color", "Normal") else None
             return Handler(match[1], method, match[4] == "v" or match[1] in SPREAD, scale)
         handler = Handler("", None, False, None)
-        handler.base = None if QUIET.match(name) else name
+        handler.base = None if QUIET.match(name) or SHADERS.match(name) else name
         return handler
 
     def swap(self, *arguments):

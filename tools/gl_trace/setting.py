@@ -76,6 +76,8 @@ class Setting:
         names = [name for name in ("GL_TEXTURE_2D", "GL_TEXTURE_1D") if values[name]]
         texture = machine.texture(names[0]) if names else None
         self.texture = texture if texture and texture.get("image") else None
+        if texture and "copied" in texture:
+            self.told.append(("left out", texture["copied"], EVERY))
         self.generated, self.texture_matrix, self.normals = [], None, None
         self.replaces, self.keeps = 0, None
         if not self.texture:

@@ -107,6 +107,19 @@ class TextureCalls:
     def do_TexSubImage1D(self, target, level, x, width, form, kind, pixels):
         self.do_TexSubImage2D(target, level, x, 0, width, 1, form, kind, pixels)
 
+    def do_CopyTexImage2D(self, target, level, internal, x, y, width, height, border):
+        self.notes.left_out("glCopyTexImage2D", True)
+        if level == 0 and target in TARGETS:
+            base = base_format(internal)
+            self.set_image(target, Image(1, 1, as_base(bytearray(4), base), base))
+            self.texture(target)["copied"] = "glCopyTexImage2D"
+            self.texels += 1
+
+    def do_CopyTexSubImage2D(self, target, level, *part):
+        self.notes.left_out("glCopyTexSubImage2D", True)
+        if level == 0 and target in TARGETS:
+            self.texture(target)["copied"] = "glCopyTexSubImage2D"
+
     # -- how they are laid on --
 
     def do_TexEnv(self, target, name, *values):

@@ -18,7 +18,6 @@ FILLED = {"GL_VERTEX_ARRAY": (0.0, 0.0, 0.0, 1.0), "GL_COLOR_ARRAY": (0.0, 0.0, 
 # What the letters of an interleaved form stand for: its arrays follow one another in its name.
 ARRAYS = {"T": "GL_TEXTURE_COORD_ARRAY", "C": "GL_COLOR_ARRAY", "N": "GL_NORMAL_ARRAY",
           "V": "GL_VERTEX_ARRAY"}
-LEFT = "light by the normal that arrays of a display list left"
 INTERLEAVED = re.compile("([TCNV])([234])(F|UB)")
 
 
@@ -28,8 +27,6 @@ class VertexCalls:
     def begin_vertices(self):
         self.open, self.buffers, self.bound, self.client_unit = None, {}, {}, 0
         self.buffered = 0
-        # The current normal where a list's arrays left it, which OpenGL doesn't define.
-        self.normal_of_arrays = self.uncertain = None
 
     # -- one by one --
 
@@ -61,7 +58,8 @@ class VertexCalls:
         self.do_End()
 
     def draw_run(self, run):
-        """Draws a run of a list or of arrays, and leaves its last values current."""
+        """Draws a run of a list or of arrays. One of a list leaves its last values current; arrays
+        leave what is current as it was, in a list too, as Mesa has it."""
         values = self.values
         if self.wanted:
             filled = Run(run.mode)
@@ -69,10 +67,7 @@ class VertexCalls:
             filled.normals = filled_up(run.normals, values["normal"])
             filled.colors = filled_up(run.colors, values["color"])
             filled.coordinates = filled_up(run.coordinates, values["coordinate"])
-            if run.normals[0] is None and self.normal_of_arrays is values["normal"]:
-                self.uncertain = LEFT
             self.draw_filled(filled)
-            self.uncertain = None
         if run.of_arrays:
             return
         for name, column in (("normal", run.normals), ("color", run.colors),
@@ -90,8 +85,6 @@ class VertexCalls:
             self.drawing, self.concerns = len(run.points), []
             for kind, what in setting.concerns(run.mode):
                 self.concern(kind, what)
-            if self.uncertain and setting.lighting:
-                self.concern("approximated", self.uncertain)
             draw(self, setting, run)
 
     # -- arrays --
@@ -192,6 +185,8 @@ class VertexCalls:
         run.of_arrays = True
         run.points = self.column("GL_VERTEX_ARRAY", indices)
         if run.points is None:
+            if self.values["program"] and self.wanted:
+                self.notes.weigh("left out", "glUseProgram", len(indices))
             return
         nothing = [None] * len(indices)
         run.normals = self.column("GL_NORMAL_ARRAY", indices) or nothing
@@ -201,13 +196,7 @@ class VertexCalls:
             self.recording.calls.append((None, run))
             if self.recording.mode == "GL_COMPILE":
                 return
-            self.draw_run(run)
-            return
-        # A draw that no list records leaves what is current as it was, as Mesa has it.
-        values = self.values
-        current = {name: values[name] for name in ("normal", "color", "coordinate")}
         self.draw_run(run)
-        values.update(current)
 
     def do_DrawArrays(self, mode, first, count):
         self.draw_arrays(mode, range(first, first + max(0, count)))
