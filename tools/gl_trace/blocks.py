@@ -38,7 +38,8 @@ def block_of(state, mode, places, colors, coordinates):
     ys = [-(-py * W // height) - W for py in up]
     depths = [round(v[2] / v[3] * W) for v in places]
     opcodes, payload = commands(xs, ys, depths, colors, coordinates)
-    return Block(state, BEGIN + opcodes + END, bytes((mode,)) + payload, len(xs), box)
+    return Block(state, BEGIN + opcodes + END, bytes((mode,)) + payload, len(xs), box,
+                 outline_of(mode, across, up, 2 * width, 2 * height))
 
 
 def box_of(state, across, up):
@@ -51,6 +52,27 @@ def box_of(state, across, up):
         x, y, w, h = state.scissor
         left, low, right, high = max(left, x), max(low, y), min(right, x + w), min(high, y + h)
     return (left, low, right, high) if left < right and low < high else None
+
+
+def outline_of(mode, across, up, width, height):
+    """How many pixels long the edges of a block are that no two of its triangles have, by places
+    in sixteenths of a viewport of this size in them."""
+    if min(across) < 0 or max(across) > width or min(up) < 0 or max(up) > height:
+        across = [max(0, min(width, x)) for x in across]
+        up = [max(0, min(height, y)) for y in up]
+    places = list(zip(across, up))
+    if mode == TRIANGLES:
+        edges = set()
+        for i in range(0, len(places) - 2, 3):
+            a, b, c = places[i:i + 3]
+            edges ^= {(a, b) if a < b else (b, a)}
+            edges ^= {(b, c) if b < c else (c, b)}
+            edges ^= {(c, a) if c < a else (a, c)}
+        return sum(map(math.dist, *zip(*edges))) / 16 if edges else 0.0
+    step = 1 if mode == FAN else 2
+    ends = (places[0], places[-1]) if mode == FAN else (places[0], places[1])
+    around = sum(map(math.dist, places, places[step:])) + math.dist(*ends)
+    return around / 16 if mode == FAN else (around + math.dist(*places[-2:])) / 16
 
 
 def pixels_of(block, mode, places):

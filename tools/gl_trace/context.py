@@ -38,7 +38,7 @@ NEARLY = {"GL_LINE_SMOOTH": LINES, "GL_POLYGON_SMOOTH": POLYGONS}
 
 # What each bit of glPushAttrib keeps.
 GROUPS = {
-    "GL_CURRENT_BIT": "color normal coordinate",
+    "GL_CURRENT_BIT": "color normal coordinate raster",
     "GL_ENABLE_BIT": " ".join(CAPABILITIES),
     "GL_FOG_BIT": "GL_FOG fog",
     "GL_LIGHTING_BIT": "GL_LIGHTING GL_COLOR_MATERIAL shade color_material front back model "
@@ -57,7 +57,7 @@ GROUPS = {
                       "GL_POLYGON_SMOOTH GL_POLYGON_STIPPLE offset",
     "GL_LINE_BIT": "line_width GL_LINE_SMOOTH GL_LINE_STIPPLE",
     "GL_POINT_BIT": "point_size GL_POINT_SMOOTH", "GL_LIST_BIT": "list_base",
-    "GL_POLYGON_STIPPLE_BIT": "GL_POLYGON_STIPPLE",
+    "GL_POLYGON_STIPPLE_BIT": "GL_POLYGON_STIPPLE", "GL_PIXEL_MODE_BIT": "zoom",
 }
 
 
@@ -69,6 +69,7 @@ def first_values():
         color_material=("GL_FRONT_AND_BACK", "GL_AMBIENT_AND_DIFFUSE"), front=PLAIN, back=PLAIN,
         model=LightModel((0.2, 0.2, 0.2, 1.0), False, False), alpha_func=("GL_ALWAYS", 0.0),
         blend_func=("GL_ONE", "GL_ZERO"), blend_alpha=None, blend_equation="GL_FUNC_ADD",
+        raster=(0.0, 0.0, 0.0, (255.0,) * 4), zoom=(1.0, 1.0),
         program=0, framebuffer=0, further=frozenset(), color_mask=(1, 1, 1, 1),
         clear_color=(0.0,) * 4,
         depth_func="GL_LESS", depth_mask=1, clear_depth=1.0, texture1=0, texture2=0,

@@ -5,8 +5,9 @@ from .limits import OPCODES
 
 State = collections.namedtuple("State", "viewport depth_range scissor alpha depth blend color_mask "
                                         "cull texture")
-# A block's opcodes and payloads are those of its commands from Begin to End.
-Block = collections.namedtuple("Block", "state opcodes payload vertices box")
+# A block's opcodes and payloads are those of its commands from Begin to End; its outline is a length
+# in pixels.
+Block = collections.namedtuple("Block", "state opcodes payload vertices box outline")
 Clear = collections.namedtuple("Clear", "scissor color_mask depth_mask color depth mask box")
 SWAP, BARRIER = "swap", "barrier"
 

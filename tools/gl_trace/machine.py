@@ -9,6 +9,7 @@ from .items import SWAP, Clear
 from .limits import MOST_COMMANDS, MOST_STEPS
 from .list_calls import ListCalls
 from .matrix_calls import MatrixCalls
+from .pixel_calls import PixelCalls
 from .reading import WINDOW
 from .setting import Setting
 from .state_calls import StateCalls
@@ -22,14 +23,16 @@ SCALES = {"ub": 1 / 255, "us": 1 / 65535, "ui": 1 / 4294967295, "b": 1 / 127, "s
 # Calls that draw nothing and set nothing that is drawn with.
 QUIET = re.compile(
     r"gl(X|Get|Is|Flush|Finish|Hint|Gen|CheckFramebuffer|Delete(Buffers|Framebuffers)|ReadBuffer|"
-    r"DrawBuffer$|ReadPixels|AreTextures|Prioritize|StringMarker|EdgeFlag)|egl|X")
+    r"DrawBuffer$|ReadPixels|InitNames|LoadName|PushName|PopName|FlushMappedBuffer|AreTextures|Prioritize|StringMarker|EdgeFlag)|egl|X")
 # What makes shaders. Whatever is drawn by them is told with glUseProgram.
 SHADERS = re.compile(
     r"gl(Create|Delete|Attach|Detach|Compile|Link|Validate)(Shader|Program|Object)|glShaderSource|"
     r"glBindAttribLocation|glUniform|gl(Enable|Disable)?VertexAttrib|glLinkProgram")
 # What lists don't record. (A draw from arrays is recorded as the vertices that it gives.)
-IMMEDIATE = re.compile(r"(NewList|EndList|Draw.*|PixelStore|.*Pointer|.*Client.*|DeleteLists|"
-                       r"InterleavedArrays|DeleteTextures|BindBuffer|Buffer(Sub)?Data)$")
+IMMEDIATE = re.compile(r"(NewList|EndList|Draw(?!Pixels).*|PixelStore|.*Pointer|.*Client.*|"
+                       r"DeleteLists|InterleavedArrays|DeleteTextures|BindBuffer|"
+                       r"Buffer(Sub)?Data|(Unm|M)apBuffer.*)$")
+TOLD_OF_EDGES = 0.01    # of a window's pixels, above which edges are told of
 # What takes its numbers in a list though its name doesn't end in v.
 SPREAD = {"Rect", "LoadMatrix", "MultMatrix", "LoadTransposeMatrix", "MultTransposeMatrix"}
 # What sets nothing that a setting is made of.
@@ -37,7 +40,8 @@ OF_VERTICES = set("""Begin End Vertex Normal Color TexCoord MultiTexCoord Rect C
     NewList EndList DrawArrays DrawElements DrawRangeElements VertexPointer NormalPointer
     InterleavedArrays
     ColorPointer TexCoordPointer EnableClientState DisableClientState BindBuffer BufferData
-    BufferSubData Clear PushMatrix MatrixMode""".split())
+    BufferSubData MapBuffer MapBufferRange UnmapBuffer Bitmap DrawPixels RasterPos WindowPos
+    PixelZoom Clear PushMatrix MatrixMode""".split())
 FAULTS = (TypeError, ValueError, KeyError, IndexError, AttributeError, OverflowError,
           ZeroDivisionError, RecursionError, struct.error)
 
@@ -54,7 +58,8 @@ class Handler:
         self.changes = base not in OF_VERTICES
 
 
-class Machine(WindowCalls, StateCalls, MatrixCalls, TextureCalls, ListCalls, VertexCalls):
+class Machine(WindowCalls, StateCalls, MatrixCalls, TextureCalls, ListCalls, VertexCalls,
+              PixelCalls):
     """The contexts of a program, and the items that its frames give."""
 
     def __init__(self, frames, options, notes, pieces=None, progress=None):
@@ -65,6 +70,7 @@ class Machine(WindowCalls, StateCalls, MatrixCalls, TextureCalls, ListCalls, Ver
         self.vertices = self.commands = self.steps = 0
         self.contexts, self.handlers, self.setting = {}, {}, None
         self.lamps, self.concerns, self.drawing, self.filtered = {}, [], 0, [0]
+        self.outlines = [0, 0.0]    # of a frame: vertices, and how long in pixels
         self.begin_windows(options.size)
         self.begin_lists()
         self.begin_textures()
@@ -131,6 +137,8 @@ class Machine(WindowCalls, StateCalls, MatrixCalls, TextureCalls, ListCalls, Ver
             return Handler("Client MakeCurrent", self.make_current, False, None)
         if name.endswith("SwapBuffers"):
             return Handler("Client SwapBuffers", self.swap, False, None)
+        if name == "memcpy":
+            return Handler("Client memcpy", self.copy_memory, False, None)
         if name == WINDOW:
             return Handler("Client Window", self.do_Viewport, False, None)
         base = re.sub("(ARB|EXT)$", "", name[2:]) if name.startswith("gl") else ""
@@ -146,9 +154,19 @@ class Machine(WindowCalls, StateCalls, MatrixCalls, TextureCalls, ListCalls, Ver
         handler.base = None if QUIET.match(name) or SHADERS.match(name) else name
         return handler
 
+    def note_outlines(self):
+        """Tells of a frame's edges, where so many pixels are next to them that rounded places may
+        show: an edge moves by a 64th of a pixel or so."""
+        vertices, length = self.outlines
+        self.outlines = [0, 0.0]
+        if self.size and length / 64 > self.size[0] * self.size[1] * TOLD_OF_EDGES:
+            self.notes.weigh("approximated", "edges, whose places are sixteenths of a pixel",
+                             vertices, length / 64)
+
     def swap(self, *arguments):
         if self.wanted:
             self.settle_size(arguments[-1] if arguments else None)
+            self.note_outlines()
             self.items.append(SWAP)
             if self.pieces and self.size:
                 self.pieces.frame(self)
@@ -189,6 +207,8 @@ class Machine(WindowCalls, StateCalls, MatrixCalls, TextureCalls, ListCalls, Ver
             for kind, what in self.concerns:
                 self.notes.weigh(kind, what, pixels=pixels)
         self.items.append(block)
+        self.outlines[0] += block.vertices
+        self.outlines[1] += block.outline
         self.commands += len(block.opcodes)
         if self.commands > MOST_COMMANDS:
             frames = self.frame - self.first + 1

@@ -45,13 +45,16 @@ def calls_in(stream, path):
     last = None
     try:
         while peek(1):
-            number, name, arguments, _, flags = load()
+            number, name, arguments, result, flags = load()
             last = number
             if name.__class__ is not str:
                 raise ValueError("a call without a name")
             if flags == FAKE and name == "glViewport":
                 name = WINDOW
-            yield number, name, [value for _, value in arguments]
+            values = [value for _, value in arguments]
+            if name.startswith("glMapBuffer"):
+                values.append(result)       # where the buffer's bytes are written to
+            yield number, name, values
     except BROKEN as fault:
         place = "at its beginning" if last is None else f"behind call {last}"
         kind = " ".join(str(fault).split()) or type(fault).__name__

@@ -26,7 +26,7 @@ class VertexCalls:
 
     def begin_vertices(self):
         self.open, self.buffers, self.bound, self.client_unit = None, {}, {}, 0
-        self.buffered = 0
+        self.buffered, self.mapped = 0, {}
 
     # -- one by one --
 
@@ -150,6 +150,31 @@ class VertexCalls:
             return
         whole[offset:offset + len(data)] = data
         self.buffers[name] = bytes(whole)
+
+    # -- buffers as memory: apitrace writes what a program puts there as copies --
+
+    def do_MapBuffer(self, target, access, place):
+        self.do_MapBufferRange(target, 0, None, access, place)
+
+    def do_MapBufferRange(self, target, offset, length, access, place):
+        name = self.bound.get(target, 0)
+        if isinstance(place, int) and place and name in self.buffers:
+            size = len(self.buffers[name]) - offset if length is None else length
+            self.mapped[target] = (name, place, offset, size)
+
+    def do_UnmapBuffer(self, target):
+        self.mapped.pop(target, None)
+
+    def copy_memory(self, place, data, size):
+        data = as_bytes(data)
+        for name, start, offset, length in self.mapped.values():
+            at = offset + place - start
+            if data is not None and start <= place and place + len(data) <= start + length \
+                    and at + len(data) <= len(self.buffers[name]):
+                whole = self.buffers[name]
+                self.buffers[name] = whole[:at] + data + whole[at + len(data):]
+                return
+        self.notes.left_out("a copy to memory that no buffer is mapped to")
 
     def column(self, name, indices):
         """An array's values at these indices; None for each where the array is off."""
