@@ -13,18 +13,24 @@ PACK_PLAIN, PACK_COLORED = struct.Struct("<4i").pack, struct.Struct("<4B4i").pac
 PACK_PLACED = struct.Struct("<6i").pack
 PACK_COLORED_PLACED = struct.Struct("<4B6i").pack
 LEAST, MOST = -2 ** 31, 2 ** 31 - 1
+MIDDLE, EXACT = 8, 0.002    # of a pixel in sixteenths, and how near to it a place is in it
 
 
-def block_of(state, mode, places, colors, coordinates):
+def block_of(state, mode, places, colors, coordinates, lowers=False):
     """A block of corners by columns, or None where it lies outside the viewport or scissor box.
 
     A place is rounded to sixteenths of a pixel, and x is the least one that gives these: the scene
-    rounds down, and would have all lie half a sixteenth to the lower left.
+    rounds down, and would have all lie half a sixteenth to the lower left. Where a polygon `lowers`
+    its corners those in the middle of a row of pixels are a sixteenth lower: Mesa keeps a polygon's
+    low edge there, and a scene its high one.
     """
     _, _, width, height = state.viewport
     width, height = 8 * width, 8 * height
     across = [round((v[0] / v[3] + 1) * width) for v in places]
     up = [round((v[1] / v[3] + 1) * height) for v in places]
+    if lowers and any(y & 15 == MIDDLE for y in up):
+        up = [y - (y & 15 == MIDDLE and abs((v[1] / v[3] + 1) * height - y) < EXACT)
+              for y, v in zip(up, places)]
     box = box_of(state, across, up)
     if box is None:
         return None

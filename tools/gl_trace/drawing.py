@@ -222,11 +222,11 @@ class Drawing:
 
     def block(self, mode, places, colors, coordinates, level, turned=False):
         state = self.setting.state(level, self.parts is not None, turned=turned)
-        self.machine.add(block_of(state, mode, places, colors, coordinates), mode, places)
+        self.machine.add(block_of(state, mode, places, colors, coordinates, True), mode, places)
         if self.setting.veil:
             veils = self.setting.fog.veils(v[3] for v in places)
-            self.machine.add(block_of(self.setting.veil_state(state), mode, places, veils, None),
-                             mode, places)
+            self.machine.add(block_of(self.setting.veil_state(state), mode, places, veils, None,
+                                      True), mode, places)
 
     def flush(self):
         places, colors, coordinates = self.single

@@ -49,6 +49,8 @@ class VertexCalls:
         if run is not None and run.points:
             if len(run.materials) == 1:
                 run.materials = []
+            if run.mode == "GL_QUADS" and len(run.points) == 4 and self.values["shade"] != "GL_FLAT":
+                run.mode = "GL_POLYGON"     # by which Mesa draws a single one
             self.draw_filled(run)
 
     def do_Rect(self, left, low, right, high):
