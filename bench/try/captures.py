@@ -9,7 +9,8 @@ of xscreensaver-gl and xscreensaver-gl-extra, and games and demonstrations of De
 Xvfb have to be there; Xvfb is started here. The program is built by
     cd crates/render_cli && rt run -- render < ../../examples/red.rcs > /dev/null
 
-Each line of the table has, of one frame (N, or the last but one where there are fewer):
+Each line of the table has, of one frame (N, or the last but one where there are fewer, or where
+the program's own picture of N is nearly black):
 A frame that begins without a clear is drawn with all before it, and the last picture is taken.
 drawn       the share of the program's own pixels that aren't black: near 0 a line says little
 vertices    that the program draws, commands and bytes of the scene
@@ -103,6 +104,26 @@ def own_frame(program, path, calls, options, environment):
                 patience.cancel()
                 child.kill()
                 return found
+
+
+def shown(program, path, ends, options, environment):
+    """The frame that is judged, and the program's own picture of it: a later one, where the frame
+    that is asked for is nearly black."""
+    last = len(ends) - 2
+    # apitrace sizes its window late, so its first frame may be nearly black.
+    for frame in sorted({max(1, min(options.frame, last)), max(1, last)}):
+        kept = path.with_name(f"{program.name}-{ends[frame]}.own.ppm")
+        picture = whole_picture(kept.read_bytes()) if kept.exists() else \
+            own_frame(program, path, ends[frame:frame + 2], options, environment)
+        if picture:
+            kept.write_bytes(as_ppm(picture))
+            if pictures.difference(picture, picture).drawn > EMPTY:
+                break
+    return frame, picture
+
+
+def as_ppm(picture):
+    return f"P6\n{picture.width} {picture.height}\n255\n".encode() + picture.rgb
 
 
 def whole_picture(data):
@@ -227,8 +248,7 @@ def judged(program, options, folder, environment):
     ends = swaps(path) if path.exists() else []
     if len(ends) < 3:
         return failed(name, "-", f"{len(ends)} frames in {options.seconds} seconds")
-    # apitrace sizes its window late, so its first frame may be nearly black.
-    frame = max(1, min(options.frame, len(ends) - 2))
+    frame, theirs = shown(program, path, ends, options, environment)
     row = Row(name, frame)
     try:
         row.figures = converted(path, frame, frame + 1, scene, options)
@@ -246,15 +266,13 @@ def judged(program, options, folder, environment):
     row.figures["serial"], data = clocked([options.program, "serial"], scene)
     row.figures["render"], _ = clocked([options.program, "render", "--tiles", "4x3"], scene)
     ours = pictures.pictures_of(data)[-1]
-    theirs = own_frame(program, path, ends[frame:frame + 2], options, environment)
     theirs = theirs and part_of(theirs, *ours[:2])
     if theirs is None or theirs[:2] != ours[:2]:
         size = "none" if theirs is None else f"one of {theirs[0]}x{theirs[1]}"
         return failed(name, frame, f"of {ours[0]}x{ours[1]} here, and apitrace draws {size}")
     row.figures.update(pictures.difference(ours, theirs)._asdict())
     for whose, picture in (("ours", ours), ("own", theirs)):
-        head = f"P6\n{picture.width} {picture.height}\n255\n".encode()
-        (folder / f"{name}-{whose}.ppm").write_bytes(head + picture.rgb)
+        (folder / f"{name}-{whose}.ppm").write_bytes(as_ppm(picture))
     return row
 
 

@@ -5,10 +5,11 @@ one. Which vertices a polygon has, and which gives its colour where it is flat, 
 """
 import math
 
+from .baking import Baked, pixels_in
 from .blocks import block_of
 from .clipping import (LEAST_SPREAD, Finer, Parts, beyond_a_side, cut, finite,
                        moved_in_depth)
-from .filters import FACTORS, Filtered, contrast
+from .filters import FACTORS, MOST_TEXELS, Filtered, contrast
 from .items import FAN, STRIP, TRIANGLES
 from .limits import MOST_VERTICES
 from .setting import GUARD, TINY
@@ -17,6 +18,7 @@ from .strokes import Strokes, is_front
 
 BLOCK = 240         # vertices of a block of single triangles: small blocks have small boxes
 MOST_PARTS = 256    # of a texture, that a primitive reaches
+MOST_BAKED = 64     # polygons of a primitive that are laid on pixel by pixel
 FILLED = ("GL_FILL", "GL_FILL")     # front and back
 STROKES = ("GL_POINTS", "GL_LINES", "GL_LINE_STRIP", "GL_LINE_LOOP")
 POLYGONS = ("GL_TRIANGLES", "GL_TRIANGLE_STRIP", "GL_TRIANGLE_FAN", "GL_QUADS", "GL_QUAD_STRIP",
@@ -56,6 +58,8 @@ class Drawing:
         self.machine, self.setting, self.mode = machine, setting, run.mode
         self.run, self.corners, self.level, self.parts = run, None, None, None
         self.single, self.single_level = ([], [], []), None
+        self.baked = self.laying = None
+        self.linear = False     # whether the texture is laid on by a linear filter
 
     def draw(self):
         setting = self.setting
@@ -75,10 +79,11 @@ class Drawing:
         finer = None if outside is not None and all(outside) else self.finer(outside, faces)
         flat = setting.flat and any(c != self.corners.fronts[0] for c in self.corners.fronts)
         every = setting.values["polygon_mode"] == FILLED
-        if every and not (outside or finer or flat or self.parts or setting.two_sided
+        if every and not (outside or finer or flat or self.parts or self.baked or setting.two_sided
                           or setting.offset) and self.whole_block(faces):
             return
-        if finer and setting.texture and contrast(self.level) > FACTORS[0][0]:
+        if finer and setting.texture and not self.baked \
+                and contrast(self.level) > FACTORS[0][0] and not self.bakes(self.level, faces, self.linear):
             self.machine.concern("approximated", "perspective of a texture by pieces that are "
                                  "linear in the window")
         for fan, provoking in faces:
@@ -153,9 +158,16 @@ class Drawing:
         setting, options = self.setting, self.machine.options
         image, side = setting.texture["image"], options.texture_side
         size = self.texels_in_a_pixel(faces, image)
+        bias = setting.bias()
+        if bias is not None and size * 2 ** bias > 1 and contrast(image) > FACTORS[0][0] \
+                and not options.nearest and self.bakes(image, faces, True, bias):
+            return
         number = max(0, int(math.log2(size) + 0.5)) if setting.mipmapped() else 0
+        if setting.mipmapped() and size > 1 and contrast(image) > FACTORS[0][0]:
+            self.machine.concern("approximated", "a mipmap by one of its images for a primitive")
         level = image.level(number, 0)
-        if setting.is_linear(size > 1) and self.filtered(level, faces):
+        self.linear = setting.is_linear(size > 1)
+        if self.linear and self.filtered(level, faces):
             return
         if options.cut_textures and max(level.width, level.height) > side:
             reach = [max(c) - min(c) + 1 for c in zip(*self.corners.coordinates)]
@@ -173,11 +185,28 @@ class Drawing:
         level.made = machine.filtered
         if not options.nearest:
             found.choose([[self.corners.coordinates[i] for i in fan] for fan, _ in faces])
+        if found.times < found.due and not options.nearest and self.bakes(level, faces, True):
+            return True
         if found.times < found.due:
             machine.concern("approximated", "a linear filter by " + (
                 "the nearest texel" if found.times == 1 else f"steps of 1/{found.times} texel"))
         self.level, self.parts = found.level or level, found.parts
         return found.times > 1
+
+    def bakes(self, level, faces, linear, bias=None):
+        """Whether the primitive's polygons are laid on pixel by pixel from now on."""
+        setting, options = self.setting, self.machine.options
+        if len(faces) > MOST_BAKED or self.parts and level is not self.parts.image \
+                or level.times > 1 or setting.values["polygon_mode"] != FILLED:
+            return False
+        level.made = self.machine.filtered
+        corners = [[self.corners.places[i] for i in fan] for fan, _ in faces]
+        if level.made[0] + pixels_in(corners, setting.viewport) > MOST_TEXELS:
+            return False
+        self.baked = Baked(level, setting.viewport, options.texture_side, setting.clamps(), linear,
+                           bias)
+        self.level = self.parts = None
+        return True
 
     def texels_in_a_pixel(self, faces, image):
         """Along a side, by the areas of at most some 32 polygons; 1 where these are none."""
@@ -221,7 +250,10 @@ class Drawing:
                    turned)
 
     def block(self, mode, places, colors, coordinates, level, turned=False):
-        state = self.setting.state(level, self.parts is not None, turned=turned)
+        if self.laying:
+            coordinates = self.baked.coordinates(places)
+        state = self.setting.state(level, self.parts is not None or self.baked is not None,
+                                   turned=turned)
         self.machine.add(block_of(state, mode, places, colors, coordinates, True), mode, places)
         if self.setting.veil:
             veils = self.setting.fog.veils(v[3] for v in places)
@@ -242,7 +274,7 @@ class Drawing:
         is_back = corners.backs is not None \
             and not is_front(setting, [corners.places[i] for i in fan])
         clipped = outside is not None and any(outside[i] for i in fan)
-        if clipped or finer or self.parts or setting.offset:
+        if clipped or finer or self.parts or self.baked or setting.offset:
             face = [corners.corner(i, is_back) for i in fan]
             if provoking is not None:
                 shade = (corners.backs if is_back else corners.fronts)[provoking]
@@ -269,6 +301,14 @@ class Drawing:
             return
         if self.setting.offset:
             face = moved_in_depth(face, self.setting.viewport, *self.setting.offset)
+        if self.baked:
+            for level, piece in self.baked.pieces(face):
+                self.flush()
+                self.laying = level
+                self.finer_face(piece, finer, level)
+                self.flush()
+            self.laying = None
+            return
         if self.parts is None:
             self.finer_face(face, finer, self.level)
             return
@@ -278,7 +318,7 @@ class Drawing:
     def finer_face(self, face, finer, level):
         """A polygon as one fan, or as triangles where an edge is to be cut."""
         if finer:
-            finer.use(level)
+            finer.use(None if self.laying else level)
         far = finer and any(finer.far(a, b) for a, b in zip(face, face[1:] + face[:1]))
         if not far and 3 < len(face) <= MOST_VERTICES:
             self.fan(*split(face), level)

@@ -89,6 +89,8 @@ class Setting:
             self.told.append(("approximated", f"glTexGen({mode})", EVERY))
         if any(made and made.mode == "GL_SPHERE_MAP" for _, made in self.generated):
             self.normals = rows_of_normals(values, self.modelview)
+        if self.texture.get("GL_TEXTURE_MAX_ANISOTROPY_EXT", 1) > 1:
+            self.told.append(("approximated", "GL_TEXTURE_MAX_ANISOTROPY_EXT", POLYGONS))
         matrix = self.stacks["GL_TEXTURE"][-1]
         self.texture_matrix = None if matrix == IDENTITY else matrix
         self.use_environment(self.texture["image"], values["environment"])
@@ -132,6 +134,13 @@ class Setting:
     def mipmapped(self):
         return "MIPMAP" in str(self.texture.get("GL_TEXTURE_MIN_FILTER",
                                                 "GL_NEAREST_MIPMAP_LINEAR"))
+
+    def bias(self):
+        """What is added to the level of a mipmap whose images are mixed, by a linear filter each;
+        None where a texture isn't laid on so."""
+        if self.texture.get("GL_TEXTURE_MIN_FILTER") != "GL_LINEAR_MIPMAP_LINEAR":
+            return None
+        return float(self.texture.get("GL_TEXTURE_LOD_BIAS", 0.0))
 
     def is_linear(self, minified):
         """Whether texels are mixed, of a texture that is shown smaller or larger than it is."""
