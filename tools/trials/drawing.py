@@ -45,10 +45,18 @@ class Places(unittest.TestCase):
 
 
 class Primitives(unittest.TestCase):
-    def test_a_quad_is_cut_from_its_second_corner_to_its_last(self):
-        block, = scene(*primitive("GL_QUADS", *CORNERS)).blocks
-        self.assertEqual(block.mode, "FAN")
-        self.assertEqual(places(block), [(64, 0), (64, 64), (0, 64), (0, 0)])
+    def test_quads_are_cut_from_their_second_corner_to_their_last_and_one_alone_is_a_polygon(self):
+        two = scene(*primitive("GL_QUADS", *CORNERS, *CORNERS)).blocks
+        self.assertEqual([block.mode for block in two], ["FAN"] * 2)
+        self.assertEqual(places(two[0]), [(64, 0), (64, 64), (0, 64), (0, 0)])
+        alone, = scene(*primitive("GL_QUADS", *CORNERS)).blocks
+        self.assertEqual(places(alone), [*map(tuple, CORNERS)])
+
+    def test_a_corner_in_the_middle_of_a_row_is_a_sixteenth_lower(self):
+        block, = scene(*primitive("GL_TRIANGLES", (8, 8.5), (24.5, 8.5), (8, 24.46875))).blocks
+        self.assertEqual([vertex.y for vertex in block.vertices], [135, 135, 392 - 0])
+        line, = scene(*primitive("GL_LINES", (8, 9), (24, 9))).blocks
+        self.assertEqual({vertex.y for vertex in line.vertices}, {136, 152})
 
     def test_a_quad_strip_is_cut_from_its_first_vertex_to_its_fourth(self):
         block, = scene(("glEnable", "GL_CULL_FACE"),

@@ -1,8 +1,8 @@
 """Textures under a linear filter, and how much of what is drawn a note is about."""
 import unittest
 
-from .hand_traces import (CLEAR, PLANE, SWAP, WINDOW, blob, converted, image, pickled, primitive,
-                          scene, textured)
+from .hand_traces import (CLEAR, PLANE, SWAP, WINDOW, converted, image, pickled, primitive, scene,
+                          textured)
 
 LINEAR = [("glTexParameteri", "GL_TEXTURE_2D", "GL_TEXTURE_MAG_FILTER", "GL_LINEAR"),
           ("glTexParameteri", "GL_TEXTURE_2D", "GL_TEXTURE_WRAP_S", "GL_CLAMP_TO_EDGE"),
@@ -64,17 +64,46 @@ class Filters(unittest.TestCase):
         self.assertIn("from_apitrace: approximated a linear filter by the nearest texel 1: "
                       "4 vertices, 4096 pixels", made.lines)
 
-    def test_a_texture_that_is_too_large_takes_larger_steps_and_is_told(self):
+    def test_a_texture_that_is_too_large_is_laid_on_pixel_by_pixel(self):
         stripes = (BLACK + WHITE) * 32 * 64
-        made = converted(pickled(WINDOW, CLEAR, PLANE, *image(64, 64, stripes), *LINEAR, *FACE,
+        # Each pixel's middle lies in the middle of a texel: the picture is the texture.
+        block, = scene(*image(64, 64, stripes), *LINEAR, *FACE).blocks
+        self.assertEqual(block.texels[:2], (64, 64))
+        self.assertEqual(reds(block)[:64], [0, 255] * 32)
+        # Half as large, two texels of a row are in a pixel, and its middle lies between them.
+        half = textured((0, 0, 0, 0), (32, 0, 1, 0), (32, 32, 1, 1), (0, 32, 0, 1))
+        linear = [*LINEAR, ("glTexParameteri", "GL_TEXTURE_2D", "GL_TEXTURE_MIN_FILTER",
+                            "GL_LINEAR")]
+        block, = scene(*image(64, 64, stripes), *linear, *half).blocks
+        self.assertEqual(block.texels[:2], (33, 33))      # with a pixel around it
+        self.assertEqual(set(reds(block)[:32]), {128})
+        self.assertEqual((block.vertices[2].coordinate[0], block.vertices[2].coordinate[1]),
+                         (round(32 / 33 * 65536) / 65536,) * 2)
+
+    def test_images_of_a_mipmap_are_mixed_pixel_by_pixel(self):
+        # 128 by 128 texels in 64 by 64 pixels: image 1, all of it 128, and with a bias of a half
+        # half of image 2. Image 1 is the mean of black and white columns of two.
+        columns = (BLACK * 2 + WHITE * 2) * 32 * 128
+        mixed = [("glTexParameteri", "GL_TEXTURE_2D", "GL_TEXTURE_MIN_FILTER",
+                  "GL_LINEAR_MIPMAP_LINEAR")]
+        block, = scene(*image(128, 128, columns), *LINEAR, *mixed, *FACE).blocks
+        self.assertEqual(reds(block)[:4], [0, 255, 0, 255])
+        bias = ("glTexParameterf", "GL_TEXTURE_2D", "GL_TEXTURE_LOD_BIAS", 0.5)
+        block, = scene(*image(128, 128, columns), *LINEAR, *mixed, bias, *FACE).blocks
+        # Of image 2, which is 127 all over, and of image 1, half each.
+        self.assertEqual(reds(block)[8:12], [64, 191, 64, 191])
+
+    def test_where_a_frame_has_too_many_pixels_steps_are_larger_and_told(self):
+        stripes = (BLACK + WHITE) * 32 * 64
+        many = [call for _ in range(65) for call in FACE[1:-1]]
+        quads = [("glBegin", "GL_QUADS"), *many, ("glEnd",)]
+        made = converted(pickled(WINDOW, CLEAR, PLANE, *image(64, 64, stripes), *LINEAR, *quads,
                                  SWAP))
         self.assertEqual(made.scene.blocks[0].texels[:2], (192, 192))
         self.assertIn("from_apitrace: approximated a linear filter by steps of 1/3 texel 1: "
-                      "4 vertices, 4096 pixels", made.lines)
-        cut = converted(pickled(WINDOW, CLEAR, PLANE, *image(64, 64, stripes), *LINEAR, *FACE,
+                      f"260 vertices, {65 * 4096} pixels", made.lines)
+        cut = converted(pickled(WINDOW, CLEAR, PLANE, *image(64, 64, stripes), *LINEAR, *quads,
                                 SWAP), "--cut-textures").scene
-        # Three columns and three rows, of which the first two rows are alike.
-        self.assertEqual(len({block.texels for block in cut.blocks}), 6)
         self.assertEqual({block.texels[:2] for block in cut.blocks},
                          {(w, h) for w in (256, 64) for h in (256, 64)})
 
@@ -87,23 +116,33 @@ class Weights(unittest.TestCase):
         self.assertIn("from_apitrace: left out glEnable(GL_STENCIL_TEST) 1: 8 vertices, "
                       "128 pixels", made.lines)
 
-    def test_a_normal_that_arrays_of_a_list_left_is_told_where_light_falls_by_it(self):
-        array = [("glEnable", "GL_LIGHTING"), ("glEnable", "GL_LIGHT0"),
-                 ("glVertexPointer", 2, "GL_FLOAT", 0, blob("6f", 0, 0, 9, 0, 0, 9)),
-                 ("glNormalPointer", "GL_FLOAT", 0, blob("9f", *[0, 0, 1] * 3)),
-                 ("glEnableClientState", "GL_VERTEX_ARRAY"),
-                 ("glEnableClientState", "GL_NORMAL_ARRAY"), ("glNewList", 1, "GL_COMPILE"),
-                 ("glDrawArrays", "GL_TRIANGLES", 0, 3), ("glEndList",)]
-        lines = [("glNewList", 2, "GL_COMPILE"), *primitive("GL_LINES", (0, 0), (9, 0)),
-                 ("glEndList",)]
-        told = "from_apitrace: approximated light by the normal that arrays of a display list " \
-               "left 1: 2 vertices, 9 pixels"
-        for calls, count in (([("glCallList", 1), ("glCallList", 2)], 1),
-                             ([("glCallList", 2), ("glCallList", 1)], 0),
-                             ([("glCallList", 1), ("glNormal3f", 0.0, 0.0, 1.0),
-                               ("glCallList", 2)], 0)):
-            made = converted(pickled(WINDOW, CLEAR, PLANE, *array, *lines, *calls, SWAP))
-            self.assertEqual(made.lines.count(told), count, made.lines)
+    def test_what_shaders_draw_is_told_and_what_makes_them_is_not(self):
+        made = converted(pickled(WINDOW, CLEAR, ("glCreateShader", "GL_VERTEX_SHADER"),
+                                 ("glUniform1f", 1, 2.0), ("glUseProgram", 3),
+                                 ("glDrawArrays", "GL_TRIANGLES", 0, 9), SWAP))
+        self.assertIn("from_apitrace: left out glUseProgram 1: 9 vertices, 0 pixels", made.lines)
+        self.assertEqual([line for line in made.lines if "Shader" in line or "Uniform" in line], [])
+
+    def test_what_is_drawn_with_a_copy_of_the_picture_is_told(self):
+        copied = ("glCopyTexSubImage2D", "GL_TEXTURE_2D", 0, 0, 0, 0, 0, 2, 1)
+        made = converted(pickled(WINDOW, CLEAR, PLANE, *image(2, 1, BLACK + WHITE), copied, *FACE,
+                                 SWAP))
+        self.assertIn("from_apitrace: left out glCopyTexSubImage2D 1: 4 vertices, 4096 pixels",
+                      made.lines)
+        whole = ("glCopyTexImage2D", "GL_TEXTURE_2D", 0, "GL_RGB", 0, 0, 2, 2, 0)
+        made = converted(pickled(WINDOW, CLEAR, PLANE, *image(2, 1, WHITE + WHITE), whole, *FACE,
+                                 SWAP))
+        self.assertEqual(made.scene.blocks[0].texels, (1, 1, BLACK))
+        self.assertIn("from_apitrace: left out glCopyTexImage2D 1: 4 vertices, 4096 pixels",
+                      made.lines)
+
+    def test_edges_are_told_where_there_are_many(self):
+        # A square of 64 by 64 pixels has a 64th of its 256 pixels of edges: four, where 41 are told.
+        told = "from_apitrace: approximated edges, whose places are sixteenths of a pixel 1: "
+        for squares, line in ((10, None), (11, told + "44 vertices, 44 pixels")):
+            made = converted(pickled(WINDOW, CLEAR, PLANE, *squares * primitive(
+                "GL_POLYGON", (0, 0), (64, 0), (64, 64), (0, 64)), SWAP))
+            self.assertEqual([line for line in made.lines if "edges" in line], [line][:bool(line)])
 
     def test_a_frame_buffer_object_is_not_drawn_in(self):
         made = converted(pickled(WINDOW, CLEAR, PLANE, ("glBindFramebuffer", "GL_FRAMEBUFFER", 1),

@@ -78,7 +78,7 @@ class Lists(unittest.TestCase):
         self.assertEqual(places(block), [(8, 8), (24, 8), (8, 24)])
         self.assertEqual(colors(block), [RED] * 3)
 
-    def test_a_draw_that_no_list_has_leaves_what_is_current(self):
+    def test_arrays_leave_what_is_current_in_a_list_too(self):
         reds = blob("9B", *[255, 0, 0] * 3)
         colored = [*self.ARRAY, ("glColorPointer", 3, "GL_UNSIGNED_BYTE", 0, reds),
                    ("glEnableClientState", "GL_COLOR_ARRAY"), ("glColor3ub", 0, 255, 0)]
@@ -87,7 +87,24 @@ class Lists(unittest.TestCase):
         first, second = scene(*colored, draw, *after).blocks
         self.assertEqual((colors(first)[0], colors(second)[0]), (RED, GREEN))
         listed = [("glNewList", 1, "GL_COMPILE"), draw, ("glEndList",), ("glCallList", 1)]
-        self.assertEqual(colors(scene(*colored, *listed, *after).blocks[-1])[0], RED)
+        self.assertEqual(colors(scene(*colored, *listed, *after).blocks[-1])[0], GREEN)
+
+    def test_what_is_written_to_a_mapped_buffer_is_in_it(self):
+        three = blob("6f", 8, 8, 24, 8, 8, 24)
+        calls = [("glBindBuffer", "GL_ARRAY_BUFFER", 1),
+                 ("glBufferData", "GL_ARRAY_BUFFER", 24, None, "GL_STATIC_DRAW")]
+        draw = [("glUnmapBuffer", "GL_ARRAY_BUFFER"), ("glVertexPointer", 2, "GL_FLOAT", 0, 0),
+                ("glEnableClientState", "GL_VERTEX_ARRAY"),
+                ("glDrawArrays", "GL_TRIANGLES", 0, 3)]
+        whole = [("glMapBuffer", "GL_ARRAY_BUFFER", "GL_WRITE_ONLY"), ("memcpy", 4096, three, 24)]
+        part = [("memcpy", 4100, three[8:], 16)]
+        for write in (whole, [("glMapBufferRange", "GL_ARRAY_BUFFER", 0, 24, 2),
+                              ("memcpy", 4104, three[8:], 16), ("memcpy", 4096, three[:8], 8)]):
+            block, = scene(*calls, *write, *draw, results=4096).blocks
+            self.assertEqual(places(block), [(8, 8), (24, 8), (8, 24)])
+        made = converted(pickled(WINDOW, CLEAR, *part, SWAP))
+        self.assertIn("from_apitrace: left out a copy to memory that no buffer is mapped to 1",
+                      made.lines)
 
     def test_interleaved_arrays(self):
         # The fourteen forms; what a form hasn't is current: white, and texture coordinates of 0.

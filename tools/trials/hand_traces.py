@@ -24,10 +24,10 @@ RED, GREEN, BLUE, WHITE = (255, 0, 0), (0, 255, 0), (0, 0, 255), (255, 255, 255)
 SIX = [(1, 0, 0), (0, 1, 0), (0, 0, 1), (1, 1, 0), (0, 1, 1), (1, 0, 1)]
 
 
-def pickled(*calls):
-    """A stream of calls, each a name and its arguments."""
+def pickled(*calls, results=None):
+    """A stream of calls, each a name and its arguments, which all have the same result."""
     return b"".join(pickle.dumps((number, name, [(str(i), value) for i, value in enumerate(values)],
-                                  None, 0), 2) for number, (name, *values) in enumerate(calls))
+                                  results, 0), 2) for number, (name, *values) in enumerate(calls))
 
 
 def converted(data, *words):
@@ -37,10 +37,10 @@ def converted(data, *words):
     return Converted(done.returncode, lines, Scene(done.stdout) if done.stdout else None)
 
 
-def scene(*calls, words=()):
+def scene(*calls, words=(), results=None):
     """The scene of a frame of these calls, in a window of 64 by 64 where a unit is a pixel."""
     plane = [("glMatrixMode", "GL_PROJECTION"), PLANE, ("glMatrixMode", "GL_MODELVIEW")]
-    made = converted(pickled(WINDOW, CLEAR, *plane, *calls, SWAP), *words)
+    made = converted(pickled(WINDOW, CLEAR, *plane, *calls, SWAP, results=results), *words)
     if made.status:
         raise AssertionError(made.lines)
     return made.scene
