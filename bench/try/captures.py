@@ -3,6 +3,7 @@
 program's own frame. What the programs are is in docs/real-programs.md.
 
     captures.py [--frame N] [--seconds S] [--cache FOLDER] [--longest S] [NAME ..]
+    captures.py --cache FOLDER --kept --document docs/real-programs.md
 
 Without names these are all programs of capture_programs.py that are installed: the OpenGL programs
 of xscreensaver-gl and xscreensaver-gl-extra, and games and demonstrations of Debian. apitrace and
@@ -26,7 +27,9 @@ anything but a scene or a refusal of one line.
 
 A FOLDER keeps traces, scenes, pictures and figures, and those that it has are taken as they are:
 figures as long as the converter's text is the same, but for failures. So a run that was broken off
-goes on where it was. No program is traced for more than S seconds, and nothing else of it takes
+goes on where it was. With --kept nothing is traced, converted or drawn: what the FOLDER has of this
+converter is printed. --document writes the table, its rows by what is off, and the sentence about
+its counts to a page in place of those that it has. No program is traced for more than S seconds, and nothing else of it takes
 longer than the seconds of --longest; a trace that has 100 MB is ended.
 """
 import argparse
@@ -219,6 +222,32 @@ class Row:
                 "; ".join(heaviest(f["notes"])) if f["off"] > NEAR else ""]
 
 
+def with_table(page, rows, chosen):
+    """A page with these rows in its table of programs, and with their counts before it."""
+    shown = sorted((row for row in rows if row.shows()), key=lambda row: row.figures["off"])
+    others = [row for row in rows if not row.shows()]
+    near = sum(row.figures["off"] <= NEAR for row in shown)
+    counts = (f"Of {len(chosen)} programs that the script names {len(rows)} were judged with the "
+              f"converter as it is, and {len(shown)} show something: {near} of these are within "
+              "half a percent of pixels.")
+    lines = ["| program | frame | drawn % | vertices | commands | bytes | seconds | µs a vertex | "
+             "µs a scene's | mean | off % | what is told |", "|---" * 12 + "|"]
+    for row in shown:
+        f = row.figures
+        told = "; ".join(heaviest(f["notes"])) if f["off"] > NEAR else ""
+        cells = (row.name, row.frame, f"{f['drawn']:.0f}", f"{f['vertices']:,}",
+                 f"{f['commands']:,}", f"{f['bytes']:,}", f"{f['seconds']:.2f}",
+                 f"{f['each']:.0f}", f"{f['scene']:.0f}", f"{f['mean']:.2f}", f"{f['off']:.2f}",
+                 told)
+        lines.append("| " + " | ".join(map(str, cells)) + " |")
+    for row in others:
+        lines.append(f"| {row.name} | {row.frame} | {row.failed or 'shows nothing'} |"
+                     + " |" * 9)
+    page = re.sub(r"Of \d+ programs that the script names .*", counts, page)
+    return re.sub(r"\| program \| frame \|[^\n]*\n(\|[^\n]*\n)*",
+                  lambda _: "\n".join(lines) + "\n", page)
+
+
 def converted(path, first, last, scene, options):
     """The figures of a conversion in a process of its own."""
     child = subprocess.run(
@@ -277,7 +306,8 @@ def judged(program, options, folder, environment):
 
 
 def kept(program, options, folder, environment, mark):
-    """What a program comes to, of an earlier run where that was made by the same converter."""
+    """What a program comes to, of an earlier run where that was made by the same converter; None
+    of one that isn't there where no other is wanted."""
     path = folder / f"{program.name}.json"
     try:
         found = json.loads(path.read_text())
@@ -285,6 +315,8 @@ def kept(program, options, folder, environment, mark):
             return Row(found["name"], found["frame"], found["figures"], found["failed"])
     except (OSError, ValueError, KeyError):
         pass
+    if options.kept:
+        return None
     row = judged(program, options, folder, environment)
     if row.failed and "refused" not in row.figures:
         return row
@@ -311,6 +343,8 @@ def words():
     parser.add_argument("--longest", type=int, default=300, metavar="S")
     parser.add_argument("--cache", metavar="FOLDER")
     parser.add_argument("--program", help="a program other than the built one")
+    parser.add_argument("--kept", action="store_true")
+    parser.add_argument("--document", type=pathlib.Path, metavar="PAGE")
     return parser.parse_args()
 
 
@@ -319,7 +353,7 @@ def main():
         convert(sys.argv[2], int(sys.argv[3]), int(sys.argv[4]), sys.argv[5])
         return 0
     options = words()
-    options.program = built(options.program)
+    options.program = None if options.kept else built(options.program)
     chosen = capture_programs.chosen(options.names)
     signal.signal(signal.SIGTERM, lambda *_: sys.exit(143))      # which ends the server too
     with tempfile.TemporaryDirectory() as made, Display() as environment:
@@ -328,13 +362,17 @@ def main():
         print("| " + " | ".join(HEAD) + " |\n" + "|---" * len(HEAD) + "|", flush=True)
         rows, mark = [], mark_of(options)
         for program in chosen:
-            rows.append(kept(program, options, folder, environment, mark))
-            print("| " + " | ".join(map(str, rows[-1].cells())) + " |", flush=True)
+            row = kept(program, options, folder, environment, mark)
+            if row:
+                rows.append(row)
+                print("| " + " | ".join(map(str, row.cells())) + " |", flush=True)
     shown = [row for row in rows if row.shows()]
     near = [row for row in shown if row.figures["off"] <= NEAR]
     print(f"\n{len(near)} of {len(shown)} that show something are within {NEAR} % of pixels")
     for row in sorted(set(shown) - set(near), key=lambda row: row.figures["off"]):
         print(f"{row.name}: {row.figures['off']:.2f} % off")
+    if options.document:
+        options.document.write_text(with_table(options.document.read_text(), rows, chosen))
     print("\n" + "\n".join(f"{row.name}: {line}" for row in rows
                            for line in row.figures.get("notes", [])))
     return 1 if any(row.failed and row.failed.startswith("FAILED") for row in rows) else 0

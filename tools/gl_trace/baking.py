@@ -12,6 +12,7 @@ from .images import Image
 
 MARGIN = 1          # pixels around a polygon that its image has too
 LEAST_AREA = 0.5    # of a polygon that is drawn so, in pixels
+MOST_BENT = 0.1     # texels that a corner of a flat texture is off
 
 
 def pixels_in(faces, viewport):
@@ -47,6 +48,10 @@ class Baked:
         those of its places in the window (`coordinates`)."""
         law = Law(face, self.width, self.height)
         if law.area < LEAST_AREA:
+            return
+        if len(face) > 3 and not law.fits(face, self.image):
+            for b, c in zip(face[1:], face[2:]):
+                yield from self.pieces([face[0], b, c])
             return
         left, low, right, high = box_of(face, self.width, self.height)
         for x in range(left, right, self.side):
@@ -160,7 +165,7 @@ class Law:
         x, y, q = places[0]
         areas = [(b[0] - x) * (c[1] - y) - (c[0] - x) * (b[1] - y)
                  for b, c in zip(places[1:], places[2:])]
-        self.area = max(map(abs, areas))
+        self.width, self.height, self.area = width, height, max(map(abs, areas))
         j = max(range(len(areas)), key=lambda i: abs(areas[i])) + 1
         if self.area < LEAST_AREA:
             return
@@ -173,6 +178,14 @@ class Law:
             fy = (c * (bx - x) - b * (cx - x)) / area
             self.laws.append((a - fx * x - fy * y, fx, fy))
         self.is_affine = max(map(abs, self.laws[0][1:])) < 1e-9 * q
+
+    def fits(self, face, image):
+        """Whether all corners have the coordinates that the law has there, and not three alone: a
+        polygon of more has one law only where its texture lies flat on it."""
+        return all(abs(s - v[8]) * image.width < MOST_BENT and abs(t - v[9]) * image.height
+                   < MOST_BENT for v in face
+                   for s, t in [self.at((v[0] / v[3] + 1) * self.width / 2,
+                                        (v[1] / v[3] + 1) * self.height / 2)])
 
     def at(self, x, y):
         (q, qx, qy), (s, sx, sy), (t, tx, ty) = self.laws

@@ -80,6 +80,12 @@ class Filters(unittest.TestCase):
         self.assertEqual((block.vertices[2].coordinate[0], block.vertices[2].coordinate[1]),
                          (round(32 / 33 * 65536) / 65536,) * 2)
 
+    def test_a_texture_that_is_bent_over_a_polygon_is_laid_on_by_triangles(self):
+        stripes = (BLACK + WHITE) * 32 * 64
+        bent = textured((0, 0, 0, 0), (64, 0, 1, 0), (64, 64, 1, 1), (0, 64, 0, 0.5))
+        first, second = scene(*image(64, 64, stripes), *LINEAR, *bent).blocks
+        self.assertEqual([len(block.vertices) for block in (first, second)], [3, 3])
+
     def test_images_of_a_mipmap_are_mixed_pixel_by_pixel(self):
         # 128 by 128 texels in 64 by 64 pixels: image 1, all of it 128, and with a bias of a half
         # half of image 2. Image 1 is the mean of black and white columns of two.
