@@ -4,6 +4,7 @@ import unittest
 from .hand_traces import (BLUE, CLEAR, CORNERS, GREEN, PLANE, RED, SIX, SWAP, WINDOW, colors,
                           converted, image, pickled, places, primitive, scene, vertices)
 
+COLUMNS = bytes([0, 0, 0, 255, 255, 255, 255, 255] * 128)      # black and white, 16 by 16 texels
 
 
 def as_bytes(color):
@@ -171,25 +172,67 @@ class Clipping(unittest.TestCase):
     def test_what_lies_outside_the_window_gives_no_block(self):
         self.assertEqual(scene(*primitive("GL_TRIANGLES", (70, 0), (99, 0), (70, 9))).blocks, [])
 
-    def test_perspective_cuts_a_textured_polygon_finer_and_neighbours_share_edges(self):
-        black_and_white = bytes([0, 0, 0, 255, 255, 255, 255, 255] * 128)
+    def road(self, texels, *calls):
+        """A road in two halves, whose texture has 16 by 16 texels and is seen in perspective."""
         road = [("glBegin", "GL_QUADS")]
         for left, right in ((-1.0, 0.0), (0.0, 1.0)):
             for x, z, s, t in ((left, -1.0, 0, 0), (right, -1.0, 1, 0), (right, -60.0, 1, 9),
                                (left, -60.0, 0, 9)):
                 road += [("glTexCoord2f", float(s), float(t)), ("glVertex3f", x, -0.5, z)]
-        made = scene(*self.FRUSTUM, *image(16, 16, black_and_white), *road, ("glEnd",))
-        corners = [vertex for block in made.blocks for vertex in block.vertices]
-        middle = [vertex.y for vertex in corners if vertex.x == 512]
-        self.assertGreater(len(set(middle)), 8)
-        # Both halves of the road cut the edge between them at the same places, and each triangle
-        # is one of single triangles, so each place on it stands in both.
-        for vertex in corners:
-            if vertex.x == 512:
-                sides = {(a.x > 512) - (a.x < 512) for block in made.blocks
-                         for a in block.vertices if a.y == vertex.y}
-                self.assertIn(0, sides)
-        self.assertEqual(uneven_edges(made.blocks, 512), set())
+        made = converted(pickled(WINDOW, CLEAR, *self.FRUSTUM, *image(16, 16, texels), *calls,
+                                 *road, ("glEnd",), SWAP))
+        return made.scene.blocks, [line for line in made.lines if "perspective" in line]
+
+    def test_perspective_cuts_a_textured_polygon_finer_and_neighbours_share_edges(self):
+        # Two textures that aren't laid on pixel by pixel: one whose neighbouring texels hardly
+        # differ, of which nothing is told, and one that a linear filter has in steps.
+        greys = bytes([100, 100, 100, 255, 124, 124, 124, 255] * 128)
+        steps = ("glTexParameteri", "GL_TEXTURE_2D", "GL_TEXTURE_MIN_FILTER", "GL_LINEAR")
+        for texels, calls, told, size in ((greys, [], 0, 16), (COLUMNS, [steps], 1, 144)):
+            blocks, lines = self.road(texels, *calls)
+            self.assertEqual(len(lines), told)
+            self.assertEqual({block.texels[:2] for block in blocks}, {(size, size)})
+            corners = [vertex for block in blocks for vertex in block.vertices]
+            middle = [vertex.y for vertex in corners if vertex.x == 512]
+            self.assertGreater(len(set(middle)), 8)
+            # Both halves of the road cut the edge between them at the same places, and each
+            # triangle is one of single triangles, so each place on it stands in both.
+            for vertex in corners:
+                if vertex.x == 512:
+                    sides = {(a.x > 512) - (a.x < 512) for block in blocks
+                             for a in block.vertices if a.y == vertex.y}
+                    self.assertIn(0, sides)
+            self.assertEqual(uneven_edges(blocks, 512), set())
+
+    def test_neighbours_that_are_laid_on_pixel_by_pixel_leave_no_gap(self):
+        blocks, lines = self.road(COLUMNS)
+        self.assertEqual((len(blocks), lines), (2, []))
+        self.assertEqual(uneven_edges(blocks, 512), set())
+        # A half spans 32 pixels, from 16 up to 31.7, and its image a pixel more around it.
+        for block, left in zip(blocks, (0, 31)):
+            width, height, texels = block.texels
+            self.assertEqual((width, height), (33, 18))
+            for vertex, (x, y) in zip(block.vertices, places(block)):
+                self.assertAlmostEqual(left + width * vertex.coordinate[0], x, delta=1 / 16)
+                self.assertAlmostEqual(15 + height * vertex.coordinate[1], y, delta=1 / 16)
+            self.assertEqual(len(set(places(block)) & {(32, 16), (32, 31.75)}), 2)
+        # A pixel shows the texel that the ray through its middle meets. The ground lies half below
+        # the eye, so there it is 0.5 / down away; white are the texels of odd columns.
+        shown = 0
+        for row in range(16, 32):
+            away = 0.5 / (1 - (row + 0.5) / 32)
+            for column in range(64):
+                across = ((column + 0.5) / 32 - 1) * away
+                place = 16 * (across % 1)
+                if away > 60 or abs(across) > 1 or abs(place - round(place)) < 0.01:
+                    continue        # beside the road, or where two texels meet
+                block, left = (blocks[1], 31) if column > 31 else (blocks[0], 0)
+                at = 4 * (33 * (row - 15) + column - left)
+                white = 255 * (int(place) % 2)
+                self.assertEqual(tuple(block.texels[2][at:at + 4]), (white, white, white, 255),
+                                 (column, row))
+                shown += 1
+        self.assertGreater(shown, 400)
 
     def test_a_corner_that_is_no_number_leaves_its_polygon_out(self):
         calls = [("glBegin", "GL_TRIANGLES"), *vertices((0, 0), (9, 0)),

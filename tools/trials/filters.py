@@ -143,7 +143,7 @@ class Weights(unittest.TestCase):
                       made.lines)
 
     def test_edges_are_told_where_there_are_many(self):
-        # A square of 64 by 64 pixels has a 64th of its 256 pixels of edges: four, where 41 are told.
+        # A square of 64 by 64 pixels has a 64th of its 256 pixels of edges: four; 41 are told.
         told = "from_apitrace: approximated edges, whose places are sixteenths of a pixel 1: "
         for squares, line in ((10, None), (11, told + "44 vertices, 44 pixels")):
             made = converted(pickled(WINDOW, CLEAR, PLANE, *squares * primitive(

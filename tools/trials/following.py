@@ -245,14 +245,30 @@ class Textures(unittest.TestCase):
         self.assertEqual((block.texels[0], block.state.get("TexWrap", (0, 0))), (256, (0, 0)))
 
     def test_a_small_face_takes_a_smaller_level_where_the_filter_has_mipmaps(self):
-        texels = bytes([0, 0, 0, 255, 255, 255, 255, 255]) * 32 * 64
-        filtered = ("glTexParameteri", "GL_TEXTURE_2D", "GL_TEXTURE_MIN_FILTER",
-                    "GL_LINEAR_MIPMAP_LINEAR")
-        small = textured((0, 0, 0, 0), (16, 0, 1, 0), (16, 16, 1, 1), (0, 16, 0, 1))
-        whole, quarter = scene(*image(64, 64, texels), filtered, *self.FACE, *small).blocks
-        self.assertEqual((whole.texels[:2], quarter.texels), ((64, 64),
-                                                              (16, 16, bytes([127, 127, 127, 255])
-                                                               * 256)))
+        # Of 64 by 64 texels in 16 by 16 pixels a pixel has four a side: image 2, whose columns are
+        # black and white by turns, as those of image 0 are by fours.
+        columns = (bytes([0, 0, 0, 255]) * 4 + bytes([255] * 16)) * 8 * 64
+        s = 1 / 64      # a quarter of a column of image 2
+        small = textured((0, 0, s, 0), (16, 0, 1 + s, 0), (16, 16, 1 + s, 1), (0, 16, s, 1))
+        blocks = {}
+        for name in ("GL_NEAREST_MIPMAP_NEAREST", "GL_LINEAR_MIPMAP_LINEAR"):
+            filtered = ("glTexParameteri", "GL_TEXTURE_2D", "GL_TEXTURE_MIN_FILTER", name)
+            whole, blocks[name] = scene(*image(64, 64, columns), filtered, *self.FACE,
+                                        *small).blocks
+            self.assertEqual(whole.texels, (64, 64, columns))
+        nearest = blocks["GL_NEAREST_MIPMAP_NEAREST"]
+        self.assertEqual(nearest.texels,
+                         (16, 16, (bytes([0, 0, 0, 255]) + bytes([255] * 4)) * 8 * 16))
+        # A linear filter that mixes images is laid on pixel by pixel, with a pixel around what the
+        # face has. A pixel's middle stands at column x + 3/4, a quarter of a column right of the
+        # middle of column x, so it has a quarter of the next one: 64 and 191 of 255. In image 1
+        # it would be the middle of a column, and image 3 is of one grey.
+        mixed = blocks["GL_LINEAR_MIPMAP_LINEAR"]
+        self.assertEqual(mixed.texels[:2], (17, 17))
+        self.assertEqual(mixed.vertices[2].coordinate, (round(16 / 17 * 65536) / 65536,) * 2)
+        row = bytes([64, 64, 64, 255, 191, 191, 191, 255]) * 8
+        for y in range(16):
+            self.assertEqual(mixed.texels[2][68 * y:68 * y + 64], row, y)
 
     def test_a_part_of_an_image_may_be_written(self):
         calls = image(2, 1, bytes([1] * 8)) + [
