@@ -10,9 +10,9 @@ of xscreensaver-gl and xscreensaver-gl-extra, and games and demonstrations of De
 Xvfb have to be there; Xvfb is started here. The program is built by
     cd crates/render_cli && rt run -- render < ../../examples/red.rcs > /dev/null
 
+A frame that begins without a clear is drawn with all before it, and the last picture is taken.
 Each line of the table has, of one frame (N, or the last but one where there are fewer, or where
 the program's own picture of N is nearly black):
-A frame that begins without a clear is drawn with all before it, and the last picture is taken.
 drawn       the share of the program's own pixels that aren't black: near 0 a line says little
 vertices    that the program draws, commands and bytes of the scene
 seconds     of a processor for converting, without those of reading the trace
@@ -28,11 +28,12 @@ anything but a scene or a refusal of one line.
 A FOLDER keeps traces, scenes, pictures and figures, and those that it has are taken as they are:
 figures as long as the converter's text is the same, but for failures. So a run that was broken off
 goes on where it was. With --kept nothing is traced, converted or drawn: what the FOLDER has of this
-converter is printed. --document writes the table, its rows by what is off, and the sentence about
-its counts to a page in place of those that it has. No program is traced for more than S seconds, and nothing else of it takes
-longer than the seconds of --longest; a trace that has 100 MB is ended.
+converter is printed. --document writes the table, its rows by what is off, and the paragraph that
+counts them to a page in place of those that it has. No program is traced for more than S seconds,
+and nothing else of it takes longer than the seconds of --longest; a trace that has 100 MB is ended.
 """
 import argparse
+import contextlib
 import hashlib
 import json
 import os
@@ -42,6 +43,7 @@ import signal
 import subprocess
 import sys
 import tempfile
+import textwrap
 import threading
 import time
 
@@ -222,14 +224,27 @@ class Row:
                 "; ".join(heaviest(f["notes"])) if f["off"] > NEAR else ""]
 
 
+def counted(rows, chosen):
+    """What a page says of these rows of the programs that are named: how many there are of how
+    many, how many are near, and which are off, with what is told of them or without."""
+    shown = [row for row in rows if row.shows()]
+    off = [row for row in shown if row.figures["off"] > NEAR]
+    lines = [f"Of {len(chosen)} programs that the script names {len(rows)} were judged with the "
+             f"converter as it is, and the other {len(chosen) - len(rows)} weren't. {len(shown)} "
+             f"of the {len(rows)} show something: {len(shown) - len(off)} of these are within "
+             f"half a percent of pixels, and {len(off)} aren't."]
+    for told, what in ((True, "Off, with what is told of them in the table"),
+                       (False, "Off, and nothing is told of why")):
+        names = [f"`{row.name}`" for row in off if bool(row.figures["notes"]) == told]
+        if names:
+            lines.append(f"{what}: {', '.join(names)}.")
+    return textwrap.fill(" ".join(lines), 160, break_long_words=False, break_on_hyphens=False)
+
+
 def with_table(page, rows, chosen):
-    """A page with these rows in its table of programs, and with their counts before it."""
+    """A page with these rows in its table of programs, and with what counts them before it."""
     shown = sorted((row for row in rows if row.shows()), key=lambda row: row.figures["off"])
     others = [row for row in rows if not row.shows()]
-    near = sum(row.figures["off"] <= NEAR for row in shown)
-    counts = (f"Of {len(chosen)} programs that the script names {len(rows)} were judged with the "
-              f"converter as it is, and {len(shown)} show something: {near} of these are within "
-              "half a percent of pixels.")
     lines = ["| program | frame | drawn % | vertices | commands | bytes | seconds | µs a vertex | "
              "µs a scene's | mean | off % | what is told |", "|---" * 12 + "|"]
     for row in shown:
@@ -243,7 +258,8 @@ def with_table(page, rows, chosen):
     for row in others:
         lines.append(f"| {row.name} | {row.frame} | {row.failed or 'shows nothing'} |"
                      + " |" * 9)
-    page = re.sub(r"Of \d+ programs that the script names .*", counts, page)
+    page = re.sub(r"Of \d+ programs that the script names (.+\n)+",
+                  lambda _: counted(rows, chosen) + "\n", page)
     return re.sub(r"\| program \| frame \|[^\n]*\n(\|[^\n]*\n)*",
                   lambda _: "\n".join(lines) + "\n", page)
 
@@ -356,7 +372,8 @@ def main():
     options.program = None if options.kept else built(options.program)
     chosen = capture_programs.chosen(options.names)
     signal.signal(signal.SIGTERM, lambda *_: sys.exit(143))      # which ends the server too
-    with tempfile.TemporaryDirectory() as made, Display() as environment:
+    display = contextlib.nullcontext() if options.kept else Display()
+    with tempfile.TemporaryDirectory() as made, display as environment:
         folder = pathlib.Path(options.cache or made)
         folder.mkdir(exist_ok=True)
         print("| " + " | ".join(HEAD) + " |\n" + "|---" * len(HEAD) + "|", flush=True)
