@@ -230,9 +230,10 @@ def counted(rows, chosen):
     shown = [row for row in rows if row.shows()]
     off = [row for row in shown if row.figures["off"] > NEAR]
     lines = [f"Of {len(chosen)} programs that the script names {len(rows)} were judged with the "
-             f"converter as it is, and the other {len(chosen) - len(rows)} weren't. {len(shown)} "
-             f"of the {len(rows)} show something: {len(shown) - len(off)} of these are within "
-             f"half a percent of pixels, and {len(off)} aren't."]
+             f"converter as it is. The other {len(chosen) - len(rows)} weren't, and nothing is "
+             f"said of them here. {len(shown)} of the {len(rows)} show something: "
+             f"{len(shown) - len(off)} of these are within half a percent of pixels, and "
+             f"{len(off)} aren't."]
     for told, what in ((True, "Off, with what is told of them in the table"),
                        (False, "Off, and nothing is told of why")):
         names = [f"`{row.name}`" for row in off if bool(row.figures["notes"]) == told]
