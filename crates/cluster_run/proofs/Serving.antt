@@ -17,7 +17,7 @@ use Rattle.frame_out.specs.OnTheWay.{GivesOne, GoesOn, IsMissing, IsNewWriter, I
 use Rattle.frame_out.specs.declared.on_the_way.FrameWriter.{FrameWriter}
 use Rattle.tile_queues.specs.Grids.{AreJoined}
 use Rattle.tile_queues.specs.Names.{AreOutOf}
-use Rattle.tile_queues.specs.Ends.{lane_out, sent_in, taken_in, taken_of, rest_of, Took, TookNone}
+use Rattle.tile_queues.specs.Ends.{sent_in, taken_in, taken_of, rest_of}
 use Rattle.tile_queues.specs.declared.ends.LaneIn.{LaneIn}
 use Rattle.tile_queues.specs.declared.ends.LaneOut.{LaneOut}
 use Rattle.tile_queues.specs.declared.ends.Rest.{Rest}
@@ -53,17 +53,6 @@ module _ {I K A : Type 0} (fixed : I → A) (taken : I → List TilePart) (held 
 
 module _ {R K : Type 0} (held : K → Option (List ℕ)) (faults : K → ℕ) (w w' : FrameWriter) (image image' : K)
     (layout : layout_of w'.assembler ≡ layout_of w.assembler) (later : faults image ≤ faults image') where
-  -- with lanes
-  pub lanes_served : (xs ys : List (LaneOut TilePart R)) → EachLane (λ i a b. lane_out b ≡ lane_out a) xs ys
-      → GoesOn Took TookNone (use_of held faults) w xs image w' ys image'
-      → HasServed lane_out taken_of held faults w xs image w' ys image'
-  lanes_served xs ys same on = record {
-    layout = layout;
-    same = same;
-    goes_on = λ l start d h. on taken_of l start d (record { grows = λ a b x e. e.0; stays = λ a b e. e.0 }) h;
-    later = later;
-  }
-
   abbrev Gave : Rest TilePart R → TilePart → Rest TilePart R → Type 0
   Gave a x b = (taken_in b ≡ taken_in a ++ x ∷ []) × (sent_in b ≡ sent_in a)
 
