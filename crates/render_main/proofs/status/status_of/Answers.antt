@@ -4,10 +4,10 @@ use Rattle.std.proofs.lemmas.List.{take_all}
 use Rattle.spu_chain.specs.declared.rule.SpuRule.TheVariants.{Recolour, Drop, Count}
 use Rattle.command_line.specs.Filters.{AreNamed}
 use denote.Param.Object.{read_made}
-use Rattle.render_cli.proofs.Boxes.{pushed}
-use Rattle.render_cli.proofs.status_of.OwnLists as lists
-use Rattle.render_cli.proofs.status_of.Goals.{in-Recolour+in_ok-new-in-Recolour+in_ok-push-in-Recolour, in-Cull+in_ok-new-in-Cull+in_ok-push-in-Cull, in-Drop+in_ok-new-in-Drop+in_ok-push-in-Drop, in-Count+in_ok-new-in-Count+in_ok-push-in-Count}
-use Rattle.render_cli.proofs.status_of.Goals as goal
+use Rattle.render_main.proofs.Boxes.{pushed}
+use Rattle.render_main.proofs.status.status_of.OwnLists as lists
+use Rattle.render_main.proofs.status.status_of.Goals.{in-Recolour+in_ok-new-in-Recolour+in_ok-push-in-Recolour, in-Cull+in_ok-new-in-Cull+in_ok-push-in-Cull, in-Drop+in_ok-new-in-Drop+in_ok-push-in-Drop, in-Count+in_ok-new-in-Count+in_ok-push-in-Count}
+use Rattle.render_main.proofs.status.status_of.Goals as goal
 
 pub loop-rule-preserved : goal.loop-rule-preserved
 loop-rule-preserved g c =
