@@ -84,8 +84,8 @@ module _ {R : Type 0} (scene : Scene) (l : Layout) where
 
 module _ {R : Type 0} (scene : Scene) (l : Layout) (names : LaneNames) (tasks : Crew (Task (ClientWorker R)) (Task (ManagerWorker R)) (Task (TileWorker R)))
     (ended : IsEndedCluster scene l names tasks)
-    (of_clients : ClientParts R) (clients : AreOfClients tasks.clients.items of_clients.cores.items of_clients.rows.items of_clients.requests.items)
-    (of_tiles : TileParts R) (tiles : AreOfTiles tasks.tiles.items of_tiles.cores.items of_tiles.columns.items of_tiles.grants.items of_tiles.parts.items) where
+    (of_clients : ClientParts R) (clients : AreOfClients of_clients.short tasks.clients.items of_clients.cores.items of_clients.rows.items of_clients.requests.items)
+    (of_tiles : TileParts R) (tiles : AreOfTiles of_tiles.short tasks.tiles.items of_tiles.cores.items of_tiles.columns.items of_tiles.grants.items of_tiles.parts.items) where
   abbrev rows : List (Row R)
   rows = of_clients.rows.items
 
@@ -172,7 +172,7 @@ module _ {R : Type 0} (scene : Scene) (l : Layout) (names : LaneNames) (tasks : 
 
   -- ---- the cores meet their clauses over the lists of their ends, of which each list that was taken is a front of the one that was sent
 
-  module _ (some_clients : 0 < length scene.streams) (some_tiles : 0 < tile_count l) (ample : is_manager_short tasks.manager.worker.core ≡ false)
+  module _ (some_clients : 0 < length scene.streams) (some_tiles : 0 < tile_count l)
       (parcel_fronts : AreFronts rows columns)
       (request_fronts : ArePaired (λ i a b. IsFront (taken_of b) (sent_of a)) asking requests)
       (grant_fronts : ArePaired (λ i a b. IsFront (taken_of b) (sent_of a)) grants hearing) where
@@ -220,17 +220,6 @@ module _ {R : Type 0} (scene : Scene) (l : Layout) (names : LaneNames) (tasks : 
     abbrev heard : ℕ → List Grant
     heard t = taken_of (slice_index_or hearing t hearer)
 
-    client_ended : (c : ℕ) (d : ClientCore) → c < length scene.streams → IsClientEnded scene l c (slice_index_or of_clients.cores.items c d) (sent c) (asked c)
-    client_ended c d low =
-        let here = client_low c low in
-        let w = some_item tasks.clients.items c here in
-        let core = clients.cores_are.at c w d here in
-        record {
-          clause = client_had scene l c sender _ _ _ _ _ _ _ core.same (clients.rows_are.at c w a_row here) (clients.requests_are.at c w asker here)
-              (ended.clients_end c w low) ((ended.client c w low).clause sender);
-          ample = core.ample;
-        }
-
     pub orderly : AreOrderly (length scene.streams) (tile_count l) tasks
     orderly = record {
       parcels = λ c t w v a b low t_low.
@@ -256,35 +245,47 @@ module _ {R : Type 0} (scene : Scene) (l : Layout) (names : LaneNames) (tasks : 
         ∙ sym (append-nil (sent_of task.worker.parts))
         ∙ ap (λ (o : Option TilePart). sent_of task.worker.parts ++ option_to_list o) (sym ((ended.tile t w low).none_waits (ended.tiles_end t w low)))
 
-    tile_ended : (t : ℕ) (d : TileCore) → t < tile_count l
-        → IsTileEnded scene l t (slice_index_or of_tiles.cores.items t d) (took t) (heard t) (shown_in_lanes of_tiles.parts.items t)
-    tile_ended t d low =
-        let here = tile_low t low in
-        let w = some_item tasks.tiles.items t here in
-        let core = tiles.cores_are.at t w d here in
-        record {
-          clause = tile_had scene l t receiver _ _ _ _ _ _ _ _ _ core.same (tiles.columns_are.at t w a_column here) (tiles.grants_are.at t w hearer here)
-              (shown_is t w low) (ended.tiles_end t w low) ((ended.tile t w low).clause receiver);
-          ample = core.ample;
-        }
+    module _ (unlacking_clients : of_clients.short ≡ false) (unlacking_tiles : of_tiles.short ≡ false) (ample : is_manager_short tasks.manager.worker.core ≡ false) where
+      client_ended : (c : ℕ) (d : ClientCore) → c < length scene.streams → IsClientEnded scene l c (slice_index_or of_clients.cores.items c d) (sent c) (asked c)
+      client_ended c d low =
+          let here = client_low c low in
+          let w = some_item tasks.clients.items c here in
+          let core = clients.cores_are.at c w d here in
+          record {
+            clause = client_had scene l c sender _ _ _ _ _ _ _ core.same (clients.rows_are.at c w a_row here) (clients.requests_are.at c w asker here)
+                (ended.clients_end c w low) ((ended.client c w low).clause sender);
+            ample = core.ample unlacking_clients;
+          }
 
-    pub closed : AreClosed scene l of_clients.cores.items tasks.manager.worker.core of_tiles.cores.items (shown_in_lanes of_tiles.parts.items)
-    closed = record {
-      client_total = clients.cores_are.count ∙ ended.clients;
-      tile_total = tiles.cores_are.count ∙ ended.tiles;
-      sent = sent;
-      asked = asked;
-      granted = granted;
-      took = took;
-      received = received;
-      heard = heard;
-      client = client_ended;
-      managed = subst (IsManagerClause (sync_lists_of scene) (tile_count l) tasks.manager.worker.core received granted)
-          ended.manager_ends (ended.manager.clause answerer granter);
-      ample = ample;
-      tile = tile_ended;
-      parcel_lanes = λ c t low t_low. parcel_fronts c t a_row a_column sender receiver
-          (let n = row_total in omega (arith, n, low)) (let n = column_total in omega (arith, n, t_low));
-      request_lanes = λ c low. request_fronts.at c asker answerer (let n = asking_into.size in omega (arith, n, low));
-      grant_lanes = λ t low. grant_fronts.at t granter hearer (let n = ended.manager.grants_are.size in omega (arith, n, low));
-    }
+      tile_ended : (t : ℕ) (d : TileCore) → t < tile_count l
+          → IsTileEnded scene l t (slice_index_or of_tiles.cores.items t d) (took t) (heard t) (shown_in_lanes of_tiles.parts.items t)
+      tile_ended t d low =
+          let here = tile_low t low in
+          let w = some_item tasks.tiles.items t here in
+          let core = tiles.cores_are.at t w d here in
+          record {
+            clause = tile_had scene l t receiver _ _ _ _ _ _ _ _ _ core.same (tiles.columns_are.at t w a_column here) (tiles.grants_are.at t w hearer here)
+                (shown_is t w low) (ended.tiles_end t w low) ((ended.tile t w low).clause receiver);
+            ample = core.ample unlacking_tiles;
+          }
+
+      pub closed : AreClosed scene l of_clients.cores.items tasks.manager.worker.core of_tiles.cores.items (shown_in_lanes of_tiles.parts.items)
+      closed = record {
+        client_total = clients.cores_are.count ∙ ended.clients;
+        tile_total = tiles.cores_are.count ∙ ended.tiles;
+        sent = sent;
+        asked = asked;
+        granted = granted;
+        took = took;
+        received = received;
+        heard = heard;
+        client = client_ended;
+        managed = subst (IsManagerClause (sync_lists_of scene) (tile_count l) tasks.manager.worker.core received granted)
+            ended.manager_ends (ended.manager.clause answerer granter);
+        ample = ample;
+        tile = tile_ended;
+        parcel_lanes = λ c t low t_low. parcel_fronts c t a_row a_column sender receiver
+            (let n = row_total in omega (arith, n, low)) (let n = column_total in omega (arith, n, t_low));
+        request_lanes = λ c low. request_fronts.at c asker answerer (let n = asking_into.size in omega (arith, n, low));
+        grant_lanes = λ t low. grant_fronts.at t granter hearer (let n = ended.manager.grants_are.size in omega (arith, n, low));
+      }

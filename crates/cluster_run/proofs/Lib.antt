@@ -10,3 +10,5 @@ mod Serving
 mod Turns
 mod Grown
 mod WorkersTurned
+mod TilesShown
+mod ShownSoFar

@@ -214,4 +214,8 @@ module _ {R : Type 0} (scene : Scene) (l : Layout) (depth : ℕ) (ins : List (Ve
     untaken = untaken_parts;
     deep = so_deep;
     unused = unused;
+    begun = record {
+      ample = λ t w low. (tiles.workers_are.at t a_column w (let n = grid.columns in omega (arith, n, low))).ample;
+      none_waits = λ t w low. (tiles.workers_are.at t a_column w (let n = grid.columns in omega (arith, n, low))).none_waits;
+    };
   }

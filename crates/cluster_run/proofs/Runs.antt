@@ -1,6 +1,6 @@
 -- A run of a scene within the limits.
 use Rattle.std.proofs.Common.{◌≡◌, ◌<◌, ◌≤◌, ℕ, List, sym, subst}
-use Rattle.std.specs.Prelude.{Option, Result, Ok, Err, IfOk, OnOk}
+use Rattle.std.specs.Prelude.{Option}
 use Rattle.rc_base.specs.Cluster.Tiles.{tile_count}
 use Rattle.rc_base.specs.Formats.Within.{IsWithin}
 use Rattle.rc_base.specs.Outside.Ends.{Used}
@@ -40,8 +40,3 @@ text_written law few scene l kept tallies waiting faults shown image written wit
     (law scene l kept shown h.took image h.writer whole.frames window some
     (few scene l kept.journal (recorded_pixel scene l kept) within.limits window whole.run.lawful.maximal.0)
     h.has h.fronts h.tile h.low h.missing h.all)
-
--- of an answer two facts are known
-pub both_ok : {A E : Type 0} (result : Result A E) (P Q : A → Type 0) (O : Type 0) → IfOk result P → OnOk result O → ((x : A) → P x → O → Q x) → IfOk result Q
-both_ok (Ok x) P Q O h o f = f x h o
-both_ok (Err e) P Q O h o f = tt

@@ -1,27 +1,25 @@
 -- Serving, again and again, and to the end.
 use Rattle.std.proofs.Common.{◌≡◌, ℕ, ◌<◌, ◌≤◌, false, List, [], ◌∷◌, ◌++◌, length, inl, inr, refl, sym, ap, ◌∙◌, subst, arith}
-use Rattle.std.specs.Prelude.{Option, map, slice_index_or}
-use Rattle.std.specs.List.{AllByRecursion}
+use Rattle.std.specs.Prelude.{Option, slice_index_or}
 use Rattle.rc_base.specs.Cluster.Lanes.{EachLane}
 use Rattle.rc_base.specs.Cluster.Tiles.{tile_count}
 use Rattle.rc_base.specs.Outside.Ends.{use_of, Used}
 use Rattle.rc_base.specs.declared.cluster.TilePart.{TilePart}
-use Rattle.rc_base.specs.declared.image.Image.{Image}
 use Rattle.rc_base.specs.declared.window.Layout.{Layout}
 use Rattle.rc_base.proofs.Known.{Appends-none}
 use Rattle.rc_base.proofs.Paired.{some_item}
 use Rattle.assembler.specs.Assembled.{layout_of, short_of}
-use Rattle.assembler.specs.Parts.{picture}
 use Rattle.frame_out.specs.Laws.{NewWritersAreOnTheWay}
 use Rattle.frame_out.specs.OnTheWay.{GivesOne, GoesOn, IsMissing, IsNewWriter, IsOnTheWay}
 use Rattle.frame_out.specs.declared.on_the_way.FrameWriter.{FrameWriter}
 use Rattle.tile_queues.specs.Grids.{AreJoined}
 use Rattle.tile_queues.specs.Names.{AreOutOf}
-use Rattle.tile_queues.specs.Ends.{sent_in, taken_in, taken_of, rest_of}
+use Rattle.tile_queues.specs.Ends.{sent_in, sent_of, taken_in, taken_of, rest_of}
 use Rattle.tile_queues.specs.declared.ends.LaneIn.{LaneIn}
 use Rattle.tile_queues.specs.declared.ends.LaneOut.{LaneOut}
 use Rattle.tile_queues.specs.declared.ends.Rest.{Rest}
-use Rattle.cluster_run.specs.Fronts.{GaveFront}
+use Rattle.rc_base.specs.Lists.{ArePaired, IsFront}
+use Rattle.shown_frames.specs.Images.{GaveShown}
 use Rattle.cluster_run.specs.NewWorkers.{AreUntaken}
 use Rattle.cluster_run.specs.Serving.{HasFinished, HasServed, IsServed, IsSince, shown_in_lanes}
 use Rattle.cluster_run.specs.declared.on_the_way.OnTheWay.{OnTheWay}
@@ -95,13 +93,6 @@ same_took l image took took' w same h = record {
   };
 }
 
-pictures_fit : (l : Layout) (frames : List (List TilePart)) → AllByRecursion (λ (m : Image). (m.width ≡ l.width) × (m.height ≡ l.height)) (map (picture l) frames)
-pictures_fit l [] = tt
-pictures_fit l (parts ∷ frames) = ((refl, refl), pictures_fit l frames)
-
-pub gave_front : (l : Layout) (image : Used) (took : ℕ → List TilePart) (w : FrameWriter) → IsOnTheWay l image took w → GaveFront l image
-gave_front l image took w h = record { images = map (picture l) h.given.frames; sides = pictures_fit l h.given.frames; front = h.given.given.front }
-
 -- ---- the end
 
 module _ {R K : Type 0} (held : K → Option (List ℕ)) (faults : K → ℕ) (l : Layout) (start : K) (w : FrameWriter)
@@ -111,8 +102,17 @@ module _ {R K : Type 0} (held : K → Option (List ℕ)) (faults : K → ℕ) (l
   a_lane = some_item lanes 0 (omega (arith, some, paired))
 
   module _ (image : K) (on : (d : LaneOut TilePart R) → IsOnTheWay l (use_of held faults start image) (λ tile. taken_of (slice_index_or lanes tile d)) w) where
-    pub front_now : GaveFront l (use_of held faults start image)
-    front_now = gave_front l _ _ w (on a_lane)
+    -- the lanes are closed, and no more is taken of them
+    pub gave_shown_now : ArePaired (λ i a b. IsFront (taken_of b) (sent_of a)) parts lanes → GaveShown l (shown_in_lanes parts) (use_of held faults start image)
+    gave_shown_now fronts = record {
+      took = λ tile. taken_of (slice_index_or lanes tile a_lane);
+      written = w.written;
+      given = (on a_lane).given;
+      fronts = λ tile lt.
+          let here : tile < length parts = (let n = ap tile_count (on a_lane).layout_is in omega (arith, lt, n, room, paired)) in
+          let a = some_item parts 0 some in
+          subst (λ (ps : List TilePart). IsFront (taken_of (slice_index_or lanes tile a_lane)) ps) (sym (shown_at parts tile a here)) (fronts.at tile a a_lane here);
+    }
 
     module _ (rests rests' : List (Rest TilePart R)) (joined : AreJoined parts lanes rests) (w' : FrameWriter) (image' : K)
         (served : HasServed sent_in taken_in held faults w rests image w' rests' image') where
@@ -129,9 +129,6 @@ module _ {R K : Type 0} (held : K → Option (List ℕ)) (faults : K → ℕ) (l
       on_now = served.goes_on l start a_rest
           (same_took l _ (λ tile. taken_of (slice_index_or lanes tile a_lane)) (λ tile. taken_in (slice_index_or rests tile a_rest)) w took_first (on a_lane))
 
-      pub front_then : GaveFront l (use_of held faults start image')
-      front_then = gave_front l _ _ w' on_now
-
       -- what was sent by a tile's lane
       sent_is : (tile : ℕ) → tile < tile_count l → sent_in (slice_index_or rests' tile a_rest) ≡ shown_in_lanes parts tile
       sent_is tile low =
@@ -140,6 +137,14 @@ module _ {R K : Type 0} (held : K → Option (List ℕ)) (faults : K → ℕ) (l
           served.same.at tile a_rest (let n = joined.count in omega (arith, here, n))
           ∙ (joined.at tile a a_lane a_rest here).sent
           ∙ sym (shown_at parts tile a here)
+
+      pub gave_shown : GaveShown l (shown_in_lanes parts) (use_of held faults start image')
+      gave_shown = record {
+        took = λ tile. taken_in (slice_index_or rests' tile a_rest);
+        written = w'.written;
+        given = on_now.given;
+        fronts = λ tile lt. (rest_of (slice_index_or rests' tile a_rest), sym (sent_is tile lt) ∙ (slice_index_or rests' tile a_rest).ordered);
+      }
 
       pub finished : short_of w'.assembler ≡ false → w'.lacking ≡ false → IsMissing (λ r. taken_in r ≡ sent_in r) w' rests'
           → HasFinished l (shown_in_lanes parts) (use_of held faults start image') w'.written
@@ -160,9 +165,6 @@ module _ {R K : Type 0} (held : K → Option (List ℕ)) (faults : K → ℕ) (l
 -- ---- the beginning
 
 module _ {K : Type 0} (held : K → Option (List ℕ)) (faults : K → ℕ) (l : Layout) where
-  pub nothing_given : (image : K) → GaveFront l (use_of held faults image image)
-  nothing_given image = record { images = []; sides = tt; front = record { done = 0; part = omega arith; given = Appends-none (held image) } }
-
   module _ {R : Type 0} (first : NewWritersAreOnTheWay) (image : K) (frames : OnTheWay R) (new : IsNewWriter l frames.writer) (names : ℕ → List ℕ)
       (parts : List (LaneOut TilePart R)) (lanes : frames.lanes.items ≡ parts) (untaken : AreUntaken (tile_count l) names parts) where
     -- a new writer, since now
@@ -178,8 +180,3 @@ module _ {K : Type 0} (held : K → Option (List ℕ)) (faults : K → ℕ) (l :
       pub out_still : AreOutOf (tile_count l) names frames'.lanes.items
       out_still = out_goes_on (tile_count l) names frames.lanes.items frames'.lanes.items
           (subst (λ (xs : List (LaneOut TilePart R)). AreOutOf (tile_count l) names xs) (sym lanes) untaken.named) served.same
-
-      pub front_since : 0 < tile_count l → GaveFront l (use_of held faults image image')
-      front_since some =
-          let n = out_still.size in
-          gave_front l _ _ frames'.writer (since_then (some_item frames'.lanes.items 0 (omega (arith, n, some))))

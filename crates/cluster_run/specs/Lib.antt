@@ -8,6 +8,6 @@ pub mod Clusters
 pub mod NewWorkers
 pub mod Coreless
 pub mod Apart
+pub mod Rooms
 pub mod Workers
-pub mod Fronts
 pub mod Serving

@@ -1,5 +1,5 @@
 -- Workers that have moved nothing. Whatever lists are empty, a new worker's clause holds with them.
-use Rattle.std.specs.Prelude.{◌≡◌, ◌<◌, ℕ, List, [], Vec, length, slice_index_or, None}
+use Rattle.std.specs.Prelude.{◌≡◌, ◌<◌, ℕ, false, List, [], Vec, length, slice_index_or, None}
 use Rattle.std.specs.Global.{Global}
 use Rattle.rc_base.specs.Cluster.Tiles.{tile_count}
 use Rattle.rc_base.specs.Lists.{ArePaired}
@@ -13,6 +13,7 @@ use Rattle.rc_base.specs.declared.window.Layout.{Layout}
 use Rattle.client_issue.specs.Clauses.{IsClientClause}
 use Rattle.sync_manager.specs.Clauses.{IsManagerClause}
 use Rattle.tile_server.specs.Clauses.{IsTileClause}
+use Rattle.tile_server.specs.Cores.{is_short}
 use Rattle.tile_queues.specs.Ends.{taken_of}
 use Rattle.tile_queues.specs.declared.ends.LaneIn.{LaneIn}
 use Rattle.tile_queues.specs.declared.ends.LaneOut.{LaneOut}
@@ -40,6 +41,7 @@ module _ {R : Type 0} where
     pub number_is : w.number ≡ tile
     pub clients_are : w.clients ≡ ends
     pub none_waits : w.held ≡ None
+    pub ample : is_short w.core ≡ false
     pub clause : (took : ℕ → List Parcel) → ((client : ℕ) → client < length scene.streams → took client ≡ []) → IsTileClause scene l tile w.core took [] [] w.ended
 
   -- one for each column of ends, each with a new lane of that depth from the manager, and one of its parts to the caller

@@ -16,7 +16,12 @@ use Rattle.tile_queues.specs.Ends.{empties_of, sent_in, sent_of, taken_in, taken
 use Rattle.tile_queues.specs.declared.ends.LaneIn.{LaneIn}
 use Rattle.tile_queues.specs.declared.ends.LaneOut.{LaneOut}
 use Rattle.tile_queues.specs.declared.ends.Rest.{Rest}
+use Rattle.worker_crew.specs.declared.crew.Crew.{Crew}
+use Rattle.worker_crew.specs.declared.task.Task.{Task}
 use Rattle.cluster_run.specs.declared.on_the_way.OnTheWay.{OnTheWay}
+use Rattle.cluster_run.specs.declared.workers.ClientWorker.{ClientWorker}
+use Rattle.cluster_run.specs.declared.workers.ManagerWorker.{ManagerWorker}
+use Rattle.cluster_run.specs.declared.workers.TileWorker.{TileWorker}
 
 module _ {I K A : Type 0} (fixed : I → A) (taken : I → List TilePart) (held : K → Option (List ℕ)) (faults : K → ℕ) where
   pub record HasServed (before : FrameWriter) (lanes : List I) (image : K) (after : FrameWriter) (lanes' : List I) (image' : K) : Type 0 where
@@ -48,6 +53,10 @@ HasAdvancedByRests {R} before rests completed after rests' =
 -- what was sent by the tiles' lanes of parts
 abbrev pub shown_in_lanes : {R : Type 0} → List (LaneIn TilePart R) → ℕ → List TilePart
 shown_in_lanes {R} parts tile = option_map_or (λ (a : LaneIn TilePart R). sent_of a) (slice_get parts tile) []
+
+-- and by those of the tiles' workers
+abbrev pub shown_by_tasks : {R : Type 0} → Crew (Task (ClientWorker R)) (Task (ManagerWorker R)) (Task (TileWorker R)) → ℕ → List TilePart
+shown_by_tasks {R} tasks tile = option_map_or (λ (task : Task (TileWorker R)). sent_of task.worker.parts) (slice_get tasks.tiles.items tile) []
 
 -- ---- at the end
 

@@ -1,5 +1,5 @@
 -- A run as the turns that its workers took, each from its beginning to its end.
-use Rattle.std.specs.Prelude.{◌≡◌, ◌<◌, ℕ, false, List, [], length, slice_index_or, option_to_list, Option}
+use Rattle.std.specs.Prelude.{◌≡◌, ◌<◌, ℕ, false, List, [], length, slice_index_or, option_to_list, Option, None}
 use Rattle.std.specs.List.{flat_map}
 use Rattle.rc_base.specs.Cluster.Tiles.{tile_count}
 use Rattle.rc_base.specs.Lists.{ArePaired, IsFront}
@@ -19,6 +19,7 @@ use Rattle.client_issue.specs.declared.client.ClientCore.{ClientCore}
 use Rattle.sync_manager.specs.Cores.{is_short as is_manager_short}
 use Rattle.sync_manager.specs.Progress.{sent_to, taken_of as received_by}
 use Rattle.sync_manager.specs.declared.deed.ManagerDeed.{ManagerDeed}
+use Rattle.tile_server.specs.Cores.{is_short as is_tile_short}
 use Rattle.tile_server.specs.declared.tile_core.TileCore.{TileCore}
 use Rattle.run_record.specs.Collected.{AreCollected}
 use Rattle.tile_queues.specs.Ends.{sent_of, taken_of}
@@ -50,6 +51,11 @@ module _ {R : Type 0} where
     pub unheard : (t : ℕ) (w : TileWorker R) → t < tiles → taken_of (slice_index_or crew.tiles.items t w).grants ≡ []
     pub unshown : (t : ℕ) (w : TileWorker R) → t < tiles → sent_of (slice_index_or crew.tiles.items t w).parts ≡ []
 
+  -- memory hasn't lacked in a tile, and no part waits
+  pub record AreBegun (tiles : ℕ) (crew : Crew (ClientWorker R) (ManagerWorker R) (TileWorker R)) : Type 0 where
+    pub ample : (t : ℕ) (w : TileWorker R) → t < tiles → is_tile_short (slice_index_or crew.tiles.items t w).core ≡ false
+    pub none_waits : (t : ℕ) (w : TileWorker R) → t < tiles → (slice_index_or crew.tiles.items t w).held ≡ None
+
   -- The workers of a scene on the tiles of a layout, joined by new lanes that hold so many items, and the receiving ends of the lanes of parts.
   pub record IsNewCluster (scene : Scene) (l : Layout) (depth : ℕ) (crew : Crew (ClientWorker R) (ManagerWorker R) (TileWorker R)) (parts : List (LaneOut TilePart R))
       : Type 0 where
@@ -58,6 +64,7 @@ module _ {R : Type 0} where
     pub untaken : AreUntaken (tile_count l) names.parts parts
     pub deep : AreSoDeep (length scene.streams) (tile_count l) depth names
     pub unused : AreUnused (length scene.streams) (tile_count l) crew
+    pub begun : AreBegun (tile_count l) crew
 
   -- ---- turns
 

@@ -1,5 +1,5 @@
 //! The frames of a run: written while the workers run, and what is left of them when all have ended.
-ghost use Rattle.std.specs.Prelude.{◌≡◌, ◌<◌, ◌≤◌, false, length, IfOk};
+ghost use Rattle.std.specs.Prelude.{◌≡◌, ◌<◌, ◌≤◌, false, length, vec_len, IfOk, OnErr};
 ghost use Rattle.rc_base.specs.Cluster.Tiles.{tile_count};
 ghost use Rattle.rc_base.specs.Lists.{ArePaired};
 ghost use Rattle.rc_base.specs.Outside.Ends.{use_of};
@@ -7,8 +7,9 @@ ghost use Rattle.assembler.specs.Assembled.{layout_of, short_of};
 ghost use Rattle.frame_out.specs.OnTheWay.{IsMissing};
 ghost use Rattle.tile_queues.specs.Ends.{lane_in, lane_out, sent_in, taken_in};
 ghost use Rattle.rc_base.specs.declared.window.Layout.{Layout};
+ghost use Rattle.shown_frames.specs.Images.{GaveShown};
+ghost use Rattle.cluster_run.specs.Apart.{HasRoom};
 ghost use Rattle.cluster_run.specs.Clusters.{HasRun};
-ghost use Rattle.cluster_run.specs.Fronts.{GaveFront};
 ghost use Rattle.cluster_run.specs.Serving.{HasAdvanced, HasAdvancedByRests, HasFinished, IsServed, IsSince, KeepsServed, shown_in_lanes};
 ghost use Rattle.cluster_run.specs.Workers.{HaveGoneOn};
 
@@ -22,7 +23,7 @@ use rc_base::outside::Sink;
 use std::alloc::Global;
 use std::sync::Wait;
 use std::thread::Threads;
-use tile_queues::{LaneIn, Rest, join_list};
+use tile_queues::{LaneIn, Rest, close_list, join_list};
 use worker_crew::{Crew, Foreground, Task, run_beside};
 
 /// The workers of a cluster before their first step.
@@ -86,6 +87,7 @@ where
     ensures ended { IfOk result (λ tasks. HasRun crew tasks) }
     ensures turned { IfOk result (λ tasks. HaveGoneOn crew tasks) }
     ensures served { IsServed K.held K.faults frames.old image.old frames.new image.new }
+    ensures untouched { OnErr result (image.new ≡ image.old) }
 {
     let mut kept = None;
     let mut writing = Writing {
@@ -133,27 +135,43 @@ fn write_rest<K: Sink, R: Wait>(
     }
 }
 
-/// Brings the ends of the lanes of parts together, and writes what is left in them. Memory lacks where it did for a lane, where a tile was short, or
-/// for a frame.
+/// Brings the ends of the lanes of parts together, and writes what is left in them. Memory lacks where a tile was short, or for a frame.
 pub(crate) fn finish<K: Sink, R: Wait + Copy>(
     rt: &R,
-    alloc: Global,
     frames: OnTheWay<R>,
     parts: Vec<LaneIn<TilePart, R>>,
+    rests: Vec<Rest<TilePart, R>>,
     image: &mut K,
 ) -> Result<Written, OutOfMemory>
     requires some { 0 < length parts.items }
     requires paired { ArePaired (λ i a b. lane_out b ≡ lane_in a) parts.items frames.lanes.items }
-    ensures front { (l : Layout) (start : K) → IsSince K.held K.faults l start frames image.old → GaveFront l (use_of K.held K.faults start image.new) }
+    requires room { HasRoom (vec_len parts) rests }
+    ensures shown { (l : Layout) (start : K) → IsSince K.held K.faults l start frames image.old
+        → GaveShown l (shown_in_lanes parts.items) (use_of K.held K.faults start image.new) }
     ensures finished { (l : Layout) (start : K) → IsSince K.held K.faults l start frames image.old
         → IfOk result (HasFinished l (shown_in_lanes parts.items) (use_of K.held K.faults start image.new)) }
     ensures later { K.faults image.old ≤ K.faults image.new }
 {
     let OnTheWay { mut writer, lanes } = frames;
-    let mut rests = join_list(alloc, parts, lanes)?;
+    let mut rests = join_list(parts, lanes, rests);
     write_rest(rt, &mut writer, &mut rests, image);
     if writer.lacks() {
         return Err(OutOfMemory);
     }
     Ok(writer.written())
+}
+
+/// Closes the lanes of parts. What is left in them isn't written.
+pub(crate) fn abandon<K: Sink, R: Copy>(
+    frames: OnTheWay<R>,
+    parts: Vec<LaneIn<TilePart, R>>,
+    image: &K,
+)
+    requires some { 0 < length parts.items }
+    requires paired { ArePaired (λ i a b. lane_out b ≡ lane_in a) parts.items frames.lanes.items }
+    ensures { (l : Layout) (start : K) → IsSince K.held K.faults l start frames image.now
+        → GaveShown l (shown_in_lanes parts.items) (use_of K.held K.faults start image.now) }
+{
+    let OnTheWay { mut lanes, .. } = frames;
+    close_list(parts, &mut lanes);
 }

@@ -86,7 +86,8 @@ fn joins_one<R: Wait + Copy + Abort>(rt: R, alloc: Global) -> bool {
     let mut outs = Vec::new(alloc);
     ins.push(sender).expect(&rt, "memory");
     outs.push(receiver).expect(&rt, "memory");
-    let mut rests = join_list(alloc, ins, outs).expect(&rt, "memory");
+    let room = Vec::with_capacity(alloc, 1).expect(&rt, "memory");
+    let mut rests = join_list(ins, outs, room);
     rests.len() == 1 && rests[0].pop() == Some((5, 6)) && rests[0].pop() == None
 }
 

@@ -11,7 +11,7 @@ use Rattle.spu_chain.specs.declared.rule.SpuRule.{SpuRule}
 use Rattle.run_words.specs.declared.job.Job.{Job}
 use Rattle.render_core.specs.declared.run_job.Finish.{Finish}
 use Rattle.render_core.specs.Finishes.{IsJobless, IsTaskless}
-use Rattle.run_words.specs.Jobs.{AskFiltered, AskPlainly, IsJobBehind, IsJob, IsLine, Task, task_of}
+use Rattle.run_words.specs.Jobs.{AskFiltered, AskPlainly, IsJobBehind, IsJob, IsLine, Task}
 use Rattle.render_core.specs.Laws.{PlainTasksAreFilteredOnes}
 use Rattle.render_core.specs.Refusals.{AreReady}
 use Rattle.render_core.proofs.Finishing.{jobless_usage}

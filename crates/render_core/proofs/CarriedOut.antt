@@ -1,5 +1,5 @@
 -- From the steps of a job to the job as it was carried out.
-use Rattle.std.proofs.Common.{◌≡◌, ◌⊎◌, inl, inr, refl, List, Ok, Err, None}
+use Rattle.std.proofs.Common.{◌≡◌, ◌⊎◌, inl, inr, List, Ok, Err, None}
 use Rattle.std.specs.Prelude.{◌≢◌, IfErr, IfOk, OnErr}
 use Rattle.std.specs.declared.result.Result.{Result}
 use Rattle.rc_base.specs.Outside.Ends.{Used}
@@ -14,7 +14,7 @@ use Rattle.run_words.specs.declared.told.Told.{Told}
 use Rattle.render_core.specs.Carried.{IsCarriedOut, IsSoundWork, IsObtained, IsWritableDue}
 use Rattle.render_core.specs.Due.{IsOutcome}
 use Rattle.run_words.specs.Jobs.{Reads, ShowsNothing, Task}
-use Rattle.render_core.specs.Outcomes.{PartlyGiven, PartlyWritten}
+use Rattle.render_core.specs.Outcomes.{PartlyWritten}
 use Rattle.render_core.specs.Refusals.{outcome_of, Before, IsBlank, IsCaused, IsEarlyRefusal, IsNoOutcome, IsPerformed, IsRefusedUnwritten, IsWritable}
 use Rattle.run_words.specs.Statuses.{refusal_status}
 use Rattle.render_core.specs.Scenes.{IsFor}
@@ -29,9 +29,9 @@ never_before P (Err refused) (inl is) = λ six seven. absurd (six is)
 never_before P (Err refused) (inr is) = λ six seven. absurd (seven is)
 
 or_part : (P : Type 0) (task : Task) (source image : Used) (r : Result Told Refused) → OnErr r (PartlyWritten task source image)
-    → OnErr r (P ⊎ PartlyGiven task source image)
+    → OnErr r (P ⊎ PartlyWritten task source image)
 or_part P task source image (Ok told) h = tt
-or_part P task source image (Err refused) h = inr (inl h)
+or_part P task source image (Err refused) h = inr h
 
 module _ (task : Task) (source : Used) (left : List SpuRule) (SourceStays : Type 0) where
   -- a refusal before the filters

@@ -1,5 +1,5 @@
 -- What a finished run left: each fact that the calls which run a line of words tell of it.
-use Rattle.std.proofs.Common.{◌≡◌, ◌⊎◌, inl, [], List, refl, subst}
+use Rattle.std.proofs.Common.{◌≡◌, ◌⊎◌, inl, [], List, subst}
 use Rattle.std.specs.Prelude.{ℕ, Option, IfOk, IfSome}
 use Rattle.std.specs.declared.result.Result.{Result}
 use Rattle.rc_base.specs.Outside.Ends.{Used, use_of}
@@ -11,7 +11,7 @@ use Rattle.render_core.specs.Carried.{IsCarriedOut}
 use Rattle.render_core.specs.Finishes.{IsFinished, IsTaskless}
 use Rattle.run_words.specs.Jobs.{ForTask, Reads, ShowsNothing, Task}
 use Rattle.render_core.specs.Laws.{FindingsAreOne, RecordsAreForeseen, OrderedRecordsShowOneImage}
-use Rattle.render_core.specs.Outcomes.{Ran, RefusesWhatItFinds, CarriesOutWhatItFinds, IsHeadline, KeepsOrders, IsUnwritten, IsLeftByThreads, HasNotes, LeavesMembers, PartlyGiven}
+use Rattle.render_core.specs.Outcomes.{Ran, RefusesWhatItFinds, CarriesOutWhatItFinds, IsHeadline, KeepsOrders, IsUnwritten, IsLeft, HasNotes, LeavesMembers, PartlyWritten}
 use Rattle.render_core.proofs.Finishing.{left_by, members_by, ran_by, silent_by, unasked, unasked_done, unasked_members, unwritten_by}
 use Rattle.render_core.proofs.Headline.{completes, headline, permits, refuses}
 
@@ -25,7 +25,7 @@ pub record IsEnded (asks : Task → Type 0) (source image notes : Used) (SourceS
   pub unread : ((task : Task) → asks task → Reads task.job → ⊥) → SourceStays
   pub untouched : IsUnwritten f.status → ImageStays
   pub blank : ForTask asks (λ task. ShowsNothing task.job) → ImageStays
-  pub memory : f.status ≡ 7 → ImageStays ⊎ IsLeftByThreads asks source image
+  pub memory : f.status ≡ 7 → ImageStays ⊎ IsLeft asks source image
   pub silent : f.status ≡ 0 → NotesStay ⊎ HasNotes asks source image notes f.kept
   pub members : LeavesMembers asks source f.status rules left
 
@@ -69,7 +69,7 @@ module _ (findings : FindingsAreOne) (shows : OrderedRecordsShowOneImage) (fores
         unread = λ none. carried.unread (none task is);
         untouched = unwritten_by asks task is source image notes f p finished carried.done carried.blank carried.untouched;
         blank = λ shown. carried.blank (subst (λ (t : Task). ShowsNothing t.job) (one shown.0 task shown.1 is) shown.2);
-        memory = left_by asks task is source image notes f (λ t. PartlyGiven t source image) p finished carried.part;
+        memory = left_by asks task is source image notes f (λ t. PartlyWritten t source image) p finished carried.part;
         silent = silent_by asks task is source image notes f p finished carried.done silent;
         members = members_by asks task is source image notes f p left finished carried.members;
       }

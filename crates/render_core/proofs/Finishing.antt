@@ -21,7 +21,7 @@ use Rattle.render_core.specs.Due.{Outcome, IsOutcome, default_ending}
 use Rattle.spu_chain.specs.declared.rule.SpuRule.{SpuRule}
 use Rattle.run_words.specs.declared.work.Work.{Work}
 use Rattle.run_words.specs.Jobs.{AskWith, ForTask, IsLine, ShowsNothing, Task}
-use Rattle.render_core.specs.Outcomes.{HasNotes, IsEarly, IsLate, IsLeft, IsLeftByThreads, IsUnwritten, NoMemory, Ran, Usage, LeavesMembers, Ungiven, Given, Broken}
+use Rattle.render_core.specs.Outcomes.{HasNotes, IsEarly, IsLate, IsUnwritten, NoMemory, Ran, Usage, LeavesMembers, Ungiven, Given, Broken}
 use Rattle.run_words.specs.Statuses.{refusal_status, IsConcluded, IsRefusalTold}
 use Rattle.render_core.specs.Refusals.{IsCaused, IsPerformed, LeftBy, LeftWith, Before, Behind, Amid}
 use Rattle.render_core.proofs.Endings.{cases_nil, ran_refused, ran_told, some_told}
@@ -105,11 +105,6 @@ module _ (asks : Task → Type 0) (notes : Used) (f : Finish) (none : IsTaskless
 
   pub unasked_members : (source : Used) (rules : List SpuRule) → LeavesMembers asks source f.status rules rules
   unasked_members source rules = Ungiven (elim none.why [ inl usage ↦ inl (inl usage.0) | inr memory ↦ inr memory.0 ]) refl
-
--- what is left of an image by a job without threads
-pub left_alone : (P : Type 0) (asks : Task → Type 0) (source image : Used) → P ⊎ IsLeft asks source image → P ⊎ IsLeftByThreads asks source image
-left_alone P asks source image (inl same) = inl same
-left_alone P asks source image (inr part) = inr (part.0, part.1, inl part.2)
 
 -- ---- a run with one
 

@@ -26,3 +26,4 @@ pub mod ClusterRuns
 pub mod DecidedBefore
 pub mod PlainScenes
 pub mod RecordsShown
+pub mod LackingRuns

@@ -1,7 +1,7 @@
 -- From the steps of a task to what it left.
 use Rattle.std.proofs.Common.{◌≡◌, ℕ, ◌+◌, ◌≤◌, ◌⊎◌, inl, inr, Bool, true, false, List, [], ◌++◌, length, Ok, Err, None, Some, refl, sym, ap, ◌∙◌, subst, arith}
 use Rattle.std.specs.declared.option.Option.{Option}
-use Rattle.std.specs.Prelude.{◌==◌, ◌≢◌, IfErr, IfOk, OnErr, MatchResult, if◌then◌else◌}
+use Rattle.std.specs.Prelude.{◌==◌, ◌≢◌, IfErr, IfOk, MatchResult, if◌then◌else◌}
 use Rattle.std.specs.declared.result.Result.{Result}
 use Rattle.std.specs.Io.KnownBytes.{Consumes, IsAtEnd}
 use Rattle.std.proofs.Math.Seq.{take-length}

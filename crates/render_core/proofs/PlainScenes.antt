@@ -1,5 +1,5 @@
 -- A chain without members leaves a scene as it is.
-use Rattle.std.proofs.Common.{◌≡◌, ◌+◌, List, [], ◌∷◌, ◌++◌, length, refl, ap, ap₂, length-append, ◌∙◌, arith}
+use Rattle.std.proofs.Common.{◌≡◌, List, [], ◌∷◌, ◌++◌, length, refl, ap, ap₂, length-append, ◌∙◌, arith}
 use Rattle.rc_base.specs.declared.command.Command.{Command}
 use Rattle.rc_base.specs.declared.scene.Scene.{Scene}
 use Rattle.spu_chain.specs.Filter.{rules_after}

@@ -1,23 +1,22 @@
 -- Jobs that start threads.
-use Rattle.std.proofs.Common.{◌≡◌, ◌≢◌, ℕ, ◌⊎◌, Bool, true, false, List, [], ◌∷◌, map, inl, inr, Ok, Err, None, Some, refl, sym, ap, ◌∙◌, subst}
+use Rattle.std.proofs.Common.{◌≡◌, ◌≢◌, ℕ, Bool, true, false, List, [], ◌∷◌, map, inl, inr, Ok, Err, None, Some, refl, sym, ap, ◌∙◌, subst}
 use Rattle.std.specs.Prelude.{String, IfErr, IfOk, MatchResult, slice_get, string_bytes, unwrap_or, codes}
 use Rattle.std.specs.Global.{Global}
 use Rattle.std.specs.declared.option.Option.{Option}
 use Rattle.std.specs.declared.result.Result.{Result}
-use Rattle.std.specs.List.{flat_map, AllByRecursion}
+use Rattle.std.specs.List.{flat_map}
 use Rattle.std.specs.Str.{bytes_eq}
 use Rattle.rc_base.specs.Formats.Limits.{limit_of}
-use Rattle.rc_base.specs.Outside.Ends.{Used}
+use Rattle.rc_base.specs.Outside.Ends.{Used, TookFront}
 use Rattle.command_line.specs.Words.{Setting, job_word, setting_words}
 use Rattle.command_line.specs.declared.job.JobName.{JobName}
 use Rattle.command_line.specs.declared.job.JobName.TheVariants as name
 use Rattle.rc_base.specs.declared.cluster.Tally.{Tally}
-use Rattle.rc_base.specs.declared.image.Image.{Image}
 use Rattle.rc_base.specs.declared.scene.Scene.{Scene}
 use Rattle.rc_base.specs.declared.state.Fault.{Fault}
 use Rattle.rc_base.specs.declared.sync.Waiting.{Waiting}
 use Rattle.rc_base.specs.declared.window.Layout.{Layout}
-use Rattle.cluster_run.specs.Fronts.{GaveFront}
+use Rattle.shown_frames.specs.Images.{GaveFrontOfRun}
 use Rattle.frame_out.specs.Writing.{IsTextWritten}
 use Rattle.frame_out.specs.declared.writing.Written.{Written}
 use Rattle.order_model.specs.Laws.{SceneListsAreWellFormed, RecordsOfScenesArePermitted}
@@ -37,14 +36,14 @@ use Rattle.render_core.specs.Carried.{IsCarriedOut}
 use Rattle.render_core.specs.Due.{Outcome, IsRecorded, IsOutcome, ending_by, report_due}
 use Rattle.spu_chain.specs.declared.rule.SpuRule.{SpuRule}
 use Rattle.run_words.specs.declared.work.Work.{Work}
-use Rattle.run_words.specs.Jobs.{AskPlainly, IsJob, IsThreaded, NamesThreads, cluster_of, Reads, ShowsNothing, Task, starts_threads, job_in, origin_of, threads_of}
+use Rattle.run_words.specs.Jobs.{IsJob, IsThreaded, NamesThreads, cluster_of, Reads, ShowsNothing, Task, starts_threads, job_in, origin_of, threads_of}
 use Rattle.render_core.specs.Scenes.{IsFor}
 use Rattle.run_words.specs.Asked.{layout_for, IsWell, IsWellRead}
-use Rattle.render_core.specs.Outcomes.{HaveSeenAll, IsDue, IsLeft, IsLeftByThreads, PartlyShown, PartlyWritten}
+use Rattle.render_core.specs.Outcomes.{HaveSeenAll, IsDue, PartlyWritten}
 use Rattle.run_words.specs.Statuses.{refusal_line, refusal_status}
 use Rattle.render_core.specs.Refusals.{Behind, IsCaused, IsPerformed, IsToldOf, IsUntold, IsWorkOf, LeftWith}
 use Rattle.frame_out.proofs.Prefixes.{on_err}
-use Rattle.render_core.proofs.Performing.{due_of_work, front_of, has_work_of, untold_status, partly_written, told_done, told_late, told_refused}
+use Rattle.render_core.proofs.Performing.{due_of_work, front_of, untold_status, partly_written, told_done, told_late, told_refused}
 use Rattle.render_core.proofs.Recorded.{outcome_by, recorded_by}
 
 -- ---- their words
@@ -111,20 +110,6 @@ draws_apart Last threads none = refl
 draws_apart (Demo seed size cluster) threads none = absurd cc
 draws_apart job threads none = let no_threads : false ≡ true = threads in absurd cc
 
--- a job that starts no thread has no cluster
-pub no_cluster : (job : Job) (cluster : Cluster) → starts_threads job ≡ false → threads_of job ≡ Some cluster → ⊥
-no_cluster (Render own) cluster alone of = let no_threads : true ≡ false = alone in absurd cc
-no_cluster (Demo seed size own) cluster alone of = let no_threads : true ≡ false = alone in absurd cc
-no_cluster job cluster alone of = absurd cc
-
--- so what is left of its image is a front of what is due
-pub left_without_threads : (P : Type 0) (words : List (String Global)) (source image : Used) → (IsThreaded words → ⊥)
-    → P ⊎ IsLeftByThreads (AskPlainly words) source image → P ⊎ IsLeft (AskPlainly words) source image
-left_without_threads P words source image other (inl same) = inl same
-left_without_threads P words source image other (inr (task, asked, inl part)) = inr (task, asked, part)
-left_without_threads P words source image other (inr (task, asked, inr shown)) =
-    absurd (no_cluster task.job shown.cluster (alone words task.job asked.1 other) shown.threads)
-
 -- ---- what is due
 
 the_cluster : (cluster other : Cluster) → Some cluster ≡ Some other → cluster ≡ other
@@ -170,26 +155,21 @@ module _ (task : Task) (cluster : Cluster) (source image : Used) (work : Work) (
       (outcome_is task.job cluster work (outcome_by cluster work kept) threads
       (recorded_by cluster work formed permits within kept (subst (λ (t : Layout). IsRecordOf work.scene t kept) tiles lawful)))
 
-  front_given : GaveFront l image → PartlyShown task source image
-  front_given gave = record {
-    cluster = cluster;
-    threads = threads;
-    work = work;
-    has = has_work_of task source work is_work (threads_suit task.job cluster work.scene threads);
-    images = gave.images;
-    sides = subst (λ (t : Layout). AllByRecursion (λ (m : Image). (m.width ≡ t.width) × (m.height ≡ t.height)) gave.images) tiles gave.sides;
-    front = gave.front;
-  }
+  -- a front of what a whole run is due is one of what is due
+  front_given : GaveFrontOfRun work.scene l image → PartlyWritten task source image
+  front_given gave =
+      partly_written task source image (outcome_by cluster work gave.kept) (due_by gave.kept gave.lawful)
+      (subst (λ (t : Layout). TookFront image (image_text_of work.scene t gave.kept)) tiles gave.front)
 
   -- a run that lacked memory
-  pub short_of_memory : GaveFront l image → (refused : Refused) → refused.refusal ≡ refusals.Image writing.OutOfMemory → (left : List SpuRule)
+  pub short_of_memory : GaveFrontOfRun work.scene l image → (refused : Refused) → refused.refusal ≡ refusals.Image writing.OutOfMemory → (left : List SpuRule)
       → HaveSeenAll task source left → (SourceStays ImageStays : Type 0) → ((Reads task.job → ⊥) → SourceStays)
       → IsCarriedOut task source image left SourceStays ImageStays (Err refused)
   short_of_memory gave refused is left seen SourceStays ImageStays unread = record {
     done = tt;
     refused = inr (ap refusal_status is, ap refusal_line is);
     untouched = λ six seven. absurd (seven (ap refusal_status is));
-    part = inr (inr (front_given gave));
+    part = inr (front_given gave);
     members = Behind (inr (inr (ap refusal_status is))) seen;
     blank = λ shows. absurd (shows_frames task.job cluster threads shows);
     unread = unread;
@@ -235,7 +215,7 @@ module _ (task : Task) (cluster : Cluster) (source image : Used) (work : Work) (
         done = run_done;
         refused = run_refused;
         untouched = run_late ImageStays;
-        part = on_err r (inr (inl run_given));
+        part = on_err r (inr run_given);
         members = run_seen left seen;
         blank = λ shows. absurd (shows_frames task.job cluster threads shows);
         unread = unread;

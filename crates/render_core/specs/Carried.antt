@@ -10,7 +10,7 @@ use Rattle.run_words.specs.declared.refusal.Refused.{Refused}
 use Rattle.run_words.specs.declared.work.Work.{Work}
 use Rattle.run_words.specs.declared.told.Told.{Told}
 use Rattle.run_words.specs.Jobs.{Task, Reads, ShowsNothing, origin_of}
-use Rattle.render_core.specs.Outcomes.{IsDue, PartlyGiven}
+use Rattle.render_core.specs.Outcomes.{IsDue, PartlyWritten}
 use Rattle.render_core.specs.Refusals.{outcome_of, IsBlank, IsCaused, IsPerformed, IsRefusedUnwritten, IsWorkOf, IsWritable, LeftAfter, LeftWith}
 use Rattle.run_words.specs.Statuses.{refusal_status}
 use Rattle.run_words.specs.Asked.{IsWell, HasTiles}
@@ -44,7 +44,7 @@ pub record IsCarriedOut (task : Task) (source image : Used) (left : List SpuRule
   pub done : IfOk result (IsPerformed task source image)
   pub refused : IfErr result (λ r. IsCaused task source image r.refusal r.kept)
   pub untouched : IfErr result (λ r. refusal_status r.refusal ≢ 6 → refusal_status r.refusal ≢ 7 → ImageStays)
-  pub part : OnErr result (ImageStays ⊎ PartlyGiven task source image)
+  pub part : OnErr result (ImageStays ⊎ PartlyWritten task source image)
   pub members : LeftWith task source result left
   pub blank : ShowsNothing task.job → ImageStays
   pub unread : (Reads task.job → ⊥) → SourceStays

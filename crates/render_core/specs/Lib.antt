@@ -9,3 +9,4 @@ pub mod Runs
 pub mod Laws
 pub mod Foreseen
 pub mod Shows
+pub mod Lacking

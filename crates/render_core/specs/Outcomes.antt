@@ -1,6 +1,6 @@
 -- How a run may end: what each status says of the words, of the bytes of the source, and of what the image and the notes were given.
 use Rattle.std.specs.Prelude.{◌≡◌, ◌≢◌, ℕ, ◌<◌, ◌≤◌, ◌⊎◌, ◌↔◌, true, List, [], ◌++◌, length, take, Option, Some, None}
-use Rattle.std.specs.List.{AllByRecursion, flat_map}
+use Rattle.std.specs.List.{flat_map}
 use Rattle.rc_base.specs.Drawing.Images.{frame_image, frame_images}
 use Rattle.rc_base.specs.Formats.Netpbm.{p6_texts}
 use Rattle.rc_base.specs.Orders.Footprints.{IsOrderedScene}
@@ -18,11 +18,10 @@ use Rattle.run_words.specs.declared.told.Ending.{Ending}
 use Rattle.run_words.specs.declared.told.Ending.TheVariants.{Complete, Stuck as EndsStuck, RaceFound as EndsRaceFound}
 use Rattle.render_core.specs.Due.{Outcome, IsOutcome, default_ending, default_frames, journal_of}
 use Rattle.run_words.specs.Statuses.{ending_status}
-use Rattle.rc_base.specs.Outside.Ends.{Used, Failed, IsCalm, Took, TookFront, Noted}
-use Rattle.rc_base.specs.declared.image.Image.{Image}
+use Rattle.rc_base.specs.Outside.Ends.{Used, Failed, IsCalm, Took, Noted}
 use Rattle.render_core.specs.Findings.{Finding, IsFinding, Judged, refused_with}
 use Rattle.run_words.specs.declared.work.Work.{Work}
-use Rattle.run_words.specs.Jobs.{Task, ForTask, Reads, cluster_of, origin_of, threads_of}
+use Rattle.run_words.specs.Jobs.{Task, ForTask, Reads, cluster_of, origin_of}
 use Rattle.render_core.specs.Scenes.{Found, Gives, Holds, HasWork, IsInput, Takes, is_filtered, meant, rules_for}
 use Rattle.run_words.specs.Asked.{layout_for}
 use Rattle.spu_chain.specs.Filter.{AreReached}
@@ -45,28 +44,14 @@ pub record CutOff (image : Used) (o : Outcome) (front lines : List ℕ) : Type 0
   pub given : Took image (take done o.image)
   pub lines_are : lines ≡ front ++ image_fault_line done
 
--- the image was given a front of what is due, which may be the whole
+-- The image was given a front of what is due, which may be the whole. Where memory lacks in a cluster on threads, whose frames are written while its actors
+-- run, no record is left of that run; what is due is what it would have come to, had it gone on from there.
 pub record PartlyWritten (task : Task) (source image : Used) : Type 0 where
   pub o : Outcome
   pub due : IsDue task source o
   pub done : ℕ
   pub part : done ≤ length o.image
   pub given : Took image (take done o.image)
-
--- The image was given a front of the texts of some images of the scene's window. So it is where memory lacks in a cluster on threads, whose frames are
--- written while its actors run, and of whose run no record is left.
-pub record PartlyShown (task : Task) (source image : Used) : Type 0 where
-  pub cluster : Cluster
-  pub threads : threads_of task.job ≡ Some cluster
-  pub work : Work
-  pub has : HasWork task source work
-  pub images : List Image
-  pub sides : AllByRecursion (λ (m : Image). (m.width ≡ work.scene.decl.width) × (m.height ≡ work.scene.decl.height)) images
-  pub front : TookFront image (p6_texts images)
-
--- the image was given a front of what is due, or, by a job on threads of a cluster, of frames that no record tells
-abbrev pub PartlyGiven : Task → Used → Used → Type 0
-PartlyGiven task source image = PartlyWritten task source image ⊎ PartlyShown task source image
 
 -- What is due was given to the image, and these lines are due to the notes. An image that fails keeps no report from the notes of a job that is
 -- stuck.
@@ -228,10 +213,6 @@ IsUnwritten status = (status ≢ 0) × (status ≢ 5) × (status ≢ 6) × (stat
 -- what is left of an image where there was no memory: a front of what is due
 abbrev pub IsLeft : (Task → Type 0) → Used → Used → Type 0
 IsLeft asks source image = ForTask asks (λ task. PartlyWritten task source image)
-
--- and where the job runs threads, of frames that no record tells
-abbrev pub IsLeftByThreads : (Task → Type 0) → Used → Used → Type 0
-IsLeftByThreads asks source image = ForTask asks (λ task. PartlyGiven task source image)
 
 -- something is due to the notes of a job that is done
 abbrev pub HasNotes : (Task → Type 0) → Used → Used → Used → Option Record → Type 0

@@ -1,5 +1,5 @@
 -- What the steps of a job leave: the refusals of each, and what is due.
-use Rattle.std.specs.Prelude.{◌≡◌, ◌≢◌, ℕ, ◌<◌, ◌≤◌, ◌^◌, ◌==◌, ◌⊎◌, true, false, List, [], ◌++◌, length, take, Option, Some, None, Result, Ok, Err, if◌then◌else◌}
+use Rattle.std.specs.Prelude.{◌≡◌, ◌≢◌, ℕ, ◌≤◌, ◌^◌, ◌==◌, ◌⊎◌, true, false, List, [], ◌++◌, length, Option, Some, None, Result, Ok, Err, if◌then◌else◌}
 use Rattle.rc_base.specs.Outside.Transfer.{byte_limit}
 use Rattle.order_model.specs.declared.record.Record.{Record}
 use Rattle.std.specs.List.{AllByRecursion, flat_map}
@@ -25,7 +25,6 @@ use Rattle.run_words.specs.declared.told.Ending.{Ending}
 use Rattle.run_words.specs.declared.told.Ending.TheVariants.{Complete}
 use Rattle.run_words.specs.declared.refusal.InputRefusal.{InputRefusal}
 use Rattle.run_words.specs.declared.refusal.InputRefusal.TheVariants as judging
-use Rattle.run_words.specs.declared.refusal.ImageRefusal.{ImageRefusal}
 use Rattle.run_words.specs.declared.refusal.ImageRefusal.TheVariants as writing
 use Rattle.run_words.specs.declared.refusal.Refusal.{Refusal}
 use Rattle.run_words.specs.declared.refusal.Refused.{Refused}

@@ -1,6 +1,7 @@
 //! Laws on what a job finds in its input, on what is due for a scene, and on the order in which a job is refused. Each function's contract is a law,
 //! and its body calls the laws that it follows from: there is nothing to compute.
 ghost use Rattle.render_core.specs.Foreseen.{DealtShowsAreDecidedBefore, ShowsAreDecidedBefore};
+ghost use Rattle.render_core.specs.Lacking.{RunsWithoutMemoryShowAFront};
 ghost use Rattle.render_core.specs.Shows.{RendersShowTheirRecords};
 ghost use Rattle.render_core.specs.Laws.{FindingsAreOne, OneOutcomeIsDue, KeptOrdersArePermitted, OrderedRecordsShowOneImage, RecordsAreForeseen, PlainTasksAreFilteredOnes, ListScenesMeanTheirExpansions, RefusalsComeInOrder};
 
@@ -85,6 +86,16 @@ pub fn renders_show_their_records()
     members_follow();
     chains_follow();
     ordered_records_show_one_image();
+}
+
+/// A run on tiles that lacked memory has shown a front of what some whole run of the scene shows: each tile's pixels of each frame are those of one serial
+/// renderer in an order that this run's journal permits. Where the scene is ordered, it is a front of the frames of every permitted order; where nobody contends
+/// and the default journal orders the scene, of what `serial` writes.
+pub fn runs_without_memory_show_a_front()
+    ensures { RunsWithoutMemoryShowAFront }
+{
+    ordered_records_show_one_image();
+    records_are_foreseen();
 }
 
 /// What is decided before a show. In scenes in which one client takes from each semaphore and no barrier is named by more clients than it counts, `render` and

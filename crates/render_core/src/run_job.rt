@@ -5,7 +5,7 @@ ghost use Rattle.run_words.specs.Lines.{memory_line, usage_line};
 ghost use Rattle.command_line.specs.Filters.{AreNamed};
 ghost use Rattle.render_core.specs.Finishes.{EndsNoting, IsFinished, IsJobless, IsUnasked};
 ghost use Rattle.run_words.specs.Jobs.{AskFiltered, AskPlainly, BeginsPlainly, ForTask, IsJob, IsJobBehind, IsLine, IsThreaded, NoLine, NoneReads, ShowsNothing};
-ghost use Rattle.render_core.specs.Outcomes.{Ran, RefusesWhatItFinds, CarriesOutWhatItFinds, IsHeadline, KeepsOrders, IsUnwritten, IsLeft, IsLeftByThreads, HasNotes, LeavesMembers};
+ghost use Rattle.render_core.specs.Outcomes.{Ran, RefusesWhatItFinds, CarriesOutWhatItFinds, IsHeadline, KeepsOrders, IsUnwritten, IsLeft, HasNotes, LeavesMembers};
 ghost use Rattle.render_core.specs.Refusals.{kept_for};
 
 use crate::laws::{
@@ -239,9 +239,9 @@ where
     ensures untouched { IsUnwritten result.status → image.new ≡ image.old }
     // A job that shows nothing leaves it alone, whatever the status.
     ensures blank { ForTask (AskPlainly words.now) (λ task. ShowsNothing task.job) → image.new ≡ image.old }
-    // Where there was no memory it was given a front of what is due, or, by a job on threads, of frames that no record tells.
+    // Where there was no memory it was given a front of what is due: of what the run would have come to, had it gone on from there.
     ensures memory { result.status ≡ 7 → (image.new ≡ image.old)
-        ⊎ IsLeftByThreads (AskPlainly words.now) (use_of S.left S.faults source.old source.new)
+        ⊎ IsLeft (AskPlainly words.now) (use_of S.left S.faults source.old source.new)
         (use_of K.held K.faults image.old image.new) }
     // Notes to which nothing is due stay as they are.
     ensures silent { result.status ≡ 0 → (notes.new ≡ notes.old)
@@ -314,9 +314,9 @@ where
     ensures untouched { IsUnwritten result.status → image.new ≡ image.old }
     // A job that shows nothing leaves it alone, whatever the status.
     ensures blank { ForTask (AskFiltered words.now) (λ task. ShowsNothing task.job) → image.new ≡ image.old }
-    // Where there was no memory it was given a front of what is due, or, by a job on threads, of frames that no record tells.
+    // Where there was no memory it was given a front of what is due: of what the run would have come to, had it gone on from there.
     ensures memory { result.status ≡ 7 → (image.new ≡ image.old)
-        ⊎ IsLeftByThreads (AskFiltered words.now) (use_of S.left S.faults source.old source.new)
+        ⊎ IsLeft (AskFiltered words.now) (use_of S.left S.faults source.old source.new)
         (use_of K.held K.faults image.old image.new) }
     // Notes to which nothing is due stay as they are.
     ensures silent { result.status ≡ 0 → (notes.new ≡ notes.old)

@@ -1,13 +1,11 @@
 //! Closing the lanes from each of several senders to each of several receivers.
-ghost use Rattle.std.specs.Prelude.{◌≡◌, ◌<◌, ◌≤◌, ℕ, length, vec_len, vec_capacity, slice_index_or, IfOk};
+ghost use Rattle.std.specs.Prelude.{◌≡◌, ◌<◌, ◌≤◌, ℕ, length, vec_len, vec_capacity, slice_index_or};
 ghost use Rattle.rc_base.specs.Lists.{ArePaired, IsFront};
 ghost use Rattle.tile_queues.specs.Ends.{sent_of, taken_of, lane_in, lane_out};
 ghost use Rattle.tile_queues.specs.Grids.{IsOpen, IsClosed, AreJoined, AreGrid};
 
 use crate::ends::{LaneIn, LaneOut, Rest};
 use crate::lanes::close;
-use rc_base::out_of_memory::OutOfMemory;
-use std::alloc::Global;
 
 /// Closes a lane, whose receiving end is the last of these.
 fn close_last<T: Drop, R: Copy>(a: LaneIn<T, R>, outs: &mut Vec<LaneOut<T, R>>)
@@ -57,8 +55,9 @@ pub fn close_list<T: Drop, R: Copy>(ins: Vec<LaneIn<T, R>>, outs: &mut Vec<LaneO
     }
 }
 
-// Brings the ends of two lists together, and puts the lanes into the room that `rests` has.
-fn join_each<T: Drop, R: Copy>(
+/// Brings the ends of two lists together, each with the other list's at its place, and puts the lanes into the room that `rests` has. Each lane comes out as
+/// an inlet, with what is left in it.
+pub fn join_list<T: Drop, R: Copy>(
     ins: Vec<LaneIn<T, R>>,
     outs: Vec<LaneOut<T, R>>,
     rests: Vec<Rest<T, R>>,
@@ -77,18 +76,4 @@ fn join_each<T: Drop, R: Copy>(
         }
     }
     rests
-}
-
-/// Brings the ends of two lists together, each with the other list's at its place. Each lane comes out as an inlet, with what is left in it. Memory is
-/// taken before the first is closed.
-pub fn join_list<T: Drop, R: Copy>(
-    alloc: Global,
-    ins: Vec<LaneIn<T, R>>,
-    outs: Vec<LaneOut<T, R>>,
-) -> Result<Vec<Rest<T, R>>, OutOfMemory>
-    requires { ArePaired (λ i a b. lane_out b ≡ lane_in a) ins.items outs.items }
-    ensures { IfOk result (λ rests. AreJoined ins.items outs.items rests.items) }
-{
-    let rests = Vec::with_capacity(alloc, ins.len())?;
-    Ok(join_each(ins, outs, rests))
 }

@@ -1,6 +1,6 @@
 -- What callers say of orders and of races.
 use Rattle.std.specs.Prelude.{◌≡◌, ◌≢◌, ℕ, ◌<◌, true, List, Some}
-use Rattle.rc_base.specs.Lists.{IsIn, Stands}
+use Rattle.rc_base.specs.Lists.{IsFront, IsIn, Stands}
 use Rattle.rc_base.specs.Orders.Footprints.{footprint_of}
 use Rattle.rc_base.specs.Orders.Journal.{reach_of}
 use Rattle.rc_base.specs.Orders.Order.{PlacedEntry, Conflicts, entries_of}
@@ -8,6 +8,9 @@ use Rattle.rc_base.specs.declared.scene.Scene.{Scene}
 use Rattle.rc_base.specs.declared.sync.Entry.{Entry}
 use Rattle.rc_base.specs.declared.sync.Name.{Name}
 use Rattle.rc_base.specs.declared.sync.SyncLists.{SyncLists}
+use Rattle.rc_base.specs.declared.window.Layout.{Layout}
+use Rattle.order_model.specs.Sent.{IsRecordOf}
+use Rattle.order_model.specs.declared.record.Record.{Record}
 use Rattle.happens_before.specs.Before.{IsBefore}
 
 -- at each entry the names before a member's operation stand before the names behind any member's
@@ -30,3 +33,9 @@ pub record RaceAtAPixel (syncs : SyncLists) (journal : List Entry) (scene : Scen
   pub touched_too : (footprint_of scene).touches b pixel ≡ true
   pub not_before : IsBefore syncs journal a b → ⊥
   pub not_behind : IsBefore syncs journal b a → ⊥
+
+-- a whole run of the scene on the tiles of a layout has a journal that begins with this one
+pub record BeginsARun (scene : Scene) (l : Layout) (journal : List Entry) : Type 0 where
+  pub kept : Record
+  pub lawful : IsRecordOf scene l kept
+  pub begins : IsFront journal kept.journal

@@ -7,14 +7,17 @@ ghost use Rattle.rc_base.specs.Orders.Sync.{sync_lists_of, client_count, IsWellF
 ghost use Rattle.rc_base.specs.declared.sync.Name.{Name as AnyName};
 ghost use Rattle.happens_before.specs.Before.{IsBefore};
 ghost use Rattle.race_check.specs.Races.{SaysOrdered};
-ghost use Rattle.uses.specs.Orders.{NoneConflict, PartsNames, RaceAtAPixel};
+ghost use Rattle.rc_base.specs.declared.window.Layout.{Layout};
+ghost use Rattle.uses.specs.Orders.{BeginsARun, NoneConflict, PartsNames, RaceAtAPixel};
 
 use happens_before::clocks_of;
 use order_model::is_permitted;
+use order_model::laws::scenes_within_limits;
 use race_check::{Verdict, check_races};
 use rc_base::out_of_memory::OutOfMemory;
 use rc_base::scene::Scene;
 use rc_base::sync::{Entry, Journal, Name, Order, SyncLists};
+use shown_frames::laws::unfinished_runs_go_on;
 use std::alloc::Global;
 
 /// Whether a journal permits an order. One that is permitted has each name before a member's operation before each name behind another member's,
@@ -79,4 +82,17 @@ pub fn told_of_pixels(
     ensures { (a b : AnyName) → RaceAtAPixel syncs.now journal.now scene.now a b → IfOk result (λ v. SaysOrdered v → ⊥) }
 {
     check_races(alloc, scene, journal, order, syncs)
+}
+
+/// A journal of a scene, of which nothing was carried out yet. If it is legal, a whole run on any tiles has one that goes on from there: no run that was cut
+/// off is in a blind alley.
+pub fn goes_on_to_a_run(scene: &Scene, journal: &Journal)
+    requires within { IsWithin scene.now }
+    requires legal { IsLegal (sync_lists_of scene.now) journal.now }
+    ensures { (l : Layout) → BeginsARun scene.now l journal.now }
+{
+    scenes_within_limits();
+    unfinished_runs_go_on();
+    let _scene = scene;
+    let _journal = journal;
 }

@@ -1,29 +1,19 @@
 use Rattle.std.proofs.Common.{◌<◌, subst, arith}
-use Rattle.rc_base.proofs.Paired.{some_item}
 use Rattle.rc_base.specs.Cluster.Tiles.{tile_count}
 use Rattle.run_record.specs.Collected.{AreCollected}
 use Rattle.sync_manager.specs.declared.manager.ManagerCore.{ManagerCore}
 use Rattle.cluster_run.specs.Serving.{shown_in_lanes}
 use Rattle.cluster_run.proofs.Runs.{text_written}
-use Rattle.cluster_run.proofs.Serving.{gave_front}
+use Rattle.cluster_run.proofs.ShownSoFar.{gave_shown_of}
 use Rattle.cluster_run.proofs.run.complete.Goals as goal
 
-pub cores_of-requires-clause-ended : goal.cores_of-requires-clause-ended
-cores_of-requires-clause-ended g c = let e = c.requires.ended in (c.args.scene.now, c.args.layout.now, e.0, e.1)
-
-pub returns-in_err-clients-clause-front : goal.returns-in_err-clients-clause-front
-returns-in_err-clients-clause-front g c start on =
-    let e = c.requires.ended in
-    let n = e.2.size in
-    let m = e.1.tiles in
-    let k = c.args.ended.tiles.ok.0 in
-    let some = c.requires.some.1 in
-    gave_front c.args.layout.now _ _ c.args.frames.writer (on (some_item c.args.frames.lanes.items 0 (omega (arith, n, m, k, some))))
+pub cores_of-clients-requires-clause-ended : goal.cores_of-clients-requires-clause-ended
+cores_of-clients-requires-clause-ended g c = let e = c.requires.ended in (c.args.scene.now, c.args.layout.now, e.0, e.1)
 
 pub finish-requires-clause-some : goal.finish-requires-clause-some
 finish-requires-clause-some g c =
     let e = c.requires.ended in
-    let into = c.in_ok-clients.ensures.parts c.args.scene.now c.args.layout.now e.0 e.1 in
+    let into = c.cores_of-clients.ensures.parts c.args.scene.now c.args.layout.now e.0 e.1 in
     let n = into.size in
     let m = e.1.tiles in
     let k = c.args.ended.tiles.ok.0 in
@@ -33,28 +23,19 @@ finish-requires-clause-some g c =
 pub finish-requires-clause-paired : goal.finish-requires-clause-paired
 finish-requires-clause-paired g c =
     let e = c.requires.ended in
-    c.named_ends_are_paired.ensures _ e.0.parts _ _ (c.in_ok-clients.ensures.parts c.args.scene.now c.args.layout.now e.0 e.1) e.2
-
-pub returns-in_err-written-clause-front : goal.returns-in_err-written-clause-front
-returns-in_err-written-clause-front g c start on = c.in_err-written.ensures.front c.args.layout.now start on
-
-pub returns-in_err-kept-clause-front : goal.returns-in_err-kept-clause-front
-returns-in_err-kept-clause-front g c start on = c.in_ok-written.ensures.front c.args.layout.now start on
-
-pub returns-clause-front : goal.returns-clause-front
-returns-clause-front g c start on = c.in_ok-written.ensures.front c.args.layout.now start on
+    c.named_ends_are_paired.ensures _ e.0.parts _ _ (c.cores_of-clients.ensures.parts c.args.scene.now c.args.layout.now e.0 e.1) e.2
 
 pub returns-clause-run : goal.returns-clause-run
 returns-clause-run g c =
     let e = c.requires.ended in
-    let shown = shown_in_lanes c.in_ok-clients.field-0.parts.items in
-    (c.in_ok-kept.ensures.whole shown (c.in_ok-clients.ensures.closed c.args.scene.now c.args.layout.now e.0 e.1)).run
+    let shown = shown_in_lanes c.cores_of-clients.result.parts.items in
+    (c.in_ok-kept.ensures.whole shown (c.cores_of-clients.ensures.closed c.if-short.false c.args.scene.now c.args.layout.now e.0 e.1)).run
 
 pub returns-clause-written : goal.returns-clause-written
 returns-clause-written g c start on =
     let e = c.requires.ended in
-    let shown = shown_in_lanes c.in_ok-clients.field-0.parts.items in
-    let whole = c.in_ok-kept.ensures.whole shown (c.in_ok-clients.ensures.closed c.args.scene.now c.args.layout.now e.0 e.1) in
+    let shown = shown_in_lanes c.cores_of-clients.result.parts.items in
+    let whole = c.in_ok-kept.ensures.whole shown (c.cores_of-clients.ensures.closed c.if-short.false c.args.scene.now c.args.layout.now e.0 e.1) in
     let m = e.1.tiles in
     let k = c.args.ended.tiles.ok.0 in
     let some = c.requires.some.1 in
@@ -63,12 +44,12 @@ returns-clause-written g c start on =
     c.requires.within c.requires.window tiles whole (c.in_ok-written.ensures.finished c.args.layout.now start on)
 
 pub returns-clause-orderly : goal.returns-clause-orderly
-returns-clause-orderly g c = let e = c.requires.ended in c.in_ok-clients.ensures.orderly c.args.scene.now c.args.layout.now e.0 e.1
+returns-clause-orderly g c = let e = c.requires.ended in c.cores_of-clients.ensures.orderly c.args.scene.now c.args.layout.now e.0 e.1
 
 pub returns-clause-left : goal.returns-clause-left
 returns-clause-left g c =
-    let cores = c.in_ok-clients.field-0 in
-    let are = c.in_ok-clients.ensures.cores in
+    let cores = c.cores_of-clients.result in
+    let are = c.cores_of-clients.ensures.cores c.if-short.false in
     let left = c.in_ok-kept.field-0 in
     record {
       clients = cores.clients.items;
@@ -77,3 +58,43 @@ returns-clause-left g c =
       collected = subst (λ (core : ManagerCore). AreCollected c.args.scene.now.decl cores.clients.items core cores.tiles.items left.kept left.tallies left.waiting left.faults) are.0
           c.in_ok-kept.ensures.collected;
     }
+
+pub abandon-requires-clause-some : goal.abandon-requires-clause-some
+abandon-requires-clause-some g c =
+    let e = c.requires.ended in
+    let into = c.cores_of-clients.ensures.parts c.args.scene.now c.args.layout.now e.0 e.1 in
+    let n = into.size in
+    let m = e.1.tiles in
+    let k = c.args.ended.tiles.ok.0 in
+    let some = c.requires.some.1 in
+    omega (arith, n, m, k, some)
+
+pub abandon-requires-clause-paired : goal.abandon-requires-clause-paired
+abandon-requires-clause-paired g c =
+    let e = c.requires.ended in
+    c.named_ends_are_paired.ensures _ e.0.parts _ _ (c.cores_of-clients.ensures.parts c.args.scene.now c.args.layout.now e.0 e.1) e.2
+
+pub returns-then-short-clause-shown : goal.returns-then-short-clause-shown
+returns-then-short-clause-shown g c start on =
+    gave_shown_of c.args.layout.now c.args.ended c.cores_of-clients.result.parts.items _ c.cores_of-clients.ensures.shown c.requires.ended.1.tiles (c.abandon.ensures c.args.layout.now start on)
+
+pub returns-in_err-written-clause-shown : goal.returns-in_err-written-clause-shown
+returns-in_err-written-clause-shown g c start on =
+    gave_shown_of c.args.layout.now c.args.ended c.cores_of-clients.result.parts.items _ c.cores_of-clients.ensures.shown c.requires.ended.1.tiles (c.in_err-written.ensures.shown c.args.layout.now start on)
+
+pub returns-in_err-kept-clause-shown : goal.returns-in_err-kept-clause-shown
+returns-in_err-kept-clause-shown g c start on =
+    gave_shown_of c.args.layout.now c.args.ended c.cores_of-clients.result.parts.items _ c.cores_of-clients.ensures.shown c.requires.ended.1.tiles (c.in_ok-written.ensures.shown c.args.layout.now start on)
+
+pub returns-clause-shown : goal.returns-clause-shown
+returns-clause-shown g c start on =
+    gave_shown_of c.args.layout.now c.args.ended c.cores_of-clients.result.parts.items _ c.cores_of-clients.ensures.shown c.requires.ended.1.tiles (c.in_ok-written.ensures.shown c.args.layout.now start on)
+
+pub returns-then-short-clause-orderly : goal.returns-then-short-clause-orderly
+returns-then-short-clause-orderly g c = let e = c.requires.ended in c.cores_of-clients.ensures.orderly c.args.scene.now c.args.layout.now e.0 e.1
+
+pub returns-in_err-written-clause-orderly : goal.returns-in_err-written-clause-orderly
+returns-in_err-written-clause-orderly g c = let e = c.requires.ended in c.cores_of-clients.ensures.orderly c.args.scene.now c.args.layout.now e.0 e.1
+
+pub returns-in_err-kept-clause-orderly : goal.returns-in_err-kept-clause-orderly
+returns-in_err-kept-clause-orderly g c = let e = c.requires.ended in c.cores_of-clients.ensures.orderly c.args.scene.now c.args.layout.now e.0 e.1

@@ -13,6 +13,7 @@ returns g c =
         number_is = refl;
         clients_are = refl;
         none_waits = refl;
+        ample = made.ample;
         clause = λ took none.
             c.tiles_meet_their_clause.ensures.first c.args.scene.now c.args.layout.now c.args.waiting.number core took [] []
             made.decl made.layout made.tile (made.clients ∙ count) (subst (λ n. IsProgressOf core (new_progress n)) count made.progress) made.board none refl refl;

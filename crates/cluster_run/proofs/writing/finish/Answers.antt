@@ -4,31 +4,11 @@ use Rattle.rc_base.specs.Outside.Ends.{use_of}
 use Rattle.assembler.specs.Assembled.{short_of}
 use Rattle.tile_queues.specs.Ends.{sent_in, taken_in}
 use Rattle.cluster_run.specs.Serving.{HasFinished, shown_in_lanes}
-use Rattle.cluster_run.proofs.Serving.{finished, front_now, front_then, unserved}
+use Rattle.cluster_run.proofs.Serving.{finished, gave_shown, unserved}
 use Rattle.cluster_run.proofs.writing.finish.Goals as goal
 
 pub write_rest-requires : goal.write_rest-requires
-write_rest-requires g c = c.in_ok-rests.ensures.count ∙ sym c.requires.paired.count ∙ c.args.frames.tiles
-
-pub returns-in_err-rests-clause-front : goal.returns-in_err-rests-clause-front
-returns-in_err-rests-clause-front g c l start on =
-    let frames = c.args.frames in
-    front_now g.K.Sink.held g.K.Sink.faults l start frames.writer frames.lanes.items c.args.parts.items c.requires.some c.requires.paired.count frames.tiles
-    c.args.image.now on
-
-pub returns-then-lacks-clause-front : goal.returns-then-lacks-clause-front
-returns-then-lacks-clause-front g c l start on =
-    let frames = c.args.frames in
-    front_then g.K.Sink.held g.K.Sink.faults l start frames.writer frames.lanes.items c.args.parts.items c.requires.some c.requires.paired.count frames.tiles
-    c.args.image.now on c.in_ok-rests.rests.items c.write_rest.new.rests.items c.in_ok-rests.ensures c.write_rest.new.writer c.write_rest.new.image
-    (c.write_rest.ensures.served _ _ _ (unserved sent_in taken_in g.K.Sink.held g.K.Sink.faults frames.writer c.in_ok-rests.rests.items c.args.image.now))
-
-pub returns-clause-front : goal.returns-clause-front
-returns-clause-front g c l start on =
-    let frames = c.args.frames in
-    front_then g.K.Sink.held g.K.Sink.faults l start frames.writer frames.lanes.items c.args.parts.items c.requires.some c.requires.paired.count frames.tiles
-    c.args.image.now on c.in_ok-rests.rests.items c.write_rest.new.rests.items c.in_ok-rests.ensures c.write_rest.new.writer c.write_rest.new.image
-    (c.write_rest.ensures.served _ _ _ (unserved sent_in taken_in g.K.Sink.held g.K.Sink.faults frames.writer c.in_ok-rests.rests.items c.args.image.now))
+write_rest-requires g c = c.join_list-rests.ensures.count ∙ sym c.requires.paired.count ∙ c.args.frames.tiles
 
 pub returns-clause-finished : goal.returns-clause-finished
 returns-clause-finished g c l start on =
@@ -37,13 +17,27 @@ returns-clause-finished g c l start on =
     let ample = or_parts (short_of w.assembler) w.lacking (sym c.lacks.ensures ∙ c.if-lacks.false) in
     subst (HasFinished l (shown_in_lanes c.args.parts.items) (use_of g.K.Sink.held g.K.Sink.faults start c.write_rest.new.image)) (sym c.written.ensures)
     (finished g.K.Sink.held g.K.Sink.faults l start frames.writer frames.lanes.items c.args.parts.items c.requires.some c.requires.paired.count frames.tiles
-    c.args.image.now on c.in_ok-rests.rests.items c.write_rest.new.rests.items c.in_ok-rests.ensures w c.write_rest.new.image
-    (c.write_rest.ensures.served _ _ _ (unserved sent_in taken_in g.K.Sink.held g.K.Sink.faults frames.writer c.in_ok-rests.rests.items c.args.image.now)) ample.0 ample.1 (c.write_rest.ensures.missing ample.0))
+    c.args.image.now on c.join_list-rests.result.items c.write_rest.new.rests.items c.join_list-rests.ensures w c.write_rest.new.image
+    (c.write_rest.ensures.served _ _ _ (unserved sent_in taken_in g.K.Sink.held g.K.Sink.faults frames.writer c.join_list-rests.result.items c.args.image.now)) ample.0 ample.1 (c.write_rest.ensures.missing ample.0))
 
 pub returns-then-lacks-clause-later : goal.returns-then-lacks-clause-later
 returns-then-lacks-clause-later g c =
-    (c.write_rest.ensures.served _ _ _ (unserved sent_in taken_in g.K.Sink.held g.K.Sink.faults c.args.frames.writer c.in_ok-rests.rests.items c.args.image.now)).later
+    (c.write_rest.ensures.served _ _ _ (unserved sent_in taken_in g.K.Sink.held g.K.Sink.faults c.args.frames.writer c.join_list-rests.result.items c.args.image.now)).later
 
 pub returns-clause-later : goal.returns-clause-later
 returns-clause-later g c =
-    (c.write_rest.ensures.served _ _ _ (unserved sent_in taken_in g.K.Sink.held g.K.Sink.faults c.args.frames.writer c.in_ok-rests.rests.items c.args.image.now)).later
+    (c.write_rest.ensures.served _ _ _ (unserved sent_in taken_in g.K.Sink.held g.K.Sink.faults c.args.frames.writer c.join_list-rests.result.items c.args.image.now)).later
+
+pub returns-then-lacks-clause-shown : goal.returns-then-lacks-clause-shown
+returns-then-lacks-clause-shown g c l start on =
+    let frames = c.args.frames in
+    gave_shown g.K.Sink.held g.K.Sink.faults l start frames.writer frames.lanes.items c.args.parts.items c.requires.some c.requires.paired.count frames.tiles
+    c.args.image.now on c.join_list-rests.result.items c.write_rest.new.rests.items c.join_list-rests.ensures c.write_rest.new.writer c.write_rest.new.image
+    (c.write_rest.ensures.served _ _ _ (unserved sent_in taken_in g.K.Sink.held g.K.Sink.faults frames.writer c.join_list-rests.result.items c.args.image.now))
+
+pub returns-clause-shown : goal.returns-clause-shown
+returns-clause-shown g c l start on =
+    let frames = c.args.frames in
+    gave_shown g.K.Sink.held g.K.Sink.faults l start frames.writer frames.lanes.items c.args.parts.items c.requires.some c.requires.paired.count frames.tiles
+    c.args.image.now on c.join_list-rests.result.items c.write_rest.new.rests.items c.join_list-rests.ensures c.write_rest.new.writer c.write_rest.new.image
+    (c.write_rest.ensures.served _ _ _ (unserved sent_in taken_in g.K.Sink.held g.K.Sink.faults frames.writer c.join_list-rests.result.items c.args.image.now))

@@ -1,5 +1,6 @@
 use Rattle.std.proofs.Common.{Some, None, ap, sym, subst, ◌∙◌}
 use Rattle.std.specs.Prelude.{Option}
+use Rattle.frame_out.proofs.Prefixes.{on_err}
 use Rattle.tile_queues.specs.Ends.{lane_out, taken_of}
 use Rattle.cluster_run.specs.Clusters.{HasRun}
 use Rattle.cluster_run.specs.Serving.{IsServed}
@@ -25,6 +26,13 @@ returns-in_err-run_beside-clause-served g c =
     subst (λ (x : OnTheWay g.row.R.Denot × g.row.K.Denot). IsServed g.K.Sink.held g.K.Sink.faults old c.args.image.now x.0 x.1)
     (λ i. (sym frames_are i, sym image_is i))
     (unserved lane_out taken_of g.K.Sink.held g.K.Sink.faults old.writer old.lanes.items c.args.image.now)
+
+pub returns-in_err-run_beside-clause-untouched : goal.returns-in_err-run_beside-clause-untouched
+returns-in_err-run_beside-clause-untouched g c =
+    let image = c.image-1.given in
+    let same = c.in_err-run_beside.ensures.lacked in
+    on_err c.from_residual.result
+    (image.1 (ap (λ (w : Writing g.row.K.Denot g.row.R.Denot). w.image.ghost_name) (sym same)) ∙ ap (λ (w : Writing g.row.K.Denot g.row.R.Denot). w.image.now) same)
 
 pub returns-clause-ended : goal.returns-clause-ended
 unfolding given

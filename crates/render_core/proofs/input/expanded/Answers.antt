@@ -3,7 +3,6 @@ use Rattle.rc_base.specs.Formats.Limits.{commands_in}
 use Rattle.rc_base.specs.declared.scene.Scene.{Scene}
 use Rattle.call_lists.specs.Expansion.{TellsTooLong}
 use Rattle.call_lists.specs.Scenes.{met_in}
-use Rattle.render_core.specs.Scenes.{Lists, meant}
 use Rattle.render_core.proofs.Inputs.{costs_too_long, counted, expanded_is, judged_whole, past_streams, read_window, stored_whole, streams_short}
 use Rattle.render_core.proofs.input.expanded.Goals as goal
 

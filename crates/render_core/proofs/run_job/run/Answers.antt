@@ -4,7 +4,7 @@ use Rattle.run_words.specs.Jobs.{AskPlainly, task_of}
 use Rattle.render_core.proofs.BehindFilters.{empty_ready, line_of, no_rules}
 use Rattle.render_core.proofs.Endings.{same_task}
 use Rattle.render_core.proofs.Finished.{task_ended, unasked_ended}
-use Rattle.render_core.proofs.Finishing.{jobless_usage, left_alone, taskless}
+use Rattle.render_core.proofs.Finishing.{jobless_usage, taskless}
 use Rattle.render_core.proofs.run_job.run.Goals as goal
 
 pub returns-in-Err : goal.returns-in-Err
@@ -62,8 +62,3 @@ returns g c =
 
 pub perform_in_threads-performed-requires-clause-ready : goal.perform_in_threads-performed-requires-clause-ready
 perform_in_threads-performed-requires-clause-ready g c κs within = empty_ready _ _ c.new-chain.ensures.items
-
-pub returns-then-not-is_threaded-clause-memory : goal.returns-then-not-is_threaded-clause-memory
-returns-then-not-is_threaded-clause-memory g c = λ seven.
-    left_alone _ (AskPlainly c.args.words.now) (use_of g.S.Source.left g.S.Source.faults c.args.source.now c.run_alone.new.source)
-    (use_of g.K.Sink.held g.K.Sink.faults c.args.image.now c.run_alone.new.image) (c.run_alone.ensures.memory seven)

@@ -5,7 +5,6 @@ use Rattle.render_core.proofs.BehindFilters.{empty_ready, line_of, no_rules}
 use Rattle.render_core.proofs.Endings.{same_task}
 use Rattle.render_core.proofs.Finished.{task_ended, unasked_ended}
 use Rattle.render_core.proofs.Finishing.{jobless_usage, taskless}
-use Rattle.render_core.proofs.Threaded.{left_without_threads}
 use Rattle.render_core.proofs.run_job.run_alone.Goals as goal
 
 pub returns-in-Err : goal.returns-in-Err
@@ -28,7 +27,7 @@ returns-in-Err g c =
       unread = ended.unread;
       untouched = ended.untouched;
       blank = ended.blank;
-      memory = λ seven. left_without_threads _ c.args.words.now _ _ c.requires (ended.memory seven);
+      memory = ended.memory;
       silent = ended.silent;
       later_source = omega arith;
       later_image = omega arith;
@@ -54,7 +53,7 @@ returns g c =
       unread = ended.unread;
       untouched = ended.untouched;
       blank = ended.blank;
-      memory = λ seven. left_without_threads _ c.args.words.now _ _ c.requires (ended.memory seven);
+      memory = ended.memory;
       silent = ended.silent;
       later_source = c.perform-performed.ensures.later_source;
       later_image = c.perform-performed.ensures.later_image;

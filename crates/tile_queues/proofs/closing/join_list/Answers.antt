@@ -4,7 +4,7 @@ use Rattle.std.specs.Vec.Iter.{into_iter_items, into_iter_len}
 use Rattle.rc_base.proofs.Paired.{each_push}
 use Rattle.tile_queues.specs.Ends.{lane_in, lane_out}
 use Rattle.tile_queues.specs.Grids.{IsJoined}
-use Rattle.tile_queues.proofs.closing.join_each.Goals as goal
+use Rattle.tile_queues.proofs.closing.join_list.Goals as goal
 
 -- what is left of a list from a place on: its first item, and what is left then
 first_is : {A : Type 0} (xs left later : List A) (x : A) (n m : ℕ) → ((k : ℕ) (d : A) → k < m → get_or left k d ≡ get_or xs (n + k) d) → left ≡ x ∷ later → 0 < m

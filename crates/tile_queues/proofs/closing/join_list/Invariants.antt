@@ -1,7 +1,7 @@
 use Rattle.std.proofs.Common.{◌≡◌, ◌≤◌, ℕ, vec_len, vec_capacity, get_or, ◌+◌, ◌<◌}
 use Rattle.std.specs.Vec.Iter.{into_iter_items, into_iter_len}
 use Rattle.tile_queues.specs.Grids.{IsJoined}
-use Rattle.tile_queues.proofs.closing.join_each.Given as goal
+use Rattle.tile_queues.proofs.closing.join_list.Given as goal
 
 abbrev pub invariant-loop-a : goal.invariant-loop-a
 invariant-loop-a g l = record {

@@ -1,0 +1,9 @@
+pub mod Completed
+pub mod GoOn
+pub mod Fronts
+pub mod LongerJournals
+pub mod OpenTiles
+pub mod TilesShow
+pub mod SentSoFar
+pub mod ShownParts
+pub mod ShownImages

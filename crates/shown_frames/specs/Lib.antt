@@ -1,0 +1,4 @@
+pub mod Unfinished
+pub mod Shown
+pub mod Clusters
+pub mod Images
