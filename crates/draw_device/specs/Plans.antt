@@ -1,5 +1,5 @@
 -- What is settled once a block, and once a triangle.
-use Rattle.std.specs.Prelude.{◌≡◌, true, false, List, ℤ, Option, None, Some}
+use Rattle.std.specs.Prelude.{◌≡◌, ⊤, true, false, List, ℤ, Option, None, Some}
 use Rattle.std.proofs.Props.{props}
 use Rattle.rc_base.specs.Pictures.{Picture}
 use Rattle.rc_base.specs.Drawing.PixelStep.{textured, written_color}
@@ -146,3 +146,4 @@ abbrev pub IsPaint : State → Option Picture → List WindowVertex → ℤ → 
 IsPaint s p v x y (paint.Fill color) = AreStored s p v × AreFlat v color
 IsPaint s p v x y (paint.Store plane) = AreStored s p v × IsColorPlane v x y plane.now
 IsPaint s p v x y (paint.Stages stages) = AreStages s p v x y stages
+IsPaint s p v x y paint.Pixels = ⊤

@@ -1,5 +1,5 @@
 -- What a block and a triangle are drawn with, and what rows of their fragments leave.
-use Rattle.std.specs.Prelude.{◌≡◌, ℕ, ◌+◌, List, Bool, Option, ℤ, pos}
+use Rattle.std.specs.Prelude.{ℕ, ◌+◌, List, Bool, ℤ, pos}
 use Rattle.rc_base.specs.Drawing.Texel.{wrap_in_s, wrap_in_t}
 use Rattle.rc_base.specs.Drawing.Pieces.{kept_corners_of}
 use Rattle.rc_base.specs.declared.command.Rgba.{Rgba}

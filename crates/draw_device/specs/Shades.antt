@@ -1,5 +1,5 @@
 -- The colours of a row's fragments, one by one, and how they are written.
-use Rattle.std.specs.Prelude.{◌≡◌, ℕ, ◌+◌, ◌<◌, ◌≤◌, List, Bool, true, false, Option, None}
+use Rattle.std.specs.Prelude.{◌≡◌, ℕ, ◌<◌, ◌≤◌, List, Bool, true, false, Option, None}
 use Rattle.rc_base.specs.Pictures.{Picture}
 use Rattle.rc_base.specs.Drawing.PixelStep.{fragment_color, written_color}
 use Rattle.rc_base.specs.declared.command.Rgba.{Rgba}

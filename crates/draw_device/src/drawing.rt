@@ -28,7 +28,8 @@ use crate::columns::{color_rise, fill_column, is_few, step_column};
 use crate::grid::{Extent, Grid, Spare};
 use crate::paint::Paint;
 use crate::prepare::{
-    plan_of, shared_at, source_of, stores_colors, takes_no_test, tests_of, untextured_color,
+    is_tiny, plan_of, shared_at, source_of, stores_colors, takes_no_test, tests_of,
+    untextured_color,
 };
 use crate::prepared::Prepared;
 use crate::rows::draw_row;
@@ -277,6 +278,10 @@ impl Grid {
         ensures extent { self.new.extent ≡ self.old.extent }
         ensures drawn { IsDrawnBy (triangle_of block.now tri.now) self.old self.new }
     {
+        if is_tiny(tri) {
+            self.draw_settled(block, tri, rows, Paint::Pixels);
+            return;
+        }
         let shared = shared_at(tri, self.extent.left, self.extent.bottom);
         let plane = color_plane(tri, &shared);
         let paint = Paint::Store(&plane);
@@ -308,6 +313,10 @@ impl Grid {
                 self.draw_settled(block, tri, rows, paint);
                 return;
             }
+        }
+        if is_tiny(tri) {
+            self.draw_settled(block, tri, rows, Paint::Pixels);
+            return;
         }
         let shared = shared_at(tri, self.extent.left, self.extent.bottom);
         let source = source_of(block.state, block.texture, block.plan, tri, flat, &shared);

@@ -8,8 +8,8 @@
 //! MODULATE, their products with the triangle's. Where there is an alpha test they are flagged by it. Then they become what is to be written: left as
 //! they are, or blended with the stored colours by any two factors, and written by the colour mask. Then they are put into the pixels, where the
 //! tests pass. Each loop does one thing to all columns, so that most take several at once. What the depth test hides at a row's beginning is skipped
-//! before. Colours that are stored alone skip the layout. No state is gone through fragment by fragment; only a row beyond the reach of the planes'
-//! steps is, which no window has.
+//! before. Colours that are stored alone skip the layout. The state is gone through fragment by fragment only where a triangle is so small that its
+//! planes cost more than its pixels, and in a row beyond the reach of the planes' steps, which no window has.
 //!
 //! A triangle that covers no pixel of the rectangle is dropped before anything is prepared of it. One that stands in one column of it, and whose
 //! colours alone are stored, is drawn up that column.
@@ -53,6 +53,7 @@ mod source;
 mod stages;
 mod stepped;
 mod tests;
+mod visible;
 mod write;
 mod writes;
 

@@ -85,6 +85,14 @@ pub(crate) fn plan_of(state: &State) -> Plan
     }
 }
 
+// Twice the area of two pixels, in square sixteenths of a pixel.
+const TINY_AREA: i64 = 1_024;
+
+/// Whether a triangle is so small that its planes cost more than its pixels do, one by one. Many of these cover no pixel at all.
+pub(crate) fn is_tiny(tri: &WindowTriangle) -> bool {
+    tri.area <= TINY_AREA
+}
+
 /// What all attributes of a triangle share, from pixel (`left`, `bottom`) on.
 pub(crate) fn shared_at(tri: &WindowTriangle, left: u16, bottom: u16) -> TriangleSetup
     ensures { IsTriangleSetup tri.now.v (pos left) (pos bottom) result }

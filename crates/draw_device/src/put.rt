@@ -78,8 +78,8 @@ fn chosen_row(colors: &mut [Rgba], depths: &[u32], spare: &mut Spare, setup: &Se
     );
 }
 
-// A row of fragments that take the depth test alone.
-fn tested_row(
+/// A row of fragments that take the depth test alone.
+pub(crate) fn tested_row(
     colors: &mut [Rgba],
     depths: &mut [u32],
     spare: &mut Spare,

@@ -2,7 +2,7 @@
 ghost use Rattle.std.specs.Prelude.{◌≡◌, ◌≤◌, length, pos};
 ghost use Rattle.raster.specs.Colors.{IsColorPlane};
 ghost use Rattle.draw_device.specs.Loops.{IsCoveredRow, IsGridRow, IsRunCovered, IsVisibleFrom};
-ghost use Rattle.draw_device.specs.Setups.{AreStagesOf, IsRowDrawnUp, IsPaintOf, IsRowDrawn, IsStoredBy, IsTestsOf};
+ghost use Rattle.draw_device.specs.Setups.{AreDepthTestedBy, AreStagesOf, IsRowDrawnUp, IsPaintOf, IsRowDrawn, IsSourceOf, IsStoredBy, IsTestsOf};
 
 use crate::colors::{fill_colors, step_colors};
 use crate::columns::is_few;
@@ -10,15 +10,16 @@ use crate::fragments::color_row;
 use crate::grid::Spare;
 use crate::hidden::first_passing;
 use crate::paint::Paint;
-use crate::put::put_row;
+use crate::put::{put_row, tested_row};
 use crate::run::Run;
 use crate::setup::Setup;
 use crate::shade::draw_run;
 use crate::short_rows::{draw_short, is_short, laid_by, shades_of};
+use crate::source::Source;
 use crate::stages::Stages;
 use crate::stepped::color_ramp;
 use crate::tests::Tests;
-use raster::ColorPlane;
+use raster::{ColorPlane, WordPlane};
 use rc_base::command::Rgba;
 
 // The first column of the run that the depth test doesn't hide, or the run's end.
@@ -28,11 +29,10 @@ fn first_visible(depths: &[u32], setup: &Setup<'_>, tests: &Tests, run: Run) -> 
     requires tests { IsTestsOf setup.now run tests.now }
     ensures { IsVisibleFrom setup.now.state.now setup.now.tri.now.v run depths.now result }
 {
-    match tests {
-        Tests::Depth(plane) => first_passing(depths, setup, plane, run),
-        Tests::Both(plane) => first_passing(depths, setup, plane, run),
-        _ => run.from,
+    if let Tests::Both(plane) = tests {
+        return first_passing(depths, setup, plane, run).from;
     }
+    run.from
 }
 
 // A row of a triangle of several colours that are stored alone.
@@ -46,8 +46,48 @@ fn store_row(colors: &mut [Rgba], depths: &[u32], setup: &Setup<'_>, plane: &Col
     step_colors(colors, setup.tri, run, color_ramp(plane, run));
 }
 
+// A row of a triangle whose fragments take the depth test alone.
+fn depth_row(
+    colors: &mut [Rgba],
+    depths: &mut [u32],
+    spare: &mut Spare,
+    setup: &Setup<'_>,
+    source: &Source<'_>,
+    plane: &WordPlane,
+    run: Run,
+)
+    requires row { IsCoveredRow setup.now.tri.now.v run colors.old depths.old }
+    requires room { run.to ≤ length spare.old.colors.items }
+    requires source { IsSourceOf setup.now run source.now }
+    requires tested { AreDepthTestedBy setup.now run plane.now }
+    ensures spare { length spare.new.colors.items ≡ length spare.old.colors.items }
+    ensures drawn { IsRowDrawn setup.now run colors.old depths.old colors.new depths.new }
+{
+    let seen = first_passing(depths, setup, plane, run);
+    if seen.from == run.to {
+        return;
+    }
+    let run = Run {
+        left: run.left,
+        bottom: run.bottom,
+        row: run.row,
+        up: run.up,
+        from: seen.from,
+        to: run.to,
+    };
+    if is_short(run) {
+        if let Some(over) = laid_by(setup) {
+            if let Some(shades) = shades_of(setup, source, run) {
+                draw_short(colors, depths, setup, seen.depths, shades, over, run);
+                return;
+            }
+        }
+    }
+    color_row(spare.colors.as_mut_slice(), setup, source, run);
+    tested_row(colors, depths, spare, setup, plane, run);
+}
+
 // A row of a triangle by its stages.
-#[inline(never)]
 fn stage_row(
     colors: &mut [Rgba],
     depths: &mut [u32],
@@ -62,6 +102,10 @@ fn stage_row(
     ensures spare { length spare.new.colors.items ≡ length spare.old.colors.items }
     ensures drawn { IsRowDrawn setup.now run colors.old depths.old colors.new depths.new }
 {
+    if let Tests::Depth(plane) = stages.tests {
+        depth_row(colors, depths, spare, setup, stages.source, plane, run);
+        return;
+    }
     let from = first_visible(depths, setup, stages.tests, run);
     if from == run.to {
         return;
@@ -74,16 +118,6 @@ fn stage_row(
         from,
         to: run.to,
     };
-    if is_short(run) {
-        if let Tests::Depth(plane) = stages.tests {
-            if let Some(over) = laid_by(setup) {
-                if let Some(shades) = shades_of(setup, stages.source, run) {
-                    draw_short(colors, depths, setup, plane, shades, over, run);
-                    return;
-                }
-            }
-        }
-    }
     color_row(spare.colors.as_mut_slice(), setup, stages.source, run);
     put_row(colors, depths, spare, setup, stages.tests, run);
 }
@@ -140,5 +174,6 @@ pub(crate) fn draw_row(
             };
             stage_row(colors, depths, spare, setup, stages, run);
         }
+        Paint::Pixels => draw_run(colors, depths, setup, row, from, to),
     }
 }

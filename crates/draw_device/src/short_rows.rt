@@ -1,10 +1,11 @@
 //! Short rows of a triangle whose fragments take the depth test alone and whose colours no texture changes: pixel by pixel, since a pass over the row
 //! for each stage costs more than its pixels do.
-ghost use Rattle.std.specs.Prelude.{◌≡◌, ◌+◌, ◌<◌, ◌≤◌, ◌^◌, pos, true, IfSome};
+ghost use Rattle.std.specs.Prelude.{◌≡◌, ◌+◌, ◌<◌, ◌≤◌, ◌^◌, pos, true, false, IfSome};
 ghost use Rattle.rc_base.specs.Drawing.Cover.{is_inside};
 ghost use Rattle.rc_base.specs.Drawing.PixelStep.{fragment_color, written_color};
-ghost use Rattle.draw_device.specs.Loops.{run_fragment, IsCoveredRow, IsRunCovered};
-ghost use Rattle.draw_device.specs.Setups.{AreDepthTestedBy, IsRowDrawn, IsSourceOf};
+ghost use Rattle.raster.specs.Colors.{HasDepths};
+ghost use Rattle.draw_device.specs.Loops.{run_fragment, IsCoveredRow, IsDepthAt, IsRunCovered};
+ghost use Rattle.draw_device.specs.Setups.{IsRowDrawn, IsSourceOf};
 ghost use Rattle.draw_device.specs.Shades.{AreShades, IsLaid, AreNextShades};
 
 use crate::pixels::test_step;
@@ -12,10 +13,10 @@ use crate::run::Run;
 use crate::setup::Setup;
 use crate::shades::Shades;
 use crate::source::Source;
-use crate::stepped::{color_by, color_ramp, depth_by, value_ramp};
+use crate::stepped::{color_by, color_ramp, depth_by};
 use crate::write::Write;
 use fragment_ops::blend_over;
-use raster::WordPlane;
+use raster::WordRamp;
 use rc_base::command::Rgba;
 
 // How many pixels a short row has at most.
@@ -91,24 +92,26 @@ fn laid(setup: &Setup<'_>, over: bool, color: Rgba, stored: Rgba) -> Rgba
     }
 }
 
-/// A row of fragments of these colours that take the depth test alone.
+/// A row of fragments of these colours and depths that take the depth test alone.
 pub(crate) fn draw_short(
     colors: &mut [Rgba],
     depths: &mut [u32],
     setup: &Setup<'_>,
-    plane: &WordPlane,
+    first_depths: WordRamp,
     first: Shades,
     over: bool,
     run: Run,
 )
     requires row { IsCoveredRow setup.now.tri.now.v run colors.old depths.old }
-    requires tested { AreDepthTestedBy setup.now run plane.now }
+    requires ranged { HasDepths setup.now.tri.now.v }
+    requires through { setup.now.state.now.alpha_on ≡ false }
+    requires depths { IsDepthAt setup.now.tri.now.v run run.from first_depths }
     requires shades { AreShades setup.now.state.now setup.now.texture.now setup.now.tri.now.v run run.from first }
     requires laid { IsLaid setup.now.state.now over }
     ensures { IsRowDrawn setup.now run colors.old depths.old colors.new depths.new }
 {
     let test = setup.plan.depth;
-    let mut ramp = value_ramp(plane, run);
+    let mut ramp = first_depths;
     let mut shades = first;
     for x in run.from..run.to {
         let place = x as usize;

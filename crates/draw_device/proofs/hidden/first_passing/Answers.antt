@@ -6,7 +6,7 @@ use Rattle.rc_base.specs.declared.window.WindowVertex.{WindowVertex}
 use Rattle.fragment_ops.specs.DepthTests.{pixel}
 use Rattle.draw_device.specs.Pixels.{depth_at}
 use Rattle.draw_device.specs.Shapes.{fragment_pixel}
-use Rattle.draw_device.specs.Loops.{run_fragment}
+use Rattle.draw_device.specs.Loops.{run_fragment, IsDepthAt}
 use Rattle.draw_device.proofs.Steps.{value_moved}
 use Rattle.draw_device.proofs.hidden.first_passing.Goals as goal
 
@@ -35,16 +35,16 @@ passes_step-requires c =
     let inside = c.requires.covered x (omega arith) (omega arith) in
     rw (to_z-of_z (record { sfits = c.depth_by-depth.type_inv }), c.depth_by-depth.ensures) (c.requires.depths.ranged (pos (r.left + x)) (pos r.row) inside)
 
-pub returns-then-passes_step : goal.returns-then-passes_step
-returns-then-passes_step c =
+pub returns-then-passes_step-clause-visible : goal.returns-then-passes_step-clause-visible
+returns-then-passes_step-clause-visible c =
     record {
       low = omega arith;
       high = omega arith;
       hidden = c.loop-x.invariant.hidden;
     }
 
-pub returns : goal.returns
-returns c =
+pub returns-clause-visible : goal.returns-clause-visible
+returns-clause-visible c =
     let order = c.args.run.order in
     let e = c.loop-x.auto.x-end order in
     record {
@@ -52,3 +52,10 @@ returns c =
       high = omega arith;
       hidden = λ p color k m n. c.loop-x.invariant.hidden p color k m (omega arith);
     }
+
+pub returns-clause-depths : goal.returns-clause-depths
+returns-clause-depths c =
+    let order = c.args.run.order in
+    let e = c.loop-x.auto.x-end order in
+    let same : c.loop-x.x ≡ c.args.run.to = omega arith in
+    subst (λ (k : ℕ). IsDepthAt c.args.setup.now.tri.now.v c.args.run k c.loop-x.ramp) same c.loop-x.invariant.ramp

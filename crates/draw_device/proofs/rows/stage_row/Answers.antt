@@ -33,15 +33,3 @@ returns-clause-drawn c =
       depths = d.depths;
       drawn = drawn_behind s.state.now s.texture.now s.tri.now.v a.run _ a.colors.now a.depths.now _ c.requires.row.alike h d.drawn;
     }
-
-pub returns-in-Some-shades_of-clause-drawn : goal.returns-in-Some-shades_of-clause-drawn
-returns-in-Some-shades_of-clause-drawn c =
-    let a = c.args in
-    let s = a.setup.now in
-    let h = c.first_visible-from.ensures in
-    let d = c.draw_short.ensures in
-    record {
-      colors = d.colors;
-      depths = d.depths;
-      drawn = drawn_behind s.state.now s.texture.now s.tri.now.v a.run _ a.colors.now a.depths.now _ c.requires.row.alike h d.drawn;
-    }

@@ -1,10 +1,9 @@
-use Rattle.std.proofs.Common.{◌≡◌, ℕ, ◌+◌, ◌∙◌, List, Option, pos, arith, sym, subst, length-set, to_z-of_z, FitsSigned, w32}
+use Rattle.std.proofs.Common.{ℕ, ◌+◌, ◌∙◌, List, Option, pos, arith, sym, subst, length-set, to_z-of_z, FitsSigned, w32}
 use Rattle.rc_base.specs.Pictures.{Picture}
 use Rattle.rc_base.specs.declared.state.State.{State}
 use Rattle.rc_base.specs.declared.window.WindowVertex.{WindowVertex}
 use Rattle.draw_device.specs.Shapes.{fragment_pixel}
 use Rattle.draw_device.specs.Loops.{run_fragment}
-use Rattle.draw_device.proofs.Lists.{pixel_in}
 use Rattle.draw_device.proofs.Runs.{run_pixel, run_end}
 use Rattle.draw_device.specs.Shades.{AreShades, AreNextShades}
 use Rattle.draw_device.specs.declared.run.Run.{Run}
@@ -40,7 +39,7 @@ test_step-requires c =
     let r = c.args.run in
     let x = c.loop-x.x in
     let inside = c.requires.row.covered x (omega arith) (omega arith) in
-    rw (to_z-of_z (record { sfits = c.depth_by-depth.type_inv }), c.depth_by-depth.ensures) (c.requires.tested.depths.ranged (pos (r.left + x)) (pos r.row) inside)
+    rw (to_z-of_z (record { sfits = c.depth_by-depth.type_inv }), c.depth_by-depth.ensures) (c.requires.ranged (pos (r.left + x)) (pos r.row) inside)
 
 next_shades : (s : State) (p : Option Picture) (v : List WindowVertex) (r : Run) (k : ℕ) (old new : Shades) → AreShades s p v r k old → AreNextShades old new → AreShades s p v r (k + 1) new
 next_shades s p v r k (shades.One color) new h n = subst (λ (z : Shades). AreShades s p v r (k + 1) z) (sym n) h
@@ -62,7 +61,7 @@ loop-x-preserved c =
     let f = run_fragment v r x in
     let fit : FitsSigned w32 c.depth_by-depth.result = record { sfits = c.depth_by-depth.type_inv } in
     let color = rw c.shade_by-shade.ensures at c.laid-color.ensures in
-    let e = c.test_step.ensures s p f a.setup.now.planned.depth (through_passes s _ c.requires.tested.through) color (to_z-of_z fit ∙ c.depth_by-depth.ensures) in
+    let e = c.test_step.ensures s p f a.setup.now.planned.depth (through_passes s _ c.requires.through) color (to_z-of_z fit ∙ c.depth_by-depth.ensures) in
     record {
       colors = length-set _ _ _ ∙ i.colors;
       depths = length-set _ _ _ ∙ i.depths;

@@ -1,4 +1,4 @@
-use Rattle.std.proofs.Common.{ℕ, ◌∙◌, ap, sym, Option}
+use Rattle.std.proofs.Common.{◌∙◌, ap, sym, Option}
 use Rattle.rc_base.specs.Pictures.{Picture}
 use Rattle.rc_base.specs.Drawing.PixelStep.{fragment_color}
 use Rattle.draw_device.specs.Loops.{run_fragment}
