@@ -105,8 +105,10 @@ class Strokes:
         if self.setting.values["GL_POINT_SMOOTH"]:
             self.smooth_point(x, y, z, corner)
             return
-        half = max(1, round(self.setting.values["point_size"])) / 2
-        self.quad((x - half, y, z), (x + half, y, z), corner, corner, (0.0, half))
+        side = max(1, math.floor(self.setting.values["point_size"] + 0.5))
+        x, y = (first_pixel(place, side) for place in (x, y))
+        self.quad((x, y + side / 2, z), (x + side, y + side / 2, z), corner, corner,
+                  (0.0, side / 2))
 
     def line(self, a, b):
         if self.setting.values["GL_LINE_SMOOTH"]:
@@ -239,6 +241,14 @@ class Strokes:
         coordinates = [made[id(corner)][1] for _, _, _, corner in corners] if self.level else None
         self.machine.add(block_of(self.setting.state(self.level, cull=False), mode, places, colors,
                                   coordinates), mode, places)
+
+
+def first_pixel(place, side):
+    """The first of the whole pixels, so many, that a point covers which isn't smooth: it has a
+    pixel in its middle, or the corner of four where the number is even. Mesa has places in 256ths.
+    """
+    place = round(256 * place) / 256
+    return math.floor(place) - side // 2 if side % 2 else math.floor(place + 0.5) - side // 2
 
 
 def color_at(line, along, u):

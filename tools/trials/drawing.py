@@ -111,6 +111,18 @@ class Primitives(unittest.TestCase):
         block, = scene(("glPointSize", 4.0), *primitive("GL_POINTS", (10, 20))).blocks
         self.assertEqual(places(block), [(8, 18), (12, 18), (12, 22), (8, 22)])
 
+    def test_a_point_that_is_not_smooth_covers_whole_pixels(self):
+        # An odd number of them around the one that it is in, an even number around the corner of
+        # four that is nearest; the size is rounded.
+        for size, place, low, side in ((1.0, (10.9, 20.1), (10, 20), 1),
+                                       (3.0, (10.9, 20.1), (9, 19), 3),
+                                       (2.0, (10.4, 20.6), (9, 20), 2),
+                                       (2.5, (10.4, 20.6), (9, 19), 3),
+                                       (1.0, (10.999, 20.0), (11, 20), 1)):
+            block, = scene(("glPointSize", size), *primitive("GL_POINTS", place)).blocks
+            (x, y), high = low, tuple(z + side for z in low)
+            self.assertEqual(places(block), [low, (high[0], y), high, (x, high[1])], (size, place))
+
     def test_a_polygon_in_lines_draws_each_edge_once(self):
         calls = primitive("GL_TRIANGLES", (8, 8), (24, 8), (8, 24), (24, 8), (24, 24), (8, 24))
         blocks = scene(("glPolygonMode", "GL_FRONT_AND_BACK", "GL_LINE"), *calls).blocks
