@@ -85,10 +85,14 @@ class Display:
 
 
 def swaps(path):
-    """The numbers of the calls that end frames."""
-    told = subprocess.run(["apitrace", "dump", "--calls=frame", "--color=never", str(path)],
-                          stdout=subprocess.PIPE, stderr=subprocess.DEVNULL).stdout.decode()
-    return [int(line.split()[0]) for line in told.splitlines() if "SwapBuffers" in line]
+    """The numbers of the calls that end frames, which are kept beside a trace."""
+    told = path.with_suffix(".swaps")
+    if not told.exists() or told.stat().st_mtime < path.stat().st_mtime:
+        lines = subprocess.run(["apitrace", "dump", "--calls=frame", "--color=never", str(path)],
+                               stdout=subprocess.PIPE, stderr=subprocess.DEVNULL).stdout.decode()
+        told.write_text("".join(line.split()[0] + "\n" for line in lines.splitlines()
+                                if "SwapBuffers" in line))
+    return list(map(int, told.read_text().split()))
 
 
 def own_frame(program, path, calls, options, environment):

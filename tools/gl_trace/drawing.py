@@ -3,6 +3,7 @@
 Where nothing is to be cut a strip or a fan stays one block; else its polygons are taken one by
 one. Which vertices a polygon has, and which gives its colour where it is flat, is as Mesa has it.
 """
+import itertools
 import math
 
 from .baking import Baked, pixels_in
@@ -18,6 +19,7 @@ from .strokes import Strokes, is_front
 
 BLOCK = 240         # vertices of a block of single triangles: small blocks have small boxes
 MOST_PARTS = 256    # of a texture, that a primitive reaches
+DENSE = 0.5         # texels in a pixel, along a side, from which on small steps of places show
 MOST_BAKED = 64     # polygons of a primitive that are laid on pixel by pixel
 FILLED = ("GL_FILL", "GL_FILL")     # front and back
 STROKES = ("GL_POINTS", "GL_LINES", "GL_LINE_STRIP", "GL_LINE_LOOP")
@@ -69,6 +71,13 @@ class Drawing:
         if not faces:
             return
         self.corners = shaded(setting, self.run, False)
+        groups = self.by_image(faces) if setting.texture else [faces]
+        for group in groups:
+            self.draw_faces(group, len(groups) == 1)
+
+    def draw_faces(self, faces, are_all):
+        """Draws polygons that have one image."""
+        setting = self.setting
         if setting.texture:
             self.choose_level(faces)
         if setting.values["polygon_mode"] != FILLED:
@@ -78,7 +87,7 @@ class Drawing:
         outside = self.outside()
         finer = None if outside is not None and all(outside) else self.finer(outside, faces)
         flat = setting.flat and any(c != self.corners.fronts[0] for c in self.corners.fronts)
-        every = setting.values["polygon_mode"] == FILLED
+        every = are_all and setting.values["polygon_mode"] == FILLED
         if every and not (outside or finer or flat or self.parts or self.baked or setting.two_sided
                           or setting.offset) and self.whole_block(faces):
             return
@@ -153,10 +162,30 @@ class Drawing:
                    for c, side in zip(zip(*coordinates), (level.width / level.times,
                                                           level.height / level.times)))
 
+    def by_image(self, faces):
+        """The polygons in their order, parted where another image of a mipmap is seen. They stay
+        together where that doesn't show, or where they are laid on pixel by pixel."""
+        setting, image = self.setting, self.setting.texture["image"]
+        if len(faces) == 1 or not setting.mipmapped() or contrast(image) <= FACTORS[0][0]:
+            return [faces]
+        bias = setting.bias()
+        if bias is not None and not self.machine.options.nearest \
+                and self.bakes(image, faces, True, bias):
+            self.baked = None
+            return [faces]
+        numbers = [self.number([face], image) for face in faces]
+        return [[face for face, _ in group] for _, group in
+                itertools.groupby(zip(faces, numbers), lambda pair: pair[1])]
+
+    def number(self, faces, image):
+        """Of the image of a mipmap that is seen."""
+        return max(0, int(math.log2(self.texels_in_a_pixel(faces, image)) + 0.5))
+
     def choose_level(self, faces):
-        """The image that the primitive's size in pixels asks for, whole or in parts."""
+        """The image that the size of polygons in pixels asks for, whole or in parts."""
         setting, options = self.setting, self.machine.options
         image, side = setting.texture["image"], options.texture_side
+        self.baked = self.parts = None
         size = self.texels_in_a_pixel(faces, image)
         bias = setting.bias()
         if bias is not None and size * 2 ** bias > 1 and contrast(image) > FACTORS[0][0] \
@@ -169,6 +198,11 @@ class Drawing:
         self.linear = setting.is_linear(size > 1)
         if self.linear and self.filtered(level, faces):
             return
+        if not self.linear and size > DENSE and contrast(level) > FACTORS[0][0]:
+            if not options.nearest and self.bakes(level, faces, False):
+                return
+            self.machine.concern("approximated", "a texture of about as many texels as pixels by "
+                                 "places in sixteenths of a pixel")
         if options.cut_textures and max(level.width, level.height) > side:
             reach = [max(c) - min(c) + 1 for c in zip(*self.corners.coordinates)]
             count = math.ceil(reach[0] * level.width / side) \

@@ -76,6 +76,11 @@ class Lighting:
         self.far = all(lamp.half and not lamp.spot for lamp in self.lamps)
         self.known, self.terms, self.kept = {}, {}, []
 
+    def shines(self, values):
+        """Whether a highlight is apart from the other colours, where there is any."""
+        return self.model.separate and any(any(lamp.light.specular[:3]) for lamp in self.lamps) \
+            and any(any(values[side].specular[:3]) for side in ("front", "back"))
+
     def tracked(self, side):
         """The fields of a side's material that the current colour stands for."""
         face, mode = self.tracks or ("", "")

@@ -1,5 +1,5 @@
 """What drawing needs of a context's state, made once for all primitives between two changes."""
-from .context import EVERY, LINES, NEARLY, POINTS, POLYGONS, WITHOUT
+from .context import EVERY, LINES, NEARLY, OTHER_TEXTURES, POINTS, POLYGONS, WITHOUT
 from .fog import FogLaw
 from .items import FACES, FACTORS, FUNCTIONS, State, channels
 from .lighting import Lighting, rows_of_normals
@@ -73,8 +73,10 @@ class Setting:
     def use_texture(self):
         """The texture that is sampled, how coordinates are made, and what texels do to colours."""
         values, machine = self.values, self.machine
-        names = [name for name in ("GL_TEXTURE_2D", "GL_TEXTURE_1D") if values[name]]
-        texture = machine.texture(names[0]) if names else None
+        names = [name for name in (*OTHER_TEXTURES, "GL_TEXTURE_2D", "GL_TEXTURE_1D")
+                 if values[name]]
+        is_drawn = names and names[0] not in OTHER_TEXTURES
+        texture = machine.texture(names[0]) if is_drawn else None
         self.texture = texture if texture and texture.get("image") else None
         if texture and "copied" in texture:
             self.told.append(("left out", texture["copied"], EVERY))
@@ -89,6 +91,8 @@ class Setting:
             self.told.append(("approximated", f"glTexGen({mode})", EVERY))
         if any(made and made.mode == "GL_SPHERE_MAP" for _, made in self.generated):
             self.normals = rows_of_normals(values, self.modelview)
+        if self.lighting and self.lighting.shines(values):
+            self.told.append(("approximated", "glLightModel(GL_SEPARATE_SPECULAR_COLOR)", EVERY))
         if self.texture.get("GL_TEXTURE_MAX_ANISOTROPY_EXT", 1) > 1:
             self.told.append(("approximated", "GL_TEXTURE_MAX_ANISOTROPY_EXT", POLYGONS))
         matrix = self.stacks["GL_TEXTURE"][-1]

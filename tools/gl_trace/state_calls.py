@@ -1,5 +1,5 @@
 """Calls that set values of a context: capabilities, attributes, lights, materials, fog, clears."""
-from .context import CAPABILITIES, GROUPS, NEARLY, OLDER, WITHOUT
+from .context import CAPABILITIES, GROUPS, MOST_POINT, NEARLY, OLDER, WITHOUT
 from .faults import Refused
 from .items import FACTORS, FUNCTIONS, Clear, channels
 from .lighting import TRACKED
@@ -15,6 +15,8 @@ LIGHT_FIELDS = {"GL_AMBIENT": "ambient", "GL_DIFFUSE": "diffuse", "GL_SPECULAR":
                 "GL_CONSTANT_ATTENUATION": "constant", "GL_LINEAR_ATTENUATION": "linear",
                 "GL_QUADRATIC_ATTENUATION": "quadratic"}
 MATERIAL_FIELDS = {**TRACKED, "GL_SHININESS": ("shininess",), "GL_COLOR_INDEXES": ()}
+POINT_FIELDS = {"GL_POINT_DISTANCE_ATTENUATION": "attenuation", "GL_POINT_SIZE_MIN": "least",
+                "GL_POINT_SIZE_MAX": "most"}
 BUFFERS = ("GL_COLOR_BUFFER_BIT", "GL_DEPTH_BUFFER_BIT")
 
 
@@ -172,7 +174,15 @@ class StateCalls:
         self.values["line_width"] = max(1.0, min(64.0, width))
 
     def do_PointSize(self, size):
-        self.values["point_size"] = max(1.0, min(256.0, size))
+        self.values["point_size"] = max(1.0, min(MOST_POINT, size))
+
+    def do_PointParameter(self, name, *numbers):
+        field = POINT_FIELDS.get(name)
+        if field:
+            value = tuple(map(float, numbers)) if field == "attenuation" else float(numbers[0])
+            self.values["point_law"] = self.values["point_law"]._replace(**{field: value})
+        else:
+            self.notes.left_out(f"glPointParameter({name})")
 
     def do_Clear(self, mask):
         if not self.wanted:
@@ -224,8 +234,8 @@ class StateCalls:
             model = model._replace(local=true(numbers[0]))
         elif name == "GL_LIGHT_MODEL_TWO_SIDE":
             model = model._replace(two_sided=true(numbers[0]))
-        elif "SEPARATE" in str(numbers[0]):
-            self.notes.approximated("glLightModel(GL_SEPARATE_SPECULAR_COLOR)")
+        elif name == "GL_LIGHT_MODEL_COLOR_CONTROL":
+            model = model._replace(separate="SEPARATE" in str(numbers[0]))
         self.values["model"] = model
 
     def set_material(self, face, fields, value):

@@ -20,6 +20,7 @@ SIDES = ((lambda v: v[3] - v[0], lambda v: v[0] > 2 * v[3]),
          (lambda v: v[3] + v[0], lambda v: -v[0] > 2 * v[3]),
          (lambda v: v[3] - v[1], lambda v: v[1] > 2 * v[3]),
          (lambda v: v[3] + v[1], lambda v: -v[1] > 2 * v[3]))
+SPRITE = ((0.0, 1.0), (1.0, 1.0), (1.0, 0.0), (0.0, 0.0))   # a point that has a whole texture
 
 
 class Strokes:
@@ -27,7 +28,7 @@ class Strokes:
 
     def __init__(self, machine, setting, run, corners=None, level=None):
         self.machine, self.setting, self.level = machine, setting, level
-        self.mode, self.corners = run.mode, corners
+        self.mode, self.corners, self.run = run.mode, corners, run
         self.whole = []     # where lines begin of which there are pieces, and which are smooth
         if corners is None:
             if setting.fog and run.mode != "GL_POINTS":
@@ -42,7 +43,7 @@ class Strokes:
         corners = self.corners
         if self.mode == "GL_POINTS":
             for i in range(len(corners.places)):
-                self.point(corners.corner(i))
+                self.point(corners.corner(i), self.size(i))
             return
         if self.whole:
             for first, last in zip(self.whole, self.whole[1:] + [len(corners.places)]):
@@ -70,7 +71,7 @@ class Strokes:
             if as_lines:
                 self.line(a, b)
             else:
-                self.point(a)
+                self.point(a, self.size(i))
 
     def cut_for_fog(self, run):
         """The same lines in pieces along which fog is nearly linear."""
@@ -96,16 +97,31 @@ class Strokes:
         return ((corner[0] / corner[3] + 1) * width / 2, (corner[1] / corner[3] + 1) * height / 2,
                 corner[2] / corner[3])
 
-    def point(self, corner):
+    def size(self, i):
+        """How large a point is, which may depend on how far away it is."""
+        law, size = self.setting.values["point_law"], self.setting.values["point_size"]
+        constant, linear, square = law.attenuation
+        if (linear, square) != (0.0, 0.0) or constant != 1.0:
+            far = abs(transform(self.setting.modelview, *self.run.points[i])[2])
+            fading = constant + far * (linear + far * square)
+            size = size / math.sqrt(fading) if fading > 0 else law.most
+        return max(law.least, min(law.most, size))
+
+    def point(self, corner, size):
         clips = self.setting.clips
         planes = [clips[i] for i in WITHOUT_SIDES] + clips[FIRST_OWN:]
         if not finite([corner]) or any(plane(corner) < 0 for plane in planes):
             return
         x, y, z = self.window(corner)
         if self.setting.values["GL_POINT_SMOOTH"]:
-            self.smooth_point(x, y, z, corner)
+            self.smooth_point(x, y, z, corner, size)
             return
-        side = max(1, math.floor(self.setting.values["point_size"] + 0.5))
+        if self.setting.values["GL_POINT_SPRITE"]:
+            half = size / 2
+            self.quad((x - half, y, z), (x + half, y, z), corner, corner, (0.0, half),
+                      SPRITE if self.setting.values["sprites"] else None)
+            return
+        side = max(1, math.floor(size + 0.5))
         x, y = (first_pixel(place, side) for place in (x, y))
         self.quad((x, y + side / 2, z), (x + side, y + side / 2, z), corner, corner,
                   (0.0, side / 2))
@@ -127,7 +143,7 @@ class Strokes:
         flat = abs(end[0] - start[0]) >= abs(end[1] - start[1])
         self.quad(start, end, a, b, (0.0, half) if flat else (half, 0.0))
 
-    def quad(self, start, end, a, b, side):
+    def quad(self, start, end, a, b, side, coordinates=None):
         """A quad from one end to the other, to both sides of the line between them."""
         _, _, width, height = self.setting.viewport
         across, up = 2 * side[0] / width, 2 * side[1] / height
@@ -138,13 +154,11 @@ class Strokes:
         first, second = a[4:8], b[4:8]
         if first == second:
             second = first
-        coordinates = None
-        if self.level:
+        if self.level and not coordinates:
             coordinates = (a[8:10], b[8:10], b[8:10], a[8:10])
         state = self.setting.state(self.level, cull=False)
         self.machine.add(block_of(state, FAN, places, (first, second, second, first),
                                   coordinates), FAN, places)
-
 
     # -- smooth ones --
 
@@ -203,10 +217,10 @@ class Strokes:
             corners += [corners[-1], strip[0], *strip] if corners else strip
         self.pieces(STRIP, corners)
 
-    def smooth_point(self, x, y, z, corner):
+    def smooth_point(self, x, y, z, corner, size):
         """The pixels of a round point, each with the coverage that Mesa gives its middle, where
         several in a row have one as one rectangle."""
-        radius = max(1.0, self.setting.values["point_size"] / 2)
+        radius = max(1.0, size / 2)
         least = (1 - 1 / radius) ** 2
         _, _, width, height = self.setting.viewport
         corners = []

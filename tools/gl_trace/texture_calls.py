@@ -1,9 +1,10 @@
 """Calls that name textures, give them images, and say how these are laid on."""
-from .context import Generation
+from .context import OTHER_TEXTURES, Generation
 from .faults import Refused
 from .images import Image, as_base, base_format, unpacked
 from .limits import MOST_IMAGE_SIDE, MOST_TEXELS
 from .matrices import inverse, plane_by
+from .state_calls import true
 
 TARGETS = {"GL_TEXTURE_1D": "texture1", "GL_TEXTURE_2D": "texture2"}
 
@@ -32,6 +33,8 @@ class TextureCalls:
         return self.values["unit"] != 0
 
     def do_BindTexture(self, target, name):
+        if target in OTHER_TEXTURES:
+            return      # what is drawn with one is told
         if target not in TARGETS:
             self.notes.left_out(f"glBindTexture({target})")
         elif not isinstance(name, int):
@@ -123,8 +126,12 @@ class TextureCalls:
     # -- how they are laid on --
 
     def do_TexEnv(self, target, name, *values):
-        if not self.beyond_first("glTexEnv") and name == "GL_TEXTURE_ENV_MODE":
+        if self.beyond_first("glTexEnv"):
+            return
+        if name == "GL_TEXTURE_ENV_MODE":
             self.values["environment"] = values[0]
+        elif name == "GL_COORD_REPLACE":
+            self.values["sprites"] = true(values[0])
 
     def do_TexGen(self, coordinate, name, *values):
         if self.beyond_first("glTexGen"):
