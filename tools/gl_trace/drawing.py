@@ -20,7 +20,7 @@ from .strokes import Strokes, is_front
 BLOCK = 240         # vertices of a block of single triangles: small blocks have small boxes
 MOST_PARTS = 256    # of a texture, that a primitive reaches
 DENSE = 0.5         # texels in a pixel, along a side, from which on small steps of places show
-MOST_BAKED = 64     # polygons of a primitive that are laid on pixel by pixel
+MOST_BAKED = 512    # polygons of a primitive that are laid on pixel by pixel
 FILLED = ("GL_FILL", "GL_FILL")     # front and back
 STROKES = ("GL_POINTS", "GL_LINES", "GL_LINE_STRIP", "GL_LINE_LOOP")
 POLYGONS = ("GL_TRIANGLES", "GL_TRIANGLE_STRIP", "GL_TRIANGLE_FAN", "GL_QUADS", "GL_QUAD_STRIP",

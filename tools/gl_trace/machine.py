@@ -197,6 +197,11 @@ class Machine(WindowCalls, StateCalls, MatrixCalls, TextureCalls, ListCalls, Ver
         self.concerns.append((kind, what))
         self.notes.weigh(kind, what, vertices=self.drawing)
 
+    def concern_once(self, kind, what):
+        """The same of what may be found several times in a primitive."""
+        if (kind, what) not in self.concerns:
+            self.concern(kind, what)
+
     def add(self, block, mode, places):
         """Keeps a block, unless the scene would have too many commands."""
         if block is None:

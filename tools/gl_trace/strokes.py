@@ -1,17 +1,21 @@
 """Points and lines as quads in the window, and the outlines of polygons.
 
 A line is widened across its lesser axis, as Mesa draws one without smoothing. A smooth one has
-edges of a pixel in which it fades, as Mesa's stage for smooth lines gives it coverage; of a smooth
-point the pixels are drawn, each with its own.
+edges of a pixel in which it fades, as Mesa's stage for smooth lines gives it coverage: it has an
+image of its pixels, or where there is no room a strip that fades. Of a smooth point the pixels are
+drawn, each with its own.
 """
 import math
 
 from .blocks import block_of
 from .clipping import cut, finite
+from .diamonds import ends_of
+from .filters import MOST_TEXELS
 from .items import FAN, STRIP, TRIANGLES
 from .matrices import transform
 from .setting import FIRST_DISTANCE, GUARD, TINY
 from .shading import Run, shaded
+from .smooth import SmoothLine
 
 WITHOUT_SIDES = (0, 1, 2)       # of a setting's planes: points are cut by these and its own
 FIRST_OWN = 7
@@ -20,6 +24,7 @@ SIDES = ((lambda v: v[3] - v[0], lambda v: v[0] > 2 * v[3]),
          (lambda v: v[3] + v[0], lambda v: -v[0] > 2 * v[3]),
          (lambda v: v[3] - v[1], lambda v: v[1] > 2 * v[3]),
          (lambda v: v[3] + v[1], lambda v: -v[1] > 2 * v[3]))
+WHITE = (255.0, 255.0, 255.0, 255.0)
 SPRITE = ((0.0, 1.0), (1.0, 1.0), (1.0, 0.0), (0.0, 0.0))   # a point that has a whole texture
 
 
@@ -121,7 +126,7 @@ class Strokes:
             self.quad((x - half, y, z), (x + half, y, z), corner, corner, (0.0, half),
                       SPRITE if self.setting.values["sprites"] else None)
             return
-        side = max(1, math.floor(size + 0.5))
+        side = max(1, math.ceil(size - 0.5))
         x, y = (first_pixel(place, side) for place in (x, y))
         self.quad((x, y + side / 2, z), (x + side, y + side / 2, z), corner, corner,
                   (0.0, side / 2))
@@ -139,9 +144,17 @@ class Strokes:
                 return
             a, b = ends[:2]
         start, end = self.window(a), self.window(b)
-        half = max(1, round(self.setting.values["line_width"])) / 2
-        flat = abs(end[0] - start[0]) >= abs(end[1] - start[1])
-        self.quad(start, end, a, b, (0.0, half) if flat else (half, 0.0))
+        width = max(1, math.floor(self.setting.values["line_width"] + 0.5))
+        found = ends_of(start[:2], end[:2], width)
+        if not found:
+            return
+        (*ends, side), way = found, zip(a, b)
+        way = [(x, y - x) for x, y in way]
+        places = [(x / 16, y / 16, start[2] + t * (end[2] - start[2])) for (x, y), t in ends]
+        corners = [[x + t * step for x, step in way] for _, t in ends]
+        for corner in corners:
+            corner[4:8] = (max(0.0, min(255.0, x)) for x in corner[4:8])
+        self.quad(*places, *corners, (side[0] / 16, side[1] / 16))
 
     def quad(self, start, end, a, b, side, coordinates=None):
         """A quad from one end to the other, to both sides of the line between them."""
@@ -185,37 +198,31 @@ class Strokes:
             self.smooth_line(line)
 
     def smooth_line(self, line):
-        """A line that fades over a pixel at each side and at each end, given by corners in order.
-        """
+        """Draws a line that fades, by images of its pixels where there is room for these."""
         places = [self.window(corner) for corner in line]
         if places[0] > places[-1]:  # so that a line drawn twice has the same depths both times
             places, line = places[::-1], line[::-1]
-        start, end = places[0], places[-1]
-        across, up = end[0] - start[0], end[1] - start[1]
-        length = math.hypot(across, up)
-        if not length:
+        made = SmoothLine(line, places, self.setting.values["line_width"], self.fades())
+        if not made.length:
             return
-        across, up = across / length, up / length
-        along = [((x - start[0]) * across + (y - start[1]) * up) / length for x, y, _ in places]
-        along[0], along[-1] = 0.0, 1.0
-        cover = Coverage(length, self.setting.values["line_width"], line[0][3], line[-1][3],
-                         self.fades())
-        rows = []
-        for u in sorted({*along, *cover.stations}):
-            corner = color_at(line, along, u)
-            place = u * (length + 1) - 0.5
-            rows.append([])
-            for side, covered in cover.sides(u):
-                faded = [*corner[:3], corner[3] * covered, *corner[4:]]
-                rows[-1].append((start[0] + place * across - side * up,
-                                 start[1] + place * up + side * across,
-                                 start[2] + (end[2] - start[2]) * u, faded))
-        corners = []
-        for low, high in zip(zip(*rows), list(zip(*rows))[1:]):
-            strip = [corner for both in zip(low, high) for corner in both]
-            # A strip goes on in the next one by triangles without an area.
-            corners += [corners[-1], strip[0], *strip] if corners else strip
-        self.pieces(STRIP, corners)
+        machine, (_, _, width, height) = self.machine, self.setting.viewport
+        if self.fades():
+            texels = made.texels()
+            if not self.level and machine.filtered[0] + texels <= MOST_TEXELS:
+                machine.filtered[0] += texels
+                for image, corners in made.pieces(width, height):
+                    self.imaged(image, corners)
+                return
+            machine.concern_once("approximated", "glEnable(GL_LINE_SMOOTH)")
+        self.pieces(STRIP, made.strip())
+
+    def imaged(self, image, corners):
+        """A quad with an image of its pixels, which has its edges too."""
+        _, _, width, height = self.setting.viewport
+        places = [(2 * x / width - 1, 2 * y / height - 1, z, 1.0) for x, y, z, _, _ in corners]
+        block = block_of(self.setting.state(image, parted=True, cull=False), FAN, places,
+                         [WHITE] * 4, [corner[3:] for corner in corners])
+        self.machine.add(block and block._replace(outline=0.0), FAN, places)
 
     def smooth_point(self, x, y, z, corner, size):
         """The pixels of a round point, each with the coverage that Mesa gives its middle, where
@@ -263,52 +270,6 @@ def first_pixel(place, side):
     """
     place = round(256 * place) / 256
     return math.floor(place) - side // 2 if side % 2 else math.floor(place + 0.5) - side // 2
-
-
-def color_at(line, along, u):
-    """Colour and coordinates of a line at a share of its length, by its corners there."""
-    k = next(i for i in range(1, len(line)) if u <= along[i])
-    a, b, span = line[k - 1], line[k], along[k] - along[k - 1]
-    share = (u - along[k - 1]) / span if span > 0 else 1.0
-    share = share * a[3] / ((1 - share) * b[3] + share * a[3])
-    return [x + (y - x) * share for x, y in zip(a[4:10], b[4:10])]
-
-
-class Coverage:
-    """How much of a pixel a smooth line covers, as Mesa has it: a quad that is half a pixel longer
-    at each end and wider at each side, in which the distances to its sides and ends are followed
-    in perspective, by two triangles with the quad's diagonal between them. Along the line places
-    are shares u of its length, `near` and `far` are 1 / w at its ends."""
-
-    def __init__(self, length, width, first, last, fades):
-        self.half, self.fades = max(1.0, (width + 1) / 2), fades
-        self.near, self.far = q, r = 1 / first, 1 / last
-        self.reach = length / 2 + 0.5 if length >= 1 else length
-        self.stations = []
-        if not fades:
-            return
-        if self.reach <= 1:
-            self.stations = [q / (q + r)]
-        else:
-            self.stations = [q / (2 * r * self.reach - r + q),
-                             1 - r / (2 * q * self.reach - q + r)]
-        if abs(q - r) > 0.02 * (q + r):     # where the borders of the fading go over the diagonal
-            self.stations += [q * (2 * self.half - 1) / (r - q + 2 * self.half * q),
-                              q / (2 * self.half * r - r + q)]
-
-    def sides(self, u):
-        """Pixels to the side, and how much is covered there."""
-        half = self.half
-        if not self.fades:
-            return (-half, 1.0), (half, 1.0)
-        q, r = self.near, self.far
-        mean = (1 - u) * q + u * r
-        along = max(0.0, min(1.0, self.reach * (1 - abs(u * r - (1 - u) * q) / mean)))
-        borders = []
-        for x in sorted({1 / half - 1, 1 - 1 / half}):
-            side = mean / q * (x + 1) - 1
-            borders.append(side if side <= 1 - 2 * u else 1 - mean / r * (1 - x))
-        return (-half, 0.0), *((half * max(-1.0, min(1.0, x)), along) for x in borders), (half, 0.0)
 
 
 def inside(corner):

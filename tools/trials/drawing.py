@@ -1,4 +1,5 @@
 """What is drawn where, and in which colours."""
+import math
 import unittest
 
 from .hand_traces import (BLUE, CLEAR, CORNERS, GREEN, PLANE, RED, SIX, SWAP, WINDOW, colors,
@@ -57,7 +58,7 @@ class Primitives(unittest.TestCase):
         block, = scene(*primitive("GL_TRIANGLES", (8, 8.5), (24.5, 8.5), (8, 24.46875))).blocks
         self.assertEqual([vertex.y for vertex in block.vertices], [135, 135, 392 - 0])
         line, = scene(*primitive("GL_LINES", (8, 9), (24, 9))).blocks
-        self.assertEqual({vertex.y for vertex in line.vertices}, {136, 152})
+        self.assertEqual({vertex.y for vertex in line.vertices}, {135, 151})
 
     def test_a_quad_strip_is_cut_from_its_first_vertex_to_its_fourth(self):
         block, = scene(("glEnable", "GL_CULL_FACE"),
@@ -99,8 +100,24 @@ class Primitives(unittest.TestCase):
     def test_a_line_is_a_quad_widened_across_its_lesser_axis(self):
         lines = primitive("GL_LINES", (8, 8), (24, 12), (8, 8), (12, 24))
         first, second = scene(("glLineWidth", 3.0), *lines).blocks
-        self.assertEqual(places(first), [(8, 6.5), (24, 10.5), (24, 13.5), (8, 9.5)])
-        self.assertEqual(places(second), [(6.5, 8), (10.5, 24), (13.5, 24), (9.5, 8)])
+        # An end lies anywhere between the middles of two pixels: where the line goes through a
+        # sixteenth, a quarter of a pixel before the ends here.
+        self.assertEqual(places(first), [(7.75, 6.4375), (23.75, 10.4375), (23.75, 13.4375),
+                                         (7.75, 9.4375)])
+        self.assertEqual(places(second), [(y, x) for x, y in places(first)])
+
+    def test_a_line_has_the_pixels_whose_diamonds_it_leaves(self):
+        # By the first column that it has and the one behind its last: it has pixel 8 where it
+        # begins in the diamond there, left or right of the middle, and not where it ends in one.
+        for first, last, columns in (((8.25, 8.5), (16.25, 8.5), (8, 16)),
+                                     ((8.75, 8.5), (16.75, 8.5), (8, 16)),
+                                     ((8.25, 8.1), (16.25, 8.1), (8, 16)),
+                                     ((8.75, 8.1), (16.75, 8.1), (9, 17)),
+                                     ((16.75, 8.5), (8.75, 8.5), (9, 17)),
+                                     ((8.75, 8.1), (9.25, 8.1), None)):
+            blocks = scene(*primitive("GL_LINES", first, last)).blocks
+            ends = [{math.ceil(x - 0.5) for x, _ in places(block)} for block in blocks]
+            self.assertEqual(ends, [set(columns)] if columns else [], (first, last))
 
     def test_a_loop_ends_where_it_began_and_a_flat_line_has_the_colour_of_its_end(self):
         loop = primitive("GL_LINE_LOOP", (8, 8), (24, 8), (24, 24), colors=SIX[:3])
@@ -117,7 +134,7 @@ class Primitives(unittest.TestCase):
         for size, place, low, side in ((1.0, (10.9, 20.1), (10, 20), 1),
                                        (3.0, (10.9, 20.1), (9, 19), 3),
                                        (2.0, (10.4, 20.6), (9, 20), 2),
-                                       (2.5, (10.4, 20.6), (9, 19), 3),
+                                       (2.5, (10.4, 20.6), (9, 20), 2),
                                        (1.0, (10.999, 20.0), (11, 20), 1)):
             block, = scene(("glPointSize", size), *primitive("GL_POINTS", place)).blocks
             (x, y), high = low, tuple(z + side for z in low)

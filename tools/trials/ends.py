@@ -22,10 +22,11 @@ from .hand_traces import (CLEAR, COMMAND, CORNERS, PLANE, SECONDS, SIX, SWAP, WI
 class Told(unittest.TestCase):
     def test_what_is_left_out_or_approximated_is_told_by_name_and_number(self):
         made = converted(pickled(WINDOW, CLEAR, PLANE, ("glUseProgram", 1), ("glUseProgram", 0),
-                                 ("glEnable", "GL_STENCIL_TEST"), ("glEnable", "GL_LINE_SMOOTH"),
+                                 ("glEnable", "GL_STENCIL_TEST"),
+                                 ("glEnable", "GL_POLYGON_SMOOTH"),
                                  ("glGetError",), SWAP))
         self.assertEqual(made.lines, [
-            "from_apitrace: approximated glEnable(GL_LINE_SMOOTH) 1: 0 vertices, 0 pixels",
+            "from_apitrace: approximated glEnable(GL_POLYGON_SMOOTH) 1: 0 vertices, 0 pixels",
             "from_apitrace: left out glEnable(GL_STENCIL_TEST) 1: 0 vertices, 0 pixels",
             "from_apitrace: left out glUseProgram 2: 0 vertices, 0 pixels",
             "from_apitrace: 64x64, version 1, 1 clients, 2 items, 2 commands, 21 bytes"])
