@@ -21,7 +21,8 @@ us          microseconds of those spent on the frame itself, a vertex that the p
 serial      and render --tiles 4x3: milliseconds by the clock, the least of three
 mean, off   the mean difference of a channel, and the share of pixels with one off by over 16
 told        the heaviest notes of a picture that is off in more than half a percent of pixels
-Behind the table stand how many are within half a percent of pixels, and what was left out or
+Behind the table stand how many are within half a percent of pixels, which aren't (and of these
+which are off in more pixels than what is told of them is about), and what was left out or
 approximated of each, by name, number and weight. The status is 1 where a conversion ended in
 anything but a scene or a refusal of one line.
 
@@ -36,6 +37,7 @@ import argparse
 import contextlib
 import hashlib
 import json
+import math
 import os
 import pathlib
 import re
@@ -201,11 +203,18 @@ def clocked(command, scene, times=3):
     return least, done.stdout
 
 
+def weight(note):
+    """How many pixels a note is about: all, where what earlier frames left isn't there."""
+    if "begins without a clear" in note:
+        return math.inf
+    told = re.search(r", (\d+) pixels$", note)
+    return int(told[1]) if told else 0
+
+
 def heaviest(notes, most=2):
     """The notes about most of the pixels; of none that are about any, the first ones."""
-    found = [(int(told[1]), note) for note in notes
-             if (told := re.search(r", (\d+) pixels$", note)) and int(told[1])]
-    return [note for _, note in sorted(found, reverse=True)[:most]] or notes[:most]
+    found = [note for note in sorted(notes, key=weight, reverse=True) if weight(note)]
+    return found[:most] or notes[:most]
 
 
 class Row:
@@ -217,6 +226,17 @@ class Row:
     def shows(self):
         """Whether there is a picture of both, and something in the program's own."""
         return not self.failed and self.figures["drawn"] > EMPTY
+
+    def is_off(self):
+        return self.shows() and self.figures["off"] > NEAR
+
+    def told(self):
+        """Whether what is told of it is about as many pixels as are off, or of fewer; None where
+        nothing is told."""
+        if not self.figures["notes"]:
+            return None
+        off = self.figures["off"] / 100 * self.figures["pixels"]
+        return sum(map(weight, self.figures["notes"])) >= off
 
     def cells(self):
         if self.failed:
@@ -232,15 +252,16 @@ def counted(rows, chosen):
     """What a page says of these rows of the programs that are named: how many there are of how
     many, how many are near, and which are off, with what is told of them or without."""
     shown = [row for row in rows if row.shows()]
-    off = [row for row in shown if row.figures["off"] > NEAR]
+    off = [row for row in shown if row.is_off()]
     lines = [f"Of {len(chosen)} programs that the script names {len(rows)} were judged with the "
              f"converter as it is. The other {len(chosen) - len(rows)} weren't, and nothing is "
              f"said of them here. {len(shown)} of the {len(rows)} show something: "
              f"{len(shown) - len(off)} of these are within half a percent of pixels, and "
              f"{len(off)} aren't."]
     for told, what in ((True, "Off, with what is told of them in the table"),
-                       (False, "Off, and nothing is told of why")):
-        names = [f"`{row.name}`" for row in off if bool(row.figures["notes"]) == told]
+                       (False, "Off in more pixels than what is told is about"),
+                       (None, "Off, and nothing is told of why")):
+        names = [f"`{row.name}`" for row in off if row.told() is told]
         if names:
             lines.append(f"{what}: {', '.join(names)}.")
     return textwrap.fill(" ".join(lines), 160, break_long_words=False, break_on_hyphens=False)
@@ -320,7 +341,8 @@ def judged(program, options, folder, environment):
     if theirs is None or theirs[:2] != ours[:2]:
         size = "none" if theirs is None else f"one of {theirs[0]}x{theirs[1]}"
         return failed(name, frame, f"of {ours[0]}x{ours[1]} here, and apitrace draws {size}")
-    row.figures.update(pictures.difference(ours, theirs)._asdict())
+    row.figures.update(pictures.difference(ours, theirs)._asdict(),
+                       pixels=ours.width * ours.height)
     for whose, picture in (("ours", ours), ("own", theirs)):
         (folder / f"{name}-{whose}.ppm").write_bytes(as_ppm(picture))
     return row
@@ -389,10 +411,13 @@ def main():
                 rows.append(row)
                 print("| " + " | ".join(map(str, row.cells())) + " |", flush=True)
     shown = [row for row in rows if row.shows()]
-    near = [row for row in shown if row.figures["off"] <= NEAR]
-    print(f"\n{len(near)} of {len(shown)} that show something are within {NEAR} % of pixels")
-    for row in sorted(set(shown) - set(near), key=lambda row: row.figures["off"]):
-        print(f"{row.name}: {row.figures['off']:.2f} % off")
+    off = sorted((row for row in shown if row.is_off()), key=lambda row: row.figures["off"])
+    print(f"\n{len(shown) - len(off)} of {len(shown)} that show something are within {NEAR} % of "
+          "pixels")
+    for row in off:
+        print(f"{row.name}: {row.figures['off']:.2f} % off"
+              + {True: "", False: ", more than what is told is about",
+                 None: ", and nothing is told of why"}[row.told()])
     if options.document:
         options.document.write_text(with_table(options.document.read_text(), rows, chosen))
     print("\n" + "\n".join(f"{row.name}: {line}" for row in rows

@@ -4,9 +4,10 @@ Where steps between texels don't fit, or a texture is seen in perspective, a pol
 large as its part of the window, whose texels lie on the pixels. What such a texel has is what the
 program's filter gives in the pixel's middle.
 """
+import collections
 import math
 
-from .clipping import cut
+from .clipping import cut, finite
 from .filters import ends, mixed
 from .images import Image
 
@@ -35,12 +36,17 @@ def box_of(face, width, height):
             min(width, math.ceil(max(across)) + MARGIN), min(height, math.ceil(max(up)) + MARGIN))
 
 
+# What is added to the number of an image, whether two of them are mixed, and whether texels are
+# where the texture is enlarged.
+Mipmap = collections.namedtuple("Mipmap", "bias mixes is_linear_enlarged")
+
+
 class Baked:
     """A polygon with the texture that is laid on it, in tiles of the viewport."""
 
-    def __init__(self, image, viewport, side, clamps, linear, bias=None):
+    def __init__(self, image, viewport, side, clamps, linear, mipmap=None):
         self.image, self.side, self.clamps, self.linear = image, side, clamps, linear
-        self.bias = bias    # of which image of a mipmap is seen, where one is
+        self.mipmap = mipmap
         _, _, self.width, self.height = viewport
 
     def pieces(self, face):
@@ -48,6 +54,8 @@ class Baked:
         those of its places in the window (`coordinates`)."""
         law = Law(face, self.width, self.height)
         if law.area < LEAST_AREA:
+            self.box = box_of(face, self.width, self.height)
+            yield self.spot(face), face
             return
         if len(face) > 3 and not law.fits(face, self.image):
             for b, c in zip(face[1:], face[2:]):
@@ -63,6 +71,24 @@ class Baked:
                 if len(piece) > 2:
                     yield self.made(law, piece, box), piece
 
+    def spot(self, face):
+        """An image of one texel, for a polygon that hardly has an area: what is in its middle."""
+        s, t = (sum(v[i] for v in face) / len(face) for i in (8, 9))
+        texel = self.sample(self.image, s, t, self.linear) if not self.mipmap \
+            else self.mixed_images(s, t, self.size_along(face))
+        return Image(1, 1, bytes(int(x + 0.5) for x in texel), self.image.base)
+
+    def size_along(self, face):
+        """How many texels a pixel goes over along the longest edge."""
+        edges = []
+        for a, b in zip(face, face[1:] + face[:1]):
+            pixels = math.hypot((a[0] / a[3] - b[0] / b[3]) * self.width / 2,
+                                (a[1] / a[3] - b[1] / b[3]) * self.height / 2)
+            texels = math.hypot((a[8] - b[8]) * self.image.width, (a[9] - b[9]) * self.image.height)
+            edges.append((pixels, texels))
+        pixels, texels = max(edges)
+        return texels / pixels if pixels else 1.0
+
     def planes(self, left, low, right, high):
         """What keeps a polygon in a box of pixels."""
         x0, x1 = 2 * left / self.width - 1, 2 * right / self.width - 1
@@ -71,10 +97,12 @@ class Baked:
                 lambda v: v[1] - y0 * v[3], lambda v: y1 * v[3] - v[1])
 
     def coordinates(self, places):
-        """Where places lie in the image of the tile that is drawn."""
+        """Where places lie in the image of the tile that is drawn, rounded as a block rounds
+        them: of what is narrow small steps of a place are large ones of what is seen."""
         left, low, right, high = self.box
-        return [(((v[0] / v[3] + 1) * self.width / 2 - left) / (right - left),
-                 ((v[1] / v[3] + 1) * self.height / 2 - low) / (high - low)) for v in places]
+        return [((round((v[0] / v[3] + 1) * 8 * self.width) / 16 - left) / (right - left),
+                 (round((v[1] / v[3] + 1) * 8 * self.height) / 16 - low) / (high - low))
+                for v in places]
 
     def made(self, law, piece, box):
         left, low, right, high = box
@@ -113,27 +141,34 @@ class Baked:
 
     def row(self, law, y, first, last):
         """The texels of a row of pixels."""
-        out, image = [], self.image
-        if self.bias is not None and law.is_affine:
-            number, share = levels(law.size(first + 0.5, y, image), self.bias)
+        out, image, mipmap = [], self.image, self.mipmap
+        size = law.size(first + 0.5, y, image) if mipmap and law.is_affine else None
         for x in range(first, last):
             s, t = law.at(x + 0.5, y)
-            if self.bias is None:
-                texel = self.sample(image, s, t)
+            if not mipmap:
+                out += self.sample(image, s, t, self.linear)
             else:
-                if not law.is_affine:
-                    number, share = levels(law.size(x + 0.5, y, image), self.bias)
-                texel = self.sample(image.level(number, 0), s, t)
-                if share:
-                    texel = mixed(texel, self.sample(image.level(number + 1, 0), s, t), share)
-            out += texel
+                out += self.mixed_images(s, t, size or law.size(x + 0.5, y, image))
         return bytes(int(x + 0.5) for x in out)
 
-    def sample(self, image, s, t):
+    def mixed_images(self, s, t, size):
+        """What is seen of a mipmap where a pixel has so many texels along a side."""
+        mipmap, image = self.mipmap, self.image
+        level = math.log2(size) + mipmap.bias if size > 0 else 0.0
+        if level <= 0:
+            return self.sample(image, s, t, mipmap.is_linear_enlarged)
+        number = math.floor(level if mipmap.mixes else level + 0.5)
+        texel = self.sample(image.level(number, 0), s, t, self.linear)
+        if not mipmap.mixes or level == number:
+            return texel
+        return mixed(texel, self.sample(image.level(number + 1, 0), s, t, self.linear),
+                     level - number)
+
+    def sample(self, image, s, t, linear):
         """What the filter gives at these coordinates."""
         width, height, texels, clamps = image.width, image.height, image.texels, self.clamps
         s, t = s * width, t * height
-        if not self.linear:
+        if not linear:
             column, line = math.floor(s), math.floor(t)
             column = max(0, min(width - 1, column)) if clamps[0] else column % width
             line = max(0, min(height - 1, line)) if clamps[1] else line % height
@@ -149,11 +184,16 @@ class Baked:
         return mixed(mixed(*below, across), mixed(*above, across), up)
 
 
-def levels(size, bias):
-    """The image of a mipmap that is seen where a pixel has so many texels along a side, and the
-    share of the next one."""
-    level = math.log2(size) + bias if size > 0 else 0.0
-    return (math.floor(level), level - math.floor(level)) if level > 0 else (0, 0.0)
+def size_in_middle(face, width, height, image):
+    """How many texels of an image a pixel goes over in the middle of a polygon; None where that
+    has hardly an area, or isn't all before the eye."""
+    if any(v[3] <= 0 for v in face) or not finite(face):
+        return None
+    law = Law(face, width, height)
+    if law.area < LEAST_AREA:
+        return None
+    x, y = (sum(v[i] / v[3] for v in face) / len(face) for i in (0, 1))
+    return law.size((x + 1) * width / 2, (y + 1) * height / 2, image) or None
 
 
 class Law:

@@ -6,7 +6,7 @@ one. Which vertices a polygon has, and which gives its colour where it is flat, 
 import itertools
 import math
 
-from .baking import Baked, pixels_in
+from .baking import Baked, pixels_in, size_in_middle
 from .blocks import block_of
 from .clipping import (LEAST_SPREAD, Finer, Parts, beyond_a_side, cut, finite,
                        moved_in_depth)
@@ -168,9 +168,8 @@ class Drawing:
         setting, image = self.setting, self.setting.texture["image"]
         if len(faces) == 1 or not setting.mipmapped() or contrast(image) <= FACTORS[0][0]:
             return [faces]
-        bias = setting.bias()
-        if bias is not None and not self.machine.options.nearest \
-                and self.bakes(image, faces, True, bias):
+        if not self.machine.options.nearest \
+                and self.bakes(image, faces, setting.is_linear(True), setting.mipmap()):
             self.baked = None
             return [faces]
         numbers = [self.number([face], image) for face in faces]
@@ -187,9 +186,10 @@ class Drawing:
         image, side = setting.texture["image"], options.texture_side
         self.baked = self.parts = None
         size = self.texels_in_a_pixel(faces, image)
-        bias = setting.bias()
-        if bias is not None and size * 2 ** bias > 1 and contrast(image) > FACTORS[0][0] \
-                and not options.nearest and self.bakes(image, faces, True, bias):
+        mipmap = setting.mipmap()
+        if mipmap and size * 2 ** mipmap.bias > 1 and contrast(image) > FACTORS[0][0] \
+                and not options.nearest \
+                and self.bakes(image, faces, setting.is_linear(True), mipmap):
             return
         number = max(0, int(math.log2(size) + 0.5)) if setting.mipmapped() else 0
         if setting.mipmapped() and size > 1 and contrast(image) > FACTORS[0][0]:
@@ -227,7 +227,7 @@ class Drawing:
         self.level, self.parts = found.level or level, found.parts
         return found.times > 1
 
-    def bakes(self, level, faces, linear, bias=None):
+    def bakes(self, level, faces, linear, mipmap=None):
         """Whether the primitive's polygons are laid on pixel by pixel from now on."""
         setting, options = self.setting, self.machine.options
         if len(faces) > MOST_BAKED or self.parts and level is not self.parts.image \
@@ -238,13 +238,19 @@ class Drawing:
         if level.made[0] + pixels_in(corners, setting.viewport) > MOST_TEXELS:
             return False
         self.baked = Baked(level, setting.viewport, options.texture_side, setting.clamps(), linear,
-                           bias)
+                           mipmap)
         self.level = self.parts = None
         return True
 
     def texels_in_a_pixel(self, faces, image):
-        """Along a side, by the areas of at most some 32 polygons; 1 where these are none."""
+        """Along a side: of one polygon in its middle, else by the areas of at most some 32; 1 where
+        these are none."""
         corners, (_, _, width, height) = self.corners, self.setting.viewport
+        if len(faces) == 1:
+            face = [corners.corner(i) for i in faces[0][0]]
+            size = size_in_middle(face, width, height, image)
+            if size is not None:
+                return size
         pixels = texels = 0.0
         for fan, _ in faces[::-(-len(faces) // 32) or 1]:
             a, b, c = (corners.places[i] for i in fan[:3])

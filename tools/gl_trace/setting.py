@@ -1,4 +1,5 @@
 """What drawing needs of a context's state, made once for all primitives between two changes."""
+from .baking import Mipmap
 from .context import EVERY, LINES, NEARLY, OTHER_TEXTURES, POINTS, POLYGONS, WITHOUT
 from .fog import FogLaw
 from .items import FACES, FACTORS, FUNCTIONS, State, channels
@@ -136,21 +137,22 @@ class Setting:
                                                   FACTORS["GL_ONE_MINUS_SRC_ALPHA"]), texture=None)
 
     def mipmapped(self):
-        return "MIPMAP" in str(self.texture.get("GL_TEXTURE_MIN_FILTER",
-                                                "GL_NEAREST_MIPMAP_LINEAR"))
+        return "MIPMAP" in self.minifier()
 
-    def bias(self):
-        """What is added to the level of a mipmap whose images are mixed, by a linear filter each;
-        None where a texture isn't laid on so."""
-        if self.texture.get("GL_TEXTURE_MIN_FILTER") != "GL_LINEAR_MIPMAP_LINEAR":
+    def mipmap(self):
+        """How images of a mipmap are chosen; None where a texture has none."""
+        if not self.mipmapped():
             return None
-        return float(self.texture.get("GL_TEXTURE_LOD_BIAS", 0.0))
+        return Mipmap(float(self.texture.get("GL_TEXTURE_LOD_BIAS", 0.0)),
+                      self.minifier().endswith("MIPMAP_LINEAR"), self.is_linear(False))
+
+    def minifier(self):
+        return str(self.texture.get("GL_TEXTURE_MIN_FILTER", "GL_NEAREST_MIPMAP_LINEAR"))
 
     def is_linear(self, minified):
         """Whether texels are mixed, of a texture that is shown smaller or larger than it is."""
         if minified:
-            name = self.texture.get("GL_TEXTURE_MIN_FILTER", "GL_NEAREST_MIPMAP_LINEAR")
-            return str(name).startswith("GL_LINEAR")
+            return self.minifier().startswith("GL_LINEAR")
         return self.texture.get("GL_TEXTURE_MAG_FILTER") != "GL_NEAREST"
 
     def clamps(self):

@@ -101,13 +101,13 @@ class Filters(unittest.TestCase):
 
     def test_where_a_frame_has_too_many_pixels_steps_are_larger_and_told(self):
         stripes = (BLACK + WHITE) * 32 * 64
-        many = [call for _ in range(65) for call in FACE[1:-1]]
+        many = [call for _ in range(513) for call in FACE[1:-1]]
         quads = [("glBegin", "GL_QUADS"), *many, ("glEnd",)]
         made = converted(pickled(WINDOW, CLEAR, PLANE, *image(64, 64, stripes), *LINEAR, *quads,
                                  SWAP))
         self.assertEqual(made.scene.blocks[0].texels[:2], (192, 192))
         self.assertIn("from_apitrace: approximated a linear filter by steps of 1/3 texel 1: "
-                      f"260 vertices, {65 * 4096} pixels", made.lines)
+                      f"2052 vertices, {513 * 4096} pixels", made.lines)
         cut = converted(pickled(WINDOW, CLEAR, PLANE, *image(64, 64, stripes), *LINEAR, *quads,
                                 SWAP), "--cut-textures").scene
         self.assertEqual({block.texels[:2] for block in cut.blocks},

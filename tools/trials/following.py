@@ -241,8 +241,22 @@ class Textures(unittest.TestCase):
     def test_a_face_over_more_than_256_parts_is_boxed_down_after_all(self):
         texels = bytes([0, 0, 0, 255, 200, 100, 50, 255]) * 256
         face = textured((0, 0, 0, 0), (64, 0, 200, 0), (64, 64, 200, 1), (0, 64, 0, 1))
-        block, = scene(*image(512, 1, texels), *face, words=["--cut-textures"]).blocks
+        block, = scene(*image(512, 1, texels), *face, words=["--cut-textures", "--nearest"]).blocks
         self.assertEqual((block.texels[0], block.state.get("TexWrap", (0, 0))), (256, (0, 0)))
+
+    def test_as_many_nearest_texels_as_pixels_are_laid_on_pixel_by_pixel(self):
+        # A place is a sixteenth of a pixel at best, and so a texel's place in the window.
+        row = (bytes([0, 0, 0, 255]) + b"\xff" * 4) * 32
+        columns = row * 64
+        block, = scene(*image(64, 64, columns), *self.FACE).blocks
+        self.assertEqual((block.texels, block.state["TexWrap"]), ((64, 64, columns), (1, 1)))
+        made = converted(pickled(WINDOW, CLEAR, PLANE, *image(64, 64, columns), *self.FACE, SWAP),
+                         "--nearest")
+        self.assertIn("from_apitrace: approximated a texture of about as many texels as pixels by "
+                      "places in sixteenths of a pixel 1: 4 vertices, 4096 pixels", made.lines)
+        large = textured((0, 0, 0, 0), (64, 0, 0.375, 0), (64, 64, 0.375, 1), (0, 64, 0, 1))
+        block, = scene(*image(64, 1, row), *large).blocks
+        self.assertEqual(block.texels, (64, 1, row))
 
     def test_a_small_face_takes_a_smaller_level_where_the_filter_has_mipmaps(self):
         # Of 64 by 64 texels in 16 by 16 pixels a pixel has four a side: image 2, whose columns are
@@ -256,19 +270,33 @@ class Textures(unittest.TestCase):
             whole, blocks[name] = scene(*image(64, 64, columns), filtered, *self.FACE,
                                         *small).blocks
             self.assertEqual(whole.texels, (64, 64, columns))
-        nearest = blocks["GL_NEAREST_MIPMAP_NEAREST"]
-        self.assertEqual(nearest.texels,
-                         (16, 16, (bytes([0, 0, 0, 255]) + bytes([255] * 4)) * 8 * 16))
-        # A linear filter that mixes images is laid on pixel by pixel, with a pixel around what the
-        # face has. A pixel's middle stands at column x + 3/4, a quarter of a column right of the
-        # middle of column x, so it has a quarter of the next one: 64 and 191 of 255. In image 1
+        # A mipmap is laid on pixel by pixel, with a pixel around what the face has. A pixel's
+        # middle stands at column x + 3/4, a quarter of a column right of the middle of column x,
+        # so under a linear filter it has a quarter of the next one: 64 and 191 of 255. In image 1
         # it would be the middle of a column, and image 3 is of one grey.
-        mixed = blocks["GL_LINEAR_MIPMAP_LINEAR"]
-        self.assertEqual(mixed.texels[:2], (17, 17))
-        self.assertEqual(mixed.vertices[2].coordinate, (round(16 / 17 * 65536) / 65536,) * 2)
-        row = bytes([64, 64, 64, 255, 191, 191, 191, 255]) * 8
-        for y in range(16):
-            self.assertEqual(mixed.texels[2][68 * y:68 * y + 64], row, y)
+        for name, black, white in (("GL_NEAREST_MIPMAP_NEAREST", 0, 255),
+                                   ("GL_LINEAR_MIPMAP_LINEAR", 64, 191)):
+            width, height, texels = blocks[name].texels
+            self.assertEqual((width, height), (17, 17))
+            self.assertEqual(blocks[name].vertices[2].coordinate,
+                             (round(16 / 17 * 65536) / 65536,) * 2)
+            for y in range(16):
+                self.assertEqual(texels[68 * y:68 * y + 64:4], bytes([black, white]) * 8, (name, y))
+
+    def test_each_polygon_has_the_image_of_a_mipmap_that_it_shows(self):
+        # Two quads of as many texels, the second one half as large: without room for their pixels
+        # each has its own image.
+        columns = (bytes([0, 0, 0, 255]) * 8 + bytes([255] * 32)) * 4 * 64
+        quads = [("glBegin", "GL_QUADS")]
+        for left, side in ((0, 32), (32, 16)):
+            for s, t in ((0, 0), (1, 0), (1, 1), (0, 1)):
+                quads += [("glTexCoord2f", float(s), float(t)),
+                          ("glVertex2f", float(left + s * side), float(t * side))]
+        filtered = ("glTexParameteri", "GL_TEXTURE_2D", "GL_TEXTURE_MIN_FILTER",
+                    "GL_NEAREST_MIPMAP_NEAREST")
+        blocks = scene(*image(64, 64, columns), filtered, *quads, ("glEnd",),
+                       words=["--nearest"]).blocks
+        self.assertEqual([block.texels[:2] for block in blocks], [(32, 32), (16, 16)])
 
     def test_a_part_of_an_image_may_be_written(self):
         calls = image(2, 1, bytes([1] * 8)) + [
