@@ -16,6 +16,7 @@ from trials.following import Lists, Textures, Values  # noqa: F401
 from trials.films import Films  # noqa: F401
 from trials.filters import Filters, Weights  # noqa: F401
 from trials.smooth import Pixels, Smooth  # noqa: F401
+from trials.states import Constants, Kinds, Points, VertexArrays  # noqa: F401
 from trials.windows import Windows  # noqa: F401
 
 

@@ -204,11 +204,13 @@ def clocked(command, scene, times=3):
 
 
 def weight(note):
-    """How many pixels a note is about: all, where what earlier frames left isn't there."""
-    if "begins without a clear" in note:
+    """How many pixels a note is about: it may be all where what earlier frames left isn't there, or
+    what shaders or frame buffer objects have drawn."""
+    told = re.search(r": (\d+) vertices, (\d+) pixels$", note)
+    if "begins without a clear" in note or re.match("left out (glUseProgram|what is drawn into)",
+                                                    note) and told and int(told[1]):
         return math.inf
-    told = re.search(r", (\d+) pixels$", note)
-    return int(told[1]) if told else 0
+    return int(told[2]) if told else 0
 
 
 def heaviest(notes, most=2):

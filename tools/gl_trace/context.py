@@ -48,7 +48,7 @@ GROUPS = {
     "GL_LIGHTING_BIT": "GL_LIGHTING GL_COLOR_MATERIAL shade color_material front back model "
                        + " ".join(f"GL_LIGHT{i} light{i}" for i in LIGHTS),
     "GL_COLOR_BUFFER_BIT": "GL_ALPHA_TEST GL_BLEND GL_COLOR_LOGIC_OP alpha_func blend_func "
-                           "blend_alpha blend_equation color_mask clear_color",
+                           "blend_alpha blend_color blend_equation color_mask clear_color",
     "GL_DEPTH_BUFFER_BIT": "GL_DEPTH_TEST depth_func depth_mask clear_depth",
     "GL_STENCIL_BUFFER_BIT": "GL_STENCIL_TEST",
     "GL_VIEWPORT_BIT": "viewport depth_range",
@@ -74,6 +74,7 @@ def first_values():
         model=LightModel((0.2, 0.2, 0.2, 1.0), False, False, False),
         alpha_func=("GL_ALWAYS", 0.0),
         blend_func=("GL_ONE", "GL_ZERO"), blend_alpha=None, blend_equation="GL_FUNC_ADD",
+        blend_color=(0.0,) * 4,
         raster=(0.0, 0.0, 0.0, (255.0,) * 4), zoom=(1.0, 1.0),
         program=0, framebuffer=0, further=frozenset(), color_mask=(1, 1, 1, 1),
         clear_color=(0.0,) * 4,
@@ -98,3 +99,4 @@ class Context:
         self.stacks = {name: [IDENTITY] for name in ("GL_MODELVIEW", "GL_PROJECTION", "GL_TEXTURE")}
         self.pushed, self.pushed_client = [], []
         self.planes, self.arrays, self.store = {}, {}, {}
+        self.vertex_array, self.vertex_arrays = 0, {}   # by name: arrays and buffer of elements

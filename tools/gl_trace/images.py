@@ -31,6 +31,14 @@ class Image:
     def has_alpha(self):
         return self.base in ("RGBA", "LUMINANCE_ALPHA", "INTENSITY")
 
+    def opaque(self):
+        """The same without alpha."""
+        if "opaque" not in self.parts:
+            base = {"ALPHA": "LUMINANCE"}.get(self.base, "RGB")
+            self.parts["opaque"] = Image(self.width, self.height,
+                                         as_base(bytearray(self.texels), base), base)
+        return self.parts["opaque"]
+
     def level(self, number, side):
         """The image halved so often, and on until its sides are at most so long (0: any)."""
         image = self

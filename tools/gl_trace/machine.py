@@ -22,7 +22,7 @@ SCALES = {"ub": 1 / 255, "us": 1 / 65535, "ui": 1 / 4294967295, "b": 1 / 127, "s
           "i": 1 / 2147483647}
 # Calls that draw nothing and set nothing that is drawn with.
 QUIET = re.compile(
-    r"gl(X|Get|Is|Flush|Finish|Hint|Gen|CheckFramebuffer|Delete(Buffers|Framebuffers)|ReadBuffer|"
+    r"gl(X|Get|Is|Flush|Finish|Hint|Gen|CheckFramebuffer|Delete(Buffers|Framebuffers|VertexArrays)|ReadBuffer|"
     r"DrawBuffer$|ReadPixels|InitNames|LoadName|PushName|PopName|FlushMappedBuffer|AreTextures|Prioritize|StringMarker|EdgeFlag)|egl|X")
 # What makes shaders. Whatever is drawn by them is told with glUseProgram.
 SHADERS = re.compile(
@@ -30,7 +30,7 @@ SHADERS = re.compile(
     r"glBindAttribLocation|glUniform|gl(Enable|Disable)?VertexAttrib|glLinkProgram")
 # What lists don't record. (A draw from arrays is recorded as the vertices that it gives.)
 IMMEDIATE = re.compile(r"(NewList|EndList|Draw(?!Pixels).*|PixelStore|.*Pointer|.*Client.*|"
-                       r"DeleteLists|InterleavedArrays|DeleteTextures|BindBuffer|"
+                       r"DeleteLists|InterleavedArrays|DeleteTextures|Bind(Buffer|VertexArray)|"
                        r"Buffer(Sub)?Data|(Unm|M)apBuffer.*)$")
 TOLD_OF_EDGES = 0.01    # of a window's pixels, above which edges are told of
 # What takes its numbers in a list though its name doesn't end in v.
@@ -39,7 +39,8 @@ SPREAD = {"Rect", "LoadMatrix", "MultMatrix", "LoadTransposeMatrix", "MultTransp
 OF_VERTICES = set("""Begin End Vertex Normal Color TexCoord MultiTexCoord Rect CallList CallLists
     NewList EndList DrawArrays DrawElements DrawRangeElements VertexPointer NormalPointer
     InterleavedArrays
-    ColorPointer TexCoordPointer EnableClientState DisableClientState BindBuffer BufferData
+    ColorPointer TexCoordPointer EnableClientState DisableClientState BindBuffer BindVertexArray
+    BufferData
     BufferSubData MapBuffer MapBufferRange UnmapBuffer Bitmap DrawPixels RasterPos WindowPos
     PixelZoom Clear PushMatrix MatrixMode""".split())
 FAULTS = (TypeError, ValueError, KeyError, IndexError, AttributeError, OverflowError,

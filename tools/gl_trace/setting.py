@@ -15,6 +15,9 @@ PLANES = [lambda v: v[3] - TINY, lambda v: v[2] + v[3], lambda v: v[3] - v[2],
 STROKES = {"GL_POINTS": POINTS, "GL_LINES": LINES, "GL_LINE_STRIP": LINES, "GL_LINE_LOOP": LINES}
 GENERATED = {"GL_SPHERE_MAP", "GL_OBJECT_LINEAR", "GL_EYE_LINEAR"}
 EQUAL = FUNCTIONS["GL_EQUAL"]
+# Factors by the alpha of a constant colour, with those by the fragment's.
+CONSTANT = {"GL_CONSTANT_ALPHA": "GL_SRC_ALPHA",
+            "GL_ONE_MINUS_CONSTANT_ALPHA": "GL_ONE_MINUS_SRC_ALPHA"}
 FIRST_DISTANCE = 10     # of a corner: where its distances to clip planes begin
 
 
@@ -35,12 +38,28 @@ def told_of(values):
 def blending(values):
     """What of a blending is another one in a scene."""
     factors, alphas = values["blend_func"], values["blend_alpha"]
-    found = [f"glBlendFunc({factor})" for factor in sorted(set(map(str, factors)) - set(FACTORS))]
+    known = set(FACTORS) if constant_alpha(values) is None else {*FACTORS, *CONSTANT}
+    found = [f"glBlendFunc({factor})" for factor in sorted(set(map(str, factors)) - known)]
     if alphas and tuple(alphas) != factors:
         found.append("glBlendFuncSeparate, whose factors of alpha are those of the colours")
     if values["blend_equation"] != "GL_FUNC_ADD":
         found.append(f"glBlendEquation({values['blend_equation']})")
     return found
+
+
+def tests_alpha(values):
+    """Whether the alpha test leaves fragments out."""
+    return values["GL_ALPHA_TEST"] and values["alpha_func"][0] != "GL_ALWAYS"
+
+
+def constant_alpha(values):
+    """The alpha of glBlendColor, where blending takes that in place of the fragment's and nothing
+    else takes the fragment's: then fragments are given it."""
+    factors = {*values["blend_func"], *(values["blend_alpha"] or ())}
+    if not values["GL_BLEND"] or tests_alpha(values) or not factors & set(CONSTANT) \
+            or any("ALPHA" in str(factor) for factor in factors - set(CONSTANT)):
+        return None
+    return max(0.0, min(1.0, values["blend_color"][3]))
 
 
 class Setting:
@@ -64,7 +83,7 @@ class Setting:
             self.clips = PLANES + [lambda v, i=FIRST_DISTANCE + i: v[i]
                                    for i in range(len(self.planes))]
         self.offset = values["offset"] if values["GL_POLYGON_OFFSET_FILL"] else None
-        self.told = told_of(values)
+        self.told, self.constant = told_of(values), constant_alpha(values)
         self.states, self.scissor = {}, machine.scissor()
         self.use_texture()
         self.veil = self.texture and self.fog and self.has_veil()
@@ -79,6 +98,8 @@ class Setting:
         is_drawn = names and names[0] not in OTHER_TEXTURES
         texture = machine.texture(names[0]) if is_drawn else None
         self.texture = texture if texture and texture.get("image") else None
+        if self.texture and self.constant is not None:
+            self.texture = {**texture, "image": texture["image"].opaque()}
         if texture and "copied" in texture:
             self.told.append(("left out", texture["copied"], EVERY))
         self.generated, self.texture_matrix, self.normals = [], None, None
@@ -125,7 +146,7 @@ class Setting:
         opaque, and w the distance from the viewer. Else it is laid over colours under it."""
         last = self.stacks["GL_PROJECTION"][-1][3::4], self.modelview[3::4]
         veiled = last == ((0.0, 0.0, -1.0, 0.0), (0.0, 0.0, 0.0, 1.0)) \
-            and not (self.values["GL_BLEND"] or self.values["GL_ALPHA_TEST"])
+            and not (self.values["GL_BLEND"] or tests_alpha(self.values))
         if not veiled:
             self.told.append(("approximated", "fog under a texture", EVERY))
         return veiled
@@ -176,13 +197,14 @@ class Setting:
 
     def made_state(self, level, parted, cull, turned):
         values, alpha, depth, blend, culled, texture = self.values, None, None, None, None, None
-        if values["GL_ALPHA_TEST"]:
+        if tests_alpha(values):
             function, reference = values["alpha_func"]
             alpha = FUNCTIONS[function], channels((reference,))[0]
         if values["GL_DEPTH_TEST"]:
             depth = FUNCTIONS[values["depth_func"]], values["depth_mask"]
         if values["GL_BLEND"]:
-            blend = tuple(FACTORS.get(factor, 1) for factor in values["blend_func"])
+            blend = tuple(FACTORS.get(CONSTANT.get(factor, factor), 1)
+                          for factor in values["blend_func"])
         if values["GL_CULL_FACE"] and cull:
             clockwise = values["front_face"] == "GL_CW"
             culled = FACES[values["cull_face"]], int(clockwise != turned)

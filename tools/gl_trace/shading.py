@@ -52,6 +52,10 @@ def shaded(setting, run, unfilled):
         backs = backs and setting.fog.laid_over(backs, eyes)
     corners.fronts = as_channels(fronts, setting.keeps)
     corners.backs = backs and as_channels(backs, setting.keeps)
+    if setting.constant is not None:
+        alpha = (255 * setting.constant,)
+        corners.fronts, corners.backs = (side and [color[:3] + alpha for color in side]
+                                         for side in (corners.fronts, corners.backs))
     corners.coordinates = coordinates_of(setting, run, eyes) if setting.texture else None
     corners.distances = None
     if setting.planes:

@@ -124,6 +124,9 @@ class StateCalls:
     def do_BlendFuncSeparate(self, source, destination, *alphas):
         self.values["blend_func"], self.values["blend_alpha"] = (source, destination), alphas
 
+    def do_BlendColor(self, *color):
+        self.values["blend_color"] = tuple(map(float, color))
+
     def do_BlendEquation(self, equation):
         self.values["blend_equation"] = equation
 

@@ -11,6 +11,7 @@ from .texture_calls import as_bytes
 TYPES = {"GL_FLOAT": "f", "GL_DOUBLE": "d", "GL_INT": "i", "GL_UNSIGNED_INT": "I", "GL_SHORT": "h",
          "GL_UNSIGNED_SHORT": "H", "GL_BYTE": "b", "GL_UNSIGNED_BYTE": "B"}
 WHOLE = {"b": 127, "B": 255, "h": 32767, "H": 65535, "i": 2147483647, "I": 4294967295}
+ELEMENTS = "GL_ELEMENT_ARRAY_BUFFER"
 SCALED = ("GL_COLOR_ARRAY", "GL_NORMAL_ARRAY")
 # What an element of an array has where the array gives fewer numbers.
 FILLED = {"GL_VERTEX_ARRAY": (0.0, 0.0, 0.0, 1.0), "GL_COLOR_ARRAY": (0.0, 0.0, 0.0, 1.0),
@@ -137,6 +138,12 @@ class VertexCalls:
     def do_BindBuffer(self, target, name):
         self.bound[target] = name
 
+    def do_BindVertexArray(self, name):
+        context = self.context
+        context.vertex_arrays[context.vertex_array] = (context.arrays, self.bound.get(ELEMENTS, 0))
+        context.vertex_array = name
+        context.arrays, self.bound[ELEMENTS] = context.vertex_arrays.get(name, ({}, 0))
+
     def do_BufferData(self, target, size, data, usage):
         name = self.bound.get(target, 0)
         self.buffered += size - len(self.buffers.get(name, b""))
@@ -231,7 +238,7 @@ class VertexCalls:
     def do_DrawElements(self, mode, count, kind, indices):
         data, start = as_bytes(indices), 0
         if data is None and isinstance(indices, int):
-            data = self.buffers.get(self.bound.get("GL_ELEMENT_ARRAY_BUFFER", 0), b"")
+            data = self.buffers.get(self.bound.get(ELEMENTS, 0), b"")
             start = indices
         if not 0 <= count <= MOST_GIVEN:
             raise Refused(f"a draw of {count} vertices; at most {MOST_GIVEN}")
