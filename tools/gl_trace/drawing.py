@@ -211,6 +211,10 @@ class Drawing:
                 self.level, self.parts = level, Parts(level, side, setting.clamps())
                 return
         self.level = image.level(number, side)
+        if self.level.width * self.level.height < level.width * level.height \
+                and contrast(level) > FACTORS[0][0]:
+            self.machine.concern("approximated", f"a texture above {side} texels a side by a "
+                                 "smaller image")
 
     def filtered(self, level, faces):
         """Whether the image is laid on as a linear filter has it, which is told where it isn't."""

@@ -13,7 +13,7 @@ from .images import Image
 # The greatest difference of neighbours up to which an image is laid on so many times as large: a
 # texel is off by half a step at most, which is 12 to 14 of 255.
 FACTORS = ((24, 1), (72, 3), (130, 5), (255, 9))
-LOOKED_AT = 64          # rows of an image, by which its differences are taken
+LOOKED_AT = 64          # rows of an image, of those that aren't plain, by which it is judged
 SPOT = 0.2              # of a texel
 MOST_CELLS = 12         # images that one texture is cut into, or that a primitive has
 MOST_REACHED = 256      # cells that a primitive of a repeated texture reaches
@@ -25,9 +25,12 @@ def contrast(image):
     """The greatest difference of a channel between two neighbours."""
     if image.differs is None:
         size, most = 4 * image.width, 0
-        for row in range(0, image.height, -(-image.height // LOOKED_AT)):
-            texels = image.texels[row * size:(row + 1) * size]
-            above = image.texels[(row + 1) * size:(row + 2) * size]
+        rows = [image.texels[at:at + size] for at in range(0, size * image.height, size)]
+        # Letters may be a small part of an image that has nothing else.
+        unlike = [row for row, (texels, above) in enumerate(zip(rows, rows[1:] + rows[-1:]))
+                  if texels != above or texels != texels[:4] * image.width]
+        for row in unlike[::-(-len(unlike) // LOOKED_AT) or 1]:
+            texels, above = rows[row], (rows[row + 1:row + 2] or [b""])[0]
             most = max(most, *map(abs, map(sub, texels[4:], texels)), 0)
             most = max(most, *map(abs, map(sub, above, texels)), 0)
         image.differs = most

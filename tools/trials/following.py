@@ -188,6 +188,8 @@ class Textures(unittest.TestCase):
              ("GL_LUMINANCE_ALPHA", 2): (bytes([9, 7]), (9, 9, 9, 7)),
              ("GL_LUMINANCE", "GL_INTENSITY"): (bytes([9]), (9, 9, 9, 9))}
 
+    CUT = ["--cut-textures", "--nearest"]   # with which nothing is laid on pixel by pixel
+
     def test_formats_become_what_modulate_takes(self):
         for (form, internal), (given, texel) in self.TEXEL.items():
             texels = b"".join(given.ljust(4, b"\0") for _ in range(1))
@@ -217,12 +219,12 @@ class Textures(unittest.TestCase):
 
     def test_a_texture_above_256_is_boxed_down(self):
         texels = bytes([0, 0, 0, 255, 200, 100, 50, 255]) * 256
-        block, = scene(*image(512, 1, texels), *self.FACE).blocks
+        block, = scene(*image(512, 1, texels), *self.FACE, words=["--nearest"]).blocks
         self.assertEqual(block.texels, (256, 1, bytes([100, 50, 25, 255]) * 256))
 
     def test_or_cut_in_parts_and_the_polygon_with_it(self):
         texels = bytes([255, 0, 0, 255]) * 256 + bytes([0, 0, 255, 255]) * 256
-        first, second = scene(*image(512, 1, texels), *self.FACE, words=["--cut-textures"]).blocks
+        first, second = scene(*image(512, 1, texels), *self.FACE, words=self.CUT).blocks
         self.assertEqual(first.texels, (256, 1, texels[:1024]))
         self.assertEqual(second.texels, (256, 1, texels[1024:]))
         self.assertEqual(set(places(first)), {(0, 0), (32, 0), (32, 64), (0, 64)})
@@ -234,14 +236,14 @@ class Textures(unittest.TestCase):
     def test_parts_go_on_over_the_seam_of_a_repeated_texture(self):
         texels = bytes([255, 0, 0, 255]) * 256 + bytes([0, 0, 255, 255]) * 256
         face = textured((0, 0, 0.5, 0), (64, 0, 1.5, 0), (64, 64, 1.5, 1), (0, 64, 0.5, 1))
-        blocks = scene(*image(512, 1, texels), *face, words=["--cut-textures"]).blocks
+        blocks = scene(*image(512, 1, texels), *face, words=self.CUT).blocks
         self.assertEqual([(block.texels[2][:3], min(places(block))[0]) for block in blocks],
                          [(bytes(BLUE), 0), (bytes(RED), 32)])
 
     def test_a_face_over_more_than_256_parts_is_boxed_down_after_all(self):
         texels = bytes([0, 0, 0, 255, 200, 100, 50, 255]) * 256
         face = textured((0, 0, 0, 0), (64, 0, 200, 0), (64, 64, 200, 1), (0, 64, 0, 1))
-        block, = scene(*image(512, 1, texels), *face, words=["--cut-textures", "--nearest"]).blocks
+        block, = scene(*image(512, 1, texels), *face, words=self.CUT).blocks
         self.assertEqual((block.texels[0], block.state.get("TexWrap", (0, 0))), (256, (0, 0)))
 
     def test_as_many_nearest_texels_as_pixels_are_laid_on_pixel_by_pixel(self):
