@@ -27,7 +27,7 @@ approximated of each, by name, number and weight. The status is 1 where a conver
 anything but a scene or a refusal of one line.
 
 A FOLDER keeps traces, scenes, pictures and figures, and those that it has are taken as they are:
-figures as long as the converter's text is the same, but for failures. So a run that was broken off
+figures as long as the converter's text is the same, but for failures, which are tried again. So a run that was broken off
 goes on where it was. With --kept nothing is traced, converted or drawn: what the FOLDER has of this
 converter is printed. --document writes the table, its rows by what is off, and the paragraph that
 counts them to a page in place of those that it has. No program is traced for more than S seconds,
@@ -255,11 +255,15 @@ def counted(rows, chosen):
     many, how many are near, and which are off, with what is told of them or without."""
     shown = [row for row in rows if row.shows()]
     off = [row for row in shown if row.is_off()]
-    lines = [f"Of {len(chosen)} programs that the script names {len(rows)} were judged with the "
-             f"converter as it is. The other {len(chosen) - len(rows)} weren't, and nothing is "
-             f"said of them here. {len(shown)} of the {len(rows)} show something: "
-             f"{len(shown) - len(off)} of these are within half a percent of pixels, and "
-             f"{len(off)} aren't."]
+    without = [f"`{row.name}`" for row in rows if not row.shows()]
+    lines = [f"Of {len(chosen)} programs that the script names {len(rows)} were gone over with the "
+             "converter as it is." + (f" The other {len(chosen) - len(rows)} weren't, and nothing "
+                                      "is said of them here." if len(rows) < len(chosen) else ""),
+             f"{len(shown)} of the {len(rows)} show something: {len(shown) - len(off)} of these "
+             f"are within half a percent of pixels, and {len(off)} aren't."]
+    if without:
+        lines.append(f"The others have no picture to judge, and the table says why: "
+                     f"{', '.join(without)}.")
     for told, what in ((True, "Off, with what is told of them in the table"),
                        (False, "Off in more pixels than what is told is about"),
                        (None, "Off, and nothing is told of why")):
@@ -320,7 +324,7 @@ def judged(program, options, folder, environment):
         capture_programs.trace(program, path, options.seconds, environment)
     ends = swaps(path) if path.exists() else []
     if len(ends) < 3:
-        return failed(name, "-", f"{len(ends)} frames in {options.seconds} seconds")
+        return failed(name, "-", f"{len(ends)} frames in its trace" if path.exists() else "no trace")
     frame, theirs = shown(program, path, ends, options, environment)
     row = Row(name, frame)
     try:
@@ -356,15 +360,14 @@ def kept(program, options, folder, environment, mark):
     path = folder / f"{program.name}.json"
     try:
         found = json.loads(path.read_text())
-        if found["mark"] == mark:
+        if found["mark"] == mark and (options.kept or not found["failed"]
+                                      or "refused" in found["figures"]):
             return Row(found["name"], found["frame"], found["figures"], found["failed"])
     except (OSError, ValueError, KeyError):
         pass
     if options.kept:
         return None
     row = judged(program, options, folder, environment)
-    if row.failed and "refused" not in row.figures:
-        return row
     path.write_text(json.dumps({"mark": mark, "name": row.name, "frame": row.frame,
                                 "figures": row.figures, "failed": row.failed}))
     return row

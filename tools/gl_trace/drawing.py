@@ -60,6 +60,7 @@ class Drawing:
         self.machine, self.setting, self.mode = machine, setting, run.mode
         self.run, self.corners, self.level, self.parts = run, None, None, None
         self.single, self.single_level = ([], [], []), None
+        self.clipped = None     # for each corner whether it has to be, where one has
         self.baked = self.laying = None
         self.linear = False     # whether the texture is laid on by a linear filter
 
@@ -71,6 +72,7 @@ class Drawing:
         if not faces:
             return
         self.corners = shaded(setting, self.run, False)
+        self.clipped = self.outside()
         groups = self.by_image(faces) if setting.texture else [faces]
         for group in groups:
             self.draw_faces(group, len(groups) == 1)
@@ -84,7 +86,7 @@ class Drawing:
             faces = self.outlines(faces)
             if not faces:
                 return
-        outside = self.outside()
+        outside = self.clipped
         finer = None if outside is not None and all(outside) else self.finer(outside, faces)
         flat = setting.flat and any(c != self.corners.fronts[0] for c in self.corners.fronts)
         every = are_all and setting.values["polygon_mode"] == FILLED
@@ -130,27 +132,31 @@ class Drawing:
         return flags if True in flags else None
 
     def finer(self, outside, faces):
-        """What cuts edges for perspective, or None where bounds over all corners, or the edges one
-        by one, show that none is to be cut."""
+        """What cuts edges for perspective, or None where bounds over the corners of these faces, or
+        their edges one by one, show that none is to be cut."""
         corners, setting = self.corners, self.setting
         made = Finer(setting.viewport, self.level, setting.replaces)
         if outside is not None:
             return made
-        ws = [place[3] for place in corners.places]
+        used = {i for fan, _ in faces for i in fan}
+        places, fronts = [corners.places[i] for i in used], [corners.fronts[i] for i in used]
+        backs = [corners.backs[i] for i in used] if corners.backs else ()
+        ws = [place[3] for place in places]
         least, most = min(ws), max(ws)
         spread = (most - least) / (2 * (most + least))
         if spread < LEAST_SPREAD:
             return None
-        if not self.level or not self.varies(corners.coordinates, self.level, spread):
+        if not self.level or not self.varies([corners.coordinates[i] for i in used], self.level,
+                                             spread):
             if setting.replaces or not any(spread * (max(c) - min(c)) > 6
-                                           for c in zip(*corners.fronts, *(corners.backs or ()))):
+                                           for c in zip(*fronts, *backs)):
                 return None
-        across = [v[0] / v[3] for v in corners.places]
-        up = [v[1] / v[3] for v in corners.places]
+        across = [v[0] / v[3] for v in places]
+        up = [v[1] / v[3] for v in places]
         if spread * math.hypot((max(across) - min(across)) * made.half_width,
                                (max(up) - min(up)) * made.half_height) < 1:
             return None
-        every = [corners.corner(i) for i in range(len(corners.places))]
+        every = {i: corners.corner(i) for i in used}
         for fan, _ in faces:
             if any(made.far(every[i], every[j]) for i, j in zip(fan, fan[1:] + fan[:1])):
                 return made
