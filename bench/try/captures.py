@@ -27,11 +27,12 @@ approximated of each, by name, number and weight. The status is 1 where a conver
 anything but a scene or a refusal of one line.
 
 A FOLDER keeps traces, scenes, pictures and figures, and those that it has are taken as they are:
-figures as long as the converter's text is the same, but for failures, which are tried again. So a run that was broken off
-goes on where it was. With --kept nothing is traced, converted or drawn: what the FOLDER has of this
-converter is printed. --document writes the table, its rows by what is off, and the paragraph that
-counts them to a page in place of those that it has. No program is traced for more than S seconds,
-and nothing else of it takes longer than the seconds of --longest; a trace that has 100 MB is ended.
+figures as long as the converter's text is the same, but for failures, which are tried again. So a
+run that was broken off goes on where it was. With --kept nothing is traced, converted or drawn:
+what the FOLDER has of this converter is printed. --document writes the table, its rows by what is
+off, and the paragraph that counts them to a page in place of those that it has. No program is
+traced for more than S seconds, and nothing else of it takes longer than the seconds of --longest; a
+trace that has 100 MB is ended.
 """
 import argparse
 import contextlib

@@ -80,6 +80,26 @@ class Filters(unittest.TestCase):
         self.assertEqual((block.vertices[2].coordinate[0], block.vertices[2].coordinate[1]),
                          (round(32 / 33 * 65536) / 65536,) * 2)
 
+    def test_letters_in_a_small_part_of_an_image_are_seen_there(self):
+        # One row of 128 has more than one colour, and the picture shows its first eight texels.
+        row = (BLACK + WHITE) * 64
+        empty = BLACK * 128
+        part = textured((0, 0, 0, 0), (64, 0, 8 / 128, 0), (64, 64, 8 / 128, 4 / 128),
+                        (0, 64, 0, 4 / 128))
+        block, = scene(*image(128, 128, empty * 3 + row + empty * 124), *LINEAR, *part).blocks
+        self.assertEqual(block.texels[:2], (72, 36))
+        self.assertEqual(reds(block)[72 * 31:][4:14:9], [0, 255])
+
+    def test_a_sliver_of_a_mipmap_has_what_is_in_its_middle(self):
+        # A hundredth of a pixel wide, and 64 texels along its 32 pixels: image 1, whose columns are
+        # those of image 0, which are black and white by fours.
+        columns = (BLACK * 4 + WHITE * 4) * 8 * 64
+        sliver = textured((8, 8, 0, 0), (40, 8, 1, 0), (40, 8.01, 1, 0))
+        mixed = ("glTexParameteri", "GL_TEXTURE_2D", "GL_TEXTURE_MIN_FILTER",
+                 "GL_LINEAR_MIPMAP_LINEAR")
+        made = scene(*image(64, 64, columns), *LINEAR, mixed, *sliver).blocks
+        self.assertEqual([block.texels[:2] for block in made], [(1, 1)])
+
     def test_a_texture_that_is_bent_over_a_polygon_is_laid_on_by_triangles(self):
         stripes = (BLACK + WHITE) * 32 * 64
         bent = textured((0, 0, 0, 0), (64, 0, 1, 0), (64, 64, 1, 1), (0, 64, 0, 0.5))

@@ -221,6 +221,10 @@ class Textures(unittest.TestCase):
         texels = bytes([0, 0, 0, 255, 200, 100, 50, 255]) * 256
         block, = scene(*image(512, 1, texels), *self.FACE, words=["--nearest"]).blocks
         self.assertEqual(block.texels, (256, 1, bytes([100, 50, 25, 255]) * 256))
+        made = converted(pickled(WINDOW, CLEAR, PLANE, *image(512, 1, texels), *self.FACE, SWAP),
+                         "--nearest")
+        self.assertIn("from_apitrace: approximated a texture above 256 texels a side by a smaller "
+                      "image 1: 4 vertices, 4096 pixels", made.lines)
 
     def test_or_cut_in_parts_and_the_polygon_with_it(self):
         texels = bytes([255, 0, 0, 255]) * 256 + bytes([0, 0, 255, 255]) * 256
