@@ -11,8 +11,8 @@ Xvfb have to be there; Xvfb is started here. The program is built by
     cd crates/render_cli && rt run -- render < ../../examples/red.rcs > /dev/null
 
 A frame that begins without a clear is drawn with all before it, and the last picture is taken.
-Each line of the table has, of one frame (N, or the last but one where there are fewer, or where
-the program's own picture of N is nearly black):
+Each line of the table has, of one frame (N, or where the program's own picture of that is nearly
+black 4 or 16 N; the last but one where there are fewer):
 drawn       the share of the program's own pixels that aren't black: near 0 a line says little
 vertices    that the program draws, commands and bytes of the scene
 seconds     of a processor for converting, without those of reading the trace
@@ -123,7 +123,7 @@ def shown(program, path, ends, options, environment):
     that is asked for is nearly black."""
     last = len(ends) - 2
     # apitrace sizes its window late, so its first frame may be nearly black.
-    for frame in sorted({max(1, min(options.frame, last)), max(1, last)}):
+    for frame in sorted({max(1, min(options.frame * times, last)) for times in (1, 4, 16)}):
         kept = path.with_name(f"{program.name}-{ends[frame]}.own.ppm")
         picture = whole_picture(kept.read_bytes()) if kept.exists() else \
             own_frame(program, path, ends[frame:frame + 2], options, environment)

@@ -32,7 +32,7 @@ SHADERS = re.compile(
 IMMEDIATE = re.compile(r"(NewList|EndList|Draw(?!Pixels).*|PixelStore|.*Pointer|.*Client.*|"
                        r"DeleteLists|InterleavedArrays|DeleteTextures|Bind(Buffer|VertexArray)|"
                        r"Buffer(Sub)?Data|(Unm|M)apBuffer.*)$")
-TOLD_OF_EDGES = 0.01    # of a window's pixels, above which edges are told of
+TOLD_OF_EDGES = 0.005   # of a window's pixels, above which edges are told of
 # What takes its numbers in a list though its name doesn't end in v.
 SPREAD = {"Rect", "LoadMatrix", "MultMatrix", "LoadTransposeMatrix", "MultTransposeMatrix"}
 # What sets nothing that a setting is made of.

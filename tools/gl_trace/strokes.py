@@ -19,11 +19,9 @@ from .smooth import SmoothLine
 
 WITHOUT_SIDES = (0, 1, 2)       # of a setting's planes: points are cut by these and its own
 FIRST_OWN = 7
-# The viewport's sides as planes, and whether a corner is further out than twice as far.
-SIDES = ((lambda v: v[3] - v[0], lambda v: v[0] > 2 * v[3]),
-         (lambda v: v[3] + v[0], lambda v: -v[0] > 2 * v[3]),
-         (lambda v: v[3] - v[1], lambda v: v[1] > 2 * v[3]),
-         (lambda v: v[3] + v[1], lambda v: -v[1] > 2 * v[3]))
+# The viewport's sides, at which a smooth line ends as it does in Mesa.
+SIDES = [lambda v: v[3] - v[0], lambda v: v[3] + v[0], lambda v: v[3] - v[1],
+         lambda v: v[3] + v[1]]
 WHITE = (255.0, 255.0, 255.0, 255.0)
 SPRITE = ((0.0, 1.0), (1.0, 1.0), (1.0, 0.0), (0.0, 0.0))   # a point that has a whole texture
 
@@ -186,10 +184,7 @@ class Strokes:
             self.machine.notes.left_out("a line with an end that isn't finite")
             return
         clips = self.setting.clips
-        planes = [clips[i] for i in WITHOUT_SIDES] + clips[FIRST_OWN:]
-        # A line that reaches out of twice the viewport ends at its side, as it does in Mesa.
-        planes += [plane for plane, beyond in SIDES
-                   if any(beyond(corner) for corner in (corners[0], corners[-1]))]
+        planes = [clips[i] for i in WITHOUT_SIDES] + clips[FIRST_OWN:] + SIDES
         line = []
         for a, b in zip(corners[::2], corners[1::2]):
             ends = cut([a, b], planes)[:2]

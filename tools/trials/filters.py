@@ -163,9 +163,9 @@ class Weights(unittest.TestCase):
                       made.lines)
 
     def test_edges_are_told_where_there_are_many(self):
-        # A square of 64 by 64 pixels has a 64th of its 256 pixels of edges: four; 41 are told.
+        # A square of 64 by 64 pixels has a 64th of its 256 pixels of edges: four; 21 are told.
         told = "from_apitrace: approximated edges, whose places are sixteenths of a pixel 1: "
-        for squares, line in ((10, None), (11, told + "44 vertices, 44 pixels")):
+        for squares, line in ((5, None), (6, told + "24 vertices, 24 pixels")):
             made = converted(pickled(WINDOW, CLEAR, PLANE, *squares * primitive(
                 "GL_POLYGON", (0, 0), (64, 0), (64, 64), (0, 64)), SWAP))
             self.assertEqual([line for line in made.lines if "edges" in line], [line][:bool(line)])

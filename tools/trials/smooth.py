@@ -73,11 +73,9 @@ class Smooth(unittest.TestCase):
         self.assertEqual((first.vertices, first.texels), (second.vertices, second.texels))
 
     def test_a_line_far_out_ends_at_the_side_of_the_window(self):
-        # The other one goes on: of its pieces, 83 / 4 pixels long, the third ends at 69.75, and
-        # the fourth isn't seen.
-        for end, last in ((300, 64.5), (90, 69.75)):
+        for end in (90, 300):
             blocks = scene(*BLEND, *SMOOTH, *primitive("GL_LINES", (8, 8), (end, 8))).blocks
-            self.assertEqual(max(x for block in blocks for x, _ in places(block)), last)
+            self.assertEqual(max(x for block in blocks for x, _ in places(block)), 64.5)
 
     def test_coverage_is_followed_in_perspective_by_two_triangles(self):
         # With w of 1 and 3 at its ends. Half way 1 / w is 2/3. The first triangle has its border
