@@ -35,7 +35,8 @@ CAPABILITIES = [
 # primitives that each is about.
 EVERY, LINES, POINTS, POLYGONS = "every", "lines", "points", "polygons"
 OTHER_TEXTURES = ("GL_TEXTURE_3D", "GL_TEXTURE_CUBE_MAP", "GL_TEXTURE_RECTANGLE")
-WITHOUT = {**dict.fromkeys(OTHER_TEXTURES, EVERY), "GL_LINE_STIPPLE": LINES, "GL_STENCIL_TEST": EVERY, "GL_POLYGON_STIPPLE": POLYGONS,
+WITHOUT = {**dict.fromkeys(OTHER_TEXTURES, EVERY), "GL_LINE_STIPPLE": LINES,
+           "GL_STENCIL_TEST": EVERY, "GL_POLYGON_STIPPLE": POLYGONS,
            "GL_COLOR_LOGIC_OP": EVERY, "GL_VERTEX_PROGRAM_ARB": EVERY,
            "GL_FRAGMENT_PROGRAM_ARB": EVERY}
 NEARLY = {"GL_POLYGON_SMOOTH": POLYGONS}
@@ -54,13 +55,14 @@ GROUPS = {
     "GL_VIEWPORT_BIT": "viewport depth_range",
     "GL_TRANSFORM_BIT": "matrix_mode GL_NORMALIZE GL_RESCALE_NORMAL "
                         + " ".join(f"GL_CLIP_PLANE{i}" for i in PLANES),
-    "GL_TEXTURE_BIT": "GL_TEXTURE_1D GL_TEXTURE_2D texture1 texture2 environment generation sprites "
-                      + " ".join((*OTHER_TEXTURES, *("GL_TEXTURE_GEN_" + c for c in "STRQ"))),
+    "GL_TEXTURE_BIT": "GL_TEXTURE_1D GL_TEXTURE_2D texture1 texture2 environment generation "
+                      "sprites " + " ".join((*OTHER_TEXTURES, *("GL_TEXTURE_GEN_" + c for c in "STRQ"))),
     "GL_SCISSOR_BIT": "GL_SCISSOR_TEST scissor",
     "GL_POLYGON_BIT": "GL_CULL_FACE cull_face front_face polygon_mode GL_POLYGON_OFFSET_FILL "
                       "GL_POLYGON_SMOOTH GL_POLYGON_STIPPLE offset",
     "GL_LINE_BIT": "line_width GL_LINE_SMOOTH GL_LINE_STIPPLE",
-    "GL_POINT_BIT": "point_size point_law GL_POINT_SMOOTH GL_POINT_SPRITE", "GL_LIST_BIT": "list_base",
+    "GL_POINT_BIT": "point_size point_law GL_POINT_SMOOTH GL_POINT_SPRITE",
+    "GL_LIST_BIT": "list_base",
     "GL_POLYGON_STIPPLE_BIT": "GL_POLYGON_STIPPLE", "GL_PIXEL_MODE_BIT": "zoom",
 }
 

@@ -13,9 +13,9 @@ BETWEEN = range(1, 16)
 
 
 def ends_of(start, end, width):
-    """Of a line between places in the window: two ends in sixteenths of a pixel, each with its share
-    of the way from start to end, which may lie beyond; and half of its width to the sides. None
-    where it has no pixel."""
+    """Of a line between places in the window: two ends in sixteenths of a pixel, each with its
+    share of the way from start to end, which may lie beyond; and half of its width to the sides.
+    None where it has no pixel."""
     (x1, y1), (x2, y2) = ((x - BESIDE, y - BELOW) for x, y in (start, end))
     flat = abs(x2 - x1) >= abs(y2 - y1)
     (a, p), (b, q) = ((x1, y1), (x2, y2)) if flat else ((y1, x1), (y2, x2))
