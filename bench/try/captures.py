@@ -3,7 +3,7 @@
 program's own frame. What the programs are is in docs/real-programs.md.
 
     captures.py [--frame N] [--seconds S] [--cache FOLDER] [--longest S] [NAME ..]
-    captures.py --cache FOLDER --kept --document docs/real-programs.md
+    captures.py --cache FOLDER --kept [--earlier] --document docs/real-programs.md
 
 Without names these are all programs of capture_programs.py that are installed: the OpenGL programs
 of xscreensaver-gl and xscreensaver-gl-extra, and games and demonstrations of Debian. apitrace and
@@ -29,10 +29,10 @@ anything but a scene or a refusal of one line.
 A FOLDER keeps traces, scenes, pictures and figures, and those that it has are taken as they are:
 figures as long as the converter's text is the same, but for failures, which are tried again. So a
 run that was broken off goes on where it was. With --kept nothing is traced, converted or drawn:
-what the FOLDER has of this converter is printed. --document writes the table, its rows by what is
-off, and the paragraph that counts them to a page in place of those that it has. No program is
-traced for more than S seconds, and nothing else of it takes longer than the seconds of --longest; a
-trace that has 100 MB is ended.
+what the FOLDER has of this converter is printed, and with --earlier what it has of others too,
+which are told apart. --document writes the table, its rows by what is off, and the paragraph that
+counts them to a page in place of those that it has. No program is traced for more than S seconds,
+and nothing else of it takes longer than the seconds of --longest; a trace that has 100 MB is ended.
 """
 import argparse
 import contextlib
@@ -223,8 +223,9 @@ def heaviest(notes, most=2):
 class Row:
     """What one program comes to."""
 
-    def __init__(self, name, frame, figures=None, failed=None):
+    def __init__(self, name, frame, figures=None, failed=None, is_earlier=False):
         self.name, self.frame, self.figures, self.failed = name, frame, figures or {}, failed
+        self.is_earlier = is_earlier    # whether an earlier converter was judged
 
     def shows(self):
         """Whether there is a picture of both, and something in the program's own."""
@@ -257,9 +258,12 @@ def counted(rows, chosen):
     shown = [row for row in rows if row.shows()]
     off = [row for row in shown if row.is_off()]
     without = [f"`{row.name}`" for row in rows if not row.shows()]
-    lines = [f"Of {len(chosen)} programs that the script names {len(rows)} were gone over with the "
-             "converter as it is." + (f" The other {len(chosen) - len(rows)} weren't, and nothing "
-                                      "is said of them here." if len(rows) < len(chosen) else ""),
+    earlier = sum(row.is_earlier for row in rows)
+    lines = [f"Of {len(chosen)} programs that the script names {len(rows) - earlier} were gone "
+             "over with the converter as it is"
+             + (f", and {earlier}, which have a star, with an earlier one." if earlier else ".")
+             + (f" The other {len(chosen) - len(rows)} weren't, and nothing is said of them here."
+                if len(rows) < len(chosen) else ""),
              f"{len(shown)} of the {len(rows)} show something: {len(shown) - len(off)} of these "
              f"are within half a percent of pixels, and {len(off)} aren't."]
     if without:
@@ -283,13 +287,15 @@ def with_table(page, rows, chosen):
     for row in shown:
         f = row.figures
         told = "; ".join(heaviest(f["notes"])) if f["off"] > NEAR else ""
-        cells = (row.name, row.frame, f"{f['drawn']:.0f}", f"{f['vertices']:,}",
+        cells = (row.name + r"\*" * row.is_earlier, row.frame, f"{f['drawn']:.0f}",
+                 f"{f['vertices']:,}",
                  f"{f['commands']:,}", f"{f['bytes']:,}", f"{f['seconds']:.2f}",
                  f"{f['each']:.0f}", f"{f['scene']:.0f}", f"{f['mean']:.2f}", f"{f['off']:.2f}",
                  told)
         lines.append("| " + " | ".join(map(str, cells)) + " |")
     for row in others:
-        lines.append(f"| {row.name} | {row.frame} | {row.failed or 'shows nothing'} |"
+        lines.append(f"| {row.name}" + r"\*" * row.is_earlier
+                     + f" | {row.frame} | {row.failed or 'shows nothing'} |"
                      + " |" * 9)
     page = re.sub(r"Of \d+ programs that the script names (.+\n)+",
                   lambda _: counted(rows, chosen) + "\n", page)
@@ -325,7 +331,8 @@ def judged(program, options, folder, environment):
         capture_programs.trace(program, path, options.seconds, environment)
     ends = swaps(path) if path.exists() else []
     if len(ends) < 3:
-        return failed(name, "-", f"{len(ends)} frames in its trace" if path.exists() else "no trace")
+        return failed(name, "-", f"{len(ends)} frames in its trace" if path.exists()
+                      else "no trace")
     frame, theirs = shown(program, path, ends, options, environment)
     row = Row(name, frame)
     try:
@@ -361,9 +368,11 @@ def kept(program, options, folder, environment, mark):
     path = folder / f"{program.name}.json"
     try:
         found = json.loads(path.read_text())
-        if found["mark"] == mark and (options.kept or not found["failed"]
-                                      or "refused" in found["figures"]):
-            return Row(found["name"], found["frame"], found["figures"], found["failed"])
+        is_earlier = found["mark"] != mark
+        if options.kept and (options.earlier or not is_earlier) or not is_earlier \
+                and (not found["failed"] or "refused" in found["figures"]):
+            return Row(found["name"], found["frame"], found["figures"], found["failed"],
+                       is_earlier)
     except (OSError, ValueError, KeyError):
         pass
     if options.kept:
@@ -393,6 +402,7 @@ def words():
     parser.add_argument("--cache", metavar="FOLDER")
     parser.add_argument("--program", help="a program other than the built one")
     parser.add_argument("--kept", action="store_true")
+    parser.add_argument("--earlier", action="store_true")
     parser.add_argument("--document", type=pathlib.Path, metavar="PAGE")
     return parser.parse_args()
 
