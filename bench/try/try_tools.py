@@ -167,12 +167,16 @@ def try_alone(folder):
             check(f"{path.name}: tools/ alone", done.returncode == 0, done.stderr[-300:])
 
 
-# What stands in for `rt try --test` in a crate: its lines and its status, and what ./try-tests has to tell of them.
+# What run_rows has to tell of its rows, the last line behind them; and how many rows it has.
+ROWS = (ROOT / "crates" / "run_rows" / "stdout").read_text()
+ROW_COUNT = len(ROWS.splitlines()) - 1
+# What stands in for `rt try` in a crate: its lines, and what ./try-tests has to tell of them.
 TEST_RUNS = {
     "lane_tests": ("test a::b ... ok\ntest a::c ... ok\ntest result: ok. 2 passed; 0 failed; 0 ignored; 0 filtered out\n", "2 passed, 0 failed"),
     "thread_tests": ("test a::b ... ok\ntest a::d ... FAILED\ntest result: FAILED. 1 passed; 1 failed; 0 ignored; 0 filtered out\n", "1 passed, 1 failed"),
     "chain_tests": ("error: there is no such name\n", "0 passed, 1 failed"),
     "format_tests": ("tests: 0\ntest result: ok. 0 passed; 0 failed; 0 ignored; 0 filtered out\n", "0 passed, 1 failed"),
+    "run_rows": (ROWS.replace("as wanted", "not as wanted by: draw\n    its status is 0", 1), f"{ROW_COUNT - 1} passed, 1 failed"),
 }
 
 
@@ -196,7 +200,8 @@ def try_test_runner(folder):
     for crate, (_, told) in TEST_RUNS.items():
         check(f"try-tests: {crate}", any(line.startswith(f"{crate}: {told}, ") for line in lines), done)
     check("try-tests: the failed test's name", "  failed: a::d" in lines, done)
-    check("try-tests: the last line", done[0] == 1 and lines[-1] == "3 passed, 3 failed" and not done[2], done)
+    check("try-tests: what a row left", "      its status is 0" in lines, done)
+    check("try-tests: the last line", done[0] == 1 and lines[-1] == f"{2 + ROW_COUNT} passed, 4 failed" and not done[2], done)
     done = shell(f'PATH="{folder}:$PATH" {runner} lane_tests', folder)
     check("try-tests: all passed", done[0] == 0 and done[1].decode().splitlines()[-1] == "2 passed, 0 failed", done)
     done = shell(f'PATH="{folder}:$PATH" {runner} --help | head -c 1', folder)

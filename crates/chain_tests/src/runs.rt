@@ -1,19 +1,12 @@
 //! Runs on sources and sinks in memory, plain and behind filters.
 mod behind;
 mod cases;
-mod chains;
 mod counts;
-mod filters;
-mod limits;
-mod lists;
-mod magics;
 mod meanings;
 mod members;
 mod noted;
-mod pieces;
 mod random;
 mod replaced;
-mod scenes;
 mod spelled;
 
 use rc_base::gate::OpenGate;

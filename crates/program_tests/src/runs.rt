@@ -1,18 +1,14 @@
 //! Runs on sources and sinks in memory.
 mod alone;
 mod apart;
-mod clusters;
 mod ends;
 mod faults;
-mod first_races;
-mod formats;
 mod generated;
 mod hostile;
 mod ordered;
-mod orders;
 mod races;
-mod rows;
 mod seeds;
+mod turns;
 
 ghost use Rattle.std.specs.Prelude.{◌<◌};
 
@@ -25,7 +21,6 @@ use std::alloc::Global;
 use std::process::Abort;
 use std::sync::Wait;
 use std::thread::Threads;
-use test_scenes::{BLACK_PIXEL, RED_CLEAR};
 
 // What a test's runtime can do: a run may start threads and wait for them.
 pub(super) trait Host: Abort + Threads + Wait + Copy + Send + Sync + Drop {}
@@ -149,158 +144,4 @@ fn run_on(rt: &impl Host, alloc: Global, job: &[&str], input: &[u8]) -> Left {
 fn run_text(rt: &impl Host, alloc: Global, job: &[&str], text: &[u8]) -> Left {
     let scene = run_on(rt, alloc, &["pack"], text);
     run_on(rt, alloc, job, scene.image.bytes())
-}
-
-// A job, what it is given, and the status, image and notes that it leaves.
-type Case<'a> = (&'a [&'a str], &'a [u8], u8, &'a [u8], &'a str);
-
-// Whether the case's run leaves what it says.
-fn leaves(rt: &impl Host, alloc: Global, case: &Case) -> bool {
-    let (job, input, status, image, notes) = *case;
-    run_on(rt, alloc, job, input).is(status, image, notes.as_bytes())
-}
-
-// The same of the scene of a text.
-fn leaves_of(rt: &impl Host, alloc: Global, case: &Case) -> bool {
-    let (job, text, status, image, notes) = *case;
-    run_text(rt, alloc, job, text).is(status, image, notes.as_bytes())
-}
-
-const USAGE: [&[&str]; 6] = [
-    &[],
-    &["draw"],
-    &["render", "-h"],
-    &["render", "render"],
-    &["simulate"],
-    &["Check"],
-];
-
-#[test]
-fn other_words_are_usage(rt: HostRuntime) {
-    for words in &USAGE {
-        assert!(rt;
-            leaves(
-                &rt,
-                rt.alloc(),
-                &(*words, &RED_CLEAR, 1, b"", "rc: usage\n")
-            )
-        );
-    }
-}
-
-const REFUSED: [Case; 9] = [
-    (
-        &["render"],
-        b"RCS1\x02\0\x02\0\x01\0\0\0\x0a\0\0\0\x03\0\x16\x18\x24\xff\0\0\xff\x01\0",
-        3,
-        b"",
-        "rc: malformed Trailing at 26\n",
-    ),
-    (
-        &["unpack"],
-        b"RCT1",
-        3,
-        b"",
-        "rc: malformed BadMagic at 2\n",
-    ),
-    (
-        &["render"],
-        b"RCS4\x02\0\x02\0\x01\0\0\0\x0a\0\0\0\x03\0\x16\x18\x24\xff\0\0\xff\x01",
-        3,
-        b"",
-        "rc: malformed BadMagic at 3\n",
-    ),
-    (
-        &["pack"],
-        b"scene 1 2 2\nclient\nClera 1\n",
-        3,
-        b"",
-        "rc: malformed UnknownWord at 3\n",
-    ),
-    (&["pack"], b"scene 1 0 2\n", 4, b"", "rc: limit width 0\n"),
-    (
-        &["unpack"],
-        b"RCS1\x00\x08\x01\x08\0\0\0\0",
-        4,
-        b"",
-        "rc: limit height 2049\n",
-    ),
-    // The window is 2 by 2, so that it has no more than two columns of tiles.
-    (
-        &["render", "--tiles", "3x1"],
-        &RED_CLEAR,
-        4,
-        b"",
-        "rc: limit tile columns 3\n",
-    ),
-    (
-        &["render", "--tiles", "1x3"],
-        &RED_CLEAR,
-        4,
-        b"",
-        "rc: limit tile rows 3\n",
-    ),
-    (
-        &["simulate", "--seed", "1", "--depth", "17"],
-        &RED_CLEAR,
-        4,
-        b"",
-        "rc: limit depth 17\n",
-    ),
-];
-
-#[test]
-fn refusals_tell_what_and_where(rt: HostRuntime) {
-    for case in &REFUSED {
-        assert!(rt; leaves(&rt, rt.alloc(), case));
-    }
-}
-
-// A window of 1 by 1: `Begin 0; Clear 1; End; Swap`. Nothing is cleared while a block is open.
-const CLEAR_IN_BLOCK: [u8; 24] = [
-    0x52, 0x43, 0x53, 0x31, 1, 0, 1, 0, 1, 0, 0, 0, 8, 0, 0, 0, 4, 0, 1, 0x18, 2, 0x24, 0, 1,
-];
-
-// A window of 1 by 1: `End; Begin 3; Swap`.
-const END_THEN_MODE_3: [u8; 22] = [
-    0x52, 0x43, 0x53, 0x31, 1, 0, 1, 0, 1, 0, 0, 0, 6, 0, 0, 0, 3, 0, 2, 1, 0x24, 3,
-];
-
-const NOTED: [Case; 2] = [
-    (
-        &["render"],
-        &CLEAR_IN_BLOCK,
-        0,
-        BLACK_PIXEL,
-        "client 0 fault INVALID_OPERATION at 1\ntile 0 parcels 2 sets 0 looks 0\njournal 1\nframes 1\n",
-    ),
-    (
-        &["render"],
-        &END_THEN_MODE_3,
-        0,
-        BLACK_PIXEL,
-        "client 0 fault INVALID_OPERATION at 0\nclient 0 fault INVALID_ENUM at 1\ntile 0 parcels 2 sets 0 looks 0\njournal 1\nframes 1\n",
-    ),
-];
-
-#[test]
-fn refused_commands_are_noted(rt: HostRuntime) {
-    for case in &NOTED {
-        assert!(rt; leaves(&rt, rt.alloc(), case));
-    }
-}
-
-// Whether the red clear's first bytes are told to end too early.
-fn is_truncated(rt: &impl Host, alloc: Global, bytes: &[u8]) -> bool {
-    let line = format!(in alloc; "rc: malformed Truncated at {}\n", bytes.len()).expect(
-        rt, "memory",
-    );
-    leaves(rt, alloc, &(&["render"], bytes, 3, b"", line.as_str()))
-}
-
-#[test]
-fn cut_scenes_are_truncated(rt: HostRuntime) {
-    for cut in 0..26 {
-        assert!(rt; is_truncated(&rt, rt.alloc(), &RED_CLEAR[..cut]));
-    }
 }

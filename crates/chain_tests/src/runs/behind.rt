@@ -2,7 +2,7 @@
 ghost use Rattle.std.specs.Prelude.{◌≡◌, map, string_bytes, IfOk, IsTrue};
 ghost use Rattle.command_line.specs.Filters.{AreNamed};
 
-use super::{Host, Left, ends, run_on, texts};
+use super::{Host, Left, ends, texts};
 use command_line::filters;
 use rc_base::gate::OpenGate;
 use rc_base::out_of_memory::OutOfMemory;
@@ -114,10 +114,4 @@ pub(super) fn left_behind(
 // What a run behind filters leaves where no end fails.
 pub(super) fn run_behind(rt: &impl Host, alloc: Global, job: &[&str], input: &[u8]) -> Left {
     left_behind(rt, alloc, job, input, [&[], &[], &[]])
-}
-
-// What a job leaves behind filters of the scene of a text.
-pub(super) fn text_behind(rt: &impl Host, alloc: Global, job: &[&str], text: &[u8]) -> Left {
-    let scene = run_on(rt, alloc, &["pack"], text);
-    run_behind(rt, alloc, job, scene.image.bytes())
 }

@@ -1,11 +1,29 @@
 //! What the members of a chain are left with.
 use super::behind::left_behind;
-use super::scenes::NEAR_AND_BARRIER;
 use super::{Host, run_on};
 use SpuRule::{Count, Cull, Drop};
 use spu_chain::SpuRule;
 use std::alloc::Global;
 use test_scenes::{BLENDED_BEHIND_A_BARRIER, NO_UNIT, RED_CLEAR, RED_CLEAR_TEXT};
+
+// A scene that would be for `last` without its barrier: twelve commands.
+const NEAR_AND_BARRIER: &[u8] = b"scene 1 1 1
+barrier 2
+client
+Enable 2
+Color 255 0 0 255
+Begin 0
+Vertex -65536 -65536 0 65536
+Vertex 196608 -65536 0 65536
+Vertex -65536 196608 0 65536
+End
+Barrier 1
+Swap
+client
+Enable 2
+Barrier 1
+Swap
+";
 
 // Words, what the job is given, which takes and puts of source, image and notes fail, the status, and the rules that the members have then.
 struct Case {

@@ -1,5 +1,5 @@
 //! Scenes that are made of a seed.
-use super::{Case, Host, ends_of, leaves, left_on, run_on, sink, source_of};
+use super::{Host, ends_of, left_on, run_on, sink, source_of};
 use rc_base::command::Command;
 use rc_base::in_memory::MemSink;
 use rc_base::scene::Scene;
@@ -24,52 +24,6 @@ fn seed_7_begins_with_red_40(rt: HostRuntime) {
     assert!(rt; first >> 40 == 8_274_728);
     let scene = generate(rt.alloc(), 7, 1).expect(&rt, "memory");
     assert!(rt; first_red(&scene) == Some(40));
-}
-
-// Tiles and depth are judged before the size.
-const SIZES: [Case; 5] = [
-    (
-        &["gen", "--seed", "1", "--size", "0"],
-        b"",
-        4,
-        b"",
-        "rc: limit size 0\n",
-    ),
-    (
-        &["gen", "--size", "4097", "--seed", "7"],
-        b"",
-        4,
-        b"",
-        "rc: limit size 4097\n",
-    ),
-    (
-        &["demo", "--seed", "7", "--size", "4097"],
-        b"",
-        4,
-        b"",
-        "rc: limit size 4097\n",
-    ),
-    (
-        &["demo", "--seed", "7", "--size", "0", "--tiles", "9x1"],
-        b"",
-        4,
-        b"",
-        "rc: limit tile columns 9\n",
-    ),
-    (
-        &["demo", "--depth", "17", "--seed", "7", "--size", "4097"],
-        b"",
-        4,
-        b"",
-        "rc: limit depth 17\n",
-    ),
-];
-
-#[test]
-fn sizes_outside_their_range_are_refused(rt: HostRuntime) {
-    for case in &SIZES {
-        assert!(rt; leaves(&rt, rt.alloc(), case));
-    }
 }
 
 // Whether a job is done and leaves this image and these notes.

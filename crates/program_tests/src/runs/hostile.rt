@@ -1,4 +1,4 @@
-//! Inputs made to be hard: of just the most bytes and of one more, of lengths and pictures that are announced and missing, of endless lines.
+//! Inputs made to be hard: of just the most bytes and of one more, of endless lines, and of frames that fill what may be held.
 use super::{Host, finish_on, sink};
 use rc_base::in_memory::{QuietSink, QuietSource};
 use std::alloc::Global;
@@ -86,36 +86,6 @@ fn inputs_end_at_the_limit(rt: HostRuntime) {
     }
 }
 
-// One stream of 8 bytes: a packet of one TexImage, with a picture of 65535 by 65535 and not one texel.
-const NO_TEXEL: &[u8] =
-    b"RCS1\x01\x00\x01\x00\x01\x00\x00\x00\x08\x00\x00\x00\x01\x00\x1e\x01\xff\xff\xff\xff";
-
-// The same, and its first texel behind the stream's end.
-const TEXEL_BEHIND: &[u8] =
-    b"RCS1\x01\x00\x01\x00\x01\x00\x00\x00\x08\x00\x00\x00\x01\x00\x1e\x01\xff\xff\xff\xff\x00\x00\x00\x00";
-
-const ANNOUNCED: [(&str, &[u8], &str); 4] = [
-    ("unpack", NO_TEXEL, "rc: malformed Truncated at 24\n"),
-    ("unpack", TEXEL_BEHIND, "rc: malformed Truncated at 24\n"),
-    (
-        "pack",
-        b"scene 1 1 1\nclient\nTexImage 1 65535 65535\n",
-        "rc: malformed WrongCount at 3\n",
-    ),
-    (
-        "pack",
-        b"scene 1 1 1\nclient\nTexImage 1 65535 65535 00000000\n",
-        "rc: malformed BadHex at 3\n",
-    ),
-];
-
-#[test]
-fn what_is_announced_has_to_come(rt: HostRuntime) {
-    for (job, input, line) in &ANNOUNCED {
-        assert!(rt; notes(&rt, rt.alloc(), &[*job], *input, 3, *line));
-    }
-}
-
 // A text with a word a million times that is refused with this line.
 fn refuses_words(rt: &impl Host, alloc: Global, front: &[u8], word: &[u8], line: &str) -> bool {
     let text = repeated(rt, alloc, front, word, 1000000);
@@ -153,45 +123,6 @@ fn swaps(rt: &impl Abort, alloc: Global, count: u16) -> Vec<u8> {
         bytes.push(0x24).expect(rt, "memory");
     }
     bytes
-}
-
-// A job, how many Swaps it is given, and its status and notes.
-type Counted = (&'static [&'static str], u16, u8, &'static str);
-
-// `serial`, `last` and `simulate` hold all frames at once, up to eight of the largest window; a scene may have 512 of them.
-const COUNTED: [Counted; 8] = [
-    (&["check"], 9, 0, "journal 9\nframes 9\n"),
-    (&["serial"], 9, 4, "rc: limit held pixels 37748736\n"),
-    (&["last"], 9, 4, "rc: limit held pixels 37748736\n"),
-    (
-        &["simulate", "--seed", "1"],
-        9,
-        4,
-        "rc: limit held pixels 37748736\n",
-    ),
-    (
-        &["simulate", "--seed", "1", "--depth", "17"],
-        9,
-        4,
-        "rc: limit depth 17\n",
-    ),
-    (&["check"], 512, 0, "journal 512\nframes 512\n"),
-    (&["check"], 513, 4, "rc: limit pixels 2151677952\n"),
-    (&["serial"], 513, 4, "rc: limit pixels 2151677952\n"),
-];
-
-// A run of the scene of so many Swaps that ends with this status and notes these lines, and whose image stays empty.
-fn notes_swaps(rt: &impl Host, alloc: Global, row: &Counted) -> bool {
-    let (job, count, status, lines) = *row;
-    let scene = swaps(rt, alloc, count);
-    notes(rt, alloc, job, scene.as_slice(), status, lines)
-}
-
-#[test]
-fn frames_of_the_largest_window_are_counted(rt: HostRuntime) {
-    for row in &COUNTED {
-        assert!(rt; notes_swaps(&rt, rt.alloc(), row));
-    }
 }
 
 // The status and the notes of `render` on the scene of so many Swaps, whose frames go where nothing is kept.

@@ -1,8 +1,6 @@
 //! Ordered scenes on many schedules: each gives the picture of the serial renderer.
 ghost use Rattle.rc_base.specs.Formats.Within.{IsWithin};
 
-use super::clusters::LAZY_STATE;
-use super::orders::{ONE_FORK_FIRST, PRODUCED_AND_CONSUMED};
 use super::{Host, Left, finish_on, run_on, run_text, whole_ends};
 use order_model::record::Record;
 use order_model::{is_permitted, tile_order};
@@ -15,6 +13,90 @@ use test_scenes::{
     BARRIER_IN_BLOCK, BLENDED_AT_ONCE, BLENDED_BEHIND_A_BARRIER, BLENDED_IN_TURN, NO_UNIT,
     SHARED_BEHIND_A_BARRIER,
 };
+
+// A blend that is set and set back, and a scissor box that is one tile: what a tile was told isn't told again.
+const LAZY_STATE: &[u8] = b"scene 1 2 1
+client
+Begin 0
+Vertex -65536 -65536 0 65536
+Vertex 196608 -65536 0 65536
+Vertex -65536 196608 0 65536
+End
+Enable 3
+Disable 3
+Begin 0
+Vertex -65536 -65536 0 65536
+Vertex 196608 -65536 0 65536
+Vertex -65536 196608 0 65536
+End
+Enable 0
+Scissor 0 0 1 1
+Begin 0
+Vertex -65536 -65536 0 65536
+Vertex 196608 -65536 0 65536
+Vertex -65536 196608 0 65536
+End
+Disable 0
+Begin 0
+Vertex -65536 -65536 0 65536
+Vertex 196608 -65536 0 65536
+Vertex -65536 196608 0 65536
+End
+Swap
+";
+
+// One client writes a shared texture twice, the other one draws with it each time: one semaphore counts textures that are ready, one those that were
+// read.
+const PRODUCED_AND_CONSUMED: &[u8] = b"scene 1 2 1
+shared 1 1
+semaphore 0
+semaphore 0
+client
+SharedImage 1 0 0 1 1 ff0000ff
+SemV 1
+SemP 2
+SharedImage 1 0 0 1 1 00ff00ff
+SemV 1
+Swap
+client
+Enable 5
+BindTexture 1 1
+TexEnv 1
+Viewport 0 0 1 1
+SemP 1
+Begin 0
+Vertex -65536 -65536 0 65536
+Vertex 196608 -65536 0 65536
+Vertex -65536 196608 0 65536
+End
+SemV 2
+Viewport 1 0 1 1
+SemP 1
+Begin 0
+Vertex -65536 -65536 0 65536
+Vertex 196608 -65536 0 65536
+Vertex -65536 196608 0 65536
+End
+Swap
+";
+
+// Two philosophers who take the same fork first.
+const ONE_FORK_FIRST: &[u8] = b"scene 1 1 1
+semaphore 1
+semaphore 1
+client
+SemP 1
+SemP 2
+SemV 2
+SemV 1
+Swap
+client
+SemP 1
+SemP 2
+SemV 2
+SemV 1
+Swap
+";
 
 // Eight clients who each clear one column.
 const EIGHT_COLUMNS: &[u8] = b"scene 1 8 1
@@ -139,43 +221,6 @@ fn twenty_seeds_draw_what_the_serial_renderer_draws(rt: HostRuntime) {
     for case in &CASES {
         assert!(rt; alike(&rt, rt.alloc(), case) == 20);
     }
-}
-
-// Two clients take from one semaphore of one unit, and one gives to it: who comes first has the first unit, and the other the one that client 0 gives.
-const TWO_TAKERS: &[u8] = b"scene 1 1 1
-semaphore 1
-client
-ClearColor 255 0 0 255
-Clear 1
-SemV 1
-Swap
-client
-SemP 1
-Swap
-client
-SemP 1
-ClearColor 0 255 0 255
-Clear 1
-Swap
-";
-
-// Its picture by the default journal, in which client 2 has client 0's unit, and by one in which it has the first.
-const GREEN: &[u8] = b"P6\n1 1\n255\n\x00\xff\x00";
-
-const RED: &[u8] = b"P6\n1 1\n255\n\xff\x00\x00";
-
-#[test]
-fn another_journal_of_two_takers_shows_another_picture(rt: HostRuntime) {
-    let alloc = rt.alloc();
-    let scene = run_on(&rt, alloc, &["pack"], TWO_TAKERS);
-    let bytes = scene.image.bytes();
-    let case = (TWO_TAKERS, "1x1", "1");
-    let race = run_on(&rt, alloc, &["race"], bytes);
-    assert!(rt; race.is(0, b"", b"journal 4\nframes 1\nrace none\n"));
-    let serial = run_on(&rt, alloc, &["serial"], bytes);
-    assert!(rt; serial.image.bytes() == GREEN);
-    assert!(rt; draws(&rt, alloc, bytes, &case, 11, (0, GREEN)));
-    assert!(rt; draws(&rt, alloc, bytes, &case, 12, (0, RED)));
 }
 
 // Two scenes on lanes of one item.
