@@ -1,10 +1,14 @@
 //! Bytes and texts that are read.
-ghost use Rattle.std.specs.Prelude.{◌≡◌, ◌≢◌, ℕ, ◌++◌, ◌∷◌, [], ◌<◌, ◌^◌, ◌⊎◌, List, Err, IfOk, length};
-ghost use Rattle.rc_base.specs.Formats.Spelling.{half};
+ghost use Rattle.std.specs.Prelude.{◌≡◌, ◌≢◌, ℕ, ◌++◌, ◌∷◌, [], ◌<◌, ◌^◌, ◌⊎◌, List, Err, IfOk, IsErr, length, sum_by};
+ghost use Rattle.rc_base.specs.Formats.Spelling.{half, SpellsScene};
 ghost use Rattle.rc_base.specs.declared.command.Command.{Command as AnyCommand};
+ghost use Rattle.rc_base.specs.declared.scene.Scene.{Scene as AnyScene};
+ghost use Rattle.rc_base.specs.declared.scene.SceneKind.TheVariants.{Trailing};
 ghost use Rattle.rc_base.specs.declared.scene.TextKind.TheVariants.{UnknownWord};
 ghost use Rattle.rc_base.specs.declared.state.Parcel.{Parcel as AnyParcel};
 ghost use Rattle.parcel_bytes.specs.Spelling.{SpellsParcel};
+ghost use Rattle.scene_file.specs.Faults.{SpellsListScene};
+ghost use Rattle.scene_file.specs.declared.list_scene.ListScene.{ListScene as AnyListScene};
 ghost use Rattle.uses.specs.Formats.{recorded_anew, BeginsNoImage};
 
 use call_lists::{ExpandFault, Expansion, expand};
@@ -18,8 +22,11 @@ use rc_base::image::Image;
 use rc_base::list_command::ListCommands;
 use rc_base::scene::Scene;
 use rc_base::state::Parcel;
+use scene_file::laws::{bytes_spell_one_list_scene, bytes_spell_one_scene};
+use scene_file::{ListScene, SceneFault, read_list_scene, read_scene, read_scene_beside};
 use scene_text::{TextSceneFault, parse_scene};
 use std::alloc::Global;
+use std::thread::Threads;
 
 /// The commands of a stream. One that begins with a packet of no commands is refused there, whatever follows.
 pub fn commands_of(alloc: Global, bytes: &[u8]) -> Result<Commands, PackFault>
@@ -60,4 +67,28 @@ pub fn called_anew(alloc: Global, stream: &ListCommands) -> Result<Expansion, Ex
     ensures { (first last : AnyCommand) → stream.now ≡ recorded_anew first last → IfOk result (λ x. x.commands ≡ last ∷ []) }
 {
     expand(alloc, stream, 0)
+}
+
+/// A scene from its bytes. Where more bytes stand behind those of a scene, it is refused at the first of them.
+pub fn scene_of(alloc: Global, bytes: &[u8]) -> Result<Scene, SceneFault>
+    ensures { (front rest : List ℕ) (s : AnyScene) → bytes.now ≡ front ++ rest → 0 < length rest → SpellsScene front s
+        → (result ≡ Err (SceneFault.Malformed Trailing (length front))) ⊎ (result ≡ Err SceneFault.OutOfMemory) }
+{
+    read_scene(alloc, bytes)
+}
+
+/// A scene with call lists from its bytes. Where these spell more commands than a scene may have, none is read.
+pub fn list_scene_of(alloc: Global, bytes: &[u8]) -> Result<ListScene, SceneFault>
+    ensures { (s : AnyListScene) → SpellsListScene bytes.now s → 1048576 < sum_by length s.streams → IsErr result }
+{
+    bytes_spell_one_list_scene();
+    read_list_scene(alloc, bytes)
+}
+
+/// The scene of some bytes, whose streams are decoded side by side. It is the one that the bytes spell: no stream is kept in part.
+pub fn scene_beside<R: Threads>(rt: &R, alloc: Global, bytes: &[u8]) -> Result<Scene, SceneFault>
+    ensures { (s : AnyScene) → SpellsScene bytes.now s → IfOk result (λ x. x ≡ s) }
+{
+    bytes_spell_one_scene();
+    read_scene_beside(rt, alloc, bytes)
 }

@@ -2,8 +2,10 @@
 //! contract alone. So no body that meets that contract does it.
 #![tactic(auto)]
 
+pub mod boxes;
 pub mod cluster;
 pub mod contexts;
+pub mod cores;
 pub mod drawing;
 pub mod formats;
 pub mod orders;
