@@ -4,7 +4,7 @@
     refuse.py [PROGRAM] [SCENE] [WORD ..]       examples/shared-texture.rcs by `render --tiles 2x1 --depth 1` where none are given
     refuse.py --simulate [PROGRAM]              examples/producer-consumer.rcs and shared-texture.rcs by `simulate --seed 1 --depth 1`
 
-Each run has to end by itself, within ten seconds, with every thread joined that it started, and with one of these:
+Each run has to end by itself, within ten seconds, behind every thread that it started, and with one of these:
 - 0 (or the status of a run with memory), with the whole image and the whole notes: what was refused wasn't needed. So it is where a thread can't be made:
   its actor is stepped by the caller.
 - 7, with `rc: out of memory` in the notes and a front of the image that is due; or with nothing in either, where there was no memory for the words or for the
@@ -41,18 +41,18 @@ class Runs:
         subprocess.run(["cc", "-O2", "-shared", "-fPIC", "-o", self.library, HERE / "refuse.c", "-ldl"], check=True)
 
     def run(self, number):
-        """What a run leaves in which this allocation is refused: status, image and notes; allocations, threads started, threads joined."""
+        """What a run leaves in which this allocation is refused: status, image and notes; allocations, threads started, threads ended."""
         environment = dict(os.environ, LD_PRELOAD=str(self.library), REFUSE=str(number), COUNTS=str(self.counts))
         with open(self.scene, "rb") as source:
             done = subprocess.run(self.command, stdin=source, capture_output=True, env=environment, timeout=SECONDS, check=False)
         return (done.returncode, done.stdout, done.stderr), struct.unpack("3l", self.counts.read_bytes())
 
 
-def fault_of(end, whole, started, joined, told):
+def fault_of(end, whole, started, ended, told):
     """What is wrong with a run, or None. `told` says whether want of memory was told for an earlier allocation."""
     status, image, notes = end
-    if started != joined:
-        return f"{started} threads were started and {joined} joined"
+    if started != ended:
+        return f"{started} threads were started and {ended} ended"
     if end == whole or status == 7 and notes == b"rc: out of memory\n" and whole[1].startswith(image):
         return None
     if end == (7, b"", b"") and not told:
@@ -66,12 +66,12 @@ def refuse_each(runs):
     ends, hung, lacked, wrong, told, silent = collections.Counter(), 0, 0, 0, False, 0
     for number in range(1, allocations + 1):
         try:
-            end, (_, begun, joined) = runs.run(number)
+            end, (_, begun, over) = runs.run(number)
         except subprocess.TimeoutExpired:
             print(f"refuse.py: with allocation {number} refused the program didn't end")
             hung += 1
             continue
-        fault = fault_of(end, whole, begun, joined, told)
+        fault = fault_of(end, whole, begun, over, told)
         told = told or end[0] == 7 and end[2] != b""
         silent += end == (7, b"", b"")
         if fault:
