@@ -4,5 +4,7 @@ pub mod Contexts
 pub mod Cores
 pub mod Drawing
 pub mod Formats
+pub mod Jobs
 pub mod Orders
 pub mod Program
+pub mod Runs
