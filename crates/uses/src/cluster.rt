@@ -3,6 +3,7 @@ ghost use Rattle.std.specs.Prelude.{◌≡◌, ◌<◌, false, List, IfOk, IfSom
 ghost use Rattle.rc_base.specs.Cluster.Lanes.{Follows};
 ghost use Rattle.rc_base.specs.Cluster.Tiles.{tile_count};
 ghost use Rattle.rc_base.specs.Formats.Netpbm.{p6_texts};
+ghost use Rattle.rc_base.specs.Formats.Within.{IsLayoutFor, IsWithin};
 ghost use Rattle.rc_base.specs.Outside.Ends.{use_of, Took};
 ghost use Rattle.rc_base.specs.declared.cluster.TilePart.{TilePart as AnyPart};
 ghost use Rattle.rc_base.specs.declared.scene.Scene.{Scene as AnyScene};
@@ -11,10 +12,11 @@ ghost use Rattle.assembler.specs.Assembled.{image_in, layout_of};
 ghost use Rattle.frame_out.specs.OnTheWay.{GaveFrames, IsOnTheWay};
 ghost use Rattle.frame_out.specs.Writing.{AreWritable};
 ghost use Rattle.run_record.specs.Gathering.{HaveSent};
-ghost use Rattle.uses.specs.Cluster.{AreOver, CountEach, GiveOneAtMost, IsBlack};
+ghost use Rattle.uses.specs.Cluster.{AreOver, CountEach, GiveOneAtMost, IsBlack, RanSoDeep};
 
 use assembler::Assembler;
 use client_issue::ClientCore;
+use cluster_run::{Run, run_threads};
 use frame_out::{FrameWriter, Written, write_frames};
 use rc_base::cluster::TilePart;
 use rc_base::gate::Gate;
@@ -23,7 +25,7 @@ use rc_base::lane::Inlet;
 use rc_base::out_of_memory::OutOfMemory;
 use rc_base::outside::Sink;
 use rc_base::plain_lane::PlainLane;
-use rc_base::scene::Decl;
+use rc_base::scene::{Decl, Scene};
 use rc_base::window::Layout;
 use run_record::{Collected, collect};
 use std::alloc::Global;
@@ -116,4 +118,23 @@ where
     ensures { IfOk result (AreOver A.over B.over C.over) }
 {
     run_to_end(rt, alloc, gate, crew)
+}
+
+/// Runs a scene on threads. Each lane from a client to a tile holds as many items as were asked for, and no fewer.
+pub fn ran_so_deep<G: Gate, K: Sink, R>(
+    rt: R,
+    alloc: Global,
+    scene: &Scene,
+    layout: &Layout,
+    depth: usize,
+    gate: &G,
+    image: &mut K,
+) -> Result<Run, OutOfMemory>
+where
+    R: Threads + Wait + Copy + Send + Sync + Drop,
+    requires within { IsWithin scene.now }
+    requires layout { IsLayoutFor scene.now layout.now depth }
+    ensures { IfOk result (λ r. RanSoDeep R scene.now layout.now depth r.kept r.tallies r.waiting r.faults) }
+{
+    run_threads(rt, alloc, scene, layout, depth, gate, image)
 }

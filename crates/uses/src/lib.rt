@@ -7,6 +7,7 @@ pub mod cluster;
 pub mod contexts;
 pub mod cores;
 pub mod drawing;
+pub mod exits;
 pub mod formats;
 pub mod jobs;
 pub mod lanes;

@@ -1,10 +1,13 @@
 //! Orders of commands, and races.
 ghost use Rattle.std.specs.Prelude.{◌≡◌, ◌≢◌, ◌<◌, ◌≤◌, ◌↔◌, IfOk, IsTrue};
 ghost use Rattle.rc_base.specs.Formats.Within.{IsWithin};
+ghost use Rattle.rc_base.specs.Orders.Book.{Book as Arrivals};
 ghost use Rattle.rc_base.specs.Orders.Journal.{reach_of, IsLegal, IsMaximal};
 ghost use Rattle.rc_base.specs.Orders.Order.{IsPermitted};
 ghost use Rattle.rc_base.specs.Orders.Sync.{sync_lists_of, client_count, IsWellFormed};
 ghost use Rattle.rc_base.specs.declared.sync.Name.{Name as AnyName};
+ghost use Rattle.order_model.specs.Gathering.{HasArrived};
+ghost use Rattle.sync_manager.specs.Books.{journal_in, IsBookOf};
 ghost use Rattle.happens_before.specs.Before.{IsBefore};
 ghost use Rattle.race_check.specs.Races.{SaysOrdered};
 ghost use Rattle.rc_base.specs.declared.window.Layout.{Layout};
@@ -12,13 +15,14 @@ ghost use Rattle.uses.specs.Orders.{BeginsARun, NoneConflict, PartsNames, RaceAt
 
 use happens_before::clocks_of;
 use order_model::is_permitted;
-use order_model::laws::scenes_within_limits;
+use order_model::laws::{over_books_are_maximal, scenes_within_limits};
 use race_check::{Verdict, check_races};
 use rc_base::out_of_memory::OutOfMemory;
 use rc_base::scene::Scene;
 use rc_base::sync::{Entry, Journal, Name, Order, SyncLists};
 use shown_frames::laws::unfinished_runs_go_on;
 use std::alloc::Global;
+use sync_manager::Book;
 
 /// Whether a journal permits an order. One that is permitted has each name before a member's operation before each name behind another member's,
 /// whichever of the two clients has the lower number.
@@ -84,15 +88,16 @@ pub fn told_of_pixels(
     check_races(alloc, scene, journal, order, syncs)
 }
 
-/// A journal of a scene, of which nothing was carried out yet. If it is legal, a whole run on any tiles has one that goes on from there: no run that was cut
-/// off is in a blind alley.
-pub fn goes_on_to_a_run(scene: &Scene, journal: &Journal)
-    requires within { IsWithin scene.now }
-    requires legal { IsLegal (sync_lists_of scene.now) journal.now }
-    ensures { (l : Layout) → BeginsARun scene.now l journal.now }
+/// Grants the next entry of a book, in which any part of a scene's operations has arrived. A whole run on any tiles has a journal that begins with what was
+/// granted so far: no grant leads into a blind alley.
+pub fn goes_on_to_a_run(book: &mut Book, scene: &Scene) -> Option<Entry>
+    requires { IsWithin scene.now }
+    ensures { (l : Layout) (arrived : Arrivals) → IsBookOf (sync_lists_of scene.now) book.old arrived → HasArrived (sync_lists_of scene.now) arrived
+        → BeginsARun scene.now l (journal_in book.new) }
 {
     scenes_within_limits();
+    over_books_are_maximal();
     unfinished_runs_go_on();
     let _scene = scene;
-    let _journal = journal;
+    book.grant()
 }
