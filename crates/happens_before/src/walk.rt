@@ -1,5 +1,5 @@
 //! A journal read entry by entry: what each entry puts before what.
-ghost use Rattle.std.specs.Prelude.{◌≡◌, ◌+◌, ◌<◌, ◌≤◌, ◌^◌, ℕ, length, slice_get, Some, None, List, IfSome, IfOk, OnOk};
+ghost use Rattle.std.specs.Prelude.{◌≡◌, ◌+◌, ◌<◌, ◌≤◌, ◌^◌, ℕ, length, Some, None, List, IfSome, IfOk, OnOk};
 ghost use Rattle.rc_base.specs.Lists.{AreRising};
 ghost use Rattle.rc_base.specs.Orders.Journal.{IsLegal};
 ghost use Rattle.rc_base.specs.Orders.Sync.{IsWellFormed, client_count, ops_of, places_of};
@@ -8,7 +8,7 @@ ghost use Rattle.rc_base.specs.declared.sync.Entry.TheVariants as entry;
 ghost use Rattle.order_model.specs.Checked.{place_by};
 ghost use Rattle.order_model.specs.Counted.{place_at};
 ghost use Rattle.happens_before.specs.Clocks.{IsExact};
-ghost use Rattle.happens_before.specs.Walks.{HasRead, IsAsFar, Keeps};
+ghost use Rattle.happens_before.specs.Walks.{HasRead, IsAlong, IsNext, KeepsNext};
 ghost use Rattle.happens_before.specs.Timelines.{AreOrdered, ArePlaces, ChangesGoToOperations, IsGateOf, IsUnitEntry, MembersGoToOperations, MembersRaised, NoMemberChanges, clock_of, places_in};
 
 use crate::semaphores::Semaphore;
@@ -149,13 +149,9 @@ impl Walk {
         semaphore: u8,
         client: u8,
     ) -> Result<(), OutOfMemory>
-        requires lists { IsWellFormed syncs.now }
-        requires legal { IsLegal syncs.now journal.now }
         requires client { client < 8 }
-        requires entry { slice_get journal.now self.old.read ≡ Some (entry.Give semaphore client) }
-        requires read { HasRead syncs.now journal.now self.old }
-        ensures same { OnOk result (IsAsFar self.old self.new) }
-        ensures kept { OnOk result (Keeps syncs.now journal.now (self.old.read + 1) self.new) }
+        requires next { IsNext syncs.now journal.now (entry.Give semaphore client) self.old }
+        ensures { OnOk result (KeepsNext syncs.now journal.now self.old self.new) }
     {
         let _journal = journal;
         if let Some(place) = place_of(syncs, client, self.used[client as usize]) {
@@ -172,13 +168,9 @@ impl Walk {
         semaphore: u8,
         client: u8,
     ) -> Result<(), OutOfMemory>
-        requires lists { IsWellFormed syncs.now }
-        requires legal { IsLegal syncs.now journal.now }
         requires client { client < 8 }
-        requires entry { slice_get journal.now self.old.read ≡ Some (entry.Take semaphore client) }
-        requires read { HasRead syncs.now journal.now self.old }
-        ensures same { OnOk result (IsAsFar self.old self.new) }
-        ensures kept { OnOk result (Keeps syncs.now journal.now (self.old.read + 1) self.new) }
+        requires next { IsNext syncs.now journal.now (entry.Take semaphore client) self.old }
+        ensures { OnOk result (KeepsNext syncs.now journal.now self.old self.new) }
     {
         let _journal = journal;
         if let Some(giver) = self.semaphores[semaphore as usize].take() {
@@ -198,14 +190,9 @@ impl Walk {
         journal: &[Entry],
         entry: Entry,
     ) -> Result<(), OutOfMemory>
-        requires lists { IsWellFormed syncs.now }
-        requires clients { client_count syncs.now ≤ 8 }
-        requires legal { IsLegal syncs.now journal.now }
         requires many { IsUnitEntry entry → ⊥ }
-        requires entry { slice_get journal.now self.old.read ≡ Some entry }
-        requires read { HasRead syncs.now journal.now self.old }
-        ensures same { OnOk result (IsAsFar self.old self.new) }
-        ensures kept { OnOk result (Keeps syncs.now journal.now (self.old.read + 1) self.new) }
+        requires next { IsNext syncs.now journal.now entry self.old }
+        ensures { OnOk result (KeepsNext syncs.now journal.now self.old self.new) }
     {
         let _journal = journal;
         let at = places(syncs, entry, &self.used);
@@ -213,6 +200,7 @@ impl Walk {
         raise_members(&mut self.timelines, &at, &gate)?;
         Ok(())
     }
+
     /// Reads an entry, but for the operations that it uses.
     fn keep(
         &mut self,
@@ -220,13 +208,8 @@ impl Walk {
         journal: &[Entry],
         entry: Entry,
     ) -> Result<(), OutOfMemory>
-        requires lists { IsWellFormed syncs.now }
-        requires clients { client_count syncs.now ≤ 8 }
-        requires legal { IsLegal syncs.now journal.now }
-        requires entry { slice_get journal.now self.old.read ≡ Some entry }
-        requires read { HasRead syncs.now journal.now self.old }
-        ensures same { OnOk result (IsAsFar self.old self.new) }
-        ensures kept { OnOk result (Keeps syncs.now journal.now (self.old.read + 1) self.new) }
+        requires { IsNext syncs.now journal.now entry self.old }
+        ensures { OnOk result (KeepsNext syncs.now journal.now self.old self.new) }
     {
         match entry {
             Entry::Give { semaphore, client } => self.give(syncs, journal, semaphore, client),
@@ -238,11 +221,8 @@ impl Walk {
 
     /// Reads the next entry.
     fn read(&mut self, syncs: &SyncLists, journal: &[Entry]) -> Result<(), OutOfMemory>
-        requires lists { IsWellFormed syncs.now }
-        requires clients { client_count syncs.now ≤ 8 }
-        requires legal { IsLegal syncs.now journal.now }
+        requires along { IsAlong syncs.now journal.now self.old }
         requires more { self.old.read < length journal.now }
-        requires read { HasRead syncs.now journal.now self.old }
         ensures read { OnOk result (self.new.read ≡ self.old.read + 1) }
         ensures is { OnOk result (HasRead syncs.now journal.now self.new) }
     {

@@ -35,47 +35,53 @@ next_is s new h lt = elim (cases_lt 0 s.left) [
 ]
 
 pub count-requires-clause-timelines : goal.count-requires-clause-timelines
-count-requires-clause-timelines c = let w = c.args.self.now in kept_ordered _ _ _ w.semaphores.items w.timelines.clients.items c.requires.read.kept
+count-requires-clause-timelines c = let w = c.args.self.now in kept_ordered _ _ _ w.semaphores.items w.timelines.clients.items c.requires.next.along.read.kept
 
 pub raise-requires-clause-timelines : goal.raise-requires-clause-timelines
-raise-requires-clause-timelines c = let w = c.args.self.now in kept_ordered _ _ _ w.semaphores.items w.timelines.clients.items c.requires.read.kept
+raise-requires-clause-timelines c = let w = c.args.self.now in kept_ordered _ _ _ w.semaphores.items w.timelines.clients.items c.requires.next.along.read.kept
 
 pub raise-requires-clause-late : goal.raise-requires-clause-late
 raise-requires-clause-late c =
     let w = c.args.self.now in
     let e = Take c.args.semaphore c.args.client in
-    late_here c.args.syncs.now c.args.journal.now w.read e w.used w.semaphores.items w.timelines.clients.items c.requires.read c.args.client c.in-Some-place_of.place c.requires.client
-    (place_here c.args.syncs.now c.args.journal.now w.read e w.used w.semaphores.items w.timelines.clients.items c.requires.read c.args.client c.requires.client (eq-eqb c.args.client c.args.client refl)
+    late_here c.args.syncs.now c.args.journal.now w.read e w.used w.semaphores.items w.timelines.clients.items c.requires.next.along.read c.args.client c.in-Some-place_of.place c.requires.client
+    (place_here c.args.syncs.now c.args.journal.now w.read e w.used w.semaphores.items w.timelines.clients.items c.requires.next.along.read c.args.client c.requires.client (eq-eqb c.args.client c.args.client refl)
     ∙ sym c.place_of.ensures.place ∙ c.in-Some-place_of.is)
 
-pub returns-in_ok-raise-clause-kept : goal.returns-in_ok-raise-clause-kept
-returns-in_ok-raise-clause-kept c =
+pub returns-in_ok-raise : goal.returns-in_ok-raise
+returns-in_ok-raise c =
     let w = c.args.self.now in
     let r = c.index_mut.result.now in
     let named : c.args.semaphore < 256 = omega (arith, c.ranges.semaphore.fits) in
     let told = none_left r c.in-Some.giver (sym c.take.ensures.giver ∙ c.in-Some.is) in
     let there : r.left ≡ 0 → r.next < length r.givers =
-    giver_here c.args.syncs.now c.args.journal.now w.read c.args.semaphore c.args.client w.used w.semaphores.items w.timelines.clients.items r c.requires.legal c.requires.entry named c.requires.read c.index_mut.ensures.value in
-    take_here c.args.syncs.now c.args.journal.now w.read c.args.semaphore c.args.client c.in-Some-place_of.place c.in-Some.giver w.used c.count.new.gate w.semaphores.items w.timelines.clients.items
-    c.raise.new.self.clients.items r c.take.new.self c.requires.lists c.requires.legal c.requires.entry named c.requires.client (sym c.place_of.ensures.place ∙ c.in-Some-place_of.is) c.requires.read
-    c.index_mut.ensures.value told.0 told.1 c.take.ensures.left c.take.ensures.givers (next_is r c.take.new.self c.take.ensures.next there)
-    (λ d. omega (arith, c.count.ensures d, zeros 8 d)) c.in_ok-raise.ensures.clock c.in_ok-raise.ensures.changes c.in_ok-raise.ensures.others c.in_ok-raise.ensures.count
+    giver_here c.args.syncs.now c.args.journal.now w.read c.args.semaphore c.args.client w.used w.semaphores.items w.timelines.clients.items r c.requires.next.along.legal c.requires.next.here named c.requires.next.along.read c.index_mut.ensures.value in
+    record {
+      far = (refl, refl);
+      kept = take_here c.args.syncs.now c.args.journal.now w.read c.args.semaphore c.args.client c.in-Some-place_of.place c.in-Some.giver w.used c.count.new.gate w.semaphores.items w.timelines.clients.items
+          c.raise.new.self.clients.items r c.take.new.self c.requires.next.along.lists c.requires.next.along.legal c.requires.next.here named c.requires.client (sym c.place_of.ensures.place ∙ c.in-Some-place_of.is) c.requires.next.along.read
+          c.index_mut.ensures.value told.0 told.1 c.take.ensures.left c.take.ensures.givers (next_is r c.take.new.self c.take.ensures.next there)
+          (λ d. omega (arith, c.count.ensures d, zeros 8 d)) c.in_ok-raise.ensures.clock c.in_ok-raise.ensures.changes c.in_ok-raise.ensures.others c.in_ok-raise.ensures.count;
+    }
 
-pub returns-in_default-place_of-clause-kept : goal.returns-in_default-place_of-clause-kept
-returns-in_default-place_of-clause-kept c =
+pub returns-in_default-place_of : goal.returns-in_default-place_of
+returns-in_default-place_of c =
     let w = c.args.self.now in
-    absurd (no_place c.args.syncs.now c.args.journal.now w.read (Take c.args.semaphore c.args.client) w.used w.semaphores.items w.timelines.clients.items c.requires.legal c.requires.entry c.requires.read
+    absurd (no_place c.args.syncs.now c.args.journal.now w.read (Take c.args.semaphore c.args.client) w.used w.semaphores.items w.timelines.clients.items c.requires.next.along.legal c.requires.next.here c.requires.next.along.read
     c.args.client c.requires.client (eq-eqb c.args.client c.args.client refl) (sym c.place_of.ensures.place ∙ c.in_default-place_of.is))
 
-pub returns-in_default-clause-kept : goal.returns-in_default-clause-kept
-returns-in_default-clause-kept c =
+pub returns-in_default : goal.returns-in_default
+returns-in_default c =
     let w = c.args.self.now in
     let r = c.index_mut.result.now in
     let named : c.args.semaphore < 256 = omega (arith, c.ranges.semaphore.fits) in
     let there : r.left ≡ 0 → r.next < length r.givers =
-    giver_here c.args.syncs.now c.args.journal.now w.read c.args.semaphore c.args.client w.used w.semaphores.items w.timelines.clients.items r c.requires.legal c.requires.entry named c.requires.read c.index_mut.ensures.value in
+    giver_here c.args.syncs.now c.args.journal.now w.read c.args.semaphore c.args.client w.used w.semaphores.items w.timelines.clients.items r c.requires.next.along.legal c.requires.next.here named c.requires.next.along.read c.index_mut.ensures.value in
     let some = some_left r there (sym c.take.ensures.giver ∙ c.in_default.is) in
-    let p = some_place c.args.syncs.now c.args.journal.now w.read (Take c.args.semaphore c.args.client) w.used w.semaphores.items w.timelines.clients.items c.requires.legal c.requires.entry c.requires.read
+    let p = some_place c.args.syncs.now c.args.journal.now w.read (Take c.args.semaphore c.args.client) w.used w.semaphores.items w.timelines.clients.items c.requires.next.along.legal c.requires.next.here c.requires.next.along.read
     c.args.client c.requires.client (eq-eqb c.args.client c.args.client refl) in
-    first_here c.args.syncs.now c.args.journal.now w.read c.args.semaphore c.args.client p.0 w.used w.semaphores.items w.timelines.clients.items r c.take.new.self c.requires.lists c.requires.legal c.requires.entry
-    named c.requires.client p.1 c.requires.read c.index_mut.ensures.value some c.take.ensures.left c.take.ensures.givers (next_is r c.take.new.self c.take.ensures.next there)
+    record {
+      far = (refl, refl);
+      kept = first_here c.args.syncs.now c.args.journal.now w.read c.args.semaphore c.args.client p.0 w.used w.semaphores.items w.timelines.clients.items r c.take.new.self c.requires.next.along.lists c.requires.next.along.legal c.requires.next.here
+          named c.requires.client p.1 c.requires.next.along.read c.index_mut.ensures.value some c.take.ensures.left c.take.ensures.givers (next_is r c.take.new.self c.take.ensures.next there);
+    }
