@@ -1,5 +1,5 @@
 -- What a name that touches pixels leaves of their cells, and what it finds.
-use Rattle.std.specs.Prelude.{◌≡◌, ℕ, ◌+◌, ◌*◌, ◌<◌, ◌&&◌, Bool, true, cond, List, pos, ◌≤ℤ◌, ◌⊎◌, ◌↔◌, Option}
+use Rattle.std.specs.Prelude.{◌≡◌, ℕ, ◌+◌, ◌*◌, ◌^◌, ◌<◌, ◌&&◌, Bool, true, cond, length, List, pos, ◌≤ℤ◌, ◌⊎◌, ◌↔◌, Option}
 use Rattle.std.specs.List.{list_any}
 use Rattle.rc_base.specs.Cluster.Tiles.{is_in_rect}
 use Rattle.rc_base.specs.Drawing.Cover.{is_inside, is_in_scissor}
@@ -48,8 +48,15 @@ AreTouchedIn has v before after = AreTouched has v before.cells.items after.cell
 abbrev pub TellsWhere : (ℕ → ℕ → Bool) → Visit → Cells → Option Found → Option Found → Type 0
 TellsWhere has v table best told = IsFirst (OrBefore best (IsFoundWhere has v table.cells.items)) told
 
-abbrev pub Touches : (ℕ → ℕ → Bool) → Visit → Cells → Cells → Seen → Seen → Type 0
-Touches has v before after seen later = IsTouch has v before.cells.items after.cells.items seen later
+pub record Touches (has : ℕ → ℕ → Bool) (v : Visit) (before after : Cells) (seen later : Seen) : Type 0 where
+  pub size : length after.cells.items ≡ length before.cells.items
+  pub touched : IsTouch has v before.cells.items after.cells.items seen later
+
+-- a name of one of eight clients, with 32 bits for the place behind it, visits the window that has these cells
+pub record IsVisitOf (v : Visit) (pixels : Cells) : Type 0 where
+  pub client : v.name.client < 8
+  pub place : v.name.place + 1 < 2 ^ 32
+  pub size : length pixels.cells.items ≡ v.height * v.width
 
 -- ---- what has pixels
 

@@ -74,6 +74,19 @@ pub record AreSized (width height : ℕ) (m : Marks) : Type 0 where
   pub writers : length m.writers.cells.items ≡ 256
   pub readers : length m.readers.cells.items ≡ 256
 
+-- a name of one of eight clients, with 32 bits for the place behind it, visits the window of these tables
+pub record AreVisited (v : Visit) (m : Marks) : Type 0 where
+  pub client : v.name.client < 8
+  pub place : v.name.place + 1 < 2 ^ 32
+  pub sized : AreSized v.width v.height m
+
+-- a name of one of eight clients, with 32 bits for the place behind it, uses textures, and each has its cells
+pub record UsesTextures (n : Name) (m : Marks) : Type 0 where
+  pub client : n.client < 8
+  pub place : n.place + 1 < 2 ^ 32
+  pub writers : length m.writers.cells.items ≡ 256
+  pub readers : length m.readers.cells.items ≡ 256
+
 -- ---- one name
 
 -- of the names that were passed, one of another client that conflicts with a name at a spot and that the name's clock doesn't count

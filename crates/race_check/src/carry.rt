@@ -1,7 +1,7 @@
 //! A command on its way through the tables: what it conflicts with there, and its own marks.
 ghost use Rattle.std.specs.Prelude.{◌≡◌, ◌+◌, ◌<◌, ◌^◌, ◌&&◌, nat_lt, None, false};
 ghost use Rattle.happens_before.specs.Timelines.{AreOrdered, clock_of};
-ghost use Rattle.race_check.specs.Uses.{AreSized, IsCarried, IsVisited};
+ghost use Rattle.race_check.specs.Uses.{AreSized, AreVisited, IsCarried, IsVisited};
 ghost use Rattle.rc_base.specs.declared.state.Effect.TheVariants as eff;
 
 use crate::clock::clock_of;
@@ -35,9 +35,7 @@ fn nothing_seen() -> Seen
 
 // A name draws a block: it touches what the block covers, and samples a shared texture where it touches a pixel.
 fn carry_block(marks: &mut Marks, visit: &Visit, state: &State, block: &Block) -> Option<Found>
-    requires client { visit.now.name.client < 8 }
-    requires place { visit.now.name.place + 1 < 2 ^ 32 }
-    requires sized { AreSized visit.now.width visit.now.height marks.old }
+    requires { AreVisited visit.now marks.old }
     ensures sized { AreSized visit.now.width visit.now.height marks.new }
     ensures visited { IsVisited state.now (eff.Block block.now) visit.now marks.old marks.new result }
 {
@@ -53,9 +51,7 @@ fn carry_block(marks: &mut Marks, visit: &Visit, state: &State, block: &Block) -
 
 // A name clears the pixels that the scissor box lets it through to.
 fn carry_clear(marks: &mut Marks, visit: &Visit, state: &State, mask: u8) -> Option<Found>
-    requires client { visit.now.name.client < 8 }
-    requires place { visit.now.name.place + 1 < 2 ^ 32 }
-    requires sized { AreSized visit.now.width visit.now.height marks.old }
+    requires { AreVisited visit.now marks.old }
     ensures sized { AreSized visit.now.width visit.now.height marks.new }
     ensures visited { IsVisited state.now (eff.Clear mask) visit.now marks.old marks.new result }
 {
@@ -65,9 +61,7 @@ fn carry_clear(marks: &mut Marks, visit: &Visit, state: &State, mask: u8) -> Opt
 
 // A name writes a part of a shared texture, if the part has a texel.
 fn carry_part(marks: &mut Marks, visit: &Visit, state: &State, part: &Part) -> Option<Found>
-    requires client { visit.now.name.client < 8 }
-    requires place { visit.now.name.place + 1 < 2 ^ 32 }
-    requires sized { AreSized visit.now.width visit.now.height marks.old }
+    requires { AreVisited visit.now marks.old }
     ensures sized { AreSized visit.now.width visit.now.height marks.new }
     ensures visited { IsVisited state.now (eff.Shared part.now) visit.now marks.old marks.new result }
 {

@@ -1,7 +1,8 @@
 //! The tables of a walk along an order: who touched each pixel last, and who wrote and who sampled each shared texture.
-ghost use Rattle.std.specs.Prelude.{◌≡◌, ◌+◌, ◌*◌, ◌<◌, ◌^◌, ◌⊎◌, length, IfOk};
+ghost use Rattle.std.specs.Prelude.{◌≡◌, ◌*◌, ◌⊎◌, length, IfOk};
 ghost use Rattle.race_check.specs.Finds.{IsFoundOf, IsMarked, Tells, AreUnused, IsFirst, IsRunIn, run_has};
-ghost use Rattle.race_check.specs.Touches.{AreTouchedIn, TellsWhere, Touches};
+ghost use Rattle.race_check.specs.Touches.{AreTouchedIn, IsVisitOf, TellsWhere, Touches};
+ghost use Rattle.race_check.specs.Uses.{UsesTextures};
 ghost use Rattle.race_check.specs.declared.verdict.Spot.TheVariants.{Shared};
 
 use crate::cells::Cells;
@@ -16,9 +17,7 @@ use std::alloc::Global;
 
 // A name touches the pixels of a run: what it finds there is added.
 fn touch_pixels(pixels: &mut Cells, visit: &Visit, run: Run, best: Option<Found>) -> Option<Found>
-    requires client { visit.now.name.client < 8 }
-    requires place { visit.now.name.place + 1 < 2 ^ 32 }
-    requires size { length pixels.old.cells.items ≡ visit.now.height * visit.now.width }
+    requires visit { IsVisitOf visit.now pixels.old }
     requires run { IsRunIn visit.now.width visit.now.height run }
     ensures size { length pixels.new.cells.items ≡ length pixels.old.cells.items }
     ensures cells { AreTouchedIn (run_has run) visit.now pixels.old pixels.new }
@@ -37,12 +36,9 @@ fn touch_pixels(pixels: &mut Cells, visit: &Visit, run: Run, best: Option<Found>
 
 /// A name touches the pixels of a run.
 pub fn touch_run(pixels: &mut Cells, visit: &Visit, run: Run, seen: Seen) -> Seen
-    requires client { visit.now.name.client < 8 }
-    requires place { visit.now.name.place + 1 < 2 ^ 32 }
-    requires size { length pixels.old.cells.items ≡ visit.now.height * visit.now.width }
+    requires visit { IsVisitOf visit.now pixels.old }
     requires run { IsRunIn visit.now.width visit.now.height run }
-    ensures size { length pixels.new.cells.items ≡ length pixels.old.cells.items }
-    ensures touched { Touches (run_has run) visit.now pixels.old pixels.new seen result }
+    ensures { Touches (run_has run) visit.now pixels.old pixels.new seen result }
 {
     Seen {
         best: touch_pixels(pixels, visit, run, seen.best),
@@ -75,10 +71,7 @@ impl Marks {
 
     /// A name writes a shared texture.
     pub fn write(&mut self, name: Name, clock: &[u32; 8], texture: u8) -> Option<Found>
-        requires client { name.client < 8 }
-        requires place { name.place + 1 < 2 ^ 32 }
-        requires writers { length self.old.writers.cells.items ≡ 256 }
-        requires readers { length self.old.readers.cells.items ≡ 256 }
+        requires { UsesTextures name self.old }
         ensures same { (self.new.pixels ≡ self.old.pixels) × (self.new.readers ≡ self.old.readers) }
         ensures writers { IsMarked name self.old.writers texture self.new.writers }
         ensures best { IsFirst (λ x. IsFoundOf name clock.now self.old.writers texture x
@@ -100,10 +93,7 @@ impl Marks {
         texture: u8,
         best: Option<Found>,
     ) -> Option<Found>
-        requires client { name.client < 8 }
-        requires place { name.place + 1 < 2 ^ 32 }
-        requires writers { length self.old.writers.cells.items ≡ 256 }
-        requires readers { length self.old.readers.cells.items ≡ 256 }
+        requires { UsesTextures name self.old }
         ensures same { (self.new.pixels ≡ self.old.pixels) × (self.new.writers ≡ self.old.writers) }
         ensures readers { IsMarked name self.old.readers texture self.new.readers }
         ensures best { Tells best (IsFoundOf name clock.now self.old.writers texture) result }

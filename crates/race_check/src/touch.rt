@@ -1,11 +1,11 @@
 //! The pixels that a block or a Clear touches.
-ghost use Rattle.std.specs.Prelude.{◌≡◌, ◌+◌, ◌*◌, ◌<◌, ◌^◌, ℤ, pos, ◌≤ℤ◌, ◌<ℤ◌, length};
+ghost use Rattle.std.specs.Prelude.{◌≡◌, ℤ, pos, ◌≤ℤ◌, ◌<ℤ◌, length};
 ghost use Rattle.rc_base.specs.Drawing.Pieces.{kept_corners_of};
 ghost use Rattle.geometry.specs.Beside.{AreSurrounds};
 ghost use Rattle.geometry.specs.Items.{AreBelow};
 ghost use Rattle.geometry.specs.Listed.{listed};
 ghost use Rattle.geometry.specs.Pieces.{found};
-ghost use Rattle.race_check.specs.Touches.{IsWithinWindow, Touches, block_has, clear_has, part_has, triangle_has, triangles_have};
+ghost use Rattle.race_check.specs.Touches.{IsVisitOf, IsWithinWindow, Touches, block_has, clear_has, part_has, triangle_has, triangles_have};
 
 use crate::cells::Cells;
 use crate::marks::touch_run;
@@ -43,12 +43,9 @@ fn touch_triangle(
     part: Rect,
     seen: Seen,
 ) -> Seen
-    requires client { visit.now.name.client < 8 }
-    requires place { visit.now.name.place + 1 < 2 ^ 32 }
-    requires size { length pixels.old.cells.items ≡ visit.now.height * visit.now.width }
+    requires visit { IsVisitOf visit.now pixels.old }
     requires part { IsWithinWindow visit.now.width visit.now.height part }
-    ensures size { length pixels.new.cells.items ≡ length pixels.old.cells.items }
-    ensures touched { Touches (triangle_has tri.now.v part) visit.now pixels.old pixels.new seen result }
+    ensures { Touches (triangle_has tri.now.v part) visit.now pixels.old pixels.new seen result }
 {
     let _width = visit.width;
     let _height = visit.height;
@@ -67,12 +64,9 @@ fn touch_found(
     part: Rect,
     seen: Seen,
 ) -> Seen
-    requires client { visit.now.name.client < 8 }
-    requires place { visit.now.name.place + 1 < 2 ^ 32 }
-    requires size { length pixels.old.cells.items ≡ visit.now.height * visit.now.width }
+    requires visit { IsVisitOf visit.now pixels.old }
     requires part { IsWithinWindow visit.now.width visit.now.height part }
-    ensures size { length pixels.new.cells.items ≡ length pixels.old.cells.items }
-    ensures touched { Touches (triangles_have (found tri.now) part) visit.now pixels.old pixels.new seen result }
+    ensures { Touches (triangles_have (found tri.now) part) visit.now pixels.old pixels.new seen result }
 {
     match tri {
         Some(t) => touch_triangle(pixels, visit, t, part, seen),
@@ -91,17 +85,14 @@ fn touch_corners(
     corners: [usize; 3],
     seen: Seen,
 ) -> Seen
-    requires client { visit.now.name.client < 8 }
-    requires place { visit.now.name.place + 1 < 2 ^ 32 }
-    requires size { length pixels.old.cells.items ≡ visit.now.height * visit.now.width }
+    requires visit { IsVisitOf visit.now pixels.old }
     requires part { IsWithinWindow visit.now.width visit.now.height part }
     requires near { AreSurrounds part near.now }
     requires vertices { listed cache.old.vertices ≡ block.now.vertices }
     requires corners { AreBelow (length block.now.vertices) corners }
     ensures state { cache.new.state.now ≡ cache.old.state.now }
     ensures vertices { listed cache.new.vertices ≡ block.now.vertices }
-    ensures size { length pixels.new.cells.items ≡ length pixels.old.cells.items }
-    ensures touched { Touches (triangles_have (kept_corners_of cache.old.state.now block.now corners) part) visit.now pixels.old pixels.new seen result }
+    ensures touches { Touches (triangles_have (kept_corners_of cache.old.state.now block.now corners) part) visit.now pixels.old pixels.new seen result }
 {
     cover_lies_in_bounds();
     match cache.uncut_near(corners, near) {
@@ -123,11 +114,8 @@ pub fn touch_block(
     block: &Block,
     seen: Seen,
 ) -> Seen
-    requires client { visit.now.name.client < 8 }
-    requires place { visit.now.name.place + 1 < 2 ^ 32 }
-    requires size { length pixels.old.cells.items ≡ visit.now.height * visit.now.width }
-    ensures size { length pixels.new.cells.items ≡ length pixels.old.cells.items }
-    ensures touched { Touches (block_has state.now block.now) visit.now pixels.old pixels.new seen result }
+    requires { IsVisitOf visit.now pixels.old }
+    ensures { Touches (block_has state.now block.now) visit.now pixels.old pixels.new seen result }
 {
     let part = drawn_part(state, window_rect(visit.width, visit.height));
     let near = surrounds_of(part);
@@ -150,12 +138,9 @@ fn row_of(y: i32) -> u16
 
 // A name touches all pixels of a part of the window.
 fn touch_part(pixels: &mut Cells, visit: &Visit, part: Rect, seen: Seen) -> Seen
-    requires client { visit.now.name.client < 8 }
-    requires place { visit.now.name.place + 1 < 2 ^ 32 }
-    requires size { length pixels.old.cells.items ≡ visit.now.height * visit.now.width }
+    requires visit { IsVisitOf visit.now pixels.old }
     requires part { IsWithinWindow visit.now.width visit.now.height part }
-    ensures size { length pixels.new.cells.items ≡ length pixels.old.cells.items }
-    ensures touched { Touches (part_has part) visit.now pixels.old pixels.new seen result }
+    ensures { Touches (part_has part) visit.now pixels.old pixels.new seen result }
 {
     let _visit = *visit;
     if part.x1 <= part.x0 {
@@ -184,11 +169,8 @@ fn touch_part(pixels: &mut Cells, visit: &Visit, part: Rect, seen: Seen) -> Seen
 
 /// A name touches the pixels of the window that the scissor box lets a Clear through to.
 pub fn touch_clear(pixels: &mut Cells, visit: &Visit, state: &State, seen: Seen) -> Seen
-    requires client { visit.now.name.client < 8 }
-    requires place { visit.now.name.place + 1 < 2 ^ 32 }
-    requires size { length pixels.old.cells.items ≡ visit.now.height * visit.now.width }
-    ensures size { length pixels.new.cells.items ≡ length pixels.old.cells.items }
-    ensures touched { Touches (clear_has state.now) visit.now pixels.old pixels.new seen result }
+    requires { IsVisitOf visit.now pixels.old }
+    ensures { Touches (clear_has state.now) visit.now pixels.old pixels.new seen result }
 {
     touch_part(
         pixels,

@@ -32,7 +32,7 @@ loop-x-preserved c =
     let index : c.row_start-start.result + x ≡ q = ap (λ s. s + x) c.row_start-start.ensures in
     let moved : new ≡ mark v.name cells q = c.mark.ensures ∙ ap (mark v.name cells) index in
     let here = subst (λ i. IsFirst (OrBefore c.loop-x.best (IsFoundIn v.name.client v.clock (cell_at cells i) (Pixel x run.row))) c.look-best.result) index c.look-best.ensures in
-    let one = subst (AreTouched (run_has (pixel_run run.row x)) v cells) (sym moved) (pixel_cells v cells run.row x (inv.size ∙ c.requires.size) wide c.requires.run.0) in
+    let one = subst (AreTouched (run_has (pixel_run run.row x)) v cells) (sym moved) (pixel_cells v cells run.row x (inv.size ∙ c.requires.visit.size) wide c.requires.run.0) in
     record {
       from = omega (arith, inv.from);
       size = ap length moved ∙ length-set cells q (marked v.name (cell_at cells q)) ∙ inv.size;

@@ -1,4 +1,4 @@
-use Rattle.std.proofs.Common.{◌≡◌, ◌∙◌, ◌++◌, ◌||◌, ℕ, suc, List, [], ◌∷◌, length, refl, subst, sym, ap, arith, append_assoc, append-nil}
+use Rattle.std.proofs.Common.{◌≡◌, ◌∙◌, ◌++◌, ◌||◌, ℕ, suc, List, [], ◌∷◌, length, refl, subst, sym, ap, arith, append_assoc, append-nil, rules}
 use Rattle.std.specs.List.{All, flat_map}
 use Rattle.rc_base.specs.Drawing.Pieces.{kept_corners_of, kept_triangles}
 use Rattle.rc_base.specs.Drawing.Triangles.{triangles_in}
@@ -49,6 +49,9 @@ pub touch_corners-seen-requires-clause-corners : goal.touch_corners-seen-require
 touch_corners-seen-requires-clause-corners c =
     first_of_all (AreBelow (length c.args.block.now.vertices)) c.in-Some.corners _ _ c.in-Some.ensures.steps c.cuts.invariant.below
 
+pub touch_corners-seen-requires-clause-visit : goal.touch_corners-seen-requires-clause-visit
+touch_corners-seen-requires-clause-visit c = record { client = c.requires.client; place = c.requires.place; size = c.cuts.invariant.size ∙ c.requires.size }
+
 pub cuts-preserved : goal.cuts-preserved
 cuts-preserved c =
     let v = c.cuts.invariant in
@@ -61,13 +64,13 @@ cuts-preserved c =
     let old = c.cuts.pixels.cells.items in
     let new = c.touch_corners-seen.new.pixels.cells.items in
     let one : IsTouch (triangles_have (kept_corners_of s block t) part) c.args.visit.now old new c.cuts.seen c.touch_corners-seen.result =
-    subst (λ (q : State). IsTouch (triangles_have (kept_corners_of q block t) part) c.args.visit.now old new c.cuts.seen c.touch_corners-seen.result) v.state c.touch_corners-seen.ensures.touched in
+    subst (λ (q : State). IsTouch (triangles_have (kept_corners_of q block t) part) c.args.visit.now old new c.cuts.seen c.touch_corners-seen.result) v.state c.touch_corners-seen.ensures.touches.touched in
     record {
       state = c.touch_corners-seen.ensures.state ∙ v.state;
       vertices = c.touch_corners-seen.ensures.vertices;
       part = v.part;
       below = all_rest (AreBelow (length block.vertices)) t _ _ e v.below;
-      size = c.touch_corners-seen.ensures.size ∙ v.size;
+      size = c.touch_corners-seen.ensures.touches.size ∙ v.size;
       front = v.front ++ t ∷ [];
       all = v.all ∙ ap (λ (r : List (List ℕ)). v.front ++ r) e ∙ sym (append_assoc v.front (t ∷ []) _);
       touched = touch_then (λ x y. triangles_have (flat_map (kept_corners_of s block) v.front) part x y) (triangles_have (kept_corners_of s block t) part)
@@ -75,14 +78,17 @@ cuts-preserved c =
           (λ x y lx ly. one_more (kept_corners_of s block) v.front t part x y);
     }
 
-pub returns-clause-touched : goal.returns-clause-touched
-returns-clause-touched c =
-    let v = c.cuts.invariant in
-    let s = c.args.state.now in
-    let block = c.args.block.now in
-    let w = c.args.visit.now in
-    let part = c.drawn_part-part.result in
-    let e = c.in-None.ensures.steps in
-    let whole : triangles_in block ≡ v.front = v.all ∙ ap (λ (r : List (List ℕ)). v.front ++ r) e.0 ∙ append-nil v.front in
-    touch_as (λ x y. triangles_have (flat_map (kept_corners_of s block) v.front) part x y) (block_has s block) w c.args.pixels.now.cells.items c.cuts.pixels.cells.items c.args.seen c.cuts.seen v.touched
-    (λ x y lx ly. all_covers s (kept_triangles s block) part w.width w.height v.part x y lx ly ∙ ap (λ (ts : List (List ℕ)). triangles_have (flat_map (kept_corners_of s block) ts) part x y) whole)
+pub returns : goal.returns
+returns c = record {
+  size = search rules;
+  touched =
+      let v = c.cuts.invariant in
+      let s = c.args.state.now in
+      let block = c.args.block.now in
+      let w = c.args.visit.now in
+      let part = c.drawn_part-part.result in
+      let e = c.in-None.ensures.steps in
+      let whole : triangles_in block ≡ v.front = v.all ∙ ap (λ (r : List (List ℕ)). v.front ++ r) e.0 ∙ append-nil v.front in
+      touch_as (λ x y. triangles_have (flat_map (kept_corners_of s block) v.front) part x y) (block_has s block) w c.args.pixels.now.cells.items c.cuts.pixels.cells.items c.args.seen c.cuts.seen v.touched
+      (λ x y lx ly. all_covers s (kept_triangles s block) part w.width w.height v.part x y lx ly ∙ ap (λ (ts : List (List ℕ)). triangles_have (flat_map (kept_corners_of s block) ts) part x y) whole);
+}

@@ -1,4 +1,4 @@
-use Rattle.std.proofs.Common.{◌≡◌, ◌++◌, ◌∙◌, ℕ, length, List, Some, None, Option, slice_index, ap, sym, subst}
+use Rattle.std.proofs.Common.{◌≡◌, ◌++◌, ◌∙◌, ℕ, length, List, Some, None, Option, slice_index, ap, sym, subst, rules}
 use Rattle.std.specs.Prelude.{option_to_list, MatchOption}
 use Rattle.rc_base.specs.Drawing.Kept.{kept_whole, vertex_at}
 use Rattle.rc_base.specs.Drawing.Pieces.{kept_corners_of, kept_pieces}
@@ -46,19 +46,22 @@ pieces_kept s now block t given vs kept es ev a b c h =
     ∙ ap (λ (u : Vertex). kept_pieces s block.mode (vertex_at given 0) (vertex_at given 1) u) (sym c)
     ∙ ap (λ (q : State). kept_pieces q block.mode (vertex_at given 0) (vertex_at given 1) (vertex_at given 2)) (sym es) ∙ h
 
-pub returns-in-No-clause-touched : goal.returns-in-No-clause-touched
-returns-in-No-clause-touched c =
-    let s = c.args.cache.now.state.now in
-    let block = c.args.block.now in
-    let t = c.args.corners in
-    let part = c.args.part in
-    let g = c.pieces-given.result in
-    let e = c.vertices_at-vertices.ensures in
-    let kept = pieces_kept s c.uncut_near.new.self.state.now block t c.vertices_at-vertices.result c.as_slice.result.now (found g.first ++ found g.second) c.uncut_near.ensures.state c.as_slice.ensures
-    e.first e.second e.third c.pieces-given.ensures.all in
-    touch_then (triangles_have (found g.first) part) (triangles_have (found g.second) part) (triangles_have (kept_corners_of s block t) part) c.args.visit.now c.args.pixels.now.cells.items
-    c.touch_found-first.new.pixels.cells.items c.touch_found-in-No.new.pixels.cells.items c.args.seen c.touch_found-first.result c.touch_found-in-No.result c.touch_found-first.ensures.touched
-    c.touch_found-in-No.ensures.touched (λ x y lx ly. ap (λ us. triangles_have us part x y) kept ∙ have_then (found g.first) (found g.second) part x y)
+pub returns-in-No-clause-touches : goal.returns-in-No-clause-touches
+returns-in-No-clause-touches c = record {
+  size = search rules;
+  touched =
+      let s = c.args.cache.now.state.now in
+      let block = c.args.block.now in
+      let t = c.args.corners in
+      let part = c.args.part in
+      let g = c.pieces-given.result in
+      let e = c.vertices_at-vertices.ensures in
+      let kept = pieces_kept s c.uncut_near.new.self.state.now block t c.vertices_at-vertices.result c.as_slice.result.now (found g.first ++ found g.second) c.uncut_near.ensures.state c.as_slice.ensures
+      e.first e.second e.third c.pieces-given.ensures.all in
+      touch_then (triangles_have (found g.first) part) (triangles_have (found g.second) part) (triangles_have (kept_corners_of s block t) part) c.args.visit.now c.args.pixels.now.cells.items
+      c.touch_found-first.new.pixels.cells.items c.touch_found-in-No.new.pixels.cells.items c.args.seen c.touch_found-first.result c.touch_found-in-No.result c.touch_found-first.ensures.touched
+      c.touch_found-in-No.ensures.touched (λ x y lx ly. ap (λ us. triangles_have us part x y) kept ∙ have_then (found g.first) (found g.second) part x y);
+}
 
 pub vertices_at-vertices-requires : goal.vertices_at-vertices-requires
 vertices_at-vertices-requires c = subst (λ (vs : List Vertex). AreBelow (length vs) c.args.corners) (sym c.as_slice.ensures) c.requires.corners
@@ -66,14 +69,17 @@ vertices_at-vertices-requires c = subst (λ (vs : List Vertex). AreBelow (length
 pub uncut_near-requires : goal.uncut_near-requires
 uncut_near-requires c = subst (λ (vs : List Vertex). AreBelow (length vs) c.args.corners) (sym c.requires.vertices) c.requires.corners
 
-pub returns-in-Whole-clause-touched : goal.returns-in-Whole-clause-touched
-returns-in-Whole-clause-touched c =
-    let s = c.args.cache.now.state.now in
-    let block = c.args.block.now in
-    let t = c.args.corners in
-    let tri = c.in-Whole.ensures.triangle in
-    let front = subst (λ (vs : List Vertex). AllStandInFront s vs t) c.requires.vertices tri.0 in
-    let whole = subst (λ (vs : List Vertex). MatchOption c.in-Whole.tri (IsBesideIfKept s vs t c.args.near.now) (λ tri. kept_whole s vs t ≡ Some tri.v)) c.requires.vertices tri.1 in
-    touch_as (triangles_have (found c.in-Whole.tri) c.args.part) (triangles_have (kept_corners_of s block t) c.args.part) c.args.visit.now c.args.pixels.now.cells.items
-    c.touch_found.new.pixels.cells.items c.args.seen c.touch_found.result c.touch_found.ensures.touched
-    (λ x y lx ly. whole_has c.cover_lies_in_bounds.ensures s block t c.args.part c.args.near.now c.in-Whole.tri c.requires.near front whole x y)
+pub returns-in-Whole-clause-touches : goal.returns-in-Whole-clause-touches
+returns-in-Whole-clause-touches c = record {
+  size = search rules;
+  touched =
+      let s = c.args.cache.now.state.now in
+      let block = c.args.block.now in
+      let t = c.args.corners in
+      let tri = c.in-Whole.ensures.triangle in
+      let front = subst (λ (vs : List Vertex). AllStandInFront s vs t) c.requires.vertices tri.0 in
+      let whole = subst (λ (vs : List Vertex). MatchOption c.in-Whole.tri (IsBesideIfKept s vs t c.args.near.now) (λ tri. kept_whole s vs t ≡ Some tri.v)) c.requires.vertices tri.1 in
+      touch_as (triangles_have (found c.in-Whole.tri) c.args.part) (triangles_have (kept_corners_of s block t) c.args.part) c.args.visit.now c.args.pixels.now.cells.items
+      c.touch_found.new.pixels.cells.items c.args.seen c.touch_found.result c.touch_found.ensures.touched
+      (λ x y lx ly. whole_has c.cover_lies_in_bounds.ensures s block t c.args.part c.args.near.now c.in-Whole.tri c.requires.near front whole x y);
+}

@@ -1,4 +1,4 @@
-use Rattle.std.proofs.Common.{◌≡◌, ◌∙◌, false, ℤ, arith, ap, refl, sym, subst}
+use Rattle.std.proofs.Common.{◌≡◌, ◌∙◌, false, ℤ, arith, ap, refl, sym, subst, rules}
 use Rattle.std.proofs.lemmas.Int.{ints}
 use Rattle.race_check.specs.Finds.{run_has}
 use Rattle.race_check.specs.Touches.{IsTouch, triangle_has}
@@ -48,8 +48,8 @@ run_of-requires-clause-right c =
     let h = (span_of_part c.args.tri.now.v c.args.visit.now.width c.args.visit.now.height c.args.part c.rows.span-iterator.y c.in-Some.span c.requires.part n i.from).right in
     omega (arith, ints)
 
-pub touch_run-seen-requires-clause-size : goal.touch_run-seen-requires-clause-size
-touch_run-seen-requires-clause-size c = c.rows.invariant.size ∙ c.requires.size
+pub touch_run-seen-requires-clause-visit : goal.touch_run-seen-requires-clause-visit
+touch_run-seen-requires-clause-visit c = record { client = c.requires.visit.client; place = c.requires.visit.place; size = c.rows.invariant.size ∙ c.requires.visit.size }
 
 pub touch_run-seen-requires-clause-run : goal.touch_run-seen-requires-clause-run
 touch_run-seen-requires-clause-run c =
@@ -81,13 +81,16 @@ rows-preserved c =
           (λ x y lx ly. rows_more v part z c.next.new.self.y s r x y n i.from e.0.1 c.run_of.ensures.row c.run_of.ensures.from c.run_of.ensures.to);
     }
 
-pub returns-clause-touched : goal.returns-clause-touched
-returns-clause-touched c =
-    let i = c.rows.invariant in
-    let e = c.in-None.ensures.steps in
-    let n = rw (i.triangle, i.part) at e.0.0 in
-    let v = c.args.tri.now.v in
-    let part = c.args.part in
-    let z = c.rows.span-iterator.y in
-    touch_as (rows_below v part z) (triangle_has v part) c.args.visit.now c.args.pixels.now.cells.items c.rows.pixels.cells.items c.args.seen c.rows.seen i.touched
-    (λ x y lx ly. last_rows v part z x y n)
+pub returns : goal.returns
+returns c = record {
+  size = search rules;
+  touched =
+      let i = c.rows.invariant in
+      let e = c.in-None.ensures.steps in
+      let n = rw (i.triangle, i.part) at e.0.0 in
+      let v = c.args.tri.now.v in
+      let part = c.args.part in
+      let z = c.rows.span-iterator.y in
+      touch_as (rows_below v part z) (triangle_has v part) c.args.visit.now c.args.pixels.now.cells.items c.rows.pixels.cells.items c.args.seen c.rows.seen i.touched
+      (λ x y lx ly. last_rows v part z x y n);
+}
