@@ -103,3 +103,17 @@ module _ {O : Type 0} (full_seen : O → ℕ) (full : O → Type 0) where
   abbrev pub AreFoundFull : ManagerDeed → List O → List O → Type 0
   AreFoundFull deed before after =
       EachLane (λ i a b. (IsFoundFull deed i → Rose (full_seen a) (full_seen b) × full b) × ((IsFoundFull deed i → ⊥) → full_seen b ≡ full_seen a)) before after
+
+module _ {I : Type 0} (lane_of : I → List ℕ) (gave : I → Request → I → Type 0) (same : I → I → Type 0) (empty_seen : I → ℕ) (bare : I → Type 0) where
+  -- what the step makes of the lanes of requests
+  pub record AreServed (core : ManagerCore) (deed : ManagerDeed) (before after : List I) : Type 0 where
+    pub lanes : EachLane (λ i a b. lane_of b ≡ lane_of a) before after
+    pub taken : AreTaken gave same deed before after
+    pub empty : AreFoundEmpty empty_seen bare core deed before after
+
+module _ {O : Type 0} (lane_of : O → List ℕ) (sent : O → List Grant) (full_seen : O → ℕ) (full : O → Type 0) where
+  -- and of the lanes of grants
+  pub record AreSupplied (deed : ManagerDeed) (before after : List O) : Type 0 where
+    pub lanes : EachLane (λ i a b. lane_of b ≡ lane_of a) before after
+    pub appended : AreSent sent deed before after
+    pub found_full : AreFoundFull full_seen full deed before after

@@ -8,8 +8,8 @@ use Rattle.rc_base.specs.declared.sync.Request.{Request}
 use Rattle.rc_base.specs.declared.sync.Request.TheVariants as request
 use Rattle.rc_base.specs.declared.sync.SyncLists.{SyncLists}
 use Rattle.rc_base.specs.declared.sync.SyncOp.{SyncOp}
-use Rattle.sync_manager.specs.Books.{AllWaitOrEnded, first_in, journal_in, names_declared}
-use Rattle.sync_manager.specs.Cores.{drained_in}
+use Rattle.sync_manager.specs.Books.{AllWaitOrEnded, first_in, is_wanted, journal_in, names_declared}
+use Rattle.sync_manager.specs.Cores.{book_of, clients_of, drained_in}
 use Rattle.sync_manager.specs.Progress.{ManagerProgress, is_end, IsFoundEmpty, IsFoundFull, taken_of, sent_to}
 use Rattle.sync_manager.specs.declared.deed.ManagerDeed.{ManagerDeed}
 use Rattle.sync_manager.specs.declared.deed.ManagerDeed.TheVariants.{Receives, Loses}
@@ -57,6 +57,12 @@ IsTask core Receive = IsReceivingIn core
 IsTask core Drain = IsDrainingIn core
 
 -- ---- a request that was taken
+
+-- requests are received, and the client neither waits nor has ended
+pub record MayReceive (core : ManagerCore) (client : ℕ) : Type 0 where
+  pub low : client < clients_of core
+  pub wanted : is_wanted (book_of core) client ≡ true
+  pub task : IsReceivingIn core
 
 -- the request ends its client
 abbrev pub IsEnding : ManagerCore → Request → Type 0

@@ -32,11 +32,11 @@ pub struct ManagerCore {
 impl ManagerCore {
     ghost use Rattle.std.specs.Prelude.{◌≡◌, ◌⊎◌, ◌≤◌, ◌<◌, true, false, length, IfOk, OnOk, OnErr, IfSome, IfNone};
     ghost use Rattle.rc_base.specs.Cluster.Lanes.{EachLane};
-    ghost use Rattle.sync_manager.specs.Books.{clients_in, is_wanted, names_declared};
+    ghost use Rattle.sync_manager.specs.Books.{clients_in, names_declared};
     ghost use Rattle.sync_manager.specs.Stored.{CountSomeone};
     ghost use Rattle.sync_manager.specs.Progress.{answer_of};
-    ghost use Rattle.sync_manager.specs.Cores.{clients_of, tiles_of, book_of, drained_in, is_short, AreLeft, AreWanted, BecomesShort, HasToldAll, IsManagerStep, IsNewManager, OfProgress, AreTaken, AreFoundEmpty, AreSent, AreFoundFull};
-    ghost use Rattle.sync_manager.specs.Tasks.{AllSupplied, IsDeliveryIn, IsReceivingIn, IsDrainingIn, IsTask, IsEnding, IsNoted, IsOwed, IsTaking, LeavesRequests, LeavesGrants};
+    ghost use Rattle.sync_manager.specs.Cores.{clients_of, tiles_of, book_of, drained_in, is_short, AreLeft, AreWanted, BecomesShort, HasToldAll, AreServed, AreSupplied, IsManagerStep, IsNewManager, OfProgress, AreTaken, AreFoundEmpty, AreSent, AreFoundFull};
+    ghost use Rattle.sync_manager.specs.Tasks.{AllSupplied, MayReceive, IsDeliveryIn, IsReceivingIn, IsDrainingIn, IsTask, IsEnding, IsNoted, IsOwed, IsTaking, LeavesRequests, LeavesGrants};
     ghost use Rattle.sync_manager.specs.declared.deed.Task.TheVariants as task;
     ghost use Rattle.sync_manager.specs.declared.deed.ManagerDeed.{ManagerDeed};
     ghost use Rattle.sync_manager.specs.declared.deed.ManagerDeed.TheVariants as deed;
@@ -167,10 +167,8 @@ impl ManagerCore {
 
     /// The client's operation arrives, or is lost where memory lacks.
     fn arrive(&mut self, client: u8, place: u32, op: SyncOp) -> ManagerDeed
-        requires client { client < clients_of self.old }
-        requires wanted { is_wanted (book_of self.old) client ≡ true }
+        requires received { MayReceive self.old client }
         requires declared { names_declared (book_of self.old) op ≡ true }
-        requires task { IsReceivingIn self.old }
         ensures step { IsManagerStep self.old result self.new }
         ensures taken { IsTaking result client (Request.Op place op) }
     {
@@ -190,10 +188,8 @@ impl ManagerCore {
 
     /// The client has ended.
     fn end(&mut self, client: u8, request: Request)
-        requires client { client < clients_of self.old }
-        requires wanted { is_wanted (book_of self.old) client ≡ true }
+        requires received { MayReceive self.old client }
         requires ending { IsEnding self.old request }
-        requires task { IsReceivingIn self.old }
         ensures { IsManagerStep self.old (deed.Receives client request) self.new }
     {
         self.book.end(client);
@@ -202,9 +198,7 @@ impl ManagerCore {
 
     /// A request that was taken arrives in the book; one for what isn't declared counts as End.
     fn enter(&mut self, client: u8, request: Request) -> ManagerDeed
-        requires client { client < clients_of self.old }
-        requires wanted { is_wanted (book_of self.old) client ≡ true }
-        requires task { IsReceivingIn self.old }
+        requires { MayReceive self.old client }
         ensures step { IsManagerStep self.old result self.new }
         ensures taken { IsTaking result client request }
     {
@@ -273,9 +267,8 @@ impl ManagerCore {
         requires due { IsDeliveryIn self.old tile grant }
         requires tile { tile < tiles_of self.old }
         ensures step { IsManagerStep self.old result self.new }
-        ensures lanes { EachLane (λ i a b. O.lane_of b ≡ O.lane_of a) grants.old grants.new }
-        ensures sent { AreSent O.sent result grants.old grants.new }
-        ensures full { AreFoundFull O.full_seen O.full result grants.old grants.new }
+        ensures grants { AreSupplied O.lane_of O.sent O.full_seen O.full result
+            grants.old grants.new }
         ensures requests { LeavesRequests result }
     {
         match grants[tile as usize].push(grant) {
@@ -292,9 +285,8 @@ impl ManagerCore {
         requires lanes { length requests.old ≡ clients_of self.old }
         requires task { IsReceivingIn self.old }
         ensures step { IsManagerStep self.old result self.new }
-        ensures lanes { EachLane (λ i a b. I.lane_of b ≡ I.lane_of a) requests.old requests.new }
-        ensures taken { AreTaken I.gave I.same result requests.old requests.new }
-        ensures empty { AreFoundEmpty I.empty_seen I.bare self.old result requests.old requests.new }
+        ensures requests { AreServed I.lane_of I.gave I.same I.empty_seen I.bare self.old result
+            requests.old requests.new }
         ensures grants { LeavesGrants result }
     {
         let asks = self.wanted();
@@ -309,9 +301,8 @@ impl ManagerCore {
         requires lanes { length requests.old ≡ clients_of self.old }
         requires task { IsDrainingIn self.old }
         ensures step { IsManagerStep self.old result self.new }
-        ensures lanes { EachLane (λ i a b. I.lane_of b ≡ I.lane_of a) requests.old requests.new }
-        ensures taken { AreTaken I.gave I.same result requests.old requests.new }
-        ensures empty { AreFoundEmpty I.empty_seen I.bare self.old result requests.old requests.new }
+        ensures requests { AreServed I.lane_of I.gave I.same I.empty_seen I.bare self.old result
+            requests.old requests.new }
         ensures grants { LeavesGrants result }
     {
         match take_in_rotation(requests, &self.left, self.start as usize) {
@@ -332,12 +323,10 @@ impl ManagerCore {
         requires clients { length requests.old ≡ clients_of self.old }
         requires tiles { length grants.old ≡ tiles_of self.old }
         ensures step { IsManagerStep self.old result self.new }
-        ensures request_lanes { EachLane (λ i a b. I.lane_of b ≡ I.lane_of a) requests.old requests.new }
-        ensures grant_lanes { EachLane (λ i a b. O.lane_of b ≡ O.lane_of a) grants.old grants.new }
-        ensures taken { AreTaken I.gave I.same result requests.old requests.new }
-        ensures empty { AreFoundEmpty I.empty_seen I.bare self.old result requests.old requests.new }
-        ensures sent { AreSent O.sent result grants.old grants.new }
-        ensures full { AreFoundFull O.full_seen O.full result grants.old grants.new }
+        ensures requests { AreServed I.lane_of I.gave I.same I.empty_seen I.bare self.old result
+            requests.old requests.new }
+        ensures grants { AreSupplied O.lane_of O.sent O.full_seen O.full result
+            grants.old grants.new }
     {
         match self.task() {
             Task::Deliver { tile, grant } => self.deliver(grants, tile, grant),

@@ -9,7 +9,7 @@ pub returns-in-Ok-clause-step : goal.returns-in-Ok-clause-step
 returns-in-Ok-clause-step c =
     let s = c.args.self.now in
     let r = Op c.args.place c.args.op in
-    received_step s _ c.note_taken.new.self c.args.client r c.requires.client c.arrive.ensures.clients refl refl refl refl c.note_taken.ensures c.requires.wanted c.requires.task refl
+    received_step s _ c.note_taken.new.self c.args.client r c.requires.received.low c.arrive.ensures.clients refl refl refl refl c.note_taken.ensures c.requires.received.wanted c.requires.received.task refl
     (λ syncs a h. subst (λ e. IsBookOf syncs c.arrive.new.self (book_after syncs a e))
     (sym (declared_event syncs c.args.client c.args.place c.args.op (sym (h.declared c.args.op) ∙ c.requires.declared))) (c.in-Ok.ensures.arrived syncs a h))
     (λ syncs a. same_journal syncs c.args.client r a)
@@ -17,5 +17,5 @@ returns-in-Ok-clause-step c =
 pub returns-in-Err-clause-step : goal.returns-in-Err-clause-step
 returns-in-Err-clause-step c =
     let s = c.args.self.now in
-    lost_step s _ c.note_taken-in-Err.new.self c.args.client c.args.place c.args.op c.requires.client c.arrive.ensures.clients refl refl refl refl refl c.note_taken-in-Err.ensures
-    c.requires.wanted c.requires.declared c.requires.task c.in-Err.ensures.unchanged
+    lost_step s _ c.note_taken-in-Err.new.self c.args.client c.args.place c.args.op c.requires.received.low c.arrive.ensures.clients refl refl refl refl refl c.note_taken-in-Err.ensures
+    c.requires.received.wanted c.requires.declared c.requires.received.task c.in-Err.ensures.unchanged
