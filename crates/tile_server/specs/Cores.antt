@@ -126,3 +126,17 @@ module _ {J : Type 0} (empty_seen : J → ℕ) (bare : J → Type 0) where
   abbrev pub CountsUnheard : TileCore → TileDeed → J → J → Type 0
   CountsUnheard core deed before after = (p : Progress) → IsProgressOf core p
       → IsUnheard (is_short core) p deed → Rose (empty_seen before) (empty_seen after) × bare after
+
+module _ {I : Type 0} (lane_of : I → List ℕ) (gave : I → Parcel → I → Type 0) (same : I → I → Type 0) (empty_seen : I → ℕ) (bare : I → Type 0) where
+  -- what the step makes of the clients' lanes
+  pub record AreServed (core : TileCore) (deed : TileDeed) (before after : List I) : Type 0 where
+    pub lanes : AreSameLanes lane_of before after
+    pub taken : AreTaken gave same deed before after
+    pub empty : AreFoundEmpty empty_seen bare core deed before after
+
+module _ {J : Type 0} (lane_of : J → List ℕ) (gave : J → Grant → J → Type 0) (same : J → J → Type 0) (empty_seen : J → ℕ) (bare : J → Type 0) where
+  -- and of the lane of grants
+  pub record IsHeardFrom (core : TileCore) (deed : TileDeed) (before after : J) : Type 0 where
+    pub lane : lane_of after ≡ lane_of before
+    pub heard : IsHeard gave same deed before after
+    pub unheard : CountsUnheard empty_seen bare core deed before after

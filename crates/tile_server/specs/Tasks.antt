@@ -8,7 +8,7 @@ use Rattle.tile_model.specs.Boards.{IsCarriedOut}
 use Rattle.tile_model.specs.Givable.{is_givable}
 use Rattle.tile_model.specs.Items.{after_work}
 use Rattle.tile_server.specs.Boards.{IsPartOf, IsSameTile}
-use Rattle.tile_server.specs.Cores.{board_of, clients_of, decl_of, layout_of, tile_of}
+use Rattle.tile_server.specs.Cores.{board_of, clients_of, decl_of, layout_of, tile_of, IsTileStep}
 use Rattle.tile_server.specs.Deeds.{granted_of, taken_of, IsFoundEmpty, IsUnheard}
 use Rattle.tile_server.specs.Ledgers.{closed_in, held_in, is_over_in, HoldsAll, IsLedgerStep}
 use Rattle.tile_server.specs.declared.deed.TileDeed.{TileDeed}
@@ -26,6 +26,11 @@ NothingIsDueIn core = (e : Entry) → IsDueIn core e → ⊥
 -- it takes what is granted
 abbrev pub listens_in : TileCore → Bool
 listens_in core = cond core.short (not core.ledger.no_more) (cond core.ledger.no_more false (is_none core.ledger.known))
+
+-- a grant may be taken
+pub record MayLearn (core : TileCore) : Type 0 where
+  pub undue : NothingIsDueIn core
+  pub listens : listens_in core ≡ true
 
 -- it takes from the client
 abbrev pub asks_in : TileCore → ℕ → Bool
@@ -91,3 +96,9 @@ pub record LeavesClients (deed : TileDeed) : Type 0 where
 pub record LeavesGrants (deed : TileDeed) : Type 0 where
   pub none : granted_of deed ≡ None
   pub nowhere : (short : Bool) (p : Progress) → IsUnheard short p deed → ⊥
+
+-- a step that touches no lane
+pub record IsInternalStep (core : TileCore) (deed : TileDeed) (later : TileCore) : Type 0 where
+  pub step : IsTileStep core deed later
+  pub clients : LeavesClients deed
+  pub grants : LeavesGrants deed

@@ -45,9 +45,9 @@ impl TileCore {
     ghost use Rattle.rc_base.specs.declared.sync.Grant.TheVariants as grant;
     ghost use Rattle.tile_server.specs.Deeds.{granted_of, AnswersDeed};
     ghost use Rattle.tile_server.specs.Ledgers.{held_in, is_over_in, IsSameLedger};
-    ghost use Rattle.tile_server.specs.Tasks.{asks_in, listens_in, AreAsked, IsAlike, IsDueIn, IsFinishedIn, IsFreeIn, IsNextPart, IsWorked, LeavesClients, LeavesGrants, MayTakeIn, NothingIsDueIn};
+    ghost use Rattle.tile_server.specs.Tasks.{asks_in, listens_in, AreAsked, IsAlike, IsDueIn, IsFinishedIn, IsFreeIn, IsInternalStep, IsNextPart, IsWorked, MayLearn, MayTakeIn, NothingIsDueIn};
     ghost use Rattle.tile_server.specs.declared.deed.TileDeed.TheVariants as deed;
-    ghost use Rattle.tile_server.specs.Cores.{board_of, clients_of, decl_of, is_short, layout_of, next_of, tile_of, AreFoundEmpty, AreSameLanes, AreTaken, BecameShort, CountsUnheard, IsHeard, IsProgressOf, IsSameCore, IsTileStep, TakesEnd, TakesMore, TakesOperation};
+    ghost use Rattle.tile_server.specs.Cores.{board_of, clients_of, decl_of, is_short, layout_of, next_of, tile_of, AreFoundEmpty, AreSameLanes, AreServed, AreTaken, BecameShort, CountsUnheard, IsHeard, IsHeardFrom, IsProgressOf, IsSameCore, IsTileStep, TakesEnd, TakesMore, TakesOperation};
 
     /// The core of a tile that was sent nothing yet.
     pub fn new(
@@ -169,9 +169,7 @@ impl TileCore {
     fn perform_entry(&mut self, entry: Entry) -> TileDeed
         requires due { IsDueIn self.old entry }
         requires unshown { entry ≢ Swap }
-        ensures step { IsTileStep self.old result self.new }
-        ensures clients { LeavesClients result }
-        ensures grants { LeavesGrants result }
+        ensures { IsInternalStep self.old result self.new }
     {
         match self.ledger.perform(entry) {
             Ok(()) => TileDeed::Performs(entry),
@@ -186,9 +184,7 @@ impl TileCore {
     fn show_part(&mut self, part: TilePart) -> TileDeed
         requires due { IsDueIn self.old Swap }
         requires part { IsNextPart self.old part }
-        ensures step { IsTileStep self.old result self.new }
-        ensures clients { LeavesClients result }
-        ensures grants { LeavesGrants result }
+        ensures { IsInternalStep self.old result self.new }
     {
         match self.ledger.perform(Entry::Swap) {
             Ok(()) => {
@@ -205,9 +201,7 @@ impl TileCore {
     /// A Swap is performed.
     fn show(&mut self) -> TileDeed
         requires { IsDueIn self.old Swap }
-        ensures step { IsTileStep self.old result self.new }
-        ensures clients { LeavesClients result }
-        ensures grants { LeavesGrants result }
+        ensures { IsInternalStep self.old result self.new }
     {
         match self.canvas.part(self.frames.saturating_add(1)) {
             Ok(part) => self.show_part(part),
@@ -220,9 +214,7 @@ impl TileCore {
 
     fn perform(&mut self, entry: Entry) -> TileDeed
         requires { IsDueIn self.old entry }
-        ensures step { IsTileStep self.old result self.new }
-        ensures clients { LeavesClients result }
-        ensures grants { LeavesGrants result }
+        ensures { IsInternalStep self.old result self.new }
     {
         match entry {
             Entry::Swap => self.show(),
@@ -234,8 +226,7 @@ impl TileCore {
 
     /// An entry is learnt; a short tile drops it.
     fn learn_entry(&mut self, entry: Entry)
-        requires undue { NothingIsDueIn self.old }
-        requires listens { listens_in self.old ≡ true }
+        requires { MayLearn self.old }
         ensures { IsTileStep self.old (deed.Learns (grant.Entry entry)) self.new }
     {
         if !self.short {
@@ -245,16 +236,14 @@ impl TileCore {
 
     /// No more is granted.
     fn learn_no_more(&mut self)
-        requires undue { NothingIsDueIn self.old }
-        requires listens { listens_in self.old ≡ true }
+        requires { MayLearn self.old }
         ensures { IsTileStep self.old (deed.Learns grant.NoMore) self.new }
     {
         self.ledger.learn_no_more();
     }
 
     fn learn(&mut self, grant: Grant)
-        requires undue { NothingIsDueIn self.old }
-        requires listens { listens_in self.old ≡ true }
+        requires { MayLearn self.old }
         ensures { IsTileStep self.old (deed.Learns grant) self.new }
     {
         match grant {
@@ -399,9 +388,8 @@ impl TileCore {
         requires lanes { length clients.old ≡ clients_of self.old }
         requires undue { NothingIsDueIn self.old }
         ensures step { IsTileStep self.old result self.new }
-        ensures lanes { AreSameLanes I.lane_of clients.old clients.new }
-        ensures taken { AreTaken I.gave I.same result clients.old clients.new }
-        ensures empty { AreFoundEmpty I.empty_seen I.bare self.old result clients.old clients.new }
+        ensures clients { AreServed I.lane_of I.gave I.same I.empty_seen I.bare self.old result
+            clients.old clients.new }
         ensures grants { granted_of result ≡ None }
     {
         let asks = self.asked();
@@ -426,15 +414,12 @@ impl TileCore {
         grants: &mut J,
     ) -> TileDeed
         requires lanes { length clients.old ≡ clients_of self.old }
-        requires undue { NothingIsDueIn self.old }
-        requires listens { listens_in self.old ≡ true }
+        requires learns { MayLearn self.old }
         ensures step { IsTileStep self.old result self.new }
-        ensures client_lanes { AreSameLanes I.lane_of clients.old clients.new }
-        ensures grant_lane { J.lane_of grants.new ≡ J.lane_of grants.old }
-        ensures taken { AreTaken I.gave I.same result clients.old clients.new }
-        ensures empty { AreFoundEmpty I.empty_seen I.bare self.old result clients.old clients.new }
-        ensures heard { IsHeard J.gave J.same result grants.old grants.new }
-        ensures unheard { CountsUnheard J.empty_seen J.bare self.old result grants.old grants.new }
+        ensures clients { AreServed I.lane_of I.gave I.same I.empty_seen I.bare self.old result
+            clients.old clients.new }
+        ensures grants { IsHeardFrom J.lane_of J.gave J.same J.empty_seen J.bare self.old result
+            grants.old grants.new }
     {
         match grants.pop() {
             Some(grant) => {
@@ -452,12 +437,10 @@ impl TileCore {
     ) -> TileDeed
         requires { length clients.old ≡ clients_of self.old }
         ensures step { IsTileStep self.old result self.new }
-        ensures client_lanes { AreSameLanes I.lane_of clients.old clients.new }
-        ensures grant_lane { J.lane_of grants.new ≡ J.lane_of grants.old }
-        ensures taken { AreTaken I.gave I.same result clients.old clients.new }
-        ensures empty { AreFoundEmpty I.empty_seen I.bare self.old result clients.old clients.new }
-        ensures heard { IsHeard J.gave J.same result grants.old grants.new }
-        ensures unheard { CountsUnheard J.empty_seen J.bare self.old result grants.old grants.new }
+        ensures clients { AreServed I.lane_of I.gave I.same I.empty_seen I.bare self.old result
+            clients.old clients.new }
+        ensures grants { IsHeardFrom J.lane_of J.gave J.same J.empty_seen J.bare self.old result
+            grants.old grants.new }
     {
         match self.due() {
             Some(entry) => self.perform(entry),
