@@ -1,6 +1,6 @@
 -- A core whose next item is made ready, and an item that goes.
 use Rattle.std.proofs.Common.{◌≡◌, ◌∙◌, ℕ, ◌<◌, Bool, true, false, List, [], ◌∷◌, ◌++◌, length, Some, None, Ok, Err, refl, sym, ap, subst, get_or}
-use Rattle.std.specs.Prelude.{IfNone, IfSome, OnErr, Result, cond, slice_set, if◌then◌else◌}
+use Rattle.std.specs.Prelude.{IfNone, IfOk, IfSome, OnErr, Result, cond, slice_set, if◌then◌else◌}
 use Rattle.std.specs.declared.option.Option.{Option}
 use Rattle.std.proofs.lemmas.List.{get_or-set_same, get_or-set_other, get_or_default}
 use Rattle.rc_base.specs.Cluster.Parcels.{end_parcel}
@@ -8,11 +8,13 @@ use Rattle.rc_base.specs.Cluster.Sending.{ToManager, to_tiles}
 use Rattle.rc_base.specs.Cluster.Tiles.{tile_count}
 use Rattle.rc_base.specs.Contexts.Issue.{stream_of}
 use Rattle.rc_base.specs.declared.cluster.Tally.{Tally}
+use Rattle.rc_base.specs.declared.command.Command.{Command}
+use Rattle.rc_base.specs.declared.out_of_memory.OutOfMemory.{OutOfMemory}
 use Rattle.rc_base.specs.declared.state.Parcel.{Parcel}
 use Rattle.rc_base.specs.declared.sync.Request.TheVariants as request
 use Rattle.rc_base.specs.declared.window.Layout.{Layout}
 use Rattle.client_issue.specs.Cores.{commands_left, ends_from, left_by, no_tally, looks_of, tally_after, tally_in, IsTallied}
-use Rattle.client_issue.specs.Sequence.{item_of, items_of, left_of, IsForTile, IsInOrder, IsSame, IsSound}
+use Rattle.client_issue.specs.Sequence.{item_of, items_of, left_of, scene_of, HasLooks, IsForTile, IsInOrder, IsNextItem, IsOfLast, IsSame, IsSound}
 use Rattle.client_issue.specs.Steps.{IsCutShort}
 use Rattle.client_issue.specs.declared.client.ClientCore.{ClientCore}
 use Rattle.client_issue.specs.declared.item.Item.{Item}
@@ -121,3 +123,17 @@ err_map (Err e) P Q f p = f p
 pub none_map : {A : Type 0} (o : Option A) (P Q : Type 0) → (P → Q) → IfNone o P → IfNone o Q
 none_map None P Q f p = f p
 none_map (Some x) P Q f p = tt
+
+-- the next item of a client that has issued more, but has the same left to give, is the next one of the client
+pub next_item : (s t now : Sender) (r : Result (Option Item) OutOfMemory) → IsSame s t → left_of t ≡ left_of s
+    → IfOk r (λ o. IsNextItem t o now) → IfOk r (λ o. IsNextItem s o now)
+next_item s t now (Ok o) same left h = record {
+  sending = h.sending;
+  left = sym left ∙ h.left;
+  all = h.all;
+  tile = subst (λ (n : ℕ). IfSome o (IsForTile n)) same.count h.tile;
+  looked = let P : Sender → Type 0 = λ q. IfSome o (HasLooks (scene_of q) q.layout) in
+      subst P (λ i. record t { decl = same.decl i; stream = same.stream i; layout = same.layout i }) h.looked;
+  next = subst (λ (xs : List Command). IfSome o (IsOfLast (length xs) now.issued)) same.stream h.next;
+}
+next_item s t now (Err e) same left h = tt

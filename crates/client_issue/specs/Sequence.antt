@@ -1,5 +1,5 @@
 -- What a client that has issued some of its commands has still to give.
-use Rattle.std.specs.Prelude.{◌≡◌, ℕ, min, ◌+◌, ◌-◌, ◌<◌, ◌≤◌, ◌^◌, ◌&&◌, Bool, true, false, nat_lt, is_none, List, [], ◌∷◌, ◌++◌, length, map, Option, Some, IfSome, if◌then◌else◌}
+use Rattle.std.specs.Prelude.{◌≡◌, ℕ, min, ◌+◌, ◌-◌, ◌<◌, ◌≤◌, ◌^◌, ◌&&◌, Bool, true, false, nat_lt, is_none, List, [], ◌∷◌, ◌++◌, length, map, Option, None, Some, IfNone, IfSome, if◌then◌else◌}
 use Rattle.std.specs.List.{flat_map, range_with_len, AllByRecursion}
 use Rattle.std.specs.Option.{option_map_or, ForSome}
 use Rattle.std.specs.Coded.{Unit-prop, le_prop}
@@ -150,6 +150,33 @@ IsSending s = IsSendingWith s s.pending
 pub record IsOver (s : Sender) : Type 0 where
   pub resting : (is_none s.pending && is_none s.request) ≡ true
   pub issued : s.issued ≡ length s.stream
+
+-- it is the same client's, and has the context and the operations of what it issued
+pub record KeepsIssuing (before after : Sender) : Type 0 where
+  pub same : IsSame before after
+  pub issuing : IsIssuing after
+
+-- nothing of the command issued last is left to give, and one is left to issue
+pub record MayIssue (s : Sender) : Type 0 where
+  pub sending : IsSending s
+  pub pending : s.pending ≡ None
+  pub request : s.request ≡ None
+  pub more : s.issued < length s.stream
+
+-- that one is issued, which leaves what is still to be given as it was
+pub record HasIssuedNext (before after : Sender) : Type 0 where
+  pub sending : IsSending after
+  pub left : left_of after ≡ left_of before
+  pub issued : after.issued ≡ before.issued + 1
+
+-- the item is the next one, of the command issued last; there is none only once all is over
+pub record IsNextItem (before : Sender) (o : Option Item) (after : Sender) : Type 0 where
+  pub sending : IsSending after
+  pub left : left_of before ≡ items_of o ++ left_of after
+  pub all : IfNone o (IsOver after)
+  pub tile : IfSome o (IsForTile before.count)
+  pub looked : IfSome o (HasLooks (scene_of before) before.layout)
+  pub next : IfSome o (IsOfLast (length before.stream) after.issued)
 
 -- ---- a core
 

@@ -1,11 +1,11 @@
 //! The next parcel or request of the command that was issued last.
-ghost use Rattle.std.specs.Prelude.{◌≡◌, ◌≢◌, ℕ, ◌+◌, ◌<◌, ◌≤◌, ◌^◌, ◌==◌, ◌&&◌, not, ◌++◌, ◌∷◌, length, IfOk, OnOk, OnErr, IfNone, IfSome, None, Some};
+ghost use Rattle.std.specs.Prelude.{◌≡◌, ◌≢◌, ℕ, ◌+◌, ◌<◌, ◌≤◌, ◌^◌, ◌==◌, ◌&&◌, not, ◌∷◌, length, IfOk, OnOk, OnErr, IfSome, None, Some};
 ghost use Rattle.rc_base.specs.Cluster.Sending.{ToTile, ToManager};
 ghost use Rattle.rc_base.specs.declared.state.ElementValue.{ElementValue};
 ghost use Rattle.parcel_bytes.specs.Spelling.{IsPackable};
 ghost use Rattle.state_update.specs.Knowledge.{HasBoundTexture, IsSettled, Knows, after_sets, pending};
 ghost use Rattle.client_issue.specs.Acts.{act_looks, act_sets, examines};
-ghost use Rattle.client_issue.specs.Sequence.{HasLooks, IsForTile, IsIssuing, IsMade, IsOfLast, IsOver, IsSame, IsSending, IsSendingWith, left_of, left_with, item_of, items_of, scene_of};
+ghost use Rattle.client_issue.specs.Sequence.{HasLooks, IsForTile, IsMade, IsNextItem, IsOfLast, IsOver, IsSending, IsSendingWith, KeepsIssuing, left_of, left_with, item_of, scene_of};
 
 use crate::acts::next_tile;
 use crate::item::Item;
@@ -79,9 +79,8 @@ impl Sender {
     fn give_parcel(&mut self, pending: Pending) -> Result<Item, OutOfMemory>
         requires none { self.old.pending ≡ None }
         requires sending { IsSendingWith self.old (Some pending) }
-        ensures same { IsSame self.old self.new }
+        ensures keeps { KeepsIssuing self.old self.new }
         ensures sending { OnOk result (IsSending self.new) }
-        ensures issuing { IsIssuing self.new }
         ensures left { IfOk result (λ i. left_with self.old (Some pending) ≡ item_of i ∷ left_of self.new) }
         ensures tile { IfOk result (IsForTile self.old.count) }
         ensures looked { IfOk result (HasLooks (scene_of self.old) self.old.layout) }
@@ -142,14 +141,8 @@ impl Sender {
         requires none { self.old.pending ≡ None }
         requires sending { IsSending self.old }
         requires over { self.old.request ≡ None → self.old.issued ≡ length self.old.stream }
-        ensures same { IsSame self.old self.new }
-        ensures sending { IsSending self.new }
-        ensures issuing { IsIssuing self.new }
-        ensures left { left_of self.old ≡ items_of result ++ left_of self.new }
-        ensures all { IfNone result (IsOver self.new) }
-        ensures tile { IfSome result (IsForTile self.old.count) }
-        ensures looked { IfSome result (HasLooks (scene_of self.old) self.old.layout) }
-        ensures next { IfSome result (IsOfLast (length self.old.stream) self.new.issued) }
+        ensures keeps { KeepsIssuing self.old self.new }
+        ensures given { IsNextItem self.old result self.new }
     {
         let Some(wait) = self.request.take() else {
             return None;
@@ -164,14 +157,8 @@ impl Sender {
     fn give(&mut self) -> Result<Option<Item>, OutOfMemory>
         requires sending { IsSending self.old }
         requires over { self.old.pending ≡ None → self.old.request ≡ None → self.old.issued ≡ length self.old.stream }
-        ensures same { IsSame self.old self.new }
-        ensures sending { OnOk result (IsSending self.new) }
-        ensures issuing { IsIssuing self.new }
-        ensures left { IfOk result (λ o. left_of self.old ≡ items_of o ++ left_of self.new) }
-        ensures all { IfOk result (λ o. IfNone o (IsOver self.new)) }
-        ensures tile { IfOk result (λ o. IfSome o (IsForTile self.old.count)) }
-        ensures looked { IfOk result (λ o. IfSome o (HasLooks (scene_of self.old) self.old.layout)) }
-        ensures next { IfOk result (λ o. IfSome o (IsOfLast (length self.old.stream) self.new.issued)) }
+        ensures keeps { KeepsIssuing self.old self.new }
+        ensures given { IfOk result (λ o. IsNextItem self.old o self.new) }
         ensures err { OnErr result (IsOver self.old → ⊥) }
     {
         match self.pending.take() {
@@ -183,14 +170,8 @@ impl Sender {
     /// The next item of the sequence, while a command gives one.
     pub(crate) fn next(&mut self) -> Result<Option<Item>, OutOfMemory>
         requires { IsSending self.old }
-        ensures same { IsSame self.old self.new }
-        ensures sending { OnOk result (IsSending self.new) }
-        ensures issuing { IsIssuing self.new }
-        ensures left { IfOk result (λ o. left_of self.old ≡ items_of o ++ left_of self.new) }
-        ensures all { IfOk result (λ o. IfNone o (IsOver self.new)) }
-        ensures tile { IfOk result (λ o. IfSome o (IsForTile self.old.count)) }
-        ensures looked { IfOk result (λ o. IfSome o (HasLooks (scene_of self.old) self.old.layout)) }
-        ensures next { IfOk result (λ o. IfSome o (IsOfLast (length self.old.stream) self.new.issued)) }
+        ensures keeps { KeepsIssuing self.old self.new }
+        ensures given { IfOk result (λ o. IsNextItem self.old o self.new) }
         ensures err { OnErr result (IsOver self.old → ⊥) }
     {
         'issuing: while self.is_resting() && (self.issued as usize) < self.stream.len() {

@@ -1,9 +1,9 @@
 //! Issuing the next command.
-ghost use Rattle.std.specs.Prelude.{◌≡◌, ℕ, ◌+◌, ◌<◌, ◌&&◌, ◌||◌, ◌++◌, false, is_none, length, slice_index_or, OnOk, None};
+ghost use Rattle.std.specs.Prelude.{◌≡◌, ℕ, ◌+◌, ◌<◌, ◌&&◌, ◌||◌, ◌++◌, false, is_none, slice_index_or, OnOk};
 ghost use Rattle.std.specs.Option.{option_to_list};
 ghost use Rattle.std.specs.Vec.{vec_capacity, vec_len};
 ghost use Rattle.rc_base.specs.declared.command.Command.TheVariants as cmd;
-ghost use Rattle.client_issue.specs.Sequence.{IsIssuing, IsSame, IsSending, left_of};
+ghost use Rattle.client_issue.specs.Sequence.{HasIssuedNext, KeepsIssuing, MayIssue};
 ghost use Rattle.client_issue.specs.Issued.{is_refused, sets_element, wait_in};
 ghost use Rattle.gl_context.specs.Arguments.{HasName};
 ghost use Rattle.state_update.specs.Knowledge.{pending};
@@ -72,16 +72,10 @@ impl Sender {
 
     // Issues the next command, which is a Begin.
     fn issue_begin(&mut self, mode: u8) -> Result<(), OutOfMemory>
-        requires sending { IsSending self.old }
-        requires pending { self.old.pending ≡ None }
-        requires request { self.old.request ≡ None }
-        requires more { self.old.issued < length self.old.stream }
+        requires next { MayIssue self.old }
         requires command { slice_index_or self.old.stream self.old.issued cmd.End ≡ cmd.Begin mode }
-        ensures same { IsSame self.old self.new }
-        ensures sending { OnOk result (IsSending self.new) }
-        ensures left { OnOk result (left_of self.new ≡ left_of self.old) }
-        ensures issuing { IsIssuing self.new }
-        ensures issued { OnOk result (self.new.issued ≡ self.old.issued + 1) }
+        ensures keeps { KeepsIssuing self.old self.new }
+        ensures issued { OnOk result (HasIssuedNext self.old self.new) }
     {
         streams_go_on_by_issue();
         if !self.context.begin(mode) {
@@ -93,16 +87,10 @@ impl Sender {
 
     // Issues the next command, which is an End.
     fn issue_end(&mut self) -> Result<(), OutOfMemory>
-        requires sending { IsSending self.old }
-        requires pending { self.old.pending ≡ None }
-        requires request { self.old.request ≡ None }
-        requires more { self.old.issued < length self.old.stream }
+        requires next { MayIssue self.old }
         requires command { slice_index_or self.old.stream self.old.issued cmd.End ≡ cmd.End }
-        ensures same { IsSame self.old self.new }
-        ensures sending { OnOk result (IsSending self.new) }
-        ensures left { OnOk result (left_of self.new ≡ left_of self.old) }
-        ensures issuing { IsIssuing self.new }
-        ensures issued { OnOk result (self.new.issued ≡ self.old.issued + 1) }
+        ensures keeps { KeepsIssuing self.old self.new }
+        ensures issued { OnOk result (HasIssuedNext self.old self.new) }
     {
         streams_go_on_by_issue();
         let Some(block) = self.context.end() else {
@@ -125,15 +113,9 @@ impl Sender {
     /// Issues the next command. Those of blocks are most of a stream, and are issued as they are kept.
     #[inline(always)]
     pub(crate) fn issue_next(&mut self) -> Result<(), OutOfMemory>
-        requires sending { IsSending self.old }
-        requires pending { self.old.pending ≡ None }
-        requires request { self.old.request ≡ None }
-        requires more { self.old.issued < length self.old.stream }
-        ensures same { IsSame self.old self.new }
-        ensures sending { OnOk result (IsSending self.new) }
-        ensures left { OnOk result (left_of self.new ≡ left_of self.old) }
-        ensures issuing { IsIssuing self.new }
-        ensures issued { OnOk result (self.new.issued ≡ self.old.issued + 1) }
+        requires { MayIssue self.old }
+        ensures keeps { KeepsIssuing self.old self.new }
+        ensures issued { OnOk result (HasIssuedNext self.old self.new) }
     {
         streams_go_on_by_issue();
         let place = self.issued;
@@ -152,15 +134,9 @@ impl Sender {
     // Issues the next command, whichever it is.
     #[inline(never)]
     fn issue_any(&mut self) -> Result<(), OutOfMemory>
-        requires sending { IsSending self.old }
-        requires pending { self.old.pending ≡ None }
-        requires request { self.old.request ≡ None }
-        requires more { self.old.issued < length self.old.stream }
-        ensures same { IsSame self.old self.new }
-        ensures sending { OnOk result (IsSending self.new) }
-        ensures left { OnOk result (left_of self.new ≡ left_of self.old) }
-        ensures issuing { IsIssuing self.new }
-        ensures issued { OnOk result (self.new.issued ≡ self.old.issued + 1) }
+        requires { MayIssue self.old }
+        ensures keeps { KeepsIssuing self.old self.new }
+        ensures issued { OnOk result (HasIssuedNext self.old self.new) }
     {
         commands_have_texels();
         streams_go_on_by_issue();

@@ -11,4 +11,4 @@ returns-then-self-gt0-clause-all c =
 pub returns-in-Ok-clause-all : goal.returns-in-Ok-clause-all
 returns-in-Ok-clause-all c =
     let s = c.args.self.now in
-    none_map c.in-Ok.item _ _ (λ over. whole_left c.next.new.self s.short c.if-self.false ∙ over_left c.next.new.self over) c.in-Ok.ensures.all
+    none_map c.in-Ok.item _ _ (λ over. whole_left c.next.new.self s.short c.if-self.false ∙ over_left c.next.new.self over) c.in-Ok.ensures.given.all

@@ -1,4 +1,4 @@
-use Rattle.std.proofs.Common.{◌∙◌, ap, sym, subst, Some}
+use Rattle.std.proofs.Common.{◌∙◌, ap, sym, subst, Some, rules}
 use Rattle.std.specs.declared.option.Option.{Option}
 use Rattle.client_issue.specs.Sequence.{IsSendingWith, left_with}
 use Rattle.client_issue.specs.declared.pending.Pending.{Pending}
@@ -11,7 +11,14 @@ give_parcel-requires-clause-sending c =
     with_pending s (Some c.in-Some.pending) c.take.new.self
     (subst (λ (o : Option Pending). IsSendingWith s o) (sym c.take.ensures.value ∙ c.in-Some.is) c.requires.sending)
 
-pub returns-in_ok-give_parcel-in-Some-clause-left : goal.returns-in_ok-give_parcel-in-Some-clause-left
-returns-in_ok-give_parcel-in-Some-clause-left c =
-    let s = c.args.self.now in
-    ap (left_with s) (sym c.take.ensures.value ∙ c.in-Some.is) ∙ left_elsewhere s (Some c.in-Some.pending) c.take.new.self ∙ c.in_ok-give_parcel-in-Some.ensures.left
+pub returns-in_ok-give_parcel-in-Some-clause-given : goal.returns-in_ok-give_parcel-in-Some-clause-given
+returns-in_ok-give_parcel-in-Some-clause-given c = record {
+  sending = search rules;
+  left =
+      let s = c.args.self.now in
+      ap (left_with s) (sym c.take.ensures.value ∙ c.in-Some.is) ∙ left_elsewhere s (Some c.in-Some.pending) c.take.new.self ∙ c.in_ok-give_parcel-in-Some.ensures.left;
+  all = search rules;
+  tile = search rules;
+  looked = search rules;
+  next = search rules;
+}
