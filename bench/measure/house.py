@@ -7,14 +7,15 @@
 It reads crates.txt and crates/ of the repository at TOP (this one) and prints a line for each figure. --twice lists the lemma statements that stand
 in more than one crate, --alike those that do up to the names that they bind, lemmas of specs/ among them, --wide the clauses of contracts with a line of more than
 100 columns, the widest first, --words the public words of definitions that stand in three modules and more, --single those that one clause alone cites and no other
-definition. --held prints no figures, but the statements that stand in more than one crate, last `N passed, M failed`;
-its status is 1 where there is one. It changes nothing.
+definition, each with `law` behind it where it is a law's statement. --held prints no figures, but the statements that stand in more than one crate,
+last `N passed, M failed`; its status is 1 where there is one. It changes nothing.
 
 A lemma is a signature at the head of a line in proofs/, and its statement is what stands behind the colon, with white space taken together and
 bound names as they are; two lemmas of one statement stand twice whatever they are called. In specs/ a lemma is a signature that has an equation, and isn't one of
 a word that others unfold. A clause's joined length is that of its lines with white space taken together. A public word is what specs/ defines by `pub`, but for the
-fields of records; keywords such as `module` and `unfolding` are none. Bodies, clauses and parameters are those outside tests, and lines are those
-that aren't blank. A chain is a list of crates each of which stands on the one before.
+fields of records; keywords such as `module` and `unfolding` are none. A law is a function that takes and gives nothing, so that what its clauses say is
+all of it. Bodies, clauses and parameters are those outside tests, and lines are those that aren't blank. A chain is a list of crates each of which stands
+on the one before.
 """
 import argparse
 import collections
@@ -126,6 +127,7 @@ class Function:
         self.line = at + 1
         self.parameters = parameters(" ".join(lines[at:end + 1]))
         self.clauses, self.body, number = [], None, end + 1
+        self.is_law = not self.parameters and not any("->" in line for line in lines[at:end + 1])
         while number < len(lines):
             line = lines[number]
             if CLAUSE.match(line):
@@ -169,7 +171,7 @@ class House:
         self.sources, self.papers, self.clauses, self.bodies, self.inputs, self.many = [], [], [], [], [], []
         self.lemmas, self.modules = collections.defaultdict(list), collections.defaultdict(list)
         self.alike, self.texts, self.joined = collections.defaultdict(list), {}, []
-        self.cited_by, self.spoken = collections.defaultdict(list), collections.Counter()
+        self.cited_by, self.spoken, self.lawful = collections.defaultdict(list), collections.Counter(), set()
         self.lines, self.items, self.count = collections.Counter(), collections.Counter(), 0
         self.functions_of, self.code_of = collections.Counter(), collections.Counter()
         for crate in self.edges:
@@ -207,6 +209,8 @@ class House:
             self.clauses += [(max(map(len, text)), f"{place}:{number}") for number, text in it.clauses]
             for number, text in it.clauses:
                 self.joined.append((len(" ".join(" ".join(text).split())), f"{place}:{number}"))
+                if it.is_law:
+                    self.lawful.add(f"{place}:{number}")
                 for name in set(NAME.findall(" ".join(text))):
                     self.cited_by[name].append(f"{place}:{number}")
             if it.body is not None:
@@ -254,6 +258,10 @@ class House:
         """The public words that one clause cites, and no other clause or definition."""
         return {word: self.cited_by[word][0] for word in self.modules if len(self.cited_by[word]) == 1 and not self.spoken[word]}
 
+    def laws(self):
+        """Of these, the statements of laws: those that a function that takes and gives nothing cites."""
+        return {word for word, where in self.single().items() if where in self.lawful}
+
     def crowded(self):
         return [name for name in self.edges if self.functions_of[name] > 100 or self.code_of[name] > 1500]
 
@@ -284,7 +292,7 @@ class House:
         print(f"lemmas {sum(map(len, self.lemmas.values()))}, statements in more than one file {len(twice)}, in more than one crate {len(across)}; "
               f"citations of lemma files of crates below {self.cited}")
         print(f"statements in more than one crate up to the names that they bind, specs/ too: {len(self.alike_across())}")
-        print(f"public words that serve one clause alone: {len(self.single())}")
+        print(f"public words that serve one clause alone: {len(self.single())}, of them {len(self.laws())} statements of laws")
         crowded = self.crowded()
         print(f"crates of more than 100 functions or 1,500 lines of code: {len(crowded)}" + (f" ({', '.join(crowded)})" if crowded else ""))
         stand = collections.Counter(min(len(at), 4) for at in self.modules.values())
@@ -321,8 +329,9 @@ def main():
         print(statement[:120])
         for _, where in at:
             print(f"    {where}")
+    laws = house.laws() if args.single else set()
     for word, where in sorted(house.single().items()) if args.single else []:
-        print(f"{word} {where}")
+        print(f"{word} {where}" + (" law" if word in laws else ""))
     if args.held:
         across = len(house.twice()[1])
         print(f"{len(house.lemmas) - across} passed, {across} failed")
