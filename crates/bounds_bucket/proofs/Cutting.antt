@@ -2,6 +2,7 @@
 use Rattle.std.proofs.Common.{◌≡◌, ◌∙◌, ℤ, ◌≤ℤ◌, ◌<ℤ◌, Bool, true, false, ◌&&◌, arith, refl, sym, ap, inl, inr}
 use Rattle.std.specs.Prelude.{int_lt, int_le}
 use Rattle.std.specs.Int.{int_min, int_max}
+use Rattle.std.proofs.Math.Bool.{and-false}
 use Rattle.std.proofs.lemmas.Int.{ints}
 use Rattle.std.proofs.lemmas.Bool.{cases_Bool}
 use Rattle.rc_base.specs.Drawing.Cover.{centre}
@@ -35,24 +36,16 @@ end_at_start r end p h =
       | inr f ↦ rw f refl
       | inl t ↦
           let from = from_int_le r.from p t in
-          rw (t, int_lt_false p r.from from, int_lt_false p end (omega (arith, ints, from, h))) (sym (and_false (int_lt p r.end)))
+          rw (t, int_lt_false p r.from from, int_lt_false p end (omega (arith, ints, from, h))) (sym (and-false (int_lt p r.end)))
     ]
-  where
-    and_false : (b : Bool) → (b && false) ≡ false
-    and_false true = refl
-    and_false false = refl
 
 pub end_within : (r : Range) (end p : ℤ) → end <ℤ r.end → (int_le r.from p && int_lt p end) ≡ (is_among r p && int_lt p end)
 end_within r end p h =
     elim (cases_Bool (int_lt p end)) [
-      | inr f ↦ rw f (and_false (int_le r.from p) ∙ sym (and_false (is_among r p)))
+      | inr f ↦ rw f (and-false (int_le r.from p) ∙ sym (and-false (is_among r p)))
       | inl t ↦ let e = from_int_lt p end t in rw (t, int_lt_true p r.end (omega (arith, ints, e, h))) (and_true (int_le r.from p))
     ]
   where
-    and_false : (b : Bool) → (b && false) ≡ false
-    and_false true = refl
-    and_false false = refl
-
     and_true : (b : Bool) → (b && true) ≡ ((b && true) && true)
     and_true true = refl
     and_true false = refl

@@ -30,7 +30,7 @@ pub mod OneFoldOfTextures
 pub mod CommandsAreLocal
 mod OrderedScenesDrawAlike
 mod OrderedScenesHaveOneFrame
-mod RunsShowOneImage
+pub mod RunsShowOneImage
 pub mod UsedOperations
 mod CountedNames
 pub mod RecordedByCounts

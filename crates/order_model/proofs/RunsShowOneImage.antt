@@ -54,7 +54,7 @@ found test a (suc n) m e some = elim (cases_Bool (test a)) [
   | inr f ↦ rw f (found test (a + 1) n m (omega (arith, e)) some)
 ]
 
-tile_below : (l : Layout) (x y : ℕ) → 0 < tile_count l → tile_at l x y < tile_count l
+pub tile_below : (l : Layout) (x y : ℕ) → 0 < tile_count l → tile_at l x y < tile_count l
 tile_below l x y some = found (λ tile. tile_pixels l tile x y) 0 (tile_count l) (tile_count l) (omega arith) some
 
 one_pixel : (scene : Scene) (l : Layout) (kept : Record) → IsWellFormed (sync_lists_of scene) → 0 < tile_count l → IsRecordOf scene l kept → IsOrderedScene scene kept.journal

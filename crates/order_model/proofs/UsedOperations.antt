@@ -1,16 +1,17 @@
 -- What is left of each client's operations, by how many of them entries have used.
-use Rattle.std.proofs.Common.{◌≡◌, ℕ, zero, suc, ◌+◌, ◌<◌, cond, List, [], ◌∷◌, drop, take, length, get_or, None, slice_get, inl, inr, refl, sym, ap, ◌∙◌, subst, arith}
+use Rattle.std.proofs.Common.{◌≡◌, ℕ, zero, suc, ◌+◌, ◌<◌, ◌≤◌, cond, List, [], ◌∷◌, drop, take, length, get_or, None, slice_get, inl, inr, refl, sym, ap, ◌∙◌, subst, arith}
 use Rattle.std.specs.Prelude.{option_map}
 use Rattle.std.specs.Option.{option_map_or}
 use Rattle.std.proofs.lemmas.Bool.{cases_Bool}
 use Rattle.std.proofs.lemmas.List.{drop-drop}
-use Rattle.rc_base.specs.Orders.Journal.{SyncState, start, after, end_of, head_wait, is_member, stop, sync_state_after}
+use Rattle.rc_base.specs.Orders.Journal.{SyncState, start, after, end_of, head_wait, is_member, reach_of, stop, sync_state_after}
 use Rattle.rc_base.specs.Orders.Order.{entry_at}
-use Rattle.rc_base.specs.Orders.Sync.{client_count, ops_of, length_of}
+use Rattle.rc_base.specs.Lists.{AreRising}
+use Rattle.rc_base.specs.Orders.Sync.{IsWellFormed, client_count, ops_of, length_of, places_of}
 use Rattle.rc_base.specs.declared.sync.Entry.{Entry}
 use Rattle.rc_base.specs.declared.sync.SyncLists.{SyncLists}
 use Rattle.rc_base.specs.declared.sync.WaitAt.{WaitAt}
-use Rattle.order_model.specs.Counted.{used_by, place_or_end}
+use Rattle.order_model.specs.Counted.{used_by, place_or, place_or_end}
 
 pub rest_is_drop : (syncs : SyncLists) (js : List Entry) (s : SyncState) (c : ℕ) → (end_of syncs s js).rest c ≡ drop (used_by (client_count syncs) c js) (s.rest c)
 rest_is_drop syncs [] s c = refl
@@ -32,6 +33,16 @@ head_is syncs js c = ap head_wait (rest_is_drop syncs js (start syncs) c) ∙ he
 
 pub stop_is_place : (syncs : SyncLists) (js : List Entry) (c : ℕ) → stop syncs (sync_state_after syncs js) c ≡ place_or_end syncs c (used_by (client_count syncs) c js)
 stop_is_place syncs js c = ap (λ o. option_map_or (λ (w : WaitAt). w.place) o (length_of syncs c)) (head_is syncs js c)
+
+place_within : (low : ℕ) (ws : List WaitAt) (n k : ℕ) → AreRising low (places_of ws) n → place_or ws k n ≤ n
+place_within low [] n k h = omega arith
+place_within low (w ∷ ws) n zero h = omega (arith, h.1)
+place_within low (w ∷ ws) n (suc k) h = place_within (w.place + 1) ws n k h.2
+
+-- the reach of a client lies within its stream
+pub reach_within : (syncs : SyncLists) (js : List Entry) (c : ℕ) → IsWellFormed syncs → reach_of syncs js c ≤ length_of syncs c
+reach_within syncs js c well =
+    subst (λ k. k ≤ length_of syncs c) (sym (stop_is_place syncs js c)) (place_within 0 (ops_of syncs c) (length_of syncs c) (used_by (client_count syncs) c js) (well.rising c))
 
 pub entry_place : (syncs : SyncLists) (js : List Entry) (e : Entry) (c : ℕ)
     → (entry_at syncs (sync_state_after syncs js) e).at c ≡ cond (is_member (client_count syncs) e c) (option_map (λ (w : WaitAt). w.place) (slice_get (ops_of syncs c) (used_by (client_count syncs) c js))) None

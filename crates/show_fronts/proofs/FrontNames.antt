@@ -1,20 +1,17 @@
 -- Which names of an order stand in front: those of the cut scene's order, and no later one.
-use Rattle.std.proofs.Common.{◌≡◌, ℕ, zero, suc, ◌+◌, ◌<◌, ◌≤◌, Bool, true, false, List, [], ◌∷◌, ◌++◌, filter, inl, inr, refl, sym, ap, ◌∙◌, subst, arith, lt-ltb, le-ltb, append-nil}
+use Rattle.std.proofs.Common.{◌≡◌, ℕ, ◌+◌, ◌<◌, ◌≤◌, Bool, true, false, List, [], ◌∷◌, ◌++◌, filter, inl, inr, refl, sym, ap, ◌∙◌, subst, arith, lt-ltb, le-ltb, append-nil}
 use Rattle.std.proofs.lemmas.Bool.{cases_lt}
 use Rattle.std.proofs.lemmas.List.Elements.{filter-append}
 use Rattle.rc_base.specs.Drawing.Serial.{accepted_swaps}
-use Rattle.rc_base.specs.Lists.{AreRising, IsIn, NoRepeat}
+use Rattle.rc_base.specs.Lists.{IsIn, NoRepeat}
 use Rattle.rc_base.specs.Orders.Journal.{reach_of}
 use Rattle.rc_base.specs.Orders.Order.{IsPermitted}
-use Rattle.rc_base.specs.Orders.Sync.{IsWellFormed, client_count, ops_of, length_of, places_of, sync_lists_of}
+use Rattle.rc_base.specs.Orders.Sync.{IsWellFormed, length_of, sync_lists_of}
 use Rattle.rc_base.specs.declared.scene.Scene.{Scene}
 use Rattle.rc_base.specs.declared.sync.Entry.{Entry}
 use Rattle.rc_base.specs.declared.sync.Name.{Name}
-use Rattle.rc_base.specs.declared.sync.SyncLists.{SyncLists}
-use Rattle.rc_base.specs.declared.sync.WaitAt.{WaitAt}
 use Rattle.scene_lemmas.proofs.Numbered.{is_in_behind}
-use Rattle.order_model.specs.Counted.{place_or, used_by}
-use Rattle.order_model.proofs.UsedOperations.{stop_is_place}
+use Rattle.order_model.proofs.UsedOperations.{reach_within}
 use Rattle.show_fronts.specs.Fronts.{is_in_front, front_end, front, front_journal}
 use Rattle.show_fronts.proofs.FrontLists.{are_cut, front_formed, front_stop, scene_length}
 use Rattle.show_fronts.proofs.FrontOrders.{ComesFirst}
@@ -34,17 +31,6 @@ in_both : {A : Type 0} (x : A) (u v : List A) → NoRepeat (u ++ v) → IsIn x u
 in_both x [] v once i j = i
 in_both x (y ∷ u) v once (inl e) j = once.0 (subst (λ z. IsIn z (u ++ v)) (sym e) (is_in_behind x u v j))
 in_both x (y ∷ u) v once (inr i) j = in_both x u v once.1 i j
-
--- ---- the reach of a client lies within its stream
-
-place_within : (p : ℕ) (ws : List WaitAt) (n k : ℕ) → AreRising p (places_of ws) n → place_or ws k n ≤ n
-place_within p [] n k h = omega arith
-place_within p (w ∷ ws) n zero h = (let below = h.1 in omega (arith, below))
-place_within p (w ∷ ws) n (suc k) h = place_within (w.place + 1) ws n k h.2
-
-reach_within : (syncs : SyncLists) (js : List Entry) (c : ℕ) → IsWellFormed syncs → reach_of syncs js c ≤ length_of syncs c
-reach_within syncs js c well =
-    subst (λ k. k ≤ length_of syncs c) (sym (stop_is_place syncs js c)) (place_within 0 (ops_of syncs c) (length_of syncs c) (used_by (client_count syncs) c js) (well.rising c))
 
 -- ---- what stands in front
 

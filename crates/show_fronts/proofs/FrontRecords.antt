@@ -1,14 +1,13 @@
 -- Records, journals and orders of the first n frames, and what they show.
 use Rattle.std.proofs.Common.{◌≡◌, ℕ, zero, suc, ◌+◌, ◌<◌, ◌≤◌, min, Bool, true, false, List, [], ◌∷◌, map, take, length, get_or, Option, Some, None, inl, inr, refl, sym, ap, ◌∙◌, subst, arith}
 use Rattle.std.specs.Prelude.{slice_get, option_map, is_some}
-use Rattle.std.specs.List.{range_with_len, find}
-use Rattle.std.specs.Option.{option_map_or}
-use Rattle.std.proofs.lemmas.Bool.{cases_lt, cases_Bool}
+use Rattle.std.specs.List.{range_with_len}
+use Rattle.std.proofs.lemmas.Bool.{cases_lt}
 use Rattle.std.proofs.lemmas.List.{length-map, get_or-map, take_all}
 use Rattle.std.proofs.lemmas.List.FromFn.{take-map-range_with_len, length-map-range_with_len}
 use Rattle.std.proofs.lemmas.Option.{slice_get-map, slice_get-get_or}
 use mathlib.Core.Path.{fun_ext}
-use Rattle.rc_base.specs.Cluster.Tiles.{tile_pixels, tile_at, tile_count}
+use Rattle.rc_base.specs.Cluster.Tiles.{tile_at, tile_count}
 use Rattle.rc_base.specs.Drawing.Images.{Pixels, image_from, frame_image, frame_images}
 use Rattle.rc_base.specs.Numbers.{natural}
 use Rattle.rc_base.specs.Orders.Journal.{start, head_wait, waiting_of}
@@ -30,6 +29,7 @@ use Rattle.order_model.proofs.DefaultJournalIsMaximal.{default_maximal}
 use Rattle.order_model.proofs.DefaultOrderIsPermitted.{default_permitted}
 use Rattle.order_model.proofs.JournalsSwapAlike.{swap_entries_counted}
 use Rattle.order_model.proofs.RecordedOrdersArePermitted.{Reached, lawful_record_permitted}
+use Rattle.order_model.proofs.RunsShowOneImage.{tile_below}
 use Rattle.order_model.proofs.SceneJobsAreSent.{scene_jobs_are_sent}
 use Rattle.show_fronts.specs.Fronts.{front, front_journal, front_log, front_record}
 use Rattle.show_fronts.specs.Laws.{DefaultJournalsStay, SerialFramesStay, FirstFramesHaveRecords, FrontsHaveTheirFrames, FirstOrdersStay, FirstFramesStay, FrontJournalsAreLegal, FrontsEnd}
@@ -154,17 +154,6 @@ pub first_orders_stay : FirstOrdersStay
 first_orders_stay s l kept n well h tile lt = first_names s n (tile_order (front_record s n kept) tile) (tile_order kept tile) (split s l kept n well h tile lt)
 
 -- ---- frames
-
--- where a test is looked for among numbers below m, the answer, or else 0, is below m
-found : (test : ℕ → Bool) (a n m : ℕ) → a + n ≡ m → 0 < m → option_map_or (λ (k : ℕ). k) (find test (range_with_len a n)) 0 < m
-found test a zero m e some = some
-found test a (suc n) m e some = elim (cases_Bool (test a)) [
-  | inl t ↦ rw t (omega (arith, e))
-  | inr f ↦ rw f (found test (a + 1) n m (omega (arith, e)) some)
-]
-
-tile_below : (l : Layout) (x y : ℕ) → 0 < tile_count l → tile_at l x y < tile_count l
-tile_below l x y some = found (λ tile. tile_pixels l tile x y) 0 (tile_count l) (tile_count l) (omega arith) some
 
 pub first_frames_stay : FirstFramesStay
 first_frames_stay s l kept n well some h k le =

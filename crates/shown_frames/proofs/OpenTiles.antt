@@ -1,5 +1,6 @@
 -- A tile that isn't short closes a client by its End alone, and holds none that is closed while an entry may be performed.
 use Rattle.std.proofs.Common.{◌≡◌, ℕ, ◌+◌, ◌<◌, ◌==◌, ◌&&◌, ◌||◌, not, Bool, true, false, cond, List, [], ◌∷◌, ◌++◌, length, Some, None, inl, inr, refl, sym, ap, ◌∙◌, subst, arith, eqb-true, ne_eqb, true≢false, append-nil}
+use Rattle.std.proofs.Math.Bool.{and-false}
 use Rattle.std.proofs.lemmas.Bool.{cases_Bool, and_parts}
 use Rattle.std.proofs.lemmas.Option.{slice_get_within}
 use Rattle.std.specs.Prelude.{option_to_list, slice_get}
@@ -24,16 +25,12 @@ use Rattle.shown_frames.specs.Shown.{AreOpen, ClosesByEnds}
 
 -- ---- whether anything will be performed any more
 
-never : (b : Bool) → (b && false) ≡ false
-never true = refl
-never false = refl
-
 -- where an entry is due, one will
 pub due_not_over : (p : Progress) (e : Entry) → slice_get p.learnt (performed_in p.log) ≡ Some e → is_over p ≡ false
 due_not_over p e is =
     let within = slice_get_within p.learnt (performed_in p.log) e is in
     let less : (performed_in p.log == length p.learnt) ≡ false = ne_eqb (performed_in p.log) (length p.learnt) (λ same. (omega (arith, same, within))) in
-    ap (λ b. p.no_more && b) less ∙ never p.no_more
+    ap (λ b. p.no_more && b) less ∙ and-false p.no_more
 
 listening_not_over : (p : Progress) → is_listening p ≡ true → is_over p ≡ false
 listening_not_over p h = ap (λ b. b && (performed_in p.log == length p.learnt)) (listens p h).0
