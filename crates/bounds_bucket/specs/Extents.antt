@@ -1,16 +1,13 @@
 -- The least and greatest coordinates of the corners of kept triangles.
-use Rattle.std.specs.Prelude.{◌≡◌, ◌≤ℤ◌, ℕ, Bool, ◌&&◌, List, [], ◌∷◌, ◌++◌, map, option_to_list, ℤ, int_le, Option, None, Some}
+use Rattle.std.specs.Prelude.{◌≡◌, ◌≤ℤ◌, ℕ, Bool, ◌&&◌, List, [], ◌∷◌, ◌++◌, map, ℤ, int_le, Option, None, Some}
 use Rattle.std.specs.List.{flat_map}
 use Rattle.rc_base.specs.Lists.{IsIn}
 use Rattle.rc_base.specs.Drawing.Cover.{centre, corner}
-use Rattle.rc_base.specs.Drawing.Kept.{kept_whole}
 use Rattle.rc_base.specs.declared.state.Block.{Block}
 use Rattle.rc_base.specs.declared.state.State.{State}
 use Rattle.rc_base.specs.declared.window.WindowVertex.{WindowVertex}
 use Rattle.rc_base.specs.Drawing.Pieces.{kept_corners_of}
 use Rattle.rc_base.specs.Cluster.Tiles.{corners_in}
-use Rattle.geometry.specs.Listed.{listed}
-use Rattle.geometry.specs.declared.cache.VertexCache.{VertexCache}
 use Rattle.bounds_bucket.specs.declared.extent.Ends.{Ends}
 use Rattle.bounds_bucket.specs.declared.extent.Extent.{Extent}
 
@@ -36,10 +33,6 @@ IsGrown more before after = (corners : List WindowVertex) → Spans corners befo
 -- what all corners span that two extents span
 abbrev pub IsJoined : Extent → Extent → Extent → Type 0
 IsJoined a b e = (us vs : List WindowVertex) → Spans us (Some a) → Spans vs (Some b) → Spans (us ++ vs) (Some e)
-
--- the corners of the triangle of three vertices of a cache, where it is kept
-abbrev pub cached_corners : VertexCache → List ℕ → List WindowVertex
-cached_corners cache t = corners_in (option_to_list (kept_whole cache.state.now (listed cache.vertices) t))
 
 -- the corners of the kept triangles of some of a block's triples of vertices
 abbrev pub corners_from : State → Block → List (List ℕ) → List WindowVertex

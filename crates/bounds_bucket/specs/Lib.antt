@@ -2,5 +2,4 @@ pub mod Ranges
 pub mod Extents
 pub mod Boxes
 pub mod Tiles
-pub mod Layouts
 pub mod Standing

@@ -1,8 +1,7 @@
 -- How tiles cut the window.
 use Rattle.std.specs.Prelude.{◌≡◌, ℕ, ◌*◌, ◌<◌, ◌&&◌, Bool, true, nat_lt, pos}
 use Rattle.std.specs.List.{list_any}
-use Rattle.rc_base.specs.Orders.Journal.{has}
-use Rattle.rc_base.specs.Cluster.Tiles.{tile_column, tile_count, tile_pixels, tile_row, interval_of, rect_meets}
+use Rattle.rc_base.specs.Cluster.Tiles.{tile_count, tile_pixels, interval_of, rect_meets}
 use Rattle.rc_base.specs.declared.window.Layout.{Layout}
 use Rattle.rc_base.specs.declared.window.Rect.{Rect}
 use Rattle.bounds_bucket.specs.declared.range.Range.{Range}
@@ -20,10 +19,6 @@ EachPixelHasOneTile =
 -- the tile is one of the layout's and has a pixel of the area
 abbrev pub meets_area : Layout → Rect → ℕ → Bool
 meets_area l area tile = nat_lt tile (tile_count l) && rect_meets l area tile
-
--- the tile's column and row are in these sets
-abbrev pub is_crossed : ℕ → ℕ → Layout → ℕ → Bool
-is_crossed columns rows l tile = has columns (tile_column l tile) && has rows (tile_row l tile)
 
 -- a part of a side has a number of the range
 abbrev pub part_meets : ℕ → ℕ → Range → ℕ → Bool

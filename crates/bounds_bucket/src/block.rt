@@ -1,13 +1,14 @@
 //! What the kept triangles of a block of version 1 span.
-ghost use Rattle.std.specs.Prelude.{◌≡◌, ◌<◌, List, [], ◌∷◌, ◌++◌, length, ℤ};
+ghost use Rattle.std.specs.Prelude.{◌≡◌, ◌<◌, List, [], ◌∷◌, ◌++◌, length, option_to_list, ℤ};
 ghost use Rattle.std.specs.Int.{int_min, int_max};
 ghost use Rattle.rc_base.specs.declared.window.WindowVertex.{WindowVertex as Corner};
 ghost use Rattle.rc_base.specs.Cluster.Tiles.{kept_corners, corners_in};
+ghost use Rattle.rc_base.specs.Drawing.Kept.{kept_whole};
 ghost use Rattle.geometry.specs.Pieces.{found};
 ghost use Rattle.rc_base.specs.Drawing.Triangles.{cut_modes};
 ghost use Rattle.geometry.specs.Items.{AreBelow};
 ghost use Rattle.geometry.specs.Listed.{listed};
-ghost use Rattle.bounds_bucket.specs.Extents.{IsGrown, IsHull, IsJoined, Spans, cached_corners, corner_values};
+ghost use Rattle.bounds_bucket.specs.Extents.{IsGrown, IsHull, IsJoined, Spans, corner_values};
 
 use crate::extent::{Ends, Extent};
 use geometry::{VertexCache, triangles};
@@ -90,7 +91,8 @@ fn grown(extent: Option<Extent>, cache: &mut VertexCache<'_>, corners: [usize; 3
     requires { AreBelow (length (listed cache.old.vertices)) corners }
     ensures state { cache.new.state.now ≡ cache.old.state.now }
     ensures vertices { listed cache.new.vertices ≡ listed cache.old.vertices }
-    ensures grown { IsGrown (cached_corners cache.old corners) extent result }
+    ensures grown { let kept = kept_whole cache.old.state.now (listed cache.old.vertices) corners in
+        IsGrown (corners_in (option_to_list kept)) extent result }
 {
     let tri = cache.triangle(corners);
     with_found(extent, &tri)

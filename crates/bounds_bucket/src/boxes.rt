@@ -4,7 +4,7 @@ ghost use Rattle.rc_base.specs.Cluster.Tiles.{is_in_rect};
 ghost use Rattle.rc_base.specs.Drawing.Triangles.{cut_modes};
 ghost use Rattle.rc_base.specs.Drawing.Cover.{centre, is_in_area, is_in_scissor};
 ghost use Rattle.rc_base.specs.declared.state.Effect.TheVariants as eff;
-ghost use Rattle.bounds_bucket.specs.Ranges.{is_among, rect_by, HasNoPixel, HasPixels, IsCut, IsPartWhere};
+ghost use Rattle.bounds_bucket.specs.Ranges.{is_among, HasPixels, IsCut, IsPartWhere};
 ghost use Rattle.bounds_bucket.specs.Extents.{is_between, is_within};
 ghost use Rattle.bounds_bucket.specs.Boxes.{IsBoxIfAny, HoldsTouched, MeetsSameTiles};
 
@@ -73,7 +73,8 @@ fn cut(range: Range, low: i32, size: i32) -> Range
 
 /// A rectangle by its columns and rows.
 pub(crate) fn rect_of(columns: Range, rows: Range) -> Rect
-    ensures { result ≡ rect_by columns rows }
+    ensures { result
+        ≡ record { x0 = columns.from; y0 = rows.from; x1 = columns.end; y1 = rows.end } }
 {
     Rect {
         x0: columns.from,
@@ -115,7 +116,8 @@ pub(crate) fn scissored(state: &State, rect: Rect) -> Rect
 
 /// The rectangle, where it has a pixel.
 pub(crate) fn some_rect(rect: Rect) -> Option<Rect>
-    ensures { MatchOption result (HasNoPixel rect) (λ r. (r ≡ rect) × HasPixels rect) }
+    ensures { MatchOption result ((x y : ℤ) → is_in_rect rect x y ≡ false)
+        (λ r. (r ≡ rect) × HasPixels rect) }
 {
     if rect.x0 < rect.x1 && rect.y0 < rect.y1 {
         Some(rect)

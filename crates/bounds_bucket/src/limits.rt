@@ -1,7 +1,8 @@
 //! The layout of a window that a command line asks for.
 ghost use Rattle.std.specs.Prelude.{◌≡◌, MatchResult, IfOk, Some, None};
 ghost use Rattle.rc_base.specs.Formats.Limits.{layout_limit};
-ghost use Rattle.bounds_bucket.specs.Layouts.{FitsScenes};
+ghost use Rattle.rc_base.specs.Formats.Within.{IsLayoutFor};
+ghost use Rattle.rc_base.specs.declared.scene.Scene.{Scene};
 
 use rc_base::scene::{Limit, judge};
 use rc_base::window::Layout;
@@ -14,7 +15,8 @@ pub fn layout(width: u16, height: u16, columns: u64, rows: u64, depth: u64) -> R
     ensures layout { MatchResult result
         (λ l. (layout_limit width height columns rows depth ≡ None) × (l ≡ record { width = width; height = height; columns = columns; rows = rows }))
         (λ e. layout_limit width height columns rows depth ≡ Some e) }
-    ensures fits { IfOk result (FitsScenes width height depth) }
+    ensures fits { IfOk result (λ l. (scene : Scene)
+        → scene.decl.width ≡ width → scene.decl.height ≡ height → IsLayoutFor scene l depth) }
 {
     judge(14, columns, 1, u64::from(width).min(8))?;
     judge(15, rows, 1, u64::from(height).min(8))?;

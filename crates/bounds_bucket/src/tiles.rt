@@ -3,7 +3,7 @@ ghost use Rattle.std.specs.Prelude.{◌≡◌, ℕ, pos, ◌+◌, ◌*◌, ◌/�
 ghost use Rattle.std.specs.List.{list_any};
 ghost use Rattle.rc_base.specs.Orders.Journal.{has};
 ghost use Rattle.rc_base.specs.Cluster.Tiles.{tile_count, boundary_of, tile_column, tile_row, tile_pixels, is_in_rect, tile_rectangle};
-ghost use Rattle.bounds_bucket.specs.Tiles.{is_crossed, meets_area, part_meets};
+ghost use Rattle.bounds_bucket.specs.Tiles.{meets_area, part_meets};
 
 use crate::bits::with_if;
 use crate::range::{Range, columns_of, larger, rows_of, smaller};
@@ -76,7 +76,8 @@ fn parts_met(side: u16, parts: u8, range: Range) -> u32
 // A tile's column and row are in these sets.
 fn is_met(layout: &Layout, columns: u32, rows: u32, tile: u8) -> bool
     requires { tile < 32 }
-    ensures { result ≡ is_crossed columns rows layout.now tile }
+    ensures { result
+        ≡ (has columns (tile_column layout.now tile) && has rows (tile_row layout.now tile)) }
 {
     has(columns, column_of(layout, tile)) && has(rows, row_of(layout, tile))
 }

@@ -20,11 +20,3 @@ pub record BeginsWith (o : OptionName) (words rest : List (List ℕ)) : Type 0 w
   pub setting : Setting
   pub named : option_of setting ≡ o
   pub begins : Begins words setting rest
-
--- the words are those of no setting
-abbrev pub NoSettingOf : List (List ℕ) → Type 0
-NoSettingOf words = (s : Setting) → IsSetting s → setting_words s ≡ words → ⊥
-
--- and they begin with none
-abbrev pub NoSetting : List (List ℕ) → Type 0
-NoSetting words = (s : Setting) (rest : List (List ℕ)) → Begins words s rest → ⊥

@@ -7,7 +7,7 @@ use Rattle.rc_base.specs.declared.command.Opcode.{Opcode}
 use Rattle.rc_base.specs.Formats.Commands.{table_row, opcode_number}
 use Rattle.spu_chain.specs.declared.rule.SpuRule.{SpuRule}
 use Rattle.spu_chain.specs.declared.rule.SpuRule.TheVariants as rule
-use Rattle.spu_chain.specs.Filter.{HasByteTint, IsTint}
+use Rattle.spu_chain.specs.Filter.{HasByteTint}
 
 -- what stands before a job: a filter, with what its words say
 pub data Filter : Type 0 where
@@ -52,18 +52,9 @@ filter_words f = filter_word f ∷ due_words f
 abbrev pub IsFilter : Filter → Type 0
 IsFilter f = HasByteTint (rule_of f)
 
--- no filter is at the front of the words, no tint, no number of a byte, no name of a command
+-- no filter is at the front of the words
 abbrev pub NoFilter : List (List ℕ) → Type 0
 NoFilter words = (f : Filter) (more : List (List ℕ)) → IsFilter f → words ≡ filter_words f ++ more → ⊥
-
-abbrev pub NoTint : List (List ℕ) → Type 0
-NoTint words = (tint : Rgba) (more : List (List ℕ)) → IsTint tint → words ≡ tint_words tint ++ more → ⊥
-
-abbrev pub NoChannel : List (List ℕ) → Type 0
-NoChannel words = (n : ℕ) (more : List (List ℕ)) → n < 256 → words ≡ decimal n ∷ more → ⊥
-
-abbrev pub NoCommand : List (List ℕ) → Type 0
-NoCommand words = (o : Opcode) (more : List (List ℕ)) → words ≡ (table_row o).name ∷ more → ⊥
 
 -- a filter of this rule is at the front of the words, and these are behind it
 abbrev pub BeginsWithRule : List (List ℕ) → SpuRule → List (List ℕ) → Type 0
@@ -87,10 +78,6 @@ pub record NamesChain (words : List (List ℕ)) (rules : List SpuRule) (count : 
   pub ends : BeginsFilter rest → ⊥
   pub rules_are : rules ≡ map rule_of filters
   pub count_is : count ≡ length (flat_map filter_words filters)
-
--- the words name this chain: its rules, and how many words they take
-abbrev pub NamesRules : List (List ℕ) → List SpuRule × ℕ → Type 0
-NamesRules words chain = NamesChain words chain.0 chain.1
 
 -- Behind some filters a filter's word stands without the words that are due behind it.
 pub record LacksWords (words : List (List ℕ)) : Type 0 where

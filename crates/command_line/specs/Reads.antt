@@ -36,7 +36,3 @@ pub data ReadsOptions (job : JobName) : Seen → List (List ℕ) → List Settin
   more : {seen last : Seen} {words rest : List (List ℕ)} {s : Setting} {ss : List Setting}
       → Begins words s rest → IsFree job seen (option_of s) → ReadsOptions job (with_option seen (option_of s)) rest ss last
       → ReadsOptions job seen words (s ∷ ss) last
-
--- the words are read as no settings of the job behind those seen
-abbrev pub NoReading : JobName → Seen → List (List ℕ) → Type 0
-NoReading job seen words = (ss : List Setting) (last : Seen) → ReadsOptions job seen words ss last → ⊥

@@ -5,15 +5,12 @@ use Rattle.std.specs.Str.{bytes_eq}
 use Rattle.std.specs.Fmt.{decimal}
 use Rattle.rc_base.specs.Lists.{NoRepeat}
 use Rattle.command_line.specs.declared.job.OptionName.{OptionName}
-use Rattle.command_line.specs.declared.job.JobName.{JobName}
-use Rattle.command_line.specs.Words.{Setting, IsCommandLine, IsSetting, option_of, setting_words, order_in}
+use Rattle.command_line.specs.Words.{Setting, IsSetting, option_of, setting_words, order_in}
 use Rattle.command_line.specs.declared.job.OptionName.TheVariants.{Tiles, Depth, Order, Seed, Size}
 use Rattle.command_line.specs.Words.Setting.{TilesOf, DepthOf, WithOrder, SeedOf, SizeOf}
 use Rattle.clap.specs.Words.{found_of, first_value, kind_of, one_text}
 use Rattle.clap.specs.declared.error.Error.{Error}
 use Rattle.clap.specs.declared.error.kind.ErrorKind.TheVariants.{OutOfMemory}
-use Rattle.command_line.specs.declared.values.Settings.{Settings}
-use Rattle.command_line.specs.Lines.{AreValues}
 use Rattle.clap.specs.declared.parser.matches.ArgMatches.{ArgMatches}
 
 -- the option's name without its hyphens
@@ -43,10 +40,6 @@ pub record AreSettings (words : List (List ℕ)) (ss : List Setting) : Type 0 wh
   pub each : AllByRecursion IsSetting ss
   pub once : NoRepeat (map option_of ss)
 
--- the words are a line of the job, and these are the words of its settings
-abbrev pub IsLineBefore : List (List ℕ) → JobName → List (List ℕ) → Type 0
-IsLineBefore words job behind = (ss : List Setting) × IsCommandLine words job ss × AreSettings behind ss
-
 -- this holds of the settings that the words are
 abbrev pub ForSettings : List (List ℕ) → (List Setting → Type 0) → Type 0
 ForSettings words holds = (ss : List Setting) → AreSettings words ss → holds ss
@@ -58,13 +51,6 @@ pub record HasTexts (m : ArgMatches) (ss : List Setting) : Type 0 where
   pub seed : first_value (found_of m) (codes "seed") ≡ text_in Seed ss
   pub size : first_value (found_of m) (codes "size") ≡ text_in Size ss
   pub order : one_text (found_of m) (codes "order") ≡ Some (if order_in ss then codes "true" else codes "false")
-
-abbrev pub Tell : List Setting → ArgMatches → Type 0
-Tell ss m = HasTexts m ss
-
--- the values are those that any settings of these texts say
-abbrev pub ReadsTexts : ArgMatches → Settings → Type 0
-ReadsTexts m values = (ss : List Setting) → AllByRecursion IsSetting ss → HasTexts m ss → AreValues values ss
 
 -- memory lacked
 abbrev pub IsLack : Error → Type 0

@@ -38,10 +38,6 @@ options_of job = (row_of job).options
 abbrev pub options_due : JobName → List OptionName
 options_due job = (row_of job).due
 
--- the word of no job
-abbrev pub NoJob : List ℕ → Type 0
-NoJob word = (job : JobName) → word ≡ job_word job → ⊥
-
 -- an option with its value
 pub data Setting : Type 0 where
   TilesOf : (columns rows : ℕ) → Setting

@@ -1,7 +1,8 @@
 //! The jobs by their names, their words, and the options that they take.
 ghost use Rattle.std.specs.Prelude.{◌≡◌, ◌↔◌, IsTrue, MatchOption};
 ghost use Rattle.rc_base.specs.Lists.{IsIn};
-ghost use Rattle.command_line.specs.Words.{NoJob, job_word, options_of};
+ghost use Rattle.command_line.specs.declared.job.JobName.{JobName as NamedJob};
+ghost use Rattle.command_line.specs.Words.{job_word, options_of};
 
 /// What the program is asked to do, as its first word names it.
 #[derive(Clone, Copy, Debug, PartialEq, Eq)]
@@ -45,7 +46,8 @@ pub enum OptionName {
 
 /// The job that the word names.
 pub(crate) fn job_named(word: &str) -> Option<JobName>
-    ensures { MatchOption result (NoJob word.now) (λ job. word.now ≡ job_word job) }
+    ensures { MatchOption result ((job : NamedJob) → word.now ≡ job_word job → ⊥)
+        (λ job. word.now ≡ job_word job) }
 {
     match word {
         "render" => Some(JobName::Render),

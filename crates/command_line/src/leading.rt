@@ -1,8 +1,11 @@
 //! The filters that a command line begins with.
-ghost use Rattle.std.specs.Prelude.{◌≡◌, ◌↔◌, ◌∷◌, ◌++◌, IsTrue, IsNone, IsOk, IfOk, IfSome, MatchOption, map, string_bytes};
+ghost use Rattle.std.specs.Prelude.{◌≡◌, ◌↔◌, ℕ, ◌<◌, List, ◌∷◌, ◌++◌, IsTrue, IsNone, IsOk, IfOk, IfSome, MatchOption, map, string_bytes};
 ghost use Rattle.std.specs.Fmt.{decimal};
 ghost use Rattle.rc_base.specs.Formats.Commands.{table_row};
-ghost use Rattle.command_line.specs.Filters.{Filter, filter_word, tint_words, BeginsFilter, BeginsWithRule, NamesNone, NamesRules, NoChannel, NoCommand, NoFilter, NoTint};
+ghost use Rattle.rc_base.specs.declared.command.Opcode.{Opcode as NamedOpcode};
+ghost use Rattle.rc_base.specs.declared.command.Rgba.{Rgba as Tint};
+ghost use Rattle.spu_chain.specs.Filter.{IsTint};
+ghost use Rattle.command_line.specs.Filters.{Filter, filter_word, tint_words, BeginsFilter, BeginsWithRule, NamesChain, NamesNone, NoFilter};
 
 use crate::number::number;
 use command_table::{opcode_byte, opcode_named};
@@ -19,7 +22,9 @@ const LAST_CHANNEL: u64 = 255;
 
 // The number from 0 to 255 at the front, and the words behind it.
 fn first_channel<'a>(words: &'a [String]) -> Option<(u8, &'a [String])>
-    ensures { MatchOption result (NoChannel (map string_bytes words.now))
+    ensures { MatchOption result
+        ((n : ℕ) (more : List (List ℕ)) → n < 256
+        → map string_bytes words.now ≡ decimal n ∷ more → ⊥)
         (λ r. map string_bytes words.now ≡ decimal r.0 ∷ map string_bytes r.1.now) }
 {
     match words {
@@ -36,7 +41,9 @@ fn first_channel<'a>(words: &'a [String]) -> Option<(u8, &'a [String])>
 
 // The tint at the front, four numbers from 0 to 255, and the words behind it.
 fn first_tint<'a>(words: &'a [String]) -> Option<(Rgba, &'a [String])>
-    ensures { MatchOption result (NoTint (map string_bytes words.now))
+    ensures { MatchOption result
+        ((tint : Tint) (more : List (List ℕ)) → IsTint tint
+        → map string_bytes words.now ≡ tint_words tint ++ more → ⊥)
         (λ r. map string_bytes words.now ≡ tint_words r.0 ++ map string_bytes r.1.now) }
 {
     let (r, words) = first_channel(words)?;
@@ -48,7 +55,9 @@ fn first_tint<'a>(words: &'a [String]) -> Option<(Rgba, &'a [String])>
 
 // The command's name at the front, and the words behind it.
 fn first_command<'a>(words: &'a [String]) -> Option<(Opcode, &'a [String])>
-    ensures { MatchOption result (NoCommand (map string_bytes words.now))
+    ensures { MatchOption result
+        ((o : NamedOpcode) (more : List (List ℕ))
+        → map string_bytes words.now ≡ (table_row o).name ∷ more → ⊥)
         (λ r. map string_bytes words.now ≡ (table_row r.0).name ∷ map string_bytes r.1.now) }
 {
     match words {
@@ -119,7 +128,8 @@ fn first_rule<'a>(words: &'a [String]) -> Option<(SpuRule, &'a [String])>
 /// that are due behind it, or where more than 16 filters stand there.
 pub fn filters(alloc: Global, words: &[String]) -> Result<Option<(Rules, usize)>, OutOfMemory>
     ensures none { IfOk result (λ r. IsNone r ↔ NamesNone (map string_bytes words.now)) }
-    ensures some { IfOk result (λ r. IfSome r (NamesRules (map string_bytes words.now))) }
+    ensures some { IfOk result (λ r. IfSome r
+        (λ chain. NamesChain (map string_bytes words.now) chain.0 chain.1)) }
     // Words that begin with no filter's word lack no memory: nothing is kept of them.
     ensures alone { (BeginsFilter (map string_bytes words.now) → ⊥) → IsOk result }
 {

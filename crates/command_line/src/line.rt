@@ -1,8 +1,8 @@
 //! Whole lines.
 ghost use Rattle.std.specs.Prelude.{◌≡◌, ◌↔◌, ℕ, List, IfOk, OnErr, IfNone, IfSome, MatchOption, map, string_bytes};
-ghost use Rattle.command_line.specs.Words.{Setting as Spelled, IsNoLine, IsSomeLine};
+ghost use Rattle.command_line.specs.Words.{Setting as Spelled, IsCommandLine, IsNoLine, IsSomeLine};
 ghost use Rattle.command_line.specs.Lines.{AreValues, IsLineOf};
-ghost use Rattle.command_line.specs.Texts.{AreSettings, IsLack, IsLineBefore};
+ghost use Rattle.command_line.specs.Texts.{AreSettings, IsLack};
 
 use crate::job::{JobName, job_named};
 use crate::matches::option_matches;
@@ -23,8 +23,9 @@ pub struct CommandLine {
 
 // The job of a line, and the words of its options.
 fn job_of<'a>(words: &'a [String]) -> Option<(JobName, &'a [String])>
-    ensures { MatchOption result (IsNoLine (map string_bytes words.now))
-        (λ r. IsLineBefore (map string_bytes words.now) r.0 (map string_bytes r.1.now)) }
+    ensures { MatchOption result (IsNoLine (map string_bytes words.now)) (λ r. (ss : List Spelled)
+        × IsCommandLine (map string_bytes words.now) r.0 ss
+        × AreSettings (map string_bytes r.1.now) ss) }
 {
     match words {
         [] => None,

@@ -2,7 +2,7 @@
 ghost use Rattle.std.specs.Prelude.{◌≡◌, IfOk, IfErr, map, string_bytes};
 ghost use Rattle.clap.specs.Words.{app_of};
 ghost use Rattle.command_line.specs.App.{line_app};
-ghost use Rattle.command_line.specs.Texts.{ForSettings, IsLack, Tell};
+ghost use Rattle.command_line.specs.Texts.{ForSettings, HasTexts, IsLack};
 
 use clap::{Arg, ArgAction, ArgMatches, Command, Error};
 use std::alloc::{AllocError, Global};
@@ -30,7 +30,8 @@ pub(crate) fn option_matches<'a>(
     alloc: Global,
     words: &'a [String],
 ) -> Result<ArgMatches<'a>, Error>
-    ensures ok { ForSettings (map string_bytes words.entry.now) (λ ss. IfOk result (Tell ss)) }
+    ensures ok { ForSettings (map string_bytes words.entry.now)
+        (λ ss. IfOk result (λ m. HasTexts m ss)) }
     ensures err { ForSettings (map string_bytes words.entry.now) (λ ss. IfErr result IsLack) }
 {
     option_command(alloc)?.try_get_matches_from(words)

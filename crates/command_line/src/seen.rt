@@ -2,8 +2,9 @@
 ghost use Rattle.std.specs.Prelude.{◌≡◌, ◌↔◌, ℕ, List, true, false, IsTrue, MatchOption, map, string_bytes};
 ghost use Rattle.rc_base.specs.Lists.{IsIn};
 ghost use Rattle.command_line.specs.declared.job.OptionName.{OptionName as SpelledOption};
+ghost use Rattle.command_line.specs.declared.seen.Seen.{Seen as SeenOptions};
 ghost use Rattle.command_line.specs.Words.{Setting as Spelled, options_due};
-ghost use Rattle.command_line.specs.Reads.{ReadsOptions, IsFree, NoReading, has, with_option};
+ghost use Rattle.command_line.specs.Reads.{ReadsOptions, IsFree, has, with_option};
 
 use crate::job::{JobName, OptionName, is_taken};
 use crate::option::first_option;
@@ -72,7 +73,9 @@ pub(crate) fn has_due(seen: Seen, job: JobName) -> bool
 
 /// Reads the words of a job's options, each of which it takes and wasn't seen before, and gives the options that were seen in the end.
 pub(crate) fn read(job: JobName, seen: Seen, words: &[String]) -> Option<Seen>
-    ensures { MatchOption result (NoReading job seen (map string_bytes words.now))
+    ensures { MatchOption result
+        ((ss : List Spelled) (last : SeenOptions)
+        → ReadsOptions job seen (map string_bytes words.now) ss last → ⊥)
         (λ last. (ss : List Spelled) × ReadsOptions job seen (map string_bytes words.now) ss last) }
 {
     if words.is_empty() {

@@ -1,8 +1,10 @@
 //! The values of a line's options.
 ghost use Rattle.std.specs.Prelude.{◌≡◌, ℕ, ◌<◌, ◌^◌, ◌++◌, List, None, Some, codes, option_map};
 ghost use Rattle.std.specs.Fmt.{decimal};
-ghost use Rattle.command_line.specs.Lines.{ReadsNumber, ReadsTiles};
-ghost use Rattle.command_line.specs.Texts.{ReadsTexts};
+ghost use Rattle.std.specs.List.{AllByRecursion};
+ghost use Rattle.command_line.specs.Words.{Setting, IsSetting};
+ghost use Rattle.command_line.specs.Lines.{AreValues, ReadsNumber, ReadsTiles};
+ghost use Rattle.command_line.specs.Texts.{HasTexts};
 
 use crate::number::{number, tiles};
 use clap::ArgMatches;
@@ -46,7 +48,8 @@ fn tiles_or_one(text: Option<&str>) -> (u64, u64)
 
 /// The values that the matches of a line's options have.
 pub(crate) fn settings_of(matches: &ArgMatches) -> Settings
-    ensures { ReadsTexts matches.now result }
+    ensures { (ss : List Setting) → AllByRecursion IsSetting ss → HasTexts matches.now ss
+        → AreValues result ss }
 {
     let (columns, rows) = tiles_or_one(matches.get_str("tiles"));
     Settings {

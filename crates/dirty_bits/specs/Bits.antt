@@ -1,14 +1,9 @@
 -- Which elements are dirty for which server: a number of 32 bits for each element, with a bit for each server.
-use Rattle.std.specs.Prelude.{◌≡◌, ℕ, ◌<◌, ◌==◌, ◌&&◌, ◌||◌, not, Bool, List, length, slice_index}
+use Rattle.std.specs.Prelude.{◌≡◌, ℕ, ◌<◌, ◌==◌, ◌||◌, Bool, List, length, slice_index}
 use Rattle.std.specs.Int.{bit_at}
 use Rattle.std.specs.List.{range_with_len, list_any}
-use Rattle.rc_base.specs.Orders.Journal.{has}
 use Rattle.rc_base.specs.Contexts.Elements.{element_count, group_sizes}
 use Rattle.element_table.specs.Groups.{group_start}
-
--- the word without the server's bit, unless that stays
-abbrev pub IsLowered : ℕ → ℕ → Bool → ℕ → Type 0
-IsLowered word server stays new = (s : ℕ) → s < 32 → has new s ≡ (has word s && (stays || not (s == server)))
 
 -- an element is dirty for a server
 abbrev pub is_dirty : List ℕ → ℕ → ℕ → Bool
@@ -29,11 +24,6 @@ is_any_dirty words = is_one_dirty words 0 element_count
 -- an element is dirty for each server now, and each other one as before
 abbrev pub IsMarked : ℕ → List ℕ → List ℕ → Type 0
 IsMarked element old new = (e server : ℕ) → server < 32 → is_dirty new e server ≡ (e == element || is_dirty old e server)
-
--- an element is clean for a server now, and all else as before
-abbrev pub IsCleared : ℕ → ℕ → List ℕ → List ℕ → Type 0
-IsCleared element server old new =
-    (e s : ℕ) → s < 32 → is_dirty new e s ≡ (is_dirty old e s && not (e == element && s == server))
 
 -- each group's word has the servers for which an element of the group is dirty, and the top those for which any element is
 pub record IsHierarchy (elements groups : List ℕ) (top : ℕ) : Type 0 where

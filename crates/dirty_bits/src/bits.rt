@@ -1,7 +1,7 @@
 //! The bits of servers in words of 32.
-ghost use Rattle.std.specs.Prelude.{◌≡◌, ℕ, ◌<◌, ◌≤◌, ◌-◌, ◌==◌, ◌&&◌, not, length};
+ghost use Rattle.std.specs.Prelude.{◌≡◌, ℕ, ◌<◌, ◌≤◌, ◌-◌, ◌==◌, ◌&&◌, ◌||◌, not, length};
 ghost use Rattle.rc_base.specs.Orders.Journal.{has};
-ghost use Rattle.dirty_bits.specs.Bits.{IsLowered, is_one_dirty};
+ghost use Rattle.dirty_bits.specs.Bits.{is_one_dirty};
 
 use rc_base::sync::has;
 
@@ -32,7 +32,7 @@ pub fn without(word: u32, server: u8) -> u32
 /// The word, where the server's bit stays only if it is said to.
 pub fn lowered(word: u32, server: u8, stays: bool) -> u32
     requires { server < 32 }
-    ensures { IsLowered word server stays result }
+    ensures { (s : ℕ) → s < 32 → has result s ≡ (has word s && (stays || not (s == server))) }
 {
     if stays {
         return word;

@@ -1,7 +1,7 @@
 //! The bits, and what asks them.
 ghost use Rattle.std.specs.Prelude.{◌≡◌, ℕ, ◌<◌, ◌+◌, ◌^◌, ◌==◌, ◌&&◌, ◌||◌, not, false, length};
 ghost use Rattle.rc_base.specs.Contexts.Elements.{element_count, group_sizes};
-ghost use Rattle.dirty_bits.specs.Bits.{IsCleared, IsMarked, is_dirty, is_group_dirty, is_any_dirty};
+ghost use Rattle.dirty_bits.specs.Bits.{IsMarked, is_dirty, is_group_dirty, is_any_dirty};
 
 use crate::bits::{any_has, lowered, without};
 use crate::looks::Looks;
@@ -57,7 +57,8 @@ impl Dirty {
         requires element { element < element_count }
         requires server { server < 32 }
         ensures count { length self.new ≡ length self.old }
-        ensures cleared { IsCleared element server self.old self.new }
+        ensures cleared { (e s : ℕ) → s < 32
+            → is_dirty self.new e s ≡ (is_dirty self.old e s && not (e == element && s == server)) }
     {
         let place = usize::from(element);
         if !has(self.elements[place], server) {

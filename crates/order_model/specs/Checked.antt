@@ -1,7 +1,7 @@
 -- What the checker of an order computes: where names stand, and tests over entries and units that go by it.
 use Rattle.std.specs.Prelude.{◌≡◌, ℕ, suc, ◌+◌, ◌-◌, ◌<◌, ◌≤◌, ◌==◌, ◌&&◌, nat_lt, nat_le, bytes_eq, Bool, true, false, cond, List, [], ◌∷◌, take, drop, map, length, slice_get, slice_index, slice_set, Option, Some, None, option_map, option_to_list, ◌++◌}
 use Rattle.rc_base.specs.Orders.Journal.{is_member, sync_state_after}
-use Rattle.rc_base.specs.Orders.Order.{PlacedEntry, entries_from, entries_of, givers, takers}
+use Rattle.rc_base.specs.Orders.Order.{PlacedEntry, entries_from, givers, takers}
 use Rattle.rc_base.specs.Orders.Sync.{client_count, ops_of, units_of}
 use Rattle.rc_base.specs.declared.sync.Entry.{Entry}
 use Rattle.rc_base.specs.declared.sync.Entry.TheVariants.{Meet, Swap, Give, Take}
@@ -55,13 +55,6 @@ place_by syncs e client number =
 -- the same of the operations of two clients in an entry, by how many each of them has used
 abbrev pub parts : SyncLists → List Name → Entry → ℕ → ℕ → ℕ → ℕ → Bool
 parts syncs order entry a used_a b used_b = are_parted order a (place_by syncs entry a used_a) b (place_by syncs entry b used_b)
-
--- each entry parts the names of a client and of every other, or those of all
-abbrev pub EntriesPartFrom : SyncLists → List Entry → List Name → ℕ → Type 0
-EntriesPartFrom syncs journal order a = (b : ℕ) → b < client_count syncs → all_part order a b (entries_of syncs journal) ≡ true
-
-abbrev pub EntriesPart : SyncLists → List Entry → List Name → Type 0
-EntriesPart syncs journal order = (a b : ℕ) → a < client_count syncs → b < client_count syncs → all_part order a b (entries_of syncs journal) ≡ true
 
 -- where the first name of a client stands from the place before its next operation on, and from the place behind it
 abbrev pub spot_before : SyncLists → List Name → ℕ → ℕ → ℕ
@@ -128,10 +121,6 @@ abbrev pub hands_over : SyncLists → List Entry → List Name → ℕ → Bool
 hands_over syncs journal order semaphore =
     are_in_turn (unit_spots syncs journal order true semaphore 0) (drop (units_of syncs semaphore) (unit_spots syncs journal order false semaphore 0))
 
--- those of every semaphore are
-abbrev pub AllHandOver : SyncLists → List Entry → List Name → Type 0
-AllHandOver syncs journal order = (semaphore : ℕ) → hands_over syncs journal order semaphore ≡ true
-
 -- the walk went on to the next spot of such a name, and beyond it: that was the first one left
 abbrev pub Finds : SyncLists → List Entry → List Name → Bool → ℕ → Walk → Option ℕ → Walk → Type 0
 Finds syncs journal order gives semaphore before found after =
@@ -141,8 +130,3 @@ Finds syncs journal order gives semaphore before found after =
 abbrev pub Passes : SyncLists → List Entry → List Name → ℕ → ℕ → Walk → Walk → Type 0
 Passes syncs journal order semaphore units before after =
     unit_spots syncs journal order false semaphore after.read ≡ drop units (unit_spots syncs journal order false semaphore before.read)
-
--- what the one walk has left of givers stands in turn with what the other has left of takers
-abbrev pub given_first : SyncLists → List Entry → List Name → ℕ → Walk → Walk → Bool
-given_first syncs journal order semaphore givers takers =
-    are_in_turn (unit_spots syncs journal order true semaphore givers.read) (unit_spots syncs journal order false semaphore takers.read)

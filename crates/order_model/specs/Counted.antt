@@ -1,9 +1,9 @@
 -- What walks along journals and orders count: the operations that each client has used, and the names of each client.
-use Rattle.std.specs.Prelude.{◌≡◌, ℕ, ◌+◌, ◌<◌, ◌≤◌, Bool, true, cond, List, [], ◌∷◌, take, drop, length, slice_get, slice_index, Option, option_map}
+use Rattle.std.specs.Prelude.{◌≡◌, ℕ, ◌+◌, ◌<◌, ◌≤◌, Bool, cond, List, [], ◌∷◌, take, drop, length, slice_get, slice_index, Option, option_map}
 use Rattle.std.specs.Option.{option_map_or}
 use Rattle.rc_base.specs.Orders.Sync.{client_count, ops_of, length_of}
-use Rattle.rc_base.specs.Orders.Journal.{is_member, reach_of, start, sync_state_after}
-use Rattle.rc_base.specs.Orders.Order.{all_added, names_in}
+use Rattle.rc_base.specs.Orders.Journal.{is_member, sync_state_after}
+use Rattle.rc_base.specs.Orders.Order.{names_in}
 use Rattle.rc_base.specs.declared.sync.Entry.{Entry}
 use Rattle.rc_base.specs.declared.sync.Name.{Name}
 use Rattle.rc_base.specs.declared.sync.SyncLists.{SyncLists}
@@ -64,16 +64,3 @@ IsRecording syncs journal r = IsOrderMade syncs journal r.read r.used r.counts r
 abbrev pub HasPerformed : SyncLists → List Entry → Recording → Recording → Type 0
 HasPerformed syncs journal before after =
     (log : List LogEntry) → logged_behind syncs journal after.read log after.order ≡ logged_behind syncs journal before.read (Performed ∷ log) before.order
-
--- the order with each member's names up to its operation in the entry, that included, by how many operations each client has used
-abbrev pub members_added : SyncLists → Entry → List ℕ → List Name → List Name
-members_added syncs entry used order =
-    all_added (is_member (client_count syncs) entry) (λ c. place_or_end syncs c (slice_index used c) + 1) (client_count syncs) order
-
--- the order with each client's names below its reach
-abbrev pub rest_added : SyncLists → List Entry → List Name → List Name
-rest_added syncs journal order = all_added (λ c. true) (reach_of syncs journal) (client_count syncs) order
-
--- what a log makes of the empty order
-abbrev pub logged_in : SyncLists → List Entry → List LogEntry → List Name
-logged_in syncs journal log = logged syncs (start syncs) journal log []

@@ -1,9 +1,9 @@
 //! Whether the entries of a journal part the names of their members in an order.
-ghost use Rattle.std.specs.Prelude.{◌≡◌, ◌+◌, ◌-◌, ◌<◌, ◌≤◌, ◌^◌, ◌↔◌, true, cond, IsTrue};
+ghost use Rattle.std.specs.Prelude.{◌≡◌, ℕ, ◌+◌, ◌-◌, ◌<◌, ◌≤◌, ◌^◌, ◌↔◌, true, cond, IsTrue};
 ghost use Rattle.rc_base.specs.Orders.Journal.{is_member};
 ghost use Rattle.rc_base.specs.Orders.Order.{entries_of};
 ghost use Rattle.rc_base.specs.Orders.Sync.{IsWellFormed, client_count};
-ghost use Rattle.order_model.specs.Checked.{EntriesPart, EntriesPartFrom, all_part, parts, place_by, spot_before, spot_behind};
+ghost use Rattle.order_model.specs.Checked.{all_part, parts, place_by, spot_before, spot_behind};
 
 use crate::spots::first_at;
 use crate::walk::{clients_of, place_of};
@@ -93,7 +93,8 @@ fn all_part(order: &[Name], syncs: &SyncLists, journal: &[Entry], a: u8, b: u8) 
 fn all_part_from(order: &[Name], syncs: &SyncLists, journal: &[Entry], a: u8) -> bool
     requires clients { (a < 8) × (client_count syncs.now ≤ 8) }
     requires lists { IsWellFormed syncs.now }
-    ensures { IsTrue result ↔ EntriesPartFrom syncs.now journal.now order.now a }
+    ensures { IsTrue result ↔ ((b : ℕ) → b < client_count syncs.now
+        → all_part order.now a b (entries_of syncs.now journal.now) ≡ true) }
 {
     for b in 0..clients_of(syncs) as u8 {
         if !all_part(order, syncs, journal, a, b) {
@@ -107,7 +108,8 @@ fn all_part_from(order: &[Name], syncs: &SyncLists, journal: &[Entry], a: u8) ->
 pub fn entries_part(order: &[Name], syncs: &SyncLists, journal: &[Entry]) -> bool
     requires clients { client_count syncs.now ≤ 8 }
     requires lists { IsWellFormed syncs.now }
-    ensures { IsTrue result ↔ EntriesPart syncs.now journal.now order.now }
+    ensures { IsTrue result ↔ ((a b : ℕ) → a < client_count syncs.now → b < client_count syncs.now
+        → all_part order.now a b (entries_of syncs.now journal.now) ≡ true) }
 {
     for a in 0..clients_of(syncs) as u8 {
         if !all_part_from(order, syncs, journal, a) {

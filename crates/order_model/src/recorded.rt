@@ -1,9 +1,10 @@
 //! The order that a tile's log records.
-ghost use Rattle.std.specs.Prelude.{◌≡◌, ◌+◌, ◌-◌, ◌<◌, ◌≤◌, ◌^◌, ◌++◌, [], slice_index_or, replicate, IfOk, OnOk};
-ghost use Rattle.rc_base.specs.Orders.Order.{added, names_from};
+ghost use Rattle.std.specs.Prelude.{◌≡◌, ◌+◌, ◌-◌, ◌<◌, ◌≤◌, ◌^◌, ◌++◌, true, [], slice_index, slice_index_or, replicate, IfOk, OnOk};
+ghost use Rattle.rc_base.specs.Orders.Journal.{is_member, reach_of, start};
+ghost use Rattle.rc_base.specs.Orders.Order.{added, all_added, names_from};
 ghost use Rattle.rc_base.specs.Orders.Sync.{client_count};
-ghost use Rattle.order_model.specs.Counted.{AreCounts, HasPerformed, IsRecording, logged_in, members_added, rest_added};
-ghost use Rattle.order_model.specs.Log.{recorded_order};
+ghost use Rattle.order_model.specs.Counted.{AreCounts, HasPerformed, IsRecording, place_or_end};
+ghost use Rattle.order_model.specs.Log.{logged, recorded_order};
 ghost use Rattle.order_model.specs.Report.{tile_order};
 
 use crate::record::{Log, LogEntry, Record};
@@ -67,7 +68,8 @@ fn add_members(
 ) -> Result<(), OutOfMemory>
     requires clients { client_count syncs.now ≤ 8 }
     requires counts { AreCounts order.old counts.old }
-    ensures order { OnOk result (order.new ≡ members_added syncs.now entry used.now order.old) }
+    ensures order { OnOk result (order.new ≡ all_added (is_member (client_count syncs.now) entry)
+        (λ c. place_or_end syncs.now c (slice_index used.now c) + 1) (client_count syncs.now) order.old) }
     ensures counts { OnOk result (AreCounts order.new counts.new) }
 {
     let clients = clients_of(syncs);
@@ -89,7 +91,8 @@ fn add_rest(
 ) -> Result<(), OutOfMemory>
     requires clients { client_count syncs.now ≤ 8 }
     requires counts { AreCounts order.old counts.old }
-    ensures { OnOk result (order.new ≡ rest_added syncs.now journal.now order.old) }
+    ensures { OnOk result (order.new ≡ all_added (λ c. true) (reach_of syncs.now journal.now)
+        (client_count syncs.now) order.old) }
 {
     for client in 0..clients_of(syncs) as u8 {
         add(
@@ -153,7 +156,8 @@ fn replay(
 ) -> Result<Recording, OutOfMemory>
     requires { client_count syncs.now ≤ 8 }
     ensures counts { IfOk result (λ r. AreCounts r.order r.counts) }
-    ensures order { IfOk result (λ r. r.order ≡ logged_in syncs.now journal.now log.now) }
+    ensures order { IfOk result
+        (λ r. r.order ≡ logged syncs.now (start syncs.now) journal.now log.now []) }
 {
     let mut recording = nothing_read(alloc);
     for line in log {

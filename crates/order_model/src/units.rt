@@ -1,7 +1,7 @@
 //! Whether an order has each unit of a semaphore given before it is taken.
 ghost use Rattle.std.specs.Prelude.{◌≡◌, ◌≤◌, ◌↔◌, ℕ, true, false, IsTrue, slice_index, replicate};
 ghost use Rattle.rc_base.specs.Orders.Sync.{IsWellFormed, client_count, units_of};
-ghost use Rattle.order_model.specs.Checked.{AllHandOver, IsWalkOf, Passes, given_first, hands_over, takes_in};
+ghost use Rattle.order_model.specs.Checked.{IsWalkOf, Passes, are_in_turn, hands_over, takes_in, unit_spots};
 
 use crate::spots::{Walk, next_unit, nothing_read};
 use rc_base::sync::{Entry, Name, SyncLists};
@@ -72,7 +72,9 @@ fn are_in_turn(
     requires lists { IsWellFormed syncs.now }
     requires givers { IsWalkOf syncs.now journal.now order.now givers.old }
     requires takers { IsWalkOf syncs.now journal.now order.now takers.old }
-    ensures { result ≡ given_first syncs.now journal.now order.now semaphore givers.old takers.old }
+    ensures { result ≡ are_in_turn
+        (unit_spots syncs.now journal.now order.now true semaphore givers.old.read)
+        (unit_spots syncs.now journal.now order.now false semaphore takers.old.read) }
 {
     for index in takers.read..journal.len() {
         match next_unit(order, syncs, journal, takers, false, semaphore) {
@@ -113,7 +115,8 @@ fn hands_over(order: &[Name], syncs: &SyncLists, journal: &[Entry], semaphore: u
 pub fn all_hand_over(order: &[Name], syncs: &SyncLists, journal: &[Entry]) -> bool
     requires clients { client_count syncs.now ≤ 8 }
     requires lists { IsWellFormed syncs.now }
-    ensures { IsTrue result ↔ AllHandOver syncs.now journal.now order.now }
+    ensures { IsTrue result ↔ ((semaphore : ℕ)
+        → hands_over syncs.now journal.now order.now semaphore ≡ true) }
 {
     let takes = takes_of(journal);
     for number in 0..256usize {

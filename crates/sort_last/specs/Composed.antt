@@ -1,22 +1,14 @@
 -- How far the frames are put together.
-use Rattle.std.specs.Prelude.{◌≡◌, ℕ, fold, map, length}
-use Rattle.std.specs.List.{range_with_len}
+use Rattle.std.specs.Prelude.{◌≡◌, ℕ, length}
 use Rattle.rc_base.specs.Contexts.Issue.{context_after}
-use Rattle.rc_base.specs.Drawing.Nearer.{nearer}
 use Rattle.rc_base.specs.Orders.Sync.{sync_row_of}
 use Rattle.rc_base.specs.declared.scene.Scene.{Scene}
-use Rattle.draw_device.specs.Devices.{DeviceView, EachTakes}
 use Rattle.serial_render.specs.Shown.{images_of}
 use Rattle.serial_render.specs.Steps.{Holds}
-use Rattle.sort_last.specs.Layers.{composed_pixel, layer_pixel}
+use Rattle.sort_last.specs.Layers.{composed_pixel}
 use Rattle.sort_last.specs.Players.{start_of, scene_window, HaveDrawn, HaveLayers}
 use Rattle.sort_last.specs.declared.apart.Batch.{Batch}
 use Rattle.sort_last.specs.declared.compose.Composition.{Composition}
-
--- each pixel takes the clients' layers of a frame, from 1, clients rising, where they are nearer
-abbrev pub TakesLayers : Scene → ℕ → DeviceView → DeviceView → Type 0
-TakesLayers scene k before after =
-    EachTakes (λ x y p. fold nearer p (map (λ c. layer_pixel scene c k x y) (range_with_len 0 (length scene.streams)))) before after
 
 -- the frames up to one are put together and shown: the window holds that one, and client 0's context stands behind it
 pub record IsComposed (scene : Scene) (frame : ℕ) (c : Composition) : Type 0 where

@@ -26,10 +26,6 @@ composite_of a b = map (λ k. nearer (pixel_in a k) (pixel_in b k)) (range_with_
 abbrev pub AreNearer : ℕ → List Pixel → List Pixel → List Pixel → Type 0
 AreNearer n front behind pixels = (k : ℕ) → k < n → pixel_in pixels k ≡ nearer (pixel_in front k) (pixel_in behind k)
 
--- each pixel is the nearer one of two others'
-abbrev pub AreAllNearer : List Pixel → List Pixel → List Pixel → Type 0
-AreAllNearer front behind pixels = (k : ℕ) → pixel_in pixels k ≡ nearer (pixel_in front k) (pixel_in behind k)
-
 -- ---- what a client draws of a frame
 
 abbrev pub is_clear : Effect → Bool

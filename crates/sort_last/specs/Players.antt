@@ -68,14 +68,6 @@ context_behind scene names = context_after scene names.client names.to
 abbrev pub pixel_behind : Scene → DrawPass → ClientNames → ℤ → ℤ → Pixel → Pixel
 pixel_behind scene p names x y old = fold (draw_if scene x y (shows p scene)) old (names_from names.client names.from (names.to - names.from))
 
--- each pixel of a device is as those of the names that are of the pass leave it
-abbrev pub ShowsNames : Scene → DrawPass → ClientNames → DeviceView → DeviceView → Type 0
-ShowsNames scene p names before after = EachTakes (pixel_behind scene p names) before after
-
--- the picture that the names of the layer draw on blank pixels
-abbrev pub layer_of : Scene → ClientNames → ℤ → ℤ → Pixel
-layer_of scene names x y = pixel_behind scene pass.Layer names x y blank_pixel
-
 -- ---- a client's frames
 
 -- the place of the operation at an index
@@ -130,10 +122,6 @@ pub record HasDrawn (scene : Scene) (client first end : ℕ) (x : ClientContext)
   pub over : AreSheets scene sheets
   pub room : end ≤ first + length sheets
   pub each : (k : ℕ) (s : Sheet) → first + k < end → Holds (slice_index_or sheets k s).device (layer_pixel scene client (first + k + 1))
-
--- a player, which is any client's, before its first frame
-abbrev pub IsAtStart : Scene → Player → Type 0
-IsAtStart scene p = (client : ℕ) → HasDrawn scene client 0 0 p.context p.sheets.items
 
 -- a client has drawn its frames up to below one, and has sheets with those of the batch among them
 abbrev pub HasPlayed : Batch → ℕ → ℕ → Player → Type 0

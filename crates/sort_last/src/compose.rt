@@ -1,11 +1,14 @@
 //! The frames of a scene whose clients are drawn apart.
-ghost use Rattle.std.specs.Prelude.{◌≡◌, ◌+◌, ◌<◌, ◌≤◌, IfOk, OnOk};
+ghost use Rattle.std.specs.Prelude.{◌≡◌, ◌+◌, ◌<◌, ◌≤◌, fold, map, length, IfOk, OnOk};
+ghost use Rattle.std.specs.List.{range_with_len};
+ghost use Rattle.rc_base.specs.Drawing.Nearer.{nearer};
 ghost use Rattle.rc_base.specs.Formats.Within.{IsWithin};
 ghost use Rattle.rc_base.specs.Orders.Sync.{sync_lists_of};
+ghost use Rattle.draw_device.specs.Devices.{EachTakes};
 ghost use Rattle.serial_render.specs.Shown.{images_of};
 ghost use Rattle.sort_last.specs.Apart.{HaveFrames};
-ghost use Rattle.sort_last.specs.Composed.{IsComposed, IsUpTo, IsComposing, TakesLayers};
-ghost use Rattle.sort_last.specs.Layers.{composed_pixel};
+ghost use Rattle.sort_last.specs.Composed.{IsComposed, IsUpTo, IsComposing};
+ghost use Rattle.sort_last.specs.Layers.{composed_pixel, layer_pixel};
 ghost use Rattle.sort_last.specs.Offends.{IsComposable};
 ghost use Rattle.sort_last.specs.Players.{scene_window, AreNear, IsInBatch, HaveDrawn, HaveLayers};
 
@@ -60,7 +63,9 @@ fn put_layers(batch: &Batch<'_>, players: &[Player], device: &mut Device, frame:
     requires rect { device.old.rect ≡ scene_window batch.now.scene.now }
     requires near { AreNear device.old }
     ensures rect { device.new.rect ≡ device.old.rect }
-    ensures drawn { TakesLayers batch.now.scene.now (frame + 1) device.old device.new }
+    ensures drawn { EachTakes (λ x y p. fold nearer p
+        (map (λ c. layer_pixel batch.now.scene.now c (frame + 1) x y)
+        (range_with_len 0 (length batch.now.scene.now.streams)))) device.old device.new }
 {
     for client in 0..players.len() {
         player_at(players, client)

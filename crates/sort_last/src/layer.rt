@@ -1,6 +1,7 @@
 //! Layers, and putting them together.
-ghost use Rattle.std.specs.Prelude.{◌≡◌, length};
-ghost use Rattle.sort_last.specs.Layers.{pixel_in, composite_of, AreNearer, AreAllNearer};
+ghost use Rattle.std.specs.Prelude.{◌≡◌, ℕ, length};
+ghost use Rattle.rc_base.specs.Drawing.Nearer.{nearer};
+ghost use Rattle.sort_last.specs.Layers.{pixel_in, composite_of, AreNearer};
 
 use draw_device::nearer_of;
 use rc_base::command::Rgba;
@@ -61,7 +62,8 @@ fn put_before(behind: &mut Vec<Pixel>, front: &[Pixel])
 /// It takes no memory. Sort-last rendering puts what its renderers drew together so (Molnar, Cox, Ellsworth and Fuchs, 1994).
 pub fn composite(a: Layer, b: Layer) -> Layer
     ensures layer { result.pixels ≡ composite_of a.pixels b.pixels }
-    ensures pixels { AreAllNearer a.pixels b.pixels result.pixels }
+    ensures pixels { (k : ℕ)
+        → pixel_in result.pixels k ≡ nearer (pixel_in a.pixels k) (pixel_in b.pixels k) }
 {
     let mut first = a.pixels.into_vec();
     let mut second = b.pixels.into_vec();

@@ -1,7 +1,8 @@
 //! One pass over a client's commands, carried out on a device.
 ghost use Rattle.std.specs.Prelude.{◌≡◌, OnOk};
 ghost use Rattle.draw_device.specs.Conditions.{IsDrawable, IsClearable};
-ghost use Rattle.sort_last.specs.Players.{HasEffect, StandIn, context_before, context_behind, ShowsNames};
+ghost use Rattle.draw_device.specs.Devices.{EachTakes};
+ghost use Rattle.sort_last.specs.Players.{HasEffect, StandIn, context_before, context_behind, pixel_behind};
 ghost use Rattle.sort_last.specs.declared.play.DrawPass.TheVariants as passes;
 
 use crate::apart::{Batch, ClientNames};
@@ -73,7 +74,8 @@ pub(crate) fn play(
     requires before { context.old ≡ context_before batch.now.scene.now names }
     ensures context { OnOk result (context.new ≡ context_behind batch.now.scene.now names) }
     ensures rect { OnOk result (device.new.rect ≡ device.old.rect) }
-    ensures drawn { OnOk result (ShowsNames batch.now.scene.now pass names device.old device.new) }
+    ensures drawn { OnOk result
+        (EachTakes (pixel_behind batch.now.scene.now pass names) device.old device.new) }
 {
     for place in names.from..names.to {
         let effect = issue_at(context, batch.scene, names.client, place)?;

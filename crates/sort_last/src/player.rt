@@ -1,7 +1,7 @@
 //! A client that draws its frames alone.
-ghost use Rattle.std.specs.Prelude.{◌≡◌, ◌+◌, ◌<◌, ◌≤◌, length, slice_index_or, true, IfOk, OnOk};
+ghost use Rattle.std.specs.Prelude.{◌≡◌, ℕ, ◌+◌, ◌<◌, ◌≤◌, length, slice_index_or, true, IfOk, OnOk};
 ghost use Rattle.rc_base.specs.Orders.Sync.{client_count, client_row};
-ghost use Rattle.sort_last.specs.Players.{start_of, AreNamesOf, IsInBatch, IsAtStart, IsClientIn, HasPlayed, StartsBatch, EndsBatch, HasSheets, HaveDrawn, HaveLayers, AreDrawn, AreWhole};
+ghost use Rattle.sort_last.specs.Players.{start_of, AreNamesOf, IsInBatch, HasDrawn, IsClientIn, HasPlayed, StartsBatch, EndsBatch, HasSheets, HaveDrawn, HaveLayers, AreDrawn, AreWhole};
 ghost use Rattle.sort_last.specs.declared.player.Player.{Player as ThePlayer};
 
 use crate::apart::{Batch, ClientNames};
@@ -68,7 +68,8 @@ pub(crate) struct Player {
 impl Player {
     /// A client before its first frame.
     fn new(alloc: Global, scene: &Scene) -> Result<Player, OutOfMemory>
-        ensures { IfOk result (λ p. IsAtStart scene.now p) }
+        ensures { IfOk result
+            (λ p. (client : ℕ) → HasDrawn scene.now client 0 0 p.context p.sheets.items) }
     {
         Ok(Player {
             context: Context::new(alloc, &scene.decl)?,

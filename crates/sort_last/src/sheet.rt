@@ -1,8 +1,10 @@
 //! A client's layer of a frame, on a device that is kept from frame to frame.
 ghost use Rattle.std.specs.Prelude.{◌≡◌, IfOk, OnOk};
 ghost use Rattle.rc_base.specs.Cluster.Tiles.{window_rect};
+ghost use Rattle.rc_base.specs.Drawing.Serial.{blank_pixel};
 ghost use Rattle.serial_render.specs.Steps.{Holds};
-ghost use Rattle.sort_last.specs.Players.{StandIn, context_before, context_behind, layer_of, scene_window, AreNear, TakesNearer, IsSheet};
+ghost use Rattle.sort_last.specs.Players.{StandIn, context_before, context_behind, pixel_behind, scene_window, AreNear, TakesNearer, IsSheet};
+ghost use Rattle.sort_last.specs.declared.play.DrawPass.TheVariants as passes;
 
 use crate::apart::{Batch, ClientNames};
 use crate::play::{DrawPass, play};
@@ -44,7 +46,8 @@ impl Sheet {
         requires sheet { IsSheet (scene_window batch.now.scene.now) self.old }
         ensures context { OnOk result (context.new ≡ context_behind batch.now.scene.now names) }
         ensures sheet { OnOk result (IsSheet (scene_window batch.now.scene.now) self.new) }
-        ensures layer { OnOk result (Holds self.new.device (layer_of batch.now.scene.now names)) }
+        ensures layer { OnOk result (Holds self.new.device
+            (λ x y. pixel_behind batch.now.scene.now passes.Layer names x y blank_pixel)) }
     {
         self.device.blank(self.drawn);
         play(DrawPass::Layer, batch, names, context, &mut self.device)?;

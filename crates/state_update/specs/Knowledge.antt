@@ -1,16 +1,15 @@
 -- What a tracker knows of the elements that a tile was told, and what a parcel adds to it.
-use Rattle.std.specs.Prelude.{◌≡◌, ◌≢◌, ℕ, ◌<◌, ◌≤◌, ◌==◌, ◌&&◌, ◌||◌, not, nat_eq, nat_lt, Bool, true, false, List, [], ◌∷◌, ◌++◌, Option, Some, None, drop, fold, is_some, length, replicate, slice_get, slice_index, slice_index_or, unwrap_or, if◌then◌else◌, Result, IfOk, IsOk, OnOk}
+use Rattle.std.specs.Prelude.{◌≡◌, ℕ, ◌<◌, ◌≤◌, ◌==◌, ◌&&◌, ◌||◌, not, nat_eq, nat_lt, Bool, true, false, List, [], ◌∷◌, ◌++◌, Option, Some, None, drop, fold, is_some, length, replicate, slice_get, slice_index, slice_index_or, unwrap_or, if◌then◌else◌}
 use Rattle.std.specs.List.{flat_map, list_any, range_with_len}
 use Rattle.std.specs.Option.{option_map_or}
 use Rattle.dirty_bits.specs.Bits.{is_dirty, is_group_dirty}
 use Rattle.element_table.specs.Groups.{group_start}
 use Rattle.rc_base.specs.Lists.{at_name, with_name}
 use Rattle.rc_base.specs.Contexts.Context.{ClientContext, default_state, private_count, private_image, edit_of}
-use Rattle.rc_base.specs.Contexts.Elements.{default_value, values_of, value_in, scalar_count, element_count, group_sizes, image_element, image_value, no_image, same_value}
+use Rattle.rc_base.specs.Contexts.Elements.{values_of, value_in, scalar_count, element_count, group_sizes, image_element, image_value, no_image, same_value}
 use Rattle.rc_base.specs.Cluster.Looks.{sizes_with}
-use Rattle.rc_base.specs.Cluster.Parcels.{examined, sets_for, told_by}
+use Rattle.rc_base.specs.Cluster.Parcels.{examined, told_by}
 use Rattle.rc_base.specs.Drawing.Texel.{bound_kind, bound_name}
-use Rattle.rc_base.specs.declared.out_of_memory.OutOfMemory.{OutOfMemory}
 use Rattle.rc_base.specs.declared.scene.Decl.{Decl}
 use Rattle.rc_base.specs.declared.state.State.{State}
 use Rattle.rc_base.specs.declared.state.ElementSet.{ElementSet}
@@ -139,11 +138,6 @@ all_sets x = sets_by x.told.now x.context.now x.image
 abbrev pub AddsDirtyAlone : Examination → Type 0
 AddsDirtyAlone x = CleanElementsAreNotSet x.dirty.now x.tile x.told.now x.context.now x.image
 
--- the image, if any, and the scalar elements are clean for a tile now, and all else as before
-abbrev pub AreExaminedClean : Option ℕ → ℕ → List ℕ → List ℕ → Type 0
-AreExaminedClean image tile old new =
-    (e t : ℕ) → t < 32 → is_dirty new e t ≡ (is_dirty old e t && not (t == tile && is_examined image e))
-
 -- the looks at the elements of a group
 abbrev pub element_looks : List ℕ → ℕ → ℕ → ℕ
 element_looks bits tile g = if is_group_dirty bits g tile then slice_index group_sizes g else 0
@@ -152,46 +146,14 @@ element_looks bits tile g = if is_group_dirty bits g tile then slice_index group
 unfoldable pub looks_from : List ℕ → ℕ → ℕ → ℕ
 looks_from bits tile g = sizes_with (λ e. is_dirty bits e tile) (group_start g) (drop g group_sizes)
 
--- those of an examination at the elements of a group, and of all groups
-abbrev pub group_looks : Examination → ℕ → ℕ
-group_looks x = element_looks x.dirty.now x.tile
-
-abbrev pub all_looks : Examination → ℕ
-all_looks x = looks_from x.dirty.now x.tile 0
-
--- ---- what a tracker does, whatever values it knows that the tile was told
-
--- the sets that it gives are those of a block or a Clear of the context
-abbrev pub GivesSets : Tracked → ℕ → ClientContext → Bool → Result (List ElementSet) OutOfMemory → Type 0
-GivesSets t tile x draws r = (values : ℕ → ElementValue) → Knows t tile values → IfOk r (λ sets. sets ≡ sets_for values x draws)
-
--- then the tile counts as told of them
-abbrev pub CountsAsTold : Tracked → ℕ → ClientContext → Bool → Tracked → Result (List ElementSet) OutOfMemory → Type 0
-CountsAsTold t tile x draws new r =
-    (values : ℕ → ElementValue) → Knows t tile values → OnOk r (Knows new tile (after_sets values (sets_for values x draws)))
-
--- where there are no sets, no memory is taken
-abbrev pub IsOkWithoutSets : Tracked → ℕ → ClientContext → Bool → Result (List ElementSet) OutOfMemory → Type 0
-IsOkWithoutSets t tile x draws r = (values : ℕ → ElementValue) → Knows t tile values → sets_for values x draws ≡ [] → IsOk r
-
--- what it knows of other tiles stays
-abbrev pub KnowsOthersStill : ℕ → Tracked → Tracked → Type 0
-KnowsOthersStill tile old new = (other : ℕ) (values : ℕ → ElementValue) → other ≢ tile → Knows old other values → Knows new other values
+-- ---- what a tracker does
 
 -- what was examined is no longer pending to the tile, and all else as before
 abbrev pub AreExaminedTold : ℕ → ClientContext → Bool → Tracked → Tracked → Type 0
 AreExaminedTold tile x draws old new =
     (t e : ℕ) → t < 32 → pending new t e ≡ (pending old t e && not (t == tile && list_any (nat_eq e) (examined x draws)))
 
--- an element is pending to every tile now, and each other one as before
-abbrev pub IsPendingToAll : ℕ → Tracked → Tracked → Type 0
-IsPendingToAll element old new = (tile e : ℕ) → tile < 32 → pending new tile e ≡ (e == element || pending old tile e)
-
 -- ---- at first
-
--- a tile was told the defaults
-abbrev pub KnowsDefaults : Decl → ℕ → Tracked → Type 0
-KnowsDefaults d tile t = Knows t tile (default_value d)
 
 abbrev pub first_told : Decl → Told
 first_told d = record { state = default_state d; edits = replicate private_count 0 }

@@ -1,7 +1,7 @@
 //! What a parcel examines: the elements that are dirty for its tile.
 ghost use Rattle.std.specs.Prelude.{◌≡◌, ◌<◌, ◌≤◌, ◌+◌, ◌^◌, ◌++◌, [], IfOk, IsOk, OnOk, length};
 ghost use Rattle.rc_base.specs.Contexts.Elements.{element_count, group_sizes};
-ghost use Rattle.state_update.specs.Knowledge.{AddsDirtyAlone, IsPrivateName, all_looks, all_sets, group_looks, group_sets, sets_of};
+ghost use Rattle.state_update.specs.Knowledge.{AddsDirtyAlone, IsPrivateName, all_sets, element_looks, group_sets, looks_from, sets_of};
 
 use crate::told::Told;
 use dirty_bits::{Dirty, Looks};
@@ -55,7 +55,8 @@ impl<'a> Examination<'a> {
         requires room { looks.old + 256 ≤ 2 ^ 63 }
         ensures added { OnOk result (sets.new ≡ sets.old ++ group_sets self.now group) }
         ensures quiet { group_sets self.now group ≡ [] → IsOk result }
-        ensures looked { OnOk result (looks.new ≡ looks.old + 1 + group_looks self.now group) }
+        ensures looked { OnOk result (looks.new
+            ≡ looks.old + 1 + element_looks self.now.dirty.now self.now.tile group) }
         ensures risen { looks.old ≤ looks.new }
     {
         if !self.dirty.group_dirty(group, self.tile, looks) {
@@ -75,7 +76,8 @@ impl<'a> Examination<'a> {
         requires room { looks.old < 2 ^ 62 + 1 }
         ensures sets { IfOk result (λ sets. sets ≡ all_sets self.now) }
         ensures quiet { all_sets self.now ≡ [] → IsOk result }
-        ensures looked { OnOk result (looks.new ≡ looks.old + length group_sizes + all_looks self.now) }
+        ensures looked { OnOk result (looks.new
+            ≡ looks.old + length group_sizes + looks_from self.now.dirty.now self.now.tile 0) }
         ensures risen { looks.old ≤ looks.new }
     {
         let mut sets = Sets::new(self.alloc);

@@ -1,8 +1,11 @@
 //! What the tiles were last told by one client.
-ghost use Rattle.std.specs.Prelude.{◌≡◌, ◌<◌, ◌≤◌, ◌+◌, ◌^◌, false, ℕ, length, replicate, IfOk, OnOk, OnErr};
-ghost use Rattle.rc_base.specs.Contexts.Elements.{element_count};
+ghost use Rattle.std.specs.Prelude.{◌≡◌, ◌≢◌, ◌<◌, ◌≤◌, ◌+◌, ◌^◌, ◌==◌, ◌&&◌, ◌||◌, not, false, ℕ, [], length, replicate, IfOk, IsOk, OnOk, OnErr};
+ghost use Rattle.dirty_bits.specs.Bits.{is_dirty};
+ghost use Rattle.rc_base.specs.Contexts.Elements.{default_value, element_count};
 ghost use Rattle.rc_base.specs.Cluster.Looks.{looks_for};
-ghost use Rattle.state_update.specs.Knowledge.{AreExaminedClean, AreExaminedTold, CountsAsTold, GivesSets, HasBoundTexture, IsOkWithoutSets, IsPendingToAll, IsPrivateName, IsSettled, KnowsDefaults, KnowsOthersStill, pending};
+ghost use Rattle.rc_base.specs.Cluster.Parcels.{sets_for};
+ghost use Rattle.rc_base.specs.declared.state.ElementValue.{ElementValue};
+ghost use Rattle.state_update.specs.Knowledge.{AreExaminedTold, HasBoundTexture, IsPrivateName, IsSettled, Knows, after_sets, is_examined, pending};
 
 use crate::examination::Examination;
 use crate::images::image_examined;
@@ -37,7 +40,8 @@ impl Tracker {
     /// Each tile was told the defaults, and no image, and nothing is pending.
     pub fn new(alloc: Global, decl: &Decl, tiles: u8) -> Result<Tracker, OutOfMemory>
         ensures count { IfOk result (λ t. length t.told ≡ tiles) }
-        ensures told { (tile : ℕ) → tile < tiles → IfOk result (KnowsDefaults decl.now tile) }
+        ensures told { (tile : ℕ) → tile < tiles
+            → IfOk result (λ t. Knows t tile (default_value decl.now)) }
         ensures clean { IfOk result (λ t. (tile e : ℕ) → pending t tile e ≡ false) }
     {
         let first = Told::first(decl);
@@ -52,7 +56,8 @@ impl Tracker {
     pub fn note(&mut self, element: u8)
         requires { element < element_count }
         ensures told { self.new.told ≡ self.old.told }
-        ensures marked { IsPendingToAll element self.old self.new }
+        ensures marked { (tile e : ℕ) → tile < 32
+            → pending self.new tile e ≡ (e == element || pending self.old tile e) }
     {
         self.dirty.mark(element);
     }
@@ -75,10 +80,14 @@ impl Tracker {
         requires settled { IsSettled self.old tile context.now }
         requires room { looks.old < 2 ^ 62 }
         ensures count { length self.new.told ≡ length self.old.told }
-        ensures sets { GivesSets self.old tile context.now draws result }
-        ensures told { CountsAsTold self.old tile context.now draws self.new result }
-        ensures quiet { IsOkWithoutSets self.old tile context.now draws result }
-        ensures others { KnowsOthersStill tile self.old self.new }
+        ensures sets { (values : ℕ → ElementValue) → Knows self.old tile values
+            → IfOk result (λ sets. sets ≡ sets_for values context.now draws) }
+        ensures told { (values : ℕ → ElementValue) → Knows self.old tile values → OnOk result
+            (Knows self.new tile (after_sets values (sets_for values context.now draws))) }
+        ensures quiet { (values : ℕ → ElementValue) → Knows self.old tile values
+            → sets_for values context.now draws ≡ [] → IsOk result }
+        ensures others { (other : ℕ) (values : ℕ → ElementValue) → other ≢ tile
+            → Knows self.old other values → Knows self.new other values }
         ensures pending { OnOk result (AreExaminedTold tile context.now draws self.old self.new) }
         ensures looked { OnOk result (looks.new ≡ looks.old + looks_for (pending self.old tile)) }
         ensures err { OnErr result (self.new ≡ self.old) }
@@ -109,7 +118,8 @@ impl Tracker {
 fn clear_examined(dirty: &mut Dirty, image: Option<u8>, tile: u8)
     requires named { IsPrivateName image }
     requires server { tile < 32 }
-    ensures { AreExaminedClean image tile dirty.old dirty.new }
+    ensures { (e t : ℕ) → t < 32 → is_dirty dirty.new e t
+        ≡ (is_dirty dirty.old e t && not (t == tile && is_examined image e)) }
 {
     for element in 0..SCALAR_COUNT {
         dirty.clear(element, tile);
