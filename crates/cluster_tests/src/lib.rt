@@ -1,4 +1,4 @@
-//! Tests of orders and races, of the manager and of the stepped cluster's parts.
+//! Tests of orders and races, of the manager and of the stepped cluster's parts; of lanes between threads, and of workers in threads of their own.
 //!
 //! Each test calls public items alone, and stands here so that none of those crates is proved twice.
 #![tactic(auto)]
@@ -8,7 +8,13 @@ mod boxes;
 #[cfg(test)]
 mod clients;
 #[cfg(test)]
+mod crews;
+#[cfg(test)]
 mod frames;
+#[cfg(test)]
+mod grids;
+#[cfg(test)]
+mod lanes;
 #[cfg(test)]
 mod managers;
 #[cfg(test)]
@@ -19,6 +25,10 @@ mod orders;
 mod packed;
 #[cfg(test)]
 mod parts;
+#[cfg(test)]
+mod served;
+#[cfg(test)]
+mod spare;
 #[cfg(test)]
 mod stepped;
 #[cfg(test)]

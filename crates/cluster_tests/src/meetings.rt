@@ -13,7 +13,51 @@ use rc_base::sync::{Entry, Name, Order};
 use serial_render::{Turns, default_order, sync_lists, turns_of};
 use std::alloc::Global;
 use std::process::Abort;
-use test_scenes::{COMMAND_BETWEEN_MEETINGS, MEETINGS_IN_A_ROW};
+
+// Client 0 meets client 1, and then at once client 2: what stands before the first meeting isn't before what stands behind the second one.
+const MEETINGS_IN_A_ROW: &[u8] = b"scene 1 1 1
+barrier 2
+barrier 2
+client
+Barrier 1
+Barrier 2
+Swap
+client
+Begin 0
+Vertex -65536 -65536 0 65536
+Vertex 196608 -65536 0 65536
+Vertex -65536 196608 0 65536
+End
+Barrier 1
+Swap
+client
+Barrier 2
+Begin 0
+Vertex -65536 -65536 0 65536
+Vertex 196608 -65536 0 65536
+Vertex -65536 196608 0 65536
+End
+Swap
+";
+
+// The same with a command of client 0 between its meetings, which both parts meet in.
+const COMMAND_BETWEEN_MEETINGS: &[u8] = b"scene 1 1 1
+barrier 2
+barrier 2
+client
+Barrier 1
+Color 1 2 3 4
+Barrier 2
+Swap
+client
+Clear 1
+Barrier 1
+Swap
+client
+Barrier 2
+Clear 1
+Swap
+";
 
 // Some commands of a client in their sequence: from this place to below that one.
 type Run = (u8, u32, u32);

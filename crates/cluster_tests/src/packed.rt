@@ -16,7 +16,48 @@ use scene_file::{read_scene, write_scene};
 use scene_text::parse_scene;
 use std::alloc::Global;
 use std::process::Abort;
-use test_scenes::{BLENDED_IN_TURN, LAZY_TEXTURE, SHARED_BEHIND_A_BARRIER};
+use test_scenes::BLENDED_IN_TURN;
+
+// A client writes a shared texture, and behind a barrier another one draws its second texel over eight tiles by two.
+const SHARED_BEHIND_A_BARRIER: &[u8] = b"scene 1 8 2
+shared 2 1
+barrier 2
+client
+SharedImage 1 0 0 2 1 ff0000ff00ff00ff
+Barrier 1
+Swap
+client
+Barrier 1
+BindTexture 1 1
+Enable 5
+TexEnv 1
+TexCoord -1 0
+Begin 0
+Vertex -65536 -65536 0 65536
+Vertex 196608 -65536 0 65536
+Vertex -65536 196608 0 65536
+End
+Swap
+";
+
+// A Clear examines no image; the first draw samples the green texel, and the second one finds nothing pending.
+const LAZY_TEXTURE: &[u8] = b"scene 1 1 1
+client
+TexImage 1 1 1 00ff00ff
+Clear 1
+Enable 5
+Begin 0
+Vertex -65536 -65536 0 65536
+Vertex 196608 -65536 0 65536
+Vertex -65536 196608 0 65536
+End
+Begin 0
+Vertex -65536 -65536 0 65536
+Vertex 196608 -65536 0 65536
+Vertex -65536 196608 0 65536
+End
+Swap
+";
 
 // A picture that is cleared to red: a Clear with a set, Swap, End.
 const CLEARED: &[u8] = b"scene 1 2 2

@@ -20,6 +20,8 @@ mod images;
 #[cfg(test)]
 mod lists;
 #[cfg(test)]
+mod noted;
+#[cfg(test)]
 mod packets;
 #[cfg(test)]
 mod parcels;

@@ -1,12 +1,11 @@
 //! Runs on sources and sinks in memory.
 mod alone;
-mod apart;
 mod ends;
 mod faults;
 mod generated;
 mod hostile;
+mod lists;
 mod ordered;
-mod races;
 mod seeds;
 mod turns;
 

@@ -22,13 +22,30 @@ pub(crate) struct Due {
     pub(crate) notes: Option<Bytes>,
 }
 
-/// A row: its name, the lines from those on that spell what it is given, its lines, of which the first ones are words, and what each run of these words
-/// is to leave.
+/// The numbers of the calls that fail, and 0 where none does.
+#[derive(Clone, Copy)]
+pub(crate) struct Fails {
+    pub(crate) source: u64,
+    pub(crate) image: u64,
+    pub(crate) notes: u64,
+}
+
+/// What each run of a row leaves as its first run does.
+#[derive(Clone, Copy)]
+pub(crate) struct Alike {
+    pub(crate) image: bool,
+    pub(crate) notes: bool,
+}
+
+/// A row: its name, the lines from those on that spell what it is given, its lines, of which the first ones are words, the calls that fail, where the ends
+/// carry a byte a call, and what each run of these words is to leave.
 #[derive(Drop)]
 pub(crate) struct Row<'a> {
     pub(crate) name: &'a str,
     pub(crate) given: &'a [Line<'a>],
     pub(crate) lines: &'a [Line<'a>],
+    pub(crate) fails: Option<Fails>,
+    pub(crate) alike: Alike,
     pub(crate) due: Due,
 }
 
@@ -46,8 +63,19 @@ fn place_of(lines: &[Line], form: Form) -> Option<usize>
     None
 }
 
+// Whether the line of a form says that all runs are alike.
+fn are_alike(lines: &[Line], form: Form) -> bool {
+    match place_of(lines, form) {
+        Some(at) => lines[at].rest == "alike",
+        None => false,
+    }
+}
+
 // The bytes that are spelt behind the line of a form.
 fn bytes_behind(alloc: Global, lines: &[Line], form: Form) -> Result<Option<Bytes>, Refusal> {
+    if are_alike(lines, form) {
+        return Ok(None);
+    }
     match place_of(lines, form) {
         Some(at) => Ok(Some(contents_of(alloc, &lines[at + 1..])?)),
         None => Ok(None),
@@ -80,6 +108,9 @@ fn record_in(lines: &[Line]) -> Result<Option<bool>, Refusal> {
 
 // Adds the numbers of a line.
 fn add_numbers(counts: &mut Counted, line: &Line) -> Result<(), Refusal> {
+    if line.rest.is_empty() {
+        return Ok(());
+    }
     for word in line.rest.split(' ') {
         match word.parse::<u64>() {
             Ok(number) => counts.push(number)?,
@@ -89,8 +120,9 @@ fn add_numbers(counts: &mut Counted, line: &Line) -> Result<(), Refusal> {
     Ok(())
 }
 
-fn counts_in(alloc: Global, lines: &[Line]) -> Result<Option<Counted>, Refusal> {
-    match place_of(lines, Form::Counts) {
+// The numbers of the line of a form.
+fn numbers_in(alloc: Global, lines: &[Line], form: Form) -> Result<Option<Counted>, Refusal> {
+    match place_of(lines, form) {
         Some(at) => {
             let mut counts = Counted::new(alloc);
             add_numbers(&mut counts, &lines[at])?;
@@ -100,10 +132,27 @@ fn counts_in(alloc: Global, lines: &[Line]) -> Result<Option<Counted>, Refusal> 
     }
 }
 
+fn fails_in(alloc: Global, lines: &[Line]) -> Result<Option<Fails>, Refusal> {
+    let Some(numbers) = numbers_in(alloc, lines, Form::Fails)? else {
+        return Ok(None);
+    };
+    match *numbers.as_slice() {
+        [source, image, notes] => Ok(Some(Fails {
+            source,
+            image,
+            notes,
+        })),
+        _ => Err(Refusal::Malformed {
+            line: 0,
+            why: "a row has not three calls that fail",
+        }),
+    }
+}
+
 fn due_in(alloc: Global, lines: &[Line]) -> Result<Due, Refusal> {
     let status = status_in(lines)?;
     let has_record = record_in(lines)?;
-    let counts = counts_in(alloc, lines)?;
+    let counts = numbers_in(alloc, lines, Form::Counts)?;
     let image = bytes_behind(alloc, lines, Form::Image)?;
     let notes = bytes_behind(alloc, lines, Form::Notes)?;
     Ok(Due {
@@ -112,6 +161,30 @@ fn due_in(alloc: Global, lines: &[Line]) -> Result<Due, Refusal> {
         counts,
         image,
         notes,
+    })
+}
+
+// The row of this name, which is given this, and whose lines are those on the front.
+fn row_of<'a>(
+    alloc: Global,
+    name: &'a str,
+    given: &'a [Line<'a>],
+    lines: &'a [Line<'a>],
+) -> Result<Row<'a>, Refusal>
+    ensures { IfOk result (λ row. row.name.now ≡ name.now) }
+{
+    let fails = fails_in(alloc, lines)?;
+    let due = due_in(alloc, lines)?;
+    Ok(Row {
+        name,
+        given,
+        lines,
+        fails,
+        alike: Alike {
+            image: are_alike(lines, Form::Image),
+            notes: are_alike(lines, Form::Notes),
+        },
+        due,
     })
 }
 
@@ -125,13 +198,7 @@ pub(crate) fn rows_of<'a>(alloc: Global, lines: &'a [Line<'a>]) -> Result<Vec<Ro
         match lines[i].form {
             Form::Input | Form::Scene => given = &lines[i..],
             Form::Row => {
-                let due = due_in(alloc, &lines[i + 1..])?;
-                let row = Row {
-                    name: lines[i].rest,
-                    given,
-                    lines: &lines[i + 1..],
-                    due,
-                };
+                let row = row_of(alloc, lines[i].rest, given, &lines[i + 1..])?;
                 rows.push(row)?;
             }
             _ => {}

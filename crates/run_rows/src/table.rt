@@ -15,15 +15,17 @@ pub(crate) enum Form {
     Row,
     /// `words WORD ..`: the words of a run.
     Words,
+    /// `fails N N N`: the ends carry a byte a call, and these calls of source, image and notes fail.
+    Fails,
     /// `status N`: the status that is due.
     Status,
     /// `record yes` or `record no`: whether a record is to be kept.
     Record,
     /// `counts N ..`: what the filters that count are to have counted.
     Counts,
-    /// `image`: the image that is due is spelt by the lines behind it.
+    /// `image`: the image that is due is spelt by the lines behind it. `image alike`: it is that of the row's first run.
     Image,
-    /// `notes`: the notes that are due are spelt by the lines behind it.
+    /// `notes`, `notes alike`: the same of the notes.
     Notes,
     /// `| TEXT`: a line of text.
     Text,
@@ -45,6 +47,7 @@ fn form_named(word: &str) -> Option<Form> {
         b"scene" => Some(Form::Scene),
         b"row" => Some(Form::Row),
         b"words" => Some(Form::Words),
+        b"fails" => Some(Form::Fails),
         b"status" => Some(Form::Status),
         b"record" => Some(Form::Record),
         b"counts" => Some(Form::Counts),
@@ -59,10 +62,11 @@ fn form_named(word: &str) -> Option<Form> {
 // Whether a line of this form may stand behind one of the last form, contents left out; at the front of a table there is none.
 fn may_follow(last: Option<Form>, form: Form) -> bool {
     match form {
-        Form::Input | Form::Scene => !matches!(last, Some(Form::Row | Form::Words)),
-        Form::Row => !matches!(last, None | Some(Form::Row | Form::Words)),
+        Form::Input | Form::Scene => !matches!(last, Some(Form::Row | Form::Words | Form::Fails)),
+        Form::Row => !matches!(last, None | Some(Form::Row | Form::Words | Form::Fails)),
         Form::Words => matches!(last, Some(Form::Row | Form::Words)),
-        Form::Status => matches!(last, Some(Form::Words)),
+        Form::Fails => matches!(last, Some(Form::Words)),
+        Form::Status => matches!(last, Some(Form::Words | Form::Fails)),
         Form::Record => matches!(last, Some(Form::Status)),
         Form::Counts => matches!(last, Some(Form::Status | Form::Record)),
         Form::Image => matches!(last, Some(Form::Status | Form::Record | Form::Counts)),

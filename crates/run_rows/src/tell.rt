@@ -6,9 +6,10 @@ use crate::contents::{contents_of, malformed};
 use crate::refusal::Refusal;
 use crate::row::{Row, rows_of};
 use crate::table::{Form, Line, lines_of};
-use crate::trial::{Host, Left, begins_with_none, run_behind, run_plain};
+use crate::trial::{Call, Host, Left, begins_with_none, left_by};
 use crate::verdict::{are_counts_due, are_due, is_as_due, is_record_due};
 use rc_base::command::Bytes;
+use rc_base::out_of_memory::OutOfMemory;
 use std::alloc::Global;
 use std::io;
 
@@ -32,7 +33,7 @@ impl Tally {
 
 // The bytes of the scene of a text, by the job that makes them.
 fn packed(rt: &impl Host, alloc: Global, line: &Line, text: &[u8]) -> Result<Bytes, Refusal> {
-    let left = run_plain(rt, alloc, "pack", text)?;
+    let left = left_by(rt, alloc, Call::Plain, "pack", text, None)?;
     if left.status != 0 {
         return Err(malformed(line, "the lines behind it spell no scene"));
     }
@@ -90,27 +91,16 @@ fn is_right(rt: &impl Print, row: &Row, words: &str, left: &Left) -> Result<bool
     }
 }
 
-// Whether a run of these words leaves what is due.
+// Whether a run of these words by this call leaves what is due.
 fn runs_right(
     rt: &(impl Host + Print),
     alloc: Global,
     row: &Row,
+    call: Call,
     words: &str,
     input: &[u8],
 ) -> Result<bool, Refusal> {
-    let left = run_plain(rt, alloc, words, input)?;
-    is_right(rt, row, words, &left)
-}
-
-// The same behind the filters that the words begin with.
-fn runs_right_behind(
-    rt: &(impl Host + Print),
-    alloc: Global,
-    row: &Row,
-    words: &str,
-    input: &[u8],
-) -> Result<bool, Refusal> {
-    let left = run_behind(rt, alloc, words, input)?;
+    let left = left_by(rt, alloc, call, words, input, row.fails)?;
     is_right(rt, row, words, &left)
 }
 
@@ -122,30 +112,84 @@ fn is_as_wanted(
     words: &str,
     input: &[u8],
 ) -> Result<bool, Refusal> {
-    if begins_with_none(alloc, words)? && !runs_right(rt, alloc, row, words, input)? {
+    if begins_with_none(alloc, words)? && !runs_right(rt, alloc, row, Call::Plain, words, input)? {
         return Ok(false);
     }
-    runs_right_behind(rt, alloc, row, words, input)
+    runs_right(rt, alloc, row, Call::Filtered, words, input)
+}
+
+// Makes what a row's first run left due of its other runs, as far as they are to be alike.
+fn take_over(alloc: Global, row: &mut Row, left: &Left) -> Result<(), OutOfMemory> {
+    if row.alike.image {
+        row.due.image = Some(Bytes::from_slice(alloc, left.ends.image.bytes())?);
+    }
+    if row.alike.notes {
+        row.due.notes = Some(Bytes::from_slice(alloc, left.ends.notes.bytes())?);
+    }
+    Ok(())
+}
+
+// Runs the first words of a row whose runs are to be alike, to learn what is due.
+fn learn(rt: &impl Host, alloc: Global, row: &mut Row, input: &[u8]) -> Result<(), OutOfMemory> {
+    if !row.alike.image && !row.alike.notes {
+        return Ok(());
+    }
+    match row.lines.first() {
+        Some(line) => {
+            let left = left_by(rt, alloc, Call::Filtered, line.rest, input, row.fails)?;
+            take_over(alloc, row, &left)
+        }
+        None => Ok(()),
+    }
+}
+
+// Runs the words of a row and counts them. Whether all left what is due.
+fn run_row(
+    rt: &(impl Host + Print),
+    alloc: Global,
+    row: &Row,
+    input: &[u8],
+    tally: &mut Tally,
+) -> Result<bool, Refusal> {
+    let before = tally.wrong;
+    for line in row.lines {
+        if line.form != Form::Words {
+            break;
+        }
+        tally.add(is_as_wanted(rt, alloc, row, line.rest, input)?);
+    }
+    Ok(tally.wrong == before)
+}
+
+// The same of what the row is given.
+fn are_as_wanted(
+    rt: &(impl Host + Print),
+    alloc: Global,
+    row: &mut Row,
+    tally: &mut Tally,
+) -> Result<bool, Refusal> {
+    let input = given_of(rt, alloc, row.given)?;
+    learn(rt, alloc, row, input.as_slice())?;
+    run_row(rt, alloc, row, input.as_slice(), tally)
+}
+
+// Tells a row whose runs were as wanted.
+fn tell_right(rt: &impl Print, name: &str) -> Result<(), Refusal> {
+    match println!(rt; "row {name}: as wanted") {
+        Ok(()) => Ok(()),
+        Err(_) => Err(Refusal::Untold),
+    }
 }
 
 // Runs the words of a row, counts them, and tells the row.
 fn tell_row(
     rt: &(impl Host + Print),
     alloc: Global,
-    row: &Row,
+    row: &mut Row,
     tally: &mut Tally,
 ) -> Result<(), Refusal> {
-    let input = given_of(rt, alloc, row.given)?;
-    let before = tally.wrong;
-    for line in row.lines {
-        if line.form != Form::Words {
-            break;
-        }
-        tally.add(is_as_wanted(rt, alloc, row, line.rest, input.as_slice())?);
-    }
-    let name = row.name;
-    if tally.wrong == before && println!(rt; "row {name}: as wanted").is_err() {
-        return Err(Refusal::Untold);
+    if are_as_wanted(rt, alloc, row, tally)? {
+        tell_right(rt, row.name)?;
     }
     Ok(())
 }
@@ -160,9 +204,9 @@ pub(crate) fn tell_table(
         return Err(Refusal::Unread);
     };
     let lines = lines_of(alloc, text)?;
-    let rows = rows_of(alloc, lines.as_slice())?;
+    let mut rows = rows_of(alloc, lines.as_slice())?;
     let mut tally = Tally { right: 0, wrong: 0 };
-    for row in &rows {
+    for row in &mut rows {
         tell_row(rt, alloc, row, &mut tally)?;
     }
     Ok(tally)

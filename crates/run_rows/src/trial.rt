@@ -1,17 +1,24 @@
 //! Runs of words on ends in memory.
-ghost use Rattle.std.specs.Prelude.{IfOk, map, string_bytes};
-ghost use Rattle.command_line.specs.Filters.{AreNamed};
-
-use crate::row::Counted;
+use crate::row::{Counted, Fails};
 use rc_base::gate::OpenGate;
 use rc_base::in_memory::{MemSink, MemSource};
 use rc_base::out_of_memory::OutOfMemory;
 use rc_base::outside::{Sink, Source};
-use render_core::{Finish, filters, run, run_filtered};
-use spu_chain::{CountSpu, CullSpu, DropSpu, RecolourSpu, Rules, Spu, SpuRule, rules_of};
+use render_core::{Finish, filters, run};
+use render_main::{Filtered, run_with_filters};
+use spu_chain::{Rules, SpuRule};
 use std::alloc::Global;
 use std::sync::Wait;
 use std::thread::Threads;
+
+/// The call that carries out the words of a run.
+#[derive(Clone, Copy)]
+pub(crate) enum Call {
+    /// `run`, which knows no filter.
+    Plain,
+    /// `run_with_filters`.
+    Filtered,
+}
 
 /// What a run can do: start threads and wait for them.
 pub(crate) trait Host: Threads + Wait + Copy + Send + Sync + Drop {}
@@ -46,34 +53,33 @@ fn words_of(alloc: Global, line: &str) -> Result<Vec<String>, OutOfMemory> {
     Ok(words)
 }
 
-// Ends that don't fail, of a run on this input.
-fn ends_of(alloc: Global, input: &[u8]) -> Result<Ends, OutOfMemory> {
-    Ok(Ends {
-        source: MemSource::new(alloc, input, 7, &[])?,
-        image: MemSink::new(alloc, 4, &[])?,
-        notes: MemSink::new(alloc, 64, &[])?,
-    })
-}
-
-// The rules of the filters that the words begin with, and none where they name no chain.
-fn leading_rules(alloc: Global, words: &[String]) -> Result<Rules, OutOfMemory>
-    ensures { IfOk result (AreNamed (map string_bytes words.now)) }
-{
-    match filters(alloc, words)? {
-        Some((rules, _)) => Ok(rules),
-        None => Ok(Rules::new(alloc)),
+// The ends of a run on this input: those of which calls fail carry a byte a call.
+fn ends_of(alloc: Global, input: &[u8], fails: Option<Fails>) -> Result<Ends, OutOfMemory> {
+    match fails {
+        Some(fails) => Ok(Ends {
+            source: MemSource::new(alloc, input, 1, &[fails.source])?,
+            image: MemSink::new(alloc, 1, &[fails.image])?,
+            notes: MemSink::new(alloc, 1, &[fails.notes])?,
+        }),
+        None => Ok(Ends {
+            source: MemSource::new(alloc, input, 7, &[])?,
+            image: MemSink::new(alloc, 4, &[])?,
+            notes: MemSink::new(alloc, 64, &[])?,
+        }),
     }
 }
 
 /// Whether the words of a line begin with no filter.
 pub(crate) fn begins_with_none(alloc: Global, line: &str) -> Result<bool, OutOfMemory> {
     let words = words_of(alloc, line)?;
-    Ok(leading_rules(alloc, words.as_slice())?.is_empty())
+    match filters(alloc, words.as_slice())? {
+        Some((rules, _)) => Ok(rules.is_empty()),
+        None => Ok(true),
+    }
 }
 
-// What the members of a chain have counted.
-fn counts_of(alloc: Global, chain: &Vec<Box<dyn Spu>>) -> Result<Counted, OutOfMemory> {
-    let rules = rules_of(alloc, chain)?;
+// The numbers of the rules that count.
+fn counts_in(alloc: Global, rules: &Rules) -> Result<Counted, OutOfMemory> {
     let mut counts = Counted::new(alloc);
     for rule in rules.as_slice() {
         if let SpuRule::Count(count) = *rule {
@@ -104,65 +110,47 @@ fn finish_behind<S: Source, K: Sink, N: Sink>(
     image: &mut K,
     notes: &mut N,
 ) -> Result<(Finish, Counted), OutOfMemory> {
-    let rules = leading_rules(alloc, words)?;
-    let mut chain: Vec<Box<dyn Spu>> = Vec::new(alloc);
-    for rule in rules.as_slice() {
-        match *rule {
-            SpuRule::Recolour(tint) => chain.push(Box::new(alloc, RecolourSpu::new(tint))?)?,
-            SpuRule::Cull => chain.push(Box::new(alloc, CullSpu)?)?,
-            SpuRule::Drop(opcode) => chain.push(Box::new(alloc, DropSpu::new(opcode))?)?,
-            SpuRule::Count(count) => chain.push(Box::new(alloc, CountSpu::new(count))?)?,
-        }
+    let Filtered { finish, rules } = run_with_filters(*rt, alloc, words, source, image, notes)?;
+    match rules {
+        Some(rules) => Ok((finish, counts_in(alloc, &rules)?)),
+        None => Err(OutOfMemory),
     }
-    let finish = run_filtered(
-        *rt, alloc, &mut chain, words, source, image, notes, &OpenGate,
-    );
-    let counts = counts_of(alloc, &chain)?;
-    Ok((finish, counts))
 }
 
-/// What a run of a line's words leaves of this input.
-pub(crate) fn run_plain(
+// How a run on these ends by this call is finished, and what the filters that count have counted.
+fn finish_by(
     rt: &impl Host,
     alloc: Global,
-    line: &str,
-    input: &[u8],
-) -> Result<Left, OutOfMemory> {
-    let words = words_of(alloc, line)?;
-    let mut ends = ends_of(alloc, input)?;
-    let finish = finish_on(
-        rt,
-        alloc,
-        words.as_slice(),
-        &mut ends.source,
-        &mut ends.image,
-        &mut ends.notes,
-    );
-    Ok(Left {
-        status: finish.status,
-        has_record: finish.kept.is_some(),
-        counts: Counted::new(alloc),
-        ends,
-    })
+    call: Call,
+    words: &[String],
+    ends: &mut Ends,
+) -> Result<(Finish, Counted), OutOfMemory> {
+    let Ends {
+        source,
+        image,
+        notes,
+    } = ends;
+    match call {
+        Call::Plain => {
+            let finish = finish_on(rt, alloc, words, source, image, notes);
+            Ok((finish, Counted::new(alloc)))
+        }
+        Call::Filtered => finish_behind(rt, alloc, words, source, image, notes),
+    }
 }
 
-/// The same behind the filters that the words begin with.
-pub(crate) fn run_behind(
+/// What a run of a line's words by this call leaves of this input.
+pub(crate) fn left_by(
     rt: &impl Host,
     alloc: Global,
+    call: Call,
     line: &str,
     input: &[u8],
+    fails: Option<Fails>,
 ) -> Result<Left, OutOfMemory> {
     let words = words_of(alloc, line)?;
-    let mut ends = ends_of(alloc, input)?;
-    let (finish, counts) = finish_behind(
-        rt,
-        alloc,
-        words.as_slice(),
-        &mut ends.source,
-        &mut ends.image,
-        &mut ends.notes,
-    )?;
+    let mut ends = ends_of(alloc, input, fails)?;
+    let (finish, counts) = finish_by(rt, alloc, call, words.as_slice(), &mut ends)?;
     Ok(Left {
         status: finish.status,
         has_record: finish.kept.is_some(),

@@ -2,7 +2,7 @@
 ghost use Rattle.std.specs.Prelude.{IsTrue};
 ghost use Rattle.run_words.specs.Jobs.{IsThreaded};
 
-use super::{Host, Left, whole_ends, words};
+use super::{Host, Left, run_on, whole_ends, words};
 use render_core::run_alone;
 use std::alloc::Global;
 use test_scenes::{RED_CLEAR, RED_FRAME};
@@ -54,4 +54,12 @@ fn one_renderer_runs_alone(rt: HostRuntime) {
     for row in &ROWS {
         assert!(rt; leaves_alone(&rt, rt.alloc(), row));
     }
+}
+
+// A run without a chain knows no filter.
+#[test]
+fn filters_are_no_words_of_a_plain_run(rt: HostRuntime) {
+    assert!(rt;
+        run_on(&rt, rt.alloc(), &["count", "check"], &RED_CLEAR).is(1, b"", b"rc: usage\n")
+    );
 }

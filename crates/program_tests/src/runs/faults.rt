@@ -8,7 +8,10 @@ use super::{Host, Left, ends_of, has_left, left_on, sink};
 use rc_base::in_memory::MemSource;
 use rc_base::transfer::read_all;
 use std::alloc::Global;
-use test_scenes::{RED_CLEAR, RED_CLEAR_TEXT, RED_FRAME, WHITE_PIXEL};
+use test_scenes::{RED_CLEAR, RED_CLEAR_TEXT, RED_FRAME};
+
+// A frame of one white pixel.
+const WHITE_PIXEL: &[u8] = b"P6\n1 1\n255\n\xff\xff\xff";
 
 // A job, its input, and the image and the notes that it leaves where no end fails.
 #[derive(Clone, Copy)]

@@ -1,4 +1,0 @@
-use Rattle.thread_tests.proofs.beside.long_scene.Goals as goal
-
-pub write_scene-requires : goal.write_scene-requires
-write_scene-requires c = c.in_ok-scene.ensures.within.limits
