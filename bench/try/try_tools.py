@@ -172,9 +172,9 @@ ROWS = (ROOT / "crates" / "run_rows" / "stdout").read_text()
 ROW_COUNT = len(ROWS.splitlines()) - 1
 # What stands in for `rt try` in a crate: its lines, and what ./try-tests has to tell of them.
 TEST_RUNS = {
-    "lane_tests": ("test a::b ... ok\ntest a::c ... ok\ntest result: ok. 2 passed; 0 failed; 0 ignored; 0 filtered out\n", "2 passed, 0 failed"),
-    "thread_tests": ("test a::b ... ok\ntest a::d ... FAILED\ntest result: FAILED. 1 passed; 1 failed; 0 ignored; 0 filtered out\n", "1 passed, 1 failed"),
-    "chain_tests": ("error: there is no such name\n", "0 passed, 1 failed"),
+    "program_tests": ("test a::b ... ok\ntest a::c ... ok\ntest result: ok. 2 passed; 0 failed; 0 ignored; 0 filtered out\n", "2 passed, 0 failed"),
+    "drawing_tests": ("test a::b ... ok\ntest a::d ... FAILED\ntest result: FAILED. 1 passed; 1 failed; 0 ignored; 0 filtered out\n", "1 passed, 1 failed"),
+    "cluster_tests": ("error: there is no such name\n", "0 passed, 1 failed"),
     "format_tests": ("tests: 0\ntest result: ok. 0 passed; 0 failed; 0 ignored; 0 filtered out\n", "0 passed, 1 failed"),
     "run_rows": (ROWS.replace("as wanted", "not as wanted by: draw\n    its status is 0", 1), f"{ROW_COUNT - 1} passed, 1 failed"),
 }
@@ -185,7 +185,7 @@ def try_test_runner(folder):
     runner = shlex.quote(str(ROOT / "try-tests"))
     done = shell(f"{runner} --help", folder)
     check("try-tests: --help", done[0] == 0 and b"--jobs" in done[1] and not done[2], done)
-    for words in ("--nonsense", "--jobs 0", "--jobs many", "--jobs", "--seconds 3601", "raster", "lane_tests nothing"):
+    for words in ("--nonsense", "--jobs 0", "--jobs many", "--jobs", "--seconds 3601", "raster", "program_tests nothing"):
         done = shell(f"{runner} {words}", folder)
         check(f"try-tests {words}", done[0] == 2 and len(done[2]) == 1 and done[2][0].startswith("try-tests: "), done)
     done = shell(f"PATH=/nowhere {shlex.quote(sys.executable)} {runner}", folder)
@@ -202,7 +202,7 @@ def try_test_runner(folder):
     check("try-tests: the failed test's name", "  failed: a::d" in lines, done)
     check("try-tests: what a row left", "      its status is 0" in lines, done)
     check("try-tests: the last line", done[0] == 1 and lines[-1] == f"{2 + ROW_COUNT} passed, 4 failed" and not done[2], done)
-    done = shell(f'PATH="{folder}:$PATH" {runner} lane_tests', folder)
+    done = shell(f'PATH="{folder}:$PATH" {runner} program_tests', folder)
     check("try-tests: all passed", done[0] == 0 and done[1].decode().splitlines()[-1] == "2 passed, 0 failed", done)
     done = shell(f'PATH="{folder}:$PATH" {runner} --help | head -c 1', folder)
     check("try-tests: a reader that goes away", done[0] == 0 and not done[2], done)
