@@ -1,6 +1,8 @@
 -- From the spans of a triangle to the pixels of a grid.
-use Rattle.std.proofs.Common.{◌≡◌, ℕ, ◌+◌, ◌*◌, ◌<◌, ◌≤◌, ℤ, pos, ◌+ℤ◌, ◌≤ℤ◌, ◌<ℤ◌, Bool, true, false, ◌&&◌, arith, List, Option, ◌⊎◌, inl, inr, refl, sym, ◌∙◌, ap, subst, int_eq}
-use Rattle.std.proofs.lemmas.Int.{ints, by_lt_z}
+use Rattle.std.proofs.Common.{◌≡◌, ℕ, ◌+◌, ◌*◌, ◌<◌, ◌≤◌, ℤ, pos, ◌+ℤ◌, ◌≤ℤ◌, ◌<ℤ◌, Bool, true, false, ◌&&◌, if◌then◌else◌, arith, List, Option, ◌⊎◌, inl, inr, refl, sym, ◌∙◌, ap, subst, int_eq}
+use Rattle.std.proofs.lemmas.Int.{ints, by_lt_z, int_max_is}
+use Rattle.std.proofs.lemmas.Bool.{false_from_ne_true}
+use Rattle.std.specs.Int.{int_max}
 use Rattle.std.proofs.lemmas.Bool.Decides.{Decides-int_eq}
 use Rattle.std.proofs.Math.Bool.{and-false}
 use Rattle.rc_base.specs.Pictures.{Picture}
@@ -12,12 +14,13 @@ use Rattle.rc_base.specs.declared.window.WindowVertex.{WindowVertex}
 use Rattle.rc_base.specs.declared.window.Span.{Span}
 use Rattle.rc_base.specs.declared.window.Rect.{Rect}
 use Rattle.rc_base.specs.declared.window.Pixel.{Pixel}
+use Rattle.raster.specs.Clamped.{HoldsCover}
 use Rattle.raster.specs.Spans.{in_span, IsNextSpan, IsRowSpan, AreEmptyRows}
 use Rattle.plain_lemmas.proofs.Places.{next_row}
 use Rattle.scene_lemmas.proofs.Rectangles.{inside_rect}
 use Rattle.draw_device.specs.Pixels.{pixel_at}
 use Rattle.raster.specs.Clips.{IsPartWhere, is_let_through}
-use Rattle.draw_device.specs.Shapes.{column_at, row_at, grid_rect, span_has, span_step, fragment_pixel, cleared_pixel, covered_step, IsRowStepped, IsStepped, IsSteppedBelow, IsSpanIn, IsCovered}
+use Rattle.draw_device.specs.Shapes.{column_at, row_at, grid_rect, span_has, span_step, fragment_pixel, tried_pixel, cleared_pixel, covered_step, IsRowStepped, IsStepped, IsSteppedBelow, IsSpanIn, IsCovered}
 use Rattle.draw_device.specs.declared.grid.Extent.{Extent}
 
 -- ---- one span
@@ -214,6 +217,69 @@ module _ (s : State) (picture : Option Picture) (v : List WindowVertex) (g : Ext
         skipped = λ i j hi hj a b. empty_rows y t.y n.skipped i j hi hj a b;
         taken = λ i j hi hj e o. in_row t i j hi hj (rw e n.span) e (omega (arith, ints)) (omega (arith, ints)) _ refl o;
       }
+
+  -- ---- the pixels of a part that holds what the triangle covers, tried one by one
+
+  -- nothing is covered beside the columns of the part
+  idle_row : (i j : ℕ) → i < g.width → j < g.height → ((x : ℤ) → part.x0 ≤ℤ x → x <ℤ part.x1 → is_inside v x (row_at g j) ≡ false) → (o : Pixel)
+      → covered_step s picture v (column_at g i) (row_at g j) o ≡ o
+  idle_row i j hi hj e o =
+      by_lt_z (column_at g i) part.x0
+      (λ l. cut_off i j hi hj (left_of part _ (row_at g j) l) o)
+      (λ a. by_lt_z (column_at g i) part.x1
+      (λ b. uncovered i j hi hj (e (column_at g i) a b) o)
+      (λ b. cut_off i j hi hj (right_of part _ (row_at g j) b) o))
+
+  pub tried_below : (few : Rect) → HoldsCover v part few → (i j : ℕ) → i < g.width → j < g.height → row_at g j <ℤ int_max few.y0 part.y0 → (o : Pixel)
+      → covered_step s picture v (column_at g i) (row_at g j) o ≡ o
+  tried_below few h i j hi hj l o =
+      by_lt_z (row_at g j) part.y0
+      (λ m. cut_off i j hi hj (outside_rows part (column_at g i) _ m) o)
+      (λ u. idle_row i j hi hj (λ x a b. false_from_ne_true (is_inside v x (row_at g j))
+      (λ t. let low = h.low x (row_at g j) a b t in absurd (omega (arith, ints, int_max_is few.y0 part.y0)))) o)
+
+  pub tried_above : (few : Rect) → HoldsCover v part few → (i j : ℕ) → i < g.width → j < g.height → few.y1 ≤ℤ row_at g j → (o : Pixel)
+      → covered_step s picture v (column_at g i) (row_at g j) o ≡ o
+  tried_above few h i j hi hj l o =
+      by_lt_z (row_at g j) part.y1
+      (λ m. idle_row i j hi hj (λ x a b. false_from_ne_true (is_inside v x (row_at g j))
+      (λ t. let high = h.high x (row_at g j) a b m t in absurd (omega (arith, ints)))) o)
+      (λ u. cut_off i j hi hj (above_rows part (column_at g i) _ u) o)
+
+  step_none : (f : ℤ → ℤ → Pixel → Pixel) (t : Span) (x y : ℤ) (o : Pixel) → f x y o ≡ o → span_step f t x y o ≡ o
+  step_none f t x y o h = by (span_has t x y)
+    where
+      by : (b : Bool) → (if b then f x y o else o) ≡ o
+      by true = h
+      by false = refl
+
+  tried_in : (few : Rect) (t : Span) → HoldsCover v part few → t.x0 ≡ few.x0 → t.x1 ≡ few.x1 → (i j : ℕ) → i < g.width → j < g.height
+      → row_at g j ≡ t.y → part.y0 ≤ℤ row_at g j → row_at g j <ℤ part.y1 → (b : Bool) → is_inside v (column_at g i) (row_at g j) ≡ b → (o : Pixel)
+      → covered_step s picture v (column_at g i) (row_at g j) o ≡ span_step (tried_pixel s picture v) t (column_at g i) (row_at g j) o
+  tried_in few t h ex0 ex1 i j hi hj ey low high false e o =
+      uncovered i j hi hj e o ∙ sym (step_none (tried_pixel s picture v) t (column_at g i) (row_at g j) o (rw e refl))
+  tried_in few t h ex0 ex1 i j hi hj ey low high true e o =
+      let x = column_at g i in
+      let y = row_at g j in
+      let left = h.left in
+      let right = h.right in
+      by_lt_z x part.x0
+      (λ l. cut_off i j hi hj (left_of part _ y l) o ∙ sym (rw (misses_column t x y (in_low t x (omega (arith, ints)))) refl))
+      (λ a. by_lt_z x part.x1
+      (λ b. let k = h.columns x y a b e in
+      let m = k.0 in
+      let n = k.1 in
+      hit i j hi hj e (inside_rect part x y a b low high) o
+      ∙ sym (rw (span_takes t x y ey (in_yes t x (omega (arith, ints)) (omega (arith, ints))), e) refl))
+      (λ b. cut_off i j hi hj (right_of part _ y b) o ∙ sym (rw (misses_column t x y (in_high t x (omega (arith, ints)))) refl)))
+
+  pub tried_row : (few : Rect) (t : Span) → HoldsCover v part few → t.x0 ≡ few.x0 → t.x1 ≡ few.x1 → part.y0 ≤ℤ t.y → t.y <ℤ part.y1
+      → IsRowStep (covered_step s picture v) (tried_pixel s picture v) g t.y t
+  tried_row few t h ex0 ex1 low high = record {
+    from = omega (arith, ints);
+    skipped = λ i j hi hj a b. absurd (omega (arith, ints));
+    taken = λ i j hi hj e o. tried_in few t h ex0 ex1 i j hi hj e (omega (arith, ints)) (omega (arith, ints)) _ refl o;
+  }
 
 -- a span of the part lies in the grid
 pub span_in : (v : List WindowVertex) (g : Extent) (part : Rect) (test : ℤ → ℤ → Bool) (y : ℤ) (s : Span) → IsNextSpan v part y s → part.y0 ≤ℤ y

@@ -6,8 +6,8 @@ pub mod Shapes
 pub mod Grids
 pub mod Loops
 pub mod Columns
-pub mod Plans
 pub mod Shades
+pub mod Plans
 pub mod Setups
 pub mod Stored
 pub mod Prepared

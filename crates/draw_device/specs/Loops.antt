@@ -200,6 +200,12 @@ IsDepthTested test color depth old_color old_depth new_color new_depth =
     → color ≡ written_color s (fragment_color s p f) old_color → depth ≡ f.depth
     → pixel new_color new_depth ≡ fragment_step s p f (pixel old_color old_depth)
 
+-- a fragment of this depth, and of this colour after the texture stage, makes of one pixel the other
+abbrev pub IsPut : State → Rgba → ℤ → Rgba → ℕ → Rgba → ℕ → Type 0
+IsPut s color depth old_color old_depth new_color new_depth =
+    (p : Option Picture) (f : Fragment) → color ≡ fragment_color s p f → depth ≡ f.depth
+    → pixel new_color new_depth ≡ fragment_step s p f (pixel old_color old_depth)
+
 -- the same of a fragment whose flag says whether it passes the alpha test
 abbrev pub IsTested : DepthTest → Bool → Rgba → ℤ → Rgba → ℕ → Rgba → ℕ → Type 0
 IsTested test passes color depth old_color old_depth new_color new_depth =

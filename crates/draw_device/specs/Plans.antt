@@ -1,5 +1,5 @@
 -- What is settled once a block, and once a triangle.
-use Rattle.std.specs.Prelude.{◌≡◌, ⊤, true, false, List, ℤ, Option, None, Some}
+use Rattle.std.specs.Prelude.{◌≡◌, Bool, true, false, List, ℤ, Option, None, Some, IfSome}
 use Rattle.std.proofs.Props.{props}
 use Rattle.rc_base.specs.Pictures.{Picture}
 use Rattle.rc_base.specs.Drawing.PixelStep.{textured, written_color}
@@ -20,9 +20,11 @@ use Rattle.fragment_ops.specs.Blends.{IsBlending}
 use Rattle.fragment_ops.specs.DepthTests.{IsDepthTest}
 use Rattle.fragment_ops.specs.Shortcuts.{blends_over, blends_sum, writes_all}
 use Rattle.draw_device.specs.Loops.{StoresColor}
+use Rattle.draw_device.specs.Shades.{IsLaid}
 use Rattle.draw_device.specs.declared.plan.Plan.{Plan}
 use Rattle.draw_device.specs.declared.paint.Paint.{Paint}
 use Rattle.draw_device.specs.declared.paint.Paint.TheVariants as paint
+use Rattle.draw_device.specs.declared.shading.Shading.{Shading}
 use Rattle.draw_device.specs.declared.source.Source.{Source}
 use Rattle.draw_device.specs.declared.source.Source.TheVariants as source
 use Rattle.draw_device.specs.declared.stages.Stages.{Stages}
@@ -141,9 +143,20 @@ pub record AreStages (s : State) (p : Option Picture) (v : List WindowVertex) (x
   pub source : IsSource s p v x y stages.source.now
   pub tests : IsTests s v x y stages.tests.now
 
+-- colours are laid over the stored ones, or written as they are, and no alpha test is taken
+pub record IsLaidAlone (s : State) (over : Bool) : Type 0 where
+  pub laid : IsLaid s over
+  pub through : s.alpha_on ≡ false
+
+-- what is settled of a triangle whose pixels are drawn one by one
+pub record IsShading (s : State) (p : Option Picture) (v : List WindowVertex) (t : Shading) : Type 0 where
+  pub none : IfSome t.flat (λ color. p ≡ None)
+  pub flat : IfSome t.flat (AreFlat v)
+  pub over : IfSome t.over (IsLaidAlone s)
+
 -- the way that is settled for a triangle is right
 abbrev pub IsPaint : State → Option Picture → List WindowVertex → ℤ → ℤ → Paint → Type 0
 IsPaint s p v x y (paint.Fill color) = AreStored s p v × AreFlat v color
 IsPaint s p v x y (paint.Store plane) = AreStored s p v × IsColorPlane v x y plane.now
 IsPaint s p v x y (paint.Stages stages) = AreStages s p v x y stages
-IsPaint s p v x y paint.Pixels = ⊤
+IsPaint s p v x y (paint.Pixels shading) = IsShading s p v shading

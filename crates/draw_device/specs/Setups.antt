@@ -20,14 +20,15 @@ use Rattle.textures.specs.Samplers.{IsSampler}
 use Rattle.textures.specs.declared.sampler.Sampler.{Sampler}
 use Rattle.draw_device.specs.Pixels.{pixels_of}
 use Rattle.draw_device.specs.Loops.{AreColors, AreFlags, AreWritten, run_fragment, texel_for}
-use Rattle.draw_device.specs.Plans.{AreDepthTested, AreStages, AreStored, AreTexels, IsPaint, IsSource, IsTests}
-use Rattle.draw_device.specs.Shapes.{IsRowChanged, IsRunStepped, cleared_pixel, corners_step, covered_step, drawn_step, fragment_pixel, grid_rect, triangles_step}
+use Rattle.draw_device.specs.Plans.{AreDepthTested, AreStages, AreStored, AreTexels, IsPaint, IsShading, IsSource, IsTests}
+use Rattle.draw_device.specs.Shapes.{IsRowChanged, IsRunStepped, cleared_pixel, corners_step, covered_step, drawn_step, fragment_pixel, grid_rect, triangles_step, tried_pixel}
 use Rattle.draw_device.specs.declared.block_setup.BlockSetup.{BlockSetup}
 use Rattle.draw_device.specs.declared.clear_setup.ClearSetup.{ClearSetup}
 use Rattle.draw_device.specs.declared.paint.Paint.{Paint}
 use Rattle.draw_device.specs.declared.grid.Extent.{Extent}
 use Rattle.draw_device.specs.declared.run.Run.{Run}
 use Rattle.draw_device.specs.declared.setup.Setup.{Setup}
+use Rattle.draw_device.specs.declared.shading.Shading.{Shading}
 use Rattle.draw_device.specs.declared.source.Source.{Source}
 use Rattle.draw_device.specs.declared.stages.Stages.{Stages}
 use Rattle.draw_device.specs.declared.tests.Tests.{Tests}
@@ -80,6 +81,10 @@ IsGridPlane v g = IsColorPlane v (pos g.left) (pos g.bottom)
 abbrev pub fragment_by : Setup → ℤ → ℤ → Pixel → Pixel
 fragment_by t = fragment_pixel t.state.now t.texture.now t.tri.now.v
 
+-- any pixel after the fragment there, if the triangle covers it
+abbrev pub tried_by : Setup → ℤ → ℤ → Pixel → Pixel
+tried_by t = tried_pixel t.state.now t.texture.now t.tri.now.v
+
 -- a pixel after its triangle
 abbrev pub covered_by : Setup → ℤ → ℤ → Pixel → Pixel
 covered_by t = covered_step t.state.now t.texture.now t.tri.now.v
@@ -91,6 +96,10 @@ IsStoredBy t = AreStored t.state.now t.texture.now t.tri.now.v
 -- the way that is settled for it is right
 abbrev pub IsPaintOf : Setup → Type 0
 IsPaintOf t = IsPaint t.state.now t.texture.now t.tri.now.v (pos t.extent.left) (pos t.extent.bottom) t.paint
+
+-- what is settled of it where its pixels are drawn one by one
+abbrev pub IsShadingOf : Setup → Shading → Type 0
+IsShadingOf t = IsShading t.state.now t.texture.now t.tri.now.v
 
 -- ---- a run of a row of its fragments, whose planes hold from the grid's first pixel on
 
@@ -141,6 +150,10 @@ IsRowDrawn t r = IsRowChanged (fragment_by t) r.left r.row r.from r.to
 -- after those of columns `from` to below `to` of a row of the window
 abbrev pub IsWindowRowDrawn : Setup → ℕ → ℕ → ℕ → List Rgba → List ℕ → List Rgba → List ℕ → Type 0
 IsWindowRowDrawn t row = IsRowChanged (fragment_by t) t.extent.left row
+
+-- after those of them that the triangle covers
+abbrev pub IsWindowRowTried : Setup → ℕ → ℕ → ℕ → List Rgba → List ℕ → List Rgba → List ℕ → Type 0
+IsWindowRowTried t row = IsRowChanged (tried_by t) t.extent.left row
 
 -- the same of the row that lies `up` rows above the grid's first
 abbrev pub IsRowDrawnUp : Setup → ℕ → ℕ → ℕ → List Rgba → List ℕ → List Rgba → List ℕ → Type 0

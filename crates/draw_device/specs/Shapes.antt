@@ -41,6 +41,10 @@ covered_step s picture v x y old = triangle_step s picture x y old v
 abbrev pub fragment_pixel : State → Option Picture → List WindowVertex → ℤ → ℤ → Pixel → Pixel
 fragment_pixel s picture v x y old = fragment_step s picture (fragment_of v x y) old
 
+-- the same where the triangle covers it; else as it is
+abbrev pub tried_pixel : State → Option Picture → List WindowVertex → ℤ → ℤ → Pixel → Pixel
+tried_pixel s picture v x y old = if is_inside v x y then fragment_pixel s picture v x y old else old
+
 -- a pixel that a Clear reaches
 abbrev pub cleared_pixel : State → ℕ → ℤ → ℤ → Pixel → Pixel
 cleared_pixel s mask x y old = cleared s mask old
@@ -75,6 +79,10 @@ pub record IsSpanIn (g : Extent) (s : Span) : Type 0 where
   pub left : column_at g 0 ≤ℤ s.x0
   pub some : s.x0 <ℤ s.x1
   pub right : s.x1 ≤ℤ column_at g g.width
+
+-- columns `from` to below `to` of the row that lies `up` rows above the grid's first
+abbrev pub grid_span : Extent → ℕ → ℕ → ℕ → Span
+grid_span g up from to = record { y = row_at g up; x0 = column_at g from; x1 = column_at g to }
 
 -- the triangle covers the span
 abbrev pub IsCovered : List WindowVertex → Span → Type 0

@@ -11,9 +11,10 @@ ghost use Rattle.geometry.specs.Pieces.{found, found_in};
 ghost use Rattle.raster.specs.Clips.{IsPart};
 ghost use Rattle.raster.specs.Colors.{AreFlat};
 ghost use Rattle.raster.specs.Spans.{IsOnlyColumn};
+ghost use Rattle.raster.specs.Weighed.{HoldsSome};
 ghost use Rattle.textures.specs.Images.{HasTexelIfAny};
 ghost use Rattle.draw_device.specs.Prepared.{IsPreparedFor};
-ghost use Rattle.draw_device.specs.Shapes.{IsCovered, IsSpanIn, AreRowsOf, IsCacheOf, drawn_step, span_step, grid_rect};
+ghost use Rattle.draw_device.specs.Shapes.{IsCovered, IsSpanIn, AreRowsOf, IsCacheOf, drawn_step, grid_rect, span_step};
 ghost use Rattle.draw_device.specs.Conditions.{IsClearable};
 ghost use Rattle.draw_device.specs.Columns.{IsOnlyRun};
 ghost use Rattle.draw_device.specs.Devices.{pixel_index};
@@ -28,8 +29,8 @@ use crate::columns::{color_rise, fill_column, is_few, step_column};
 use crate::grid::{Extent, Grid, Spare};
 use crate::paint::Paint;
 use crate::prepare::{
-    is_tiny, plan_of, shared_at, source_of, stores_colors, takes_no_test, tests_of,
-    untextured_color,
+    has_few, is_tiny, plan_of, shading_of, shared_at, source_of, stores_colors, takes_no_test,
+    tests_of, untextured_color,
 };
 use crate::prepared::Prepared;
 use crate::rows::draw_row;
@@ -42,8 +43,8 @@ use geometry::{
     ListedBlock, Pieces, Uncut, VertexCache, VertexList, identities_of, pieces, surrounds_of,
 };
 use raster::{
-    ColorPlane, Column, SpanIter, color_plane, cover_lies_in_bounds, drawn_part, flat_color,
-    scissored, spans,
+    ColorPlane, Column, SpanIter, color_plane, cover_lies_in_bounds, covered_part, drawn_part,
+    flat_color, scissored, spans,
 };
 use rc_base::command::Rgba;
 use rc_base::out_of_memory::OutOfMemory;
@@ -53,13 +54,21 @@ use rc_base::window::{Pixel, Pixels, Rect, Span, row_start};
 use std::alloc::Global;
 use textures::Texture;
 
-// How far a column or row lies from another.
-fn offset(a: i32, from: u16) -> u16
+/// How far a column or row lies from another.
+pub(crate) fn offset(a: i32, from: u16) -> u16
     requires low { pos from ≤ℤ a }
     requires high { a ≤ℤ pos 65535 }
     ensures { a ≡ pos (from + result) }
 {
     (a - i32::from(from)) as u16
+}
+
+// The spans of a triangle in a part.
+#[inline(always)]
+fn rows_of(tri: &WindowTriangle, part: Rect) -> SpanIter<'_>
+    ensures { AreRowsOf tri.now part result }
+{
+    spans(tri, part)
 }
 
 impl Grid {
@@ -224,14 +233,14 @@ impl Grid {
     }
 
     // Draws a triangle in a part by the way that was settled for it.
-    fn draw_painted(&mut self, setup: &Setup<'_>, part: Rect, rows: SpanIter<'_>)
+    fn draw_painted(&mut self, setup: &Setup<'_>, part: Rect)
         requires grid { setup.now.extent ≡ self.old.extent }
         requires paint { IsPaintOf setup.now }
         requires part { IsDrawnPart setup.now.state.now self.old.extent part }
-        requires rows { AreRowsOf setup.now.tri.now part rows }
         ensures extent { self.new.extent ≡ self.old.extent }
         ensures drawn { IsDrawnBy (covered_by setup.now) self.old self.new }
     {
+        let rows = rows_of(setup.tri, part);
         match (self.only_column(setup.tri, part, &rows), setup.paint) {
             (Some(run), Paint::Fill(color)) => self.draw_filled_column(setup, part, run, color),
             (Some(run), Paint::Store(plane)) => self.draw_stepped_column(setup, part, run, plane),
@@ -244,12 +253,10 @@ impl Grid {
         &mut self,
         block: &BlockSetup<'_>,
         tri: &'s WindowTriangle,
-        rows: SpanIter<'s>,
         paint: Paint<'s>,
     )
         requires grid { block.now.extent ≡ self.old.extent }
         requires paint { IsPaintIn block.now self.old.extent tri.now paint }
-        requires rows { AreRowsOf tri.now block.now.part rows }
         ensures extent { self.new.extent ≡ self.old.extent }
         ensures drawn { IsDrawnBy (triangle_of block.now tri.now) self.old self.new }
     {
@@ -261,43 +268,32 @@ impl Grid {
             extent: self.extent,
             paint,
         };
-        self.draw_painted(&setup, block.part, rows);
+        self.draw_painted(&setup, block.part);
     }
 
     // Draws a triangle of several colours that are stored alone. It is compiled for itself, since the plane takes room at its entry.
     #[inline(never)]
-    fn draw_stored<'s>(
-        &mut self,
-        block: &BlockSetup<'_>,
-        tri: &'s WindowTriangle,
-        rows: SpanIter<'s>,
-    )
+    fn draw_stored(&mut self, block: &BlockSetup<'_>, tri: &WindowTriangle)
         requires grid { block.now.extent ≡ self.old.extent }
-        requires rows { AreRowsOf tri.now block.now.part rows }
         requires stored { AreStoredIn block.now tri.now }
         ensures extent { self.new.extent ≡ self.old.extent }
         ensures drawn { IsDrawnBy (triangle_of block.now tri.now) self.old self.new }
     {
         if is_tiny(tri) {
-            self.draw_settled(block, tri, rows, Paint::Pixels);
+            let shading = shading_of(block.state, block.texture, block.plan, tri);
+            self.draw_settled(block, tri, Paint::Pixels(shading));
             return;
         }
         let shared = shared_at(tri, self.extent.left, self.extent.bottom);
         let plane = color_plane(tri, &shared);
         let paint = Paint::Store(&plane);
-        self.draw_settled(block, tri, rows, paint);
+        self.draw_settled(block, tri, paint);
     }
 
     // Draws a triangle in stages. It is compiled for itself, since planes take room at its entry.
     #[inline(never)]
-    fn draw_in_stages<'s>(
-        &mut self,
-        block: &BlockSetup<'_>,
-        tri: &'s WindowTriangle,
-        rows: SpanIter<'s>,
-    )
+    fn draw_in_stages(&mut self, block: &BlockSetup<'_>, tri: &WindowTriangle)
         requires grid { block.now.extent ≡ self.old.extent }
-        requires rows { AreRowsOf tri.now block.now.part rows }
         ensures extent { self.new.extent ≡ self.old.extent }
         ensures drawn { IsDrawnBy (triangle_of block.now tri.now) self.old self.new }
     {
@@ -310,12 +306,13 @@ impl Grid {
                     source: &source,
                     tests: &tests,
                 });
-                self.draw_settled(block, tri, rows, paint);
+                self.draw_settled(block, tri, paint);
                 return;
             }
         }
         if is_tiny(tri) {
-            self.draw_settled(block, tri, rows, Paint::Pixels);
+            let shading = shading_of(block.state, block.texture, block.plan, tri);
+            self.draw_settled(block, tri, Paint::Pixels(shading));
             return;
         }
         let shared = shared_at(tri, self.extent.left, self.extent.bottom);
@@ -325,7 +322,33 @@ impl Grid {
             source: &source,
             tests: &tests,
         });
-        self.draw_settled(block, tri, rows, paint);
+        self.draw_settled(block, tri, paint);
+    }
+
+    // Draws a triangle that covers pixels of a part alone.
+    #[inline(always)]
+    fn draw_part(&mut self, block: &BlockSetup<'_>, tri: &WindowTriangle, part: Rect)
+        requires grid { block.now.extent ≡ self.old.extent }
+        requires part { HoldsSome tri.now.v block.now.part part }
+        ensures extent { self.new.extent ≡ self.old.extent }
+        ensures drawn { IsDrawnBy (triangle_of block.now tri.now) self.old self.new }
+    {
+        let stores = stores_colors(block.state, block.texture, block.plan, tri);
+        if has_few(part, stores) {
+            self.draw_few(block, tri, part);
+            return;
+        }
+        if !stores {
+            self.draw_in_stages(block, tri);
+            return;
+        }
+        match flat_color(tri) {
+            Some(color) => {
+                let paint = Paint::Fill(color);
+                self.draw_settled(block, tri, paint);
+            }
+            None => self.draw_stored(block, tri),
+        }
     }
 
     // Draws a triangle in the part of the grid's rectangle that lets it through.
@@ -335,20 +358,9 @@ impl Grid {
         ensures extent { self.new.extent ≡ self.old.extent }
         ensures drawn { IsDrawnBy (triangle_of block.now tri.now) self.old self.new }
     {
-        let rows = spans(tri, block.part);
-        if rows.is_empty() {
-            return;
-        }
-        if !stores_colors(block.state, block.texture, block.plan, tri) {
-            self.draw_in_stages(block, tri, rows);
-            return;
-        }
-        match flat_color(tri) {
-            Some(color) => {
-                let paint = Paint::Fill(color);
-                self.draw_settled(block, tri, rows, paint);
-            }
-            None => self.draw_stored(block, tri, rows),
+        match covered_part(tri, block.part) {
+            Some(part) => self.draw_part(block, tri, part),
+            None => {}
         }
     }
 
@@ -357,12 +369,12 @@ impl Grid {
     fn draw_near(
         &mut self,
         setup: &BlockSetup<'_>,
-        tri: &Option<WindowTriangle>,
+        tri: Option<WindowTriangle>,
         vertices: &VertexList<'_>,
         corners: [usize; 3],
     )
         requires grid { setup.now.extent ≡ self.old.extent }
-        requires near { MatchOption tri.now
+        requires near { MatchOption tri
             (IsBesideIfKept setup.now.state.now (listed vertices.now) corners setup.now.near)
             (λ t. kept_whole setup.now.state.now (listed vertices.now) corners ≡ Some t.v) }
         ensures extent { self.new.extent ≡ self.old.extent }
@@ -374,7 +386,7 @@ impl Grid {
         let Some(tri) = tri else {
             return;
         };
-        self.draw_triangle(setup, tri);
+        self.draw_triangle(setup, &tri);
     }
 
     // Draws the triangle of three vertices, where it is kept and doesn't lie beside the part.
@@ -392,7 +404,7 @@ impl Grid {
         ensures drawn { IsDrawnBy (cached_of block.now cache.old corners) self.old self.new }
     {
         let tri = cache.triangle_near(corners, &block.near);
-        self.draw_near(block, &tri, &cache.vertices, corners);
+        self.draw_near(block, tri, &cache.vertices, corners);
     }
 
     // Draws the triangles of a block of a mode whose triangles aren't cut. A vertex that several triangles share is brought to the window once.
@@ -449,7 +461,7 @@ impl Grid {
     {
         match cache.uncut_near(corners, &setup.near) {
             Uncut::Whole(tri) => {
-                self.draw_near(setup, &tri, &block.vertices, corners);
+                self.draw_near(setup, tri, &block.vertices, corners);
             }
             Uncut::No => {
                 let three = block.vertices.three(corners);

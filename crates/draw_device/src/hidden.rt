@@ -13,7 +13,7 @@ use raster::WordPlane;
 
 // Whether a fragment of this depth passes the depth test; where it doesn't, its pixel stays as it is.
 #[inline(always)]
-fn passes_step(test: DepthTest, depth: i32, stored: u32) -> bool
+pub(crate) fn passes_step(test: DepthTest, depth: i32, stored: u32) -> bool
     requires { is_depth depth ≡ true }
     ensures { result ≡ false → LeavesPixel test depth stored }
 {

@@ -8,11 +8,11 @@
 //! MODULATE, their products with the triangle's. Where there is an alpha test they are flagged by it. Then they become what is to be written: left as
 //! they are, or blended with the stored colours by any two factors, and written by the colour mask. Then they are put into the pixels, where the
 //! tests pass. Each loop does one thing to all columns, so that most take several at once. What the depth test hides at a row's beginning is skipped
-//! before. Colours that are stored alone skip the layout. The state is gone through fragment by fragment only where a triangle is so small that its
-//! planes cost more than its pixels, and in a row beyond the reach of the planes' steps, which no window has.
+//! before. Colours that are stored alone skip the layout. A triangle is drawn fragment by fragment only where it is so small that its planes cost more
+//! than its pixels, and in a row beyond the reach of the planes' steps, which no window has: a depth is made first, and a colour where it passes.
 //!
-//! A triangle that covers no pixel of the rectangle is dropped before anything is prepared of it. One that stands in one column of it, and whose
-//! colours alone are stored, is drawn up that column.
+//! A triangle that covers no pixel of the rectangle is dropped before anything is prepared of it. Where few pixels lie between its corners each of them
+//! is tried (`few`). One that stands in one column of the rectangle, and whose colours alone are stored, is drawn up that column.
 //!
 //! What a command does beyond its context (`carry`) is one way for the serial renderer and for each tile: a block and a Clear change the pixels of a device,
 //! and a part is written into a shared texture (`specs/Stored`). A tile is sent acts, and does to its rectangle with the state that it was told what the
@@ -32,6 +32,7 @@ mod column_run;
 mod columns;
 mod device;
 mod drawing;
+mod few;
 mod fragments;
 mod grid;
 mod hidden;
@@ -48,6 +49,7 @@ mod run;
 mod setup;
 mod shade;
 mod shades;
+mod shading;
 mod short_rows;
 mod source;
 mod stages;

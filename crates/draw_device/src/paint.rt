@@ -1,4 +1,5 @@
 //! The way that a triangle is drawn.
+use crate::shading::Shading;
 use crate::stages::Stages;
 use raster::ColorPlane;
 use rc_base::command::Rgba;
@@ -10,5 +11,5 @@ pub enum Paint<'a> {
     Fill(Rgba),
     Store(&'a ColorPlane),
     Stages(Stages<'a>),
-    Pixels,
+    Pixels(Shading),
 }

@@ -59,7 +59,7 @@ pub(crate) fn test_run(
     }
 }
 
-fn is_depth(depth: i32) -> bool
+pub(crate) fn is_depth(depth: i32) -> bool
     ensures { result ≡ is_depth depth }
 {
     0 <= depth && depth <= 16_777_215

@@ -5,9 +5,10 @@ ghost use Rattle.raster.specs.Colors.{AreFlat};
 ghost use Rattle.raster.specs.Planes.{IsTriangleSetup};
 ghost use Rattle.textures.specs.Images.{HasTexel, HasTexelIfAny};
 ghost use Rattle.textures.specs.Samplers.{IsSampler};
-ghost use Rattle.draw_device.specs.Plans.{IsPlan, IsWrite, IsSourceFrom, IsTestsFrom, AreStored, AreUntested, Replaces, Modulates};
+ghost use Rattle.draw_device.specs.Plans.{IsPlan, IsWrite, IsSourceFrom, IsTestsFrom, AreStored, AreUntested, IsLaidAlone, IsShading, Replaces, Modulates};
 
 use crate::plan::Plan;
+use crate::shading::Shading;
 use crate::source::Source;
 use crate::tests::Tests;
 use crate::write::Write;
@@ -21,6 +22,7 @@ use raster::{
 use rc_base::command::Rgba;
 use rc_base::state::State;
 use rc_base::triangle::WindowTriangle;
+use rc_base::window::Rect;
 use textures::{Sampler, Texture};
 
 // The texture environment is REPLACE, and not MODULATE.
@@ -85,8 +87,53 @@ pub(crate) fn plan_of(state: &State) -> Plan
     }
 }
 
-// Twice the area of two pixels, in square sixteenths of a pixel.
-const TINY_AREA: i64 = 1_024;
+// Whether colours are laid over the stored ones, or written as they are, where no alpha test is taken.
+fn over_of(state: &State, plan: &Plan) -> Option<bool>
+    requires { IsPlan state.now plan.now }
+    ensures { IfSome result (IsLaidAlone state.now) }
+{
+    let _state = state;
+    if !plan.through {
+        return None;
+    }
+    match plan.write {
+        Write::Plain => Some(false),
+        Write::Over => Some(true),
+        _ => None,
+    }
+}
+
+/// What is settled of a triangle whose pixels are drawn one by one.
+pub(crate) fn shading_of(
+    state: &State,
+    texture: &Texture,
+    plan: &Plan,
+    tri: &WindowTriangle,
+) -> Shading
+    requires { IsPlan state.now plan.now }
+    ensures { IsShading state.now texture.now tri.now.v result }
+{
+    Shading {
+        flat: untextured_color(texture, tri),
+        over: over_of(state, plan),
+    }
+}
+
+// Twice the area of eight pixels, in square sixteenths of a pixel.
+const TINY_AREA: i64 = 4_096;
+
+// So many pixels are tried one by one, where colours alone are stored, and else.
+const FEW_STORED: i64 = 9;
+
+const FEW: i64 = 32;
+
+/// Whether a part with columns and rows has so few pixels that to try each of them costs less than to find the covered ones row by row.
+pub(crate) fn has_few(part: Rect, stores: bool) -> bool {
+    let width = i64::from(part.x1) - i64::from(part.x0);
+    let height = i64::from(part.y1) - i64::from(part.y0);
+    let most = if stores { FEW_STORED } else { FEW };
+    width <= most && height <= most && width.wrapping_mul(height) <= most
+}
 
 /// Whether a triangle is so small that its planes cost more than its pixels do, one by one. Many of these cover no pixel at all.
 pub(crate) fn is_tiny(tri: &WindowTriangle) -> bool {

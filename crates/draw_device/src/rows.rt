@@ -13,7 +13,7 @@ use crate::paint::Paint;
 use crate::put::{put_row, tested_row};
 use crate::run::Run;
 use crate::setup::Setup;
-use crate::shade::draw_run;
+use crate::shade::{draw_run, unsettled};
 use crate::short_rows::{draw_short, is_short, laid_by, shades_of};
 use crate::source::Source;
 use crate::stages::Stages;
@@ -146,7 +146,7 @@ pub(crate) fn draw_row(
         Paint::Fill(color) => fill_colors(colors, from, to, color),
         Paint::Store(plane) => {
             if !is_few(up, to) {
-                draw_run(colors, depths, setup, row, from, to);
+                draw_run(colors, depths, setup, unsettled(setup), row, from, to);
                 return;
             }
             let run = Run {
@@ -161,7 +161,7 @@ pub(crate) fn draw_row(
         }
         Paint::Stages(stages) => {
             if !is_few(up, to) {
-                draw_run(colors, depths, setup, row, from, to);
+                draw_run(colors, depths, setup, unsettled(setup), row, from, to);
                 return;
             }
             let run = Run {
@@ -174,6 +174,6 @@ pub(crate) fn draw_row(
             };
             stage_row(colors, depths, spare, setup, stages, run);
         }
-        Paint::Pixels => draw_run(colors, depths, setup, row, from, to),
+        Paint::Pixels(shading) => draw_run(colors, depths, setup, shading, row, from, to),
     }
 }

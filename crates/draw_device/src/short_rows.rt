@@ -80,7 +80,7 @@ fn advance(shades: &mut Shades)
 
 // The colour that is written over the stored one.
 #[inline(always)]
-fn laid(setup: &Setup<'_>, over: bool, color: Rgba, stored: Rgba) -> Rgba
+pub(crate) fn laid(setup: &Setup<'_>, over: bool, color: Rgba, stored: Rgba) -> Rgba
     requires { IsLaid setup.now.state.now over }
     ensures { result ≡ written_color setup.now.state.now color stored }
 {

@@ -14,3 +14,4 @@ pub mod Ways
 pub mod Runs
 pub mod Colors
 pub mod Clips
+pub mod Weighed

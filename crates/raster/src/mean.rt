@@ -1,47 +1,77 @@
 //! The weights of the corners at a pixel, and means by them.
-ghost use Rattle.std.specs.Prelude.{◌≡◌, ◌^◌, pos, true, ◌+ℤ◌, ◌*ℤ◌, ◌≤ℤ◌, ◌<ℤ◌};
+ghost use Rattle.std.specs.Prelude.{◌≡◌, ◌^◌, pos, true, false, ◌+ℤ◌, ◌*ℤ◌, ◌≤ℤ◌, ◌<ℤ◌, MatchOption};
 ghost use Rattle.rc_base.specs.Numbers.{Within, floor_quotient};
-ghost use Rattle.rc_base.specs.Drawing.Cover.{is_inside, centre, triangle_area};
+ghost use Rattle.rc_base.specs.Drawing.Cover.{is_inside, centre};
 ghost use Rattle.rc_base.specs.Drawing.Fragment.{weight, weighted_sum};
 ghost use Rattle.raster.specs.Blend.{weighted_mean};
-ghost use Rattle.raster.specs.Weights.{AreWeights, narrow_area};
+ghost use Rattle.raster.specs.Weighed.{IsWeighed};
+ghost use Rattle.raster.specs.Weights.{narrow_area};
 
+use crate::coverage::is_inside_by;
+use crate::weights::Weights;
 use fixed_math::{centre_of, edge, floor_div};
 use rc_base::triangle::WindowTriangle;
 
 // Up to this area 64 bits hold the sum of a mean.
 const NARROW_AREA: i64 = 536_870_912;
 
-// The weights of the three corners at a point inside a triangle; their sum is twice its area.
-#[derive(Clone, Copy)]
-pub(crate) struct Weights {
-    pub(crate) first: i64,
-    pub(crate) second: i64,
-    pub(crate) third: i64,
-    pub(crate) area: i64,
-    ghost weights: { AreWeights first second third area },
-    ghost some: { pos 0 <ℤ area },
-    ghost small: { area ≤ℤ pos (2 ^ 44) },
+// The weights, where the pixel is known to be covered.
+#[inline(always)]
+fn weights_of(
+    tri: &WindowTriangle,
+    px: i64,
+    py: i64,
+    x: i32,
+    y: i32,
+    weights: (i64, i64, i64),
+) -> Weights
+    requires across { px ≡ centre x }
+    requires up { py ≡ centre y }
+    requires inside { is_inside tri.now.v x y ≡ true }
+    requires first { weights.0 ≡ weight tri.now.v 0 px py }
+    requires second { weights.1 ≡ weight tri.now.v 1 px py }
+    requires third { weights.2 ≡ weight tri.now.v 2 px py }
+    ensures { IsWeighed tri.now.v x y result }
+{
+    let _place = (px, py, x, y);
+    Weights {
+        first: weights.0,
+        second: weights.1,
+        third: weights.2,
+        area: tri.area,
+    }
 }
 
-pub(crate) fn weights_at(tri: &WindowTriangle, x: i32, y: i32) -> Weights
+/// The weights of a triangle's corners at a pixel that it covers.
+#[inline(always)]
+pub fn weights_at(tri: &WindowTriangle, x: i32, y: i32) -> Weights
     requires { is_inside tri.now.v x y ≡ true }
-    ensures first { result.first ≡ weight tri.now.v 0 (centre x) (centre y) }
-    ensures second { result.second ≡ weight tri.now.v 1 (centre x) (centre y) }
-    ensures third { result.third ≡ weight tri.now.v 2 (centre x) (centre y) }
-    ensures area { result.area ≡ triangle_area tri.now.v }
+    ensures { IsWeighed tri.now.v x y result }
 {
     let px = centre_of(x);
     let py = centre_of(y);
     let first = edge(&tri.v[1], &tri.v[2], px, py);
     let second = edge(&tri.v[2], &tri.v[0], px, py);
     let third = edge(&tri.v[0], &tri.v[1], px, py);
-    Weights {
-        first,
-        second,
-        third,
-        area: tri.area,
+    weights_of(tri, px, py, x, y, (first, second, third))
+}
+
+/// The weights of a triangle's corners at a pixel, if it covers that.
+#[inline(always)]
+pub fn weights_inside(tri: &WindowTriangle, x: i32, y: i32) -> Option<Weights>
+    ensures { MatchOption result
+        (is_inside tri.now.v x y ≡ false)
+        (λ w. (is_inside tri.now.v x y ≡ true) × IsWeighed tri.now.v x y w) }
+{
+    let px = centre_of(x);
+    let py = centre_of(y);
+    let first = edge(&tri.v[1], &tri.v[2], px, py);
+    let second = edge(&tri.v[2], &tri.v[0], px, py);
+    let third = edge(&tri.v[0], &tri.v[1], px, py);
+    if !is_inside_by(tri, px, py, x, y, (first, second, third)) {
+        return None;
     }
+    Some(weights_of(tri, px, py, x, y, (first, second, third)))
 }
 
 fn part(e: i64, a: i32) -> i128

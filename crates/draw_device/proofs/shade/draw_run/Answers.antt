@@ -3,8 +3,8 @@ use Rattle.draw_device.specs.Shapes.{fragment_pixel}
 use Rattle.draw_device.proofs.Runs.{run_pixel, run_end}
 use Rattle.draw_device.proofs.shade.draw_run.Goals as goal
 
-pub shade_at-new-requires : goal.shade_at-new-requires
-shade_at-new-requires c = c.requires.covered c.loop-x.x (omega arith) (omega arith)
+pub put_covered-requires-clause-inside : goal.put_covered-requires-clause-inside
+put_covered-requires-clause-inside c = c.requires.covered c.loop-x.x (omega arith) (omega arith)
 
 pub loop-x-preserved : goal.loop-x-preserved
 loop-x-preserved c =
@@ -15,7 +15,7 @@ loop-x-preserved c =
       colors = length-set _ _ _ ∙ i.colors;
       depths = length-set _ _ _ ∙ i.depths;
       drawn = run_pixel (fragment_pixel a.setup.now.state.now a.setup.now.texture.now a.setup.now.tri.now.v) a.setup.now.extent.left a.row a.from c.loop-x.x _ c.loop-x.colors c.loop-x.depths _ _ alike i.drawn (omega arith)
-          (omega (arith, i.colors)) c.shade_at-new.ensures;
+          (omega (arith, i.colors)) c.put_covered.ensures;
     }
 
 pub returns : goal.returns

@@ -1,0 +1,12 @@
+use Rattle.std.proofs.Common.{◌≡◌, length}
+use Rattle.draw_device.specs.Pixels.{pixels_of}
+use Rattle.draw_device.specs.Shapes.{IsRunStepped, tried_pixel}
+use Rattle.draw_device.proofs.shade.try_run.Given as goal
+
+abbrev pub invariant-loop-x : goal.invariant-loop-x
+invariant-loop-x l =
+    record {
+      colors : length l.colors ≡ length l.fn.colors;
+      depths : length l.depths ≡ length l.fn.depths;
+      drawn : IsRunStepped (tried_pixel l.setup.state.now l.setup.texture.now l.setup.tri.now.v) l.setup.extent.left l.fn.row l.fn.from l.x (pixels_of l.fn.colors l.fn.depths) (pixels_of l.colors l.depths);
+    }
