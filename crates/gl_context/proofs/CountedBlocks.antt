@@ -1,11 +1,12 @@
 -- A command where a block is open: what it leaves of a context of which the block is counted.
-use Rattle.std.proofs.Common.{◌≡◌, ℕ, ◌+◌, List, [], ◌∷◌, ◌++◌, length, None, Some, refl, sym, ap, ◌∙◌, arith, length-append}
+use Rattle.std.proofs.Common.{◌≡◌, ℕ, ◌+◌, List, [], ◌∷◌, ◌++◌, length, None, Some, true, refl, sym, ap, ◌∙◌, arith, length-append}
 use Rattle.std.specs.Prelude.{nat_lt, if◌then◌else◌, ℤ}
 use Rattle.std.specs.declared.option.Option.{Option}
 use Rattle.std.specs.Option.{option_map, option_map_or}
 use Rattle.rc_base.specs.Contexts.Context.{ClientContext}
 use Rattle.rc_base.specs.Contexts.Faults.{fault_of, vertex_most}
 use Rattle.rc_base.specs.Contexts.Issue.{issued, effect_of, refused, carried_out, done_by}
+use Rattle.rc_base.specs.Formats.Commands.{has_codes}
 use Rattle.rc_base.specs.declared.command.Command.{Command}
 use Rattle.rc_base.specs.declared.command.Command.TheVariants as cmd
 use Rattle.rc_base.specs.declared.command.Rgba.{Rgba}
@@ -114,3 +115,26 @@ misplaced x b (cmd.Vertex p) e f g h k = absurd (g p refl)
 misplaced x b (cmd.Color r) e f g h k = absurd (h r refl)
 misplaced x b (cmd.TexCoord u v) e f g h k = absurd (k u v refl)
 misplaced x b c e f g h k = rw e refl
+
+-- ---- a block is opened
+
+no_block : (o : Option Block) → None ≡ option_map (λ (b : Block). length b.vertices) o → o ≡ None
+no_block None h = refl
+no_block (Some b) h = absurd (cc)
+
+pub none_open : (s : CountingContext) (x : ClientContext) → s.vertices ≡ None → s ≡ counted x → x.block ≡ None
+none_open s x none is = no_block x.block (sym none ∙ ap (λ (t : CountingContext). t.vertices) is)
+
+pub begin_accepted : (x : ClientContext) (mode : ℕ) → x.block ≡ None → has_codes (cmd.Begin mode) ≡ true → fault_of x (cmd.Begin mode) ≡ None
+begin_accepted x mode none codes = rw (none, codes) refl
+
+pub opened : (s : CountingContext) (x : ClientContext) (place mode : ℕ) → fault_of x (cmd.Begin mode) ≡ None → s ≡ counted x
+    → record { outside = s.outside; vertices = Some 0 } ≡ counted (issued x place (cmd.Begin mode))
+unfolding issued
+opened s x place mode e is =
+    ap (λ (t : CountingContext). record { outside = t.outside; vertices = Some 0 }) is
+    ∙ ap (λ (o : Option Fault). counted (option_map_or (refused x place) o (carried_out x (cmd.Begin mode)))) (sym e)
+
+pub begin_kind : (x : ClientContext) (mode : ℕ) → fault_of x (cmd.Begin mode) ≡ None → kind.Quiet ≡ kind_of (effect_of x (cmd.Begin mode))
+unfolding effect_of
+begin_kind x mode e = ap (λ (o : Option Fault). kind_of (option_map_or (λ (g : Fault). eff.Refused g) o eff.Quiet)) (sym e)

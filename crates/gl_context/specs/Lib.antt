@@ -7,3 +7,4 @@ pub mod Stacks
 pub mod Elements
 pub mod Refused
 pub mod Blocks
+pub mod Quiet

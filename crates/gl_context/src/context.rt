@@ -11,6 +11,7 @@ ghost use Rattle.textures.specs.Images.{LiesInside, picture};
 ghost use Rattle.gl_context.specs.Arguments.{HasTexels, product_asked};
 ghost use Rattle.gl_context.specs.Edits.{HasRoomForEdits, with_edit};
 
+use crate::open_block::OpenBlock;
 use crate::rules;
 use crate::stacks::pop_last;
 use crate::state::{flags_of, held};
@@ -38,7 +39,7 @@ pub struct Context {
     color: Rgba,
     s: i32,
     t: i32,
-    pub(crate) block: Option<Block>,
+    pub(crate) block: Option<OpenBlock>,
     pub(crate) room: Vec<Vertex>,
     images: PrivateSet,
     edits: [u32; 64],
@@ -298,7 +299,7 @@ impl Context {
             t: self.t,
         };
         if let Some(block) = &mut self.block {
-            block.vertices.push(vertex)?;
+            block.push(vertex)?;
         }
         Ok(())
     }
@@ -362,15 +363,15 @@ impl Context {
     }
 
     // A block without vertices, in the room of one that was given back.
-    pub(crate) fn empty_block(&mut self, mode: u8) -> Block
+    pub(crate) fn empty_block(&mut self, mode: u8) -> OpenBlock
         ensures block { result ≡ record { mode = mode; vertices = [] } }
         ensures same { self.new ≡ self.old }
     {
         let mut room = replace(&mut self.room, Vec::new(self.alloc));
         room.clear();
-        Block {
+        OpenBlock {
             mode,
-            vertices: Vertices::from_vec(room),
+            vertices: room,
         }
     }
 
@@ -440,7 +441,7 @@ impl Context {
     {
         match command {
             Command::End => Ok(match self.block.take() {
-                Some(block) => Effect::Block(block),
+                Some(block) => Effect::Block(block.into_block()),
                 None => Effect::Quiet,
             }),
             Command::Clear { mask } => Ok(Effect::Clear(*mask)),
@@ -573,7 +574,7 @@ impl Context {
         match self.block.take() {
             Some(block) => {
                 let count = block.vertices.len();
-                self.room = block.vertices.into_vec();
+                self.room = block.vertices;
                 Some(count)
             }
             None => None,

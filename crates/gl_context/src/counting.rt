@@ -1,5 +1,6 @@
 //! A context whose open block is only counted.
-ghost use Rattle.std.specs.Prelude.{◌≡◌, IfOk, OnOk, OnErr, Some, None};
+ghost use Rattle.std.specs.Prelude.{◌≡◌, ℕ, IsTrue, IsFalse, IfOk, OnOk, OnErr, Some, None};
+ghost use Rattle.gl_context.specs.Quiet.{is_quiet_inside, is_quiet_outside};
 ghost use Rattle.rc_base.specs.Contexts.Context.{default_context};
 ghost use Rattle.gl_context.specs.Arguments.{HasTexels};
 ghost use Rattle.gl_context.specs.Edits.{HasRoomForEdits};
@@ -106,6 +107,61 @@ impl CountingContext {
                 Ok(EffectKind::Block)
             }
             _ => self.refuse(place, Fault::InvalidOperation),
+        }
+    }
+
+    /// Issues a command, as `issue` does at any place, where a block is open and it is a Vertex that the block has room for, a Color or a TexCoord;
+    /// otherwise nothing is done. Whether it was issued.
+    #[inline(always)]
+    pub fn count_quiet(&mut self, command: &Command) -> bool
+        ensures exact { result ≡ is_quiet_inside self.old command.now }
+        ensures kind { IsTrue result → HasKind self.old command.now kind.Quiet }
+        ensures issued { IsTrue result → (place : ℕ) → CountsIssued self.old place command.now self.new }
+        ensures left { IsFalse result → self.new ≡ self.old }
+    {
+        let Some(count) = self.vertices else {
+            return false;
+        };
+        match command {
+            Command::Vertex { .. } => {
+                if rules::has_vertex_room(count) {
+                    self.vertices = Some(count + 1);
+                    true
+                } else {
+                    false
+                }
+            }
+            Command::Color(color) => {
+                self.outside.set_color(*color);
+                true
+            }
+            Command::TexCoord { s, t } => {
+                self.outside.set_coordinate(s, t);
+                true
+            }
+            _ => false,
+        }
+    }
+
+    /// Issues a command, as `issue` does at any place, where no block is open and it is a Begin of a kind that there is; otherwise nothing is done. Whether
+    /// it was issued.
+    #[inline(always)]
+    pub fn count_begin(&mut self, command: &Command) -> bool
+        ensures exact { result ≡ is_quiet_outside self.old command.now }
+        ensures kind { IsTrue result → HasKind self.old command.now kind.Quiet }
+        ensures issued { IsTrue result → (place : ℕ) → CountsIssued self.old place command.now self.new }
+        ensures left { IsFalse result → self.new ≡ self.old }
+    {
+        match (self.vertices, command) {
+            (None, Command::Begin { .. }) => {
+                if rules::has_codes(command) {
+                    self.vertices = Some(0);
+                    true
+                } else {
+                    false
+                }
+            }
+            _ => false,
         }
     }
 

@@ -9,6 +9,7 @@ mod context;
 mod counting;
 mod elements;
 pub mod laws;
+mod open_block;
 mod rules;
 mod stacks;
 mod state;

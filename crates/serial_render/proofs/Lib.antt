@@ -13,3 +13,4 @@ pub mod GrantedTurns
 pub mod TurnsOfClients
 pub mod ScenesTakeTurns
 pub mod LeftWaiting
+pub mod StillCommands

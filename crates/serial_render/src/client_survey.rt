@@ -12,7 +12,7 @@ use rc_base::out_of_memory::OutOfMemory;
 use rc_base::scene::{Scene, stream_length};
 use rc_base::sync::{SyncOps, SyncRow, WaitAt};
 use std::alloc::Global;
-use stream_replay::count_at;
+use stream_replay::{count_at, count_begin_at, count_quiet_at};
 
 /// What one issue of each of a client's first commands tells.
 #[derive(Drop)]
@@ -49,6 +49,46 @@ impl ClientSurvey {
     /// is missing.
     #[inline(always)]
     pub fn issue(
+        &mut self,
+        scene: &Scene,
+        client: usize,
+        place: usize,
+    ) -> Result<EffectKind, OutOfMemory>
+        requires within { IsWithin scene.now }
+        requires inside { place < length (stream_of scene.now client) }
+        requires before { self.old ≡ survey_after scene.now client place }
+        ensures after { OnOk result (self.new ≡ survey_after scene.now client (place + 1)) }
+        ensures kind { IfOk result (λ k. k ≡ kind_of (effect_at scene.now client place)) }
+    {
+        if count_quiet_at(&mut self.context, scene, client, place) {
+            return Ok(EffectKind::Quiet);
+        }
+        self.issue_other(scene, client, place)
+    }
+
+    // The same of a command that is none of a block's vertices, colours and coordinates.
+    #[inline(never)]
+    fn issue_other(
+        &mut self,
+        scene: &Scene,
+        client: usize,
+        place: usize,
+    ) -> Result<EffectKind, OutOfMemory>
+        requires within { IsWithin scene.now }
+        requires inside { place < length (stream_of scene.now client) }
+        requires before { self.old ≡ survey_after scene.now client place }
+        ensures after { OnOk result (self.new ≡ survey_after scene.now client (place + 1)) }
+        ensures kind { IfOk result (λ k. k ≡ kind_of (effect_at scene.now client place)) }
+    {
+        if count_begin_at(&mut self.context, scene, client, place) {
+            return Ok(EffectKind::Quiet);
+        }
+        self.issue_any(scene, client, place)
+    }
+
+    // The same of any command.
+    #[inline(always)]
+    fn issue_any(
         &mut self,
         scene: &Scene,
         client: usize,

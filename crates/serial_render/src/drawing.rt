@@ -25,7 +25,9 @@ use rc_base::state::{Block, Effect};
 use rc_base::sync::Name;
 use rc_base::window::{Rect, window_rect};
 use std::alloc::Global;
-use stream_replay::{Client, InBlock, clients_of, issue_in_block, issue_name, take_back};
+use stream_replay::{
+    Client, InBlock, clients_of, issue_in_block, issue_name, issue_quiet, take_back,
+};
 use textures::SharedSet;
 
 /// The rectangle of the whole window.
@@ -93,10 +95,9 @@ fn draw(
     );
 }
 
-// Issues the command of a name, the next one of its client, and carries out what it does beyond its client's context. The commands of blocks, which are most
-// of a stream, make no effect.
-#[inline(always)]
-fn perform(
+// Issues the command of a name, the next one of its client, and carries out what it does beyond its client's context.
+#[inline(never)]
+fn perform_any(
     clients: &mut Vec<Client>,
     scene: &Scene,
     name: Name,
@@ -136,7 +137,39 @@ fn perform(
     Ok(())
 }
 
+// The same. The commands that do nothing beyond it, which are most of a stream, are issued with no call.
+#[inline(always)]
+fn perform(
+    clients: &mut Vec<Client>,
+    scene: &Scene,
+    name: Name,
+    brush: &mut Brush,
+    device: &mut Device,
+    shared: &mut SharedSet,
+) -> Result<(), OutOfMemory>
+    requires within { IsWithin scene.now }
+    requires inside { name.place < length (stream_of scene.now name.client) }
+    requires before { StandsBefore scene.now clients.old.items name }
+    requires drawable { IsDrawable (state_behind scene.now name) (images_behind scene.now name) shared.old }
+    requires clearable { IsClearable (state_behind scene.now name) }
+    requires writable { (part : Part) → effect_by scene.now name ≡ eff.Shared part → IsStorable part shared.old }
+    requires settled { IsSettled clients.old.items device.old.rect brush.old }
+    ensures clients { OnOk result (clients.new.items ≡ issued_by scene.now clients.old.items name) }
+    ensures rect { OnOk result (device.new.rect ≡ device.old.rect) }
+    ensures drawn { OnOk result (TakesEffect scene.now name shared.old device.old device.new) }
+    ensures shared { OnOk result (shared.new ≡ set_after (effect_by scene.now name) shared.old) }
+    ensures settled { OnOk result (IsSettled clients.new.items device.old.rect brush.new) }
+{
+    let quiet = issue_quiet(clients, scene, name)?;
+    if quiet {
+        return Ok(());
+    }
+    perform_any(clients, scene, name, brush, device, shared)?;
+    Ok(())
+}
+
 /// Carries out the names of an order, one after the other. The picture of a frame is taken before the first name that lies beyond its client's Swap.
+#[inline(never)]
 pub(crate) fn play(alloc: Global, scene: &Scene, order: &[Name]) -> Result<Played, OutOfMemory>
     requires within { IsWithin scene.now }
     requires playable { IsPlayable scene.now order.now }

@@ -3,11 +3,11 @@ ghost use Rattle.std.specs.Prelude.{◌≡◌, ℕ, ◌+◌, ◌<◌, length, If
 ghost use Rattle.rc_base.specs.Formats.Within.{IsWithin};
 ghost use Rattle.rc_base.specs.Contexts.Issue.{stream_of, effect_at};
 ghost use Rattle.rc_base.specs.Drawing.Serial.{is_swap_effect};
-ghost use Rattle.stream_replay.specs.Blocks.{ClientIsBehind, ClientsAreBehind, is_of_block_at, was_issued};
+ghost use Rattle.stream_replay.specs.Blocks.{ClientIsBehind, ClientsAreBehind, is_of_block_at, is_quiet_at, quiet_or_left, was_issued};
 ghost use Rattle.stream_replay.specs.Clients.{client_after, first_clients, StandsBefore, issued_by};
 
 use crate::in_block::InBlock;
-use crate::replay::{issue_at, issue_in_block_at};
+use crate::replay::{issue_at, issue_in_block_at, issue_quiet_at};
 use gl_context::Context;
 use rc_base::out_of_memory::OutOfMemory;
 use rc_base::scene::Scene;
@@ -73,6 +73,22 @@ impl Client {
         issue_in_block_at(&mut self.context, scene, client, place)
     }
 
+    /// The same, where it does nothing beyond the context. Whether it was issued.
+    #[inline(always)]
+    fn issue_quiet(
+        &mut self,
+        scene: &Scene,
+        client: usize,
+        place: usize,
+    ) -> Result<bool, OutOfMemory>
+        requires inside { place < length (stream_of scene.now client) }
+        requires before { self.old ≡ client_after scene.now client place }
+        ensures issued { IfOk result (λ r. ClientIsBehind scene.now client place self.old self.new (quiet_or_left r)) }
+        ensures exact { IfOk result (λ r. r ≡ is_quiet_at scene.now client place) }
+    {
+        issue_quiet_at(&mut self.context, scene, client, place)
+    }
+
     #[inline(always)]
     fn take_back(&mut self, effect: Effect)
         ensures { self.new ≡ self.old }
@@ -124,6 +140,26 @@ pub fn issue_in_block(
     ensures exact { IfOk result (λ r. was_issued r ≡ is_of_block_at scene.now name.client name.place) }
 {
     clients[usize::from(name.client)].issue_in_block(
+        scene,
+        usize::from(name.client),
+        name.place as usize,
+    )
+}
+
+/// Issues the command of a name, the next one of its client, where it does nothing beyond its client's context: a Vertex, a Color, a TexCoord or a Begin
+/// that breaks no rule. Whether it was issued; another command is left alone.
+#[inline(always)]
+pub fn issue_quiet(
+    clients: &mut Vec<Client>,
+    scene: &Scene,
+    name: Name,
+) -> Result<bool, OutOfMemory>
+    requires inside { name.place < length (stream_of scene.now name.client) }
+    requires before { StandsBefore scene.now clients.old.items name }
+    ensures issued { IfOk result (λ r. ClientsAreBehind scene.now name clients.old.items clients.new.items (quiet_or_left r)) }
+    ensures exact { IfOk result (λ r. r ≡ is_quiet_at scene.now name.client name.place) }
+{
+    clients[usize::from(name.client)].issue_quiet(
         scene,
         usize::from(name.client),
         name.place as usize,

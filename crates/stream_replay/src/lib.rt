@@ -10,6 +10,6 @@ mod client;
 mod in_block;
 mod replay;
 
-pub use client::{Client, clients_of, issue_in_block, issue_name, take_back};
+pub use client::{Client, clients_of, issue_in_block, issue_name, issue_quiet, take_back};
 pub use in_block::InBlock;
-pub use replay::{count_at, issue_at};
+pub use replay::{count_at, count_begin_at, count_quiet_at, issue_at};

@@ -1,10 +1,13 @@
 //! Commands of a scene, issued by client and place.
-ghost use Rattle.std.specs.Prelude.{◌≡◌, ◌+◌, ◌<◌, length, Some, IfOk, OnOk, OnErr};
+ghost use Rattle.std.specs.Prelude.{◌≡◌, ◌+◌, ◌<◌, length, false, Some, IsTrue, IsFalse, IfOk, OnOk, OnErr};
+ghost use Rattle.std.specs.Option.{option_map_or};
 ghost use Rattle.rc_base.specs.Formats.Within.{IsWithin};
 ghost use Rattle.rc_base.specs.Contexts.Issue.{stream_of, command_at, context_after, effect_at};
 ghost use Rattle.gl_context.specs.Counted.{kind_of};
+ghost use Rattle.gl_context.specs.Quiet.{is_quiet_inside, is_quiet_outside};
+ghost use Rattle.gl_context.specs.declared.counting.EffectKind.TheVariants as kind;
 ghost use Rattle.rc_base.specs.declared.command.Command.TheVariants as cmd;
-ghost use Rattle.stream_replay.specs.Blocks.{IsIssuedInBlock, is_of_block_at, was_issued};
+ghost use Rattle.stream_replay.specs.Blocks.{IsIssuedInBlock, is_of_block_at, is_quiet_at, quiet_or_left, was_issued};
 ghost use Rattle.stream_replay.specs.Counts.{counted_after};
 
 use crate::in_block::InBlock;
@@ -111,6 +114,24 @@ pub(crate) fn issue_in_block_at(
     }
 }
 
+/// The same of a command that does nothing beyond its context: a Vertex, a Color, a TexCoord or a Begin that breaks no rule. Whether it was issued;
+/// another command is left alone.
+#[inline(always)]
+pub(crate) fn issue_quiet_at(
+    context: &mut Context,
+    scene: &Scene,
+    client: usize,
+    place: usize,
+) -> Result<bool, OutOfMemory>
+    requires inside { place < length (stream_of scene.now client) }
+    requires before { context.old ≡ context_after scene.now client place }
+    ensures issued { IfOk result (λ r. IsIssuedInBlock scene.now client place context.new (quiet_or_left r)) }
+    ensures exact { IfOk result (λ r. r ≡ is_quiet_at scene.now client place) }
+{
+    let quiet = context.issue_quiet(command_at(scene, client, place))?;
+    Ok(quiet)
+}
+
 /// Issues the command of a client at a place in a context whose open block is only counted: it gives the kind of the command's effect.
 #[inline(always)]
 pub fn count_at(
@@ -127,4 +148,40 @@ pub fn count_at(
     ensures err { OnErr result (counting.new ≡ counting.old) }
 {
     counting.issue(place as u32, command_at(scene, client, place))
+}
+
+/// The same of a Vertex, a Color or a TexCoord of an open block, which breaks no rule. Whether it was issued; another command is left alone.
+#[inline(always)]
+pub fn count_quiet_at(
+    counting: &mut CountingContext,
+    scene: &Scene,
+    client: usize,
+    place: usize,
+) -> bool
+    requires inside { place < length (stream_of scene.now client) }
+    requires before { counting.old ≡ counted_after scene.now client place }
+    ensures context { IsTrue result → counting.new ≡ counted_after scene.now client (place + 1) }
+    ensures kind { IsTrue result → kind.Quiet ≡ kind_of (effect_at scene.now client place) }
+    ensures left { IsFalse result → counting.new ≡ counting.old }
+    ensures exact { result ≡ option_map_or (is_quiet_inside counting.old) (command_at scene.now client place) false }
+{
+    counting.count_quiet(command_at(scene, client, place))
+}
+
+/// The same of a Begin outside a block, which breaks no rule. Whether it was issued; another command is left alone.
+#[inline(always)]
+pub fn count_begin_at(
+    counting: &mut CountingContext,
+    scene: &Scene,
+    client: usize,
+    place: usize,
+) -> bool
+    requires inside { place < length (stream_of scene.now client) }
+    requires before { counting.old ≡ counted_after scene.now client place }
+    ensures context { IsTrue result → counting.new ≡ counted_after scene.now client (place + 1) }
+    ensures kind { IsTrue result → kind.Quiet ≡ kind_of (effect_at scene.now client place) }
+    ensures left { IsFalse result → counting.new ≡ counting.old }
+    ensures exact { result ≡ option_map_or (is_quiet_outside counting.old) (command_at scene.now client place) false }
+{
+    counting.count_begin(command_at(scene, client, place))
 }

@@ -1,0 +1,18 @@
+use Rattle.std.proofs.Common.{◌≡◌, ℕ, ◌∙◌, Bool, ap}
+use Rattle.std.specs.Prelude.{slice_index_or, slice_set}
+use Rattle.std.proofs.lemmas.Result.{IfOk-weaker}
+use Rattle.stream_replay.specs.Blocks.{ClientIsBehind, ClientsAreBehind, quiet_or_left}
+use Rattle.stream_replay.proofs.BlockCommands.{clients_behind}
+use Rattle.stream_replay.proofs.client.issue_quiet.Goals as goal
+
+pub returns-clause-issued : goal.returns-clause-issued
+returns-clause-issued c =
+    let s = c.args.scene.now in
+    let n = c.args.name in
+    let xs = c.args.clients.now.items in
+    let x = c.index_mut.result.now in
+    let y = c.issue_quiet.new.self in
+    let found : x ≡ slice_index_or xs n.client x = c.index_mut.ensures.value ∙ ap (λ (k : ℕ). slice_index_or xs k x) c.from.ensures in
+    IfOk-weaker c.issue_quiet.result (λ (r : Bool). ClientIsBehind s c.from-2.result n.place x y (quiet_or_left r))
+    (λ (r : Bool). ClientsAreBehind s n xs (slice_set xs c.from.result y) (quiet_or_left r))
+    (λ r h. clients_behind s n xs c.from.result c.from-2.result x y (quiet_or_left r) c.from.ensures c.from-2.ensures c.requires.before found h) c.issue_quiet.ensures.issued
