@@ -1,5 +1,5 @@
 -- Reading the payload of a command of a block field by field is reading its fields.
-use Rattle.std.proofs.Common.{◌≡◌, ℕ, ℤ, zero, suc, List, [], ◌∷◌, Result, Ok, Err, refl, sym, ap, ◌∙◌}
+use Rattle.std.proofs.Common.{◌≡◌, ℕ, ℤ, suc, List, [], ◌∷◌, Result, Ok, Err, refl, ap, ◌∙◌}
 use Rattle.rc_base.specs.declared.command.Command.{Command}
 use Rattle.rc_base.specs.declared.command.Command.TheVariants as cmd
 use Rattle.rc_base.specs.declared.command.Opcode.TheVariants as op

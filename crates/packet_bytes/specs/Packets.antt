@@ -104,6 +104,13 @@ abbrev pub AddsHeld : {X C : Type 0} → (Command → C) → (X → List ℕ) �
 AddsHeld held rest old new (Ok x) read = (command : Command) × (read ≡ Ok (command, rest x)) × (new ≡ old ++ held command ∷ [])
 AddsHeld held rest old new (Err e) read = Fails e read
 
+-- A command was read and added behind those before, with these bytes behind it; and one of the table, in what holds it.
+abbrev pub AddsNext : {C : Type 0} → List C → List C → List ℕ → Result (C × List ℕ) Form → Type 0
+AddsNext {C = C} old new rest read = (command : C) × (read ≡ Ok (command, rest)) × (new ≡ old ++ command ∷ [])
+
+abbrev pub AddsNextHeld : {C : Type 0} → (Command → C) → List C → List C → List ℕ → Result (Command × List ℕ) Form → Type 0
+AddsNextHeld held old new rest read = (command : Command) × (read ≡ Ok (command, rest)) × (new ≡ old ++ held command ∷ [])
+
 -- Commands were read, and kept or not; or a function failed as reading does, or for want of memory.
 abbrev pub Keeps : {X C : Type 0} → (X → List ℕ) → Bool → List C → List C → Result X ReadError → Result (List C × List ℕ) Form → Type 0
 Keeps {C = C} rest keep old new (Ok x) read = (commands : List C) × (read ≡ Ok (commands, rest x)) × (new ≡ kept keep old commands)

@@ -10,7 +10,7 @@ ghost use Rattle.packet_bytes.specs.Faults.{FailsAsStreamOf};
 
 use crate::fault::PackFault;
 use crate::packets::{DecodedOf, PacketCommand, decode_of};
-use crate::payload::{HoldsCommand, add_command};
+use crate::payload::{HoldsCommand, add_command, add_short};
 use byte_codec::fault::ReadError;
 use byte_codec::fields::read_byte;
 use command_table::opcode_from;
@@ -51,6 +51,20 @@ impl PacketCommand for ListCommand {
         matches!(opcode, ListOpcode::Plain(Opcode::Swap))
     }
 
+    #[inline(always)]
+    #[tactic(auto, unfolding(crate::specs::Lists::read_list_command))]
+    fn add_short<'a>(
+        commands: &mut Vec<ListCommand>,
+        opcode: ListOpcode,
+        bytes: &'a [u8],
+    ) -> Option<&'a [u8]> {
+        match opcode {
+            ListOpcode::Plain(plain) => add_short::<ListCommand>(commands, plain, bytes),
+            _ => None,
+        }
+    }
+
+    #[inline(never)]
     #[tactic(auto, unfolding(crate::specs::Lists::read_list_command))]
     fn add_command<'a>(
         alloc: Global,

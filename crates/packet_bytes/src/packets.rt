@@ -1,10 +1,10 @@
 //! Packets of the commands of a set: what a set of commands gives, and the reader of streams over it.
-ghost use Rattle.std.specs.Prelude.{◌≡◌, ◌+◌, ◌<◌, count_by, IfOk, IfErr, OnOk};
+ghost use Rattle.std.specs.Prelude.{◌≡◌, ◌+◌, ◌<◌, count_by, IfOk, IfErr, IfSome, IfNone, OnOk};
 ghost use Rattle.std.specs.Vec.{vec_len, vec_capacity};
 ghost use Rattle.rc_base.specs.Formats.Spelling.{CommandSet};
 ghost use Rattle.byte_codec.specs.Reading.{Gives, Reads, with_front};
 ghost use Rattle.packet_bytes.specs.Sets.{SetReader, Agrees};
-ghost use Rattle.packet_bytes.specs.Packets.{AddsCommand, read_opcode, read_opcodes, read_count, read_payloads, read_packet, Keeps, AddsPacket, Takes, DecodesOf};
+ghost use Rattle.packet_bytes.specs.Packets.{AddsCommand, AddsNext, read_opcode, read_opcodes, read_count, read_payloads, read_packet, Keeps, AddsPacket, Takes, DecodesOf};
 ghost use Rattle.packet_bytes.specs.Faults.{FailsBy, FailsAsStreamOf, pack_fault};
 
 use crate::fault::PackFault;
@@ -42,6 +42,19 @@ pub trait PacketCommand: Sized + Drop {
         ensures added { AddsCommand (λ rest. rest.now) commands.old.items commands.new.items result (reader.read opcode bytes.now) }
         ensures len { OnOk result (vec_len commands.new ≡ vec_len commands.old + 1) }
         ensures capacity { OnOk result (vec_capacity commands.new ≡ vec_capacity commands.old) };
+
+    /// The same of some commands, which are soon read: where it gives nothing, nothing is added.
+    fn add_short<'a>(
+        commands: &mut Vec<Self>,
+        opcode: Self::Opcode,
+        bytes: &'a [u8],
+    ) -> Option<&'a [u8]>
+        requires { vec_len commands.old < vec_capacity commands.old }
+        ensures added { IfSome result (λ rest. AddsNext commands.old.items commands.new.items rest.now (reader.read opcode bytes.now)) }
+        ensures len { IfSome result (λ _. vec_len commands.new ≡ vec_len commands.old + 1) }
+        ensures none { IfNone result (commands.new.items ≡ commands.old.items) }
+        ensures none_len { IfNone result (vec_len commands.new ≡ vec_len commands.old) }
+        ensures capacity { vec_capacity commands.new ≡ vec_capacity commands.old };
 
     /// They are read as they are spelled.
     ghost agrees: { Agrees set reader };
@@ -108,6 +121,25 @@ fn count_swaps<C: PacketCommand>(opcodes: &[C::Opcode]) -> usize
     opcodes.iter().filter(|o| C::is_swap(**o)).count()
 }
 
+/// Adds the command of an opcode whose payload stands at the front, in room that is there, and gives the bytes behind it.
+#[inline(always)]
+fn add_next<'a, C: PacketCommand>(
+    alloc: Global,
+    commands: &mut Vec<C>,
+    opcode: C::Opcode,
+    bytes: &'a [u8],
+) -> Result<&'a [u8], ReadError>
+    requires { vec_len commands.old < vec_capacity commands.old }
+    ensures added { AddsCommand (λ rest. rest.now) commands.old.items commands.new.items result (C.reader.read opcode bytes.now) }
+    ensures len { OnOk result (vec_len commands.new ≡ vec_len commands.old + 1) }
+    ensures capacity { OnOk result (vec_capacity commands.new ≡ vec_capacity commands.old) }
+{
+    match C::add_short(commands, opcode, bytes) {
+        Some(rest) => Ok(rest),
+        None => C::add_command(alloc, commands, opcode, bytes),
+    }
+}
+
 /// Adds the commands with these opcodes, whose payloads stand at the front.
 fn read_payloads<'a, C: PacketCommand>(
     alloc: Global,
@@ -120,7 +152,7 @@ fn read_payloads<'a, C: PacketCommand>(
     commands.reserve(opcodes.len())?;
     let mut rest = bytes;
     for opcode in opcodes {
-        rest = C::add_command(alloc, commands, *opcode, rest)?;
+        rest = add_next::<C>(alloc, commands, *opcode, rest)?;
     }
     Ok(rest)
 }

@@ -1,12 +1,12 @@
 //! The reader of payloads: the numbers of a command, each as its range says, and then the texels of its picture.
-ghost use Rattle.std.specs.Prelude.{◌≡◌, ◌+◌, ◌≤◌, ◌<◌, length, take, OnOk};
+ghost use Rattle.std.specs.Prelude.{◌≡◌, ◌+◌, ◌≤◌, ◌<◌, length, take, IfSome, IfNone, OnOk};
 ghost use Rattle.std.specs.Vec.{vec_len, vec_capacity};
 ghost use Rattle.rc_base.specs.declared.command.Command.{Command as AnyCommand};
 ghost use Rattle.rc_base.specs.Formats.Commands.{ranges_of, has_picture};
 ghost use Rattle.command_table.specs.Ranges.{AreIn};
 ghost use Rattle.packet_bytes.specs.Parts.{read_number, read_numbers, texel_count};
 ghost use Rattle.byte_codec.specs.Reading.{Gives, Reads, take_bytes};
-ghost use Rattle.packet_bytes.specs.Packets.{AddsHeld, read_command};
+ghost use Rattle.packet_bytes.specs.Packets.{AddsHeld, AddsNextHeld, read_command};
 
 use crate::short_payload::read_short;
 use byte_codec::fault::{Form, ReadError};
@@ -15,6 +15,9 @@ use command_table::parts::Numbers;
 use command_table::{command_of, has_picture, picture_area, ranges_of};
 use rc_base::command::{Command, NumberRange, Opcode, Texels};
 use std::alloc::Global;
+
+// The bytes of the longest payload of a block's command, a Vertex: of so many, each of them is read without a look at how many are left.
+const LONGEST: usize = 16;
 
 #[inline(always)]
 fn read_number(range: NumberRange, bytes: &[u8]) -> Result<(i32, &[u8]), Form>
@@ -107,6 +110,57 @@ fn add_read<'a, C: HoldsCommand>(
     let (command, rest) = read?;
     commands.push_reserved(C::hold(command));
     Ok(rest)
+}
+
+/// The same where the command is one of a block: where it gives nothing, nothing is added. It is inlined where the opcode is known.
+#[inline(always)]
+fn add_known<'a, C: HoldsCommand>(
+    commands: &mut Vec<C>,
+    opcode: Opcode,
+    bytes: &'a [u8],
+) -> Option<&'a [u8]>
+    requires { vec_len commands.old < vec_capacity commands.old }
+    ensures added { IfSome result (λ rest. AddsNextHeld C.held commands.old.items commands.new.items rest.now (read_command opcode bytes.now)) }
+    ensures len { IfSome result (λ _. vec_len commands.new ≡ vec_len commands.old + 1) }
+    ensures none { IfNone result (commands.new.items ≡ commands.old.items) }
+    ensures none_len { IfNone result (vec_len commands.new ≡ vec_len commands.old) }
+    ensures capacity { vec_capacity commands.new ≡ vec_capacity commands.old }
+{
+    match read_short(opcode, bytes) {
+        Some(Ok((command, rest))) => {
+            commands.push_reserved(C::hold(command));
+            Some(rest)
+        }
+        _ => None,
+    }
+}
+
+/// Adds the command of an opcode whose payload stands at the front, where it is one of a block and its bytes aren't among the last ones, and gives the
+/// bytes behind it; otherwise nothing is added. Each opcode has a branch of its own.
+#[inline(always)]
+pub(crate) fn add_short<'a, C: HoldsCommand>(
+    commands: &mut Vec<C>,
+    opcode: Opcode,
+    bytes: &'a [u8],
+) -> Option<&'a [u8]>
+    requires { vec_len commands.old < vec_capacity commands.old }
+    ensures added { IfSome result (λ rest. AddsNextHeld C.held commands.old.items commands.new.items rest.now (read_command opcode bytes.now)) }
+    ensures len { IfSome result (λ _. vec_len commands.new ≡ vec_len commands.old + 1) }
+    ensures none { IfNone result (commands.new.items ≡ commands.old.items) }
+    ensures none_len { IfNone result (vec_len commands.new ≡ vec_len commands.old) }
+    ensures capacity { vec_capacity commands.new ≡ vec_capacity commands.old }
+{
+    if bytes.len() < LONGEST {
+        return None;
+    }
+    match opcode {
+        Opcode::Vertex => add_known::<C>(commands, Opcode::Vertex, bytes),
+        Opcode::Color => add_known::<C>(commands, Opcode::Color, bytes),
+        Opcode::TexCoord => add_known::<C>(commands, Opcode::TexCoord, bytes),
+        Opcode::Begin => add_known::<C>(commands, Opcode::Begin, bytes),
+        Opcode::End => add_known::<C>(commands, Opcode::End, bytes),
+        _ => None,
+    }
 }
 
 /// Adds the command of an opcode, by the table. It is inlined where the opcode is known, and there only this opcode's row is left of the table.

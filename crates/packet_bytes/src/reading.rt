@@ -8,7 +8,7 @@ ghost use Rattle.packet_bytes.specs.Faults.{FailsAsStream};
 
 use crate::fault::PackFault;
 use crate::packets::{DecodedOf, PacketCommand, decode_of};
-use crate::payload::add_command;
+use crate::payload::{add_command, add_short};
 use byte_codec::fault::ReadError;
 use command_table::opcode_from;
 use rc_base::command::{Command, Commands, Opcode};
@@ -32,6 +32,16 @@ impl PacketCommand for Command {
         matches!(opcode, Opcode::Swap)
     }
 
+    #[inline(always)]
+    fn add_short<'a>(
+        commands: &mut Vec<Command>,
+        opcode: Opcode,
+        bytes: &'a [u8],
+    ) -> Option<&'a [u8]> {
+        add_short::<Command>(commands, opcode, bytes)
+    }
+
+    #[inline(never)]
     fn add_command<'a>(
         alloc: Global,
         commands: &mut Vec<Command>,
