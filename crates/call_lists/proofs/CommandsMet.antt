@@ -5,7 +5,10 @@ use Rattle.std.proofs.lemmas.List.Sums.{sum_by-append, sum_by-cons}
 use Rattle.std.proofs.lemmas.List.Concat.{flat_map-cons}
 use Rattle.std.proofs.lemmas.Grind.{flat_map-append}
 use Rattle.std.specs.Prelude.{Result, Ok, Err}
+use Rattle.rc_base.specs.Formats.Spelling.{payload}
+use Rattle.rc_base.specs.declared.command.Command.{Command}
 use Rattle.rc_base.specs.declared.list_command.ListCommand.{ListCommand}
+use Rattle.rc_base.specs.declared.list_command.ListCommand.TheVariants as list
 use Rattle.call_lists.specs.declared.given.Given.{Given}
 use Rattle.call_lists.specs.declared.answer.ExpandFault.{ExpandFault}
 use Rattle.call_lists.specs.declared.answer.ExpandFault.TheVariants.{TooLong, OutOfMemory}
@@ -24,6 +27,17 @@ costs_then xs ys = sum_by-append cost_of xs ys
 
 pub costs_one : (c : ListCommand) → costs (c ∷ []) ≡ cost_of c
 costs_one c = sum_by-cons cost_of c [] ∙ omega arith
+
+-- a plain command was met
+pub plain_met : (a b : Given) (c : Command) (size : ℕ) → size ≡ length (payload c) → b.commands ≡ a.commands ++ c ∷ [] → length a.commands < 1048577 → b.count ≡ a.count + 1
+    → b.spent ≡ a.spent + (1 + size) → Adds a b (list.Plain c ∷ [])
+plain_met a b c size size_is given few counted spent = record {
+  given =
+      given ∙ sym (stored_short (a.commands ++ c ∷ []) (omega (arith, length-append a.commands (c ∷ []), few)))
+      ∙ ap (λ zs. stored (a.commands ++ zs)) (sym (plain_one (list.Plain c)));
+  counted = counted ∙ ap (λ zs. a.count + length zs) (sym (plain_one (list.Plain c)));
+  spent = spent ∙ ap (λ n. a.spent + (1 + n)) size_is ∙ ap (λ n. a.spent + n) (sym (costs_one (list.Plain c)));
+}
 
 -- nothing was met
 pub adds_none : (g : Given) → Adds g g []

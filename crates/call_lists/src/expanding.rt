@@ -39,7 +39,7 @@ fn expand_stream(alloc: Global, stream: &ListCommands, spent: u64) -> Result<Exp
         spent,
     } = given;
     Ok(Expansion {
-        commands,
+        commands: commands.into_commands(),
         count,
         faults,
         spent,

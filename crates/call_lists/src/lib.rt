@@ -11,6 +11,7 @@ mod calls;
 mod copies;
 mod expanding;
 mod given;
+mod kept;
 pub mod laws;
 mod lists;
 mod meeting;

@@ -1,13 +1,15 @@
 //! Commands that are met.
-ghost use Rattle.std.specs.Prelude.{◌≡◌, ◌<◌, ◌≤◌, ◌+◌, [], ◌∷◌, OnOk};
-ghost use Rattle.call_lists.specs.Giving.{HasCounted, HasGiven, Meets};
+ghost use Rattle.std.specs.Prelude.{◌≡◌, ◌<◌, ◌≤◌, ◌+◌, ◌^◌, [], ◌∷◌, ◌++◌, length, IsTrue, IsFalse, OnOk};
+ghost use Rattle.rc_base.specs.declared.list_command.ListCommand.TheVariants as list;
+ghost use Rattle.call_lists.specs.Giving.{Adds, HasCounted, HasGiven, Meets};
 ghost use Rattle.call_lists.specs.Expansion.{stored, plain_of, most_cost};
 
 use crate::answer::ExpandFault;
 use crate::copies::copy_of;
 use crate::given::Given;
-use crate::sizes::cost_of;
-use rc_base::command::{Command, Commands};
+use crate::kept::Kept;
+use crate::sizes::{cost_of, payload_size};
+use rc_base::command::Command;
 use rc_base::list_command::ListCommand;
 use rc_base::out_of_memory::OutOfMemory;
 use std::alloc::Global;
@@ -27,7 +29,7 @@ impl Given {
         ensures spent { result.spent ≡ spent }
     {
         Given {
-            commands: Commands::new(alloc),
+            commands: Kept::new(alloc),
             count: 0,
             spent,
         }
@@ -62,8 +64,83 @@ impl Given {
         }
     }
 
+    // Adds a command that costs so much, where there is room at hand for it and the costs stay within their limit. Whether it was added.
+    #[inline(always)]
+    fn give_short(&mut self, cost: u64, command: Command) -> bool
+        requires some { 0 < cost }
+        requires fits { cost < 2 ^ 63 + 11 }
+        ensures added { IsTrue result → self.new.commands ≡ self.old.commands ++ command ∷ [] }
+        ensures few { IsTrue result → length self.old.commands < 1048577 }
+        ensures counted { IsTrue result → self.new.count ≡ self.old.count + 1 }
+        ensures spent { IsTrue result → self.new.spent ≡ self.old.spent + cost }
+        ensures left { IsFalse result → self.new ≡ self.old }
+    {
+        let spent = self.spent + cost;
+        if spent > MOST_COST || self.commands.len() >= MOST_GIVEN {
+            return false;
+        }
+        if !self.commands.put(command) {
+            return false;
+        }
+        self.spent = spent;
+        self.count += 1;
+        true
+    }
+
+    // Meets a command of the table, where it is one of a block, there is room at hand for it and the costs stay within their limit. Whether it was met.
+    #[inline(always)]
+    fn meet_short(&mut self, command: &Command) -> bool
+        ensures met { IsTrue result → Adds self.old self.new (list.Plain command.now ∷ []) }
+        ensures left { IsFalse result → self.new ≡ self.old }
+    {
+        match command {
+            Command::Vertex { pos } => {
+                let copy = Command::Vertex { pos: *pos };
+                self.give_short(1 + payload_size(command), copy)
+            }
+            Command::Color(color) => {
+                let copy = Command::Color(*color);
+                self.give_short(1 + payload_size(command), copy)
+            }
+            Command::TexCoord { s, t } => {
+                let copy = Command::TexCoord { s: *s, t: *t };
+                self.give_short(1 + payload_size(command), copy)
+            }
+            Command::Begin { mode } => {
+                let copy = Command::Begin { mode: *mode };
+                self.give_short(1 + payload_size(command), copy)
+            }
+            Command::End => self.give_short(1 + payload_size(command), Command::End),
+            _ => false,
+        }
+    }
+
+    // The same of any command.
+    #[inline(always)]
+    fn try_meet(&mut self, command: &ListCommand) -> bool
+        ensures met { IsTrue result → Adds self.old self.new (command.now ∷ []) }
+        ensures left { IsFalse result → self.new ≡ self.old }
+    {
+        match command {
+            ListCommand::Plain(plain) => self.meet_short(plain),
+            _ => false,
+        }
+    }
+
     /// Meets a command.
+    #[inline(always)]
     pub fn meet(&mut self, alloc: Global, command: &ListCommand) -> Result<(), ExpandFault>
+        ensures { Meets self.old self.new (command.now ∷ []) result }
+    {
+        if self.try_meet(command) {
+            return Ok(());
+        }
+        self.meet_any(alloc, command)
+    }
+
+    // Meets a command, whether there is room at hand or not.
+    #[inline(never)]
+    fn meet_any(&mut self, alloc: Global, command: &ListCommand) -> Result<(), ExpandFault>
         ensures { Meets self.old self.new (command.now ∷ []) result }
     {
         let spent = self.spent + cost_of(command);

@@ -23,7 +23,8 @@ fn words_size(words: &[i32]) -> u64
 }
 
 /// How many bytes the payload of a command has.
-fn payload_size(command: &Command) -> u64
+#[inline(always)]
+pub(crate) fn payload_size(command: &Command) -> u64
     ensures size { result ≡ length (payload command.now) }
     ensures fits { result < 2 ^ 63 + 10 }
 {

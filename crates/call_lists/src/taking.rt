@@ -51,8 +51,9 @@ fn judge<'a>(
     }
 }
 
-/// Takes a command of the stream.
-pub fn take_command<'a>(
+// Takes any command of the stream.
+#[inline(never)]
+fn take_any<'a>(
     alloc: Global,
     standing: &mut Standing<'a>,
     faults: &mut FaultList,
@@ -66,4 +67,24 @@ pub fn take_command<'a>(
 {
     meet_at(alloc, standing, command, given)?;
     Ok(judge(alloc, standing, faults, place, command)?)
+}
+
+/// Takes a command of the stream. A plain command outside a recording, as most are, is only met.
+#[inline(always)]
+pub fn take_command<'a>(
+    alloc: Global,
+    standing: &mut Standing<'a>,
+    faults: &mut FaultList,
+    given: &mut Given,
+    place: u32,
+    command: &'a ListCommand,
+) -> Result<(), ExpandFault>
+    ensures state { OnOk result (IsAfter standing.old command.now standing.new) }
+    ensures faults { OnOk result (IsNoted standing.old place command.now faults.old faults.new) }
+    ensures given { Meets given.old given.new (met_at (state_of standing.old) command.now) result }
+{
+    match (&standing.recording, command) {
+        (None, ListCommand::Plain(_)) => given.meet(alloc, command),
+        _ => take_any(alloc, standing, faults, given, place, command),
+    }
 }

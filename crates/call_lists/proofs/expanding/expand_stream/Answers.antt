@@ -1,7 +1,9 @@
-use Rattle.std.proofs.Common.{◌≤◌, length, arith, ◌∙◌, sym, ap}
+use Rattle.std.proofs.Common.{◌≤◌, List, length, arith, ◌∙◌, sym, ap}
 use Rattle.std.proofs.lemmas.Result.{err_from_is_err_and}
 use Rattle.std.proofs.lemmas.Option.{slice_get-get_or}
 use Rattle.std.specs.Prelude.{Some}
+use Rattle.rc_base.specs.declared.command.Command.{Command}
+use Rattle.call_lists.specs.declared.answer.Expansion.{Expansion}
 use Rattle.call_lists.proofs.StreamsTaken.{taken_none, taken_next, tells_stream, expanded_is, within_stream}
 use Rattle.call_lists.proofs.expanding.expand_stream.Goals as goal
 
@@ -26,7 +28,8 @@ loop-i-preserved c =
 pub returns-clause-expanded : goal.returns-clause-expanded
 returns-clause-expanded c =
     let end : length c.as_slice-commands.result.now ≤ c.loop-i.i = omega (arith, c.loop-i-test.false) in
-    expanded_is c.args.stream.now c.as_slice-commands.result.now c.args.spent c.loop-i.i c.new-given.result c.loop-i.given c.loop-i.standing c.loop-i.faults
+    ap (λ (l : List Command). (let x : Expansion = record { commands = l; count = c.loop-i.given.count; faults = c.loop-i.faults; spent = c.loop-i.given.spent } in x)) c.into_commands.ensures
+    ∙ expanded_is c.args.stream.now c.as_slice-commands.result.now c.args.spent c.loop-i.i c.new-given.result c.loop-i.given c.loop-i.standing c.loop-i.faults
     c.as_slice-commands.ensures c.new-given.ensures.given c.new-given.ensures.counted c.new-given.ensures.spent end c.loop-i.invariant
 
 pub returns-clause-within : goal.returns-clause-within

@@ -1,7 +1,7 @@
 use Rattle.std.proofs.Common.{◌+◌, [], ◌++◌, length, sym, ap, ◌∙◌}
 use Rattle.call_lists.specs.Expansion.{stored}
 use Rattle.call_lists.proofs.CommandsMet.{passes_first, plain_one, costs_one}
-use Rattle.call_lists.proofs.given.Given.meet.Goals as goal
+use Rattle.call_lists.proofs.given.Given.meet_any.Goals as goal
 
 pub returns-then-spent-gt-MOST_COST : goal.returns-then-spent-gt-MOST_COST
 returns-then-spent-gt-MOST_COST c =
