@@ -20,6 +20,7 @@ pub fn may_stand_in(command: &Command, open_block: bool) -> bool
 }
 
 /// Whether each argument that has codes has one of them.
+#[inline(always)]
 pub fn has_codes(command: &Command) -> bool
     ensures { result ≡ has_codes command.now }
 {

@@ -191,6 +191,7 @@ fn add_any<'a, C: HoldsCommand>(
 
 /// Adds the command of an opcode whose payload stands at the front, and gives the bytes behind it. Each opcode has a branch of its own, so the table
 /// is read when this is compiled.
+#[inline(always)]
 pub fn add_command<'a, C: HoldsCommand>(
     alloc: Global,
     commands: &mut Vec<C>,

@@ -67,7 +67,7 @@ impl ClientSurvey {
     }
 
     // The same of a command that is none of a block's vertices, colours and coordinates.
-    #[inline(never)]
+    #[inline(always)]
     fn issue_other(
         &mut self,
         scene: &Scene,
