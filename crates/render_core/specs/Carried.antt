@@ -1,15 +1,16 @@
 -- What the steps of a job leave: those before the image, and the job as it was carried out.
-use Rattle.std.specs.Prelude.{◌≡◌, ◌≢◌, ◌⊎◌, List, None, IfErr, IfOk, OnErr}
+use Rattle.std.specs.Prelude.{◌≡◌, ◌≢◌, ℕ, ◌≤◌, ◌⊎◌, List, Option, None, IfErr, IfOk, OnErr}
 use Rattle.std.specs.declared.result.Result.{Result}
 use Rattle.rc_base.specs.Formats.Limits.{limit_of}
-use Rattle.rc_base.specs.Outside.Ends.{Used}
+use Rattle.rc_base.specs.Outside.Ends.{Used, use_of}
 use Rattle.spu_chain.specs.declared.rule.SpuRule.{SpuRule}
 use Rattle.render_core.specs.declared.due.Due.{Due}
 use Rattle.run_words.specs.declared.refusal.Refusal.{Refusal}
 use Rattle.run_words.specs.declared.refusal.Refused.{Refused}
+use Rattle.run_words.specs.declared.job.Job.{Job}
 use Rattle.run_words.specs.declared.work.Work.{Work}
 use Rattle.run_words.specs.declared.told.Told.{Told}
-use Rattle.run_words.specs.Jobs.{Task, Reads, ShowsNothing, origin_of}
+use Rattle.run_words.specs.Jobs.{Task, Reads, ShowsNothing, origin_of, task_of}
 use Rattle.render_core.specs.Outcomes.{IsDue, PartlyWritten}
 use Rattle.render_core.specs.Refusals.{outcome_of, IsBlank, IsCaused, IsPerformed, IsRefusedUnwritten, IsWorkOf, IsWritable, LeftAfter, LeftWith}
 use Rattle.run_words.specs.Statuses.{refusal_status}
@@ -48,3 +49,20 @@ pub record IsCarriedOut (task : Task) (source image : Used) (left : List SpuRule
   pub members : LeftWith task source result left
   pub blank : ShowsNothing task.job → ImageStays
   pub unread : (Reads task.job → ⊥) → SourceStays
+
+-- ---- over a source and an image
+
+-- what holds so is obtained from the source for the job behind these rules, of which these are left, and no count of refused calls falls
+pub record Obtains {A S : Type 0} (source_left : S → Option (List ℕ)) (source_faults : S → ℕ) (job : Job) (rules left : List SpuRule) (source source_now : S)
+    (holds : Task → Used → A → Type 0) (result : Result A Refusal) : Type 0 where
+  pub obtained : IsObtained (task_of rules job) (use_of source_left source_faults source source_now) left (source_now ≡ source)
+      (holds (task_of rules job) (use_of source_left source_faults source source_now)) result
+  pub later : source_faults source ≤ source_faults source_now
+
+-- the job behind these rules is carried out from the source to the image
+pub record Performs {S K : Type 0} (source_left : S → Option (List ℕ)) (source_faults : S → ℕ) (image_held : K → Option (List ℕ)) (image_faults : K → ℕ)
+    (job : Job) (rules left : List SpuRule) (source source_now : S) (image image_now : K) (result : Result Told Refused) : Type 0 where
+  pub carried : IsCarriedOut (task_of rules job) (use_of source_left source_faults source source_now) (use_of image_held image_faults image image_now)
+      left (source_now ≡ source) (image_now ≡ image) result
+  pub later_source : source_faults source ≤ source_faults source_now
+  pub later_image : image_faults image ≤ image_faults image_now

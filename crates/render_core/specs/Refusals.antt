@@ -1,5 +1,5 @@
 -- What the steps of a job leave: the refusals of each, and what is due.
-use Rattle.std.specs.Prelude.{◌≡◌, ◌≢◌, ℕ, ◌≤◌, ◌^◌, ◌==◌, ◌⊎◌, true, false, List, [], ◌++◌, length, Option, Some, None, Result, Ok, Err, if◌then◌else◌}
+use Rattle.std.specs.Prelude.{◌≡◌, ◌≢◌, ℕ, ◌≤◌, ◌^◌, ◌==◌, ◌⊎◌, true, false, List, [], ◌++◌, length, Option, Some, None, Result, Ok, Err, IfErr, IfOk, if◌then◌else◌}
 use Rattle.rc_base.specs.Outside.Transfer.{byte_limit}
 use Rattle.order_model.specs.declared.record.Record.{Record}
 use Rattle.std.specs.List.{AllByRecursion, flat_map}
@@ -142,6 +142,12 @@ outcome_of due = record { image = due_text due.image; notes = due.notes; ending 
 -- it is what is due for the job's work
 abbrev pub IsMadeFor : Job → Work → Due → Type 0
 IsMadeFor job work due = IsOutcome job work (outcome_of due)
+
+-- what is due so was made, and can be written, or there was no memory
+pub record MakesDue (is_so : Due → Type 0) (result : Result Due DueRefusal) : Type 0 where
+  pub outcome : IfOk result is_so
+  pub writable : IfOk result (λ due. IsWritable due.image)
+  pub refused : IfErr result (λ refusal. refusal ≡ undue.OutOfMemory)
 
 -- why nothing is due where clients aren't drawn apart
 abbrev pub refusal_of : LastFault → DueRefusal

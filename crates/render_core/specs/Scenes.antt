@@ -27,7 +27,7 @@ use Rattle.run_words.specs.declared.job.Form.TheVariants.{Bytes, PlainBytes, Tex
 use Rattle.run_words.specs.declared.job.Origin.{Origin}
 use Rattle.run_words.specs.declared.job.Origin.TheVariants.{Read, Generated}
 use Rattle.run_words.specs.declared.work.Work.{Work}
-use Rattle.run_words.specs.Asked.{layout_for, word_limit}
+use Rattle.run_words.specs.Asked.{layout_for, word_limit, IsWellRead}
 use Rattle.run_words.specs.Jobs.{Task, origin_of}
 use Rattle.run_words.specs.Lines.{filter_lines, list_fault_lines}
 
@@ -166,3 +166,8 @@ pub record HasWork (task : Task) (source : Used) (work : Work) : Type 0 where
   pub input : List ℕ
   pub took : Takes (origin_of task.job) source input
   pub is : IsInput task input work
+
+-- the scene is well read in this form, and within the limits
+pub record IsReadWithin (form : Form) (scene : Scene) : Type 0 where
+  pub well : IsWellRead form scene
+  pub within : limit_of scene ≡ None

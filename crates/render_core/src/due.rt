@@ -3,9 +3,9 @@ ghost use Rattle.std.specs.Prelude.{◌≡◌, ◌≤◌, [], false, Some, None,
 ghost use Rattle.rc_base.specs.Formats.Limits.{limit_of};
 ghost use Rattle.render_core.specs.Due.{IsPacked, IsUnpacked, found_by, journal_of, short_due, shown_alone};
 ghost use Rattle.run_words.specs.Jobs.{ShowsNothing, origin_of, starts_threads};
-ghost use Rattle.run_words.specs.Asked.{HasTiles, cluster_limit, IsWell, IsWellRead};
-ghost use Rattle.render_core.specs.Scenes.{IsFor};
-ghost use Rattle.render_core.specs.Refusals.{IsBlank, IsMadeFor, IsWritable, outcome_of, refusal_of, IsNoOutcome};
+ghost use Rattle.run_words.specs.Asked.{HasTiles, cluster_limit, IsWell};
+ghost use Rattle.render_core.specs.Scenes.{IsFor, IsReadWithin};
+ghost use Rattle.render_core.specs.Refusals.{IsBlank, IsMadeFor, IsWritable, MakesDue, outcome_of, refusal_of, IsNoOutcome};
 ghost use Rattle.render_core.specs.Runs.{IsDefault};
 ghost use Rattle.run_words.specs.Reports.{Yields};
 ghost use Rattle.run_words.specs.declared.job.Form.TheVariants.{Bytes as OfBytes, PlainBytes as OfPlainBytes, Text as OfText};
@@ -65,11 +65,9 @@ pub(crate) fn due_for(alloc: Global, job: Job, work: &Work) -> Result<Due, DueRe
     requires well { IsWell (origin_of job) work.now.scene }
     requires within { limit_of work.now.scene ≡ None }
     requires tiles { HasTiles job work.now.scene }
-    ensures outcome { IfOk result (IsMadeFor job work.now) }
+    ensures due { MakesDue (IsMadeFor job work.now) result }
     ensures suits { IfOk result (λ due. IsFor job work.now.scene) }
-    ensures writable { IfOk result (λ due. IsWritable due.image) }
     ensures blank { IfOk result (λ due. ShowsNothing job → IsBlank due.image) }
-    ensures refused { IfErr result (λ refusal. refusal ≡ NoMemory) }
 {
     match job {
         Job::Render(_) | Job::Demo { .. } | Job::Last => unreachable!(),
@@ -85,12 +83,9 @@ pub(crate) fn due_for(alloc: Global, job: Job, work: &Work) -> Result<Due, DueRe
 
 // The cluster by a seed.
 fn simulate(alloc: Global, work: &Work, seed: u64, cluster: Cluster) -> Result<Due, DueRefusal>
-    requires well { IsWellRead OfBytes work.now.scene }
-    requires within { limit_of work.now.scene ≡ None }
+    requires read { IsReadWithin OfBytes work.now.scene }
     requires tiles { cluster_limit cluster work.now.scene ≡ None }
-    ensures outcome { IfOk result (IsMadeFor (ToSimulate seed cluster) work.now) }
-    ensures writable { IfOk result (λ due. IsWritable due.image) }
-    ensures refused { IfErr result (λ refusal. refusal ≡ NoMemory) }
+    ensures { MakesDue (IsMadeFor (ToSimulate seed cluster) work.now) result }
 {
     let layout = tiles_of(&work.scene, cluster);
     let picks = picks_of(alloc, seed, actor_count(&work.scene, &layout))?;
@@ -119,8 +114,7 @@ pub(crate) fn ending_of(waiting: &Option<Waiting>) -> Ending
 
 // The default journal and order of a scene.
 fn default_of(alloc: Global, scene: &Scene) -> Result<DefaultRun, DueRefusal>
-    requires well { IsWellRead OfBytes scene.now }
-    requires within { limit_of scene.now ≡ None }
+    requires { IsReadWithin OfBytes scene.now }
     ensures default { IfOk result (IsDefault scene.now) }
     ensures refused { IfErr result (λ refusal. refusal ≡ NoMemory) }
 {
@@ -164,11 +158,8 @@ fn report_of(
 
 // The frames of the default order, and the short report.
 fn serial(alloc: Global, work: &Work) -> Result<Due, DueRefusal>
-    requires well { IsWellRead OfBytes work.now.scene }
-    requires within { limit_of work.now.scene ≡ None }
-    ensures outcome { IfOk result (IsMadeFor ToSerial work.now) }
-    ensures writable { IfOk result (λ due. IsWritable due.image) }
-    ensures refused { IfErr result (λ refusal. refusal ≡ NoMemory) }
+    requires { IsReadWithin OfBytes work.now.scene }
+    ensures { MakesDue (IsMadeFor ToSerial work.now) result }
 {
     frames_of_scenes_are_writable();
     let run = default_of(alloc, &work.scene)?;
@@ -198,8 +189,7 @@ pub(crate) fn last(
     alloc: Global,
     work: &Work,
 ) -> Result<Due, DueRefusal>
-    requires well { IsWellRead OfBytes work.now.scene }
-    requires within { limit_of work.now.scene ≡ None }
+    requires { IsReadWithin OfBytes work.now.scene }
     ensures outcome { IfOk result (IsMadeFor ToLast work.now) }
     ensures suits { IfOk result (λ due. IsFor ToLast work.now.scene) }
     ensures writable { IfOk result (λ due. IsWritable due.image) }
@@ -235,12 +225,9 @@ pub(crate) fn last(
 
 // The short report alone.
 fn check(alloc: Global, work: &Work) -> Result<Due, DueRefusal>
-    requires well { IsWellRead OfBytes work.now.scene }
-    requires within { limit_of work.now.scene ≡ None }
-    ensures outcome { IfOk result (IsMadeFor ToCheck work.now) }
-    ensures writable { IfOk result (λ due. IsWritable due.image) }
+    requires { IsReadWithin OfBytes work.now.scene }
+    ensures due { MakesDue (IsMadeFor ToCheck work.now) result }
     ensures blank { IfOk result (λ due. IsBlank due.image) }
-    ensures refused { IfErr result (λ refusal. refusal ≡ NoMemory) }
 {
     let run = default_of(alloc, &work.scene)?;
     let notes = report_of(alloc, work, &run, b"")?;
@@ -275,12 +262,9 @@ fn race_ending(waiting: &Option<Waiting>, verdict: &Verdict) -> Ending
 
 // The short report, with what synchronisation leaves unordered.
 fn race(alloc: Global, work: &Work) -> Result<Due, DueRefusal>
-    requires well { IsWellRead OfBytes work.now.scene }
-    requires within { limit_of work.now.scene ≡ None }
-    ensures outcome { IfOk result (IsMadeFor ToRace work.now) }
-    ensures writable { IfOk result (λ due. IsWritable due.image) }
+    requires { IsReadWithin OfBytes work.now.scene }
+    ensures due { MakesDue (IsMadeFor ToRace work.now) result }
     ensures blank { IfOk result (λ due. IsBlank due.image) }
-    ensures refused { IfErr result (λ refusal. refusal ≡ NoMemory) }
 {
     let run = default_of(alloc, &work.scene)?;
     let verdict = check_races(alloc, &work.scene, &run.journal, &run.order, &run.syncs)?;
@@ -309,11 +293,8 @@ fn text_alone(alloc: Global, text: Bytes) -> Due
 
 // The scene's bytes.
 fn pack(alloc: Global, scene: &Scene) -> Result<Due, DueRefusal>
-    requires well { IsWellRead OfText scene.now }
-    requires within { limit_of scene.now ≡ None }
-    ensures outcome { IfOk result (λ due. IsPacked scene.now (outcome_of due)) }
-    ensures writable { IfOk result (λ due. IsWritable due.image) }
-    ensures refused { IfErr result (λ refusal. refusal ≡ NoMemory) }
+    requires { IsReadWithin OfText scene.now }
+    ensures { MakesDue (λ due. IsPacked scene.now (outcome_of due)) result }
 {
     let bytes = write_scene(alloc, scene)?;
     Ok(text_alone(alloc, bytes))
@@ -321,11 +302,8 @@ fn pack(alloc: Global, scene: &Scene) -> Result<Due, DueRefusal>
 
 // The scene's text.
 fn unpack(alloc: Global, scene: &Scene) -> Result<Due, DueRefusal>
-    requires well { IsWellRead OfPlainBytes scene.now }
-    requires within { limit_of scene.now ≡ None }
-    ensures outcome { IfOk result (λ due. IsUnpacked scene.now (outcome_of due)) }
-    ensures writable { IfOk result (λ due. IsWritable due.image) }
-    ensures refused { IfErr result (λ refusal. refusal ≡ NoMemory) }
+    requires { IsReadWithin OfPlainBytes scene.now }
+    ensures { MakesDue (λ due. IsUnpacked scene.now (outcome_of due)) result }
 {
     let text = print_scene(alloc, scene)?;
     Ok(text_alone(alloc, text))

@@ -4,9 +4,9 @@ ghost use Rattle.rc_base.specs.Formats.Limits.{limit_of};
 ghost use Rattle.rc_base.specs.Outside.Ends.{Used, use_of};
 ghost use Rattle.rc_base.specs.declared.window.Layout.{Layout as AnyLayout};
 ghost use Rattle.run_record.specs.Told.{IsRun};
-ghost use Rattle.render_core.specs.Carried.{IsCarriedOut, IsSoundWork, IsObtained, IsWritableDue};
+ghost use Rattle.render_core.specs.Carried.{IsSoundWork, IsWritableDue, Obtains, Performs};
 ghost use Rattle.render_core.specs.Due.{ending_by, report_due};
-ghost use Rattle.run_words.specs.Jobs.{Reads, Task as AnyTask, origin_of, starts_threads, task_of, threads_of};
+ghost use Rattle.run_words.specs.Jobs.{Reads, Task as AnyTask, origin_of, starts_threads, threads_of};
 ghost use Rattle.render_core.specs.Outcomes.{IsDue, PartlyWritten};
 ghost use Rattle.render_core.specs.Refusals.{outcome_of, AreReady, Came, IsBlank, IsEarlyRefusal, IsLateRefusal, IsWritable, IsCaused, IsRefusedFor, IsPerformed, IsToldOf, IsUntold};
 ghost use Rattle.run_words.specs.Statuses.{refusal_status};
@@ -83,11 +83,9 @@ fn work_for<B: SceneReader, S: Source>(
     source: &mut S,
 ) -> Result<Work, Refusal>
     requires ready { AreReady (map (λ b. meaning b) chain.old.items) }
-    ensures obtained { let task = task_of (map (λ b. meaning b) chain.old.items) job in
-        let left = map (λ b. meaning b) chain.new.items in
-        let read = use_of S.left S.faults source.old source.new in
-        IsObtained task read left (source.new ≡ source.old) (IsSoundWork task read) result }
-    ensures later { S.faults source.old ≤ S.faults source.new }
+    ensures { Obtains S.left S.faults job
+        (map (λ b. meaning b) chain.old.items) (map (λ b. meaning b) chain.new.items)
+        source.old source.new IsSoundWork result }
 {
     filtered_scenes_stay();
     let meant = match meaning_for(reader, alloc, job, source) {
@@ -112,11 +110,9 @@ fn due_of_source<S: Source>(
 ) -> Result<Due, Refusal>
     requires alone { starts_threads job ≡ false }
     requires ready { AreReady (map (λ b. meaning b) chain.old.items) }
-    ensures obtained { let task = task_of (map (λ b. meaning b) chain.old.items) job in
-        let left = map (λ b. meaning b) chain.new.items in
-        let read = use_of S.left S.faults source.old source.new in
-        IsObtained task read left (source.new ≡ source.old) (IsWritableDue task read) result }
-    ensures later { S.faults source.old ≤ S.faults source.new }
+    ensures { Obtains S.left S.faults job
+        (map (λ b. meaning b) chain.old.items) (map (λ b. meaning b) chain.new.items)
+        source.old source.new IsWritableDue result }
 {
     let work = work_for(&Alone, alloc, chain, job, source)?;
     match due_for(alloc, job, &work) {
@@ -135,11 +131,9 @@ fn due_apart<S: Source>(
 ) -> Result<Due, Refusal>
     requires apart { job ≡ ToLast }
     requires ready { AreReady (map (λ b. meaning b) chain.old.items) }
-    ensures obtained { let task = task_of (map (λ b. meaning b) chain.old.items) job in
-        let left = map (λ b. meaning b) chain.new.items in
-        let read = use_of S.left S.faults source.old source.new in
-        IsObtained task read left (source.new ≡ source.old) (IsWritableDue task read) result }
-    ensures later { S.faults source.old ≤ S.faults source.new }
+    ensures { Obtains S.left S.faults job
+        (map (λ b. meaning b) chain.old.items) (map (λ b. meaning b) chain.new.items)
+        source.old source.new IsWritableDue result }
 {
     let work = work_for(&Beside(rt), alloc, chain, job, source)?;
     match last(rt, alloc, &work) {
@@ -183,13 +177,9 @@ pub(crate) fn perform<S: Source, K: Sink>(
 ) -> Result<Told, Refused>
     requires alone { starts_threads job ≡ false }
     requires ready { AreReady (map (λ b. meaning b) chain.old.items) }
-    ensures carried { let task = task_of (map (λ b. meaning b) chain.old.items) job in
-        let left = map (λ b. meaning b) chain.new.items in
-        let read = use_of S.left S.faults source.old source.new in
-        let sent = use_of K.held K.faults image.old image.new in
-        IsCarriedOut task read sent left (source.new ≡ source.old) (image.new ≡ image.old) result }
-    ensures later_source { S.faults source.old ≤ S.faults source.new }
-    ensures later_image { K.faults image.old ≤ K.faults image.new }
+    ensures { Performs S.left S.faults K.held K.faults job
+        (map (λ b. meaning b) chain.old.items) (map (λ b. meaning b) chain.new.items)
+        source.old source.new image.old image.new result }
 {
     match due_of_source(alloc, chain, job, source) {
         Ok(due) => show(alloc, image, due),
@@ -208,13 +198,9 @@ fn perform_apart<S: Source, K: Sink>(
 ) -> Result<Told, Refused>
     requires apart { job ≡ ToLast }
     requires ready { AreReady (map (λ b. meaning b) chain.old.items) }
-    ensures carried { let task = task_of (map (λ b. meaning b) chain.old.items) job in
-        let left = map (λ b. meaning b) chain.new.items in
-        let read = use_of S.left S.faults source.old source.new in
-        let sent = use_of K.held K.faults image.old image.new in
-        IsCarriedOut task read sent left (source.new ≡ source.old) (image.new ≡ image.old) result }
-    ensures later_source { S.faults source.old ≤ S.faults source.new }
-    ensures later_image { K.faults image.old ≤ K.faults image.new }
+    ensures { Performs S.left S.faults K.held K.faults job
+        (map (λ b. meaning b) chain.old.items) (map (λ b. meaning b) chain.new.items)
+        source.old source.new image.old image.new result }
 {
     match due_apart(rt, alloc, chain, job, source) {
         Ok(due) => show(alloc, image, due),
@@ -258,13 +244,9 @@ where
     R: Threads + Wait + Copy + Send + Sync + Drop,
     requires threads { threads_of job ≡ Some cluster }
     requires ready { AreReady (map (λ b. meaning b) chain.old.items) }
-    ensures carried { let task = task_of (map (λ b. meaning b) chain.old.items) job in
-        let left = map (λ b. meaning b) chain.new.items in
-        let read = use_of S.left S.faults source.old source.new in
-        let sent = use_of K.held K.faults image.old image.new in
-        IsCarriedOut task read sent left (source.new ≡ source.old) (image.new ≡ image.old) result }
-    ensures later_source { S.faults source.old ≤ S.faults source.new }
-    ensures later_image { K.faults image.old ≤ K.faults image.new }
+    ensures { Performs S.left S.faults K.held K.faults job
+        (map (λ b. meaning b) chain.old.items) (map (λ b. meaning b) chain.new.items)
+        source.old source.new image.old image.new result }
 {
     scene_lists_are_well_formed();
     records_of_scenes();
@@ -302,13 +284,9 @@ where
     R: Threads + Wait + Copy + Send + Sync + Drop,
     requires threaded { starts_threads job ≡ true }
     requires ready { AreReady (map (λ b. meaning b) chain.old.items) }
-    ensures carried { let task = task_of (map (λ b. meaning b) chain.old.items) job in
-        let left = map (λ b. meaning b) chain.new.items in
-        let read = use_of S.left S.faults source.old source.new in
-        let sent = use_of K.held K.faults image.old image.new in
-        IsCarriedOut task read sent left (source.new ≡ source.old) (image.new ≡ image.old) result }
-    ensures later_source { S.faults source.old ≤ S.faults source.new }
-    ensures later_image { K.faults image.old ≤ K.faults image.new }
+    ensures { Performs S.left S.faults K.held K.faults job
+        (map (λ b. meaning b) chain.old.items) (map (λ b. meaning b) chain.new.items)
+        source.old source.new image.old image.new result }
 {
     match job.threads() {
         Some(cluster) => perform_on_cluster(rt, alloc, chain, job, cluster, source, image, gate),
@@ -329,13 +307,9 @@ pub(crate) fn perform_any<S: Source, K: Sink, G: Gate, R>(
 where
     R: Threads + Wait + Copy + Send + Sync + Drop,
     requires ready { AreReady (map (λ b. meaning b) chain.old.items) }
-    ensures carried { let task = task_of (map (λ b. meaning b) chain.old.items) job in
-        let left = map (λ b. meaning b) chain.new.items in
-        let read = use_of S.left S.faults source.old source.new in
-        let sent = use_of K.held K.faults image.old image.new in
-        IsCarriedOut task read sent left (source.new ≡ source.old) (image.new ≡ image.old) result }
-    ensures later_source { S.faults source.old ≤ S.faults source.new }
-    ensures later_image { K.faults image.old ≤ K.faults image.new }
+    ensures { Performs S.left S.faults K.held K.faults job
+        (map (λ b. meaning b) chain.old.items) (map (λ b. meaning b) chain.new.items)
+        source.old source.new image.old image.new result }
 {
     if job.starts_threads() {
         perform_in_threads(rt, alloc, chain, job, source, image, gate)

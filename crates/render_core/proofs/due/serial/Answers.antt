@@ -1,4 +1,4 @@
-use Rattle.std.proofs.Common.{refl, sym, subst}
+use Rattle.std.proofs.Common.{refl, sym, subst, rules}
 use Rattle.rc_base.specs.Drawing.Serial.{frame_pixel}
 use Rattle.rc_base.specs.declared.window.Layout.{Layout}
 use Rattle.frame_out.specs.Writing.{AreWritable}
@@ -11,15 +11,16 @@ render_order-requires-clause-within c = record { limits = c.requires.within; com
 pub render_order-requires-clause-legal : goal.render_order-requires-clause-legal
 render_order-requires-clause-legal c = c.in_ok-run.ensures.default.maximal.0
 
-pub returns-clause-outcome : goal.returns-clause-outcome
-returns-clause-outcome c =
-    serial_due c.args.work.now c.in_ok-run.run' c.in_ok-run.ensures.default c.ending_of.result c.ending_of.ensures c.in_ok-notes.notes c.in_ok-notes.ensures
-    c.in_ok-frames.frames c.in_ok-frames.ensures
-
-pub returns-clause-writable : goal.returns-clause-writable
-returns-clause-writable c =
-    let scene = c.args.work.now.scene in
-    let run = c.in_ok-run.run' in
-    let window : Layout = record { width = scene.decl.width; height = scene.decl.height; columns = 1; rows = 1 } in
-    subst AreWritable (sym c.in_ok-frames.ensures)
-    (c.frames_of_scenes_are_writable.ensures scene window run.journal (frame_pixel scene run.order) c.requires.within (record { width = refl; height = refl }) c.in_ok-run.ensures.default.maximal.0)
+pub returns : goal.returns
+returns c = record {
+  outcome =
+      serial_due c.args.work.now c.in_ok-run.run' c.in_ok-run.ensures.default c.ending_of.result c.ending_of.ensures c.in_ok-notes.notes c.in_ok-notes.ensures
+      c.in_ok-frames.frames c.in_ok-frames.ensures;
+  writable =
+      let scene = c.args.work.now.scene in
+      let run = c.in_ok-run.run' in
+      let window : Layout = record { width = scene.decl.width; height = scene.decl.height; columns = 1; rows = 1 } in
+      subst AreWritable (sym c.in_ok-frames.ensures)
+      (c.frames_of_scenes_are_writable.ensures scene window run.journal (frame_pixel scene run.order) c.requires.within (record { width = refl; height = refl }) c.in_ok-run.ensures.default.maximal.0);
+  refused = search rules;
+}

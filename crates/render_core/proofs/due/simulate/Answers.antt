@@ -1,4 +1,4 @@
-use Rattle.std.proofs.Common.{◌≡◌, ℕ, ◌+◌, ◌≤◌, ◌<◌, List, length, sym, ap, ◌∙◌, subst, arith}
+use Rattle.std.proofs.Common.{◌≡◌, ℕ, ◌+◌, ◌≤◌, ◌<◌, List, length, sym, ap, ◌∙◌, subst, arith, rules}
 use Rattle.std.specs.Prelude.{IfOk, slice_index_or}
 use Rattle.rc_base.specs.Cluster.Tiles.{tile_count}
 use Rattle.scene_file.specs.Generator.{picks_of}
@@ -13,7 +13,7 @@ use Rattle.render_core.proofs.Recorded.{layout_within}
 use Rattle.render_core.proofs.due.simulate.Goals as goal
 
 pub actor_count-requires-clause-clients : goal.actor_count-requires-clause-clients
-actor_count-requires-clause-clients c = (clients_within c.args.work.now.scene c.requires.within).1
+actor_count-requires-clause-clients c = (clients_within c.args.work.now.scene c.requires.read.within).1
 
 pub actor_count-requires-clause-tiles : goal.actor_count-requires-clause-tiles
 actor_count-requires-clause-tiles c =
@@ -30,10 +30,14 @@ cluster_due-requires-clause-picks c =
     subst (λ (p : List ℕ). (i : ℕ) → i < length p → slice_index_or p i 0 < actors_for c.args.cluster scene) (sym picks)
     (picks_below c.args.seed (actors_for c.args.cluster scene) (omega arith))
 
-pub returns-clause-outcome : goal.returns-clause-outcome
+pub returns : goal.returns
 unfolding IsOutcome
-returns-clause-outcome c =
-    let work = c.args.work.now in
-    let actors : c.actor_count.result ≡ actors_for c.args.cluster work.scene = c.actor_count.ensures ∙ ap (λ (l : Layout). length work.scene.streams + 1 + tile_count l) c.tiles_of-layout.ensures in
-    let picks : c.as_slice.result.now ≡ picks_of c.args.seed (actors_for c.args.cluster work.scene) = c.as_slice.ensures.value ∙ c.in_ok-picks.ensures ∙ ap (picks_of c.args.seed) actors in
-    subst (λ (p : List ℕ). IfOk c.cluster_due.result (λ due. IsStepped c.args.cluster p work (outcome_of due))) picks c.cluster_due.ensures.outcome
+returns c = record {
+  outcome =
+      let work = c.args.work.now in
+      let actors : c.actor_count.result ≡ actors_for c.args.cluster work.scene = c.actor_count.ensures ∙ ap (λ (l : Layout). length work.scene.streams + 1 + tile_count l) c.tiles_of-layout.ensures in
+      let picks : c.as_slice.result.now ≡ picks_of c.args.seed (actors_for c.args.cluster work.scene) = c.as_slice.ensures.value ∙ c.in_ok-picks.ensures ∙ ap (picks_of c.args.seed) actors in
+      subst (λ (p : List ℕ). IfOk c.cluster_due.result (λ due. IsStepped c.args.cluster p work (outcome_of due))) picks c.cluster_due.ensures.outcome;
+  writable = search rules;
+  refused = search rules;
+}

@@ -1,4 +1,4 @@
-use Rattle.std.proofs.Common.{sym, subst}
+use Rattle.std.proofs.Common.{sym, subst, rules}
 use Rattle.run_words.specs.declared.job.Job.{Job}
 use Rattle.render_core.specs.Due.{IsOutcome}
 use Rattle.run_words.specs.Jobs.{ShowsNothing}
@@ -7,16 +7,22 @@ use Rattle.render_core.specs.Scenes.{IsFor}
 use Rattle.render_core.proofs.CarriedOut.{due_behind, undue_behind}
 use Rattle.render_core.proofs.steps.due_apart.Goals as goal
 
-pub returns-in-Ok-clause-obtained : goal.returns-in-Ok-clause-obtained
-returns-in-Ok-clause-obtained g c =
-    let work = c.in_ok-work.work in
-    let apart = sym c.requires.apart in
-    due_behind _ _ _ _ work c.in_ok-work.ensures.obtained c.in-Ok.due (subst (λ (j : Job). IsFor j work.scene) apart c.in-Ok.ensures.suits)
-    (subst (λ (j : Job). IsOutcome j work (outcome_of c.in-Ok.due)) apart c.in-Ok.ensures.outcome) c.in-Ok.ensures.writable
-    (λ shows. absurd (subst ShowsNothing c.requires.apart shows))
+pub returns-in-Ok : goal.returns-in-Ok
+returns-in-Ok g c = record {
+  obtained =
+      let work = c.in_ok-work.work in
+      let apart = sym c.requires.apart in
+      due_behind _ _ _ _ work c.in_ok-work.ensures.obtained c.in-Ok.due (subst (λ (j : Job). IsFor j work.scene) apart c.in-Ok.ensures.suits)
+      (subst (λ (j : Job). IsOutcome j work (outcome_of c.in-Ok.due)) apart c.in-Ok.ensures.outcome) c.in-Ok.ensures.writable
+      (λ shows. absurd (subst ShowsNothing c.requires.apart shows));
+  later = search rules;
+}
 
-pub returns-clause-obtained : goal.returns-clause-obtained
-returns-clause-obtained g c =
-    let work = c.in_ok-work.work in
-    undue_behind _ _ _ _ work c.in_ok-work.ensures.obtained c.in-Err.refusal
-    (subst (λ (j : Job). IsNoOutcome j work.scene c.in-Err.refusal) (sym c.requires.apart) c.in-Err.ensures.refused)
+pub returns : goal.returns
+returns g c = record {
+  obtained =
+      let work = c.in_ok-work.work in
+      undue_behind _ _ _ _ work c.in_ok-work.ensures.obtained c.in-Err.refusal
+      (subst (λ (j : Job). IsNoOutcome j work.scene c.in-Err.refusal) (sym c.requires.apart) c.in-Err.ensures.refused);
+  later = search rules;
+}

@@ -1,4 +1,4 @@
-use Rattle.std.proofs.Common.{refl}
+use Rattle.std.proofs.Common.{refl, rules}
 use Rattle.rc_base.specs.Outside.Ends.{use_of}
 use Rattle.rc_base.proofs.WithinLimits.{tiles_within}
 use Rattle.render_core.proofs.CarriedOut.{refused_before}
@@ -6,9 +6,12 @@ use Rattle.render_core.proofs.Recorded.{layout_fits, scene_within}
 use Rattle.render_core.proofs.Threaded.{cluster_asked, read_or_made, run_carried, short_of_memory}
 use Rattle.render_core.proofs.steps.perform_on_cluster.Goals as goal
 
-pub returns-in-Err-clause-carried : goal.returns-in-Err-clause-carried
-returns-in-Err-clause-carried g c =
-    refused_before _ _ _ _ _ _ c.in-Err.refusal c.in-Err.ensures.obtained c.without_record.result c.without_record.ensures.refusal c.without_record.ensures.kept refl
+pub returns-in-Err : goal.returns-in-Err
+returns-in-Err g c = record {
+  carried = refused_before _ _ _ _ _ _ c.in-Err.refusal c.in-Err.ensures.obtained c.without_record.result c.without_record.ensures.refusal c.without_record.ensures.kept refl;
+  later_source = search rules;
+  later_image = search rules;
+}
 
 pub tiles_of-layout-requires : goal.tiles_of-layout-requires
 tiles_of-layout-requires g c = c.in-Ok.ensures.obtained.given.tiles c.args.cluster (cluster_asked c.args.job c.args.cluster c.requires.threads)
@@ -37,21 +40,29 @@ told_run-requires g c =
       run = c.in-Ok-run_threads.ensures.run;
     }
 
-pub returns-in-Ok-run_threads-clause-carried : goal.returns-in-Ok-run_threads-clause-carried
-returns-in-Ok-run_threads-clause-carried g c =
-    let source = use_of g.S.Source.left g.S.Source.faults c.args.source.now c.work_for.new.source in
-    let image = use_of g.K.Sink.held g.K.Sink.faults c.args.image.now c.run_threads.new.image in
-    let step = c.in-Ok.ensures.obtained in
-    let run = c.in-Ok-run_threads.run' in
-    run_carried _ c.args.cluster source image c.in-Ok.work c.requires.threads step.given.is_work step.given.within c.scene_lists_are_well_formed.ensures c.records_of_scenes.ensures.orders
-    c.tiles_of-layout.result c.tiles_of-layout.ensures run.kept run.tallies run.waiting run.faults run.written
-    c.in-Ok-run_threads.ensures.run c.in-Ok-run_threads.ensures.written c.told_run.result c.told_run.ensures.told _ step.members _ _ step.unread
+pub returns-in-Ok-run_threads : goal.returns-in-Ok-run_threads
+returns-in-Ok-run_threads g c = record {
+  carried =
+      let source = use_of g.S.Source.left g.S.Source.faults c.args.source.now c.work_for.new.source in
+      let image = use_of g.K.Sink.held g.K.Sink.faults c.args.image.now c.run_threads.new.image in
+      let step = c.in-Ok.ensures.obtained in
+      let run = c.in-Ok-run_threads.run' in
+      run_carried _ c.args.cluster source image c.in-Ok.work c.requires.threads step.given.is_work step.given.within c.scene_lists_are_well_formed.ensures c.records_of_scenes.ensures.orders
+      c.tiles_of-layout.result c.tiles_of-layout.ensures run.kept run.tallies run.waiting run.faults run.written
+      c.in-Ok-run_threads.ensures.run c.in-Ok-run_threads.ensures.written c.told_run.result c.told_run.ensures.told _ step.members _ _ step.unread;
+  later_source = search rules;
+  later_image = search rules;
+}
 
-pub returns-clause-carried : goal.returns-clause-carried
-returns-clause-carried g c =
-    let source = use_of g.S.Source.left g.S.Source.faults c.args.source.now c.work_for.new.source in
-    let image = use_of g.K.Sink.held g.K.Sink.faults c.args.image.now c.run_threads.new.image in
-    let step = c.in-Ok.ensures.obtained in
-    let refused = c.without_record-in-Err-run_threads in
-    short_of_memory _ c.args.cluster source image c.in-Ok.work c.requires.threads step.given.is_work step.given.within c.scene_lists_are_well_formed.ensures c.records_of_scenes.ensures.orders
-    c.tiles_of-layout.result c.tiles_of-layout.ensures c.in-Err-run_threads.ensures.front refused.result refused.ensures.refusal _ step.members _ _ step.unread
+pub returns : goal.returns
+returns g c = record {
+  carried =
+      let source = use_of g.S.Source.left g.S.Source.faults c.args.source.now c.work_for.new.source in
+      let image = use_of g.K.Sink.held g.K.Sink.faults c.args.image.now c.run_threads.new.image in
+      let step = c.in-Ok.ensures.obtained in
+      let refused = c.without_record-in-Err-run_threads in
+      short_of_memory _ c.args.cluster source image c.in-Ok.work c.requires.threads step.given.is_work step.given.within c.scene_lists_are_well_formed.ensures c.records_of_scenes.ensures.orders
+      c.tiles_of-layout.result c.tiles_of-layout.ensures c.in-Err-run_threads.ensures.front refused.result refused.ensures.refusal _ step.members _ _ step.unread;
+  later_source = search rules;
+  later_image = search rules;
+}
