@@ -44,7 +44,8 @@ impl Grid {
         requires order { from ≤ to }
         requires wide { to ≤ self.old.extent.width }
         ensures extent { self.new.extent ≡ self.old.extent }
-        ensures drawn { IsDrawnBy (span_step (tried_by setup.now) (grid_span self.old.extent up from to)) self.old self.new }
+        ensures drawn { IsDrawnBy (span_step (tried_by setup.now)
+            (grid_span self.old.extent up from to)) self.old self.new }
     {
         let start = row_start(self.extent.width, up);
         let end = start + self.extent.width as usize;

@@ -54,7 +54,8 @@ fn color_at(setup: &Setup<'_>, flat: Option<Rgba>, w: &Weights, x: i32, y: i32) 
     requires weights { IsWeighed setup.now.tri.now.v x y w.now }
     requires none { IfSome flat (λ color. setup.now.texture.now ≡ None) }
     requires flat { IfSome flat (AreFlat setup.now.tri.now.v) }
-    ensures { result ≡ fragment_color setup.now.state.now setup.now.texture.now (fragment_of setup.now.tri.now.v x y) }
+    ensures { result ≡ fragment_color setup.now.state.now setup.now.texture.now
+        (fragment_of setup.now.tri.now.v x y) }
 {
     match flat {
         Some(color) => color,
@@ -75,7 +76,8 @@ fn put_any(
     stored_color: &mut Rgba,
     stored_depth: &mut u32,
 )
-    ensures { IsPut state.now color depth stored_color.old stored_depth.old stored_color.new stored_depth.new }
+    ensures { IsPut state.now color depth stored_color.old stored_depth.old stored_color.new
+        stored_depth.new }
 {
     let old = Pixel {
         color: *stored_color,
@@ -108,7 +110,8 @@ fn put_weighed(
     requires inside { is_inside setup.now.tri.now.v x y ≡ true }
     requires weights { IsWeighed setup.now.tri.now.v x y w.now }
     requires shading { IsShadingOf setup.now shading }
-    ensures { pixel stored_color.new stored_depth.new ≡ fragment_by setup.now x y (pixel stored_color.old stored_depth.old) }
+    ensures { pixel stored_color.new stored_depth.new
+        ≡ fragment_by setup.now x y (pixel stored_color.old stored_depth.old) }
 {
     let depth = depth_at(setup.tri, w, x, y);
     if !is_depth(depth) {
@@ -154,9 +157,12 @@ fn put_covered(
     stored_color: &mut Rgba,
     stored_depth: &mut u32,
 )
-    requires inside { is_inside setup.now.tri.now.v (pos (setup.now.extent.left + x)) (pos row) ≡ true }
+    requires inside { is_inside setup.now.tri.now.v (pos (setup.now.extent.left + x)) (pos row)
+        ≡ true }
     requires shading { IsShadingOf setup.now shading }
-    ensures { pixel stored_color.new stored_depth.new ≡ fragment_by setup.now (pos (setup.now.extent.left + x)) (pos row) (pixel stored_color.old stored_depth.old) }
+    ensures { pixel stored_color.new stored_depth.new
+        ≡ fragment_by setup.now (pos (setup.now.extent.left + x)) (pos row)
+        (pixel stored_color.old stored_depth.old) }
 {
     let column = column_of(setup.extent, x);
     let line = row_of(row);
@@ -177,7 +183,9 @@ fn put_tried(
 )
     requires shading { IsShadingOf setup.now shading }
     requires corners { corners.now.v ≡ setup.now.tri.now.v }
-    ensures { pixel stored_color.new stored_depth.new ≡ tried_by setup.now (pos (setup.now.extent.left + x)) (pos row) (pixel stored_color.old stored_depth.old) }
+    ensures { pixel stored_color.new stored_depth.new
+        ≡ tried_by setup.now (pos (setup.now.extent.left + x)) (pos row)
+        (pixel stored_color.old stored_depth.old) }
 {
     let column = column_of(setup.extent, x);
     let line = row_of(row);

@@ -81,7 +81,8 @@ impl Context {
     #[tactic(auto, unfolding(rc_base::specs::Contexts::Issue::issued))]
     pub fn issue_quiet(&mut self, command: &Command) -> Result<bool, OutOfMemory>
         ensures exact { IfOk result (λ r. r ≡ is_quiet self.old command.now) }
-        ensures issued { IfOk result (λ r. IsTrue r → (place : ℕ) → self.new ≡ issued self.old place command.now) }
+        ensures issued { IfOk result (λ r. IsTrue r → (place : ℕ)
+            → self.new ≡ issued self.old place command.now) }
         ensures left { IfOk result (λ r. IsFalse r → self.new ≡ self.old) }
         ensures err { OnErr result (self.new ≡ self.old) }
     {

@@ -116,7 +116,8 @@ impl CountingContext {
     pub fn count_quiet(&mut self, command: &Command) -> bool
         ensures exact { result ≡ is_quiet_inside self.old command.now }
         ensures kind { IsTrue result → HasKind self.old command.now kind.Quiet }
-        ensures issued { IsTrue result → (place : ℕ) → CountsIssued self.old place command.now self.new }
+        ensures issued { IsTrue result → (place : ℕ)
+            → CountsIssued self.old place command.now self.new }
         ensures left { IsFalse result → self.new ≡ self.old }
     {
         let Some(count) = self.vertices else {
@@ -149,7 +150,8 @@ impl CountingContext {
     pub fn count_begin(&mut self, command: &Command) -> bool
         ensures exact { result ≡ is_quiet_outside self.old command.now }
         ensures kind { IsTrue result → HasKind self.old command.now kind.Quiet }
-        ensures issued { IsTrue result → (place : ℕ) → CountsIssued self.old place command.now self.new }
+        ensures issued { IsTrue result → (place : ℕ)
+            → CountsIssued self.old place command.now self.new }
         ensures left { IsFalse result → self.new ≡ self.old }
     {
         match (self.vertices, command) {

@@ -69,7 +69,8 @@ fn add_members(
     requires clients { client_count syncs.now ≤ 8 }
     requires counts { AreCounts order.old counts.old }
     ensures order { OnOk result (order.new ≡ all_added (is_member (client_count syncs.now) entry)
-        (λ c. place_or_end syncs.now c (slice_index used.now c) + 1) (client_count syncs.now) order.old) }
+        (λ c. place_or_end syncs.now c (slice_index used.now c) + 1) (client_count syncs.now)
+        order.old) }
     ensures counts { OnOk result (AreCounts order.new counts.new) }
 {
     let clients = clients_of(syncs);

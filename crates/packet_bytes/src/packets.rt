@@ -50,7 +50,9 @@ pub trait PacketCommand: Sized + Drop {
         bytes: &'a [u8],
     ) -> Option<&'a [u8]>
         requires { vec_len commands.old < vec_capacity commands.old }
-        ensures added { IfSome result (λ rest. AddsNext commands.old.items commands.new.items rest.now (reader.read opcode bytes.now)) }
+        ensures added { IfSome result
+            (λ rest. AddsNext commands.old.items commands.new.items rest.now
+            (reader.read opcode bytes.now)) }
         ensures len { IfSome result (λ _. vec_len commands.new ≡ vec_len commands.old + 1) }
         ensures none { IfNone result (commands.new.items ≡ commands.old.items) }
         ensures none_len { IfNone result (vec_len commands.new ≡ vec_len commands.old) }
@@ -130,7 +132,9 @@ fn add_next<'a, C: PacketCommand>(
     bytes: &'a [u8],
 ) -> Result<&'a [u8], ReadError>
     requires { vec_len commands.old < vec_capacity commands.old }
-    ensures added { AddsCommand (λ rest. rest.now) commands.old.items commands.new.items result (C.reader.read opcode bytes.now) }
+    ensures added { AddsCommand
+        (λ rest. rest.now) commands.old.items commands.new.items result
+        (C.reader.read opcode bytes.now) }
     ensures len { OnOk result (vec_len commands.new ≡ vec_len commands.old + 1) }
     ensures capacity { OnOk result (vec_capacity commands.new ≡ vec_capacity commands.old) }
 {

@@ -120,7 +120,9 @@ fn add_known<'a, C: HoldsCommand>(
     bytes: &'a [u8],
 ) -> Option<&'a [u8]>
     requires { vec_len commands.old < vec_capacity commands.old }
-    ensures added { IfSome result (λ rest. AddsNextHeld C.held commands.old.items commands.new.items rest.now (read_command opcode bytes.now)) }
+    ensures added { IfSome result
+        (λ rest. AddsNextHeld C.held commands.old.items commands.new.items rest.now
+        (read_command opcode bytes.now)) }
     ensures len { IfSome result (λ _. vec_len commands.new ≡ vec_len commands.old + 1) }
     ensures none { IfNone result (commands.new.items ≡ commands.old.items) }
     ensures none_len { IfNone result (vec_len commands.new ≡ vec_len commands.old) }
@@ -144,7 +146,9 @@ pub(crate) fn add_short<'a, C: HoldsCommand>(
     bytes: &'a [u8],
 ) -> Option<&'a [u8]>
     requires { vec_len commands.old < vec_capacity commands.old }
-    ensures added { IfSome result (λ rest. AddsNextHeld C.held commands.old.items commands.new.items rest.now (read_command opcode bytes.now)) }
+    ensures added { IfSome result
+        (λ rest. AddsNextHeld C.held commands.old.items commands.new.items rest.now
+        (read_command opcode bytes.now)) }
     ensures len { IfSome result (λ _. vec_len commands.new ≡ vec_len commands.old + 1) }
     ensures none { IfNone result (commands.new.items ≡ commands.old.items) }
     ensures none_len { IfNone result (vec_len commands.new ≡ vec_len commands.old) }

@@ -66,7 +66,8 @@ fn touch_found(
 ) -> Seen
     requires visit { IsVisitOf visit.now pixels.old }
     requires part { IsWithinWindow visit.now.width visit.now.height part }
-    ensures { Touches (triangles_have (found tri.now) part) visit.now pixels.old pixels.new seen result }
+    ensures { Touches (triangles_have (found tri.now) part) visit.now pixels.old pixels.new seen
+        result }
 {
     match tri {
         Some(t) => touch_triangle(pixels, visit, t, part, seen),
@@ -92,7 +93,8 @@ fn touch_corners(
     requires corners { AreBelow (length block.now.vertices) corners }
     ensures state { cache.new.state.now ≡ cache.old.state.now }
     ensures vertices { listed cache.new.vertices ≡ block.now.vertices }
-    ensures touches { Touches (triangles_have (kept_corners_of cache.old.state.now block.now corners) part) visit.now pixels.old pixels.new seen result }
+    ensures touches { Touches (triangles_have (kept_corners_of cache.old.state.now block.now
+        corners) part) visit.now pixels.old pixels.new seen result }
 {
     cover_lies_in_bounds();
     match cache.uncut_near(corners, near) {

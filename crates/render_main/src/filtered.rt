@@ -54,11 +54,14 @@ pub fn run_with_filters<S: Source, K: Sink, N: Sink, R>(
 where
     R: Threads + Wait + Copy + Send + Sync + Drop,
     // What the status says of the words behind the filters, the source's bytes, what image and notes were given, and the record that is kept.
-    ensures ran { IfOk result (λ it. Ran (AskFiltered words.now) (use_of S.left S.faults source.old source.new)
+    ensures ran { IfOk result
+        (λ it. Ran (AskFiltered words.now) (use_of S.left S.faults source.old source.new)
         (use_of K.held K.faults image.old image.new)
         (use_of N.held N.faults notes.old notes.new) it.finish.status it.finish.kept) }
     // What the members are left with, of which each has begun with the rule of its filter.
-    ensures members { IfOk result (λ it. IfSome it.rules (AreLeft words.now (use_of S.left S.faults source.old source.new) it.finish.status)) }
+    ensures members { IfOk result
+        (λ it. IfSome it.rules (AreLeft words.now (use_of S.left S.faults source.old source.new)
+        it.finish.status)) }
     ensures unused { OnErr result ((source.new ≡ source.old) × (image.new ≡ image.old) × (notes.new ≡ notes.old)) }
 {
     let rules = named_rules(alloc, words)?;

@@ -108,9 +108,11 @@ fn perform_any(
     requires within { IsWithin scene.now }
     requires inside { name.place < length (stream_of scene.now name.client) }
     requires before { StandsBefore scene.now clients.old.items name }
-    requires drawable { IsDrawable (state_behind scene.now name) (images_behind scene.now name) shared.old }
+    requires drawable { IsDrawable (state_behind scene.now name) (images_behind scene.now name)
+        shared.old }
     requires clearable { IsClearable (state_behind scene.now name) }
-    requires writable { (part : Part) → effect_by scene.now name ≡ eff.Shared part → IsStorable part shared.old }
+    requires writable { (part : Part) → effect_by scene.now name ≡ eff.Shared part
+        → IsStorable part shared.old }
     requires settled { IsSettled clients.old.items device.old.rect brush.old }
     ensures clients { OnOk result (clients.new.items ≡ issued_by scene.now clients.old.items name) }
     ensures rect { OnOk result (device.new.rect ≡ device.old.rect) }

@@ -83,7 +83,8 @@ impl Client {
     ) -> Result<bool, OutOfMemory>
         requires inside { place < length (stream_of scene.now client) }
         requires before { self.old ≡ client_after scene.now client place }
-        ensures issued { IfOk result (λ r. ClientIsBehind scene.now client place self.old self.new (quiet_or_left r)) }
+        ensures issued { IfOk result
+            (λ r. ClientIsBehind scene.now client place self.old self.new (quiet_or_left r)) }
         ensures exact { IfOk result (λ r. r ≡ is_quiet_at scene.now client place) }
     {
         issue_quiet_at(&mut self.context, scene, client, place)
@@ -156,7 +157,9 @@ pub fn issue_quiet(
 ) -> Result<bool, OutOfMemory>
     requires inside { name.place < length (stream_of scene.now name.client) }
     requires before { StandsBefore scene.now clients.old.items name }
-    ensures issued { IfOk result (λ r. ClientsAreBehind scene.now name clients.old.items clients.new.items (quiet_or_left r)) }
+    ensures issued { IfOk result
+        (λ r. ClientsAreBehind scene.now name clients.old.items clients.new.items
+        (quiet_or_left r)) }
     ensures exact { IfOk result (λ r. r ≡ is_quiet_at scene.now name.client name.place) }
 {
     clients[usize::from(name.client)].issue_quiet(

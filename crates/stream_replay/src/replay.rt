@@ -125,7 +125,8 @@ pub(crate) fn issue_quiet_at(
 ) -> Result<bool, OutOfMemory>
     requires inside { place < length (stream_of scene.now client) }
     requires before { context.old ≡ context_after scene.now client place }
-    ensures issued { IfOk result (λ r. IsIssuedInBlock scene.now client place context.new (quiet_or_left r)) }
+    ensures issued { IfOk result
+        (λ r. IsIssuedInBlock scene.now client place context.new (quiet_or_left r)) }
     ensures exact { IfOk result (λ r. r ≡ is_quiet_at scene.now client place) }
 {
     let quiet = context.issue_quiet(command_at(scene, client, place))?;
@@ -163,7 +164,8 @@ pub fn count_quiet_at(
     ensures context { IsTrue result → counting.new ≡ counted_after scene.now client (place + 1) }
     ensures kind { IsTrue result → kind.Quiet ≡ kind_of (effect_at scene.now client place) }
     ensures left { IsFalse result → counting.new ≡ counting.old }
-    ensures exact { result ≡ option_map_or (is_quiet_inside counting.old) (command_at scene.now client place) false }
+    ensures exact { result
+        ≡ option_map_or (is_quiet_inside counting.old) (command_at scene.now client place) false }
 {
     counting.count_quiet(command_at(scene, client, place))
 }
@@ -181,7 +183,8 @@ pub fn count_begin_at(
     ensures context { IsTrue result → counting.new ≡ counted_after scene.now client (place + 1) }
     ensures kind { IsTrue result → kind.Quiet ≡ kind_of (effect_at scene.now client place) }
     ensures left { IsFalse result → counting.new ≡ counting.old }
-    ensures exact { result ≡ option_map_or (is_quiet_outside counting.old) (command_at scene.now client place) false }
+    ensures exact { result
+        ≡ option_map_or (is_quiet_outside counting.old) (command_at scene.now client place) false }
 {
     counting.count_begin(command_at(scene, client, place))
 }

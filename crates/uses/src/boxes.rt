@@ -18,15 +18,18 @@ use rc_base::window::{Layout, Rect, window_rect};
 /// the scissor box let through.
 pub fn near_box(state: &State, block: &Block, window: Rect) -> Option<Rect>
     requires { cut_modes ≤ block.now.mode }
-    ensures { 0 < length (triangles_in block.now) → may_be_near (block_clip state.now block.now) ≡ true
-        → (x y : ℤ) → is_in_rect window x y ≡ true → is_let_through state.now x y ≡ true → HasPixel result x y }
+    ensures { 0 < length (triangles_in block.now)
+        → may_be_near (block_clip state.now block.now) ≡ true
+        → (x y : ℤ) → is_in_rect window x y ≡ true → is_let_through state.now x y ≡ true
+        → HasPixel result x y }
 {
     block_box(state, block, window)
 }
 
 /// The tiles that meet a box, where there is one.
 fn met(layout: &Layout, area: Option<Rect>) -> u32
-    ensures { IfSome area (λ r. (tile : ℕ) → tile < 32 → has result tile ≡ meets_area layout.now r tile) }
+    ensures { IfSome area (λ r. (tile : ℕ) → tile < 32
+        → has result tile ≡ meets_area layout.now r tile) }
 {
     match area {
         Some(r) => meets(layout, r),
@@ -49,7 +52,8 @@ pub fn bucket(layout: &Layout, state: &State, block: &Block) -> u32
 /// The tiles to which a Clear is sent. Where the scissor box is off, each tile with a pixel is among them, whatever the viewport.
 pub fn clear_bucket(layout: &Layout, state: &State) -> u32
     requires { tile_count layout.now ≤ 32 }
-    ensures { state.now.scissor_on ≡ false → (tile x y : ℕ) → tile < tile_count layout.now → tile_pixels layout.now tile x y ≡ true → has result tile ≡ true }
+    ensures { state.now.scissor_on ≡ false → (tile x y : ℕ) → tile < tile_count layout.now
+        → tile_pixels layout.now tile x y ≡ true → has result tile ≡ true }
 {
     touched_pixels_lie_in_the_box();
     let window = window_rect(layout.width, layout.height);

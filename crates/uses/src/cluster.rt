@@ -82,7 +82,8 @@ pub fn written<K: Sink>(
     frames: &[Image],
 ) -> Result<Written, OutOfMemory>
     requires { AreWritable frames.now }
-    ensures { IfOk result (λ w. w.fault ≡ false → Took (use_of K.held K.faults image.old image.new) (p6_texts frames.now)) }
+    ensures { IfOk result (λ w. w.fault ≡ false
+        → Took (use_of K.held K.faults image.old image.new) (p6_texts frames.now)) }
 {
     write_frames(alloc, image, frames)
 }
@@ -95,9 +96,12 @@ pub fn served<I: Inlet<TilePart>, K: Sink>(
     image: &mut K,
 ) -> bool
     requires lanes { length lanes.old ≡ tile_count (layout_of writer.old.assembler) }
-    ensures { (taken : I → List AnyPart) (l : AnyLayout) (start : K) (d : I) → Follows I.gave I.same taken
-        → IsOnTheWay l (use_of K.held K.faults start image.old) (λ tile. taken (slice_index_or lanes.old tile d)) writer.old
-        → GaveFrames l (use_of K.held K.faults start image.new) (λ tile. taken (slice_index_or lanes.new tile d)) writer.new.written }
+    ensures { (taken : I → List AnyPart) (l : AnyLayout) (start : K) (d : I)
+        → Follows I.gave I.same taken
+        → IsOnTheWay l (use_of K.held K.faults start image.old)
+        (λ tile. taken (slice_index_or lanes.old tile d)) writer.old
+        → GaveFrames l (use_of K.held K.faults start image.new)
+        (λ tile. taken (slice_index_or lanes.new tile d)) writer.new.written }
 {
     writer.serve(lanes, image)
 }
@@ -134,7 +138,8 @@ where
     R: Threads + Wait + Copy + Send + Sync + Drop,
     requires within { IsWithin scene.now }
     requires layout { IsLayoutFor scene.now layout.now depth }
-    ensures { IfOk result (λ r. RanSoDeep R scene.now layout.now depth r.kept r.tallies r.waiting r.faults) }
+    ensures { IfOk result
+        (λ r. RanSoDeep R scene.now layout.now depth r.kept r.tallies r.waiting r.faults) }
 {
     run_threads(rt, alloc, scene, layout, depth, gate, image)
 }

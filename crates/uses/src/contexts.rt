@@ -20,7 +20,8 @@ use state_update::Tracker;
 pub fn issued(context: &mut Context, place: u32, command: &Command) -> Result<Effect, OutOfMemory>
     requires texels { HasTexels command.now }
     requires room { HasRoomForEdits context.old }
-    ensures { (fault : AnyFault) → fault_of context.old command.now ≡ Some fault → context.new.block ≡ context.old.block }
+    ensures { (fault : AnyFault) → fault_of context.old command.now ≡ Some fault
+        → context.new.block ≡ context.old.block }
 {
     context.issue(place, command)
 }
@@ -38,7 +39,8 @@ pub fn told_apart(
     requires bound { HasBoundTexture context.now }
     requires settled { IsSettled tracker.old tile context.now }
     requires room { looks.old < 2 ^ 62 }
-    ensures { (other e : ℕ) → other < 32 → other ≢ tile → pending tracker.new other e ≡ pending tracker.old other e }
+    ensures { (other e : ℕ) → other < 32 → other ≢ tile
+        → pending tracker.new other e ≡ pending tracker.old other e }
 {
     tracker.update(context, tile, draws, looks)
 }
@@ -57,7 +59,8 @@ pub fn told_again(
     requires bound { HasBoundTexture context.now }
     requires settled { IsSettled tracker.old tile context.now }
     requires room { looks.old < 2 ^ 62 }
-    ensures { (values : ℕ → ElementValue) → Knows tracker.old tile values → AreUnchanged values context.now → IfOk result (λ sets. sets ≡ []) }
+    ensures { (values : ℕ → ElementValue) → Knows tracker.old tile values
+        → AreUnchanged values context.now → IfOk result (λ sets. sets ≡ []) }
 {
     tracker.update(context, tile, draws, looks)
 }

@@ -33,8 +33,10 @@ pub fn granted<I: Inlet<Request>, O: Outlet<Grant>>(
     requires clients { length requests.old ≡ manager_clients manager.old }
     requires tiles { length grants.old ≡ tiles_of manager.old }
     ensures { (tile : ℕ) (d : O) (e : AnyEntry) → tile < tiles_of manager.old
-        → O.sent (slice_index_or grants.new tile d) ≡ O.sent (slice_index_or grants.old tile d) ++ grant.Entry e ∷ []
-        → OfProgress manager.old (λ syncs done. slice_get done.book.journal (done.delivered tile) ≡ Some e) }
+        → O.sent (slice_index_or grants.new tile d) ≡ O.sent (slice_index_or grants.old tile d)
+        ++ grant.Entry e ∷ []
+        → OfProgress manager.old (λ syncs done. slice_get done.book.journal (done.delivered tile)
+        ≡ Some e) }
 {
     manager.step(requests, grants)
 }
@@ -48,14 +50,17 @@ pub fn told_all<I: Inlet<Request>, O: Outlet<Grant>>(
     requires clients { length requests.old ≡ manager_clients manager.old }
     requires tiles { length grants.old ≡ tiles_of manager.old }
     ensures { result ≡ Ok ManagerMoved.Ended
-        → OfProgress manager.old (λ syncs done. (tile : ℕ) → tile < tiles_of manager.old → done.told tile ≡ true) }
+        → OfProgress manager.old (λ syncs done. (tile : ℕ) → tile < tiles_of manager.old
+        → done.told tile ≡ true) }
 {
     manager.step(requests, grants)
 }
 
 /// Where the clients of a book are stuck. They aren't while an entry is lawful, though all of them wait.
 pub fn stuck_at(book: &Book) -> Option<Waiting>
-    ensures { (e : AnyEntry) → OfBook book.now (λ syncs arrived. IsLawful syncs (standing syncs arrived) e → IsNone result) }
+    ensures { (e : AnyEntry)
+        → OfBook book.now (λ syncs arrived. IsLawful syncs (standing syncs arrived) e
+        → IsNone result) }
 {
     book.stuck()
 }
@@ -67,7 +72,8 @@ pub fn held_back<P: Outlet<Packed>, Q: Outlet<Request>>(
     requests: &mut Q,
 ) -> Result<ClientMoved, OutOfMemory>
     requires { length tiles.old ≡ tile_count (layout_of client.old) }
-    ensures { (tile : ℕ) → result ≡ Ok (ClientMoved.BlockedTile tile) → left_in client.new ≡ left_in client.old }
+    ensures { (tile : ℕ) → result ≡ Ok (ClientMoved.BlockedTile tile)
+        → left_in client.new ≡ left_in client.old }
 {
     client.step(tiles, requests)
 }
@@ -79,7 +85,8 @@ pub fn sent_once<P: Outlet<Packed>, Q: Outlet<Request>>(
     requests: &mut Q,
 ) -> Result<ClientMoved, OutOfMemory>
     requires { length tiles.old ≡ tile_count (layout_of client.old) }
-    ensures { (tile : ℕ) → result ≡ Ok (ClientMoved.Appended tile) → length (left_in client.old) ≡ length (left_in client.new) + 1 }
+    ensures { (tile : ℕ) → result ≡ Ok (ClientMoved.Appended tile)
+        → length (left_in client.old) ≡ length (left_in client.new) + 1 }
 {
     client.step(tiles, requests)
 }
@@ -87,7 +94,8 @@ pub fn sent_once<P: Outlet<Packed>, Q: Outlet<Request>>(
 /// What is kept of a client for which memory lacked. Its operations are those of all commands that it has issued.
 pub fn kept_of(client: ClientCore) -> ClientKept
     requires { short_of client ≡ true }
-    ensures { (scene : Scene) (number : ℕ) (l : Layout) → IsClientOf client scene number l → result.syncs.ops ≡ waits_below scene number (issued_of client) }
+    ensures { (scene : Scene) (number : ℕ) (l : Layout) → IsClientOf client scene number l
+        → result.syncs.ops ≡ waits_below scene number (issued_of client) }
 {
     client.into_kept()
 }
@@ -99,7 +107,8 @@ pub fn drawn<I: Inlet<Packed>, J: Inlet<Grant>>(
     grants: &mut J,
 ) -> Result<TileMoved, OutOfMemory>
     requires { length clients.old ≡ clients_of tile.old }
-    ensures { (p : Progress) (client : ℕ) (d : I) → IsProgressOf tile.old p → result ≡ Ok (TileMoved.Took client)
+    ensures { (p : Progress) (client : ℕ) (d : I) → IsProgressOf tile.old p
+        → result ≡ Ok (TileMoved.Took client)
         → IsTakenWork I.gave d client clients.old tile.old clients.new tile.new }
 {
     tile.step(clients, grants)
@@ -112,7 +121,8 @@ pub fn lost<I: Inlet<Packed>, J: Inlet<Grant>>(
     grants: &mut J,
 ) -> Result<TileMoved, OutOfMemory>
     requires { length clients.old ≡ clients_of tile.old }
-    ensures { (p : Progress) → IsProgressOf tile.old p → OnErr result (log_of tile.new ≡ log_of tile.old) }
+    ensures { (p : Progress) → IsProgressOf tile.old p
+        → OnErr result (log_of tile.new ≡ log_of tile.old) }
 {
     tile.step(clients, grants)
 }
@@ -125,7 +135,8 @@ pub fn held<I: Inlet<Packed>, J: Inlet<Grant>>(
     grants: &mut J,
 ) -> Result<TileMoved, OutOfMemory>
     requires { length clients.old ≡ clients_of tile.old }
-    ensures { (p : Progress) (client : ℕ) → IsProgressOf tile.old p → result ≡ Ok (TileMoved.Held client) → log_of tile.new ≡ log_of tile.old }
+    ensures { (p : Progress) (client : ℕ) → IsProgressOf tile.old p
+        → result ≡ Ok (TileMoved.Held client) → log_of tile.new ≡ log_of tile.old }
 {
     tile.step(clients, grants)
 }
@@ -133,7 +144,8 @@ pub fn held<I: Inlet<Packed>, J: Inlet<Grant>>(
 /// The clients that a tile takes parcels of. One for which memory has lacked takes of each client whose End it hasn't taken, held or not.
 pub fn asked(tile: &TileCore) -> [bool; 8]
     requires { is_short tile.now ≡ true }
-    ensures { (p : Progress) (client : ℕ) → IsProgressOf tile.now p → client < p.count → p.closed client ≡ false → slice_index_or result client true ≡ true }
+    ensures { (p : Progress) (client : ℕ) → IsProgressOf tile.now p → client < p.count
+        → p.closed client ≡ false → slice_index_or result client true ≡ true }
 {
     tile.asked()
 }

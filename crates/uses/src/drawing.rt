@@ -23,7 +23,8 @@ pub fn put_before(picture: &mut Device, layer: &Device)
 /// Whether two triangles both have a pixel. None is in both where they run through a common edge in opposite directions: the points of the edge are one
 /// triangle's alone.
 pub fn both_cover(first: &WindowTriangle, second: &WindowTriangle, x: i32, y: i32) -> bool
-    ensures { (i j : ℕ) → i < 3 → j < 3 → RunOpposite first.now.v i second.now.v j → result ≡ false }
+    ensures { (i j : ℕ) → i < 3 → j < 3 → RunOpposite first.now.v i second.now.v j
+        → result ≡ false }
 {
     no_double_edge();
     covers(first, x, y) && covers(second, x, y)

@@ -29,7 +29,8 @@ pub fn told_of_no_text<I: Read, O: Write, E: Write, R>(
 ) -> Exit<I, O, E>
 where
     R: Threads + Wait + Copy + Send + Sync + Drop,
-    ensures { IfErr args (λ why. error_kind why ≢ OutOfMemory → result.notes.faults ≡ 0 → Appends (E.contents error) result.notes.held usage_line) }
+    ensures { IfErr args (λ why. error_kind why ≢ OutOfMemory → result.notes.faults ≡ 0
+        → Appends (E.contents error) result.notes.held usage_line) }
 {
     run_process(rt, alloc, args, input, output, error)
 }
@@ -46,8 +47,10 @@ pub fn told_of_no_task<I: Read, O: Write, E: Write, R>(
 ) -> Exit<I, O, E>
 where
     R: Threads + Wait + Copy + Send + Sync + Drop,
-    ensures { IfOk args (λ all. ((task : AnyTask) → AskFiltered (drop 1 (into_iter_items all)) task → ⊥)
-        → (result.status ≡ 7) ⊎ (result.notes.faults ≡ 0 → Appends (E.contents error) result.notes.held usage_line)) }
+    ensures { IfOk args (λ all. ((task : AnyTask) → AskFiltered (drop 1 (into_iter_items all)) task
+        → ⊥)
+        → (result.status ≡ 7) ⊎ (result.notes.faults ≡ 0
+        → Appends (E.contents error) result.notes.held usage_line)) }
 {
     run_process(rt, alloc, args, input, output, error)
 }
@@ -80,7 +83,8 @@ pub fn ended_as_asked<I: Read + Drop, O: Write + Drop, E: Write + Drop, R>(
 ) -> ExitCode
 where
     R: Threads + Wait + Eprint + Copy + Send + Sync + Drop,
-    ensures { IfOk args (λ all. (task : AnyTask) → AskFiltered (drop 1 (into_iter_items all)) task → exit_status result ≢ 1) }
+    ensures { IfOk args (λ all. (task : AnyTask) → AskFiltered (drop 1 (into_iter_items all)) task
+        → exit_status result ≢ 1) }
 {
     run_process(rt, alloc, args, input, output, error).report(&rt)
 }

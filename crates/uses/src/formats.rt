@@ -30,7 +30,8 @@ use std::thread::Threads;
 
 /// The commands of a stream. One that begins with a packet of no commands is refused there, whatever follows.
 pub fn commands_of(alloc: Global, bytes: &[u8]) -> Result<Commands, PackFault>
-    ensures { (rest : List ℕ) → bytes.now ≡ half 0 ++ rest → (result ≡ Err (PackFault.BadCount 0)) ⊎ (result ≡ Err PackFault.OutOfMemory) }
+    ensures { (rest : List ℕ) → bytes.now ≡ half 0 ++ rest
+        → (result ≡ Err (PackFault.BadCount 0)) ⊎ (result ≡ Err PackFault.OutOfMemory) }
 {
     faults_are_one();
     faults_spell_nothing();
@@ -39,8 +40,10 @@ pub fn commands_of(alloc: Global, bytes: &[u8]) -> Result<Commands, PackFault>
 
 /// A parcel from its bytes. Where more bytes stand behind those of a parcel, it is refused at the first of them.
 pub fn parcel_of(alloc: Global, bytes: &[u8]) -> Result<Parcel, ParcelFault>
-    ensures { (front rest : List ℕ) (p : AnyParcel) → bytes.now ≡ front ++ rest → 0 < length rest → SpellsParcel front p
-        → (result ≡ Err (ParcelFault.Trailing (length front))) ⊎ (result ≡ Err ParcelFault.OutOfMemory) }
+    ensures { (front rest : List ℕ) (p : AnyParcel) → bytes.now ≡ front ++ rest → 0 < length rest
+        → SpellsParcel front p
+        → (result ≡ Err (ParcelFault.Trailing (length front)))
+        ⊎ (result ≡ Err ParcelFault.OutOfMemory) }
 {
     faults_spell_no_parcel();
     parcel_faults_are_one();
@@ -56,7 +59,8 @@ pub fn image_of(alloc: Global, bytes: &[u8]) -> Result<(Image, usize), PpmFault>
 
 /// The scene of a text whose one line is a word that no line begins with: its fault is the word, and not that no words follow it.
 pub fn unknown_word(alloc: Global) -> Result<Scene, TextSceneFault>
-    ensures { (result ≡ Err (TextSceneFault.Text 1 UnknownWord)) ⊎ (result ≡ Err TextSceneFault.OutOfMemory) }
+    ensures { (result ≡ Err (TextSceneFault.Text 1 UnknownWord))
+        ⊎ (result ≡ Err TextSceneFault.OutOfMemory) }
 {
     parse_scene(alloc, b"swop\n")
 }
@@ -64,22 +68,26 @@ pub fn unknown_word(alloc: Global) -> Result<Scene, TextSceneFault>
 /// What a stream means that records a list which calls another one, and then records that one anew: the call gives what was recorded last.
 pub fn called_anew(alloc: Global, stream: &ListCommands) -> Result<Expansion, ExpandFault>
     requires places { length stream.now < 2 ^ 32 }
-    ensures { (first last : AnyCommand) → stream.now ≡ recorded_anew first last → IfOk result (λ x. x.commands ≡ last ∷ []) }
+    ensures { (first last : AnyCommand) → stream.now ≡ recorded_anew first last
+        → IfOk result (λ x. x.commands ≡ last ∷ []) }
 {
     expand(alloc, stream, 0)
 }
 
 /// A scene from its bytes. Where more bytes stand behind those of a scene, it is refused at the first of them.
 pub fn scene_of(alloc: Global, bytes: &[u8]) -> Result<Scene, SceneFault>
-    ensures { (front rest : List ℕ) (s : AnyScene) → bytes.now ≡ front ++ rest → 0 < length rest → SpellsScene front s
-        → (result ≡ Err (SceneFault.Malformed Trailing (length front))) ⊎ (result ≡ Err SceneFault.OutOfMemory) }
+    ensures { (front rest : List ℕ) (s : AnyScene) → bytes.now ≡ front ++ rest → 0 < length rest
+        → SpellsScene front s
+        → (result ≡ Err (SceneFault.Malformed Trailing (length front)))
+        ⊎ (result ≡ Err SceneFault.OutOfMemory) }
 {
     read_scene(alloc, bytes)
 }
 
 /// A scene with call lists from its bytes. Where these spell more commands than a scene may have, none is read.
 pub fn list_scene_of(alloc: Global, bytes: &[u8]) -> Result<ListScene, SceneFault>
-    ensures { (s : AnyListScene) → SpellsListScene bytes.now s → 1048576 < sum_by length s.streams → IsErr result }
+    ensures { (s : AnyListScene) → SpellsListScene bytes.now s → 1048576 < sum_by length s.streams
+        → IsErr result }
 {
     bytes_spell_one_list_scene();
     read_list_scene(alloc, bytes)

@@ -32,7 +32,9 @@ pub fn shown_as_kept<S: Source, K: Sink, N: Sink>(
     notes: &mut N,
 ) -> Finish
     requires { IsThreaded words.now → ⊥ }
-    ensures { result.status ≡ 0 → IfSome result.kept (ShowsItself (AskPlainly words.now) (use_of S.left S.faults source.old source.new)
+    ensures { result.status ≡ 0
+        → IfSome result.kept (ShowsItself (AskPlainly words.now)
+        (use_of S.left S.faults source.old source.new)
         (use_of K.held K.faults image.old image.new)) }
 {
     run_alone(alloc, words, source, image, notes)
@@ -49,7 +51,8 @@ pub fn seeded<S: Source, K: Sink, N: Sink>(
 ) -> Finish
     requires { IsThreaded words.now → ⊥ }
     ensures { (seed : ℕ) (cluster : AnyCluster) (work : AnyWork)
-        → IsUnhindered (AskPlainly words.now) (task_of [] (ToSimulate seed cluster)) work (use_of S.left S.faults source.old source.new)
+        → IsUnhindered (AskPlainly words.now) (task_of [] (ToSimulate seed cluster)) work
+        (use_of S.left S.faults source.old source.new)
         (use_of K.held K.faults image.old image.new) (use_of N.held N.faults notes.old notes.new)
         → (result.status ≡ 7) ⊎ FollowsSeed seed cluster work.scene result.kept }
 {
@@ -67,9 +70,11 @@ pub fn told_stuck<S: Source, K: Sink, N: Sink>(
 ) -> Finish
     requires { IsThreaded words.now → ⊥ }
     ensures { (work : AnyWork)
-        → IsUnhindered (AskPlainly words.now) (task_of [] ToCheck) work (use_of S.left S.faults source.old source.new)
+        → IsUnhindered (AskPlainly words.now) (task_of [] ToCheck) work
+        (use_of S.left S.faults source.old source.new)
         (use_of K.held K.faults image.old image.new) (use_of N.held N.faults notes.old notes.new)
-        → is_stuck (sync_lists_of work.scene) (journal_of work.scene) ≡ true → (result.status ≡ 7) ⊎ (result.status ≡ 5) }
+        → is_stuck (sync_lists_of work.scene) (journal_of work.scene) ≡ true
+        → (result.status ≡ 7) ⊎ (result.status ≡ 5) }
 {
     run_alone(alloc, words, source, image, notes)
 }
@@ -88,8 +93,10 @@ pub fn limited<S: Source, K: Sink, N: Sink, G: Gate, R>(
 where
     R: Threads + Wait + Copy + Send + Sync + Drop,
     requires { AreNamed (map string_bytes words.now) (map (λ b. meaning b) chain.old.items) }
-    ensures { (task : AnyTask) (input : List ℕ) (found : Found) (limit : AnyLimit) → AskFiltered words.now task
-        → Holds (origin_of task.job) (use_of S.left S.faults source.old source.new) input → length input ≤ byte_limit → Gives (origin_of task.job) input found
+    ensures { (task : AnyTask) (input : List ℕ) (found : Found) (limit : AnyLimit)
+        → AskFiltered words.now task
+        → Holds (origin_of task.job) (use_of S.left S.faults source.old source.new) input
+        → length input ≤ byte_limit → Gives (origin_of task.job) input found
         → limit_for task.job found ≡ Some limit → (result.status ≡ 7) ⊎ (result.status ≡ 4) }
 {
     run_filtered(rt, alloc, chain, words, source, image, notes, gate)

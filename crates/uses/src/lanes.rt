@@ -55,7 +55,8 @@ pub fn joined<T: Drop, R: Copy>(
     requires paired { ArePaired (λ i a b. lane_out b ≡ lane_in a) ins.items outs.items }
     requires empty { vec_len rests ≡ 0 }
     requires room { vec_len ins ≤ vec_capacity rests }
-    ensures { (i : ℕ) (b : _) (r : _) → i < length ins.items → taken_in (slice_index_or result.items i r) ≡ taken_of (slice_index_or outs.items i b) }
+    ensures { (i : ℕ) (b : _) (r : _) → i < length ins.items
+        → taken_in (slice_index_or result.items i r) ≡ taken_of (slice_index_or outs.items i b) }
 {
     join_list(ins, outs, rests)
 }

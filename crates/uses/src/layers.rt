@@ -17,7 +17,8 @@ use std::thread::Threads;
 
 /// Puts two layers together. Of equally near pixels the first layer's stays.
 pub fn put_together(a: Layer, b: Layer) -> Layer
-    ensures { (k : ℕ) → (pixel_in a.pixels k).depth ≡ (pixel_in b.pixels k).depth → pixel_in result.pixels k ≡ pixel_in a.pixels k }
+    ensures { (k : ℕ) → (pixel_in a.pixels k).depth ≡ (pixel_in b.pixels k).depth
+        → pixel_in result.pixels k ≡ pixel_in a.pixels k }
 {
     composite(a, b)
 }
@@ -48,7 +49,8 @@ pub fn first_offence(
     scene: &Scene,
 ) -> Result<LastSurvey, OutOfMemory>
     requires { IsWithin scene.now }
-    ensures { IfOk result (λ s. IfSome s.offence (λ n. (place : ℕ) → place < n.place → offends scene.now n.client place ≡ false)) }
+    ensures { IfOk result (λ s. IfSome s.offence (λ n. (place : ℕ) → place < n.place
+        → offends scene.now n.client place ≡ false)) }
 {
     survey_last(rt, alloc, scene)
 }

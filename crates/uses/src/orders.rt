@@ -83,7 +83,8 @@ pub fn told_of_pixels(
     requires lists { syncs.now ≡ sync_lists_of scene.now }
     requires maximal { IsMaximal syncs.now journal.now }
     requires permitted { IsPermitted syncs.now journal.now order.now }
-    ensures { (a b : AnyName) → RaceAtAPixel syncs.now journal.now scene.now a b → IfOk result (λ v. SaysOrdered v → ⊥) }
+    ensures { (a b : AnyName) → RaceAtAPixel syncs.now journal.now scene.now a b
+        → IfOk result (λ v. SaysOrdered v → ⊥) }
 {
     check_races(alloc, scene, journal, order, syncs)
 }
@@ -92,7 +93,9 @@ pub fn told_of_pixels(
 /// granted so far: no grant leads into a blind alley.
 pub fn goes_on_to_a_run(book: &mut Book, scene: &Scene) -> Option<Entry>
     requires { IsWithin scene.now }
-    ensures { (l : Layout) (arrived : Arrivals) → IsBookOf (sync_lists_of scene.now) book.old arrived → HasArrived (sync_lists_of scene.now) arrived
+    ensures { (l : Layout) (arrived : Arrivals)
+        → IsBookOf (sync_lists_of scene.now) book.old arrived
+        → HasArrived (sync_lists_of scene.now) arrived
         → BeginsARun scene.now l (journal_in book.new) }
 {
     scenes_within_limits();

@@ -32,7 +32,8 @@ pub fn frames_of(
     requires within { IsWithin scene.now }
     requires legal { IsLegal (sync_lists_of scene.now) journal.now }
     requires permitted { IsPermitted (sync_lists_of scene.now) journal.now order.now }
-    ensures { (front : List AnyName) (last : AnyName) → order.now ≡ front ++ last ∷ [] → IfOk result (ShowWithout scene.now front last) }
+    ensures { (front : List AnyName) (last : AnyName) → order.now ≡ front ++ last ∷ []
+        → IfOk result (ShowWithout scene.now front last) }
 {
     render_order(alloc, scene, journal, order)
 }
@@ -54,7 +55,8 @@ pub fn first_frames_of(alloc: Global, scene: &Scene) -> Result<Frames, OutOfMemo
 /// The rules of the filters that words begin with, and how many words these take: none, where a filter's word stands there without the words that are
 /// due behind it.
 pub fn rules_of(alloc: Global, words: &[String]) -> Result<Option<(Rules, usize)>, OutOfMemory>
-    ensures { BeginsFilter (map string_bytes words.now) → NoFilter (map string_bytes words.now) → IfOk result IsNone }
+    ensures { BeginsFilter (map string_bytes words.now) → NoFilter (map string_bytes words.now)
+        → IfOk result IsNone }
 {
     filters(alloc, words)
 }

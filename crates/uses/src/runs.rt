@@ -28,7 +28,8 @@ pub fn stepped(
 ) -> Result<World, OutOfMemory>
     requires within { IsWithin scene.now }
     requires layout { IsLayoutFor scene.now layout.now depth }
-    requires picks { EachIndex picks.now (λ k. slice_index picks.now k < length scene.now.streams + 1 + tile_count layout.now) }
+    requires picks { EachIndex picks.now
+        (λ k. slice_index picks.now k < length scene.now.streams + 1 + tile_count layout.now) }
     ensures { IfOk result (λ world. picks_of world ≡ picks.now) }
 {
     run_schedule(alloc, scene, layout, depth, picks)
@@ -36,7 +37,8 @@ pub fn stepped(
 
 /// Brings a cluster to its end. Each frame of the run that it leaves has a part of each tile: a run in which memory lacked isn't handed out.
 pub fn finished(alloc: Global, world: World) -> Result<CoreRun, OutOfMemory>
-    ensures { IfOk result (λ run. length run.parts ≡ frame_count run.kept.journal * tile_count world.layout) }
+    ensures { IfOk result (λ run. length run.parts
+        ≡ frame_count run.kept.journal * tile_count world.layout) }
 {
     finish(alloc, world)
 }
@@ -55,7 +57,9 @@ where
     R: Threads + Wait + Copy + Send + Sync + Drop,
     requires within { IsWithin scene.now }
     requires layout { IsLayoutFor scene.now layout.now depth }
-    ensures { IfOk result (λ r. r.written.fault ≡ false → Took (use_of K.held K.faults image.old image.new) (image_text_of scene.now layout.now r.kept)) }
+    ensures { IfOk result (λ r. r.written.fault ≡ false
+        → Took (use_of K.held K.faults image.old image.new)
+        (image_text_of scene.now layout.now r.kept)) }
 {
     run_threads(rt, alloc, scene, layout, depth, gate, image)
 }
@@ -75,7 +79,8 @@ where
     R: Threads + Wait + Copy + Send + Sync + Drop,
     requires within { IsWithin scene.now }
     requires layout { IsLayoutFor scene.now layout.now depth }
-    ensures { IfOk result (λ r. r.written.fault ≡ false → r.written.bytes ≡ length (image_text_of scene.now layout.now r.kept)) }
+    ensures { IfOk result (λ r. r.written.fault ≡ false
+        → r.written.bytes ≡ length (image_text_of scene.now layout.now r.kept)) }
 {
     run_threads(rt, alloc, scene, layout, depth, gate, image)
 }
@@ -94,7 +99,8 @@ where
     R: Threads + Wait + Copy + Send + Sync + Drop,
     requires within { IsWithin scene.now }
     requires layout { IsLayoutFor scene.now layout.now depth }
-    ensures { IfOk result (λ r. CountsWaits R scene.now layout.now depth r.kept r.tallies r.waiting r.faults) }
+    ensures { IfOk result
+        (λ r. CountsWaits R scene.now layout.now depth r.kept r.tallies r.waiting r.faults) }
 {
     run_threads(rt, alloc, scene, layout, depth, gate, image)
 }
