@@ -35,8 +35,8 @@ impl OpenBlock {
     /// Adds a vertex. Where memory is wanting, nothing is changed.
     #[inline(always)]
     pub(crate) fn push(&mut self, vertex: Vertex) -> Result<(), OutOfMemory>
-        ensures ok { OnOk result (self.new ≡ record self.old { vertices = self.old.vertices
-            ++ vertex ∷ [] }) }
+        ensures ok { OnOk result
+            (self.new ≡ record self.old { vertices = self.old.vertices ++ vertex ∷ [] }) }
         ensures err { OnErr result (self.new ≡ self.old) }
     {
         if self.vertices.len() == self.vertices.capacity() {
