@@ -1,4 +1,3 @@
-mod Storing
 mod Giving
 mod Marking
 mod Issuing

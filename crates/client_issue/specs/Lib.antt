@@ -1,6 +1,5 @@
 pub mod Acts
 pub mod First
-pub mod Streams
 pub mod Sequence
 pub mod Issued
 pub mod Cores

@@ -12,7 +12,7 @@ ghost use Rattle.client_issue.specs.Sequence.{IsSending, alone, left_of, sent_fr
 
 use crate::client::ClientCore;
 use crate::sender::Sender;
-use crate::stream::Stream;
+use command_store::CommandStore;
 use gl_context::Context;
 use gl_context::laws::streams_go_on_by_issue;
 use parcel_bytes::{Packed, encode_parcel};
@@ -29,7 +29,7 @@ use std::alloc::Global;
 fn first_sender(
     alloc: Global,
     decl: &Decl,
-    stream: Stream,
+    stream: CommandStore,
     layout: &Layout,
     count: u8,
 ) -> Result<Sender, OutOfMemory>
@@ -130,7 +130,7 @@ impl ClientCore {
     {
         let count = count_of(layout);
         let commands = commands_of(scene, client);
-        let stream = Stream::of(alloc, commands)?;
+        let stream = CommandStore::of(alloc, commands)?;
         let sender = first_sender(alloc, &scene.decl, stream, layout, count)?;
         let tallies = no_tallies(alloc, count)?;
         let last = end_parcels(alloc, count, commands.len() as u32)?;

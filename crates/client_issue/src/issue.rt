@@ -10,7 +10,7 @@ ghost use Rattle.state_update.specs.Knowledge.{pending};
 
 use crate::pending::{first_of, pending_of};
 use crate::sender::Sender;
-use crate::stored::Stored;
+use command_store::StoredCommand;
 use gl_context::laws::{commands_have_texels, streams_go_on_by_issue};
 use gl_context::marks;
 use rc_base::command::Command;
@@ -120,12 +120,12 @@ impl Sender {
         streams_go_on_by_issue();
         let place = self.issued;
         match self.stream.form(place as usize) {
-            Stored::Vertex { pos } => self.context.vertex(place, pos)?,
-            Stored::Color(color) => self.context.color(color),
-            Stored::TexCoord { s, t } => self.context.tex_coord(s, t),
-            Stored::Begin { mode } => return self.issue_begin(mode),
-            Stored::End => return self.issue_end(),
-            Stored::Other(_) => return self.issue_any(),
+            StoredCommand::Vertex { pos } => self.context.vertex(place, pos)?,
+            StoredCommand::Color(color) => self.context.color(color),
+            StoredCommand::TexCoord { s, t } => self.context.tex_coord(s, t),
+            StoredCommand::Begin { mode } => return self.issue_begin(mode),
+            StoredCommand::End => return self.issue_end(),
+            StoredCommand::Other(_) => return self.issue_any(),
         }
         self.issued += 1;
         Ok(())

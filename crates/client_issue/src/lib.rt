@@ -17,8 +17,6 @@ pub mod laws;
 mod pending;
 mod sender;
 mod step;
-mod stored;
-mod stream;
 
 pub use client::{ClientCore, ClientKept};
 pub use rc_base::cluster::Tally;

@@ -1,6 +1,6 @@
 //! What the commands of a client give, one item at a time.
 use crate::pending::Pending;
-use crate::stream::Stream;
+use command_store::CommandStore;
 use gl_context::Context;
 use rc_base::scene::Decl;
 use rc_base::sync::WaitAt;
@@ -13,7 +13,7 @@ use std::alloc::Global;
 pub(crate) struct Sender {
     pub alloc: Global,
     pub decl: Decl,
-    pub stream: Stream,
+    pub stream: CommandStore,
     pub layout: Layout,
     pub count: u8,
     pub context: Context,

@@ -15,7 +15,7 @@ use Rattle.tile_queues.specs.Ends.{fulls_of, sent_of, taken_of, MayBeFull, Took,
 use Rattle.tile_queues.specs.declared.ends.LaneIn.{LaneIn}
 use Rattle.tile_queues.specs.declared.ends.LaneOut.{LaneOut}
 use Rattle.cluster_run.specs.Steps.{TileTurn, parcels_by, requests_by, parcels_in, grants_in, parts_by, IsClientTurn, IsManagerTurn, IsPut, IsTileTurn}
-use Rattle.cluster_run.specs.Steps.TileTurn.{StepsCore, HandsOver}
+use Rattle.cluster_run.specs.Steps.TileTurn.{StepsCore, HandsOver, DrawsBlock}
 use Rattle.cluster_run.specs.declared.workers.ClientWorker.{ClientWorker}
 use Rattle.cluster_run.specs.declared.workers.ManagerWorker.{ManagerWorker}
 use Rattle.cluster_run.specs.declared.workers.TileWorker.{TileWorker}
@@ -109,10 +109,15 @@ module _ {R : Type 0} where
     count = ap (λ v. length v.items) is.done.clients;
     at = λ i d low. ap (λ v. taken_of (slice_index_or v.items i d)) is.done.clients ∙ sym (append-nil (taken_of (slice_index_or before.clients.items i d)));
   }
+  tile_takes before after DrawsBlock is = record {
+    count = ap (λ v. length v.items) is.done.clients;
+    at = λ i d low. ap (λ v. taken_of (slice_index_or v.items i d)) is.done.clients ∙ sym (append-nil (taken_of (slice_index_or before.clients.items i d)));
+  }
 
   pub tile_hears : (before after : TileWorker R) (turn : TileTurn) → IsTileTurn before turn after → taken_of after.grants ≡ taken_of before.grants ++ grants_in turn
   tile_hears before after (StepsCore deed offered sent) is = took_grows _ before.grants after.grants is.done.grants
   tile_hears before after (HandsOver part sent) is = ap (λ b. taken_of b) is.done.grants ∙ sym (append-nil (taken_of before.grants))
+  tile_hears before after DrawsBlock is = ap (λ b. taken_of b) is.done.grants ∙ sym (append-nil (taken_of before.grants))
 
   -- a part that is put, or none
   put_grows : (offered : Option TilePart) (sent : Bool) (a b : LaneIn TilePart R) (held : Option TilePart) → IsPut offered sent a b held
@@ -124,3 +129,4 @@ module _ {R : Type 0} where
   pub tile_shows : (before after : TileWorker R) (turn : TileTurn) → IsTileTurn before turn after → sent_of after.parts ≡ sent_of before.parts ++ parts_by turn
   tile_shows before after (StepsCore deed offered sent) is = put_grows offered sent before.parts after.parts after.held is.done.parts
   tile_shows before after (HandsOver part sent) is = put_grows (Some part) sent before.parts after.parts after.held is.done.parts
+  tile_shows before after DrawsBlock is = ap (λ b. sent_of b) is.done.parts ∙ sym (append-nil (sent_of before.parts))

@@ -10,7 +10,7 @@ use Rattle.rc_base.specs.declared.sync.Grant.{Grant}
 use Rattle.rc_base.specs.declared.window.Layout.{Layout}
 use Rattle.tile_model.specs.Scenes.{IsInRange, HasSides}
 use Rattle.tile_server.specs.Clauses.{shown_in, IsTileClause}
-use Rattle.tile_server.specs.Cores.{is_short}
+use Rattle.tile_server.specs.Cores.{is_short, IsSameView}
 use Rattle.tile_server.specs.Deeds.{answer_of}
 use Rattle.tile_server.specs.declared.tile_core.TileCore.{TileCore}
 use Rattle.tile_queues.specs.Ends.{sent_of, taken_of}
@@ -18,10 +18,11 @@ use Rattle.tile_queues.specs.declared.ends.LaneIn.{LaneIn}
 use Rattle.tile_queues.specs.declared.ends.LaneOut.{LaneOut}
 use Rattle.shown_frames.specs.Shown.{Offers, IsShowing, NewTilesShow, TilesGoOnShowing}
 use Rattle.cluster_run.specs.Steps.{TileTurn, IsPut, IsTileTurn}
-use Rattle.cluster_run.specs.Steps.TileTurn.{StepsCore, HandsOver}
+use Rattle.cluster_run.specs.Steps.TileTurn.{StepsCore, HandsOver, DrawsBlock}
 use Rattle.cluster_run.specs.Tiles.{parts_of}
 use Rattle.cluster_run.specs.Turns.{AreWorkerTurns}
 use Rattle.cluster_run.specs.declared.workers.TileWorker.{TileWorker}
+use Rattle.tile_server.proofs.TilesMeetTheirClause.{view_clause, view_progress}
 use Rattle.cluster_run.proofs.Grown.{tile_hears, tile_takes}
 
 -- ---- parts
@@ -41,6 +42,17 @@ offers_so (Ok did) offered shown lacked = shown
 offers_so (Err lack) offered shown lacked = subst (λ (o : Option TilePart). Offers (Err lack) (option_to_list o)) (sym lacked.1) (lacked.2, tt)
 
 -- ---- turns
+
+-- a core of which contracts see the same has shown the same
+shows_still : (scene : Scene) (l : Layout) (t : ℕ) (core later : TileCore) (took : ℕ → List Parcel) (heard : List Grant) (parts : List TilePart) → IsSameView core later
+    → IsShowing scene l t core took heard parts → IsShowing scene l t later took heard parts
+shows_still scene l t core later took heard parts view h = record {
+  clause = view_clause scene l t core later took heard parts false h.clause view;
+  progress = h.progress;
+  stands = view_progress core later view h.progress h.stands;
+  closes = λ ample. h.closes (sym view.short ∙ ample);
+  shown = h.shown;
+}
 
 module _ {R : Type 0} (go_on : TilesGoOnShowing) (scene : Scene) (l : Layout) (t : ℕ) (d : LaneOut Parcel R) where
   abbrev pub Shows : TileWorker R → Type 0
@@ -71,6 +83,15 @@ module _ {R : Type 0} (go_on : TilesGoOnShowing) (scene : Scene) (l : Layout) (t
             (subst (λ g. IsShowing scene l t after.core (λ c. taken_of (slice_index_or after.clients.items c d)) (taken_of g) (parts_of before)) (sym is.done.grants)
             (subst (λ v. IsShowing scene l t after.core (λ c. taken_of (slice_index_or v.items c d)) (taken_of before.grants) (parts_of before)) (sym is.done.clients)
             (subst (λ core. IsShowing scene l t core (λ c. taken_of (slice_index_or before.clients.items c d)) (taken_of before.grants) (parts_of before)) (sym is.done.core_is) h))),
+      )
+  one_turn before after DrawsBlock count h is =
+      let parts : parts_of before ≡ parts_of after =
+      ap (λ (x : LaneIn TilePart R). sent_of x ++ option_to_list before.held) (sym is.done.parts) ∙ ap (λ (o : Option TilePart). sent_of after.parts ++ option_to_list o) (sym is.done.held) in (
+        ap (λ v. length v.items) is.done.clients ∙ count,
+        subst (λ (ps : List TilePart). IsShowing scene l t after.core (λ c. taken_of (slice_index_or after.clients.items c d)) (taken_of after.grants) ps) parts
+            (subst (λ g. IsShowing scene l t after.core (λ c. taken_of (slice_index_or after.clients.items c d)) (taken_of g) (parts_of before)) (sym is.done.grants)
+            (subst (λ v. IsShowing scene l t after.core (λ c. taken_of (slice_index_or v.items c d)) (taken_of before.grants) (parts_of before)) (sym is.done.clients)
+            (shows_still scene l t before.core after.core (λ c. taken_of (slice_index_or before.clients.items c d)) (taken_of before.grants) (parts_of before) is.done.view h))),
       )
 
   pub all_turns : (first last : TileWorker R) (turns : List TileTurn) → HasLanes first → Shows first → AreWorkerTurns IsTileTurn first turns last → Shows last

@@ -14,7 +14,7 @@ use Rattle.sync_manager.specs.Cores as manager_lanes
 use Rattle.sync_manager.specs.Progress as manager
 use Rattle.sync_manager.specs.declared.deed.ManagerDeed.{ManagerDeed}
 use Rattle.tile_server.specs.Clauses.{shown_in}
-use Rattle.tile_server.specs.Cores.{CountsUnheard, IsHeard, IsTileStep}
+use Rattle.tile_server.specs.Cores.{CountsUnheard, IsHeard, IsSameView, IsTileStep}
 use Rattle.tile_server.specs.Cores as tile_lanes
 use Rattle.tile_server.specs.Deeds as tile
 use Rattle.tile_server.specs.declared.deed.TileDeed.{TileDeed}
@@ -77,30 +77,42 @@ module _ {R : Type 0} where
 
 -- ---- a tile
 
--- a step of the core, with the part that it has for the caller, if any, and whether it went in; or the part that waits, and whether it went in
+-- a step of the core, with the part that it has for the caller, if any, and whether it went in; or the part that waits, and whether it went in; or the drawing of a block
+-- that the core took before, of which contracts see nothing
 pub data TileTurn : Type 0 where
   StepsCore : (deed : TileDeed) (offered : Option TilePart) (sent : Bool) → TileTurn
   HandsOver : (part : TilePart) (sent : Bool) → TileTurn
+  DrawsBlock : TileTurn
 
 -- what it takes of a client
 abbrev pub parcels_in : TileTurn → ℕ → List Parcel
 parcels_in (StepsCore deed offered sent) client = option_to_list (tile.taken_of deed client)
 parcels_in (HandsOver part sent) client = []
+parcels_in DrawsBlock client = []
 
 -- and of the manager
 abbrev pub grants_in : TileTurn → List Grant
 grants_in (StepsCore deed offered sent) = option_to_list (tile.granted_of deed)
 grants_in (HandsOver part sent) = []
+grants_in DrawsBlock = []
 
 -- what it sends to the caller
 abbrev pub parts_by : TileTurn → List TilePart
 parts_by (StepsCore deed offered sent) = cond sent (option_to_list offered) []
 parts_by (HandsOver part sent) = cond sent (part ∷ []) []
+parts_by DrawsBlock = []
+
+-- it is a step that is tried, and more than the drawing of a block
+abbrev pub is_tried : TileTurn → Bool
+is_tried (StepsCore deed offered sent) = true
+is_tried (HandsOver part sent) = true
+is_tried DrawsBlock = false
 
 -- what it comes to; where the part went in that is a move, whatever the core may do next
 abbrev pub tile_came : TileTurn → Attempt
 tile_came (StepsCore deed offered sent) = tile_attempt (tile.answer_of deed)
 tile_came (HandsOver part sent) = cond sent (Moved (Some Caller)) (Blocked (Some Caller))
+tile_came DrawsBlock = Blocked None
 
 module _ {R : Type 0} where
   -- The part went into the lane, in which there was room, and none waits; or the lane was found full, which its end counted, and the part waits. Of no part nothing is done.
@@ -130,11 +142,25 @@ module _ {R : Type 0} where
     pub grants : after.grants ≡ before.grants
     pub parts : IsPut (Some part) sent before.parts after.parts after.held
 
+  -- Contracts see the same of the core as before, and of its ends of lanes and its part.
+  pub record IsDrawing (before after : TileWorker R) : Type 0 where
+    pub view : IsSameView before.core after.core
+    pub clients : after.clients ≡ before.clients
+    pub grants : after.grants ≡ before.grants
+    pub parts : after.parts ≡ before.parts
+    pub held : after.held ≡ before.held
+
   abbrev pub IsTileDone : TileWorker R → TileTurn → TileWorker R → Type 0
   IsTileDone before (StepsCore deed offered sent) after = IsCoreTurn before deed offered sent after
   IsTileDone before (HandsOver part sent) after = IsHandOver before part sent after
+  IsTileDone before DrawsBlock after = IsDrawing before after
 
   -- so of a tile of one number
   pub record IsTileTurn (before : TileWorker R) (turn : TileTurn) (after : TileWorker R) : Type 0 where
     pub number : after.number ≡ before.number
     pub done : IsTileDone before turn after
+
+  -- so of a step that is tried
+  pub record IsTileTried (before : TileWorker R) (turn : TileTurn) (after : TileWorker R) : Type 0 where
+    pub turned : IsTileTurn before turn after
+    pub tried : is_tried turn ≡ true

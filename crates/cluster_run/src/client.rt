@@ -1,7 +1,8 @@
 //! A client's worker.
-ghost use Rattle.std.specs.Prelude.{◌≡◌, true, Ok};
+ghost use Rattle.std.specs.Prelude.{◌≡◌, ◌<◌, true, false, length, slice_index_or, Ok};
 ghost use Rattle.rc_base.specs.declared.cluster.ClientMoved.TheVariants as moved;
 ghost use Rattle.worker_crew.specs.declared.worker.Attempt.TheVariants as attempt;
+ghost use Rattle.tile_queues.specs.Ends.{MayBeFull};
 ghost use Rattle.cluster_run.specs.Attempts.{client_attempt};
 ghost use Rattle.cluster_run.specs.Clients.{ClientLeads};
 ghost use Rattle.cluster_run.specs.Steps.{IsClientTurn, client_came};
@@ -49,6 +50,19 @@ impl<R: Wait> ClientWorker<R> {
     }
 }
 
+impl<R> ClientWorker<R> {
+    /// Whether the lane to this tile looks as if there were room. Where it doesn't, as many parcels were sent as the lane holds.
+    fn has_room(&self, tile: u8) -> bool
+        ensures { result ≡ false → (d : _) → tile < length self.now.tiles.items
+            → MayBeFull (slice_index_or self.now.tiles.items tile d) }
+    {
+        match self.tiles.get(tile as usize) {
+            Some(lane) => !lane.is_full(),
+            None => false,
+        }
+    }
+}
+
 impl<R: Wait> Worker for ClientWorker<R> {
     ghost use Rattle.std.specs.Prelude.{◌≡◌, true};
     ghost use Rattle.rc_base.specs.declared.gate.Actor.TheVariants as actor;
@@ -74,5 +88,12 @@ impl<R: Wait> Worker for ClientWorker<R> {
 
     fn step(&mut self) -> Attempt {
         self.advance()
+    }
+
+    fn may_move(&self, on: Option<Peer>) -> bool {
+        match on {
+            Some(Peer::Tile(tile)) => self.has_room(tile),
+            _ => !self.requests.is_full(),
+        }
     }
 }

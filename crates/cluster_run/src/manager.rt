@@ -1,6 +1,9 @@
 //! The manager's worker.
-ghost use Rattle.std.specs.Prelude.{◌≡◌, true, Ok};
+ghost use Rattle.std.specs.Prelude.{◌≡◌, ◌<◌, true, false, not, length, slice_index_or, Ok};
 ghost use Rattle.rc_base.specs.declared.cluster.ManagerMoved.TheVariants as moved;
+ghost use Rattle.sync_manager.specs.Books.{is_wanted};
+ghost use Rattle.sync_manager.specs.Cores.{book_of, clients_of, drained_in, HasToldAll};
+ghost use Rattle.tile_queues.specs.Ends.{MayBeFull};
 ghost use Rattle.worker_crew.specs.declared.worker.Attempt.TheVariants as attempt;
 ghost use Rattle.cluster_run.specs.Attempts.{manager_attempt};
 ghost use Rattle.cluster_run.specs.Managers.{ManagerLeads};
@@ -13,6 +16,7 @@ use rc_base::gate::Actor;
 use rc_base::out_of_memory::OutOfMemory;
 use rc_base::sync::{Grant, Request};
 use std::sync::Wait;
+use sync_manager::ManagerCore;
 use sync_manager::laws::managers_meet_their_clause_over_lanes;
 use tile_queues::{LaneIn, LaneOut};
 use worker_crew::{Attempt, Peer, Worker};
@@ -50,6 +54,41 @@ impl<R: Wait> ManagerWorker<R> {
     }
 }
 
+/// Whether the core takes of the client's lane, where it takes a request.
+fn asks(core: &ManagerCore, client: usize) -> bool
+    ensures receiving { (HasToldAll core.now → ⊥) → client < clients_of core.now
+        → result ≡ is_wanted (book_of core.now) client }
+    ensures draining { HasToldAll core.now → not result ≡ drained_in core.now client }
+{
+    match core.asked().get(client) {
+        Some(asked) => *asked,
+        None => true,
+    }
+}
+
+impl<R> ManagerWorker<R> {
+    /// Whether the lane to this tile looks as if there were room. Where it doesn't, as many grants were sent as the lane holds.
+    fn has_room(&self, tile: u8) -> bool
+        ensures { result ≡ false → (d : _) → tile < length self.now.grants.items
+            → MayBeFull (slice_index_or self.now.grants.items tile d) }
+    {
+        match self.grants.get(tile as usize) {
+            Some(lane) => !lane.is_full(),
+            None => false,
+        }
+    }
+
+    /// Whether a lane that the core takes of looks as if there were a request.
+    fn is_asked(&self) -> bool {
+        for client in 0..self.requests.len() {
+            if !self.requests[client].is_empty() && asks(&self.core, client) {
+                return true;
+            }
+        }
+        false
+    }
+}
+
 impl<R: Wait> Worker for ManagerWorker<R> {
     ghost use Rattle.std.specs.Prelude.{◌≡◌, true};
     ghost use Rattle.rc_base.specs.declared.gate.Actor.TheVariants as actor;
@@ -75,5 +114,12 @@ impl<R: Wait> Worker for ManagerWorker<R> {
 
     fn step(&mut self) -> Attempt {
         self.advance()
+    }
+
+    fn may_move(&self, on: Option<Peer>) -> bool {
+        match on {
+            Some(Peer::Tile(tile)) => self.has_room(tile),
+            _ => self.is_asked(),
+        }
     }
 }

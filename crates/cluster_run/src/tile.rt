@@ -1,12 +1,14 @@
 //! A tile's worker.
-ghost use Rattle.std.specs.Prelude.{◌≡◌, true, false, Ok, None, ◌++◌, [], Some, option_to_list, IfOk, OnErr};
+ghost use Rattle.std.specs.Prelude.{◌≡◌, ◌<◌, ℕ, true, false, Ok, None, ◌++◌, [], Some, option_to_list, IfOk, OnErr};
 ghost use Rattle.rc_base.specs.declared.cluster.TilePart.{TilePart};
 ghost use Rattle.rc_base.specs.declared.cluster.TileMoved.TheVariants as moved;
 ghost use Rattle.tile_server.specs.Clauses.{shown_in};
+ghost use Rattle.tile_server.specs.Cores.{clients_of};
+ghost use Rattle.tile_server.specs.Tasks.{asks_in, listens_in};
 ghost use Rattle.tile_queues.specs.Ends.{sent_of, lane_in};
 ghost use Rattle.worker_crew.specs.declared.worker.Attempt.TheVariants as attempt;
 ghost use Rattle.cluster_run.specs.Attempts.{tile_attempt};
-ghost use Rattle.cluster_run.specs.Steps.{IsPut, IsTileTurn, tile_came};
+ghost use Rattle.cluster_run.specs.Steps.{IsPut, IsTileTried, IsTileTurn, tile_came};
 ghost use Rattle.cluster_run.specs.Tiles.{TileLeads};
 ghost use Rattle.cluster_run.specs.Turns.{IsWorkerTurn, TurnsGoOn};
 
@@ -21,7 +23,8 @@ use rc_base::sync::Grant;
 use std::alloc::Global;
 use std::sync::Wait;
 use tile_queues::{LaneIn, LaneOut};
-use tile_server::laws::tiles_meet_their_clause_over_lanes;
+use tile_server::TileCore;
+use tile_server::laws::{same_views_meet_the_clause, tiles_meet_their_clause_over_lanes};
 use worker_crew::{Attempt, Peer, Worker};
 
 /// What an answer of the core comes to. Want of memory is a move: the core is short from then on, and goes on, and the caller learns of it.
@@ -84,7 +87,7 @@ impl<R: Wait> TileWorker<R> {
     /// Tries one step of the core over the worker's own lanes, and sends the part that it shows. While a part waits from before, a step sends it and does
     /// nothing else.
     fn advance(&mut self) -> Attempt
-        ensures steps { IsWorkerTurn IsTileTurn tile_came self.old result self.new }
+        ensures steps { IsWorkerTurn IsTileTried tile_came self.old result self.new }
         ensures leads { TileLeads self.old self.new }
         ensures turns { TurnsGoOn IsTileTurn self.old self.new }
         ensures ended { result ≡ attempt.Ended → self.new.ended ≡ true }
@@ -106,10 +109,51 @@ impl<R: Wait> TileWorker<R> {
     }
 }
 
+/// Whether the core takes of the client's lane.
+fn asks(core: &TileCore, client: usize) -> bool
+    ensures { client < clients_of core.now → result ≡ asks_in core.now client }
+{
+    match core.asked().get(client) {
+        Some(asked) => *asked,
+        None => true,
+    }
+}
+
+impl<R> TileWorker<R> {
+    /// Whether a lane that the core takes of looks as if there were a parcel.
+    fn is_sent(&self) -> bool
+        ensures { result ≡ true → (client : ℕ) × (client < clients_of self.now.core)
+            × (asks_in self.now.core client ≡ true) }
+    {
+        for client in 0..self.clients.len() {
+            if !self.clients[client].is_empty() && asks(&self.core, client) {
+                return true;
+            }
+        }
+        false
+    }
+
+    /// Whether the core takes grants, and their lane looks as if there were one.
+    fn is_granted(&self) -> bool
+        ensures { result ≡ true → listens_in self.now.core ≡ true }
+    {
+        self.core.listens() && !self.grants.is_empty()
+    }
+
+    /// Draws a block that the core took before, if one waits. Whether one did.
+    fn draw_one(&mut self) -> bool
+        ensures leads { TileLeads self.old self.new }
+        ensures turns { TurnsGoOn IsTileTurn self.old self.new }
+    {
+        same_views_meet_the_clause();
+        self.core.draw_one()
+    }
+}
+
 impl<R: Wait> Worker for TileWorker<R> {
     ghost use Rattle.std.specs.Prelude.{◌≡◌, true};
     ghost use Rattle.rc_base.specs.declared.gate.Actor.TheVariants as actor;
-    ghost use Rattle.cluster_run.specs.Steps.{IsTileTurn, tile_came};
+    ghost use Rattle.cluster_run.specs.Steps.{IsTileTried, IsTileTurn, tile_came};
     ghost use Rattle.cluster_run.specs.Tiles.{TileLeads};
     ghost use Rattle.cluster_run.specs.Turns.{IsWorkerTurn, TurnsGoOn};
 
@@ -119,7 +163,7 @@ impl<R: Wait> Worker for TileWorker<R> {
 
     ghost who = { λ w. actor.Tile w.number };
 
-    ghost steps = { IsWorkerTurn IsTileTurn tile_came };
+    ghost steps = { IsWorkerTurn IsTileTried tile_came };
 
     ghost stays = { λ a. ((λ scene l tile took heard shown h. h), (λ first h. h)) };
 
@@ -131,5 +175,16 @@ impl<R: Wait> Worker for TileWorker<R> {
 
     fn step(&mut self) -> Attempt {
         self.advance()
+    }
+
+    fn spare(&mut self) -> bool {
+        self.draw_one()
+    }
+
+    fn may_move(&self, _on: Option<Peer>) -> bool {
+        if self.held.is_some() {
+            return !self.parts.is_full();
+        }
+        self.is_granted() || self.is_sent()
     }
 }

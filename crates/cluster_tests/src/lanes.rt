@@ -52,17 +52,19 @@ fn a_closed_lane_is_an_inlet_that_gives_what_is_left(rt: HostRuntime) {
     assert!(rt; rest.refusals() == 2);
 }
 
-// Whether a lane takes so many numbers and no more, and gives them in order and no more.
+// Whether an empty lane takes so many numbers and no more, and gives them in order and no more. It looks full, and empty, exactly where it is.
 fn holds<R: Wait>(sender: &mut LaneIn<u32, R>, receiver: &mut LaneOut<u32, R>, depth: u32) -> bool {
     let mut right = true;
     for i in 0..depth {
+        right &= !sender.is_full() && receiver.is_empty() == (i == 0);
         right &= sender.push(i) == Ok(());
     }
-    right &= sender.push(depth) == Err(depth);
+    right &= sender.is_full() && sender.push(depth) == Err(depth);
     for i in 0..depth {
+        right &= !receiver.is_empty() && sender.is_full() == (i == 0);
         right &= receiver.pop() == Some(i);
     }
-    right && receiver.pop() == None
+    right && receiver.is_empty() && receiver.pop() == None
 }
 
 // Whether a lane of this depth does so twice.

@@ -4,6 +4,7 @@ ghost use Rattle.rc_base.specs.Drawing.Cover.{is_inside};
 ghost use Rattle.rc_base.specs.Drawing.Fragment.{fragment_of};
 ghost use Rattle.rc_base.specs.Drawing.PixelStep.{fragment_color};
 ghost use Rattle.raster.specs.Colors.{AreFlat};
+ghost use Rattle.raster.specs.EdgeRamps.{IsEdgeRamp};
 ghost use Rattle.raster.specs.Weighed.{IsWeighed};
 ghost use Rattle.fragment_ops.specs.DepthTests.{pixel};
 ghost use Rattle.textures.specs.Images.{HasTexelIfAny};
@@ -17,7 +18,7 @@ use crate::setup::Setup;
 use crate::shading::Shading;
 use crate::short_rows::laid;
 use fragment_ops::{shade_pixel, texture_color};
-use raster::{Weights, depth_at, weighed_fragment, weights_at, weights_inside};
+use raster::{EdgeRamp, Weights, depth_at, edges_from, weighed_fragment, weights_at};
 use rc_base::command::Rgba;
 use rc_base::state::State;
 use rc_base::triangle::WindowTriangle;
@@ -176,6 +177,7 @@ fn put_tried(
     setup: &Setup<'_>,
     shading: Shading,
     corners: &WindowTriangle,
+    edges: &EdgeRamp,
     x: u16,
     row: u16,
     stored_color: &mut Rgba,
@@ -183,18 +185,39 @@ fn put_tried(
 )
     requires shading { IsShadingOf setup.now shading }
     requires corners { corners.now.v ≡ setup.now.tri.now.v }
+    requires edges { IsEdgeRamp corners.now.v (pos (setup.now.extent.left + x)) (pos row) edges.now }
     ensures { pixel stored_color.new stored_depth.new
         ≡ tried_by setup.now (pos (setup.now.extent.left + x)) (pos row)
         (pixel stored_color.old stored_depth.old) }
 {
     let column = column_of(setup.extent, x);
     let line = row_of(row);
-    match weights_inside(corners, column, line) {
-        Some(w) => {
-            put_weighed(setup, shading, &w, column, line, stored_color, stored_depth);
-        }
-        None => {}
+    if !edges.covers(corners, column, line) {
+        return;
     }
+    let w = edges.weights(corners, column, line);
+    put_weighed(setup, shading, &w, column, line, stored_color, stored_depth);
+}
+
+// The triangle's edges at a column of the grid and a row of the window.
+#[inline(always)]
+fn edges_at(corners: &WindowTriangle, extent: Extent, x: u16, row: u16) -> EdgeRamp
+    ensures { IsEdgeRamp corners.now.v (pos (extent.left + x)) (pos row) result }
+{
+    let column = column_of(extent, x);
+    let line = row_of(row);
+    edges_from(corners, column, line)
+}
+
+// The same at the next column.
+#[inline(always)]
+fn step_edges(edges: &mut EdgeRamp, corners: &WindowTriangle, extent: Extent, x: u16, row: u16)
+    requires { IsEdgeRamp corners.now.v (pos (extent.left + x)) (pos row) edges.old }
+    ensures { IsEdgeRamp corners.now.v (pos (extent.left + (x + 1))) (pos row) edges.new }
+{
+    let column = column_of(extent, x);
+    let line = row_of(row);
+    edges.advance(corners, column, line);
 }
 
 /// Draws columns `from` to below `to` of the window's row, pixel by pixel.
@@ -246,16 +269,19 @@ pub(crate) fn try_run(
     requires depths { length depths.old ≡ length colors.old }
     ensures { IsWindowRowTried setup.now row from to colors.old depths.old colors.new depths.new }
 {
+    let mut edges = edges_at(corners, setup.extent, from, row);
     for x in from..to {
         let place = x as usize;
         put_tried(
             setup,
             shading,
             corners,
+            &edges,
             x,
             row,
             &mut colors[place],
             &mut depths[place],
         );
+        step_edges(&mut edges, corners, setup.extent, x, row);
     }
 }

@@ -28,6 +28,8 @@ mod parcels;
 #[cfg(test)]
 mod scenes;
 #[cfg(test)]
+mod stored;
+#[cfg(test)]
 mod switches;
 #[cfg(test)]
 mod texts;

@@ -2,12 +2,11 @@
 use Rattle.std.specs.Prelude.{◌≡◌, ℕ, length, None}
 use Rattle.std.specs.Option.{option_map}
 use Rattle.rc_base.specs.Contexts.Context.{ClientContext}
-use Rattle.rc_base.specs.Contexts.Issue.{issued, effect_of, refused}
+use Rattle.rc_base.specs.Contexts.Issue.{issued, effect_of}
 use Rattle.rc_base.specs.declared.command.Command.{Command}
 use Rattle.rc_base.specs.declared.state.Block.{Block}
 use Rattle.rc_base.specs.declared.state.Effect.{Effect}
 use Rattle.rc_base.specs.declared.state.Effect.TheVariants as effect
-use Rattle.rc_base.specs.declared.state.Fault.{Fault}
 use Rattle.gl_context.specs.declared.counting.CountingContext.{CountingContext}
 use Rattle.gl_context.specs.declared.counting.EffectKind.{EffectKind}
 use Rattle.gl_context.specs.declared.counting.EffectKind.TheVariants as kind
@@ -32,7 +31,3 @@ HasKind before command k = (x : ClientContext) → before ≡ counted x → k �
 -- of each context that the first one counts, the second one counts what the command at its place leaves
 abbrev pub CountsIssued : CountingContext → ℕ → Command → CountingContext → Type 0
 CountsIssued before place command after = (x : ClientContext) → before ≡ counted x → after ≡ counted (issued x place command)
-
--- the same with the fault of a command that was refused
-abbrev pub refused_outside : CountingContext → ℕ → Fault → CountingContext
-refused_outside x place fault = record x { outside = refused x.outside place fault }

@@ -1,6 +1,5 @@
 -- How the private images of a client and their edit numbers go on along its stream.
 use Rattle.std.specs.Prelude.{◌≡◌, ℕ, ◌+◌, ◌^◌, ◌<◌, ◌≤◌}
-use Rattle.rc_base.specs.Lists.{with_name}
 use Rattle.rc_base.specs.Contexts.Context.{ClientContext, private_count, private_image, edit_of}
 use Rattle.rc_base.specs.Contexts.Issue.{context_after}
 use Rattle.rc_base.specs.declared.scene.Scene.{Scene}
@@ -9,9 +8,11 @@ use Rattle.rc_base.specs.declared.scene.Scene.{Scene}
 abbrev pub HasRoomForEdits : ClientContext → Type 0
 HasRoomForEdits x = (name : ℕ) → 0 < name → name ≤ private_count → edit_of x name + 1 < 2 ^ 32
 
--- the texture of a name was written once more
-abbrev pub with_edit : ClientContext → ℕ → ClientContext
-with_edit x name = record x { edits = with_name x.edits name (edit_of x name + 1) }
+-- the private texture of this name can be written once more
+pub record CanWrite (x : ClientContext) (name : ℕ) : Type 0 where
+  pub low : 0 < name
+  pub high : name ≤ private_count
+  pub room : edit_of x name + 1 < 2 ^ 32
 
 abbrev pub EditsNeverFall : Type 0
 EditsNeverFall = (scene : Scene) (client n more name : ℕ) → edit_of (context_after scene client n) name ≤ edit_of (context_after scene client (n + more)) name

@@ -8,3 +8,4 @@ pub mod Elements
 pub mod Refused
 pub mod Blocks
 pub mod Quiet
+pub mod Changes

@@ -1,20 +1,11 @@
 -- The commands of blocks that do nothing beyond their client's context.
 use Rattle.std.specs.Prelude.{Bool, true, false, nat_lt, is_none, is_some, ◌&&◌}
 use Rattle.std.specs.Option.{option_map_or}
-use Rattle.rc_base.specs.Contexts.Context.{ClientContext}
-use Rattle.rc_base.specs.Contexts.Faults.{fault_of, vertex_most}
+use Rattle.rc_base.specs.Contexts.Faults.{vertex_most}
 use Rattle.rc_base.specs.Formats.Commands.{has_codes}
 use Rattle.rc_base.specs.declared.command.Command.{Command}
 use Rattle.rc_base.specs.declared.command.Command.TheVariants as cmd
 use Rattle.gl_context.specs.declared.counting.CountingContext.{CountingContext}
-
--- a Begin or a Vertex that breaks no rule, a Color or a TexCoord
-abbrev pub is_quiet : ClientContext → Command → Bool
-is_quiet x (cmd.Begin kind) = is_none (fault_of x (cmd.Begin kind))
-is_quiet x (cmd.Vertex p) = is_none (fault_of x (cmd.Vertex p))
-is_quiet x (cmd.Color c) = true
-is_quiet x (cmd.TexCoord s t) = true
-is_quiet x other = false
 
 -- where a block is open: a Vertex that it has room for, a Color or a TexCoord
 abbrev pub is_quiet_inside : CountingContext → Command → Bool

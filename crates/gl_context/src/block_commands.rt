@@ -1,13 +1,12 @@
 //! The commands of blocks, issued without a `Command` that holds them.
-ghost use Rattle.std.specs.Prelude.{◌≡◌, ℕ, is_none, IsTrue, IsFalse, IfNone, IfSome, IfOk, OnOk, OnErr};
-ghost use Rattle.gl_context.specs.Quiet.{is_quiet};
+ghost use Rattle.std.specs.Prelude.{◌≡◌, ℕ, is_none, IsTrue, IsFalse, IfNone, IfSome, OnOk, OnErr};
 ghost use Rattle.rc_base.specs.Contexts.Faults.{fault_of};
 ghost use Rattle.rc_base.specs.Contexts.Issue.{issued, effect_of};
 ghost use Rattle.rc_base.specs.declared.command.Command.TheVariants as cmd;
 ghost use Rattle.rc_base.specs.declared.state.Effect.TheVariants as eff;
 
 use crate::context::{Context, block_mode};
-use rc_base::command::{Command, Rgba};
+use rc_base::command::Rgba;
 use rc_base::out_of_memory::OutOfMemory;
 use rc_base::state::{Block, Vertices};
 
@@ -72,38 +71,6 @@ impl Context {
         match self.block.take() {
             Some(block) => Some(block.into_block()),
             None => None,
-        }
-    }
-
-    /// Issues a command, as `issue` does at any place, where it is a Vertex that the open block has room for, a Color, a TexCoord, or a Begin that breaks
-    /// no rule; otherwise, and where memory is wanting, nothing is done. Whether it was issued.
-    #[inline(always)]
-    #[tactic(auto, unfolding(rc_base::specs::Contexts::Issue::issued))]
-    pub fn issue_quiet(&mut self, command: &Command) -> Result<bool, OutOfMemory>
-        ensures exact { IfOk result (λ r. r ≡ is_quiet self.old command.now) }
-        ensures issued { IfOk result (λ r. IsTrue r → (place : ℕ)
-            → self.new ≡ issued self.old place command.now) }
-        ensures left { IfOk result (λ r. IsFalse r → self.new ≡ self.old) }
-        ensures err { OnErr result (self.new ≡ self.old) }
-    {
-        match command {
-            Command::Vertex { pos } => {
-                if self.vertex_fault(*pos).is_some() {
-                    return Ok(false);
-                }
-                self.add_vertex(*pos)?;
-                Ok(true)
-            }
-            Command::Color(color) => {
-                self.set_color(*color);
-                Ok(true)
-            }
-            Command::TexCoord { s, t } => {
-                self.set_coordinate(s, t);
-                Ok(true)
-            }
-            Command::Begin { mode } => Ok(self.begin(*mode)),
-            _ => Ok(false),
         }
     }
 

@@ -2,6 +2,7 @@
 ghost use Rattle.std.specs.Prelude.{◌≡◌, ◌≢◌, ◌+◌, ◌<◌, ◌≤◌, ◌^◌, ◌*◌, true, length, IfOk, OnOk, OnErr, None, []};
 ghost use Rattle.std.specs.Option.{option_map};
 ghost use Rattle.rc_base.specs.declared.state.Block.{Block as BlockOf};
+ghost use Rattle.rc_base.specs.Lists.{with_name};
 ghost use Rattle.rc_base.specs.Contexts.Context.{default_context, top, below, private_image, edit_of, shared_sides, private_count};
 ghost use Rattle.rc_base.specs.Contexts.Faults.{is_in_place, has_values, has_image, part_fits, has_room, has_below, fault_of};
 ghost use Rattle.rc_base.specs.Contexts.Issue.{carried_out, done_by, refused, issued, effect_of, with_top, with_image, block_mode};
@@ -9,7 +10,8 @@ ghost use Rattle.rc_base.specs.Formats.Commands.{has_codes};
 ghost use Rattle.rc_base.specs.declared.command.Command.TheVariants as cmd;
 ghost use Rattle.textures.specs.Images.{LiesInside, picture};
 ghost use Rattle.gl_context.specs.Arguments.{HasTexels, product_asked};
-ghost use Rattle.gl_context.specs.Edits.{HasRoomForEdits, with_edit};
+ghost use Rattle.gl_context.specs.Changes.{BecomesOrStays, CanCarryOut};
+ghost use Rattle.gl_context.specs.Edits.{CanWrite, HasRoomForEdits};
 
 use crate::open_block::OpenBlock;
 use crate::rules;
@@ -264,8 +266,7 @@ impl Context {
     }
 
     fn push_matrix(&mut self) -> Result<(), OutOfMemory>
-        ensures ok { OnOk result (self.new ≡ carried_out self.old cmd.PushMatrix) }
-        ensures err { OnErr result (self.new ≡ self.old) }
+        ensures { BecomesOrStays result self.old self.new (carried_out self.old cmd.PushMatrix) }
     {
         let top = self.top();
         if self.matrix_mode == 0 {
@@ -289,8 +290,7 @@ impl Context {
 
     #[inline(always)]
     pub(crate) fn add_vertex(&mut self, pos: [i32; 4]) -> Result<(), OutOfMemory>
-        ensures ok { OnOk result (self.new ≡ carried_out self.old (cmd.Vertex pos)) }
-        ensures err { OnErr result (self.new ≡ self.old) }
+        ensures { BecomesOrStays result self.old self.new (carried_out self.old (cmd.Vertex pos)) }
     {
         let vertex = Vertex {
             pos,
@@ -321,21 +321,19 @@ impl Context {
 
     #[tactic(auto, using(textures::proofs::Names::at_name_below, textures::proofs::Names::with_name_below))]
     fn count_edit(&mut self, name: u8)
-        requires low { 0 < name }
-        requires high { name ≤ private_count }
-        requires room { edit_of self.old name + 1 < 2 ^ 32 }
-        ensures { self.new ≡ with_edit self.old name }
+        requires { CanWrite self.old name }
+        ensures { self.new ≡ record self.old {
+          edits = with_name self.old.edits name (edit_of self.old name + 1);
+        } }
     {
         self.edits[usize::from(name) - 1] += 1;
     }
 
     fn set_image(&mut self, name: u8, w: u16, h: u16, texels: &Texels) -> Result<(), OutOfMemory>
-        requires low { 0 < name }
-        requires high { name ≤ private_count }
+        requires name { CanWrite self.old name }
         requires whole { length texels.now ≡ 4 * (w * h) }
-        requires room { edit_of self.old name + 1 < 2 ^ 32 }
-        ensures ok { OnOk result (self.new ≡ with_image self.old name (picture w h texels.now)) }
-        ensures err { OnErr result (self.new ≡ self.old) }
+        ensures { BecomesOrStays result self.old self.new
+            (with_image self.old name (picture w h texels.now)) }
     {
         self.images.set(name, w, h, texels)?;
         self.count_edit(name);
@@ -343,11 +341,9 @@ impl Context {
     }
 
     fn set_part(&mut self, part: &Part)
-        requires low { 0 < part.now.name }
-        requires high { part.now.name ≤ private_count }
+        requires name { CanWrite self.old part.now.name }
         requires whole { length part.now.texels ≡ 4 * (part.now.w * part.now.h) }
         requires image { LiesInside part.now (private_image self.old part.now.name) }
-        requires room { edit_of self.old part.now.name + 1 < 2 ^ 32 }
         ensures { self.new ≡ carried_out self.old (cmd.TexPart part.now) }
     {
         let Part {
@@ -377,13 +373,9 @@ impl Context {
 
     // Sets what the command sets.
     fn set(&mut self, command: &Command, product: Option<Mat4>) -> Result<(), OutOfMemory>
-        requires passes { fault_of self.old command.now ≡ None }
-        requires product { product ≡ product_asked self.old command.now }
+        requires can { CanCarryOut self.old command.now product }
         requires other { command.now ≢ cmd.End }
-        requires texels { HasTexels command.now }
-        requires room { HasRoomForEdits self.old }
-        ensures ok { OnOk result (self.new ≡ carried_out self.old command.now) }
-        ensures err { OnErr result (self.new ≡ self.old) }
+        ensures { BecomesOrStays result self.old self.new (carried_out self.old command.now) }
     {
         match command {
             Command::Begin { mode } => {
@@ -431,13 +423,10 @@ impl Context {
 
     // Carries out a command that breaks no rule.
     fn carry_out(&mut self, command: &Command, product: Option<Mat4>) -> Result<Effect, OutOfMemory>
-        requires passes { fault_of self.old command.now ≡ None }
-        requires product { product ≡ product_asked self.old command.now }
-        requires texels { HasTexels command.now }
-        requires room { HasRoomForEdits self.old }
+        requires { CanCarryOut self.old command.now product }
         ensures effect { IfOk result (λ e. e ≡ done_by self.old command.now) }
-        ensures ok { OnOk result (self.new ≡ carried_out self.old command.now) }
-        ensures err { OnErr result (self.new ≡ self.old) }
+        ensures context { BecomesOrStays result self.old self.new
+            (carried_out self.old command.now) }
     {
         match command {
             Command::End => Ok(match self.block.take() {
@@ -462,8 +451,7 @@ impl Context {
     // Notes the fault of a refused command.
     #[inline(never)]
     pub(crate) fn refuse(&mut self, place: u32, fault: Fault) -> Result<(), OutOfMemory>
-        ensures ok { OnOk result (self.new ≡ refused self.old place fault) }
-        ensures err { OnErr result (self.new ≡ self.old) }
+        ensures { BecomesOrStays result self.old self.new (refused self.old place fault) }
     {
         self.faults.push((place, fault))?;
         Ok(())
@@ -485,8 +473,8 @@ impl Context {
     #[tactic(auto, unfolding(rc_base::specs::Contexts::Issue::issued, rc_base::specs::Contexts::Issue::effect_of))]
     fn issue_vertex(&mut self, place: u32, pos: [i32; 4]) -> Result<Effect, OutOfMemory>
         ensures effect { IfOk result (λ e. e ≡ effect_of self.old (cmd.Vertex pos)) }
-        ensures ok { OnOk result (self.new ≡ issued self.old place (cmd.Vertex pos)) }
-        ensures err { OnErr result (self.new ≡ self.old) }
+        ensures context { BecomesOrStays result self.old self.new
+            (issued self.old place (cmd.Vertex pos)) }
     {
         match self.vertex_fault(pos) {
             Some(fault) => {
@@ -507,8 +495,8 @@ impl Context {
         requires texels { HasTexels command.now }
         requires room { HasRoomForEdits self.old }
         ensures effect { IfOk result (λ e. e ≡ effect_of self.old command.now) }
-        ensures ok { OnOk result (self.new ≡ issued self.old place command.now) }
-        ensures err { OnErr result (self.new ≡ self.old) }
+        ensures context { BecomesOrStays result self.old self.new
+            (issued self.old place command.now) }
     {
         let product = self.product(command);
         match self.first_fault(command, product) {

@@ -3,8 +3,10 @@ ghost use Rattle.std.specs.Prelude.{◌≡◌, ℕ, IsTrue, IsFalse, IfOk, OnOk,
 ghost use Rattle.gl_context.specs.Quiet.{is_quiet_inside, is_quiet_outside};
 ghost use Rattle.rc_base.specs.Contexts.Context.{default_context};
 ghost use Rattle.gl_context.specs.Arguments.{HasTexels};
+ghost use Rattle.gl_context.specs.Changes.{BecomesOrStays};
+ghost use Rattle.rc_base.specs.Contexts.Issue.{refused};
 ghost use Rattle.gl_context.specs.Edits.{HasRoomForEdits};
-ghost use Rattle.gl_context.specs.Counted.{counted, kind_of, HasKind, CountsIssued, refused_outside};
+ghost use Rattle.gl_context.specs.Counted.{counted, kind_of, HasKind, CountsIssued};
 ghost use Rattle.gl_context.specs.declared.counting.EffectKind.TheVariants as kind;
 
 use crate::context::Context;
@@ -66,8 +68,8 @@ impl CountingContext {
 
     fn refuse(&mut self, place: u32, fault: Fault) -> Result<EffectKind, OutOfMemory>
         ensures kind { IfOk result (λ k. k ≡ kind.Refused) }
-        ensures ok { OnOk result (self.new ≡ refused_outside self.old place fault) }
-        ensures err { OnErr result (self.new ≡ self.old) }
+        ensures context { BecomesOrStays result self.old self.new
+            (record self.old { outside = refused self.old.outside place fault }) }
     {
         self.outside.refuse(place, fault)?;
         Ok(EffectKind::Refused)

@@ -46,10 +46,6 @@ pub record AreOrdered (lists : List (List Change)) : Type 0 where
 abbrev pub IsJoined : List ℕ → (ℕ → ℕ) → List ℕ → Type 0
 IsJoined before other after = (client : ℕ) → slice_index after client ≡ max (slice_index before client) (other client)
 
--- no client has changes
-abbrev pub HaveNoChanges : Timelines → Type 0
-HaveNoChanges t = (client : ℕ) → slice_index_or t.clients.items client [] ≡ []
-
 -- the client's places of changes don't fall, up to this one
 abbrev pub ChangesGoTo : Timelines → ℕ → ℕ → Type 0
 ChangesGoTo t client end = AreChanges 0 (slice_index_or t.clients.items client []) end
@@ -58,15 +54,9 @@ ChangesGoTo t client end = AreChanges 0 (slice_index_or t.clients.items client [
 abbrev pub KeepsChanges : Timelines → Timelines → ℕ → Type 0
 KeepsChanges before after client = slice_index_or after.clients.items client [] ≡ slice_index_or before.clients.items client []
 
-abbrev pub OthersKeepChanges : Timelines → ℕ → Timelines → Type 0
-OthersKeepChanges before client after = (c : ℕ) → c ≢ client → KeepsChanges before after c
-
 -- from these places on, the names of the clients have these before them too
 abbrev pub IsRaised : Timelines → (ℕ → Option ℕ) → List ℕ → Timelines → Name → ℕ → Type 0
 IsRaised before from gate after n d = clock_of after.clients.items n d ≡ raised (clock_of before.clients.items) from (slice_index gate) n d
-
-abbrev pub AllRaised : Timelines → (ℕ → Option ℕ) → List ℕ → Timelines → Type 0
-AllRaised before from gate after = (n : Name) (d : ℕ) → IsRaised before from gate after n d
 
 -- ---- while a journal is read
 
@@ -79,10 +69,6 @@ pub record IsLeft (syncs : SyncLists) (ms : List PlacedEntry) (name : ℕ) (s : 
 
 abbrev pub no_semaphore : Semaphore
 no_semaphore = record { left = 0; givers = []; next = 0 }
-
--- whose unit is taken, where none of the first ones is left
-abbrev pub giver_next : Semaphore → Option Name
-giver_next s = cond (nat_lt 0 s.left) None (slice_get s.givers s.next)
 
 -- which unit is taken after that
 abbrev pub next_after : Semaphore → ℕ
@@ -125,27 +111,3 @@ abbrev pub places_in : List (Option ℕ) → ℕ → Option ℕ
 places_in at c = slice_index_or at c None
 
 -- ---- the members of an entry, of eight clients
-
--- the places of their operations in the entry, by how many each client has used
-abbrev pub ArePlaces : SyncLists → Entry → List ℕ → List (Option ℕ) → Type 0
-ArePlaces syncs entry used at = (c : ℕ) → c < 8 → places_in at c ≡ place_by syncs entry c (slice_index used c)
-
--- the gate of names at these places
-abbrev pub IsGateOf : Timelines → List (Option ℕ) → List ℕ → Type 0
-IsGateOf t at gate = IsGate (clock_of t.clients.items) (places_in at) (slice_index gate)
-
--- the changes of a member go no further than behind its operation
-abbrev pub ChangesGoToOperations : Timelines → List (Option ℕ) → Type 0
-ChangesGoToOperations t at = (c p : ℕ) → places_in at c ≡ Some p → ChangesGoTo t c (p + 1)
-
--- the same of the members among the eight
-abbrev pub MembersGoToOperations : Timelines → List (Option ℕ) → Type 0
-MembersGoToOperations t at = (c p : ℕ) → c < 8 → places_in at c ≡ Some p → ChangesGoTo t c (p + 1)
-
--- who is no member has the changes that it had
-abbrev pub NoMemberChanges : Timelines → List (Option ℕ) → Timelines → Type 0
-NoMemberChanges before at after = (c : ℕ) → c < 8 → places_in at c ≡ None → KeepsChanges before after c
-
--- from behind the members' operations on, their names have these before them too
-abbrev pub MembersRaised : Timelines → List (Option ℕ) → List ℕ → Timelines → Type 0
-MembersRaised before at gate after = (n : Name) (d : ℕ) → n.client < 8 → IsRaised before (behind (places_in at)) gate after n d

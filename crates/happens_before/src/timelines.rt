@@ -1,7 +1,8 @@
 //! Vector clocks, kept as each client's changes.
-ghost use Rattle.std.specs.Prelude.{◌≡◌, ◌+◌, ◌<◌, ◌^◌, ℕ, length, slice_index, slice_index_or, [], IfOk, OnOk, OnErr};
+ghost use Rattle.std.specs.Prelude.{◌≡◌, ◌≢◌, ◌+◌, ◌<◌, ◌^◌, ℕ, length, slice_index, slice_index_or, [], IfOk, OnOk, OnErr};
+ghost use Rattle.rc_base.specs.declared.sync.Name.{Name as AnyName};
 ghost use Rattle.happens_before.specs.Clocks.{only, up_to};
-ghost use Rattle.happens_before.specs.Timelines.{AllRaised, AreChanges, AreOrdered, AreTimelines, ChangesGoTo, HaveNoChanges, IsJoined, OthersKeepChanges, before_at, clock_of};
+ghost use Rattle.happens_before.specs.Timelines.{IsRaised, KeepsChanges, AreChanges, AreOrdered, AreTimelines, ChangesGoTo, IsJoined, before_at, clock_of};
 
 use rc_base::items::Items;
 use rc_base::out_of_memory::OutOfMemory;
@@ -46,7 +47,8 @@ impl Timelines {
     /// Nothing is before any name but the earlier ones of its client.
     pub fn new(alloc: Global) -> Result<Timelines, OutOfMemory>
         ensures timelines { IfOk result (λ t. AreTimelines t.clients.items (λ c. 0)) }
-        ensures empty { IfOk result (λ t. HaveNoChanges t) }
+        ensures empty { IfOk result
+            (λ t. (client : ℕ) → slice_index_or t.clients.items client [] ≡ []) }
     {
         let mut clients = Vec::new(alloc);
         for _ in 0..8usize {
@@ -83,9 +85,11 @@ impl Timelines {
         requires timelines { AreOrdered self.old.clients.items }
         requires client { client < 8 }
         requires late { ChangesGoTo self.old client from }
-        ensures clock { OnOk result (AllRaised self.old (only client from) gate.now self.new) }
+        ensures clock { OnOk result ((n : AnyName) (d : ℕ)
+            → IsRaised self.old (only client from) gate.now self.new n d) }
         ensures changes { OnOk result (ChangesGoTo self.new client from) }
-        ensures others { OnOk result (OthersKeepChanges self.old client self.new) }
+        ensures others { OnOk result ((c : ℕ) → c ≢ client
+            → KeepsChanges self.old self.new c) }
         ensures count { OnOk result (length self.new.clients.items ≡ 8) }
         ensures err { OnErr result (self.new.clients.items ≡ self.old.clients.items) }
     {

@@ -1,5 +1,6 @@
 //! A journal read entry by entry: what each entry puts before what.
-ghost use Rattle.std.specs.Prelude.{◌≡◌, ◌+◌, ◌<◌, ◌≤◌, ◌^◌, ℕ, length, Some, None, List, IfSome, IfOk, OnOk};
+ghost use Rattle.std.specs.Prelude.{◌≡◌, slice_index, ◌+◌, ◌<◌, ◌≤◌, ◌^◌, ℕ, length, Some, None, List, IfSome, IfOk, OnOk};
+ghost use Rattle.rc_base.specs.declared.sync.Name.{Name as AnyName};
 ghost use Rattle.rc_base.specs.Lists.{AreRising};
 ghost use Rattle.rc_base.specs.Orders.Journal.{IsLegal};
 ghost use Rattle.rc_base.specs.Orders.Sync.{IsWellFormed, client_count, ops_of, places_of};
@@ -9,7 +10,7 @@ ghost use Rattle.order_model.specs.Checked.{place_by};
 ghost use Rattle.order_model.specs.Counted.{place_at};
 ghost use Rattle.happens_before.specs.Clocks.{IsExact};
 ghost use Rattle.happens_before.specs.Walks.{HasRead, IsAlong, IsNext, KeepsNext};
-ghost use Rattle.happens_before.specs.Timelines.{AreOrdered, ArePlaces, ChangesGoToOperations, IsGateOf, IsUnitEntry, MembersGoToOperations, MembersRaised, NoMemberChanges, clock_of, places_in};
+ghost use Rattle.happens_before.specs.Timelines.{ChangesGoTo, IsGate, IsRaised, KeepsChanges, behind, AreOrdered, IsUnitEntry, clock_of, places_in};
 
 use crate::semaphores::Semaphore;
 use crate::timelines::Timelines;
@@ -69,7 +70,8 @@ struct Walk {
 fn places(syncs: &SyncLists, entry: Entry, used: &[usize; 8]) -> [Option<u32>; 8]
     requires { IsWellFormed syncs.now }
     ensures slots { length result ≡ 8 }
-    ensures places { ArePlaces syncs.now entry used.now result }
+    ensures places { (c : ℕ) → c < 8
+        → places_in result c ≡ place_by syncs.now entry c (slice_index used.now c) }
     ensures small { (c p : ℕ) → places_in result c ≡ Some p → p + 1 < 2 ^ 32 }
 {
     let mut places = [None; 8];
@@ -82,7 +84,8 @@ fn places(syncs: &SyncLists, entry: Entry, used: &[usize; 8]) -> [Option<u32>; 8
 /// What is before the members' operations, and these names.
 fn gate_of(timelines: &Timelines, at: &[Option<u32>; 8]) -> [u32; 8]
     requires timelines { AreOrdered timelines.now.clients.items }
-    ensures { IsGateOf timelines.now at.now result }
+    ensures { IsGate (clock_of timelines.now.clients.items) (places_in at.now)
+        (slice_index result) }
 {
     let mut gate = [0; 8];
     for client in 0..8u8 {
@@ -107,11 +110,15 @@ fn raise_members(
 ) -> Result<(), OutOfMemory>
     requires timelines { AreOrdered timelines.old.clients.items }
     requires small { (c p : ℕ) → places_in at.now c ≡ Some p → p + 1 < 2 ^ 32 }
-    requires late { ChangesGoToOperations timelines.old at.now }
+    requires late { (c p : ℕ) → places_in at.now c ≡ Some p
+        → ChangesGoTo timelines.old c (p + 1) }
     ensures clients { OnOk result (length timelines.new.clients.items ≡ 8) }
-    ensures moved { OnOk result (MembersGoToOperations timelines.new at.now) }
-    ensures others { OnOk result (NoMemberChanges timelines.old at.now timelines.new) }
-    ensures clock { OnOk result (MembersRaised timelines.old at.now gate.now timelines.new) }
+    ensures moved { OnOk result ((c p : ℕ) → c < 8 → places_in at.now c ≡ Some p
+        → ChangesGoTo timelines.new c (p + 1)) }
+    ensures others { OnOk result ((c : ℕ) → c < 8 → places_in at.now c ≡ None
+        → KeepsChanges timelines.old timelines.new c) }
+    ensures clock { OnOk result ((n : AnyName) (d : ℕ) → n.client < 8
+        → IsRaised timelines.old (behind (places_in at.now)) gate.now timelines.new n d) }
 {
     for client in 0..8u8 {
         match at[client as usize] {

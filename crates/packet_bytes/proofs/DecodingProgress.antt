@@ -139,7 +139,7 @@ module _ {C O : Type 0} (set : CommandSet C O) (reader : SetReader C O) (laws : 
         short = omega (arith, so_far.short, long, many);
       }
 
-  pub decoded : (bytes : List ℕ) (room : ℕ) (x : (DecodedOf C)) (rest : List ℕ) → Progress bytes room x.commands x.count x.swaps rest → length rest ≡ 0 → DecodesOf set reader.shows bytes room x
+  pub decoded : (bytes : List ℕ) (room : ℕ) (x : (DecodedOf (List C))) (rest : List ℕ) → Progress bytes room x.commands x.count x.swaps rest → length rest ≡ 0 → DecodesOf set reader.shows bytes room x
   decoded bytes room x (b ∷ rest) so_far none = absurd (omega (arith, none))
   decoded bytes room x [] so_far none = record {
     all = so_far.all;

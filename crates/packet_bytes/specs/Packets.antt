@@ -136,8 +136,12 @@ pub record Takes {C O : Type 0} (set : CommandSet C O) (shows : C → Bool) (byt
   pub counted : AreCounted shows counts commands
   pub added : new ≡ kept (nat_le counts.commands room) old commands
 
+-- what was decoded, with the commands that are kept so
+abbrev pub decoded_as : {K C : Type 0} → (K → List C) → DecodedOf K → DecodedOf (List C)
+decoded_as of x = record { commands = of x.commands; count = x.count; swaps = x.swaps }
+
 -- The bytes of a stream spell commands, which were counted, and the Swaps among them, and stored where there was room for them.
-pub record DecodesOf {C O : Type 0} (set : CommandSet C O) (shows : C → Bool) (bytes : List ℕ) (room : ℕ) (x : DecodedOf C) : Type 0 where
+pub record DecodesOf {C O : Type 0} (set : CommandSet C O) (shows : C → Bool) (bytes : List ℕ) (room : ℕ) (x : DecodedOf (List C)) : Type 0 where
   pub all : List C
   pub spells : SpellsStreamOf set bytes all
   pub counted : x.count ≡ length all
@@ -147,5 +151,5 @@ pub record DecodesOf {C O : Type 0} (set : CommandSet C O) (shows : C → Bool) 
   pub short : x.count ≤ length bytes
 
 -- the same of the commands of the table
-abbrev pub Decodes : List ℕ → ℕ → DecodedOf Command → Type 0
+abbrev pub Decodes : List ℕ → ℕ → DecodedOf (List Command) → Type 0
 Decodes bytes room x = DecodesOf plain_set is_swap_command bytes room x

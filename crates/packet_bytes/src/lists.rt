@@ -1,5 +1,6 @@
 //! The reader of streams with call lists.
-ghost use Rattle.std.specs.Prelude.{◌≡◌, List, IfOk, IfErr, Ok, Err, ◌⊎◌};
+ghost use Rattle.std.specs.Prelude.{◌≡◌, ◌-◌, List, IfOk, IfErr, Ok, Err, ◌⊎◌};
+ghost use Rattle.std.specs.Vec.{vec_len, vec_capacity};
 ghost use Rattle.rc_base.specs.declared.list_command.ListCommand.{ListCommand as AnyListCommand};
 ghost use Rattle.rc_base.specs.declared.list_command.ListCommand.TheVariants as list;
 ghost use Rattle.rc_base.specs.Formats.Spelling.{SpellsStreamOf, list_set};
@@ -9,30 +10,54 @@ ghost use Rattle.packet_bytes.specs.ListLaws.{list_agrees};
 ghost use Rattle.packet_bytes.specs.Faults.{FailsAsStreamOf};
 
 use crate::fault::PackFault;
-use crate::packets::{DecodedOf, PacketCommand, decode_of};
-use crate::payload::{HoldsCommand, add_command, add_short};
+use crate::packets::{DecodedOf, HoldsCommands, PacketList, decode_of};
+use crate::payload::{add_command, add_short};
 use byte_codec::fault::ReadError;
 use byte_codec::fields::read_byte;
 use command_table::opcode_from;
 use rc_base::command::{Command, Opcode};
+use rc_base::items::Items;
 use rc_base::list_command::{ListCommand, ListCommands, ListOpcode};
-use std::alloc::Global;
+use std::alloc::{AllocError, Global};
 
-impl HoldsCommand for ListCommand {
+impl HoldsCommands for Vec<ListCommand> {
+    type Item = ListCommand;
+
     ghost held = { λ c. list.Plain c };
 
+    ghost items = { λ v. v.items };
+
+    ghost room = { λ v. vec_capacity v - vec_len v };
+
     #[inline(always)]
-    fn hold(command: Command) -> ListCommand {
-        ListCommand::Plain(command)
+    fn add(&mut self, command: Command) -> Result<(), AllocError> {
+        self.push_reserved(ListCommand::Plain(command));
+        Ok(())
     }
 }
 
-impl PacketCommand for ListCommand {
+impl PacketList for Vec<ListCommand> {
     type Opcode = ListOpcode;
+
+    type Kept = ListCommands;
 
     ghost set = { list_set };
 
     ghost reader = { list_reader };
+
+    ghost kept = { λ v. v };
+
+    fn empty(alloc: Global) -> Vec<ListCommand> {
+        Vec::new(alloc)
+    }
+
+    fn make_room(&mut self, count: usize) -> Result<(), AllocError> {
+        self.reserve(count)
+    }
+
+    fn finish(self) -> ListCommands {
+        Items::from_vec(self)
+    }
 
     #[tactic(auto, unfolding(crate::specs::Lists::list_opcode_of_byte))]
     fn opcode_from(byte: u8) -> Option<ListOpcode> {
@@ -53,13 +78,9 @@ impl PacketCommand for ListCommand {
 
     #[inline(always)]
     #[tactic(auto, unfolding(crate::specs::Lists::read_list_command))]
-    fn add_short<'a>(
-        commands: &mut Vec<ListCommand>,
-        opcode: ListOpcode,
-        bytes: &'a [u8],
-    ) -> Option<&'a [u8]> {
+    fn add_short<'a>(&mut self, opcode: ListOpcode, bytes: &'a [u8]) -> Option<&'a [u8]> {
         match opcode {
-            ListOpcode::Plain(plain) => add_short::<ListCommand>(commands, plain, bytes),
+            ListOpcode::Plain(plain) => add_short::<Vec<ListCommand>>(self, plain, bytes),
             _ => None,
         }
     }
@@ -67,25 +88,25 @@ impl PacketCommand for ListCommand {
     #[inline(never)]
     #[tactic(auto, unfolding(crate::specs::Lists::read_list_command))]
     fn add_command<'a>(
+        &mut self,
         alloc: Global,
-        commands: &mut Vec<ListCommand>,
         opcode: ListOpcode,
         bytes: &'a [u8],
     ) -> Result<&'a [u8], ReadError> {
         match opcode {
-            ListOpcode::Plain(plain) => add_command::<ListCommand>(alloc, commands, plain, bytes),
+            ListOpcode::Plain(plain) => add_command::<Vec<ListCommand>>(self, alloc, plain, bytes),
             ListOpcode::NewList => {
                 let (name, rest) = read_byte(bytes)?;
-                commands.push_reserved(ListCommand::NewList(name));
+                self.push_reserved(ListCommand::NewList(name));
                 Ok(rest)
             }
             ListOpcode::EndList => {
-                commands.push_reserved(ListCommand::EndList);
+                self.push_reserved(ListCommand::EndList);
                 Ok(bytes)
             }
             ListOpcode::CallList => {
                 let (name, rest) = read_byte(bytes)?;
-                commands.push_reserved(ListCommand::CallList(name));
+                self.push_reserved(ListCommand::CallList(name));
                 Ok(rest)
             }
         }
@@ -100,11 +121,11 @@ pub fn decode_lists_within(
     alloc: Global,
     room: usize,
     bytes: &[u8],
-) -> Result<DecodedOf<ListCommand>, PackFault>
+) -> Result<DecodedOf<ListCommands>, PackFault>
     ensures found { IfOk result (DecodesOf list_set is_list_swap bytes.now room) }
     ensures fails { IfErr result (FailsAsStreamOf list_set bytes.now) }
 {
-    decode_of::<ListCommand>(alloc, room, bytes)
+    decode_of::<Vec<ListCommand>>(alloc, room, bytes)
 }
 
 fn read_stream(alloc: Global, bytes: &[u8]) -> Result<ListCommands, PackFault>

@@ -1,27 +1,69 @@
 //! Packets of the commands of a set: what a set of commands gives, and the reader of streams over it.
-ghost use Rattle.std.specs.Prelude.{◌≡◌, ◌+◌, ◌<◌, count_by, IfOk, IfErr, IfSome, IfNone, OnOk};
-ghost use Rattle.std.specs.Vec.{vec_len, vec_capacity};
+ghost use Rattle.std.specs.Prelude.{◌≡◌, ℕ, ◌+◌, ◌<◌, ◌≤◌, List, [], ◌∷◌, ◌++◌, count_by, IfOk, IfErr, IfSome, IfNone, OnOk, OnErr};
+ghost use Rattle.rc_base.specs.declared.command.Command.{Command};
 ghost use Rattle.rc_base.specs.Formats.Spelling.{CommandSet};
 ghost use Rattle.byte_codec.specs.Reading.{Gives, Reads, with_front};
 ghost use Rattle.packet_bytes.specs.Sets.{SetReader, Agrees};
-ghost use Rattle.packet_bytes.specs.Packets.{AddsCommand, AddsNext, read_opcode, read_opcodes, read_count, read_payloads, read_packet, Keeps, AddsPacket, Takes, DecodesOf};
+ghost use Rattle.packet_bytes.specs.Packets.{AddsCommand, AddsNext, read_opcode, read_opcodes, read_count, read_payloads, read_packet, Keeps, AddsPacket, Takes, DecodesOf, decoded_as};
 ghost use Rattle.packet_bytes.specs.Faults.{FailsBy, FailsAsStreamOf, pack_fault};
 
 use crate::fault::PackFault;
 use byte_codec::fault::{Form, ReadError};
 use byte_codec::fields::{read_byte, read_half};
-use rc_base::items::Items;
-use std::alloc::Global;
+use rc_base::command::Command;
+use std::alloc::{AllocError, Global};
 
-/// A command of a set that packets hold: which byte stands for which opcode, and how the command behind an opcode is read.
-pub trait PacketCommand: Sized + Drop {
+/// A list that holds commands of the table. Contracts see what it holds, and for how much more there is room.
+pub trait HoldsCommands: Sized + Drop {
+    /// What the list holds.
+    type Item;
+
+    /// What holds a command of the table.
+    ghost held: { Command → Self.Item };
+
+    /// What the list holds, in order.
+    ghost items: { Self → List Self.Item };
+
+    /// For how many more there is room.
+    ghost room: { Self → ℕ };
+
+    /// Adds a command in room that is there. Where there is no memory for it, nothing is added.
+    fn add(&mut self, command: Command) -> Result<(), AllocError>
+        requires { 0 < room self.old }
+        ensures added { OnOk result (items self.new ≡ items self.old ++ held command ∷ []) }
+        ensures room { OnOk result (room self.old ≡ room self.new + 1) }
+        ensures same { OnErr result (items self.new ≡ items self.old) }
+        ensures same_room { OnErr result (room self.new ≡ room self.old) };
+}
+
+/// A list of the commands of a set, into which packets are read: which byte stands for which opcode, and how the command behind an opcode is added.
+pub trait PacketList: HoldsCommands {
     type Opcode: Copy;
 
+    /// What the list becomes when all is read.
+    type Kept: Drop;
+
     /// How the commands are spelled.
-    ghost set: { CommandSet Self Self.Opcode };
+    ghost set: { CommandSet Self.Item Self.Opcode };
 
     /// How they are read.
-    ghost reader: { SetReader Self Self.Opcode };
+    ghost reader: { SetReader Self.Item Self.Opcode };
+
+    /// The commands that are kept.
+    ghost kept: { Self.Kept → List Self.Item };
+
+    /// An empty list, which takes no memory.
+    fn empty(alloc: Global) -> Self
+        ensures { Self.items result ≡ [] };
+
+    /// Makes room for so many commands more.
+    fn make_room(&mut self, count: usize) -> Result<(), AllocError>
+        ensures items { Self.items self.new ≡ Self.items self.old }
+        ensures room { OnOk result (count ≤ Self.room self.new) };
+
+    /// The list when all is read.
+    fn finish(self) -> Self::Kept
+        ensures { kept result ≡ Self.items self };
 
     /// The opcode that a byte stands for.
     fn opcode_from(byte: u8) -> Option<Self::Opcode>
@@ -33,30 +75,25 @@ pub trait PacketCommand: Sized + Drop {
 
     /// Adds the command of an opcode whose payload stands at the front, in room that is there, and gives the bytes behind it.
     fn add_command<'a>(
+        &mut self,
         alloc: Global,
-        commands: &mut Vec<Self>,
         opcode: Self::Opcode,
         bytes: &'a [u8],
     ) -> Result<&'a [u8], ReadError>
-        requires { vec_len commands.old < vec_capacity commands.old }
-        ensures added { AddsCommand (λ rest. rest.now) commands.old.items commands.new.items result (reader.read opcode bytes.now) }
-        ensures len { OnOk result (vec_len commands.new ≡ vec_len commands.old + 1) }
-        ensures capacity { OnOk result (vec_capacity commands.new ≡ vec_capacity commands.old) };
+        requires { 0 < Self.room self.old }
+        ensures added { AddsCommand (λ rest. rest.now) (Self.items self.old) (Self.items self.new) result
+            (reader.read opcode bytes.now) }
+        ensures room { OnOk result (Self.room self.old ≡ Self.room self.new + 1) };
 
     /// The same of some commands, which are soon read: where it gives nothing, nothing is added.
-    fn add_short<'a>(
-        commands: &mut Vec<Self>,
-        opcode: Self::Opcode,
-        bytes: &'a [u8],
-    ) -> Option<&'a [u8]>
-        requires { vec_len commands.old < vec_capacity commands.old }
+    fn add_short<'a>(&mut self, opcode: Self::Opcode, bytes: &'a [u8]) -> Option<&'a [u8]>
+        requires { 0 < Self.room self.old }
         ensures added { IfSome result
-            (λ rest. AddsNext commands.old.items commands.new.items rest.now
+            (λ rest. AddsNext (Self.items self.old) (Self.items self.new) rest.now
             (reader.read opcode bytes.now)) }
-        ensures len { IfSome result (λ _. vec_len commands.new ≡ vec_len commands.old + 1) }
-        ensures none { IfNone result (commands.new.items ≡ commands.old.items) }
-        ensures none_len { IfNone result (vec_len commands.new ≡ vec_len commands.old) }
-        ensures capacity { vec_capacity commands.new ≡ vec_capacity commands.old };
+        ensures room { IfSome result (λ _. Self.room self.old ≡ Self.room self.new + 1) }
+        ensures none { IfNone result (Self.items self.new ≡ Self.items self.old) }
+        ensures none_room { IfNone result (Self.room self.new ≡ Self.room self.old) };
 
     /// They are read as they are spelled.
     ghost agrees: { Agrees set reader };
@@ -64,9 +101,9 @@ pub trait PacketCommand: Sized + Drop {
 
 /// The commands of a stream, where there was room for them, how many they are, and how many of them are Swaps.
 #[derive(Debug, Drop)]
-pub struct DecodedOf<C> {
+pub struct DecodedOf<K> {
     /// All commands, where they are no more than there was room for, and else some of them.
-    pub commands: Items<C>,
+    pub commands: K,
     pub count: usize,
     pub swaps: usize,
 }
@@ -90,109 +127,108 @@ fn read_count(bytes: &[u8]) -> Result<(u16, &[u8]), Form>
 }
 
 #[tactic(auto, unfolding(crate::specs::Packets::read_opcode))]
-fn read_opcode<C: PacketCommand>(bytes: &[u8]) -> Result<(C::Opcode, &[u8]), Form>
-    ensures { Reads (λ x. (x.0, x.1.now)) result (read_opcode C.reader bytes.now) }
+fn read_opcode<L: PacketList>(bytes: &[u8]) -> Result<(L::Opcode, &[u8]), Form>
+    ensures { Reads (λ x. (x.0, x.1.now)) result (read_opcode L.reader bytes.now) }
 {
     let (byte, rest) = read_byte(bytes)?;
-    match C::opcode_from(byte) {
+    match L::opcode_from(byte) {
         Some(opcode) => Ok((opcode, rest)),
         None => Err(Form::Unknown { left: bytes.len() }),
     }
 }
 
-fn read_opcodes<C: PacketCommand>(
+fn read_opcodes<L: PacketList>(
     alloc: Global,
     count: u16,
     bytes: &[u8],
-) -> Result<(Vec<C::Opcode>, &[u8]), ReadError>
-    ensures { Gives (λ x. (x.0.items, x.1.now)) result (read_opcodes C.reader count bytes.now) }
+) -> Result<(Vec<L::Opcode>, &[u8]), ReadError>
+    ensures { Gives (λ x. (x.0.items, x.1.now)) result (read_opcodes L.reader count bytes.now) }
 {
     let mut opcodes = Vec::with_capacity(alloc, count as usize)?;
     let mut rest = bytes;
     for _ in 0..count {
-        let (opcode, after) = read_opcode::<C>(rest)?;
+        let (opcode, after) = read_opcode::<L>(rest)?;
         opcodes.push(opcode)?;
         rest = after;
     }
     Ok((opcodes, rest))
 }
 
-fn count_swaps<C: PacketCommand>(opcodes: &[C::Opcode]) -> usize
-    ensures { result ≡ count_by C.reader.is_swap opcodes.now }
+fn count_swaps<L: PacketList>(opcodes: &[L::Opcode]) -> usize
+    ensures { result ≡ count_by L.reader.is_swap opcodes.now }
 {
-    opcodes.iter().filter(|o| C::is_swap(**o)).count()
+    opcodes.iter().filter(|o| L::is_swap(**o)).count()
 }
 
 /// Adds the command of an opcode whose payload stands at the front, in room that is there, and gives the bytes behind it.
 #[inline(always)]
-fn add_next<'a, C: PacketCommand>(
+fn add_next<'a, L: PacketList>(
     alloc: Global,
-    commands: &mut Vec<C>,
-    opcode: C::Opcode,
+    commands: &mut L,
+    opcode: L::Opcode,
     bytes: &'a [u8],
 ) -> Result<&'a [u8], ReadError>
-    requires { vec_len commands.old < vec_capacity commands.old }
+    requires { 0 < L.room commands.old }
     ensures added { AddsCommand
-        (λ rest. rest.now) commands.old.items commands.new.items result
-        (C.reader.read opcode bytes.now) }
-    ensures len { OnOk result (vec_len commands.new ≡ vec_len commands.old + 1) }
-    ensures capacity { OnOk result (vec_capacity commands.new ≡ vec_capacity commands.old) }
+        (λ rest. rest.now) (L.items commands.old) (L.items commands.new) result
+        (L.reader.read opcode bytes.now) }
+    ensures room { OnOk result (L.room commands.old ≡ L.room commands.new + 1) }
 {
-    match C::add_short(commands, opcode, bytes) {
+    match commands.add_short(opcode, bytes) {
         Some(rest) => Ok(rest),
-        None => C::add_command(alloc, commands, opcode, bytes),
+        None => commands.add_command(alloc, opcode, bytes),
     }
 }
 
 /// Adds the commands with these opcodes, whose payloads stand at the front.
-fn read_payloads<'a, C: PacketCommand>(
+fn read_payloads<'a, L: PacketList>(
     alloc: Global,
-    commands: &mut Vec<C>,
-    opcodes: &[C::Opcode],
+    commands: &mut L,
+    opcodes: &[L::Opcode],
     bytes: &'a [u8],
 ) -> Result<&'a [u8], ReadError>
-    ensures { Gives (λ rest. (commands.new.items, rest.now)) result (with_front commands.old.items (read_payloads C.reader opcodes.now bytes.now)) }
+    ensures { Gives (λ rest. (L.items commands.new, rest.now)) result (with_front (L.items commands.old) (read_payloads L.reader opcodes.now bytes.now)) }
 {
-    commands.reserve(opcodes.len())?;
+    commands.make_room(opcodes.len())?;
     let mut rest = bytes;
     for opcode in opcodes {
-        rest = add_next::<C>(alloc, commands, *opcode, rest)?;
+        rest = add_next::<L>(alloc, commands, *opcode, rest)?;
     }
     Ok(rest)
 }
 
 /// The same, where the commands are kept or only looked at.
-fn keep_payloads<'a, C: PacketCommand>(
+fn keep_payloads<'a, L: PacketList>(
     alloc: Global,
-    commands: &mut Vec<C>,
+    commands: &mut L,
     keep: bool,
-    opcodes: &[C::Opcode],
+    opcodes: &[L::Opcode],
     bytes: &'a [u8],
 ) -> Result<&'a [u8], ReadError>
-    ensures { Keeps (λ rest. rest.now) keep commands.old.items commands.new.items result (read_payloads C.reader opcodes.now bytes.now) }
+    ensures { Keeps (λ rest. rest.now) keep (L.items commands.old) (L.items commands.new) result (read_payloads L.reader opcodes.now bytes.now) }
 {
     if keep {
-        return read_payloads::<C>(alloc, commands, opcodes, bytes);
+        return read_payloads::<L>(alloc, commands, opcodes, bytes);
     }
-    let mut dropped = Vec::new(alloc);
-    read_payloads::<C>(alloc, &mut dropped, opcodes, bytes)
+    let mut dropped = L::empty(alloc);
+    read_payloads::<L>(alloc, &mut dropped, opcodes, bytes)
 }
 
 /// What the packet at the front has. Its commands are added where they are no more than there is room for.
-fn add_packet<'a, C: PacketCommand>(
+fn add_packet<'a, L: PacketList>(
     alloc: Global,
-    commands: &mut Vec<C>,
+    commands: &mut L,
     room: usize,
     bytes: &'a [u8],
 ) -> Result<(Counts, &'a [u8]), ReadError>
-    ensures { AddsPacket C.reader.shows (λ x. (x.0, x.1.now)) room commands.old.items commands.new.items result (read_packet C.reader bytes.now) }
+    ensures { AddsPacket L.reader.shows (λ x. (x.0, x.1.now)) room (L.items commands.old) (L.items commands.new) result (read_packet L.reader bytes.now) }
 {
     let (count, rest) = read_count(bytes)?;
-    let (opcodes, rest) = read_opcodes::<C>(alloc, count, rest)?;
+    let (opcodes, rest) = read_opcodes::<L>(alloc, count, rest)?;
     let opcodes = opcodes.as_slice();
     let count = count as usize;
-    let swaps = count_swaps::<C>(opcodes);
-    let rest = keep_payloads::<C>(alloc, commands, count <= room, opcodes, rest)?;
+    let swaps = count_swaps::<L>(opcodes);
+    let rest = keep_payloads::<L>(alloc, commands, count <= room, opcodes, rest)?;
     let counts = Counts {
         commands: count,
         swaps,
@@ -201,16 +237,16 @@ fn add_packet<'a, C: PacketCommand>(
 }
 
 /// The same, by what the packet is.
-fn read_packet<'a, C: PacketCommand>(
+fn read_packet<'a, L: PacketList>(
     alloc: Global,
-    commands: &mut Vec<C>,
+    commands: &mut L,
     room: usize,
     bytes: &'a [u8],
 ) -> Result<(Counts, &'a [u8]), ReadError>
-    ensures found { IfOk result (λ x. Takes C.set C.reader.shows bytes.now x.1.now room x.0 commands.old.items commands.new.items) }
-    ensures fails { IfErr result (FailsBy C.set bytes.now) }
+    ensures found { IfOk result (λ x. Takes L.set L.reader.shows bytes.now x.1.now room x.0 (L.items commands.old) (L.items commands.new)) }
+    ensures fails { IfErr result (FailsBy L.set bytes.now) }
 {
-    add_packet::<C>(alloc, commands, room, bytes)
+    add_packet::<L>(alloc, commands, room, bytes)
 }
 
 /// The fault with its place, in bytes of which there are so many.
@@ -231,20 +267,20 @@ fn fault_at(error: ReadError, len: usize) -> PackFault
 
 /// The commands of a set that the bytes of a stream spell, where they are no more than there is room for, how many they are, and how many of them are
 /// Swaps; or the first fault from the left with its place in the stream.
-pub fn decode_of<C: PacketCommand>(
+pub fn decode_of<L: PacketList>(
     alloc: Global,
     room: usize,
     bytes: &[u8],
-) -> Result<DecodedOf<C>, PackFault>
-    ensures found { IfOk result (DecodesOf C.set C.reader.shows bytes.now room) }
-    ensures fails { IfErr result (FailsAsStreamOf C.set bytes.now) }
+) -> Result<DecodedOf<L::Kept>, PackFault>
+    ensures found { IfOk result (λ x. DecodesOf L.set L.reader.shows bytes.now room (decoded_as L.kept x)) }
+    ensures fails { IfErr result (FailsAsStreamOf L.set bytes.now) }
 {
-    let mut commands = Vec::new(alloc);
+    let mut commands = L::empty(alloc);
     let mut count = 0;
     let mut swaps = 0;
     let mut rest = bytes;
     while !rest.is_empty() {
-        match read_packet::<C>(alloc, &mut commands, room.saturating_sub(count), rest) {
+        match read_packet::<L>(alloc, &mut commands, room.saturating_sub(count), rest) {
             Ok((more, after)) => {
                 count += more.commands;
                 swaps += more.swaps;
@@ -254,7 +290,7 @@ pub fn decode_of<C: PacketCommand>(
         }
     }
     Ok(DecodedOf {
-        commands: Items::from_vec(commands),
+        commands: commands.finish(),
         count,
         swaps,
     })

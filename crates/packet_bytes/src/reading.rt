@@ -1,5 +1,6 @@
 //! The reader of streams: packet by packet, with the first fault from the left.
-ghost use Rattle.std.specs.Prelude.{◌≡◌, List, IfOk, IfErr, Ok, Err, ◌⊎◌};
+ghost use Rattle.std.specs.Prelude.{◌≡◌, ◌-◌, List, IfOk, IfErr, Ok, Err, ◌⊎◌};
+ghost use Rattle.std.specs.Vec.{vec_len, vec_capacity};
 ghost use Rattle.rc_base.specs.declared.command.Command.{Command as AnyCommand};
 ghost use Rattle.rc_base.specs.Formats.Spelling.{SpellsStream, plain_set};
 ghost use Rattle.packet_bytes.specs.Packets.{is_swap_opcode, plain_reader, Decodes};
@@ -7,22 +8,56 @@ ghost use Rattle.packet_bytes.specs.PlainLaws.{plain_agrees};
 ghost use Rattle.packet_bytes.specs.Faults.{FailsAsStream};
 
 use crate::fault::PackFault;
-use crate::packets::{DecodedOf, PacketCommand, decode_of};
+use crate::packets::{DecodedOf, HoldsCommands, PacketList, decode_of};
 use crate::payload::{add_command, add_short};
 use byte_codec::fault::ReadError;
+use command_store::{CommandStore, StoreWriter};
 use command_table::opcode_from;
 use rc_base::command::{Command, Commands, Opcode};
-use std::alloc::Global;
+use rc_base::items::Items;
+use std::alloc::{AllocError, Global};
 
 /// The commands of a stream, where there was room for them, how many they are, and how many of them are Swaps.
-pub type Decoded = DecodedOf<Command>;
+pub type Decoded = DecodedOf<Commands>;
 
-impl PacketCommand for Command {
+impl HoldsCommands for Vec<Command> {
+    type Item = Command;
+
+    ghost held = { λ c. c };
+
+    ghost items = { λ v. v.items };
+
+    ghost room = { λ v. vec_capacity v - vec_len v };
+
+    #[inline(always)]
+    fn add(&mut self, command: Command) -> Result<(), AllocError> {
+        self.push_reserved(command);
+        Ok(())
+    }
+}
+
+impl PacketList for Vec<Command> {
     type Opcode = Opcode;
+
+    type Kept = Commands;
 
     ghost set = { plain_set };
 
     ghost reader = { plain_reader };
+
+    ghost kept = { λ v. v };
+
+    fn empty(alloc: Global) -> Vec<Command> {
+        Vec::new(alloc)
+    }
+
+    fn make_room(&mut self, count: usize) -> Result<(), AllocError> {
+        self.reserve(count)
+    }
+
+    fn finish(self) -> Commands {
+        Items::from_vec(self)
+    }
 
     fn opcode_from(byte: u8) -> Option<Opcode> {
         opcode_from(byte)
@@ -33,22 +68,82 @@ impl PacketCommand for Command {
     }
 
     #[inline(always)]
-    fn add_short<'a>(
-        commands: &mut Vec<Command>,
-        opcode: Opcode,
-        bytes: &'a [u8],
-    ) -> Option<&'a [u8]> {
-        add_short::<Command>(commands, opcode, bytes)
+    fn add_short<'a>(&mut self, opcode: Opcode, bytes: &'a [u8]) -> Option<&'a [u8]> {
+        add_short::<Vec<Command>>(self, opcode, bytes)
     }
 
     #[inline(never)]
     fn add_command<'a>(
+        &mut self,
         alloc: Global,
-        commands: &mut Vec<Command>,
         opcode: Opcode,
         bytes: &'a [u8],
     ) -> Result<&'a [u8], ReadError> {
-        add_command::<Command>(alloc, commands, opcode, bytes)
+        add_command::<Vec<Command>>(self, alloc, opcode, bytes)
+    }
+
+    ghost agrees = { plain_agrees };
+}
+
+impl HoldsCommands for StoreWriter {
+    type Item = Command;
+
+    ghost held = { λ c. c };
+
+    ghost items = { λ w. w.commands };
+
+    ghost room = { λ w. w.room };
+
+    #[inline(always)]
+    fn add(&mut self, command: Command) -> Result<(), AllocError> {
+        self.push(command)
+    }
+}
+
+impl PacketList for StoreWriter {
+    type Opcode = Opcode;
+
+    type Kept = CommandStore;
+
+    ghost set = { plain_set };
+
+    ghost reader = { plain_reader };
+
+    ghost kept = { λ s. s };
+
+    fn empty(alloc: Global) -> StoreWriter {
+        StoreWriter::new(alloc)
+    }
+
+    fn make_room(&mut self, count: usize) -> Result<(), AllocError> {
+        self.reserve(count)
+    }
+
+    fn finish(self) -> CommandStore {
+        StoreWriter::finish(self)
+    }
+
+    fn opcode_from(byte: u8) -> Option<Opcode> {
+        opcode_from(byte)
+    }
+
+    fn is_swap(opcode: Opcode) -> bool {
+        matches!(opcode, Opcode::Swap)
+    }
+
+    #[inline(always)]
+    fn add_short<'a>(&mut self, opcode: Opcode, bytes: &'a [u8]) -> Option<&'a [u8]> {
+        add_short::<StoreWriter>(self, opcode, bytes)
+    }
+
+    #[inline(never)]
+    fn add_command<'a>(
+        &mut self,
+        alloc: Global,
+        opcode: Opcode,
+        bytes: &'a [u8],
+    ) -> Result<&'a [u8], ReadError> {
+        add_command::<StoreWriter>(self, alloc, opcode, bytes)
     }
 
     ghost agrees = { plain_agrees };
@@ -61,7 +156,7 @@ pub fn decode_within(alloc: Global, room: usize, bytes: &[u8]) -> Result<Decoded
     ensures found { IfOk result (Decodes bytes.now room) }
     ensures fails { IfErr result (FailsAsStream bytes.now) }
 {
-    decode_of::<Command>(alloc, room, bytes)
+    decode_of::<Vec<Command>>(alloc, room, bytes)
 }
 
 fn read_stream(alloc: Global, bytes: &[u8]) -> Result<Commands, PackFault>

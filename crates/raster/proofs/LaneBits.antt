@@ -121,7 +121,7 @@ moved a b x y0 y k =
         let n = times_neg k (pos 16 *ℤ d) in
         omega (arith, ints, a, b, c, n)
 
-kept_sum : (e d : ℤ) (k : Bool) → kept_value (e +ℤ d) k ≡ kept_value e k +ℤ d
+pub kept_sum : (e d : ℤ) (k : Bool) → kept_value (e +ℤ d) k ≡ kept_value e k +ℤ d
 kept_sum e d true = refl
 kept_sum e d false = omega (arith, ints)
 
@@ -129,7 +129,7 @@ passes_is : (e : ℤ) (k : Bool) → passes e k ≡ int_le (pos 0) (kept_value e
 passes_is e true = grind (arith, ints)
 passes_is e false = grind (arith, ints)
 
-within_is : (a b : WindowVertex) (x y : ℤ) → is_within_edge a b x y ≡ int_le (pos 0) (kept_value (edge_value a b x y) (keeps_line a b))
+pub within_is : (a b : WindowVertex) (x y : ℤ) → is_within_edge a b x y ≡ int_le (pos 0) (kept_value (edge_value a b x y) (keeps_line a b))
 unfolding is_within_edge
 within_is a b x y = passes_is (edge_value a b x y) (keeps_line a b)
 

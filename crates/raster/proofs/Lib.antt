@@ -3,6 +3,7 @@ mod SpansInTurn
 mod SlopesToSpan
 mod EdgeLanes
 mod LaneBits
+mod EdgeRamps
 mod BitsToSpan
 mod Convex
 mod SharedEdges

@@ -1,8 +1,7 @@
 //! Which pixels a triangle covers: one pixel, and a rectangle row by row.
 ghost use Rattle.std.specs.Prelude.{◌≡◌, ◌^◌};
 ghost use Rattle.rc_base.specs.Numbers.{Within};
-ghost use Rattle.rc_base.specs.Drawing.Cover.{centre, edge_value, keeps_line, passes, is_within_edge, is_inside, IsInBounds};
-ghost use Rattle.rc_base.specs.Drawing.Fragment.{weight};
+ghost use Rattle.rc_base.specs.Drawing.Cover.{edge_value, keeps_line, passes, is_within_edge, is_inside, IsInBounds};
 ghost use Rattle.raster.specs.Runs.{GivesSpansOf};
 
 use crate::rows::{SpanIter, span_iter};
@@ -47,31 +46,6 @@ fn is_kept(a: &WindowVertex, b: &WindowVertex, px: i64, py: i64, e: i64) -> bool
 {
     let _point = (px, py);
     e > 0 || (e == 0 && keeps(a, b))
-}
-
-/// Whether the triangle covers the pixel, by the weights of its corners there.
-#[inline(always)]
-#[tactic(auto, unfolding(rc_base::specs::Drawing::Cover::is_inside))]
-pub(crate) fn is_inside_by(
-    tri: &WindowTriangle,
-    px: i64,
-    py: i64,
-    x: i32,
-    y: i32,
-    weights: (i64, i64, i64),
-) -> bool
-    requires across { px ≡ centre x }
-    requires up { py ≡ centre y }
-    requires first { weights.0 ≡ weight tri.now.v 0 px py }
-    requires second { weights.1 ≡ weight tri.now.v 1 px py }
-    requires third { weights.2 ≡ weight tri.now.v 2 px py }
-    ensures { result ≡ is_inside tri.now.v x y }
-{
-    let _place = (x, y);
-    let first = is_kept(&tri.v[0], &tri.v[1], px, py, weights.2);
-    let second = is_kept(&tri.v[1], &tri.v[2], px, py, weights.0);
-    let third = is_kept(&tri.v[2], &tri.v[0], px, py, weights.1);
-    first && (second && third)
 }
 
 /// Whether the centre of pixel (`x`, `y`) is inside the triangle, by one rule for points on an edge: the left edges and the top one keep

@@ -53,7 +53,7 @@ fn ramp(first: i64, step: i64) -> i64x8
 }
 
 // The edge's value, one less where it doesn't keep its line.
-fn kept(e: i64, keeps: bool) -> i64
+pub(crate) fn kept(e: i64, keeps: bool) -> i64
     requires { Within (2 ^ 60) e }
     ensures value { result ≡ kept_value e keeps }
     ensures small { Within (2 ^ 61) result }
@@ -65,7 +65,7 @@ fn kept(e: i64, keeps: bool) -> i64
 }
 
 // From one pixel of a row to the next, an edge's value goes by this.
-fn step_of(a: &WindowVertex, b: &WindowVertex) -> i64
+pub(crate) fn step_of(a: &WindowVertex, b: &WindowVertex) -> i64
     requires from { IsInBounds a.now }
     requires to { IsInBounds b.now }
     ensures value { result ≡ neg_ℤ (pos 16 *ℤ (b.now.y -ℤ a.now.y)) }

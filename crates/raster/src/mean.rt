@@ -1,5 +1,5 @@
 //! The weights of the corners at a pixel, and means by them.
-ghost use Rattle.std.specs.Prelude.{◌≡◌, ◌^◌, pos, true, false, ◌+ℤ◌, ◌*ℤ◌, ◌≤ℤ◌, ◌<ℤ◌, MatchOption};
+ghost use Rattle.std.specs.Prelude.{◌≡◌, ◌^◌, pos, true, ◌+ℤ◌, ◌*ℤ◌, ◌≤ℤ◌, ◌<ℤ◌};
 ghost use Rattle.rc_base.specs.Numbers.{Within, floor_quotient};
 ghost use Rattle.rc_base.specs.Drawing.Cover.{is_inside, centre};
 ghost use Rattle.rc_base.specs.Drawing.Fragment.{weight, weighted_sum};
@@ -7,7 +7,6 @@ ghost use Rattle.raster.specs.Blend.{weighted_mean};
 ghost use Rattle.raster.specs.Weighed.{IsWeighed};
 ghost use Rattle.raster.specs.Weights.{narrow_area};
 
-use crate::coverage::is_inside_by;
 use crate::weights::Weights;
 use fixed_math::{centre_of, edge, floor_div};
 use rc_base::triangle::WindowTriangle;
@@ -17,7 +16,7 @@ const NARROW_AREA: i64 = 536_870_912;
 
 // The weights, where the pixel is known to be covered.
 #[inline(always)]
-fn weights_of(
+pub(crate) fn weights_of(
     tri: &WindowTriangle,
     px: i64,
     py: i64,
@@ -54,24 +53,6 @@ pub fn weights_at(tri: &WindowTriangle, x: i32, y: i32) -> Weights
     let second = edge(&tri.v[2], &tri.v[0], px, py);
     let third = edge(&tri.v[0], &tri.v[1], px, py);
     weights_of(tri, px, py, x, y, (first, second, third))
-}
-
-/// The weights of a triangle's corners at a pixel, if it covers that.
-#[inline(always)]
-pub fn weights_inside(tri: &WindowTriangle, x: i32, y: i32) -> Option<Weights>
-    ensures { MatchOption result
-        (is_inside tri.now.v x y ≡ false)
-        (λ w. (is_inside tri.now.v x y ≡ true) × IsWeighed tri.now.v x y w) }
-{
-    let px = centre_of(x);
-    let py = centre_of(y);
-    let first = edge(&tri.v[1], &tri.v[2], px, py);
-    let second = edge(&tri.v[2], &tri.v[0], px, py);
-    let third = edge(&tri.v[0], &tri.v[1], px, py);
-    if !is_inside_by(tri, px, py, x, y, (first, second, third)) {
-        return None;
-    }
-    Some(weights_of(tri, px, py, x, y, (first, second, third)))
 }
 
 fn part(e: i64, a: i32) -> i128

@@ -39,6 +39,11 @@ module _ (task : Task) (source : Used) (left : List SpuRule) (SourceStays : Type
       → left ≡ task.filters → ((Reads task.job → ⊥) → SourceStays) → IsObtained task source left SourceStays holds (Err refusal)
   before_filters refusal refused early same unread = record { given = tt; refused = refused; members = Before early same; unread = unread }
 
+  -- what was obtained where the source isn't known to stay
+  pub of_source : {A : Type 0} {holds : A → Type 0} (r : Result A Refusal) → IsObtained task source left (Reads task.job → ⊥) holds r
+      → ((Reads task.job → ⊥) → SourceStays) → IsObtained task source left SourceStays holds r
+  of_source r step unread = record { given = step.given; refused = step.refused; members = step.members; unread = unread }
+
   module _ (work : Work) (step : IsObtained task source left SourceStays (IsSoundWork task source) (Ok work)) where
     -- of what the task works on this is due
     pub due_behind : (due : Due) → IsFor task.job work.scene → IsOutcome task.job work (outcome_of due) → IsWritable due.image

@@ -25,5 +25,6 @@ pub mod Threaded
 pub mod ClusterRuns
 pub mod DecidedBefore
 pub mod PlainScenes
+pub mod StoredWork
 pub mod RecordsShown
 pub mod LackingRuns

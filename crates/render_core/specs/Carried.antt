@@ -50,6 +50,11 @@ pub record IsCarriedOut (task : Task) (source image : Used) (left : List SpuRule
   pub blank : ShowsNothing task.job → ImageStays
   pub unread : (Reads task.job → ⊥) → SourceStays
 
+-- What holds so is obtained for the job behind these rules, of which these are left, where its scene came from the source.
+abbrev pub IsWorkBehind : {A : Type 0} → Job → List SpuRule → List SpuRule → Used → (Task → Used → A → Type 0) → Result A Refusal → Type 0
+IsWorkBehind job rules left source holds result =
+    IsObtained (task_of rules job) source left (Reads job → ⊥) (holds (task_of rules job) source) result
+
 -- ---- over a source and an image
 
 -- what holds so is obtained from the source for the job behind these rules, of which these are left, and no count of refused calls falls

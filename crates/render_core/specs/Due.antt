@@ -35,6 +35,10 @@ use Rattle.run_words.specs.declared.work.Work.{Work}
 use Rattle.run_words.specs.declared.job.Job.{Job}
 use Rattle.run_words.specs.declared.job.Job.TheVariants.{Render, Simulate, Serial, Last, Check, Race, Pack, Unpack, Gen, Demo}
 
+-- a scene, and the lines that its report has besides the scene's own: of what is refused before the run, and of the filters that count
+abbrev pub work_on : Scene → List ℕ → List ℕ → Work
+work_on scene refused counted = record { scene = scene; refused = refused; counted = counted }
+
 -- bytes to the image, bytes to the notes, how the run ends that writes them, and of a cluster the record that is kept
 pub record Outcome : Type 0 where
   pub image : List ℕ

@@ -4,6 +4,7 @@ pub mod Findings
 pub mod Outcomes
 pub mod Refusals
 pub mod Carried
+pub mod Stored
 pub mod Finishes
 pub mod Runs
 pub mod Laws

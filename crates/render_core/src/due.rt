@@ -1,7 +1,8 @@
 //! What is due, job by job, for what a task works on, where no cluster runs in threads.
 ghost use Rattle.std.specs.Prelude.{◌≡◌, ◌≤◌, [], false, Some, None, is_some, length, IfOk, IfErr, MatchResult, if◌then◌else◌};
 ghost use Rattle.rc_base.specs.Formats.Limits.{limit_of};
-ghost use Rattle.render_core.specs.Due.{IsPacked, IsUnpacked, found_by, journal_of, short_due, shown_alone};
+ghost use Rattle.rc_base.specs.declared.scene.Scene.{Scene as AnyScene};
+ghost use Rattle.render_core.specs.Due.{IsPacked, IsUnpacked, found_by, journal_of, short_due, shown_alone, work_on};
 ghost use Rattle.run_words.specs.Jobs.{ShowsNothing, origin_of, starts_threads};
 ghost use Rattle.run_words.specs.Asked.{HasTiles, cluster_limit, IsWell};
 ghost use Rattle.render_core.specs.Scenes.{IsFor, IsReadWithin};
@@ -26,16 +27,17 @@ use rc_base::command::Bytes;
 use rc_base::image::Frames;
 use rc_base::out_of_memory::OutOfMemory;
 use rc_base::scene::Scene;
-use rc_base::sync::{Journal, Name, Order, SyncLists, Waiting};
+use rc_base::sync::{Journal, Name, SyncLists, Waiting};
 use run_words::job::{Cluster, Job};
 use run_words::refusal::DueRefusal;
-use run_words::{Ending, Work, race_line, short_report, tiles_of};
+use run_words::{Ending, Work, race_line, short_report, short_report_with, tiles_of};
 use scene_file::write_scene;
 use scene_text::print_scene;
-use serial_render::{Survey, Turns, render_order, survey, turns_of};
+use serial_render::{RunOrder, RunTurns, Survey, render_runs, survey_scene, turns_in_runs};
 use sort_last::{LastFault, LastSurvey, render_judged, survey_last};
 use std::alloc::Global;
 use std::thread::Threads;
+use stream_replay::SceneStore;
 
 /// What is due to the image.
 #[derive(Drop)]
@@ -72,8 +74,8 @@ pub(crate) fn due_for(alloc: Global, job: Job, work: &Work) -> Result<Due, DueRe
     match job {
         Job::Render(_) | Job::Demo { .. } | Job::Last => unreachable!(),
         Job::Simulate { seed, cluster } => simulate(alloc, work, seed, cluster),
-        Job::Serial => serial(alloc, work),
-        Job::Check => check(alloc, work),
+        Job::Serial => serial_of(alloc, work),
+        Job::Check => check_of(alloc, work),
         Job::Race => race(alloc, work),
         Job::Pack => pack(alloc, &work.scene),
         Job::Unpack => unpack(alloc, &work.scene),
@@ -97,7 +99,7 @@ fn simulate(alloc: Global, work: &Work, seed: u64, cluster: Cluster) -> Result<D
 struct DefaultRun {
     syncs: SyncLists,
     journal: Journal,
-    order: Order,
+    order: RunOrder,
     faults: FaultLists,
     waiting: Option<Waiting>,
 }
@@ -113,20 +115,20 @@ pub(crate) fn ending_of(waiting: &Option<Waiting>) -> Ending
 }
 
 // The default journal and order of a scene.
-fn default_of(alloc: Global, scene: &Scene) -> Result<DefaultRun, DueRefusal>
-    requires { IsReadWithin OfBytes scene.now }
-    ensures default { IfOk result (IsDefault scene.now) }
+fn default_of<S: SceneStore>(alloc: Global, scene: &S) -> Result<DefaultRun, DueRefusal>
+    requires { IsReadWithin OfBytes (S.scene scene.now) }
+    ensures default { IfOk result (IsDefault (S.scene scene.now)) }
     ensures refused { IfErr result (λ refusal. refusal ≡ NoMemory) }
 {
     scene_lists_are_well_formed();
     default_journal_is_maximal();
     default_orders_are_permitted();
-    let Survey { syncs, faults } = survey(alloc, scene)?;
-    let Turns {
+    let Survey { syncs, faults } = survey_scene(alloc, scene)?;
+    let RunTurns {
         journal,
         order,
         waiting,
-    } = turns_of(alloc, &syncs)?;
+    } = turns_in_runs(alloc, &syncs)?;
     Ok(DefaultRun {
         syncs,
         journal,
@@ -136,19 +138,23 @@ fn default_of(alloc: Global, scene: &Scene) -> Result<DefaultRun, DueRefusal>
     })
 }
 
-// The short report of the default run of a scene, with these lines before those of who waits.
+// The short report of the default run of a scene, with the lines that it has besides, and these before those of who waits.
 fn report_of(
     alloc: Global,
-    work: &Work,
+    refused: &[u8],
+    counted: &[u8],
     run: &DefaultRun,
     told: &[u8],
 ) -> Result<Bytes, OutOfMemory>
-    requires default { IsDefault work.now.scene run.now }
-    ensures { Yields (short_due work.now told.now (journal_of work.now.scene)) result }
+    requires { length run.now.faults ≤ 8 }
+    ensures { (scene : AnyScene) → IsDefault scene run.now
+        → Yields (short_due (work_on scene refused.now counted.now) told.now (journal_of scene))
+        result }
 {
-    Ok(short_report(
+    Ok(short_report_with(
         alloc,
-        work,
+        refused,
+        counted,
         run.faults.as_slice(),
         run.journal.as_slice(),
         told,
@@ -156,21 +162,39 @@ fn report_of(
     )?)
 }
 
-// The frames of the default order, and the short report.
-fn serial(alloc: Global, work: &Work) -> Result<Due, DueRefusal>
-    requires { IsReadWithin OfBytes work.now.scene }
-    ensures { MakesDue (IsMadeFor ToSerial work.now) result }
+/// The frames of the default order, and the short report.
+pub(crate) fn serial<S: SceneStore>(
+    alloc: Global,
+    scene: &S,
+    refused: &[u8],
+    counted: &[u8],
+) -> Result<Due, DueRefusal>
+    requires { IsReadWithin OfBytes (S.scene scene.now) }
+    ensures { MakesDue (IsMadeFor ToSerial (work_on (S.scene scene.now) refused.now counted.now)) result }
 {
     frames_of_scenes_are_writable();
-    let run = default_of(alloc, &work.scene)?;
-    let notes = report_of(alloc, work, &run, b"")?;
-    let frames = render_order(alloc, &work.scene, &run.journal, &run.order)?;
+    let run = default_of(alloc, scene)?;
+    let notes = report_of(alloc, refused, counted, &run, b"")?;
+    let frames = render_runs(alloc, scene, &run.journal, &run.order)?;
     Ok(Due {
         image: DueImage::Frames(frames),
         notes,
         ending: ending_of(&run.waiting),
         kept: None,
     })
+}
+
+// The same of what a task works on.
+fn serial_of(alloc: Global, work: &Work) -> Result<Due, DueRefusal>
+    requires { IsReadWithin OfBytes work.now.scene }
+    ensures { MakesDue (IsMadeFor ToSerial work.now) result }
+{
+    serial(
+        alloc,
+        &work.scene,
+        work.refused.as_slice(),
+        work.counted.as_slice(),
+    )
 }
 
 // Why clients weren't drawn apart.
@@ -223,20 +247,39 @@ pub(crate) fn last(
     })
 }
 
-// The short report alone.
-fn check(alloc: Global, work: &Work) -> Result<Due, DueRefusal>
-    requires { IsReadWithin OfBytes work.now.scene }
-    ensures due { MakesDue (IsMadeFor ToCheck work.now) result }
+/// The short report alone.
+pub(crate) fn check<S: SceneStore>(
+    alloc: Global,
+    scene: &S,
+    refused: &[u8],
+    counted: &[u8],
+) -> Result<Due, DueRefusal>
+    requires { IsReadWithin OfBytes (S.scene scene.now) }
+    ensures due { MakesDue (IsMadeFor ToCheck (work_on (S.scene scene.now) refused.now counted.now)) result }
     ensures blank { IfOk result (λ due. IsBlank due.image) }
 {
-    let run = default_of(alloc, &work.scene)?;
-    let notes = report_of(alloc, work, &run, b"")?;
+    let run = default_of(alloc, scene)?;
+    let notes = report_of(alloc, refused, counted, &run, b"")?;
     Ok(Due {
         image: DueImage::OneText(Bytes::new(alloc)),
         notes,
         ending: ending_of(&run.waiting),
         kept: None,
     })
+}
+
+// The same of what a task works on.
+fn check_of(alloc: Global, work: &Work) -> Result<Due, DueRefusal>
+    requires { IsReadWithin OfBytes work.now.scene }
+    ensures due { MakesDue (IsMadeFor ToCheck work.now) result }
+    ensures blank { IfOk result (λ due. IsBlank due.image) }
+{
+    check(
+        alloc,
+        &work.scene,
+        work.refused.as_slice(),
+        work.counted.as_slice(),
+    )
 }
 
 // How a job ends that asks for races, where nobody waits.
@@ -267,9 +310,16 @@ fn race(alloc: Global, work: &Work) -> Result<Due, DueRefusal>
     ensures blank { IfOk result (λ due. IsBlank due.image) }
 {
     let run = default_of(alloc, &work.scene)?;
-    let verdict = check_races(alloc, &work.scene, &run.journal, &run.order, &run.syncs)?;
+    let order = run.order.to_order(alloc)?;
+    let verdict = check_races(alloc, &work.scene, &run.journal, &order, &run.syncs)?;
     let line = race_line(alloc, &verdict)?;
-    let notes = report_of(alloc, work, &run, line.as_bytes())?;
+    let notes = report_of(
+        alloc,
+        work.refused.as_slice(),
+        work.counted.as_slice(),
+        &run,
+        line.as_bytes(),
+    )?;
     Ok(Due {
         image: DueImage::OneText(Bytes::new(alloc)),
         notes,

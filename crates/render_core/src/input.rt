@@ -82,8 +82,8 @@ fn expanded(alloc: Global, scene: ListScene) -> Result<Meaning, InputRefusal>
     }
 }
 
-// What bytes mean that begin as those of a scene with call lists.
-fn meaning_of_lists(alloc: Global, input: &[u8]) -> Result<Meaning, InputRefusal>
+/// What bytes mean that begin as those of a scene with call lists.
+pub(crate) fn meaning_of_lists(alloc: Global, input: &[u8]) -> Result<Meaning, InputRefusal>
     requires short { length input.now ≤ byte_limit }
     requires lists { BeginWithLists input.now }
     ensures read { IfOk result (IsRead OfBytes input.now) }

@@ -19,6 +19,7 @@ mod reader;
 pub mod refusal;
 mod run_job;
 mod steps;
+mod stored;
 mod work;
 mod writing;
 

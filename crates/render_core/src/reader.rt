@@ -7,9 +7,10 @@ ghost use Rattle.run_words.specs.Asked.{IsWellRead};
 ghost use Rattle.render_core.specs.Refusals.{BeginPlain, IsRefusedBytes, IsRefusedInput, refusal_of_scene};
 ghost use Rattle.run_words.specs.declared.job.Form.TheVariants.{PlainBytes as OfPlainBytes};
 
+use command_store::StoredScene;
 use rc_base::scene::{Limit, Scene};
 use run_words::refusal::InputRefusal;
-use scene_file::{SceneFault, read_scene, read_scene_beside};
+use scene_file::{SceneFault, read_scene, read_scene_beside, read_stored_scene};
 use std::alloc::Global;
 use std::thread::Threads;
 
@@ -51,6 +52,19 @@ fn scene_alone(alloc: Global, input: &[u8]) -> Result<Scene, InputRefusal>
     ensures refused_bytes { BeginPlain input.now → IfErr result (IsRefusedBytes input.now) }
 {
     match read_scene(alloc, input) {
+        Ok(scene) => Ok(scene),
+        Err(fault) => Err(refusal_of(fault)),
+    }
+}
+
+/// The same, stored in little room.
+pub(crate) fn stored_of_bytes(alloc: Global, input: &[u8]) -> Result<StoredScene, InputRefusal>
+    requires { length input.now ≤ byte_limit }
+    ensures read { IfOk result (λ scene. SpellsScene input.now scene × (limit_of scene ≡ None)) }
+    ensures well { IfOk result (IsWellRead OfPlainBytes) }
+    ensures refused_bytes { BeginPlain input.now → IfErr result (IsRefusedBytes input.now) }
+{
+    match read_stored_scene(alloc, input) {
         Ok(scene) => Ok(scene),
         Err(fault) => Err(refusal_of(fault)),
     }

@@ -6,6 +6,7 @@ ghost use Rattle.rc_base.specs.declared.window.Layout.{Layout as AnyLayout};
 ghost use Rattle.run_record.specs.Told.{IsRun};
 ghost use Rattle.render_core.specs.Carried.{IsSoundWork, IsWritableDue, Obtains, Performs};
 ghost use Rattle.render_core.specs.Due.{ending_by, report_due};
+ghost use Rattle.render_core.specs.Stored.{IsAnySoundWork};
 ghost use Rattle.run_words.specs.Jobs.{Reads, Task as AnyTask, origin_of, starts_threads, threads_of};
 ghost use Rattle.render_core.specs.Outcomes.{IsDue, PartlyWritten};
 ghost use Rattle.render_core.specs.Refusals.{outcome_of, AreReady, Came, IsBlank, IsEarlyRefusal, IsLateRefusal, IsWritable, IsCaused, IsRefusedFor, IsPerformed, IsToldOf, IsUntold};
@@ -15,11 +16,12 @@ ghost use Rattle.render_core.specs.Runs.{IsSmallRun};
 ghost use Rattle.run_words.specs.declared.job.Job.TheVariants.{Last as ToLast};
 
 use crate::cluster::{Account, account_of};
-use crate::due::{Due, due_for, last};
+use crate::due::{Due, last};
 use crate::generated::scene_of_seed;
 use crate::input::{meaning_of, plain};
 use crate::reader::{Alone, Beside, SceneReader};
-use crate::work::{Meaning, work_of};
+use crate::stored::{due_for_any, stored_work_for, takes_turns};
+use crate::work::{AnyWork, Meaning, work_behind};
 use crate::writing::{told_of, untold, write_due};
 use cluster_run::{Run, run_threads};
 use order_model::laws::{records_of_scenes, scene_lists_are_well_formed};
@@ -29,9 +31,8 @@ use rc_base::outside::{Sink, Source};
 use rc_base::transfer::read_all;
 use run_words::job::{Cluster, Job, Origin};
 use run_words::refusal::{DueRefusal, ImageRefusal, Refusal, Refused};
-use run_words::{Told, Work, asked_past, tiles_of};
+use run_words::{Told, Work, tiles_of};
 use spu_chain::Spu;
-use spu_chain::laws::filtered_scenes_stay;
 use std::alloc::Global;
 use std::sync::Wait;
 use std::thread::Threads;
@@ -87,17 +88,30 @@ fn work_for<B: SceneReader, S: Source>(
         (map (λ b. meaning b) chain.old.items) (map (λ b. meaning b) chain.new.items)
         source.old source.new IsSoundWork result }
 {
-    filtered_scenes_stay();
-    let meant = match meaning_for(reader, alloc, job, source) {
-        Ok(meant) => meant,
-        Err(refusal) => return Err(refusal),
-    };
-    match asked_past(job, &meant.scene) {
-        Some(limit) => Err(Refusal::Undue(DueRefusal::PastLimit(limit))),
-        None => match work_of(alloc, chain, job, meant) {
-            Ok(work) => Ok(work),
-            Err(OutOfMemory) => Err(Refusal::Undue(DueRefusal::OutOfMemory)),
-        },
+    match meaning_for(reader, alloc, job, source) {
+        Ok(meant) => work_behind(alloc, chain, job, meant),
+        Err(refusal) => Err(refusal),
+    }
+}
+
+// What the task of a job that starts no thread works on.
+fn any_work_for<S: Source>(
+    alloc: Global,
+    chain: &mut Vec<Box<dyn Spu>>,
+    job: Job,
+    source: &mut S,
+) -> Result<AnyWork, Refusal>
+    requires ready { AreReady (map (λ b. meaning b) chain.old.items) }
+    ensures { Obtains S.left S.faults job
+        (map (λ b. meaning b) chain.old.items) (map (λ b. meaning b) chain.new.items)
+        source.old source.new IsAnySoundWork result }
+{
+    if chain.is_empty() && takes_turns(job) {
+        return stored_work_for(alloc, chain, job, source);
+    }
+    match work_for(&Alone, alloc, chain, job, source) {
+        Ok(work) => Ok(AnyWork::Whole(work)),
+        Err(refusal) => Err(refusal),
     }
 }
 
@@ -114,8 +128,8 @@ fn due_of_source<S: Source>(
         (map (λ b. meaning b) chain.old.items) (map (λ b. meaning b) chain.new.items)
         source.old source.new IsWritableDue result }
 {
-    let work = work_for(&Alone, alloc, chain, job, source)?;
-    match due_for(alloc, job, &work) {
+    let work = any_work_for(alloc, chain, job, source)?;
+    match due_for_any(alloc, job, &work) {
         Ok(due) => Ok(due),
         Err(refusal) => Err(Refusal::Undue(refusal)),
     }

@@ -4,17 +4,23 @@ ghost use Rattle.std.specs.List.{flat_map};
 ghost use Rattle.rc_base.specs.Formats.Limits.{commands_in, limit_of};
 ghost use Rattle.spu_chain.specs.Filter.{AreReached, HaveRoom};
 ghost use Rattle.spu_chain.specs.Scenes.{counts_from, rules_after_all, scene_by};
-ghost use Rattle.run_words.specs.Jobs.{task_of};
+ghost use Rattle.rc_base.specs.Outside.Ends.{Used};
+ghost use Rattle.run_words.specs.Asked.{IsWell};
+ghost use Rattle.run_words.specs.Jobs.{origin_of, task_of};
 ghost use Rattle.run_words.specs.Lines.{filter_lines as lines_of_filters};
-ghost use Rattle.render_core.specs.Refusals.{AreReady, HaveSeenSome};
+ghost use Rattle.render_core.specs.Carried.{IsSoundWork, IsWorkBehind};
+ghost use Rattle.render_core.specs.Refusals.{AreReady, Came, HaveSeenSome};
 ghost use Rattle.render_core.specs.Scenes.{is_filtered, rules_for, work_with};
 
+use command_store::StoredScene;
 use rc_base::cluster::FaultLists;
 use rc_base::command::Bytes;
 use rc_base::out_of_memory::OutOfMemory;
 use rc_base::scene::Scene;
 use run_words::job::{Form, Job, Origin};
-use run_words::{Work, filter_lines, list_fault_lines};
+use run_words::refusal::{DueRefusal, Refusal};
+use run_words::{Work, asked_past, filter_lines, list_fault_lines};
+use spu_chain::laws::filtered_scenes_stay;
 use spu_chain::{Spu, filter_scene, rules_of};
 use std::alloc::Global;
 
@@ -25,6 +31,14 @@ pub(crate) struct Meaning {
     pub(crate) scene: Scene,
     /// Each client's commands that are refused among its call lists, with their places in the stream that was read.
     pub(crate) faults: FaultLists,
+}
+
+/// What a task works on, and the form in which its scene is stored.
+#[derive(Drop)]
+pub(crate) enum AnyWork {
+    Whole(Work),
+    /// Behind no filter, and with no line in the report besides the scene's own.
+    Stored(StoredScene),
 }
 
 // A scene that comes so goes through the filters.
@@ -64,8 +78,8 @@ fn filtered(
     })
 }
 
-/// What the job works on, where this is meant: the chain's members are given the scene's commands.
-pub(crate) fn work_of(
+// What the job works on, where this is meant: the chain's members are given the scene's commands.
+fn work_of(
     alloc: Global,
     chain: &mut Vec<Box<dyn Spu>>,
     job: Job,
@@ -88,4 +102,29 @@ pub(crate) fn work_of(
         refused,
         counted: Bytes::new(alloc),
     })
+}
+
+/// What the task works on where its scene means this: what the filters make of it.
+pub(crate) fn work_behind(
+    alloc: Global,
+    chain: &mut Vec<Box<dyn Spu>>,
+    job: Job,
+    meant: Meaning,
+) -> Result<Work, Refusal>
+    requires ready { AreReady (map (λ b. meaning b) chain.old.items) }
+    requires well { IsWell (origin_of job) meant.scene }
+    requires within { limit_of meant.scene ≡ None }
+    requires few { length meant.faults ≤ 8 }
+    ensures { (source : Used) → Came job source meant → IsWorkBehind job
+        (map (λ b. meaning b) chain.old.items) (map (λ b. meaning b) chain.new.items)
+        source IsSoundWork result }
+{
+    filtered_scenes_stay();
+    match asked_past(job, &meant.scene) {
+        Some(limit) => Err(Refusal::Undue(DueRefusal::PastLimit(limit))),
+        None => match work_of(alloc, chain, job, meant) {
+            Ok(work) => Ok(work),
+            Err(OutOfMemory) => Err(Refusal::Undue(DueRefusal::OutOfMemory)),
+        },
+    }
 }

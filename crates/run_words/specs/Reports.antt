@@ -61,7 +61,11 @@ lines_of_run work faults tallies kept waiting orders =
     work.refused ++ lines_of_faults faults ++ lines_of_tiles tallies ++ count_lines kept.journal ++ work.counted
     ++ (if orders then lines_of_orders kept else []) ++ lines_of_stuck waiting (length faults)
 
--- all lines of a run without tiles
+-- all lines of a run without tiles, where these were refused before it, and the filters counted so
+abbrev pub lines_of_turns_with : List ℕ → List ℕ → List (List (ℕ × Fault)) → List Entry → List ℕ → Option Waiting → List ℕ
+lines_of_turns_with refused counted faults journal told waiting =
+    refused ++ lines_of_faults faults ++ count_lines journal ++ counted ++ told ++ lines_of_stuck waiting (length faults)
+
+-- so it is of what a task works on
 abbrev pub lines_of_turns : Work → List (List (ℕ × Fault)) → List Entry → List ℕ → Option Waiting → List ℕ
-lines_of_turns work faults journal told waiting =
-    work.refused ++ lines_of_faults faults ++ count_lines journal ++ work.counted ++ told ++ lines_of_stuck waiting (length faults)
+lines_of_turns work faults journal told waiting = lines_of_turns_with work.refused work.counted faults journal told waiting

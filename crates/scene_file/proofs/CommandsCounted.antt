@@ -13,8 +13,13 @@ use Rattle.packet_bytes.specs.declared.packets.DecodedOf.{DecodedOf}
 use Rattle.scene_file.specs.declared.fault.SceneFault.{SceneFault}
 use Rattle.scene_file.specs.declared.fault.SceneFault.TheVariants as scene_faults
 use Rattle.scene_file.specs.Letters.{Letters, form_of}
-use Rattle.scene_file.specs.Counting.{DecodesFirst, SpellsCounted, frames_with, least_shown}
-use Rattle.scene_file.specs.Faults.{TellsFormBy, IsBeyondBy, IsJudgedBy}
+use Rattle.scene_file.specs.Counting.{DecodesFirst, SpellsCounted, counted_as, frames_with, least_shown}
+use Rattle.scene_file.specs.declared.reading.Counted.{Counted}
+use Rattle.std.proofs.lemmas.List.{map-id}
+use Rattle.scene_file.specs.Faults.{TellsFormBy, IsBeyondBy, IsJudgedBy, FailsAsSceneOf, SceneFailsBy}
+use Rattle.scene_file.specs.Reading.{scene_fault}
+use Rattle.scene_file.specs.declared.fault.Broken.{Broken}
+use Rattle.scene_file.specs.declared.fault.Broken.TheVariants as broken
 use Rattle.scene_file.proofs.StreamsInTurn.{Stage, stage_more, stage_done}
 
 pub frames_some : (before frames swaps : ℕ) → 0 < before → frames_with before frames swaps ≡ min frames swaps
@@ -57,7 +62,7 @@ module _ {C O : Type 0} (set : CommandSet C O) (letters : Letters) (shows : C �
   progress_none bytes d n rest s = record { all = []; stage = s; as_many = refl; counted = refl; frames_are = refl; stored = λ _. refl; few = omega arith }
 
   -- one more stream
-  pub progress_more : (bytes : List ℕ) (d : Decl) (n i : ℕ) (css : List (List C)) (commands frames : ℕ) (rest : List ℕ) (x : DecodedOf C) (after : List ℕ)
+  pub progress_more : (bytes : List ℕ) (d : Decl) (n i : ℕ) (css : List (List C)) (commands frames : ℕ) (rest : List ℕ) (x : DecodedOf (List C)) (after : List ℕ)
       → Progress bytes d n i css commands frames rest → DecodesFirst set shows rest (1048576 - commands) x after
       → Progress bytes d n (i + 1) (css ++ x.commands ∷ []) (commands + x.count) (frames_with (length css) frames x.swaps) after
   progress_more bytes d n i css commands frames rest x after p h = record {
@@ -78,6 +83,18 @@ module _ {C O : Type 0} (set : CommandSet C O) (letters : Letters) (shows : C �
     spells = stage_done set letters bytes d n i p.all rest p.stage last none;
     counts = record { decl = refl; clients = p.as_many; counted = p.counted; frames = p.frames_are; stored = p.stored };
   }
+
+-- commands that are kept as they are
+pub kept_same : {C : Type 0} (x : Counted (List C)) → counted_as (λ (cs : List C). cs) x ≡ x
+kept_same x = λ i. record { decl = x.decl; streams = map-id x.streams i; commands = x.commands; frames = x.frames }
+
+-- a fault of the bytes is told at its place
+pub fault_told : {C O : Type 0} (form : SceneForm C O) (all : List (List ℕ)) (bytes : List ℕ) (b : Broken) (fault : SceneFault)
+    → fault ≡ scene_fault b (length bytes) → SceneFailsBy form all bytes b → TellsFormBy (FailsAsSceneOf form all) bytes fault
+fault_told form all bytes broken.Memory fault e h = subst (TellsFormBy (FailsAsSceneOf form all) bytes) (sym e) tt
+fault_told form all bytes (broken.Form kind left) fault e h =
+    let at : h.0 ≡ length bytes - left = omega (arith, h.2) in
+    subst (TellsFormBy (FailsAsSceneOf form all) bytes) (sym e) (subst (λ (n : ℕ). FailsAsSceneOf form all bytes kind n) at h.1)
 
 -- ---- what is judged
 

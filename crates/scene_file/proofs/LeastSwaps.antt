@@ -1,8 +1,10 @@
 -- Sums and least values that a loop makes.
-use Rattle.std.proofs.Common.{◌≡◌, ℕ, ◌-◌, ◌≤◌, min, List, [], ◌∷◌, length, take, drop, get_or, refl, sym, ap, ◌∙◌, arith}
+use Rattle.std.proofs.Common.{◌≡◌, ℕ, ◌+◌, ◌-◌, ◌<◌, ◌≤◌, min, Bool, true, false, cond, List, [], ◌∷◌, length, take, drop, get_or, refl, sym, ap, ◌∙◌, arith}
 use Rattle.std.proofs.lemmas.List.{take_all}
+use Rattle.std.proofs.lemmas.List.Sums.{count_by_more_no, count_by_more_yes}
 use Rattle.rc_base.specs.declared.command.Command.{Command}
-use Rattle.rc_base.specs.Formats.Limits.{swaps_in, least_swaps}
+use Rattle.rc_base.specs.declared.command.Command.TheVariants as cmd
+use Rattle.rc_base.specs.Formats.Limits.{is_swap_command, swaps_in, least_swaps}
 
 -- the least of a number and the swaps of streams
 abbrev pub least_with : ℕ → List (List Command) → ℕ
@@ -24,3 +26,11 @@ frames_start [] first n some is count = absurd (omega arith)
 frames_start (s ∷ ss) first n some is count =
     let whole : take (length (s ∷ ss) - 1) ss ≡ ss = take_all (length (s ∷ ss) - 1) ss (omega arith) in
     ap (least_with n) whole ∙ ap (λ (k : ℕ). least_with k ss) (count ∙ ap swaps_in is) ∙ sym (frames_least s ss)
+
+-- one command more
+pub swaps_more : (cs : List Command) (i : ℕ) → i < length cs
+    → swaps_in (take (i + 1) cs) ≡ swaps_in (take i cs) + cond (is_swap_command (get_or cs i cmd.End)) 1 0
+swaps_more cs i inside = go (is_swap_command (get_or cs i cmd.End)) refl where
+  go : (b : Bool) → is_swap_command (get_or cs i cmd.End) ≡ b → swaps_in (take (i + 1) cs) ≡ swaps_in (take i cs) + cond b 1 0
+  go true is = count_by_more_yes is_swap_command cs i cmd.End inside is
+  go false is = count_by_more_no is_swap_command cs i cmd.End inside is ∙ omega arith

@@ -1,9 +1,9 @@
 -- The parts of the table of limits, judged one after the other.
-use Rattle.std.proofs.Common.{◌≡◌, ℕ, ◌<◌, ◌≤◌, ◌*◌, inl, inr, true, false, Bool, cond, List, [], ◌∷◌, ◌++◌, length, map, Option, Some, None, Result, Ok, Err, refl, sym, ap, ◌∙◌, arith}
+use Rattle.std.proofs.Common.{◌≡◌, ℕ, ◌<◌, ◌≤◌, ◌*◌, true, false, Bool, cond, List, [], ◌∷◌, ◌++◌, length, map, Option, Some, None, Result, Ok, Err, refl, sym, ap, ◌∙◌, arith}
 use Rattle.std.specs.Prelude.{sum_by, MatchResult}
 use Rattle.std.specs.List.{flat_map}
 use Rattle.std.proofs.lemmas.Bool.Decides.{nat_tests}
-use Rattle.std.proofs.lemmas.Bool.{cond-true, cases_lt}
+use Rattle.std.proofs.lemmas.Bool.{cond-true}
 use Rattle.rc_base.specs.declared.command.Command.{Command}
 use Rattle.rc_base.specs.declared.list_command.ListCommand.{ListCommand}
 use Rattle.rc_base.specs.declared.scene.Decl.{Decl}
@@ -73,14 +73,14 @@ held_is s (Err l) h = sym h
 -- ---- of a scene of which not all commands are stored
 
 -- what is told of a scene by its declaration, and the numbers of its clients, its commands and its frames
-pub counted_limit : (x : Counted Command) (s : Scene) → Counts is_swap_command x s.decl s.streams → judge_parts x.decl (length x.streams) x.commands x.frames ≡ limit_of s
+pub counted_limit : (x : Counted (List Command)) (s : Scene) → Counts is_swap_command x s.decl s.streams → judge_parts x.decl (length x.streams) x.commands x.frames ≡ limit_of s
 counted_limit x s c =
     (λ i. judge_parts (c.decl i) (c.clients i) (c.counted i) (c.frames i))
     ∙ ap (λ (n : ℕ). judge_parts s.decl (length s.streams) (commands_in s.streams) n) (shown_swaps s.streams)
     ∙ sym (limit_parts s)
 
 -- the same of one with call lists
-pub counted_read : (shows : ListCommand → Bool) (x : Counted ListCommand) (s : ListScene) → Counts shows x s.decl s.streams → judge_read x.decl (length x.streams) x.commands ≡ list_limit_of s
+pub counted_read : (shows : ListCommand → Bool) (x : Counted (List ListCommand)) (s : ListScene) → Counts shows x s.decl s.streams → judge_read x.decl (length x.streams) x.commands ≡ list_limit_of s
 counted_read shows x s c = (λ i. judge_read (c.decl i) (c.clients i) (c.counted i)) ∙ sym (read_parts s.decl s.streams)
 
 pub decl_limit : (d : Decl) (clients : ℕ) (l : Limit) → judge_decl d clients ≡ Some l → (s : Scene) → s.decl ≡ d → length s.streams ≡ clients → limit_of s ≡ Some l
@@ -116,7 +116,7 @@ few_streams d commands frames h =
     single 11 commands 1048576 (none_first (first_outside (one 11 commands 1048576)) (first_outside others) (sym (outside_append (one 11 commands 1048576) others) ∙ h)).0
 
 -- all commands are stored of a scene that is within its limits
-pub all_stored : (x : Counted Command) (s : Scene) → Counts is_swap_command x s.decl s.streams → judge_parts x.decl (length x.streams) x.commands x.frames ≡ None
+pub all_stored : (x : Counted (List Command)) (s : Scene) → Counts is_swap_command x s.decl s.streams → judge_parts x.decl (length x.streams) x.commands x.frames ≡ None
     → record { decl = x.decl; streams = x.streams } ≡ s
 all_stored x s c h =
     let few = few_streams x.decl x.commands x.frames (none_first (judge_decl x.decl (length x.streams)) (first_outside (stream_part x.decl x.commands x.frames)) h).1 in
@@ -124,7 +124,7 @@ all_stored x s c h =
     λ i. record { decl = c.decl i; streams = streams i }
 
 -- the same of one with call lists
-pub all_read : (shows : ListCommand → Bool) (x : Counted ListCommand) (s : ListScene) → Counts shows x s.decl s.streams → judge_read x.decl (length x.streams) x.commands ≡ None
+pub all_read : (shows : ListCommand → Bool) (x : Counted (List ListCommand)) (s : ListScene) → Counts shows x s.decl s.streams → judge_read x.decl (length x.streams) x.commands ≡ None
     → record { decl = x.decl; streams = x.streams } ≡ s
 all_read shows x s c h =
     let few = single 11 x.commands 1048576 (none_first (judge_decl x.decl (length x.streams)) (first_outside (one 11 x.commands 1048576)) h).1 in

@@ -30,7 +30,7 @@ frames_first cs [] swaps frames first others = first
 frames_first cs (a ∷ css) swaps frames first others = frames_some (length (a ∷ css)) frames swaps (omega arith) ∙ (λ i. min (others i) (first i)) ∙ omega arith
 
 -- one stream more in front
-one_more : (bytes text after : List ℕ) (n : ℕ) (first : DecodedOf Command) (others x : Gathered) → AreBytes bytes → read_text bytes ≡ Ok (text, after) → HoldsStream text first → HoldsStreams after n others
+one_more : (bytes text after : List ℕ) (n : ℕ) (first : DecodedOf (List Command)) (others x : Gathered) → AreBytes bytes → read_text bytes ≡ Ok (text, after) → HoldsStream text first → HoldsStreams after n others
     → x.streams ≡ first.commands ∷ others.streams → x.commands ≡ first.count + others.commands → x.frames ≡ frames_with (length others.streams) others.frames first.swaps → HoldsStreams bytes (suc n) x
 one_more bytes text after n first others x fits read f o streams commands frames =
     let t = text_codec.maker.takes bytes text after fits read in
@@ -45,7 +45,7 @@ one_more bytes text after n first others x fits read f o streams commands frames
     }
 
 -- the same of what the two threads gave, and of what was put together
-pub streams_held : (bytes text after : List ℕ) (count left : ℕ) (a : Option (DecodedOf Command)) (first : DecodedOf Command) (b : Option Gathered) (others : Gathered) (r : Option Gathered)
+pub streams_held : (bytes text after : List ℕ) (count left : ℕ) (a : Option (DecodedOf (List Command))) (first : DecodedOf (List Command)) (b : Option Gathered) (others : Gathered) (r : Option Gathered)
     → AreBytes bytes → read_text bytes ≡ Ok (text, after) → suc left ≡ count
     → IfSome a (HoldsStream text) → a ≡ Some first → IfSome b (HoldsStreams after left) → b ≡ Some others
     → IfSome r (λ x. x.streams ≡ first.commands ∷ others.streams) → IfSome r (λ x. x.commands ≡ first.count + others.commands)
@@ -53,7 +53,7 @@ pub streams_held : (bytes text after : List ℕ) (count left : ℕ) (a : Option 
 streams_held bytes text after count left a first b others None fits read more f is_first o is_others streams commands frames = tt
 streams_held bytes text after count left a first b others (Some x) fits read more f is_first o is_others streams commands frames =
     subst (λ (n : ℕ). HoldsStreams bytes n x) more
-    (one_more bytes text after left first others x fits read (subst (λ (y : Option (DecodedOf Command)). IfSome y (HoldsStream text)) is_first f)
+    (one_more bytes text after left first others x fits read (subst (λ (y : Option (DecodedOf (List Command))). IfSome y (HoldsStream text)) is_first f)
     (subst (λ (y : Option Gathered). IfSome y (HoldsStreams after left)) is_others o) streams commands frames)
 
 no_texts : (texts : List (List ℕ)) → SpellStreams texts [] → texts ≡ []
@@ -78,7 +78,7 @@ scene_held version is bytes body rest h x fits parts read held =
 -- and where the quantities were judged, and none is outside its range
 pub scene_found : (version : ℕ) → IsVersion version → (bytes body rest : List ℕ) (h : Head) → AreBytes bytes → bytes ≡ magic version ++ body → read_head version body ≡ Ok (h, rest)
     → (behind : List ℕ) (clients : ℕ) (b : Option Gathered) (x : Gathered) → IfSome b (HoldsStreams behind clients) → b ≡ Some x → rest ≡ behind → h.clients ≡ clients
-    → (counted : Counted Command) (r : Result Scene SceneFault) (scene : Scene) → ((s : Scene) → Counts is_swap_command counted s.decl s.streams → IsJudged s r) → r ≡ Ok scene
+    → (counted : Counted (List Command)) (r : Result Scene SceneFault) (scene : Scene) → ((s : Scene) → Counts is_swap_command counted s.decl s.streams → IsJudged s r) → r ≡ Ok scene
     → counted.decl ≡ h.decl → counted.streams ≡ x.streams → counted.commands ≡ x.commands → counted.frames ≡ x.frames → SpellsScene bytes scene × (limit_of scene ≡ None)
 scene_found version is bytes body rest h fits parts read behind clients b x held is_some same_rest same_clients counted r scene judged is_ok decl streams commands frames =
     let there : HoldsStreams behind clients x = subst (λ (y : Option Gathered). IfSome y (HoldsStreams behind clients)) is_some held in

@@ -50,7 +50,7 @@ module _ {C O : Type 0} (set : CommandSet C O) where
       let t = text_codec.maker.takes bytes text after fits h in
       record { text = text; fits = t.1.0; spells = spells; parts = t.0 }
 
-  pub text_decoded : (shows : C → Bool) (bytes text after : List ℕ) (room : ℕ) (x : DecodedOf C) → AreBytes bytes → read_text bytes ≡ Ok (text, after) → DecodesOf set shows text room x → DecodesFirst set shows bytes room x after
+  pub text_decoded : (shows : C → Bool) (bytes text after : List ℕ) (room : ℕ) (x : DecodedOf (List C)) → AreBytes bytes → read_text bytes ≡ Ok (text, after) → DecodesOf set shows text room x → DecodesFirst set shows bytes room x after
   text_decoded shows bytes text after room x fits h d =
       let t = text_codec.maker.takes bytes text after fits h in
       record { all = d.all; first = text_found bytes text after d.all fits h d.spells; counted = d.counted; swaps = d.swaps; stored = d.stored; few = omega (arith, d.short, t.1.0) }

@@ -9,7 +9,7 @@ use Rattle.scene_file.specs.declared.beside.Gathered.{Gathered}
 use Rattle.scene_file.specs.Counting.{least_shown}
 
 -- These are all commands that the bytes of a stream spell, and they and the Swaps among them were counted.
-pub record HoldsStream (text : List ℕ) (x : DecodedOf Command) : Type 0 where
+pub record HoldsStream (text : List ℕ) (x : DecodedOf (List Command)) : Type 0 where
   pub spells : SpellsStream text x.commands
   pub counted : x.count ≡ length x.commands
   pub swaps : x.swaps ≡ count_by is_swap_command x.commands

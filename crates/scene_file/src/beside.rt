@@ -12,7 +12,7 @@ use crate::header::{BeginsScene, Head, read_head};
 use crate::reading::{Counted, frames_with, read_judged, read_text, within_limits};
 use packet_bytes::decode_within;
 use packet_bytes::packets::DecodedOf;
-use rc_base::command::Command;
+use rc_base::command::{Command, Commands};
 use rc_base::items::Items;
 use rc_base::scene::{Scene, Streams};
 use std::alloc::Global;
@@ -38,7 +38,7 @@ fn room_of(size: usize, all: usize) -> usize
 }
 
 /// The stream that these bytes spell, where there is room for all of its commands.
-fn stored(alloc: Global, room: usize, text: &[u8]) -> Option<DecodedOf<Command>>
+fn stored(alloc: Global, room: usize, text: &[u8]) -> Option<DecodedOf<Commands>>
     requires { room ≤ 1048576 }
     ensures { IfSome result (HoldsStream text.now) }
 {
@@ -55,7 +55,7 @@ fn stored(alloc: Global, room: usize, text: &[u8]) -> Option<DecodedOf<Command>>
 }
 
 /// A stream, and those behind it.
-fn put_first(alloc: Global, first: DecodedOf<Command>, others: Gathered) -> Option<Gathered>
+fn put_first(alloc: Global, first: DecodedOf<Commands>, others: Gathered) -> Option<Gathered>
     requires first { first.count ≤ 1048576 }
     requires others { others.commands ≤ 8388608 }
     ensures streams { IfSome result (λ x. x.streams ≡ first.commands ∷ others.streams) }
@@ -114,7 +114,7 @@ fn streams_beside<R: Threads>(
     let left = count - 1;
     let (first, others) = join(
         rt,
-        || -> Option<DecodedOf<Command>>
+        || -> Option<DecodedOf<Commands>>
             requires { room ≤ 1048576 }
             ensures { IfSome result (HoldsStream text.entry.now) }
         { stored(alloc, room, text) },
@@ -130,7 +130,7 @@ fn streams_beside<R: Threads>(
 fn scene_beside<R: Threads>(rt: &R, alloc: Global, bytes: &[u8]) -> Option<Scene>
     ensures { IfSome result (λ s. SpellsScene bytes.now s × (limit_of s ≡ None)) }
 {
-    let Ok((version, body)) = <Command as BeginsScene>::read_magic(bytes) else {
+    let Ok((version, body)) = <Vec<Command> as BeginsScene>::read_magic(bytes) else {
         return None;
     };
     let Ok((Head { decl, clients }, body)) = read_head(alloc, version, body) else {

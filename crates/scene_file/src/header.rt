@@ -9,6 +9,7 @@ ghost use Rattle.scene_file.specs.Faults.{LettersFailBy, MagicFailsBy};
 use crate::fault::Broken;
 use byte_codec::fault::{Form, ReadError};
 use byte_codec::fields::{read_byte, read_half, take_bytes};
+use command_store::StoreWriter;
 use rc_base::command::Command;
 use rc_base::list_command::ListCommand;
 use rc_base::scene::{Counts, Decl, SceneKind, Sizes, Units};
@@ -114,7 +115,7 @@ fn read_list_magic(bytes: &[u8]) -> Result<(u8, &[u8]), Broken>
     Ok((2, rest))
 }
 
-/// A command of the streams of scenes that begin with letters of their own.
+/// A list for the streams of scenes that begin with letters of their own.
 pub(crate) trait BeginsScene: Sized {
     /// The letters, and the versions by which these scenes draw.
     ghost letters: { Letters };
@@ -125,7 +126,7 @@ pub(crate) trait BeginsScene: Sized {
         ensures fails { IfErr result (MagicFailsBy letters bytes.now) };
 }
 
-impl BeginsScene for Command {
+impl BeginsScene for Vec<Command> {
     ghost letters = { plain_letters };
 
     fn read_magic(bytes: &[u8]) -> Result<(u8, &[u8]), Broken> {
@@ -133,7 +134,15 @@ impl BeginsScene for Command {
     }
 }
 
-impl BeginsScene for ListCommand {
+impl BeginsScene for StoreWriter {
+    ghost letters = { plain_letters };
+
+    fn read_magic(bytes: &[u8]) -> Result<(u8, &[u8]), Broken> {
+        read_magic(bytes)
+    }
+}
+
+impl BeginsScene for Vec<ListCommand> {
     ghost letters = { list_letters };
 
     fn read_magic(bytes: &[u8]) -> Result<(u8, &[u8]), Broken> {

@@ -20,8 +20,10 @@ pub use beside::read_scene_beside;
 pub use fault::SceneFault;
 pub use generator::{generate, next_state};
 pub use header::begins_with_lists;
-pub use limits::{check_held, check_limits, check_streams, clients_beyond, commands_beyond};
+pub use limits::{
+    check_held, check_held_stored, check_limits, check_streams, clients_beyond, commands_beyond,
+};
 pub use list_scene::ListScene;
 pub use lists::read_list_scene;
-pub use reading::read_scene;
+pub use reading::{read_scene, read_stored_scene};
 pub use writing::write_scene;

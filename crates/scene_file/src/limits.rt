@@ -1,9 +1,11 @@
 //! The limits of a scene, in the order of their table.
-ghost use Rattle.std.specs.Prelude.{◌≡◌, ◌<◌, ◌≤◌, ◌*◌, ◌∷◌, [], map, length, sum_by, OnOk, None, Err};
+ghost use Rattle.std.specs.Prelude.{◌≡◌, ◌<◌, ◌≤◌, ◌*◌, ◌∷◌, [], map, length, slice_index_or, sum_by, OnOk, None, Err};
 ghost use Rattle.std.specs.List.{flat_map};
 ghost use Rattle.rc_base.specs.Formats.Limits.{first_outside, held_limit, limit_of, stream_limit, size_area, side, barrier_count, is_swap_command, swaps_in, least_swaps, commands_in, judged};
+ghost use Rattle.rc_base.specs.declared.command.Command.TheVariants as cmd;
 ghost use Rattle.scene_file.specs.Judging.{IsLimitOfClients, IsLimitOfCommands, IsWindowWithin, Tells, window_part, judge_counts, judge_decl, stream_part, judge_parts, judge_read, judge_scene};
 
+use command_store::{CommandStore, StoredCommand, StoredScene};
 use rc_base::command::{Command, Commands};
 use rc_base::scene::{Decl, Limit, Scene, judge};
 
@@ -189,6 +191,56 @@ pub fn check_held(scene: &Scene) -> Result<(), Limit>
 {
     let frames = count_frames(scene.streams.as_slice()) as u64;
     judge(19, frame_pixels(&scene.decl, frames), 0, 33_554_432)
+}
+
+// Whether the command at a place is a Swap.
+fn is_stored_swap(commands: &CommandStore, place: usize) -> bool
+    requires { place < length commands.now }
+    ensures { result ≡ is_swap_command (slice_index_or commands.now place cmd.End) }
+{
+    match commands.form(place) {
+        StoredCommand::Other(_) => is_swap(&commands.at(place)),
+        StoredCommand::Begin { .. }
+        | StoredCommand::End
+        | StoredCommand::Vertex { .. }
+        | StoredCommand::Color(_)
+        | StoredCommand::TexCoord { .. } => false,
+    }
+}
+
+#[tactic(auto, using(crate::proofs::LeastSwaps::swaps_more))]
+fn count_stored_swaps(commands: &CommandStore) -> usize
+    ensures { result ≡ swaps_in commands.now }
+{
+    let mut count = 0;
+    for place in 0..commands.len() {
+        count += usize::from(is_stored_swap(commands, place));
+    }
+    count
+}
+
+fn count_stored_frames(streams: &[CommandStore]) -> usize
+    ensures { result ≡ least_swaps streams.now }
+{
+    match streams {
+        [] => 0,
+        [first, others @ ..] => {
+            let mut least = count_stored_swaps(first);
+            for stream in others {
+                least = least.min(count_stored_swaps(stream));
+            }
+            least
+        }
+    }
+}
+
+/// The same of a scene that is stored in little room.
+pub fn check_held_stored(scene: &StoredScene) -> Result<(), Limit>
+    requires { limit_of scene.now ≡ None }
+    ensures { Tells result (held_limit scene.now) }
+{
+    let frames = count_stored_frames(scene.streams()) as u64;
+    judge(19, frame_pixels(scene.decl(), frames), 0, 33_554_432)
 }
 
 /// The first quantity outside its range of a scene with this declaration and too many clients, whatever their commands are.

@@ -9,11 +9,11 @@ use crate::fault::{SceneFault, fault_at};
 use crate::limits::check_read;
 use crate::list_scene::ListScene;
 use crate::reading::{Counted, read_spelled};
-use rc_base::list_command::ListCommand;
+use rc_base::list_command::{ListCommand, ListCommands};
 use rc_base::scene::Limit;
 use std::alloc::Global;
 
-fn within_limits(counted: Counted<ListCommand>) -> Result<ListScene, SceneFault>
+fn within_limits(counted: Counted<ListCommands>) -> Result<ListScene, SceneFault>
     ensures { (s : AnyListScene) → Counts is_list_swap counted s.decl s.streams → IsListJudged s result }
 {
     let Counted {
@@ -33,7 +33,7 @@ fn read_judged(alloc: Global, bytes: &[u8]) -> Result<ListScene, SceneFault>
     ensures malformed { IfErr result (TellsListForm bytes.now) }
     ensures limit { IfErr result (IsListBeyond bytes.now) }
 {
-    match read_spelled::<ListCommand>(alloc, bytes) {
+    match read_spelled::<Vec<ListCommand>>(alloc, bytes) {
         Ok(counted) => within_limits(counted),
         Err(broken) => Err(fault_at(broken, bytes.len())),
     }

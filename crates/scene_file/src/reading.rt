@@ -5,27 +5,29 @@ ghost use Rattle.rc_base.specs.Formats.Limits.{is_swap_command, limit_of};
 ghost use Rattle.rc_base.specs.Formats.Within.{IsWithin};
 ghost use Rattle.rc_base.specs.declared.scene.Scene.{Scene as AnyScene};
 ghost use Rattle.byte_codec.specs.Reading.{Reads};
+ghost use Rattle.packet_bytes.specs.Packets.{decoded_as};
 ghost use Rattle.scene_file.specs.Reading.{read_text};
 ghost use Rattle.scene_file.specs.Letters.{form_of};
 ghost use Rattle.scene_file.specs.Faults.{TextFailsBy, SceneFailsBy, HasFields, ReadsEach, TellsEachForm, TellsEachLimit, TellsForm, IsBeyond, IsJudged};
-ghost use Rattle.scene_file.specs.Counting.{DecodesFirst, Counts, SpellsCounted, frames_with};
+ghost use Rattle.scene_file.specs.Counting.{DecodesFirst, Counts, SpellsCounted, counted_as, frames_with};
 
 use crate::fault::{Broken, SceneFault, fault_at, in_stream};
 use crate::header::{BeginsScene, Head, read_head};
 use crate::limits::check_counted;
 use byte_codec::fault::Form;
 use byte_codec::fields::{read_long, take_bytes};
-use packet_bytes::packets::{DecodedOf, PacketCommand, decode_of};
-use rc_base::command::Command;
+use command_store::{CommandStore, StoreWriter, StoredScene};
+use packet_bytes::packets::{DecodedOf, PacketList, decode_of};
+use rc_base::command::{Command, Commands};
 use rc_base::items::Items;
 use rc_base::scene::{Decl, Limit, Scene, SceneKind};
 use std::alloc::Global;
 
 /// A scene as far as it is stored, how many commands its streams have, and how many frames it has: the least number of Swaps of a stream.
 #[derive(Debug, Drop)]
-pub(crate) struct Counted<C> {
+pub(crate) struct Counted<K> {
     pub(crate) decl: Decl,
-    pub(crate) streams: Items<Items<C>>,
+    pub(crate) streams: Items<K>,
     pub(crate) commands: usize,
     pub(crate) frames: usize,
 }
@@ -57,16 +59,16 @@ pub(crate) fn read_text(bytes: &[u8]) -> Result<(&[u8], &[u8]), Form>
 }
 
 /// The stream at the front, stored where there is room for its commands, and the bytes behind it.
-fn read_stream<C: PacketCommand>(
+fn read_stream<L: PacketList>(
     alloc: Global,
     room: usize,
     bytes: &[u8],
-) -> Result<(DecodedOf<C>, &[u8]), Broken>
-    ensures found { IfOk result (λ x. DecodesFirst C.set C.reader.shows bytes.now room x.0 x.1.now) }
-    ensures fails { IfErr result (TextFailsBy C.set bytes.now) }
+) -> Result<(DecodedOf<L::Kept>, &[u8]), Broken>
+    ensures found { IfOk result (λ x. DecodesFirst L.set L.reader.shows bytes.now room (decoded_as L.kept x.0) x.1.now) }
+    ensures fails { IfErr result (TextFailsBy L.set bytes.now) }
 {
     let (text, after) = read_text(bytes)?;
-    match decode_of::<C>(alloc, room, text) {
+    match decode_of::<L>(alloc, room, text) {
         Ok(decoded) => Ok((decoded, after)),
         Err(fault) => Err(in_stream(fault, bytes.len())),
     }
@@ -80,14 +82,15 @@ fn is_end(rest: &[u8]) -> bool
 
 /// The scene of either command set that the bytes spell, whatever its quantities. Its commands and frames are counted, and its commands stored where they are no more than
 /// a scene may have.
-pub(crate) fn read_spelled<C: PacketCommand + BeginsScene>(
+pub(crate) fn read_spelled<L: PacketList + BeginsScene>(
     alloc: Global,
     bytes: &[u8],
-) -> Result<Counted<C>, Broken>
-    ensures found { IfOk result (SpellsCounted (form_of C.set C.letters) C.reader.shows bytes.now) }
-    ensures fails { IfErr result (SceneFailsBy (form_of C.set C.letters) C.letters.all bytes.now) }
+) -> Result<Counted<L::Kept>, Broken>
+    ensures found { IfOk result (λ x. SpellsCounted (form_of L.set L.letters) L.reader.shows bytes.now
+        (counted_as L.kept x)) }
+    ensures fails { IfErr result (SceneFailsBy (form_of L.set L.letters) L.letters.all bytes.now) }
 {
-    let (version, body) = C::read_magic(bytes)?;
+    let (version, body) = L::read_magic(bytes)?;
     let (Head { decl, clients }, body) = read_head(alloc, version, body)?;
     let mut streams = Items::new(alloc);
     let mut commands = 0;
@@ -95,7 +98,7 @@ pub(crate) fn read_spelled<C: PacketCommand + BeginsScene>(
     let mut rest = body;
     for _ in 0..clients {
         let room = room_behind(commands);
-        let (decoded, after) = read_stream::<C>(alloc, room, rest)?;
+        let (decoded, after) = read_stream::<L>(alloc, room, rest)?;
         frames = frames_with(streams.len(), frames, decoded.swaps);
         streams.push(decoded.commands)?;
         commands += decoded.count;
@@ -115,7 +118,7 @@ pub(crate) fn read_spelled<C: PacketCommand + BeginsScene>(
     })
 }
 
-pub(crate) fn within_limits(counted: Counted<Command>) -> Result<Scene, SceneFault>
+pub(crate) fn within_limits(counted: Counted<Commands>) -> Result<Scene, SceneFault>
     ensures { (s : AnyScene) → Counts is_swap_command counted s.decl s.streams → IsJudged s result }
 {
     let Counted {
@@ -135,7 +138,7 @@ pub(crate) fn read_judged(alloc: Global, bytes: &[u8]) -> Result<Scene, SceneFau
     ensures malformed { IfErr result (TellsForm bytes.now) }
     ensures limit { IfErr result (IsBeyond bytes.now) }
 {
-    match read_spelled::<Command>(alloc, bytes) {
+    match read_spelled::<Vec<Command>>(alloc, bytes) {
         Ok(counted) => within_limits(counted),
         Err(broken) => Err(fault_at(broken, bytes.len())),
     }
@@ -161,4 +164,52 @@ pub fn read_scene(alloc: Global, bytes: &[u8]) -> Result<Scene, SceneFault>
     ensures limit_only { TellsEachLimit bytes.now result }
 {
     read_judged(alloc, bytes)
+}
+
+fn stored_within_limits(counted: Counted<CommandStore>) -> Result<StoredScene, SceneFault>
+    ensures { (s : AnyScene) → Counts is_swap_command counted s.decl s.streams → IsJudged s result }
+{
+    let Counted {
+        decl,
+        streams,
+        commands,
+        frames,
+    } = counted;
+    match check_counted(&decl, streams.len(), commands as u64, frames as u64) {
+        Ok(()) => Ok(StoredScene::new(decl, streams)),
+        Err(Limit { what, value }) => Err(SceneFault::Limit { what, value }),
+    }
+}
+
+fn read_stored_judged(alloc: Global, bytes: &[u8]) -> Result<StoredScene, SceneFault>
+    ensures found { IfOk result (λ s. SpellsScene bytes.now s × (limit_of s ≡ None)) }
+    ensures malformed { IfErr result (TellsForm bytes.now) }
+    ensures limit { IfErr result (IsBeyond bytes.now) }
+{
+    match read_spelled::<StoreWriter>(alloc, bytes) {
+        Ok(counted) => stored_within_limits(counted),
+        Err(broken) => Err(fault_at(broken, bytes.len())),
+    }
+}
+
+/// What `read_scene` answers, with its commands in less room than a list of them takes.
+pub fn read_stored_scene(alloc: Global, bytes: &[u8]) -> Result<StoredScene, SceneFault>
+    // What is read is spelled so, and within the limits.
+    ensures found { IfOk result (λ s. SpellsScene bytes.now s × (limit_of s ≡ None)) }
+    // Its fields are in their ranges.
+    ensures fields { IfOk result HasFields }
+    // So it is within what every call that takes a scene asks.
+    ensures within { IfOk result IsWithin }
+    // What is spelled so and within the limits is read, unless memory runs out.
+    ensures only { ReadsEach bytes.now result }
+    // Malformed bytes have this fault first from the left, at this place.
+    ensures malformed { IfErr result (TellsForm bytes.now) }
+    // Such bytes are answered so, unless memory runs out.
+    ensures malformed_only { TellsEachForm bytes.now result }
+    // The scene that is spelled has this quantity outside its range, the first in the order of the table.
+    ensures limit { IfErr result (IsBeyond bytes.now) }
+    // Such a scene is answered so, unless memory runs out.
+    ensures limit_only { TellsEachLimit bytes.now result }
+{
+    read_stored_judged(alloc, bytes)
 }

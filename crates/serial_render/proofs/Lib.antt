@@ -14,3 +14,5 @@ pub mod TurnsOfClients
 pub mod ScenesTakeTurns
 pub mod LeftWaiting
 pub mod StillCommands
+pub mod NamesOfRuns
+pub mod PlayedNames

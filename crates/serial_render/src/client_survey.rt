@@ -9,10 +9,9 @@ ghost use Rattle.serial_render.specs.Surveyed.{survey_after, survey_of, waits_at
 use gl_context::{CountingContext, EffectKind};
 use rc_base::cluster::FaultList;
 use rc_base::out_of_memory::OutOfMemory;
-use rc_base::scene::{Scene, stream_length};
 use rc_base::sync::{SyncOps, SyncRow, WaitAt};
 use std::alloc::Global;
-use stream_replay::{count_at, count_begin_at, count_quiet_at};
+use stream_replay::{SceneStore, count_at, count_quiet_at};
 
 /// What one issue of each of a client's first commands tells.
 #[derive(Drop)]
@@ -36,11 +35,11 @@ fn add_operation(ops: &mut SyncOps, place: u32, kind: EffectKind) -> Result<(), 
 
 impl ClientSurvey {
     /// Of a client before its first command.
-    pub fn new(alloc: Global, scene: &Scene) -> Result<ClientSurvey, OutOfMemory>
-        ensures { IfOk result (λ s. (client : ℕ) → s ≡ survey_after scene.now client 0) }
+    pub fn new<S: SceneStore>(alloc: Global, scene: &S) -> Result<ClientSurvey, OutOfMemory>
+        ensures { IfOk result (λ s. (client : ℕ) → s ≡ survey_after (S.scene scene.now) client 0) }
     {
         Ok(ClientSurvey {
-            context: CountingContext::new(alloc, &scene.decl)?,
+            context: CountingContext::new(alloc, scene.decl())?,
             ops: SyncOps::new(alloc),
         })
     }
@@ -48,72 +47,36 @@ impl ClientSurvey {
     /// Issues the client's next command, and gives the kind of its effect. Where memory is wanting, the context may have the command whose operation
     /// is missing.
     #[inline(always)]
-    pub fn issue(
+    pub fn issue<S: SceneStore>(
         &mut self,
-        scene: &Scene,
+        scene: &S,
         client: usize,
         place: usize,
     ) -> Result<EffectKind, OutOfMemory>
-        requires within { IsWithin scene.now }
-        requires inside { place < length (stream_of scene.now client) }
-        requires before { self.old ≡ survey_after scene.now client place }
-        ensures after { OnOk result (self.new ≡ survey_after scene.now client (place + 1)) }
-        ensures kind { IfOk result (λ k. k ≡ kind_of (effect_at scene.now client place)) }
+        requires within { IsWithin (S.scene scene.now) }
+        requires inside { place < length (stream_of (S.scene scene.now) client) }
+        requires before { self.old ≡ survey_after (S.scene scene.now) client place }
+        ensures after { OnOk result
+            (self.new ≡ survey_after (S.scene scene.now) client (place + 1)) }
+        ensures kind { IfOk result (λ k. k ≡ kind_of (effect_at (S.scene scene.now) client place)) }
     {
         if count_quiet_at(&mut self.context, scene, client, place) {
             return Ok(EffectKind::Quiet);
         }
-        self.issue_other(scene, client, place)
-    }
-
-    // The same of a command that is none of a block's vertices, colours and coordinates.
-    #[inline(always)]
-    fn issue_other(
-        &mut self,
-        scene: &Scene,
-        client: usize,
-        place: usize,
-    ) -> Result<EffectKind, OutOfMemory>
-        requires within { IsWithin scene.now }
-        requires inside { place < length (stream_of scene.now client) }
-        requires before { self.old ≡ survey_after scene.now client place }
-        ensures after { OnOk result (self.new ≡ survey_after scene.now client (place + 1)) }
-        ensures kind { IfOk result (λ k. k ≡ kind_of (effect_at scene.now client place)) }
-    {
-        if count_begin_at(&mut self.context, scene, client, place) {
-            return Ok(EffectKind::Quiet);
-        }
-        self.issue_any(scene, client, place)
-    }
-
-    // The same of any command.
-    #[inline(always)]
-    fn issue_any(
-        &mut self,
-        scene: &Scene,
-        client: usize,
-        place: usize,
-    ) -> Result<EffectKind, OutOfMemory>
-        requires within { IsWithin scene.now }
-        requires inside { place < length (stream_of scene.now client) }
-        requires before { self.old ≡ survey_after scene.now client place }
-        ensures after { OnOk result (self.new ≡ survey_after scene.now client (place + 1)) }
-        ensures kind { IfOk result (λ k. k ≡ kind_of (effect_at scene.now client place)) }
-    {
         let kind = count_at(&mut self.context, scene, client, place)?;
         add_operation(&mut self.ops, place as u32, kind)?;
         Ok(kind)
     }
 
     /// The client's operations of synchronisation and its refused commands, where all of its commands were issued.
-    pub fn finish(self, scene: &Scene, client: usize) -> (SyncRow, FaultList)
-        requires within { IsWithin scene.now }
-        requires client { client < length scene.now.streams }
-        requires whole { self ≡ survey_of scene.now client }
-        ensures row { result.0 ≡ sync_row_of scene.now client }
-        ensures faults { result.1 ≡ faults_of scene.now client }
+    pub fn finish<S: SceneStore>(self, scene: &S, client: usize) -> (SyncRow, FaultList)
+        requires within { IsWithin (S.scene scene.now) }
+        requires client { client < length (S.scene scene.now).streams }
+        requires whole { self ≡ survey_of (S.scene scene.now) client }
+        ensures row { result.0 ≡ sync_row_of (S.scene scene.now) client }
+        ensures faults { result.1 ≡ faults_of (S.scene scene.now) client }
     {
-        let length = stream_length(scene, client);
+        let length = scene.stream_length(client);
         let row = SyncRow {
             ops: self.ops,
             length: length as u32,

@@ -1,5 +1,6 @@
 //! Carrying out the commands of an order on one device.
-ghost use Rattle.std.specs.Prelude.{◌≡◌, ◌<◌, length, max, Some, IfOk, OnOk};
+ghost use Rattle.std.specs.Prelude.{◌≡◌, ◌+◌, ◌<◌, ◌≤◌, List, [], length, take, max, Some, IfOk, OnOk};
+ghost use Rattle.rc_base.specs.declared.sync.Name.{Name};
 ghost use Rattle.rc_base.specs.Formats.Within.{IsWithin};
 ghost use Rattle.rc_base.specs.Cluster.Tiles.{window_rect};
 ghost use Rattle.rc_base.specs.Contexts.Issue.{stream_of};
@@ -9,24 +10,28 @@ ghost use Rattle.draw_device.specs.Conditions.{IsClearable, IsDrawable, TakesBlo
 ghost use Rattle.draw_device.specs.Devices.{IsDeviceRect};
 ghost use Rattle.draw_device.specs.Prepared.{IsPreparedFor};
 ghost use Rattle.draw_device.specs.Stored.{IsStorable, set_after};
-ghost use Rattle.stream_replay.specs.Clients.{AreIssued, StandsBefore, issued_by};
+ghost use Rattle.stream_replay.specs.Clients.{StandsBefore, issued_by};
 ghost use Rattle.serial_render.specs.Performed.{IsSettled, TakesEffect, effect_by, images_behind, state_behind};
-ghost use Rattle.serial_render.specs.Shown.{IsPlayable, IsShown, AreShownOn};
+ghost use Rattle.serial_render.specs.Played.{GoesOn, HasGathered, HasPlayed, names_below};
+ghost use Rattle.serial_render.specs.Runs.{names_of_runs, run_at};
+ghost use Rattle.serial_render.specs.Shown.{IsPlayable, AreShownOn};
 
 use crate::brush::Brush;
 use crate::image::image_of;
+use crate::runs::Run;
+use crate::stage::Stage;
 use draw_device::{Device, carry_out};
 use element_table::default_state;
 use geometry::listed;
 use rc_base::image::Frames;
 use rc_base::out_of_memory::OutOfMemory;
-use rc_base::scene::{Decl, Scene};
+use rc_base::scene::Decl;
 use rc_base::state::{Block, Effect};
 use rc_base::sync::Name;
 use rc_base::window::{Rect, window_rect};
 use std::alloc::Global;
 use stream_replay::{
-    Client, InBlock, clients_of, issue_in_block, issue_name, issue_quiet, take_back,
+    Client, InBlock, SceneStore, clients_of, gather, issue_in_block, issue_name, take_back,
 };
 use textures::SharedSet;
 
@@ -56,14 +61,6 @@ pub fn show_up_to(
         frames.push(image)?;
     }
     Ok(())
-}
-
-/// What an order leaves: the clients, the pixels of the window, and a frame for each Swap that a name lies beyond.
-#[derive(Drop)]
-pub(crate) struct Played {
-    pub(crate) clients: Vec<Client>,
-    pub(crate) device: Device,
-    pub(crate) frames: Frames,
 }
 
 // Draws a block that a command of a client closed.
@@ -97,27 +94,31 @@ fn draw(
 
 // Issues the command of a name, the next one of its client, and carries out what it does beyond its client's context.
 #[inline(never)]
-fn perform_any(
+fn perform<S: SceneStore>(
     clients: &mut Vec<Client>,
-    scene: &Scene,
+    scene: &S,
     name: Name,
     brush: &mut Brush,
     device: &mut Device,
     shared: &mut SharedSet,
 ) -> Result<(), OutOfMemory>
-    requires within { IsWithin scene.now }
-    requires inside { name.place < length (stream_of scene.now name.client) }
-    requires before { StandsBefore scene.now clients.old.items name }
-    requires drawable { IsDrawable (state_behind scene.now name) (images_behind scene.now name)
+    requires within { IsWithin (S.scene scene.now) }
+    requires inside { name.place < length (stream_of (S.scene scene.now) name.client) }
+    requires before { StandsBefore (S.scene scene.now) clients.old.items name }
+    requires drawable { IsDrawable
+        (state_behind (S.scene scene.now) name) (images_behind (S.scene scene.now) name)
         shared.old }
-    requires clearable { IsClearable (state_behind scene.now name) }
-    requires writable { (part : Part) → effect_by scene.now name ≡ eff.Shared part
+    requires clearable { IsClearable (state_behind (S.scene scene.now) name) }
+    requires writable { (part : Part) → effect_by (S.scene scene.now) name ≡ eff.Shared part
         → IsStorable part shared.old }
     requires settled { IsSettled clients.old.items device.old.rect brush.old }
-    ensures clients { OnOk result (clients.new.items ≡ issued_by scene.now clients.old.items name) }
+    ensures clients { OnOk result
+        (clients.new.items ≡ issued_by (S.scene scene.now) clients.old.items name) }
     ensures rect { OnOk result (device.new.rect ≡ device.old.rect) }
-    ensures drawn { OnOk result (TakesEffect scene.now name shared.old device.old device.new) }
-    ensures shared { OnOk result (shared.new ≡ set_after (effect_by scene.now name) shared.old) }
+    ensures drawn { OnOk result
+        (TakesEffect (S.scene scene.now) name shared.old device.old device.new) }
+    ensures shared { OnOk result
+        (shared.new ≡ set_after (effect_by (S.scene scene.now) name) shared.old) }
     ensures settled { OnOk result (IsSettled clients.new.items device.old.rect brush.new) }
 {
     match issue_in_block(clients, scene, name)? {
@@ -139,71 +140,136 @@ fn perform_any(
     Ok(())
 }
 
-// The same. The commands that do nothing beyond it, which are most of a stream, are issued with no call.
-#[inline(always)]
-fn perform(
-    clients: &mut Vec<Client>,
-    scene: &Scene,
-    name: Name,
-    brush: &mut Brush,
-    device: &mut Device,
-    shared: &mut SharedSet,
-) -> Result<(), OutOfMemory>
-    requires within { IsWithin scene.now }
-    requires inside { name.place < length (stream_of scene.now name.client) }
-    requires before { StandsBefore scene.now clients.old.items name }
-    requires drawable { IsDrawable (state_behind scene.now name) (images_behind scene.now name) shared.old }
-    requires clearable { IsClearable (state_behind scene.now name) }
-    requires writable { (part : Part) → effect_by scene.now name ≡ eff.Shared part → IsStorable part shared.old }
-    requires settled { IsSettled clients.old.items device.old.rect brush.old }
-    ensures clients { OnOk result (clients.new.items ≡ issued_by scene.now clients.old.items name) }
-    ensures rect { OnOk result (device.new.rect ≡ device.old.rect) }
-    ensures drawn { OnOk result (TakesEffect scene.now name shared.old device.old device.new) }
-    ensures shared { OnOk result (shared.new ≡ set_after (effect_by scene.now name) shared.old) }
-    ensures settled { OnOk result (IsSettled clients.new.items device.old.rect brush.new) }
+/// Before the first name of any order.
+fn first_stage<S: SceneStore>(alloc: Global, scene: &S) -> Result<Stage, OutOfMemory>
+    requires { IsWithin (S.scene scene.now) }
+    ensures { IfOk result
+        (λ stage. (order : List Name) → HasPlayed (S.scene scene.now) order [] stage) }
 {
-    let quiet = issue_quiet(clients, scene, name)?;
-    if quiet {
-        return Ok(());
+    let clients = clients_of(alloc, scene)?;
+    let shared = SharedSet::new(alloc, &scene.decl().shared)?;
+    let device = Device::new(alloc, window(scene.decl()))?;
+    let brush = Brush::new(&default_state(scene.decl()), &device);
+    Ok(Stage {
+        clients,
+        shared,
+        brush,
+        device,
+        frames: Frames::new(alloc),
+    })
+}
+
+// Takes the pictures of the frames that lie before a name of a run, and carries out the names from it on, up to the first that may do something beyond its
+// client's context. The place of that one is given, or the run's end.
+#[inline(always)]
+fn play_gathered<S: SceneStore>(
+    alloc: Global,
+    scene: &S,
+    runs: &[Run],
+    index: usize,
+    place: usize,
+    stage: &mut Stage,
+) -> Result<usize, OutOfMemory>
+    requires within { IsWithin (S.scene scene.now) }
+    requires playable { IsPlayable (S.scene scene.now) (names_of_runs runs.now) }
+    requires index { index < length runs.now }
+    requires low { (run_at runs.now index).first ≤ place }
+    requires high { place ≤ (run_at runs.now index).last }
+    requires played { HasPlayed (S.scene scene.now) (names_of_runs runs.now)
+        (names_below runs.now index place) stage.old }
+    ensures { IfOk result (HasGathered (S.scene scene.now) runs.now index place stage.new) }
+{
+    let run = runs[index];
+    show_up_to(
+        alloc,
+        scene.decl(),
+        &stage.device,
+        &mut stage.frames,
+        stage.clients[usize::from(run.client)].swaps,
+    )?;
+    let end = run.last as usize + 1;
+    let next = gather(&mut stage.clients, scene, run.client, place, end)?;
+    Ok(next)
+}
+
+// The same, and carries out the name of that place.
+#[inline(always)]
+fn play_part<S: SceneStore>(
+    alloc: Global,
+    scene: &S,
+    runs: &[Run],
+    index: usize,
+    place: usize,
+    stage: &mut Stage,
+) -> Result<usize, OutOfMemory>
+    requires within { IsWithin (S.scene scene.now) }
+    requires playable { IsPlayable (S.scene scene.now) (names_of_runs runs.now) }
+    requires index { index < length runs.now }
+    requires low { (run_at runs.now index).first ≤ place }
+    requires high { place ≤ (run_at runs.now index).last }
+    requires played { HasPlayed (S.scene scene.now) (names_of_runs runs.now)
+        (names_below runs.now index place) stage.old }
+    ensures { IfOk result (GoesOn (S.scene scene.now) runs.now index place stage.new) }
+{
+    let next = play_gathered(alloc, scene, runs, index, place, stage)?;
+    let run = runs[index];
+    if next > run.last as usize {
+        return Ok(next);
     }
-    perform_any(clients, scene, name, brush, device, shared)?;
+    let name = Name {
+        client: run.client,
+        place: next as u32,
+    };
+    perform(
+        &mut stage.clients,
+        scene,
+        name,
+        &mut stage.brush,
+        &mut stage.device,
+        &mut stage.shared,
+    )?;
+    Ok(next + 1)
+}
+
+// Carries out the names of a run.
+fn play_run<S: SceneStore>(
+    alloc: Global,
+    scene: &S,
+    runs: &[Run],
+    index: usize,
+    stage: &mut Stage,
+) -> Result<(), OutOfMemory>
+    requires within { IsWithin (S.scene scene.now) }
+    requires playable { IsPlayable (S.scene scene.now) (names_of_runs runs.now) }
+    requires index { index < length runs.now }
+    requires played { HasPlayed (S.scene scene.now) (names_of_runs runs.now)
+        (names_of_runs (take index runs.now)) stage.old }
+    ensures { OnOk result (HasPlayed (S.scene scene.now) (names_of_runs runs.now)
+        (names_of_runs (take (index + 1) runs.now)) stage.new) }
+{
+    let run = runs[index];
+    let mut place = run.first as usize;
+    while place <= run.last as usize {
+        place = play_part(alloc, scene, runs, index, place, stage)?;
+    }
     Ok(())
 }
 
 /// Carries out the names of an order, one after the other. The picture of a frame is taken before the first name that lies beyond its client's Swap.
 #[inline(never)]
-pub(crate) fn play(alloc: Global, scene: &Scene, order: &[Name]) -> Result<Played, OutOfMemory>
-    requires within { IsWithin scene.now }
-    requires playable { IsPlayable scene.now order.now }
-    ensures clients { IfOk result (λ p. AreIssued scene.now order.now p.clients.items) }
-    ensures shown { IfOk result (λ p. IsShown scene.now order.now order.now p.device p.frames) }
+pub(crate) fn play<S: SceneStore>(
+    alloc: Global,
+    scene: &S,
+    runs: &[Run],
+) -> Result<Stage, OutOfMemory>
+    requires within { IsWithin (S.scene scene.now) }
+    requires playable { IsPlayable (S.scene scene.now) (names_of_runs runs.now) }
+    ensures { IfOk result
+        (HasPlayed (S.scene scene.now) (names_of_runs runs.now) (names_of_runs runs.now)) }
 {
-    let mut clients = clients_of(alloc, scene)?;
-    let mut shared = SharedSet::new(alloc, &scene.decl.shared)?;
-    let mut device = Device::new(alloc, window(&scene.decl))?;
-    let mut brush = Brush::new(&default_state(&scene.decl), &device);
-    let mut frames = Frames::new(alloc);
-    for name in order {
-        let client = usize::from(name.client);
-        show_up_to(
-            alloc,
-            &scene.decl,
-            &device,
-            &mut frames,
-            clients[client].swaps,
-        )?;
-        perform(
-            &mut clients,
-            scene,
-            *name,
-            &mut brush,
-            &mut device,
-            &mut shared,
-        )?;
+    let mut stage = first_stage(alloc, scene)?;
+    for index in 0..runs.len() {
+        play_run(alloc, scene, runs, index, &mut stage)?;
     }
-    Ok(Played {
-        clients,
-        device,
-        frames,
-    })
+    Ok(stage)
 }

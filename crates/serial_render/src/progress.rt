@@ -1,26 +1,25 @@
 //! How far clients are that take turns.
-ghost use Rattle.std.specs.Prelude.{◌≡◌, ◌+◌, ◌-◌, ◌<◌, ◌≤◌, ◌^◌, ◌++◌, [], true, false, length, is_some, Some, slice_get, IfOk, OnOk};
+ghost use Rattle.std.specs.Prelude.{◌≡◌, ◌+◌, ◌-◌, ◌<◌, ◌≤◌, ◌^◌, [], true, false, length, is_some, Some, slice_get, IfOk, OnOk};
 ghost use Rattle.std.specs.Option.{option_map_or};
-ghost use Rattle.rc_base.specs.Orders.Order.{names_from};
 ghost use Rattle.rc_base.specs.Orders.Sync.{IsWellFormed, client_count, client_row};
 ghost use Rattle.sync_manager.specs.Books.{clients_in, is_wanted, journal_in, names_declared};
 ghost use Rattle.serial_render.specs.Turns.{IsOrderUnderWay, IsBetweenTurns};
 ghost use Rattle.order_model.specs.Gathering.{AreDeclared};
 ghost use Rattle.serial_render.specs.Advances.{IsTold, order_to_stop, order_to_stops, order_by_one, StayUnwanted, IsNoneWanted, CountsNames, HaveNamesLeft, GoOnByOne, LeavesFewer, IsNoneLawful};
 
+use crate::runs::RunOrder;
 use rc_base::items::Items;
 use rc_base::out_of_memory::OutOfMemory;
 use rc_base::scene::{Decl, Sizes};
-use rc_base::sync::{Name, Order, SyncLists, SyncRow, WaitAt};
+use rc_base::sync::{SyncLists, SyncRow, WaitAt};
 use std::alloc::Global;
-use std::mem::replace;
 use sync_manager::book::Book;
 
 /// The book, the order so far, and for each client how many of its operations have arrived and how many of its names the order has.
 #[derive(Drop)]
 pub(crate) struct Progress {
     pub(crate) book: Book,
-    pub(crate) order: Order,
+    pub(crate) order: RunOrder,
     arrived: [usize; 8],
     issued: [u32; 8],
 }
@@ -61,25 +60,6 @@ fn place_behind(place: u32, end: u32) -> u32
     ensures { result ≡ place + 1 }
 {
     place + 1
-}
-
-// Adds the names of a client from one place to another.
-fn add_names(
-    alloc: Global,
-    order: &mut Order,
-    client: u8,
-    from: u32,
-    to: u32,
-) -> Result<(), OutOfMemory>
-    ensures { OnOk result (order.new ≡ order.old ++ names_from client from (to - from)) }
-{
-    let mut names = replace(order, Order::new(alloc)).into_vec();
-    names.reserve(to.saturating_sub(from) as usize)?;
-    for place in from..to {
-        names.push_reserved(Name { client, place });
-    }
-    *order = Order::from_vec(names);
-    Ok(())
 }
 
 // Tells the book of the client's next operation, or that it has ended.
@@ -124,19 +104,14 @@ impl Progress {
         let decl = declared(alloc, syncs)?;
         Ok(Progress {
             book: Book::new(alloc, &decl, syncs.clients.len() as u8)?,
-            order: Order::new(alloc),
+            order: RunOrder::new(alloc),
             arrived: [0; 8],
             issued: [0; 8],
         })
     }
 
     /// A client that is wanted issues up to its next operation, or to the end of its stream.
-    fn advance_client(
-        &mut self,
-        alloc: Global,
-        syncs: &SyncLists,
-        client: u8,
-    ) -> Result<(), OutOfMemory>
+    fn advance_client(&mut self, syncs: &SyncLists, client: u8) -> Result<(), OutOfMemory>
         requires way { IsOrderUnderWay syncs.now self.old }
         requires clients { client_count syncs.now ≤ 8 }
         requires declared { AreDeclared syncs.now }
@@ -152,7 +127,7 @@ impl Progress {
         let next = operation(row, self.arrived[client as usize]);
         let place = place_of(next, row.length);
         let first = self.issued[client as usize];
-        add_names(alloc, &mut self.order, client, first, place)?;
+        self.order.add(client, first, place)?;
         self.issued[client as usize] = place;
         self.arrived[client as usize] += usize::from(next.is_some());
         tell(&mut self.book, client, next)?;
@@ -160,7 +135,7 @@ impl Progress {
     }
 
     /// Each client that is wanted does, clients rising.
-    pub(crate) fn advance(&mut self, alloc: Global, syncs: &SyncLists) -> Result<(), OutOfMemory>
+    pub(crate) fn advance(&mut self, syncs: &SyncLists) -> Result<(), OutOfMemory>
         requires way { IsOrderUnderWay syncs.now self.old }
         requires clients { client_count syncs.now ≤ 8 }
         requires declared { AreDeclared syncs.now }
@@ -171,14 +146,14 @@ impl Progress {
     {
         for client in 0..syncs.clients.len() as u8 {
             if self.book.is_wanted(client) {
-                self.advance_client(alloc, syncs, client)?;
+                self.advance_client(syncs, client)?;
             }
         }
         Ok(())
     }
 
     /// The clients that are wanted after a grant, which are the members of its entry, add the names of their operations.
-    fn perform(&mut self, alloc: Global, syncs: &SyncLists) -> Result<(), OutOfMemory>
+    fn perform(&mut self, syncs: &SyncLists) -> Result<(), OutOfMemory>
         requires clients { client_count syncs.now ≤ 8 }
         requires book { client_count syncs.now ≡ clients_in self.old.book }
         requires issued { CountsNames syncs.now self.old }
@@ -195,7 +170,7 @@ impl Progress {
             if self.book.is_wanted(client) {
                 let place = self.issued[client as usize];
                 let behind = place_behind(place, row_of(syncs, client).length);
-                add_names(alloc, &mut self.order, client, place, behind)?;
+                self.order.add(client, place, behind)?;
                 self.issued[client as usize] = behind;
             }
         }
@@ -203,7 +178,7 @@ impl Progress {
     }
 
     /// One entry is granted and performed, and its members go on. The answer is whether there was one.
-    pub(crate) fn turn(&mut self, alloc: Global, syncs: &SyncLists) -> Result<bool, OutOfMemory>
+    pub(crate) fn turn(&mut self, syncs: &SyncLists) -> Result<bool, OutOfMemory>
         requires well { IsWellFormed syncs.now }
         requires clients { client_count syncs.now ≤ 8 }
         requires declared { AreDeclared syncs.now }
@@ -214,8 +189,8 @@ impl Progress {
     {
         match self.book.grant() {
             Some(_) => {
-                self.perform(alloc, syncs)?;
-                self.advance(alloc, syncs)?;
+                self.perform(syncs)?;
+                self.advance(syncs)?;
                 Ok(true)
             }
             None => Ok(false),

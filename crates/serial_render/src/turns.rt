@@ -7,6 +7,7 @@ ghost use Rattle.serial_render.specs.Turns.{CanTakeTurns};
 ghost use Rattle.serial_render.specs.Waits.{TellsStuck, HasWaits};
 
 use crate::progress::Progress;
+use crate::runs::RunOrder;
 use crate::streams::sync_lists;
 use rc_base::out_of_memory::OutOfMemory;
 use rc_base::scene::Scene;
@@ -24,9 +25,20 @@ pub struct Turns {
     pub waiting: Option<Waiting>,
 }
 
+/// What comes of clients that take turns, the names in runs.
+#[derive(Drop)]
+pub struct RunTurns {
+    /// The entries that were granted.
+    pub journal: Journal,
+    /// The names in the sequence of issue and grant.
+    pub order: RunOrder,
+    /// Where each client is left waiting, if one is.
+    pub waiting: Option<Waiting>,
+}
+
 /// Each client, rising, issues up to its next operation or to the end of its stream, and then the first lawful entry is granted, again and again
 /// until none is lawful. An operation's name stands at its grant.
-pub fn turns_of(alloc: Global, syncs: &SyncLists) -> Result<Turns, OutOfMemory>
+pub fn turns_in_runs(alloc: Global, syncs: &SyncLists) -> Result<RunTurns, OutOfMemory>
     requires { CanTakeTurns syncs.now }
     ensures journal { IfOk result (λ t. t.journal ≡ default_journal syncs.now) }
     ensures order { IfOk result (λ t. t.order ≡ default_order_of syncs.now t.journal) }
@@ -34,17 +46,37 @@ pub fn turns_of(alloc: Global, syncs: &SyncLists) -> Result<Turns, OutOfMemory>
     ensures at { IfOk result (λ t. HasWaits syncs.now t.journal t.waiting) }
 {
     let mut progress = Progress::new(alloc, syncs)?;
-    progress.advance(alloc, syncs)?;
+    progress.advance(syncs)?;
     loop {
-        if !progress.turn(alloc, syncs)? {
+        if !progress.turn(syncs)? {
             break;
         }
     }
     let Progress { book, order, .. } = progress;
     let waiting = book.stuck();
-    Ok(Turns {
+    Ok(RunTurns {
         journal: book.into_journal(),
         order,
+        waiting,
+    })
+}
+
+/// The same, with each name.
+pub fn turns_of(alloc: Global, syncs: &SyncLists) -> Result<Turns, OutOfMemory>
+    requires { CanTakeTurns syncs.now }
+    ensures journal { IfOk result (λ t. t.journal ≡ default_journal syncs.now) }
+    ensures order { IfOk result (λ t. t.order ≡ default_order_of syncs.now t.journal) }
+    ensures waiting { IfOk result (λ t. TellsStuck syncs.now t.journal t.waiting) }
+    ensures at { IfOk result (λ t. HasWaits syncs.now t.journal t.waiting) }
+{
+    let RunTurns {
+        journal,
+        order,
+        waiting,
+    } = turns_in_runs(alloc, syncs)?;
+    Ok(Turns {
+        journal,
+        order: order.to_order(alloc)?,
         waiting,
     })
 }

@@ -1,8 +1,6 @@
 -- The commands of blocks: what they do beyond their client's context, and that they leave its state as it is.
-use Rattle.std.proofs.Common.{◌≡◌, ℕ, ℤ, ◌+◌, true, false, List, Option, None, Some, Bool, get_or, set, refl, sym, ap, subst, ◌∙◌, arith, if◌then◌else◌}
+use Rattle.std.proofs.Common.{◌≡◌, ℕ, ℤ, ◌+◌, false, List, Option, None, Some, Bool, get_or, set, refl, sym, ap, subst, ◌∙◌, arith, if◌then◌else◌}
 use Rattle.std.specs.Option.{option_map_or}
-use Rattle.std.specs.Prelude.{IsTrue, IsFalse}
-use Rattle.gl_context.specs.Quiet.{is_quiet}
 use Rattle.rc_base.specs.Contexts.Context.{ClientContext}
 use Rattle.rc_base.specs.Contexts.Faults.{fault_of}
 use Rattle.rc_base.specs.Contexts.Issue.{issued, refused, carried_out, command_at, context_after, effect_of, effect_at}
@@ -18,7 +16,7 @@ use Rattle.gl_context.proofs.OneMoreCommand.{goes_on}
 use Rattle.std.proofs.lemmas.List.{set-get_or}
 use Rattle.rc_base.specs.declared.sync.Name.{Name}
 use Rattle.plain_lemmas.proofs.Lists.{read_is_item}
-use Rattle.stream_replay.specs.Blocks.{ClientIsBehind, ClientsAreBehind, IsBehind, IsIssuedInBlock, KeepsState, quiet_or_left}
+use Rattle.stream_replay.specs.Blocks.{ClientIsBehind, ClientsAreBehind, IsBehind, IsIssuedInBlock, KeepsState}
 use Rattle.stream_replay.specs.Clients.{IsStill, StandsBefore, client_after, issued_by}
 use Rattle.stream_replay.specs.declared.client.Client.{Client}
 use Rattle.stream_replay.specs.declared.in_block.InBlock.{InBlock}
@@ -66,31 +64,7 @@ behind s client place c before after at is step same = record {
 pub does : (s : Scene) (client place : ℕ) (c : Command) → command_at s client place ≡ Some c → effect_at s client place ≡ effect_of (context_after s client place) c
 does s client place c at = (goes_on s client place c at).1
 
--- a quiet command does nothing beyond its context, and leaves the state as it is
-still_quiet : (x : ClientContext) (c : Command) → true ≡ is_quiet x c → IsStill (effect_of x c)
-still_quiet x (cmd.Begin kind) h = still_begin x kind
-still_quiet x (cmd.Vertex p) h = still_vertex x p
-still_quiet x (cmd.Color color) h = still_color x color
-still_quiet x (cmd.TexCoord s t) h = still_coordinate x s t
-still_quiet x c h = absurd cc
-
-state_quiet : (x : ClientContext) (c : Command) → true ≡ is_quiet x c → (carried_out x c).state ≡ x.state
-state_quiet x (cmd.Begin kind) h = refl
-state_quiet x (cmd.Vertex p) h = refl
-state_quiet x (cmd.Color color) h = refl
-state_quiet x (cmd.TexCoord s t) h = refl
-state_quiet x c h = absurd cc
-
--- behind a command that was issued where it is quiet, and else left
-pub quiet_behind : (s : Scene) (client place : ℕ) (c : Command) (before after : ClientContext) → command_at s client place ≡ Some c → before ≡ context_after s client place
-    → (r : Bool) → r ≡ is_quiet before c → (IsTrue r → (p : ℕ) → after ≡ issued before p c) → (IsFalse r → after ≡ before) → IsIssuedInBlock s client place after (quiet_or_left r)
-quiet_behind s client place c before after at is true quiet step left = (
-  behind s client place c before after at is (step refl place) (state_quiet before c quiet),
-  subst (λ (e : Effect). IsStill e) (sym (does s client place c at)) (subst (λ (x : ClientContext). IsStill (effect_of x c)) is (still_quiet before c quiet)),
-)
-quiet_behind s client place c before after at is false quiet step left = left refl ∙ is
-
-no_swap : (e : Effect) → IsStill e → is_swap_effect e ≡ false
+pub no_swap : (e : Effect) → IsStill e → is_swap_effect e ≡ false
 no_swap eff.Quiet still = refl
 no_swap (eff.Refused fault) still = refl
 no_swap (eff.Block block) still = absurd still

@@ -4,3 +4,4 @@ pub mod ListsGoOn
 pub mod ClientsInTurn
 pub mod DeclaredOperations
 pub mod BlockCommands
+pub mod GatheredCommands

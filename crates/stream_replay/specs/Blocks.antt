@@ -9,7 +9,6 @@ use Rattle.rc_base.specs.declared.command.Command.TheVariants as cmd
 use Rattle.rc_base.specs.declared.scene.Scene.{Scene}
 use Rattle.rc_base.specs.declared.state.Effect.TheVariants as eff
 use Rattle.rc_base.specs.declared.sync.Name.{Name}
-use Rattle.gl_context.specs.Quiet.{is_quiet}
 use Rattle.stream_replay.specs.Clients.{IsStill, client_after, issued_by}
 use Rattle.stream_replay.specs.declared.client.Client.{Client}
 use Rattle.stream_replay.specs.declared.in_block.InBlock.{InBlock}
@@ -58,11 +57,3 @@ abbrev pub ClientsAreBehind : Scene → Name → List Client → List Client →
 ClientsAreBehind scene n before after Quiet = (after ≡ issued_by scene before n) × IsStill (effect_at scene n.client n.place) × KeepsState scene n
 ClientsAreBehind scene n before after (Draws block) = (after ≡ issued_by scene before n) × (effect_at scene n.client n.place ≡ eff.Block block) × KeepsState scene n
 ClientsAreBehind scene n before after Left = after ≡ before
-
--- a command that was issued where it does nothing beyond its client's context, and else left
-abbrev pub quiet_or_left : Bool → InBlock
-quiet_or_left true = Quiet
-quiet_or_left false = Left
-
-abbrev pub is_quiet_at : Scene → ℕ → ℕ → Bool
-is_quiet_at scene client place = option_map_or (is_quiet (context_after scene client place)) (command_at scene client place) false

@@ -1,3 +1,5 @@
 pub mod Clients
+pub mod Forms
 pub mod Counts
+pub mod Runs
 pub mod Blocks

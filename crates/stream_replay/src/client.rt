@@ -1,16 +1,17 @@
 //! What is kept of a client while an order is carried out.
-ghost use Rattle.std.specs.Prelude.{◌≡◌, ℕ, ◌+◌, ◌<◌, length, IfOk, OnOk, OnErr};
+ghost use Rattle.std.specs.Prelude.{◌≡◌, ℕ, ◌+◌, ◌<◌, ◌≤◌, length, slice_get, slice_set, Some, IfOk, OnOk, OnErr};
 ghost use Rattle.rc_base.specs.Formats.Within.{IsWithin};
 ghost use Rattle.rc_base.specs.Contexts.Issue.{stream_of, effect_at};
 ghost use Rattle.rc_base.specs.Drawing.Serial.{is_swap_effect};
-ghost use Rattle.stream_replay.specs.Blocks.{ClientIsBehind, ClientsAreBehind, is_of_block_at, is_quiet_at, quiet_or_left, was_issued};
+ghost use Rattle.stream_replay.specs.Blocks.{ClientIsBehind, ClientsAreBehind, is_of_block_at, was_issued};
 ghost use Rattle.stream_replay.specs.Clients.{client_after, first_clients, StandsBefore, issued_by};
+ghost use Rattle.stream_replay.specs.Runs.{IsGatheredRun};
 
 use crate::in_block::InBlock;
-use crate::replay::{issue_at, issue_in_block_at, issue_quiet_at};
+use crate::replay::{gather_at, issue_at, issue_in_block_at};
+use crate::scene_store::SceneStore;
 use gl_context::Context;
 use rc_base::out_of_memory::OutOfMemory;
-use rc_base::scene::Scene;
 use rc_base::state::Effect;
 use rc_base::sync::{Name, SyncOp};
 use std::alloc::Global;
@@ -32,23 +33,29 @@ fn is_swap(effect: &Effect) -> bool
 
 impl Client {
     /// A client before its first command.
-    fn new(alloc: Global, scene: &Scene) -> Result<Client, OutOfMemory>
-        ensures { IfOk result (λ x. (client : ℕ) → x ≡ client_after scene.now client 0) }
+    fn new<S: SceneStore>(alloc: Global, scene: &S) -> Result<Client, OutOfMemory>
+        ensures { IfOk result (λ x. (client : ℕ) → x ≡ client_after (S.scene scene.now) client 0) }
     {
         Ok(Client {
-            context: Context::new(alloc, &scene.decl)?,
+            context: Context::new(alloc, scene.decl())?,
             swaps: 0,
         })
     }
 
     /// Issues the client's next command.
     #[inline(always)]
-    fn issue(&mut self, scene: &Scene, client: usize, place: usize) -> Result<Effect, OutOfMemory>
-        requires within { IsWithin scene.now }
-        requires inside { place < length (stream_of scene.now client) }
-        requires before { self.old ≡ client_after scene.now client place }
-        ensures client { OnOk result (self.new ≡ client_after scene.now client (place + 1)) }
-        ensures effect { IfOk result (λ e. e ≡ effect_at scene.now client place) }
+    fn issue<S: SceneStore>(
+        &mut self,
+        scene: &S,
+        client: usize,
+        place: usize,
+    ) -> Result<Effect, OutOfMemory>
+        requires within { IsWithin (S.scene scene.now) }
+        requires inside { place < length (stream_of (S.scene scene.now) client) }
+        requires before { self.old ≡ client_after (S.scene scene.now) client place }
+        ensures client { OnOk result
+            (self.new ≡ client_after (S.scene scene.now) client (place + 1)) }
+        ensures effect { IfOk result (λ e. e ≡ effect_at (S.scene scene.now) client place) }
         ensures err { OnErr result (self.new ≡ self.old) }
     {
         let effect = issue_at(&mut self.context, scene, client, place)?;
@@ -58,36 +65,41 @@ impl Client {
 
     /// Issues the client's next command, where it is one of a block.
     #[inline(always)]
-    fn issue_in_block(
+    fn issue_in_block<S: SceneStore>(
         &mut self,
-        scene: &Scene,
+        scene: &S,
         client: usize,
         place: usize,
     ) -> Result<InBlock, OutOfMemory>
-        requires within { IsWithin scene.now }
-        requires inside { place < length (stream_of scene.now client) }
-        requires before { self.old ≡ client_after scene.now client place }
-        ensures issued { IfOk result (ClientIsBehind scene.now client place self.old self.new) }
-        ensures exact { IfOk result (λ r. was_issued r ≡ is_of_block_at scene.now client place) }
+        requires within { IsWithin (S.scene scene.now) }
+        requires inside { place < length (stream_of (S.scene scene.now) client) }
+        requires before { self.old ≡ client_after (S.scene scene.now) client place }
+        ensures issued { IfOk result
+            (ClientIsBehind (S.scene scene.now) client place self.old self.new) }
+        ensures exact { IfOk result
+            (λ r. was_issued r ≡ is_of_block_at (S.scene scene.now) client place) }
     {
         issue_in_block_at(&mut self.context, scene, client, place)
     }
 
-    /// The same, where it does nothing beyond the context. Whether it was issued.
+    /// Issues the client's next commands below a place, up to the first that is not gathered, whose place is given, or the end.
     #[inline(always)]
-    fn issue_quiet(
+    fn gather<S: SceneStore>(
         &mut self,
-        scene: &Scene,
+        scene: &S,
         client: usize,
-        place: usize,
-    ) -> Result<bool, OutOfMemory>
-        requires inside { place < length (stream_of scene.now client) }
-        requires before { self.old ≡ client_after scene.now client place }
-        ensures issued { IfOk result
-            (λ r. ClientIsBehind scene.now client place self.old self.new (quiet_or_left r)) }
-        ensures exact { IfOk result (λ r. r ≡ is_quiet_at scene.now client place) }
+        from: usize,
+        to: usize,
+    ) -> Result<usize, OutOfMemory>
+        requires within { IsWithin (S.scene scene.now) }
+        requires inside { to ≤ length (stream_of (S.scene scene.now) client) }
+        requires from { from ≤ to }
+        requires before { self.old ≡ client_after (S.scene scene.now) client from }
+        ensures client { IfOk result
+            (λ place. self.new ≡ client_after (S.scene scene.now) client place) }
+        ensures run { IfOk result (IsGatheredRun (S.scene scene.now) client from to) }
     {
-        issue_quiet_at(&mut self.context, scene, client, place)
+        gather_at(&mut self.context, scene, client, from, to)
     }
 
     #[inline(always)]
@@ -99,11 +111,11 @@ impl Client {
 }
 
 /// The clients of a scene before their first commands.
-pub fn clients_of(alloc: Global, scene: &Scene) -> Result<Vec<Client>, OutOfMemory>
-    ensures { IfOk result (λ v. v.items ≡ first_clients scene.now) }
+pub fn clients_of<S: SceneStore>(alloc: Global, scene: &S) -> Result<Vec<Client>, OutOfMemory>
+    ensures { IfOk result (λ v. v.items ≡ first_clients (S.scene scene.now)) }
 {
     let mut clients = Vec::new(alloc);
-    for _ in 0..scene.streams.len() {
+    for _ in 0..scene.client_count() {
         clients.push(Client::new(alloc, scene)?)?;
     }
     Ok(clients)
@@ -111,16 +123,17 @@ pub fn clients_of(alloc: Global, scene: &Scene) -> Result<Vec<Client>, OutOfMemo
 
 /// Issues the command of a name, the next one of its client.
 #[inline(always)]
-pub fn issue_name(
+pub fn issue_name<S: SceneStore>(
     clients: &mut Vec<Client>,
-    scene: &Scene,
+    scene: &S,
     name: Name,
 ) -> Result<Effect, OutOfMemory>
-    requires within { IsWithin scene.now }
-    requires inside { name.place < length (stream_of scene.now name.client) }
-    requires before { StandsBefore scene.now clients.old.items name }
-    ensures clients { OnOk result (clients.new.items ≡ issued_by scene.now clients.old.items name) }
-    ensures effect { IfOk result (λ e. e ≡ effect_at scene.now name.client name.place) }
+    requires within { IsWithin (S.scene scene.now) }
+    requires inside { name.place < length (stream_of (S.scene scene.now) name.client) }
+    requires before { StandsBefore (S.scene scene.now) clients.old.items name }
+    ensures clients { OnOk result
+        (clients.new.items ≡ issued_by (S.scene scene.now) clients.old.items name) }
+    ensures effect { IfOk result (λ e. e ≡ effect_at (S.scene scene.now) name.client name.place) }
     ensures err { OnErr result (clients.new.items ≡ clients.old.items) }
 {
     clients[usize::from(name.client)].issue(scene, usize::from(name.client), name.place as usize)
@@ -129,16 +142,18 @@ pub fn issue_name(
 /// Issues the command of a name, the next one of its client, where it is one of a block: a Vertex, a Color, a TexCoord, and a Begin or an End that breaks
 /// no rule, which leave the client's state as it is. Another command is left alone.
 #[inline(always)]
-pub fn issue_in_block(
+pub fn issue_in_block<S: SceneStore>(
     clients: &mut Vec<Client>,
-    scene: &Scene,
+    scene: &S,
     name: Name,
 ) -> Result<InBlock, OutOfMemory>
-    requires within { IsWithin scene.now }
-    requires inside { name.place < length (stream_of scene.now name.client) }
-    requires before { StandsBefore scene.now clients.old.items name }
-    ensures issued { IfOk result (ClientsAreBehind scene.now name clients.old.items clients.new.items) }
-    ensures exact { IfOk result (λ r. was_issued r ≡ is_of_block_at scene.now name.client name.place) }
+    requires within { IsWithin (S.scene scene.now) }
+    requires inside { name.place < length (stream_of (S.scene scene.now) name.client) }
+    requires before { StandsBefore (S.scene scene.now) clients.old.items name }
+    ensures issued { IfOk result
+        (ClientsAreBehind (S.scene scene.now) name clients.old.items clients.new.items) }
+    ensures exact { IfOk result
+        (λ r. was_issued r ≡ is_of_block_at (S.scene scene.now) name.client name.place) }
 {
     clients[usize::from(name.client)].issue_in_block(
         scene,
@@ -147,26 +162,26 @@ pub fn issue_in_block(
     )
 }
 
-/// Issues the command of a name, the next one of its client, where it does nothing beyond its client's context: a Vertex, a Color, a TexCoord or a Begin
-/// that breaks no rule. Whether it was issued; another command is left alone.
+/// Issues a client's commands from a place on, the next one of it, below another place, up to the first that is no Vertex, no Color, no TexCoord and no
+/// Begin that breaks no rule: so none of them does anything beyond its context. The place of that first one is given, or the end.
 #[inline(always)]
-pub fn issue_quiet(
+pub fn gather<S: SceneStore>(
     clients: &mut Vec<Client>,
-    scene: &Scene,
-    name: Name,
-) -> Result<bool, OutOfMemory>
-    requires inside { name.place < length (stream_of scene.now name.client) }
-    requires before { StandsBefore scene.now clients.old.items name }
-    ensures issued { IfOk result
-        (λ r. ClientsAreBehind scene.now name clients.old.items clients.new.items
-        (quiet_or_left r)) }
-    ensures exact { IfOk result (λ r. r ≡ is_quiet_at scene.now name.client name.place) }
+    scene: &S,
+    client: u8,
+    from: usize,
+    to: usize,
+) -> Result<usize, OutOfMemory>
+    requires within { IsWithin (S.scene scene.now) }
+    requires inside { to ≤ length (stream_of (S.scene scene.now) client) }
+    requires from { from ≤ to }
+    requires before { slice_get clients.old.items client
+        ≡ Some (client_after (S.scene scene.now) client from) }
+    ensures clients { IfOk result (λ place. clients.new.items
+        ≡ slice_set clients.old.items client (client_after (S.scene scene.now) client place)) }
+    ensures run { IfOk result (IsGatheredRun (S.scene scene.now) client from to) }
 {
-    clients[usize::from(name.client)].issue_quiet(
-        scene,
-        usize::from(name.client),
-        name.place as usize,
-    )
+    clients[usize::from(client)].gather(scene, usize::from(client), from, to)
 }
 
 /// Gives a client back what one of its commands did and is done with, so that its next block has the room of this one.

@@ -1,17 +1,18 @@
--- The rule of a lane, and its six kinds of step.
+-- The rule of a lane, and its seven kinds of step.
 --
 -- A lane is a queue that two threads share. Each thread has a pass, and a pass has a history: what it may do, and what went in or came out by it. The
 -- rule, InOrder, is about what the lane holds and about the histories of all passes. A lane changes by these steps alone, each made at one moment by
 -- one pass; each keeps the rule, so it holds at every moment of every run.
 --
---   the two passes are made, before any item     new_pass becomes sender_pass, and receiver_pass comes
+--   the two passes are made, before any item     idle_pass becomes sender_pass, and receiver_pass comes
+--   a look comes with a pass of its own          idle_pass comes
 --   a push appends an item                       Appends
 --   a push finds the lane full                   no history changes; IsWithinSent is known of what the lane held
 --   a pop takes the front                        Takes
 --   a pop finds the lane empty                   no history changes
---   the two passes are brought together          both_passes stays, and spent_pass is left; each pop by the pass that stays TakesNext, since IsLeft
+--   the two passes are brought together          both_passes stays, and idle_pass is left; each pop by the pass that stays TakesNext, since IsLeft
 --                                                is known of what the lane holds
-use Rattle.std.specs.Prelude.{◌≡◌, ◌≤◌, ℕ, Bool, true, false, List, [], ◌∷◌, ◌++◌, length, drop}
+use Rattle.std.specs.Prelude.{◌≡◌, ◌<◌, ◌≤◌, ℕ, Bool, true, false, List, [], ◌∷◌, ◌++◌, length, drop}
 use mathlib.Core.Option.{some}
 use lib.ListN.{get_elem?}
 use Rattle.crossbeam_queue.specs.Passes.{Pass}
@@ -21,24 +22,33 @@ module _ {T : Type 0} where
   abbrev pub history : Bool → Bool → ℕ → List T → List T → History T
   history sends takes depth sent taken = record { sends = sends; takes = takes; depth = depth; sent = sent; taken = taken }
 
-  -- a pass that may send is the sender, and knows the lane's depth and all that was sent; one that may take is the receiver, and knows all that was taken
-  abbrev pub Fits : ℕ → ℕ → ℕ → List T → List T → ℕ → History T → Type 0
-  Fits sender receiver depth sent taken pass h = (h.sends ≡ true → (pass ≡ sender) × (h.depth ≡ depth) × (h.sent ≡ sent)) × (h.takes ≡ true → (pass ≡ receiver) × (h.taken ≡ taken))
+  -- A pass that may send is the lane's first, and knows the lane's depth and all that was sent; one that may take is the receiver, and knows all
+  -- that was taken.
+  abbrev pub Fits : ℕ → ℕ → List T → List T → ℕ → History T → Type 0
+  Fits receiver depth sent taken pass h =
+      (h.sends ≡ true → (pass ≡ 0) × (h.depth ≡ depth) × (h.sent ≡ sent)) × (h.takes ≡ true → (pass ≡ receiver) × (h.taken ≡ taken))
 
-  -- what was sent is what was taken, and then what the lane holds, which is at most as many items as the lane is deep
+  -- nothing was sent, and no pass may take
+  pub record IsUnparted (sent : List T) (histories : List (History T)) : Type 0 where
+    pub unsent : sent ≡ []
+    pub untaken : (pass : ℕ) (h : History T) → get_elem? histories pass ≡ some h → h.takes ≡ false
+
+  -- What was sent is what was taken, and then what the lane holds, which is at most as many items as the lane is deep. Until the first pass may send, the lane
+  -- is unparted.
   pub record InOrder (held : List T) (histories : List (History T)) : Type 0 where
     pub sent : List T
     pub taken : List T
     pub order : sent ≡ taken ++ held
     pub depth : ℕ
     pub room : length held ≤ depth
-    pub sender : ℕ
     pub receiver : ℕ
-    pub passes : (pass : ℕ) (h : History T) → get_elem? histories pass ≡ some h → Fits sender receiver depth sent taken pass h
+    pub passes : (pass : ℕ) (h : History T) → get_elem? histories pass ≡ some h → Fits receiver depth sent taken pass h
+    pub any : 0 < length histories
+    pub begins : (h : History T) → get_elem? histories 0 ≡ some h → h.sends ≡ false → IsUnparted sent histories
 
-  -- the one pass of a new lane
-  abbrev pub new_pass : History T
-  new_pass = history true true 0 [] []
+  -- a pass that may do nothing: the one of a new lane, that of a look, and one that was brought together with the other
+  abbrev pub idle_pass : History T
+  idle_pass = history false false 0 [] []
 
   abbrev pub sender_pass : ℕ → History T
   sender_pass depth = history true false depth [] []
@@ -61,10 +71,6 @@ module _ {T : Type 0} where
   -- the sender's pass, which knows now what the receiver took
   abbrev pub both_passes : History T → History T → History T
   both_passes sender receiver = history true true sender.depth sender.sent receiver.taken
-
-  -- a pass that may do nothing any more
-  abbrev pub spent_pass : History T
-  spent_pass = history false false 0 [] []
 
   -- what was taken grows by the item, which was sent next
   abbrev pub TakesNext : History T → T → History T → Type 0

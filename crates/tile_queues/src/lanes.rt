@@ -2,10 +2,10 @@
 ghost use Rattle.std.specs.Prelude.{◌≡◌, ℕ, true, List, [], ◌∷◌, ◌++◌, ◌<◌, ◌≤◌, length, IfOk, IfSome, IfNone};
 ghost use Rattle.crossbeam_queue.specs.Passes.{view, ruled_capacity, IsPassOf, IsSamePass};
 ghost use Rattle.tile_queues.specs.Ends.{sent_of, taken_of, lane_in, lane_out, rest_of, taken_in, sent_in, lane_rest, lane_depth};
-ghost use Rattle.tile_queues.specs.Rule.{new_pass, sender_pass, receiver_pass, TakesItem, left_of};
+ghost use Rattle.tile_queues.specs.Rule.{idle_pass, sender_pass, receiver_pass, TakesItem, left_of};
 
 use crate::ends::{LaneIn, LaneOut, Rest};
-use crate::rule::{Depth, Draining, History, Joining, Line, Parting, Sending, Taking};
+use crate::rule::{Depth, Draining, History, Joining, Line, Looking, Parting, Sending, Taking};
 use crossbeam_queue::Pass;
 use rc_base::lane::{Inlet, Outlet};
 use rc_base::out_of_memory::OutOfMemory;
@@ -23,7 +23,7 @@ fn new_line<T: Drop>(
 ) -> Result<(Line<T>, Pass<T, History<T>>), OutOfMemory>
     requires { 1 ≤ depth }
     ensures queue { IfOk result (λ l. IsPassOf l.0 l.1) }
-    ensures new { IfOk result (λ l. view l.1 ≡ new_pass) }
+    ensures new { IfOk result (λ l. (l.1.id ≡ 0) × (view l.1 ≡ idle_pass)) }
     ensures depth { IfOk result (λ l. ruled_capacity l.0 ≡ depth) }
 {
     Ok(Line::ruled(alloc, depth)?)
@@ -32,7 +32,7 @@ fn new_line<T: Drop>(
 // The receiver's pass of a new lane, whose one pass becomes the sender's.
 fn part<T, D: Depth>(line: &Line<T>, pass: &mut Pass<T, History<T>>) -> Pass<T, History<T>>
     requires queue { IsPassOf line.now pass.old }
-    requires new { view pass.old ≡ new_pass }
+    requires new { (pass.old.id ≡ 0) × (view pass.old ≡ idle_pass) }
     ensures queue { IsSamePass pass.old pass.new × IsPassOf line.now result }
     ensures passes { (view pass.new ≡ sender_pass D.depth) × (view result ≡ receiver_pass D.depth) }
 {
@@ -78,14 +78,15 @@ impl<T, R> LaneIn<T, R> {
         self.full_seen
     }
 
-    /// Whether the lane looks full. Nothing is counted.
-    pub fn is_full(&mut self) -> bool
-        ensures lane { lane_in self.new ≡ lane_in self.old }
-        ensures sent { sent_of self.new ≡ sent_of self.old }
-        ensures count { self.new.full_seen ≡ self.old.full_seen }
-        ensures full { result ≡ true → lane_depth (lane_in self.old) ≤ length (sent_of self.old) }
+    /// Whether the lane looks full. It is no push: nothing is counted.
+    pub fn is_full(&self) -> bool
+        ensures full { result ≡ true → lane_depth (lane_in self.now) ≤ length (sent_of self.now) }
     {
-        self.queue.is_full_as::<Sending>(&mut self.pass)
+        if self.pushed < self.queue.capacity() as u64 {
+            return false;
+        }
+        let mut look = self.queue.pass();
+        self.queue.is_full_as::<Looking>(&mut look)
     }
 }
 
@@ -125,13 +126,10 @@ impl<T, R> LaneOut<T, R> {
         self.empty_seen
     }
 
-    /// Whether the lane looks empty. Nothing is counted.
-    pub fn is_empty(&mut self) -> bool
-        ensures lane { lane_out self.new ≡ lane_out self.old }
-        ensures taken { taken_of self.new ≡ taken_of self.old }
-        ensures count { self.new.empty_seen ≡ self.old.empty_seen }
-    {
-        self.queue.is_empty_as::<Taking>(&mut self.pass)
+    /// Whether the lane looks empty. It is no pop: nothing is counted.
+    pub fn is_empty(&self) -> bool {
+        let mut look = self.queue.pass();
+        self.queue.is_empty_as::<Looking>(&mut look)
     }
 }
 

@@ -19,11 +19,11 @@ pub struct History<T> {
 pub struct LaneRule;
 
 impl<T> Protocol<T, History<T>> for LaneRule {
-    ghost use Rattle.tile_queues.specs.Rule.{InOrder, new_pass};
+    ghost use Rattle.tile_queues.specs.Rule.{InOrder, idle_pass};
 
     ghost holds = { InOrder };
 
-    ghost first = { new_pass };
+    ghost first = { idle_pass };
 }
 
 /// A queue under the rule of a lane.
@@ -53,11 +53,11 @@ impl<T, D: Depth> Split<History<T>> for Parting<D> {
 pub struct Joining;
 
 impl<T> Join<History<T>> for Joining {
-    ghost use Rattle.tile_queues.specs.Rule.{both_passes, spent_pass};
+    ghost use Rattle.tile_queues.specs.Rule.{both_passes, idle_pass};
 
     ghost both = { both_passes };
 
-    ghost spent = { spent_pass };
+    ghost spent = { idle_pass };
 }
 
 /// A push appends, or finds the lane full.
@@ -85,6 +85,15 @@ impl<T> Outcome<T, History<T>> for Taking {
 }
 
 impl<T> Lesson<T, History<T>> for Taking {
+    ghost use Rattle.std.specs.Prelude.{⊤};
+
+    ghost fact = { λ h held. ⊤ };
+}
+
+/// A look at the lane, by a pass that may do nothing.
+pub struct Looking;
+
+impl<T> Lesson<T, History<T>> for Looking {
     ghost use Rattle.std.specs.Prelude.{⊤};
 
     ghost fact = { λ h held. ⊤ };

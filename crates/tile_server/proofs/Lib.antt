@@ -2,6 +2,9 @@ mod MadeSets
 mod TileRects
 mod DrawnParcels
 mod Switches
+mod PlainBlocks
+mod WaitingBlocks
+mod LazyBoards
 mod NewCanvases
 mod LedgersGoOn
 mod TileSteps

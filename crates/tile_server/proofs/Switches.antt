@@ -8,7 +8,7 @@ use Rattle.rc_base.specs.declared.state.ElementSet.{ElementSet}
 use Rattle.element_table.proofs.SameValues.{state_is}
 use Rattle.tile_model.specs.Boards.{HasSets}
 use Rattle.tile_server.specs.Kepts.{kept_of}
-use Rattle.tile_server.specs.Switched.{IsSameState, IsStateOf, IsSwitched}
+use Rattle.tile_server.specs.Switched.{IsSameState, IsStateNow, IsStateOf, IsSwitched}
 use Rattle.tile_server.specs.declared.hardware.Hardware.{Hardware}
 use Rattle.tile_server.specs.declared.kept.KeptClient.{KeptClient}
 use Rattle.tile_server.proofs.DrawnParcels.{set_beside, set_here}
@@ -74,3 +74,13 @@ module _ (kept : List KeptClient) (client : ℕ) (k later : KeptClient) (sets : 
         let is : later ≡ x = cc in
         now.state ∙ ap (λ (y : KeptClient). y.state) is;
   }
+
+-- after a block that is drawn without sets
+pub switched_to : (kept : List KeptClient) (client : ℕ) (k : KeptClient) (hw : Hardware) → slice_get kept client ≡ Some k → IsStateNow client k.state hw → IsStateOf hw.of hw.state kept
+switched_to kept client k hw at now = record {
+  same = λ other x named here.
+      let one : client ≡ other = cc (now.of, named) in
+      let found : Some k ≡ Some x = sym at ∙ subst (λ (n : ℕ). slice_get kept n ≡ Some x) (sym one) here in
+      let is : k ≡ x = cc in
+      now.state ∙ ap (λ (y : KeptClient). y.state) is;
+}

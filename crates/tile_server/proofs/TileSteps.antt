@@ -12,19 +12,22 @@ use Rattle.rc_base.specs.declared.state.Parcel.{Parcel}
 use Rattle.rc_base.specs.declared.sync.Entry.{Entry}
 use Rattle.rc_base.specs.declared.sync.Entry.TheVariants.{Swap}
 use Rattle.rc_base.specs.declared.sync.Grant.TheVariants as grant
+use Rattle.rc_base.specs.declared.window.Layout.{Layout}
 use Rattle.rc_base.specs.Cluster.Parcels.{is_end}
+use Rattle.order_model.specs.Board.{Board}
 use Rattle.order_model.specs.Standing.{Progress, performed_in, is_over}
 use Rattle.tile_model.specs.Acts.{is_work}
-use Rattle.tile_model.specs.Boards.{is_carried_out}
+use Rattle.tile_model.specs.Boards.{is_carried_out, IsDrawn}
 use Rattle.tile_model.specs.Givable.{is_givable}
 use Rattle.tile_model.specs.Items.{after_act, after_end, after_entry, after_no_more, after_parcel, after_performed, after_wait, after_work, shown_frames, IsAwaited}
 use Rattle.tile_model.specs.Items.Item.{Due}
 use Rattle.tile_model.specs.Short.{asks, listens, IsFinished, NothingIsDue}
 use Rattle.tile_model.proofs.ShownFrames.{after_swap, after_other, after_learnt, after_worked}
-use Rattle.tile_server.specs.Boards.{board_in, canvas_clients, IsPartOf, IsSameTile}
-use Rattle.tile_server.specs.Cores.{board_of, clients_of, decl_of, is_short, layout_of, tile_of, IsProgressOf, IsSameCore, IsTileStep}
-use Rattle.tile_server.specs.Deeds.{answer_of, is_wait, progress_after, taking_answer, is_lost, MayTake}
-use Rattle.tile_server.specs.Ledgers.{closed_in, held_in, is_over_in, IsKnownOf, IsLedgerOf, IsLedgerStep, IsSameLedger, IsWholeLedger}
+use Rattle.tile_server.specs.Boards.{canvas_clients, IsPartOf, IsSameTile}
+use Rattle.tile_server.specs.LazyBoards.{board_in}
+use Rattle.tile_server.specs.Cores.{board_of, clients_of, decl_of, is_short, layout_of, tile_of, IsProgressOf, IsSameCore, IsSameView, IsShown, IsTileStep}
+use Rattle.tile_server.specs.Deeds.{answer_of, is_loss, is_wait, item_of, next_after, progress_after, taking_answer, is_lost, IsNextDeed, MayTake}
+use Rattle.tile_server.specs.Ledgers.{closed_in, held_in, is_over_in, IsKnownOf, IsLedgerOf, HoldsAll, IsLedgerStep, IsSameLedger, IsWholeLedger}
 use Rattle.tile_server.specs.Tasks.{asks_in, listens_in, next_frame, IsDueIn, IsFreeIn, IsFinishedIn, IsWorked, MayTakeIn, NothingIsDueIn}
 use Rattle.tile_server.specs.declared.deed.Taking.{Taking}
 use Rattle.tile_server.specs.declared.deed.Taking.TheVariants.{Works, Holds, Closes, Drops, Loses}
@@ -221,10 +224,10 @@ module _ (core later : TileCore) where
   module _ (canvas : later.canvas ≡ core.canvas) (clients : clients_of later ≡ clients_of core) where
     same_core : IsSameCore core later
     same_core = record {
-      decl = ap (λ c. c.decl) canvas;
+      decl = ap (λ c. c.drawn.decl) canvas;
       clients = clients;
-      layout = ap (λ c. c.layout) canvas;
-      tile = ap (λ c. c.tile) canvas;
+      layout = ap (λ c. c.drawn.layout) canvas;
+      tile = ap (λ c. c.drawn.tile) canvas;
     }
 
     same_board : board_of later ≡ board_of core
@@ -411,7 +414,7 @@ module _ (core later : TileCore) where
 
     -- work
 
-    module _ (free : IsFreeIn core client) (work : is_work parcel.act ≡ true) (tile : IsSameTile core.canvas later.canvas) where
+    module _ (free : IsFreeIn core client) (work : is_work parcel.act ≡ true) (tile : IsSameTile core.canvas.drawn later.canvas.drawn) where
       unheld : (p : Progress) → IsProgressOf core p → p.held client ≡ false
       unheld p h = (whole core p h free.ample).held client ∙ free.free
 
@@ -435,7 +438,7 @@ module _ (core later : TileCore) where
 
     -- a parcel that is lost
 
-    pub lost_step : IsFreeIn core client → is_end parcel.act ≡ false → IsSameTile core.canvas later.canvas → IsSameLedger core.ledger later.ledger
+    pub lost_step : IsFreeIn core client → is_end parcel.act ≡ false → IsSameTile core.canvas.drawn later.canvas.drawn → IsSameLedger core.ledger later.ledger
         → later.short ≡ true → IsTileStep core (Takes client parcel Loses) later
     lost_step free more tile same short = record {
       same = record { decl = tile.decl; clients = same.clients; layout = tile.layout; tile = tile.tile };
@@ -460,14 +463,14 @@ module _ (core later : TileCore) where
 -- ---- the same core, whatever its ghost fields are proved by
 
 module _ (core : TileCore) where
-  abbrev pub regiven : core.ledger.clients ≤ 8 → canvas_clients core.canvas ≡ core.ledger.clients → core.next ≤ core.ledger.clients → TileCore
+  abbrev pub regiven : core.ledger.clients ≤ 8 → canvas_clients core.canvas.drawn ≡ core.ledger.clients → core.next ≤ core.ledger.clients → TileCore
   regiven few clients turn = record core { few = few; clients = clients; turn = turn }
 
-  pub regiven_is : (few : core.ledger.clients ≤ 8) (clients : canvas_clients core.canvas ≡ core.ledger.clients) (turn : core.next ≤ core.ledger.clients)
+  pub regiven_is : (few : core.ledger.clients ≤ 8) (clients : canvas_clients core.canvas.drawn ≡ core.ledger.clients) (turn : core.next ≤ core.ledger.clients)
       → regiven few clients turn ≡ core
   regiven_is few clients turn =
       let few_prop : IsProp (core.ledger.clients ≤ 8) = hlevel props in
-      let clients_prop : IsProp (canvas_clients core.canvas ≡ core.ledger.clients) = hlevel props in
+      let clients_prop : IsProp (canvas_clients core.canvas.drawn ≡ core.ledger.clients) = hlevel props in
       let turn_prop : IsProp (core.next ≤ core.ledger.clients) = hlevel props in
       ap (λ f. regiven f clients turn) (few_prop few core.few) ∙ ap (λ f. regiven core.few f turn) (clients_prop clients core.clients)
       ∙ ap (λ f. regiven core.few core.clients f) (turn_prop turn core.turn)
@@ -551,3 +554,46 @@ ok_short core later (Learns g) h = h.short
 ok_short core later (Takes client parcel how) h = taken_short client how (is_short core) (is_short later) h.short
 ok_short core later Rests h = h.short
 ok_short core later Finishes h = h.short
+
+-- ---- the same view
+
+module _ (core mid : TileCore) (view : IsSameView core mid) where
+  -- who stands for so much progress does so still
+  pub same_progress : (p : Progress) → IsProgressOf core p → IsProgressOf mid p
+  same_progress p h = record {
+    ledger = subst (λ b. IsLedgerOf b mid.ledger p) (sym view.short) (subst (λ (l : Ledger). IsLedgerOf core.short l p) (sym view.ledger) h.ledger);
+    frames = λ ample low. view.frames ∙ h.frames (sym view.short ∙ ample) low;
+  }
+
+  pub due_still : (e : Entry) → IsDueIn core e → IsDueIn mid e
+  due_still e d = record {
+    ample = view.short ∙ d.ample;
+    known = ap (λ (l : Ledger). l.known) view.ledger ∙ d.known;
+    held = subst (λ (l : Ledger). HoldsAll l.held l.clients e) (sym view.ledger) d.held;
+  }
+
+  -- what a step makes of the one it makes of the other
+  pub step_from : (deed : TileDeed) (later : TileCore) → IsTileStep mid deed later → IsTileStep core deed later
+  step_from deed later s = record {
+    same = record {
+      decl = s.same.decl ∙ view.same.decl;
+      clients = s.same.clients ∙ view.same.clients;
+      layout = s.same.layout ∙ view.same.layout;
+      tile = s.same.tile ∙ view.same.tile;
+    };
+    short = s.short ∙ ap (cond (is_loss deed) true) view.short;
+    ample = λ loss. sym view.short ∙ s.ample loss;
+    rotation = s.rotation ∙ ap (λ n. next_after n deed) view.rotation;
+    first = λ p h. subst (λ b. IsNextDeed b p deed) view.short (s.first p (same_progress p h));
+    after = λ p h. s.after p (same_progress p h);
+    drawn = λ p h ample.
+        subst (λ (d : Decl). IsDrawn d (layout_of core) (tile_of core) p (item_of deed) (board_of core) (board_of later)) view.same.decl
+        (subst (λ (l : Layout). IsDrawn (decl_of mid) l (tile_of core) p (item_of deed) (board_of core) (board_of later)) view.same.layout
+        (subst (λ (n : ℕ). IsDrawn (decl_of mid) (layout_of mid) n p (item_of deed) (board_of core) (board_of later)) view.same.tile
+        (subst (λ (b : Board). IsDrawn (decl_of mid) (layout_of mid) (tile_of mid) p (item_of deed) b (board_of later)) view.board
+        (s.drawn p (same_progress p h) ample))));
+    shown = λ p h.
+        subst (λ (l : Layout). IsShown l (tile_of core) p (board_of core) deed) view.same.layout
+        (subst (λ (n : ℕ). IsShown (layout_of mid) n p (board_of core) deed) view.same.tile
+        (subst (λ (b : Board). IsShown (layout_of mid) (tile_of mid) p b deed) view.board (s.shown p (same_progress p h))));
+  }

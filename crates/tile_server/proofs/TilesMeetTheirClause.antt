@@ -19,6 +19,7 @@ use Rattle.rc_base.specs.declared.sync.Grant.{Grant}
 use Rattle.rc_base.specs.declared.sync.Grant.TheVariants as grant
 use Rattle.rc_base.specs.declared.sync.Name.{Name}
 use Rattle.rc_base.specs.declared.window.Layout.{Layout}
+use Rattle.order_model.specs.Board.{Board, StandsFor}
 use Rattle.order_model.specs.Gathering.{all_grants}
 use Rattle.order_model.specs.Log.{Replays, recorded_order}
 use Rattle.order_model.specs.Report.{frame_count}
@@ -35,8 +36,8 @@ use Rattle.tile_model.proofs.ShownFrames.{ShowsNothing, not_shown, one_shown, ac
 use Rattle.order_model.proofs.JournalsInTurn.{not_swap}
 use Rattle.plain_lemmas.proofs.Booleans.{false_behind}
 use Rattle.tile_server.specs.Boards.{IsPartOf}
-use Rattle.tile_server.specs.Clauses.{shown_in, AreTileFrames, TileFramesStay, NewTilesMeetTheirClause, TileStepsKeepTheClause, TileStepsOverLanesKeepTheClause, EndedTilesAreDone}
-use Rattle.tile_server.specs.Cores.{board_of, is_short, layout_of, tile_of, IsProgressOf, IsShown}
+use Rattle.tile_server.specs.Clauses.{shown_in, AreTileFrames, TileFramesStay, NewTilesMeetTheirClause, TileStepsKeepTheClause, TileStepsOverLanesKeepTheClause, EndedTilesAreDone, SameViewsKeepTheClause}
+use Rattle.tile_server.specs.Cores.{board_of, is_short, layout_of, tile_of, IsProgressOf, IsSameView, IsShown}
 use Rattle.tile_server.specs.Deeds.{answer_of, granted_of, taken_of, taking_answer, item_of, is_loss, progress_after, IsNextDeed}
 use Rattle.tile_server.specs.Laws.{NewCoresStand, StepsKeepStanding, IsTileOf, IsFramePart}
 use Rattle.tile_server.specs.declared.deed.Taking.{Taking}
@@ -44,6 +45,7 @@ use Rattle.tile_server.specs.declared.deed.Taking.TheVariants.{Works, Holds, Clo
 use Rattle.tile_server.specs.declared.deed.TileDeed.{TileDeed}
 use Rattle.tile_server.specs.declared.deed.TileDeed.TheVariants.{Performs, Shows, Fails, Learns, Takes, Rests, Finishes}
 use Rattle.tile_server.specs.declared.tile_core.TileCore.{TileCore}
+use Rattle.tile_server.proofs.TileSteps.{same_progress}
 use Rattle.tile_server.proofs.CoresStand.{awaited, over_performed}
 
 -- ---- fronts
@@ -348,3 +350,38 @@ ended_done scene l tile core took heard parts journal range sides h ample legal 
         closed = λ c low. end.closed c (subst (λ n. c < n) (sym r.stands.stands.progress.count) low);
       };
     }
+
+-- ---- the same view
+
+pub view_progress : (core later : TileCore) → IsSameView core later → (p : Progress) → IsProgressOf core p → IsProgressOf later p
+view_progress = same_progress
+
+pub view_clause : SameViewsKeepTheClause
+view_clause scene l tile core later took heard parts ended c view = record {
+  decl = view.same.decl ∙ c.decl;
+  layout = view.same.layout ∙ c.layout;
+  tile = view.same.tile ∙ c.tile;
+  clients = view.same.clients ∙ c.clients;
+  whole = λ ample. let (p, at) = c.whole (sym view.short ∙ ample) in (
+    p,
+    record {
+      progress = same_progress core later view p at.progress;
+      taken = at.taken;
+      heard_is = at.heard_is;
+      right = λ range sides journal legal fronts front.
+          let r = at.right range sides journal legal fronts front in
+          record {
+            stands = record {
+              decl = view.same.decl ∙ r.stands.decl;
+              layout = view.same.layout ∙ r.stands.layout;
+              tile = view.same.tile ∙ r.stands.tile;
+              ample = view.short ∙ r.stands.ample;
+              progress = same_progress core later view p r.stands.progress;
+              stands = subst (λ (b : Board). StandsFor scene l tile journal p b) (sym view.board) r.stands.stands;
+            };
+            frames = r.frames;
+          };
+      over = at.over;
+    },
+  );
+}

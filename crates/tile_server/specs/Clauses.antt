@@ -24,7 +24,7 @@ use Rattle.tile_model.specs.Items.{grants_heard, shown_frames}
 use Rattle.tile_model.specs.Laws.{added_names}
 use Rattle.tile_model.specs.Scenes.{HasSides, IsInRange}
 use Rattle.tile_model.specs.Short.{IsFinished}
-use Rattle.tile_server.specs.Cores.{board_of, clients_of, decl_of, is_short, layout_of, tile_of, IsProgressOf, IsTileStep, AreTaken, IsHeard}
+use Rattle.tile_server.specs.Cores.{board_of, clients_of, decl_of, is_short, layout_of, tile_of, IsProgressOf, IsSameView, IsTileStep, AreTaken, IsHeard}
 use Rattle.tile_server.specs.Deeds.{answer_of, granted_of, taken_of}
 use Rattle.tile_server.specs.Laws.{IsTileOf, IsFramePart}
 use Rattle.tile_server.specs.declared.deed.TileDeed.{TileDeed}
@@ -110,6 +110,12 @@ TileStepsKeepTheClause = (scene : Scene) (l : Layout) (tile : ℕ) (core : TileC
     → parts_later ≡ parts ++ shown_in (answer_of deed)
     → (ended_later ≡ true → answer_of deed ≡ Ok moved.Ended)
     → IsTileClause scene l tile later took_later heard_later parts_later ended_later
+
+-- and of a core of which contracts see the same
+abbrev pub SameViewsKeepTheClause : Type 0
+SameViewsKeepTheClause = (scene : Scene) (l : Layout) (tile : ℕ) (core later : TileCore) (took : ℕ → List Parcel) (heard : List Grant)
+    (parts : List TilePart) (ended : Bool) → IsTileClause scene l tile core took heard parts ended → IsSameView core later
+    → IsTileClause scene l tile later took heard parts ended
 
 -- ---- over lanes
 

@@ -1,5 +1,5 @@
 -- What a tile's core stands for, and what a step makes of it.
-use Rattle.std.specs.Prelude.{◌≡◌, ℕ, ◌+◌, ◌<◌, ◌^◌, Bool, true, false, cond, List, MatchOption}
+use Rattle.std.specs.Prelude.{◌≡◌, ℕ, ◌+◌, ◌<◌, ◌^◌, Bool, true, false, cond, List, length, MatchOption}
 use Rattle.rc_base.specs.Cluster.Lanes.{EachLane}
 use Rattle.rc_base.specs.Cluster.Parcels.{is_end}
 use Rattle.rc_base.specs.Outside.Causes.{Rose}
@@ -11,7 +11,8 @@ use Rattle.order_model.specs.Board.{Board}
 use Rattle.order_model.specs.Standing.{Progress}
 use Rattle.tile_model.specs.Boards.{IsDrawn}
 use Rattle.tile_model.specs.Items.{shown_frames}
-use Rattle.tile_server.specs.Boards.{board_in, IsPartOf}
+use Rattle.tile_server.specs.Boards.{IsPartOf}
+use Rattle.tile_server.specs.LazyBoards.{board_in}
 use Rattle.tile_server.specs.Deeds.{is_wait, item_of, is_loss, next_after, progress_after, IsNextDeed, IsFoundEmpty, IsUnheard, granted_of, taken_of}
 use Rattle.tile_server.specs.Ledgers.{IsLedgerOf}
 use Rattle.order_model.specs.declared.record.LogEntry.{LogEntry}
@@ -22,14 +23,14 @@ use Rattle.tile_server.specs.declared.tile_core.TileCore.{TileCore}
 
 -- the declaration of the scenes that it is for
 abbrev pub decl_of : TileCore → Decl
-decl_of core = core.canvas.decl
+decl_of core = core.canvas.drawn.decl
 
 abbrev pub layout_of : TileCore → Layout
-layout_of core = core.canvas.layout
+layout_of core = core.canvas.drawn.layout
 
 -- its tile's number
 abbrev pub tile_of : TileCore → ℕ
-tile_of core = core.canvas.tile
+tile_of core = core.canvas.drawn.tile
 
 -- how many clients it has
 abbrev pub clients_of : TileCore → ℕ
@@ -42,6 +43,10 @@ board_of core = board_in core.canvas
 -- the client with which its rotation goes on
 abbrev pub next_of : TileCore → ℕ
 next_of core = core.next
+
+-- how many blocks wait to be drawn
+abbrev pub waiting_of : TileCore → ℕ
+waiting_of core = length core.canvas.waiting
 
 -- its log
 abbrev pub log_of : TileCore → List LogEntry
@@ -81,6 +86,16 @@ pub record IsTileStep (core : TileCore) (deed : TileDeed) (later : TileCore) : T
   pub drawn : (p : Progress) → IsProgressOf core p → is_short later ≡ false
       → IsDrawn (decl_of core) (layout_of core) (tile_of core) p (item_of deed) (board_of core) (board_of later)
   pub shown : (p : Progress) → IsProgressOf core p → IsShown (layout_of core) (tile_of core) p (board_of core) deed
+
+-- Contracts see the same of both: the tile, what the ledger tells, the board, the client with which the rotation goes on, the number of the last frame,
+-- and whether memory has lacked.
+pub record IsSameView (core later : TileCore) : Type 0 where
+  pub same : IsSameCore core later
+  pub ledger : later.ledger ≡ core.ledger
+  pub board : board_of later ≡ board_of core
+  pub rotation : next_of later ≡ next_of core
+  pub frames : later.frames ≡ core.frames
+  pub short : is_short later ≡ is_short core
 
 -- memory lacked in the step, and hadn't before
 abbrev pub BecameShort : TileCore → TileCore → Type 0

@@ -3,6 +3,8 @@ pub mod Boards
 pub mod Kepts
 pub mod Works
 pub mod Switched
+pub mod Waits
+pub mod LazyBoards
 pub mod Ledgers
 pub mod Cores
 pub mod Tasks

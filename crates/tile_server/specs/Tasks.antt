@@ -79,7 +79,7 @@ pub record IsWorked (core : TileCore) (client : ℕ) (parcel : Parcel) (later : 
 
 -- it is of the same tile, is as short as it was, and goes on with the same client and frame
 pub record IsAlike (core later : TileCore) : Type 0 where
-  pub canvas : IsSameTile core.canvas later.canvas
+  pub canvas : IsSameTile core.canvas.drawn later.canvas.drawn
   pub clients : clients_of later ≡ clients_of core
   pub next : later.next ≡ core.next
   pub frames : later.frames ≡ core.frames

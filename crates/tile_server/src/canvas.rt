@@ -10,9 +10,11 @@ use crate::blank::{blank_device, new_clients};
 use crate::givable::is_givable;
 use crate::hardware::{Hardware, are_told};
 use crate::kept::KeptClient;
-use crate::work::work;
+use crate::work::{draw, work};
 use draw_device::Device;
 use element_table::default_state;
+use geometry::spelt;
+use parcel_bytes::Packed;
 use rc_base::cluster::TilePart;
 use rc_base::out_of_memory::OutOfMemory;
 use rc_base::scene::{Decl, copy_of_decl};
@@ -43,9 +45,10 @@ pub struct Canvas {
 impl Canvas {
     ghost use Rattle.std.specs.Prelude.{◌≡◌, ◌<◌, true, false, IfOk};
     ghost use Rattle.rc_base.specs.Cluster.Tiles.{tile_count};
-    ghost use Rattle.tile_model.specs.Acts.{is_work};
+    ghost use Rattle.tile_model.specs.Acts.{is_draw, is_work};
     ghost use Rattle.tile_model.specs.Boards.{IsNewBoard};
-    ghost use Rattle.tile_server.specs.Boards.{board_in, canvas_clients, may_come, IsDoneOn, IsPartOf, IsSameTile};
+    ghost use Rattle.tile_server.specs.Boards.{board_on, canvas_clients, drawn_pixel, may_come, IsDoneOn, IsPartOf, IsSameTile, KeepsAll};
+    ghost use Rattle.draw_device.specs.Devices.{EachTakes};
 
     /// The canvas of a tile that was sent nothing yet.
     pub fn new(
@@ -60,7 +63,7 @@ impl Canvas {
         ensures clients { IfOk result (λ c. canvas_clients c ≡ clients) }
         ensures layout { IfOk result (λ c. c.layout ≡ layout.now) }
         ensures tile { IfOk result (λ c. c.tile ≡ tile) }
-        ensures blank { IfOk result (λ c. IsNewBoard decl.now layout.now tile (board_in c)) }
+        ensures blank { IfOk result (λ c. IsNewBoard decl.now layout.now tile (board_on c)) }
     {
         sets_have_stored_texels();
         let first = default_state(decl);
@@ -84,7 +87,7 @@ impl Canvas {
         requires work { is_work parcel.act ≡ true }
         ensures same { IsSameTile self.old self.new }
         ensures done { may_come self.old parcel ≡ true → IsDoneOn self.old client parcel self.new }
-        ensures ignored { may_come self.old parcel ≡ false → board_in self.new ≡ board_in self.old }
+        ensures ignored { may_come self.old parcel ≡ false → board_on self.new ≡ board_on self.old }
     {
         sets_have_stored_texels();
         if !is_givable(&self.decl, &parcel) {
@@ -106,9 +109,29 @@ impl Canvas {
         )
     }
 
+    /// Draws the block of a parcel from the bytes that spell it, with what is kept of its client; sets aren't made. Takes no memory.
+    pub fn draw_block(&mut self, client: u8, parcel: &Packed)
+        requires client { client < canvas_clients self.old }
+        requires draws { is_draw parcel.now.act ≡ true }
+        ensures kept { KeepsAll self.old self.new }
+        ensures drawn { EachTakes (drawn_pixel self.old client parcel.now.act) self.old.device self.new.device }
+    {
+        let Some(block) = parcel.block() else {
+            return;
+        };
+        draw(
+            &mut self.hw,
+            client,
+            &self.kept[usize::from(client)],
+            &spelt(block),
+            &mut self.device,
+            &self.shared,
+        );
+    }
+
     /// A copy of the pixels, as the tile's part of a frame.
     pub fn part(&self, frame: u32) -> Result<TilePart, OutOfMemory>
-        ensures { IfOk result (IsPartOf self.now.layout self.now.tile frame (board_in self.now)) }
+        ensures { IfOk result (IsPartOf self.now.layout self.now.tile frame (board_on self.now)) }
     {
         self.device.part(self.tile, frame)
     }

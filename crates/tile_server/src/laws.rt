@@ -1,6 +1,6 @@
 //! Laws of tiles' cores. Each function's contract is a law; there is nothing to compute.
 ghost use Rattle.order_model.specs.Gathering.{GatheringIsLawful};
-ghost use Rattle.tile_server.specs.Clauses.{NewTilesMeetTheirClause, TileFramesStay, TileStepsKeepTheClause, TileStepsOverLanesKeepTheClause, EndedTilesAreDone};
+ghost use Rattle.tile_server.specs.Clauses.{NewTilesMeetTheirClause, TileFramesStay, TileStepsKeepTheClause, TileStepsOverLanesKeepTheClause, EndedTilesAreDone, SameViewsKeepTheClause};
 ghost use Rattle.tile_server.specs.Laws.{FinishedCoresAreDone, NewCoresStand, ShownPartsAreFrames, StepsKeepStanding};
 
 use order_model::laws as order_laws;
@@ -69,3 +69,8 @@ pub fn tiles_meet_their_clause_over_lanes<I: Inlet<Packed>, J: Inlet<Grant>>()
 {
     tiles_meet_their_clause();
 }
+
+/// A core of which contracts see the same as of one that meets its clause meets it too.
+pub fn same_views_meet_the_clause()
+    ensures { SameViewsKeepTheClause }
+{}

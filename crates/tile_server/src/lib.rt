@@ -11,9 +11,11 @@ mod givable;
 mod hardware;
 mod kept;
 pub mod laws;
+mod lazy;
 mod ledger;
 mod sets;
 mod tile_core;
+mod waiting;
 mod work;
 
 pub use deed::{Taking, TileDeed};

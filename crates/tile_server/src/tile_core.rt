@@ -1,10 +1,10 @@
 //! A tile's core: its steps.
 ghost use Rattle.std.specs.Prelude.{◌≡◌, ◌≤◌};
-ghost use Rattle.tile_server.specs.Boards.{canvas_clients};
+ghost use Rattle.tile_server.specs.Boards.{canvas_clients, is_plain};
 ghost use Rattle.tile_server.specs.Deeds.{is_wait};
 
-use crate::canvas::Canvas;
 use crate::deed::{Taking, TileDeed, answer};
+use crate::lazy::LazyCanvas;
 use crate::ledger::Ledger;
 use order_model::record::Log;
 use parcel_bytes::{Packed, Room};
@@ -22,23 +22,24 @@ use std::alloc::Global;
 #[derive(Drop)]
 pub struct TileCore {
     ledger: Ledger,
-    canvas: Canvas,
+    canvas: LazyCanvas,
     // for the vertices of the next block
     room: Room,
     next: u8,
     frames: u32,
     short: bool,
     ghost few: { ledger.clients ≤ 8 },
-    ghost clients: { canvas_clients canvas ≡ ledger.clients },
+    ghost clients: { canvas_clients canvas.drawn ≡ ledger.clients },
     ghost turn: { next ≤ ledger.clients },
 }
 
 impl TileCore {
-    ghost use Rattle.std.specs.Prelude.{◌≡◌, ◌≢◌, ◌⊎◌, ◌≤◌, ◌<◌, ◌||◌, cond, not, true, false, None, length, IfOk, OnOk, OnErr, IfSome, IfNone, IsTrue};
+    ghost use Rattle.std.specs.Prelude.{◌≡◌, ◌≢◌, ◌⊎◌, ◌≤◌, ◌<◌, ◌||◌, ◌-◌, nat_lt, cond, not, true, false, None, length, IfOk, OnOk, OnErr, IfSome, IfNone, IsTrue};
     ghost use Rattle.rc_base.specs.Cluster.Tiles.{tile_count};
     ghost use Rattle.rc_base.specs.Cluster.Parcels.{is_end};
     ghost use Rattle.order_model.specs.Standing.{Progress, new_progress};
     ghost use Rattle.tile_model.specs.Acts.{is_work};
+    ghost use Rattle.tile_server.specs.Boards.{is_plain};
     ghost use Rattle.tile_model.specs.Boards.{IsNewBoard};
     ghost use Rattle.rc_base.specs.declared.sync.Entry.{Entry};
     ghost use Rattle.rc_base.specs.declared.sync.Entry.TheVariants.{Swap};
@@ -47,7 +48,7 @@ impl TileCore {
     ghost use Rattle.tile_server.specs.Ledgers.{held_in, is_over_in, IsSameLedger};
     ghost use Rattle.tile_server.specs.Tasks.{asks_in, listens_in, AreAsked, IsAlike, IsDueIn, IsFinishedIn, IsFreeIn, IsInternalStep, IsNextPart, IsWorked, MayLearn, MayTakeIn, NothingIsDueIn};
     ghost use Rattle.tile_server.specs.declared.deed.TileDeed.TheVariants as deed;
-    ghost use Rattle.tile_server.specs.Cores.{board_of, clients_of, decl_of, is_short, layout_of, next_of, tile_of, AreFoundEmpty, AreSameLanes, AreServed, AreTaken, BecameShort, CountsUnheard, IsHeard, IsHeardFrom, IsProgressOf, IsSameCore, IsTileStep, TakesEnd, TakesMore, TakesOperation};
+    ghost use Rattle.tile_server.specs.Cores.{board_of, clients_of, decl_of, is_short, layout_of, next_of, tile_of, waiting_of, AreFoundEmpty, AreSameLanes, AreServed, AreTaken, BecameShort, CountsUnheard, IsHeard, IsHeardFrom, IsProgressOf, IsSameCore, IsSameView, IsTileStep, TakesEnd, TakesMore, TakesOperation};
 
     /// The core of a tile that was sent nothing yet.
     pub fn new(
@@ -68,7 +69,7 @@ impl TileCore {
         ensures progress { IfOk result (λ core. IsProgressOf core (new_progress clients)) }
         ensures board { IfOk result (λ core. IsNewBoard decl.now layout.now tile (board_of core)) }
     {
-        let canvas = Canvas::new(alloc, decl, clients, layout, tile)?;
+        let canvas = LazyCanvas::new(alloc, decl, clients, layout, tile)?;
         Ok(TileCore {
             ledger: Ledger::new(alloc, clients),
             canvas,
@@ -198,12 +199,20 @@ impl TileCore {
         }
     }
 
+    /// The part that the next Swap shows, behind all blocks that wait.
+    fn next_part(&mut self) -> Result<TilePart, OutOfMemory>
+        ensures same { IsSameView self.old self.new }
+        ensures part { IfOk result (λ part. IsNextPart self.new part) }
+    {
+        self.canvas.part(self.frames.saturating_add(1))
+    }
+
     /// A Swap is performed.
     fn show(&mut self) -> TileDeed
         requires { IsDueIn self.old Swap }
         ensures { IsInternalStep self.old result self.new }
     {
-        match self.canvas.part(self.frames.saturating_add(1)) {
+        match self.next_part() {
             Ok(part) => self.show_part(part),
             Err(OutOfMemory) => {
                 self.short = true;
@@ -287,6 +296,38 @@ impl TileCore {
         }
     }
 
+    /// A block without sets waits to be drawn, and is logged.
+    fn put_off(&mut self, client: u8, parcel: &Packed) -> Result<(), OutOfMemory>
+        requires client { client < clients_of self.old }
+        requires plain { is_plain parcel.now ≡ true }
+        ensures alike { IsAlike self.old self.new }
+        ensures worked { OnOk result (IsWorked self.old client parcel.now self.new) }
+        ensures ledger { OnErr result (IsSameLedger self.old.ledger self.new.ledger) }
+    {
+        let copy = parcel.clone()?;
+        self.canvas.put_off(client, copy);
+        self.ledger.log_work(client, parcel.place())
+    }
+
+    /// A block without sets is taken, or lost where memory lacks for its log.
+    fn take_block(&mut self, client: u8, parcel: &Packed) -> Taking
+        requires free { IsFreeIn self.old client }
+        requires plain { is_plain parcel.now ≡ true }
+        ensures { IsTileStep self.old (deed.Takes client parcel.now result) self.new }
+    {
+        match self.put_off(client, parcel) {
+            Ok(()) => {
+                self.next = client + 1;
+                Taking::Works
+            }
+            Err(OutOfMemory) => {
+                self.short = true;
+                self.next = client + 1;
+                Taking::Loses
+            }
+        }
+    }
+
     /// The client is held at its operation.
     fn hold(&mut self, client: u8) -> Taking
         requires free { IsFreeIn self.old client }
@@ -319,12 +360,15 @@ impl TileCore {
         Taking::Loses
     }
 
-    /// A parcel of a client that isn't held is read.
+    /// A parcel of a client that isn't held is read, unless it is a block without sets.
     fn open(&mut self, client: u8, parcel: &Packed) -> Taking
         requires free { IsFreeIn self.old client }
         requires more { is_end parcel.now.act ≡ false }
         ensures { IsTileStep self.old (deed.Takes client parcel.now result) self.new }
     {
+        if is_plain(parcel) {
+            return self.take_block(client, parcel);
+        }
         match parcel.parcel_in(&mut self.room) {
             Ok(read) => self.serve(client, read),
             Err(OutOfMemory) => self.lose(client),
@@ -379,6 +423,18 @@ impl TileCore {
         } else {
             TileDeed::Rests
         }
+    }
+
+    // ---- what waits
+
+    /// Draws the block that waits longest, if one waits: blocks without sets are drawn when there is nothing to take, or before what needs them drawn. Whether
+    /// one did. Contracts see each as drawn from its step on.
+    pub fn draw_one(&mut self) -> bool
+        ensures same { IsSameView self.old self.new }
+        ensures one { waiting_of self.new ≡ waiting_of self.old - 1 }
+        ensures drew { result ≡ nat_lt 0 (waiting_of self.old) }
+    {
+        self.canvas.draw_one()
     }
 
     // ---- a step
@@ -494,4 +550,11 @@ fn is_wait(act: &Act) -> bool
         Act::Sync(_) => true,
         _ => false,
     }
+}
+
+/// Whether the parcel draws a block without sets.
+fn is_plain(parcel: &Packed) -> bool
+    ensures { result ≡ is_plain parcel.now }
+{
+    parcel.set_count() == 0 && parcel.block().is_some()
 }

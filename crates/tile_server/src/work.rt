@@ -50,8 +50,8 @@ fn perform(
     draw(hw, client, kept, &listed(block), device, shared);
 }
 
-// Draws a block, with what is kept of its client: the state that the device draws with becomes the client's, where it isn't known to be.
-fn draw(
+/// Draws a block, with what is kept of its client: the state that the device draws with becomes the client's, where it isn't known to be.
+pub(crate) fn draw(
     hw: &mut Hardware,
     client: u8,
     kept: &KeptClient,

@@ -1,5 +1,5 @@
 -- What callers say of runs of a cluster.
-use Rattle.std.specs.Prelude.{ℕ, ◌+◌, ◌<◌, ◌≤◌, not, Bool, List, Option, count_by, min, slice_index_or}
+use Rattle.std.specs.Prelude.{ℕ, ◌+◌, ◌<◌, ◌≤◌, not, Bool, false, List, Option, count_by, min, slice_index_or}
 use Rattle.rc_base.specs.Cluster.Tiles.{tile_count}
 use Rattle.rc_base.specs.Outside.Causes.{last_count}
 use Rattle.rc_base.specs.declared.cluster.Tally.{Tally}
@@ -11,7 +11,7 @@ use Rattle.order_model.specs.declared.record.Record.{Record}
 use Rattle.tile_queues.specs.Ends.{fulls_of}
 use Rattle.worker_crew.specs.declared.task.Task.{Task}
 use Rattle.cluster_run.specs.Steps.{TileTurn}
-use Rattle.cluster_run.specs.Steps.TileTurn.{StepsCore, HandsOver}
+use Rattle.cluster_run.specs.Steps.TileTurn.{StepsCore, HandsOver, DrawsBlock}
 use Rattle.cluster_run.specs.Workers.{IsRunOfWorkers}
 use Rattle.cluster_run.specs.declared.workers.TileWorker.{TileWorker}
 
@@ -19,6 +19,7 @@ use Rattle.cluster_run.specs.declared.workers.TileWorker.{TileWorker}
 abbrev pub leaves_waiting : TileTurn → Bool
 leaves_waiting (StepsCore deed offered sent) = not sent
 leaves_waiting (HandsOver part sent) = not sent
+leaves_waiting DrawsBlock = false
 
 -- The workers have run, and at the end of each tile's lane of parts the count of refusals has risen by each of the tile's turns that left a part waiting, up to the type's end.
 pub record CountsWaits (R : Type 0) (scene : Scene) (l : Layout) (depth : ℕ) (kept : Record) (tallies : List Tally) (waiting : Option Waiting)

@@ -1,5 +1,5 @@
 -- Which place is whose: the clients' first, then the manager's, then the tiles', then the caller's.
-use Rattle.std.specs.Prelude.{◌≡◌, ◌<◌, ◌+◌, ℕ, ⊤}
+use Rattle.std.specs.Prelude.{◌<◌, ◌+◌, ℕ, ⊤}
 use Rattle.worker_crew.specs.declared.worker.Peer.{Peer}
 use Rattle.worker_crew.specs.declared.worker.Peer.TheVariants.{Client, Manager, Tile, Caller}
 

@@ -2,12 +2,12 @@
 ghost use Rattle.std.specs.Prelude.{◌≡◌, ◌<◌, ◌≤◌, ◌+◌, ◌*◌, ◌/◌};
 ghost use Rattle.worker_crew.specs.Waits.{next_after};
 
-// How often a thread looks at its lanes before it sleeps: at first, at least, and at most. A look takes some 50 nanoseconds.
-const FIRST: u32 = 400;
+// How often a thread looks at its lanes before it sleeps: at first, at least, and at most. A look takes some ten nanoseconds.
+const FIRST: u32 = 2_000;
 
-const LEAST: u32 = 80;
+const LEAST: u32 = 200;
 
-const MOST: u32 = 1_000;
+const MOST: u32 = 5_000;
 
 // Of the waits of a thread that looks no more, one of so many has looks all the same.
 const EACH: u32 = 16;
@@ -46,14 +46,14 @@ pub(crate) fn next_for(is_announced: bool, looks: u32, yields: u32, is_crowded: 
 pub(crate) struct Budget {
     looks: u32,
     passed: u32,
-    ghost bound: { looks ≤ 1000 },
+    ghost bound: { looks ≤ 5000 },
     ghost few: { passed < 16 },
 }
 
 impl Budget {
     /// Before the first wait.
     pub(crate) fn new() -> Budget
-        ensures { (result.looks ≡ 400) × (result.passed ≡ 0) }
+        ensures { (result.looks ≡ 2000) × (result.passed ≡ 0) }
     {
         Budget {
             looks: FIRST,
@@ -66,7 +66,7 @@ impl Budget {
         ensures kept { self.new.looks ≡ self.old.looks }
         ensures learnt { 0 < self.old.looks → (result ≡ self.old.looks) × (self.new.passed ≡ self.old.passed) }
         ensures none { self.old.looks ≡ 0 → self.old.passed < 15 → (result ≡ 0) × (self.new.passed ≡ self.old.passed + 1) }
-        ensures some { self.old.looks ≡ 0 → self.old.passed ≡ 15 → (result ≡ 80) × (self.new.passed ≡ 0) }
+        ensures some { self.old.looks ≡ 0 → self.old.passed ≡ 15 → (result ≡ 200) × (self.new.passed ≡ 0) }
     {
         if self.looks > 0 {
             return self.looks;
@@ -82,9 +82,9 @@ impl Budget {
     /// Looks ended in time: there will be twice as many, from a least number to a most.
     pub(crate) fn double(&mut self)
         ensures passed { self.new.passed ≡ self.old.passed }
-        ensures least { 2 * self.old.looks ≤ 160 → self.new.looks ≡ 160 }
-        ensures double { 160 ≤ 2 * self.old.looks → 2 * self.old.looks ≤ 1000 → self.new.looks ≡ 2 * self.old.looks }
-        ensures most { 1000 ≤ 2 * self.old.looks → self.new.looks ≡ 1000 }
+        ensures least { 2 * self.old.looks ≤ 400 → self.new.looks ≡ 400 }
+        ensures double { 400 ≤ 2 * self.old.looks → 2 * self.old.looks ≤ 5000 → self.new.looks ≡ 2 * self.old.looks }
+        ensures most { 5000 ≤ 2 * self.old.looks → self.new.looks ≡ 5000 }
     {
         let more = 2 * self.looks;
         self.looks = if more < 2 * LEAST {
@@ -99,8 +99,8 @@ impl Budget {
     /// Looks were in vain: there will be a quarter as many, or none, where that is below a least number.
     pub(crate) fn quarter(&mut self)
         ensures passed { self.new.passed ≡ self.old.passed }
-        ensures none { self.old.looks / 4 < 80 → self.new.looks ≡ 0 }
-        ensures quarter { 80 ≤ self.old.looks / 4 → self.new.looks ≡ self.old.looks / 4 }
+        ensures none { self.old.looks / 4 < 200 → self.new.looks ≡ 0 }
+        ensures quarter { 200 ≤ self.old.looks / 4 → self.new.looks ≡ self.old.looks / 4 }
     {
         let less = self.looks / 4;
         self.looks = if less < LEAST { 0 } else { less };

@@ -20,9 +20,6 @@ use std::sync::Wait;
 // After so many moved steps all to whom something was given are rung.
 const ROUND: u64 = 32;
 
-// Before it rings anybody, who found nothing to do glances at its lanes so often: for less time than it takes to wake a sleeper.
-const GLANCES: u32 = 64;
-
 // Behind a turn that moved something it gives its processor away so often at most before it sleeps.
 const YIELDS: u32 = 8;
 
@@ -35,16 +32,13 @@ pub(crate) struct Waking<'s> {
     owed: Owed,
     moved: u64,
     budget: Budget,
-    glanced: bool,
     looked: bool,
     yields: u32,
     announced: Awaited,
 }
 
 // Looks at a worker's lanes so often. Whether it may move.
-fn looks_out<W: Worker>(worker: &mut W, on: Option<Peer>, looks: u32) -> bool
-    ensures { W.leads worker.old worker.new }
-{
+fn looks_out<W: Worker>(worker: &W, on: Option<Peer>, looks: u32) -> bool {
     for _ in 0..looks {
         if worker.may_move(on) {
             return true;
@@ -75,7 +69,6 @@ impl<'s> Waking<'s> {
             owed: Owed::new(),
             moved: 0,
             budget: Budget::new(),
-            glanced: false,
             looked: false,
             yields: YIELDS,
             announced: Awaited::nobody(),
@@ -154,22 +147,10 @@ impl<'s> Waking<'s> {
         self.row.ring_waiting(self.own);
     }
 
-    // Glances at its lanes, once behind a turn that moved something. Whether the worker may move.
-    fn glance<W: Worker>(&mut self, worker: &mut W, on: Option<Peer>) -> bool
-        ensures leads { W.leads worker.old worker.new }
-    {
-        if self.glanced {
-            return false;
-        }
-        self.glanced = true;
-        looks_out(worker, on, GLANCES)
-    }
-
     // Looks out for what it waits for, a few looks at a time, as long as no more threads are awake than there are processors. Whether the worker may move;
     // it learns whether the looks were of use, unless they were cut off.
-    fn look<W: Worker>(&mut self, worker: &mut W, on: Option<Peer>, looks: u32) -> bool
-        ensures leads { W.leads worker.old worker.new }
-        ensures owed { self.new.owed ≡ self.old.owed }
+    fn look<W: Worker>(&mut self, worker: &W, on: Option<Peer>, looks: u32) -> bool
+        ensures { self.new.owed ≡ self.old.owed }
     {
         self.looked = true;
         for _ in 0..looks / 16 {
@@ -235,15 +216,13 @@ impl<'s> Waking<'s> {
     {
         seat.sleep(rt, self.row.crowd(), &self.owed);
         self.announced = Awaited::nobody();
-        self.glanced = false;
         self.looked = false;
         self.yields = YIELDS;
     }
 
     // Waits at its place: it looks out for what the worker waits for, as often as that was of use, and then sleeps until it is woken.
-    fn wait_at<W: Worker, R: Wait>(&mut self, rt: &R, seat: &Seat, on: Option<Peer>, worker: &mut W)
+    fn wait_at<W: Worker, R: Wait>(&mut self, rt: &R, seat: &Seat, on: Option<Peer>, worker: &W)
         requires { IsNothing self.old.owed.given }
-        ensures { W.leads worker.old worker.new }
     {
         let whom = match on {
             Some(peer) => Awaited::of(self.row.place_of(peer)),
@@ -274,7 +253,6 @@ impl<'s> Waking<'s> {
     fn stay_awake(&mut self)
         ensures { self.new.owed ≡ self.old.owed }
     {
-        self.glanced = false;
         self.looked = false;
         self.yields = YIELDS;
         if self.announced != Awaited::nobody() {
@@ -302,22 +280,21 @@ impl<'s> Waking<'s> {
         spare_of(worker, &self.owed)
     }
 
-    /// Goes on behind a turn that moved something. Behind another it glances at the worker's lanes, rings all to whom something was given, does a part of what
-    /// nobody waits for, and where there is none it waits.
+    /// Goes on behind a turn that moved something. Behind another it rings all to whom something was given, does a part of what nobody waits for, and where
+    /// there is none it waits.
     pub(crate) fn after<W: Worker, R: Wait>(&mut self, rt: &R, turned: Turned, worker: &mut W)
         ensures { W.leads worker.old worker.new }
     {
         if turned.moved {
             self.go_on();
-        } else if !self.glance(worker, turned.on) && !self.spare(worker) {
+        } else if !self.spare(worker) {
             self.wait(rt, turned.on, worker);
         }
     }
 
     // Waits at its place, or a moment where it has none.
-    fn wait<W: Worker, R: Wait>(&mut self, rt: &R, on: Option<Peer>, worker: &mut W)
+    fn wait<W: Worker, R: Wait>(&mut self, rt: &R, on: Option<Peer>, worker: &W)
         requires { IsNothing self.old.owed.given }
-        ensures { W.leads worker.old worker.new }
     {
         match self.row.seat(self.own) {
             Some(seat) => self.wait_at(rt, seat, on, worker),

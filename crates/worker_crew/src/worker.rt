@@ -57,11 +57,9 @@ pub trait Worker {
         ensures leads { leads self.old self.new }
         ensures over { result ≡ attempt.Ended → over self.new };
 
-    /// Whether a look at its lanes finds that a step may move, behind one that was blocked on this peer. No lane is changed by it. A worker that
-    /// has no look says no, and is woken.
-    fn may_move(&mut self, _on: Option<Peer>) -> bool
-        ensures leads { leads self.old self.new }
-    {
+    /// Whether a look at its lanes finds that a step may move, behind one that was blocked on this peer. A worker that has no look says no, and is
+    /// woken.
+    fn may_move(&self, _on: Option<Peer>) -> bool {
         false
     }
 

@@ -13,6 +13,7 @@ loop-x-preserved c =
       depths = length-set _ _ _ ∙ i.depths;
       drawn = run_pixel (tried_pixel a.setup.now.state.now a.setup.now.texture.now a.setup.now.tri.now.v) a.setup.now.extent.left a.row a.from c.loop-x.x _ c.loop-x.colors c.loop-x.depths _ _ alike i.drawn (omega arith)
           (omega (arith, i.colors)) c.put_tried.ensures;
+      edges = c.step_edges.ensures;
     }
 
 pub returns : goal.returns

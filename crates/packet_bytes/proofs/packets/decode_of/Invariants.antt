@@ -3,7 +3,7 @@ use Rattle.packet_bytes.proofs.DecodingProgress.{Progress}
 use Rattle.packet_bytes.proofs.packets.decode_of.Given as goal
 
 abbrev pub invariant-loop-rest : goal.invariant-loop-rest
-invariant-loop-rest g l = Progress g.C.PacketCommand.set g.C.PacketCommand.reader g.met.C.PacketCommand.agrees l.bytes l.room l.commands.items l.count l.swaps l.rest
+invariant-loop-rest g l = Progress g.L.PacketList.set g.L.PacketList.reader g.met.L.PacketList.agrees l.bytes l.room (g.L.HoldsCommands.items l.commands) l.count l.swaps l.rest
 
 abbrev pub decreases-loop-rest : goal.decreases-loop-rest
 decreases-loop-rest g l = length l.rest

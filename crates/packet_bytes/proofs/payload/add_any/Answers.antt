@@ -1,4 +1,4 @@
-use Rattle.std.proofs.Common.{◌≡◌, List, length, take, Ok, [], ◌∷◌, ◌++◌, ap, ◌∙◌, subst, arith}
+use Rattle.std.proofs.Common.{◌≡◌, List, length, take, Ok, subst, arith}
 use Rattle.std.proofs.lemmas.Result.{err_from_is_err_and}
 use Rattle.rc_base.specs.declared.command.NumberRange.{NumberRange}
 use Rattle.rc_base.specs.Formats.Commands.{ranges_of}
@@ -46,5 +46,5 @@ returns-clause-added g c =
       c.command_of-command.result,
       command_done o c.args.bytes.now c.in_ok-rest.rest.now c.in_ok-texels.rest.now numbers c.in_ok-texels.texels c.command_of-command.result read c.in_ok-texels.ensures
           c.command_of-command.ensures,
-      c.push_reserved.ensures.items ∙ ap (λ x. c.args.commands.now.items ++ x ∷ []) c.hold.ensures,
+      c.in_ok-add.ensures.added,
     )

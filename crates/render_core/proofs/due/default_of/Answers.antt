@@ -2,15 +2,15 @@ use Rattle.rc_base.proofs.WithinLimits.{clients_within, counts_some}
 use Rattle.render_core.proofs.Dues.{default_is}
 use Rattle.render_core.proofs.due.default_of.Goals as goal
 
-pub survey-requires : goal.survey-requires
-survey-requires c = record { limits = c.requires.within; commands = c.requires.well.1; sizes = c.requires.well.0.shared }
+pub survey_scene-requires : goal.survey_scene-requires
+survey_scene-requires g c = record { limits = c.requires.within; commands = c.requires.well.1; sizes = c.requires.well.0.shared }
 
-pub turns_of-requires : goal.turns_of-requires
-turns_of-requires c = c.in_ok-syncs.ensures.turns
+pub turns_in_runs-requires : goal.turns_in_runs-requires
+turns_in_runs-requires g c = c.in_ok-syncs.ensures.turns
 
 pub returns-clause-default : goal.returns-clause-default
-returns-clause-default c =
-    let scene = c.args.scene.now in
+returns-clause-default g c =
+    let scene = (g.S.SceneStore.scene c.args.scene.now) in
     let clients = clients_within scene c.requires.within in
     let surveyed = c.in_ok-syncs.ensures in
     let turns = c.in_ok-journal.ensures in

@@ -1,5 +1,5 @@
 use Rattle.std.proofs.Common.{◌≡◌, ◌∙◌, ap, ℕ, List}
-use Rattle.rc_base.specs.Formats.Limits.{first_outside, least_swaps, judged}
+use Rattle.rc_base.specs.Formats.Limits.{first_outside, least_swaps}
 use Rattle.rc_base.specs.declared.command.Command.{Command}
 use Rattle.rc_base.specs.declared.scene.Scene.{Scene}
 use Rattle.scene_file.specs.Judging.{stream_part}

@@ -7,8 +7,8 @@ use Rattle.stream_replay.proofs.ListsGoOn.{map_more}
 use Rattle.stream_replay.proofs.client.clients_of.Goals as goal
 
 pub loop-preserved : goal.loop-preserved
-loop-preserved c =
-    let f = λ (client : ℕ). client_after c.args.scene.now client 0 in
+loop-preserved g c =
+    let f = λ (client : ℕ). client_after (g.S.SceneStore.scene c.args.scene.now) client 0 in
     let n = c.loop.counter in
     c.in_ok-push.ensures.items
     ∙ ap (λ (l : List Client). l ++ c.in_ok-new.field-0 ∷ []) c.loop.invariant

@@ -5,4 +5,4 @@ use Rattle.stream_replay.specs.Clients.{client_after}
 use Rattle.stream_replay.proofs.client.clients_of.Given as goal
 
 abbrev pub invariant-loop : goal.invariant-loop
-invariant-loop l = l.clients.items ≡ map (λ client. client_after l.scene client 0) (range_with_len 0 l.counter)
+invariant-loop g l = l.clients.items ≡ map (λ client. client_after (g.S.SceneStore.scene l.scene) client 0) (range_with_len 0 l.counter)

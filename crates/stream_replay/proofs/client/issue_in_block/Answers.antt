@@ -6,8 +6,8 @@ use Rattle.stream_replay.proofs.BlockCommands.{clients_behind}
 use Rattle.stream_replay.proofs.client.issue_in_block.Goals as goal
 
 pub returns-clause-issued : goal.returns-clause-issued
-returns-clause-issued c =
-    let s = c.args.scene.now in
+returns-clause-issued g c =
+    let s = g.S.SceneStore.scene c.args.scene.now in
     let n = c.args.name in
     let xs = c.args.clients.now.items in
     let x = c.index_mut.result.now in

@@ -7,8 +7,8 @@ use Rattle.stream_replay.proofs.BlockCommands.{behind, does, still_begin}
 use Rattle.stream_replay.proofs.replay.begun.Goals as goal
 
 pub returns-then-begin-clause-issued : goal.returns-then-begin-clause-issued
-returns-then-begin-clause-issued c =
-    let s = c.args.scene.now in
+returns-then-begin-clause-issued g c =
+    let s = g.S.SceneStore.scene c.args.scene.now in
     let client = c.args.client in
     let place = c.args.place in
     let command = cmd.Begin c.args.mode in (

@@ -6,8 +6,8 @@ use Rattle.stream_replay.proofs.BlockCommands.{behind, does}
 use Rattle.stream_replay.proofs.replay.ended.Goals as goal
 
 pub returns-in-Some-clause-issued : goal.returns-in-Some-clause-issued
-returns-in-Some-clause-issued c =
-    let s = c.args.scene.now in
+returns-in-Some-clause-issued g c =
+    let s = g.S.SceneStore.scene c.args.scene.now in
     let client = c.args.client in
     let place = c.args.place in (
       behind s client place cmd.End c.args.context.now c.end.new.self c.requires.at c.requires.before (c.in-Some.ensures.issued place) refl,

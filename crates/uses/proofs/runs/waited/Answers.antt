@@ -9,7 +9,7 @@ use Rattle.rc_base.specs.declared.window.Layout.{Layout}
 use Rattle.tile_queues.specs.Ends.{fulls_of}
 use Rattle.tile_queues.specs.declared.ends.LaneIn.{LaneIn}
 use Rattle.cluster_run.specs.Steps.{IsPut, IsTileTurn, TileTurn}
-use Rattle.cluster_run.specs.Steps.TileTurn.{StepsCore, HandsOver}
+use Rattle.cluster_run.specs.Steps.TileTurn.{StepsCore, HandsOver, DrawsBlock}
 use Rattle.cluster_run.specs.Turns.{AreWorkerTurns}
 use Rattle.cluster_run.specs.Workers.{IsRunOfWorkers}
 use Rattle.cluster_run.specs.declared.run.Run.{Run}
@@ -42,6 +42,7 @@ module _ {R : Type 0} where
   turned : (turn : TileTurn) (before after : TileWorker R) → IsTileTurn before turn after → Counts (leaves_waiting turn) (fulls_of before.parts) (fulls_of after.parts)
   turned (StepsCore deed offered sent) before after is = put offered sent before.parts after.parts after.held is.done.parts
   turned (HandsOver part sent) before after is = put (Some part) sent before.parts after.parts after.held is.done.parts
+  turned DrawsBlock before after is = ap fulls_of is.done.parts
 
   counted : (turns : List TileTurn) (first last : TileWorker R) → AreWorkerTurns IsTileTurn first turns last
       → min (fulls_of first.parts + count_by leaves_waiting turns) last_count ≤ fulls_of last.parts

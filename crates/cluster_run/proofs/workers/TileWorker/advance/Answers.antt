@@ -114,20 +114,20 @@ pub returns-then-not-put_held-clause-steps : goal.returns-then-not-put_held-clau
 returns-then-not-put_held-clause-steps g c =
     let w = c.args.self.now in
     let kept = kept_back w.held c.put_held.result w.parts c.put_held.new.parts c.put_held.new.held c.put_held.ensures.handed c.if-not-put_held.true in
-    (HandsOver kept.0 false, record { number = refl; done = record { waits = kept.1; core_is = refl; clients = refl; grants = refl; parts = kept.2 } }, refl)
+    (HandsOver kept.0 false, record { turned = record { number = refl; done = record { waits = kept.1; core_is = refl; clients = refl; grants = refl; parts = kept.2 } }; tried = refl }, refl)
 
 pub returns-then-not-put_held-clause-turns : goal.returns-then-not-put_held-clause-turns
-returns-then-not-put_held-clause-turns g c = let turn = returns-then-not-put_held-clause-steps g c in goes_on IsTileTurn _ _ turn.0 turn.1
+returns-then-not-put_held-clause-turns g c = let turn = returns-then-not-put_held-clause-steps g c in goes_on IsTileTurn _ _ turn.0 turn.1.turned
 
 pub returns-then-waited-clause-steps : goal.returns-then-waited-clause-steps
 returns-then-waited-clause-steps g c =
     let w = c.args.self.now in
     let sent = sent_on w.held c.put_held.result w.parts c.put_held.new.parts c.put_held.new.held (sym c.is_some-waited.ensures ∙ c.if-waited.true) c.put_held.ensures.handed
     c.if-not-put_held.false in
-    (HandsOver sent.0 true, record { number = refl; done = record { waits = sent.1; core_is = refl; clients = refl; grants = refl; parts = sent.2 } }, refl)
+    (HandsOver sent.0 true, record { turned = record { number = refl; done = record { waits = sent.1; core_is = refl; clients = refl; grants = refl; parts = sent.2 } }; tried = refl }, refl)
 
 pub returns-then-waited-clause-turns : goal.returns-then-waited-clause-turns
-returns-then-waited-clause-turns g c = let turn = returns-then-waited-clause-steps g c in goes_on IsTileTurn _ _ turn.0 turn.1
+returns-then-waited-clause-turns g c = let turn = returns-then-waited-clause-steps g c in goes_on IsTileTurn _ _ turn.0 turn.1.turned
 
 pub returns-clause-steps : goal.returns-clause-steps
 returns-clause-steps g c =
@@ -143,24 +143,27 @@ returns-clause-steps g c =
     let same = none_put w.held c.put_held.result w.parts c.put_held.new.parts c.put_held.new.held none c.put_held.ensures.handed in (
       StepsCore told.0 offer sent,
       record {
-        number = refl;
-        done = record {
-          none_waits = none;
-          step = told.2.0;
-          clients = subst (λ ends. AreTaken Took TookNone told.0 w.clients.items ends) (sym left) (subst (λ ends. AreTaken Took TookNone told.0 ends xs') xs_are told.2.1);
-          empty = subst (λ ends. Empty w.core told.0 w.clients.items ends) (sym left) (subst (λ ends. Empty w.core told.0 ends xs') xs_are told.2.2);
-          grants = told.2.3;
-          unheard = told.2.4;
-          shown = subst (λ (r : Result TileMoved OutOfMemory). IfOk r (λ did. option_to_list offer ≡ shown_in (Ok did))) told.1 c.offered.ensures.shown;
-          lacked = subst (λ (r : Result TileMoved OutOfMemory). OnErr r ((part : TilePart) × (offer ≡ Some part) × (part.pixels ≡ []))) told.1 c.offered.ensures.lacked;
-          parts = subst (λ (a : LaneIn TilePart _). IsPut offer sent a c.put_held-sent.new.parts c.put_held-sent.new.held) same c.put_held-sent.ensures.handed;
+        turned = record {
+          number = refl;
+          done = record {
+            none_waits = none;
+            step = told.2.0;
+            clients = subst (λ ends. AreTaken Took TookNone told.0 w.clients.items ends) (sym left) (subst (λ ends. AreTaken Took TookNone told.0 ends xs') xs_are told.2.1);
+            empty = subst (λ ends. Empty w.core told.0 w.clients.items ends) (sym left) (subst (λ ends. Empty w.core told.0 ends xs') xs_are told.2.2);
+            grants = told.2.3;
+            unheard = told.2.4;
+            shown = subst (λ (r : Result TileMoved OutOfMemory). IfOk r (λ did. option_to_list offer ≡ shown_in (Ok did))) told.1 c.offered.ensures.shown;
+            lacked = subst (λ (r : Result TileMoved OutOfMemory). OnErr r ((part : TilePart) × (offer ≡ Some part) × (part.pixels ≡ []))) told.1 c.offered.ensures.lacked;
+            parts = subst (λ (a : LaneIn TilePart _). IsPut offer sent a c.put_held-sent.new.parts c.put_held-sent.new.held) same c.put_held-sent.ensures.handed;
+          };
         };
+        tried = refl;
       },
       c.attempt_of-attempt.ensures.exact ∙ ap tile_attempt told.1,
     )
 
 pub returns-clause-turns : goal.returns-clause-turns
-returns-clause-turns g c = let turn = returns-clause-steps g c in goes_on IsTileTurn _ _ turn.0 turn.1
+returns-clause-turns g c = let turn = returns-clause-steps g c in goes_on IsTileTurn _ _ turn.0 turn.1.turned
 
 pub returns-clause-leads : goal.returns-clause-leads
 returns-clause-leads g c scene l tile took heard shown h =

@@ -7,5 +7,5 @@ use Rattle.gl_context.proofs.context.Context.set.Goals as goal
 -- Begin's argument is a code, since the command is accepted
 pub block_mode-requires : goal.block_mode-requires
 block_mode-requires c =
-    let passes : fault_of c.args.self.now (cmd.Begin c.in-Begin.mode) ≡ None = rw c.in-Begin.is at c.requires.passes in
+    let passes : fault_of c.args.self.now (cmd.Begin c.in-Begin.mode) ≡ None = rw c.in-Begin.is at c.requires.can.passes in
     (accepted c.args.self.now (cmd.Begin c.in-Begin.mode) passes).codes

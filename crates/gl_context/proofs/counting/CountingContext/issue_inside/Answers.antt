@@ -28,7 +28,7 @@ returns-in-Some-clause-ok c =
     let b = open_block c.args.self.now x c.args.count c.requires is in
     refused_counted c.args.self.now c.refuse.new.self x c.args.place (cmd.Vertex c.in-Vertex.pos) c.in-Some.fault
     (sym (c.in-Some.ensures ∙ vertex_fault x c.in-Vertex.pos b.0 c.args.count b.1 b.2)) is step
-    ∙ ap (λ (d : Command). counted (issued x c.args.place d)) (sym c.in-Vertex.is)) c.refuse.ensures.ok
+    ∙ ap (λ (d : Command). counted (issued x c.args.place d)) (sym c.in-Vertex.is)) c.refuse.ensures.context.0
 
 pub returns-in-None-clause-kind : goal.returns-in-None-clause-kind
 returns-in-None-clause-kind c x is =
@@ -93,4 +93,4 @@ returns-in_default-clause-ok c =
     let b = open_block c.args.self.now x c.args.count c.requires is in
     refused_counted c.args.self.now c.refuse-in_default.new.self x c.args.place c.args.command.now InvalidOperation
     (misplaced x b.0 c.args.command.now b.1 c.in_default.not-End c.in_default.not-Vertex c.in_default.not-Color c.in_default.not-TexCoord) is step)
-    c.refuse-in_default.ensures.ok
+    c.refuse-in_default.ensures.context.0

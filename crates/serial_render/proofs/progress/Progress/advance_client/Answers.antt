@@ -34,7 +34,7 @@ returns c =
     let place = c.place_of-place.result in
     let q : Progress = record {
       book = c.tell.new.book;
-      order = c.add_names.new.order;
+      order = c.add.new.self;
       arrived = set p.arrived client (slice_index p.arrived client + c.from.result);
       issued = set p.issued client place;
     } in
@@ -51,9 +51,9 @@ returns c =
     let wanted = c.requires.wanted in
     let book_is = c.in_ok-tell.ensures s in
     record {
-      way = way_advanced s p q client next place way lt wanted next_is place_is c.in_ok-add_names.ensures refl places arrived_is arrivals book_is;
-      journal = journal_advanced s p q client next place way lt wanted next_is place_is c.in_ok-add_names.ensures refl places arrived_is arrivals book_is;
-      order = order_advanced s p q client next place way lt wanted next_is place_is c.in_ok-add_names.ensures refl places arrived_is arrivals book_is;
-      settled = settled_advanced s p q client next place way lt wanted next_is place_is c.in_ok-add_names.ensures refl places arrived_is arrivals book_is;
-      others = others_advanced s p q client next place way lt wanted next_is place_is c.in_ok-add_names.ensures refl places arrived_is arrivals book_is;
+      way = way_advanced s p q client next place way lt wanted next_is place_is c.in_ok-add.ensures refl places arrived_is arrivals book_is;
+      journal = journal_advanced s p q client next place way lt wanted next_is place_is c.in_ok-add.ensures refl places arrived_is arrivals book_is;
+      order = order_advanced s p q client next place way lt wanted next_is place_is c.in_ok-add.ensures refl places arrived_is arrivals book_is;
+      settled = settled_advanced s p q client next place way lt wanted next_is place_is c.in_ok-add.ensures refl places arrived_is arrivals book_is;
+      others = others_advanced s p q client next place way lt wanted next_is place_is c.in_ok-add.ensures refl places arrived_is arrivals book_is;
     }

@@ -6,14 +6,14 @@ use Rattle.stream_replay.proofs.AcceptedSwaps.{swaps_next, swaps_most, byte_most
 use Rattle.stream_replay.proofs.client.Client.issue.Goals as goal
 
 pub overflow_add-self : goal.overflow_add-self
-overflow_add-self c =
-    let s = c.args.scene.now in
+overflow_add-self g c =
+    let s = g.S.SceneStore.scene c.args.scene.now in
     let swaps : c.args.self.now.swaps ≡ accepted_swaps s c.args.client c.args.place = ap (λ (x : Client). x.swaps) c.requires.before in
     omega (arith, swaps, swaps_most s c.args.client c.args.place, c.requires.inside, few_commands s c.requires.within.limits c.args.client, c.from.ensures, byte_most c.is_swap.result)
 
 pub returns-clause-client : goal.returns-clause-client
-returns-clause-client c =
-    let s = c.args.scene.now in
+returns-clause-client g c =
+    let s = g.S.SceneStore.scene c.args.scene.now in
     let before = accepted_swaps s c.args.client c.args.place in
     let swaps : c.args.self.now.swaps ≡ before = ap (λ (x : Client). x.swaps) c.requires.before in
     let step : c.from.result ≡ (if is_swap_effect c.in_ok-effect.effect then 1 else 0) =

@@ -4,8 +4,8 @@ use Rattle.stream_replay.proofs.BlockCommands.{client_behind}
 use Rattle.stream_replay.proofs.client.Client.issue_in_block.Goals as goal
 
 pub returns-clause-issued : goal.returns-clause-issued
-returns-clause-issued c =
-    let s = c.args.scene.now in
+returns-clause-issued g c =
+    let s = g.S.SceneStore.scene c.args.scene.now in
     let client = c.args.client in
     let place = c.args.place in
     IfOk-weaker c.issue_in_block_at.result (IsIssuedInBlock s client place c.issue_in_block_at.new.context)

@@ -1,0 +1,27 @@
+use Rattle.std.proofs.Common.{◌≡◌, ℕ, ◌*◌, ◌≤◌, ◌∙◌, [], ◌∷◌, ap, ap₂, subst, sym}
+use Rattle.rc_base.specs.Formats.Limits.{first_outside, held_limit, least_swaps}
+use Rattle.rc_base.specs.declared.scene.Decl.{Decl}
+use Rattle.rc_base.proofs.WithinLimits.{width_within, height_within, few_frames}
+use Rattle.scene_file.proofs.LimitsByParts.{held_is}
+use Rattle.scene_file.proofs.limits.check_held_stored.Goals as goal
+
+pub frame_pixels-requires-clause-width : goal.frame_pixels-requires-clause-width
+frame_pixels-requires-clause-width c = subst (λ (d : Decl). d.width ≤ 2048) (sym c.decl.ensures) (width_within c.args.scene.now c.requires).1
+
+pub frame_pixels-requires-clause-height : goal.frame_pixels-requires-clause-height
+frame_pixels-requires-clause-height c = subst (λ (d : Decl). d.height ≤ 2048) (sym c.decl.ensures) (height_within c.args.scene.now c.requires).1
+
+pub frame_pixels-requires-clause-frames : goal.frame_pixels-requires-clause-frames
+frame_pixels-requires-clause-frames c =
+    rw (c.count_stored_frames-frames.ensures, c.streams.ensures) (few_frames c.args.scene.now c.requires)
+
+pub returns : goal.returns
+unfolding held_limit
+returns c =
+    let d = c.args.scene.now.decl in
+    let frames : c.count_stored_frames-frames.result ≡ least_swaps c.args.scene.now.streams =
+    c.count_stored_frames-frames.ensures ∙ ap least_swaps c.streams.ensures in
+    let pixels : c.frame_pixels.result ≡ least_swaps c.args.scene.now.streams * (d.width * d.height) =
+    c.frame_pixels.ensures ∙ ap₂ (λ (n : ℕ) (e : Decl). n * (e.width * e.height)) frames c.decl.ensures in
+    held_is c.args.scene.now c.judge.result
+    (c.judge.ensures ∙ ap (λ (n : ℕ). first_outside (record { what = 19; value = n; least = 0; most = 33554432 } ∷ [])) pixels)
