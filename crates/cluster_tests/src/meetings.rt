@@ -1,4 +1,4 @@
-//! Two meetings in a row, along two of the orders that the journal permits: what is before what, and which commands race.
+//! Two meetings in a row, along two of the orders that the journal permits: what is before what, and which commands race. What a survey tells.
 ghost use Rattle.std.specs.Prelude.{◌<◌};
 ghost use Rattle.rc_base.specs.Formats.Within.{IsWithin};
 
@@ -7,10 +7,12 @@ use happens_before::{Change, Timelines, clocks_of};
 use order_model::is_permitted;
 use order_model::laws::default_journal_is_maximal;
 use race_check::{Spot, Verdict, check_races};
+use rc_base::cluster::FaultLists;
 use rc_base::out_of_memory::OutOfMemory;
 use rc_base::scene::Scene;
-use rc_base::sync::{Entry, Name, Order};
-use serial_render::{Turns, default_order, sync_lists, turns_of};
+use rc_base::state::Fault;
+use rc_base::sync::{Entry, Name, Order, SyncOp, SyncRow, WaitAt};
+use serial_render::{Turns, default_order, survey, sync_lists, turns_of};
 use std::alloc::Global;
 use std::process::Abort;
 
@@ -277,4 +279,62 @@ fn a_clock_is_raised_for_one_client(rt: HostRuntime) {
     let [first, second] = raised(rt.alloc()).expect(&rt, "memory");
     assert!(rt; first == None);
     assert!(rt; second == Some((3, 20_000_004)));
+}
+
+// An End outside a block and a Swap inside one are refused, and both clients meet and swap.
+const TWO_REFUSED: &[u8] = b"scene 1 1 1
+barrier 2
+semaphore 3
+client
+End
+Barrier 1
+Begin 0
+Swap
+End
+Swap
+client
+Barrier 1
+Color 1 2 3 4
+Swap
+";
+
+fn wait_at(place: u32, op: SyncOp) -> WaitAt {
+    WaitAt { place, op }
+}
+
+// The client meets at barrier 1 and then swaps, at these places of so many commands.
+fn meets_and_swaps(row: &SyncRow, meets: u32, swaps: u32, length: u32) -> bool {
+    let ops = [
+        wait_at(meets, SyncOp::Barrier(1)),
+        wait_at(swaps, SyncOp::Swap),
+    ];
+    row.ops.as_slice() == ops.as_slice() && row.length == length
+}
+
+// Two commands of client 0 are refused, and none of client 1.
+fn are_refused(faults: &FaultLists) -> bool {
+    let refused = [(0, Fault::InvalidOperation), (3, Fault::InvalidOperation)];
+    match faults.as_slice() {
+        [first, second] => first.as_slice() == refused.as_slice() && second.is_empty(),
+        _ => false,
+    }
+}
+
+// What a survey tells of the scene with two refusals.
+fn is_surveyed(rt: &impl Abort, alloc: Global) -> bool {
+    let scene = scene_of(rt, alloc, TWO_REFUSED);
+    let told = survey(alloc, &scene).expect(rt, "memory");
+    let are_rows = match told.syncs.clients.as_slice() {
+        [first, second] => meets_and_swaps(first, 1, 5, 6) && meets_and_swaps(second, 0, 2, 3),
+        _ => false,
+    };
+    are_rows
+        && told.syncs.counts.as_slice() == [2].as_slice()
+        && told.syncs.units.as_slice() == [3].as_slice()
+        && are_refused(&told.faults)
+}
+
+#[test]
+fn a_survey_tells_operations_and_refusals(rt: HostRuntime) {
+    assert!(rt; is_surveyed(&rt, rt.alloc()));
 }
