@@ -9,6 +9,7 @@
 #include <stdatomic.h>
 #include <stdlib.h>
 #include <sys/mman.h>
+#include <sys/syscall.h>
 #include <time.h>
 #include <unistd.h>
 
@@ -91,8 +92,17 @@ int pthread_create(pthread_t *thread, const pthread_attr_t *attributes, void *(*
 }
 
 /* A thread that has told its scope that it is done still has to return: it has a second for that. One that runs on is left out of `ended`. */
-__attribute__((destructor)) static void finish(void) {
+static void wait_for_ends(void) {
     const struct timespec pause = {0, 1000000};
     for (int looks = 0; counts && looks < 1000 && atomic_load(&counts->ended) < atomic_load(&counts->started); looks++)
         nanosleep(&pause, NULL);
+}
+
+__attribute__((destructor)) static void finish(void) { wait_for_ends(); }
+
+/* A program that ends by this runs no destructor. */
+void _exit(int status) {
+    wait_for_ends();
+    for (;;)
+        syscall(SYS_exit_group, status);
 }
