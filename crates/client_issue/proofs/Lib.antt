@@ -9,6 +9,7 @@ mod Ends
 mod Prepared
 mod Steps
 mod Firsts
+mod Given
 mod Keeping
 mod Split
 mod Rising

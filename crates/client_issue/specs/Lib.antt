@@ -3,6 +3,7 @@ pub mod First
 pub mod Sequence
 pub mod Issued
 pub mod Cores
+pub mod Given
 pub mod Deeds
 pub mod Steps
 pub mod Kept

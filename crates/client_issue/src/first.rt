@@ -7,7 +7,9 @@ ghost use Rattle.rc_base.specs.Contexts.Issue.{stream_of};
 ghost use Rattle.rc_base.specs.Cluster.Tiles.{tile_count};
 ghost use Rattle.rc_base.specs.Cluster.Parcels.{end_parcel};
 ghost use Rattle.rc_base.specs.Cluster.Sending.{sent_by};
+ghost use Rattle.rc_base.specs.declared.scene.Scene.{Scene};
 ghost use Rattle.client_issue.specs.Cores.{IsClientOf, issued_of, layout_of, left_in, short_of, no_tally, tally_of_tile};
+ghost use Rattle.client_issue.specs.Given.{AreWithin, IsStreamOf};
 ghost use Rattle.client_issue.specs.Sequence.{IsSending, alone, left_of, sent_from};
 
 use crate::client::ClientCore;
@@ -111,8 +113,7 @@ fn commands_of(scene: &Scene, client: u8) -> &[Command]
 
 impl ClientCore {
     /// The core of a client of a scene, with a copy of its commands, before its first step. The scene is within the limits, and the layout is
-    /// one for it with lanes of some depth. The End parcels are made here, so that later they take no memory.
-    #[tactic(auto, unfolding(crate::specs::Sequence::IsSound))]
+    /// one for it with lanes of some depth.
     pub fn new(
         alloc: Global,
         scene: &Scene,
@@ -128,12 +129,33 @@ impl ClientCore {
         ensures left { IfOk result (λ core. left_in core ≡ sent_by scene.now layout.now client) }
         ensures tallies { IfOk result (λ core. (tile : ℕ) → tally_of_tile core tile ≡ no_tally) }
     {
+        let stream = CommandStore::of(alloc, commands_of(scene, client))?;
+        ClientCore::of_store(alloc, &scene.decl, stream, layout)
+    }
+
+    /// The core of a client that is given its commands, before its first step. They are those of a client of a scene within the limits, and the
+    /// layout is one for the scene with lanes of some depth. The End parcels are made here, so that later they take no memory.
+    #[tactic(auto, unfolding(crate::specs::Sequence::IsSound))]
+    pub fn of_store(
+        alloc: Global,
+        decl: &Decl,
+        stream: CommandStore,
+        layout: &Layout,
+    ) -> Result<ClientCore, OutOfMemory>
+        requires { AreWithin decl.now stream layout.now }
+        ensures whose { IfOk result (λ core. (scene : Scene) (client : ℕ) → IsStreamOf scene client decl.now stream
+            → IsClientOf core scene client layout.now) }
+        ensures short { IfOk result (λ core. short_of core ≡ false) }
+        ensures issued { IfOk result (λ core. issued_of core ≡ 0) }
+        ensures left { IfOk result (λ core. (scene : Scene) (client : ℕ) → IsStreamOf scene client decl.now stream
+            → left_in core ≡ sent_by scene layout.now client) }
+        ensures tallies { IfOk result (λ core. (tile : ℕ) → tally_of_tile core tile ≡ no_tally) }
+    {
         let count = count_of(layout);
-        let commands = commands_of(scene, client);
-        let stream = CommandStore::of(alloc, commands)?;
-        let sender = first_sender(alloc, &scene.decl, stream, layout, count)?;
+        let place = stream.len() as u32;
+        let sender = first_sender(alloc, decl, stream, layout, count)?;
         let tallies = no_tallies(alloc, count)?;
-        let last = end_parcels(alloc, count, commands.len() as u32)?;
+        let last = end_parcels(alloc, count, place)?;
         Ok(ClientCore {
             sender,
             ready: None,

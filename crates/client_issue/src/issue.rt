@@ -10,7 +10,7 @@ ghost use Rattle.state_update.specs.Knowledge.{pending};
 
 use crate::pending::{first_of, pending_of};
 use crate::sender::Sender;
-use command_store::StoredCommand;
+use command_store::CommandForm;
 use gl_context::laws::{commands_have_texels, streams_go_on_by_issue};
 use gl_context::marks;
 use rc_base::command::Command;
@@ -119,13 +119,16 @@ impl Sender {
     {
         streams_go_on_by_issue();
         let place = self.issued;
-        match self.stream.form(place as usize) {
-            StoredCommand::Vertex { pos } => self.context.vertex(place, pos)?,
-            StoredCommand::Color(color) => self.context.color(color),
-            StoredCommand::TexCoord { s, t } => self.context.tex_coord(s, t),
-            StoredCommand::Begin { mode } => return self.issue_begin(mode),
-            StoredCommand::End => return self.issue_end(),
-            StoredCommand::Other(_) => return self.issue_any(),
+        match self.stream.borrowed(place as usize) {
+            CommandForm::Vertex(pos) => self.context.vertex(place, *pos)?,
+            CommandForm::Color(color) => self.context.color(*color),
+            CommandForm::TexCoord { s, t } => self.context.tex_coord(*s, *t),
+            CommandForm::Begin(mode) => {
+                let mode = *mode;
+                return self.issue_begin(mode);
+            }
+            CommandForm::End => return self.issue_end(),
+            CommandForm::Other(_) => return self.issue_any(),
         }
         self.issued += 1;
         Ok(())

@@ -1,13 +1,13 @@
 -- Commands in the form in which they are kept are the commands.
-use Rattle.std.proofs.Common.{◌≡◌, ◌∙◌, ℕ, zero, suc, ◌+◌, ◌<◌, List, [], ◌∷◌, ◌++◌, length, get_or, Some, refl, sym, ap, subst, arith}
+use Rattle.std.proofs.Common.{◌≡◌, ◌∙◌, ℕ, zero, suc, ◌+◌, ◌<◌, List, [], ◌∷◌, ◌++◌, length, get_or, Some, refl, ap, arith}
 use Rattle.std.specs.Prelude.{slice_get}
 use Rattle.std.specs.declared.option.Option.{Option}
 use Rattle.std.specs.Option.{option_map_or}
 use Rattle.std.proofs.Math.Seq.{get_or-append_seam}
-use Rattle.std.proofs.lemmas.List.{get_or-map, get_or_append_left, length-append, map-append}
+use Rattle.std.proofs.lemmas.List.{get_or_append_left, length-append, map-append}
 use Rattle.rc_base.specs.declared.command.Command.{Command}
 use Rattle.rc_base.specs.declared.command.Command.TheVariants as cmd
-use Rattle.command_store.specs.Stores.{command_of, commands_in, AreStored, GrewByAtMostOne, HasItsOther, IsFormOf, IsStoredAs}
+use Rattle.command_store.specs.Stores.{command_of, commands_in, AreStored, GrewByAtMostOne, HasItsOther, IsStoredAs}
 use Rattle.command_store.specs.declared.command.StoredCommand.{StoredCommand}
 use Rattle.command_store.specs.declared.command.StoredCommand.TheVariants as stored
 
@@ -75,17 +75,3 @@ other_stored others after c d number is last same = (
       omega (arith, at, long, last)
       ),
 )
-
--- ---- the form of one command
-
-form_of : (others : List Command) (s : StoredCommand) → IsFormOf s (command_of others s)
-form_of others (stored.Begin mode) = refl
-form_of others stored.End = refl
-form_of others (stored.Vertex pos) = refl
-form_of others (stored.Color color) = refl
-form_of others (stored.TexCoord s t) = refl
-form_of others (stored.Other number) = tt
-
-pub form_at : (others : List Command) (kept : List StoredCommand) (place : ℕ) (s : StoredCommand) → place < length kept → s ≡ get_or kept place s
-    → IsFormOf s (get_or (commands_in others kept) place cmd.End)
-form_at others kept place s lt at = subst (IsFormOf s) (sym (get_or-map (command_of others) kept place s cmd.End lt ∙ ap (command_of others) (sym at))) (form_of others s)

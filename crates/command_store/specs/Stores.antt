@@ -16,15 +16,6 @@ command_of others (stored.Color color) = cmd.Color color
 command_of others (stored.TexCoord s t) = cmd.TexCoord s t
 command_of others (stored.Other number) = slice_index_or others number cmd.End
 
--- the command is one of a block, and the form has it; or it is kept whole
-abbrev pub IsFormOf : StoredCommand → Command → Type 0
-IsFormOf (stored.Begin mode) c = c ≡ cmd.Begin mode
-IsFormOf stored.End c = c ≡ cmd.End
-IsFormOf (stored.Vertex pos) c = c ≡ cmd.Vertex pos
-IsFormOf (stored.Color color) c = c ≡ cmd.Color color
-IsFormOf (stored.TexCoord s t) c = c ≡ cmd.TexCoord s t
-IsFormOf (stored.Other number) c = Unit {0}
-
 abbrev pub commands_in : List Command → List StoredCommand → List Command
 commands_in others kept = map (command_of others) kept
 

@@ -3,7 +3,7 @@ use rc_base::command::Rgba;
 
 /// A command of a block, or the number of another one among those that are kept whole. It takes 20 bytes, where a command takes 72.
 #[derive(Clone, Copy, Debug)]
-pub enum StoredCommand {
+pub(crate) enum StoredCommand {
     Begin { mode: u8 },
     End,
     Vertex { pos: [i32; 4] },

@@ -10,7 +10,6 @@ mod scene;
 mod store;
 mod writer;
 
-pub use command::StoredCommand;
 pub use form::CommandForm;
 pub use scene::StoredScene;
 pub use store::CommandStore;

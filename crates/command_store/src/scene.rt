@@ -64,4 +64,13 @@ impl StoredScene {
     {
         self.stored.as_slice()
     }
+
+    /// What it declares, and the stream of each client.
+    pub fn into_parts(self) -> (Decl, Items<CommandStore>)
+        ensures decl { result.0 ≡ self.decl }
+        ensures streams { result.1 ≡ self.streams }
+    {
+        let StoredScene { declared, stored } = self;
+        (declared, stored)
+    }
 }

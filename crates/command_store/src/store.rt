@@ -2,7 +2,7 @@
 ghost use Rattle.std.specs.Prelude.{◌≡◌, ◌<◌, ◌^◌, [], IfOk, length, slice_index_or};
 ghost use Rattle.std.specs.Cow.{cow_value};
 ghost use Rattle.rc_base.specs.declared.command.Command.TheVariants as cmd;
-ghost use Rattle.command_store.specs.Stores.{GrewByAtMostOne, IsBorrowedFrom, IsFormOf, IsStoredAs};
+ghost use Rattle.command_store.specs.Stores.{GrewByAtMostOne, IsBorrowedFrom, IsStoredAs};
 
 use crate::command::StoredCommand;
 use crate::form::CommandForm;
@@ -62,15 +62,6 @@ impl CommandStore {
         ensures { result ≡ length self.now }
     {
         self.kept.len()
-    }
-
-    /// The form in which the command at a place is kept: one of a block has it all.
-    #[inline(always)]
-    pub fn form(&self, place: usize) -> StoredCommand
-        requires { place < length self.now }
-        ensures { IsFormOf result (slice_index_or self.now place cmd.End) }
-    {
-        self.kept[place]
     }
 
     /// The command at a place.

@@ -5,7 +5,7 @@ ghost use Rattle.rc_base.specs.Formats.Limits.{first_outside, held_limit, limit_
 ghost use Rattle.rc_base.specs.declared.command.Command.TheVariants as cmd;
 ghost use Rattle.scene_file.specs.Judging.{IsLimitOfClients, IsLimitOfCommands, IsWindowWithin, Tells, window_part, judge_counts, judge_decl, stream_part, judge_parts, judge_read, judge_scene};
 
-use command_store::{CommandStore, StoredCommand, StoredScene};
+use command_store::{CommandForm, CommandStore, StoredScene};
 use rc_base::command::{Command, Commands};
 use rc_base::scene::{Decl, Limit, Scene, judge};
 
@@ -198,13 +198,13 @@ fn is_stored_swap(commands: &CommandStore, place: usize) -> bool
     requires { place < length commands.now }
     ensures { result ≡ is_swap_command (slice_index_or commands.now place cmd.End) }
 {
-    match commands.form(place) {
-        StoredCommand::Other(_) => is_swap(&commands.at(place)),
-        StoredCommand::Begin { .. }
-        | StoredCommand::End
-        | StoredCommand::Vertex { .. }
-        | StoredCommand::Color(_)
-        | StoredCommand::TexCoord { .. } => false,
+    match commands.borrowed(place) {
+        CommandForm::Other(command) => is_swap(command),
+        CommandForm::Begin(_)
+        | CommandForm::End
+        | CommandForm::Vertex(_)
+        | CommandForm::Color(_)
+        | CommandForm::TexCoord { .. } => false,
     }
 }
 
