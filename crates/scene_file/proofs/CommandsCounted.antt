@@ -1,22 +1,24 @@
 -- The commands and frames of a scene, counted stream by stream, and the commands stored where they are not too many.
 use Rattle.std.proofs.Common.{◌≡◌, ℕ, ◌+◌, ◌-◌, ◌*◌, ◌<◌, ◌≤◌, min, Bool, List, [], ◌∷◌, ◌++◌, length, Option, Result, Ok, Err, refl, sym, ap, subst, ◌∙◌, arith, length-append}
 use Rattle.std.specs.Prelude.{IfOk, IfErr, None, sum_by, count_by}
+use Rattle.std.specs.Result.{result_map_both}
 use Rattle.std.proofs.lemmas.Bool.Decides.{nat_tests}
 use Rattle.std.proofs.lemmas.List.Sums.{sum_by-append, sum_by-cons}
 use Rattle.rc_base.specs.declared.command.Command.{Command}
 use Rattle.rc_base.specs.declared.scene.Decl.{Decl}
+use Rattle.rc_base.specs.declared.scene.Scene.{Scene}
 use Rattle.rc_base.specs.declared.scene.Limit.{Limit}
 use Rattle.rc_base.specs.declared.scene.SceneKind.{SceneKind}
-use Rattle.rc_base.specs.Formats.Limits.{is_swap_command, least_swaps, swaps_in}
-use Rattle.rc_base.specs.Formats.Spelling.{CommandSet, SceneForm}
+use Rattle.rc_base.specs.Formats.Limits.{is_swap_command, least_swaps, limit_of, swaps_in}
+use Rattle.rc_base.specs.Formats.Spelling.{CommandSet, SceneForm, SpellsScene, plain_form}
 use Rattle.packet_bytes.specs.declared.packets.DecodedOf.{DecodedOf}
 use Rattle.scene_file.specs.declared.fault.SceneFault.{SceneFault}
 use Rattle.scene_file.specs.declared.fault.SceneFault.TheVariants as scene_faults
 use Rattle.scene_file.specs.Letters.{Letters, form_of}
-use Rattle.scene_file.specs.Counting.{DecodesFirst, SpellsCounted, counted_as, frames_with, least_shown}
+use Rattle.scene_file.specs.Counting.{Counts, DecodesFirst, SpellsCounted, counted_as, frames_with, least_shown}
 use Rattle.scene_file.specs.declared.reading.Counted.{Counted}
 use Rattle.std.proofs.lemmas.List.{map-id}
-use Rattle.scene_file.specs.Faults.{TellsFormBy, IsBeyondBy, IsJudgedBy, FailsAsSceneOf, SceneFailsBy}
+use Rattle.scene_file.specs.Faults.{TellsForm, TellsFormBy, IsBeyond, IsBeyondBy, IsJudged, IsJudgedBy, FailsAsScene, FailsAsSceneOf, SceneFailsBy}
 use Rattle.scene_file.specs.Reading.{scene_fault}
 use Rattle.scene_file.specs.declared.fault.Broken.{Broken}
 use Rattle.scene_file.specs.declared.fault.Broken.TheVariants as broken
@@ -115,3 +117,35 @@ module _ {S : Type 0} (Spells : List ℕ → S → Type 0) (limit : S → Option
   judged_beyond (Err (scene_faults.Malformed kind at)) j = tt
   judged_beyond (Err (scene_faults.Limit what value)) j = (s, spells, j)
   judged_beyond (Err scene_faults.OutOfMemory) j = tt
+
+-- ---- the same of an answer whose scene is seen so
+
+module _ {X : Type 0} (view : X → Scene) where
+  abbrev pub seen : Result X SceneFault → Result Scene SceneFault
+  seen r = result_map_both view (λ (fault : SceneFault). fault) r
+
+  pub seen_ok : (P : Scene → Type 0) (r : Result X SceneFault) → IfOk (seen r) P → IfOk r (λ x. P (view x))
+  seen_ok P (Ok x) h = h
+  seen_ok P (Err e) h = tt
+
+  seen_err : (P : SceneFault → Type 0) (r : Result X SceneFault) → IfErr (seen r) P → IfErr r P
+  seen_err P (Ok x) h = tt
+  seen_err P (Err e) h = h
+
+  -- what is known of the answer
+  pub record IsAnswer (bytes : List ℕ) (r : Result X SceneFault) : Type 0 where
+    pub found : IfOk r (λ x. SpellsScene bytes (view x) × (limit_of (view x) ≡ None))
+    pub malformed : IfErr r (TellsForm bytes)
+    pub limit : IfErr r (IsBeyond bytes)
+
+  -- what was counted was judged
+  pub judged_seen : (bytes : List ℕ) (x : Counted (List Command)) (r : Result X SceneFault) → SpellsCounted plain_form is_swap_command bytes x
+      → ((s : Scene) → Counts is_swap_command x s.decl s.streams → IsJudged s (seen r)) → IsAnswer bytes r
+  judged_seen bytes x r known judged =
+      let s : Scene = record { decl = known.decl; streams = known.streams } in
+      let j = judged s known.counts in
+      record {
+        found = seen_ok (λ y. SpellsScene bytes y × (limit_of y ≡ None)) r (judged_found SpellsScene limit_of FailsAsScene bytes s known.spells (seen r) j);
+        malformed = seen_err (TellsForm bytes) r (judged_form SpellsScene limit_of FailsAsScene bytes s known.spells (seen r) j);
+        limit = seen_err (IsBeyond bytes) r (judged_beyond SpellsScene limit_of FailsAsScene bytes s known.spells (seen r) j);
+      }

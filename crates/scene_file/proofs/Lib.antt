@@ -16,3 +16,4 @@ pub mod DrawsFromState
 pub mod TurnsOfClients
 pub mod GeneratedWithin
 pub mod StreamsBeside
+pub mod Answered

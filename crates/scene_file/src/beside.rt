@@ -3,18 +3,20 @@ ghost use Rattle.std.specs.Prelude.{◌≡◌, ◌+◌, ◌-◌, ◌≤◌, ◌�
 ghost use Rattle.rc_base.specs.Formats.Spelling.{SpellsScene};
 ghost use Rattle.rc_base.specs.Formats.Limits.{limit_of};
 ghost use Rattle.rc_base.specs.Formats.Within.{IsWithin};
+ghost use Rattle.packet_bytes.specs.Packets.{decoded_as};
 ghost use Rattle.scene_file.specs.Faults.{HasFields, ReadsEach, TellsEachForm, TellsEachLimit, TellsForm, IsBeyond};
 ghost use Rattle.scene_file.specs.Counting.{frames_with};
-ghost use Rattle.scene_file.specs.Beside.{HoldsStream, HoldsStreams};
+ghost use Rattle.scene_file.specs.Beside.{HoldsStream, HoldsStreams, gathered_as};
 
 use crate::fault::SceneFault;
 use crate::header::{BeginsScene, Head, read_head};
+use crate::kept::KeptStream;
 use crate::reading::{Counted, frames_with, read_judged, read_text, within_limits};
-use packet_bytes::decode_within;
+use command_store::{CommandStore, StoredScene};
 use packet_bytes::packets::DecodedOf;
 use rc_base::command::{Command, Commands};
 use rc_base::items::Items;
-use rc_base::scene::{Scene, Streams};
+use rc_base::scene::Scene;
 use std::alloc::Global;
 use std::thread::{Threads, join};
 
@@ -23,8 +25,8 @@ const LEAST_BYTES: usize = 262_144;
 
 /// All streams that bytes hold, how many commands they have, and how many frames.
 #[derive(Debug, Drop)]
-struct Gathered {
-    streams: Streams,
+struct Gathered<K> {
+    streams: Items<K>,
     commands: usize,
     frames: usize,
 }
@@ -38,11 +40,11 @@ fn room_of(size: usize, all: usize) -> usize
 }
 
 /// The stream that these bytes spell, where there is room for all of its commands.
-fn stored(alloc: Global, room: usize, text: &[u8]) -> Option<DecodedOf<Commands>>
+fn stored<K: KeptStream>(alloc: Global, room: usize, text: &[u8]) -> Option<DecodedOf<K>>
     requires { room ≤ 1048576 }
-    ensures { IfSome result (HoldsStream text.now) }
+    ensures { IfSome result (λ x. HoldsStream text.now (decoded_as K.commands x)) }
 {
-    match decode_within(alloc, room, text) {
+    match K::decode(alloc, room, text) {
         Ok(decoded) => {
             if decoded.count <= room {
                 Some(decoded)
@@ -55,7 +57,11 @@ fn stored(alloc: Global, room: usize, text: &[u8]) -> Option<DecodedOf<Commands>
 }
 
 /// A stream, and those behind it.
-fn put_first(alloc: Global, first: DecodedOf<Commands>, others: Gathered) -> Option<Gathered>
+fn put_first<K: KeptStream>(
+    alloc: Global,
+    first: DecodedOf<K>,
+    others: Gathered<K>,
+) -> Option<Gathered<K>>
     requires first { first.count ≤ 1048576 }
     requires others { others.commands ≤ 8388608 }
     ensures streams { IfSome result (λ x. x.streams ≡ first.commands ∷ others.streams) }
@@ -79,14 +85,14 @@ fn put_first(alloc: Global, first: DecodedOf<Commands>, others: Gathered) -> Opt
 }
 
 /// No streams, where nothing is left.
-fn none_left(alloc: Global, bytes: &[u8]) -> Option<Gathered>
-    ensures { IfSome result (HoldsStreams bytes.now 0) }
+fn none_left<K: KeptStream>(alloc: Global, bytes: &[u8]) -> Option<Gathered<K>>
+    ensures { IfSome result (λ x. HoldsStreams bytes.now 0 (gathered_as K.commands x)) }
 {
     if !bytes.is_empty() {
         return None;
     }
     Some(Gathered {
-        streams: Streams::new(alloc),
+        streams: Items::new(alloc),
         commands: 0,
         frames: 0,
     })
@@ -94,15 +100,15 @@ fn none_left(alloc: Global, bytes: &[u8]) -> Option<Gathered>
 
 /// So many streams, each with its length, that fill these bytes: the first one in a thread of its own, and those behind it in the same way. So many
 /// bytes has the whole scene.
-fn streams_beside<R: Threads>(
+fn whole_beside<R: Threads>(
     rt: &R,
     alloc: Global,
     all: usize,
     count: u8,
     bytes: &[u8],
-) -> Option<Gathered>
+) -> Option<Gathered<Commands>>
     requires { count ≤ 8 }
-    ensures { IfSome result (HoldsStreams bytes.now count) }
+    ensures { IfSome result (λ x. HoldsStreams bytes.now count (gathered_as (λ s. s) x)) }
 {
     if count == 0 {
         return none_left(alloc, bytes);
@@ -118,17 +124,92 @@ fn streams_beside<R: Threads>(
             requires { room ≤ 1048576 }
             ensures { IfSome result (HoldsStream text.entry.now) }
         { stored(alloc, room, text) },
-        || -> Option<Gathered>
+        || -> Option<Gathered<Commands>>
             requires { left ≤ 7 }
-            ensures { IfSome result (HoldsStreams after.entry.now left) }
-        { streams_beside(rt, alloc, all, left, after) },
+            ensures { IfSome result (λ x. HoldsStreams after.entry.now left (gathered_as (λ s. s) x)) }
+        { whole_beside(rt, alloc, all, left, after) },
     );
     put_first(alloc, first?, others?)
 }
 
+/// The same in less room. It stands beside the other one since what recursive calls send to threads has to be known by its type.
+fn stored_beside<R: Threads>(
+    rt: &R,
+    alloc: Global,
+    all: usize,
+    count: u8,
+    bytes: &[u8],
+) -> Option<Gathered<CommandStore>>
+    requires { count ≤ 8 }
+    ensures { IfSome result (λ x. HoldsStreams bytes.now count (gathered_as (λ s. s) x)) }
+{
+    if count == 0 {
+        return none_left(alloc, bytes);
+    }
+    let Ok((text, after)) = read_text(bytes) else {
+        return None;
+    };
+    let room = room_of(text.len(), all);
+    let left = count - 1;
+    let (first, others) = join(
+        rt,
+        || -> Option<DecodedOf<CommandStore>>
+            requires { room ≤ 1048576 }
+            ensures { IfSome result (HoldsStream text.entry.now) }
+        { stored(alloc, room, text) },
+        || -> Option<Gathered<CommandStore>>
+            requires { left ≤ 7 }
+            ensures { IfSome result (λ x. HoldsStreams after.entry.now left (gathered_as (λ s. s) x)) }
+        { stored_beside(rt, alloc, all, left, after) },
+    );
+    put_first(alloc, first?, others?)
+}
+
+/// The commands of a stream, in a form in which streams are decoded side by side.
+trait DecodesBeside: KeptStream {
+    /// So many streams, each with its length, that fill these bytes of a scene with so many.
+    fn streams_beside<R: Threads>(
+        rt: &R,
+        alloc: Global,
+        all: usize,
+        count: u8,
+        bytes: &[u8],
+    ) -> Option<Gathered<Self>>
+        requires { count ≤ 8 }
+        ensures { IfSome result (λ x. HoldsStreams bytes.now count (gathered_as Self.commands x)) };
+}
+
+impl DecodesBeside for Commands {
+    fn streams_beside<R: Threads>(
+        rt: &R,
+        alloc: Global,
+        all: usize,
+        count: u8,
+        bytes: &[u8],
+    ) -> Option<Gathered<Commands>> {
+        whole_beside(rt, alloc, all, count, bytes)
+    }
+}
+
+impl DecodesBeside for CommandStore {
+    fn streams_beside<R: Threads>(
+        rt: &R,
+        alloc: Global,
+        all: usize,
+        count: u8,
+        bytes: &[u8],
+    ) -> Option<Gathered<CommandStore>> {
+        stored_beside(rt, alloc, all, count, bytes)
+    }
+}
+
 /// The scene within its limits that the bytes of two clients or more spell, or nothing where anything stands in the way.
-fn scene_beside<R: Threads>(rt: &R, alloc: Global, bytes: &[u8]) -> Option<Scene>
-    ensures { IfSome result (λ s. SpellsScene bytes.now s × (limit_of s ≡ None)) }
+fn scene_beside<R: Threads, K: DecodesBeside>(
+    rt: &R,
+    alloc: Global,
+    bytes: &[u8],
+) -> Option<K::Scene>
+    ensures { IfSome result (λ s. SpellsScene bytes.now (K.scene s) × (limit_of (K.scene s) ≡ None)) }
 {
     let Ok((version, body)) = <Vec<Command> as BeginsScene>::read_magic(bytes) else {
         return None;
@@ -143,8 +224,8 @@ fn scene_beside<R: Threads>(rt: &R, alloc: Global, bytes: &[u8]) -> Option<Scene
         streams,
         commands,
         frames,
-    } = streams_beside(rt, alloc, bytes.len(), clients, body)?;
-    match within_limits(Counted {
+    } = K::streams_beside(rt, alloc, bytes.len(), clients, body)?;
+    match within_limits::<K>(Counted {
         decl,
         streams,
         commands,
@@ -155,17 +236,21 @@ fn scene_beside<R: Threads>(rt: &R, alloc: Global, bytes: &[u8]) -> Option<Scene
     }
 }
 
-fn judged_beside<R: Threads>(rt: &R, alloc: Global, bytes: &[u8]) -> Result<Scene, SceneFault>
-    ensures found { IfOk result (λ s. SpellsScene bytes.now s × (limit_of s ≡ None)) }
+fn judged_beside<R: Threads, K: DecodesBeside>(
+    rt: &R,
+    alloc: Global,
+    bytes: &[u8],
+) -> Result<K::Scene, SceneFault>
+    ensures found { IfOk result (λ s. SpellsScene bytes.now (K.scene s) × (limit_of (K.scene s) ≡ None)) }
     ensures malformed { IfErr result (TellsForm bytes.now) }
     ensures limit { IfErr result (IsBeyond bytes.now) }
 {
     if bytes.len() < LEAST_BYTES {
-        return read_judged(alloc, bytes);
+        return read_judged::<K>(alloc, bytes);
     }
-    match scene_beside(rt, alloc, bytes) {
+    match scene_beside::<R, K>(rt, alloc, bytes) {
         Some(scene) => Ok(scene),
-        None => read_judged(alloc, bytes),
+        None => read_judged::<K>(alloc, bytes),
     }
 }
 
@@ -193,5 +278,31 @@ pub fn read_scene_beside<R: Threads>(
     // Such a scene is answered so, unless memory runs out.
     ensures limit_only { TellsEachLimit bytes.now result }
 {
-    judged_beside(rt, alloc, bytes)
+    judged_beside::<R, Commands>(rt, alloc, bytes)
+}
+
+/// What `read_scene_beside` answers, with its commands in less room than a list of them takes.
+pub fn read_stored_scene_beside<R: Threads>(
+    rt: &R,
+    alloc: Global,
+    bytes: &[u8],
+) -> Result<StoredScene, SceneFault>
+    // What is read is spelled so, and within the limits.
+    ensures found { IfOk result (λ s. SpellsScene bytes.now s × (limit_of s ≡ None)) }
+    // Its fields are in their ranges.
+    ensures fields { IfOk result HasFields }
+    // So it is within what every call that takes a scene asks.
+    ensures within { IfOk result IsWithin }
+    // What is spelled so and within the limits is read, unless memory runs out.
+    ensures only { ReadsEach bytes.now result }
+    // Malformed bytes have this fault first from the left, at this place.
+    ensures malformed { IfErr result (TellsForm bytes.now) }
+    // Such bytes are answered so, unless memory runs out.
+    ensures malformed_only { TellsEachForm bytes.now result }
+    // The scene that is spelled has this quantity outside its range, the first in the order of the table.
+    ensures limit { IfErr result (IsBeyond bytes.now) }
+    // Such a scene is answered so, unless memory runs out.
+    ensures limit_only { TellsEachLimit bytes.now result }
+{
+    judged_beside::<R, CommandStore>(rt, alloc, bytes)
 }

@@ -9,6 +9,7 @@ mod beside;
 mod fault;
 mod generator;
 mod header;
+mod kept;
 pub mod laws;
 mod limits;
 mod list_scene;
@@ -16,7 +17,7 @@ mod lists;
 mod reading;
 mod writing;
 
-pub use beside::read_scene_beside;
+pub use beside::{read_scene_beside, read_stored_scene_beside};
 pub use fault::SceneFault;
 pub use generator::{generate, next_state};
 pub use header::begins_with_lists;

@@ -1,5 +1,6 @@
 //! Reading a scene.
 ghost use Rattle.std.specs.Prelude.{◌≡◌, ◌-◌, ◌==◌, ◌<◌, length, IfOk, IfErr, Ok, Err, None};
+ghost use Rattle.std.specs.Result.{result_map_both};
 ghost use Rattle.rc_base.specs.Formats.Spelling.{SpellsScene};
 ghost use Rattle.rc_base.specs.Formats.Limits.{is_swap_command, limit_of};
 ghost use Rattle.rc_base.specs.Formats.Within.{IsWithin};
@@ -13,12 +14,13 @@ ghost use Rattle.scene_file.specs.Counting.{DecodesFirst, Counts, SpellsCounted,
 
 use crate::fault::{Broken, SceneFault, fault_at, in_stream};
 use crate::header::{BeginsScene, Head, read_head};
+use crate::kept::KeptStream;
 use crate::limits::check_counted;
 use byte_codec::fault::Form;
 use byte_codec::fields::{read_long, take_bytes};
-use command_store::{CommandStore, StoreWriter, StoredScene};
+use command_store::{CommandStore, StoredScene};
 use packet_bytes::packets::{DecodedOf, PacketList, decode_of};
-use rc_base::command::{Command, Commands};
+use rc_base::command::Commands;
 use rc_base::items::Items;
 use rc_base::scene::{Decl, Limit, Scene, SceneKind};
 use std::alloc::Global;
@@ -118,8 +120,10 @@ pub(crate) fn read_spelled<L: PacketList + BeginsScene>(
     })
 }
 
-pub(crate) fn within_limits(counted: Counted<Commands>) -> Result<Scene, SceneFault>
-    ensures { (s : AnyScene) → Counts is_swap_command counted s.decl s.streams → IsJudged s result }
+/// The scene that was read, where its quantities are within their limits.
+pub(crate) fn within_limits<K: KeptStream>(counted: Counted<K>) -> Result<K::Scene, SceneFault>
+    ensures { (s : AnyScene) → Counts is_swap_command (counted_as K.commands counted) s.decl s.streams
+        → IsJudged s (result_map_both K.scene (λ fault. fault) result) }
 {
     let Counted {
         decl,
@@ -128,17 +132,20 @@ pub(crate) fn within_limits(counted: Counted<Commands>) -> Result<Scene, SceneFa
         frames,
     } = counted;
     match check_counted(&decl, streams.len(), commands as u64, frames as u64) {
-        Ok(()) => Ok(Scene { decl, streams }),
+        Ok(()) => Ok(K::scene_of(decl, streams)),
         Err(Limit { what, value }) => Err(SceneFault::Limit { what, value }),
     }
 }
 
-pub(crate) fn read_judged(alloc: Global, bytes: &[u8]) -> Result<Scene, SceneFault>
-    ensures found { IfOk result (λ s. SpellsScene bytes.now s × (limit_of s ≡ None)) }
+pub(crate) fn read_judged<K: KeptStream>(
+    alloc: Global,
+    bytes: &[u8],
+) -> Result<K::Scene, SceneFault>
+    ensures found { IfOk result (λ s. SpellsScene bytes.now (K.scene s) × (limit_of (K.scene s) ≡ None)) }
     ensures malformed { IfErr result (TellsForm bytes.now) }
     ensures limit { IfErr result (IsBeyond bytes.now) }
 {
-    match read_spelled::<Vec<Command>>(alloc, bytes) {
+    match K::read_spelled(alloc, bytes) {
         Ok(counted) => within_limits(counted),
         Err(broken) => Err(fault_at(broken, bytes.len())),
     }
@@ -163,33 +170,7 @@ pub fn read_scene(alloc: Global, bytes: &[u8]) -> Result<Scene, SceneFault>
     // Such a scene is answered so, unless memory runs out.
     ensures limit_only { TellsEachLimit bytes.now result }
 {
-    read_judged(alloc, bytes)
-}
-
-fn stored_within_limits(counted: Counted<CommandStore>) -> Result<StoredScene, SceneFault>
-    ensures { (s : AnyScene) → Counts is_swap_command counted s.decl s.streams → IsJudged s result }
-{
-    let Counted {
-        decl,
-        streams,
-        commands,
-        frames,
-    } = counted;
-    match check_counted(&decl, streams.len(), commands as u64, frames as u64) {
-        Ok(()) => Ok(StoredScene::new(decl, streams)),
-        Err(Limit { what, value }) => Err(SceneFault::Limit { what, value }),
-    }
-}
-
-fn read_stored_judged(alloc: Global, bytes: &[u8]) -> Result<StoredScene, SceneFault>
-    ensures found { IfOk result (λ s. SpellsScene bytes.now s × (limit_of s ≡ None)) }
-    ensures malformed { IfErr result (TellsForm bytes.now) }
-    ensures limit { IfErr result (IsBeyond bytes.now) }
-{
-    match read_spelled::<StoreWriter>(alloc, bytes) {
-        Ok(counted) => stored_within_limits(counted),
-        Err(broken) => Err(fault_at(broken, bytes.len())),
-    }
+    read_judged::<Commands>(alloc, bytes)
 }
 
 /// What `read_scene` answers, with its commands in less room than a list of them takes.
@@ -211,5 +192,5 @@ pub fn read_stored_scene(alloc: Global, bytes: &[u8]) -> Result<StoredScene, Sce
     // Such a scene is answered so, unless memory runs out.
     ensures limit_only { TellsEachLimit bytes.now result }
 {
-    read_stored_judged(alloc, bytes)
+    read_judged::<CommandStore>(alloc, bytes)
 }

@@ -1,30 +1,17 @@
-use Rattle.rc_base.specs.Formats.Limits.{limit_of}
-use Rattle.rc_base.specs.Formats.Spelling.{plain_form, SpellsScene}
-use Rattle.scene_file.specs.Faults.{FailsAsScene}
-use Rattle.scene_file.proofs.BothForms.{one_scene, fault_no_scene, one_fault}
-use Rattle.scene_file.proofs.AnswersForced.{only_scene, only_limit, only_malformed}
-use Rattle.scene_file.proofs.WrittenSpells.{read_typed, if_ok_map}
+use Rattle.scene_file.proofs.Answered.{answered}
 use Rattle.scene_file.proofs.beside.read_scene_beside.Goals as goal
 
 pub returns-clause-only : goal.returns-clause-only
-returns-clause-only g c =
-    let e = c.judged_beside.ensures in
-    only_scene SpellsScene limit_of FailsAsScene one_scene fault_no_scene one_fault c.args.bytes.now c.judged_beside.result (record { found = e.found; malformed = e.malformed; limit = e.limit })
+returns-clause-only g c = (answered c.args.bytes.now c.judged_beside.result c.judged_beside.ensures.found c.judged_beside.ensures.malformed c.judged_beside.ensures.limit).only
 
 pub returns-clause-malformed_only : goal.returns-clause-malformed_only
-returns-clause-malformed_only g c =
-    let e = c.judged_beside.ensures in
-    only_malformed SpellsScene limit_of FailsAsScene one_scene fault_no_scene one_fault c.args.bytes.now c.judged_beside.result (record { found = e.found; malformed = e.malformed; limit = e.limit })
+returns-clause-malformed_only g c = (answered c.args.bytes.now c.judged_beside.result c.judged_beside.ensures.found c.judged_beside.ensures.malformed c.judged_beside.ensures.limit).malformed_only
 
 pub returns-clause-limit_only : goal.returns-clause-limit_only
-returns-clause-limit_only g c =
-    let e = c.judged_beside.ensures in
-    only_limit SpellsScene limit_of FailsAsScene one_scene fault_no_scene one_fault c.args.bytes.now c.judged_beside.result (record { found = e.found; malformed = e.malformed; limit = e.limit })
+returns-clause-limit_only g c = (answered c.args.bytes.now c.judged_beside.result c.judged_beside.ensures.found c.judged_beside.ensures.malformed c.judged_beside.ensures.limit).limit_only
 
 pub returns-clause-fields : goal.returns-clause-fields
-returns-clause-fields g c = if_ok_map c.judged_beside.result (λ s h. read_typed plain_form c.args.bytes.now s.decl s.streams h.0) c.judged_beside.ensures.found
+returns-clause-fields g c = (answered c.args.bytes.now c.judged_beside.result c.judged_beside.ensures.found c.judged_beside.ensures.malformed c.judged_beside.ensures.limit).fields
 
 pub returns-clause-within : goal.returns-clause-within
-returns-clause-within g c =
-    if_ok_map c.judged_beside.result
-    (λ s h. let typed = read_typed plain_form c.args.bytes.now s.decl s.streams h.0 in record { limits = h.1; commands = typed.1; sizes = typed.0.shared }) c.judged_beside.ensures.found
+returns-clause-within g c = (answered c.args.bytes.now c.judged_beside.result c.judged_beside.ensures.found c.judged_beside.ensures.malformed c.judged_beside.ensures.limit).within

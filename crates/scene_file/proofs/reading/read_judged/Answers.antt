@@ -1,28 +1,20 @@
-use Rattle.std.proofs.Common.{subst}
-use Rattle.rc_base.specs.Formats.Limits.{is_swap_command}
+use Rattle.scene_file.specs.Counting.{counted_as}
 use Rattle.rc_base.specs.Formats.Spelling.{plain_form}
-use Rattle.scene_file.specs.Counting.{SpellsCounted}
-use Rattle.rc_base.specs.declared.scene.Scene.{Scene}
-use Rattle.rc_base.specs.Formats.Limits.{limit_of}
-use Rattle.rc_base.specs.Formats.Spelling.{SpellsScene}
-use Rattle.scene_file.specs.Faults.{FailsAsScene}
-use Rattle.scene_file.proofs.CommandsCounted.{kept_same, judged_found, judged_form, judged_beyond}
+use Rattle.scene_file.specs.Letters.{plain_letters}
+use Rattle.scene_file.proofs.CommandsCounted.{fault_told, judged_seen}
 use Rattle.scene_file.proofs.reading.read_judged.Goals as goal
 
 pub returns-in-Ok-clause-found : goal.returns-in-Ok-clause-found
-returns-in-Ok-clause-found c =
-    let known = subst (SpellsCounted plain_form is_swap_command c.args.bytes.now) (kept_same c.in-Ok.counted) c.in-Ok.ensures.found in
-    let s : Scene = record { decl = known.decl; streams = known.streams } in
-    judged_found SpellsScene limit_of FailsAsScene c.args.bytes.now s known.spells c.within_limits.result (c.within_limits.ensures s known.counts)
+returns-in-Ok-clause-found g c =
+    (judged_seen g.K.KeptStream.scene c.args.bytes.now (counted_as g.K.KeptStream.commands c.in-Ok.counted) c.within_limits.result c.in-Ok.ensures.found c.within_limits.ensures).found
 
 pub returns-in-Ok-clause-malformed : goal.returns-in-Ok-clause-malformed
-returns-in-Ok-clause-malformed c =
-    let known = subst (SpellsCounted plain_form is_swap_command c.args.bytes.now) (kept_same c.in-Ok.counted) c.in-Ok.ensures.found in
-    let s : Scene = record { decl = known.decl; streams = known.streams } in
-    judged_form SpellsScene limit_of FailsAsScene c.args.bytes.now s known.spells c.within_limits.result (c.within_limits.ensures s known.counts)
+returns-in-Ok-clause-malformed g c =
+    (judged_seen g.K.KeptStream.scene c.args.bytes.now (counted_as g.K.KeptStream.commands c.in-Ok.counted) c.within_limits.result c.in-Ok.ensures.found c.within_limits.ensures).malformed
 
 pub returns-in-Ok-clause-limit : goal.returns-in-Ok-clause-limit
-returns-in-Ok-clause-limit c =
-    let known = subst (SpellsCounted plain_form is_swap_command c.args.bytes.now) (kept_same c.in-Ok.counted) c.in-Ok.ensures.found in
-    let s : Scene = record { decl = known.decl; streams = known.streams } in
-    judged_beyond SpellsScene limit_of FailsAsScene c.args.bytes.now s known.spells c.within_limits.result (c.within_limits.ensures s known.counts)
+returns-in-Ok-clause-limit g c =
+    (judged_seen g.K.KeptStream.scene c.args.bytes.now (counted_as g.K.KeptStream.commands c.in-Ok.counted) c.within_limits.result c.in-Ok.ensures.found c.within_limits.ensures).limit
+
+pub returns-in-Err-clause-malformed : goal.returns-in-Err-clause-malformed
+returns-in-Err-clause-malformed g c = fault_told plain_form plain_letters.all c.args.bytes.now c.in-Err.broken c.fault_at.result c.fault_at.ensures c.in-Err.ensures.fails
