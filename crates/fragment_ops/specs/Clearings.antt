@@ -1,7 +1,7 @@
 -- A Clear that was prepared once.
 use Rattle.std.specs.Prelude.{◌≡◌, ℕ, ◌/◌, ◌%◌, ◌==◌, ◌&&◌, Bool, if◌then◌else◌, slice_index_or, false}
 use Rattle.rc_base.specs.Colors.{rgba}
-use Rattle.rc_base.specs.Drawing.PixelStep.{cleared_depth, cleared}
+use Rattle.rc_base.specs.Drawing.PixelStep.{cleared_depth}
 use Rattle.rc_base.specs.declared.state.State.{State}
 use Rattle.rc_base.specs.declared.window.Pixel.{Pixel}
 use Rattle.fragment_ops.specs.declared.clear.Clearing.{Clearing}
@@ -27,18 +27,6 @@ cleared_by c old = record {
       (if c.opacity then c.color.a else old.color.a);
   depth = if c.sets_depth then c.depth else old.depth;
 }
-
--- a pixel becomes another one by the Clear of each state and mask that it was prepared for
-abbrev pub ClearsTo : Clearing → Pixel → Pixel → Type 0
-ClearsTo c old p = (s : State) (mask : ℕ) → IsClearing s mask c → p ≡ cleared s mask old
-
--- it makes this one of each pixel
-abbrev pub MakesEach : Clearing → Pixel → Type 0
-MakesEach c p = (old : Pixel) → p ≡ cleared_by c old
-
--- each pixel becomes this one by the Clear of each state and mask that it was prepared for
-abbrev pub ClearsEach : Clearing → Pixel → Type 0
-ClearsEach c p = (s : State) (mask : ℕ) (old : Pixel) → IsClearing s mask c → p ≡ cleared s mask old
 
 -- it writes all of a pixel
 abbrev pub writes_pixel : Clearing → Bool

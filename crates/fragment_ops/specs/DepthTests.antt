@@ -1,6 +1,6 @@
 -- A depth test that was prepared once for a draw.
 use Rattle.std.specs.Prelude.{◌≡◌, ℕ, ◌==◌, ◌&&◌, ◌||◌, nat_lt, Bool, if◌then◌else◌}
-use Rattle.rc_base.specs.Drawing.PixelStep.{passes_depth, shaded}
+use Rattle.rc_base.specs.Drawing.PixelStep.{passes_depth}
 use Rattle.rc_base.specs.declared.command.Rgba.{Rgba}
 use Rattle.rc_base.specs.declared.state.State.{State}
 use Rattle.rc_base.specs.declared.window.Pixel.{Pixel}
@@ -18,10 +18,6 @@ passes t depth stored = (t.below && nat_lt depth stored) || ((t.equal && depth =
 pub record IsDepthTest (s : State) (t : DepthTest) : Type 0 where
   pub passes : (a b : ℕ) → passes t a b ≡ passes_depth s a b
   pub stores : t.stores ≡ (s.depth_on && s.depth_mask)
-
--- in each state that it was prepared for a fragment of this depth changes no pixel of the stored depth, whatever the colours are
-abbrev pub LeavesPixels : DepthTest → ℕ → ℕ → Type 0
-LeavesPixels t depth stored = (s : State) (c : Rgba) (old : Pixel) → IsDepthTest s t → old.depth ≡ stored → shaded s c depth old ≡ old
 
 -- a pixel after it, by the colour that is to be written
 unfoldable pub tested_pixel : DepthTest → Rgba → ℕ → Pixel → Pixel

@@ -1,10 +1,8 @@
 -- States by how a fragment's colour is written, and what is written then.
-use Rattle.std.specs.Prelude.{◌≡◌, ℕ, ◌+◌, ◌-◌, ◌==◌, ◌&&◌, not, min, Bool, List, slice_index, slice_index_or, false}
+use Rattle.std.specs.Prelude.{ℕ, ◌+◌, ◌-◌, ◌==◌, ◌&&◌, not, min, Bool, List, slice_index, slice_index_or, false}
 use Rattle.rc_base.specs.Colors.{rgba, prod}
-use Rattle.rc_base.specs.Drawing.PixelStep.{shaded}
 use Rattle.rc_base.specs.declared.command.Rgba.{Rgba}
 use Rattle.rc_base.specs.declared.state.State.{State}
-use Rattle.rc_base.specs.declared.window.Pixel.{Pixel}
 
 -- all channels are written
 abbrev pub writes_all : List Bool → Bool
@@ -18,10 +16,6 @@ writes_plainly s = not s.blend_on && writes_all s.color_mask
 unfoldable pub stores_alone : State → Bool
 stores_alone s = not s.depth_on && (not s.alpha_on && writes_plainly s)
 
--- each fragment's colour takes the stored one's place, and the stored depth stays
-abbrev pub ReplacesColorsAlone : State → Type 0
-ReplacesColorsAlone s = (c : Rgba) (depth : ℕ) (old : Pixel) → shaded s c depth old ≡ record { color = c; depth = old.depth }
-
 -- a colour is blended by these two factors, and all of it is written
 unfoldable pub blends_by : ℕ → ℕ → State → Bool
 blends_by source stored s = s.blend_on && (writes_all s.color_mask && (slice_index s.blend 0 == source && slice_index s.blend 1 == stored))
@@ -33,10 +27,6 @@ blends_over s = blends_by 6 7 s
 -- ONE and ONE
 abbrev pub blends_sum : State → Bool
 blends_sum s = blends_by 1 1 s
-
--- each channel by one number
-abbrev pub color_by : Rgba → ℕ → Rgba
-color_by c by = rgba (prod c.r by) (prod c.g by) (prod c.b by) (prod c.a by)
 
 -- a channel over the stored one
 abbrev pub laid_over : ℕ → ℕ → ℕ → ℕ

@@ -1,6 +1,9 @@
 //! Clears by what was prepared.
-ghost use Rattle.std.specs.Prelude.{◌≡◌, ◌≤ℤ◌, ◌&&◌, ◌/◌, ◌%◌, ◌==◌, pos, true};
-ghost use Rattle.fragment_ops.specs.Clearings.{IsClearing, cleared_by, ClearsTo, MakesEach, ClearsEach, writes_pixel};
+ghost use Rattle.std.specs.Prelude.{◌≡◌, ℕ, ◌≤ℤ◌, ◌&&◌, ◌/◌, ◌%◌, ◌==◌, pos, true};
+ghost use Rattle.rc_base.specs.Drawing.PixelStep.{cleared};
+ghost use Rattle.rc_base.specs.declared.state.State.{State as AnyState};
+ghost use Rattle.rc_base.specs.declared.window.Pixel.{Pixel as AnyPixel};
+ghost use Rattle.fragment_ops.specs.Clearings.{IsClearing, cleared_by, writes_pixel};
 
 use crate::blend::mask;
 use crate::clear::Clearing;
@@ -35,9 +38,11 @@ pub fn clearing_of(state: &State, mask: u8) -> Clearing
 }
 
 impl Clearing {
+    /// A pixel after the Clear.
     #[tactic(auto, unfolding(crate::specs::Clearings::cleared_by))]
-    fn cleared(&self, old: Pixel) -> Pixel
-        ensures { result ≡ cleared_by self.now old }
+    pub fn clear(&self, old: Pixel) -> Pixel
+        ensures prepared { result ≡ cleared_by self.now old }
+        ensures cleared { (s : AnyState) (m : ℕ) → IsClearing s m self.now → result ≡ cleared s m old }
     {
         Pixel {
             color: Rgba {
@@ -54,14 +59,6 @@ impl Clearing {
         }
     }
 
-    /// A pixel after the Clear.
-    pub fn clear(&self, old: Pixel) -> Pixel
-        ensures prepared { result ≡ cleared_by self.now old }
-        ensures cleared { ClearsTo self.now old result }
-    {
-        self.cleared(old)
-    }
-
     /// Whether the Clear writes all of a pixel.
     pub fn writes_pixel(&self) -> bool
         ensures { result ≡ writes_pixel self.now }
@@ -71,8 +68,9 @@ impl Clearing {
 
     /// What each pixel is after a Clear that writes all of it.
     pub fn pixel(&self) -> Pixel
-        ensures prepared { writes_pixel self.now ≡ true → MakesEach self.now result }
-        ensures cleared { writes_pixel self.now ≡ true → ClearsEach self.now result }
+        ensures prepared { writes_pixel self.now ≡ true → (old : AnyPixel) → result ≡ cleared_by self.now old }
+        ensures cleared { writes_pixel self.now ≡ true → (s : AnyState) (m : ℕ) (old : AnyPixel)
+            → IsClearing s m self.now → result ≡ cleared s m old }
     {
         Pixel {
             color: self.color,

@@ -4,7 +4,8 @@ ghost use Rattle.rc_base.specs.Drawing.Window.{depth_most};
 ghost use Rattle.rc_base.specs.Drawing.PixelStep.{compares, passes_alpha, written_color, shaded};
 ghost use Rattle.rc_base.specs.declared.command.Rgba.{Rgba as AnyColor};
 ghost use Rattle.rc_base.specs.declared.state.State.{State as AnyState};
-ghost use Rattle.fragment_ops.specs.DepthTests.{passes, IsDepthTest, LeavesPixels, pixel, tested_pixel};
+ghost use Rattle.rc_base.specs.declared.window.Pixel.{Pixel as AnyPixel};
+ghost use Rattle.fragment_ops.specs.DepthTests.{passes, IsDepthTest, pixel, tested_pixel};
 
 use rc_base::command::Rgba;
 use rc_base::state::State;
@@ -74,28 +75,21 @@ fn is_below(depth: u32, stored: u32, equal: bool) -> bool
 }
 
 impl DepthTest {
-    // LESS and LEQUAL are one comparison.
+    /// Whether a depth in the buffer's range passes against the stored one. A pixel whose fragment doesn't pass stays as it is.
     #[inline(always)]
-    #[tactic(auto, unfolding(crate::specs::DepthTests::passes))]
-    fn compares(&self, depth: u32, stored: u32) -> bool
+    #[tactic(auto, unfolding(crate::specs::DepthTests::passes), using(crate::proofs::Few::kept_is))]
+    pub fn passes(&self, depth: u32, stored: u32) -> bool
         requires { depth ≤ depth_most }
-        ensures { result ≡ passes self.now depth stored }
+        ensures test { result ≡ passes self.now depth stored }
+        ensures kept { result ≡ false → (s : AnyState) (c : AnyColor) (old : AnyPixel)
+            → IsDepthTest s self.now → old.depth ≡ stored → shaded s c depth old ≡ old }
     {
+        // LESS and LEQUAL are one comparison.
         if self.below && !self.above {
             return is_below(depth, stored, self.equal);
         }
         (self.below && depth < stored)
             || ((self.equal && depth == stored) || (self.above && depth > stored))
-    }
-
-    /// Whether a depth in the buffer's range passes against the stored one. A pixel whose fragment doesn't pass stays as it is.
-    #[inline(always)]
-    pub fn passes(&self, depth: u32, stored: u32) -> bool
-        requires { depth ≤ depth_most }
-        ensures test { result ≡ passes self.now depth stored }
-        ensures kept { result ≡ false → LeavesPixels self.now depth stored }
-    {
-        self.compares(depth, stored)
     }
 
     // What is stored of a fragment that passes.

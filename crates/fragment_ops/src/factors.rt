@@ -73,25 +73,17 @@ fn part(factor: Factor, one: Rgba, color: Rgba, old: Rgba) -> Rgba
     }
 }
 
+/// A fragment's colour blended with the stored one by two factors. Where a loop goes over many pixels, give it factors that the compiler knows.
 #[inline(always)]
 #[tactic(auto, unfolding(crate::specs::Blends::color_blended))]
-fn blended(source: Factor, stored: Factor, color: Rgba, old: Rgba) -> Rgba
-    ensures { result ≡ color_blended source stored color old }
+pub fn blend_by(source: Factor, stored: Factor, color: Rgba, old: Rgba) -> Rgba
+    ensures value { result ≡ color_blended source stored color old }
+    ensures mixed { (s : AnyState) → IsBlending s source stored → result ≡ mixed_color s color old }
 {
     blend_sum(
         part(source, color, color, old),
         part(stored, old, color, old),
     )
-}
-
-/// A fragment's colour blended with the stored one by two factors. Where a loop goes over many pixels, give it factors that the compiler knows.
-#[inline(always)]
-#[tactic(auto, using(crate::proofs::ByFactors::blended_is))]
-pub fn blend_by(source: Factor, stored: Factor, color: Rgba, old: Rgba) -> Rgba
-    ensures value { result ≡ color_blended source stored color old }
-    ensures mixed { (s : AnyState) → IsBlending s source stored → result ≡ mixed_color s color old }
-{
-    blended(source, stored, color, old)
 }
 
 /// The channels of a colour whose flags are on, and those of the stored one elsewhere.

@@ -1,12 +1,13 @@
 //! Channels two at a time: a number of 32 bits holds one in its low half and one in its high half, so that one operation serves both.
-ghost use Rattle.std.specs.Prelude.{◌≡◌, ◌≤◌, ◌+◌, ◌*◌};
+ghost use Rattle.std.specs.Prelude.{◌≡◌, ℕ, ◌≤◌, ◌<◌, ◌+◌, ◌*◌, ◌/◌};
 ghost use Rattle.rc_base.specs.Colors.{prod};
-ghost use Rattle.fragment_ops.specs.Pairs.{pair_of, HasUpperBytes, HasParts};
+ghost use Rattle.fragment_ops.specs.Pairs.{pair_of};
 
 // The upper byte of each half.
 #[inline(always)]
 fn carry(t: u32) -> u32
-    ensures bytes { HasUpperBytes t result }
+    ensures bytes { (low high : ℕ) → low < 65536 → high < 65536 → t ≡ pair_of low high
+        → result ≡ pair_of (low / 256) (high / 256) }
     ensures most { result ≤ pair_of 255 255 }
 {
     t / 256 % 256 + t / 16_777_216 * 65_536
@@ -16,7 +17,8 @@ fn carry(t: u32) -> u32
 #[inline(always)]
 fn rounded(pair: u32) -> u32
     requires { pair ≤ pair_of 65025 65025 }
-    ensures { HasParts pair result }
+    ensures { (low high : ℕ) → low ≤ 65025 → high ≤ 65025 → pair ≡ pair_of low high
+        → result ≡ pair_of ((low + 127) / 255) ((high + 127) / 255) }
 {
     let t = pair + 8_388_736;
     let w = t + carry(t);

@@ -1,8 +1,9 @@
 //! States of which few stages stand between a fragment and the buffer.
-ghost use Rattle.std.specs.Prelude.{◌≡◌, true};
-ghost use Rattle.rc_base.specs.Drawing.PixelStep.{written_color};
+ghost use Rattle.std.specs.Prelude.{◌≡◌, ℕ, true};
+ghost use Rattle.rc_base.specs.Drawing.PixelStep.{shaded, written_color};
 ghost use Rattle.rc_base.specs.declared.command.Rgba.{Rgba as AnyColor};
-ghost use Rattle.fragment_ops.specs.Shortcuts.{writes_all, writes_plainly, stores_alone, ReplacesColorsAlone, blends_by, blends_over, blends_sum};
+ghost use Rattle.rc_base.specs.declared.window.Pixel.{Pixel as AnyPixel};
+ghost use Rattle.fragment_ops.specs.Shortcuts.{writes_all, writes_plainly, stores_alone, blends_by, blends_over, blends_sum};
 
 use rc_base::state::State;
 
@@ -12,34 +13,23 @@ fn writes_all(flags: [bool; 4]) -> bool
     flags[0] && (flags[1] && (flags[2] && flags[3]))
 }
 
-#[tactic(auto, unfolding(crate::specs::Shortcuts::writes_plainly))]
-fn writes(state: &State) -> bool
-    ensures { result ≡ writes_plainly state.now }
-{
-    !state.blend_on && writes_all(state.color_mask)
-}
-
-#[tactic(auto, unfolding(crate::specs::Shortcuts::stores_alone))]
-fn stores(state: &State) -> bool
-    ensures { result ≡ stores_alone state.now }
-{
-    !state.depth_on && (!state.alpha_on && writes(state))
-}
-
 /// Whether a fragment's colour is written as it is: blending is off, all channels are written.
+#[tactic(auto, unfolding(crate::specs::Shortcuts::writes_plainly))]
 pub fn writes_plainly(state: &State) -> bool
     ensures test { result ≡ writes_plainly state.now }
     ensures written { result ≡ true → (c old : AnyColor) → written_color state.now c old ≡ c }
 {
-    writes(state)
+    !state.blend_on && writes_all(state.color_mask)
 }
 
 /// Whether moreover no test stands between a fragment and the buffer, so that its colour is stored, and its depth isn't.
+#[tactic(auto, unfolding(crate::specs::Shortcuts::stores_alone))]
 pub fn stores_alone(state: &State) -> bool
     ensures test { result ≡ stores_alone state.now }
-    ensures stored { result ≡ true → ReplacesColorsAlone state.now }
+    ensures stored { result ≡ true → (c : AnyColor) (depth : ℕ) (old : AnyPixel)
+        → shaded state.now c depth old ≡ record { color = c; depth = old.depth } }
 {
-    stores(state)
+    !state.depth_on && (!state.alpha_on && writes_plainly(state))
 }
 
 #[tactic(auto, unfolding(crate::specs::Shortcuts::blends_by))]
