@@ -1,14 +1,12 @@
 -- What a book stands for.
 use Rattle.std.specs.Prelude.{◌≡◌, ℕ, ◌<◌, ◌&&◌, not, Bool, true, false, is_some, List, Option, length, slice_index_or}
 use Rattle.rc_base.specs.Orders.Book.{Book as Arrivals, BookEvent, book_after, new_book, standing, waiting_in, is_declared, IsLegalBook, IsBookOver}
-use Rattle.rc_base.specs.Orders.Book.BookEvent.{Arrives}
 use Rattle.rc_base.specs.Orders.Sync.{client_count}
 use Rattle.rc_base.specs.declared.scene.Decl.{Decl}
 use Rattle.rc_base.specs.declared.sync.Entry.{Entry}
 use Rattle.rc_base.specs.declared.sync.SyncLists.{SyncLists}
 use Rattle.rc_base.specs.declared.sync.SyncOp.{SyncOp}
 use Rattle.rc_base.specs.declared.sync.WaitAt.{WaitAt}
-use Rattle.rc_base.specs.declared.sync.Waiting.{Waiting}
 use Rattle.sync_manager.specs.Stored.{grant_at, wait_at, state_of, is_named}
 use Rattle.sync_manager.specs.declared.book.Book.{Book}
 
@@ -44,10 +42,6 @@ is_wanted kept client = not (has_ended kept client) && not (is_some (wait_at kep
 abbrev pub AllWaitOrEnded : Book → Type 0
 AllWaitOrEnded kept = (client : ℕ) → client < kept.clients → has_ended kept client ≡ false → is_some (wait_at kept.waiting client) ≡ true
 
--- a client waits
-abbrev pub SomeoneWaits : List (Option WaitAt) → Type 0
-SomeoneWaits waiting = (client : ℕ) × (is_some (wait_at waiting client) ≡ true)
-
 -- the book is over, and a client waits
 pub record IsStuck (syncs : SyncLists) (b : Arrivals) : Type 0 where
   pub over : IsBookOver syncs b
@@ -68,22 +62,11 @@ pub record IsBookOf (syncs : SyncLists) (kept : Book) (b : Arrivals) : Type 0 wh
 abbrev pub OfBook : Book → (SyncLists → Arrivals → Type 0) → Type 0
 OfBook kept is_so = (syncs : SyncLists) (b : Arrivals) → IsBookOf syncs kept b → is_so syncs b
 
--- the book stands for what it stood for, or for that after the event
-abbrev pub IsSameBook : Book → Book → Type 0
-IsSameBook before after = OfBook before (λ syncs b. IsBookOf syncs after b)
-
+-- the book stands for that after the event
 abbrev pub IsBookAfter : Book → BookEvent → Book → Type 0
 IsBookAfter before event after = OfBook before (λ syncs b. IsBookOf syncs after (book_after syncs b event))
-
--- an operation of a client arrives
-abbrev pub arrival : ℕ → ℕ → SyncOp → BookEvent
-arrival client place op = Arrives client record { place = place; op = op }
 
 -- nothing arrived in the book, of so many clients, with barriers and units as they are declared
 abbrev pub IsNewBook : Decl → ℕ → Book → Type 0
 IsNewBook decl clients kept =
     (syncs : SyncLists) → client_count syncs ≡ clients → syncs.counts ≡ decl.barriers → syncs.units ≡ decl.semaphores → IsBookOf syncs kept new_book
-
--- these are the operations at which the clients wait
-abbrev pub AreWaiting : SyncLists → Arrivals → Waiting → Type 0
-AreWaiting syncs b w = (client : ℕ) → wait_at w.at client ≡ waiting_in syncs b client

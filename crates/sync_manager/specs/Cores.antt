@@ -67,10 +67,6 @@ HasToldAll core = core.tiles ≤ core.told
 abbrev pub AreLeft : ManagerCore → List Bool → Type 0
 AreLeft core asks = (client : ℕ) → not (slice_index_or asks client true) ≡ drained_in core client
 
--- memory lacks for the first time
-abbrev pub BecomesShort : ManagerCore → ManagerCore → Type 0
-BecomesShort before after = (is_short before ≡ false) × (is_short after ≡ true)
-
 -- ---- a step
 
 -- A step does this, and then the core stands for what was done before and this.

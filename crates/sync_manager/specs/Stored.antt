@@ -3,7 +3,7 @@ use Rattle.std.specs.Prelude.{◌≡◌, ℕ, ◌+◌, ◌<◌, ◌≤◌, ◌==
 use Rattle.std.specs.Option.{option_or, option_map_or, unwrap_or}
 use Rattle.rc_base.specs.Lists.{at_name}
 use Rattle.rc_base.specs.Orders.Grant.{first, give_by, take_by, is_at_barrier, is_at_swap, lowest}
-use Rattle.rc_base.specs.Orders.Journal.{SyncState, how_many, is_member, units_after}
+use Rattle.rc_base.specs.Orders.Journal.{SyncState, how_many, is_member}
 use Rattle.rc_base.specs.declared.sync.Entry.{Entry}
 use Rattle.rc_base.specs.declared.sync.Entry.TheVariants.{Meet, Swap, Give, Take}
 use Rattle.rc_base.specs.declared.sync.SyncOp.{SyncOp}
@@ -71,14 +71,6 @@ grant_at counts units waiting n =
 -- its members wait no more, and every other client waits as before
 abbrev pub AreReleased : ℕ → Entry → List (Option WaitAt) → List (Option WaitAt) → Type 0
 AreReleased clients entry before after = (c : ℕ) → wait_at after c ≡ cond (is_member clients entry c) None (wait_at before c)
-
--- a unit is given or taken, if the entry does that
-abbrev pub HasMoved : Entry → List ℕ → List ℕ → Type 0
-HasMoved entry before after = (k : ℕ) → units_at after k ≡ units_after entry (units_at before) k
-
--- no semaphore has more than one unit more than before
-abbrev pub RiseByOne : List ℕ → List ℕ → Type 0
-RiseByOne before after = (k : ℕ) → slice_index_or after k 0 ≤ slice_index_or before k 0 + 1
 
 -- ---- what holds of every book
 

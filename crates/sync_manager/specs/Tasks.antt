@@ -1,5 +1,5 @@
 -- What a manager's core does next, by what it stores.
-use Rattle.std.specs.Prelude.{◌≡◌, ℕ, ◌+◌, ◌-◌, ◌<◌, ◌≤◌, ◌||◌, true, false, [], length, ◌⊎◌, Option, Some, None, slice_get}
+use Rattle.std.specs.Prelude.{◌≡◌, ℕ, ◌+◌, ◌-◌, ◌<◌, ◌≤◌, ◌||◌, true, false, [], length, ◌⊎◌, List, Option, Some, None, slice_get}
 use Rattle.rc_base.specs.Orders.Book.{with_at}
 use Rattle.rc_base.specs.declared.sync.Entry.{Entry}
 use Rattle.rc_base.specs.declared.sync.Grant.{Grant}
@@ -9,7 +9,7 @@ use Rattle.rc_base.specs.declared.sync.Request.TheVariants as request
 use Rattle.rc_base.specs.declared.sync.SyncLists.{SyncLists}
 use Rattle.rc_base.specs.declared.sync.SyncOp.{SyncOp}
 use Rattle.sync_manager.specs.Books.{AllWaitOrEnded, first_in, is_wanted, journal_in, names_declared}
-use Rattle.sync_manager.specs.Cores.{book_of, clients_of, drained_in}
+use Rattle.sync_manager.specs.Cores.{book_of, clients_of, drained_in, AreServed, IsManagerStep}
 use Rattle.sync_manager.specs.Progress.{ManagerProgress, is_end, IsFoundEmpty, IsFoundFull, taken_of, sent_to}
 use Rattle.sync_manager.specs.declared.deed.ManagerDeed.{ManagerDeed}
 use Rattle.sync_manager.specs.declared.deed.ManagerDeed.TheVariants.{Receives, Loses}
@@ -34,10 +34,6 @@ abbrev pub IsDeliveryIn : ManagerCore → ℕ → Grant → Type 0
 IsDeliveryIn core tile (grant_item.Entry e) =
     (tile ≡ core.supplied) × (tile < core.tiles) × (slice_get (journal_in core.book) (length (journal_in core.book) - 1) ≡ Some e)
 IsDeliveryIn core tile grant_item.NoMore = (tile ≡ core.told) × (tile < core.tiles) × AllSupplied core × NoMoreIn core
-
--- the entry is the last one, and goes to the first tile without it
-abbrev pub IsOwed : ManagerCore → Entry → Type 0
-IsOwed core e = IsDeliveryIn core core.supplied (grant_item.Entry e)
 
 pub record IsReceivingIn (core : ManagerCore) : Type 0 where
   pub supplied : AllSupplied core
@@ -95,3 +91,10 @@ pub record LeavesRequests (deed : ManagerDeed) : Type 0 where
 pub record LeavesGrants (deed : ManagerDeed) : Type 0 where
   pub none : (i : ℕ) → sent_to deed i ≡ []
   pub nowhere : (i : ℕ) → IsFoundFull deed i → ⊥
+
+module _ {I : Type 0} (lane_of : I → List ℕ) (gave : I → Request → I → Type 0) (same : I → I → Type 0) (empty_seen : I → ℕ) (bare : I → Type 0) where
+  -- a step that takes a request, or finds none, and touches no lane of grants
+  pub record IsServing (core : ManagerCore) (deed : ManagerDeed) (later : ManagerCore) (before after : List I) : Type 0 where
+    pub step : IsManagerStep core deed later
+    pub requests : AreServed lane_of gave same empty_seen bare core deed before after
+    pub grants : LeavesGrants deed

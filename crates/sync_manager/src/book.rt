@@ -25,13 +25,13 @@ pub struct Book {
 }
 
 impl Book {
-    ghost use Rattle.std.specs.Prelude.{◌≡◌, ◌≤◌, ◌<◌, true, false, length, Some, None, IfOk, OnOk, OnErr, IfSome, IsSome, IsNone, IsTrue, ◌↔◌};
-    ghost use Rattle.rc_base.specs.Orders.Book.{standing, IsBookOver};
-    ghost use Rattle.rc_base.specs.Orders.Book.BookEvent.{Ends, Grants};
+    ghost use Rattle.std.specs.Prelude.{◌≡◌, ℕ, ◌≤◌, ◌<◌, true, false, is_some, length, Some, None, IfOk, OnOk, OnErr, IfSome, IsSome, IsNone, IsTrue, ◌↔◌};
+    ghost use Rattle.rc_base.specs.Orders.Book.{standing, waiting_in, IsBookOver};
+    ghost use Rattle.rc_base.specs.Orders.Book.BookEvent.{Arrives, Ends, Grants};
     ghost use Rattle.rc_base.specs.Orders.Grant.{grant};
     ghost use Rattle.rc_base.specs.Orders.Journal.{NothingIsLawful};
-    ghost use Rattle.sync_manager.specs.Stored.{CountSomeone};
-    ghost use Rattle.sync_manager.specs.Books.{clients_in, waiting_at, names_declared, journal_in, has_ended, is_wanted, arrival, first_in, AllWaitOrEnded, AreWaiting, SomeoneWaits, IsBookAfter, IsNewBook, IsSameBook, IsStuck, OfBook};
+    ghost use Rattle.sync_manager.specs.Stored.{CountSomeone, wait_at};
+    ghost use Rattle.sync_manager.specs.Books.{clients_in, waiting_at, names_declared, journal_in, has_ended, is_wanted, first_in, AllWaitOrEnded, IsBookAfter, IsBookOf, IsNewBook, IsStuck, OfBook};
 
     /// A book in which nothing arrived, with the units as declared.
     pub fn new(alloc: Global, decl: &Decl, clients: u8) -> Result<Book, OutOfMemory>
@@ -87,8 +87,8 @@ impl Book {
         requires running { has_ended self.old client ≡ false }
         requires declared { names_declared self.old op ≡ true }
         ensures clients { clients_in self.new ≡ clients_in self.old }
-        ensures arrived { OnOk result (IsBookAfter self.old (arrival client place op) self.new) }
-        ensures unchanged { OnErr result (IsSameBook self.old self.new) }
+        ensures arrived { OnOk result (IsBookAfter self.old (Arrives client record { place = place; op = op }) self.new) }
+        ensures unchanged { OnErr result (OfBook self.old (λ syncs b. IsBookOf syncs self.new b)) }
     {
         self.entries.reserve(8)?;
         self.waiting[client as usize] = Some(WaitAt { place, op });
@@ -160,7 +160,7 @@ impl Book {
     }
 
     fn someone_waits(&self) -> bool
-        ensures { IsTrue result ↔ SomeoneWaits self.now.waiting }
+        ensures { IsTrue result ↔ ((client : ℕ) × (is_some (wait_at self.now.waiting client) ≡ true)) }
     {
         for client in 0..self.clients {
             if self.waiting[client as usize].is_some() {
@@ -180,7 +180,8 @@ impl Book {
     /// Where the book is over and a client waits, the operation at which each client waits.
     pub fn stuck(&self) -> Option<Waiting>
         ensures exact { OfBook self.now (λ syncs b. IsSome result ↔ IsStuck syncs b) }
-        ensures waiting { IfSome result (λ w. OfBook self.now (λ syncs b. AreWaiting syncs b w)) }
+        ensures waiting { IfSome result
+            (λ w. OfBook self.now (λ syncs b. (client : ℕ) → wait_at w.at client ≡ waiting_in syncs b client)) }
     {
         if self.is_over() && self.someone_waits() {
             Some(Waiting { at: self.waiting })

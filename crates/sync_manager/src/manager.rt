@@ -35,8 +35,9 @@ impl ManagerCore {
     ghost use Rattle.sync_manager.specs.Books.{clients_in, names_declared};
     ghost use Rattle.sync_manager.specs.Stored.{CountSomeone};
     ghost use Rattle.sync_manager.specs.Progress.{answer_of};
-    ghost use Rattle.sync_manager.specs.Cores.{clients_of, tiles_of, book_of, drained_in, is_short, AreLeft, AreWanted, BecomesShort, HasToldAll, AreServed, AreSupplied, IsManagerStep, IsNewManager, OfProgress, AreTaken, AreFoundEmpty, AreSent, AreFoundFull};
-    ghost use Rattle.sync_manager.specs.Tasks.{AllSupplied, MayReceive, IsDeliveryIn, IsReceivingIn, IsDrainingIn, IsTask, IsEnding, IsNoted, IsOwed, IsTaking, LeavesRequests, LeavesGrants};
+    ghost use Rattle.sync_manager.specs.Cores.{clients_of, tiles_of, book_of, drained_in, is_short, AreLeft, AreWanted, HasToldAll, AreServed, AreSupplied, IsManagerStep, IsNewManager, OfProgress, AreTaken, AreFoundEmpty, AreSent, AreFoundFull};
+    ghost use Rattle.sync_manager.specs.Tasks.{AllSupplied, MayReceive, IsDeliveryIn, IsReceivingIn, IsDrainingIn, IsTask, IsEnding, IsNoted, IsTaking, LeavesRequests, IsServing};
+    ghost use Rattle.rc_base.specs.declared.sync.Grant.TheVariants as grant;
     ghost use Rattle.sync_manager.specs.declared.deed.Task.TheVariants as task;
     ghost use Rattle.sync_manager.specs.declared.deed.ManagerDeed.{ManagerDeed};
     ghost use Rattle.sync_manager.specs.declared.deed.ManagerDeed.TheVariants as deed;
@@ -93,7 +94,7 @@ impl ManagerCore {
 
     /// The last entry, where it isn't yet with every tile.
     fn owed(&self) -> Option<Entry>
-        ensures some { IfSome result (λ e. IsOwed self.now e) }
+        ensures some { IfSome result (λ e. IsDeliveryIn self.now self.now.supplied (grant.Entry e)) }
         ensures none { IfNone result (AllSupplied self.now) }
     {
         if self.supplied < self.tiles {
@@ -284,10 +285,8 @@ impl ManagerCore {
     fn receive<I: Inlet<Request>>(&mut self, requests: &mut [I]) -> ManagerDeed
         requires lanes { length requests.old ≡ clients_of self.old }
         requires task { IsReceivingIn self.old }
-        ensures step { IsManagerStep self.old result self.new }
-        ensures requests { AreServed I.lane_of I.gave I.same I.empty_seen I.bare self.old result
+        ensures { IsServing I.lane_of I.gave I.same I.empty_seen I.bare self.old result self.new
             requests.old requests.new }
-        ensures grants { LeavesGrants result }
     {
         let asks = self.wanted();
         match take_in_rotation(requests, &asks, self.start as usize) {
@@ -300,10 +299,8 @@ impl ManagerCore {
     fn drain<I: Inlet<Request>>(&mut self, requests: &mut [I]) -> ManagerDeed
         requires lanes { length requests.old ≡ clients_of self.old }
         requires task { IsDrainingIn self.old }
-        ensures step { IsManagerStep self.old result self.new }
-        ensures requests { AreServed I.lane_of I.gave I.same I.empty_seen I.bare self.old result
+        ensures { IsServing I.lane_of I.gave I.same I.empty_seen I.bare self.old result self.new
             requests.old requests.new }
-        ensures grants { LeavesGrants result }
     {
         match take_in_rotation(requests, &self.left, self.start as usize) {
             Some((client, request)) => {
@@ -361,7 +358,7 @@ impl ManagerCore {
         ensures tiles { tiles_of self.new ≡ tiles_of self.old }
         ensures request_lanes { EachLane (λ i a b. I.lane_of b ≡ I.lane_of a) requests.old requests.new }
         ensures grant_lanes { EachLane (λ i a b. O.lane_of b ≡ O.lane_of a) grants.old grants.new }
-        ensures out_of_memory { OnErr result (BecomesShort self.old self.new) }
+        ensures out_of_memory { OnErr result ((is_short self.old ≡ false) × (is_short self.new ≡ true)) }
         ensures ample { OnOk result (is_short self.new ≡ is_short self.old) }
         // the answer tells what it did: the first case that applies; it took and appended just that, and each lane that it found empty or full says so
         ensures step { (did : ManagerDeed) × (result ≡ answer_of did) × IsManagerStep self.old did self.new

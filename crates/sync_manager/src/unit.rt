@@ -1,8 +1,8 @@
 //! What an entry does to the waiting operations and to the units.
 ghost use Rattle.std.specs.Prelude.{◌≡◌, ◌≤◌, ◌<◌, ◌+◌, ◌^◌, ℕ, length, slice_index_or, None, IfOk};
-ghost use Rattle.rc_base.specs.Orders.Journal.{is_member};
+ghost use Rattle.rc_base.specs.Orders.Journal.{is_member, units_after};
 ghost use Rattle.rc_base.specs.declared.sync.Entry.{Entry};
-ghost use Rattle.sync_manager.specs.Stored.{AreReleased, HasMoved, IsUnitThere, RiseByOne};
+ghost use Rattle.sync_manager.specs.Stored.{AreReleased, IsUnitThere, units_at};
 
 use rc_base::sync::{Entry, WaitAt, is_member};
 use std::alloc::{AllocError, Global};
@@ -25,8 +25,9 @@ pub fn move_unit(units: &mut Vec<u64>, entry: Entry)
     requires there { IsUnitThere units.old.items entry }
     requires bounded { (k : ℕ) → slice_index_or units.old.items k 0 + 1 < 2 ^ 64 }
     ensures length { length units.new.items ≡ length units.old.items }
-    ensures units { HasMoved entry units.old.items units.new.items }
-    ensures bounded { RiseByOne units.old.items units.new.items }
+    ensures units { (k : ℕ) → units_at units.new.items k ≡ units_after entry (units_at units.old.items) k }
+    ensures bounded { (k : ℕ) → slice_index_or units.new.items k 0
+        ≤ slice_index_or units.old.items k 0 + 1 }
 {
     match entry {
         Entry::Give { semaphore, .. } => units[semaphore as usize - 1] += 1,
