@@ -55,11 +55,11 @@ vertex_bounds v e =
     bounds : (n : ℕ) (z : ℤ) → is_within n z ≡ true → Within n z
     bounds n z e = (grind (arith, ints), grind (arith, ints))
 
-dropped : (s : State) (a b c : Vertex) → is_kept_at s (clip_corners s a b c) ≡ false → kept_of s a b c ≡ None
+pub dropped : (s : State) (a b c : Vertex) → is_kept_at s (clip_corners s a b c) ≡ false → kept_of s a b c ≡ None
 unfolding kept_of kept_at window_of
 dropped s a b c h = ap (λ t. if t then Some (oriented (window_of s a) (window_of s b) (window_of s c)) else None) h
 
-kept_is : (s : State) (a b c : Vertex) → is_kept_at s (clip_corners s a b c) ≡ true → kept_of s a b c ≡ Some (oriented (window_of s a) (window_of s b) (window_of s c))
+pub kept_is : (s : State) (a b c : Vertex) → is_kept_at s (clip_corners s a b c) ≡ true → kept_of s a b c ≡ Some (oriented (window_of s a) (window_of s b) (window_of s c))
 unfolding kept_of kept_at window_of
 kept_is s a b c h = ap (λ t. if t then Some (oriented (window_of s a) (window_of s b) (window_of s c)) else None) h
 

@@ -6,6 +6,9 @@ mod Facing
 pub mod Triples
 mod Units
 mod Fronts
+mod Corners
+mod Turned
+mod Unmoved
 pub mod Identity
 pub mod Oriented
 pub mod EachKept

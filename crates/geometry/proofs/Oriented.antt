@@ -12,7 +12,7 @@ use Rattle.rc_base.specs.declared.window.WindowVertex.{WindowVertex}
 use Rattle.scene_lemmas.proofs.Triangles.{turned_round}
 use Rattle.geometry.proofs.Facing.{not_shown_flat, left_as_is, area_turned}
 
-not_flat : (s : State) (area : ℤ) → is_shown s area ≡ true → area ≡ pos 0 → ⊥
+pub not_flat : (s : State) (area : ℤ) → is_shown s area ≡ true → area ≡ pos 0 → ⊥
 not_flat s area h e = let flat = not_shown_flat s area e in absurd cc
 
 turned : (P : List WindowVertex → Type 0) (s : State) (a b c : WindowVertex) → is_shown s (triangle_area (three a b c)) ≡ true

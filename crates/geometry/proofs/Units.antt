@@ -1,5 +1,5 @@
 -- Vertices that the matrices don't move: factors taken out of their quotients.
-use Rattle.std.proofs.Common.{◌≡◌, ℤ, ℕ, pos, ◌+ℤ◌, ◌-ℤ◌, ◌*ℤ◌, ◌<ℤ◌, ◌∙◌, ap, refl, arith}
+use Rattle.std.proofs.Common.{◌≡◌, ℤ, ℕ, pos, ◌+ℤ◌, ◌-ℤ◌, ◌*ℤ◌, ◌<ℤ◌, ◌∙◌, ap, refl, sym, arith}
 use lib.IntN.{*ℤ_comm}
 use Rattle.std.proofs.lemmas.Int.{ints}
 use Rattle.rc_base.specs.Numbers.{entry, floor_quotient, transformed}
@@ -76,6 +76,28 @@ short_axis_is origin size x w h = ap (λ q. pos 16 *ℤ origin +ℤ q) (place_by
 pub short_depth_is : (z w : ℤ) → pos 0 <ℤ w → depth_of (pos 0) (pos 65536) z w ≡ floor_quotient ((z +ℤ w) *ℤ pos 16777215) (pos 2 *ℤ w)
 unfolding depth_of
 short_depth_is z w h = depth_by_w z w h
+
+-- half of a number, rounded down, has the quotient that the number has by twice the divisor
+half_quotient : (n w : ℤ) → pos 0 <ℤ w → floor_quotient (floor_quotient n (pos 2)) w ≡ floor_quotient n (pos 2 *ℤ w)
+half_quotient n w h =
+    let half = floor_quotient n (pos 2) in
+    let p = floor_quotient half w in
+    let q = floor_quotient n (pos 2 *ℤ w) in
+    let two : pos 0 <ℤ (pos 2 *ℤ w) = omega (arith, ints) in
+    let a = floor_at_most n (pos 2) (omega (arith, ints)) in
+    let b = floor_greatest n (pos 2) (omega (arith, ints)) in
+    let c = floor_at_most half w h in
+    let d = floor_at_most n (pos 2 *ℤ w) two in
+    let e = times_out p w 2 in
+    let f = times_out q w 2 in
+    let g = *ℤ_comm q w in
+    let i = *ℤ_comm p (pos 2 *ℤ w) in
+    same_from_both_bounds p q
+    (floor_from_low n (pos 2 *ℤ w) p two (omega (arith, ints)))
+    (floor_from_low half w q h (omega (arith, ints)))
+
+pub halved_depth_is : (z w : ℤ) → pos 0 <ℤ w → depth_of (pos 0) (pos 65536) z w ≡ floor_quotient (floor_quotient ((z +ℤ w) *ℤ pos 16777215) (pos 2)) w
+halved_depth_is z w h = short_depth_is z w h ∙ sym (half_quotient ((z +ℤ w) *ℤ pos 16777215) w h)
 
 pub unit_axis_is : (origin size x : ℤ) → axis_of origin size x (pos 65536) ≡ pos 16 *ℤ origin +ℤ floor_quotient ((x +ℤ pos 65536) *ℤ size) (pos 8192)
 unfolding axis_of

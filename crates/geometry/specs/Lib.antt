@@ -4,6 +4,7 @@ pub mod Items
 pub mod Placed
 pub mod Beside
 pub mod Uncut
+pub mod Brought
 pub mod Fractions
 pub mod Pieces
 pub mod Laws

@@ -29,6 +29,10 @@ pub record AreIdentities (s : State) (i : Identities) : Type 0 where
   pub projection : i.projection ≡ true → FixesVectors s.projection.m
   pub usual : i.usual ≡ true → IsUsual s
 
+-- neither matrix is said to move a vector, and the viewport and the depth range are said to be usual ones
+abbrev pub are_still : Identities → Bool
+are_still i = i.modelview && (i.projection && i.usual)
+
 -- where a vertex stands in the window: nowhere, if it isn't placed
 abbrev pub IsPlace : State → Vertex → Option WindowVertex → Type 0
 IsPlace s v place = MatchOption place (is_placed s v ≡ false) (λ p. (is_placed s v ≡ true) × (p ≡ window_of s v) × IsInBounds p)

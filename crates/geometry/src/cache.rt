@@ -1,19 +1,20 @@
 //! The vertices of a block on their way to the window: a post-transform vertex cache, as graphics processors have it.
 ghost use Rattle.std.specs.Prelude.{◌≡◌, ◌<◌, ◌∷◌, [], length, slice_index, true, false, None, Some, MatchOption};
 ghost use Rattle.std.proofs.Props.{props};
-ghost use Rattle.rc_base.specs.Drawing.Kept.{is_kept_at, clip_corners, oriented, kept_whole, vertex_at};
-ghost use Rattle.rc_base.specs.Drawing.Window.{window_of};
+ghost use Rattle.rc_base.specs.Drawing.Kept.{kept_whole};
 ghost use Rattle.geometry.specs.Beside.{IsBesideIfKept};
+ghost use Rattle.geometry.specs.Brought.{AreCorners, indices_of, kept_corners};
 ghost use Rattle.geometry.specs.Uncut.{IsUncut};
 ghost use Rattle.geometry.specs.Items.{AreBelow};
 ghost use Rattle.geometry.specs.Listed.{listed};
-ghost use Rattle.geometry.specs.Placed.{AreIdentities, IsCorner, IsCached};
+ghost use Rattle.geometry.specs.Placed.{AreIdentities, are_still, IsCorner, IsCached};
 
 use crate::identities::{Identities, identities_of};
 use crate::list::VertexList;
 use crate::near::{Surrounds, are_beside};
-use crate::vertex::stand_of;
-use crate::window::assemble;
+use crate::still::{are_still, still_vertex};
+use crate::vertex::{stand_of, still_front};
+use crate::window::{is_dropped, turned};
 use rc_base::state::{State, Vertex};
 use rc_base::triangle::WindowTriangle;
 use rc_base::window::WindowVertex;
@@ -42,10 +43,12 @@ pub struct VertexCache<'a> {
     pub state: &'a State,
     pub vertices: VertexList<'a>,
     identities: Identities,
+    still: bool,
     first: Corner,
     second: Corner,
     third: Corner,
     ghost products: { AreIdentities state.now identities },
+    ghost stillness: { still ≡ are_still identities },
     ghost first_cached: { IsCached state.now (listed vertices) first } by { Prim.hlevel props },
     ghost second_cached: { IsCached state.now (listed vertices) second } by { Prim.hlevel props },
     ghost third_cached: { IsCached state.now (listed vertices) third } by { Prim.hlevel props },
@@ -80,77 +83,67 @@ impl<'a> VertexCache<'a> {
             state,
             vertices,
             identities,
+            still: are_still(identities),
             first: none,
             second: none,
             third: none,
         }
     }
 
-    // Brings a vertex to the window.
-    #[inline(always)]
-    fn placed(&self, index: usize) -> Corner
-        requires { index < length (listed self.now.vertices) }
-        ensures index { result.index ≡ index }
-        ensures at { IsCorner self.now.state.now (listed self.now.vertices) result }
+    // Brings a vertex to the window by any matrices, as the third corner. It is compiled for itself, so that a vertex that nothing moves stays in
+    // registers.
+    #[inline(never)]
+    fn place_by(&mut self, index: usize)
+        requires { index < length (listed self.old.vertices) }
+        ensures state { self.new.state.now ≡ self.old.state.now }
+        ensures vertices { listed self.new.vertices ≡ listed self.old.vertices }
+        ensures first { self.new.first ≡ self.old.first }
+        ensures second { self.new.second ≡ self.old.second }
+        ensures index { self.new.third.index ≡ index }
+        ensures at { IsCorner self.old.state.now (listed self.old.vertices) self.new.third }
     {
         let vertex = self.vertices.vertex(index);
         let stand = stand_of(self.state, self.identities, &vertex);
-        Corner {
+        self.third = Corner {
             index,
             at: stand.at,
             front: stand.front,
+        };
+    }
+
+    // Brings a vertex to the window, as the third corner.
+    #[inline(always)]
+    fn place(&mut self, index: usize)
+        requires { index < length (listed self.old.vertices) }
+        ensures state { self.new.state.now ≡ self.old.state.now }
+        ensures vertices { listed self.new.vertices ≡ listed self.old.vertices }
+        ensures first { self.new.first ≡ self.old.first }
+        ensures second { self.new.second ≡ self.old.second }
+        ensures index { self.new.third.index ≡ index }
+        ensures at { IsCorner self.old.state.now (listed self.old.vertices) self.new.third }
+    {
+        let vertex = self.vertices.vertex(index);
+        if self.still && vertex.pos[3] > 0 {
+            let front = still_front(self.state, &vertex);
+            match still_vertex(self.state, &vertex) {
+                Some(at) => {
+                    self.third = Corner {
+                        index,
+                        at: Some(at),
+                        front,
+                    };
+                }
+                None => {
+                    self.third = Corner {
+                        index,
+                        at: None,
+                        front,
+                    };
+                }
+            }
+            return;
         }
-    }
-
-    // The oriented triangle, where it has an area and isn't culled.
-    #[inline(always)]
-    #[tactic(auto, unfolding(rc_base::specs::Drawing::Kept::is_kept_at, rc_base::specs::Drawing::Window::is_placed, rc_base::specs::Drawing::Window::window_of))]
-    fn kept(&self, a: Corner, b: Corner, c: Corner) -> Option<WindowTriangle>
-        requires a { IsCorner self.now.state.now (listed self.now.vertices) a }
-        requires b { IsCorner self.now.state.now (listed self.now.vertices) b }
-        requires c { IsCorner self.now.state.now (listed self.now.vertices) c }
-        ensures { MatchOption result
-            (is_kept_at self.now.state.now (clip_corners self.now.state.now (vertex_at (listed self.now.vertices) a.index) (vertex_at (listed self.now.vertices) b.index) (vertex_at (listed self.now.vertices) c.index)) ≡ false)
-            (λ t. (is_kept_at self.now.state.now (clip_corners self.now.state.now (vertex_at (listed self.now.vertices) a.index) (vertex_at (listed self.now.vertices) b.index) (vertex_at (listed self.now.vertices) c.index)) ≡ true)
-            × (t.v ≡ oriented (window_of self.now.state.now (vertex_at (listed self.now.vertices) a.index)) (window_of self.now.state.now (vertex_at (listed self.now.vertices) b.index)) (window_of self.now.state.now (vertex_at (listed self.now.vertices) c.index)))) }
-    {
-        let first = a.at?;
-        let second = b.at?;
-        let third = c.at?;
-        assemble(self.state, first, second, third)
-    }
-
-    // The triangle of three corners.
-    #[inline(always)]
-    fn assembled(&self, a: Corner, b: Corner, c: Corner) -> Option<WindowTriangle>
-        requires a { IsCorner self.now.state.now (listed self.now.vertices) a }
-        requires b { IsCorner self.now.state.now (listed self.now.vertices) b }
-        requires c { IsCorner self.now.state.now (listed self.now.vertices) c }
-        ensures { MatchOption result
-            (kept_whole self.now.state.now (listed self.now.vertices) (a.index ∷ b.index ∷ c.index ∷ []) ≡ None)
-            (λ t. kept_whole self.now.state.now (listed self.now.vertices) (a.index ∷ b.index ∷ c.index ∷ []) ≡ Some t.v) }
-    {
-        self.kept(a, b, c)
-    }
-
-    // Whether the cache's three corners lie beside; then their triangle does, unless it is dropped.
-    #[inline(always)]
-    fn lies_beside(&self, near: &Surrounds) -> bool
-        requires a { IsCorner self.now.state.now (listed self.now.vertices) self.now.first }
-        requires b { IsCorner self.now.state.now (listed self.now.vertices) self.now.second }
-        requires c { IsCorner self.now.state.now (listed self.now.vertices) self.now.third }
-        ensures { result ≡ true → IsBesideIfKept self.now.state.now (listed self.now.vertices) (self.now.first.index ∷ self.now.second.index ∷ self.now.third.index ∷ []) near.now }
-    {
-        let Some(first) = &self.first.at else {
-            return false;
-        };
-        let Some(second) = &self.second.at else {
-            return false;
-        };
-        let Some(third) = &self.third.at else {
-            return false;
-        };
-        are_beside(near, first, second, third)
+        self.place_by(index);
     }
 
     // Brings three vertices to the window, and keeps them. Of a strip and a fan two corners are kept, and one of them stays in its place.
@@ -171,10 +164,12 @@ impl<'a> VertexCache<'a> {
         } else if self.third.index == corners[0] && self.second.index == corners[1] {
             self.first = self.third;
         } else {
-            self.first = self.placed(corners[0]);
-            self.second = self.placed(corners[1]);
+            self.place(corners[0]);
+            self.first = self.third;
+            self.place(corners[1]);
+            self.second = self.third;
         }
-        self.third = self.placed(corners[2]);
+        self.place(corners[2]);
     }
 
     /// The triangle of three vertices in window coordinates, by their indices: as `to_window` gives it of the same vertices.
@@ -187,7 +182,7 @@ impl<'a> VertexCache<'a> {
             (λ t. kept_whole self.old.state.now (listed self.old.vertices) corners ≡ Some t.v) }
     {
         self.bring(corners);
-        self.assembled(self.first, self.second, self.third)
+        self.brought()
     }
 
     /// The same triangle, or `None` also where all its corners lie on one side of the centres that bound a rectangle's pixels, so that it
@@ -205,20 +200,53 @@ impl<'a> VertexCache<'a> {
         self.brought_near(near)
     }
 
-    // The triangle of the cache's three corners, unless it lies beside.
+    // The triangle of the cache's three corners.
     #[inline(always)]
-    fn brought_near(&self, near: &Surrounds) -> Option<WindowTriangle>
-        requires a { IsCorner self.now.state.now (listed self.now.vertices) self.now.first }
-        requires b { IsCorner self.now.state.now (listed self.now.vertices) self.now.second }
-        requires c { IsCorner self.now.state.now (listed self.now.vertices) self.now.third }
+    fn brought(&self) -> Option<WindowTriangle>
+        requires { AreCorners self.now.state.now (listed self.now.vertices) self.now.first self.now.second self.now.third }
         ensures { MatchOption result
-            (IsBesideIfKept self.now.state.now (listed self.now.vertices) (self.now.first.index ∷ self.now.second.index ∷ self.now.third.index ∷ []) near.now)
-            (λ t. kept_whole self.now.state.now (listed self.now.vertices) (self.now.first.index ∷ self.now.second.index ∷ self.now.third.index ∷ []) ≡ Some t.v) }
+            (kept_corners self.now.state.now (listed self.now.vertices) self.now.first self.now.second self.now.third ≡ None)
+            (λ t. kept_corners self.now.state.now (listed self.now.vertices) self.now.first self.now.second self.now.third ≡ Some t.v) }
     {
-        if self.lies_beside(near) {
+        let Some(first) = &self.first.at else {
+            return None;
+        };
+        let Some(second) = &self.second.at else {
+            return None;
+        };
+        let Some(third) = &self.third.at else {
+            return None;
+        };
+        if is_dropped(self.state, first, second, third) {
             return None;
         }
-        self.assembled(self.first, self.second, self.third)
+        Some(turned(first, second, third))
+    }
+
+    // The same, or none where it lies beside. Most triangles of a fine mesh face away or have no area, so none is made before that is known.
+    #[inline(always)]
+    fn brought_near(&self, near: &Surrounds) -> Option<WindowTriangle>
+        requires { AreCorners self.now.state.now (listed self.now.vertices) self.now.first self.now.second self.now.third }
+        ensures { MatchOption result
+            (IsBesideIfKept self.now.state.now (listed self.now.vertices) (indices_of self.now.first self.now.second self.now.third) near.now)
+            (λ t. kept_corners self.now.state.now (listed self.now.vertices) self.now.first self.now.second self.now.third ≡ Some t.v) }
+    {
+        let Some(first) = &self.first.at else {
+            return None;
+        };
+        let Some(second) = &self.second.at else {
+            return None;
+        };
+        let Some(third) = &self.third.at else {
+            return None;
+        };
+        if is_dropped(self.state, first, second, third) {
+            return None;
+        }
+        if are_beside(near, first, second, third) {
+            return None;
+        }
+        Some(turned(first, second, third))
     }
 
     /// The same where all three vertices stand in front of the near plane, so that the triangle is cut in no block.

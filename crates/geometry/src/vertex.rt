@@ -5,7 +5,7 @@ ghost use Rattle.rc_base.specs.Drawing.Cover.{IsInBounds};
 ghost use Rattle.rc_base.specs.Drawing.Pieces.{clip_bound};
 ghost use Rattle.rc_base.specs.Drawing.Window.{clip_of, axis_of, depth_of, window_of, is_in_bounds, is_placed, depth_most};
 ghost use Rattle.fixed_math.specs.Bounds.{AllWithin, four};
-ghost use Rattle.geometry.specs.Placed.{FixesVectors, AreIdentities, IsPlace, are_small, are_in_front, stands_in_front};
+ghost use Rattle.geometry.specs.Placed.{FixesVectors, AreIdentities, IsPlace, are_still, are_small, are_in_front, stands_in_front};
 ghost use Rattle.geometry.specs.Vertices.{vertex_with};
 
 use crate::identities::Identities;
@@ -339,23 +339,32 @@ pub(crate) struct Stand {
     pub front: bool,
 }
 
-/// Where a vertex stands.
+/// Whether a vertex that the matrices don't move stands in front of the near plane.
 #[inline(always)]
+pub(crate) fn still_front(state: &State, v: &Vertex) -> bool
+    requires { clip_of state.now v.now ≡ four v.now.pos }
+    ensures { result ≡ stands_in_front state.now v.now }
+{
+    let _state = state;
+    are_in_front(&widen(&v.pos))
+}
+
+/// Where a vertex stands.
 pub(crate) fn stand_of(state: &State, identities: Identities, v: &Vertex) -> Stand
     requires { AreIdentities state.now identities }
     ensures at { IsPlace state.now v.now result.at }
     ensures front { result.front ≡ stands_in_front state.now v.now }
 {
-    if is_unit(identities, v) {
-        return Stand {
-            at: unit_vertex(state, v),
-            front: are_in_front(&widen(&v.pos)),
-        };
-    }
     if is_still(identities, v) {
         return Stand {
             at: still_vertex(state, v),
-            front: are_in_front(&widen(&v.pos)),
+            front: still_front(state, v),
+        };
+    }
+    if is_unit(identities, v) {
+        return Stand {
+            at: unit_vertex(state, v),
+            front: still_front(state, v),
         };
     }
     let Some(place) = any_place(state, identities, v) else {

@@ -1,8 +1,8 @@
 //! From three vertices to a triangle of the window.
-ghost use Rattle.std.specs.Prelude.{◌≡◌, ◌^◌, pos, true, false, neg_ℤ, ◌<ℤ◌, Option, Some, None, MatchOption};
+ghost use Rattle.std.specs.Prelude.{◌≡◌, ◌==◌, ◌||◌, ◌^◌, pos, true, false, not, neg_ℤ, ◌<ℤ◌, int_lt, if◌then◌else◌, Option, Some, None, MatchOption};
 ghost use Rattle.rc_base.specs.Numbers.{Within};
 ghost use Rattle.rc_base.specs.Drawing.Cover.{triangle_area, IsInBounds};
-ghost use Rattle.rc_base.specs.Drawing.Kept.{three, is_culled, is_shown, oriented, is_kept_at, clip_corners, kept_of, vertex_at};
+ghost use Rattle.rc_base.specs.Drawing.Kept.{three, is_front, is_culled, is_shown, oriented, is_kept_at, clip_corners, kept_of, vertex_at};
 ghost use Rattle.rc_base.specs.Drawing.Window.{window_of};
 
 use crate::identities::identities_of;
@@ -13,27 +13,37 @@ use rc_base::triangle::WindowTriangle;
 use rc_base::window::WindowVertex;
 
 #[inline(always)]
-fn culled(state: &State, area: i64) -> bool
-    ensures { result ≡ is_culled state.now area }
+fn faces_away(state: &State, area: i64) -> bool
+    ensures { result ≡ (state.now.cull_face == 2 || (if state.now.cull_face == 0 then is_front state.now area else not (is_front state.now area))) }
 {
     let front = if state.front_face == 0 {
         area > 0
     } else {
         area < 0
     };
-    state.cull_on && (state.cull_face == 2 || (if state.cull_face == 0 { front } else { !front }))
+    state.cull_face == 2 || (if state.cull_face == 0 { front } else { !front })
 }
 
 #[inline(always)]
-fn make(a: WindowVertex, b: WindowVertex, c: WindowVertex, area: i64) -> WindowTriangle
-    requires a { IsInBounds a }
-    requires b { IsInBounds b }
-    requires c { IsInBounds c }
-    requires area { area ≡ triangle_area (three a b c) }
-    requires positive { pos 0 <ℤ area }
-    ensures { result.v ≡ three a b c }
+fn culled(state: &State, area: i64) -> bool
+    ensures { result ≡ is_culled state.now area }
 {
-    WindowTriangle { v: [a, b, c], area }
+    state.cull_on && faces_away(state, area)
+}
+
+#[inline(always)]
+fn make(a: &WindowVertex, b: &WindowVertex, c: &WindowVertex, area: i64) -> WindowTriangle
+    requires a { IsInBounds a.now }
+    requires b { IsInBounds b.now }
+    requires c { IsInBounds c.now }
+    requires area { area ≡ triangle_area (three a.now b.now c.now) }
+    requires positive { pos 0 <ℤ area }
+    ensures { result.v ≡ three a.now b.now c.now }
+{
+    WindowTriangle {
+        v: [*a, *b, *c],
+        area,
+    }
 }
 
 #[inline(always)]
@@ -47,13 +57,61 @@ fn signed_area(a: &WindowVertex, b: &WindowVertex, c: &WindowVertex) -> i64
     edge(a, b, i64::from(c.x), i64::from(c.y))
 }
 
-fn opposite(area: i64) -> i64
+fn magnitude(area: i64) -> i64
     requires { Within (2 ^ 44) area }
-    ensures { result ≡ neg_ℤ area }
+    ensures { result ≡ (if int_lt area (pos 0) then neg_ℤ area else area) }
 {
-    -area
+    if area < 0 { -area } else { area }
 }
 
+/// Whether the triangle of three corners is dropped: it has no area, or is culled.
+#[inline(always)]
+#[tactic(auto, unfolding(rc_base::specs::Drawing::Kept::is_shown))]
+pub(crate) fn is_dropped(
+    state: &State,
+    a: &WindowVertex,
+    b: &WindowVertex,
+    c: &WindowVertex,
+) -> bool
+    requires a { IsInBounds a.now }
+    requires b { IsInBounds b.now }
+    requires c { IsInBounds c.now }
+    ensures { result ≡ not (is_shown state.now (triangle_area (three a.now b.now c.now))) }
+{
+    let area = signed_area(a, b, c);
+    area == 0 || culled(state, area)
+}
+
+#[inline(always)]
+fn chosen<'a>(first: bool, a: &'a WindowVertex, b: &'a WindowVertex) -> &'a WindowVertex
+    requires a { IsInBounds a.now }
+    requires b { IsInBounds b.now }
+    ensures value { result.now ≡ (if first then a.now else b.now) }
+    ensures bounds { IsInBounds result.now }
+{
+    if first { a } else { b }
+}
+
+/// The triangle of three corners that has an area, counterclockwise.
+#[inline(always)]
+pub(crate) fn turned(a: &WindowVertex, b: &WindowVertex, c: &WindowVertex) -> WindowTriangle
+    requires a { IsInBounds a.now }
+    requires b { IsInBounds b.now }
+    requires c { IsInBounds c.now }
+    requires apart { triangle_area (three a.now b.now c.now) ≡ pos 0 → ⊥ }
+    ensures { result.v ≡ oriented a.now b.now c.now }
+{
+    let area = signed_area(a, b, c);
+    let clockwise = area < 0;
+    make(
+        a,
+        chosen(clockwise, c, b),
+        chosen(clockwise, b, c),
+        magnitude(area),
+    )
+}
+
+/// The triangle of three corners, where it isn't dropped.
 #[inline(always)]
 pub(crate) fn assemble(
     state: &State,
@@ -68,18 +126,10 @@ pub(crate) fn assemble(
         (is_shown state.now (triangle_area (three a b c)) ≡ false)
         (λ t. (is_shown state.now (triangle_area (three a b c)) ≡ true) × (t.v ≡ oriented a b c)) }
 {
-    let area = signed_area(&a, &b, &c);
-    if area == 0 {
+    if is_dropped(state, &a, &b, &c) {
         return None;
     }
-    if culled(state, area) {
-        return None;
-    }
-    if area < 0 {
-        Some(make(a, c, b, opposite(area)))
-    } else {
-        Some(make(a, b, c, area))
-    }
+    Some(turned(&a, &b, &c))
 }
 
 // The oriented triangle, where it has an area and isn't culled.

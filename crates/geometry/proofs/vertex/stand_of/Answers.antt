@@ -1,10 +1,19 @@
-use Rattle.std.proofs.Common.{to_z-of_z, FitsSigned, rules, sym, ◌∙◌}
+use Rattle.std.proofs.Common.{to_z-of_z, FitsSigned, rules}
 use mir.Syntax.{w128}
 use Rattle.geometry.specs.Vertices.{vertex_with}
 use Rattle.geometry.proofs.Facing.{place_of}
-use Rattle.geometry.proofs.Fronts.{stands}
+use Rattle.geometry.proofs.Unmoved.{unmoved, usual_of}
 use Rattle.geometry.proofs.Units.{clip_fixed}
 use Rattle.geometry.proofs.vertex.stand_of.Goals as goal
+
+pub still_vertex-requires-clause-clip : goal.still_vertex-requires-clause-clip
+still_vertex-requires-clause-clip c = unmoved c.args.state.now c.args.identities c.args.v.now c.requires (c.is_still.ensures.still c.if-is_still.true)
+
+pub still_vertex-requires-clause-usual : goal.still_vertex-requires-clause-usual
+still_vertex-requires-clause-usual c = c.requires.usual (usual_of c.args.identities (c.is_still.ensures.still c.if-is_still.true))
+
+pub still_front-requires : goal.still_front-requires
+still_front-requires c = unmoved c.args.state.now c.args.identities c.args.v.now c.requires (c.is_still.ensures.still c.if-is_still.true)
 
 pub unit_vertex-requires-clause-clip : goal.unit_vertex-requires-clause-clip
 unit_vertex-requires-clause-clip c =
@@ -13,30 +22,12 @@ unit_vertex-requires-clause-clip c =
     let p = c.requires.projection (c.is_unit.ensures.projection u) in
     clip_fixed c.args.state.now c.args.v.now m p
 
-pub returns-then-is_unit-clause-front : goal.returns-then-is_unit-clause-front
-returns-then-is_unit-clause-front c =
+pub still_front-requires-then-is_unit : goal.still_front-requires-then-is_unit
+still_front-requires-then-is_unit c =
     let u = c.if-is_unit.true in
-    let s = c.args.state.now in
-    let v = c.args.v.now in
     let m = c.requires.modelview (c.is_unit.ensures.modelview u) in
     let p = c.requires.projection (c.is_unit.ensures.projection u) in
-    c.are_in_front.ensures ∙ stands s v c.widen.result (c.widen.ensures.value ∙ sym (clip_fixed s v m p))
-
-pub still_vertex-requires-clause-clip : goal.still_vertex-requires-clause-clip
-still_vertex-requires-clause-clip c =
-    let u = c.if-is_still.true in
-    let m = c.requires.modelview (c.is_still.ensures.modelview u) in
-    let p = c.requires.projection (c.is_still.ensures.projection u) in
     clip_fixed c.args.state.now c.args.v.now m p
-
-pub returns-then-is_still-clause-front : goal.returns-then-is_still-clause-front
-returns-then-is_still-clause-front c =
-    let u = c.if-is_still.true in
-    let s = c.args.state.now in
-    let v = c.args.v.now in
-    let m = c.requires.modelview (c.is_still.ensures.modelview u) in
-    let p = c.requires.projection (c.is_still.ensures.projection u) in
-    c.are_in_front-then-is_still.ensures ∙ stands s v c.widen-then-is_still.result (c.widen-then-is_still.ensures.value ∙ sym (clip_fixed s v m p))
 
 pub returns-clause-at : goal.returns-clause-at
 returns-clause-at c =
