@@ -6,6 +6,7 @@ mod EndsOfCorners
 mod Cutting
 mod BoxTiles
 mod BitSets
+mod TileSets
 mod Centred
 mod Corners
 mod Places

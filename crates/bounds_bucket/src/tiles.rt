@@ -1,8 +1,8 @@
 //! The rectangles of tiles, and which of them have a pixel of an area.
-ghost use Rattle.std.specs.Prelude.{◌≡◌, ℕ, pos, ◌+◌, ◌*◌, ◌/◌, ◌%◌, ◌<◌, ◌≤◌, ◌&&◌, nat_lt, min};
-ghost use Rattle.std.specs.List.{list_any};
+ghost use Rattle.std.specs.Prelude.{◌≡◌, ℕ, pos, ◌-◌, ◌*◌, ◌<◌, ◌&&◌, ◌||◌, nat_lt, nat_le, int_lt};
+ghost use Rattle.std.specs.Int.{int_min, int_max};
 ghost use Rattle.rc_base.specs.Orders.Journal.{has};
-ghost use Rattle.rc_base.specs.Cluster.Tiles.{tile_count, boundary_of, tile_column, tile_row, tile_pixels, is_in_rect, tile_rectangle};
+ghost use Rattle.rc_base.specs.Cluster.Tiles.{tile_column, tile_row, tile_pixels, is_in_rect, tile_rectangle};
 ghost use Rattle.bounds_bucket.specs.Tiles.{meets_area, part_meets};
 
 use crate::bits::with_if;
@@ -52,14 +52,11 @@ pub fn tile_rect(layout: &Layout, tile: u8) -> Rect
     rectangle(layout, tile)
 }
 
-// A part of a side has a number of the range.
-fn meets_part(side: u16, parts: u8, part: u8, range: Range) -> bool
-    ensures { result ≡ part_meets side parts range part }
+// A part of a side has a number of the range, by where it begins and ends.
+fn meets_part(first: i32, end: i32, range: Range) -> bool
+    ensures { result ≡ int_lt (int_max first range.from) (int_min end range.end) }
 {
-    let part = u16::from(part);
-    let low = larger(boundary(side, parts, part), range.from);
-    let high = smaller(boundary(side, parts, part + 1), range.end);
-    low < high
+    larger(first, range.from) < smaller(end, range.end)
 }
 
 // The parts of a side that have a number of the range, of the first 32.
@@ -67,26 +64,33 @@ fn parts_met(side: u16, parts: u8, range: Range) -> u32
     ensures { (j : ℕ) → j < 32 → has result j ≡ (nat_lt j parts && part_meets side parts range j) }
 {
     let mut met = 0;
+    let mut first = 0;
     for part in 0..parts.min(32) {
-        met = with_if(met, part, meets_part(side, parts, part, range));
+        let end = boundary(side, parts, u16::from(part) + 1);
+        met = with_if(met, part, meets_part(first, end, range));
+        first = end;
     }
     met
 }
 
-// A tile's column and row are in these sets.
-fn is_met(layout: &Layout, columns: u32, rows: u32, tile: u8) -> bool
-    requires { tile < 32 }
-    ensures { result
-        ≡ (has columns (tile_column layout.now tile) && has rows (tile_row layout.now tile)) }
+// The tiles of a row whose columns are met, of the first 32: the row's first tile is `start`.
+fn tiles_from(columns: u32, start: u16) -> u32
+    ensures { (t : ℕ) → t < 32 → has result t ≡ (nat_le start t && has columns (t - start)) }
 {
-    has(columns, column_of(layout, tile)) && has(rows, row_of(layout, tile))
+    if start < 32 { columns << start } else { 0 }
 }
 
-// How many of the first 32 tiles there are.
-fn first_tiles(layout: &Layout) -> u8
-    ensures { result ≡ min (tile_count layout.now) 32 }
+// Adds a row's tiles, if the row is met.
+fn with_row(layout: &Layout, columns: u32, rows: u32, row: u8, met: u32) -> u32
+    requires { row < 32 }
+    ensures { (t : ℕ) → t < 32 → has result t
+        ≡ ((has rows row && (nat_le (row * layout.now.columns) t && has columns (t - row * layout.now.columns))) || has met t) }
 {
-    (u16::from(layout.columns) * u16::from(layout.rows)).min(32) as u8
+    if has(rows, row) {
+        met | tiles_from(columns, u16::from(row) * u16::from(layout.columns))
+    } else {
+        met
+    }
 }
 
 /// The tiles that have a pixel of an area, of the first 32: bit `t` for tile `t`.
@@ -96,8 +100,8 @@ pub fn meets(layout: &Layout, area: Rect) -> u32
     let columns = parts_met(layout.width, layout.columns, columns_of(area));
     let rows = parts_met(layout.height, layout.rows, rows_of(area));
     let mut met = 0;
-    for tile in 0..first_tiles(layout) {
-        met = with_if(met, tile, is_met(layout, columns, rows, tile));
+    for row in 0..layout.rows.min(32) {
+        met = with_row(layout, columns, rows, row, met);
     }
     met
 }

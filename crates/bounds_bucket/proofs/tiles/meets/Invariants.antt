@@ -1,8 +1,5 @@
-use Rattle.std.proofs.Common.{◌≡◌, ℕ, ◌&&◌}
-use Rattle.std.specs.Prelude.{nat_lt}
-use Rattle.rc_base.specs.Orders.Journal.{has}
-use Rattle.rc_base.specs.Cluster.Tiles.{tile_column, tile_row}
+use Rattle.bounds_bucket.proofs.TileSets.{IsPutTogether}
 use Rattle.bounds_bucket.proofs.tiles.meets.Given as goal
 
-abbrev pub invariant-loop-tile : goal.invariant-loop-tile
-invariant-loop-tile l = (t : ℕ) → has l.met t ≡ (nat_lt t l.tile && (has l.columns (tile_column l.layout t) && has l.rows (tile_row l.layout t)))
+abbrev pub invariant-loop-row : goal.invariant-loop-row
+invariant-loop-row l = IsPutTogether l.layout l.columns l.rows l.row l.met
