@@ -62,16 +62,16 @@ are_ends e a b c l g = record { encloses = between; least = least_in e.least a b
 
 -- ---- the ends of two lists of numbers
 
-in_left : (z : ℤ) (zs ws : List ℤ) → IsIn z zs → IsIn z (zs ++ ws)
+pub in_left : (z : ℤ) (zs ws : List ℤ) → IsIn z zs → IsIn z (zs ++ ws)
 in_left z [] ws h = absurd h
 in_left z (y ∷ zs) ws (inl e) = inl e
 in_left z (y ∷ zs) ws (inr h) = inr (in_left z zs ws h)
 
-in_right : (z : ℤ) (zs ws : List ℤ) → IsIn z ws → IsIn z (zs ++ ws)
+pub in_right : (z : ℤ) (zs ws : List ℤ) → IsIn z ws → IsIn z (zs ++ ws)
 in_right z [] ws h = h
 in_right z (y ∷ zs) ws h = inr (in_right z zs ws h)
 
-in_either : (z : ℤ) (zs ws : List ℤ) → IsIn z (zs ++ ws) → IsIn z zs ⊎ IsIn z ws
+pub in_either : (z : ℤ) (zs ws : List ℤ) → IsIn z (zs ++ ws) → IsIn z zs ⊎ IsIn z ws
 in_either z [] ws h = inr h
 in_either z (y ∷ zs) ws (inl e) = inl (inl e)
 in_either z (y ∷ zs) ws (inr h) = elim (in_either z zs ws h) [ inl i ↦ inl (inr i) | inr k ↦ inr k ]

@@ -7,6 +7,10 @@ mod Cutting
 mod BoxTiles
 mod BitSets
 mod TileSets
+mod Seen
+mod Grown
+mod Held
+mod Signs
 mod Centred
 mod Corners
 mod Places

@@ -3,3 +3,4 @@ pub mod Extents
 pub mod Boxes
 pub mod Tiles
 pub mod Standing
+pub mod Still

@@ -9,8 +9,10 @@ ghost use Rattle.rc_base.specs.Drawing.Triangles.{cut_modes};
 ghost use Rattle.geometry.specs.Items.{AreBelow};
 ghost use Rattle.geometry.specs.Listed.{listed};
 ghost use Rattle.bounds_bucket.specs.Extents.{IsGrown, IsHull, IsJoined, Spans, corner_values};
+ghost use Rattle.bounds_bucket.specs.Still.{SpansIfAny};
 
 use crate::extent::{Ends, Extent};
+use crate::still::still_extent;
 use geometry::{VertexCache, triangles};
 use rc_base::state::{Block, State};
 use rc_base::triangle::WindowTriangle;
@@ -98,8 +100,8 @@ fn grown(extent: Option<Extent>, cache: &mut VertexCache<'_>, corners: [usize; 3
     with_found(extent, &tri)
 }
 
-/// What the corners of all kept triangles of a block span, in a mode whose triangles aren't cut; none where it has no kept triangle.
-pub(crate) fn block_extent(state: &State, block: &Block) -> Option<Extent>
+// The same in any numbers.
+fn any_extent(state: &State, block: &Block) -> Option<Extent>
     requires { block.now.mode < cut_modes }
     ensures { Spans (kept_corners state.now block.now) result }
 {
@@ -109,4 +111,26 @@ pub(crate) fn block_extent(state: &State, block: &Block) -> Option<Extent>
         extent = grown(extent, &mut cache, corners);
     }
     extent
+}
+
+// The extent, if a corner was there.
+fn if_any(extent: Extent) -> Option<Extent>
+    ensures { (corners : List Corner) → SpansIfAny corners extent → Spans corners result }
+{
+    if extent.across.least <= extent.across.greatest {
+        Some(extent)
+    } else {
+        None
+    }
+}
+
+/// What the corners of all kept triangles of a block span, in a mode whose triangles aren't cut; none where it has no kept triangle.
+pub(crate) fn block_extent(state: &State, block: &Block) -> Option<Extent>
+    requires { block.now.mode < cut_modes }
+    ensures { Spans (kept_corners state.now block.now) result }
+{
+    match still_extent(state, block) {
+        Some(extent) => if_any(extent),
+        None => any_extent(state, block),
+    }
 }

@@ -14,7 +14,9 @@ mod limits;
 mod object;
 mod range;
 mod reach;
+mod shown;
 mod standing;
+mod still;
 mod tiles;
 
 pub use boxes::{block_box, clear_box};

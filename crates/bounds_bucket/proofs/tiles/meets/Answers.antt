@@ -1,4 +1,4 @@
-use Rattle.std.proofs.Common.{◌≡◌, ◌∙◌, ℕ, ◌&&◌, ◌<◌, min, ap, rules, arith}
+use Rattle.std.proofs.Common.{◌≡◌, ◌∙◌, ℕ, ◌&&◌, min, ap, rules, arith}
 use Rattle.std.specs.Prelude.{nat_lt}
 use Rattle.rc_base.specs.Orders.Journal.{has}
 use Rattle.rc_base.specs.Cluster.Tiles.{tile_column, tile_row}

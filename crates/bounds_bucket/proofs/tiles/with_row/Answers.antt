@@ -1,4 +1,4 @@
-use Rattle.std.proofs.Common.{◌≡◌, ◌∙◌, ◌*◌, ◌-◌, ℕ, Bool, true, ◌&&◌, ap, sym, rules, arith}
+use Rattle.std.proofs.Common.{◌≡◌, ◌∙◌, ◌*◌, ◌-◌, true, ◌&&◌, sym, rules}
 use Rattle.std.specs.Prelude.{nat_le, ◌||◌}
 use Rattle.rc_base.specs.Orders.Journal.{has}
 use Rattle.bounds_bucket.proofs.TileSets.{has_either}

@@ -11,7 +11,7 @@ use Rattle.rc_base.specs.Cluster.Tiles.{kept_corners, corners_in}
 use Rattle.plain_lemmas.proofs.Lists.{all_behind_first}
 use Rattle.bounds_bucket.specs.Extents.{IsGrown}
 use Rattle.bounds_bucket.proofs.EndsOfCorners.{one_more}
-use Rattle.bounds_bucket.proofs.block.block_extent.Goals as goal
+use Rattle.bounds_bucket.proofs.block.any_extent.Goals as goal
 
 pub block-preserved : goal.block-preserved
 block-preserved c =

@@ -5,7 +5,7 @@ use Rattle.geometry.specs.Items.{AreBelow, rest_from}
 use Rattle.geometry.specs.Listed.{listed}
 use Rattle.bounds_bucket.specs.Extents.{corners_from}
 use Rattle.bounds_bucket.proofs.EndsOfCorners.{SpansFront}
-use Rattle.bounds_bucket.proofs.block.block_extent.Given as goal
+use Rattle.bounds_bucket.proofs.block.any_extent.Given as goal
 
 abbrev pub invariant-block : goal.invariant-block
 invariant-block l =
