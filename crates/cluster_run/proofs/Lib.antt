@@ -1,6 +1,7 @@
 mod Named
 mod ClustersEnd
 mod Made
+mod NewClients
 mod Waiting
 mod NewCrews
 mod Apart

@@ -1,10 +1,13 @@
 -- A run of a scene within the limits.
-use Rattle.std.proofs.Common.{◌≡◌, ◌<◌, ◌≤◌, ℕ, List, sym, subst}
-use Rattle.std.specs.Prelude.{Option}
+use Rattle.std.proofs.Common.{◌≡◌, ◌<◌, ◌≤◌, ◌+◌, ◌^◌, ℕ, suc, List, [], ◌∷◌, length, sym, subst, arith}
+use Rattle.std.specs.List.{AllByRecursion}
+use Rattle.std.specs.Prelude.{Option, slice_index_or}
+use Rattle.command_store.specs.Scenes.{IsShort}
 use Rattle.rc_base.specs.Cluster.Tiles.{tile_count}
 use Rattle.rc_base.specs.Formats.Within.{IsWithin}
 use Rattle.rc_base.specs.Outside.Ends.{Used}
 use Rattle.rc_base.specs.declared.cluster.Tally.{Tally}
+use Rattle.rc_base.specs.declared.command.Command.{Command}
 use Rattle.rc_base.specs.declared.cluster.TilePart.{TilePart}
 use Rattle.rc_base.specs.declared.scene.Scene.{Scene}
 use Rattle.rc_base.specs.declared.state.Fault.{Fault}
@@ -23,6 +26,11 @@ use Rattle.cluster_run.specs.Serving.{HasFinished}
 
 pub is_small : (scene : Scene) → IsDrawableScene scene → IsSmall scene
 is_small scene h = record { some = h.some; few = h.few; short = h.short }
+
+-- each stream is short enough to be stored
+pub are_short : (streams : List (List Command)) → ((client : ℕ) → length (slice_index_or streams client []) < 2 ^ 20 + 1) → AllByRecursion IsShort streams
+are_short [] h = tt
+are_short (stream ∷ streams) h = (let first = h 0 in omega (arith, first), are_short streams (λ client. h (suc client)))
 
 -- the sides of the window
 pub is_window : (scene : Scene) (l : Layout) → l.width ≡ scene.decl.width → l.height ≡ scene.decl.height → IsDrawableScene scene → IsWindow l

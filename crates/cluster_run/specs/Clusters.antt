@@ -1,10 +1,16 @@
 -- The workers of a cluster, before their first step and at their ends. Each is told of by its own core and ends alone; the names of the lanes tie them.
 use Rattle.std.specs.Prelude.{◌≡◌, ◌<◌, ℕ, true, List, length, slice_index_or}
 use Rattle.rc_base.specs.Cluster.Tiles.{tile_count}
+use Rattle.rc_base.specs.Formats.Within.{IsWithin}
 use Rattle.rc_base.specs.Orders.Sync.{sync_lists_of}
+use Rattle.rc_base.specs.declared.cluster.TilePart.{TilePart}
+use Rattle.rc_base.specs.declared.scene.Decl.{Decl}
 use Rattle.rc_base.specs.declared.scene.Scene.{Scene}
 use Rattle.rc_base.specs.declared.window.Layout.{Layout}
+use Rattle.frame_out.specs.Laws.{HasWindow}
 use Rattle.tile_queues.specs.Ends.{lane_depth}
+use Rattle.tile_queues.specs.Names.{AreOutOf}
+use Rattle.tile_queues.specs.declared.ends.LaneOut.{LaneOut}
 use Rattle.worker_crew.specs.Crews.{HaveEnded}
 use Rattle.worker_crew.specs.declared.crew.Crew.{Crew}
 use Rattle.worker_crew.specs.declared.task.Task.{Task}
@@ -53,6 +59,15 @@ module _ {R : Type 0} where
     pub tile : (t : ℕ) (w : Task (TileWorker R)) → t < tile_count l
         → IsTileWorker scene l t (λ c. names.parcels c t) (names.grants t) (names.parts t) (slice_index_or tasks.tiles.items t w).worker
     pub tiles_end : (t : ℕ) (w : Task (TileWorker R)) → t < tile_count l → (slice_index_or tasks.tiles.items t w).worker.ended ≡ true
+
+  -- The scene is within the limits, it declares this and has the layout's window, its workers have ended, and by these ends their parts of frames come.
+  pub record IsEndedRun (scene : Scene) (decl : Decl) (l : Layout) (names : LaneNames)
+      (tasks : Crew (Task (ClientWorker R)) (Task (ManagerWorker R)) (Task (TileWorker R))) (parts : List (LaneOut TilePart R)) : Type 0 where
+    pub within : IsWithin scene
+    pub decl_is : decl ≡ scene.decl
+    pub window : HasWindow scene l
+    pub cluster : IsEndedCluster scene l names tasks
+    pub parts_are : AreOutOf (tile_count l) names.parts parts
 
   -- what a run of the crew makes of it
   abbrev pub HasRun : Crew (ClientWorker R) (ManagerWorker R) (TileWorker R) → Crew (Task (ClientWorker R)) (Task (ManagerWorker R)) (Task (TileWorker R)) → Type 0

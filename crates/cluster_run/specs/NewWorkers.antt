@@ -2,9 +2,11 @@
 use Rattle.std.specs.Prelude.{◌≡◌, ◌<◌, ℕ, false, List, [], Vec, length, slice_index_or, None}
 use Rattle.std.specs.Global.{Global}
 use Rattle.rc_base.specs.Cluster.Tiles.{tile_count}
+use Rattle.rc_base.specs.Formats.Within.{IsWithin}
 use Rattle.rc_base.specs.Lists.{ArePaired}
 use Rattle.rc_base.specs.Orders.Sync.{client_count, sync_lists_of}
 use Rattle.rc_base.specs.declared.cluster.TilePart.{TilePart}
+use Rattle.rc_base.specs.declared.scene.Decl.{Decl}
 use Rattle.rc_base.specs.declared.scene.Scene.{Scene}
 use Rattle.rc_base.specs.declared.state.Parcel.{Parcel}
 use Rattle.rc_base.specs.declared.sync.Grant.{Grant}
@@ -22,6 +24,12 @@ use Rattle.tile_queues.specs.Names.{AreOutOf}
 use Rattle.cluster_run.specs.declared.workers.ClientWorker.{ClientWorker}
 use Rattle.cluster_run.specs.declared.workers.ManagerWorker.{ManagerWorker}
 use Rattle.cluster_run.specs.declared.workers.TileWorker.{TileWorker}
+
+-- a scene within the limits that declares this, of so many clients
+pub record IsSceneOf (scene : Scene) (decl : Decl) (clients : ℕ) : Type 0 where
+  pub within : IsWithin scene
+  pub decl_is : decl ≡ scene.decl
+  pub clients_are : clients ≡ length scene.streams
 
 module _ {R : Type 0} where
   -- a client's worker, with these ends to the tiles

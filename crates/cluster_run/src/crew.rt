@@ -1,17 +1,19 @@
 //! The workers of a cluster that has moved nothing, and the lanes between them.
 ghost use Rattle.std.specs.Prelude.{◌≡◌, length, IfOk};
+ghost use Rattle.rc_base.specs.declared.scene.Scene.{Scene};
 ghost use Rattle.rc_base.specs.Cluster.Tiles.{tile_count};
 ghost use Rattle.rc_base.specs.Formats.Within.{IsWithin, IsLayoutFor};
-ghost use Rattle.cluster_run.specs.NewWorkers.{IsNewManager};
+ghost use Rattle.cluster_run.specs.NewWorkers.{IsNewManager, IsSceneOf};
 ghost use Rattle.cluster_run.specs.Workers.{IsNewCluster};
 
 use crate::clients::new_clients;
 use crate::tiles::new_tiles;
 use crate::workers::{ClientWorker, ManagerWorker, TileWorker};
+use command_store::StoredScene;
 use order_model::laws::scenes_within_limits;
 use rc_base::cluster::TilePart;
 use rc_base::out_of_memory::OutOfMemory;
-use rc_base::scene::Scene;
+use rc_base::scene::Decl;
 use rc_base::sync::{Grant, Request};
 use rc_base::window::Layout;
 use std::alloc::Global;
@@ -24,20 +26,19 @@ use worker_crew::Crew;
 /// The worker of a manager that was asked for nothing.
 fn new_manager<R: Drop>(
     alloc: Global,
-    scene: &Scene,
+    decl: &Decl,
     tiles: u8,
     requests: Vec<LaneOut<Request, R>>,
     grants: Vec<LaneIn<Grant, R>>,
 ) -> Result<ManagerWorker<R>, OutOfMemory>
-    requires within { IsWithin scene.now }
-    requires clients { length requests.items ≡ length scene.now.streams }
+    requires scene { (scene : Scene) × IsSceneOf scene decl.now (length requests.items) }
     requires tiles { length grants.items ≡ tiles }
-    ensures { IfOk result (λ w. IsNewManager scene.now tiles requests grants w) }
+    ensures { (scene : Scene) → IsSceneOf scene decl.now (length requests.items) → IfOk result (λ w. IsNewManager scene tiles requests grants w) }
 {
     scenes_within_limits();
     managers_meet_their_clause();
-    let client_count = scene.streams.len() as u8;
-    let core = ManagerCore::new(alloc, &scene.decl, client_count, tiles)?;
+    let client_count = requests.len() as u8;
+    let core = ManagerCore::new(alloc, decl, client_count, tiles)?;
     Ok(ManagerWorker {
         core,
         requests,
@@ -46,11 +47,12 @@ fn new_manager<R: Drop>(
     })
 }
 
-/// The workers of a cluster, and the caller's ends of the lanes of parts, tiles rising.
+/// The workers of a cluster, the caller's ends of the lanes of parts, tiles rising, and what the scene declares.
 #[derive(Drop)]
 pub(crate) struct NewCrew<R> {
     pub(crate) crew: Crew<ClientWorker<R>, ManagerWorker<R>, TileWorker<R>>,
     pub(crate) parts: Vec<LaneOut<TilePart, R>>,
+    pub(crate) decl: Decl,
 }
 
 /// The workers of a scene on the tiles of a layout, before their first step, joined by new lanes of one depth: one from each client to each tile and to
@@ -58,13 +60,14 @@ pub(crate) struct NewCrew<R> {
 pub(crate) fn new_crew<R: Threads + Copy + Send + Sync + Drop>(
     rt: R,
     alloc: Global,
-    scene: &Scene,
+    scene: StoredScene,
     layout: &Layout,
     depth: usize,
 ) -> Result<NewCrew<R>, OutOfMemory>
-    requires within { IsWithin scene.now }
-    requires layout { IsLayoutFor scene.now layout.now depth }
-    ensures { IfOk result (λ new. IsNewCluster scene.now layout.now depth new.crew new.parts.items) }
+    requires within { IsWithin scene }
+    requires layout { IsLayoutFor scene layout.now depth }
+    ensures new { IfOk result (λ new. IsNewCluster scene layout.now depth new.crew new.parts.items) }
+    ensures decl { IfOk result (λ new. new.decl ≡ scene.decl) }
 {
     scenes_within_limits();
     let tile_count = layout.columns * layout.rows;
@@ -72,12 +75,13 @@ pub(crate) fn new_crew<R: Threads + Copy + Send + Sync + Drop>(
         rt,
         alloc,
         depth,
-        scene.streams.len(),
+        scene.streams().len(),
         usize::from(tile_count),
     )?;
+    let tiles = new_tiles(rt, alloc, &scene, layout, depth, grid.outs)?;
     let clients = new_clients(rt, alloc, scene, layout, depth, grid.ins)?;
-    let tiles = new_tiles(rt, alloc, scene, layout, depth, grid.outs)?;
-    let manager = new_manager(alloc, scene, tile_count, clients.requests, tiles.grants)?;
+    let decl = clients.decl;
+    let manager = new_manager(alloc, &decl, tile_count, clients.requests, tiles.grants)?;
     let crew = Crew {
         clients: clients.workers,
         manager,
@@ -86,5 +90,6 @@ pub(crate) fn new_crew<R: Threads + Copy + Send + Sync + Drop>(
     Ok(NewCrew {
         crew,
         parts: tiles.parts,
+        decl,
     })
 }

@@ -29,4 +29,4 @@ mod workers;
 mod writing;
 
 pub use frame_out::Written;
-pub use run::{Run, run_threads};
+pub use run::{Run, run_stored, run_threads};

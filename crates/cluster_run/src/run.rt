@@ -4,15 +4,14 @@ ghost use Rattle.rc_base.specs.Cluster.Tiles.{tile_count};
 ghost use Rattle.rc_base.specs.Formats.Within.{IsWithin, IsLayoutFor};
 ghost use Rattle.rc_base.specs.Outside.Ends.{use_of};
 ghost use Rattle.rc_base.specs.declared.cluster.TilePart.{TilePart};
+ghost use Rattle.rc_base.specs.declared.scene.Scene.{Scene};
 ghost use Rattle.order_model.specs.Report.{image_text_of};
 ghost use Rattle.run_record.specs.Closed.{AreClosed};
 ghost use Rattle.run_record.specs.Collected.{AreCollected, IsWholeRun};
 ghost use Rattle.run_record.specs.Told.{IsRun};
-ghost use Rattle.frame_out.specs.Laws.{HasWindow};
 ghost use Rattle.frame_out.specs.Writing.{IsCounted, IsTextWritten};
 ghost use Rattle.shown_frames.specs.Images.{GaveFrontOfRun, GaveShown};
-ghost use Rattle.tile_queues.specs.Names.{AreOutOf};
-ghost use Rattle.cluster_run.specs.Clusters.{LaneNames, IsEndedCluster};
+ghost use Rattle.cluster_run.specs.Clusters.{LaneNames, IsEndedRun};
 ghost use Rattle.cluster_run.specs.Rooms.{IsRoomFor};
 ghost use Rattle.cluster_run.specs.Serving.{IsSince, shown_by_tasks};
 ghost use Rattle.cluster_run.specs.Workers.{AreOrderly, IsLeftBy, IsRunOfWorkers};
@@ -23,6 +22,7 @@ use crate::laws::clusters_end;
 use crate::on_the_way::OnTheWay;
 use crate::writing::{Tasks, abandon, finish, run_crew};
 use client_issue::ClientCore;
+use command_store::StoredScene;
 use frame_out::Written;
 use frame_out::laws::{frames_of_scenes_are_writable, new_writers_are_on_the_way};
 use order_model::laws::scenes_within_limits;
@@ -31,7 +31,7 @@ use rc_base::cluster::{FaultLists, Tallies, TilePart};
 use rc_base::gate::Gate;
 use rc_base::out_of_memory::OutOfMemory;
 use rc_base::outside::Sink;
-use rc_base::scene::Scene;
+use rc_base::scene::{Decl, Scene};
 use rc_base::sync::Waiting;
 use rc_base::window::Layout;
 use run_record::laws::{closed_runs_are_lawful, whole_runs_are_written};
@@ -61,20 +61,20 @@ pub struct Run {
 /// What cores leave that have ended, and whose lanes are closed.
 fn gather(
     alloc: Global,
-    scene: &Scene,
+    decl: &Decl,
     layout: &Layout,
     clients: Vec<ClientCore>,
     manager: ManagerCore,
     tiles: Vec<TileCore>,
 ) -> Result<Collected, OutOfMemory>
-    requires { IsWithin scene.now }
-    ensures whole { (shown : ℕ → List TilePart) → AreClosed scene.now layout.now clients.items manager tiles.items shown
-        → IfOk result (λ c. IsWholeRun scene.now layout.now c.kept c.tallies c.waiting c.faults shown) }
-    ensures collected { IfOk result (λ c. AreCollected scene.now.decl clients.items manager tiles.items c.kept c.tallies c.waiting c.faults) }
+    ensures whole { (scene : Scene) (shown : ℕ → List TilePart) → IsWithin scene → decl.now ≡ scene.decl
+        → AreClosed scene layout.now clients.items manager tiles.items shown
+        → IfOk result (λ c. IsWholeRun scene layout.now c.kept c.tallies c.waiting c.faults shown) }
+    ensures collected { IfOk result (λ c. AreCollected decl.now clients.items manager tiles.items c.kept c.tallies c.waiting c.faults) }
 {
     scenes_within_limits();
     closed_runs_are_lawful();
-    collect(alloc, &scene.decl, clients, manager, tiles)
+    collect(alloc, decl, clients, manager, tiles)
 }
 
 /// Closes the lanes of a crew that has ended, writes what is left of its frames, and tells of the run. Where memory lacked in a worker there is nothing to
@@ -82,26 +82,27 @@ fn gather(
 fn complete<K: Sink, R: Wait + Copy>(
     rt: &R,
     alloc: Global,
-    scene: &Scene,
+    decl: &Decl,
     layout: &Layout,
     ended: Tasks<R>,
     room: Room<R>,
     frames: OnTheWay<R>,
     image: &mut K,
 ) -> Result<Run, OutOfMemory>
-    requires within { IsWithin scene.now }
-    requires window { HasWindow scene.now layout.now }
     requires some { (0 < vec_len ended.clients) × (0 < vec_len ended.tiles) }
     requires room { IsRoomFor (vec_len ended.clients) (vec_len ended.tiles) room }
-    requires ended { (names : LaneNames) × IsEndedCluster scene.now layout.now names ended × AreOutOf (tile_count layout.now) names.parts frames.lanes.items }
-    ensures run { IfOk result (λ r. IsRun scene.now layout.now r.kept r.tallies r.waiting r.faults) }
-    ensures written { (start : K) → IsSince K.held K.faults layout.now start frames image.old
-        → IfOk result (λ r. IsCounted (use_of K.held K.faults start image.new) (image_text_of scene.now layout.now r.kept) r.written) }
+    requires ended { (scene : Scene) × (names : LaneNames) × IsEndedRun scene decl.now layout.now names ended frames.lanes.items }
+    ensures run { (scene : Scene) (names : LaneNames) → IsEndedRun scene decl.now layout.now names ended frames.lanes.items
+        → IfOk result (λ r. IsRun scene layout.now r.kept r.tallies r.waiting r.faults) }
+    ensures written { (scene : Scene) (names : LaneNames) (start : K) → IsEndedRun scene decl.now layout.now names ended frames.lanes.items
+        → IsSince K.held K.faults layout.now start frames image.old
+        → IfOk result (λ r. IsCounted (use_of K.held K.faults start image.new) (image_text_of scene layout.now r.kept) r.written) }
     ensures shown { (start : K) → IsSince K.held K.faults layout.now start frames image.old
         → GaveShown layout.now (shown_by_tasks ended) (use_of K.held K.faults start image.new) }
     ensures later { K.faults image.old ≤ K.faults image.new }
-    ensures orderly { AreOrderly (length scene.now.streams) (tile_count layout.now) ended }
-    ensures left { IfOk result (λ r. IsLeftBy scene.now.decl ended r.kept r.tallies r.waiting r.faults) }
+    ensures orderly { (scene : Scene) (names : LaneNames) → IsEndedRun scene decl.now layout.now names ended frames.lanes.items
+        → AreOrderly (length scene.streams) (tile_count layout.now) ended }
+    ensures left { IfOk result (λ r. IsLeftBy decl.now ended r.kept r.tallies r.waiting r.faults) }
 {
     named_ends_are_paired::<TilePart, R>();
     frames_of_scenes_are_writable();
@@ -128,7 +129,7 @@ fn complete<K: Sink, R: Wait + Copy>(
         tallies,
         waiting,
         faults,
-    } = gather(alloc, scene, layout, clients, manager, tiles)?;
+    } = gather(alloc, decl, layout, clients, manager, tiles)?;
     Ok(Run {
         kept,
         tallies,
@@ -143,6 +144,41 @@ fn complete<K: Sink, R: Wait + Copy>(
 /// shown their parts of it, up to the image's first fault. Where memory lacks somewhere in the run, the image was given a front of what a whole run of the
 /// scene is due: each tile's pixels of each frame that it was given are those of one serial renderer in an order that the run's journal permits, once the
 /// run goes on from there.
+pub fn run_stored<G: Gate, K: Sink, R>(
+    rt: R,
+    alloc: Global,
+    scene: StoredScene,
+    layout: &Layout,
+    depth: usize,
+    gate: &G,
+    image: &mut K,
+) -> Result<Run, OutOfMemory>
+where
+    R: Threads + Wait + Copy + Send + Sync + Drop,
+    requires within { IsWithin scene }
+    requires layout { IsLayoutFor scene layout.now depth }
+    ensures run { IfOk result (λ r. IsRun scene layout.now r.kept r.tallies r.waiting r.faults) }
+    ensures written { IfOk result (λ r. IsTextWritten (use_of K.held K.faults image.old image.new) (image_text_of scene layout.now r.kept) r.written) }
+    ensures counted { IfOk result (λ r. r.written.fault ≡ false → r.written.bytes ≡ length (image_text_of scene layout.now r.kept)) }
+    ensures front { OnErr result (GaveFrontOfRun scene layout.now (use_of K.held K.faults image.old image.new)) }
+    ensures later { K.faults image.old ≤ K.faults image.new }
+    ensures workers { IfOk result (λ r. IsRunOfWorkers R scene layout.now depth r.kept r.tallies r.waiting r.faults) }
+{
+    scenes_within_limits();
+    clusters_end::<R>();
+    new_writers_are_on_the_way();
+    tiles_go_on_showing();
+    shown_parts_begin_a_whole_run();
+    shown_frames_are_of_the_run();
+    unfinished_runs_go_on();
+    let NewCrew { crew, parts, decl } = new_crew(rt, alloc, scene, layout, depth)?;
+    let room = Room::new(alloc, crew.clients.len(), crew.tiles.len())?;
+    let mut frames = OnTheWay::new(alloc, layout, parts)?;
+    let ended = run_crew(rt, alloc, gate, crew, &mut frames, image)?;
+    complete(&rt, alloc, &decl, layout, ended, room, frames, image)
+}
+
+/// Runs a copy of the scene, as `run_stored` runs it.
 pub fn run_threads<G: Gate, K: Sink, R>(
     rt: R,
     alloc: Global,
@@ -164,15 +200,7 @@ where
     ensures workers { IfOk result (λ r. IsRunOfWorkers R scene.now layout.now depth r.kept r.tallies r.waiting r.faults) }
 {
     scenes_within_limits();
-    clusters_end::<R>();
-    new_writers_are_on_the_way();
-    tiles_go_on_showing();
-    shown_parts_begin_a_whole_run();
-    shown_frames_are_of_the_run();
     unfinished_runs_go_on();
-    let NewCrew { crew, parts } = new_crew(rt, alloc, scene, layout, depth)?;
-    let room = Room::new(alloc, crew.clients.len(), crew.tiles.len())?;
-    let mut frames = OnTheWay::new(alloc, layout, parts)?;
-    let ended = run_crew(rt, alloc, gate, crew, &mut frames, image)?;
-    complete(&rt, alloc, scene, layout, ended, room, frames, image)
+    let stored = StoredScene::of(alloc, scene)?;
+    run_stored(rt, alloc, stored, layout, depth, gate, image)
 }

@@ -7,10 +7,10 @@ ghost use Rattle.cluster_run.specs.Coreless.{AreWaitingTiles, IsTileFor, MayGetT
 
 use crate::gathered::make_each;
 use crate::workers::TileWorker;
+use command_store::StoredScene;
 use parcel_bytes::Packed;
 use rc_base::cluster::TilePart;
 use rc_base::out_of_memory::OutOfMemory;
-use rc_base::scene::Scene;
 use rc_base::sync::Grant;
 use rc_base::window::Layout;
 use std::alloc::Global;
@@ -47,7 +47,7 @@ struct Waiting<R> {
 /// The worker of a tile that was sent nothing.
 fn new_tile<R: Drop>(
     alloc: Global,
-    scene: &Scene,
+    scene: &StoredScene,
     layout: &Layout,
     waiting: CorelessTile<R>,
 ) -> Result<TileWorker<R>, OutOfMemory>
@@ -62,8 +62,8 @@ fn new_tile<R: Drop>(
         grants,
         parts,
     } = waiting;
-    let client_count = scene.streams.len() as u8;
-    let core = TileCore::new(alloc, &scene.decl, client_count, layout, number)?;
+    let client_count = scene.streams().len() as u8;
+    let core = TileCore::new(alloc, scene.decl(), client_count, layout, number)?;
     Ok(TileWorker {
         alloc,
         number,
@@ -118,7 +118,7 @@ const MANY: usize = 65536;
 fn with_cores<R: Threads + Copy + Send + Sync + Drop>(
     rt: R,
     alloc: Global,
-    scene: &Scene,
+    scene: &StoredScene,
     layout: &Layout,
     waiting: Vec<CorelessTile<R>>,
 ) -> Result<Vec<TileWorker<R>>, OutOfMemory>
@@ -139,7 +139,7 @@ fn with_cores<R: Threads + Copy + Send + Sync + Drop>(
 pub(crate) fn new_tiles<R: Threads + Copy + Send + Sync + Drop>(
     rt: R,
     alloc: Global,
-    scene: &Scene,
+    scene: &StoredScene,
     layout: &Layout,
     depth: usize,
     columns: Vec<Vec<LaneOut<Packed, R>>>,
