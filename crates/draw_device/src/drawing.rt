@@ -414,6 +414,8 @@ impl Grid {
         ensures extent { self.new.extent ≡ self.old.extent }
         ensures drawn { IsDrawnBy (block_of setup.now (listed_block block.now)) self.old self.new }
     {
+        // A copy that nothing else sees, so that its mode is judged once.
+        let block = *block;
         let mut cache = VertexCache::with(setup.state, setup.identities, block.vertices);
         let count = block.triangle_count();
         'draws: for i in 0..count {
@@ -477,11 +479,12 @@ impl Grid {
         ensures extent { self.new.extent ≡ self.old.extent }
         ensures drawn { IsDrawnBy (block_of setup.now (listed_block block.now)) self.old self.new }
     {
+        let block = *block;
         let mut cache = VertexCache::with(setup.state, setup.identities, block.vertices);
         let count = block.triangle_count();
         'cuts: for i in 0..count {
             let corners = block.corners(i);
-            self.draw_cut_corners(setup, block, &mut cache, corners);
+            self.draw_cut_corners(setup, &block, &mut cache, corners);
         }
     }
 

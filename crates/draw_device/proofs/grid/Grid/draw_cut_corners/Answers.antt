@@ -1,4 +1,4 @@
-use Rattle.std.proofs.Common.{◌≡◌, ◌∙◌, ◌+◌, ◌*◌, List, slice_index, subst, sym, ap}
+use Rattle.std.proofs.Common.{◌≡◌, ◌∙◌, ◌+◌, ◌*◌, List, Some, MatchOption, slice_index, subst, sym, ap}
 use Rattle.std.specs.Prelude.{fold, option_to_list}
 use Rattle.rc_base.specs.Drawing.Kept.{kept_whole, vertex_at}
 use Rattle.rc_base.specs.Drawing.Pieces.{kept_corners_of}
@@ -6,12 +6,25 @@ use Rattle.rc_base.specs.Drawing.PixelStep.{triangle_step}
 use Rattle.rc_base.specs.declared.state.State.{State}
 use Rattle.rc_base.specs.declared.state.Vertex.{Vertex}
 use Rattle.rc_base.specs.declared.window.WindowVertex.{WindowVertex}
+use Rattle.rc_base.specs.declared.triangle.WindowTriangle.{WindowTriangle}
+use Rattle.geometry.specs.Beside.{IsBesideIfKept}
 use Rattle.geometry.specs.Listed.{listed_block}
 use Rattle.geometry.specs.Placed.{AllStandInFront}
 use Rattle.geometry.proofs.PiecesKept.{front_kept}
 use Rattle.draw_device.specs.Pixels.{pixel_at, pixels_of}
 use Rattle.draw_device.specs.Shapes.{column_at, row_at}
 use Rattle.draw_device.proofs.grid.Grid.draw_cut_corners.Goals as goal
+
+pub draw_near-requires-clause-near : goal.draw_near-requires-clause-near
+draw_near-requires-clause-near c =
+    let t = c.args.corners in
+    let near = c.args.setup.now.near in
+    let tri = c.in-Whole.tri in
+    let vs = (listed_block c.args.block.now).vertices in
+    let told = c.in-Whole.ensures.triangle.1 in
+    subst (λ (q : State). MatchOption tri (IsBesideIfKept q vs t near) (λ (w : WindowTriangle). kept_whole q vs t ≡ Some w.v)) c.requires.cache.state
+    (subst (λ (us : List Vertex). MatchOption tri (IsBesideIfKept c.args.cache.now.state.now us t near) (λ (w : WindowTriangle). kept_whole c.args.cache.now.state.now us t ≡ Some w.v))
+    c.requires.cache.vertices told)
 
 pub returns-in-Whole-clause-drawn : goal.returns-in-Whole-clause-drawn
 returns-in-Whole-clause-drawn c =
