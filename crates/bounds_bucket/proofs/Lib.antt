@@ -11,6 +11,7 @@ mod Seen
 mod Grown
 mod Held
 mod Signs
+mod ShortPlaces
 mod Centred
 mod Corners
 mod Places

@@ -4,3 +4,4 @@ pub mod Boxes
 pub mod Tiles
 pub mod Standing
 pub mod Still
+pub mod Hulls

@@ -1,9 +1,10 @@
-//! The bounding box of the positions of vertices, in object space.
+//! What the positions of vertices span in object space: their bounding box.
 ghost use Rattle.std.specs.Prelude.{◌≡◌, ◌<◌, ◌^◌, length};
 ghost use Rattle.std.specs.Int.{int_min, int_max};
 ghost use Rattle.rc_base.specs.Numbers.{Within};
 ghost use Rattle.rc_base.specs.Intervals.{AreEndsWithin, IsOrdered, OfEach};
 ghost use Rattle.rc_base.specs.Cluster.ObjectBox.{bounding_box};
+ghost use Rattle.bounds_bucket.specs.Hulls.{intervals_of};
 
 use crate::extent::Ends;
 use rc_base::interval::Interval;
@@ -41,11 +42,32 @@ fn interval(ends: Ends) -> Interval
 }
 
 /// From the least to the greatest x, y, z and w of some positions, in 16.16 fixed point.
-pub(crate) fn bounding_box(vertices: &[Vertex]) -> [Interval; 4]
-    requires { 0 < length vertices.now }
-    ensures value { result ≡ bounding_box vertices.now }
-    ensures ordered { OfEach IsOrdered result }
+#[derive(Clone, Copy)]
+pub(crate) struct Hull {
+    pub x: Ends,
+    pub y: Ends,
+    pub z: Ends,
+    pub w: Ends,
+}
+
+/// The same in numbers that can be multiplied.
+pub(crate) fn intervals(hull: &Hull) -> [Interval; 4]
+    ensures value { result ≡ intervals_of hull.now }
     ensures small { OfEach (AreEndsWithin (2 ^ 31)) result }
+{
+    [
+        interval(hull.x),
+        interval(hull.y),
+        interval(hull.z),
+        interval(hull.w),
+    ]
+}
+
+/// What some positions span.
+pub(crate) fn hull_of(vertices: &[Vertex]) -> Hull
+    requires { 0 < length vertices.now }
+    ensures value { intervals_of result ≡ bounding_box vertices.now }
+    ensures ordered { OfEach IsOrdered (intervals_of result) }
 {
     let first = &vertices[0].pos;
     let mut x = at(first[0]);
@@ -58,5 +80,5 @@ pub(crate) fn bounding_box(vertices: &[Vertex]) -> [Interval; 4]
         z = grown(z, v.pos[2]);
         w = grown(w, v.pos[3]);
     }
-    [interval(x), interval(y), interval(z), interval(w)]
+    Hull { x, y, z, w }
 }

@@ -14,6 +14,7 @@ mod limits;
 mod object;
 mod range;
 mod reach;
+mod short;
 mod shown;
 mod standing;
 mod still;

@@ -19,14 +19,14 @@ use rc_base::window::WindowVertex;
 // The bound of places in sixteenths of a pixel.
 const PLACE_BOUND: i64 = 1_048_576;
 
-fn sum(x: i32, w: i32) -> i64
+pub(crate) fn sum(x: i32, w: i32) -> i64
     ensures value { result ≡ x +ℤ w }
     ensures small { Within (2 ^ 32) result }
 {
     i64::from(x) + i64::from(w)
 }
 
-fn scaled(sum: i64, size: i32) -> i64
+pub(crate) fn scaled(sum: i64, size: i32) -> i64
     requires sum { Within (2 ^ 32) sum }
     requires size { Within (2 ^ 16) size }
     ensures value { result ≡ sum *ℤ size }
@@ -35,7 +35,7 @@ fn scaled(sum: i64, size: i32) -> i64
     sum * i64::from(size)
 }
 
-fn eightfold(n: i64) -> i64
+pub(crate) fn eightfold(n: i64) -> i64
     requires { Within (2 ^ 48) n }
     ensures value { result ≡ n *ℤ pos 8 }
     ensures small { Within (2 ^ 51) result }
@@ -43,9 +43,10 @@ fn eightfold(n: i64) -> i64
     n * 8
 }
 
-fn moved(origin: i32, q: i64) -> i64
+pub(crate) fn moved(origin: i32, q: i64) -> i64
     requires { Within (2 ^ 51) q }
-    ensures { result ≡ pos 16 *ℤ origin +ℤ q }
+    ensures value { result ≡ pos 16 *ℤ origin +ℤ q }
+    ensures small { Within (2 ^ 52) result }
 {
     16 * i64::from(origin) + q
 }

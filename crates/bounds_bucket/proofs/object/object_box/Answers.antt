@@ -2,6 +2,7 @@ use Rattle.std.proofs.Common.{◌≡◌, ◌<◌, length, take, arith, inl, inr,
 use Rattle.rc_base.specs.Numbers.{entry}
 use Rattle.rc_base.specs.Drawing.Triangles.{shape_of}
 use Rattle.plain_lemmas.proofs.Numbers.{from_int_lt}
+use Rattle.bounds_bucket.specs.Hulls.{intervals_of}
 use Rattle.bounds_bucket.specs.Standing.{standing_count}
 use Rattle.rc_base.specs.Cluster.ObjectBox.{bounding_box, clip_over}
 use Rattle.rc_base.specs.declared.state.Effect.TheVariants as eff
@@ -36,7 +37,7 @@ returns c =
     c.standing_count-count.ensures.value ∙ ap (λ vs. standing_count (shape_of c.args.block.now.mode) (length vs)) same in
     let not_none = c.if-count-eq0.false in
     let some : 0 < c.standing_count-count.result = omega arith in
-    let spread = c.bounding_box.ensures.value ∙ (λ i. bounding_box (take (count i) (same i))) in
+    let spread = c.hull_of-hull.ensures.value ∙ (λ i. bounding_box (take (count i) (same i))) in
     box_if_any s (eff.Block block) c.args.window c.scissored.result c.some_rect.result
-    (boxed s block c.args.window c.reached.result c.part_in.result c.scissored.result c.clip_over-clip.result c.requires (subst (λ k. 0 < k) count some)
-    (c.clip_over-clip.ensures.value ∙ ap (clip_over s) spread) c.reached.ensures c.part_in.ensures c.scissored.ensures) c.some_rect.ensures
+    (boxed s block c.args.window c.reached_by-near.result c.part_in.result c.scissored.result (clip_over s (intervals_of c.hull_of-hull.result)) c.requires (subst (λ k. 0 < k) count some)
+    (ap (clip_over s) spread) c.reached_by-near.ensures c.part_in.ensures c.scissored.ensures) c.some_rect.ensures

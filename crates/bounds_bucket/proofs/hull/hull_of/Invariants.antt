@@ -1,6 +1,6 @@
 use Rattle.rc_base.specs.Cluster.ObjectBox.{coordinates}
 use Rattle.bounds_bucket.proofs.Runs.{AreEndsOf}
-use Rattle.bounds_bucket.proofs.hull.bounding_box.Given as goal
+use Rattle.bounds_bucket.proofs.hull.hull_of.Given as goal
 
 abbrev pub invariant-corners : goal.invariant-corners
 invariant-corners l = record {

@@ -1,11 +1,14 @@
-use Rattle.std.proofs.Common.{◌≡◌, rules, [], ◌∷◌, sym, subst, to_z, of_z, w32}
+use Rattle.std.proofs.Common.{◌≡◌, ℕ, rules, refl, [], ◌∷◌, sym, subst, to_z, of_z, w32}
 use Rattle.rc_base.specs.Numbers.{entry}
 use Rattle.rc_base.specs.Drawing.Kept.{vertex_at}
 use Rattle.rc_base.specs.Intervals.{IsOrdered}
 use Rattle.rc_base.specs.Cluster.ObjectBox.{bounding_box}
 use Rattle.bounds_bucket.proofs.Corners.{spread_ordered}
-use Rattle.bounds_bucket.proofs.Runs.{runs_none, runs_more, runs_all}
-use Rattle.bounds_bucket.proofs.hull.bounding_box.Goals as goal
+use Rattle.rc_base.specs.Cluster.ObjectBox.{coordinates}
+use Rattle.bounds_bucket.specs.Hulls.{interval_of}
+use Rattle.bounds_bucket.specs.declared.extent.Ends.{Ends}
+use Rattle.bounds_bucket.proofs.Runs.{AreEndsOf, runs_none, runs_more, runs_all}
+use Rattle.bounds_bucket.proofs.hull.hull_of.Goals as goal
 
 pub corners-init : goal.corners-init
 corners-init c =
@@ -40,25 +43,20 @@ pub returns-clause-value : goal.returns-clause-value
 unfolding bounding_box
 returns-clause-value c =
     let vs = c.args.vertices.now in
-    let x = runs_all 0 vs c.corners.v-index c.corners.x c.interval.result c.corners-test.false c.corners.invariant.x c.interval.ensures.lo c.interval.ensures.hi in
-    let y = runs_all 1 vs c.corners.v-index c.corners.y c.interval-2.result c.corners-test.false c.corners.invariant.y c.interval-2.ensures.lo c.interval-2.ensures.hi in
-    let z = runs_all 2 vs c.corners.v-index c.corners.z c.interval-3.result c.corners-test.false c.corners.invariant.z c.interval-3.ensures.lo c.interval-3.ensures.hi in
-    let w = runs_all 3 vs c.corners.v-index c.corners.w c.interval-4.result c.corners-test.false c.corners.invariant.w c.interval-4.ensures.lo c.interval-4.ensures.hi in
+    let all = λ (k : ℕ) (e : Ends) (h : AreEndsOf e (coordinates k c.args.vertices.now) c.corners.v-index). runs_all k vs c.corners.v-index e (interval_of e) c.corners-test.false h refl refl in
+    let x = all 0 c.corners.x c.corners.invariant.x in
+    let y = all 1 c.corners.y c.corners.invariant.y in
+    let z = all 2 c.corners.z c.corners.invariant.z in
+    let w = all 3 c.corners.w c.corners.invariant.w in
     λ i. x i ∷ y i ∷ z i ∷ w i ∷ []
 
 pub returns-clause-ordered : goal.returns-clause-ordered
 returns-clause-ordered c =
     let vs = c.args.vertices.now in
-    let x = runs_all 0 vs c.corners.v-index c.corners.x c.interval.result c.corners-test.false c.corners.invariant.x c.interval.ensures.lo c.interval.ensures.hi in
-    let y = runs_all 1 vs c.corners.v-index c.corners.y c.interval-2.result c.corners-test.false c.corners.invariant.y c.interval-2.ensures.lo c.interval-2.ensures.hi in
-    let z = runs_all 2 vs c.corners.v-index c.corners.z c.interval-3.result c.corners-test.false c.corners.invariant.z c.interval-3.ensures.lo c.interval-3.ensures.hi in
-    let w = runs_all 3 vs c.corners.v-index c.corners.w c.interval-4.result c.corners-test.false c.corners.invariant.w c.interval-4.ensures.lo c.interval-4.ensures.hi in
+    let all = λ (k : ℕ) (e : Ends) (h : AreEndsOf e (coordinates k c.args.vertices.now) c.corners.v-index). runs_all k vs c.corners.v-index e (interval_of e) c.corners-test.false h refl refl in
     record {
-      first = subst IsOrdered (sym x) (spread_ordered 0 vs c.requires);
-      second = subst IsOrdered (sym y) (spread_ordered 1 vs c.requires);
-      third = subst IsOrdered (sym z) (spread_ordered 2 vs c.requires);
-      fourth = subst IsOrdered (sym w) (spread_ordered 3 vs c.requires);
+      first = subst IsOrdered (sym (all 0 c.corners.x c.corners.invariant.x)) (spread_ordered 0 vs c.requires);
+      second = subst IsOrdered (sym (all 1 c.corners.y c.corners.invariant.y)) (spread_ordered 1 vs c.requires);
+      third = subst IsOrdered (sym (all 2 c.corners.z c.corners.invariant.z)) (spread_ordered 2 vs c.requires);
+      fourth = subst IsOrdered (sym (all 3 c.corners.w c.corners.invariant.w)) (spread_ordered 3 vs c.requires);
     }
-
-pub returns-clause-small : goal.returns-clause-small
-returns-clause-small c = record { first = c.interval.ensures.small; second = c.interval-2.ensures.small; third = c.interval-3.ensures.small; fourth = c.interval-4.ensures.small }
