@@ -12,7 +12,7 @@ use crate::block::block_extent;
 use crate::extent::{Ends, Extent};
 use crate::law::touched_pixels_lie_in_the_box;
 use crate::object::object_box;
-use crate::range::{Range, columns_of, larger, rows_of, smaller};
+use crate::range::{Range, columns_of, larger, rows_of, sixteenth, smaller};
 use rc_base::state::{Block, CUT_MODES, State};
 use rc_base::window::Rect;
 
@@ -21,7 +21,7 @@ fn first_from(least: i32) -> i32
     ensures above { (p : ℤ) → least ≤ℤ centre p → result ≤ℤ p }
     ensures below { (p : ℤ) → result ≤ℤ p → least ≤ℤ centre p }
 {
-    (i64::from(least) + 7).div_euclid(16) as i32
+    sixteenth(i64::from(least) + 7) as i32
 }
 
 // One past the last row or column whose centre is not above `greatest`.
@@ -29,7 +29,7 @@ fn end_after(greatest: i32) -> i32
     ensures below { (p : ℤ) → centre p ≤ℤ greatest → p <ℤ result }
     ensures above { (p : ℤ) → p <ℤ result → centre p ≤ℤ greatest }
 {
-    (i64::from(greatest) + 8).div_euclid(16) as i32
+    sixteenth(i64::from(greatest) + 8) as i32
 }
 
 // The rows or columns of a range whose centres lie between the ends.

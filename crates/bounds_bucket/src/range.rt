@@ -1,6 +1,6 @@
 //! Ranges of columns or rows of pixels.
-ghost use Rattle.std.specs.Prelude.{◌≡◌};
-ghost use Rattle.std.specs.Int.{int_min, int_max};
+ghost use Rattle.std.specs.Prelude.{◌≡◌, pos};
+ghost use Rattle.std.specs.Int.{int_div_euclid, int_min, int_max};
 
 use rc_base::window::Rect;
 
@@ -39,4 +39,11 @@ pub(crate) fn rows_of(rect: Rect) -> Range
         from: rect.y0,
         end: rect.y1,
     }
+}
+
+/// A sixteenth, rounded down.
+pub(crate) fn sixteenth(n: i64) -> i64
+    ensures { result ≡ int_div_euclid n (pos 16) }
+{
+    n >> 4
 }

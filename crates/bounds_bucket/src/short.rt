@@ -1,6 +1,5 @@
 //! Which pixels are in reach of positions that no matrix moves: their coordinates have 32 bits, and numbers of 64 bits do.
 ghost use Rattle.std.specs.Prelude.{◌≡◌, ◌^◌, ℤ, pos, true, ◌&&◌, ◌+ℤ◌, ◌*ℤ◌, ◌<ℤ◌, ◌≤ℤ◌, int_le, int_lt, if◌then◌else◌};
-ghost use Rattle.std.specs.Int.{int_div_euclid};
 ghost use Rattle.rc_base.specs.Numbers.{Within, entry, floor_quotient};
 ghost use Rattle.rc_base.specs.Drawing.Cover.{centre};
 ghost use Rattle.rc_base.specs.Intervals.{IsOrdered, OfEach};
@@ -11,7 +10,7 @@ ghost use Rattle.bounds_bucket.specs.Ranges.{is_among, IsPartWhere};
 use crate::boxes::rect_of;
 use crate::extent::Ends;
 use crate::hull::Hull;
-use crate::range::{Range, columns_of, rows_of};
+use crate::range::{Range, columns_of, rows_of, sixteenth};
 use crate::still::{eightfold, moved, scaled, sum};
 use fixed_math::floor_div_64;
 use geometry::{NEAR_W, is_identity};
@@ -86,13 +85,6 @@ fn greatest_place(origin: i32, size: i32, x: Ends, w: Ends) -> i64
 {
     let n = dividend(size, x.greatest, w.greatest);
     moved(origin, by_sign(n, w.greatest, w.least))
-}
-
-// A sixteenth, rounded down.
-fn sixteenth(n: i64) -> i64
-    ensures { result ≡ int_div_euclid n (pos 16) }
-{
-    n >> 4
 }
 
 // The first row or column whose centre is not below `least`.

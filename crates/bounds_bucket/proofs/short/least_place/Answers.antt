@@ -16,7 +16,7 @@ returns-clause-value c =
     let moved : FitsSigned w64 c.moved.result = record { sfits = c.moved.type_inv } in
     let quotient : FitsSigned w64 c.by_sign.result = record { sfits = c.by_sign.type_inv } in
     let dividend : FitsSigned w64 c.dividend-n.result = record { sfits = c.dividend-n.type_inv } in
-    let n : c.dividend-n.result ≡ (c.args.x.least +ℤ c.args.w.least) *ℤ c.args.size *ℤ pos 8 = simp (x, low, high, size) at c.dividend-n.ensures.value in
+    let n : c.dividend-n.result ≡ (c.args.x.least +ℤ c.args.w.least) *ℤ c.args.size *ℤ pos 8 = simp (x, low, size) at c.dividend-n.ensures.value in
     let q : c.by_sign.result ≡ (if int_le (pos 0) c.dividend-n.result then floor_quotient c.dividend-n.result c.args.w.greatest else floor_quotient c.dividend-n.result c.args.w.least) =
     simp (to_z-of_z dividend, low, high) at c.by_sign.ensures.value in
     let m : c.moved.result ≡ pos 16 *ℤ c.args.origin +ℤ c.by_sign.result = simp (to_z-of_z quotient, origin) at c.moved.ensures.value in
