@@ -55,13 +55,17 @@ lines_of_order kept tile = flat_map (order_line tile) (tile_order kept tile)
 abbrev pub lines_of_orders : Record → List ℕ
 lines_of_orders kept = flat_map (λ tile. lines_of_order kept tile) (range_with_len 0 (length kept.logs))
 
--- all lines of a run with tiles
-abbrev pub lines_of_run : Work → List (List (ℕ × Fault)) → List Tally → Record → Option Waiting → Bool → List ℕ
-lines_of_run work faults tallies kept waiting orders =
-    work.refused ++ lines_of_faults faults ++ lines_of_tiles tallies ++ count_lines kept.journal ++ work.counted
+-- all lines of a run with tiles, where these were refused before it, and the filters counted so
+abbrev pub lines_of_run_with : List ℕ → List ℕ → List (List (ℕ × Fault)) → List Tally → Record → Option Waiting → Bool → List ℕ
+lines_of_run_with refused counted faults tallies kept waiting orders =
+    refused ++ lines_of_faults faults ++ lines_of_tiles tallies ++ count_lines kept.journal ++ counted
     ++ (if orders then lines_of_orders kept else []) ++ lines_of_stuck waiting (length faults)
 
--- all lines of a run without tiles, where these were refused before it, and the filters counted so
+-- so it is of what a task works on
+abbrev pub lines_of_run : Work → List (List (ℕ × Fault)) → List Tally → Record → Option Waiting → Bool → List ℕ
+lines_of_run work faults tallies kept waiting orders = lines_of_run_with work.refused work.counted faults tallies kept waiting orders
+
+-- the same of a run without tiles
 abbrev pub lines_of_turns_with : List ℕ → List ℕ → List (List (ℕ × Fault)) → List Entry → List ℕ → Option Waiting → List ℕ
 lines_of_turns_with refused counted faults journal told waiting =
     refused ++ lines_of_faults faults ++ count_lines journal ++ counted ++ told ++ lines_of_stuck waiting (length faults)

@@ -1,28 +1,38 @@
 //! The quantities of what the words ask for, in the window of the scene.
 ghost use Rattle.std.specs.Prelude.{◌≡◌, None, Some, MatchResult};
 ghost use Rattle.rc_base.specs.Formats.Limits.{held_limit, limit_of};
+ghost use Rattle.rc_base.specs.declared.scene.Scene.{Scene as AnyScene};
 ghost use Rattle.run_words.specs.Asked.{IsWell, cluster_limit, layout_for, word_limit};
 ghost use Rattle.run_words.specs.Jobs.{origin_of};
 
 use crate::job::{Cluster, Job};
 use bounds_bucket::layout;
-use rc_base::scene::{Limit, Scene};
+use rc_base::scene::{Decl, Limit, Scene};
 use rc_base::window::Layout;
 use scene_file::check_held;
 
-// The tiles of the scene's window, or the first quantity of the words that is outside its range.
+/// The tiles of a scene's window, or the first quantity of the words that is outside its range, by what the scene declares.
+pub fn tiles_asked(decl: &Decl, cluster: Cluster) -> Result<Layout, Limit>
+    ensures { (scene : AnyScene) → scene.decl ≡ decl.now → MatchResult result
+        (λ l. (cluster_limit cluster scene ≡ None) × (l ≡ layout_for cluster scene))
+        (λ limit. cluster_limit cluster scene ≡ Some limit) }
+{
+    layout(
+        decl.width,
+        decl.height,
+        cluster.columns,
+        cluster.rows,
+        cluster.depth,
+    )
+}
+
+// The same of a scene.
 fn layout_of(scene: &Scene, cluster: Cluster) -> Result<Layout, Limit>
     ensures { MatchResult result
         (λ l. (cluster_limit cluster scene.now ≡ None) × (l ≡ layout_for cluster scene.now))
         (λ limit. cluster_limit cluster scene.now ≡ Some limit) }
 {
-    layout(
-        scene.decl.width,
-        scene.decl.height,
-        cluster.columns,
-        cluster.rows,
-        cluster.depth,
-    )
+    tiles_asked(&scene.decl, cluster)
 }
 
 /// The tiles of the scene's window, where they are known to be within their ranges.

@@ -7,7 +7,7 @@ ghost use Rattle.order_model.specs.Report.{fault_name as name_of_fault, refused_
 ghost use Rattle.spu_chain.specs.Scenes.{counts_from};
 ghost use Rattle.race_check.specs.declared.verdict.Verdict.TheVariants.{Race as IsRace};
 ghost use Rattle.run_words.specs.Lines.{filter_line as line_of_filter, filter_lines as lines_of_filters, list_fault_lines as lines_of_list_faults, race_line as line_of_race, spot_text as text_of_spot};
-ghost use Rattle.run_words.specs.Reports.{Yields, line_of_tile, line_of_waiting, lines_of_order, lines_of_faults, lines_of_orders, lines_of_run, lines_of_refused, lines_of_stuck, lines_of_tiles, lines_of_turns, lines_of_turns_with, lines_of_waiting};
+ghost use Rattle.run_words.specs.Reports.{Yields, line_of_tile, line_of_waiting, lines_of_order, lines_of_faults, lines_of_orders, lines_of_run, lines_of_run_with, lines_of_refused, lines_of_stuck, lines_of_tiles, lines_of_turns, lines_of_turns_with, lines_of_waiting};
 
 use crate::work::Work;
 use order_model::record::Record;
@@ -383,6 +383,39 @@ fn asked_lines(alloc: Global, kept: &Record, orders: bool) -> Result<Bytes, OutO
     }
 }
 
+/// The report of a cluster's run, with these lines of what was refused before the run and of what filters counted.
+pub fn cluster_report_with(
+    alloc: Global,
+    refused: &[u8],
+    counted: &[u8],
+    faults: &[FaultList],
+    tallies: &[Tally],
+    kept: &Record,
+    waiting: &Option<Waiting>,
+    orders: bool,
+) -> Result<Bytes, OutOfMemory>
+    requires faults { length faults.now ≤ 8 }
+    requires clients { client_count kept.now.syncs ≤ 8 }
+    requires tiles { length kept.now.logs ≤ 32 }
+    ensures { Yields
+        (lines_of_run_with refused.now counted.now faults.now tallies.now kept.now waiting.now orders)
+        result }
+{
+    let mut report = Bytes::from_slice(alloc, refused)?;
+    let faulty = fault_lines(alloc, faults)?;
+    let tiles = tile_lines(alloc, tallies)?;
+    let counts = count_lines(alloc, kept.journal.as_slice())?;
+    let recorded = asked_lines(alloc, kept, orders)?;
+    let stuck = stuck_lines(alloc, waiting, faults.len())?;
+    report.append(faulty)?;
+    report.append(tiles)?;
+    report.extend_from_slice(counts.as_bytes())?;
+    report.extend_from_slice(counted)?;
+    report.append(recorded)?;
+    report.append(stuck)?;
+    Ok(report)
+}
+
 /// The report of a cluster's run: what was refused before it, each client's refused commands, how much was sent to each tile, the numbers of entries and
 /// frames, what filters counted, where they are asked for the recorded orders, and who is left waiting.
 pub fn cluster_report(
@@ -399,17 +432,14 @@ pub fn cluster_report(
     requires tiles { length kept.now.logs ≤ 32 }
     ensures { Yields (lines_of_run work.now faults.now tallies.now kept.now waiting.now orders) result }
 {
-    let mut report = Bytes::from_slice(alloc, work.refused.as_slice())?;
-    let faulty = fault_lines(alloc, faults)?;
-    let tiles = tile_lines(alloc, tallies)?;
-    let counts = count_lines(alloc, kept.journal.as_slice())?;
-    let recorded = asked_lines(alloc, kept, orders)?;
-    let stuck = stuck_lines(alloc, waiting, faults.len())?;
-    report.append(faulty)?;
-    report.append(tiles)?;
-    report.extend_from_slice(counts.as_bytes())?;
-    report.extend_from_slice(work.counted.as_slice())?;
-    report.append(recorded)?;
-    report.append(stuck)?;
-    Ok(report)
+    cluster_report_with(
+        alloc,
+        work.refused.as_slice(),
+        work.counted.as_slice(),
+        faults,
+        tallies,
+        kept,
+        waiting,
+        orders,
+    )
 }

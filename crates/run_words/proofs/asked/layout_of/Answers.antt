@@ -1,6 +1,5 @@
-use Rattle.rc_base.specs.Formats.Limits.{layout_limit}
+use Rattle.std.proofs.Common.{refl}
 use Rattle.run_words.proofs.asked.layout_of.Goals as goal
 
 pub returns : goal.returns
-unfolding layout_limit
-returns c = c.layout.ensures.layout
+returns c = c.tiles_asked.ensures c.args.scene.now refl
