@@ -1,5 +1,6 @@
 """All that a client's commands have set: its context, and the commands that set it anew."""
 import scene_faults
+from command_table import first_values
 from scene_bytes import ALL_OPCODES, Placed, name_of
 
 IDENTITY = scene_faults.IDENTITY
@@ -9,29 +10,6 @@ SCISSOR, DEPTH, BLEND = 0, 2, 3
 def placed(name, *numbers, texels=b""):
     """A command without a line."""
     return Placed((ALL_OPCODES[name], numbers, texels))
-
-
-def first_values(width, height):
-    """What stands at first in each element that one command sets, by the command's name."""
-    return {
-        "Viewport": (0, 0, width, height),
-        "Scissor": (0, 0, width, height),
-        "DepthRange": (0, 65536),
-        "AlphaFunc": (7, 0),
-        "DepthFunc": (1,),
-        "DepthMask": (1,),
-        "BlendFunc": (1, 0),
-        "ColorMask": (1, 1, 1, 1),
-        "ClearColor": (0, 0, 0, 0),
-        "ClearDepth": (65536,),
-        "CullFace": (1,),
-        "FrontFace": (0,),
-        "BindTexture": (0, 1),
-        "TexEnv": (0,),
-        "TexWrap": (0, 0),
-        "Color": (255, 255, 255, 255),
-        "TexCoord": (0, 0),
-    }
 
 
 class Context(scene_faults.Context):

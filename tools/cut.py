@@ -24,7 +24,8 @@ import ranges
 import scene_forms
 import scene_text
 import standing
-from contexts import Context, first_values, placed
+from command_table import first_values
+from contexts import Context, placed
 from scene_bytes import BARRIER, BEGIN, END, SWAP, Scene, filter_words, print_line
 
 

@@ -34,6 +34,8 @@ import math
 import struct
 
 import command
+import command_table
+import gl_calls
 import ranges
 import reasons
 from gl_matrices import (  # noqa: F401 (a part of them is for those who import this)
@@ -60,27 +62,11 @@ from scene_bytes import (
 ONE = 65536
 TRIANGLES, TRIANGLE_STRIP, TRIANGLE_FAN = range(3)
 QUADS, QUAD_STRIP, POLYGON = "quads", "quad strip", "polygon"
-SCISSOR, ALPHA, DEPTH, BLEND, CULL, TEXTURE = range(6)
 MODELVIEW, PROJECTION = range(2)
-NEVER, LESS, EQUAL, LEQUAL, GREATER, NOTEQUAL, GEQUAL, ALWAYS = range(8)
-(
-    ZERO,
-    SOURCE_ONE,
-    SRC_COLOR,
-    ONE_MINUS_SRC_COLOR,
-    DST_COLOR,
-    ONE_MINUS_DST_COLOR,
-    SRC_ALPHA,
-    ONE_MINUS_SRC_ALPHA,
-    DST_ALPHA,
-    ONE_MINUS_DST_ALPHA,
-) = range(10)
-COLOR_BIT, DEPTH_BIT = 1, 2
-FRONT, BACK, FRONT_AND_BACK = range(3)
-COUNTERCLOCKWISE, CLOCKWISE = range(2)
 PRIVATE, SHARED = range(2)
-MODULATE, REPLACE = range(2)
-REPEAT, CLAMP = range(2)
+# These are used below; here are all codes by their names, but for the factor ONE.
+OTHER_NAMES = {"ONE": "SOURCE_ONE"}
+globals().update((OTHER_NAMES.get(name, name), code) for name, code in command_table.constants())
 
 
 def fixed(number):
@@ -114,7 +100,8 @@ def texel_bytes(width, height, texels):
 
 
 class Client:
-    """One client's stream of commands."""
+    """One client's stream of commands. The calls that aren't written here are made by gl_calls.py.
+    """
 
     def __init__(self, scene):
         self.scene, self.commands, self.shape, self.corners = scene, [], None, []
@@ -267,9 +254,6 @@ class Client:
         """Which matrix is meant: MODELVIEW or PROJECTION."""
         self.issue("MatrixMode", mode)
 
-    def load_identity(self):
-        self.issue("LoadIdentity")
-
     def load_matrix(self, numbers):
         """16 numbers by columns in place of the matrix."""
         self.issue("LoadMatrix", *map(fixed, numbers))
@@ -277,12 +261,6 @@ class Client:
     def multiply(self, numbers):
         """The matrix times these 16 numbers by columns."""
         self.issue("MultMatrix", *map(fixed, numbers))
-
-    def push(self):
-        self.issue("PushMatrix")
-
-    def pop(self):
-        self.issue("PopMatrix")
 
     @contextlib.contextmanager
     def pushed(self):
@@ -334,48 +312,6 @@ class Client:
         for capability in capabilities:
             self.issue("Disable", capability)
 
-    def viewport(self, x, y, width, height):
-        """In pixels from the lower left."""
-        self.issue("Viewport", x, y, width, height)
-
-    def scissor(self, x, y, width, height):
-        """In pixels from the lower left."""
-        self.issue("Scissor", x, y, width, height)
-
-    def depth_range(self, near, far):
-        self.issue("DepthRange", fixed(near), fixed(far))
-
-    def alpha_func(self, function, reference):
-        """The reference is a share from 0 to 1."""
-        self.issue("AlphaFunc", function, channel(reference))
-
-    def depth_func(self, function):
-        self.issue("DepthFunc", function)
-
-    def depth_mask(self, on):
-        self.issue("DepthMask", int(on))
-
-    def blend_func(self, source, destination):
-        self.issue("BlendFunc", source, destination)
-
-    def color_mask(self, r, g, b, a):
-        self.issue("ColorMask", int(r), int(g), int(b), int(a))
-
-    def cull_face(self, face):
-        self.issue("CullFace", face)
-
-    def front_face(self, direction):
-        self.issue("FrontFace", direction)
-
-    def clear_color(self, r, g, b, a=1.0):
-        self.issue("ClearColor", *(channel(share) for share in (r, g, b, a)))
-
-    def clear_depth(self, depth):
-        self.issue("ClearDepth", fixed(depth))
-
-    def clear(self, mask=COLOR_BIT | DEPTH_BIT):
-        self.issue("Clear", mask)
-
     # textures
 
     def tex_image(self, name, width, height, texels):
@@ -398,32 +334,6 @@ class Client:
         """Which texture is drawn with: a PRIVATE one or a SHARED one."""
         self.issue("BindTexture", kind, name)
 
-    def tex_env(self, environment):
-        """MODULATE or REPLACE."""
-        self.issue("TexEnv", environment)
-
-    def tex_wrap(self, s, t):
-        """REPEAT or CLAMP, each way."""
-        self.issue("TexWrap", s, t)
-
-    # synchronisation
-
-    def barrier(self, name):
-        """Waits at a barrier of the scene."""
-        self.issue("Barrier", name)
-
-    def semaphore_take(self, name):
-        """Waits for a unit of a semaphore, and takes it (SemP)."""
-        self.issue("SemP", name)
-
-    def semaphore_give(self, name):
-        """Gives a unit to a semaphore (SemV)."""
-        self.issue("SemV", name)
-
-    def swap(self):
-        """Ends a frame."""
-        self.issue("Swap")
-
     # call lists: a scene of version 3
 
     @contextlib.contextmanager
@@ -441,6 +351,9 @@ class Client:
         """Calls a list."""
         self.issue("CallList", name)
         self.written = {}
+
+
+gl_calls.add_calls(Client, {"fixed": fixed, "share": channel, "flag": int})
 
 
 def judge_ranges(**quantities):

@@ -1,4 +1,6 @@
 """The boxes of a block, by docs/cluster.md ('Boxes') alone: the exact one, of its kept pieces, and the one in object space, of its vertices."""
+from command_table import first_values
+
 ONE, NEAR_W, CLIP_BOUND = 65536, 256, 2**46
 PLACE_BOUND, DEPTH_BOUND, DEPTH_MOST = 2**20, 2**30, 16777215
 IDENTITY = [ONE if i % 5 == 0 else 0 for i in range(16)]
@@ -28,10 +30,8 @@ class Context:
 
     def __init__(self, width, height):
         self.matrices, self.mode = [[IDENTITY], [IDENTITY]], 0
-        self.viewport = self.scissor = (0, 0, width, height)
+        self.values = first_values(width, height)
         self.scissor_on = self.cull_on = False
-        self.cull_face, self.front_face = 1, 0
-        self.depth_range = (0, ONE)
         self.shape, self.vertices = None, []
 
     def issue(self, name, numbers):
@@ -58,16 +58,8 @@ class Context:
             stack.append(stack[-1])
         elif name == "PopMatrix":
             stack.pop()
-        elif name == "Viewport":
-            self.viewport = numbers
-        elif name == "Scissor":
-            self.scissor = numbers
-        elif name == "DepthRange":
-            self.depth_range = numbers
-        elif name == "CullFace":
-            self.cull_face = numbers[0]
-        elif name == "FrontFace":
-            self.front_face = numbers[0]
+        elif name in self.values:
+            self.values[name] = numbers
         return None
 
     def place(self, c):
@@ -75,8 +67,8 @@ class Context:
         x, y, z, w = c
         if w <= 0:
             return None
-        left, bottom, width, height = self.viewport
-        near, far = self.depth_range
+        left, bottom, width, height = self.values["Viewport"]
+        near, far = self.values["DepthRange"]
         at = (16 * left + (x + w) * width * 16 // (2 * w), 16 * bottom + (y + w) * height * 16 // (2 * w))
         depth = ((far - near) * z + (near + far) * w) * DEPTH_MOST // (131072 * w)
         return at if max(map(abs, at)) <= PLACE_BOUND and abs(depth) <= DEPTH_BOUND else None
@@ -84,14 +76,15 @@ class Context:
     def is_shown(self, corners):
         (ax, ay), (bx, by), (cx, cy) = corners
         area = (bx - ax) * (cy - ay) - (by - ay) * (cx - ax)
-        front = area < 0 if self.front_face else area > 0
-        return area != 0 and not (self.cull_on and (self.cull_face == 2 or front == (self.cull_face == 0)))
+        (clockwise,), (culled,) = self.values["FrontFace"], self.values["CullFace"]
+        front = area < 0 if clockwise else area > 0
+        return area != 0 and not (self.cull_on and (culled == 2 or front == (culled == 0)))
 
     def visible(self, box):
         """The rectangle of pixels whose centres lie in the box, cut by the viewport and the scissor box."""
         (x0, x1), (y0, y1) = box
         rect = [-(-(x0 - 8) // 16), -(-(y0 - 8) // 16), (x1 - 8) // 16 + 1, (y1 - 8) // 16 + 1]
-        for x, y, w, h in [self.viewport] + [self.scissor] * self.scissor_on:
+        for x, y, w, h in [self.values["Viewport"]] + [self.values["Scissor"]] * self.scissor_on:
             rect = [max(rect[0], x), max(rect[1], y), min(rect[2], x + w), min(rect[3], y + h)]
         return rect
 
@@ -118,11 +111,11 @@ class Context:
         d = applied_over(self.matrices[1][-1], applied_over(self.matrices[0][-1], b))
         w = d[3]
         if w[0] < NEAR_W:
-            x, y, wide, high = self.viewport
+            x, y, wide, high = self.values["Viewport"]
             return self.visible(((16 * x, 16 * (x + wide)), (16 * y, 16 * (y + high)))), True
         box = []
         for i in range(2):
-            origin, size = self.viewport[i], self.viewport[2 + i]
+            origin, size = self.values["Viewport"][i], self.values["Viewport"][2 + i]
             q = quotient_over(tuple((d[i][end] + w[end]) * size * 16 for end in range(2)), (2 * w[0], 2 * w[1]))
             box.append((16 * origin + q[0], 16 * origin + q[1]))
         return self.visible(box), False

@@ -11,6 +11,7 @@ import command
 import ranges
 import scene_forms
 import scene_lists
+from command_table import BY_OPCODE, LIST_ROWS, value_names
 from scene_forms import ALL_COMMANDS, ALL_OPCODES, DRAWN_VERSIONS, Refused, Scene
 
 OPERATIONS = [ALL_OPCODES[name] for name in ("Barrier", "SemP", "SemV", "Swap")]
@@ -18,65 +19,24 @@ BARRIER, TAKE, GIVE, SWAP = OPERATIONS
 BEGIN, END, CLEAR, SHARED_IMAGE = (
     ALL_OPCODES[name] for name in ("Begin", "End", "Clear", "SharedImage")
 )
-# The names of a command's fields, for those whose numbers need them to be read.
+# The names of a command's fields, for those whose numbers need them to be read, and of a line's.
 FIELDS = {
-    "Begin": "mode",
-    "Vertex": "x y z w",
-    "Color": "r g b a",
-    "TexCoord": "s t",
-    "Enable": "capability",
-    "Disable": "capability",
-    "MatrixMode": "mode",
-    "Viewport": "x y w h",
-    "DepthRange": "near far",
-    "Scissor": "x y w h",
-    "AlphaFunc": "function reference",
-    "DepthFunc": "function",
-    "DepthMask": "flag",
-    "BlendFunc": "source destination",
-    "ColorMask": "r g b a",
-    "ClearColor": "r g b a",
-    "ClearDepth": "depth",
-    "Clear": "mask",
-    "CullFace": "face",
-    "FrontFace": "direction",
-    "BindTexture": "kind name",
-    "TexEnv": "environment",
-    "TexWrap": "s t",
-    "TexImage": "name w h",
-    "TexPart": "name x y w h",
-    "SharedImage": "name x y w h",
-    "Barrier": "name",
-    "SemP": "name",
-    "SemV": "name",
-    "NewList": "name",
-    "CallList": "name",
+    row.name: " ".join(field.name for field in row.fields)
+    for row in (*BY_OPCODE, *LIST_ROWS)
+    if row.fields and row.fields[0].name
+}
+FIELDS |= {
     "scene": "version width height",
     "shared": "w h",
     "barrier": "count",
     "semaphore": "units",
 }
-# The names of a field's codes, each at its number.
-FUNCTIONS = "NEVER LESS EQUAL LEQUAL GREATER NOTEQUAL GEQUAL ALWAYS".split()
-FACTORS = "ZERO ONE SRC_COLOR ONE_MINUS_SRC_COLOR DST_COLOR ONE_MINUS_DST_COLOR".split()
-FACTORS += "SRC_ALPHA ONE_MINUS_SRC_ALPHA DST_ALPHA ONE_MINUS_DST_ALPHA".split()
-CAPABILITIES = "SCISSOR ALPHA DEPTH BLEND CULL TEXTURE".split()
+# The names of a field's codes, each at its number, and of sums of bits.
 CODES = {
-    ("Begin", 0): "TRIANGLES TRIANGLE_STRIP TRIANGLE_FAN".split(),
-    ("Enable", 0): CAPABILITIES,
-    ("Disable", 0): CAPABILITIES,
-    ("MatrixMode", 0): ["MODELVIEW", "PROJECTION"],
-    ("AlphaFunc", 0): FUNCTIONS,
-    ("DepthFunc", 0): FUNCTIONS,
-    ("BlendFunc", 0): FACTORS,
-    ("BlendFunc", 1): FACTORS,
-    ("CullFace", 0): "FRONT BACK FRONT_AND_BACK".split(),
-    ("FrontFace", 0): "COUNTERCLOCKWISE CLOCKWISE".split(),
-    ("BindTexture", 0): "PRIVATE SHARED".split(),
-    ("TexEnv", 0): "MODULATE REPLACE".split(),
-    ("TexWrap", 0): "REPEAT CLAMP".split(),
-    ("TexWrap", 1): "REPEAT CLAMP".split(),
-    ("Clear", 0): ["nothing", "COLOR", "DEPTH", "COLOR and DEPTH"],
+    (row.name, at): value_names(field)
+    for row in BY_OPCODE
+    for at, field in enumerate(row.fields)
+    if field.names
 }
 
 

@@ -1,10 +1,10 @@
 """A second judge of commands, by docs/drawing.md alone: which commands of a stream are refused, and by which fault. hostile.py compares the program with it."""
+from command_table import BY_OPCODE, OUTSIDE, code_counts
 from scene_forms import COMMANDS
 
-IN_BLOCKS = ("Vertex", "Color", "TexCoord", "End")
+IN_BLOCKS = [row.name for row in BY_OPCODE if row.place != OUTSIDE]
 # How many codes the first numbers of a command have.
-CODES = {"Begin": (3,), "Enable": (6,), "Disable": (6,), "MatrixMode": (2,), "AlphaFunc": (8,), "DepthFunc": (8,), "BlendFunc": (10, 10), "CullFace": (3,),
-         "FrontFace": (2,), "BindTexture": (2,), "TexEnv": (2,), "TexWrap": (2, 2)}
+CODES = {row.name: code_counts(row) for row in BY_OPCODE if code_counts(row)}
 IDENTITY = tuple(65536 if i % 5 == 0 else 0 for i in range(16))
 MOST_VERTICES, MOST_MATRICES, MOST_NAMES, LONGEST_SIDE = 16_383, 32, 64, 256
 

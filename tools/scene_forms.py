@@ -6,29 +6,23 @@ of its opcode, its numbers and its texels. A scene of version 3 has call lists: 
 import re
 import struct
 
+from command_table import BY_OPCODE, LIST_ROWS, layout
+
 LONGEST = 33_554_432
 MOST_COMMANDS, MOST_PIXELS, MOST_HELD = 1_048_576, 2_147_483_648, 33_554_432
 # The versions that a text has, and `unpack`; and those of the jobs that draw or judge a scene.
 VERSIONS, DRAWN_VERSIONS = (1, 2), (1, 2, 3)
 
 # Each opcode's name and the layout of its numbers, as `struct` writes it. The texels of a picture follow its numbers, the last two of which are its sides.
-COMMANDS = {
-    0x01: ("Begin", "B"), 0x02: ("End", ""), 0x03: ("Vertex", "4i"), 0x04: ("Color", "4B"), 0x05: ("TexCoord", "2i"), 0x06: ("Enable", "B"),
-    0x07: ("Disable", "B"), 0x08: ("MatrixMode", "B"), 0x09: ("LoadIdentity", ""), 0x0A: ("LoadMatrix", "16i"), 0x0B: ("MultMatrix", "16i"),
-    0x0C: ("PushMatrix", ""), 0x0D: ("PopMatrix", ""), 0x0E: ("Viewport", "4i"), 0x0F: ("DepthRange", "2i"), 0x10: ("Scissor", "4i"),
-    0x11: ("AlphaFunc", "2B"), 0x12: ("DepthFunc", "B"), 0x13: ("DepthMask", "B"), 0x14: ("BlendFunc", "2B"), 0x15: ("ColorMask", "4B"),
-    0x16: ("ClearColor", "4B"), 0x17: ("ClearDepth", "i"), 0x18: ("Clear", "B"), 0x19: ("CullFace", "B"), 0x1A: ("FrontFace", "B"),
-    0x1B: ("BindTexture", "2B"), 0x1C: ("TexEnv", "B"), 0x1D: ("TexWrap", "2B"), 0x1E: ("TexImage", "B2H"), 0x1F: ("TexPart", "B4H"),
-    0x20: ("SharedImage", "B4H"), 0x21: ("Barrier", "B"), 0x22: ("SemP", "B"), 0x23: ("SemV", "B"), 0x24: ("Swap", ""),
-}
+COMMANDS = {row.opcode: (row.name, layout(row)) for row in BY_OPCODE}
 # Those that version 3 has beside them.
-LIST_COMMANDS = {0x25: ("NewList", "B"), 0x26: ("EndList", ""), 0x27: ("CallList", "B")}
+LIST_COMMANDS = {row.opcode: (row.name, layout(row)) for row in LIST_ROWS}
 ALL_COMMANDS = {**COMMANDS, **LIST_COMMANDS}
 OPCODES = {name: opcode for opcode, (name, _) in COMMANDS.items()}
 ALL_OPCODES = {name: opcode for opcode, (name, _) in ALL_COMMANDS.items()}
 LAYOUTS = {opcode: struct.Struct("<" + layout) for opcode, (_, layout) in ALL_COMMANDS.items()}
 SWAP = OPCODES["Swap"]
-PICTURES = tuple(OPCODES[name] for name in ("TexImage", "TexPart", "SharedImage"))
+PICTURES = tuple(row.opcode for row in BY_OPCODE if any(field.kind == "sides" for field in row.fields))
 
 
 class Refused(Exception):
@@ -197,11 +191,6 @@ DECLARED = {"scene": (1, (0, 0), "BHH"), "shared": (2, (1, 2), "HH"), "barrier":
 RANGES = {"B": (0, 255), "H": (0, 65535), "i": (-2147483648, 2147483647)}
 
 
-def letters(layout):
-    """One letter for each number."""
-    return re.sub(r"(\d+)(\w)", lambda match: match[2] * int(match[1]), layout)
-
-
 def number_of(word, letter):
     """The number of a word, or None where it isn't one of this range."""
     if not re.fullmatch(r"-?[0-9]{1,10}", word):
@@ -221,10 +210,10 @@ def read_line(scene, rank, line):
     name, rest = words[0], words[1:]
     if name not in DECLARED and name not in OPCODES:
         raise ValueError("UnknownWord")
-    own, (least, most), layout = DECLARED.get(name) or (5, (5, 5), COMMANDS[OPCODES[name]][1])
+    own, (least, most), letters = DECLARED.get(name) or (5, (5, 5), COMMANDS[OPCODES[name]][1])
     if not least <= rank <= most:
         raise ValueError("OutOfPlace")
-    numbers = read_numbers(name, rest, letters(layout))
+    numbers = read_numbers(name, rest, letters)
     texels = read_texels(numbers, rest[len(numbers):])
     if name in OPCODES:
         scene.streams[-1].append((OPCODES[name], tuple(numbers), texels))
@@ -237,10 +226,10 @@ def read_line(scene, rank, line):
     return own
 
 
-def read_numbers(name, rest, layout):
+def read_numbers(name, rest, letters):
     """The numbers of a line, where it has as many words as are due."""
-    count = len(layout)
-    numbers = [number_of(word, letter) for word, letter in zip(rest, layout)]
+    count = len(letters)
+    numbers = [number_of(word, letter) for word, letter in zip(rest, letters)]
     more = (0, 0)
     if OPCODES.get(name) in PICTURES and len(numbers) == count:
         w, h = numbers[-2:]

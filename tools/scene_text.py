@@ -27,8 +27,8 @@ from scene_bytes import (
 )
 
 DECLARED, PICTURES = scene_forms.DECLARED, scene_forms.PICTURES
-LAYOUTS = {name: scene_forms.letters(layout) for name, (_, _, layout) in DECLARED.items()}
-LAYOUTS.update((name, scene_forms.letters(layout)) for name, layout in ALL_COMMANDS.values())
+LAYOUTS = {name: layout for name, (_, _, layout) in DECLARED.items()}
+LAYOUTS.update(ALL_COMMANDS.values())
 LIST_NAMES = [name for name, _ in scene_forms.LIST_COMMANDS.values()]
 PRINTED = re.compile(rb"[\x20-\x7e]*")
 # The quantities of a scene that lines declare, and which of a line's words they are.

@@ -85,7 +85,7 @@ def client_drawings(scene, client, refused, with_boxes):
                 client, place, "block", what, cut_to(window, box), lines_of(placed, begun)
             )
         elif placed[0] == CLEAR:
-            x, y, wide, high = context.scissor if context.scissor_on else (0, 0, *window)
+            x, y, wide, high = context.values["Scissor"] if context.scissor_on else (0, 0, *window)
             box = cut_to(window, (x, y, x + wide, y + high))
             yield Drawing(client, place, "clear", scene_bytes.told(placed), box, lines_of(placed))
         elif placed[0] == SHARED_IMAGE:

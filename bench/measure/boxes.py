@@ -58,7 +58,7 @@ def counted(scene, tiles):
                     pixels[i] += covered
             elif name == "Clear":
                 window = [0, 0, scene.width, scene.height]
-                x, y, w, h = context.scissor if context.scissor_on else window
+                x, y, w, h = context.values["Scissor"] if context.scissor_on else window
                 others += tiles.met([x, y, x + w, y + h])[0]
             elif opcode in SENT_TO_ALL:
                 others += tiles.count

@@ -18,40 +18,32 @@ import time
 
 sys.path.append(str(pathlib.Path(__file__).resolve().parents[2] / "tools"))
 
+import scene_faults
 import scene_forms
 import scene_lists
+from command_table import CAPABILITIES, first_values
 from program import EXAMPLES, built
 
 CAPTURED = ("glxgears", "cityflow", "voronoi", "programs")
 TIMES = 5
 MEETING = tuple(scene_forms.OPCODES[name] for name in ("Barrier", "Swap"))
-# What a context has at first; a client's commands go on under its own state, so where clients take
-# turns in one stream each has to set the state anew.
-SETTERS = {scene_forms.OPCODES[name] for name in (
-    "Viewport", "DepthRange", "Scissor", "AlphaFunc", "DepthFunc", "DepthMask", "BlendFunc",
-    "ColorMask", "ClearColor", "ClearDepth", "CullFace", "FrontFace", "BindTexture", "TexEnv",
-    "TexWrap")}
-ENABLE, DISABLE, TEX_IMAGE, BIND = (scene_forms.OPCODES[name] for name in (
-    "Enable", "Disable", "TexImage", "BindTexture"))
-FIRST = {"DepthRange": (0, 65536), "AlphaFunc": (7, 0), "DepthFunc": (1,), "DepthMask": (1,),
-         "BlendFunc": (1, 0), "ColorMask": (1, 1, 1, 1), "ClearColor": (0, 0, 0, 0),
-         "ClearDepth": (65536,), "CullFace": (1,), "FrontFace": (0,), "BindTexture": (0, 1),
-         "TexEnv": (0,), "TexWrap": (0, 0)}
+ENABLE, DISABLE, TEX_IMAGE = (scene_forms.OPCODES[name] for name in (
+    "Enable", "Disable", "TexImage"))
 
 
 class State:
-    """What a client has set so far."""
+    """What a client has set so far outside of blocks. A client's commands go on under its own
+    state, so where clients take turns in one stream each has to set the state anew."""
 
     def __init__(self, scene):
-        self.values = {scene_forms.OPCODES[name]: numbers for name, numbers in FIRST.items()}
-        window = (0, 0, scene.width, scene.height)
-        self.values[scene_forms.OPCODES["Viewport"]] = window
-        self.values[scene_forms.OPCODES["Scissor"]] = window
-        self.switches, self.images = dict.fromkeys(range(6), False), {}
+        first = first_values(scene.width, scene.height)
+        self.values = {scene_forms.OPCODES[name]: numbers for name, numbers in first.items()
+                       if name not in scene_faults.IN_BLOCKS}
+        self.switches, self.images = dict.fromkeys(range(len(CAPABILITIES.split())), False), {}
 
     def take(self, command):
         opcode, numbers, _ = command
-        if opcode in SETTERS:
+        if opcode in self.values:
             self.values[opcode] = numbers
         elif opcode in (ENABLE, DISABLE):
             self.switches[numbers[0]] = opcode == ENABLE

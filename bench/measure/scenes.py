@@ -38,9 +38,14 @@
 Words after these: `noswap` leaves the swaps out, so nothing is written; `nodraw` puts all vertices at one place, so nothing is covered; `v2` makes the scene
 one of version 2.
 """
+import pathlib
 import random
 import struct
 import sys
+
+sys.path.append(str(pathlib.Path(__file__).resolve().parents[2] / "tools"))
+
+import command_table
 
 BEGIN, END, VERTEX, COLOR, TEX_COORD, ENABLE, DISABLE, LOAD_MATRIX = 1, 2, 3, 4, 5, 6, 7, 0x0A
 ALPHA_FUNC, DEPTH_FUNC, BLEND_FUNC, COLOR_MASK, CLEAR_COLOR, CLEAR = 0x11, 0x12, 0x14, 0x15, 0x16, 0x18
@@ -211,10 +216,7 @@ def windows(setup, colors, nearer=False):
     return make
 
 
-FACTORS = (
-    "ZERO ONE SRC_COLOR ONE_MINUS_SRC_COLOR DST_COLOR ONE_MINUS_DST_COLOR SRC_ALPHA ONE_MINUS_SRC_ALPHA DST_ALPHA ONE_MINUS_DST_ALPHA".split()
-)
-FUNCTIONS = "NEVER LESS EQUAL LEQUAL GREATER NOTEQUAL GEQUAL ALWAYS".split()
+FACTORS, FUNCTIONS = command_table.FACTORS.split(), command_table.FUNCTIONS.split()
 
 
 def blending(first, second):
@@ -231,7 +233,7 @@ def texturing(environment, wrap):
 def state_table():
     """The states of `way`: name, commands that set the state, whether there is a texture."""
     plain = [("no stage", [], False)]
-    pairs = [(f"{FACTORS[a]}, {FACTORS[b]}", blending(a, b), False) for a in range(10) for b in range(10)]
+    pairs = [(f"{first}, {second}", blending(a, b), False) for a, first in enumerate(FACTORS) for b, second in enumerate(FACTORS)]
     tests = [(f"depth {FUNCTIONS[f]}", [byte_fields(ENABLE, DEPTH_TEST), byte_fields(DEPTH_FUNC, f)], False) for f in range(8)]
     alpha = [byte_fields(ENABLE, ALPHA_TEST)]
     tests += [(f"alpha {FUNCTIONS[f]}", alpha + [byte_fields(ALPHA_FUNC, f, 160)], False) for f in range(8)]

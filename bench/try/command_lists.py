@@ -1,16 +1,16 @@
 #!/usr/bin/env python3
-"""Holds every list of commands, fields and codes that stands outside of the crates against the table of the definitions.
+"""Holds the tools' table of commands, and what follows from it, against the table of the definitions.
 
     command_lists.py
 
-The table is `table_row` of rc_base/specs/Formats/Commands.antt: opcode, name, fields and placement of each command; the commands with call lists and their numbers
-are those of Formats/Spelling.antt, and the ranges of quantities those of Formats/Limits.antt. By it are judged the table of docs/scene-format.md, the second
-reader's table (tools/scene_forms.py), the second judge's codes and placements (scene_faults.py), the names of fields and codes (scene_bytes.py), the constants
-of gl.py, the first values of gl_trace/encoding.py and contexts.py, and the ranges of ranges.py and docs/scene-format.md.
+The table of the definitions is `table_row` of rc_base/specs/Formats/Commands.antt: opcode, name, fields and placement of each command; the commands with call
+lists and their numbers are those of Formats/Spelling.antt, and the ranges of quantities those of Formats/Limits.antt. By it is judged what follows from the rows
+of tools/command_table.py: the second reader's table (scene_forms.py), the second judge's codes and placements (scene_faults.py), the names of fields and codes
+(scene_bytes.py), calls and constants of gl.py, and first values; by fragment_ops (factors.rt) the names of blend factors; and by the ranges those of ranges.py and of docs/scene-format.md. The tables of documents that
+are made of these rows are held by made_tables.py.
 
 A line is printed for each that differs, last `N passed, M failed`; the status is 1 where something failed."""
 import re
-import struct
 import sys
 from collections import namedtuple
 from pathlib import Path
@@ -18,21 +18,17 @@ from pathlib import Path
 TOP = Path(__file__).resolve().parents[2]
 sys.path.append(str(TOP / "tools"))
 
-import contexts
+import command_table
 import gl
 import ranges
 import scene_bytes
 import scene_faults
 import scene_forms
-from gl_trace import encoding
 
 SPECS = TOP / "crates" / "rc_base" / "specs" / "Formats"
 ROW = re.compile(r'^table_row op\.(\w+) = row (0x\w+) \(codes "(\w+)"\) \(?(.*?)(?:∷ )?\[\]\)? (Inside|Outside|Anywhere)$', re.M)
-# The letters of `struct` for the fields of a kind, and for a field's name in docs/scene-format.md.
+# The letters of `struct` for the fields of a kind.
 LETTERS = {"Byte": "B", "Half": "H", "Word": "i", "Code": "B", "Bytes": "B", "Words": "i", "Image": "HH"}
-TYPES = {"u8": "B", "u16": "H", "i32": "i"}
-# Codes whose constants in gl.py have another name, since another one has it: ONE is 65536 there.
-OTHER_NAMES = {"ONE": "SOURCE_ONE", "COLOR": "COLOR_BIT", "DEPTH": "DEPTH_BIT"}
 
 # A command: its opcode and name, the letters of its numbers, the count of codes of each number (None where it has none), and where it may stand.
 Command = namedtuple("Command", "opcode name letters codes placement")
@@ -68,20 +64,31 @@ def table():
     return {row.name: row for row in rows}
 
 
+def field_names():
+    """The names that the definitions have for the numbers of a command, where each has its own."""
+    text = (SPECS / "Commands.antt").read_text()
+    for name, told in re.findall(r"^fields_of \(?cmd\.(\w+)[^=]*= (.*)$", text, re.M):
+        names = re.sub(r"record {.*?}", "w, h", told).replace("(", "").replace(")", "").split(", ")
+        yield name, [word.split(".")[-1] for word in names[:-1]]
+
+
+def factor_names():
+    """The names of the codes of blend factors, as the code that draws has them."""
+    text = (TOP / "crates" / "fragment_ops" / "src" / "factors.rt").read_text()
+    named = re.findall(r"^ +(?:\d+|_) => Factor::(\w+),$", text, re.M)
+    return [re.sub(r"(?<=[a-z])(?=[A-Z])", "_", name).upper() for name in named]
+
+
 def list_numbers():
     """The opcodes of the commands that make lists and call them."""
     text = (SPECS / "Spelling.antt").read_text()
     return {name: int(number, 16) for name, number in re.findall(r"^list_opcode_number list_op\.(\w+) = (0x\w+)$", text, re.M)}
 
 
-def laid_out(layout):
-    """Each letter of a layout of `struct` by itself: 4i is iiii."""
-    return "".join(letter * int(count or 1) for count, letter in re.findall(r"(\d*)([A-Za-z])", layout))
-
-
 def try_reader(count, rows, lists):
-    own = {opcode: (name, laid_out(layout)) for opcode, (name, layout) in scene_forms.COMMANDS.items()}
-    count.same("tools/scene_forms.py: COMMANDS", own, {row.opcode: (row.name, row.letters) for row in rows.values()})
+    due = {row.opcode: (row.name, row.letters) for row in rows.values()}
+    for opcode in due.keys() | scene_forms.COMMANDS.keys():
+        count.same(f"tools/scene_forms.py: {opcode:02x} of COMMANDS", scene_forms.COMMANDS.get(opcode), due.get(opcode))
     count.same("tools/scene_forms.py: LIST_COMMANDS", {name: opcode for opcode, (name, _) in scene_forms.LIST_COMMANDS.items()}, lists)
     pictures = tuple(row.opcode for row in rows.values() if row.letters.endswith("HH") and row.letters != "HH")
     count.same("tools/scene_forms.py: PICTURES", scene_forms.PICTURES, pictures)
@@ -100,7 +107,7 @@ def try_judge(count, rows):
 
 
 def try_names(count, rows):
-    """Names of fields and codes, and the constants of gl.py."""
+    """Names of fields and codes."""
     for row in rows.values():
         numbers = len(row.letters)
         if 0 < numbers <= 8:
@@ -108,56 +115,38 @@ def try_names(count, rows):
         for at, codes in enumerate(row.codes):
             if codes:
                 count.same(f"tools/scene_bytes.py: CODES of {row.name}, {at}", len(scene_bytes.CODES.get((row.name, at), [])), codes)
+    for name, names in field_names():
+        if name in rows and len(names) == len(rows[name].letters):
+            count.same(f"tools/command_table.py: fields of {name}", scene_bytes.FIELDS.get(name, "").split(), names)
+    count.same("tools/command_table.py: FACTORS", command_table.FACTORS.split(), factor_names())
     for name in scene_bytes.FIELDS:
         known = name in rows or name in ("NewList", "CallList", "scene", "shared", "barrier", "semaphore")
         count.same(f"tools/scene_bytes.py: {name} of FIELDS is known", known, True)
-    for (command, at), names in scene_bytes.CODES.items():
+    for command, at in scene_bytes.CODES:
         count.same(f"tools/scene_bytes.py: {command} of CODES is known", command in rows and at < len(rows[command].letters), True)
-        for number, name in enumerate(names):
-            if " " not in name and name != "nothing":
-                constant = OTHER_NAMES.get(name, name) if name == "ONE" or command == "Clear" else name
-                count.same(f"tools/gl.py: {constant} of {command}", getattr(gl, constant, None), number)
+
+
+def try_gl(count):
+    """Each command has a call, and each code and bit its constant, which no other one has."""
+    for row in command_table.ROWS:
+        name = row.call.partition("(")[0]
+        count.same(f"tools/gl.py: a call {name}", callable(getattr(gl.Client, name, None)), True)
+    for name, number in command_table.constants():
+        name = gl.OTHER_NAMES.get(name, name)
+        count.same(f"tools/gl.py: {name}", getattr(gl, name, None), number)
 
 
 def try_values(count, rows):
     """First values have a number for each field, each a code that there is."""
-    for where, values in (("gl_trace/encoding.py: FIRST", encoding.FIRST), ("contexts.py: first_values", contexts.first_values(8, 8))):
-        for name, numbers in values.items():
-            if name in rows:
-                row = rows[name]
-                right = len(numbers) == len(row.letters) and all(code is None or number < code for number, code in zip(numbers, row.codes))
-                count.same(f"tools/{where} of {name} has its fields", right, True)
+    for name, numbers in command_table.first_values(8, 8).items():
+        row = rows.get(name, Command(0, name, "", (), ""))
+        right = len(numbers) == len(row.letters) and all(code is None or number < code for number, code in zip(numbers, row.codes))
+        count.same(f"tools/command_table.py: first of {name} has its fields", right, True)
 
 
-def row_letters(cell):
-    """The numbers that a cell of docs/scene-format.md names: `x, y, w, h u16` are four, `16 of i32` sixteen."""
-    found = re.match(r"(\d+) of (\w+)$", cell)
-    if found:
-        return TYPES[found[2]] * int(found[1])
-    letters, names = "", 0
-    for part in re.split(r"[,;]", re.sub(r": [^;]*", "", cell.replace(", texels", ""))):
-        kind = re.search(r"\b(u8|u16|i32)\b(?: for (.*))?", part)
-        names += 1
-        if kind:
-            letters += TYPES[kind[1]] * names
-            names = 0
-            if kind[2]:
-                letters += TYPES[kind[1]] * cell.split(" for ")[1].count(",")
-    return letters
-
-
-def try_page(count, rows):
+def try_page(count):
+    """The ranges of quantities, in the page and in the tools."""
     page = (TOP / "docs" / "scene-format.md").read_text()
-    seen = {}
-    for numbers, names, cell in re.findall(r"^\| ([0-9a-f]{2}(?:, [0-9a-f]{2})*) \| (`[A-Z]\w+`(?:, `[A-Z]\w+`)*) \| (.*?) ?\|$", page, re.M):
-        for number, name in zip(numbers.split(", "), re.findall(r"`(\w+)`", names)):
-            if int(number, 16) < 0x25:
-                seen[name] = (int(number, 16), row_letters(cell.strip()))
-                told = re.findall(r"(?<![\w-])(\d+) [A-Za-z]\w+", cell.split("u8:")[1]) if "u8:" in cell and name in rows else []
-                codes = max((code for code in rows[name].codes if code), default=0) if name in rows else 0
-                if told and codes:
-                    count.same(f"docs/scene-format.md: codes of {name}", len(told), codes)
-    count.same("docs/scene-format.md: the table of commands", seen, {row.name: (row.opcode, row.letters) for row in rows.values()})
     due = quantities()
     named = re.findall(r"^\| (\d+) \| `([a-z ]+)` \| .* \| (\d+) to (\d+)\b", page, re.M)
     count.same("docs/scene-format.md: the limits' names", [name for _, name, _, _ in named], list(ranges.RANGES))
@@ -182,8 +171,9 @@ def main():
     try_reader(count, rows, list_numbers())
     try_judge(count, rows)
     try_names(count, rows)
+    try_gl(count)
     try_values(count, rows)
-    try_page(count, rows)
+    try_page(count)
     print(f"{count.passed} passed, {count.failed} failed")
     return 1 if count.failed else 0
 

@@ -54,6 +54,7 @@ import list_scenes
 import scene_faults
 import scene_forms
 import scene_lists
+from command_table import BY_OPCODE
 from program import EXAMPLES, built
 from scene_forms import ALL_COMMANDS, DRAWN_VERSIONS, PICTURES, Refused
 
@@ -111,6 +112,9 @@ TINY = (
     # eight clients, most of them with little
     f"scene 1 16 9;barrier 8;client;{FULL};Barrier 1;Swap" + ";client;Barrier 1;Swap" * 6 + f";client;Barrier 1;{FAN};Swap",
 )
+# And each command that none of them names.
+UNNAMED = [row for row in BY_OPCODE if not re.search(rf"\b{row.name}\b", ";".join(TINY))]
+TINY += tuple(f"scene 1 9 7;client;{' '.join([row.name, *['1'] * len(row.fields)])};{STRIP};Swap" for row in UNNAMED)
 
 BYTES = (0, 1, 2, 3, 8, 9, 0x1E, 0x20, 0x21, 0x22, 0x23, 0x24, 0x25, 0x26, 0x27, 0x40, 0x41, 0x7F, 0x80, 0xFE, 0xFF)
 NUMBERS = {1: BYTES, 2: (0, 1, 2, 3, 8, 255, 256, 1023, 1024, 1025, 2047, 2048, 2049, 32767, 32768, 65535),

@@ -13,6 +13,7 @@ import ppm
 import scene_bytes
 import scene_forms
 import scene_text
+from command_table import BY_OPCODE
 from scene_bytes import Scene
 
 # Examples with several frames, each behind these filters.
@@ -120,36 +121,36 @@ def sides(pick):
     return *(pick.randrange(-3, 6) for _ in range(2)), *(pick.randrange(1, 14) for _ in range(2))
 
 
-# Commands that set something, with what makes their numbers.
-SETTING = {
-    "Color": lambda pick: [pick.randrange(256) for _ in range(4)],
+# Commands that aren't drawn by lot here, and what makes the numbers of those whose numbers aren't
+# any: the last two are refused, for no such barrier and no such code.
+APART = "End Vertex Clear TexImage TexPart SharedImage SemP SemV Swap".split()
+NUMBERS = {
     "TexCoord": lambda pick: [pick.randrange(99999) for _ in range(2)],
-    "Enable": lambda pick: [pick.randrange(6)],
-    "Disable": lambda pick: [pick.randrange(6)],
-    "MatrixMode": lambda pick: [pick.randrange(2)],
-    "LoadIdentity": lambda pick: [],
     "LoadMatrix": matrix,
     "MultMatrix": matrix,
-    "PushMatrix": lambda pick: [],
-    "PopMatrix": lambda pick: [],
     "Viewport": sides,
     "Scissor": sides,
-    "DepthRange": lambda pick: [pick.randrange(65537), pick.randrange(65537)],
     "AlphaFunc": lambda pick: [pick.choice((4, 6, 7, 7)), pick.randrange(200)],
-    "DepthFunc": lambda pick: [pick.randrange(8)],
-    "DepthMask": lambda pick: [pick.randrange(2)],
-    "BlendFunc": lambda pick: [pick.randrange(10), pick.randrange(10)],
     "ColorMask": lambda pick: [pick.randrange(4) > 0 for _ in range(4)],
-    "ClearColor": lambda pick: [pick.randrange(256) for _ in range(4)],
     "ClearDepth": lambda pick: [pick.choice((65536, 30000, 70000))],
-    "CullFace": lambda pick: [pick.randrange(3)],
-    "FrontFace": lambda pick: [pick.randrange(2)],
     "BindTexture": lambda pick: [pick.randrange(2), pick.randrange(1, 3)],
-    "TexEnv": lambda pick: [pick.randrange(2)],
-    "TexWrap": lambda pick: [pick.randrange(2), pick.randrange(2)],
-    # refused ones: no such barrier, no such code
     "Barrier": lambda pick: [9],
     "Begin": lambda pick: [7],
+}
+RANGES = {"byte": 256, "half": 65536, "whole": 65536, "fixed": 65537, "share": 256, "flag": 2}
+
+
+def any_numbers(row):
+    """What makes numbers of a command's fields."""
+    ranges = [RANGES.get(field.kind) or len(field.names) for field in row.fields]
+    return lambda pick: [pick.randrange(count) for count in ranges]
+
+
+# Commands that set something, with what makes their numbers.
+SETTING = {
+    row.name: NUMBERS.get(row.name) or any_numbers(row)
+    for row in BY_OPCODE
+    if row.name not in APART
 }
 
 

@@ -3,6 +3,8 @@ what is repeated in them as call lists."""
 import collections
 import struct
 
+from command_table import FIRST
+
 from .faults import Refused
 from .items import BARRIER, SWAP, Clear, command
 from .limits import (LAYOUTS, MOST_BYTES, MOST_COMMANDS, MOST_COST, MOST_LISTS, MOST_PIXELS,
@@ -10,11 +12,6 @@ from .limits import (LAYOUTS, MOST_BYTES, MOST_COMMANDS, MOST_COST, MOST_LISTS, 
 
 PACKET = 1024       # commands
 SIZES = bytes(LAYOUTS[opcode].size if opcode in LAYOUTS else 0 for opcode in range(256))
-# What a context has at first.
-FIRST = {"ColorMask": (1, 1, 1, 1), "DepthMask": (1,), "DepthRange": (0, 65536),
-         "ClearDepth": (65536,), "DepthFunc": (1,), "AlphaFunc": (7, 0), "BlendFunc": (1, 0),
-         "CullFace": (1,), "FrontFace": (0,), "TexEnv": (0,), "TexWrap": (0, 0),
-         "BindTexture": (0, 1), "ClearColor": (0, 0, 0, 0)}
 SCISSOR, ALPHA = 0, 1       # capabilities; DEPTH, BLEND, CULL and TEXTURE follow
 
 

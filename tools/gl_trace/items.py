@@ -1,6 +1,8 @@
 """What a conversion draws: blocks of vertices with all state that they need, clears, and marks."""
 import collections
 
+import command_table
+
 from .limits import OPCODES
 
 State = collections.namedtuple("State", "viewport depth_range scissor alpha depth blend color_mask "
@@ -12,14 +14,11 @@ Clear = collections.namedtuple("Clear", "scissor color_mask depth_mask color dep
 SWAP, BARRIER = "swap", "barrier"
 
 TRIANGLES, STRIP, FAN = 0, 1, 2
-FUNCTIONS = {"GL_" + name: code for code, name in enumerate(
-    "NEVER LESS EQUAL LEQUAL GREATER NOTEQUAL GEQUAL ALWAYS".split())}
-FACTORS = {"GL_" + name: code for code, name in enumerate(
-    "ZERO ONE SRC_COLOR ONE_MINUS_SRC_COLOR DST_COLOR ONE_MINUS_DST_COLOR SRC_ALPHA "
-    "ONE_MINUS_SRC_ALPHA DST_ALPHA ONE_MINUS_DST_ALPHA".split())}
+FUNCTIONS = command_table.code_numbers(command_table.FUNCTIONS, "GL_")
+FACTORS = command_table.code_numbers(command_table.FACTORS, "GL_")
 # Names that apitrace prints for 0 and 1, which several constants of OpenGL are.
 FACTORS.update({"GL_NONE": 0, "GL_FALSE": 0, "GL_POINTS": 0, "GL_TRUE": 1, "GL_LINES": 1})
-FACES = {"GL_FRONT": 0, "GL_BACK": 1, "GL_FRONT_AND_BACK": 2}
+FACES = command_table.code_numbers(command_table.FACES, "GL_")
 
 W = 1 << 24     # of every vertex: depth keeps 24 bits, and x and y reach 127 times the viewport
 
