@@ -7,6 +7,8 @@
   source: the names of the clauses of its contract, and the first sentence of its comment. Every other row stands in docs/proved.rows as it is in the page: one
   that says more than the comment, or says it clause by clause. Calls without a line come behind the others of their crate.
 - The column *stands on* of docs/architecture.md, from crates.txt: all but rc_base, the crates of lemmas and those of the kit.
+- The commands and their codes in docs/scene-format.md, the commands there that are refused for a code, and the codes in docs/drawing.md, from the tools' table of
+  commands, which command_lists.py holds against that of the definitions.
 
 A line is printed for each difference: a table that isn't what it is made to be, a clause of docs/proved.rows that the contract doesn't have, a call there that
 isn't handed out, a call that has neither comment nor line, a crate without a row. With --write the tables are written; with --by-hand the rows of
@@ -16,6 +18,7 @@ import re
 import sys
 from collections import namedtuple
 
+import command_pages
 import contracts
 import public_calls
 from public_calls import TOP
@@ -199,6 +202,17 @@ def with_edges(count, house):
     return made
 
 
+def with_commands(count, page):
+    """The lines of a document with its parts that tell commands and codes made anew."""
+    lines = page.read_text().splitlines()
+    for document, first, further, made in command_pages.PARTS:
+        if document == page.name:
+            whole = command_pages.with_part(lines, first, further, made)
+            count.judge(whole, f"docs/{page.name} has no line `{first}`")
+            lines = whole or lines
+    return lines
+
+
 def hold(count, page, made, write):
     old = page.read_text().splitlines()
     if write:
@@ -239,6 +253,9 @@ def main():
         return 0
     hold(count, PAGE, with_tables(count, house, sections), args.write)
     hold(count, PLAN, with_edges(count, house), args.write)
+    for name in dict.fromkeys(document for document, *_ in command_pages.PARTS):
+        page = TOP / "docs" / name
+        hold(count, page, with_commands(count, page), args.write)
     print(f"{count.passed} passed, {count.failed} failed")
     return 1 if count.failed else 0
 
