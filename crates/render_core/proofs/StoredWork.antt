@@ -1,5 +1,5 @@
 -- What a task works on whose scene is stored in little room.
-use Rattle.std.proofs.Common.{◌≡◌, ℕ, true, List, [], map, None, Ok, Err, refl, sym, ap, ap₂, subst}
+use Rattle.std.proofs.Common.{◌≡◌, ℕ, true, List, [], map, Ok, Err, refl, sym, ap, ap₂, subst}
 use Rattle.std.specs.declared.result.Result.{Result}
 use Rattle.rc_base.specs.Outside.Ends.{Used}
 use Rattle.rc_base.specs.declared.scene.Scene.{Scene}
@@ -19,27 +19,27 @@ use Rattle.render_core.specs.Carried.{IsObtained, IsSoundWork}
 use Rattle.render_core.specs.Due.{work_on}
 use Rattle.render_core.specs.Refusals.{IsMadeFor, MakesDue}
 use Rattle.render_core.specs.Scenes.{rules_for, work_with}
-use Rattle.render_core.specs.Stored.{IsAnySoundWork, takes_turns, work_in}
+use Rattle.render_core.specs.Stored.{IsAnySoundWork, reads_stored, work_in}
 use Rattle.render_core.specs.declared.due.Due.{Due}
 use Rattle.render_core.specs.declared.work.AnyWork.{AnyWork}
 use Rattle.render_core.specs.declared.work.AnyWork.TheVariants.{Whole}
 use Rattle.render_core.proofs.PlainScenes.{no_rules_behind, plain_scene}
 
 -- such a job reads bytes
-pub reads_bytes : (job : Job) → takes_turns job ≡ true → origin_of job ≡ Read Bytes
-reads_bytes Serial turns = refl
-reads_bytes Check turns = refl
-reads_bytes (Render cluster) turns = cc
-reads_bytes (Simulate seed cluster) turns = cc
-reads_bytes Last turns = cc
-reads_bytes Race turns = cc
-reads_bytes Pack turns = cc
-reads_bytes Unpack turns = cc
-reads_bytes (Gen seed size) turns = cc
-reads_bytes (Demo seed size cluster) turns = cc
+pub reads_bytes : (job : Job) → reads_stored job ≡ true → origin_of job ≡ Read Bytes
+reads_bytes Serial stored = refl
+reads_bytes Check stored = refl
+reads_bytes (Render cluster) stored = refl
+reads_bytes (Simulate seed cluster) stored = cc
+reads_bytes Last stored = cc
+reads_bytes Race stored = cc
+reads_bytes Pack stored = cc
+reads_bytes Unpack stored = cc
+reads_bytes (Gen seed size) stored = cc
+reads_bytes (Demo seed size cluster) stored = cc
 
-pub reads : (job : Job) → takes_turns job ≡ true → Reads job
-reads job turns = (Bytes, reads_bytes job turns)
+pub reads : (job : Job) → reads_stored job ≡ true → Reads job
+reads job stored = (Bytes, reads_bytes job stored)
 
 -- ---- behind a chain without members
 
@@ -51,39 +51,39 @@ module _ (members : MembersFollow) (chains : ChainsFollow) (scene : Scene) where
   alone = ap₂ (λ (x : Scene) (l : List ℕ). work_on x [] l) (sym (plain_scene members chains scene)) counted
 
   -- a scene without call lists is worked on as it is
-  plain_work_of : (job : Job) → takes_turns job ≡ true → work_on scene [] [] ≡ work_with (task_of [] job) scene []
-  plain_work_of Serial turns = alone
-  plain_work_of Check turns = alone
-  plain_work_of (Render cluster) turns = cc
-  plain_work_of (Simulate seed cluster) turns = cc
-  plain_work_of Last turns = cc
-  plain_work_of Race turns = cc
-  plain_work_of Pack turns = cc
-  plain_work_of Unpack turns = cc
-  plain_work_of (Gen seed size) turns = cc
-  plain_work_of (Demo seed size cluster) turns = cc
+  plain_work_of : (job : Job) → reads_stored job ≡ true → work_on scene [] [] ≡ work_with (task_of [] job) scene []
+  plain_work_of Serial stored = alone
+  plain_work_of Check stored = alone
+  plain_work_of (Render cluster) stored = alone
+  plain_work_of (Simulate seed cluster) stored = cc
+  plain_work_of Last stored = cc
+  plain_work_of Race stored = cc
+  plain_work_of Pack stored = cc
+  plain_work_of Unpack stored = cc
+  plain_work_of (Gen seed size) stored = cc
+  plain_work_of (Demo seed size cluster) stored = cc
 
   -- and leaves no rules
-  plain_rules_of : (job : Job) → takes_turns job ≡ true → [] ≡ rules_for (task_of [] job) scene
-  plain_rules_of Serial turns = sym (no_rules_behind members chains scene.streams)
-  plain_rules_of Check turns = sym (no_rules_behind members chains scene.streams)
-  plain_rules_of (Render cluster) turns = cc
-  plain_rules_of (Simulate seed cluster) turns = cc
-  plain_rules_of Last turns = cc
-  plain_rules_of Race turns = cc
-  plain_rules_of Pack turns = cc
-  plain_rules_of Unpack turns = cc
-  plain_rules_of (Gen seed size) turns = cc
-  plain_rules_of (Demo seed size cluster) turns = cc
+  plain_rules_of : (job : Job) → reads_stored job ≡ true → [] ≡ rules_for (task_of [] job) scene
+  plain_rules_of Serial stored = sym (no_rules_behind members chains scene.streams)
+  plain_rules_of Check stored = sym (no_rules_behind members chains scene.streams)
+  plain_rules_of (Render cluster) stored = sym (no_rules_behind members chains scene.streams)
+  plain_rules_of (Simulate seed cluster) stored = cc
+  plain_rules_of Last stored = cc
+  plain_rules_of Race stored = cc
+  plain_rules_of Pack stored = cc
+  plain_rules_of Unpack stored = cc
+  plain_rules_of (Gen seed size) stored = cc
+  plain_rules_of (Demo seed size cluster) stored = cc
 
   -- so it is of members of which there are none
-  module _ {B : Type 0} (f : B → SpuRule) (bs : List B) (bare : bs ≡ []) (job : Job) (turns : takes_turns job ≡ true) where
+  module _ {B : Type 0} (f : B → SpuRule) (bs : List B) (bare : bs ≡ []) (job : Job) (stored : reads_stored job ≡ true) where
     pub plain_work : work_on scene [] [] ≡ work_with (task_of (map f bs) job) scene []
     plain_work =
-        subst (λ (rules : List SpuRule). work_on scene [] [] ≡ work_with (task_of rules job) scene []) (sym (ap (map f) bare)) (plain_work_of job turns)
+        subst (λ (rules : List SpuRule). work_on scene [] [] ≡ work_with (task_of rules job) scene []) (sym (ap (map f) bare)) (plain_work_of job stored)
 
     pub plain_rules : map f bs ≡ rules_for (task_of (map f bs) job) scene
-    plain_rules = subst (λ (rules : List SpuRule). rules ≡ rules_for (task_of rules job) scene) (sym (ap (map f) bare)) (plain_rules_of job turns)
+    plain_rules = subst (λ (rules : List SpuRule). rules ≡ rules_for (task_of rules job) scene) (sym (ap (map f) bare)) (plain_rules_of job stored)
 
 -- what is made with its lines is made for the work
 pub made_with : (job : Job) (work : Work) (before behind : List ℕ) → before ≡ work.refused → behind ≡ work.counted → (r : Result Due DueRefusal)

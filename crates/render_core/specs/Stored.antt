@@ -3,7 +3,7 @@ use Rattle.std.specs.Prelude.{◌≡◌, Bool, true, false, []}
 use Rattle.rc_base.specs.Outside.Ends.{Used}
 use Rattle.run_words.specs.Jobs.{Task}
 use Rattle.run_words.specs.declared.job.Job.{Job}
-use Rattle.run_words.specs.declared.job.Job.TheVariants.{Serial, Check}
+use Rattle.run_words.specs.declared.job.Job.TheVariants.{Serial, Check, Render}
 use Rattle.run_words.specs.declared.work.Work.{Work}
 use Rattle.render_core.specs.Carried.{IsSoundWork}
 use Rattle.render_core.specs.Due.{work_on}
@@ -13,11 +13,12 @@ use Rattle.render_core.specs.declared.work.AnyWork.{AnyWork}
 use Rattle.render_core.specs.declared.work.AnyWork.TheVariants as works
 use Rattle.render_core.specs.declared.work.Meaning.{Meaning}
 
--- the job goes through a scene's streams turn by turn
-abbrev pub takes_turns : Job → Bool
-takes_turns Serial = true
-takes_turns Check = true
-takes_turns _ = false
+-- the job reads its scene into little room, where it has no call lists
+abbrev pub reads_stored : Job → Bool
+reads_stored Serial = true
+reads_stored Check = true
+reads_stored (Render cluster) = true
+reads_stored _ = false
 
 -- what the bytes mean
 abbrev pub meaning_in : StoredMeaning → Meaning
@@ -29,10 +30,10 @@ abbrev pub work_in : AnyWork → Work
 work_in (works.Whole work) = work
 work_in (works.Stored scene) = work_on scene [] []
 
--- the scene is stored in little room for a job alone that takes turns
+-- the scene is stored in little room for such a job alone
 abbrev pub IsStoredFor : Job → AnyWork → Type 0
 IsStoredFor job (works.Whole work) = Unit {0}
-IsStoredFor job (works.Stored scene) = takes_turns job ≡ true
+IsStoredFor job (works.Stored scene) = reads_stored job ≡ true
 
 -- the task works on this, in a form for its job
 pub record IsAnySoundWork (task : Task) (source : Used) (work : AnyWork) : Type 0 where

@@ -10,6 +10,7 @@ ghost use Rattle.render_core.specs.Refusals.{IsWritable, outcome_of};
 ghost use Rattle.render_core.specs.Runs.{IsAccount, IsSmallRun};
 ghost use Rattle.run_words.specs.declared.refusal.DueRefusal.TheVariants.{OutOfMemory as NoMemory};
 ghost use Rattle.run_words.specs.declared.job.Form.TheVariants.{Bytes as OfBytes};
+ghost use Rattle.run_words.specs.declared.work.Work.{Work as AnyWork};
 
 use crate::due::{Due, DueImage, ending_of};
 use frame_out::frames_of;
@@ -24,7 +25,7 @@ use rc_base::window::Layout;
 use run_record::laws::whole_runs_show_frames;
 use run_words::job::Cluster;
 use run_words::refusal::DueRefusal;
-use run_words::{Ending, Work, cluster_report};
+use run_words::{Ending, Work, cluster_report, cluster_report_with};
 use std::alloc::Global;
 use step_core::{CoreRun, finish, run_schedule};
 
@@ -52,6 +53,37 @@ pub(crate) fn account_of(
     let notes = cluster_report(
         alloc,
         work,
+        faults.as_slice(),
+        tallies.as_slice(),
+        kept,
+        waiting,
+        orders,
+    )?;
+    Ok(Account {
+        notes,
+        ending: ending_of(waiting),
+    })
+}
+
+/// The same of what is known by its lines: of what was refused before the run, and of what filters counted.
+pub(crate) fn account_with(
+    alloc: Global,
+    refused: &Bytes,
+    counted: &Bytes,
+    kept: &Record,
+    tallies: &Tallies,
+    waiting: &Option<Waiting>,
+    faults: &FaultLists,
+    orders: bool,
+) -> Result<Account, OutOfMemory>
+    requires { IsSmallRun kept.now tallies.now waiting.now faults.now }
+    ensures { (work : AnyWork) (l : AnyLayout) → refused.now ≡ work.refused → counted.now ≡ work.counted
+        → IsRun work.scene l kept.now tallies.now waiting.now faults.now → IfOk result (IsAccount work l kept.now orders) }
+{
+    let notes = cluster_report_with(
+        alloc,
+        refused.as_slice(),
+        counted.as_slice(),
         faults.as_slice(),
         tallies.as_slice(),
         kept,

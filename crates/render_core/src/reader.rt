@@ -10,7 +10,9 @@ ghost use Rattle.run_words.specs.declared.job.Form.TheVariants.{PlainBytes as Of
 use command_store::StoredScene;
 use rc_base::scene::{Limit, Scene};
 use run_words::refusal::InputRefusal;
-use scene_file::{SceneFault, read_scene, read_scene_beside, read_stored_scene};
+use scene_file::{
+    SceneFault, read_scene, read_scene_beside, read_stored_scene, read_stored_scene_beside,
+};
 use std::alloc::Global;
 use std::thread::Threads;
 
@@ -33,6 +35,13 @@ pub(crate) trait SceneReader {
         ensures read { IfOk result (λ scene. SpellsScene input.now scene × (limit_of scene ≡ None)) }
         ensures well { IfOk result (IsWellRead OfPlainBytes) }
         ensures refused { IfErr result (IsRefusedInput OfPlainBytes input.now) }
+        ensures refused_bytes { BeginPlain input.now → IfErr result (IsRefusedBytes input.now) };
+
+    /// The same, stored in little room.
+    fn stored_of_bytes(&self, alloc: Global, input: &[u8]) -> Result<StoredScene, InputRefusal>
+        requires { length input.now ≤ byte_limit }
+        ensures read { IfOk result (λ scene. SpellsScene input.now scene × (limit_of scene ≡ None)) }
+        ensures well { IfOk result (IsWellRead OfPlainBytes) }
         ensures refused_bytes { BeginPlain input.now → IfErr result (IsRefusedBytes input.now) };
 }
 
@@ -57,8 +66,7 @@ fn scene_alone(alloc: Global, input: &[u8]) -> Result<Scene, InputRefusal>
     }
 }
 
-/// The same, stored in little room.
-pub(crate) fn stored_of_bytes(alloc: Global, input: &[u8]) -> Result<StoredScene, InputRefusal>
+fn stored_alone(alloc: Global, input: &[u8]) -> Result<StoredScene, InputRefusal>
     requires { length input.now ≤ byte_limit }
     ensures read { IfOk result (λ scene. SpellsScene input.now scene × (limit_of scene ≡ None)) }
     ensures well { IfOk result (IsWellRead OfPlainBytes) }
@@ -83,14 +91,38 @@ fn scene_beside<R: Threads>(rt: &R, alloc: Global, input: &[u8]) -> Result<Scene
     }
 }
 
+fn stored_beside<R: Threads>(
+    rt: &R,
+    alloc: Global,
+    input: &[u8],
+) -> Result<StoredScene, InputRefusal>
+    requires { length input.now ≤ byte_limit }
+    ensures read { IfOk result (λ scene. SpellsScene input.now scene × (limit_of scene ≡ None)) }
+    ensures well { IfOk result (IsWellRead OfPlainBytes) }
+    ensures refused_bytes { BeginPlain input.now → IfErr result (IsRefusedBytes input.now) }
+{
+    match read_stored_scene_beside(rt, alloc, input) {
+        Ok(scene) => Ok(scene),
+        Err(fault) => Err(refusal_of(fault)),
+    }
+}
+
 impl SceneReader for Alone {
     fn scene_of_bytes(&self, alloc: Global, input: &[u8]) -> Result<Scene, InputRefusal> {
         scene_alone(alloc, input)
+    }
+
+    fn stored_of_bytes(&self, alloc: Global, input: &[u8]) -> Result<StoredScene, InputRefusal> {
+        stored_alone(alloc, input)
     }
 }
 
 impl<'a, R: Threads> SceneReader for Beside<'a, R> {
     fn scene_of_bytes(&self, alloc: Global, input: &[u8]) -> Result<Scene, InputRefusal> {
         scene_beside(self.0, alloc, input)
+    }
+
+    fn stored_of_bytes(&self, alloc: Global, input: &[u8]) -> Result<StoredScene, InputRefusal> {
+        stored_beside(self.0, alloc, input)
     }
 }

@@ -1,30 +1,36 @@
 //! The steps of a task: its scene, what the filters make of it, what is due for that, the image.
 ghost use Rattle.std.specs.Prelude.{◌≡◌, ◌≤◌, ◌⊎◌, true, false, None, Some, length, map, OnErr, IfOk, IfErr, MatchResult};
 ghost use Rattle.rc_base.specs.Formats.Limits.{limit_of};
+ghost use Rattle.rc_base.specs.Formats.Within.{IsWithin};
 ghost use Rattle.rc_base.specs.Outside.Ends.{Used, use_of};
 ghost use Rattle.rc_base.specs.declared.window.Layout.{Layout as AnyLayout};
+ghost use Rattle.order_model.specs.Report.{image_text_of};
 ghost use Rattle.run_record.specs.Told.{IsRun};
+ghost use Rattle.frame_out.specs.Writing.{IsTextWritten};
+ghost use Rattle.shown_frames.specs.Images.{GaveFrontOfRun};
 ghost use Rattle.render_core.specs.Carried.{IsSoundWork, IsWritableDue, Obtains, Performs};
 ghost use Rattle.render_core.specs.Due.{ending_by, report_due};
-ghost use Rattle.render_core.specs.Stored.{IsAnySoundWork};
+ghost use Rattle.render_core.specs.Stored.{IsAnySoundWork, work_in};
 ghost use Rattle.run_words.specs.Jobs.{Reads, Task as AnyTask, origin_of, starts_threads, threads_of};
 ghost use Rattle.render_core.specs.Outcomes.{IsDue, PartlyWritten};
 ghost use Rattle.render_core.specs.Refusals.{outcome_of, AreReady, Came, IsBlank, IsEarlyRefusal, IsLateRefusal, IsWritable, IsCaused, IsRefusedFor, IsPerformed, IsToldOf, IsUntold};
 ghost use Rattle.run_words.specs.Statuses.{refusal_status};
-ghost use Rattle.run_words.specs.Asked.{IsWell};
+ghost use Rattle.run_words.specs.Asked.{IsWell, cluster_limit, layout_for};
+ghost use Rattle.run_words.specs.declared.work.Work.{Work as WorkOn};
 ghost use Rattle.render_core.specs.Runs.{IsSmallRun};
 ghost use Rattle.run_words.specs.declared.job.Job.TheVariants.{Last as ToLast};
 
-use crate::cluster::{Account, account_of};
+use crate::cluster::{Account, account_with};
 use crate::due::{Due, last};
 use crate::generated::scene_of_seed;
 use crate::input::{meaning_of, plain};
 use crate::reader::{Alone, Beside, SceneReader};
-use crate::stored::{due_for_any, stored_work_for, takes_turns};
+use crate::stored::{due_for_any, reads_stored, stored_tiles, stored_work_for};
 use crate::work::{AnyWork, Meaning, work_behind};
 use crate::writing::{told_of, untold, write_due};
-use cluster_run::{Run, run_threads};
+use cluster_run::{Run, run_stored, run_threads};
 use order_model::laws::{records_of_scenes, scene_lists_are_well_formed};
+use rc_base::command::Bytes;
 use rc_base::gate::Gate;
 use rc_base::out_of_memory::OutOfMemory;
 use rc_base::outside::{Sink, Source};
@@ -94,8 +100,9 @@ fn work_for<B: SceneReader, S: Source>(
     }
 }
 
-// What the task of a job that starts no thread works on.
-fn any_work_for<S: Source>(
+// What the task works on, stored in little room where it can be.
+fn any_work_for<B: SceneReader, S: Source>(
+    reader: &B,
     alloc: Global,
     chain: &mut Vec<Box<dyn Spu>>,
     job: Job,
@@ -106,10 +113,10 @@ fn any_work_for<S: Source>(
         (map (λ b. meaning b) chain.old.items) (map (λ b. meaning b) chain.new.items)
         source.old source.new IsAnySoundWork result }
 {
-    if chain.is_empty() && takes_turns(job) {
-        return stored_work_for(alloc, chain, job, source);
+    if chain.is_empty() && reads_stored(job) {
+        return stored_work_for(reader, alloc, chain, job, source);
     }
-    match work_for(&Alone, alloc, chain, job, source) {
+    match work_for(reader, alloc, chain, job, source) {
         Ok(work) => Ok(AnyWork::Whole(work)),
         Err(refusal) => Err(refusal),
     }
@@ -128,7 +135,7 @@ fn due_of_source<S: Source>(
         (map (λ b. meaning b) chain.old.items) (map (λ b. meaning b) chain.new.items)
         source.old source.new IsWritableDue result }
 {
-    let work = any_work_for(alloc, chain, job, source)?;
+    let work = any_work_for(&Alone, alloc, chain, job, source)?;
     match due_for_any(alloc, job, &work) {
         Ok(due) => Ok(due),
         Err(refusal) => Err(Refusal::Undue(refusal)),
@@ -222,24 +229,89 @@ fn perform_apart<S: Source, K: Sink>(
     }
 }
 
+// A run, and the lines of what was refused before it and of what filters counted.
+#[derive(Drop)]
+struct TaskRun {
+    run: Run,
+    refused: Bytes,
+    counted: Bytes,
+}
+
 // What is left to tell of a cluster's run that has written its image.
-fn told_run(alloc: Global, work: &Work, run: Run, orders: bool) -> Result<Told, Refused>
-    requires { IsSmallRun run.kept run.tallies run.waiting run.faults }
-    ensures told { (l : AnyLayout) → IsRun work.now.scene l run.kept run.tallies run.waiting run.faults
+fn told_run(alloc: Global, ended: TaskRun, orders: bool) -> Result<Told, Refused>
+    requires { IsSmallRun ended.run.kept ended.run.tallies ended.run.waiting ended.run.faults }
+    ensures told { (work : WorkOn) (l : AnyLayout) → ended.refused ≡ work.refused → ended.counted ≡ work.counted
+        → IsRun work.scene l ended.run.kept ended.run.tallies ended.run.waiting ended.run.faults
         → MatchResult result
-        (IsToldOf (report_due work.now l run.kept orders) (ending_by work.now.scene run.kept.journal) (Some run.kept) run.written)
-        (IsUntold (ending_by work.now.scene run.kept.journal) (Some run.kept) run.written) }
+        (IsToldOf (report_due work l ended.run.kept orders) (ending_by work.scene ended.run.kept.journal) (Some ended.run.kept) ended.run.written)
+        (IsUntold (ending_by work.scene ended.run.kept.journal) (Some ended.run.kept) ended.run.written) }
 {
-    let Run {
-        kept,
-        tallies,
-        waiting,
-        faults,
-        written,
-    } = run;
-    match account_of(alloc, work, &kept, &tallies, &waiting, &faults, orders) {
+    let TaskRun {
+        run: Run {
+            kept,
+            tallies,
+            waiting,
+            faults,
+            written,
+        },
+        refused,
+        counted,
+    } = ended;
+    match account_with(
+        alloc, &refused, &counted, &kept, &tallies, &waiting, &faults, orders,
+    ) {
         Ok(Account { notes, ending }) => told_of(alloc, notes, ending, Some(kept), written),
         Err(OutOfMemory) => Err(untold(ImageRefusal::OutOfMemory, Some(kept))),
+    }
+}
+
+// Runs what a task works on, however its scene is stored, on a cluster of these tiles, each of whose actors is a thread of its own.
+fn run_work<K: Sink, G: Gate, R>(
+    rt: R,
+    alloc: Global,
+    work: AnyWork,
+    cluster: Cluster,
+    gate: &G,
+    image: &mut K,
+) -> Result<TaskRun, OutOfMemory>
+where
+    R: Threads + Wait + Copy + Send + Sync + Drop,
+    requires tiles { cluster_limit cluster (work_in work).scene ≡ None }
+    requires within { IsWithin (work_in work).scene }
+    ensures run { IfOk result (λ r. IsRun (work_in work).scene (layout_for cluster (work_in work).scene) r.run.kept r.run.tallies r.run.waiting r.run.faults) }
+    ensures written { IfOk result (λ r. IsTextWritten (use_of K.held K.faults image.old image.new)
+        (image_text_of (work_in work).scene (layout_for cluster (work_in work).scene) r.run.kept) r.run.written) }
+    ensures front { OnErr result (GaveFrontOfRun (work_in work).scene (layout_for cluster (work_in work).scene) (use_of K.held K.faults image.old image.new)) }
+    ensures later { K.faults image.old ≤ K.faults image.new }
+    ensures refused { IfOk result (λ r. r.refused ≡ (work_in work).refused) }
+    ensures counted { IfOk result (λ r. r.counted ≡ (work_in work).counted) }
+{
+    let depth = cluster.depth as usize;
+    match work {
+        AnyWork::Whole(
+            Work {
+                scene,
+                refused,
+                counted,
+            },
+        ) => {
+            let layout = tiles_of(&scene, cluster);
+            let run = run_threads(rt, alloc, &scene, &layout, depth, gate, image)?;
+            Ok(TaskRun {
+                run,
+                refused,
+                counted,
+            })
+        }
+        AnyWork::Stored(scene) => {
+            let layout = stored_tiles(&scene, cluster);
+            let run = run_stored(rt, alloc, scene, &layout, depth, gate, image)?;
+            Ok(TaskRun {
+                run,
+                refused: Bytes::new(alloc),
+                counted: Bytes::new(alloc),
+            })
+        }
     }
 }
 
@@ -264,21 +336,12 @@ where
 {
     scene_lists_are_well_formed();
     records_of_scenes();
-    let work = match work_for(&Beside(&rt), alloc, chain, job, source) {
+    let work = match any_work_for(&Beside(&rt), alloc, chain, job, source) {
         Ok(work) => work,
         Err(refusal) => return Err(without_record(refusal)),
     };
-    let layout = tiles_of(&work.scene, cluster);
-    match run_threads(
-        rt,
-        alloc,
-        &work.scene,
-        &layout,
-        cluster.depth as usize,
-        gate,
-        image,
-    ) {
-        Ok(run) => told_run(alloc, &work, run, cluster.orders),
+    match run_work(rt, alloc, work, cluster, gate, image) {
+        Ok(ended) => told_run(alloc, ended, cluster.orders),
         Err(OutOfMemory) => Err(without_record(Refusal::Image(ImageRefusal::OutOfMemory))),
     }
 }

@@ -3,7 +3,7 @@ use Rattle.rc_base.specs.Outside.Ends.{use_of}
 use Rattle.rc_base.specs.Outside.Transfer.{byte_limit}
 use Rattle.run_words.specs.declared.job.Form.TheVariants.{Bytes}
 use Rattle.render_core.proofs.Inputs.{faults_few}
-use Rattle.render_core.proofs.Performing.{came_of, input_cause, took_of}
+use Rattle.render_core.proofs.Performing.{input_cause, took_of}
 use Rattle.render_core.proofs.StoredWork.{reads_bytes}
 use Rattle.render_core.proofs.stored.stored_meaning_for.Goals as goal
 

@@ -2,7 +2,7 @@ use Rattle.std.proofs.Common.{sym, subst}
 use Rattle.run_words.specs.declared.job.Form.TheVariants.{Bytes}
 use Rattle.render_core.specs.Refusals.{IsRefusedInput}
 use Rattle.render_core.proofs.Inputs.{refused_without_lists}
-use Rattle.render_core.proofs.reader.stored_of_bytes.Goals as goal
+use Rattle.render_core.proofs.reader.stored_alone.Goals as goal
 
 pub returns-in-Err-clause-refused_bytes : goal.returns-in-Err-clause-refused_bytes
 returns-in-Err-clause-refused_bytes c = λ other.
