@@ -17,7 +17,7 @@ use crate::sender::Sender;
 use command_store::CommandStore;
 use gl_context::Context;
 use gl_context::laws::streams_go_on_by_issue;
-use parcel_bytes::{Packed, encode_parcel};
+use parcel_bytes::{Packed, Pool, encode_parcel};
 use rc_base::cluster::Tally;
 use rc_base::command::Command;
 use rc_base::out_of_memory::OutOfMemory;
@@ -52,6 +52,7 @@ fn first_sender(
     let copy = copy_of_decl(alloc, decl)?;
     let context = Context::new(alloc, decl)?;
     let tracker = Tracker::new(alloc, decl, count)?;
+    let pool = Pool::new(alloc)?;
     Ok(Sender {
         alloc,
         decl: copy,
@@ -60,6 +61,7 @@ fn first_sender(
         count,
         context,
         tracker,
+        pool,
         issued: 0,
         pending: None,
         request: None,

@@ -14,7 +14,7 @@ use crate::sender::Sender;
 use dirty_bits::Looks;
 use gl_context::Context;
 use gl_context::laws::{contexts_of_streams_are_valid, streams_go_on_by_issue};
-use parcel_bytes::{Packed, encode_parcel};
+use parcel_bytes::{Packed, Pool, encode_parcel_in};
 use rc_base::out_of_memory::OutOfMemory;
 use rc_base::state::{Act, Parcel, Sets};
 use rc_base::sync::Request;
@@ -63,14 +63,19 @@ fn repacked(made: Packed, parcel: &Parcel) -> Result<Packed, OutOfMemory>
 }
 
 // The parcel, packed: from what was made of its place and act before, if anything.
-fn packed(alloc: Global, parcel: &Parcel, made: Option<Packed>) -> Result<Packed, OutOfMemory>
+fn packed(
+    alloc: Global,
+    pool: &mut Pool,
+    parcel: &Parcel,
+    made: Option<Packed>,
+) -> Result<Packed, OutOfMemory>
     requires packable { IsPackable parcel.now }
     requires made { IfSome made (IsMade parcel.now.place parcel.now.act) }
     ensures { IfOk result (λ p. p ≡ parcel.now) }
 {
     match made {
         Some(made) => repacked(made, parcel),
-        None => encode_parcel(alloc, parcel),
+        None => encode_parcel_in(alloc, pool, parcel),
     }
 }
 
@@ -112,7 +117,7 @@ impl Sender {
             ..
         } = pending;
         let parcel = Parcel { place, sets, act };
-        let packed = packed(self.alloc, &parcel, made)?;
+        let packed = packed(self.alloc, &mut self.pool, &parcel, made)?;
         let Parcel { act, .. } = parcel;
         if next == self.count {
             self.take_back(act);

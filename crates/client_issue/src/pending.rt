@@ -21,6 +21,7 @@ pub(crate) struct Pending {
 }
 
 /// What an act gives to tiles, or the act, where it goes to none.
+#[inline(always)]
 pub(crate) fn first_of(
     layout: &Layout,
     count: u8,

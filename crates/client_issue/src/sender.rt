@@ -2,6 +2,7 @@
 use crate::pending::Pending;
 use command_store::CommandStore;
 use gl_context::Context;
+use parcel_bytes::Pool;
 use rc_base::scene::Decl;
 use rc_base::sync::WaitAt;
 use rc_base::window::Layout;
@@ -18,6 +19,7 @@ pub(crate) struct Sender {
     pub count: u8,
     pub context: Context,
     pub tracker: Tracker,
+    pub pool: Pool,
     pub issued: u32,
     pub pending: Option<Pending>,
     pub request: Option<WaitAt>,

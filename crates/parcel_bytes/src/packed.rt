@@ -1,5 +1,5 @@
 //! A parcel as the bytes that spell it.
-ghost use Rattle.std.specs.Prelude.{◌≡◌, ◌≤◌, IfOk, MatchOption, length};
+ghost use Rattle.std.specs.Prelude.{◌≡◌, [], ◌≤◌, IfOk, MatchOption, length};
 ghost use Rattle.parcel_bytes.specs.Blocks.{IsNoDraw};
 ghost use Rattle.parcel_bytes.specs.Fronts.{IsWritten};
 ghost use Rattle.parcel_bytes.specs.Reading.{parcel_in};
@@ -10,6 +10,7 @@ ghost use Rattle.rc_base.specs.declared.state.Parcel.{Parcel as ParcelValue};
 ghost use Rattle.vertex_bytes.specs.Spelt.{spelt_block};
 ghost use Rattle.rc_base.specs.Cluster.Parcels.{is_end};
 
+use crate::pool::Pool;
 use crate::reading::{read_parcel, read_parcel_in};
 use crate::room::Room;
 use crate::writing::{Written, front_with, is_front, parcel_bytes, with_act};
@@ -222,11 +223,35 @@ fn pack(alloc: Global, written: Written, sets: usize, end: bool) -> Result<Packe
     })
 }
 
+// The parcel as bytes, in an empty list.
+fn packed_in(alloc: Global, room: Bytes, parcel: &Parcel) -> Result<Packed, OutOfMemory>
+    requires empty { room ≡ [] }
+    requires packable { IsPackable parcel.now }
+    ensures { IfOk result (λ packed. packed ≡ parcel.now) }
+{
+    let written = parcel_bytes(room, parcel)?;
+    pack(alloc, written, parcel.sets.len(), is_end(&parcel.act))
+}
+
 /// The parcel as bytes. It has at most 255 sets, each with a value of its element's kind, at most 65,535 vertices, and four bytes for each texel.
 pub fn encode_parcel(alloc: Global, parcel: &Parcel) -> Result<Packed, OutOfMemory>
     requires { IsPackable parcel.now }
     ensures { IfOk result (λ packed. packed ≡ parcel.now) }
 {
-    let written = parcel_bytes(alloc, parcel)?;
-    pack(alloc, written, parcel.sets.len(), is_end(&parcel.act))
+    packed_in(alloc, Bytes::new(alloc), parcel)
+}
+
+/// The same, in memory of earlier parcels that all are done with, where the pool has such.
+pub fn encode_parcel_in(
+    alloc: Global,
+    pool: &mut Pool,
+    parcel: &Parcel,
+) -> Result<Packed, OutOfMemory>
+    requires { IsPackable parcel.now }
+    ensures { IfOk result (λ packed. packed ≡ parcel.now) }
+{
+    let room = pool.take(alloc);
+    let packed = packed_in(alloc, room, parcel)?;
+    pool.keep(&packed.bytes);
+    Ok(packed)
 }

@@ -1,5 +1,5 @@
 //! The writer of parcels: each function adds the bytes of its argument behind those that stand.
-ghost use Rattle.std.specs.Prelude.{◌≡◌, ◌++◌, ◌∷◌, ◌*◌, ◌^◌, ◌<◌, ◌≤◌, length, take, drop, FitsSigned, IfOk, IsTrue, OnOk};
+ghost use Rattle.std.specs.Prelude.{◌≡◌, [], ◌++◌, ◌∷◌, ◌*◌, ◌^◌, ◌<◌, ◌≤◌, length, take, drop, FitsSigned, IfOk, IsTrue, OnOk};
 ghost use Rattle.std.specs.Int.{w32};
 ghost use Rattle.std.specs.List.{flat_map, AllByRecursion};
 ghost use Rattle.rc_base.specs.Formats.Spelling.{half, long, word};
@@ -256,31 +256,33 @@ fn write_front(out: &mut Bytes, place: &[u8], sets: &[ElementSet]) -> Result<(),
     write_sets(out, sets)
 }
 
-// What stands before the act of a parcel, in room for so many bytes.
+// What stands before the act of a parcel, in an empty list with room for so many bytes.
 fn front_of(
-    alloc: Global,
+    mut front: Bytes,
     size: usize,
     place: u32,
     sets: &[ElementSet],
 ) -> Result<Bytes, OutOfMemory>
+    requires empty { front ≡ [] }
     requires few { length sets.now ≤ 255 }
     requires whole { AllByRecursion IsWholeSet sets.now }
     ensures front { IfOk result (λ front. front ≡ long place ++ (length sets.now ∷ flat_map set_bytes sets.now)) }
     ensures typed { OnOk result ((place < 2 ^ 32) × AllByRecursion IsSet sets.now) }
 {
-    let mut front = Bytes::with_capacity(alloc, size)?;
+    front.reserve(size)?;
     write_front(&mut front, &place.to_le_bytes(), sets)?;
     Ok(front)
 }
 
-/// The bytes of a parcel.
-pub(crate) fn parcel_bytes(alloc: Global, parcel: &Parcel) -> Result<Written, OutOfMemory>
-    requires { IsPackable parcel.now }
+/// The bytes of a parcel, in an empty list.
+pub(crate) fn parcel_bytes(room: Bytes, parcel: &Parcel) -> Result<Written, OutOfMemory>
+    requires empty { room ≡ [] }
+    requires packable { IsPackable parcel.now }
     ensures { IfOk result (λ written. IsWritten written.bytes written.act parcel.now) }
 {
     let sets = parcel.sets.as_slice();
     let size = front_size(sets).saturating_add(act_size(&parcel.act));
-    let mut bytes = front_of(alloc, size, parcel.place, sets)?;
+    let mut bytes = front_of(room, size, parcel.place, sets)?;
     let act = bytes.len();
     write_act(&mut bytes, &parcel.act)?;
     Ok(Written { bytes, act })

@@ -19,7 +19,7 @@ returns-clause-sending c =
       tiles = c.requires.tiles;
       issued = omega arith;
       context = c.in_ok-context.ensures ∙ ap default_context (sym c.in_ok-copy.ensures) ∙ sym (c.streams_go_on_by_issue.ensures.first scene 0);
-      ops = c.new-3.ensures.items ∙ sym (no_waits scene);
+      ops = c.new-4.ensures.items ∙ sym (no_waits scene);
       tracked = c.in_ok-tracker.ensures.count;
       known = λ tile lt.
           ∣ subst (λ (ps : List Parcel). Knows c.in_ok-tracker.tracker tile (told d ps)) (sym (no_parcels scene c.args.layout.now tile))

@@ -10,7 +10,7 @@ pub returns : goal.returns
 returns c =
     let p = c.args.parcel.now in
     let same = c.as_slice-sets.ensures in
-    written_whole p c.in_ok-bytes.bytes c.write_act.new.out c.len-act.result c.in_ok-bytes.ensures.typed.0 c.requires.few
+    written_whole p c.in_ok-bytes.bytes c.write_act.new.out c.len-act.result c.in_ok-bytes.ensures.typed.0 c.requires.packable.few
     (subst (AllByRecursion IsSet) same c.in_ok-bytes.ensures.typed.1) c.in_ok-write_act.ensures.typed
     (c.in_ok-bytes.ensures.front ∙ ap (λ (sets : List ElementSet). long p.place ++ (length sets ∷ flat_map set_bytes sets)) same)
     c.len-act.ensures c.in_ok-write_act.ensures.added

@@ -4,7 +4,7 @@ use Rattle.rc_base.specs.declared.state.Parcel.{Parcel}
 use Rattle.rc_base.specs.Cluster.Parcels.{is_end}
 use Rattle.parcel_bytes.proofs.Fronts.{in_bytes}
 use Rattle.parcel_bytes.proofs.ParcelsAreRead.{is_in}
-use Rattle.parcel_bytes.proofs.packed.encode_parcel.Goals as goal
+use Rattle.parcel_bytes.proofs.packed.packed_in.Goals as goal
 
 pub pack-requires-clause-written : goal.pack-requires-clause-written
 pack-requires-clause-written c = in_bytes c.in_ok-written.written.bytes c.in_ok-written.written.act c.args.parcel.now c.in_ok-written.ensures
