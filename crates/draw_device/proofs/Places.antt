@@ -4,12 +4,14 @@ use Rattle.std.proofs.lemmas.Int.{ints}
 use Rattle.std.proofs.lemmas.List.{get_or-replicate}
 use Rattle.rc_base.specs.Numbers.{natural}
 use Rattle.rc_base.specs.Cluster.Tiles.{is_in_rect}
+use Rattle.rc_base.specs.Drawing.Serial.{blank_pixel}
 use Rattle.rc_base.specs.declared.window.Pixel.{Pixel}
 use Rattle.rc_base.specs.declared.window.Rect.{Rect}
 use Rattle.plain_lemmas.proofs.Places.{place_within}
 use Rattle.scene_lemmas.proofs.Rectangles.{above_left, below_right, above_bottom, below_top}
 use Rattle.draw_device.specs.Pixels.{pixel_at}
-use Rattle.draw_device.specs.Devices.{DeviceView, EachTakes, pixel_index, pixel_of}
+use Rattle.draw_device.specs.Devices.{DeviceView, EachTakes, IsBlankIn, pixel_index, pixel_of}
+use Rattle.draw_device.specs.Grids.{blank_view}
 use Rattle.draw_device.specs.Shapes.{column_at, row_at, grid_rect, IsStepped}
 use Rattle.draw_device.specs.declared.grid.Extent.{Extent}
 
@@ -102,12 +104,10 @@ view_takes step g h old new before seen same d =
     subst (λ (v : DeviceView). EachTakes step v (record { rect = grid_rect h; pixels = new })) seen
     (subst (λ (k : Extent). EachTakes step (record { rect = grid_rect g; pixels = old }) (record { rect = grid_rect k; pixels = new })) (sym same) (each_takes step g old new d))
 
-pub blank_view : (g h : Extent) (pixels : List Pixel) (value : Pixel) (rect : Rect) → h ≡ g → grid_rect g ≡ rect
-    → pixels ≡ replicate (g.width * g.height) value → (x y : ℤ) → is_in_rect rect x y ≡ true
-    → pixel_of (record { rect = grid_rect h; pixels = pixels }) x y ≡ value
-blank_view g h pixels value rect same seen all x y e =
-    (λ i. pixel_of (record { rect = grid_rect (same i); pixels = all i }) x y)
-    ∙ each_blank g value x y (subst (λ (r : Rect). is_in_rect r x y ≡ true) (sym seen) e)
+-- each pixel of a device that nothing was drawn at is blank
+pub blank_in : (g : Extent) (d : DeviceView) (rect : Rect) → d ≡ blank_view g → grid_rect g ≡ rect → IsBlankIn rect d
+blank_in g d rect is seen x y e =
+    ap (λ (v : DeviceView). pixel_of v x y) is ∙ each_blank g blank_pixel x y (subst (λ (r : Rect). is_in_rect r x y ≡ true) (sym seen) e)
 
 -- the index of a pixel of the grid is one of its list
 pub place_below : (g : Extent) (x y : ℤ) → is_in_rect (grid_rect g) x y ≡ true → pixel_index (grid_rect g) x y < g.width * g.height

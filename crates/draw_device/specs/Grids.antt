@@ -37,3 +37,7 @@ IsDrawnBy step old new = IsStepped step old.extent (grid_pixels old) (grid_pixel
 
 abbrev pub view_of : Grid → DeviceView
 view_of g = record { rect = grid_rect g.extent; pixels = grid_pixels g }
+
+-- a device that nothing was drawn at
+abbrev pub blank_view : Extent → DeviceView
+blank_view e = record { rect = grid_rect e; pixels = blank_pixels e }

@@ -4,6 +4,7 @@ pub mod Conditions
 pub mod Beside
 pub mod Shapes
 pub mod Grids
+pub mod Lazy
 pub mod Loops
 pub mod Columns
 pub mod Shades

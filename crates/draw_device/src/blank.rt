@@ -9,15 +9,23 @@ ghost use Rattle.draw_device.specs.Pixels.{depth_at, paired};
 use crate::grid::Grid;
 use crate::pixel_run::PixelRun;
 use rc_base::command::Rgba;
+use rc_base::window::Pixel;
 
-// The depth of a blank pixel, and its colour.
-const FAR: u32 = 16_777_215;
+/// The depth of a blank pixel.
+pub(crate) const FAR: u32 = 16_777_215;
 
-const CLEAR: Rgba = Rgba {
+/// Its colour.
+pub(crate) const CLEAR: Rgba = Rgba {
     r: 0,
     g: 0,
     b: 0,
     a: 0,
+};
+
+/// A blank pixel.
+pub(crate) const BLANK: Pixel = Pixel {
+    color: CLEAR,
+    depth: FAR,
 };
 
 // The first place whose depth is nearer than the far end, or the number of all.

@@ -1,5 +1,5 @@
 //! The device.
-ghost use Rattle.std.specs.Prelude.{◌≡◌, ℕ, ◌≤◌, ℤ, pos, ◌+ℤ◌, ◌-ℤ◌, ◌≤ℤ◌, length, IfOk, true, None, Option};
+ghost use Rattle.std.specs.Prelude.{◌≡◌, ℕ, ◌≤◌, length, IfOk, true, None, Option};
 ghost use Rattle.rc_base.specs.Pictures.{Picture};
 ghost use Rattle.rc_base.specs.Cluster.Tiles.{is_in_rect};
 ghost use Rattle.rc_base.specs.Drawing.PixelStep.{effect_step};
@@ -8,6 +8,7 @@ ghost use Rattle.rc_base.specs.declared.state.Effect.TheVariants as eff;
 ghost use Rattle.draw_device.specs.Conditions.{IsDrawable, IsClearable, TakesBlock, sampled_of};
 ghost use Rattle.draw_device.specs.Devices.{IsDeviceRect, IsBlankIn, EachTakes, part_of, rect_size, pixel_of};
 ghost use Rattle.draw_device.specs.Beside.{IsBlankBeside, IsFarBeside, NoneIsNearerBeside, nearer_in};
+ghost use Rattle.draw_device.specs.Grids.{blank_view};
 ghost use Rattle.draw_device.specs.Pixels.{color_at, pixel_at};
 ghost use Rattle.draw_device.specs.Prepared.{IsPreparedFor};
 ghost use Rattle.geometry.specs.Listed.{listed_block};
@@ -15,6 +16,7 @@ ghost use Rattle.geometry.specs.Listed.{listed_block};
 use crate::grid::{Extent, Grid};
 use crate::pixel_run::PixelRun;
 use crate::prepared::Prepared;
+use crate::room::Room;
 use geometry::{ListedBlock, listed};
 use rc_base::cluster::TilePart;
 use rc_base::command::Rgba;
@@ -65,15 +67,6 @@ fn sampled_texture<'a>(
     }
 }
 
-// The columns or rows from one number to another.
-fn side(low: i32, high: i32) -> u16
-    requires order { low ≤ℤ high }
-    requires most { (high -ℤ low) ≤ℤ pos 65535 }
-    ensures { high ≡ low +ℤ pos result }
-{
-    (high - low) as u16
-}
-
 impl Device {
     /// The pixels of a rectangle: black and transparent, and as far as can be. The rectangle lies from 0 to 65535 in x and y.
     pub fn new(alloc: Global, rect: Rect) -> Result<Device, OutOfMemory>
@@ -81,23 +74,25 @@ impl Device {
         ensures rect { IfOk result (λ d. d.rect ≡ rect) }
         ensures blank { IfOk result (λ d. IsBlankIn rect d) }
     {
-        let extent = Extent {
-            left: side(0, rect.x0),
-            bottom: side(0, rect.y0),
-            width: side(rect.x0, rect.x1),
-            height: side(rect.y0, rect.y1),
-        };
-        Ok(Device {
+        let room = Room::new(alloc, Extent::of(rect))?;
+        Ok(Device::filled(alloc, room))
+    }
+
+    /// The blank pixels of an extent, in memory that was taken for them.
+    pub(crate) fn filled(alloc: Global, room: Room) -> Device
+        ensures { result ≡ blank_view room.extent }
+    {
+        Device {
             alloc,
-            grid: Grid::new(alloc, extent)?,
-        })
+            grid: room.fill(),
+        }
     }
 
     /// The device's rectangle.
     pub fn rect(&self) -> Rect
         ensures { result ≡ self.now.rect }
     {
-        self.grid.rect()
+        self.grid.extent.rect()
     }
 
     /// Draws the triangles of a block, one after the other: each pixel of the rectangle takes the step of the block.
@@ -115,7 +110,7 @@ impl Device {
     pub fn prepare(&self, state: &State) -> Prepared
         ensures { IsPreparedFor state.now self.now.rect result }
     {
-        self.grid.prepare(state)
+        self.grid.extent.prepare(state)
     }
 
     /// What `draw` does, of a block whose vertices are stored or spelt by bytes, with what is settled for the state.

@@ -18,7 +18,7 @@ ghost use Rattle.draw_device.specs.Shapes.{IsCovered, IsSpanIn, AreRowsOf, IsCac
 ghost use Rattle.draw_device.specs.Conditions.{IsClearable};
 ghost use Rattle.draw_device.specs.Columns.{IsOnlyRun};
 ghost use Rattle.draw_device.specs.Devices.{pixel_index};
-ghost use Rattle.draw_device.specs.Grids.{IsDrawnBy, blank_pixels, grid_pixel, grid_pixels};
+ghost use Rattle.draw_device.specs.Grids.{IsDrawnBy, grid_pixel, grid_pixels};
 ghost use Rattle.draw_device.specs.Setups.{AreStoredIn, IsDrawnPart, IsGridPlane, IsPaintIn, IsPaintOf, IsStoredBy, block_of, cached_of, corners_of, covered_by, fragment_by, pieces_of, triangle_of, triangles_of};
 
 use crate::block_setup::BlockSetup;
@@ -26,11 +26,11 @@ use crate::clear_setup::ClearSetup;
 use crate::clears::clear_row;
 use crate::column_run::ColumnRun;
 use crate::columns::{color_rise, fill_column, is_few, step_column};
-use crate::grid::{Extent, Grid, Spare};
+use crate::grid::Grid;
 use crate::paint::Paint;
 use crate::prepare::{
-    has_few, is_tiny, plan_of, shading_of, shared_at, source_of, stores_colors, takes_no_test,
-    tests_of, untextured_color,
+    has_few, is_tiny, shading_of, shared_at, source_of, stores_colors, takes_no_test, tests_of,
+    untextured_color,
 };
 use crate::prepared::Prepared;
 use crate::rows::draw_row;
@@ -39,12 +39,10 @@ use crate::source::Source;
 use crate::stages::Stages;
 use crate::tests::Tests;
 use fragment_ops::clearing_of;
-use geometry::{
-    ListedBlock, Pieces, Uncut, VertexCache, VertexList, identities_of, pieces, surrounds_of,
-};
+use geometry::{ListedBlock, Pieces, Uncut, VertexCache, VertexList, pieces};
 use raster::{
-    ColorPlane, Column, SpanIter, color_plane, cover_lies_in_bounds, covered_part, drawn_part,
-    flat_color, scissored, spans,
+    ColorPlane, Column, SpanIter, color_plane, cover_lies_in_bounds, covered_part, flat_color,
+    scissored, spans,
 };
 use rc_base::command::Rgba;
 use rc_base::out_of_memory::OutOfMemory;
@@ -72,50 +70,6 @@ fn rows_of(tri: &WindowTriangle, part: Rect) -> SpanIter<'_>
 }
 
 impl Grid {
-    /// Blank pixels.
-    pub fn new(alloc: Global, extent: Extent) -> Result<Grid, OutOfMemory>
-        requires right { extent.left + extent.width ≤ 65535 }
-        requires top { extent.bottom + extent.height ≤ 65535 }
-        ensures extent { IfOk result (λ g. g.extent ≡ extent) }
-        ensures blank { IfOk result (λ g. grid_pixels g ≡ blank_pixels extent) }
-    {
-        let color = Rgba {
-            r: 0,
-            g: 0,
-            b: 0,
-            a: 0,
-        };
-        let count = extent.width as usize * extent.height as usize;
-        let mut colors = Vec::new(alloc);
-        colors.resize(count, color)?;
-        let mut depths = Vec::new(alloc);
-        depths.resize(count, 16_777_215)?;
-        let mut row = Vec::new(alloc);
-        row.resize(extent.width as usize, color)?;
-        let mut flags = Vec::new(alloc);
-        flags.resize(extent.width as usize, false)?;
-        Ok(Grid {
-            extent,
-            colors,
-            depths,
-            spare: Spare { colors: row, flags },
-        })
-    }
-
-    /// The rectangle of the window that the grid has.
-    pub fn rect(&self) -> Rect
-        ensures { result ≡ grid_rect self.now.extent }
-    {
-        let left = i32::from(self.extent.left);
-        let bottom = i32::from(self.extent.bottom);
-        Rect {
-            x0: left,
-            y0: bottom,
-            x1: left + i32::from(self.extent.width),
-            y1: bottom + i32::from(self.extent.height),
-        }
-    }
-
     // Draws the pixels of a span of a triangle.
     fn draw_span(&mut self, setup: &Setup<'_>, span: Span)
         requires grid { setup.now.extent ≡ self.old.extent }
@@ -488,19 +442,6 @@ impl Grid {
         }
     }
 
-    /// What is settled for all blocks that are drawn with a state.
-    pub fn prepare(&self, state: &State) -> Prepared
-        ensures { IsPreparedFor state.now (grid_rect self.now.extent) result }
-    {
-        let part = drawn_part(state, self.rect());
-        Prepared {
-            plan: plan_of(state),
-            part,
-            near: surrounds_of(part),
-            identities: identities_of(state),
-        }
-    }
-
     /// Draws the kept triangles of a block, one after the other, with the texture that the state samples.
     pub fn draw(
         &mut self,
@@ -536,7 +477,7 @@ impl Grid {
         ensures extent { self.new.extent ≡ self.old.extent }
         ensures drawn { IsDrawnBy (clear_step state.now mask) self.old self.new }
     {
-        let part = scissored(state, self.rect());
+        let part = scissored(state, self.extent.rect());
         if part.x1 <= part.x0 || part.y1 <= part.y0 {
             return;
         }

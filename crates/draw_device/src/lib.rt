@@ -1,7 +1,8 @@
 //! The device: the pixels of one rectangle of the window, and what each draw and Clear makes of them.
 //!
 //! Each pixel of the rectangle takes exactly the step of `rc_base::specs::Drawing::PixelStep`, and nothing else is touched. The rectangle is
-//! the whole window for a serial renderer and a tile's part of it for a tile.
+//! the whole window for a serial renderer and a tile's part of it for a tile. A tile has a `LazyDevice`: memory at once, and blank pixels written in it when
+//! its first command touches them, by the thread that carries the command out.
 //!
 //! How a block writes its colours is settled once, and the way of a triangle before its first row; no row asks the state. A row goes through a few
 //! short loops. Its fragments' colours are laid out first: one colour, stepped ones, or texels by a sampler and then, where the environment is
@@ -32,10 +33,12 @@ mod column_run;
 mod columns;
 mod device;
 mod drawing;
+mod extent;
 mod few;
 mod fragments;
 mod grid;
 mod hidden;
+mod lazy;
 mod nearer;
 mod paint;
 mod pixel_run;
@@ -44,6 +47,7 @@ mod plan;
 mod prepare;
 mod prepared;
 mod put;
+mod room;
 mod rows;
 mod run;
 mod setup;
@@ -61,6 +65,7 @@ mod writes;
 
 pub use carry::{carry_out, effect_of};
 pub use device::Device;
+pub use lazy::LazyDevice;
 pub use nearer::nearer_of;
 pub use pixel_run::PixelRun;
 pub use prepared::Prepared;

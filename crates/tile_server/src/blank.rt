@@ -5,7 +5,7 @@ ghost use Rattle.tile_server.specs.Works.{AreNew, IsBlankIn, IsBlankTile, IsRect
 
 use crate::kept::KeptClient;
 use bounds_bucket::tile_rect;
-use draw_device::Device;
+use draw_device::LazyDevice;
 use rc_base::out_of_memory::OutOfMemory;
 use rc_base::state::State;
 use rc_base::window::{Layout, Rect};
@@ -31,16 +31,20 @@ pub(crate) fn new_clients(
 }
 
 // The blank pixels of a rectangle of a window of these sides.
-fn device_in(alloc: Global, width: u16, height: u16, rect: Rect) -> Result<Device, OutOfMemory>
+fn device_in(alloc: Global, width: u16, height: u16, rect: Rect) -> Result<LazyDevice, OutOfMemory>
     requires { LiesInWindow width height rect }
     ensures rect { IfOk result (λ d. d.rect ≡ rect) }
     ensures blank { IfOk result (IsBlankIn rect) }
 {
-    Device::new(alloc, rect)
+    LazyDevice::new(alloc, rect)
 }
 
 /// The blank pixels of a tile.
-pub(crate) fn blank_device(alloc: Global, layout: &Layout, tile: u8) -> Result<Device, OutOfMemory>
+pub(crate) fn blank_device(
+    alloc: Global,
+    layout: &Layout,
+    tile: u8,
+) -> Result<LazyDevice, OutOfMemory>
     requires { tile < tile_count layout.now }
     ensures rect { IfOk result (λ d. IsRectOf layout.now tile d.rect) }
     ensures blank { IfOk result (IsBlankTile layout.now tile) }

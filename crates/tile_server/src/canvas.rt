@@ -11,7 +11,7 @@ use crate::givable::is_givable;
 use crate::hardware::{Hardware, are_told};
 use crate::kept::KeptClient;
 use crate::work::{draw, work};
-use draw_device::Device;
+use draw_device::LazyDevice;
 use element_table::default_state;
 use geometry::spelt;
 use parcel_bytes::Packed;
@@ -34,7 +34,7 @@ pub struct Canvas {
     hw: Hardware,
     kept: Vec<KeptClient>,
     shared: SharedSet,
-    device: Device,
+    device: LazyDevice,
     ghost place: { IsRectOf layout tile device.rect },
     ghost whole: { HasTexels decl.shared (texels_in shared) shared },
     ghost fit: { AreFit decl kept.items },

@@ -3,7 +3,7 @@ ghost use Rattle.std.specs.Prelude.{◌≡◌, [], true, false, None};
 ghost use Rattle.draw_device.specs.Prepared.{IsPreparedFor, IsPreparedFor-prop};
 
 use context_switch::switch;
-use draw_device::{Device, Prepared};
+use draw_device::{LazyDevice, Prepared};
 use rc_base::state::{Sets, State};
 use rc_base::window::Rect;
 
@@ -44,7 +44,7 @@ impl Hardware {
     ghost use Rattle.std.specs.Prelude.{◌≡◌, true, false, Some, None};
 
     /// Of no client.
-    pub(crate) fn new(state: State, device: &Device) -> Hardware
+    pub(crate) fn new(state: State, device: &LazyDevice) -> Hardware
         ensures of { result.of ≡ None }
         ensures rect { result.rect ≡ device.now.rect }
     {
@@ -76,7 +76,7 @@ impl Hardware {
     }
 
     /// Makes the state the client's, unless it is known to be.
-    pub(crate) fn settle(&mut self, client: u8, state: &State, device: &Device)
+    pub(crate) fn settle(&mut self, client: u8, state: &State, device: &LazyDevice)
         requires rect { self.old.rect ≡ device.now.rect }
         requires known { self.old.of ≡ Some client → self.old.state ≡ state.now }
         ensures rect { self.new.rect ≡ self.old.rect }

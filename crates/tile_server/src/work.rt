@@ -10,7 +10,7 @@ ghost use Rattle.tile_server.specs.Works.{MayStore, TakesEffect};
 
 use crate::hardware::Hardware;
 use crate::kept::KeptClient;
-use draw_device::{Device, carry_out, effect_of};
+use draw_device::{LazyDevice, effect_of};
 use geometry::{ListedBlock, listed};
 use rc_base::state::{Act, Effect, Vertices};
 use textures::SharedSet;
@@ -29,7 +29,7 @@ fn perform(
     client: u8,
     kept: &KeptClient,
     effect: &Effect,
-    device: &mut Device,
+    device: &mut LazyDevice,
     shared: &mut SharedSet,
 )
     requires aimed { hw.old.rect ≡ device.old.rect }
@@ -44,7 +44,7 @@ fn perform(
     ensures shared { shared.new ≡ set_after effect.now shared.old }
 {
     let Effect::Block(block) = effect else {
-        carry_out(effect, &kept.state, &kept.images, device, shared);
+        device.carry_out(effect, &kept.state, &kept.images, shared);
         return;
     };
     draw(hw, client, kept, &listed(block), device, shared);
@@ -56,7 +56,7 @@ pub(crate) fn draw(
     client: u8,
     kept: &KeptClient,
     block: &ListedBlock<'_>,
-    device: &mut Device,
+    device: &mut LazyDevice,
     shared: &SharedSet,
 )
     requires aimed { hw.old.rect ≡ device.old.rect }
@@ -77,7 +77,7 @@ pub(crate) fn work(
     client: u8,
     kept: &KeptClient,
     act: Act,
-    device: &mut Device,
+    device: &mut LazyDevice,
     shared: &mut SharedSet,
 ) -> Option<Vertices>
     requires aimed { hw.old.rect ≡ device.old.rect }

@@ -1,7 +1,7 @@
 use Rattle.std.proofs.Common.{subst}
 use Rattle.rc_base.specs.declared.window.Rect.{Rect}
 use Rattle.raster.specs.Clips.{IsPartWhere, is_let_through}
-use Rattle.draw_device.proofs.grid.Grid.prepare.Goals as goal
+use Rattle.draw_device.proofs.grid.Extent.prepare.Goals as goal
 
 pub returns : goal.returns
 returns c = record {
