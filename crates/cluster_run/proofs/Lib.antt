@@ -1,8 +1,7 @@
 mod Named
 mod ClustersEnd
-mod Made
 mod NewClients
-mod Waiting
+mod NewTiles
 mod NewCrews
 mod Apart
 mod ClosedCrews

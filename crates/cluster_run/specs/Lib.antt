@@ -6,7 +6,6 @@ pub mod Managers
 pub mod Tiles
 pub mod Clusters
 pub mod NewWorkers
-pub mod Coreless
 pub mod Apart
 pub mod Rooms
 pub mod Workers

@@ -17,7 +17,6 @@ use rc_base::scene::Decl;
 use rc_base::sync::{Grant, Request};
 use rc_base::window::Layout;
 use std::alloc::Global;
-use std::thread::Threads;
 use sync_manager::ManagerCore;
 use sync_manager::laws::managers_meet_their_clause;
 use tile_queues::{LaneIn, LaneOut, lane_grid};
@@ -57,7 +56,7 @@ pub(crate) struct NewCrew<R> {
 
 /// The workers of a scene on the tiles of a layout, before their first step, joined by new lanes of one depth: one from each client to each tile and to
 /// the manager, one from the manager to each tile, and one from each tile to the caller.
-pub(crate) fn new_crew<R: Threads + Copy + Send + Sync + Drop>(
+pub(crate) fn new_crew<R: Copy + Drop>(
     rt: R,
     alloc: Global,
     scene: StoredScene,

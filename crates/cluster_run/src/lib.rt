@@ -18,7 +18,6 @@ mod client;
 mod clients;
 mod cores;
 mod crew;
-mod gathered;
 pub mod laws;
 mod manager;
 mod on_the_way;

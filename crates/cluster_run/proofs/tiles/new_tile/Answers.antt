@@ -5,22 +5,18 @@ use Rattle.tile_model.specs.Boards.{IsNewBoard}
 use Rattle.tile_server.specs.Cores.{board_of, IsProgressOf}
 use Rattle.cluster_run.proofs.tiles.new_tile.Goals as goal
 
-pub returns : goal.returns
-returns g c =
+pub returns-clause-new : goal.returns-clause-new
+returns-clause-new g c =
     let made = c.in_ok-core.ensures in
     let core = c.in_ok-core.core in
     let count = ap length c.streams.ensures in
     record {
-      new = record {
-        number_is = refl;
-        clients_are = refl;
-        none_waits = refl;
-        ample = made.ample;
-        clause = λ took none.
-            c.tiles_meet_their_clause.ensures.first c.args.scene.now c.args.layout.now c.args.waiting.number core took [] []
-            (made.decl ∙ c.decl.ensures) made.layout made.tile (made.clients ∙ count) (subst (λ n. IsProgressOf core (new_progress n)) count made.progress)
-            (subst (λ (decl : Decl). IsNewBoard decl c.args.layout.now c.args.waiting.number (board_of core)) c.decl.ensures made.board) none refl refl;
-      };
-      grants_are = refl;
-      parts_are = refl;
+      number_is = refl;
+      clients_are = refl;
+      none_waits = refl;
+      ample = made.ample;
+      clause = λ took none.
+          c.tiles_meet_their_clause.ensures.first c.args.scene.now c.args.layout.now c.args.number core took [] []
+          (made.decl ∙ c.decl.ensures) made.layout made.tile (made.clients ∙ count) (subst (λ n. IsProgressOf core (new_progress n)) count made.progress)
+          (subst (λ (decl : Decl). IsNewBoard decl c.args.layout.now c.args.number (board_of core)) c.decl.ensures made.board) none refl refl;
     }
