@@ -5,7 +5,7 @@ use Rattle.rc_base.specs.Drawing.Images.{Pixels, rgb_bytes}
 use Rattle.rc_base.specs.declared.cluster.TilePart.{TilePart}
 use Rattle.rc_base.specs.declared.image.Image.{Image}
 use Rattle.rc_base.specs.declared.window.Layout.{Layout}
-use Rattle.assembler.specs.Parts.{AreParts, ArePartsOf, IsRoomFor, ShowPixels, window_image, picture, shown}
+use Rattle.assembler.specs.Parts.{AreParts, ArePartsOf, IsRoomFor, ShowPixels, image_with, window_image, picture, shown}
 use Rattle.assembler.specs.Runs.{all_bytes}
 use Rattle.assembler.proofs.Shown.{parts_show}
 use Rattle.assembler.proofs.Whole.{rows_are}
@@ -16,19 +16,16 @@ all_shown l parts columns rows are = rows_are l parts (shown l parts) are (parts
 abbrev pub with_sides : ℕ → ℕ → List ℕ → Image
 with_sides width height bytes = record { width = width; height = height; rgb = bytes }
 
-abbrev pub with_bytes : Layout → List ℕ → Image
-with_bytes l bytes = with_sides l.width l.height bytes
-
 pub shows_pixels : (l : Layout) (parts : List TilePart) (pixels : Pixels) → 0 < l.columns → 0 < l.rows → ArePartsOf l parts → ShowPixels l parts pixels → picture l parts ≡ window_image l pixels
 shows_pixels l parts pixels columns rows are show =
-    ap (with_bytes l) (sym (all_shown l parts columns rows are) ∙ rows_are l parts pixels are show columns rows)
+    ap (image_with l) (sym (all_shown l parts columns rows are) ∙ rows_are l parts pixels are show columns rows)
 
 pub are_parts_of : (l : Layout) (parts : List TilePart) → AreParts l parts → ArePartsOf l parts
 are_parts_of l parts are = record { count = are.count; size = λ tile p is. (are.each tile p is).2 }
 
 -- an image over which all bytes were written
 pub drawn : (l : Layout) (image : Image) (bytes new : List ℕ) → IsRoomFor l image → new ≡ bytes → length new ≡ length image.rgb
-    → with_sides image.width image.height (take (length image.rgb) (new ++ drop (length new) image.rgb)) ≡ with_bytes l bytes
+    → with_sides image.width image.height (take (length image.rgb) (new ++ drop (length new) image.rgb)) ≡ image_with l bytes
 drawn l image bytes new room is size =
     ap (λ (n : ℕ). with_sides image.width image.height (take n (new ++ drop (length new) image.rgb))) (sym size)
     ∙ ap (with_sides image.width image.height) (take-append_seam new (drop (length new) image.rgb) ∙ is)

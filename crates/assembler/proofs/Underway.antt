@@ -10,7 +10,7 @@ use Rattle.rc_base.specs.declared.image.Image.{Image}
 use Rattle.rc_base.specs.declared.window.Layout.{Layout}
 use Rattle.plain_lemmas.proofs.Lists.{item_within}
 use Rattle.assembler.specs.Assembled.{ComesOf, places_of, short_of}
-use Rattle.assembler.specs.declared.places.Assembler.{Assembler}
+use Rattle.assembler.specs.declared.frame_parts.FrameParts.{FrameParts}
 use Rattle.assembler.specs.Parts.{picture}
 use Rattle.assembler.specs.Places.{AreFound, IsFound, in_place, no_parts, parts_in}
 use Rattle.assembler.specs.Underway.{AllGrow, GoesOn, Grows, IsUnderway, Taken, Waits, frame_parts}
@@ -82,7 +82,7 @@ module _ (l : Layout) (k : ℕ) (places found : List (Option TilePart)) (before 
           subst (λ (o : Option TilePart). Waits (k + 1) o (later tile)) (sym (get_or-replicate (tile_count l) tile None None lt)) (one_more k got.0 (later tile) got.2);
     }
 
-  pub goes_on : (result : Option Image) (after : Assembler) → ComesOf l found result after → short_of after ≡ false → GoesOn l k result (places_of after) later
+  pub goes_on : (result : Option Image) (after : FrameParts) → ComesOf l found result after → short_of after ≡ false → GoesOn l k result (places_of after) later
   goes_on (Some image) after w whole =
       (w.shown ∙ ap (picture l) (frame_is w.parts w.all), subst (λ (os : List (Option TilePart)). IsUnderway l (k + 1) os later) (sym w.places) (next_frame w.parts w.all))
   goes_on None after w whole = elim w [

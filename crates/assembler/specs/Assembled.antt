@@ -1,41 +1,36 @@
--- What a call of an assembler makes of the parts that it finds.
+-- What a call makes of the parts that it finds, beside those that wait.
 use Rattle.std.specs.Prelude.{◌≡◌, ℕ, ◌⊎◌, Bool, true, false, List, map, Option, Some, None}
 use Rattle.rc_base.specs.declared.cluster.TilePart.{TilePart}
 use Rattle.rc_base.specs.declared.image.Image.{Image}
 use Rattle.rc_base.specs.declared.window.Layout.{Layout}
-use Rattle.assembler.specs.Parts.{ArePartsOf, black_image, picture}
+use Rattle.assembler.specs.Parts.{ArePartsOf, picture}
 use Rattle.assembler.specs.Places.{AllFit, AreDropped, AreFound, HasGap, HasMisfit, no_parts}
-use Rattle.assembler.specs.declared.places.Assembler.{Assembler}
+use Rattle.assembler.specs.declared.frame_parts.FrameParts.{FrameParts}
 
-abbrev pub layout_of : Assembler → Layout
-layout_of a = a.layout
+abbrev pub layout_of : FrameParts → Layout
+layout_of f = f.layout
 
 -- a part that doesn't fit its tile was taken
-abbrev pub short_of : Assembler → Bool
-short_of a = a.short
+abbrev pub short_of : FrameParts → Bool
+short_of f = f.short
 
 -- what waits for the other parts of its frame, by tile
-abbrev pub places_of : Assembler → List (Option TilePart)
-places_of a = a.places.items
+abbrev pub places_of : FrameParts → List (Option TilePart)
+places_of f = f.places.items
 
--- its image
-abbrev pub image_in : Assembler → Image
-image_in a = a.image
+-- the image of a frame that is complete, or none
+abbrev pub shows : Bool → Image → Option Image
+shows true image = Some image
+shows false image = None
 
--- its image where there is one, or none
-abbrev pub shows : Bool → Assembler → Option Image
-shows true a = Some a.image
-shows false a = None
-
--- no part was taken, and its image is black
-pub record IsNewAssembler (l : Layout) (a : Assembler) : Type 0 where
-  pub layout : layout_of a ≡ l
-  pub image : image_in a ≡ black_image l
-  pub short : short_of a ≡ false
-  pub places : places_of a ≡ no_parts l
+-- no part was taken
+pub record AreNewParts (l : Layout) (f : FrameParts) : Type 0 where
+  pub layout : layout_of f ≡ l
+  pub short : short_of f ≡ false
+  pub places : places_of f ≡ no_parts l
 
 -- one part of each tile: the image of exactly these, and the places are empty
-pub record IsCompleteFrame (l : Layout) (found : List (Option TilePart)) (image : Image) (after : Assembler) : Type 0 where
+pub record IsCompleteFrame (l : Layout) (found : List (Option TilePart)) (image : Image) (after : FrameParts) : Type 0 where
   pub parts : List TilePart
   pub all : found ≡ map Some parts
   pub sizes : ArePartsOf l parts
@@ -44,43 +39,43 @@ pub record IsCompleteFrame (l : Layout) (found : List (Option TilePart)) (image 
   pub places : places_of after ≡ no_parts l
 
 -- a part is missing: the others wait
-pub record IsUnfinished (l : Layout) (found : List (Option TilePart)) (after : Assembler) : Type 0 where
+pub record IsUnfinished (l : Layout) (found : List (Option TilePart)) (after : FrameParts) : Type 0 where
   pub gap : HasGap l found
   pub sizes : AllFit l found
   pub short : short_of after ≡ false
   pub places : places_of after ≡ found
 
 -- a part doesn't fit: no image will come any more
-pub record IsSpoilt (l : Layout) (found : List (Option TilePart)) (after : Assembler) : Type 0 where
+pub record IsSpoilt (l : Layout) (found : List (Option TilePart)) (after : FrameParts) : Type 0 where
   pub misfit : HasMisfit l found
   pub short : short_of after ≡ true
 
-abbrev pub ComesOf : Layout → List (Option TilePart) → Option Image → Assembler → Type 0
+abbrev pub ComesOf : Layout → List (Option TilePart) → Option Image → FrameParts → Type 0
 ComesOf l found (Some image) after = IsCompleteFrame l found image after
 ComesOf l found None after = IsUnfinished l found after ⊎ IsSpoilt l found after
 
 -- ---- a call
 
 module _ {I : Type 0} (gave : I → TilePart → I → Type 0) (same : I → I → Type 0) (empty_seen : I → ℕ) (bare : I → Type 0) where
-  -- of an assembler that isn't short
-  pub record IsAssembledOf (before : Assembler) (lanes : List I) (result : Option Image) (after : Assembler) (later : List I) : Type 0 where
+  -- of parts none of which was short
+  pub record IsAssembledOf (before : FrameParts) (lanes : List I) (result : Option Image) (after : FrameParts) (later : List I) : Type 0 where
     pub found : List (Option TilePart)
     pub each : AreFound gave same empty_seen bare (places_of before) lanes found later
     pub comes : ComesOf (layout_of before) found result after
 
-  -- of one that is: no image, and what is taken is dropped
-  pub record IsRefused (lanes : List I) (result : Option Image) (after : Assembler) (later : List I) : Type 0 where
+  -- where one was: no image, and what is taken is dropped
+  pub record IsRefused (lanes : List I) (result : Option Image) (after : FrameParts) (later : List I) : Type 0 where
     pub none : result ≡ None
     pub short : short_of after ≡ true
     pub each : AreDropped gave same empty_seen bare lanes later
 
-  -- of any: where no frame is completed the image stays
-  pub record IsAssembled (before : Assembler) (lanes : List I) (result : Option Image) (after : Assembler) (later : List I) : Type 0 where
+  -- in any case
+  pub record IsAssembled (before : FrameParts) (lanes : List I) (result : Option Image) (after : FrameParts) (later : List I) : Type 0 where
     pub layout : layout_of after ≡ layout_of before
-    pub kept : result ≡ None → image_in after ≡ image_in before
     pub whole : short_of before ≡ false → IsAssembledOf before lanes result after later
     pub refused : short_of before ≡ true → IsRefused lanes result after later
 
-  -- whether an advance completed a frame, whose image it shows then
-  abbrev pub Advances : Assembler → List I → List I → Bool → Assembler → Type 0
-  Advances before lanes later completed after = IsAssembled before lanes (shows completed after) after later
+  -- whether it completed a frame, which has this image then
+  pub record Completes (before : FrameParts) (lanes later : List I) (completed : Bool) (after : FrameParts) : Type 0 where
+    pub image : Image
+    pub step : IsAssembled before lanes (shows completed image) after later

@@ -52,9 +52,13 @@ shown l parts x y =
     let tile = tile_at l (natural x) (natural y) in
     slice_index_or (pixels_of parts tile) (place_in_part l tile (natural x) (natural y)) blank_pixel
 
+-- the image of the window that has these bytes
+abbrev pub image_with : Layout → List ℕ → Image
+image_with l bytes = record { width = l.width; height = l.height; rgb = bytes }
+
 -- the image of these pixels of the window
 abbrev pub window_image : Layout → Pixels → Image
-window_image l pixels = record { width = l.width; height = l.height; rgb = rgb_bytes pixels l.width l.height }
+window_image l pixels = image_with l (rgb_bytes pixels l.width l.height)
 
 -- the image of parts: each pixel from its tile's part
 abbrev pub picture : Layout → List TilePart → Image
@@ -62,7 +66,7 @@ picture l parts = window_image l (shown l parts)
 
 -- the image of the window that is black all over
 abbrev pub black_image : Layout → Image
-black_image l = record { width = l.width; height = l.height; rgb = replicate (3 * l.width * l.height) 0 }
+black_image l = image_with l (replicate (3 * l.width * l.height) 0)
 
 -- an image with the window's sides and their number of bytes
 pub record IsRoomFor (l : Layout) (image : Image) : Type 0 where

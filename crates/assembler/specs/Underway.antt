@@ -41,7 +41,7 @@ abbrev pub GoesOn : Layout → ℕ → Option Image → List (Option TilePart) �
 GoesOn l k (Some image) places later = (image ≡ picture l (frame_parts l later k)) × IsUnderway l (k + 1) places later
 GoesOn l k None places later = IsUnderway l k places later
 
--- A call that leaves the assembler whole goes on so,
+-- A call that leaves no tile short goes on so,
 abbrev pub CallsGoOn : Type 0
 CallsGoOn =
     (l : Layout) (k : ℕ) (places found : List (Option TilePart)) (before later : Taken) (result : Option Image) (after : _)

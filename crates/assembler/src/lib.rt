@@ -1,4 +1,4 @@
-//! Whole images from the parts of the tiles, of one frame or frame after frame.
+//! Whole images from the parts of the tiles, of one frame or frame after frame, in an image of its own or over bytes that are given.
 //!
 //! The tiles are those of `rc_base::specs::Cluster::Tiles`, and the bytes of an image those of `rc_base::specs::Drawing::Images`. This crate
 //! stands on rc_base.
@@ -6,6 +6,7 @@
 
 mod assembly;
 mod found;
+mod frame_parts;
 mod images;
 mod lanes;
 mod laws;
@@ -13,5 +14,6 @@ mod places;
 mod rows;
 
 pub use assembly::assemble;
+pub use frame_parts::FrameParts;
 pub use laws::{calls_show_frames_in_turn, parts_show_their_pixels};
 pub use places::Assembler;

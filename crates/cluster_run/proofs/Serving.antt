@@ -50,7 +50,7 @@ module _ {I K A : Type 0} (fixed : I → A) (taken : I → List TilePart) (held 
 -- ---- one turn
 
 module _ {R K : Type 0} (held : K → Option (List ℕ)) (faults : K → ℕ) (w w' : FrameWriter) (image image' : K)
-    (layout : layout_of w'.assembler ≡ layout_of w.assembler) (later : faults image ≤ faults image') where
+    (layout : layout_of w'.parts ≡ layout_of w.parts) (later : faults image ≤ faults image') where
   abbrev Gave : Rest TilePart R → TilePart → Rest TilePart R → Type 0
   Gave a x b = (taken_in b ≡ taken_in a ++ x ∷ []) × (sent_in b ≡ sent_in a)
 
@@ -84,7 +84,7 @@ same_took l image took took' w same h = record {
     fronts = λ tile low. let front = h.given.fronts tile low in (front.0, same tile low ∙ front.1);
     given = h.given.given;
   };
-  whole = λ ample some. let x = h.whole ample some in record {
+  whole = λ ample. let x = h.whole ample in record {
     frames = x.frames;
     sizes = x.sizes;
     took_is = λ tile low. same tile low ∙ x.took_is tile low;
@@ -97,7 +97,7 @@ same_took l image took took' w same h = record {
 
 module _ {R K : Type 0} (held : K → Option (List ℕ)) (faults : K → ℕ) (l : Layout) (start : K) (w : FrameWriter)
     (lanes : List (LaneOut TilePart R)) (parts : List (LaneIn TilePart R)) (some : 0 < length parts) (paired : length lanes ≡ length parts)
-    (room : length lanes ≡ tile_count (layout_of w.assembler)) where
+    (room : length lanes ≡ tile_count (layout_of w.parts)) where
   a_lane : LaneOut TilePart R
   a_lane = some_item lanes 0 (omega (arith, some, paired))
 
@@ -146,14 +146,14 @@ module _ {R K : Type 0} (held : K → Option (List ℕ)) (faults : K → ℕ) (l
         fronts = λ tile lt. (rest_of (slice_index_or rests' tile a_rest), sym (sent_is tile lt) ∙ (slice_index_or rests' tile a_rest).ordered);
       }
 
-      pub finished : short_of w'.assembler ≡ false → w'.lacking ≡ false → IsMissing (λ r. taken_in r ≡ sent_in r) w' rests'
+      pub finished : short_of w'.parts ≡ false → IsMissing (λ r. taken_in r ≡ sent_in r) w' rests'
           → HasFinished l (shown_in_lanes parts) (use_of held faults start image') w'.written
-      finished ample some_room missing =
+      finished ample missing =
           let low : missing.tile < tile_count l = subst (λ (x : Layout). missing.tile < tile_count x) on_now.layout_is missing.low in
           record {
             writer = w';
             took = λ tile. taken_in (slice_index_or rests' tile a_rest);
-            has = on_now.whole ample some_room;
+            has = on_now.whole ample;
             fronts = λ tile lt. (rest_of (slice_index_or rests' tile a_rest), sym (sent_is tile lt) ∙ (slice_index_or rests' tile a_rest).ordered);
             tile = missing.tile;
             low = low;

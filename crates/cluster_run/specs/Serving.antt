@@ -7,7 +7,7 @@ use Rattle.rc_base.specs.Lists.{IsFront}
 use Rattle.rc_base.specs.Outside.Ends.{use_of, Used}
 use Rattle.rc_base.specs.declared.cluster.TilePart.{TilePart}
 use Rattle.rc_base.specs.declared.window.Layout.{Layout}
-use Rattle.assembler.specs.Assembled.{layout_of, places_of, Advances}
+use Rattle.assembler.specs.Assembled.{layout_of, places_of, Completes}
 use Rattle.assembler.specs.Places.{in_place}
 use Rattle.frame_out.specs.OnTheWay.{HasWritten, IsOnTheWay}
 use Rattle.frame_out.specs.declared.on_the_way.FrameWriter.{FrameWriter}
@@ -25,7 +25,7 @@ use Rattle.cluster_run.specs.declared.workers.TileWorker.{TileWorker}
 
 module _ {I K A : Type 0} (fixed : I → A) (taken : I → List TilePart) (held : K → Option (List ℕ)) (faults : K → ℕ) where
   pub record HasServed (before : FrameWriter) (lanes : List I) (image : K) (after : FrameWriter) (lanes' : List I) (image' : K) : Type 0 where
-    pub layout : layout_of after.assembler ≡ layout_of before.assembler
+    pub layout : layout_of after.parts ≡ layout_of before.parts
     -- this of each lane is as it was
     pub same : EachLane (λ i a b. fixed b ≡ fixed a) lanes lanes'
     -- whatever the image was given since some moment, it was given what was taken since
@@ -41,14 +41,14 @@ module _ {I K A : Type 0} (fixed : I → A) (taken : I → List TilePart) (held 
 -- A turn has taken at most one part of each tile whose part of the next frame was missing, and tells whether that completed the frame: of what lanes held,
 abbrev pub HasAdvanced : {R : Type 0} → FrameWriter → List (LaneOut TilePart R) → Bool → FrameWriter → List (LaneOut TilePart R) → Type 0
 HasAdvanced {R} before lanes completed after lanes' =
-    Advances (λ (a : LaneOut TilePart R) part b. Took a part b) (λ a b. TookNone a b) (λ a. empties_of a) (λ _. ⊤) before.assembler lanes lanes' completed after.assembler
+    Completes (λ (a : LaneOut TilePart R) part b. Took a part b) (λ a b. TookNone a b) (λ a. empties_of a) (λ _. ⊤) before.parts lanes lanes' completed after.parts
 
 -- and of what is left of them
 abbrev pub HasAdvancedByRests : {R : Type 0} → FrameWriter → List (Rest TilePart R) → Bool → FrameWriter → List (Rest TilePart R) → Type 0
 HasAdvancedByRests {R} before rests completed after rests' =
-    Advances (λ (a : Rest TilePart R) part b. (taken_in b ≡ taken_in a ++ part ∷ []) × (sent_in b ≡ sent_in a))
+    Completes (λ (a : Rest TilePart R) part b. (taken_in b ≡ taken_in a ++ part ∷ []) × (sent_in b ≡ sent_in a))
     (λ a b. (taken_in b ≡ taken_in a) × (sent_in b ≡ sent_in a)) (λ a. a.empty_seen) (λ a. taken_in a ≡ sent_in a)
-    before.assembler rests rests' completed after.assembler
+    before.parts rests rests' completed after.parts
 
 -- what was sent by the tiles' lanes of parts
 abbrev pub shown_in_lanes : {R : Type 0} → List (LaneIn TilePart R) → ℕ → List TilePart
@@ -68,7 +68,7 @@ pub record HasFinished (l : Layout) (shown : ℕ → List TilePart) (image : Use
   pub fronts : (tile : ℕ) → tile < tile_count l → IsFront (took tile) (shown tile)
   pub tile : ℕ
   pub low : tile < tile_count l
-  pub missing : in_place (places_of writer.assembler) tile ≡ None
+  pub missing : in_place (places_of writer.parts) tile ≡ None
   pub all : took tile ≡ shown tile
   pub is : written ≡ writer.written
 

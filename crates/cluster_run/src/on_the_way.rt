@@ -17,7 +17,7 @@ use tile_queues::LaneOut;
 pub struct OnTheWay<R> {
     pub(crate) writer: FrameWriter,
     pub(crate) lanes: Vec<LaneOut<TilePart, R>>,
-    ghost tiles: { length lanes.items ≡ tile_count (layout_of writer.assembler) },
+    ghost tiles: { length lanes.items ≡ tile_count (layout_of writer.parts) },
 }
 
 impl<R: Drop> OnTheWay<R> {

@@ -108,10 +108,10 @@ fn serve_rest<K: Sink, R: Wait>(
     rests: &mut Vec<Rest<TilePart, R>>,
     image: &mut K,
 ) -> bool
-    requires { length rests.old.items ≡ tile_count (layout_of writer.old.assembler) }
-    ensures room { length rests.new.items ≡ tile_count (layout_of writer.new.assembler) }
+    requires { length rests.old.items ≡ tile_count (layout_of writer.old.parts) }
+    ensures room { length rests.new.items ≡ tile_count (layout_of writer.new.parts) }
     ensures served { KeepsServed sent_in taken_in K.held K.faults writer.old rests.old.items image.old writer.new rests.new.items image.new }
-    ensures missing { result ≡ false → short_of writer.new.assembler ≡ false → IsMissing (λ r. taken_in r ≡ sent_in r) writer.new rests.new.items }
+    ensures missing { result ≡ false → short_of writer.new.parts ≡ false → IsMissing (λ r. taken_in r ≡ sent_in r) writer.new rests.new.items }
     ensures completed { HasAdvancedByRests writer.old rests.old.items result writer.new rests.new.items }
 {
     writer.serve(rests, image)
@@ -124,9 +124,9 @@ fn write_rest<K: Sink, R: Wait>(
     rests: &mut Vec<Rest<TilePart, R>>,
     image: &mut K,
 )
-    requires { length rests.old.items ≡ tile_count (layout_of writer.old.assembler) }
+    requires { length rests.old.items ≡ tile_count (layout_of writer.old.parts) }
     ensures served { KeepsServed sent_in taken_in K.held K.faults writer.old rests.old.items image.old writer.new rests.new.items image.new }
-    ensures missing { short_of writer.new.assembler ≡ false → IsMissing (λ r. taken_in r ≡ sent_in r) writer.new rests.new.items }
+    ensures missing { short_of writer.new.parts ≡ false → IsMissing (λ r. taken_in r ≡ sent_in r) writer.new rests.new.items }
 {
     for _ in rt.forever() {
         if !serve_rest(writer, rests, image) {
@@ -135,7 +135,7 @@ fn write_rest<K: Sink, R: Wait>(
     }
 }
 
-/// Brings the ends of the lanes of parts together, and writes what is left in them. Memory lacks where a tile was short, or for a frame.
+/// Brings the ends of the lanes of parts together, and writes what is left in them. Memory lacks where a tile was short.
 pub(crate) fn finish<K: Sink, R: Wait + Copy>(
     rt: &R,
     frames: OnTheWay<R>,

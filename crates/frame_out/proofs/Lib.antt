@@ -2,6 +2,8 @@ pub mod Prefixes
 pub mod Texts
 pub mod Writable
 pub mod WrittenMore
+pub mod MovedBack
+pub mod FramesLeft
 pub mod PartsTaken
 pub mod WriterGoesOn
 pub mod PartsCounted

@@ -1,11 +1,10 @@
 -- A writer of frames stays on its way with each call.
-use Rattle.std.proofs.Common.{◌≡◌, ℕ, ◌+◌, ◌<◌, ◌≤◌, ◌^◌, true, false, List, [], ◌∷◌, ◌++◌, length, take, map, Some, None, inl, inr, refl, sym, ap, ◌∙◌, subst, arith, length-append, append-nil, append_assoc, true≢false}
+use Rattle.std.proofs.Common.{◌≡◌, ℕ, ◌+◌, ◌<◌, ◌≤◌, ◌^◌, false, List, [], ◌∷◌, ◌++◌, length, take, map, Some, None, inl, inr, refl, sym, ap, ◌∙◌, subst, arith, length-append, append-nil, append_assoc, true≢false}
 use Rattle.std.specs.Prelude.{option_to_list, slice_index_or, Option}
 use Rattle.std.specs.Io.KnownBytes.{Appends}
 use Rattle.std.specs.List.{AllByRecursion}
 use Rattle.std.proofs.Math.Seq.{take-append-add}
 use Rattle.std.proofs.lemmas.Bool.{cases_Bool}
-use Rattle.std.proofs.lemmas.Grind.{flat_map-append}
 use Rattle.std.proofs.lemmas.List.{take-append-le}
 use Rattle.rc_base.specs.Cluster.Tiles.{tile_count}
 use Rattle.rc_base.specs.Formats.Netpbm.{p6_text, p6_texts}
@@ -18,7 +17,7 @@ use Rattle.rc_base.proofs.Known.{Appends-then}
 use Rattle.assembler.specs.Assembled.{layout_of, places_of, short_of, IsAssembled, IsCompleteFrame}
 use Rattle.assembler.specs.Parts.{picture, shown, ArePartsOf}
 use Rattle.assembler.specs.Places.{in_place, AreFound, IsFound, IsTaken}
-use Rattle.assembler.specs.declared.places.Assembler.{Assembler}
+use Rattle.assembler.specs.declared.frame_parts.FrameParts.{FrameParts}
 use Rattle.ppm_out.specs.Pictures.{IsWholeImage}
 use Rattle.assembler.proofs.Waiting.{none_in}
 use Rattle.frame_out.specs.Laws.{NewWritersAreOnTheWay}
@@ -28,15 +27,13 @@ use Rattle.frame_out.specs.Windows.{IsWindow}
 use Rattle.frame_out.specs.Writing.{HasGiven, IsCounted}
 use Rattle.frame_out.specs.declared.on_the_way.FrameWriter.{FrameWriter}
 use Rattle.frame_out.specs.declared.writing.Written.{Written}
+use Rattle.frame_out.proofs.FramesLeft.{texts_more}
 use Rattle.frame_out.proofs.PartsTaken.{all_more, found_grows, map_more, parts_more, place_is}
 use Rattle.frame_out.proofs.Texts.{texts_short}
 use Rattle.frame_out.proofs.Writable.{pixels_whole}
 use Rattle.frame_out.proofs.WrittenMore.{used}
 
 -- ---- texts
-
-texts_more : (images : List Image) (image : Image) → p6_texts (images ++ image ∷ []) ≡ p6_texts images ++ p6_text image
-texts_more images image = flat_map-append p6_text images (image ∷ []) ∙ ap (λ (xs : List ℕ). p6_texts images ++ xs) (append-nil (p6_text image))
 
 picture_whole : (l : Layout) → IsWindow l → (parts : List TilePart) → IsWholeImage (picture l parts)
 picture_whole l window parts = record { width = window.width; height = window.height; pixels = pixels_whole (shown l parts) l.width l.height }
@@ -110,21 +107,21 @@ module _ {I : Type 0} (gave : I → TilePart → I → Type 0) (same : I → I �
       (h.at tile d (omega (arith, count, low))) (e tile low)
 
   -- no frame was completed
-  pub waits : (e : Used) (w w' : FrameWriter) → IsAssembled gave same empty_seen bare w.assembler lanes None w'.assembler lanes'
-      → w'.written ≡ w.written → w'.lacking ≡ w.lacking → IsOnTheWay l e (took lanes) w → IsOnTheWay l e (took lanes') w'
-  waits e w w' k written lacking h = record {
+  pub waits : (e : Used) (w w' : FrameWriter) → IsAssembled gave same empty_seen bare w.parts lanes None w'.parts lanes'
+      → w'.written ≡ w.written → IsOnTheWay l e (took lanes) w → IsOnTheWay l e (took lanes') w'
+  waits e w w' k written h = record {
     layout_is = k.layout ∙ h.layout_is;
     given = subst (GaveFrames l e (took lanes')) (sym written) (still e w.written h.given);
-    whole = λ ample some. elim (cases_Bool (short_of w.assembler)) [
+    whole = λ ample. elim (cases_Bool (short_of w.parts)) [
       | inl was ↦ absurd (true≢false (sym ((k.refused was).short) ∙ ample))
       | inr was ↦
           let a = k.whole was in
-          let x = h.whole was (sym lacking ∙ some) in
+          let x = h.whole was in
           elim a.comes [
             | inl u ↦ record {
               frames = x.frames;
               sizes = x.sizes;
-              took_is = λ tile low. took_more (parts_in x.frames) (places_of w.assembler) a.found a.each x.took_is tile low
+              took_is = λ tile low. took_more (parts_in x.frames) (places_of w.parts) a.found a.each x.took_is tile low
                   ∙ ap (λ (ps : List (Option TilePart)). parts_in x.frames tile ++ option_to_list (in_place ps tile)) (sym u.places);
               given = subst (GaveText e (p6_texts (map (picture l) x.frames))) (sym written) x.given;
               written = λ few. subst (IsCounted e (p6_texts (map (picture l) x.frames))) (sym written) (x.written few);
@@ -134,34 +131,25 @@ module _ {I : Type 0} (gave : I → TilePart → I → Type 0) (same : I → I �
     ];
   }
 
-  -- a frame was completed, and not written, since memory lacked
-  pub passes : (e : Used) (w w' : FrameWriter) (image : Image) → IsAssembled gave same empty_seen bare w.assembler lanes (Some image) w'.assembler lanes'
-      → w'.written ≡ w.written → w'.lacking ≡ true → IsOnTheWay l e (took lanes) w → IsOnTheWay l e (took lanes') w'
-  passes e w w' image k written lacking h = record {
-    layout_is = k.layout ∙ h.layout_is;
-    given = subst (GaveFrames l e (took lanes')) (sym written) (still e w.written h.given);
-    whole = λ ample some. absurd (true≢false (sym lacking ∙ some));
-  }
-
   -- a frame was completed and written
-  module _ (a b c : Option (List ℕ)) (fa fb fc : ℕ) (w w' : FrameWriter) (image : Image) (window : IsWindow (layout_of w.assembler))
-      (k : IsAssembled gave same empty_seen bare w.assembler lanes (Some image) w'.assembler lanes')
+  module _ (a b c : Option (List ℕ)) (fa fb fc : ℕ) (w w' : FrameWriter) (image : Image) (window : IsWindow (layout_of w.parts))
+      (k : IsAssembled gave same empty_seen bare w.parts lanes (Some image) w'.parts lanes')
       (counts : (text : List ℕ) → length text + length (p6_text image) < 2 ^ 64 → IsCounted (used a b fa fb) text w.written → IsCounted (used a c fa fc) (text ++ p6_text image) w'.written)
-      (given : HasGiven b c (p6_text image) w.written w'.written) (ample : w.lacking ≡ false) (h : IsOnTheWay l (used a b fa fb) (took lanes) w) where
-    was_ample : short_of w.assembler ≡ false
-    was_ample = elim (cases_Bool (short_of w.assembler)) [
+      (given : HasGiven b c (p6_text image) w.written w'.written) (h : IsOnTheWay l (used a b fa fb) (took lanes) w) where
+    was_ample : short_of w.parts ≡ false
+    was_ample = elim (cases_Bool (short_of w.parts)) [
       | inl was ↦ absurd (let e : Some image ≡ None = (k.refused was).none in cc)
       | inr was ↦ was
     ]
 
-    complete : IsCompleteFrame (layout_of w.assembler) (k.whole was_ample).found image w'.assembler
+    complete : IsCompleteFrame (layout_of w.parts) (k.whole was_ample).found image w'.parts
     complete = (k.whole was_ample).comes
 
     image_is : image ≡ picture l complete.parts
     image_is = complete.shown ∙ ap (λ (x : Layout). picture x complete.parts) h.layout_is
 
     before : HasWritten l (used a b fa fb) (took lanes) w
-    before = h.whole was_ample ample
+    before = h.whole was_ample
 
     frames_now : List (List TilePart)
     frames_now = before.frames ++ complete.parts ∷ []
@@ -170,16 +158,16 @@ module _ {I : Type 0} (gave : I → TilePart → I → Type 0) (same : I → I �
     unfolding frames_now
     sizes_now = all_more (ArePartsOf l) before.frames complete.parts before.sizes (subst (λ (z : Layout). ArePartsOf z complete.parts) h.layout_is complete.sizes)
 
-    took_now : (tile : ℕ) → tile < tile_count l → took lanes' tile ≡ parts_in frames_now tile ++ option_to_list (in_place (places_of w'.assembler) tile)
+    took_now : (tile : ℕ) → tile < tile_count l → took lanes' tile ≡ parts_in frames_now tile ++ option_to_list (in_place (places_of w'.parts) tile)
     unfolding frames_now
     took_now tile low =
         let y = k.whole was_ample in
-        took_more (parts_in before.frames) (places_of w.assembler) y.found y.each before.took_is tile low
+        took_more (parts_in before.frames) (places_of w.parts) y.found y.each before.took_is tile low
         ∙ ap (λ (o : Option TilePart). parts_in before.frames tile ++ option_to_list o) (ap (λ (ps : List (Option TilePart)). in_place ps tile) complete.all ∙ place_is complete.parts tile)
         ∙ sym (parts_more before.frames complete.parts tile)
         ∙ sym (append-nil (parts_in (before.frames ++ complete.parts ∷ []) tile))
         ∙ ap (λ (o : Option TilePart). parts_in (before.frames ++ complete.parts ∷ []) tile ++ option_to_list o)
-        (sym (ap (λ (ps : List (Option TilePart)). in_place ps tile) complete.places ∙ none_in (tile_count (layout_of w.assembler)) tile))
+        (sym (ap (λ (ps : List (Option TilePart)). in_place ps tile) complete.places ∙ none_in (tile_count (layout_of w.parts)) tile))
 
     text_now : p6_texts (map (picture l) frames_now) ≡ p6_texts (map (picture l) before.frames) ++ p6_text image
     unfolding frames_now
@@ -209,19 +197,19 @@ module _ {I : Type 0} (gave : I → TilePart → I → Type 0) (same : I → I �
       given = record {
         frames = frames_now;
         sizes = sizes_now;
-        fronts = λ tile low. (option_to_list (in_place (places_of w'.assembler) tile), took_now tile low);
+        fronts = λ tile low. (option_to_list (in_place (places_of w'.parts) tile), took_now tile low);
         given = given_now;
       };
-      whole = λ _ _. record { frames = frames_now; sizes = sizes_now; took_is = took_now; given = given_now; written = counted_now };
+      whole = λ _. record { frames = frames_now; sizes = sizes_now; took_is = took_now; given = given_now; written = counted_now };
     }
 
 -- ---- what is missing
 
 module _ {I : Type 0} (gave : I → TilePart → I → Type 0) (same : I → I → Type 0) (empty_seen : I → ℕ) (bare : I → Type 0) (lanes lanes' : List I) where
   -- where no frame was completed, and no tile was short, a part is missing
-  pub is_missing : (w w' : FrameWriter) → length lanes ≡ tile_count (layout_of w.assembler)
-      → IsAssembled gave same empty_seen bare w.assembler lanes None w'.assembler lanes' → short_of w'.assembler ≡ false → IsMissing bare w' lanes'
-  is_missing w w' count k ample = elim (cases_Bool (short_of w.assembler)) [
+  pub is_missing : (w w' : FrameWriter) → length lanes ≡ tile_count (layout_of w.parts)
+      → IsAssembled gave same empty_seen bare w.parts lanes None w'.parts lanes' → short_of w'.parts ≡ false → IsMissing bare w' lanes'
+  is_missing w w' count k ample = elim (cases_Bool (short_of w.parts)) [
     | inl was ↦ absurd (true≢false (sym ((k.refused was).short) ∙ ample))
     | inr was ↦
         let a = k.whole was in
@@ -230,7 +218,7 @@ module _ {I : Type 0} (gave : I → TilePart → I → Type 0) (same : I → I �
             tile = u.gap.tile;
             low = subst (λ (x : Layout). u.gap.tile < tile_count x) (sym k.layout) u.gap.low;
             place = ap (λ (ps : List (Option TilePart)). in_place ps u.gap.tile) u.places ∙ u.gap.missing;
-            empty = λ e. found_bare (in_place (places_of w.assembler) u.gap.tile) (in_place a.found u.gap.tile) _ _
+            empty = λ e. found_bare (in_place (places_of w.parts) u.gap.tile) (in_place a.found u.gap.tile) _ _
                 (a.each.at u.gap.tile e (let low = u.gap.low in omega (arith, count, low))) u.gap.missing;
           }
           | inr s ↦ absurd (true≢false (sym s.short ∙ ample))
@@ -254,7 +242,7 @@ module _ {I : Type 0} (gave : I → TilePart → I → Type 0) (same : I → I �
   found_one None found a b h = taken_one found a b h
 
   -- of each lane at most one part was taken, whether the assembler was short or not; as many lanes are there as before
-  pub each_one : (w w' : Assembler) (lanes lanes' : List I) (result : Option Image) → length lanes' ≡ length lanes
+  pub each_one : (w w' : FrameParts) (lanes lanes' : List I) (result : Option Image) → length lanes' ≡ length lanes
       → IsAssembled gave same empty_seen bare w lanes result w' lanes' → EachLane (λ i a b. GivesOne gave same a b) lanes lanes'
   each_one w w' lanes lanes' result count k = elim (cases_Bool (short_of w)) [
     | inl was ↦ let r = k.refused was in record {
@@ -274,14 +262,14 @@ new_writers l image took w new none calm empty = let nothing : GaveText image []
   front = record { done = 0; part = omega arith; given = none };
   all = λ _. none;
 } in record {
-  layout_is = new.assembler_is.layout;
+  layout_is = new.parts_are.layout;
   given = record { frames = []; sizes = tt; fronts = λ tile low. (took tile, refl); given = nothing };
-  whole = λ ample some. record {
+  whole = λ ample. record {
     frames = [];
     sizes = tt;
     given = nothing;
     took_is = λ tile low. empty tile low
-        ∙ ap (λ (o : Option TilePart). option_to_list o) (sym (ap (λ (ps : List (Option TilePart)). in_place ps tile) new.assembler_is.places ∙ none_in (tile_count l) tile));
+        ∙ ap (λ (o : Option TilePart). option_to_list o) (sym (ap (λ (ps : List (Option TilePart)). in_place ps tile) new.parts_are.places ∙ none_in (tile_count l) tile));
     written = λ few. record {
       is = inl (ap (λ (x : Written). x.fault) new.written, none, calm);
       count = λ _. ap (λ (x : Written). x.bytes) new.written;

@@ -1,12 +1,9 @@
 -- One text more is written behind others.
-use Rattle.std.proofs.Common.{◌≡◌, ℕ, ◌+◌, ◌<◌, ◌^◌, true, false, List, [], ◌∷◌, ◌++◌, length, take, get_or, inl, inr, refl, sym, ap, ◌∙◌, subst, arith, append-nil, length-append, true≢false}
+use Rattle.std.proofs.Common.{◌≡◌, ℕ, ◌+◌, ◌<◌, ◌^◌, true, false, List, ◌++◌, length, take, inl, inr, refl, sym, ap, ◌∙◌, subst, arith, length-append, true≢false}
 use Rattle.std.specs.Prelude.{min, IfErr, OnOk, Option, Result, Ok, Err}
 use Rattle.std.specs.Io.KnownBytes.{Appends}
 use Rattle.std.proofs.Math.Seq.{take-append-add, take-append_seam, take-length}
-use Rattle.std.proofs.lemmas.Grind.{flat_map-append}
-use Rattle.std.proofs.lemmas.List.{take-append-le, take_more}
-use Rattle.rc_base.specs.Formats.Netpbm.{p6_text, p6_texts}
-use Rattle.rc_base.specs.declared.image.Image.{Image}
+use Rattle.std.proofs.lemmas.List.{take-append-le}
 use Rattle.rc_base.specs.Outside.Causes.{HasCause, Rose, last_count, risen}
 use Rattle.rc_base.specs.Outside.Ends.{TookFront, Used}
 use Rattle.rc_base.proofs.Known.{Appends-then}
@@ -119,8 +116,3 @@ front_of e text more w h = elim h.is [
     given = subst (Appends e.before e.after) (sym (take-append-le w.bytes text more (let low = x.2 in omega (arith, low)))) x.3;
   }
 ]
-
-pub texts_next : (xs : List Image) (i : ℕ) (d : Image) → i < length xs → p6_texts (take (i + 1) xs) ≡ p6_texts (take i xs) ++ p6_text (get_or xs i d)
-texts_next xs i d lt =
-    ap p6_texts (take_more xs i d lt) ∙ flat_map-append p6_text (take i xs) (get_or xs i d ∷ [])
-    ∙ ap (λ (ys : List ℕ). p6_texts (take i xs) ++ ys) (append-nil (p6_text (get_or xs i d)))

@@ -9,7 +9,7 @@ use Rattle.rc_base.specs.Outside.Ends.{Used, Took, TookFront}
 use Rattle.rc_base.specs.declared.cluster.TilePart.{TilePart}
 use Rattle.rc_base.specs.declared.window.Layout.{Layout}
 use Rattle.assembler.specs.Parts.{picture, ArePartsOf}
-use Rattle.assembler.specs.Assembled.{layout_of, places_of, short_of, IsNewAssembler}
+use Rattle.assembler.specs.Assembled.{layout_of, places_of, short_of, AreNewParts}
 use Rattle.assembler.specs.Places.{in_place}
 use Rattle.frame_out.specs.Writing.{IsCounted}
 use Rattle.frame_out.specs.declared.on_the_way.FrameWriter.{FrameWriter}
@@ -30,7 +30,7 @@ pub record GaveText (image : Used) (text : List ℕ) (written : Written) : Type 
 pub record HasWritten (l : Layout) (image : Used) (took : ℕ → List TilePart) (w : FrameWriter) : Type 0 where
   pub frames : List (List TilePart)
   pub sizes : AllByRecursion (ArePartsOf l) frames
-  pub took_is : (tile : ℕ) → tile < tile_count l → took tile ≡ parts_in frames tile ++ option_to_list (in_place (places_of w.assembler) tile)
+  pub took_is : (tile : ℕ) → tile < tile_count l → took tile ≡ parts_in frames tile ++ option_to_list (in_place (places_of w.parts) tile)
   -- the texts of the complete frames were written, up to a fault of the image
   pub given : GaveText image (p6_texts (map (picture l) frames)) w.written
   -- and are counted
@@ -43,18 +43,17 @@ pub record GaveFrames (l : Layout) (image : Used) (took : ℕ → List TilePart)
   pub fronts : (tile : ℕ) → tile < tile_count l → IsFront (parts_in frames tile) (took tile)
   pub given : GaveText image (p6_texts (map (picture l) frames)) written
 
--- A writer of frames for a layout, what the image was given since a moment, and what was taken of the tiles since then. Once a tile was short, or memory
--- lacked for a text, it writes no more: no frame is written behind one that isn't.
+-- A writer of frames for a layout, what the image was given since a moment, and what was taken of the tiles since then. Once a tile was short it writes no
+-- more: no frame is written behind one that isn't.
 pub record IsOnTheWay (l : Layout) (image : Used) (took : ℕ → List TilePart) (w : FrameWriter) : Type 0 where
-  pub layout_is : layout_of w.assembler ≡ l
+  pub layout_is : layout_of w.parts ≡ l
   pub given : GaveFrames l image took w.written
-  pub whole : short_of w.assembler ≡ false → w.lacking ≡ false → HasWritten l image took w
+  pub whole : short_of w.parts ≡ false → HasWritten l image took w
 
 -- nothing was taken, and nothing written
 pub record IsNewWriter (l : Layout) (w : FrameWriter) : Type 0 where
-  pub assembler_is : IsNewAssembler l w.assembler
+  pub parts_are : AreNewParts l w.parts
   pub written : w.written ≡ record { bytes = 0; fault = false }
-  pub ample : w.lacking ≡ false
 
 -- ---- lanes
 
@@ -72,6 +71,6 @@ GivesOne gave same a b = same a b ⊎ ((part : TilePart) × gave a part b)
 -- a tile's part is missing, and its lane was found empty
 pub record IsMissing {I : Type 0} (bare : I → Type 0) (w : FrameWriter) (lanes : List I) : Type 0 where
   pub tile : ℕ
-  pub low : tile < tile_count (layout_of w.assembler)
-  pub place : in_place (places_of w.assembler) tile ≡ None
+  pub low : tile < tile_count (layout_of w.parts)
+  pub place : in_place (places_of w.parts) tile ≡ None
   pub empty : (d : I) → bare (slice_index_or lanes tile d)

@@ -1,47 +1,41 @@
 //! The text of an image.
-ghost use Rattle.std.specs.Prelude.{◌≡◌, ◌++◌, IfOk, OnOk};
+ghost use Rattle.std.specs.Prelude.{◌≡◌, ◌++◌, IfOk};
 ghost use Rattle.rc_base.specs.Formats.Commands.{AreBytes};
 ghost use Rattle.rc_base.specs.Formats.Netpbm.{p6_text, SpellsImage};
-ghost use Rattle.ppm_out.specs.Pictures.{IsWholeImage};
+ghost use Rattle.ppm_out.specs.Pictures.{p6_header, IsWholeImage};
 
 use rc_base::command::Bytes;
 use rc_base::image::Image;
 use rc_base::out_of_memory::OutOfMemory;
 use std::alloc::{AllocError, Global};
 
-// Puts the header, and the pixels behind it, in place of what the room has. Its memory is kept.
-fn put_joined(text: &mut Vec<u8>, header: &[u8], rgb: &[u8]) -> Result<(), AllocError>
-    ensures text { OnOk result (text.new.items ≡ header.now ++ rgb.now) }
+// A header, and the pixels behind it.
+fn joined(alloc: Global, header: &[u8], rgb: &[u8]) -> Result<Vec<u8>, AllocError>
+    ensures text { IfOk result (λ text. text.items ≡ header.now ++ rgb.now) }
     ensures channels { AreBytes rgb.now }
 {
-    text.clear();
-    text.reserve(header.len().saturating_add(rgb.len()))?;
+    let mut text = Vec::with_capacity(alloc, header.len().saturating_add(rgb.len()))?;
     text.extend_from_slice(header)?;
     text.extend_from_slice(rgb)?;
-    Ok(())
+    Ok(text)
 }
 
-/// Puts the text of an image in place of what the room has, whose memory is kept. Where memory lacks the room may have a part of the text.
-pub fn put_image_text(alloc: Global, text: &mut Vec<u8>, image: &Image) -> Result<(), OutOfMemory>
-    requires { IsWholeImage image.now }
-    ensures text { OnOk result (text.new.items ≡ p6_text image.now) }
-    // What is written is an image again.
-    ensures spelled { OnOk result (SpellsImage text.new.items image.now) }
+/// The header of an image with these sides, which its pixels stand behind: `P6`, LF, width, space, height, LF, `255`, LF.
+pub fn image_header(alloc: Global, width: u16, height: u16) -> Result<Bytes, OutOfMemory>
+    ensures { IfOk result (λ header. header ≡ p6_header width height) }
 {
-    let width = image.width;
-    let height = image.height;
     let header = format!(in alloc; "P6\n{width} {height}\n255\n")?;
-    Ok(put_joined(text, header.as_bytes(), image.rgb.as_slice())?)
+    Ok(Bytes::from_vec(header.into_bytes()))
 }
 
-/// The text of an image: `P6`, LF, width, space, height, LF, `255`, LF, and then r, g and b of each pixel, rows from the top.
+/// The text of an image: its header, and then r, g and b of each pixel, rows from the top.
 pub fn image_text(alloc: Global, image: &Image) -> Result<Bytes, OutOfMemory>
     requires { IsWholeImage image.now }
     ensures text { IfOk result (λ text. text ≡ p6_text image.now) }
     // What is written is an image again.
     ensures spelled { IfOk result (λ text. SpellsImage text image.now) }
 {
-    let mut text = Vec::new(alloc);
-    put_image_text(alloc, &mut text, image)?;
+    let header = image_header(alloc, image.width, image.height)?;
+    let text = joined(alloc, header.as_slice(), image.rgb.as_slice())?;
     Ok(Bytes::from_vec(text))
 }

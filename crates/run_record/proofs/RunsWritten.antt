@@ -65,7 +65,7 @@ module _ (one : EachPixelHasOneTile) (show : PartsShowTheirPixels) (scene : Scen
   module _ (shown took : ℕ → List TilePart) (image : Used) (w : FrameWriter) (have : HaveFrames scene l kept shown) (window : HasWindow scene l)
       (writable : AreWritable (window_images l (recorded_pixel scene l kept) (frame_count kept.journal))) (h : HasWritten l image took w)
       (fronts : (tile : ℕ) → tile < tile_count l → IsFront (took tile) (shown tile)) (last : ℕ) (low : last < tile_count l)
-      (missing : in_place (places_of w.assembler) last ≡ None) (all : took last ≡ shown last) where
+      (missing : in_place (places_of w.parts) last ≡ None) (all : took last ≡ shown last) where
     many : length h.frames ≡ frame_count kept.journal
     many =
         let a = ap length (h.took_is last low ∙ ap (λ (o : Option TilePart). parts_in h.frames last ++ option_to_list o) missing ∙ append-nil (parts_in h.frames last)) in
@@ -82,7 +82,7 @@ module _ (one : EachPixelHasOneTile) (show : PartsShowTheirPixels) (scene : Scen
     shown_is : (tile : ℕ) → tile < tile_count l → shown tile ≡ parts_in h.frames tile
     shown_is tile lt =
         let front = fronts tile lt in
-        none_more (parts_in h.frames tile) (option_to_list (in_place (places_of w.assembler) tile)) front.0 (shown tile)
+        none_more (parts_in h.frames tile) (option_to_list (in_place (places_of w.parts) tile)) front.0 (shown tile)
         (front.1 ∙ ap (λ (xs : List TilePart). xs ++ front.0) (h.took_is tile lt))
         (let a = counted l tile lt h.frames h.sizes in let b = have.count tile lt in let c = many in omega (arith, a, b, c))
 

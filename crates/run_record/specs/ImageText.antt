@@ -43,5 +43,5 @@ WholeRunsAreWritten =
     → HaveFrames scene l kept shown → HasWindow scene l → 0 < tile_count l
     → AreWritable (window_images l (recorded_pixel scene l kept) (frame_count kept.journal))
     → HasWritten l image took w → ((tile : ℕ) → tile < tile_count l → IsFront (took tile) (shown tile))
-    → (tile : ℕ) → tile < tile_count l → in_place (places_of w.assembler) tile ≡ None → took tile ≡ shown tile
+    → (tile : ℕ) → tile < tile_count l → in_place (places_of w.parts) tile ≡ None → took tile ≡ shown tile
     → IsCounted image (image_text_of scene l kept) w.written

@@ -30,5 +30,5 @@ returns-clause-missing g c = λ ample. elim c.match-next.branch [
   | in-Some+then-not-serve_rest w ↦
       subst (λ (x : FrameWriter × List (Rest TilePart g.row.R.Denot)). IsMissing (λ r. taken_in r ≡ sent_in r) x.0 x.1)
       (λ i. (sym w.writer-is i, ap (λ r. r.items) (sym w.rests-is) i))
-      (w.if-not-serve_rest.ensures.missing refl (ap (λ (x : FrameWriter). short_of x.assembler) (sym w.writer-is) ∙ ample))
+      (w.if-not-serve_rest.ensures.missing refl (ap (λ (x : FrameWriter). short_of x.parts) (sym w.writer-is) ∙ ample))
 ]

@@ -1,10 +1,10 @@
 use Rattle.std.proofs.Common.{◌≡◌, List, Option, Some, map, length, ap, subst, ◌∙◌}
 use Rattle.std.proofs.lemmas.List.{with_items_is}
 use Rattle.rc_base.specs.declared.cluster.TilePart.{TilePart}
-use Rattle.assembler.specs.Parts.{picture}
+use Rattle.assembler.specs.Parts.{image_with, picture}
 use Rattle.assembler.specs.Places.{AllFit, parts_in}
 use Rattle.assembler.proofs.Waiting.{all_parts}
-use Rattle.assembler.proofs.places.Assembler.settle.Goals as goal
+use Rattle.assembler.proofs.frame_parts.FrameParts.settle.Goals as goal
 
 pub invariant_of-self-2-clause-count : goal.invariant_of-self-2-clause-count
 invariant_of-self-2-clause-count c =
@@ -22,7 +22,7 @@ returns-clause-comes c =
       parts = parts_in places;
       all = all;
       sizes = all_parts l places c.args.self.now.count all fit;
-      shown = c.draw_places.ensures.shown ∙ ap (λ (os : List (Option TilePart)). picture l (parts_in os)) c.as_mut_slice.ensures.value;
-      short = c.requires;
+      shown = ap (image_with l) c.draw_places.ensures.shown ∙ ap (λ (os : List (Option TilePart)). picture l (parts_in os)) c.as_mut_slice.ensures.value;
+      short = c.requires.ample;
       places = with_items_is c.args.self.now.places c.draw_places.new.places (c.draw_places.auto.places ∙ c.as_mut_slice.ensures.len) ∙ c.draw_places.ensures.places;
     }

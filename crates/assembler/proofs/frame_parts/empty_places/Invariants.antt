@@ -1,6 +1,6 @@
 use Rattle.std.proofs.Common.{◌≡◌, ◌≤◌, None, replicate}
 use Rattle.std.specs.Vec.{vec_len, vec_capacity}
-use Rattle.assembler.proofs.places.empty_places.Given as goal
+use Rattle.assembler.proofs.frame_parts.empty_places.Given as goal
 
 abbrev pub invariant-loop-tile : goal.invariant-loop-tile
 invariant-loop-tile l = record {
