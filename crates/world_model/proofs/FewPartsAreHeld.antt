@@ -10,7 +10,7 @@ use Rattle.rc_base.specs.declared.scene.Scene.{Scene}
 use Rattle.rc_base.specs.declared.window.Layout.{Layout}
 use Rattle.assembler.specs.Assembled.{layout_of, places_of, short_of, ComesOf}
 use Rattle.assembler.specs.Places.{in_place}
-use Rattle.assembler.specs.declared.places.Assembler.{Assembler}
+use Rattle.assembler.specs.declared.frame_parts.FrameParts.{FrameParts}
 use Rattle.assembler.proofs.Waiting.{none_in}
 use Rattle.plain_lemmas.proofs.Numbers.{at_one_or_other}
 use Rattle.world_model.specs.Held.{held_of, ThreadedRunsHoldLittle, NoTileRunsAhead, FewPartsOfEachTileAreHeld, FewPartsAreHeld}
@@ -70,7 +70,7 @@ module _ (scene : Scene) (l : Layout) (depth : ℕ) (some : 0 < tile_count l) (w
   same_gap : v.caller ≡ w.caller → short_of v.caller ≡ false → (tile : ℕ) × (tile < tile_count l) × (in_place (places_of v.caller) tile ≡ None)
   same_gap caller ample =
       let g = h.gap (ap short_of (sym caller) ∙ ample) in
-      (g.0, g.1, ap (λ (a : Assembler). in_place (places_of a) g.0) caller ∙ g.2)
+      (g.0, g.1, ap (λ (a : FrameParts). in_place (places_of a) g.0) caller ∙ g.2)
 
   same_room : NoParts l w v → HasRoom l depth v
   same_room m = record {

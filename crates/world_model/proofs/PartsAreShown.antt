@@ -16,7 +16,7 @@ use Rattle.tile_model.specs.Items.{shown_frames}
 use Rattle.assembler.specs.Assembled.{layout_of, places_of, short_of, ComesOf, IsAssembledOf}
 use Rattle.assembler.specs.Parts.{ArePartsOf, tile_height, tile_width}
 use Rattle.assembler.specs.Places.{fits, in_place, AllFit, IsFound}
-use Rattle.assembler.specs.declared.places.Assembler.{Assembler}
+use Rattle.assembler.specs.declared.frame_parts.FrameParts.{FrameParts}
 use Rattle.assembler.proofs.Waiting.{stands_in, none_in}
 use Rattle.plain_lemmas.proofs.Numbers.{at_one_or_other}
 use Rattle.plain_lemmas.proofs.Lists.{item_within}
@@ -129,12 +129,12 @@ module _ (scene : Scene) (l : Layout) (depth frames : ℕ) (pixels : HavePixels 
       (λ whole.
       let s = f.shown (sym (ap short_of m.parts.caller) ∙ whole) in
       record {
-        fit = subst (λ (a : Assembler). AllFit l (places_of a)) (sym m.parts.caller) s.fit;
+        fit = subst (λ (a : FrameParts). AllFit l (places_of a)) (sym m.parts.caller) s.fit;
         tiles = λ tile lt.
             let waits : waiting_parts v tile ≡ waiting_parts w tile =
             ap (λ (ps : List TilePart). ps ++ option_to_list (v.handing tile)) (m.parts.lanes tile lt)
             ∙ ap (λ (o : Option TilePart). lane_of w tile ++ option_to_list o) (m.parts.handing tile lt) in
-            subst (λ (a : Assembler). IsTileShown l tile frames (in_place (places_of a) tile) (waiting_parts v tile) (v.cluster.tiles tile)) (sym m.parts.caller)
+            subst (λ (a : FrameParts). IsTileShown l tile frames (in_place (places_of a) tile) (waiting_parts v tile) (v.cluster.tiles tile)) (sym m.parts.caller)
             (subst (λ (ps : List TilePart). IsTileShown l tile frames (in_place (places_of w.caller) tile) ps (v.cluster.tiles tile)) (sym waits)
             (subst (λ (a : Tile). IsTileShown l tile frames (in_place (places_of w.caller) tile) (waiting_parts w tile) a) (sym (same tile lt)) (s.tiles tile lt)));
       })
@@ -152,9 +152,9 @@ module _ (scene : Scene) (l : Layout) (depth frames : ℕ) (pixels : HavePixels 
       (λ whole.
       let s = f.shown (sym (ap short_of only.caller) ∙ whole) in
       record {
-        fit = subst (λ (a : Assembler). AllFit l (places_of a)) (sym only.caller) s.fit;
+        fit = subst (λ (a : FrameParts). AllFit l (places_of a)) (sym only.caller) s.fit;
         tiles = λ i lt.
-            subst (λ (a : Assembler). IsTileShown l i frames (in_place (places_of a) i) (waiting_parts v i) (v.cluster.tiles i)) (sym only.caller)
+            subst (λ (a : FrameParts). IsTileShown l i frames (in_place (places_of a) i) (waiting_parts v i) (v.cluster.tiles i)) (sym only.caller)
             (at_one_or_other (λ i. i < tile_count l → IsTileShown l i frames (in_place (places_of w.caller) i) (waiting_parts v i) (v.cluster.tiles i)) tile
             (λ lt. here lt (s.tiles tile lt))
             (λ i ne lt.

@@ -9,7 +9,7 @@ use Rattle.rc_base.specs.declared.scene.Scene.{Scene}
 use Rattle.rc_base.specs.declared.window.Layout.{Layout}
 use Rattle.assembler.specs.Assembled.{layout_of, places_of, short_of, ComesOf, IsUnfinished}
 use Rattle.assembler.specs.Places.{in_place}
-use Rattle.assembler.specs.declared.places.Assembler.{Assembler}
+use Rattle.assembler.specs.declared.frame_parts.FrameParts.{FrameParts}
 use Rattle.plain_lemmas.proofs.Numbers.{at_one_or_other}
 use Rattle.world_model.specs.Laws.{IsSameWorld}
 use Rattle.world_model.specs.Threaded.{PartLane, no_lane, ThreadedWorld, ThreadedTurn, Steps, HandsOver, Collects, SeenLanes, lanes_now, lane_of, IsPut, IsTileCoreTurn, IsHandOver, IsIdleCall, IsCall, IsThreadedTurnSeeing, IsThreadedTurn, AreThreadedTurns, IsStill, threaded_number, HaveThreadedTurns}
@@ -71,7 +71,7 @@ module _ (scene : Scene) (l : Layout) (depth : ℕ) where
     lanes = lanes;
     handing = handing;
     short = ap short_of caller;
-    places = λ ample tile lt. ap (λ (a : Assembler). in_place (places_of a) tile) caller;
+    places = λ ample tile lt. ap (λ (a : FrameParts). in_place (places_of a) tile) caller;
   }
 
   fits_on : (w v : ThreadedWorld) → Fits w → length v.lanes ≡ length w.lanes → layout_of v.caller ≡ layout_of w.caller → Fits v

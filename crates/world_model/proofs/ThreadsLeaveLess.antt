@@ -12,7 +12,7 @@ use Rattle.rc_base.specs.declared.window.Layout.{Layout}
 use Rattle.assembler.specs.Assembled.{layout_of, places_of, short_of, ComesOf, IsAssembledOf}
 use Rattle.assembler.specs.Parts.{ArePartsOf}
 use Rattle.assembler.specs.Places.{in_place, IsTaken}
-use Rattle.assembler.specs.declared.places.Assembler.{Assembler}
+use Rattle.assembler.specs.declared.frame_parts.FrameParts.{FrameParts}
 use Rattle.assembler.proofs.Waiting.{stands_in, none_in}
 use Rattle.plain_lemmas.proofs.Lists.{item_within}
 use Rattle.world_model.specs.Threaded.{PartLane, no_lane, GaveFirst, GaveNone, empties_of, HoldsAny, ThreadedWorld, ThreadedTurn, Steps, HandsOver, Collects, SeenLanes, lane_of, IsPut, NoParts, OnlyPartsOf, IsTileCoreTurn, IsHandOver, IsCall, IsThreadedTurnSeeing, IsStill}
@@ -99,7 +99,7 @@ module _ (scene : Scene) (l : Layout) (depth frames : ℕ) (some : 0 < tile_coun
   -- ---- what tiles show is as it was
 
   same_placed : (tile : ℕ) → v.caller ≡ w.caller → placed v tile ≡ placed w tile
-  same_placed tile caller = ap (λ (a : Assembler). cond {A = ℕ} (short_of a) 0 (length (option_to_list (in_place (places_of a) tile)))) caller
+  same_placed tile caller = ap (λ (a : FrameParts). cond {A = ℕ} (short_of a) 0 (length (option_to_list (in_place (places_of a) tile)))) caller
 
   same_parts : (tile : ℕ) → lane_of v tile ≡ lane_of w tile → v.handing tile ≡ w.handing tile → v.caller ≡ w.caller → part_work v tile ≡ part_work w tile
   same_parts tile lane handing caller =
@@ -109,7 +109,7 @@ module _ (scene : Scene) (l : Layout) (depth frames : ℕ) (some : 0 < tile_coun
       omega (arith, a, b, c)
 
   same_short : v.caller ≡ w.caller → one_unless (short_of v.caller) ≡ one_unless (short_of w.caller)
-  same_short caller = ap (λ (a : Assembler). one_unless (short_of a)) caller
+  same_short caller = ap (λ (a : FrameParts). one_unless (short_of a)) caller
 
   no_parts_change : NoParts l w v → total (part_work v) (tile_count l) ≡ total (part_work w) (tile_count l)
   no_parts_change m = total_same (part_work w) (part_work v) (tile_count l) (λ tile lt. same_parts tile (m.lanes tile lt) (m.handing tile lt) m.caller)

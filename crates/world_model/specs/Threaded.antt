@@ -8,9 +8,9 @@ use Rattle.rc_base.specs.declared.image.Image.{Image}
 use Rattle.rc_base.specs.declared.out_of_memory.OutOfMemory.{OutOfMemory}
 use Rattle.rc_base.specs.declared.scene.Scene.{Scene}
 use Rattle.rc_base.specs.declared.window.Layout.{Layout}
-use Rattle.assembler.specs.Assembled.{places_of, short_of, IsAssembled, IsNewAssembler}
+use Rattle.assembler.specs.Assembled.{places_of, short_of, AreNewParts, IsAssembled}
 use Rattle.assembler.specs.Places.{in_place}
-use Rattle.assembler.specs.declared.places.Assembler.{Assembler}
+use Rattle.assembler.specs.declared.frame_parts.FrameParts.{FrameParts}
 use Rattle.world_model.specs.declared.moves.TileAnswer.{TileAnswer}
 use Rattle.world_model.specs.declared.moves.TileAnswer.TheVariants.{Performed, Swapped, Learnt, Took, Held, Closed, Dropped, Blocked, Ended}
 use Rattle.world_model.specs.Turns.{Turn, IsTurnSeeing, IsResting, number_of, AllHaveStopped}
@@ -41,12 +41,12 @@ HoldsAny a = Unit {0}
 abbrev pub no_lane : PartLane
 no_lane = record { parts = []; empty_seen = 0 }
 
--- The stepped cluster; the lanes of parts, tiles rising; the part that each tile hands over, and the caller's assembler of frames.
+-- The stepped cluster; the lanes of parts, tiles rising; the part that each tile hands over, and the caller's parts of the next frame.
 pub record ThreadedWorld : Type 0 where
   pub cluster : World
   pub lanes : List PartLane
   pub handing : ℕ → Option TilePart
-  pub caller : Assembler
+  pub caller : FrameParts
 
 -- what the tile's lane of parts holds
 abbrev pub lane_of : ThreadedWorld → ℕ → List TilePart
@@ -67,7 +67,7 @@ pub record IsNewThreadedWorld (scene : Scene) (l : Layout) (w : ThreadedWorld) :
   pub count : length w.lanes ≡ tile_count l
   pub lanes : (tile : ℕ) → tile < tile_count l → lane_of w tile ≡ []
   pub handing : (tile : ℕ) → tile < tile_count l → w.handing tile ≡ None
-  pub caller : IsNewAssembler l w.caller
+  pub caller : AreNewParts l w.caller
 
 -- ---- turns
 
@@ -175,7 +175,7 @@ module _ (scene : Scene) (l : Layout) (depth : ℕ) where
     pub put : IsSentOrKept sent part (lane_of w tile) (seen.parts tile) (lane_of later tile) (later.handing tile)
     pub only : OnlyPartsOf l w tile later
 
-  -- The caller takes at most one part of each tile, as the assembler does. A lane that it asked, and that gave nothing, was empty.
+  -- The caller takes at most one part of each tile, and puts them together. A lane that it asked, and that gave nothing, was empty.
   pub record IsCall (w : ThreadedWorld) (seen : SeenLanes) (moved : Bool) (frame : Option Image) (later : ThreadedWorld) : Type 0 where
     pub cluster : later.cluster ≡ w.cluster
     pub handing : (tile : ℕ) → tile < tile_count l → later.handing tile ≡ w.handing tile
