@@ -69,6 +69,7 @@ fn are_in_turn(rt: &impl Abort, alloc: Global) -> bool {
         && send(&mut lanes[0], alloc, 0, 2, 0)
         && assembler.next_frame(&mut lanes).is_none()
         && assembler.is_short()
+        && shows(Some(assembler.image()), &RGB)
         && send(&mut lanes[0], alloc, 0, 3, 2)
         && send(&mut lanes[1], alloc, 1, 3, 2)
         && assembler.next_frame(&mut lanes).is_none()

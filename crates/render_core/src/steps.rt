@@ -182,7 +182,7 @@ fn show<K: Sink>(alloc: Global, image: &mut K, due: Due) -> Result<Told, Refused
         ending,
         kept,
     } = due;
-    match write_due(alloc, image, &text) {
+    match write_due(alloc, image, text) {
         Ok(written) => told_of(alloc, notes, ending, kept, written),
         Err(OutOfMemory) => Err(without_record(Refusal::Image(ImageRefusal::OutOfMemory))),
     }

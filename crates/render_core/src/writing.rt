@@ -29,19 +29,20 @@ fn write_some<K: Sink>(image: &mut K, text: &[u8]) -> Written
 }
 
 /// Writes what is due to the image. Where memory lacks the image was given a front of it, and where nothing is due it isn't called.
+/// Each frame is let go once it is written.
 pub(crate) fn write_due<K: Sink>(
     alloc: Global,
     image: &mut K,
-    due: &DueImage,
+    due: DueImage,
 ) -> Result<Written, OutOfMemory>
-    requires { IsWritable due.now }
-    ensures written { IfOk result (IsGiven (use_of K.held K.faults image.old image.new) due.now) }
-    ensures front { OnErr result (TookSome (use_of K.held K.faults image.old image.new) due.now) }
-    ensures blank { IsBlank due.now → image.new ≡ image.old }
+    requires { IsWritable due }
+    ensures written { IfOk result (IsGiven (use_of K.held K.faults image.old image.new) due) }
+    ensures front { OnErr result (TookSome (use_of K.held K.faults image.old image.new) due) }
+    ensures blank { IsBlank due → image.new ≡ image.old }
     ensures later { K.faults image.old ≤ K.faults image.new }
 {
     match due {
-        DueImage::Frames(frames) => write_frames(alloc, image, frames.as_slice()),
+        DueImage::Frames(frames) => write_frames(alloc, image, frames),
         DueImage::OneText(text) => Ok(write_some(image, text.as_slice())),
     }
 }

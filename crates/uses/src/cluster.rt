@@ -8,7 +8,8 @@ ghost use Rattle.rc_base.specs.Outside.Ends.{use_of, Took};
 ghost use Rattle.rc_base.specs.declared.cluster.TilePart.{TilePart as AnyPart};
 ghost use Rattle.rc_base.specs.declared.scene.Scene.{Scene as AnyScene};
 ghost use Rattle.rc_base.specs.declared.window.Layout.{Layout as AnyLayout};
-ghost use Rattle.assembler.specs.Assembled.{image_in, layout_of};
+ghost use Rattle.assembler.specs.Assembled.{layout_of as layout_of_parts};
+ghost use Rattle.assembler.specs.Assemblers.{image_in, layout_of};
 ghost use Rattle.frame_out.specs.OnTheWay.{GaveFrames, IsOnTheWay};
 ghost use Rattle.frame_out.specs.Writing.{AreWritable};
 ghost use Rattle.run_record.specs.Gathering.{HaveSent};
@@ -20,7 +21,7 @@ use cluster_run::{Run, run_threads};
 use frame_out::{FrameWriter, Written, write_frames};
 use rc_base::cluster::TilePart;
 use rc_base::gate::Gate;
-use rc_base::image::Image;
+use rc_base::image::Frames;
 use rc_base::lane::Inlet;
 use rc_base::out_of_memory::OutOfMemory;
 use rc_base::outside::Sink;
@@ -79,23 +80,22 @@ pub fn collected(
 pub fn written<K: Sink>(
     alloc: Global,
     image: &mut K,
-    frames: &[Image],
+    frames: Frames,
 ) -> Result<Written, OutOfMemory>
-    requires { AreWritable frames.now }
+    requires { AreWritable frames }
     ensures { IfOk result (λ w. w.fault ≡ false
-        → Took (use_of K.held K.faults image.old image.new) (p6_texts frames.now)) }
+        → Took (use_of K.held K.faults image.old image.new) (p6_texts frames)) }
 {
     write_frames(alloc, image, frames)
 }
 
-/// Takes parts for the next frame, and writes it where it is complete. What the image was given are the texts of the first frames, up to one that lacked
-/// memory: none stands behind such a one.
+/// Takes parts for the next frame, and writes it where it is complete. What the image was given are the texts of the first frames.
 pub fn served<I: Inlet<TilePart>, K: Sink>(
     writer: &mut FrameWriter,
     lanes: &mut [I],
     image: &mut K,
 ) -> bool
-    requires lanes { length lanes.old ≡ tile_count (layout_of writer.old.assembler) }
+    requires lanes { length lanes.old ≡ tile_count (layout_of_parts writer.old.parts) }
     ensures { (taken : I → List AnyPart) (l : AnyLayout) (start : K) (d : I)
         → Follows I.gave I.same taken
         → IsOnTheWay l (use_of K.held K.faults start image.old)

@@ -6,7 +6,7 @@ use Rattle.rc_base.specs.declared.image.Image.{Image}
 use Rattle.rc_base.specs.declared.plain_lane.PlainLane.{PlainLane}
 use Rattle.assembler.specs.Assembled.{short_of, IsAssembled}
 use Rattle.assembler.specs.Places.{IsFound, IsTaken}
-use Rattle.assembler.specs.declared.places.Assembler.{Assembler}
+use Rattle.assembler.specs.declared.frame_parts.FrameParts.{FrameParts}
 use Rattle.uses.specs.Cluster.{GiveOneAtMost, GivesOneAtMost}
 use Rattle.uses.proofs.cluster.advanced.Goals as goal
 
@@ -28,7 +28,7 @@ module _ (empty_seen : Lane → ℕ) (bare : Lane → Type 0) where
   found_one a b (Some part) found is = inl (ap held is.1)
   found_one a b None found is = taken_one a b found is
 
-  give_one : (before after : Assembler) (lanes later : List Lane) (result : Option Image)
+  give_one : (before after : FrameParts) (lanes later : List Lane) (result : Option Image)
       → IsAssembled gave same empty_seen bare before lanes result after later → GiveOneAtMost lanes later
   give_one before after lanes later result step tile d low = by (short_of before) refl
     where
@@ -37,4 +37,4 @@ module _ (empty_seen : Lane → ℕ) (bare : Lane → Type 0) where
       by false is = found_one _ _ _ _ ((step.whole is).each.at tile d low)
 
 pub returns : goal.returns
-returns c = give_one _ _ _ _ _ _ _ c.advance.ensures.step
+returns c = give_one _ _ _ _ _ _ _ c.advance.ensures.step.step
