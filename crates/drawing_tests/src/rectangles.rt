@@ -3,12 +3,16 @@ ghost use Rattle.std.specs.Prelude.{◌+◌};
 ghost use Rattle.draw_device.specs.Conditions.{IsClearable};
 ghost use Rattle.draw_device.specs.Devices.{IsDeviceRect};
 
-use draw_device::Device;
+use crate::stages::is_drawable;
+use draw_device::{Device, LazyDevice};
 use rc_base::command::{Mat4, Rgba};
 use rc_base::out_of_memory::OutOfMemory;
-use rc_base::state::State;
-use rc_base::window::Rect;
+use rc_base::scene::Sizes;
+use rc_base::state::{Effect, State};
+use rc_base::window::{Pixel, Rect};
 use std::alloc::Global;
+use std::process::Abort;
+use textures::{PrivateSet, SharedSet};
 
 // A scissor box of 4 by 3 pixels from (1, 1) on.
 fn state() -> State
@@ -45,7 +49,20 @@ fn state() -> State
     }
 }
 
-// How many pixels of a window of 6 by 5 a Clear changes, and how many have another depth than they should.
+// How many pixels have a Clear's colour, and how many have another depth than they should.
+fn counted(pixels: &[Pixel]) -> (u8, u8) {
+    let mut changed = 0_u8;
+    let mut wrong = 0_u8;
+    for pixel in pixels {
+        let is_changed = pixel.color.r == 40;
+        changed = changed.saturating_add(u8::from(is_changed));
+        let depth = if is_changed { 12_799_999 } else { 16_777_215 };
+        wrong = wrong.saturating_add(u8::from(pixel.depth != depth));
+    }
+    (changed, wrong)
+}
+
+// The same of a window of 6 by 5 after a Clear.
 fn cleared(alloc: Global) -> Result<(u8, u8), OutOfMemory> {
     let rect = Rect {
         x0: 0,
@@ -56,23 +73,50 @@ fn cleared(alloc: Global) -> Result<(u8, u8), OutOfMemory> {
     let mut device = Device::new(alloc, rect)?;
     device.clear(&state(), 3);
     let part = device.part(3, 9)?;
-    let mut changed = 0_u8;
-    let mut wrong = 0_u8;
-    for pixel in part.pixels.as_slice() {
-        let is_changed = pixel.color.r == 40;
-        changed = changed.saturating_add(u8::from(is_changed));
-        let depth = if is_changed { 12_799_999 } else { 16_777_215 };
-        wrong = wrong.saturating_add(u8::from(pixel.depth != depth));
-    }
     if part.tile != 3 || part.frame != 9 {
         return Ok((0, 0));
     }
-    Ok((changed, wrong))
+    Ok(counted(part.pixels.as_slice()))
+}
+
+// How many pixels a window of 3 by 4, whose pixels are written late, has that are black, transparent and as far as can be.
+fn blank_pixels(rt: &impl Abort, device: &LazyDevice) -> u8 {
+    let mut blank = 0_u8;
+    let part = device.part(0, 0).expect(rt, "memory");
+    for pixel in part.pixels.as_slice() {
+        let color = pixel.color;
+        let is_black = color.r == 0 && color.g == 0 && color.b == 0 && color.a == 0;
+        blank = blank.saturating_add(u8::from(is_black && pixel.depth == 16_777_215));
+    }
+    blank
+}
+
+// How many are blank before a Clear and after it.
+fn blank_before_and_after(rt: &impl Abort, alloc: Global) -> (u8, u8) {
+    let rect = Rect {
+        x0: 0,
+        y0: 0,
+        x1: 3,
+        y1: 4,
+    };
+    let mut device = LazyDevice::new(alloc, rect).expect(rt, "memory");
+    let before = blank_pixels(rt, &device);
+    let state = state();
+    let privates = PrivateSet::new(alloc).expect(rt, "memory");
+    let mut shareds = SharedSet::new(alloc, &Sizes::new(alloc)).expect(rt, "memory");
+    assert!(rt; is_drawable(&state, &privates, &shareds));
+    device.carry_out(&Effect::Clear(3), &state, &privates, &mut shareds);
+    (before, blank_pixels(rt, &device))
 }
 
 #[test]
 fn a_clear_stays_in_the_scissor_box(rt: HostRuntime) {
     assert!(rt; cleared(rt.alloc()) == Ok((12, 0)));
+}
+
+#[test]
+fn pixels_that_are_written_late_are_blank_until_then_and_beside_a_clear(rt: HostRuntime) {
+    assert!(rt; blank_before_and_after(&rt, rt.alloc()) == (12, 6));
 }
 
 #[test]
