@@ -1,18 +1,19 @@
 #!/usr/bin/env python3
 """Counts what a house of crates weighs: lines, functions, bodies, clauses, parameters, words, lemmas that stand twice, and the longest chain.
 
-    python3 bench/measure/house.py [--twice] [--alike] [--wide] [--words] [--single] [TOP]
+    python3 bench/measure/house.py [--twice] [--alike] [--wide] [--words] [--single] [--repeated] [TOP]
     python3 bench/measure/house.py --held [TOP]
 
 It reads crates.txt and crates/ of the repository at TOP (this one) and prints a line for each figure. --twice lists the lemma statements that stand
 in more than one crate, --alike those that do up to the names that they bind, lemmas of specs/ among them, --wide the clauses of contracts with a line of more than
 100 columns, the widest first, --words the public words of definitions that stand in three modules and more, --single those that one clause alone cites and no other
-definition, each with `law` behind it where it is a law's statement. --held prints no figures, but the statements that stand in more than one crate,
+definition, each with `law` behind it where it is a law's statement, --repeated the files in which clauses stand again, those with the most first. --held prints no figures, but the statements that stand in more than one crate,
 last `N passed, M failed`; its status is 1 where there is one. It changes nothing.
 
 A lemma is a signature at the head of a line in proofs/, and its statement is what stands behind the colon, with white space taken together and
 bound names as they are; two lemmas of one statement stand twice whatever they are called. In specs/ a lemma is a signature that has an equation, and isn't one of
-a word that others unfold. A clause's joined length is that of its lines with white space taken together. A public word is what specs/ defines by `pub`, but for the
+a word that others unfold. A clause's joined length is that of its lines with white space taken together; it stands again where an earlier one of its file is the same so, its
+name as well. A public word is what specs/ defines by `pub`, but for the
 fields of records; keywords such as `module` and `unfolding` are none. A law is a function that takes and gives nothing, so that what its clauses say is
 all of it. Bodies, clauses and parameters are those outside tests, and lines are those that aren't blank. A chain is a list of crates each of which stands
 on the one before.
@@ -171,6 +172,7 @@ class House:
         self.sources, self.papers, self.clauses, self.bodies, self.inputs, self.many = [], [], [], [], [], []
         self.lemmas, self.modules = collections.defaultdict(list), collections.defaultdict(list)
         self.alike, self.texts, self.joined = collections.defaultdict(list), {}, []
+        self.again = collections.Counter()
         self.cited_by, self.spoken, self.lawful = collections.defaultdict(list), collections.Counter(), set()
         self.lines, self.items, self.count = collections.Counter(), collections.Counter(), 0
         self.functions_of, self.code_of = collections.Counter(), collections.Counter()
@@ -203,12 +205,16 @@ class House:
         self.items[crate] += len(found)
         self.functions_of[crate] += len(found)
         self.code_of[crate] += weight
+        seen = set()
         for it in [] if is_tests else found:
             self.inputs.append((it.parameters, f"{place}:{it.line}"))
             self.many.append((len(it.clauses), f"{place}:{it.line}"))
             self.clauses += [(max(map(len, text)), f"{place}:{number}") for number, text in it.clauses]
             for number, text in it.clauses:
-                self.joined.append((len(" ".join(" ".join(text).split())), f"{place}:{number}"))
+                told = " ".join(" ".join(text).split())
+                self.joined.append((len(told), f"{place}:{number}"))
+                self.again[str(place)] += told in seen
+                seen.add(told)
                 if it.is_law:
                     self.lawful.add(f"{place}:{number}")
                 for name in set(NAME.findall(" ".join(text))):
@@ -286,6 +292,8 @@ class House:
               f"over 150 {sum(it[0] > 150 for it in self.clauses)}, the widest {max(self.clauses)[0]} ({max(self.clauses)[1]})")
         print(f"clauses, lines joined: mean {statistics.mean(it[0] for it in self.joined):.0f}, over 100 characters {sum(it[0] > 100 for it in self.joined)}, "
               f"over 150 {sum(it[0] > 150 for it in self.joined)}, the longest {max(self.joined)[0]} ({max(self.joined)[1]})")
+        print(f"clauses that stand again within their file {sum(self.again.values())} ({sum(self.again.values()) * share:.1f} of 100), "
+              f"the most {max(self.again.values())} ({max(self.again, key=self.again.get)})")
         print(f"functions of 12 clauses and more {sum(it[0] >= 12 for it in self.many)}, of 8 parameters and more {sum(it[0] >= 8 for it in self.inputs)}, "
               f"the most {max(self.inputs)[0]} ({max(self.inputs)[1]})")
         print(f"values lent to contracts alone (`let _x = x;`) {self.lent}")
@@ -309,6 +317,7 @@ def main():
     parser.add_argument("--wide", action="store_true", help=f"list the clauses with a line of more than {WIDE} columns, the widest first")
     parser.add_argument("--alike", action="store_true", help="list those that do up to the names that they bind, specs/ too")
     parser.add_argument("--single", action="store_true", help="list the public words that one clause alone cites, with that clause")
+    parser.add_argument("--repeated", action="store_true", help="list the files in which clauses stand again, with how many")
     parser.add_argument("--held", action="store_true", help="hold that no statement stands in more than one crate")
     parser.add_argument("--words", action="store_true", help="list the public words of definitions that stand in three modules and more")
     parser.add_argument("top", nargs="?", default=pathlib.Path(__file__).resolve().parents[2], type=pathlib.Path, help="the repository")
@@ -340,6 +349,9 @@ def main():
         for word, at in sorted(house.modules.items(), key=lambda it: (-len(it[1]), it[0])):
             if len(at) >= 3:
                 print(f"{word} {len(at)}: {', '.join(at)}")
+    for place, count in house.again.most_common() if args.repeated else []:
+        if count:
+            print(f"{count:5} {place}")
     if args.wide:
         for width, where in sorted(house.wide(), reverse=True):
             print(f"{width:5} {where}")
