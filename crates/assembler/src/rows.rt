@@ -19,18 +19,47 @@ pub(crate) fn size_of_part(side: u16, parts: u8, j: usize) -> usize
     boundary(side, parts, part + 1) as usize - from
 }
 
-// Writes the colours of pixels.
+// Writes the colours of pixels. Each but the last goes with its alpha, over which the next one is written: so four bytes go at once.
 fn copy_run(out: &mut [u8], pixels: &[Pixel])
     requires { length out.old ≡ 3 * length pixels.now }
     ensures { out.new ≡ flat_map rgb_of pixels.now }
 {
-    let _count = out.len();
-    for (i, pixel) in pixels.iter().enumerate() {
-        let Rgba { r, g, b, .. } = pixel.color;
+    let count = pixels.len();
+    if count == 0 {
+        return;
+    }
+    copy_front(out, pixels, count - 1);
+    write_next(out, pixels, count - 1);
+}
+
+// Writes the colours of the first pixels, of which there are more. What stands behind them may be written over.
+fn copy_front(out: &mut [u8], pixels: &[Pixel], count: usize)
+    requires more { count < length pixels.now }
+    requires room { length out.old ≡ 3 * length pixels.now }
+    ensures size { length out.new ≡ length out.old }
+    ensures front { take (3 * count) out.new ≡ flat_map rgb_of (take count pixels.now) }
+{
+    for i in 0..count {
+        let Rgba { r, g, b, a } = pixels[i].color;
         out[3 * i] = r;
         out[3 * i + 1] = g;
         out[3 * i + 2] = b;
+        out[3 * i + 3] = a;
     }
+}
+
+// Writes the colour of a pixel behind those of the pixels before it.
+fn write_next(out: &mut [u8], pixels: &[Pixel], at: usize)
+    requires inside { at < length pixels.now }
+    requires room { length out.old ≡ 3 * length pixels.now }
+    requires front { take (3 * at) out.old ≡ flat_map rgb_of (take at pixels.now) }
+    ensures size { length out.new ≡ length out.old }
+    ensures front { take (3 * (at + 1)) out.new ≡ flat_map rgb_of (take (at + 1) pixels.now) }
+{
+    let Rgba { r, g, b, .. } = pixels[at].color;
+    out[3 * at] = r;
+    out[3 * at + 1] = g;
+    out[3 * at + 2] = b;
 }
 
 // The pixels of one line of a part, from its bottom, which is so many pixels wide.
