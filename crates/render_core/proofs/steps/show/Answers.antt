@@ -20,10 +20,5 @@ returns-in-Ok-clause-part g c = λ task source due.
     let image = use_of g.K.Sink.held g.K.Sink.faults c.args.image.now c.write_due.new.image in
     on_err c.told_of.result (partly_written task source image (outcome_of c.args.due) due (front_of image (due_text c.args.due.image) c.in-Ok.written c.in-Ok.ensures.written))
 
-pub returns-clause-part : goal.returns-clause-part
-returns-clause-part g c = λ task source due.
-    let image = use_of g.K.Sink.held g.K.Sink.faults c.args.image.now c.write_due.new.image in
-    partly_written task source image (outcome_of c.args.due) due c.in-Err.ensures.front
-
 pub returns-in-Ok-clause-late : goal.returns-in-Ok-clause-late
 returns-in-Ok-clause-late g c = late_untold _ _ _ c.told_of.result c.told_of.ensures.untold
