@@ -1,9 +1,12 @@
-pub mod InTurn
 pub mod Fitting
-pub mod Whole
 pub mod Checked
 pub mod Shown
+pub mod Copied
+pub mod Pieces
+pub mod Lines
+pub mod Whole
 pub mod Pictures
-pub mod Writing
 pub mod Waiting
+pub mod Drawn
+pub mod Settled
 pub mod Underway

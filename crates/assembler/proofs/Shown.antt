@@ -16,7 +16,7 @@ use Rattle.assembler.proofs.Checked.{below_length}
 
 -- ---- one tile
 
-one_tile : (l : Layout) (a b x y : ℕ) → 0 < l.columns → 0 < l.rows → HasPlace l a x y → HasPlace l b x y → a ≡ b
+pub one_tile : (l : Layout) (a b x y : ℕ) → 0 < l.columns → 0 < l.rows → HasPlace l a x y → HasPlace l b x y → a ≡ b
 one_tile l a b x y columns rows p q =
     let c : a % l.columns ≡ b % l.columns = one_part l.width l.columns (tile_column l a) (tile_column l b) x columns p.across q.across in
     let r : a / l.columns ≡ b / l.columns = one_part l.height l.rows (tile_row l a) (tile_row l b) y rows p.up q.up in

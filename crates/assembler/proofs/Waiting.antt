@@ -1,9 +1,8 @@
 -- Parts in their places.
-use Rattle.std.proofs.Common.{◌≡◌, ℕ, zero, suc, ◌+◌, ◌*◌, ◌<◌, true, false, List, [], ◌∷◌, ◌++◌, Option, Some, None, is_none, length, map, get_or, take, drop, refl, ap, sym, ◌∙◌, arith, true≢false, replicate}
-use Rattle.std.specs.Prelude.{slice_get, option_to_list}
+use Rattle.std.proofs.Common.{◌≡◌, ℕ, zero, suc, ◌*◌, ◌<◌, true, false, List, [], ◌∷◌, Option, Some, None, is_none, length, map, refl, ap, ap₂, sym, ◌∙◌, arith, true≢false, replicate}
+use Rattle.std.specs.Prelude.{slice_get}
 use Rattle.std.proofs.lemmas.Bool.{eqb-true}
-use Rattle.std.proofs.lemmas.Grind.{flat_map-append}
-use Rattle.std.proofs.lemmas.List.{append-nil, get_or-drop, length-map, take_more}
+use Rattle.std.proofs.lemmas.List.{length-map}
 use Rattle.rc_base.specs.Cluster.Tiles.{tile_count}
 use Rattle.rc_base.specs.declared.cluster.TilePart.{TilePart}
 use Rattle.rc_base.specs.declared.window.Layout.{Layout}
@@ -16,19 +15,16 @@ all_there [] h = refl
 all_there (Some p ∷ places) h = ap (λ (l : List (Option TilePart)). Some p ∷ l) (all_there places (λ k lt. h (suc k) (omega (arith, lt))))
 all_there (None ∷ places) h = let e : true ≡ false = h 0 (omega arith) in absurd (true≢false e)
 
--- one place more
-pub one_place_more : (places : List (Option TilePart)) (k : ℕ) (o : Option TilePart) → k < length places → o ≡ get_or places k o
-    → parts_in (take (k + 1) places) ≡ parts_in (take k places) ++ option_to_list o
-one_place_more places k o low read =
-    ap parts_in (take_more places k o low ∙ ap (λ (q : Option TilePart). take k places ++ q ∷ []) (sym read))
-    ∙ flat_map-append option_to_list (take k places) (o ∷ [])
-    ∙ ap (λ (l : List TilePart). parts_in (take k places) ++ l) (append-nil (option_to_list o))
+-- where each place is empty, no part is there
+pub all_empty : (places : List (Option TilePart)) → ((k : ℕ) → k < length places → in_place places k ≡ None) → places ≡ replicate (length places) None
+all_empty [] h = refl
+all_empty (o ∷ places) h = ap₂ (λ (q : Option TilePart) (l : List (Option TilePart)). q ∷ l) (h 0 (omega arith)) (all_empty places (λ k lt. h (suc k) (omega (arith, lt))))
 
--- lists that go on alike from k on have one element there
-pub alike_at : {A : Type 0} (xs ys : List A) (k : ℕ) (d : A) → drop k xs ≡ drop k ys → get_or xs k d ≡ get_or ys k d
-alike_at xs ys k d same =
-    let e : k + 0 ≡ k = omega arith in
-    ap (λ (n : ℕ). get_or xs n d) (sym e) ∙ sym (get_or-drop k xs 0 d) ∙ ap (λ (l : List _). get_or l 0 d) same ∙ get_or-drop k ys 0 d ∙ ap (λ (n : ℕ). get_or ys n d) e
+-- a part stands in a place that there is
+pub place_below : (places : List (Option TilePart)) (k : ℕ) (p : TilePart) → in_place places k ≡ Some p → k < length places
+place_below [] k p is = absurd cc
+place_below (o ∷ places) zero p is = omega arith
+place_below (o ∷ places) (suc k) p is = let n = place_below places k p is in omega (arith, n)
 
 -- a part of the list is in its place
 pub stands_in : (parts : List TilePart) (tile : ℕ) (p : TilePart) → slice_get parts tile ≡ Some p → in_place (map (λ q. Some q) parts) tile ≡ Some p

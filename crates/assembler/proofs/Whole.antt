@@ -1,108 +1,84 @@
--- All runs together are the rows of the image.
-use Rattle.std.proofs.Common.{◌≡◌, ℕ, ℤ, zero, suc, ◌+◌, ◌-◌, ◌*◌, ◌<◌, List, [], ◌∷◌, map, take, drop, Some, pos, refl, ap, ap₂, sym, subst, ◌∙◌, arith}
-use Rattle.std.specs.Prelude.{slice_get}
-use Rattle.std.specs.List.{flat_map, range_with_len}
-use Rattle.std.specs.Option.{option_map_or}
+-- Where the part of each tile stands among the bytes, they are those of the image.
+use Rattle.std.proofs.Common.{◌≡◌, ℕ, ◌+◌, ◌-◌, ◌*◌, ◌<◌, List, length, map, take, drop, Some, pos, sym, ap, ◌∙◌, arith, length-drop}
+use Rattle.std.specs.Prelude.{slice_index_or, None}
 use Rattle.std.specs.declared.option.Option.{Option}
-use Rattle.std.proofs.lemmas.List.Folds.{flat_map-map}
-use Rattle.rc_base.specs.Drawing.Images.{rgb_of, rgb_bytes, row_bytes}
-use Rattle.rc_base.specs.Cluster.Tiles.{boundary_of, tile_column, tile_row}
+use Rattle.std.proofs.Math.Seq.{length-take-le}
+use Rattle.std.proofs.lemmas.Option.{get_or_from_slice_get}
+use Rattle.rc_base.specs.Drawing.Images.{Pixels, rgb_of, rgb_bytes, row_bytes}
+use Rattle.rc_base.specs.Drawing.Serial.{blank_pixel}
 use Rattle.rc_base.specs.declared.cluster.TilePart.{TilePart}
 use Rattle.rc_base.specs.declared.window.Layout.{Layout}
 use Rattle.rc_base.specs.declared.window.Pixel.{Pixel}
-use Rattle.scene_lemmas.proofs.Boundaries.{boundary_rises}
 use Rattle.plain_lemmas.proofs.Lists.{item_within}
-use Rattle.assembler.specs.Parts.{ArePartsOf, ShowPixels, part_size, place_in_part}
-use Rattle.assembler.specs.Runs.{all_bytes, line_bytes, run_bytes, tile_row_bytes}
-use Rattle.assembler.proofs.InTurn.{by_parts, down, down_by_parts, is_down, same_in_turn}
-use Rattle.assembler.proofs.Fitting.{column_is, first_boundary, last_boundary, row_is, tile_below, tile_has}
+use Rattle.plain_lemmas.proofs.Places.{next_row}
+use Rattle.assembler.specs.Drawn.{bytes_at, AreDrawn}
+use Rattle.assembler.specs.Parts.{ArePartsOf, ShowPixels, place_in_part, shown}
+use Rattle.assembler.proofs.Fitting.{tile_with}
+use Rattle.assembler.proofs.Pieces.{in_pieces, inner_piece, same_in_turn}
+use Rattle.assembler.proofs.Shown.{parts_show}
+use Rattle.assembler.proofs.Waiting.{stands_in}
 
-drop_from : {A : Type 0} (ps : List A) (at : ℕ) (a : A) → slice_get ps at ≡ Some a → drop at ps ≡ a ∷ drop (at + 1) ps
-drop_from [] at a is = absurd cc
-drop_from (p ∷ ps) zero a is = let same : p ≡ a = cc in ap (λ b. b ∷ ps) same
-drop_from (p ∷ ps) (suc at) a is = let e : suc at + 1 ≡ suc (at + 1) = omega arith in rw e (drop_from ps at a is)
+-- bytes of which each pixel has its own are those of the picture
+module _ (l : Layout) (bytes : List ℕ) (pixels : Pixels) (size : length bytes ≡ 3 * l.width * l.height)
+    (each : (x y : ℕ) → x < l.width → y < l.height → bytes_at l bytes x y ≡ rgb_of (pixels (pos x) (pos y))) where
+  row_is : (r : ℕ) → r < l.height → take (l.width * 3) (drop (r * (l.width * 3)) bytes) ≡ row_bytes pixels l.width (l.height - 1 - r)
+  unfolding row_bytes
+  row_is r low =
+      let y = l.height - 1 - r in
+      let from = r * (l.width * 3) in
+      let above = next_row (l.width * 3) r l.height low in
+      let rest = length-drop from bytes in
+      in_pieces (λ (x : ℕ). rgb_of (pixels (pos x) (pos y))) 3 0 l.width (take (l.width * 3) (drop from bytes))
+      (length-take-le (l.width * 3) (drop from bytes) (omega (arith, above, rest, size)))
+      (λ x lt.
+      let z : x ≡ 0 + x = omega arith in
+      let u : r ≡ l.height - 1 - y = omega (arith, low) in
+      let v : r * l.width ≡ (l.height - 1 - y) * l.width = ap (λ (n : ℕ). n * l.width) u in
+      let place : from + x * 3 ≡ 3 * ((l.height - 1 - y) * l.width + x) = omega (arith, v) in
+      inner_piece bytes from (l.width * 3) (x * 3) 3 (omega (arith, lt))
+      ∙ ap (λ (n : ℕ). take 3 (drop n bytes)) place
+      ∙ each x y lt (omega (arith, low))
+      ∙ ap (λ (n : ℕ). rgb_of (pixels (pos n) (pos y))) z)
 
--- n elements that stand one after the other
-run : {A : Type 0} (ps : List A) (g : ℕ → A) (at a n : ℕ) → ((i : ℕ) → i < n → slice_get ps (at + i) ≡ Some (g (a + i))) → take n (drop at ps) ≡ map g (range_with_len a n)
-run ps g at a zero h = refl
-run ps g at a (suc n) h =
-    let e : at + 0 ≡ at = omega arith in
-    let k : a + 0 ≡ a = omega arith in
-    ap (take (suc n)) (drop_from ps at (g a) (rw (e, k) at (h 0 (omega arith))))
-    ∙ ap (λ l. g a ∷ l) (run ps g (at + 1) (a + 1) n (λ i lt.
-    let s : at + (i + 1) ≡ (at + 1) + i = omega arith in
-    let t : a + (i + 1) ≡ (a + 1) + i = omega arith in
-    rw (s, t) at (h (i + 1) (omega (arith, lt)))))
+  picture_is : bytes ≡ rgb_bytes pixels l.width l.height
+  unfolding rgb_bytes
+  picture_is =
+      in_pieces (λ (r : ℕ). row_bytes pixels l.width (l.height - 1 - r)) (l.width * 3) 0 l.height bytes (omega (arith, size))
+      (λ r lt. let z : r ≡ 0 + r = omega arith in row_is r lt ∙ ap (λ (n : ℕ). row_bytes pixels l.width (l.height - 1 - n)) z)
 
-module _ (l : Layout) (parts : List TilePart) (pixels : ℤ → ℤ → Pixel) (are : ArePartsOf l parts) (show : ShowPixels l parts pixels) (some_columns : 0 < l.columns) (some_rows : 0 < l.rows) where
-  abbrev left : ℕ → ℕ
-  left = boundary_of l.width l.columns
+some_once : {a b : Pixel} → Some a ≡ Some b → a ≡ b
+some_once e = cc
 
-  abbrev bottom : ℕ → ℕ
-  bottom = boundary_of l.height l.rows
+module _ (l : Layout) (parts : List TilePart) (columns : 0 < l.columns) (rows : 0 < l.rows) (are : ArePartsOf l parts) where
+  -- the bytes of the parts
+  pub all_drawn : (places : List (Option TilePart)) (bytes : List ℕ) → places ≡ map (λ p. Some p) parts → length bytes ≡ 3 * l.width * l.height
+      → AreDrawn l places bytes → bytes ≡ rgb_bytes (shown l parts) l.width l.height
+  all_drawn places bytes all size drawn =
+      picture_is l bytes (shown l parts) size
+      (λ x y in_width in_height.
+      let found = tile_with l x y columns rows in_width in_height in
+      let part = item_within parts found.0 (let n = are.count in let k = found.1 in omega (arith, n, k)) in
+      let there = parts_show l parts columns rows are found.0 x y part.0 part.1 found.2 in
+      drawn found.0 part.0 (ap (λ (os : List (Option TilePart)). slice_index_or os found.0 None) all ∙ stands_in parts found.0 part.0 part.1) x y found.2
+      ∙ ap rgb_of (get_or_from_slice_get part.0.pixels (place_in_part l found.0 x y) _ blank_pixel there))
 
-  abbrev pixel_in : ℕ → ℕ → List ℕ
-  pixel_in y x = rgb_of (pixels (pos x) (pos y))
+  -- a pixel that parts show is one alone
+  same_pixel : (pixels : Pixels) → ShowPixels l parts pixels → (x y : ℕ) → x < l.width → y < l.height → shown l parts (pos x) (pos y) ≡ pixels (pos x) (pos y)
+  same_pixel pixels show x y in_width in_height =
+      let found = tile_with l x y columns rows in_width in_height in
+      let part = item_within parts found.0 (let n = are.count in let k = found.1 in omega (arith, n, k)) in
+      let a = parts_show l parts columns rows are found.0 x y part.0 part.1 found.2 in
+      let b = show found.0 x y part.0 part.1 found.2 in
+      some_once (sym a ∙ b)
 
-  place_is : (tile row column line i : ℕ) → tile_column l tile ≡ column → tile_row l tile ≡ row
-      → place_in_part l tile (left column + i) (bottom row + line) ≡ line * part_size l.width l.columns column + i
-  place_is tile row column line i c r =
-      let up : bottom row + line - bottom row ≡ line = omega arith in
-      let across : left column + i - left column ≡ i = omega arith in
-      rw (c, r, up, across) refl
-
-  run_is : (row line column : ℕ) → row < l.rows → line < part_size l.height l.rows row → column < l.columns
-      → run_bytes l parts row line column ≡ flat_map (pixel_in (bottom row + line)) (range_with_len (left column) (left (column + 1) - left column))
-  run_is row line column few below low =
-      let tile = row * l.columns + column in
-      let wide = part_size l.width l.columns column in
-      let c = column_is l row column low in
-      let r = row_is l row column low in
-      let found = item_within parts tile (let e = tile_below l row column low few in omega (arith, e, are.count)) in
-      let p = found.0 in
-      let g : ℕ → Pixel = λ x. pixels (pos x) (pos (bottom row + line)) in
-      let each : (i : ℕ) → i < wide → slice_get p.pixels (line * wide + i) ≡ Some (g (left column + i)) = λ i lt.
-      let is = show tile (left column + i) (bottom row + line) p found.1
-      (tile_has l tile row column (left column + i) (bottom row + line) c r (omega arith) (omega (arith, lt)) (omega arith) (omega (arith, below))) in
-      subst (λ (k : ℕ). slice_get p.pixels k ≡ Some (g (left column + i))) (place_is tile row column line i c r) is in
-      ap (λ (o : Option TilePart). flat_map rgb_of (take wide (drop (line * wide) (option_map_or (λ (q : TilePart). q.pixels) o [])))) found.1
-      ∙ ap (flat_map rgb_of) (run p.pixels g (line * wide) (left column) wide each)
-      ∙ flat_map-map rgb_of g (range_with_len (left column) wide)
-
-  line_is : (row line : ℕ) → row < l.rows → line < part_size l.height l.rows row → line_bytes l parts row line ≡ row_bytes pixels l.width (bottom row + line)
-  unfolding line_bytes row_bytes
-  line_is row line few below =
-      let f = pixel_in (bottom row + line) in
-      same_in_turn (run_bytes l parts row line) (λ j. flat_map f (range_with_len (left j) (left (j + 1) - left j))) 0 l.columns
-      (λ k lt. let z : 0 + k ≡ k = omega arith in rw z (run_is row line k few below lt))
-      ∙ by_parts f left l.columns (λ j lt. boundary_rises l.width l.columns j (j + 1) some_columns (omega arith)) (λ j le. boundary_rises l.width l.columns 0 j some_columns (omega arith))
-      ∙ (let s = first_boundary l.width l.columns in let e = last_boundary l.width l.columns some_columns in
-      let n : left l.columns - left 0 ≡ l.width = omega (arith, s, e) in
-      ap₂ (λ (a n : ℕ). flat_map f (range_with_len a n)) s n)
-
-  tile_row_is : (row : ℕ) → row < l.rows → tile_row_bytes l parts row ≡ down (row_bytes pixels l.width) (bottom row) (bottom (row + 1) - bottom row)
-  unfolding tile_row_bytes
-  tile_row_is row few =
-      let high = part_size l.height l.rows row in
-      is_down (λ k. line_bytes l parts row (high - 1 - k)) (row_bytes pixels l.width) 0 (bottom row) high
-      (λ i lt. let z : 0 + i ≡ i = omega arith in rw z (line_is row (high - 1 - i) few (omega (arith, lt))))
-
-  pub rows_are : all_bytes l parts ≡ rgb_bytes pixels l.width l.height
-  unfolding all_bytes rgb_bytes
-  rows_are =
-      let f = row_bytes pixels l.width in
-      let whole : down f (bottom 0) (bottom l.rows - bottom 0) ≡ down f 0 l.height =
-      (let s = first_boundary l.height l.rows in let e = last_boundary l.height l.rows some_rows in
-      let n : bottom l.rows - bottom 0 ≡ l.height = omega (arith, s, e) in
-      ap₂ (λ (a n : ℕ). down f a n) s n) in
-      is_down (λ k. tile_row_bytes l parts (l.rows - 1 - k)) (λ j. down f (bottom j) (bottom (j + 1) - bottom j)) 0 0 l.rows
-      (λ i lt.
-      let z : 0 + i ≡ i = omega arith in
-      let y : 0 + (l.rows - 1 - i) ≡ l.rows - 1 - i = omega arith in
-      rw (z, y) (tile_row_is (l.rows - 1 - i) (omega (arith, lt))))
-      ∙ down_by_parts f bottom l.rows (λ j lt. boundary_rises l.height l.rows j (j + 1) some_rows (omega arith)) (λ j le. boundary_rises l.height l.rows 0 j some_rows (omega arith))
-      ∙ whole
-      ∙ sym (is_down (λ row. f (l.height - 1 - row)) f 0 0 l.height (λ i lt.
-      let z : 0 + i ≡ i = omega arith in
-      let y : 0 + (l.height - 1 - i) ≡ l.height - 1 - i = omega arith in
-      rw (z, y) refl))
+  -- parts show one picture alone
+  pub one_picture : (pixels : Pixels) → ShowPixels l parts pixels → rgb_bytes (shown l parts) l.width l.height ≡ rgb_bytes pixels l.width l.height
+  unfolding rgb_bytes row_bytes
+  one_picture pixels show =
+      same_in_turn (λ (r : ℕ). row_bytes (shown l parts) l.width (l.height - 1 - r)) (λ (r : ℕ). row_bytes pixels l.width (l.height - 1 - r)) 0 l.height
+      (λ r low.
+      let y = l.height - 1 - (0 + r) in
+      same_in_turn (λ (x : ℕ). rgb_of (shown l parts (pos x) (pos y))) (λ (x : ℕ). rgb_of (pixels (pos x) (pos y))) 0 l.width
+      (λ x lt.
+      let z : 0 + x < l.width = omega (arith, lt) in
+      ap rgb_of (same_pixel pixels show (0 + x) y z (omega (arith, low)))))

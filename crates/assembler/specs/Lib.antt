@@ -1,5 +1,5 @@
 pub mod Parts
-pub mod Runs
+pub mod Drawn
 pub mod Places
 pub mod Assembled
 pub mod Assemblers

@@ -4,7 +4,7 @@ ghost use Rattle.rc_base.specs.Drawing.Images.{rgb_bytes};
 ghost use Rattle.rc_base.specs.declared.window.Pixel.{Pixel};
 ghost use Rattle.assembler.specs.Parts.{AreParts, ShowPixels, shown};
 
-use crate::images::{blank_image, write_image};
+use crate::images::{blank_image, write_parts};
 use rc_base::cluster::TilePart;
 use rc_base::image::Image;
 use rc_base::out_of_memory::OutOfMemory;
@@ -23,6 +23,6 @@ pub fn assemble(alloc: Global, layout: &Layout, parts: &[TilePart]) -> Result<Im
     ensures pixels { (pixels : ℤ → ℤ → Pixel) → ShowPixels layout.now parts.now pixels → IfOk result (λ m. m.rgb ≡ rgb_bytes pixels layout.now.width layout.now.height) }
 {
     let mut image = blank_image(alloc, layout)?;
-    write_image(&mut image, layout, parts);
+    write_parts(image.rgb.as_mut_slice(), layout, parts);
     Ok(image)
 }

@@ -1,9 +1,9 @@
-//! The image of one frame, written over one that stands.
+//! The image of one frame.
 ghost use Rattle.std.specs.Prelude.{◌≡◌, ◌*◌, ◌<◌, length, IfOk};
 ghost use Rattle.rc_base.specs.Drawing.Images.{rgb_bytes};
-ghost use Rattle.assembler.specs.Parts.{ArePartsOf, IsRoomFor, black_image, picture, shown};
+ghost use Rattle.assembler.specs.Parts.{ArePartsOf, IsRoomFor, black_image, shown};
 
-use crate::rows::write_rows;
+use crate::rows::write_part;
 use rc_base::cluster::TilePart;
 use rc_base::command::Bytes;
 use rc_base::image::Image;
@@ -27,24 +27,14 @@ pub fn blank_image(alloc: Global, layout: &Layout) -> Result<Image, OutOfMemory>
 }
 
 /// Writes the bytes of the image of parts over as many bytes.
-pub fn write_bytes(rgb: &mut [u8], layout: &Layout, parts: &[TilePart])
+pub fn write_parts(rgb: &mut [u8], layout: &Layout, parts: &[TilePart])
     requires parts { ArePartsOf layout.now parts.now }
     requires columns { 0 < layout.now.columns }
     requires rows { 0 < layout.now.rows }
     requires room { length rgb.old ≡ 3 * layout.now.width * layout.now.height }
     ensures { rgb.new ≡ rgb_bytes (shown layout.now parts.now) layout.now.width layout.now.height }
 {
-    write_rows(rgb, layout, parts);
-}
-
-/// Writes the image of parts over one of the same size.
-pub fn write_image(image: &mut Image, layout: &Layout, parts: &[TilePart])
-    requires parts { ArePartsOf layout.now parts.now }
-    requires columns { 0 < layout.now.columns }
-    requires rows { 0 < layout.now.rows }
-    requires room { IsRoomFor layout.now image.old }
-    ensures shown { image.new ≡ picture layout.now parts.now }
-    ensures sides { IsRoomFor layout.now image.new }
-{
-    write_bytes(image.rgb.as_mut_slice(), layout, parts);
+    for tile in 0..parts.len() {
+        write_part(rgb, layout, tile, &parts[tile]);
+    }
 }

@@ -1,30 +1,94 @@
-//! Parts from the lanes of the tiles.
-ghost use Rattle.std.specs.Prelude.{◌≡◌, length};
+//! Parts from the lanes of the tiles, each written as it comes.
+ghost use Rattle.std.specs.Prelude.{◌≡◌, ◌<◌, ◌*◌, true, false, length, Some};
 ghost use Rattle.rc_base.specs.Cluster.Lanes.{EachLane};
-ghost use Rattle.assembler.specs.Places.{IsFound, AreFound, IsDropped, AreDropped};
+ghost use Rattle.rc_base.specs.Cluster.Tiles.{tile_count};
+ghost use Rattle.rc_base.specs.declared.cluster.TilePart.{TilePart};
+ghost use Rattle.assembler.specs.Drawn.{AreDrawn, IsDrawn, StaysBeside};
+ghost use Rattle.assembler.specs.Places.{fits, is_misfit, AllFit, IsFound, AreFound, IsDropped, AreDropped, HasMisfit};
 
+use crate::found::fits;
+use crate::rows::write_part;
 use rc_base::cluster::TilePart;
 use rc_base::lane::Inlet;
+use rc_base::window::Layout;
 
-// Takes a part for an empty place.
-fn take_part<I: Inlet<TilePart>>(place: &mut Option<TilePart>, lane: &mut I)
-    ensures lane_of { I.lane_of lane.new ≡ I.lane_of lane.old }
-    ensures found { IsFound I.gave I.same I.empty_seen I.bare place.old lane.old place.new lane.new }
+// Writes the part that came for a tile, if one did. Whether it has another number of pixels than its tile, and was not written.
+fn write_place(rgb: &mut [u8], layout: &Layout, tile: usize, place: &Option<TilePart>) -> bool
+    requires columns { 0 < layout.now.columns }
+    requires rows { 0 < layout.now.rows }
+    requires tile { tile < tile_count layout.now }
+    requires bytes { length rgb.old ≡ 3 * layout.now.width * layout.now.height }
+    ensures size { length rgb.new ≡ length rgb.old }
+    ensures misfit { result ≡ is_misfit layout.now tile place.now }
+    ensures drawn { (p : TilePart) → place.now ≡ Some p → fits layout.now tile p ≡ true → IsDrawn layout.now rgb.new tile p }
+    ensures others { StaysBeside layout.now tile rgb.old rgb.new }
 {
-    if place.is_none() {
-        *place = lane.pop();
+    let Some(part) = place else {
+        return false;
+    };
+    if !fits(layout, tile, part) {
+        return true;
     }
+    write_part(rgb, layout, tile, part);
+    false
 }
 
-/// Takes a part for each empty place.
-pub fn take_parts<I: Inlet<TilePart>>(places: &mut [Option<TilePart>], lanes: &mut [I])
-    requires { length lanes.old ≡ length places.old }
+// Takes a part for an empty place, and writes it. Whether it has another number of pixels than its tile, and was not written.
+fn take_part<I: Inlet<TilePart>>(
+    place: &mut Option<TilePart>,
+    lane: &mut I,
+    rgb: &mut [u8],
+    layout: &Layout,
+    tile: usize,
+) -> bool
+    requires columns { 0 < layout.now.columns }
+    requires rows { 0 < layout.now.rows }
+    requires tile { tile < tile_count layout.now }
+    requires bytes { length rgb.old ≡ 3 * layout.now.width * layout.now.height }
+    requires fit { is_misfit layout.now tile place.old ≡ false }
+    requires drawn { (p : TilePart) → place.old ≡ Some p → fits layout.now tile p ≡ true → IsDrawn layout.now rgb.old tile p }
+    ensures lane_of { I.lane_of lane.new ≡ I.lane_of lane.old }
+    ensures found { IsFound I.gave I.same I.empty_seen I.bare place.old lane.old place.new lane.new }
+    ensures size { length rgb.new ≡ length rgb.old }
+    ensures misfit { result ≡ is_misfit layout.now tile place.new }
+    ensures drawn { (p : TilePart) → place.new ≡ Some p → fits layout.now tile p ≡ true → IsDrawn layout.now rgb.new tile p }
+    ensures others { StaysBeside layout.now tile rgb.old rgb.new }
+{
+    if place.is_some() {
+        return false;
+    }
+    *place = lane.pop();
+    write_place(rgb, layout, tile, place)
+}
+
+/// Takes a part for each empty place, and writes it over the bytes of the window. Whether one has another number of pixels than its tile; such a part is
+/// not written.
+pub fn take_parts<I: Inlet<TilePart>>(
+    places: &mut [Option<TilePart>],
+    lanes: &mut [I],
+    rgb: &mut [u8],
+    layout: &Layout,
+) -> bool
+    requires columns { 0 < layout.now.columns }
+    requires rows { 0 < layout.now.rows }
+    requires lanes { length lanes.old ≡ tile_count layout.now }
+    requires places { length places.old ≡ tile_count layout.now }
+    requires bytes { length rgb.old ≡ 3 * layout.now.width * layout.now.height }
+    requires fit { AllFit layout.now places.old }
+    requires drawn { AreDrawn layout.now places.old rgb.old }
     ensures lane_of { EachLane (λ i a b. I.lane_of b ≡ I.lane_of a) lanes.old lanes.new }
     ensures found { AreFound I.gave I.same I.empty_seen I.bare places.old lanes.old places.new lanes.new }
+    ensures size { length rgb.new ≡ length rgb.old }
+    ensures misfit { result ≡ true → HasMisfit layout.now places.new }
+    ensures fit { result ≡ false → AllFit layout.now places.new }
+    ensures drawn { result ≡ false → AreDrawn layout.now places.new rgb.new }
 {
+    let mut misfit = false;
     for tile in 0..lanes.len() {
-        take_part(&mut places[tile], &mut lanes[tile]);
+        let odd = take_part(&mut places[tile], &mut lanes[tile], rgb, layout, tile);
+        misfit = misfit || odd;
     }
+    misfit
 }
 
 // Takes a part, if there is one, and drops it.

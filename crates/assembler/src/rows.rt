@@ -1,9 +1,11 @@
-//! The rows of an image, each in runs of one tile's pixels.
-ghost use Rattle.std.specs.Prelude.{◌≡◌, ◌+◌, ◌*◌, ◌<◌, ◌≤◌, length, take, drop};
+//! The pixels of a tile's part, written where they stand among the bytes of the window.
+ghost use Rattle.std.specs.Prelude.{◌≡◌, ◌+◌, ◌-◌, ◌*◌, ◌<◌, ◌≤◌, ◌⊎◌, ℕ, length, take, drop, slice_index_or};
 ghost use Rattle.std.specs.List.{flat_map};
+ghost use Rattle.rc_base.specs.Cluster.Tiles.{boundary_of, tile_count};
 ghost use Rattle.rc_base.specs.Drawing.Images.{rgb_of};
-ghost use Rattle.assembler.specs.Parts.{ArePartsOf, part_size};
-ghost use Rattle.assembler.specs.Runs.{all_bytes, line_bytes, run_bytes, tile_row_bytes};
+ghost use Rattle.rc_base.specs.Drawing.Serial.{blank_pixel};
+ghost use Rattle.assembler.specs.Drawn.{IsDrawn, StaysBeside};
+ghost use Rattle.assembler.specs.Parts.{part_size, tile_height, tile_width};
 
 use rc_base::cluster::TilePart;
 use rc_base::command::Rgba;
@@ -74,76 +76,48 @@ fn line_of(part: &TilePart, wide: usize, line: usize) -> &[Pixel]
     &pixels[from..from + wide]
 }
 
-// Writes what one tile has of a line of its row of tiles.
-fn write_part_line(
-    out: &mut [u8],
-    layout: &Layout,
-    parts: &[TilePart],
-    row: usize,
-    line: usize,
-    column: usize,
-)
-    requires parts { ArePartsOf layout.now parts.now }
-    requires row { row < layout.now.rows }
-    requires line { line < part_size layout.now.height layout.now.rows row }
+// Writes the colours of a run of pixels from a place on.
+fn write_run(rgb: &mut [u8], from: usize, pixels: &[Pixel])
+    requires room { from + 3 * length pixels.now ≤ length rgb.old }
+    ensures size { length rgb.new ≡ length rgb.old }
+    ensures run { (i : ℕ) → i < length pixels.now → take 3 (drop (from + 3 * i) rgb.new) ≡ rgb_of (slice_index_or pixels.now i blank_pixel) }
+    ensures others { (at : ℕ) → (at + 3 ≤ from) ⊎ (from + 3 * length pixels.now ≤ at) → take 3 (drop at rgb.new) ≡ take 3 (drop at rgb.old) }
+{
+    let to = from + 3 * pixels.len();
+    copy_run(&mut rgb[from..to], pixels);
+}
+
+// Where the top left pixel of a tile stands among those of the window, whose rows go from the top.
+fn first_pixel(layout: &Layout, column: usize, row: usize) -> usize
     requires column { column < layout.now.columns }
-    requires room { length out.old ≡ 3 * part_size layout.now.width layout.now.columns column }
-    ensures { out.new ≡ run_bytes layout.now parts.now row line column }
-{
-    let wide = size_of_part(layout.width, layout.columns, column);
-    let part = &parts[row * usize::from(layout.columns) + column];
-    copy_run(out, line_of(part, wide, line));
-}
-
-// Writes a line of a row of tiles, from its bottom.
-fn write_line(out: &mut [u8], layout: &Layout, parts: &[TilePart], row: usize, line: usize)
-    requires parts { ArePartsOf layout.now parts.now }
-    requires columns { 0 < layout.now.columns }
     requires row { row < layout.now.rows }
-    requires line { line < part_size layout.now.height layout.now.rows row }
-    requires room { length out.old ≡ 3 * layout.now.width }
-    ensures { out.new ≡ line_bytes layout.now parts.now row line }
+    ensures { result ≡ (layout.now.height - boundary_of layout.now.height layout.now.rows (row + 1)) * layout.now.width + boundary_of layout.now.width layout.now.columns column }
 {
-    let mut from = 0;
-    for column in 0..usize::from(layout.columns) {
-        let to = from + 3 * size_of_part(layout.width, layout.columns, column);
-        write_part_line(&mut out[from..to], layout, parts, row, line, column);
-        from = to;
-    }
+    let left = boundary(layout.width, layout.columns, column as u16) as usize;
+    let top = boundary(layout.height, layout.rows, row as u16 + 1) as usize;
+    (usize::from(layout.height) - top) * usize::from(layout.width) + left
 }
 
-// Writes a row of tiles, its lines from the top.
-fn write_tile_row(out: &mut [u8], layout: &Layout, parts: &[TilePart], row: usize)
-    requires parts { ArePartsOf layout.now parts.now }
-    requires columns { 0 < layout.now.columns }
-    requires row { row < layout.now.rows }
-    requires room { length out.old ≡ 3 * layout.now.width * part_size layout.now.height layout.now.rows row }
-    ensures { out.new ≡ tile_row_bytes layout.now parts.now row }
-{
-    let wide = 3 * usize::from(layout.width);
-    let high = size_of_part(layout.height, layout.rows, row);
-    let mut from = 0;
-    for k in 0..high {
-        let to = from + wide;
-        write_line(&mut out[from..to], layout, parts, row, high - 1 - k);
-        from = to;
-    }
-}
-
-/// Writes the bytes of all rows of tiles, from the top.
-pub fn write_rows(out: &mut [u8], layout: &Layout, parts: &[TilePart])
-    requires parts { ArePartsOf layout.now parts.now }
+/// Writes the pixels of a tile's part over the bytes of the window, a line at a time from the top. The bytes of other tiles' pixels stay.
+pub fn write_part(rgb: &mut [u8], layout: &Layout, tile: usize, part: &TilePart)
     requires columns { 0 < layout.now.columns }
     requires rows { 0 < layout.now.rows }
-    requires room { length out.old ≡ 3 * layout.now.width * layout.now.height }
-    ensures { out.new ≡ all_bytes layout.now parts.now }
+    requires tile { tile < tile_count layout.now }
+    requires pixels { length part.now.pixels ≡ tile_width layout.now tile * tile_height layout.now tile }
+    requires room { length rgb.old ≡ 3 * layout.now.width * layout.now.height }
+    ensures size { length rgb.new ≡ length rgb.old }
+    ensures drawn { IsDrawn layout.now rgb.new tile part.now }
+    ensures others { StaysBeside layout.now tile rgb.old rgb.new }
 {
-    let wide = 3 * usize::from(layout.width);
-    let rows = usize::from(layout.rows);
-    let mut from = 0;
-    for k in 0..rows {
-        let to = from + wide * size_of_part(layout.height, layout.rows, rows - 1 - k);
-        write_tile_row(&mut out[from..to], layout, parts, rows - 1 - k);
-        from = to;
+    let columns = usize::from(layout.columns);
+    let column = tile % columns;
+    let row = tile / columns;
+    let wide = size_of_part(layout.width, layout.columns, column);
+    let high = size_of_part(layout.height, layout.rows, row);
+    let width = usize::from(layout.width);
+    let mut from = 3 * first_pixel(layout, column, row);
+    for k in 0..high {
+        write_run(rgb, from, line_of(part, wide, high - 1 - k));
+        from += 3 * width;
     }
 }
