@@ -1,5 +1,5 @@
 -- What a call leaves, where no part that it found is a misfit.
-use Rattle.std.proofs.Common.{◌≡◌, ℕ, ◌*◌, ◌<◌, Bool, true, false, List, length, map, Some, None, inl, refl, sym, ap, subst, ◌∙◌}
+use Rattle.std.proofs.Common.{◌≡◌, ℕ, ◌*◌, ◌<◌, Bool, true, false, List, length, map, Some, inl, refl, sym, ap, subst, ◌∙◌}
 use Rattle.std.specs.declared.option.Option.{Option}
 use Rattle.rc_base.specs.Cluster.Tiles.{tile_count}
 use Rattle.rc_base.specs.declared.cluster.TilePart.{TilePart}
@@ -9,7 +9,8 @@ use Rattle.assembler.specs.Drawn.{AreDrawn}
 use Rattle.assembler.specs.Parts.{image_with}
 use Rattle.assembler.specs.Places.{AllFit, HasGap, in_place, no_parts, parts_in}
 use Rattle.assembler.specs.declared.frame_parts.FrameParts.{FrameParts}
-use Rattle.assembler.proofs.Waiting.{all_parts, none_in}
+use Rattle.assembler.proofs.Drawn.{none_drawn}
+use Rattle.assembler.proofs.Waiting.{all_parts}
 use Rattle.assembler.proofs.Whole.{all_drawn}
 
 module _ (l : Layout) (was found : List (Option TilePart)) (items : was ≡ found) (rgb : List ℕ) (drawn : AreDrawn l found rgb) where
@@ -31,11 +32,6 @@ module _ (l : Layout) (was found : List (Option TilePart)) (items : was ≡ foun
       inl (record { gap = subst (HasGap l) items (gap refl); sizes = fit; short = short; places = waiting refl ∙ items })
 
   pub still_drawn : (result : Bool) (places : List (Option TilePart)) → (result ≡ false → places ≡ was) → (result ≡ true → places ≡ no_parts l) → AreDrawn l places rgb
-  still_drawn true places waiting empty = λ tile p is.
-      let none : in_place places tile ≡ None = ap (λ (os : List (Option TilePart)). in_place os tile) (empty refl) ∙ none_in (tile_count l) tile in
-      absurd (both none is)
-    where
-      both : {o : Option TilePart} {p : TilePart} → o ≡ None → o ≡ Some p → ⊥
-      both a b = cc
+  still_drawn true places waiting empty = none_drawn l l places rgb (empty refl)
   still_drawn false places waiting empty = λ tile p is.
       drawn tile p (ap (λ (os : List (Option TilePart)). in_place os tile) (sym (waiting refl ∙ items)) ∙ is)

@@ -4,7 +4,8 @@ ghost use Rattle.std.specs.Vec.{vec_len, vec_capacity};
 ghost use Rattle.rc_base.specs.Cluster.Lanes.{EachLane};
 ghost use Rattle.rc_base.specs.Cluster.Tiles.{tile_count};
 ghost use Rattle.rc_base.specs.Outside.Ends.{use_of};
-ghost use Rattle.assembler.specs.Assembled.{layout_of, short_of, shows, Completes, IsAssembled};
+ghost use Rattle.assembler.specs.Assembled.{layout_of, places_of, short_of, shows, Completes, IsAssembled};
+ghost use Rattle.assembler.specs.Drawn.{AreDrawn};
 ghost use Rattle.assembler.specs.Parts.{image_with};
 ghost use Rattle.frame_out.specs.OnTheWay.{GivesOne, GoesOn, IsMissing, IsNewWriter};
 ghost use Rattle.frame_out.specs.Windows.{IsWindow};
@@ -29,10 +30,12 @@ fn take_parts<I: Inlet<TilePart>>(
 ) -> bool
     requires lanes { length lanes.old ≡ tile_count (layout_of parts.old) }
     requires text { length text.old ≡ front + 3 * (layout_of parts.old).width * (layout_of parts.old).height }
+    requires drawn { short_of parts.old ≡ false → AreDrawn (layout_of parts.old) (places_of parts.old) (drop front text.old) }
     ensures lane_of { EachLane (λ i a b. I.lane_of b ≡ I.lane_of a) lanes.old lanes.new }
     ensures each { EachLane (λ i a b. GivesOne I.gave I.same a b) lanes.old lanes.new }
     ensures step { IsAssembled I.gave I.same I.empty_seen I.bare parts.old lanes.old (shows result (image_with (layout_of parts.old) (drop front text.new))) parts.new lanes.new }
     ensures front { take front text.new ≡ take front text.old }
+    ensures drawn { short_of parts.new ≡ false → AreDrawn (layout_of parts.new) (places_of parts.new) (drop front text.new) }
 {
     let full = text.len();
     parts.advance(lanes, &mut text[front..full])
@@ -43,8 +46,10 @@ fn make_whole(text: &mut Vec<u8>, front: usize, full: usize)
     requires header { front ≤ vec_len text.old }
     requires order { front ≤ full }
     requires room { full ≤ vec_capacity text.old }
+    requires few { length text.old.items ≤ full }
     ensures size { length text.new.items ≡ full }
     ensures front { take front text.new.items ≡ take front text.old.items }
+    ensures kept { take (length text.old.items) text.new.items ≡ text.old.items }
     ensures room { full ≤ vec_capacity text.new }
 {
     let _whole = text.resize(full, 0);

@@ -1,15 +1,29 @@
-use Rattle.std.proofs.Common.{◌≡◌, ◌+◌, ◌<◌, ◌^◌, ◌++◌, List, ℕ, length, take, drop, refl, sym, ap, subst, ◌∙◌, take-append-drop}
+use Rattle.std.proofs.Common.{◌≡◌, ◌+◌, ◌<◌, ◌^◌, ◌++◌, List, ℕ, length, take, drop, refl, sym, ap, subst, ◌∙◌, take-append-drop, length-drop}
 use Rattle.std.proofs.lemmas.List.{with_items_is}
+use Rattle.std.proofs.lemmas.Slice.{between_is}
 use Rattle.rc_base.specs.Cluster.Tiles.{tile_count}
 use Rattle.rc_base.specs.Formats.Netpbm.{p6_text}
 use Rattle.rc_base.specs.Outside.Ends.{use_of}
 use Rattle.rc_base.specs.declared.image.Image.{Image}
-use Rattle.assembler.specs.Assembled.{layout_of}
+use Rattle.assembler.specs.Assembled.{layout_of, places_of}
 use Rattle.assembler.specs.Parts.{image_with}
+use Rattle.assembler.proofs.Drawn.{longer_drawn}
 use Rattle.frame_out.specs.Windows.{frame_header}
 use Rattle.frame_out.specs.Writing.{HasGiven, IsCounted}
 use Rattle.frame_out.proofs.WriterGoesOn.{is_missing, waits, writes}
 use Rattle.frame_out.proofs.on_the_way.FrameWriter.serve.Goals as goal
+
+-- what stands behind a header goes on too, where the whole does
+behind : (front : ℕ) (old new : List ℕ) → take (length old) new ≡ old → take (length (drop front old)) (drop front new) ≡ drop front old
+behind front old new kept = ap (λ (n : ℕ). take n (drop front new)) (length-drop front old) ∙ between_is new front (length old) ∙ ap (drop front) kept
+
+pub take_parts-requires-clause-drawn : goal.take_parts-requires-clause-drawn
+take_parts-requires-clause-drawn g c = λ ample.
+    let w = c.args.self.now in
+    let old = w.text.items in
+    let new = c.as_mut_slice.result.now in
+    let kept : take (length old) new ≡ old = ap (take (length old)) c.as_mut_slice.ensures.value ∙ c.make_whole.ensures.kept in
+    longer_drawn (layout_of w.parts) (places_of w.parts) (drop w.front old) (drop w.front new) (behind w.front old new kept) (w.drawn ample)
 
 pub returns-then-not-take_parts-clause-goes_on : goal.returns-then-not-take_parts-clause-goes_on
 returns-then-not-take_parts-clause-goes_on g c = λ taken l start d f h.
