@@ -1,6 +1,6 @@
 """What lazy state saves on the example scenes: parcels, sets and looks of a run, beside what a cluster would send that told each tile everything.
 
-    python3 bench/measure/lazy.py [--tiles CxR] [program]
+    python3 bench/measure/lazy.py [--tiles CxR] [PROGRAM]
 
 `all sets` are the 22 scalar elements with each block and Clear, to each tile that gets it; `all looks` are a look at each of them and at the image
 that a draw may sample. A run's notes have the sums that are printed; blocks and Clears are the parcels that are neither an operation of
@@ -13,6 +13,7 @@ import sys
 
 sys.path.append(str(pathlib.Path(__file__).resolve().parents[2] / "tools"))
 
+from command import Words, pair_of_sides
 from program import EXAMPLES, built
 
 FOR_EVERY_TILE = ("Barrier", "SemP", "SemV", "Swap", "SharedImage")
@@ -34,12 +35,11 @@ def for_every_tile(text):
 
 
 def main():
-    words = sys.argv[1:]
-    tiles = "4x3"
-    if words[:1] == ["--tiles"]:
-        tiles = words[1]
-        words = words[2:]
-    program = built(words[0] if words else None)
+    parser = Words(__doc__)
+    parser.add_argument("--tiles", metavar="CxR", type=pair_of_sides, default=(4, 3), help="columns and rows of tiles (4x3)")
+    parser.add_argument("program", metavar="PROGRAM", nargs="?", help="the built program (crates/render_cli/out/render_cli)")
+    args = parser.parse_args()
+    program, tiles = built(args.program), "{}x{}".format(*args.tiles)
     print(f"{'scene':<18} {'parcels':>8} {'sets':>7} {'all sets':>9} {'':>6} {'looks':>8} {'all looks':>10}")
     for text in sorted(EXAMPLES.glob("*.txt")):
         (parcels, sets, looks), count = sums(program, text.with_suffix(".rcs"), tiles)

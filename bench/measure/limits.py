@@ -18,6 +18,7 @@ import time
 sys.path.insert(0, str(pathlib.Path(__file__).resolve().parent.parent))
 sys.path.append(str(pathlib.Path(__file__).resolve().parents[2] / "tools"))
 
+from command import Words
 from list_scenes import costing
 from program import built
 from scene_forms import LONGEST, MOST_COMMANDS, Scene, command, scene_bytes
@@ -175,7 +176,9 @@ def cells(program, words, path):
 
 
 def main():
-    program = built(sys.argv[1] if len(sys.argv) > 1 else None)
+    parser = Words(__doc__)
+    parser.add_argument("program", metavar="PROGRAM", nargs="?", help="the built program (crates/render_cli/out/render_cli)")
+    program = built(parser.parse_args().program)
     right = True
     print("| limit | scene at the edge | `render` | | | `serial` | | | one past it |\n|---|---|---|---|---|---|---|---|---|")
     with tempfile.TemporaryDirectory() as work:

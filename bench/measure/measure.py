@@ -1,5 +1,9 @@
 """Runs the program on the scenes of scenes.py and prints processor seconds, memory and ratios. run.sh calls it.
 
+    measure.py PROGRAM SCENES FOLDER
+
+SCENES is scenes.py, whose scenes go into the folder; where it has `mesa`, which is mesa.c compiled, Mesa draws them too.
+
 Drawing is that of `serial`; what the stepped cluster takes is `simulate` to that, and what the cluster on threads takes is `render` to both, by the clock
 and in processor seconds. What reading takes is measured on the same scene with a width of 0, which is refused after it was read; drawing is the scene without swaps less that,
 and writing what the swaps add. Mesa prints its own seconds of drawing, those of all its threads together. Processor seconds are user and system time, so that
@@ -8,14 +12,31 @@ what else the machine does counts little.
 Where BEFORE names a program that was built earlier, reading and drawing of scenes without lists and filters are compared with it.
 """
 import os
+import pathlib
 import subprocess
 import sys
 import time
 
-program, scenes, work = sys.argv[1:]
-mesa = os.path.join(work, "mesa")
-here = os.path.dirname(os.path.abspath(__file__))
+sys.path.append(str(pathlib.Path(__file__).resolve().parents[2] / "tools"))
+
+from command import Words
+from program import built
+
 PIXELS = 1024 * 768
+
+
+def words():
+    """The program, the script that makes scenes, and the folder that they go into."""
+    parser = Words(__doc__)
+    parser.add_argument("program", metavar="PROGRAM", help="the built program")
+    parser.add_argument("scenes", metavar="SCENES", help="scenes.py")
+    parser.add_argument("work", metavar="FOLDER", help="where scenes are made, and where `mesa` is, if it is anywhere")
+    args = parser.parse_args()
+    if not os.path.isfile(args.scenes):
+        parser.error(f"there is no script {args.scenes}")
+    if not os.path.isdir(args.work):
+        parser.error(f"there is no folder {args.work}")
+    return built(args.program), args.scenes, args.work
 
 
 def path(*words):
@@ -290,4 +311,7 @@ def thread_ratios():
         print(f"{name}, {words}: render {threads[0]:.3f} s ({threads[1]:.3f})   simulate {stepped[0]:.3f} s   render : simulate = {threads[0] / stepped[0]:.2f} : 1", flush=True)
 
 
-main()
+if __name__ == "__main__":
+    program, scenes, work = words()
+    mesa = os.path.join(work, "mesa")
+    main()

@@ -21,6 +21,7 @@ sys.path.append(str(pathlib.Path(__file__).resolve().parents[2] / "tools"))
 import scene_faults
 import scene_forms
 import scene_lists
+from command import Words
 from command_table import CAPABILITIES, first_values
 from program import EXAMPLES, built
 
@@ -131,11 +132,30 @@ def row(path, program, mesa, work):
             f"{serial:.1f}", f"{render / serial:.2f}", *told)
 
 
+def words():
+    """The program and that of Mesa, each None where it isn't named, and the scenes."""
+    parser = Words(__doc__)
+    parser.add_argument("program", metavar="PROGRAM", nargs="?",
+                        help="the built program (crates/render_cli/out/render_cli)")
+    parser.add_argument("mesa", metavar="MESA", nargs="?",
+                        help="mesa.c compiled; where it isn't there, its columns are empty")
+    parser.add_argument("scenes", metavar="SCENE.rcs", nargs="*", help="the captured of examples/")
+    args = parser.parse_args()
+    given = [word for word in (args.program, args.mesa, *args.scenes) if word is not None]
+    scenes = [word for word in given if word.endswith(".rcs")]
+    programs = [word for word in given if not word.endswith(".rcs")]
+    if len(programs) > 2:
+        parser.error(f"{programs[2]} is no scene, whose name ends with .rcs")
+    for scene in scenes:
+        if not os.path.isfile(scene):
+            parser.error(f"there is no scene {scene}")
+    return *programs, *[None] * (2 - len(programs)), scenes
+
+
 def main():
-    scenes = [word for word in sys.argv[1:] if word.endswith(".rcs")]
-    words = [word for word in sys.argv[1:] if not word.endswith(".rcs")]
-    program = built(words[0] if words else None)
-    mesa = words[1] if len(words) > 1 and os.path.exists(words[1]) else None
+    program, mesa, scenes = words()
+    program = built(program)
+    mesa = mesa if mesa and os.path.exists(mesa) else None
     paths = scenes or [EXAMPLES / f"{name}.rcs" for name in CAPTURED]
     head = ("scene", "clients", "frames", "commands", "bytes", "serial ms", "render 4x3 : serial",
             "llvmpipe : serial", "softpipe : serial")

@@ -16,6 +16,7 @@ import time
 HERE = pathlib.Path(__file__).resolve().parent
 sys.path.append(str(HERE.parents[1] / "tools"))
 
+from command import Words
 from program import built
 
 SCENES = (
@@ -35,7 +36,9 @@ def seconds(command, scene):
 
 
 def main():
-    program = built(sys.argv[1] if len(sys.argv) > 1 else None)
+    parser = Words(__doc__)
+    parser.add_argument("program", metavar="PROGRAM", nargs="?", help="the built program (crates/render_cli/out/render_cli)")
+    program = built(parser.parse_args().program)
     with tempfile.TemporaryDirectory() as work:
         mesa = os.path.join(work, "mesa")
         with_mesa = subprocess.run(["cc", "-O2", "-o", mesa, HERE / "mesa.c", "-lOSMesa", "-lm"], stderr=subprocess.DEVNULL, check=False).returncode == 0

@@ -17,7 +17,9 @@ import sys
 
 sys.path.append(str(pathlib.Path(__file__).resolve().parents[2] / "tools"))
 
+from command import Words, number_in
 from program import built
+
 FULL = ["Begin 0", "Vertex -65536 -65536 0 65536", "Vertex 196608 -65536 0 65536", "Vertex -65536 196608 0 65536", "End"]
 LONGEST = 9
 
@@ -244,15 +246,18 @@ def compare(program, random):
 
 
 def main():
-    program = built(sys.argv[1] if len(sys.argv) > 1 else None)
-    count = int(sys.argv[2]) if len(sys.argv) > 2 else 300
-    source = random.Random(int(sys.argv[3]) if len(sys.argv) > 3 else 1)
+    parser = Words(__doc__)
+    parser.add_argument("program", metavar="PROGRAM", nargs="?", help="the built program (crates/render_cli/out/render_cli)")
+    parser.add_argument("count", metavar="COUNT", nargs="?", type=number_in(0, 999_999_999), default=300, help="how many scenes (300)")
+    parser.add_argument("seed", metavar="SEED", nargs="?", type=int, default=1, help="the number that they follow from (1)")
+    args = parser.parse_args()
+    program, source = built(args.program), random.Random(args.seed)
     found = {False: 0, True: 0}
-    while sum(found.values()) < count:
+    while sum(found.values()) < args.count:
         race = compare(program, source)
         if race is not None:
             found[race] += 1
-    print(f"{count} scenes, {found[True]} with a race")
+    print(f"{args.count} scenes, {found[True]} with a race")
 
 
 if __name__ == "__main__":

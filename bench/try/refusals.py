@@ -33,6 +33,7 @@ import tempfile
 sys.path.append(str(pathlib.Path(__file__).resolve().parents[2] / "tools"))
 
 import scene_forms
+from command import Words
 from program import EXAMPLES, ROOT, built
 
 PAGE = ROOT / "docs/scene-format.md"
@@ -237,7 +238,9 @@ def try_gone_reader(program):
 
 
 def main():
-    program = built(sys.argv[1] if len(sys.argv) > 1 else None)
+    parser = Words(__doc__)
+    parser.add_argument("program", metavar="PROGRAM", nargs="?", help="the built program (crates/render_cli/out/render_cli)")
+    program = built(parser.parse_args().program)
     found = tables()
     absent = missing(found)
     if absent:

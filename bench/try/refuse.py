@@ -16,6 +16,7 @@ has that), and how many hung. The line before it tells of threads. Which allocat
 little from run to run. A run that isn't as it has to be has a line with the number of its allocation, and the status is 1. The program is built by
 `cd crates/render_cli && rt run -- render < ../../examples/red.rcs > /dev/null`.
 """
+import argparse
 import collections
 import os
 import pathlib
@@ -27,6 +28,7 @@ import tempfile
 HERE = pathlib.Path(__file__).resolve().parent
 sys.path.append(str(HERE.parents[1] / "tools"))
 
+from command import Words
 from program import EXAMPLES, built
 
 SECONDS = 10
@@ -85,17 +87,30 @@ def refuse_each(runs):
     return not hung and not wrong
 
 
+def words():
+    """The words of this script. Behind the scene all are the program's."""
+    parser = Words(__doc__)
+    parser.add_argument("--simulate", action="store_true", help="two scenes by `simulate`, and no other words than the program")
+    parser.add_argument("program", metavar="PROGRAM", nargs="?", help="the built program (crates/render_cli/out/render_cli)")
+    parser.add_argument("scene", metavar="SCENE", nargs="?", type=pathlib.Path, help="a scene's file (examples/shared-texture.rcs)")
+    parser.add_argument("job", metavar="WORD", nargs=argparse.REMAINDER, help="the program's words (render --tiles 2x1 --depth 1)")
+    args = parser.parse_args()
+    if args.job and args.scene is None:
+        parser.error(f"{args.job[0]} stands where a scene's file is due")
+    if args.simulate and args.scene is not None:
+        parser.error(f"--simulate takes no scene, and not {args.scene}")
+    if args.scene is not None and not args.scene.is_file():
+        parser.error(f"there is no scene {args.scene}")
+    return args
+
+
 def main():
-    words = sys.argv[1:]
-    simulate = words[:1] == ["--simulate"]
-    if simulate:
-        words = words[1:]
-    program = built(words[0] if words else None)
-    if simulate:
+    args = words()
+    program = built(args.program)
+    if args.simulate:
         tries = [(EXAMPLES / name, ["simulate", "--seed", "1", "--depth", "1"]) for name in ("producer-consumer.rcs", "shared-texture.rcs")]
     else:
-        scene = pathlib.Path(words[1]) if len(words) > 1 else EXAMPLES / "shared-texture.rcs"
-        tries = [(scene, words[2:] or ["render", "--tiles", "2x1", "--depth", "1"])]
+        tries = [(args.scene or EXAMPLES / "shared-texture.rcs", args.job or ["render", "--tiles", "2x1", "--depth", "1"])]
     right = True
     with tempfile.TemporaryDirectory() as work:
         for scene, job in tries:

@@ -22,6 +22,7 @@ sys.path.append(str(pathlib.Path(__file__).resolve().parents[2] / "tools"))
 
 import browser
 import program
+from command import Words
 
 ROOT = program.ROOT
 SCENE, ASKED = ROOT / "examples/cube.rcs", ROOT / "bench/try/try_page.js"
@@ -275,12 +276,14 @@ def try_page(chromium, folder, picture):
 
 
 def main():
+    parser = Words(__doc__)
+    parser.add_argument("picture", metavar="PICTURE", nargs="?", type=pathlib.Path, default=ROOT / "docs/page.png", help="where its picture goes (docs/page.png)")
+    picture = parser.parse_args().picture
     if browser.program() is None:
         print("no Chromium is installed (apt-get install chromium): the page wasn't opened")
         return
     if not program.is_built():
         sys.exit(f"try_page.py: {program.HOW}")
-    picture = pathlib.Path(sys.argv[1]) if sys.argv[1:] else ROOT / "docs/page.png"
     with tempfile.TemporaryDirectory(ignore_cleanup_errors=True) as work:
         try:
             with browser.Browser(pathlib.Path(work) / "profile") as chromium:

@@ -27,6 +27,7 @@ import tool_images
 import tool_orders
 import tool_pages
 import tool_scenes
+from command import Words
 from tool_calls import (
     CALLS,
     EXAMPLES,
@@ -209,7 +210,9 @@ def try_test_runner(folder):
 
 
 def main():
-    seed = int(sys.argv[1]) if sys.argv[1:] and sys.argv[1].isdigit() else 1
+    parser = Words(__doc__)
+    parser.add_argument("seed", metavar="SEED", nargs="?", type=int, default=1, help="the number that what is made by chance follows from (1)")
+    seed = parser.parse_args().seed
     with tempfile.TemporaryDirectory() as parent:
         folder = make_folder(parent)
         try_words(folder)
