@@ -38,6 +38,7 @@
 Words after these: `noswap` leaves the swaps out, so nothing is written; `nodraw` puts all vertices at one place, so nothing is covered; `v2` makes the scene
 one of version 2.
 """
+import argparse
 import pathlib
 import random
 import struct
@@ -46,6 +47,7 @@ import sys
 sys.path.append(str(pathlib.Path(__file__).resolve().parents[2] / "tools"))
 
 import command_table
+from command import Words, number_in
 
 BEGIN, END, VERTEX, COLOR, TEX_COORD, ENABLE, DISABLE, LOAD_MATRIX = 1, 2, 3, 4, 5, 6, 7, 0x0A
 ALPHA_FUNC, DEPTH_FUNC, BLEND_FUNC, COLOR_MASK, CLEAR_COLOR, CLEAR = 0x11, 0x12, 0x14, 0x15, 0x16, 0x18
@@ -356,7 +358,8 @@ def depth(numbers, swap, corners):
 
 
 def clears(numbers, swap, corners):
-    side, count = numbers if numbers else (2048, 8)
+    side = numbers[0] if numbers else 2048
+    count = numbers[1] if len(numbers) > 1 else 8
     commands = []
     for i in range(count):
         commands += [byte_fields(CLEAR_COLOR, i * 30 % 256, 40, 200, 255), byte_fields(CLEAR, 3)]
@@ -470,23 +473,52 @@ SCENES = {
     "called": listed(True),
     "written": listed(False),
 }
+CLIENTS, SIDE, COUNT = number_in(0, 255), number_in(0, 65535), number_in(0, 999_999_999)
+# The numbers that a scene may have behind its name; another one has none.
+NUMBERS = {
+    **dict.fromkeys(("usual", "turned", "apart"), [CLIENTS]),
+    **dict.fromkeys(("frames", "small", "lone", "near", "front", "hands", "meets", "shows", "commands", "called", "written"), [COUNT]),
+    "way": [number_in(0, len(state_table()) - 1)],
+    "clears": [SIDE, COUNT],
+    "gives": [CLIENTS, COUNT],
+    "mesh": [CLIENTS, number_in(1, 999_999_999)],
+}
 # The scenes of another version than 1.
 VERSIONS = {"near": b"2", "front": b"2", "called": b"3", "written": b"2"}
 
 
+def words():
+    """The scene's name, its numbers, and the words that change it."""
+    parser = Words(__doc__)
+    parser.add_argument("name", metavar="NAME", help="the scene")
+    parser.add_argument("words", metavar="WORD", nargs="*", default=[], help="its numbers, and noswap, nodraw, v2")
+    args = parser.parse_args()
+    given = [args.name, *args.words]
+    options = {word for word in given if word in ("noswap", "nodraw", "v2")}
+    name, *numbers = [word for word in given if word not in options] or [given[0]]
+    if name not in [*SCENES, "ways"]:
+        parser.error(f"there is no scene {name!r}")
+    due = NUMBERS.get(name, [])
+    if len(numbers) > len(due):
+        parser.error(f"{numbers[len(due)]!r} is a word too many for {name}")
+    if name == "way" and not numbers:
+        parser.error("way wants the number of its state")
+    try:
+        return name, [read(word) for read, word in zip(due, numbers)], options
+    except argparse.ArgumentTypeError as fault:
+        parser.error(f"{name}: {fault}")
+
+
 def main():
-    words = sys.argv[1:]
-    options = {word for word in words if word in ("noswap", "nodraw", "v2")}
-    words = [word for word in words if word not in options]
-    if not words or words[0] not in [*SCENES, "ways"] or not all(word.isdigit() for word in words[1:]):
-        sys.exit(__doc__)
-    if words[0] == "ways":
+    name, numbers, options = words()
+    if name == "ways":
         print("\n".join(name for name, _, _ in state_table()))
         return
-    data = SCENES[words[0]](list(map(int, words[1:])), "noswap" not in options, Corners("nodraw" not in options))
+    data = SCENES[name](numbers, "noswap" not in options, Corners("nodraw" not in options))
     # the digit of the version; all else is spelled as in version 1
-    digit = VERSIONS.get(words[0], b"2" if "v2" in options else b"1")
+    digit = VERSIONS.get(name, b"2" if "v2" in options else b"1")
     sys.stdout.buffer.write(data[:3] + digit + data[4:])
 
 
-main()
+if __name__ == "__main__":
+    main()
