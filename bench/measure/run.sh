@@ -4,7 +4,7 @@
 #     cd crates/render_cli && rt run -- render < ../../examples/red.rcs > /dev/null
 set -eu
 here=$(cd "$(dirname "$0")" && pwd)
-program=${1:-$(python3 "$here/../program.py")}
+program=${1:-$here/../../crates/render_cli/out/render_cli}
 work=$(mktemp -d)
 trap 'rm -rf "$work"' EXIT
 
