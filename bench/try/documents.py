@@ -12,13 +12,15 @@ Commands stand in fenced blocks, whose first line says what they are:
 
 Then: no command stands in a block that isn't marked, and each script that a document names is there; each link leads to a file and a heading; what commands wrote into the
 top folder is ignored by git; each picture of docs/ that the commands drew anew is what it was, pixel by pixel (with --draw they are written
-in its place); README.md has at most 1,000 words. With --unbuilt, and where nothing is built, all this is tried but for the commands and what they write; with
---seconds no command begins behind so many seconds. What isn't run is told. The last line is `N passed, M failed`, and the status is 1 where something failed.
+in its place); README.md has at most 1,000 words; each script of bench/ and tools/ tells its words where it is given `--help` (not with --only). With --unbuilt, and
+where nothing is built, all this is tried but for the commands and what they write; with --seconds no command begins behind so many seconds. What isn't run is told.
+The last line is `N passed, M failed`, and the status is 1 where something failed.
 """
 import argparse
 import os
 import pathlib
 import re
+import shlex
 import shutil
 import signal
 import subprocess
@@ -38,6 +40,7 @@ LOOKS_LIKE_COMMAND = re.compile(r"^(\$ |\$program |render_cli |python3 |rt |cd |
 OUTSIDE_TOOLS = ("ffmpeg", "ffprobe", "mpv", "chromium", "apitrace", "cc")
 MOST_WORDS = 1000
 SECONDS = 600
+HELP_SECONDS = 20
 
 
 class Count:
@@ -226,6 +229,25 @@ def try_pictures(count, folder, draw):
     return drawn
 
 
+# ---- scripts
+
+
+def scripts():
+    """Those of bench/ and tools/: what runs its main function, as a module doesn't."""
+    paths = [path for name in ("bench", "tools") for path in sorted((ROOT / name).rglob("*.py"))]
+    return [path for path in paths if re.search(r'^(if __name__ == "__main__":|main\(\))', path.read_text(), re.MULTILINE)]
+
+
+def try_help(count, script, folder):
+    """A script that is asked for help ends soon, with its name and words on standard output and nothing on standard error."""
+    command = shlex.join([sys.executable, str(script), "--help"])
+    done = run(f"{command} 2> wrong", folder, "", HELP_SECONDS)
+    status, told = done or (f"no end after {HELP_SECONDS} s", "")
+    wrong = (folder / "wrong").read_text(errors="replace")
+    right = status == 0 and script.name in told and not wrong
+    count.judge(right, f"{script.relative_to(ROOT)} --help", f"status {status}, {told[-200:]!r}, and on standard error {wrong[-200:]!r}")
+
+
 def copied(folder, program, slow):
     """The part of the repository that commands need, with the built program where it stands once it is built."""
     for name in ("examples", "tools", "bench", "docs"):
@@ -259,6 +281,11 @@ def main():
     args = parser.parse_args()
     program = None if args.unbuilt or not args.program and not is_built() else built(args.program)
     count = Count(args.seconds)
+    with tempfile.TemporaryDirectory() as work:
+        for script in [] if args.only else scripts():
+            try_help(count, script, pathlib.Path(work))
+    if not args.only:
+        print(f"--help of scripts: {count.passed} passed", flush=True)
     with tempfile.TemporaryDirectory() as work:
         folder = pathlib.Path(work)
         stands = copied(folder, program, args.slow) if program else None
