@@ -4,7 +4,12 @@
 #     cd crates/render_cli && rt run -- render < ../../examples/red.rcs > /dev/null
 set -eu
 here=$(cd "$(dirname "$0")" && pwd)
-program=${1:-$here/../../crates/render_cli/out/render_cli}
+program=$(python3 -c 'import sys
+tools, *given = sys.argv[1:]
+sys.argv[0] = "run.sh"
+sys.path.append(tools)
+from program import built
+print(built(*given[:1]))' "$here/../../tools" "$@")
 work=$(mktemp -d)
 trap 'rm -rf "$work"' EXIT
 
