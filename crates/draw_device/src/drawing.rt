@@ -357,7 +357,7 @@ impl Grid {
         ensures extent { self.new.extent ≡ self.old.extent }
         ensures drawn { IsDrawnBy (cached_of block.now cache.old corners) self.old self.new }
     {
-        let tri = cache.triangle_near(corners, &block.near);
+        let tri = cache.triangle_near(corners, &block.near, &block.bounds);
         self.draw_near(block, tri, &cache.vertices, corners);
     }
 
@@ -415,7 +415,7 @@ impl Grid {
         ensures extent { self.new.extent ≡ self.old.extent }
         ensures drawn { IsDrawnBy (pieces_of setup.now (listed_block block.now) corners) self.old self.new }
     {
-        match cache.uncut_near(corners, &setup.near) {
+        match cache.uncut_near(corners, &setup.near, &setup.bounds) {
             Uncut::Whole(tri) => {
                 self.draw_near(setup, tri, &block.vertices, corners);
             }
@@ -463,6 +463,7 @@ impl Grid {
             part: prepared.part,
             near: prepared.near,
             identities: prepared.identities,
+            bounds: prepared.bounds_for(state, block),
         };
         if block.mode < CUT_MODES {
             self.draw_whole(&setup, block);

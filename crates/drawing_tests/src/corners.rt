@@ -144,7 +144,7 @@ fn is_near(x0: i32, y0: i32, x1: i32, y1: i32) -> bool {
     let s = state([0, 0, 2, 2], false);
     let mut cache = VertexCache::new(&s, &vertices);
     let near = surrounds_of(Rect { x0, y0, x1, y1 });
-    cache.triangle([0, 1, 2]).is_some() && cache.triangle_near([0, 1, 2], &near).is_some()
+    cache.triangle([0, 1, 2]).is_some() && cache.triangle_near([0, 1, 2], &near, &None).is_some()
 }
 
 // A rectangle, and whether the triangle is near it.

@@ -103,7 +103,7 @@ fn uncut(w: i32, x0: i32, x1: i32) -> Option<bool> {
         x1,
         y1: 2,
     });
-    match cache.uncut_near([0, 1, 2], &near) {
+    match cache.uncut_near([0, 1, 2], &near, &None) {
         Uncut::Whole(tri) => Some(tri.is_some()),
         Uncut::No => None,
     }

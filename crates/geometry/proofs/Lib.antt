@@ -14,3 +14,4 @@ pub mod Oriented
 pub mod EachKept
 pub mod Outside
 mod SameNumbers
+mod Rejected

@@ -5,7 +5,7 @@ use Rattle.std.proofs.lemmas.Bool.{and_parts}
 use Rattle.std.proofs.lemmas.Bool.Decides.{nat_tests}
 use Rattle.std.specs.Prelude.{nat_lt, option_to_list}
 use Rattle.std.specs.List.{filter_map, cons_option}
-use Rattle.rc_base.specs.Drawing.Window.{window_of, is_in_bounds, is_placed, clip_vertex, window_at, is_placed_at}
+use Rattle.rc_base.specs.Drawing.Window.{is_in_bounds, clip_vertex, window_at, is_placed_at}
 use Rattle.rc_base.specs.Drawing.Cover.{IsInBounds}
 use Rattle.rc_base.specs.Drawing.Kept.{oriented, kept_of, is_kept_at, kept_at}
 use Rattle.fixed_math.proofs.Signs.{above_is}

@@ -8,3 +8,4 @@ pub mod Brought
 pub mod Fractions
 pub mod Pieces
 pub mod Laws
+pub mod Rejected

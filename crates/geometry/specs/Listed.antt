@@ -1,5 +1,5 @@
 -- What stored or spelt vertices and blocks stand for.
-use Rattle.std.specs.Prelude.{ℕ, List}
+use Rattle.std.specs.Prelude.{List}
 use Rattle.rc_base.specs.declared.state.Block.{Block}
 use Rattle.rc_base.specs.declared.state.Vertex.{Vertex}
 use Rattle.vertex_bytes.specs.Spelt.{spelt_vertices}

@@ -7,11 +7,14 @@ ghost use Rattle.geometry.specs.Brought.{AreCorners, indices_of, kept_corners};
 ghost use Rattle.geometry.specs.Uncut.{IsUncut};
 ghost use Rattle.geometry.specs.Items.{AreBelow};
 ghost use Rattle.geometry.specs.Listed.{listed};
-ghost use Rattle.geometry.specs.Placed.{AreIdentities, are_still, IsCorner, IsCached};
+ghost use Rattle.geometry.specs.Placed.{AllStandInFront, AreIdentities, are_still, IsCorner, IsCached};
+ghost use Rattle.geometry.specs.Rejected.{AreClipBoundsIfAny};
 
 use crate::identities::{Identities, identities_of};
 use crate::list::VertexList;
 use crate::near::{Surrounds, are_beside};
+use crate::reject::are_rejected;
+use crate::sides::ClipBounds;
 use crate::still::{are_still, still_vertex};
 use crate::vertex::{stand_of, still_front};
 use crate::window::{is_dropped, turned};
@@ -185,17 +188,52 @@ impl<'a> VertexCache<'a> {
         self.brought()
     }
 
-    /// The same triangle, or `None` also where all its corners lie on one side of the centres that bound a rectangle's pixels, so that it
-    /// covers none of them.
+    // Whether three vertices are seen to lie beside a rectangle's pixels before they are brought to the window, and none has to be cut.
     #[inline(always)]
-    pub fn triangle_near(&mut self, corners: [usize; 3], near: &Surrounds) -> Option<WindowTriangle>
-        requires { AreBelow (length (listed self.old.vertices)) corners }
+    fn is_rejected(
+        &self,
+        corners: [usize; 3],
+        near: &Surrounds,
+        bounds: &Option<ClipBounds>,
+    ) -> bool
+        requires corners { AreBelow (length (listed self.now.vertices)) corners }
+        requires bounds { AreClipBoundsIfAny self.now.state.now near.now bounds.now }
+        ensures front { result ≡ true → AllStandInFront self.now.state.now (listed self.now.vertices) corners }
+        ensures beside { result ≡ true → IsBesideIfKept self.now.state.now (listed self.now.vertices) corners near.now }
+    {
+        let _near = near;
+        let Some(bounds) = bounds else {
+            return false;
+        };
+        let a = self.vertices.vertex(corners[0]);
+        let b = self.vertices.vertex(corners[1]);
+        let c = self.vertices.vertex(corners[2]);
+        if !are_rejected(bounds, &a, &b, &c) {
+            return false;
+        }
+        still_front(self.state, &a) && (still_front(self.state, &b) && still_front(self.state, &c))
+    }
+
+    /// The same triangle, or `None` also where all its corners lie on one side of the centres that bound a rectangle's pixels, so that it
+    /// covers none of them. Where bounds by clip coordinates are given, its vertices aren't brought to the window if they tell as much.
+    #[inline(always)]
+    pub fn triangle_near(
+        &mut self,
+        corners: [usize; 3],
+        near: &Surrounds,
+        bounds: &Option<ClipBounds>,
+    ) -> Option<WindowTriangle>
+        requires corners { AreBelow (length (listed self.old.vertices)) corners }
+        requires bounds { AreClipBoundsIfAny self.old.state.now near.now bounds.now }
         ensures state { self.new.state.now ≡ self.old.state.now }
         ensures vertices { (listed self.new.vertices) ≡ (listed self.old.vertices) }
         ensures triangle { MatchOption result
             (IsBesideIfKept self.old.state.now (listed self.old.vertices) corners near.now)
             (λ t. kept_whole self.old.state.now (listed self.old.vertices) corners ≡ Some t.v) }
     {
+        if self.is_rejected(corners, near, bounds) {
+            return None;
+        }
         self.bring(corners);
         self.brought_near(near)
     }
@@ -250,12 +288,21 @@ impl<'a> VertexCache<'a> {
     }
 
     /// The same where all three vertices stand in front of the near plane, so that the triangle is cut in no block.
-    pub fn uncut_near(&mut self, corners: [usize; 3], near: &Surrounds) -> Uncut
-        requires { AreBelow (length (listed self.old.vertices)) corners }
+    pub fn uncut_near(
+        &mut self,
+        corners: [usize; 3],
+        near: &Surrounds,
+        bounds: &Option<ClipBounds>,
+    ) -> Uncut
+        requires corners { AreBelow (length (listed self.old.vertices)) corners }
+        requires bounds { AreClipBoundsIfAny self.old.state.now near.now bounds.now }
         ensures state { self.new.state.now ≡ self.old.state.now }
         ensures vertices { (listed self.new.vertices) ≡ (listed self.old.vertices) }
         ensures triangle { IsUncut self.old.state.now (listed self.old.vertices) corners near.now result }
     {
+        if self.is_rejected(corners, near, bounds) {
+            return Uncut::Whole(None);
+        }
         self.bring(corners);
         if self.first.front && self.second.front && self.third.front {
             return Uncut::Whole(self.brought_near(near));

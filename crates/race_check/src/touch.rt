@@ -97,7 +97,7 @@ fn touch_corners(
         corners) part) visit.now pixels.old pixels.new seen result }
 {
     cover_lies_in_bounds();
-    match cache.uncut_near(corners, near) {
+    match cache.uncut_near(corners, near, &None) {
         Uncut::Whole(tri) => touch_found(pixels, visit, &tri, part, seen),
         Uncut::No => {
             let vertices = vertices_at(block.vertices.as_slice(), corners);
